@@ -1,0 +1,76 @@
+-- Rows of words read, one word after another.
+use Rattle.std.proofs.Common.{◌≡◌, ℕ, Bool, List, [], ◌∷◌, ◌++◌, Option, Some, None, is_some, refl, sym, ap, ◌∙◌, append_assoc, append-nil, length}
+use Rattle.mm_spec.specs.Roles.{role_of, fault_of}
+use Rattle.mm_spec.specs.Words.{words_of, words_between, IsNextWord}
+use Rattle.mm_spec.specs.Readings.{Reading, reading, with_tokens, bytes_of}
+use Rattle.mm_spec.specs.declared.Word.{Word}
+use Rattle.mm_spec.specs.declared.Role.TheVariants.{Token, Opening, Closing, Comment, Faulty}
+
+with_tokens-push : (ts : List Word) (w : Word) (r : Reading) → with_tokens ts (with_tokens (w ∷ []) r) ≡ with_tokens (ts ++ w ∷ []) r
+with_tokens-push ts w r = rw append_assoc refl
+
+pub reading-token : (text : List ℕ) (ts : List Word) (comment : Option ℕ) (w : Word) (ws : List Word) → role_of (is_some comment) (bytes_of text w) ≡ Token →
+    with_tokens ts (reading text comment (w ∷ ws)) ≡ with_tokens (ts ++ w ∷ []) (reading text comment ws)
+unfolding reading
+reading-token text ts comment w ws role = rw (role, reading) (with_tokens-push ts w (reading text comment ws))
+
+pub reading-opening : (text : List ℕ) (comment : Option ℕ) (w : Word) (ws : List Word) → role_of (is_some comment) (bytes_of text w) ≡ Opening →
+    reading text comment (w ∷ ws) ≡ reading text (Some w.start) ws
+unfolding reading
+reading-opening text comment w ws role = rw (role, reading) refl
+
+pub reading-closing : (text : List ℕ) (comment : Option ℕ) (w : Word) (ws : List Word) → role_of (is_some comment) (bytes_of text w) ≡ Closing →
+    reading text comment (w ∷ ws) ≡ reading text None ws
+unfolding reading
+reading-closing text comment w ws role = rw (role, reading) refl
+
+pub reading-comment : (text : List ℕ) (comment : Option ℕ) (w : Word) (ws : List Word) → role_of (is_some comment) (bytes_of text w) ≡ Comment →
+    reading text comment (w ∷ ws) ≡ reading text comment ws
+unfolding reading
+reading-comment text comment w ws role = rw (role, reading) refl
+
+pub reading-faulty : (text : List ℕ) (comment : Option ℕ) (w : Word) (ws : List Word) → role_of (is_some comment) (bytes_of text w) ≡ Faulty →
+    reading text comment (w ∷ ws) ≡ record { tokens = []; fault = Some (fault_of (is_some comment) w.start (bytes_of text w)); comment = comment }
+unfolding reading
+reading-faulty text comment w ws role = rw (role, reading) refl
+
+pub reading-end : (text : List ℕ) (comment : Option ℕ) → reading text comment [] ≡ record { tokens = []; fault = None; comment = comment }
+unfolding reading
+reading-end text comment = refl
+
+-- What all words give is these tokens and what the words from the place on give, where that comment is open.
+pub record Reads (text : List ℕ) (ts : List Word) (comment : Option ℕ) (at : ℕ) : Type 0 where
+  pub same : reading text None (words_of text) ≡ with_tokens ts (reading text comment (words_between text at (length text)))
+
+module _ {text : List ℕ} {ts : List Word} {comment : Option ℕ} {at : ℕ} {w : Word} where
+  pub Reads-faulty : (b : Bool) → Reads text ts comment at → IsNextWord text at (length text) w → b ≡ is_some comment → Faulty ≡ role_of b (bytes_of text w) →
+      reading text None (words_of text) ≡ record { tokens = ts; fault = Some (fault_of b w.start (bytes_of text w)); comment = comment }
+  Reads-faulty b reads next e role =
+      reads.same ∙ ap (λ (xs : List Word). with_tokens ts (reading text comment xs)) next.rest
+      ∙ ap (with_tokens ts) (reading-faulty text comment w _ (rw (← e) (sym role)))
+      ∙ rw (append-nil, e) refl
+
+  Reads-next : (us : List Word) (d : Option ℕ) → Reads text ts comment at → IsNextWord text at (length text) w →
+      with_tokens ts (reading text comment (w ∷ words_between text w.end (length text))) ≡ with_tokens us (reading text d (words_between text w.end (length text))) →
+      Reads text us d w.end
+  Reads-next us d reads next step = record { same = reads.same ∙ ap (λ (xs : List Word). with_tokens ts (reading text comment xs)) next.rest ∙ step }
+
+  pub Reads-token : (b : Bool) → Reads text ts comment at → IsNextWord text at (length text) w → b ≡ is_some comment → Token ≡ role_of b (bytes_of text w) →
+      Reads text (ts ++ w ∷ []) comment w.end
+  Reads-token b reads next e role = Reads-next (ts ++ w ∷ []) comment reads next (reading-token text ts comment w _ (rw (← e) (sym role)))
+
+  pub Reads-opening : (b : Bool) → Reads text ts comment at → IsNextWord text at (length text) w → b ≡ is_some comment → Opening ≡ role_of b (bytes_of text w) →
+      Reads text ts (Some w.start) w.end
+  Reads-opening b reads next e role = Reads-next ts (Some w.start) reads next (ap (with_tokens ts) (reading-opening text comment w _ (rw (← e) (sym role))))
+
+  pub Reads-closing : (b : Bool) → Reads text ts comment at → IsNextWord text at (length text) w → b ≡ is_some comment → Closing ≡ role_of b (bytes_of text w) →
+      Reads text ts None w.end
+  Reads-closing b reads next e role = Reads-next ts None reads next (ap (with_tokens ts) (reading-closing text comment w _ (rw (← e) (sym role))))
+
+  pub Reads-comment : (b : Bool) → Reads text ts comment at → IsNextWord text at (length text) w → b ≡ is_some comment → Comment ≡ role_of b (bytes_of text w) →
+      Reads text ts comment w.end
+  Reads-comment b reads next e role = Reads-next ts comment reads next (ap (with_tokens ts) (reading-comment text comment w _ (rw (← e) (sym role))))
+
+module _ {text : List ℕ} {ts : List Word} {comment : Option ℕ} {at : ℕ} where
+  pub Reads-end : Reads text ts comment at → words_between text at (length text) ≡ [] → reading text None (words_of text) ≡ record { tokens = ts; fault = None; comment = comment }
+  Reads-end reads next = reads.same ∙ ap (λ (xs : List Word). with_tokens ts (reading text comment xs)) next ∙ ap (with_tokens ts) (reading-end text comment) ∙ rw append-nil refl

@@ -1,0 +1,69 @@
+-- What a proof may use, which theorems are valid, and on which assertions a theorem rests.
+use Rattle.std.specs.Prelude.{◌≡◌, ℕ, zero, suc, ◌≤◌, Bool, true, false, List, [], ◌∷◌, map, Option, Some, None, slice_get, IsTrue}
+use Rattle.std.specs.List.{list_any}
+use Rattle.mm_spec.specs.Text.{Fault}
+use Rattle.mm_spec.specs.Statement.{Statement, floating, essential, axiomatic, provable}
+use Rattle.mm_spec.specs.Scope.{is_active, statement_at}
+use Rattle.mm_spec.specs.Frame.{is_variable, disjoint_at, formula_at, frame_at}
+use Rattle.mm_spec.specs.Derivation.{Context, Rule, hypothesis, assertion, Trees, postfix, is_member}
+use Rattle.mm_spec.specs.Steps.{PlacedStep}
+use Rattle.mm_spec.specs.Proof.{steps, reading_faults}
+use Rattle.mm_spec.specs.Unread.{unless_unread}
+use Rattle.mm_spec.specs.Valid.{Derives}
+
+-- what an active statement stands for in a proof
+abbrev pub rule_of : List Statement → ℕ → Statement → Option Rule
+rule_of db j (floating l k xs d) = Some (hypothesis (formula_at db j))
+rule_of db j (essential l k xs d) = Some (hypothesis (formula_at db j))
+rule_of db j (axiomatic l k xs d) = Some (assertion (frame_at db j))
+rule_of db j (provable l k xs e ps d) = Some (assertion (frame_at db j))
+rule_of db j _ = None
+
+abbrev pub rule_at : List Statement → ℕ → ℕ → Option Rule
+rule_at db k j = elim (is_active db j k) [ false ↦ None | true ↦ elim (slice_get db j) [ None ↦ None | Some s ↦ rule_of db j s ] ]
+
+abbrev pub context_at : List Statement → ℕ → Context
+context_at db k = record { is_variable = is_variable db; is_disjoint = disjoint_at db k; rule = rule_at db k }
+
+abbrev pub steps_at : List Statement → ℕ → List PlacedStep
+steps_at db k = elim (slice_get db k) [ Some (provable l p xs e ps d) ↦ steps db k ps | _ ↦ [] ]
+
+abbrev pub reading_faults_at : List Statement → ℕ → List Fault
+reading_faults_at db k = elim (slice_get db k) [ Some (provable l p xs e ps d) ↦ unless_unread ps (reading_faults db k d ps) | _ ↦ [] ]
+
+abbrev pub is_theorem : Statement → Bool
+is_theorem (provable l k xs e ps d) = true
+is_theorem _ = false
+
+abbrev pub is_assertion : Statement → Bool
+is_assertion (provable l k xs e ps d) = true
+is_assertion (axiomatic l k xs d) = true
+is_assertion _ = false
+
+-- a derivation that is the proof of theorem k
+abbrev pub IsProof : List Statement → ℕ → Trees → Type 0
+IsProof db k d = Derives (context_at db k) (map (λ s. s.step) (steps_at db k)) (formula_at db k) d
+
+abbrev pub IsValid : List Statement → ℕ → Type 0
+IsValid db k = (reading_faults_at db k ≡ []) × (d : Trees) × IsProof db k d
+
+-- a theorem cites an assertion that is the label of a node of its proof
+abbrev pub Cites : List Statement → ℕ → ℕ → Type 0
+Cites db t a = IsTrue (list_any is_assertion (statement_at db a)) × (d : Trees) × IsProof db t d × IsTrue (is_member (postfix d) a)
+
+-- a chain of citations from t through the assertions between to a
+abbrev pub IsChain : List Statement → ℕ → List ℕ → ℕ → Type 0
+IsChain db t [] a = Cites db t a
+IsChain db t (b ∷ between) a = Cites db t b × IsChain db b between a
+
+-- the cell of a theorem and an axiom is marked
+abbrev pub RestsOn : List Statement → ℕ → ℕ → Type 0
+RestsOn db t a = (between : List ℕ) × IsChain db t between a
+
+-- a chain of so many citations from t on, through theorems alone
+abbrev pub TheoremChain : List Statement → ℕ → ℕ → Type 0
+TheoremChain db t zero = Unit {0}
+TheoremChain db t (suc n) = (b : ℕ) × Cites db t b × IsTrue (list_any is_theorem (statement_at db b)) × TheoremChain db b n
+
+abbrev pub IsWave : List Statement → ℕ → ℕ → Type 0
+IsWave db t n = TheoremChain db t n × ((m : ℕ) → TheoremChain db t m → m ≤ n)

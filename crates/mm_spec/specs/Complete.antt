@@ -1,0 +1,41 @@
+-- A frame is complete if each of its variables has a `$f` among its hypotheses.
+use Rattle.std.specs.Prelude.{ℕ, Bool, true, false, ◌&&◌, not, List, [], ◌∷◌, Option, Some, None, ◌==◌, IsTrue}
+use Rattle.std.specs.List.{list_any, AllByRecursion}
+use Rattle.mm_spec.specs.Text.{Fault}
+use Rattle.mm_spec.specs.Statement.{Statement}
+use Rattle.mm_spec.specs.Derivation.{Formula, Frame, Context, Rule, hypothesis, assertion}
+use Rattle.mm_spec.specs.Citation.{context_at}
+use Rattle.mm_spec.specs.Output.{Lexed, IsRead}
+
+module _ (c : Context) where
+  abbrev pub binds : ℕ → Formula → Bool
+  binds x [] = false
+  binds x (t ∷ []) = false
+  binds x (t ∷ y ∷ []) = not (c.is_variable t) && (c.is_variable y && (x == y))
+  binds x (t ∷ y ∷ z ∷ zs) = false
+
+  -- the variable has a `$f` among the hypotheses
+  abbrev pub IsBound : List Formula → ℕ → Type 0
+  IsBound hs x = IsTrue (list_any (binds x) hs)
+
+  abbrev pub AreBound : List Formula → Formula → Type 0
+  AreBound hs f = AllByRecursion (λ x. IsTrue (c.is_variable x) → IsBound hs x) f
+
+  -- each mandatory variable has a `$f` among the mandatory hypotheses
+  pub record IsComplete (a : Frame) : Type 0 where
+    pub hypotheses : AllByRecursion (AreBound a.hypotheses) a.hypotheses
+    pub formula : AreBound a.hypotheses a.formula
+    pub pairs : AllByRecursion (λ p. IsBound a.hypotheses p.low × IsBound a.hypotheses p.high) a.pairs
+
+  abbrev pub IsFine : Option Rule → Type 0
+  IsFine None = Unit {0}
+  IsFine (Some (hypothesis g)) = Unit {0}
+  IsFine (Some (assertion a)) = IsComplete a
+
+-- what a label stands for asks for no variable that its hypotheses don't have
+abbrev pub AreComplete : List Statement → Type 0
+AreComplete db = (k l : ℕ) → IsFine (context_at db k) ((context_at db k).rule l)
+
+-- The frames of all that is read are complete: a lawful `$e`, `$a` or `$p` has an active `$f` for each of its variables.
+abbrev pub ReadsComplete : ℕ → Lexed → Type 0
+ReadsComplete len x = (db : List Statement) (fault : Option Fault) → IsRead len x db fault → AreComplete db

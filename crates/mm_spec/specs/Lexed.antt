@@ -1,0 +1,28 @@
+-- The tokens and the lexical fault of a text.
+use Rattle.std.specs.Prelude.{◌≡◌, ◌<◌, ◌≤◌, ℕ, List, [], length, nat_lt, if◌then◌else◌, Option, Some, None}
+use Rattle.mm_spec.specs.Words.{words_of, AreWords}
+use Rattle.mm_spec.specs.Readings.{Reading, reading}
+use Rattle.mm_spec.specs.Grammar.{IsReading}
+use Rattle.mm_spec.specs.declared.Word.{Word}
+use Rattle.mm_spec.specs.declared.Fault.{Fault}
+use Rattle.mm_spec.specs.declared.Code.TheVariants.{TextTooLong, OpenComment}
+use Rattle.mm_spec.specs.declared.TheConstants.{TEXT_LIMIT}
+
+-- a faulty word decides, and else a comment that is open at the end
+abbrev pub fault_in : Option Fault → Option ℕ → Option Fault
+fault_in (Some f) comment = Some f
+fault_in None (Some at) = Some (record { at = at; code = OpenComment })
+fault_in None None = None
+
+unfoldable pub tokens_of : List ℕ → List Word
+tokens_of text = if nat_lt TEXT_LIMIT (length text) then [] else (reading text None (words_of text)).tokens
+
+unfoldable pub lexical_fault : List ℕ → Option Fault
+lexical_fault text = if nat_lt TEXT_LIMIT (length text) then Some (record { at = 0; code = TextTooLong })
+    else fault_in (reading text None (words_of text)).fault (reading text None (words_of text)).comment
+
+-- What the tokens and the fault of a text are, in terms of its words and the grammar alone.
+pub record IsLexed (text : List ℕ) (tokens : List Word) (fault : Option Fault) : Type 0 where
+  pub too_long : TEXT_LIMIT < length text → (tokens ≡ []) × (fault ≡ Some (record { at = 0; code = TextTooLong }))
+  pub read : length text ≤ TEXT_LIMIT → (ws : List Word) → AreWords text ws →
+      (r : Reading) × IsReading text ws r × (tokens ≡ r.tokens) × (fault ≡ fault_in r.fault r.comment)

@@ -1,0 +1,102 @@
+-- The first fault of a text, and what is written.
+use Rattle.std.specs.Prelude.{◌≢◌, ◌++◌, ◌≡◌, ℕ, ◌<◌, Bool, true, false, List, [], ◌∷◌, length, map, Option, Some, None, slice_get, flat_map, ◌⊎◌, IsTrue, Decides, bytes_eq}
+use Rattle.std.specs.List.{list_any, range_with_len, AllZip}
+use Rattle.mm_spec.specs.Text.{Word, Token, token, Fault}
+use Rattle.mm_spec.specs.Readings.{bytes_of}
+use Rattle.mm_spec.specs.Lexed.{tokens_of, lexical_fault}
+use Rattle.mm_spec.specs.Statement.{Statement, axiomatic, provable, IsLongestRow, ShapeFault, EndFault, symbols_of}
+use Rattle.mm_spec.specs.Scope.{those, statement_at, label_words}
+use Rattle.mm_spec.specs.Lawful.{least, scope_fault}
+use Rattle.mm_spec.specs.Frame.{formula_at}
+use Rattle.mm_spec.specs.Valid as proof
+use Rattle.mm_spec.specs.Citation.{context_at, steps_at, reading_faults_at, is_theorem, IsValid, RestsOn}
+use Rattle.mm_spec.specs.Report.{Choice, Row, report, refusal}
+
+-- the words of a text up to its first faulty word, as tokens, and that fault
+pub record Lexed : Type 0 where
+  pub tokens : List Token
+  pub fault : Option Fault
+
+-- a fault of bytes, words or shape
+abbrev pub WordOrEnd : ℕ → List Token → Option Fault → Fault → Type 0
+WordOrEnd len ts (Some g) f = f ≡ g
+WordOrEnd len ts None f = EndFault len ts f
+
+abbrev pub TextFault : ℕ → Lexed → Fault → Type 0
+TextFault len x f = ShapeFault x.tokens f ⊎ ((¬ ((g : Fault) × ShapeFault x.tokens g)) × WordOrEnd len x.tokens x.fault f)
+
+-- what stops the reading behind the lawful statements
+abbrev pub Stops : ℕ → Lexed → List Statement → List Statement → List Statement → Option Fault → Type 0
+Stops len x row db (s ∷ rest) fault = (fault ≢ None) × (scope_fault row (length db) ≡ fault)
+Stops len x row db [] None = (f : Fault) → ¬ TextFault len x f
+Stops len x row db [] (Some f) = TextFault len x f
+
+-- What reading gives: the statements up to the first that is no whole and lawful one, and what is wrong there, if the text goes on or ends within one.
+pub record IsRead (len : ℕ) (x : Lexed) (db : List Statement) (fault : Option Fault) : Type 0 where
+  pub row : List Statement
+  pub is_row : IsLongestRow x.tokens row
+  pub rest : List Statement
+  pub splits : row ≡ db ++ rest
+  pub lawful : (k : ℕ) → k < length db → scope_fault row k ≡ None
+  pub stops : Stops len x row db rest fault
+
+-- the fault of theorem k's proof, which ends at a place
+abbrev pub ProofFault : List Statement → ℕ → ℕ → Fault → Type 0
+ProofFault db k end f = (least (reading_faults_at db k) ≡ Some f)
+    ⊎ ((reading_faults_at db k ≡ []) × (proof.StepFault (context_at db k) (steps_at db k) f ⊎ proof.EndFault (context_at db k) (steps_at db k) (formula_at db k) end f))
+
+abbrev pub end_of : Option Statement → ℕ
+end_of (Some (provable l p xs e ps d)) = d
+end_of _ = 0
+
+abbrev pub is_theorem_at : List Statement → ℕ → Bool
+is_theorem_at db k = list_any is_theorem (statement_at db k)
+
+-- the theorems before k are valid
+abbrev pub AreValid : List Statement → ℕ → Type 0
+AreValid db k = (j : ℕ) → j < k → IsTrue (is_theorem_at db j) → IsValid db j
+
+-- the first theorem whose proof has a fault, and that fault
+abbrev pub FirstProofFault : List Statement → ℕ → Fault → Type 0
+FirstProofFault db k f = IsTrue (is_theorem_at db k) × AreValid db k × ProofFault db k (end_of (slice_get db k)) f
+
+-- The first faulty statement decides: a theorem that was read, or else what stopped the reading.
+abbrev pub FirstFault : ℕ → Lexed → Fault → Type 0
+FirstFault len x f = (db : List Statement) × (fault : Option Fault) × IsRead len x db fault
+    × (((k : ℕ) × FirstProofFault db k f) ⊎ (AreValid db (length db) × (fault ≡ Some f)))
+
+-- what is sound from its first byte to its last
+abbrev pub HasNoFault : ℕ → Lexed → List Statement → Type 0
+HasNoFault len x db = IsRead len x db None × AreValid db (length db)
+
+-- the numbers of the theorems, and of the axioms with a typecode, if one is chosen
+abbrev pub theorems : List Statement → List ℕ
+theorems db = those (λ j. list_any is_theorem (statement_at db j)) (range_with_len 0 (length db))
+
+abbrev pub has_typecode : Option Word → Statement → Bool
+has_typecode None s = true
+has_typecode (Some w) s = elim (symbols_of s) [ [] ↦ false | t ∷ ts ↦ bytes_eq t.word w ]
+
+abbrev pub is_column : Option Word → Statement → Bool
+is_column only (axiomatic l k xs d) = has_typecode only (axiomatic l k xs d)
+is_column only _ = false
+
+abbrev pub columns : List Statement → Option Word → List ℕ
+columns db only = those (λ j. list_any (is_column only) (statement_at db j)) (range_with_len 0 (length db))
+
+abbrev pub label_at : List Statement → ℕ → Word
+label_at db j = flat_map (λ w. w) (flat_map label_words (statement_at db j))
+
+-- a row is that of a theorem: its label, and a mark where it rests on the column's axiom
+abbrev pub IsRowOf : List Statement → List ℕ → ℕ → Row → Type 0
+IsRowOf db axioms t r = (r.label ≡ label_at db t) × AllZip (λ a mark. Decides mark (RestsOn db t a)) axioms r.marks
+
+-- the words of a text up to its first faulty one, with that fault
+abbrev pub lexed_of : List ℕ → Lexed
+lexed_of text = record { tokens = map (λ w. token w.start (bytes_of text w)) (tokens_of text); fault = lexical_fault text }
+
+-- what is written for a text
+abbrev pub IsOutput : List ℕ → Option Word → Choice → List ℕ → Type 0
+IsOutput text only choice bytes =
+    ((f : Fault) × FirstFault (length text) (lexed_of text) f × (bytes ≡ refusal text f))
+    ⊎ ((db : List Statement) × HasNoFault (length text) (lexed_of text) db × (rows : List Row) × AllZip (IsRowOf db (columns db only)) (theorems db) rows × (bytes ≡ report (map (label_at db) (columns db only)) rows choice))

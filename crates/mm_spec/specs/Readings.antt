@@ -1,0 +1,39 @@
+-- Rows of words read as tokens and comments.
+use Rattle.std.specs.Prelude.{ℕ, List, [], ◌∷◌, ◌++◌, Option, Some, None, is_some, slice_range}
+use Rattle.mm_spec.specs.Roles.{role_of, fault_of}
+use Rattle.mm_spec.specs.declared.Word.{Word}
+use Rattle.mm_spec.specs.declared.Fault.{Fault}
+use Rattle.mm_spec.specs.declared.Role.TheVariants.{Token, Opening, Closing, Comment, Faulty}
+
+-- the bytes of a word
+abbrev pub bytes_of : List ℕ → Word → List ℕ
+bytes_of text w = slice_range text w.start w.end
+
+-- What a row of words gives: the tokens before its faulty word, the fault of that, or all tokens; and the
+-- place of the comment that is open there.
+pub record Reading : Type 0 where
+  pub tokens : List Word
+  pub fault : Option Fault
+  pub comment : Option ℕ
+
+abbrev pub with_tokens : List Word → Reading → Reading
+with_tokens ts r = record r { tokens = ts ++ r.tokens }
+
+-- the words read in order, from a place where this comment is open, or none
+unfoldable pub reading : List ℕ → Option ℕ → List Word → Reading
+reading text comment [] = record { tokens = []; fault = None; comment = comment }
+reading text comment (w ∷ ws) = elim (role_of (is_some comment) (bytes_of text w)) [
+  | Token ↦ with_tokens (w ∷ []) (reading text comment ws)
+  | Opening ↦ reading text (Some w.start) ws
+  | Closing ↦ reading text None ws
+  | Comment ↦ reading text comment ws
+  | Faulty ↦ record { tokens = []; fault = Some (fault_of (is_some comment) w.start (bytes_of text w)); comment = comment }
+]
+
+-- no words yet, where this comment is open, or none
+abbrev pub start : Option ℕ → Reading
+start comment = record { tokens = []; fault = None; comment = comment }
+
+-- a reading goes on with further words, where it has no fault
+abbrev pub go_on : List ℕ → Reading → List Word → Reading
+go_on text r ws = elim r.fault [ None ↦ with_tokens r.tokens (reading text r.comment ws) | Some f ↦ r ]

@@ -1,0 +1,115 @@
+-- Statements, their spelling, and what is no front of a row of statements.
+use Rattle.std.specs.Prelude.{◌≡◌, ℕ, ◌≤◌, ◌<◌, ◌≢◌, Bool, true, false, ◌&&◌, not, List, [], ◌∷◌, ◌++◌, take, Option, Some, None, codes, count_by, flat_map, ◌⊎◌, bytes_eq, if◌then◌else◌, IsTrue, ◌||◌}
+use Rattle.std.specs.List.{list_all}
+use Rattle.mm_spec.specs.Text.{Word, Token, token, Fault, fault, has_dollar, is_label}
+use Rattle.mm_spec.specs.declared.Code.TheVariants.{Inclusion, BadLabel, UnexpectedToken, OpenStatement, UnopenedBlock, OpenBlock}
+use Rattle.mm_spec.specs.declared.Code.{Code}
+
+-- The nine shapes. A number is the place of a keyword.
+pub data Statement : Type 0 where
+  constants : (keyword : ℕ) (symbols : List Token) (dot : ℕ) → Statement
+  variables : (keyword : ℕ) (symbols : List Token) (dot : ℕ) → Statement
+  disjoint : (keyword : ℕ) (symbols : List Token) (dot : ℕ) → Statement
+  floating : (label : Token) (keyword : ℕ) (symbols : List Token) (dot : ℕ) → Statement
+  essential : (label : Token) (keyword : ℕ) (symbols : List Token) (dot : ℕ) → Statement
+  axiomatic : (label : Token) (keyword : ℕ) (symbols : List Token) (dot : ℕ) → Statement
+  provable : (label : Token) (keyword : ℕ) (symbols : List Token) (equals : ℕ) (proof : List Token) (dot : ℕ) → Statement
+  opening : (at : ℕ) → Statement
+  closing : (at : ℕ) → Statement
+
+-- how a statement is spelled
+abbrev pub spelled : Statement → List Token
+spelled (constants k xs d) = token k (codes "$c") ∷ (xs ++ token d (codes "$.") ∷ [])
+spelled (variables k xs d) = token k (codes "$v") ∷ (xs ++ token d (codes "$.") ∷ [])
+spelled (disjoint k xs d) = token k (codes "$d") ∷ (xs ++ token d (codes "$.") ∷ [])
+spelled (floating l k xs d) = l ∷ token k (codes "$f") ∷ (xs ++ token d (codes "$.") ∷ [])
+spelled (essential l k xs d) = l ∷ token k (codes "$e") ∷ (xs ++ token d (codes "$.") ∷ [])
+spelled (axiomatic l k xs d) = l ∷ token k (codes "$a") ∷ (xs ++ token d (codes "$.") ∷ [])
+spelled (provable l k xs e ps d) =
+    l ∷ token k (codes "$p") ∷ (xs ++ token e (codes "$=") ∷ (ps ++ token d (codes "$.") ∷ []))
+spelled (opening k) = token k (codes "${") ∷ []
+spelled (closing k) = token k (codes "$}") ∷ []
+
+abbrev pub label_of : Statement → Option Token
+label_of (floating l k xs d) = Some l
+label_of (essential l k xs d) = Some l
+label_of (axiomatic l k xs d) = Some l
+label_of (provable l k xs e ps d) = Some l
+label_of _ = None
+
+abbrev pub symbols_of : Statement → List Token
+symbols_of (constants k xs d) = xs
+symbols_of (variables k xs d) = xs
+symbols_of (disjoint k xs d) = xs
+symbols_of (floating l k xs d) = xs
+symbols_of (essential l k xs d) = xs
+symbols_of (axiomatic l k xs d) = xs
+symbols_of (provable l k xs e ps d) = xs
+symbols_of _ = []
+
+abbrev pub proof_of : Statement → List Token
+proof_of (provable l k xs e ps d) = ps
+proof_of _ = []
+
+abbrev pub is_opening : Statement → Bool
+is_opening (opening k) = true
+is_opening _ = false
+
+abbrev pub is_closing : Statement → Bool
+is_closing (closing k) = true
+is_closing _ = false
+
+-- the words of a statement but for its keywords and its label
+abbrev pub is_plain : List Token → Bool
+is_plain ts = list_all (λ t. not (has_dollar t.word)) ts
+
+abbrev pub has_label : Option Token → Bool
+has_label None = true
+has_label (Some l) = is_label l.word
+
+-- a label where one belongs, and words without `$` between the keywords
+abbrev pub is_whole : Statement → Bool
+is_whole s = has_label (label_of s) && is_plain (symbols_of s) && is_plain (proof_of s)
+
+-- a row of whole statements, no front of which has more `$}` than `${`
+pub record IsRow (row : List Statement) : Type 0 where
+  pub whole : IsTrue (list_all is_whole row)
+  pub nested : (n : ℕ) → count_by is_closing (take n row) ≤ count_by is_opening (take n row)
+
+-- some row begins with the tokens
+abbrev pub Begins : List Token → Type 0
+Begins ts = (row : List Statement) × IsRow row × (more : List Token) × (flat_map spelled row ≡ ts ++ more)
+
+-- the tokens are a row, so that the next one begins a statement
+abbrev pub IsBetween : List Token → Type 0
+IsBetween ts = (row : List Statement) × IsRow row × (flat_map spelled row ≡ ts)
+
+-- what a token is that no row goes on with: where a statement begins, and within one
+abbrev pub first_code : Word → Code
+first_code w = if bytes_eq w (codes "$}") then UnopenedBlock else if has_dollar w then UnexpectedToken else BadLabel
+
+abbrev pub shape_code : Bool → Word → Code
+shape_code between w = if bytes_eq w (codes "$[") || bytes_eq w (codes "$]") then Inclusion else if between then first_code w else UnexpectedToken
+
+-- the first token such that no row begins with the tokens up to it
+pub record ShapeFault (tokens : List Token) (f : Fault) : Type 0 where
+  pub before : List Token
+  pub first : Token
+  pub after : List Token
+  pub splits : tokens ≡ before ++ first ∷ after
+  pub begins : Begins before
+  pub no_more : ¬ Begins (before ++ first ∷ [])
+  pub code : (IsBetween before × (f ≡ fault first.at (shape_code true first.word))) ⊎ ((¬ IsBetween before) × (f ≡ fault first.at (shape_code false first.word)))
+
+-- the longest row at the beginning of the tokens
+pub record IsLongestRow (tokens : List Token) (row : List Statement) : Type 0 where
+  pub is_row : IsRow row
+  pub rest : List Token
+  pub splits : tokens ≡ flat_map spelled row ++ rest
+  pub longest : (s : Statement) (more : List Token) → IsRow (row ++ s ∷ []) → ¬ (rest ≡ spelled s ++ more)
+
+-- The fault at the end of a text of so many bytes that has no other fault of its shape: part of a statement is left, or a block is open.
+pub record EndFault (len : ℕ) (tokens : List Token) (f : Fault) : Type 0 where
+  pub row : List Statement
+  pub is_row : IsLongestRow tokens row
+  pub code : ((is_row.rest ≢ []) × (f ≡ fault len OpenStatement)) ⊎ ((is_row.rest ≡ []) × (count_by is_closing row < count_by is_opening row) × (f ≡ fault len OpenBlock))

@@ -1,0 +1,14 @@
+-- The steps of a proof (section 4.1.4, and the appendix on compressed proofs).
+use Rattle.std.specs.Prelude.{ℕ}
+
+-- A step of a proof: a label, by the number of its statement, or the subproof that an earlier step ended.
+pub data Step : Type 0 where
+  label : ℕ → Step
+  marked : ℕ → Step
+
+pub record PlacedStep : Type 0 where
+  pub at : ℕ
+  pub step : Step
+
+abbrev pub placed : ℕ → Step → PlacedStep
+placed at s = record { at = at; step = s }

@@ -1,0 +1,30 @@
+//! What the definitions of words and readings mean, as laws over them. Nothing runs here.
+
+ghost use Rattle.std.specs.Prelude.{◌≡◌, ◌↔◌, ℕ, List, None};
+ghost use Rattle.mm_spec.specs.Words.{words_of, AreWords};
+ghost use Rattle.mm_spec.specs.Readings.{reading};
+ghost use Rattle.mm_spec.specs.Lexed.{lexical_fault, tokens_of, IsLexed};
+ghost use Rattle.mm_spec.specs.Grammar.{IsReading};
+ghost use Rattle.mm_spec.specs.declared.Word.{Word};
+ghost use Rattle.mm_spec.specs.Unique.{OutputIsUnique};
+
+/// The words of a text are its longest runs of bytes that aren't white, in order, and no other list is.
+pub fn words_are_the_longest_runs()
+    ensures are { (text : List ℕ) → AreWords text (words_of text) }
+    ensures only { (text : List ℕ) (ws : List Word) → AreWords text ws → ws ≡ words_of text }
+{}
+
+/// A reading follows the grammar of tokens and comments, up to the first word with which the words don't.
+pub fn a_reading_follows_the_grammar()
+    ensures { (text : List ℕ) (ws : List Word) → IsReading text ws (reading text None ws) }
+{}
+
+/// The tokens and the lexical fault of a text are those of its words, read by the grammar.
+pub fn tokens_are_those_of_the_grammar()
+    ensures { (text : List ℕ) → IsLexed text (tokens_of text) (lexical_fault text) }
+{}
+
+/// There is at most one output of a text.
+pub fn output_is_unique()
+    ensures { OutputIsUnique }
+{}

@@ -1,0 +1,129 @@
+//! What Metamath databases mean (Metamath book, second edition, chapter 4 and the appendix on compressed proofs): the
+//! definitions of words, tokens, statements, proofs, faults, citations and reports, in `specs/`, on which every other
+//! crate stands, and the plain types that go with them. There is no code here. The functions of `laws` run nothing:
+//! the contract of each is a law over the definitions, in the subject's own words. What a reader has to believe is the
+//! folder `specs/` and nothing else.
+#![tactic(auto)]
+
+mod codes;
+pub mod laws;
+
+/// The greatest number of bytes of a text.
+pub const TEXT_LIMIT: usize = 2_147_483_647;
+
+/// The greatest number of symbols of a formula in a proof, its typecode included.
+pub const FORMULA_LIMIT: usize = 1_048_576;
+
+/// A word of a text by its places, byte offsets from 0: the bytes from `start` up to `end`, `end` excluded.
+#[derive(Clone, Copy, Debug, PartialEq, Eq)]
+pub struct Word {
+    pub start: u32,
+    pub end: u32,
+}
+
+/// What a word is, inside a comment or outside (section 4.1.1).
+#[derive(Clone, Copy, Debug, PartialEq, Eq)]
+pub enum Role {
+    /// A keyword, a label, a math symbol, a word of a proof.
+    Token,
+    /// `$(`, which opens a comment.
+    Opening,
+    /// `$)`, which closes it.
+    Closing,
+    /// A word within a comment.
+    Comment,
+    /// None of these.
+    Faulty,
+}
+
+/// A fault of a text: the place, a byte offset from 0, and what is wrong there.
+#[derive(Clone, Copy, Debug, PartialEq, Eq)]
+pub struct Fault {
+    pub at: u32,
+    pub code: Code,
+}
+
+/// What is wrong at a place. It prints as `E` and two digits.
+#[derive(Clone, Copy, Debug, PartialEq, Eq)]
+pub enum Code {
+    /// E00: the text is longer than 2,147,483,647 bytes. At 0.
+    TextTooLong,
+    /// E01: a byte that is neither white nor printable, in comments too. At the word's first such byte.
+    BadByte,
+    /// E02: in a comment a word that contains `$(` or `$)` and is not `$)`. At the word.
+    MarkInComment,
+    /// E03: a comment is open at the end of the file. At its `$(`.
+    OpenComment,
+    /// E04: outside comments a word that contains `$` and is no keyword, or is `$)`. At the word.
+    StrayDollar,
+    /// E05: `$[` or `$]`, wherever it stands. At the token.
+    Inclusion,
+    /// E06: where a statement begins, a word without `$` that is no label. At the word.
+    BadLabel,
+    /// E07: any other token that is not expected. At the token.
+    UnexpectedToken,
+    /// E08: the file ends within a statement. At the end of the file.
+    OpenStatement,
+    /// E09: `$}` with no open block. At the `$}`.
+    UnopenedBlock,
+    /// E10: the file ends between statements with a block open. At the end of the file.
+    OpenBlock,
+    /// E11: a `$c` in a block. At the `$c`.
+    ConstantInBlock,
+    /// E12: a `$c` or `$v` that declares nothing. At the `$.`.
+    EmptyDeclaration,
+    /// E13: a symbol that may not be declared again. At the symbol.
+    DeclaredBefore,
+    /// E14: a symbol and a label that are alike. At the one that comes later.
+    LabelIsSymbol,
+    /// E15: a label that was used before. At the label.
+    LabelUsedBefore,
+    /// E17: a formula whose first symbol is no constant, or that has none. At the symbol, or at the `$.` or `$=`.
+    BadTypecode,
+    /// E18: a symbol of a formula that is neither a constant nor an active variable. At the symbol.
+    UndeclaredSymbol,
+    /// E19: a `$f` of other than a constant and an active variable. At the `$f`.
+    BadFloating,
+    /// E20: a `$f` of a variable that has an active `$f`. At the variable.
+    TypedBefore,
+    /// E21: a `$f` of a variable to which an earlier one gave another typecode. At the variable.
+    OtherTypecode,
+    /// E22: a variable of a formula without an active `$f`. At the symbol.
+    UntypedVariable,
+    /// E23: a `$d` of fewer than two symbols. At the `$.`.
+    TooFewVariables,
+    /// E24: a symbol of a `$d` that is no active variable. At the symbol.
+    UndeclaredVariable,
+    /// E25: a symbol that stands twice in a `$d`. At the second.
+    RepeatedVariable,
+    /// E31: a proof without words, or a compressed one without letters. At the `$.`.
+    EmptyProof,
+    /// E32: a proof with a `?`. At the `?`.
+    IncompleteProof,
+    /// E33: a word that is no label of an active hypothesis or an earlier assertion. At the word.
+    UnusableLabel,
+    /// E34: fewer entries than the assertion has mandatory hypotheses. At the step.
+    TooFewEntries,
+    /// E35: entries that are not the hypotheses under one substitution. At the step.
+    UnmatchedHypotheses,
+    /// E36: a pair of disjoint variables is replaced by expressions that are not disjoint. At the step.
+    NotDisjoint,
+    /// E37: at the end of the proof there is not exactly one entry. At the `$.`.
+    NotOneEntry,
+    /// E38: at the end of the proof the entry is not the theorem's formula. At the `$.`.
+    OtherFormula,
+    /// E39: a formula of more than 1,048,576 symbols. At the step.
+    FormulaTooLong,
+    /// E41: the brackets of a compressed proof are not closed. At the `$.`.
+    OpenBrackets,
+    /// E42: a byte of a compressed proof that is neither `A` to `Z` nor `?`. At the byte.
+    BadLetter,
+    /// E43: a number of a compressed proof has no last digit. At the `Z` behind it, or at the `$.`.
+    OpenNumber,
+    /// E44: `Z` before the first number. At the `Z`.
+    MarkBeforeStep,
+    /// E45: a number above all that have a meaning. At its first letter.
+    NumberTooLarge,
+    /// E90: a compressed proof, which this version does not read yet. At its first word.
+    NotReadYet,
+}
