@@ -1,0 +1,4 @@
+pub mod RolesLemmas
+pub mod StretchesLaw
+pub mod PiecesLemmas
+pub mod CutsLemmas

@@ -1,0 +1,34 @@
+-- What is known of the words of a text from a stretch of it alone, and how two neighbours join.
+use Rattle.std.specs.Prelude.{◌≡◌, ℕ, ◌+◌, ◌<◌, ◌≤◌, true, false, List, [], ◌∷◌, length, nat_lt, if◌then◌else◌}
+use Rattle.mm_spec.specs.Words.{white_at}
+use Rattle.mm_spec.specs.declared.Word.{Word}
+
+-- no white byte from the one place up to the other
+abbrev pub NoWhite : List ℕ → ℕ → ℕ → Type 0
+NoWhite text from to = (i : ℕ) → from ≤ i → i < to → white_at text i ≡ false
+
+-- A stretch without a white byte, neither of whose ends is the text's: a part of a word, or nothing.
+pub record IsUnbroken (text : List ℕ) (from to : ℕ) : Type 0 where
+  pub first : 0 < from
+  pub order : from ≤ to
+  pub last : to < length text
+  pub no_white : NoWhite text from to
+
+-- Any other stretch. Its head goes from its beginning up to `head`, the first white byte, or there is none at the
+-- text's beginning. Its tail goes from `tail`, behind the last white byte, to its end, or there is none at the text's end.
+pub record IsBroken (text : List ℕ) (from to head tail : ℕ) : Type 0 where
+  pub from_head : from ≤ head
+  pub order : head ≤ tail
+  pub tail_to : tail ≤ to
+  pub within : to ≤ length text
+  pub head_ink : NoWhite text from head
+  pub tail_ink : NoWhite text tail to
+  pub no_head : from ≡ 0 → head ≡ 0
+  pub no_tail : to ≡ length text → tail ≡ to
+  pub head_ends : 0 < from → head < to → white_at text head ≡ true
+  pub some_white : 0 < from → to < length text → head < tail
+  pub tail_begins : to < length text → (i : ℕ) → i + 1 ≡ tail → from ≤ i → white_at text i ≡ true
+
+-- the word that the tail of one stretch and the head of the next make up, if there is one
+abbrev pub joined_word : ℕ → ℕ → List Word
+joined_word tail head = if nat_lt tail head then record { start = tail; end = head } ∷ [] else []

@@ -1,0 +1,122 @@
+//! What a word is, by its bytes.
+
+ghost use Rattle.std.specs.Prelude.{◌≡◌, ◌+◌, ◌<◌, ◌^◌, length, not, IfSome};
+ghost use Rattle.std.specs.List.{position};
+ghost use Rattle.mm_spec.specs.Bytes.{is_printable};
+ghost use Rattle.mm_spec.specs.Roles.{fault_of, has_mark, is_clean, is_comment_word, is_dollar_and, is_keyword, is_mark, is_token, role_of};
+ghost use Rattle.mm_spec.specs.Text.{has_dollar};
+
+use crate::bytes::is_printable;
+use crate::{Code, Fault, Role};
+
+#[tactic(auto, unfolding(mm_spec::specs::Roles::is_clean))]
+fn is_clean(word: &[u8]) -> bool
+    ensures { result ≡ is_clean word.now }
+{
+    word.iter().all(|b| is_printable(*b))
+}
+
+#[tactic(auto, unfolding(mm_spec::specs::Text::has_dollar))]
+fn has_dollar(word: &[u8]) -> bool
+    ensures { result ≡ has_dollar word.now }
+{
+    word.contains(&b'$')
+}
+
+#[tactic(auto, unfolding(mm_spec::specs::Roles::is_dollar_and))]
+fn is_dollar_and(b: u8, word: &[u8]) -> bool
+    ensures { result ≡ is_dollar_and b word.now }
+{
+    word.len() == 2 && word[0] == b'$' && word[1] == b
+}
+
+#[tactic(auto, unfolding(mm_spec::specs::Roles::is_keyword))]
+fn is_keyword(word: &[u8]) -> bool
+    ensures { result ≡ is_keyword word.now }
+{
+    b"cvfedap=.{}[]".iter().any(|b| is_dollar_and(*b, word))
+}
+
+#[tactic(auto, unfolding(mm_spec::specs::Roles::is_mark))]
+fn is_mark(first: u8, second: u8) -> bool
+    ensures { result ≡ is_mark first second }
+{
+    first == b'$' && (second == b'(' || second == b')')
+}
+
+/// Whether `$(` or `$)` stands in the word.
+fn has_mark(word: &[u8]) -> bool
+    ensures { result ≡ has_mark word.now }
+{
+    for i in 1..word.len() {
+        if is_mark(word[i - 1], word[i]) {
+            return true;
+        }
+    }
+    false
+}
+
+#[tactic(auto, unfolding(mm_spec::specs::Roles::is_token))]
+fn is_token(word: &[u8]) -> bool
+    ensures { result ≡ is_token word.now }
+{
+    is_clean(word) && (!has_dollar(word) || is_keyword(word))
+}
+
+#[tactic(auto, unfolding(mm_spec::specs::Roles::is_comment_word))]
+fn is_comment_word(word: &[u8]) -> bool
+    ensures { result ≡ is_comment_word word.now }
+{
+    is_clean(word) && !has_mark(word)
+}
+
+#[tactic(auto, unfolding(mm_spec::specs::Roles::role_of))]
+pub fn role(in_comment: bool, word: &[u8]) -> Role
+    ensures { result ≡ role_of in_comment word.now }
+{
+    if in_comment {
+        if is_dollar_and(b')', word) {
+            Role::Closing
+        } else if is_comment_word(word) {
+            Role::Comment
+        } else {
+            Role::Faulty
+        }
+    } else if is_token(word) {
+        Role::Token
+    } else if is_dollar_and(b'(', word) {
+        Role::Opening
+    } else {
+        Role::Faulty
+    }
+}
+
+/// The place of the first byte in the word that isn't printable.
+fn first_bad(word: &[u8]) -> Option<usize>
+    ensures value { result ≡ position (λ b. not (is_printable b)) word.now }
+    ensures within { IfSome result (λ i. i < length word.now) }
+{
+    word.iter().position(|b| !is_printable(*b))
+}
+
+/// The fault of a faulty word that begins at `at`.
+#[tactic(auto, unfolding(mm_spec::specs::Roles::fault_of))]
+pub fn word_fault(in_comment: bool, at: u32, word: &[u8]) -> Fault
+    requires { at + length word.now < 2 ^ 32 }
+    ensures { result ≡ fault_of in_comment at word.now }
+{
+    match first_bad(word) {
+        Some(i) => Fault {
+            at: at + i as u32,
+            code: Code::BadByte,
+        },
+        None if in_comment => Fault {
+            at,
+            code: Code::MarkInComment,
+        },
+        None => Fault {
+            at,
+            code: Code::StrayDollar,
+        },
+    }
+}

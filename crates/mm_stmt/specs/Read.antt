@@ -1,0 +1,43 @@
+-- What is known behind some statements.
+use Rattle.std.specs.Prelude.{◌≡◌, ℕ, zero, suc, Bool, true, false, ◌<◌, List, map, Option, None, Some, length}
+use Rattle.mm_spec.specs.Statement.{Statement}
+use Rattle.mm_spec.specs.Scope.{names_before}
+use Rattle.mm_spec.specs.Output.{Lexed}
+use Rattle.mm_spec.specs.declared.Word.{Word}
+use Rattle.mm_spec.specs.declared.Fault.{Fault}
+use Rattle.mm_stmt.specs.Parts.{tokens_of, statement_of}
+use Rattle.mm_stmt.specs.Blocks.{Lists, IsBlocks}
+use Rattle.mm_stmt.specs.Judge.{Knows, is_open_in}
+use Rattle.mm_stmt.specs.declared.names.Symbol.{Symbol}
+use Rattle.mm_stmt.specs.declared.parts.Kind.{Kind}
+use Rattle.mm_stmt.specs.declared.parts.Kind.TheVariants as kind
+use Rattle.mm_stmt.specs.declared.parts.Outline.{Outline}
+use Rattle.mm_spec.specs.Text.{fault}
+use Rattle.mm_stmt.specs.declared.parts.Part.{Part}
+use Rattle.mm_stmt.specs.declared.parts.Part.TheVariants.{Start, Labelled, Words, Formula, Proof}
+use Rattle.mm_spec.specs.declared.Code.TheVariants.{OpenStatement, OpenBlock}
+
+-- the code knows what stands before the next statement
+pub record Keeps (db : List Statement) (look : List ℕ → Option Symbol) (labels : List ℕ → Option ℕ) (b : Lists) : Type 0 where
+  pub blocks : IsBlocks db b
+  pub knows : Knows (names_before db (length db)) look labels (is_open_in b.of b.ends)
+
+abbrev pub lexed : List ℕ → List Word → Option Fault → Lexed
+lexed text ws fault = record { tokens = tokens_of text ws; fault = fault }
+
+abbrev pub statements : List ℕ → List Word → List Outline → List Statement
+statements text ws os = map (statement_of text ws) os
+
+abbrev pub end_fault_of : Option Fault → ℕ → Part → ℕ → Option Fault
+end_fault_of (Some f) len part deep = Some f
+end_fault_of None len Start zero = None
+end_fault_of None len Start (suc d) = Some (fault len OpenBlock)
+end_fault_of None len _ d = Some (fault len OpenStatement)
+
+abbrev pub active_kind : Kind → Bool → Bool
+active_kind kind.Constants b = true
+active_kind kind.Axiom b = true
+active_kind kind.Theorem b = true
+active_kind kind.Open b = false
+active_kind kind.Close b = false
+active_kind _ b = b

@@ -1,0 +1,13 @@
+//! The statements of a Metamath text.
+#![tactic(auto)]
+
+pub mod blocks;
+pub mod names;
+pub mod parts;
+pub mod read;
+pub mod words;
+
+pub use mm_spec::{Code, Fault, Word};
+
+#[cfg(test)]
+mod tests;
