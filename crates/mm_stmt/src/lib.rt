@@ -2,9 +2,11 @@
 #![tactic(auto)]
 
 pub mod blocks;
+pub mod database;
 pub mod names;
 pub mod parts;
 pub mod read;
+pub mod symbol;
 pub mod words;
 
 pub use mm_spec::{Code, Fault, Word};

@@ -1,0 +1,122 @@
+-- What a database of statements is to those who read it, and what its fields keep.
+use Rattle.std.specs.Prelude.{◌≡◌, ℕ, ◌+◌, ◌<◌, ◌≤◌, ◌^◌, Bool, true, false, List, [], ◌∷◌, map, length, slice_range, slice_index, slice_get, get_or, if◌then◌else◌, All, Option, None, Some, IsTrue, ◌↔◌}
+use Rattle.std.specs.List.{list_any, range_with_len}
+use Rattle.mm_spec.specs.declared.Fault.{Fault}
+use Rattle.mm_spec.specs.Statement.{Statement, constants, variables, disjoint, floating, essential, axiomatic, provable, opening, closing, symbols_of}
+use Rattle.mm_spec.specs.Scope.{statement_at, those}
+use Rattle.mm_spec.specs.Derivation.{Pair}
+use Rattle.mm_spec.specs.Frame.{symbol_names, is_variable, is_disjoint, formula_at, mandatory_hypotheses, mandatory_pairs}
+use Rattle.mm_spec.specs.NormalProof.{is_labelled}
+use Rattle.mm_spec.specs.Citation.{is_assertion}
+use Rattle.mm_spec.specs.Output.{IsRead, lexed_of, theorems, columns}
+use Rattle.mm_spec.specs.declared.Word.{Word}
+use Rattle.mm_stmt.specs.Parts.{AreWords, IsOutline}
+use Rattle.mm_stmt.specs.Read.{statements}
+use Rattle.mm_stmt.specs.Blocks.{Lists, IsBlocks}
+use Rattle.mm_stmt.specs.declared.parts.Kind.{Kind}
+use Rattle.mm_stmt.specs.declared.parts.Kind.TheVariants as kind
+use Rattle.mm_stmt.specs.declared.parts.Outline.{Outline}
+
+-- a text, its statements before the first that is no whole and lawful one, and what is wrong there
+pub record Known : Type 0 where
+  pub text : List ℕ
+  pub statements : List Statement
+  pub fault : Option Fault
+
+abbrev pub known : List ℕ → List Statement → Option Fault → Known
+known text db fault = record { text = text; statements = db; fault = fault }
+
+-- which of the nine shapes a statement has
+abbrev pub kind_of : Statement → Kind
+kind_of (constants k xs d) = kind.Constants
+kind_of (variables k xs d) = kind.Variables
+kind_of (disjoint k xs d) = kind.Disjoint
+kind_of (floating l k xs d) = kind.Floating
+kind_of (essential l k xs d) = kind.Essential
+kind_of (axiomatic l k xs d) = kind.Axiom
+kind_of (provable l k xs e ps d) = kind.Theorem
+kind_of (opening k) = kind.Open
+kind_of (closing k) = kind.Close
+
+-- the place of a statement's last token
+abbrev pub last_place : Statement → ℕ
+last_place (constants k xs d) = d
+last_place (variables k xs d) = d
+last_place (disjoint k xs d) = d
+last_place (floating l k xs d) = d
+last_place (essential l k xs d) = d
+last_place (axiomatic l k xs d) = d
+last_place (provable l k xs e ps d) = d
+last_place (opening k) = k
+last_place (closing k) = k
+
+-- the kinds of statements that have a label, and so a typecode
+abbrev pub is_labelled_kind : Kind → Bool
+is_labelled_kind kind.Floating = true
+is_labelled_kind kind.Essential = true
+is_labelled_kind kind.Axiom = true
+is_labelled_kind kind.Theorem = true
+is_labelled_kind _ = false
+
+abbrev pub typecode_of : List Statement → ℕ → Option ℕ
+typecode_of db k = if list_any (λ s. is_labelled_kind (kind_of s)) (statement_at db k) then slice_get (formula_at db k) 0 else None
+
+-- the symbols of each statement, one behind the other: those of statement k from place k up to place k + 1
+pub record AreNumbered (db : List Statement) (numbers places : List ℕ) : Type 0 where
+  pub count : length places ≡ length db + 1
+  pub order : (k : ℕ) → k < length db → slice_index places k ≤ slice_index places (k + 1)
+  pub within : (k : ℕ) → k < length db → slice_index places (k + 1) ≤ length numbers
+  pub formula : (k : ℕ) → k < length db → slice_range numbers (slice_index places k) (slice_index places (k + 1)) ≡ formula_at db k
+  pub below : (k : ℕ) → k < length db → All (λ s. s < length (symbol_names db)) (formula_at db k)
+
+-- the names of the symbols, and which of them are variables
+pub record AreSymbols (db : List Statement) (names : List (List ℕ)) (kinds : List Bool) : Type 0 where
+  pub names_are : names ≡ symbol_names db
+  pub count : length kinds ≡ length names
+  pub variable : (s : ℕ) → s < length names → get_or kinds s false ≡ is_variable db s
+
+-- what the labels stand for
+pub record AreLabels (db : List Statement) (find : List ℕ → Option ℕ) : Type 0 where
+  pub found : (w : List ℕ) (k : ℕ) → find w ≡ Some k → (k < length db) × IsTrue (list_any (is_labelled w) (statement_at db k))
+  pub missing : (w : List ℕ) → find w ≡ None → (k : ℕ) → list_any (is_labelled w) (statement_at db k) ≡ false
+  pub only : (w : List ℕ) (j k : ℕ) → list_any (is_labelled w) (statement_at db j) ≡ true → list_any (is_labelled w) (statement_at db k) ≡ true → j ≡ k
+
+-- the mandatory hypotheses and pairs of the assertions
+pub record AreFrames (db : List Statement) (hyps : List (List ℕ)) (pairs : List (List Pair)) : Type 0 where
+  pub count : length hyps ≡ length db
+  pub count_pairs : length pairs ≡ length db
+  pub hypotheses : (k : ℕ) → k < length db → list_any is_assertion (statement_at db k) ≡ true → get_or hyps k [] ≡ mandatory_hypotheses db k
+  pub disjoint : (k : ℕ) → k < length db → list_any is_assertion (statement_at db k) ≡ true → get_or pairs k [] ≡ mandatory_pairs db k
+
+-- what is kept beside the statements
+pub record Fields : Type 0 where
+  pub blocks : Lists
+  pub find : List ℕ → Option ℕ
+  pub names : List (List ℕ)
+  pub variables : List Bool
+  pub numbers : List ℕ
+  pub places : List ℕ
+  pub hyps : List (List ℕ)
+  pub pairs : List (List Pair)
+  pub disjoint : List ℕ
+  pub theorems : List ℕ
+  pub axioms : List ℕ
+
+abbrev pub fields : Lists → (List ℕ → Option ℕ) → List (List ℕ) → List Bool → List ℕ → List ℕ → List (List ℕ) → List (List Pair) → List ℕ → List ℕ → List ℕ → Fields
+fields b f ns vs xs ps hs ds js ts cs = record { blocks = b; find = f; names = ns; variables = vs; numbers = xs; places = ps; hyps = hs; pairs = ds; disjoint = js; theorems = ts; axioms = cs }
+
+-- the fields are those of the statements, and these are the reading of the text
+pub record IsDatabase (text : List ℕ) (ws : List Word) (os : List Outline) (fault : Option Fault) (f : Fields) : Type 0 where
+  pub words : AreWords text ws
+  pub few : length os < 2 ^ 31
+  pub outlines : All (λ o. IsOutline o × (o.end < length ws)) os
+  pub blocks : IsBlocks (statements text ws os) f.blocks
+  pub labels : AreLabels (statements text ws os) f.find
+  pub symbols : AreSymbols (statements text ws os) f.names f.variables
+  pub numbered : AreNumbered (statements text ws os) f.numbers f.places
+  pub frames : AreFrames (statements text ws os) f.hyps f.pairs
+  pub disjoint : f.disjoint ≡ those (λ j. list_any is_disjoint (statement_at (statements text ws os) j)) (range_with_len 0 (length os))
+  pub theorems_are : f.theorems ≡ theorems (statements text ws os)
+  pub axioms_are : f.axioms ≡ columns (statements text ws os) None
+  pub few_symbols : length f.names < 2 ^ 31
+  pub read : IsRead (length text) (lexed_of text) (statements text ws os) fault

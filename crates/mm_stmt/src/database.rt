@@ -1,0 +1,248 @@
+//! The database of a text: its statements, and what is asked of them.
+
+ghost use Rattle.std.specs.Prelude.{◌≡◌, ◌<◌, ◌≤◌, ◌^◌, ◌+◌, ℕ, Bool, List, Option, Some, None, IfSome, IfNone, IsTrue, All, length, map, slice_get, slice_index, get_or, vec_len, true, false};
+ghost use Rattle.std.specs.Option.{option_map, option_copied, option_and_then};
+ghost use Rattle.std.specs.List.{list_any};
+ghost use Rattle.mm_spec.specs.Statement.{label_of, proof_of};
+ghost use Rattle.mm_spec.specs.Scope.{is_active, statement_at};
+ghost use Rattle.mm_spec.specs.Derivation.{pair};
+ghost use Rattle.mm_spec.specs.Frame.{symbol_names, is_variable, formula_at, mandatory_hypotheses, mandatory_pairs, disjoint_at};
+ghost use Rattle.mm_spec.specs.NormalProof.{is_labelled};
+ghost use Rattle.mm_spec.specs.Citation.{is_assertion};
+ghost use Rattle.mm_spec.specs.Output.{IsRead, lexed_of, theorems, columns};
+ghost use Rattle.mm_stmt.specs.Parts.{tokens_of};
+ghost use Rattle.mm_stmt.specs.Read.{active_kind};
+ghost use Rattle.mm_stmt.specs.Database.{kind_of, last_place, typecode_of, is_labelled_kind};
+
+use crate::blocks::Blocks;
+use crate::names::Map;
+use crate::parts::{Kind, Outline};
+use crate::symbol::Sym;
+use indexmap::IndexSet;
+use mm_spec::{Fault, Word};
+use std::alloc::Allocator;
+use std::hash::{BuildHasherDefault, FoldHasher};
+use std::marker::Model;
+
+/// The frame of an assertion (section 4.2.7 of the Metamath book, "Frames").
+#[derive(Drop)]
+pub struct Frame<A: Allocator> {
+    /// The mandatory hypotheses, by their statements, in order of appearance.
+    pub hyps: Vec<u32, A>,
+    /// The mandatory pairs of disjoint variables: the lower symbol first, rising, each once.
+    pub pairs: Vec<(Sym, Sym), A>,
+}
+
+/// The names of the symbols, each in the place of its number.
+pub type SymbolNames<'a, A> = IndexSet<&'a [u8], BuildHasherDefault<FoldHasher>, A>;
+
+/// The statements of a text before the first that is no whole and lawful one, by their numbers from 0 in file order.
+#[derive(Drop)]
+pub struct Database<'a, A: Allocator> {
+    pub(crate) text: &'a [u8],
+    pub(crate) words: Vec<Word, A>,
+    pub(crate) outlines: Vec<Outline, A>,
+    pub(crate) fault: Option<Fault>,
+    pub(crate) blocks: Blocks<A>,
+    pub(crate) labels: Map<'a, u32, A>,
+    pub(crate) names: SymbolNames<'a, A>,
+    pub(crate) variables: Vec<bool, A>,
+    pub(crate) numbers: Vec<Sym, A>,
+    pub(crate) places: Vec<u32, A>,
+    pub(crate) frames: Vec<Frame<A>, A>,
+    pub(crate) disjoint: Vec<u32, A>,
+    pub(crate) theorems: Vec<u32, A>,
+    pub(crate) axioms: Vec<u32, A>,
+}
+
+impl<'a, A: Allocator> Model for Database<'a, A> {
+    ghost use Rattle.std.specs.Prelude.{map};
+    ghost use Rattle.mm_spec.specs.Derivation.{pair};
+    ghost use Rattle.mm_stmt.specs.Names.{find, keys_of};
+    ghost use Rattle.mm_stmt.specs.Blocks.{lists};
+    ghost use Rattle.mm_stmt.specs.Read.{statements};
+    ghost use Rattle.mm_stmt.specs.Database.{Known, known, fields, IsDatabase};
+
+    ghost Value = { Known };
+
+    ghost view = { λ d. known d.text.now (statements d.text.now d.words.items d.outlines.items) d.fault };
+
+    ghost invariant = { λ d. IsDatabase d.text.now d.words.items d.outlines.items d.fault (fields (lists d.blocks.of.items d.blocks.ends.items d.blocks.open.items) (find d.labels) (keys_of d.names) d.variables.items d.numbers.items d.places.items (map (λ f. f.hyps.items) d.frames.items) (map (λ f. map (λ p. pair p.0 p.1) f.pairs.items) d.frames.items) d.disjoint.items d.theorems.items d.axioms.items) };
+}
+
+impl<'a, A: Allocator> Database<'a, A> {
+    /// The text.
+    pub fn text(&self) -> &'a [u8]
+        ensures { result.now ≡ self.now.text }
+    {
+        self.text
+    }
+
+    /// What is wrong behind the statements: the first fault of words, shape, symbols, labels or scope.
+    pub fn fault(&self) -> Option<Fault>
+        ensures { result ≡ self.now.fault }
+    {
+        self.fault
+    }
+
+    /// How many statements there are.
+    pub fn len(&self) -> u32
+        ensures len { result ≡ length self.now.statements }
+        ensures small { result < 2 ^ 31 }
+        ensures read { IsRead (length self.now.text) (lexed_of self.now.text) self.now.statements self.now.fault }
+    {
+        self.outlines.len() as u32
+    }
+
+    /// Which of the nine shapes a statement has.
+    pub fn kind(&self, statement: u32) -> Kind
+        requires { statement < length self.now.statements }
+        ensures { option_map kind_of (slice_get self.now.statements statement) ≡ Some result }
+    {
+        self.outlines[statement as usize].kind
+    }
+
+    /// The place of a statement's last token, a byte offset from 0.
+    pub fn end_at(&self, statement: u32) -> u32
+        requires { statement < length self.now.statements }
+        ensures { option_map last_place (slice_get self.now.statements statement) ≡ Some result }
+    {
+        let outline = self.outlines[statement as usize];
+        self.words[outline.end as usize].start
+    }
+
+    /// The label of a statement that has one.
+    pub fn label(&self, statement: u32) -> Option<&'a [u8]>
+        requires { statement < length self.now.statements }
+        ensures { option_copied result ≡ option_map (λ t. t.word) (option_and_then label_of (slice_get self.now.statements statement)) }
+    {
+        let outline = self.outlines[statement as usize];
+        if has_label(outline.kind) {
+            let word = self.words[outline.keyword as usize - 1];
+            Some(&self.text[word.start as usize..word.end as usize])
+        } else {
+            None
+        }
+    }
+
+    /// The statement of a label.
+    pub fn find(&self, label: &[u8]) -> Option<u32>
+        ensures some { IfSome result (λ k. (k < length self.now.statements) × IsTrue (list_any (is_labelled label.now) (statement_at self.now.statements k))) }
+        ensures only { IfSome result (λ k. (j : ℕ) → list_any (is_labelled label.now) (statement_at self.now.statements j) ≡ true → j ≡ k) }
+        ensures none { IfNone result ((j : ℕ) → list_any (is_labelled label.now) (statement_at self.now.statements j) ≡ false) }
+    {
+        self.labels.get(label).copied()
+    }
+
+    /// The symbols of a statement, the typecode first where it has one; none where it is `${` or `$}`.
+    pub fn formula(&self, statement: u32) -> &[Sym]
+        requires { statement < length self.now.statements }
+        ensures formula { result.now ≡ formula_at self.now.statements statement }
+        ensures known { All (λ s. s < length (symbol_names self.now.statements)) result.now }
+    {
+        let from = self.places[statement as usize] as usize;
+        let to = self.places[statement as usize + 1] as usize;
+        &self.numbers[from..to]
+    }
+
+    /// The typecode of a `$f`, `$e`, `$a` or `$p`.
+    pub fn typecode(&self, statement: u32) -> Option<Sym>
+        requires { statement < length self.now.statements }
+        ensures { result ≡ typecode_of self.now.statements statement }
+    {
+        if has_label(self.kind(statement)) {
+            self.formula(statement).first().copied()
+        } else {
+            None
+        }
+    }
+
+    /// How many symbols there are: their numbers are those below.
+    pub fn symbol_count(&self) -> u32
+        ensures count { result ≡ length (symbol_names self.now.statements) }
+    {
+        self.variables.len() as u32
+    }
+
+    /// The name of a symbol.
+    pub fn name(&self, symbol: Sym) -> &'a [u8]
+        requires { symbol < length (symbol_names self.now.statements) }
+        ensures { slice_get (symbol_names self.now.statements) symbol ≡ Some result.now }
+    {
+        self.names.as_slice()[symbol.number() as usize]
+    }
+
+    /// Whether a symbol is a variable.
+    pub fn is_variable(&self, symbol: Sym) -> bool
+        requires { symbol < length (symbol_names self.now.statements) }
+        ensures { result ≡ is_variable self.now.statements symbol }
+    {
+        self.variables[symbol.number() as usize]
+    }
+
+    /// Whether a statement is active at another, or at the end, which is `len()`; never where it is `${` or `$}`.
+    pub fn active_at(&self, statement: u32, at: u32) -> bool
+        requires statement { statement < length self.now.statements }
+        requires at { at ≤ length self.now.statements }
+        ensures { result ≡ is_active self.now.statements statement at }
+    {
+        let kind = self.outlines[statement as usize].kind;
+        statement < at && is_active_kind(kind, self.blocks.is_open_at(statement, at))
+    }
+
+    /// The frame of an assertion.
+    pub fn frame(&self, assertion: u32) -> &Frame<A>
+        requires { list_any is_assertion (statement_at self.now.statements assertion) ≡ true }
+        ensures hypotheses { result.now.hyps.items ≡ mandatory_hypotheses self.now.statements assertion }
+        ensures pairs { map (λ p. pair p.0 p.1) result.now.pairs.items ≡ mandatory_pairs self.now.statements assertion }
+    {
+        &self.frames[assertion as usize]
+    }
+
+    /// The words of a theorem's proof, those behind its `$=`; none where the statement is no `$p`.
+    pub fn proof_words(&self, statement: u32) -> &[Word]
+        requires { statement < length self.now.statements }
+        ensures { option_map proof_of (slice_get self.now.statements statement) ≡ Some (tokens_of self.now.text result.now) }
+    {
+        let outline = self.outlines[statement as usize];
+        match outline.kind {
+            Kind::Theorem => &self.words[outline.middle as usize + 1..outline.end as usize],
+            _ => &[],
+        }
+    }
+
+    /// The `$p` statements, in file order.
+    pub fn theorems(&self) -> &[u32]
+        ensures { result.now ≡ theorems self.now.statements }
+    {
+        self.theorems.as_slice()
+    }
+
+    /// The `$a` statements, in file order.
+    pub fn axioms(&self) -> &[u32]
+        ensures { result.now ≡ columns self.now.statements None }
+    {
+        self.axioms.as_slice()
+    }
+}
+
+/// Whether a statement of that kind has a label, and so a typecode.
+fn has_label(kind: Kind) -> bool
+    ensures { result ≡ is_labelled_kind kind }
+{
+    match kind {
+        Kind::Floating | Kind::Essential | Kind::Axiom | Kind::Theorem => true,
+        _ => false,
+    }
+}
+
+/// Whether a statement of that kind is active, by whether its block is open.
+fn is_active_kind(kind: Kind, is_open: bool) -> bool
+    ensures { result ≡ active_kind kind is_open }
+{
+    match kind {
+        Kind::Constants | Kind::Axiom | Kind::Theorem => true,
+        Kind::Open | Kind::Close => false,
+        _ => is_open,
+    }
+}
