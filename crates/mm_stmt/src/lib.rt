@@ -7,6 +7,7 @@ pub mod names;
 pub mod parts;
 pub mod read;
 pub mod symbol;
+pub mod symbols;
 pub mod words;
 
 pub use mm_spec::{Code, Fault, Word};
