@@ -184,7 +184,7 @@ no_two n keyword (a ∷ []) h = refl
 no_two n keyword (a ∷ b ∷ []) h = absurd (h refl)
 no_two n keyword (a ∷ b ∷ c ∷ xs) h = refl
 
-length-between : (text : List ℕ) (ws : List place.Word) (i j : ℕ) → i ≤ j → j ≤ length ws → length (between text ws i j) ≡ j - i
+pub length-between : (text : List ℕ) (ws : List place.Word) (i j : ℕ) → i ≤ j → j ≤ length ws → length (between text ws i j) ≡ j - i
 length-between text ws i j h l = length-map (take (j - i) (drop i ws)) (token_of text) ∙ length-take-le (j - i) (drop i ws) (omega (arith, length-drop i ws))
 
 pub no_two_between : (n : Names) (keyword : ℕ) (text : List ℕ) (ws : List place.Word) (k j : ℕ) → k < j → j ≤ length ws → j - k ≢ 3 → Some (fault keyword BadFloating) ≡ least (floating_faults n keyword (between text ws (k + 1) j))
