@@ -1,5 +1,5 @@
 -- What is kept behind one lawful statement more.
-use Rattle.std.proofs.Common.{Result, Ok, Err, OnOk, ◌≡◌, ℕ, ◌+◌, ◌-◌, ◌<◌, ◌≤◌, Bool, true, false, ◌&&◌, ◌||◌, not, List, [], ◌∷◌, ◌++◌, length, take, flat_map, bytes_eq, Option, None, Some, is_some, refl, sym, ap, ap₂, ◌∙◌, subst, le_refl, take_all, append-nil, true≢false, if◌then◌else◌}
+use Rattle.std.proofs.Common.{Result, Ok, Err, OnOk, ◌≡◌, ℕ, ◌<◌, Bool, true, false, ◌||◌, not, List, [], ◌∷◌, ◌++◌, length, take, flat_map, bytes_eq, Option, None, Some, is_some, refl, sym, ap, ◌∙◌, subst, le_refl, take_all, append-nil, true≢false, if◌then◌else◌}
 use Rattle.std.proofs.lemmas.Slice.Eq.{bytes_eq-Decides}
 use Rattle.std.specs.List.{list_any}
 use Rattle.mm_spec.specs.Text.{Word, Token, is_in, words}
@@ -11,7 +11,7 @@ use Rattle.mm_spec.specs.declared.Code.TheVariants.{ConstantInBlock, EmptyDeclar
 use Rattle.std.specs.Prelude.{nat_lt}
 use Rattle.mm_stmt.specs.Blocks.{Lists, IsBlocks, never, pushed}
 use Rattle.mm_stmt.specs.Judge.{Entry, entry_of, declared_entry, typed_entry}
-use Rattle.mm_stmt.specs.Known.{IsKnown, typed_words, is_other, is_constant_entry, is_variable_entry, entry_after, typed_after, label_after}
+use Rattle.mm_stmt.specs.Known.{IsKnown, is_other, is_constant_entry, is_variable_entry, entry_after, label_after}
 use Rattle.mm_stmt.specs.Parts.{made}
 use Rattle.mm_stmt.specs.Read.{Keeps}
 use Rattle.mm_stmt.specs.declared.names.Symbol.{Symbol}
@@ -62,9 +62,6 @@ module _ (db : List Statement) (few : length db < never) (w : Word) where
       → IsKnown (db ++ floating l k (c ∷ v ∷ []) e ∷ []) w (entry_after (length db) (floating l k (c ∷ v ∷ []) e) w x)
   floating_after l k c v e x kn law = by (bytes_eq v.word w) refl
     where
-      s : Statement
-      s = floating l k (c ∷ v ∷ []) e
-
       typed : (x : Option Entry) → IsKnown db w x → v.word ≡ w → IsKnown (db ++ floating l k (c ∷ v ∷ []) e ∷ []) w (typed_entry (length db) c.word x)
       typed None kn same =
           let new = floating_new n k c v law in

@@ -1,12 +1,12 @@
 -- What is known of a word behind one statement more.
-use Rattle.std.proofs.Common.{◌≡◌, ◌≢◌, ℕ, ◌+◌, ◌<◌, ◌≤◌, Bool, true, false, ◌&&◌, ◌||◌, not, List, [], ◌∷◌, ◌++◌, length, flat_map, map, bytes_eq, nat_eq, Option, None, Some, refl, sym, ap, ap₂, ◌∙◌, subst, arith, append-nil, true≢false, if◌then◌else◌}
+use Rattle.std.proofs.Common.{◌≡◌, ℕ, ◌<◌, Bool, true, false, ◌&&◌, ◌||◌, not, List, [], ◌∷◌, ◌++◌, length, flat_map, map, bytes_eq, nat_eq, Option, None, Some, refl, sym, ap, ap₂, ◌∙◌, subst, arith, true≢false}
 use Rattle.std.proofs.lemmas.List.Folds.{list_any-append}
 use Rattle.std.proofs.lemmas.Grind.{flat_map-append}
 use Rattle.std.proofs.lemmas.Bool.{ne_eqb}
 use Rattle.std.proofs.lemmas.Slice.Eq.{bytes_eq-Decides}
 use Rattle.std.specs.List.{list_any}
-use Rattle.mm_spec.specs.Text.{Word, Token, is_in, words}
-use Rattle.mm_spec.specs.Statement.{Statement, constants, variables, floating}
+use Rattle.mm_spec.specs.Text.{Word, is_in}
+use Rattle.mm_spec.specs.Statement.{Statement}
 use Rattle.mm_spec.specs.Scope.{Typing, active_statements, variables_of, constants_of, typings_of}
 use Rattle.mm_stmt.specs.Blocks.{never}
 use Rattle.mm_stmt.specs.Judge.{Entry, entry, declared_entry, typed_entry}

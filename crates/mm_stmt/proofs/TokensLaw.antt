@@ -1,5 +1,5 @@
 -- The tokens of a text lie in it, rise, and are few; a text that is too long has none, and its lexical fault.
-use Rattle.std.proofs.Common.{◌≡◌, ℕ, zero, suc, ◌+◌, ◌-◌, ◌^◌, ◌<◌, ◌≤◌, Bool, List, [], ◌∷◌, ◌++◌, length, map, Option, None, Some, is_some, ◌⊎◌, inl, inr, refl, sym, ap, ap₂, ◌∙◌, subst, arith, le_refl}
+use Rattle.std.proofs.Common.{◌≡◌, ℕ, suc, ◌-◌, ◌^◌, ◌<◌, ◌≤◌, Bool, List, [], ◌∷◌, length, map, Option, None, Some, is_some, ◌⊎◌, inl, inr, refl, sym, ap, ◌∙◌, subst, arith}
 use Rattle.std.proofs.lemmas.Bool.{cases_lt}
 use Rattle.std.proofs.lemmas.List.{length-map}
 use Rattle.std.proofs.lemmas.List.FromFn.{length-range_with_len}
@@ -15,7 +15,7 @@ use Rattle.mm_spec.specs.declared.Code.TheVariants.{TextTooLong}
 use Rattle.mm_spec.specs.declared.TheConstants.{TEXT_LIMIT}
 use Rattle.mm_spec.specs.Roles.{role_of}
 use Rattle.mm_spec.specs.Words.{IsWord, begins_word, word_at, words_between, words_of}
-use Rattle.mm_spec.specs.Readings.{Reading, reading, bytes_of}
+use Rattle.mm_spec.specs.Readings.{reading, bytes_of}
 use Rattle.mm_spec.specs.Lexed.{tokens_of, lexical_fault}
 use Rattle.mm_spec.specs.Output.{lexed_of}
 use Rattle.mm_spec.proofs.WordsLaw.{words_of-AreWords}

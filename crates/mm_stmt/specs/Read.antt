@@ -1,5 +1,5 @@
 -- What is known behind some statements.
-use Rattle.std.specs.Prelude.{◌≡◌, ℕ, zero, suc, Bool, true, false, ◌<◌, List, map, Option, None, Some, length, flat_map, is_some}
+use Rattle.std.specs.Prelude.{◌≡◌, ℕ, zero, suc, Bool, true, false, List, map, Option, None, Some, flat_map, is_some}
 use Rattle.mm_spec.specs.Statement.{Statement}
 use Rattle.mm_spec.specs.Scope.{label_words}
 use Rattle.mm_spec.specs.Output.{Lexed}
@@ -15,7 +15,7 @@ use Rattle.mm_stmt.specs.declared.parts.Kind.TheVariants as kind
 use Rattle.mm_stmt.specs.declared.parts.Outline.{Outline}
 use Rattle.mm_spec.specs.Text.{fault, is_in}
 use Rattle.mm_stmt.specs.declared.parts.Part.{Part}
-use Rattle.mm_stmt.specs.declared.parts.Part.TheVariants.{Start, Labelled, Words, Formula, Proof}
+use Rattle.mm_stmt.specs.declared.parts.Part.TheVariants.{Start}
 use Rattle.mm_spec.specs.declared.Code.TheVariants.{OpenStatement, OpenBlock}
 
 -- the code knows what stands before the next statement

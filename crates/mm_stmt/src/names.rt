@@ -156,7 +156,13 @@ impl<'a, A: Allocator + Copy> Scope<'a, A> {
         ensures { result ≡ typecode_code (find self.now.names.symbols word.now) }
     {
         match self.names.symbol(word) {
-            Some(symbol) => { if symbol.is_variable { Some(Code::BadTypecode) } else { None } }
+            Some(symbol) => {
+                if symbol.is_variable {
+                    Some(Code::BadTypecode)
+                } else {
+                    None
+                }
+            }
             None => Some(Code::BadTypecode),
         }
     }
@@ -271,7 +277,11 @@ impl<'a, A: Allocator + Copy> Scope<'a, A> {
         ensures { (n : Known) → Knows n (find self.now.names.symbols) (find self.now.names.labels) (is_open_in self.now.blocks.of.items self.now.blocks.ends.items) → result ≡ least (floating_faults n (word_at tokens.now keyword).start (between text.now tokens.now (keyword + 1) to)) }
     {
         if to - keyword != 3 {
-            return note(None, tokens[keyword as usize].start, Some(Code::BadFloating));
+            return note(
+                None,
+                tokens[keyword as usize].start,
+                Some(Code::BadFloating),
+            );
         }
         let first = tokens[keyword as usize + 1];
         let second = tokens[keyword as usize + 2];
@@ -279,7 +289,11 @@ impl<'a, A: Allocator + Copy> Scope<'a, A> {
         let variable = &text[second.start as usize..second.end as usize];
         match self.typing_code(typecode, variable) {
             Some(code) => note(None, second.start, code),
-            None => note(None, tokens[keyword as usize].start, Some(Code::BadFloating)),
+            None => note(
+                None,
+                tokens[keyword as usize].start,
+                Some(Code::BadFloating),
+            ),
         }
     }
 
@@ -316,16 +330,40 @@ impl<'a, A: Allocator + Copy> Scope<'a, A> {
         let count = end - keyword - 1;
         match kind {
             Kind::Constants => {
-                let deep = if deep > 0 { Some(Code::ConstantInBlock) } else { None };
-                let none = if count == 0 { Some(Code::EmptyDeclaration) } else { None };
+                let deep = if deep > 0 {
+                    Some(Code::ConstantInBlock)
+                } else {
+                    None
+                };
+                let none = if count == 0 {
+                    Some(Code::EmptyDeclaration)
+                } else {
+                    None
+                };
                 note(
                     note(None, tokens[keyword as usize].start, deep),
                     place,
                     none,
                 )
             }
-            Kind::Variables => note(None, place, if count == 0 { Some(Code::EmptyDeclaration) } else { None }),
-            _ => note(None, place, if count < 2 { Some(Code::TooFewVariables) } else { None }),
+            Kind::Variables => note(
+                None,
+                place,
+                if count == 0 {
+                    Some(Code::EmptyDeclaration)
+                } else {
+                    None
+                },
+            ),
+            _ => note(
+                None,
+                place,
+                if count < 2 {
+                    Some(Code::TooFewVariables)
+                } else {
+                    None
+                },
+            ),
         }
     }
 

@@ -66,10 +66,16 @@ fn end_fault(lexical: Option<Fault>, len: u32, part: Part, deep: u32) -> Option<
                 if deep == 0 {
                     None
                 } else {
-                    Some(Fault { at: len, code: Code::OpenBlock })
+                    Some(Fault {
+                        at: len,
+                        code: Code::OpenBlock,
+                    })
                 }
             }
-            _ => Some(Fault { at: len, code: Code::OpenStatement }),
+            _ => Some(Fault {
+                at: len,
+                code: Code::OpenStatement,
+            }),
         },
     }
 }

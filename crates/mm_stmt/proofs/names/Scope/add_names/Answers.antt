@@ -1,4 +1,4 @@
-use Rattle.std.proofs.Common.{◌≡◌, ◌<◌, ◌≤◌, ◌+◌, ◌∙◌, sym, ap, arith, length, subst}
+use Rattle.std.proofs.Common.{◌<◌, ◌≤◌, ◌∙◌, sym, ap, arith, length, subst}
 use Rattle.mm_stmt.specs.Names.{find}
 use Rattle.mm_stmt.specs.Parts.{made, IsRising}
 use Rattle.mm_stmt.specs.Judge.{entry_of}
