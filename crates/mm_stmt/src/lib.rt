@@ -2,6 +2,7 @@
 #![tactic(auto)]
 
 pub mod blocks;
+pub mod judge;
 pub mod names;
 pub mod parts;
 pub mod read;
