@@ -13,17 +13,6 @@ use Rattle.mm_stmt.specs.Judge.{Entry, entry, declared_entry, typed_entry}
 use Rattle.mm_stmt.specs.Known.{IsKnown, Latest, typed_words, typed_by, typecode_by, declared_by, is_other, is_constant_entry, is_variable_entry}
 use Rattle.mm_stmt.proofs.Latest.{latest_stays, latest_new}
 
--- nothing is known before the first statement
-pub known_none : (w : Word) → IsKnown [] w None
-known_none w = record {
-  constant = refl;
-  variable = refl;
-  declared = λ e. absurd (true≢false (sym e));
-  typed = λ n. absurd (n refl);
-  untyped = λ e. refl;
-  otherwise = λ c. refl;
-}
-
 or_false : (a : Bool) → (a || false) ≡ a
 or_false true = refl
 or_false false = refl
