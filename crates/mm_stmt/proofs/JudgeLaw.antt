@@ -1,19 +1,19 @@
 -- The least of faults, and the codes of symbols.
-use Rattle.std.proofs.Common.{◌≡◌, ◌≢◌, ℕ, suc, ◌+◌, ◌-◌, ◌<◌, ◌≤◌, Bool, true, false, ◌&&◌, ◌||◌, not, List, [], ◌∷◌, ◌++◌, length, Option, None, Some, refl, sym, ap, ap₂, ◌∙◌, subst, arith, ◌⊎◌, inl, inr, append-nil, append_assoc, nat_lt, nat_le, ◌==◌, bytes_eq, map, true≢false, if◌then◌else◌, is_some, take, drop, drop-cons, add-one, length-drop, nat_eq, Result, Ok, Err, IfOk}
-use Rattle.std.proofs.lemmas.List.{map-append, length-take-le, length-map}
+use Rattle.std.proofs.Common.{◌≡◌, ◌≢◌, ℕ, suc, ◌+◌, ◌-◌, ◌<◌, ◌≤◌, Bool, true, false, ◌&&◌, ◌||◌, not, List, [], ◌∷◌, ◌++◌, length, Option, None, Some, refl, sym, ap, ap₂, ◌∙◌, arith, append-nil, append_assoc, nat_lt, nat_le, ◌==◌, bytes_eq, map, if◌then◌else◌, is_some, take, drop, drop-cons, add-one, length-drop, nat_eq, Result, Ok, Err, IfOk}
+use Rattle.std.proofs.lemmas.List.{length-take-le, length-map}
 use Rattle.std.proofs.lemmas.Slice.Eq.{bytes_eq-Decides}
 use Rattle.std.proofs.lemmas.Bool.Decides.{nat_tests}
-use Rattle.std.proofs.lemmas.Bool.{ne_eqb, lt-leb, lt-ltb, cases_lt, cases_eq}
+use Rattle.std.proofs.lemmas.Bool.{ne_eqb}
 use Rattle.mm_spec.specs.Text.{Word, Token, fault, is_in}
 use Rattle.mm_spec.specs.declared.Fault.{Fault}
 use Rattle.mm_spec.specs.Scope.{Names}
-use Rattle.mm_spec.specs.Lawful.{least, lesser, is_before, at, at_each, when, symbol_codes, is_typed, is_typed_otherwise, formula_faults, floating_faults, label_faults, scope_faults, constant_codes, variable_codes, is_empty}
+use Rattle.mm_spec.specs.Lawful.{least, lesser, is_before, at, at_each, when, symbol_codes, is_typed, is_typed_otherwise, formula_faults, floating_faults, constant_codes, variable_codes, is_empty}
 use Rattle.mm_spec.specs.declared.Word as place
 use Rattle.mm_stmt.specs.declared.names.Symbol.{Symbol}
 use Rattle.mm_stmt.specs.Parts.{between, token_at, token_of, word_at}
-use Rattle.mm_stmt.specs.Judge.{merge, fault_at, is_active, is_typed_here, is_constant, is_variable, symbol_code, code_of_variable, first_code, declared_code, declared_codes, label_code, typecode_code, floating_code, typing_code, typing_fault, list_fault, Knows}
+use Rattle.mm_stmt.specs.Judge.{merge, fault_at, is_active, is_typed_here, is_constant, is_variable, symbol_code, code_of_variable, first_code, declared_code, declared_codes, typecode_code, floating_code, typing_code, typing_fault, list_fault, Knows}
 use Rattle.mm_stmt.specs.declared.parts.Kind.{Kind}
-use Rattle.mm_stmt.specs.declared.parts.Kind.TheVariants.{Constants, Variables, Disjoint, Floating, Essential, Axiom, Theorem, Open, Close}
+use Rattle.mm_stmt.specs.declared.parts.Kind.TheVariants.{Constants, Variables}
 use Rattle.mm_stmt.proofs.Turns.{between-more, between-none}
 use Rattle.mm_spec.specs.declared.Code.{Code}
 use Rattle.mm_spec.specs.Codes.{code_number}
@@ -184,7 +184,7 @@ no_two n keyword (a ∷ []) h = refl
 no_two n keyword (a ∷ b ∷ []) h = absurd (h refl)
 no_two n keyword (a ∷ b ∷ c ∷ xs) h = refl
 
-length-between : (text : List ℕ) (ws : List place.Word) (i j : ℕ) → i ≤ j → j ≤ length ws → length (between text ws i j) ≡ j - i
+pub length-between : (text : List ℕ) (ws : List place.Word) (i j : ℕ) → i ≤ j → j ≤ length ws → length (between text ws i j) ≡ j - i
 length-between text ws i j h l = length-map (take (j - i) (drop i ws)) (token_of text) ∙ length-take-le (j - i) (drop i ws) (omega (arith, length-drop i ws))
 
 pub no_two_between : (n : Names) (keyword : ℕ) (text : List ℕ) (ws : List place.Word) (k j : ℕ) → k < j → j ≤ length ws → j - k ≢ 3 → Some (fault keyword BadFloating) ≡ least (floating_faults n keyword (between text ws (k + 1) j))

@@ -6,7 +6,7 @@ use Rattle.mm_spec.specs.Scope.{Names}
 use Rattle.mm_spec.specs.Lawful.{lesser, is_typed, is_typed_otherwise, constant_codes, variable_codes, disjoint_codes}
 use Rattle.mm_stmt.specs.Blocks.{never}
 use Rattle.mm_stmt.specs.declared.parts.Kind.{Kind}
-use Rattle.mm_stmt.specs.declared.parts.Kind.TheVariants.{Constants, Variables, Disjoint, Floating, Essential, Axiom, Theorem, Open, Close}
+use Rattle.mm_stmt.specs.declared.parts.Kind.TheVariants.{Constants, Variables}
 use Rattle.mm_stmt.specs.declared.names.Symbol.{Symbol}
 use Rattle.mm_spec.specs.declared.Code.{Code}
 use Rattle.mm_spec.specs.declared.Code.TheVariants.{ConstantInBlock, EmptyDeclaration, DeclaredBefore, LabelIsSymbol, LabelUsedBefore, BadTypecode, UndeclaredSymbol, BadFloating, TypedBefore, OtherTypecode, UntypedVariable, TooFewVariables, UndeclaredVariable, RepeatedVariable}

@@ -1,26 +1,28 @@
 -- What is known behind some statements.
-use Rattle.std.specs.Prelude.{◌≡◌, ℕ, zero, suc, Bool, true, false, ◌<◌, List, map, Option, None, Some, length}
+use Rattle.std.specs.Prelude.{◌≡◌, ℕ, zero, suc, Bool, true, false, List, map, Option, None, Some, flat_map, is_some}
 use Rattle.mm_spec.specs.Statement.{Statement}
-use Rattle.mm_spec.specs.Scope.{names_before}
+use Rattle.mm_spec.specs.Scope.{label_words}
 use Rattle.mm_spec.specs.Output.{Lexed}
 use Rattle.mm_spec.specs.declared.Word.{Word}
 use Rattle.mm_spec.specs.declared.Fault.{Fault}
 use Rattle.mm_stmt.specs.Parts.{tokens_of, statement_of}
 use Rattle.mm_stmt.specs.Blocks.{Lists, IsBlocks}
-use Rattle.mm_stmt.specs.Judge.{Knows, is_open_in}
+use Rattle.mm_stmt.specs.Judge.{entry_of}
+use Rattle.mm_stmt.specs.Known.{IsKnown}
 use Rattle.mm_stmt.specs.declared.names.Symbol.{Symbol}
 use Rattle.mm_stmt.specs.declared.parts.Kind.{Kind}
 use Rattle.mm_stmt.specs.declared.parts.Kind.TheVariants as kind
 use Rattle.mm_stmt.specs.declared.parts.Outline.{Outline}
-use Rattle.mm_spec.specs.Text.{fault}
+use Rattle.mm_spec.specs.Text.{fault, is_in}
 use Rattle.mm_stmt.specs.declared.parts.Part.{Part}
-use Rattle.mm_stmt.specs.declared.parts.Part.TheVariants.{Start, Labelled, Words, Formula, Proof}
+use Rattle.mm_stmt.specs.declared.parts.Part.TheVariants.{Start}
 use Rattle.mm_spec.specs.declared.Code.TheVariants.{OpenStatement, OpenBlock}
 
 -- the code knows what stands before the next statement
 pub record Keeps (db : List Statement) (look : List ℕ → Option Symbol) (labels : List ℕ → Option ℕ) (b : Lists) : Type 0 where
   pub blocks : IsBlocks db b
-  pub knows : Knows (names_before db (length db)) look labels (is_open_in b.of b.ends)
+  pub symbols : (w : List ℕ) → IsKnown db w (entry_of (look w))
+  pub labels_known : (w : List ℕ) → is_in w (flat_map label_words db) ≡ is_some (labels w)
 
 abbrev pub lexed : List ℕ → List Word → Option Fault → Lexed
 lexed text ws fault = record { tokens = tokens_of text ws; fault = fault }

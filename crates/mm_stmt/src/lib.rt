@@ -3,6 +3,7 @@
 
 pub mod blocks;
 pub mod database;
+pub mod judge;
 pub mod names;
 pub mod parts;
 pub mod read;

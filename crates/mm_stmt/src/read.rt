@@ -1,16 +1,17 @@
 //! The statements of a text up to its first fault.
 
 ghost use Rattle.std.specs.Prelude.{◌≡◌, ◌<◌, ◌≤◌, ◌^◌, ◌++◌, ◌∷◌, [], List, None, length, OnOk, IfOk, vec_len};
-ghost use Rattle.mm_spec.specs.Statement.{Statement};
+ghost use Rattle.mm_spec.specs.Statement.{Statement, is_closing, label_of};
 ghost use Rattle.mm_spec.specs.Scope.{names_before, depth, is_active};
 ghost use Rattle.mm_spec.specs.Lawful.{least, scope_faults};
 ghost use Rattle.mm_spec.specs.Output.{IsRead};
 ghost use Rattle.mm_stmt.specs.Names.{find as find_in};
 ghost use Rattle.mm_stmt.specs.Blocks.{IsBlocks, lists};
-ghost use Rattle.std.specs.Prelude.{◌+◌, ◌-◌, ℕ, Some, if◌then◌else◌, bytes_eq};
+ghost use Rattle.std.specs.Prelude.{◌+◌, ◌-◌, ℕ, Some, if◌then◌else◌, bytes_eq, true};
 ghost use Rattle.mm_spec.specs.Text.{is_in, words};
 ghost use Rattle.mm_stmt.specs.Judge.{declared_entry, entry_of, typed_entry};
 ghost use Rattle.mm_stmt.specs.Parts.{AreWords, between, token_at, IsOutline, depth_behind, statement_of};
+ghost use Rattle.mm_stmt.specs.Known.{entry_after, label_after};
 ghost use Rattle.mm_stmt.specs.Read.{Keeps, active_kind, end_fault_of, lexed, statements};
 
 use crate::blocks::{Blocks, NEVER, no_blocks};
@@ -65,10 +66,16 @@ fn end_fault(lexical: Option<Fault>, len: u32, part: Part, deep: u32) -> Option<
                 if deep == 0 {
                     None
                 } else {
-                    Some(Fault { at: len, code: Code::OpenBlock })
+                    Some(Fault {
+                        at: len,
+                        code: Code::OpenBlock,
+                    })
                 }
             }
-            _ => Some(Fault { at: len, code: Code::OpenStatement }),
+            _ => Some(Fault {
+                at: len,
+                code: Code::OpenStatement,
+            }),
         },
     }
 }
@@ -169,7 +176,7 @@ impl<'a, A: Allocator + Copy> Scope<'a, A> {
         requires few { length tokens.now < 2 ^ 31 }
         requires within { outline.end < length tokens.now }
         requires keeps { (db : List Statement) × Keeps db (find_in self.old.names.symbols) (find_in self.old.names.labels) (lists self.old.blocks.of.items self.old.blocks.ends.items self.old.blocks.open.items) × (length db < 2 ^ 31) }
-        ensures { OnOk result ((db : List Statement) → Keeps db (find_in self.old.names.symbols) (find_in self.old.names.labels) (lists self.old.blocks.of.items self.old.blocks.ends.items self.old.blocks.open.items) → least (scope_faults (names_before db (length db)) (depth db (length db)) (statement_of text.now tokens.now outline)) ≡ None → Keeps (db ++ statement_of text.now tokens.now outline ∷ []) (find_in self.new.names.symbols) (find_in self.new.names.labels) (lists self.new.blocks.of.items self.new.blocks.ends.items self.new.blocks.open.items)) }
+        ensures { OnOk result ((db : List Statement) → Keeps db (find_in self.old.names.symbols) (find_in self.old.names.labels) (lists self.old.blocks.of.items self.old.blocks.ends.items self.old.blocks.open.items) → least (scope_faults (names_before db (length db)) (depth db (length db)) (statement_of text.now tokens.now outline)) ≡ None → (is_closing (statement_of text.now tokens.now outline) ≡ true → 0 < depth db (length db)) → Keeps (db ++ statement_of text.now tokens.now outline ∷ []) (find_in self.new.names.symbols) (find_in self.new.names.labels) (lists self.new.blocks.of.items self.new.blocks.ends.items self.new.blocks.open.items)) }
     {
         let number = self.blocks.of.len() as u32;
         self.blocks.push(outline.kind)?;
@@ -188,6 +195,8 @@ impl<'a, A: Allocator + Copy> Scope<'a, A> {
         requires outline { IsOutline outline }
         requires few { length tokens.now < 2 ^ 31 }
         requires within { outline.end < length tokens.now }
+        ensures symbols { OnOk result ((w : List ℕ) → entry_of (find_in self.new.names.symbols w) ≡ entry_after number (statement_of text.now tokens.now outline) w (entry_of (find_in self.old.names.symbols w))) }
+        ensures labels { OnOk result ((w : List ℕ) → find_in self.new.names.labels w ≡ label_after number (label_of (statement_of text.now tokens.now outline)) w (find_in self.old.names.labels w)) }
         ensures blocks { self.new.blocks ≡ self.old.blocks }
     {
         let from = outline.keyword + 1;
