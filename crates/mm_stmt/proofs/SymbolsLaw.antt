@@ -1,17 +1,28 @@
 -- Symbols in the order of their first declarations.
-use Rattle.std.proofs.Common.{nat_lt, ◌≡◌, ℕ, zero, suc, ◌+◌, ◌<◌, ◌≤◌, Bool, true, false, ◌||◌, ◌&&◌, not, List, [], ◌∷◌, ◌++◌, length, get_or, slice_get, Option, Some, None, bytes_eq, refl, sym, ap, ap₂, ◌∙◌, subst, arith, true≢false, append-nil, if◌then◌else◌, map, Bor, cond, ◌⊎◌, ◌≢◌, inl, inr, length-append}
+use Rattle.std.proofs.Common.{nat_lt, ◌≡◌, ℕ, zero, suc, ◌+◌, ◌<◌, ◌≤◌, Bool, true, false, ◌||◌, ◌&&◌, not, List, [], ◌∷◌, ◌++◌, length, get_or, slice_get, Option, Some, None, bytes_eq, refl, sym, ap, ap₂, ◌∙◌, subst, arith, true≢false, append-nil, if◌then◌else◌, map, Bor, cond, ◌⊎◌, ◌≢◌, inl, inr, length-append, append_assoc, flat_map, take}
 use Rattle.std.proofs.Math.ListN.{set, length-set}
 use Rattle.std.proofs.lemmas.List.Recursion.{is_position_or_len}
 use Rattle.std.proofs.lemmas.List.Folds.{list_any-append}
-use Rattle.std.proofs.lemmas.List.{map-append, get_or_append_left, get_or_push, get_or-set_same, get_or-set_other}
-use Rattle.std.proofs.lemmas.Option.{slice_get_within}
+use Rattle.std.proofs.lemmas.List.{map-append, take_more, get_or_append_left, get_or_push, get_or-set_same, get_or-set_other}
+use Rattle.std.proofs.lemmas.Option.{slice_get_within, slice_get-get_or}
 use Rattle.std.proofs.lemmas.Bool.{cases_lt, cases_eq}
 use Rattle.mm_spec.proofs.Local.{get-front, get-seam}
 use Rattle.std.specs.List.{list_any, position_or_len, position}
 use Rattle.std.proofs.lemmas.Slice.Eq.{bytes_eq-Decides}
-use Rattle.mm_spec.specs.Text.{Word, is_in}
+use Rattle.mm_spec.specs.Text.{Word, Token, is_in, words}
+use Rattle.mm_spec.specs.declared.Word as place
+use Rattle.mm_spec.specs.Statement.{Statement}
+use Rattle.mm_spec.specs.Scope.{constants_of, variables_of}
+use Rattle.mm_stmt.specs.Parts.{between, token_at, statement_of, made}
+use Rattle.mm_stmt.specs.Read.{statements}
+use Rattle.mm_stmt.specs.Database.{AreSymbols}
+use Rattle.mm_stmt.specs.declared.parts.Kind.{Kind}
+use Rattle.mm_stmt.specs.declared.parts.Kind.TheVariants as kind
+use Rattle.mm_stmt.specs.declared.parts.Outline.{Outline}
+use Rattle.std.proofs.lemmas.Grind.{flat_map-append}
+use Rattle.mm_stmt.proofs.Turns.{between-more, between-none}
 use Rattle.mm_spec.specs.Frame.{first_occurrences, place_of}
-use Rattle.mm_stmt.specs.Symbols.{Declares, declared_of}
+use Rattle.mm_stmt.specs.Symbols.{Declares, declared_of, variables_in, all_declared, all_variables}
 
 same_word : (v w : Word) → bytes_eq v w ≡ true → v ≡ w
 same_word v w h = (bytes_eq-Decides v w).0 h
@@ -270,6 +281,87 @@ not-not true h = refl
 not-not false h = absurd (true≢false h)
 
 -- a word of a statement more
-module _ (text : List ℕ) (ws : List Place.Word) (from i : ℕ) (later : from ≤ i) (inside : i < length ws) (b : Bool) (d v : List Word) (ns : List Word) (ms : List Bool) where
-  so-far : List Word
-  so-far = words (between text ws from i)
+module _ (text : List ℕ) (ws : List place.Word) (from i : ℕ) (later : from ≤ i) (inside : i < length ws) (d v : List Word) (ns : List Word) (ms : List Bool) where
+  one-more : words (between text ws from i) ++ (token_at text ws i).word ∷ [] ≡ words (between text ws from (i + 1))
+  one-more = sym (ap words (between-more text ws from i later inside) ∙ map-append (λ (t : Token). t.word) (between text ws from i) (token_at text ws i ∷ []))
+
+  pub declares-one : (b : Bool) → Declares ((d ++ words (between text ws from i)) ++ (token_at text ws i).word ∷ []) ((v ++ variables_in b (words (between text ws from i))) ++ declared_of b (token_at text ws i).word) ns ms
+      → Declares (d ++ words (between text ws from (i + 1))) (v ++ variables_in b (words (between text ws from (i + 1)))) ns ms
+  declares-one b h =
+      let xs = words (between text ws from i) in
+      let w = (token_at text ws i).word in
+      subst (λ (l : List Word). Declares (d ++ l) (v ++ variables_in b l) ns ms) one-more
+      (subst (λ (l : List Word). Declares l (v ++ variables_in b (xs ++ w ∷ [])) ns ms) (append_assoc d xs (w ∷ []))
+      (subst (λ (l : List Word). Declares ((d ++ xs) ++ w ∷ []) l ns ms) (by b) h))
+    where
+      by : (b : Bool) → (v ++ variables_in b (words (between text ws from i))) ++ declared_of b (token_at text ws i).word ≡ v ++ variables_in b (words (between text ws from i) ++ (token_at text ws i).word ∷ [])
+      by true = append_assoc v (words (between text ws from i)) ((token_at text ws i).word ∷ [])
+      by false = append-nil (v ++ [])
+
+pub declares-none : (text : List ℕ) (ws : List place.Word) (from : ℕ) (d v : List Word) (ns : List Word) (ms : List Bool) (b : Bool) → Declares d v ns ms
+    → Declares (d ++ words (between text ws from from)) (v ++ variables_in b (words (between text ws from from))) ns ms
+declares-none text ws from d v ns ms b h =
+    subst (λ (l : List Token). Declares (d ++ words l) (v ++ variables_in b (words l)) ns ms) (between-none text ws from)
+    (subst (λ (l : List Word). Declares l (v ++ variables_in b []) ns ms) (sym (append-nil d)) (by b))
+  where
+    by : (b : Bool) → Declares d (v ++ variables_in b []) ns ms
+    by true = subst (λ (l : List Word). Declares d l ns ms) (sym (append-nil v)) h
+    by false = subst (λ (l : List Word). Declares d l ns ms) (sym (append-nil v)) h
+
+-- a statement more
+module _ (text : List ℕ) (ws : List place.Word) (os : List Outline) (i : ℕ) (inside : i < length os) (o : Outline) (ns : List Word) (ms : List Bool) where
+  abbrev earlier : List Statement
+  earlier = statements text ws (take i os)
+
+  abbrev next : Statement
+  next = statement_of text ws (get_or os i o)
+
+  statements-more : statements text ws (take (i + 1) os) ≡ earlier ++ next ∷ []
+  statements-more = ap (statements text ws) (take_more os i o inside) ∙ map-append (statement_of text ws) (take i os) (get_or os i o ∷ [])
+
+  fold-more : (f : Statement → List Word) → flat_map f (statements text ws (take (i + 1) os)) ≡ flat_map f earlier ++ f next
+  fold-more f = ap (flat_map f) statements-more ∙ flat_map-append f earlier (next ∷ []) ∙ ap (λ l. flat_map f earlier ++ l) (append-nil (f next))
+
+  pub declares-next : Declares (all_declared earlier ++ (constants_of next ++ variables_of next)) (all_variables earlier ++ variables_of next) ns ms
+      → Declares (all_declared (statements text ws (take (i + 1) os))) (all_variables (statements text ws (take (i + 1) os))) ns ms
+  declares-next h =
+      subst (λ (l : List Word). Declares l (all_variables (statements text ws (take (i + 1) os))) ns ms) (sym (fold-more (λ s. constants_of s ++ variables_of s)))
+      (subst (λ (l : List Word). Declares (all_declared earlier ++ (constants_of next ++ variables_of next)) l ns ms) (sym (fold-more variables_of)) h)
+
+-- the words that a statement declares, by its kind
+module _ (text : List ℕ) (ws : List place.Word) where
+  abbrev pub DeclaresAs : Kind → ℕ → ℕ → ℕ → Bool → List Word → Type 0
+  DeclaresAs o k m e b xs = (constants_of (made text ws o k m e) ++ variables_of (made text ws o k m e) ≡ xs) × (variables_of (made text ws o k m e) ≡ variables_in b xs)
+
+  pub declares-constants : (k m e : ℕ) → DeclaresAs kind.Constants k m e false (words (between text ws (k + 1) m))
+  declares-constants k m e = (append-nil (words (between text ws (k + 1) m)), refl)
+
+  pub declares-variables : (k m e : ℕ) → DeclaresAs kind.Variables k m e true (words (between text ws (k + 1) m))
+  declares-variables k m e = (refl, refl)
+
+  pub declares-nothing : (o : Kind) → o ≢ kind.Constants → o ≢ kind.Variables → (k m e : ℕ) → DeclaresAs o k m e false []
+  declares-nothing kind.Constants c v k m e = absurd (c refl)
+  declares-nothing kind.Variables c v k m e = absurd (v refl)
+  declares-nothing kind.Disjoint c v k m e = (refl, refl)
+  declares-nothing kind.Floating c v k m e = (refl, refl)
+  declares-nothing kind.Essential c v k m e = (refl, refl)
+  declares-nothing kind.Axiom c v k m e = (refl, refl)
+  declares-nothing kind.Theorem c v k m e = (refl, refl)
+  declares-nothing kind.Open c v k m e = (refl, refl)
+  declares-nothing kind.Close c v k m e = (refl, refl)
+
+  pub declares-by : (o : Outline) (b : Bool) (xs d v : List Word) (ns : List Word) (ms : List Bool) → DeclaresAs o.kind o.keyword o.middle o.end b xs → Declares (d ++ xs) (v ++ variables_in b xs) ns ms
+      → Declares (d ++ (constants_of (statement_of text ws o) ++ variables_of (statement_of text ws o))) (v ++ variables_of (statement_of text ws o)) ns ms
+  declares-by o b xs d v ns ms a h =
+      subst (λ (l : List Word). Declares (d ++ l) (v ++ variables_of (statement_of text ws o)) ns ms) (sym a.0)
+      (subst (λ (l : List Word). Declares (d ++ xs) (v ++ l) ns ms) (sym a.1) h)
+
+-- the symbols, once all statements have declared theirs
+pub are-symbols : (db : List Statement) (ns : List Word) (ms : List Bool) → Declares (all_declared db) (all_variables db) ns ms → AreSymbols db ns ms
+are-symbols db ns ms h = record {
+  names_are = h.names_are;
+  count = h.count;
+  variable = λ s l.
+      let there = slice_get-get_or ns s [] l in
+      h.marked s (get_or ns s []) there ∙ ap (λ o. elim o [ None ↦ false | Some w ↦ is_in w (flat_map variables_of db) ]) (sym there ∙ ap (λ l. slice_get l s) h.names_are);
+}

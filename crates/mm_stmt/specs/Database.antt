@@ -67,7 +67,6 @@ pub record AreNumbered (db : List Statement) (numbers places : List ℕ) : Type 
   pub order : (k : ℕ) → k < length db → slice_index places k ≤ slice_index places (k + 1)
   pub within : (k : ℕ) → k < length db → slice_index places (k + 1) ≤ length numbers
   pub formula : (k : ℕ) → k < length db → slice_range numbers (slice_index places k) (slice_index places (k + 1)) ≡ formula_at db k
-  pub below : (k : ℕ) → k < length db → All (λ s. s < length (symbol_names db)) (formula_at db k)
 
 -- the names of the symbols, and which of them are variables
 pub record AreSymbols (db : List Statement) (names : List (List ℕ)) (kinds : List Bool) : Type 0 where
@@ -113,6 +112,7 @@ pub record IsDatabase (text : List ℕ) (ws : List Word) (os : List Outline) (fa
   pub blocks : IsBlocks (statements text ws os) f.blocks
   pub labels : AreLabels (statements text ws os) f.find
   pub symbols : AreSymbols (statements text ws os) f.names f.variables
+  pub below : (k : ℕ) → k < length os → All (λ s. s < length (symbol_names (statements text ws os))) (formula_at (statements text ws os) k)
   pub numbered : AreNumbered (statements text ws os) f.numbers f.places
   pub frames : AreFrames (statements text ws os) f.hyps f.pairs
   pub disjoint : f.disjoint ≡ those (λ j. list_any is_disjoint (statement_at (statements text ws os) j)) (range_with_len 0 (length os))

@@ -5,6 +5,7 @@ pub mod blocks;
 pub mod database;
 pub mod judge;
 pub mod names;
+pub mod numbers;
 pub mod parts;
 pub mod read;
 pub mod symbol;

@@ -81,6 +81,7 @@ pub fn symbols_of<'a, A: Allocator + Copy>(
 ) -> Result<Symbols<'a, A>, AllocError>
     requires words { AreWords text.now tokens.now }
     requires outlines { All (λ o. IsOutline o × (o.end < length tokens.now)) outlines.now }
+    requires few { length tokens.now < 2 ^ 31 }
     ensures { IfOk result (λ s. AreSymbols (statements text.now tokens.now outlines.now) (keys_of s.names) s.variables.items) }
 {
     let mut symbols = Symbols {

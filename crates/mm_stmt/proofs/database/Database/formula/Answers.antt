@@ -27,4 +27,4 @@ returns-clause-known g c =
     let same : take (b - a) (drop a c.deref.result.now) ≡ formula_at db k =
         ap (λ l. take (b - a) (drop a l)) c.deref.ensures.value ∙ ap₂ (λ i j. take (j - i) (drop i xs)) (sym first) (sym second) ∙ n.formula k inside in
     subst (λ (v : Known). All (λ s. s < length (symbol_names v.statements)) (take (b - a) (drop a c.deref.result.now))) c.self.view_is
-    (subst (λ (l : List ℕ). All (λ s. s < length (symbol_names db)) l) (sym same) (n.below k inside))
+    (subst (λ (l : List ℕ). All (λ s. s < length (symbol_names db)) l) (sym same) (c.self.invariant.below k there))

@@ -20,7 +20,14 @@ loop-at-preserved g c d v h =
     let from = c.args.from in
     let at = c.loop-at.at in
     let b = c.args.is_variable in
-    declares-one text ws from at (omega arith) (omega arith) b d v _ _ (c.in_ok-declare.ensures (d ++ words (between text ws from at)) (v ++ variables_in b (words (between text ws from at))) (c.loop-at.invariant d v h))
+    declares-one text ws from at (omega arith) (omega arith) d v (keys_of c.declare.new.self.names) c.declare.new.self.variables.items b
+    (c.in_ok-declare.ensures (d ++ words (between text ws from at)) (v ++ variables_in b (words (between text ws from at))) (c.loop-at.invariant d v h))
+
+pub loop-at-init : goal.loop-at-init
+loop-at-init g c d v h = declares-none c.args.text.now c.args.tokens.now c.args.from d v (keys_of c.args.self.now.names) c.args.self.now.variables.items c.args.is_variable h
 
 pub returns : goal.returns
-returns g c d v h = ?
+returns g c d v h =
+    let e : c.loop-at.at ≡ c.args.to = omega arith in
+    subst (λ (i : ℕ). Declares (d ++ words (between c.args.text.now c.args.tokens.now c.args.from i)) (v ++ variables_in c.args.is_variable (words (between c.args.text.now c.args.tokens.now c.args.from i))) (keys_of c.loop-at.self.names) c.loop-at.self.variables.items) e
+    (c.loop-at.invariant d v h)
