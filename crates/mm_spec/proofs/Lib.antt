@@ -21,3 +21,6 @@ pub mod ReadingsLemmas
 pub mod LexedLemmas
 pub mod WordsLaw
 pub mod GrammarLaw
+pub mod Finds
+pub mod Faultless
+pub mod CompleteLaw

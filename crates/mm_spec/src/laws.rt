@@ -6,7 +6,9 @@ ghost use Rattle.mm_spec.specs.Readings.{reading};
 ghost use Rattle.mm_spec.specs.Lexed.{lexical_fault, tokens_of, IsLexed};
 ghost use Rattle.mm_spec.specs.Grammar.{IsReading};
 ghost use Rattle.mm_spec.specs.declared.Word.{Word};
-ghost use Rattle.mm_spec.specs.Unique.{OutputIsUnique};
+ghost use Rattle.mm_spec.specs.Output.{Lexed};
+ghost use Rattle.mm_spec.specs.Complete.{ReadsComplete};
+ghost use Rattle.mm_spec.specs.Laws.{OutputIsUnique};
 
 /// The words of a text are its longest runs of bytes that aren't white, in order, and no other list is.
 pub fn words_are_the_longest_runs()
@@ -22,6 +24,12 @@ pub fn a_reading_follows_the_grammar()
 /// The tokens and the lexical fault of a text are those of its words, read by the grammar.
 pub fn tokens_are_those_of_the_grammar()
     ensures { (text : List ℕ) → IsLexed text (tokens_of text) (lexical_fault text) }
+{}
+
+/// Each variable of a frame of what is read has a `$f` among the frame's mandatory hypotheses: lawful statements have an
+/// active `$f` for each variable of their formulas.
+pub fn lawful_statements_have_complete_frames()
+    ensures { (len : ℕ) (x : Lexed) → ReadsComplete len x }
 {}
 
 /// There is at most one output of a text.
