@@ -71,6 +71,9 @@ module _ (db : List Statement) (lawful : (k : ℕ) → k < length db → scope_f
         λ v h. same_word v t.variable.word (lone (bytes_eq v t.variable.word) (subst (λ x. list_any (λ u. bytes_eq v u.variable) (typings_of x) ≡ true) t.is h)),
       )
 
+  at_word : (i x : ℕ) (w v : Word) → Types i (place_of v (symbol_names db)) → w ≡ v → x ≡ place_of w (symbol_names db) → Types i x
+  at_word i x w v t e is = subst (Types i) (ap (λ u. place_of u (symbol_names db)) (sym e) ∙ sym is) t
+
   -- each variable of a formula has an active `$f`
   pub typed : (j x : ℕ) (s : Statement) → slice_get db j ≡ Some s → has_formula s ≡ true → is_member (formula_at db j) x ≡ true → is_variable db x ≡ true → (i : ℕ) × (is_active db i j ≡ true) × Types i x
   typed j x s e f m v =
@@ -84,7 +87,7 @@ module _ (db : List Statement) (lawful : (k : ℕ) → k < length db → scope_f
           let a = found_active db j (λ i. list_any (λ s. list_any q (typings_of s)) (statement_at db i)) (sym (any-flat_map q typings_of (active_statements db j) ∙ any-flat_map (λ s. list_any q (typings_of s)) (statement_at db) (active db j)) ∙ t) in
           let s = found_at db (λ s. list_any q (typings_of s)) a.0 a.2 in
           let y = typing a.0 s.0 s.1 (typing_floats q s.0 s.2) in
-          (a.0, a.1, subst (Types a.0) (ap (λ u. place_of u (symbol_names db)) (sym (y.2 w s.2)) ∙ sym is) y.1)
+          (a.0, a.1, at_word a.0 x w y.0 y.1 (y.2 w s.2) is)
 
   -- so has each mandatory variable, at the assertion
   mandatory_typed : (k x : ℕ) (s : Statement) → slice_get db k ≡ Some s → has_formula s ≡ true → is_member (mandatory_variables db k) x ≡ true → (i : ℕ) × (is_active db i k ≡ true) × Types i x × (is_variable db x ≡ true)

@@ -29,19 +29,19 @@ least_none (f ∷ fs) e = absurd (by (least fs) e)
     by None e = cc
     by (Some g) e = two g (is_before f g) e
 
-nil_first : {X : Type 0} (xs ys : List X) → xs ++ ys ≡ [] → xs ≡ []
+pub nil_first : {X : Type 0} (xs ys : List X) → xs ++ ys ≡ [] → xs ≡ []
 nil_first [] ys e = refl
 nil_first (x ∷ xs) ys e = absurd (cc)
 
-nil_second : {X : Type 0} (xs ys : List X) → xs ++ ys ≡ [] → ys ≡ []
+pub nil_second : {X : Type 0} (xs ys : List X) → xs ++ ys ≡ [] → ys ≡ []
 nil_second [] ys e = e
 nil_second (x ∷ xs) ys e = absurd (cc)
 
-at_none : (p : ℕ) (cs : List Code) → at p cs ≡ [] → cs ≡ []
+pub at_none : (p : ℕ) (cs : List Code) → at p cs ≡ [] → cs ≡ []
 at_none p [] e = refl
 at_none p (c ∷ cs) e = absurd (cc)
 
-when_none : (b : Bool) (c : Code) → when b c ≡ [] → b ≡ false
+pub when_none : (b : Bool) (c : Code) → when b c ≡ [] → b ≡ false
 when_none true c e = absurd (cc)
 when_none false c e = refl
 

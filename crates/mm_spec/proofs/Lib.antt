@@ -24,3 +24,5 @@ pub mod GrammarLaw
 pub mod Finds
 pub mod Faultless
 pub mod CompleteLaw
+pub mod GoodSteps
+pub mod TheoremLaw

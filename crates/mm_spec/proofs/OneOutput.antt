@@ -104,7 +104,7 @@ no_least : (fs : List Fault) (f : Fault) → fs ≡ [] → least fs ≡ Some f �
 no_least fs f e h = let no : None ≡ Some f = sym (ap least e) ∙ h in cc
 
 module _ (db : List Statement) (fine : AreComplete db) where
-  proof_fault_unique : (k end : ℕ) (f g : Fault) → ProofFault db k end f → ProofFault db k end g → f ≡ g
+  pub proof_fault_unique : (k end : ℕ) (f g : Fault) → ProofFault db k end f → ProofFault db k end g → f ≡ g
   proof_fault_unique k end f g (inl h) (inl i) = let e : Some f ≡ Some g = sym h ∙ i in cc
   proof_fault_unique k end f g (inl h) (inr i) = absurd (no_least (reading_faults_at db k) f i.0 h)
   proof_fault_unique k end f g (inr h) (inl i) = absurd (no_least (reading_faults_at db k) g h.0 i)
@@ -116,7 +116,7 @@ module _ (db : List Statement) (fine : AreComplete db) where
       go (inr s) (inl t) = absurd (no_both_faults (context_at db k) (fine k) (steps_at db k) (formula_at db k) end g f t s)
       go (inr s) (inr t) = end_fault_unique (context_at db k) (fine k) (steps_at db k) (formula_at db k) end f g s t
 
-  valid_no_fault : (k end : ℕ) (f : Fault) → IsValid db k → ProofFault db k end f → ⊥
+  pub valid_no_fault : (k end : ℕ) (f : Fault) → IsValid db k → ProofFault db k end f → ⊥
   valid_no_fault k end f v (inl h) = no_least (reading_faults_at db k) f v.0 h
   valid_no_fault k end f v (inr h) = go h.1
     where
