@@ -6,7 +6,7 @@ use Rattle.std.proofs.lemmas.List.Folds.{list_any-append}
 use Rattle.mm_spec.specs.Text.{Word, Fault, fault, is_in, words}
 use Rattle.mm_spec.specs.Statement.{Statement, constants, variables, disjoint, floating, essential, axiomatic, provable, opening, closing, symbols_of}
 use Rattle.mm_spec.specs.Scope.{Typing, names_before, depth, is_active, active, active_statements, statement_at, constants_of, variables_of, typings_of}
-use Rattle.mm_spec.specs.Lawful.{scope_faults, least, scope_fault}
+use Rattle.mm_spec.specs.Lawful.{scope_faults, least, scope_fault, IsLawful}
 use Rattle.mm_spec.specs.Frame.{symbol_names, place_of, formula_of, formula_at, is_variable, is_floating, is_essential, active_of, mandatory_variables, mandatory_hypotheses, frame_at, pairs_of, disjoint_at}
 use Rattle.mm_spec.specs.Derivation.{Formula, Pair, is_member}
 use Rattle.mm_spec.specs.Citation.{context_at, rule_of}
@@ -18,7 +18,7 @@ use Rattle.mm_spec.proofs.Faultless.{least_none, no_kind, new_constant, new_vari
 
 -- ---- frames
 
-module _ (db : List Statement) (lawful : (k : ℕ) → k < length db → scope_fault db k ≡ None) where
+module _ (db : List Statement) (lawful : (k : ℕ) → k < length db → IsLawful db k) where
   faultless : (k : ℕ) (s : Statement) → slice_get db k ≡ Some s → scope_faults (names_before db k) (depth db k) s ≡ []
   faultless k s e = least_none (scope_faults (names_before db k) (depth db k) s) (sym (ap judged e) ∙ lawful k (inside_of db k s e))
     where

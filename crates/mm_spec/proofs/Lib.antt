@@ -7,10 +7,10 @@ pub mod Unique
 pub mod Vectors
 pub mod Steps
 pub mod Checked
+pub mod Followed
 pub mod Shape
 pub mod Activity
 pub mod Judged
-pub mod Rows
 pub mod Chains
 pub mod RowLaw
 pub mod Stops

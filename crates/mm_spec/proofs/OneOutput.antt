@@ -194,9 +194,6 @@ end_unique len ts f g s t = go s.code t.code
     go (inr h) (inl k) = absurd (k.0 (sym rest ∙ h.0))
     go (inr h) (inr k) = h.2 ∙ sym k.2
 
-lexed : List Token → Option Fault → Lexed
-lexed ts o = record { tokens = ts; fault = o }
-
 text_fault_unique : (len : ℕ) (ts : List Token) (o : Option Fault) (f g : Fault) → TextFault len (record { tokens = ts; fault = o }) f → TextFault len (record { tokens = ts; fault = o }) g → f ≡ g
 text_fault_unique len ts o f g (inl h) (inl k) = shape_unique ts f g h k
 text_fault_unique len ts o f g (inl h) (inr k) = absurd (k.0 (f, h))

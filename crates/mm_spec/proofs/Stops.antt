@@ -5,7 +5,8 @@ use Rattle.mm_spec.specs.Text.{Token, Fault, fault, is_label}
 use Rattle.mm_spec.specs.Statement.{Statement, spelled, is_opening, is_closing, IsRow, IsLongestRow, ShapeFault, EndFault, Begins, IsBetween, shape_code}
 use Rattle.mm_spec.specs.Output.{Lexed, TextFault, WordOrEnd}
 use Rattle.mm_spec.specs.Table.{Class, type_of, equals, close_block, plain, class, Reading, start, labelled, words, formula, Turn, stop, go, done, turn, label_turn, statements_of, stop_from, stop_after, rest_from, rest_after, begins, end_code}
-use Rattle.mm_spec.proofs.Shape.{State, at_start, at_label, in_symbols, in_formula, in_proof, next, label_at_start, follow, follow-append, no_way_back, row_followed, Reads, Reaches, follow_reads, reads_none, begins_followed, begins_exact}
+use Rattle.mm_spec.proofs.Followed.{State, at_start, at_label, in_symbols, in_formula, in_proof, next, label_at_start, follow, follow-append, no_way_back, row_followed, begins_followed}
+use Rattle.mm_spec.proofs.Shape.{Reads, Reaches, follow_reads, reads_none, begins_exact}
 use Rattle.mm_spec.proofs.RowLaw.{is_longest, longest_unique, row_read_at_start}
 use Rattle.mm_spec.specs.declared.Code.TheVariants.{OpenStatement, OpenBlock}
 

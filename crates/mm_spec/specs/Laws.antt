@@ -1,4 +1,4 @@
--- The laws whose statements need a name (this project's own).
+-- The statements of laws over the definitions (this project's own).
 use Rattle.std.specs.Prelude.{◌≡◌, ℕ, List, Option, ◌⊎◌, IsTrue, slice_get}
 use Rattle.mm_spec.specs.Text.{Word, Fault}
 use Rattle.mm_spec.specs.Statement.{Statement}

@@ -1,4 +1,5 @@
--- What is expected of a token, and the statements of a list of tokens.
+-- What is expected of a token, the statements of a list of tokens, and the fault of its shape: the table is this project's
+-- own, and its statements are those of the Metamath book, section 4.1.3.
 use Rattle.std.specs.Prelude.{ℕ, zero, suc, Bool, true, false, List, [], ◌∷◌, ◌++◌, codes, bytes_eq, Option, None, Some}
 use Rattle.mm_spec.specs.Text.{Word, Token, Fault, fault, has_dollar, is_label}
 use Rattle.mm_spec.specs.Statement.{Statement, constants, variables, disjoint, floating, essential, axiomatic, provable, opening, closing, shape_code}
