@@ -5,6 +5,7 @@ pub mod Machine
 pub mod Exact
 pub mod Unique
 pub mod Vectors
+pub mod Outputs
 pub mod Steps
 pub mod Checked
 pub mod Followed
