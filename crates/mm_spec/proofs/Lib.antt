@@ -5,12 +5,13 @@ pub mod Machine
 pub mod Exact
 pub mod Unique
 pub mod Vectors
+pub mod Outputs
 pub mod Steps
 pub mod Checked
+pub mod Followed
 pub mod Shape
 pub mod Activity
 pub mod Judged
-pub mod Rows
 pub mod Chains
 pub mod RowLaw
 pub mod Stops
@@ -21,3 +22,8 @@ pub mod ReadingsLemmas
 pub mod LexedLemmas
 pub mod WordsLaw
 pub mod GrammarLaw
+pub mod Finds
+pub mod Faultless
+pub mod CompleteLaw
+pub mod GoodSteps
+pub mod TheoremLaw

@@ -1,12 +1,12 @@
 -- There is one output.
-use Rattle.std.proofs.Common.{◌≡◌, ◌≢◌, ℕ, zero, suc, ◌+◌, ◌<◌, ◌≤◌, Bool, true, false, List, [], ◌∷◌, ◌++◌, map, length, Option, Some, None, Err, refl, sym, ap, ap₂, ◌∙◌, subst, append_assoc, append-nil, true≢false, arith, ◌⊎◌, inl, inr, length-append}
+use Rattle.std.proofs.Common.{◌≡◌, ◌≢◌, ℕ, zero, suc, ◌<◌, Bool, true, false, List, [], ◌∷◌, ◌++◌, map, length, Option, Some, None, Err, refl, sym, ap, ap₂, ◌∙◌, subst, append_assoc, arith, ◌⊎◌, inl, inr}
 use Rattle.std.specs.Prelude.{flat_map, Decides, slice_get, count_by, IsTrue}
 use Rattle.std.specs.List.{AllZip}
 use Rattle.std.proofs.lemmas.Bool.{cases_order}
 use Rattle.std.proofs.lemmas.Bool.Decides.{same_from_decides}
 use Rattle.std.proofs.lemmas.List.{append_cancel_left}
-use Rattle.mm_spec.specs.Text.{Word, Token, token, Fault, fault}
-use Rattle.mm_spec.specs.Statement.{Statement, spelled, IsRow, Begins, IsBetween, ShapeFault, IsLongestRow, EndFault, shape_code, is_closing, is_opening}
+use Rattle.mm_spec.specs.Text.{Word, Token, Fault, fault}
+use Rattle.mm_spec.specs.Statement.{Statement, spelled, Begins, IsBetween, ShapeFault, IsLongestRow, EndFault, shape_code, is_closing, is_opening}
 use Rattle.mm_spec.specs.Lawful.{least, scope_fault}
 use Rattle.mm_spec.specs.Derivation.{Formula, Context, Rule, hypothesis, assertion, Trees, formulas, postfix, AreDerivations}
 use Rattle.mm_spec.specs.Steps.{Step, label, marked, PlacedStep}
@@ -17,9 +17,10 @@ use Rattle.mm_spec.specs.Frame.{formula_at}
 use Rattle.mm_spec.specs.Report.{Choice, Row, report, refusal}
 use Rattle.mm_spec.specs.declared.Code.{Code}
 use Rattle.mm_spec.specs.Output.{Lexed, lexed_of, TextFault, Stops, IsRead, ProofFault, end_of, is_theorem_at, AreValid, FirstProofFault, FirstFault, HasNoFault, theorems, columns, label_at, IsRowOf, IsOutput}
-use Rattle.mm_spec.proofs.Machine.{IsGood, step}
+use Rattle.mm_spec.proofs.Machine.{IsGood}
 use Rattle.mm_spec.proofs.Exact.{stops}
-use Rattle.mm_spec.specs.Complete.{IsFine, AreComplete, ReadsComplete}
+use Rattle.mm_spec.specs.Complete.{IsFine, AreComplete}
+use Rattle.mm_spec.proofs.CompleteLaw.{reads_complete}
 use Rattle.mm_spec.proofs.Checked.{same_row, plain_unique, excludes}
 use Rattle.mm_spec.proofs.Judged.{stopped, no_step_fault, no_end_fault, no_both_faults}
 use Rattle.mm_spec.proofs.RowLaw.{longest_unique}
@@ -103,7 +104,7 @@ no_least : (fs : List Fault) (f : Fault) → fs ≡ [] → least fs ≡ Some f �
 no_least fs f e h = let no : None ≡ Some f = sym (ap least e) ∙ h in cc
 
 module _ (db : List Statement) (fine : AreComplete db) where
-  proof_fault_unique : (k end : ℕ) (f g : Fault) → ProofFault db k end f → ProofFault db k end g → f ≡ g
+  pub proof_fault_unique : (k end : ℕ) (f g : Fault) → ProofFault db k end f → ProofFault db k end g → f ≡ g
   proof_fault_unique k end f g (inl h) (inl i) = let e : Some f ≡ Some g = sym h ∙ i in cc
   proof_fault_unique k end f g (inl h) (inr i) = absurd (no_least (reading_faults_at db k) f i.0 h)
   proof_fault_unique k end f g (inr h) (inl i) = absurd (no_least (reading_faults_at db k) g h.0 i)
@@ -115,7 +116,7 @@ module _ (db : List Statement) (fine : AreComplete db) where
       go (inr s) (inl t) = absurd (no_both_faults (context_at db k) (fine k) (steps_at db k) (formula_at db k) end g f t s)
       go (inr s) (inr t) = end_fault_unique (context_at db k) (fine k) (steps_at db k) (formula_at db k) end f g s t
 
-  valid_no_fault : (k end : ℕ) (f : Fault) → IsValid db k → ProofFault db k end f → ⊥
+  pub valid_no_fault : (k end : ℕ) (f : Fault) → IsValid db k → ProofFault db k end f → ⊥
   valid_no_fault k end f v (inl h) = no_least (reading_faults_at db k) f v.0 h
   valid_no_fault k end f v (inr h) = go h.1
     where
@@ -193,9 +194,6 @@ end_unique len ts f g s t = go s.code t.code
     go (inr h) (inl k) = absurd (k.0 (sym rest ∙ h.0))
     go (inr h) (inr k) = h.2 ∙ sym k.2
 
-lexed : List Token → Option Fault → Lexed
-lexed ts o = record { tokens = ts; fault = o }
-
 text_fault_unique : (len : ℕ) (ts : List Token) (o : Option Fault) (f g : Fault) → TextFault len (record { tokens = ts; fault = o }) f → TextFault len (record { tokens = ts; fault = o }) g → f ≡ g
 text_fault_unique len ts o f g (inl h) (inl k) = shape_unique ts f g h k
 text_fault_unique len ts o f g (inl h) (inr k) = absurd (k.0 (f, h))
@@ -257,7 +255,7 @@ inside [] (suc k) h = let no : false ≡ true = h in cc
 inside (s ∷ db) zero h = omega arith
 inside (s ∷ db) (suc k) h = let l = inside db k h in omega (arith, l)
 
-module _ (len : ℕ) (x : Lexed) (complete : ReadsComplete len x) where
+module _ (len : ℕ) (x : Lexed) where
   Cause : List Statement → Option Fault → Fault → Type 0
   Cause db o f = ((k : ℕ) × FirstProofFault db k f) ⊎ (AreValid db (length db) × (o ≡ Some f))
 
@@ -268,9 +266,9 @@ module _ (len : ℕ) (x : Lexed) (complete : ReadsComplete len x) where
       go (subst (λ d. Cause d k.1 f) same.0 (subst (λ o. Cause h.0 o f) same.1 h.3)) k.3
     where
       go : Cause k.0 k.1 f → Cause k.0 k.1 g → f ≡ g
-      go (inl a) (inl b) = first_proof_unique k.0 (complete k.0 k.1 k.2) a.0 b.0 f g a.1 b.1
-      go (inl a) (inr b) = absurd (valid_no_fault k.0 (complete k.0 k.1 k.2) a.0 (end_of (slice_get k.0 a.0)) f (b.0 a.0 (inside k.0 a.0 a.1.0) a.1.0) a.1.2)
-      go (inr a) (inl b) = absurd (valid_no_fault k.0 (complete k.0 k.1 k.2) b.0 (end_of (slice_get k.0 b.0)) g (a.0 b.0 (inside k.0 b.0 b.1.0) b.1.0) b.1.2)
+      go (inl a) (inl b) = first_proof_unique k.0 (reads_complete len x k.0 k.1 k.2) a.0 b.0 f g a.1 b.1
+      go (inl a) (inr b) = absurd (valid_no_fault k.0 (reads_complete len x k.0 k.1 k.2) a.0 (end_of (slice_get k.0 a.0)) f (b.0 a.0 (inside k.0 a.0 a.1.0) a.1.0) a.1.2)
+      go (inr a) (inl b) = absurd (valid_no_fault k.0 (reads_complete len x k.0 k.1 k.2) b.0 (end_of (slice_get k.0 b.0)) g (a.0 b.0 (inside k.0 b.0 b.1.0) b.1.0) b.1.2)
       go (inr a) (inr b) = let e : Some f ≡ Some g = sym a.1 ∙ b.1 in cc
 
   no_both : (f : Fault) (db : List Statement) → FirstFault len x f → HasNoFault len x db → ⊥
@@ -280,15 +278,15 @@ module _ (len : ℕ) (x : Lexed) (complete : ReadsComplete len x) where
       go (subst (λ d. Cause d None f) same.0 (subst (λ o. Cause h.0 o f) same.1 h.3))
     where
       go : Cause db None f → ⊥
-      go (inl a) = valid_no_fault db (complete db None k.0) a.0 (end_of (slice_get db a.0)) f (k.1 a.0 (inside db a.0 a.1.0) a.1.0) a.1.2
+      go (inl a) = valid_no_fault db (reads_complete len x db None k.0) a.0 (end_of (slice_get db a.0)) f (k.1 a.0 (inside db a.0 a.1.0) a.1.0) a.1.2
       go (inr a) = let e : None ≡ Some f = a.1 in cc
 
 -- there is one output
-pub output_unique : (text : List ℕ) (only : Option Word) (choice : Choice) (a b : List ℕ) → ReadsComplete (length text) (lexed_of text) → IsOutput text only choice a → IsOutput text only choice b → a ≡ b
-output_unique text only choice a b c (inl h) (inl k) = h.2 ∙ ap (refusal text) (first_fault_unique (length text) (lexed_of text) c h.0 k.0 h.1 k.1) ∙ sym k.2
-output_unique text only choice a b c (inl h) (inr k) = absurd (no_both (length text) (lexed_of text) c h.0 k.0 h.1 k.1)
-output_unique text only choice a b c (inr h) (inl k) = absurd (no_both (length text) (lexed_of text) c k.0 h.0 k.1 h.1)
-output_unique text only choice a b c (inr h) (inr k) =
+pub output_unique : (text : List ℕ) (only : Option Word) (choice : Choice) (a b : List ℕ) → IsOutput text only choice a → IsOutput text only choice b → a ≡ b
+output_unique text only choice a b (inl h) (inl k) = h.2 ∙ ap (refusal text) (first_fault_unique (length text) (lexed_of text) h.0 k.0 h.1 k.1) ∙ sym k.2
+output_unique text only choice a b (inl h) (inr k) = absurd (no_both (length text) (lexed_of text) h.0 k.0 h.1 k.1)
+output_unique text only choice a b (inr h) (inl k) = absurd (no_both (length text) (lexed_of text) k.0 h.0 k.1 h.1)
+output_unique text only choice a b (inr h) (inr k) =
     let db : h.0 ≡ k.0 = (read_unique (length text) (lexed_of text) h.0 k.0 None None h.1.0 k.1.0).0 in
     let mine = subst (λ d. AllZip (IsRowOf d (columns d only)) (theorems d) h.2) db h.3 in
     let rows : h.2 ≡ k.2 = rows_unique k.0 (columns k.0 only) (theorems k.0) h.2 k.2 mine k.3 in

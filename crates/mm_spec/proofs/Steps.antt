@@ -4,7 +4,7 @@ use Rattle.std.specs.List.{AllZip}
 use Rattle.mm_spec.specs.Derivation.{Formula, Rule, hypothesis, assertion, Context, Follows, Trees, none, more, formulas, postfix, AreDerivations}
 use Rattle.mm_spec.specs.Steps.{Step, label, marked}
 use Rattle.mm_spec.specs.Valid.{Reason, StepFails, Adds, Plain}
-use Rattle.mm_spec.specs.Complete.{IsComplete, IsFine}
+use Rattle.mm_spec.specs.Complete.{IsFine}
 use Rattle.mm_spec.proofs.Machine.{Failed, proceed, step, IsGood, AreGood, Made, makes, grown}
 
 -- the last entry

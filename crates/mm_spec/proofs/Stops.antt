@@ -1,11 +1,12 @@
 -- The table's first stop is the fault of the shape, and where it ends is the fault of the end.
-use Rattle.std.proofs.Common.{◌≡◌, ◌≢◌, ℕ, zero, suc, ◌+◌, ◌≤◌, ◌<◌, Bool, true, false, List, [], ◌∷◌, ◌++◌, length, Option, Some, None, codes, count_by, flat_map, ◌⊎◌, inl, inr, refl, sym, ap, ap₂, ◌∙◌, subst, append-nil, append_assoc, arith}
+use Rattle.std.proofs.Common.{◌≡◌, ◌≢◌, ℕ, zero, suc, ◌+◌, ◌<◌, Bool, true, false, List, [], ◌∷◌, ◌++◌, Option, Some, None, count_by, flat_map, ◌⊎◌, inl, inr, refl, sym, ap, ◌∙◌, subst, append-nil, append_assoc, arith}
 use Rattle.std.proofs.lemmas.List.{append_cancel_left}
-use Rattle.mm_spec.specs.Text.{Token, token, Fault, fault, is_label}
+use Rattle.mm_spec.specs.Text.{Token, Fault, fault, is_label}
 use Rattle.mm_spec.specs.Statement.{Statement, spelled, is_opening, is_closing, IsRow, IsLongestRow, ShapeFault, EndFault, Begins, IsBetween, shape_code}
 use Rattle.mm_spec.specs.Output.{Lexed, TextFault, WordOrEnd}
-use Rattle.mm_spec.specs.Table.{Class, constant, variable, disjoint_of, type_of, logical, axiom_of, proof_of, equals, dot, open_block, close_block, plain, class, Reading, start, labelled, words, formula, Turn, stop, go, done, turn, closed, label_turn, statements_from, statements_of, stop_from, stop_after, rest_from, rest_after, begins, end_code}
-use Rattle.mm_spec.proofs.Shape.{State, at_start, at_label, in_symbols, in_formula, in_proof, next, start_block, label_at_start, follow, follow-append, no_way_back, row_followed, Reads, Reaches, follow_reads, reads_begins, reads_none, begins_followed, begins_exact}
+use Rattle.mm_spec.specs.Table.{Class, type_of, equals, close_block, plain, class, Reading, start, labelled, words, formula, Turn, stop, go, done, turn, label_turn, statements_of, stop_from, stop_after, rest_from, rest_after, begins, end_code}
+use Rattle.mm_spec.proofs.Followed.{State, at_start, at_label, in_symbols, in_formula, in_proof, next, label_at_start, follow, follow-append, no_way_back, row_followed, begins_followed}
+use Rattle.mm_spec.proofs.Shape.{Reads, Reaches, follow_reads, reads_none, begins_exact}
 use Rattle.mm_spec.proofs.RowLaw.{is_longest, longest_unique, row_read_at_start}
 use Rattle.mm_spec.specs.declared.Code.TheVariants.{OpenStatement, OpenBlock}
 

@@ -31,41 +31,25 @@ abbrev compressed : List Statement
 compressed = with_proof (codes "( wi ax-1 ax-mp ) ABADZCABEF")
 
 steps_compressed : plain_steps compressed 13 ≡ label 2 ∷ label 3 ∷ label 2 ∷ label 4 ∷ label 12 ∷ label 2 ∷ label 3 ∷ label 5 ∷ label 9 ∷ []
+unfolding statements
 steps_compressed = refl
 
 steps_marked : plain_steps (with_proof (codes "( wi ax-1 ax-mp ) ABADZZCABEFHG")) 13 ≡ label 2 ∷ label 3 ∷ label 2 ∷ label 4 ∷ label 12 ∷ label 2 ∷ label 3 ∷ label 5 ∷ label 9 ∷ marked 3 ∷ marked 3 ∷ []
+unfolding statements
 steps_marked = refl
 
 -- reading faults; column C of the line is place 179 + C
 abbrev reading : List ℕ → Option Fault
 reading p = let db = with_proof p in elim (slice_get db 13) [ Some (provable l k xs e ps d) ↦ least (reading_faults db 13 d ps) | _ ↦ None ]
 
-e31 : reading (codes "( wi ax-1 ax-mp )") ≡ Some (fault 238 EmptyProof)
-e31 = refl
-
-e32 : reading (codes "( wi ax-1 ax-mp ) ABADCABE?") ≡ Some (fault 246 IncompleteProof)
-e32 = refl
-
-e33 : reading (codes "( wi ax-1 ax-mp ABADCABEF") ≡ Some (fault 236 UnusableLabel)
-e33 = refl
-
-e41 : reading (codes "( wi ax-1 ax-mp") ≡ Some (fault 236 OpenBrackets)
-e41 = refl
-
-e42 : reading (codes "( wi ax-1 ax-mp ) ABADCAbEF") ≡ Some (fault 244 BadLetter)
-e42 = refl
-
-e43 : reading (codes "( wi ax-1 ax-mp ) ABADCABEU") ≡ Some (fault 248 OpenNumber)
-e43 = refl
-
-e44 : reading (codes "( wi ax-1 ax-mp ) ZABADCABEF") ≡ Some (fault 238 MarkBeforeStep)
-e44 = refl
-
-e45 : reading (codes "( wi ax-1 ax-mp ) ABADCABEG") ≡ Some (fault 246 NumberTooLarge)
-e45 = refl
-
-no_fault : reading (codes "( wi ax-1 ax-mp ) ABADCABEF") ≡ None
-no_fault = refl
+faults_read :
+    map reading
+    (codes "( wi ax-1 ax-mp )" ∷ codes "( wi ax-1 ax-mp ) ABADCABE?" ∷ codes "( wi ax-1 ax-mp ABADCABEF" ∷ codes "( wi ax-1 ax-mp" ∷ codes "( wi ax-1 ax-mp ) ABADCAbEF"
+    ∷ codes "( wi ax-1 ax-mp ) ABADCABEU" ∷ codes "( wi ax-1 ax-mp ) ZABADCABEF" ∷ codes "( wi ax-1 ax-mp ) ABADCABEG" ∷ codes "( wi ax-1 ax-mp ) ABADCABEF" ∷ [])
+    ≡ Some (fault 238 EmptyProof) ∷ Some (fault 246 IncompleteProof) ∷ Some (fault 236 UnusableLabel) ∷ Some (fault 236 OpenBrackets) ∷ Some (fault 244 BadLetter)
+    ∷ Some (fault 248 OpenNumber) ∷ Some (fault 238 MarkBeforeStep) ∷ Some (fault 246 NumberTooLarge) ∷ None ∷ []
+unfolding statements
+faults_read = refl
 
 -- the values of numbers
 abbrev number : List ℕ → List ℕ
@@ -85,7 +69,7 @@ each_itself : ℕ → List ℕ
 each_itself x = x ∷ []
 
 fault_13 : StepFault (context_at db_13 10) (steps_at db_13 10) (fault 189 NotDisjoint)
-unfolding frames each_itself
+unfolding frames each_itself statements
 fault_13 = record {
   before = placed 183 (label 2) ∷ placed 186 (label 3) ∷ [];
   first = placed 189 (label 8);

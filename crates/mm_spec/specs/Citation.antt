@@ -1,4 +1,5 @@
--- What a proof may use, which theorems are valid, and on which assertions a theorem rests.
+-- What a proof may use, and which theorems are valid (Metamath book, section 4.1.4); on which assertions a theorem rests
+-- (this project's own).
 use Rattle.std.specs.Prelude.{◌≡◌, ℕ, zero, suc, ◌≤◌, Bool, true, false, List, [], ◌∷◌, map, Option, Some, None, slice_get, IsTrue}
 use Rattle.std.specs.List.{list_any}
 use Rattle.mm_spec.specs.Text.{Fault}

@@ -1,5 +1,5 @@
 -- A compressed proof: labels in brackets, and behind them numbers and marks in letters, which white space may break
--- anywhere (the appendix on compressed proofs).
+-- anywhere (Metamath book, Appendix B).
 use Rattle.std.specs.Prelude.{ℕ, zero, suc, ◌+◌, ◌-◌, ◌*◌, Bool, true, false, ◌&&◌, List, [], ◌∷◌, ◌++◌, map, length, Option, Some, None, nat_lt, nat_le, ◌==◌, bytes_eq, flat_map, slice_get, codes, fold}
 use Rattle.mm_spec.specs.Text.{Word, Token, Fault, fault}
 use Rattle.mm_spec.specs.Statement.{Statement}

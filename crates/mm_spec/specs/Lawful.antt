@@ -1,4 +1,5 @@
--- The faults of a statement's symbols, labels and scope.
+-- The rules on symbols, labels and scope (Metamath book, section 4.1.3), by the faults of a statement that breaks them
+-- (codes, places and their order: this project's own).
 use Rattle.std.specs.Prelude.{◌≡◌, ℕ, Bool, true, false, ◌&&◌, ◌||◌, not, List, [], ◌∷◌, ◌++◌, map, length, Option, Some, None, nat_lt, nat_le, ◌==◌, bytes_eq, slice_get}
 use Rattle.std.specs.List.{list_any}
 use Rattle.mm_spec.specs.Text.{Word, Token, Fault, fault, is_in}

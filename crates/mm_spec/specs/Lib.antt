@@ -22,4 +22,4 @@ pub mod Citation
 pub mod Report
 pub mod Output
 pub mod Complete
-pub mod Unique
+pub mod Laws

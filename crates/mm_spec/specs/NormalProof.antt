@@ -1,4 +1,4 @@
--- A normal proof: the labels of active hypotheses and earlier assertions, in postfix order (section 4.1.4).
+-- A normal proof: the labels of active hypotheses and earlier assertions, in postfix order (Metamath book, section 4.1.4).
 use Rattle.std.specs.Prelude.{ℕ, ◌&&◌, Bool, true, false, List, [], ◌∷◌, map, Some, None, bytes_eq, flat_map, codes}
 use Rattle.std.specs.List.{list_any, range_with_len}
 use Rattle.mm_spec.specs.Text.{Word, Token, Fault, fault}

@@ -1,4 +1,4 @@
--- The first fault of a text, and what is written.
+-- The first fault of a text, and what is written (this project's own).
 use Rattle.std.specs.Prelude.{◌≢◌, ◌++◌, ◌≡◌, ℕ, ◌<◌, Bool, true, false, List, [], ◌∷◌, length, map, Option, Some, None, slice_get, flat_map, ◌⊎◌, IsTrue, Decides, bytes_eq}
 use Rattle.std.specs.List.{list_any, range_with_len, AllZip}
 use Rattle.mm_spec.specs.Text.{Word, Token, token, Fault}

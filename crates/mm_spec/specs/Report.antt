@@ -1,4 +1,4 @@
--- The texts of a report and of a refusal.
+-- The texts of a report and of a refusal (this project's own).
 use Rattle.std.specs.Prelude.{ℕ, zero, suc, ◌+◌, Bool, true, false, List, [], ◌∷◌, ◌++◌, length, map, take, flat_map, codes, decimal, count_by, ◌==◌, if◌then◌else◌}
 use Rattle.mm_spec.specs.Text.{Word, Fault}
 use Rattle.mm_spec.specs.Scope.{those}

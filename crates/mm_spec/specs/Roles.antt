@@ -1,4 +1,4 @@
--- What a word is, by its bytes: outside comments, and inside one.
+-- What a word is, by its bytes: outside comments, and inside one (Metamath book, sections 4.1.1 and 4.1.2).
 use Rattle.std.specs.Prelude.{ℕ, ◌+◌, ◌==◌, ◌||◌, ◌&&◌, Bool, true, false, not, List, [], ◌∷◌, length, slice_index, if◌then◌else◌, Some, None, codes}
 use Rattle.std.specs.List.{list_all, list_any, position}
 use Rattle.mm_spec.specs.Bytes.{is_printable}

@@ -1,4 +1,5 @@
--- Statements, their spelling, and what is no front of a row of statements.
+-- Statements and their spelling (Metamath book, section 4.1.3). What is no front of a row of statements, and the faults
+-- of a text's shape, are this project's own.
 use Rattle.std.specs.Prelude.{◌≡◌, ℕ, ◌≤◌, ◌<◌, ◌≢◌, Bool, true, false, ◌&&◌, not, List, [], ◌∷◌, ◌++◌, take, Option, Some, None, codes, count_by, flat_map, ◌⊎◌, bytes_eq, if◌then◌else◌, IsTrue, ◌||◌}
 use Rattle.std.specs.List.{list_all}
 use Rattle.mm_spec.specs.Text.{Word, Token, token, Fault, fault, has_dollar, is_label}

@@ -1,4 +1,4 @@
--- The steps of a proof (section 4.1.4, and the appendix on compressed proofs).
+-- The steps of a proof (Metamath book, section 4.1.4 and Appendix B).
 use Rattle.std.specs.Prelude.{ℕ}
 
 -- A step of a proof: a label, by the number of its statement, or the subproof that an earlier step ended.

@@ -1,6 +1,7 @@
--- What is expected of a token, and the statements of a list of tokens.
+-- What is expected of a token, the statements of a list of tokens, and the fault of its shape: the table is this project's
+-- own, and its statements are those of the Metamath book, section 4.1.3.
 use Rattle.std.specs.Prelude.{ℕ, zero, suc, Bool, true, false, List, [], ◌∷◌, ◌++◌, codes, bytes_eq, Option, None, Some}
-use Rattle.mm_spec.specs.Text.{Word, Token, token, Fault, fault, has_dollar, is_label}
+use Rattle.mm_spec.specs.Text.{Word, Token, Fault, fault, has_dollar, is_label}
 use Rattle.mm_spec.specs.Statement.{Statement, constants, variables, disjoint, floating, essential, axiomatic, provable, opening, closing, shape_code}
 use Rattle.mm_spec.specs.declared.Code.TheVariants.{OpenStatement, OpenBlock}
 
@@ -78,7 +79,6 @@ statements_from r (t ∷ ts) = after (turn r (class t.word) t) (λ q. statements
 
 abbrev pub statements_of : List Token → List Statement
 statements_of ts = statements_from (start 0) ts
-
 
 -- whether a statement begins there
 abbrev pub begins : Reading → Bool

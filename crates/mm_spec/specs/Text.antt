@@ -1,4 +1,4 @@
--- Words with their places, and faults.
+-- Words with their places, and labels (Metamath book, section 4.1.1); faults are this project's own.
 use Rattle.std.specs.Prelude.{ℕ, Bool, ◌||◌, ◌&&◌, List, nat_le, ◌==◌, bytes_eq, map}
 use Rattle.std.specs.List.{list_any, list_all}
 pub use Rattle.mm_spec.specs.declared.Fault.{Fault}

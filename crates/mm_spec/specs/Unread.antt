@@ -1,5 +1,5 @@
--- What this version does not read yet: a compressed proof is refused at its first word. It is laid over the reading
--- faults of a proof, here and nowhere else.
+-- What this version does not read yet (this project's own): a compressed proof is refused at its first word. It is laid
+-- over the reading faults of a proof, here and nowhere else.
 use Rattle.std.specs.Prelude.{true, false, List, [], ◌∷◌}
 use Rattle.mm_spec.specs.Text.{Token, Fault, fault}
 use Rattle.mm_spec.specs.Proof.{is_compressed}

@@ -1,4 +1,5 @@
--- The plain proof that steps stand for, valid proofs, and the faults of steps and of the end.
+-- The plain proof that steps stand for, and valid proofs (Metamath book, section 4.1.4 and Appendix B); the faults of
+-- steps and of the end are this project's own.
 use Rattle.std.specs.Prelude.{◌≡◌, ◌≢◌, ℕ, ◌-◌, ◌<◌, ◌≤◌, List, [], ◌∷◌, ◌++◌, length, drop, Option, Some, slice_get, map}
 use Rattle.mm_spec.specs.Text.{Fault, fault}
 use Rattle.mm_spec.specs.Derivation.{Context, Rule, hypothesis, assertion, Trees, tree, none, more, Formula, Substitution, Matches, KeepsApart, substitute, AreDerivations, postfix, formulas, formula_limit}

@@ -1,4 +1,4 @@
--- The words of a text: its longest runs of bytes that aren't white, each by its places.
+-- The words of a text: its longest runs of bytes that aren't white, each by its places (Metamath book, section 4.1.1).
 use Rattle.std.specs.Prelude.{◌≡◌, ℕ, ◌+◌, ◌-◌, ◌<◌, ◌≤◌, ◌==◌, ◌||◌, ◌&&◌, Bool, true, false, not, List, ◌∷◌, map, length, slice_index, drop}
 use Rattle.std.specs.List.{All, AllPairs, Contains, filter, prefix_len, range_with_len}
 use Rattle.mm_spec.specs.Bytes.{is_white}

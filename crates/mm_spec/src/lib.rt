@@ -1,8 +1,8 @@
-//! What Metamath databases mean (Metamath book, second edition, chapter 4 and the appendix on compressed proofs): the
-//! definitions of words, tokens, statements, proofs, faults, citations and reports, in `specs/`, on which every other
-//! crate stands, and the plain types that go with them. There is no code here. The functions of `laws` run nothing:
-//! the contract of each is a law over the definitions, in the subject's own words. What a reader has to believe is the
-//! folder `specs/` and nothing else.
+//! What Metamath databases mean (Metamath book, second edition: sections 4.1.1 to 4.1.4, and Appendix B on compressed
+//! proofs): the definitions of words, tokens, statements, proofs, faults, citations and reports, in `specs/`, on which
+//! every other crate stands, and the plain types that go with them. There is no code here. The functions of `laws` run
+//! nothing: the contract of each is a law over the definitions, in the subject's own words. What a reader has to believe
+//! is the folder `specs/` and nothing else.
 #![tactic(auto)]
 
 mod codes;
