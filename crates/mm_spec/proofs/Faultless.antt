@@ -45,7 +45,7 @@ pub when_none : (b : Bool) (c : Code) → when b c ≡ [] → b ≡ false
 when_none true c e = absurd (cc)
 when_none false c e = refl
 
-not_false : (b : Bool) → not b ≡ false → b ≡ true
+pub not_false : (b : Bool) → not b ≡ false → b ≡ true
 not_false true e = refl
 not_false false e = sym e
 
@@ -59,7 +59,7 @@ second_of_three false true c e = e
 second_of_three a false c e = refl
 
 -- each symbol has no codes
-each_none : (codes : List Word → Word → List Code) (e : List Word) (ts : List Token) → at_each codes e ts ≡ [] → (w : Word) → is_in w (words ts) ≡ true → (earlier : List Word) × (codes earlier w ≡ [])
+pub each_none : (codes : List Word → Word → List Code) (e : List Word) (ts : List Token) → at_each codes e ts ≡ [] → (w : Word) → is_in w (words ts) ≡ true → (earlier : List Word) × (codes earlier w ≡ [])
 each_none codes e [] n w m = absurd (true≢false (sym m))
 each_none codes e (t ∷ ts) n w m = by (or_cases (bytes_eq w t.word) (is_in w (words ts)) m) (λ h. each_none codes (t.word ∷ e) ts (nil_second (at t.at (codes e t.word)) (at_each codes (t.word ∷ e) ts) n) w h)
   where

@@ -27,3 +27,4 @@ pub mod Faultless
 pub mod CompleteLaw
 pub mod GoodSteps
 pub mod TheoremLaw
+pub mod SymbolLaw

@@ -27,7 +27,7 @@ use Rattle.mm_stmt.specs.Symbols.{Declares, declared_of, variables_in, all_decla
 same_word : (v w : Word) → bytes_eq v w ≡ true → v ≡ w
 same_word v w h = (bytes_eq-Decides v w).0 h
 
-itself : (w : Word) → bytes_eq w w ≡ true
+pub itself : (w : Word) → bytes_eq w w ≡ true
 itself w = (bytes_eq-Decides w w).1 refl
 
 turned : (a b c : Bool) → ((a || b) || c) ≡ (b || (a || c))
