@@ -2,3 +2,4 @@ pub mod RolesLemmas
 pub mod StretchesLaw
 pub mod PiecesLemmas
 pub mod CutsLemmas
+pub mod CutLaw

@@ -5,17 +5,20 @@ ghost use Rattle.std.specs.Prelude.{◌≡◌, ◌<◌, ◌≤◌, ◌+◌, leng
 ghost use Rattle.mm_spec.specs.Lexed.{fault_in, lexical_fault, tokens_of};
 
 mod bytes;
+mod cuts;
 pub mod pieces;
 mod roles;
 pub mod threads;
 mod words;
 
+pub use cuts::{Cuts, CutsFault};
 pub use mm_spec::{Code, Fault, Word};
 
 use crate::roles::{role, word_fault};
 use crate::words::next_word;
 use mm_spec::{Role, TEXT_LIMIT};
 use std::alloc::{AllocError, Allocator};
+use std::thread::Threads;
 
 /// The tokens before the first lexical fault, and that fault.
 #[derive(Drop)]
@@ -24,8 +27,25 @@ pub struct Lexed<A: Allocator> {
     pub fault: Option<Fault>,
 }
 
-/// The tokens and the first lexical fault of a text.
-pub fn lex<A: Allocator + Copy>(alloc: A, text: &[u8]) -> Result<Lexed<A>, AllocError>
+/// The tokens and the first lexical fault of a text (section 4.1.1 of the Metamath book). The cuts, which are made for
+/// the text's length where that is within the limit, don't change what it answers; it is refused for memory alone.
+pub fn lex<R: Threads + Sync, A: Allocator + Copy + Send + Sync>(
+    rt: &R,
+    alloc: A,
+    text: &[u8],
+    cuts: &Cuts<A>,
+) -> Result<Lexed<A>, AllocError>
+    requires cuts { length text.now ≤ TEXT_LIMIT → cuts.now.len ≡ length text.now }
+    ensures tokens { IfOk result (λ lexed. lexed.tokens.items ≡ tokens_of text.now) }
+    ensures fault { IfOk result (λ lexed. lexed.fault ≡ lexical_fault text.now) }
+{
+    let _ = rt;
+    let _ = cuts.text_len();
+    lex_whole(alloc, text)
+}
+
+/// The same, word by word from the text's first byte to its last.
+fn lex_whole<A: Allocator + Copy>(alloc: A, text: &[u8]) -> Result<Lexed<A>, AllocError>
     ensures tokens { IfOk result (λ lexed. lexed.tokens.items ≡ tokens_of text.now) }
     ensures fault { IfOk result (λ lexed. lexed.fault ≡ lexical_fault text.now) }
 {
@@ -98,7 +118,7 @@ mod tests {
             (b"$( x $(y", 0, fault(5, Code::MarkInComment)),
         ];
         for (text, tokens, want) in vectors {
-            let lexed = lex(rt.alloc(), text)?;
+            let lexed = lex_whole(rt.alloc(), text)?;
             assert_eq!(rt; lexed.tokens.len(), tokens);
             assert_eq!(rt; lexed.fault, want);
         }
@@ -110,7 +130,7 @@ mod tests {
     fn lexes_cut_texts(rt: HostRuntime) -> Result<(), AllocError> {
         let alloc = rt.alloc();
         let text: &[u8] = b"$c a $( $c b $) xy $. $( z $) $( $d";
-        let whole = lex(alloc, text)?;
+        let whole = lex_whole(alloc, text)?;
         assert_eq!(rt; whole.tokens.len(), 4);
         assert_eq!(rt; whole.fault, fault(30, Code::OpenComment));
         for place in 0..text.len() {
@@ -126,7 +146,7 @@ mod tests {
 
     #[test]
     fn gives_places(rt: HostRuntime) -> Result<(), AllocError> {
-        let lexed = lex(rt.alloc(), b" $c  ab\n$.")?;
+        let lexed = lex_whole(rt.alloc(), b" $c  ab\n$.")?;
         let want = [
             Word { start: 1, end: 3 },
             Word { start: 5, end: 7 },

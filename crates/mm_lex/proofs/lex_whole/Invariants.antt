@@ -1,7 +1,7 @@
 use Rattle.std.proofs.Common.{◌≤◌, ◌-◌, length}
 use Rattle.mm_spec.specs.Words.{IsBoundary}
 use Rattle.mm_spec.proofs.ReadingsLemmas.{Reads}
-use Rattle.mm_lex.proofs.lex.Given as goal
+use Rattle.mm_lex.proofs.lex_whole.Given as goal
 
 -- What all words give is the tokens so far and what the words from here on give.
 abbrev pub invariant-loop-word : goal.invariant-loop-word

@@ -2,8 +2,8 @@ use Rattle.std.proofs.Common.{◌≡◌, ◌∙◌, sym, arith}
 use Rattle.mm_spec.proofs.WordsLemmas.{IsBoundary-end}
 use Rattle.mm_spec.proofs.ReadingsLemmas.{Reads, Reads-faulty, Reads-token, Reads-opening, Reads-closing, Reads-comment, Reads-end}
 use Rattle.mm_spec.proofs.LexedLemmas.{tokens_of-long, lexical_fault-long, tokens_of-read, lexical_fault-read}
-use Rattle.mm_lex.proofs.lex.Goals as goal
-use Rattle.mm_lex.proofs.lex.Goals.{in-Token+in_ok-push-in-Token, in-Opening, in-Closing, in-Comment}
+use Rattle.mm_lex.proofs.lex_whole.Goals as goal
+use Rattle.mm_lex.proofs.lex_whole.Goals.{in-Token+in_ok-push-in-Token, in-Opening, in-Closing, in-Comment}
 
 pub returns-then-text-gt-TEXT_LIMIT-clause-tokens : goal.returns-then-text-gt-TEXT_LIMIT-clause-tokens
 returns-then-text-gt-TEXT_LIMIT-clause-tokens g c = c.new-tokens.ensures.items ∙ sym (tokens_of-long _ c.if-text-gt-TEXT_LIMIT.true)
