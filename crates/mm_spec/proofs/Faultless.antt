@@ -151,7 +151,7 @@ typing_floats q _ e = absurd (true≢false (sym e))
 
 -- ---- numbers of symbols
 
-place_get : (w v : Word) (vs : List Word) → slice_get vs (place_of w vs) ≡ Some v → v ≡ w
+pub place_get : (w v : Word) (vs : List Word) → slice_get vs (place_of w vs) ≡ Some v → v ≡ w
 place_get w v [] e = absurd (cc)
 place_get w v (u ∷ us) e = by (bytes_eq w u) refl e (λ h. place_get w v us h)
   where

@@ -148,7 +148,8 @@ impl<'a, A: Allocator> Database<'a, A> {
     /// The typecode of a `$f`, `$e`, `$a` or `$p`.
     pub fn typecode(&self, statement: u32) -> Option<Sym>
         requires { statement < length self.now.statements }
-        ensures { result ≡ typecode_of self.now.statements statement }
+        ensures typecode { result ≡ typecode_of self.now.statements statement }
+        ensures known { IfSome result (λ s. s < length (symbol_names self.now.statements)) }
     {
         if has_label(self.kind(statement)) {
             self.formula(statement).first().copied()
@@ -213,14 +214,16 @@ impl<'a, A: Allocator> Database<'a, A> {
 
     /// The `$p` statements, in file order.
     pub fn theorems(&self) -> &[u32]
-        ensures { result.now ≡ theorems self.now.statements }
+        ensures theorems { result.now ≡ theorems self.now.statements }
+        ensures few { length self.now.statements < 2 ^ 31 }
     {
         self.theorems.as_slice()
     }
 
     /// The `$a` statements, in file order.
     pub fn axioms(&self) -> &[u32]
-        ensures { result.now ≡ columns self.now.statements None }
+        ensures axioms { result.now ≡ columns self.now.statements None }
+        ensures few { length self.now.statements < 2 ^ 31 }
     {
         self.axioms.as_slice()
     }

@@ -12,7 +12,10 @@ pub mod symbol;
 pub mod symbols;
 pub mod words;
 
+pub use database::{Database, Frame};
 pub use mm_spec::{Code, Fault, Word};
+pub use parts::Kind;
+pub use symbol::Sym;
 
 #[cfg(test)]
 mod tests;

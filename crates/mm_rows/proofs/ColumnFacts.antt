@@ -1,0 +1,139 @@
+-- Columns, as a selection among the axioms.
+use Rattle.std.proofs.Common.{◌≡◌, ℕ, zero, suc, ◌+◌, ◌<◌, ◌≤◌, ◌^◌, Bool, true, false, ◌&&◌, ◌||◌, List, [], ◌∷◌, ◌++◌, length, take, get_or, map, slice_get, Option, Some, None, refl, sym, ap, ap₂, ◌∙◌, subst, arith, true≢false, bytes_eq, ◌⊎◌, inl, inr, if◌then◌else◌}
+use Rattle.std.specs.List.{list_any, range_with_len}
+use Rattle.std.proofs.lemmas.Bool.{cases_lt, and_parts}
+use Rattle.mm_spec.specs.Text.{Word, Token, words}
+use Rattle.mm_spec.specs.Statement.{Statement, constants, variables, disjoint, floating, essential, axiomatic, provable, opening, closing}
+use Rattle.mm_spec.specs.Scope.{those, statement_at}
+use Rattle.mm_spec.specs.Output.{columns, has_typecode, is_column}
+use Rattle.mm_spec.specs.Frame.{symbol_names, place_of}
+use Rattle.mm_spec.proofs.Finds.{found_at, statement_at-is, formula_at-is}
+use Rattle.mm_spec.proofs.Faultless.{place_get}
+use Rattle.mm_stmt.specs.Database.{typecode_of, is_labelled_kind, kind_of}
+use Rattle.mm_rows.specs.Chains.{IsRising}
+
+-- a selection of a selection
+pub those-those : (p q r : ℕ → Bool) (xs : List ℕ) → ((x : ℕ) → r x ≡ (p x && q x)) → those q (those p xs) ≡ those r xs
+those-those p q r [] h = refl
+those-those p q r (x ∷ xs) h = by (p x) (h x) (those-those p q r xs h)
+  where
+    by : (a : Bool) → r x ≡ (a && q x) → those q (those p xs) ≡ those r xs → those q (elim a [ true ↦ x ∷ those p xs | false ↦ those p xs ]) ≡ elim (r x) [ true ↦ x ∷ those r xs | false ↦ those r xs ]
+    by false e i = i ∙ sym (ap (λ c. elim c [ true ↦ x ∷ those r xs | false ↦ those r xs ]) e)
+    by true e i = ap₂ (λ (c : Bool) (l : List ℕ). elim c [ true ↦ x ∷ l | false ↦ l ]) (sym e) i
+
+-- an element of a selection passes
+pub those-at : (p : ℕ → Bool) (xs : List ℕ) (i d : ℕ) → i < length (those p xs) → p (get_or (those p xs) i d) ≡ true
+those-at p [] i d h = absurd (omega arith)
+those-at p (x ∷ xs) i d h = by (p x) refl (those-at p xs) i h
+  where
+    by : (a : Bool) → p x ≡ a → ((i d : ℕ) → i < length (those p xs) → p (get_or (those p xs) i d) ≡ true) → (i : ℕ) → i < length {A = ℕ} (elim a [ true ↦ x ∷ those p xs | false ↦ those p xs ]) → p (get_or (elim a [ true ↦ x ∷ those p xs | false ↦ those p xs ]) i d) ≡ true
+    by true e r zero h = e
+    by true e r (suc i) h = r i d (omega arith)
+    by false e r i h = r i d h
+
+-- one element more
+pub those-snoc : (p : ℕ → Bool) (xs : List ℕ) (x : ℕ) → those p (xs ++ x ∷ []) ≡ those p xs ++ elim (p x) [ true ↦ x ∷ [] | false ↦ [] ]
+those-snoc p [] x = refl
+those-snoc p (y ∷ xs) x = by (p y) (those-snoc p xs x)
+  where
+    by : (a : Bool) → those p (xs ++ x ∷ []) ≡ those p xs ++ elim (p x) [ true ↦ x ∷ [] | false ↦ [] ]
+        → elim a [ true ↦ y ∷ those p (xs ++ x ∷ []) | false ↦ those p (xs ++ x ∷ []) ] ≡ ◌++◌ {A = ℕ} (elim a [ true ↦ y ∷ those p xs | false ↦ those p xs ]) (elim (p x) [ true ↦ x ∷ [] | false ↦ [] ])
+    by true r = ap (λ l. y ∷ l) r
+    by false r = r
+
+-- a selection of numbers in order rises
+pub those-rising : (p : ℕ → Bool) (n : ℕ) → n < 2 ^ 31 → IsRising (those p (range_with_len 0 n))
+those-rising p n few = record { few = let l = shorter p n 0 in omega (arith, l, few); rises = λ i j l h. rises p n 0 i j l h }
+  where
+    shorter : (p : ℕ → Bool) (n a : ℕ) → length (those p (range_with_len a n)) ≤ n
+    shorter p zero a = omega arith
+    shorter p (suc n) a = by (p a) (shorter p n (a + 1))
+      where
+        by : (b : Bool) → length (those p (range_with_len (a + 1) n)) ≤ n → length {A = ℕ} (elim b [ true ↦ a ∷ those p (range_with_len (a + 1) n) | false ↦ those p (range_with_len (a + 1) n) ]) ≤ suc n
+        by true h = omega (arith, h)
+        by false h = omega (arith, h)
+
+    least : (p : ℕ → Bool) (n a i : ℕ) → i < length (those p (range_with_len a n)) → a ≤ get_or (those p (range_with_len a n)) i 0
+    least p zero a i h = absurd (omega arith)
+    least p (suc n) a i h = by (p a) (least p n (a + 1)) i h
+      where
+        by : (b : Bool) → ((i : ℕ) → i < length (those p (range_with_len (a + 1) n)) → a + 1 ≤ get_or (those p (range_with_len (a + 1) n)) i 0)
+            → (i : ℕ) → i < length {A = ℕ} (elim b [ true ↦ a ∷ those p (range_with_len (a + 1) n) | false ↦ those p (range_with_len (a + 1) n) ])
+            → a ≤ get_or {A = ℕ} (elim b [ true ↦ a ∷ those p (range_with_len (a + 1) n) | false ↦ those p (range_with_len (a + 1) n) ]) i 0
+        by true r zero h = omega arith
+        by true r (suc i) h = let k = r i (omega arith) in omega (arith, k)
+        by false r i h = let k = r i h in omega (arith, k)
+
+    rises : (p : ℕ → Bool) (n a i j : ℕ) → i < j → j < length (those p (range_with_len a n)) → get_or (those p (range_with_len a n)) i 0 < get_or (those p (range_with_len a n)) j 0
+    rises p zero a i j l h = absurd (omega arith)
+    rises p (suc n) a i j l h = by (p a) (rises p n (a + 1)) (least p n (a + 1)) i j l h
+      where
+        by : (b : Bool) → ((i j : ℕ) → i < j → j < length (those p (range_with_len (a + 1) n)) → get_or (those p (range_with_len (a + 1) n)) i 0 < get_or (those p (range_with_len (a + 1) n)) j 0)
+            → ((i : ℕ) → i < length (those p (range_with_len (a + 1) n)) → a + 1 ≤ get_or (those p (range_with_len (a + 1) n)) i 0)
+            → (i j : ℕ) → i < j → j < length {A = ℕ} (elim b [ true ↦ a ∷ those p (range_with_len (a + 1) n) | false ↦ those p (range_with_len (a + 1) n) ])
+            → get_or {A = ℕ} (elim b [ true ↦ a ∷ those p (range_with_len (a + 1) n) | false ↦ those p (range_with_len (a + 1) n) ]) i 0 < get_or {A = ℕ} (elim b [ true ↦ a ∷ those p (range_with_len (a + 1) n) | false ↦ those p (range_with_len (a + 1) n) ]) j 0
+        by true r m zero zero l h = absurd (omega arith)
+        by true r m zero (suc j) l h = let k = m j (omega arith) in omega (arith, k)
+        by true r m (suc i) zero l h = absurd (omega arith)
+        by true r m (suc i) (suc j) l h = r i j (omega arith) (omega arith)
+        by false r m i j l h = r i j l h
+
+-- an axiom is a column where it has the typecode
+column-split : (only : Option Word) (s : Statement) → is_column only s ≡ (is_column None s && has_typecode only s)
+column-split only (axiomatic l k xs d) = refl
+column-split only (constants k xs d) = refl
+column-split only (variables k xs d) = refl
+column-split only (disjoint k xs d) = refl
+column-split only (floating l k xs d) = refl
+column-split only (essential l k xs d) = refl
+column-split only (provable l k xs e ps d) = refl
+column-split only (opening k) = refl
+column-split only (closing k) = refl
+
+pub columns-split : (only : Option Word) (db : List Statement) (j : ℕ) → list_any (is_column only) (statement_at db j) ≡ (list_any (is_column None) (statement_at db j) && list_any (has_typecode only) (statement_at db j))
+columns-split only db j = by (slice_get db j)
+  where
+    shut : (a b : Bool) → ((a && b) || false) ≡ ((a || false) && (b || false))
+    shut true true = refl
+    shut true false = refl
+    shut false b = refl
+
+    by : (o : Option Statement) → list_any (is_column only) (elim o [ None ↦ [] | Some s ↦ s ∷ [] ]) ≡ (list_any (is_column None) (elim o [ None ↦ [] | Some s ↦ s ∷ [] ]) && list_any (has_typecode only) (elim o [ None ↦ [] | Some s ↦ s ∷ [] ]))
+    by None = refl
+    by (Some s) = ap (λ b. b || false) (column-split only s) ∙ shut (is_column None s) (has_typecode only s)
+
+-- the columns are the axioms with the typecode
+pub columns-are : (only : Option Word) (db : List Statement) → those (λ j. list_any (has_typecode only) (statement_at db j)) (columns db None) ≡ columns db only
+columns-are only db = those-those (λ j. list_any (is_column None) (statement_at db j)) (λ j. list_any (has_typecode only) (statement_at db j)) (λ j. list_any (is_column only) (statement_at db j)) (range_with_len 0 (length db)) (columns-split only db)
+
+-- the typecode is compared by its name
+pub typecode-test : (db : List Statement) (k x : ℕ) (v w : Word) → list_any (is_column None) (statement_at db k) ≡ true → typecode_of db k ≡ Some x → slice_get (symbol_names db) x ≡ Some v
+    → bytes_eq v w ≡ list_any (has_typecode (Some w)) (statement_at db k)
+typecode-test db k x v w is e n = let f = found_at db (is_column None) k is in by f.0 f.1 f.2
+  where
+    by : (s : Statement) → slice_get db k ≡ Some s → is_column None s ≡ true → bytes_eq v w ≡ list_any (has_typecode (Some w)) (statement_at db k)
+    by (constants kw xs d) g c = absurd (true≢false (sym c))
+    by (variables kw xs d) g c = absurd (true≢false (sym c))
+    by (disjoint kw xs d) g c = absurd (true≢false (sym c))
+    by (floating l kw xs d) g c = absurd (true≢false (sym c))
+    by (essential l kw xs d) g c = absurd (true≢false (sym c))
+    by (provable l kw xs q ps d) g c = absurd (true≢false (sym c))
+    by (opening kw) g c = absurd (true≢false (sym c))
+    by (closing kw) g c = absurd (true≢false (sym c))
+    by (axiomatic l kw [] d) g c =
+        absurd (let no : None ≡ Some x = sym (code [] g) ∙ e in cc)
+      where
+        code : (xs : List Token) → slice_get db k ≡ Some (axiomatic l kw xs d) → typecode_of db k ≡ slice_get (map (λ u. place_of u (symbol_names db)) (words xs)) 0
+        code xs g = ap₂ (λ ss f. if list_any (λ s. is_labelled_kind (kind_of s)) ss then slice_get f 0 else None) (statement_at-is db k (axiomatic l kw xs d) g) (formula_at-is db k (axiomatic l kw xs d) g)
+    by (axiomatic l kw (t ∷ ts) d) g c =
+        let same : Some (place_of t.word (symbol_names db)) ≡ Some x = sym (code (t ∷ ts) g) ∙ e in
+        let place : place_of t.word (symbol_names db) ≡ x = cc in
+        let word : v ≡ t.word = place_get t.word v (symbol_names db) (ap (slice_get (symbol_names db)) place ∙ n) in
+        ap (λ u. bytes_eq u w) word ∙ sym (ap (list_any (has_typecode (Some w))) (statement_at-is db k (axiomatic l kw (t ∷ ts) d) g) ∙ shut (bytes_eq t.word w))
+      where
+        code : (xs : List Token) → slice_get db k ≡ Some (axiomatic l kw xs d) → typecode_of db k ≡ slice_get (map (λ u. place_of u (symbol_names db)) (words xs)) 0
+        code xs g = ap₂ (λ ss f. if list_any (λ s. is_labelled_kind (kind_of s)) ss then slice_get f 0 else None) (statement_at-is db k (axiomatic l kw xs d) g) (formula_at-is db k (axiomatic l kw xs d) g)
+
+        shut : (b : Bool) → (b || false) ≡ b
+        shut true = refl
+        shut false = refl

@@ -1,0 +1,91 @@
+//! The axioms that are columns.
+
+ghost use Rattle.std.specs.Prelude.{◌≡◌, ◌<◌, ◌&&◌, ℕ, List, Option, Some, None, IfOk, length, slice_index, true};
+ghost use Rattle.std.specs.Option.{option_map};
+ghost use Rattle.std.specs.List.{list_any};
+ghost use Rattle.mm_spec.specs.Scope.{statement_at};
+ghost use Rattle.mm_spec.specs.Output.{columns, has_typecode, is_column};
+ghost use Rattle.mm_rows.specs.Chains.{IsRising};
+
+use mm_stmt::Database;
+use std::alloc::{AllocError, Allocator};
+use std::marker::Model;
+
+/// The statements of the axioms that are columns, in file order.
+#[derive(Drop)]
+pub struct Columns<A: Allocator> {
+    statements: Vec<u32, A>,
+}
+
+impl<A: Allocator> Model for Columns<A> {
+    ghost Value = { List ℕ };
+
+    ghost view = { λ c. c.statements.items };
+
+    ghost invariant = { λ c. IsRising c.statements.items };
+}
+
+/// Whether an axiom has the typecode, where one is chosen.
+fn is_chosen<'a, D: Allocator>(
+    database: &Database<'a, D>,
+    only: Option<&[u8]>,
+    statement: u32,
+) -> bool
+    requires { list_any (is_column None) (statement_at database.now.statements statement) ≡ true }
+    ensures { result ≡ list_any (has_typecode (option_map (λ w. w.now) only.entry)) (statement_at database.now.statements statement) }
+{
+    match only {
+        None => true,
+        Some(name) => match database.typecode(statement) {
+            Some(typecode) => database.name(typecode) == name,
+            None => false,
+        },
+    }
+}
+
+impl<A: Allocator + Copy> Columns<A> {
+    /// The axioms of the database whose typecode is `only`, or all of them; a typecode that nothing has gives no columns.
+    /// Refused only where memory is.
+    pub fn new<'a, D: Allocator>(
+        alloc: A,
+        database: &Database<'a, D>,
+        only: Option<&[u8]>,
+    ) -> Result<Columns<A>, AllocError>
+        ensures { IfOk result (λ c. c ≡ columns database.now.statements (option_map (λ w. w.now) only.entry)) }
+    {
+        let mut statements = Vec::new(alloc);
+        let axioms = database.axioms();
+        for statement in axioms {
+            if is_chosen(database, only, *statement) {
+                statements.push(*statement)?;
+            }
+        }
+        Ok(Columns { statements })
+    }
+}
+
+impl<A: Allocator> Columns<A> {
+    /// The statements of the columns.
+    pub fn statements(&self) -> &[u32]
+        ensures statements { result.now ≡ self.now }
+        ensures rising { IsRising self.now }
+    {
+        self.statements.as_slice()
+    }
+
+    /// How many columns there are.
+    pub fn len(&self) -> u32
+        ensures len { result ≡ length self.now }
+        ensures rising { IsRising self.now }
+    {
+        self.statements.len() as u32
+    }
+
+    /// The statement of a column.
+    pub fn statement(&self, column: u32) -> u32
+        requires { column < length self.now }
+        ensures { result ≡ slice_index self.now column }
+    {
+        self.statements[column as usize]
+    }
+}
