@@ -1,6 +1,6 @@
 //! The numbers by which users know the codes.
 
-ghost use Rattle.std.specs.Prelude.{◌≡◌};
+ghost use Rattle.std.specs.Prelude.{◌≡◌, ◌<◌};
 ghost use Rattle.mm_spec.specs.Codes.{code_number};
 
 use crate::Code;
@@ -9,7 +9,8 @@ use std::fmt;
 impl Code {
     /// The number of the code, below 100.
     pub fn number(self) -> u8
-        ensures { result ≡ code_number self }
+        ensures number { result ≡ code_number self }
+        ensures small { result < 100 }
     {
         match self {
             Code::TextTooLong => 0,

@@ -1,0 +1,11 @@
+use Rattle.std.proofs.Common.{List, ℕ, ◌<◌, length, All, sym, subst}
+use Rattle.mm_report.proofs.LabelFacts.{selected-below}
+use Rattle.std.specs.List.{list_any}
+use Rattle.mm_spec.specs.Scope.{statement_at}
+use Rattle.mm_spec.specs.Citation.{is_theorem}
+use Rattle.mm_report.proofs.labels.Labels.of_theorems.Goals as goal
+
+pub invariant_of-result : goal.invariant_of-result
+invariant_of-result g c =
+    let db = c.args.database.now.statements in
+    subst (λ (l : List ℕ). All (λ k. k < length db) l) (sym c.theorems.ensures.theorems) (selected-below (λ j. list_any is_theorem (statement_at db j)) (length db))
