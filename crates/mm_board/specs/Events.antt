@@ -1,5 +1,5 @@
 -- The events of a board: what each step found in its word, what it answers, and the view that it leaves the seat with.
-use Rattle.std.specs.Prelude.{ℕ, ◌+◌, ◌-◌, ◌||◌, min, nat_lt, true, false, Option, None, Some, List, [], ◌∷◌, ◌++◌, cond}
+use Rattle.std.specs.Prelude.{ℕ, ◌+◌, ◌-◌, ◌||◌, min, nat_lt, true, false, Option, None, Some, List, [], ◌∷◌, ◌++◌, if◌then◌else◌}
 use Rattle.mm_board.specs.declared.views.View.{View}
 use Rattle.mm_board.specs.Rule.{BoardRule, IsAmong}
 
@@ -17,25 +17,29 @@ IsSettledWord v x = (claim floor : ℕ) × (views : List View) × BoardRule v.co
 
 -- what a claim answers that found c at a board of n numbers
 abbrev pub claim_answer : ℕ → ℕ → Option ℕ
-claim_answer n c = cond (nat_lt c n) (Some c) None
+claim_answer n c = if nat_lt c n then Some c else None
 
 -- a claim that found c: c is open where it is below n, and else the seat is over
 abbrev pub after_claim : View → ℕ → View
-after_claim v c = cond (nat_lt c v.count) (record v { open_number = Some c }) (record v { over = true })
+after_claim v c = if nat_lt c v.count then record v { open_number = Some c } else record v { over = true }
 
 -- the open number after a look that found f: an open number above f is closed
 abbrev pub open_after_look : Option ℕ → ℕ → Option ℕ
 open_after_look None f = None
-open_after_look (Some i) f = cond (nat_lt f i) None (Some i)
+open_after_look (Some i) f = if nat_lt f i then None else Some i
 
 -- the numbers that a look skips which found f: an open number above f
 abbrev pub skipped_by_look : Option ℕ → ℕ → List ℕ
 skipped_by_look None f = []
-skipped_by_look (Some i) f = cond (nat_lt f i) (i ∷ []) []
+skipped_by_look (Some i) f = if nat_lt f i then i ∷ [] else []
 
 -- a look that found f: an open number above f becomes skipped
 abbrev pub after_look : View → ℕ → View
-after_look v f = record v { open_number = open_after_look v.open_number f; skipped = v.skipped ++ skipped_by_look v.open_number f; seen = f }
+after_look v f = record v {
+  open_number = open_after_look v.open_number f;
+  skipped = v.skipped ++ skipped_by_look v.open_number f;
+  seen = f;
+}
 
 -- the open number, as a list
 abbrev pub open_list : Option ℕ → List ℕ
@@ -49,7 +53,11 @@ open_or_zero (Some i) = i
 
 -- a report that found f: the open number becomes reported, and the lesser of it and f is seen
 abbrev pub after_report : View → ℕ → View
-after_report v f = record v { open_number = None; reported = v.reported ++ open_list v.open_number; seen = min f (open_or_zero v.open_number) }
+after_report v f = record v {
+  open_number = None;
+  reported = v.reported ++ open_list v.open_number;
+  seen = min f (open_or_zero v.open_number);
+}
 
 -- a settle, whatever it found: the open number becomes settled
 abbrev pub after_settle : View → ℕ → View
@@ -63,9 +71,19 @@ after_split v = record v { share = v.share - 1 }
 abbrev pub new_seat_view : View → View
 new_seat_view v = record v { share = 1; open_number = None; settled = []; reported = []; skipped = [] }
 
--- a join: records and shares are added, the lesser `seen` is kept, and the seat is over where either was
+-- a join: records and shares are added, the lesser `seen` is kept, and the seat is over where either was. The second seat has
+-- nothing open
 abbrev pub after_join : View → View → View
-after_join v w = record { count = v.count; share = v.share + w.share; open_number = v.open_number; settled = v.settled ++ w.settled; reported = v.reported ++ w.reported; skipped = v.skipped ++ w.skipped; seen = min v.seen w.seen; over = v.over || w.over }
+after_join v w = record {
+  count = v.count;
+  share = v.share + w.share;
+  open_number = v.open_number;
+  settled = v.settled ++ w.settled;
+  reported = v.reported ++ w.reported;
+  skipped = v.skipped ++ w.skipped;
+  seen = min v.seen w.seen;
+  over = v.over || w.over;
+}
 
 -- what a join leaves of the second seat: nothing
 abbrev pub spent_view : View

@@ -1,5 +1,5 @@
 -- What a seat's view says, and the record in it: the open number, and the settled, reported and skipped numbers.
-use Rattle.std.specs.Prelude.{◌≡◌, ℕ, ◌+◌, ◌==◌, false, Option, None, Some, List, [], ◌∷◌, length, cond}
+use Rattle.std.specs.Prelude.{◌≡◌, ℕ, ◌+◌, ◌==◌, false, Option, None, Some, List, [], ◌∷◌, length, if◌then◌else◌}
 use Rattle.mm_board.specs.declared.views.View.{View}
 
 -- the first seat of a board of n numbers: it stands for all 64 seats, and its record is empty
@@ -9,12 +9,12 @@ first_view n = record { count = n; share = 64; open_number = None; settled = [];
 -- how often x stands in the list
 abbrev pub times_in : ℕ → List ℕ → ℕ
 times_in x [] = 0
-times_in x (y ∷ ys) = cond (y == x) 1 0 + times_in x ys
+times_in x (y ∷ ys) = (if y == x then 1 else 0) + times_in x ys
 
 -- 1 where x is the open number, and else 0
 abbrev pub times_open : ℕ → Option ℕ → ℕ
 times_open x None = 0
-times_open x (Some i) = cond (i == x) 1 0
+times_open x (Some i) = if i == x then 1 else 0
 
 -- how often x stands in the seat's record
 abbrev pub times_recorded : ℕ → View → ℕ

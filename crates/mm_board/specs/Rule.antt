@@ -1,6 +1,6 @@
 -- The rule of a board of n numbers. It holds between any two steps, of three words and of the views of all seats: the seats in
 -- use, those that were dropped, and those that were joined to another, which are spent: share 0 and an empty record.
-use Rattle.std.specs.Prelude.{◌≡◌, ℕ, ◌+◌, ◌≤◌, ◌<◌, ◌⊎◌, min, nat_lt, true, List, [], ◌∷◌, length, cond}
+use Rattle.std.specs.Prelude.{◌≡◌, ℕ, ◌+◌, ◌≤◌, ◌<◌, ◌⊎◌, min, nat_lt, true, List, [], ◌∷◌, length, if◌then◌else◌}
 use mathlib.Core.Option.{some}
 use lib.ListN.{get_elem?}
 use Rattle.mm_board.specs.declared.views.View.{View}
@@ -25,11 +25,11 @@ settled_count views = total (λ v. length v.settled) views
 
 -- 1 where x is below n, and else 0
 abbrev pub once_below : ℕ → ℕ → ℕ
-once_below x n = cond (nat_lt x n) 1 0
+once_below x n = if nat_lt x n then 1 else 0
 
 -- the share of a seat that is over, and else 0
 abbrev pub over_share : View → ℕ
-over_share v = cond v.over v.share 0
+over_share v = if v.over then v.share else 0
 
 -- n, or a number that some seat reported
 abbrev pub IsCountOrReported : ℕ → List View → ℕ → Type 0
