@@ -1,0 +1,73 @@
+-- The rule of a board of n numbers. It holds between any two steps, of three words and of the views of all seats: the seats in
+-- use, those that were dropped, and those that were joined to another, which are spent: share 0 and an empty record.
+use Rattle.std.specs.Prelude.{◌≡◌, ℕ, ◌+◌, ◌≤◌, ◌<◌, ◌⊎◌, min, nat_lt, true, List, [], ◌∷◌, length, if◌then◌else◌}
+use mathlib.Core.Option.{some}
+use lib.ListN.{get_elem?}
+use Rattle.mm_board.specs.declared.views.View.{View}
+use Rattle.mm_board.specs.Records.{times_in, times_recorded, record_length, HasEmptyRecord}
+
+-- f of each view, added up
+abbrev pub total : (View → ℕ) → List View → ℕ
+total f [] = 0
+total f (v ∷ vs) = f v + total f vs
+
+-- how often x stands as reported, over the records of all seats
+abbrev pub times_reported : List View → ℕ → ℕ
+times_reported views x = total (λ v. times_in x v.reported) views
+
+-- how often x stands as skipped, over the records of all seats
+abbrev pub times_skipped : List View → ℕ → ℕ
+times_skipped views x = total (λ v. times_in x v.skipped) views
+
+-- how many numbers stand as settled, over the records of all seats
+abbrev pub settled_count : List View → ℕ
+settled_count views = total (λ v. length v.settled) views
+
+-- 1 where x is below n, and else 0
+abbrev pub once_below : ℕ → ℕ → ℕ
+once_below x n = if nat_lt x n then 1 else 0
+
+-- the share of a seat that is over, and else 0
+abbrev pub over_share : View → ℕ
+over_share v = if v.over then v.share else 0
+
+-- n, or a number that some seat reported
+abbrev pub IsCountOrReported : ℕ → List View → ℕ → Type 0
+IsCountOrReported n views x = (x ≡ n) ⊎ (0 < times_reported views x)
+
+-- the least reported number, or n where none is
+pub record IsLeastReported (n : ℕ) (views : List View) (x : ℕ) : Type 0 where
+  pub at_most : x ≤ n
+  pub lowest : (y : ℕ) → 0 < times_reported views y → x ≤ y
+  pub is : IsCountOrReported n views x
+
+-- some seat has this view
+abbrev pub IsAmong : List View → View → Type 0
+IsAmong views v = (seat : ℕ) × (get_elem? views seat ≡ some v)
+
+-- what the rule asks of one seat, at the claim word and the floor word
+pub record SeatRule (n : ℕ) (views : List View) (claim_word floor_word : ℕ) (v : View) : Type 0 where
+  pub count : 0 < v.share → v.count ≡ n
+  -- what it has seen is at least the floor, and is n or reported
+  pub floor : 0 < v.share → floor_word ≤ v.seen
+  pub seen : 0 < v.share → IsCountOrReported n views v.seen
+  -- it is over only where the claim word is above n
+  pub over : v.over ≡ true → n < claim_word
+  pub spent : v.share ≡ 0 → HasEmptyRecord v
+
+-- the rule, of the claim word, the floor word, the settled word and the views of all seats
+pub record BoardRule (n claim_word floor_word settled_word : ℕ) (views : List View) : Type 0 where
+  -- each number below both the claim word and n stands in one record, once, and no other number in any
+  pub once : (x : ℕ) → total (times_recorded x) views ≡ once_below x (min claim_word n)
+  -- so all records have that many numbers (it follows from `once`, and spares a count of them)
+  pub lengths : total record_length views ≡ min claim_word n
+  -- the floor word is the least reported number, or n
+  pub least : IsLeastReported n views floor_word
+  -- the settled word is the number of settled numbers
+  pub settled : settled_word ≡ settled_count views
+  -- each skipped number is above the floor
+  pub skipped : (x : ℕ) → 0 < times_skipped views x → floor_word < x
+  pub seats : (seat : ℕ) (v : View) → get_elem? views seat ≡ some v → SeatRule n views claim_word floor_word v
+  -- the shares add up to 64, and the claim word is at most n plus the shares of the seats that are over: no word wraps
+  pub shares : total (λ v. v.share) views ≡ 64
+  pub bound : claim_word ≤ n + total over_share views
