@@ -1,0 +1,168 @@
+-- The citations of valid theorems are the database's.
+use Rattle.std.proofs.Common.{◌≡◌, ℕ, zero, suc, ◌+◌, ◌==◌, ◌<◌, ◌≤◌, ◌^◌, Bool, true, false, ◌&&◌, ◌||◌, ◌⊎◌, inl, inr, List, [], ◌∷◌, ◌++◌, map, length, get_or, slice_get, Option, Some, None, refl, sym, ap, ap₂, ◌∙◌, subst, arith, true≢false, eqb-true, length-append, ◌↔◌}
+use Rattle.std.specs.List.{list_any, range_with_len}
+use Rattle.std.proofs.lemmas.Bool.{or_cases, or_left, or_right, and_parts, and_from, cases_lt, eq-eqb}
+use Rattle.std.proofs.lemmas.List.Folds.{list_any-append}
+use Rattle.mm_spec.specs.Statement.{Statement, constants, variables, disjoint, floating, essential, axiomatic, provable, opening, closing}
+use Rattle.mm_spec.specs.Scope.{those, is_active, statement_at}
+use Rattle.mm_spec.specs.Derivation.{Context, Rule, hypothesis, assertion, Trees, none, more, tree, postfix, formulas, AreDerivations, Follows, is_member}
+use Rattle.mm_spec.specs.Valid.{IsPlain}
+use Rattle.mm_spec.specs.Steps.{PlacedStep}
+use Rattle.mm_spec.specs.Proof.{steps}
+use Rattle.mm_spec.specs.Citation.{context_at, rule_at, steps_at, reading_faults_at, is_theorem, is_assertion, IsProof, IsValid}
+use Rattle.mm_spec.specs.Citation as proof
+use Rattle.mm_spec.specs.Complete.{AreComplete}
+use Rattle.mm_spec.specs.Output.{theorems, is_theorem_at, AreValid}
+use Rattle.mm_spec.proofs.Finds.{is_before, those-member, member-those, found_at, inside_of}
+use Rattle.mm_spec.proofs.TheoremLaw.{proof_unique}
+use Rattle.mm_rows.specs.Chains.{Citing, citing, Cites, IsRising, IsFileOrder, theorem_at, list_at}
+use Rattle.mm_rows.specs.Shows.{Shows}
+use Rattle.mm_rows.proofs.ColumnFacts.{those-rising, those-at}
+use Rattle.mmdepend.specs.Judged.{IsCited, AreCited, AllCited}
+
+member-append : (xs ys : List ℕ) (a : ℕ) → is_member (xs ++ ys) a ≡ (is_member xs a || is_member ys a)
+member-append xs ys a = list_any-append (λ y. a == y) xs ys
+
+-- a label of a derivation stands for something
+label_stands : (c : Context) (a : ℕ) (row : Trees) → AreDerivations c row → is_member (postfix row) a ≡ true → c.rule a ≡ None → ⊥
+label_stands c a none d m n = true≢false (sym m)
+label_stands c a (more ts l f cs) d m n =
+    by (or_cases (is_member (postfix ts) a) (is_member (postfix cs ++ l ∷ []) a) (sym (member-append (postfix ts) (postfix cs ++ l ∷ []) a) ∙ m)) (λ h. label_stands c a ts d.0 h n) (λ h. label_stands c a cs d.1 h n)
+  where
+    own : (a == l) ≡ true → ⊥
+    own e = subst (λ (r : Option Rule). Follows c r (formulas cs) f) (ap c.rule (sym (eqb-true a l e)) ∙ n) d.2
+
+    by : (is_member (postfix ts) a ≡ true) ⊎ (is_member (postfix cs ++ l ∷ []) a ≡ true) → (is_member (postfix ts) a ≡ true → ⊥) → (is_member (postfix cs) a ≡ true → ⊥) → ⊥
+    by (inl h) x y = x h
+    by (inr h) x y = go (or_cases (is_member (postfix cs) a) (is_member (l ∷ []) a) (sym (member-append (postfix cs) (l ∷ []) a) ∙ h))
+      where
+        go : (is_member (postfix cs) a ≡ true) ⊎ (((a == l) || false) ≡ true) → ⊥
+        go (inl k) = y k
+        go (inr k) = last (or_cases (a == l) false k)
+          where
+            last : ((a == l) ≡ true) ⊎ (false ≡ true) → ⊥
+            last (inl e) = own e
+            last (inr e) = true≢false (sym e)
+
+module _ (db : List Statement) where
+  -- a theorem cites what is earlier
+  pub cited-earlier : (t a : ℕ) (d : Trees) → IsProof db t d → is_member (postfix d) a ≡ true → a < t
+  cited-earlier t a d p m = by (is_active db a t) refl
+    where
+      by : (b : Bool) → is_active db a t ≡ b → a < t
+      by true e = is_before db a t e
+      by false e = absurd (label_stands (context_at db t) a d p.3 m (ap (λ b. elim b [ false ↦ None | true ↦ elim (slice_get db a) [ None ↦ None | Some s ↦ proof.rule_of db a s ] ]) e))
+
+  -- what has a proof is a theorem
+  no-steps : (t : ℕ) (d : Trees) → steps_at db t ≡ [] → IsProof db t d → ⊥
+  no-steps t d e p =
+      let plain : postfix d ≡ [] = subst (λ (ss : List PlacedStep). IsPlain (context_at db t) (map (λ s. s.step) ss) (postfix d)) e p.4 in
+      let whole = ap length (sym (ap postfix p.2) ∙ plain) in
+      omega (arith, whole, length-append (postfix p.1) (p.0 ∷ []))
+
+  pub proof-theorem : (t : ℕ) (d : Trees) → IsProof db t d → is_theorem_at db t ≡ true
+  proof-theorem t d p = by (slice_get db t) refl
+    where
+      none_of : (o : Option Statement) → slice_get db t ≡ o → ◌≡◌ {A = List PlacedStep} (elim o [ Some (provable l k xs q ps f) ↦ steps db t ps | _ ↦ [] ]) [] → is_theorem_at db t ≡ true
+      none_of o e n = absurd (no-steps t d (ap (λ (o : Option Statement). elim o [ Some (provable l k xs q ps f) ↦ steps db t ps | _ ↦ [] ]) e ∙ n) p)
+
+      by : (o : Option Statement) → slice_get db t ≡ o → is_theorem_at db t ≡ true
+      by None e = none_of None e refl
+      by (Some (provable l k xs q ps f)) e = ap (λ o. list_any is_theorem (elim o [ None ↦ [] | Some s ↦ s ∷ [] ])) e
+      by (Some (constants k xs f)) e = none_of (Some (constants k xs f)) e refl
+      by (Some (variables k xs f)) e = none_of (Some (variables k xs f)) e refl
+      by (Some (disjoint k xs f)) e = none_of (Some (disjoint k xs f)) e refl
+      by (Some (floating l k xs f)) e = none_of (Some (floating l k xs f)) e refl
+      by (Some (essential l k xs f)) e = none_of (Some (essential l k xs f)) e refl
+      by (Some (axiomatic l k xs f)) e = none_of (Some (axiomatic l k xs f)) e refl
+      by (Some (opening k)) e = none_of (Some (opening k)) e refl
+      by (Some (closing k)) e = none_of (Some (closing k)) e refl
+
+-- a member stands at some place
+member-at : (xs : List ℕ) (x : ℕ) → is_member xs x ≡ true → (i : ℕ) × (i < length xs) × (get_or xs i 0 ≡ x)
+member-at [] x m = absurd (true≢false (sym m))
+member-at (y ∷ xs) x m = by (or_cases (x == y) (is_member xs x) m) (member-at xs x)
+  where
+    by : ((x == y) ≡ true) ⊎ (is_member xs x ≡ true) → (is_member xs x ≡ true → (i : ℕ) × (i < length xs) × (get_or xs i 0 ≡ x)) → (i : ℕ) × (i < suc (length xs)) × (get_or (y ∷ xs) i 0 ≡ x)
+    by (inl e) r = (0, omega arith, sym (eqb-true x y e))
+    by (inr h) r = let k = r h in (suc k.0, (let l = k.1 in omega (arith, l)), k.2)
+
+at-member : (xs : List ℕ) (i : ℕ) → i < length xs → is_member xs (get_or xs i 0) ≡ true
+at-member [] i h = absurd (omega arith)
+at-member (y ∷ xs) zero h = or_left (y == y) (is_member xs y) (eq-eqb y y refl)
+at-member (y ∷ xs) (suc i) h = or_right (get_or xs i 0 == y) (is_member xs (get_or xs i 0)) (at-member xs i (omega arith))
+
+in-range : (n a x : ℕ) → a ≤ x → x < a + n → is_member (range_with_len a n) x ≡ true
+in-range zero a x l h = absurd (omega arith)
+in-range (suc n) a x l h = by (cases_lt a x) (λ k. in-range n (a + 1) x (omega (arith, k)) (omega arith))
+  where
+    by : (a < x) ⊎ (x ≤ a) → (a < x → is_member (range_with_len (a + 1) n) x ≡ true) → is_member (range_with_len a (suc n)) x ≡ true
+    by (inl k) r = or_right (x == a) (is_member (range_with_len (a + 1) n) x) (r k)
+    by (inr k) r = or_left (x == a) (is_member (range_with_len (a + 1) n) x) (eq-eqb x a (omega arith))
+
+-- a theorem stands in the list of theorems
+theorem-place : (db : List Statement) (t : ℕ) → is_theorem_at db t ≡ true → (i : ℕ) × (i < length (theorems db)) × (get_or (theorems db) i 0 ≡ t)
+theorem-place db t h =
+    let f = found_at db is_theorem t h in
+    member-at (theorems db) t (those-member (λ j. list_any is_theorem (statement_at db j)) (range_with_len 0 (length db)) t h (in-range (length db) 0 t (omega arith) (let l = inside_of db t f.0 f.1 in omega (arith, l))))
+
+module _ (db : List Statement) (few : length db < 2 ^ 31) (complete : AreComplete db) where
+  pub theorems-rise : IsRising (theorems db)
+  theorems-rise = those-rising (λ j. list_any is_theorem (statement_at db j)) (length db) few
+
+  -- the theorems before theorem i are valid
+  pub valid-before : (i : ℕ) (lists : List (List ℕ)) → AreCited db (theorems db) i lists → i < length (theorems db) → AreValid db (get_or (theorems db) i 0)
+  valid-before i lists h l j k th =
+      let p = theorem-place db j th in
+      by p.0 p.1 p.2 (cases_lt p.0 i)
+    where
+      by : (n : ℕ) → n < length (theorems db) → get_or (theorems db) n 0 ≡ j → (n < i) ⊎ (i ≤ n) → IsValid db j
+      by n m e (inl s) = let c = h.each n s in subst (λ t. IsValid db t) e (c.read, c.derivation, c.proof)
+      by n m e (inr s) = absurd (go (cases_lt i n))
+        where
+          go : (i < n) ⊎ (n ≤ i) → ⊥
+          go (inl q) = let r = theorems-rise.rises i n q m in omega (arith, r, e, k)
+          go (inr q) = let same : get_or (theorems db) n 0 ≡ get_or (theorems db) i 0 = ap (λ x. get_or (theorems db) x 0) (let o : n ≡ i = omega (arith, s, q) in o) in omega (arith, same, e, k)
+
+  -- all theorems are valid
+  pub all-valid : (lists : List (List ℕ)) → AreCited db (theorems db) (length (theorems db)) lists → AreValid db (length db)
+  all-valid lists h j k th =
+      let p = theorem-place db j th in
+      let c = h.each p.0 p.1 in
+      subst (λ t. IsValid db t) p.2 (c.read, c.derivation, c.proof)
+
+  module _ (lists : List (List ℕ)) (h : AreCited db (theorems db) (length (theorems db)) lists) where
+    abbrev c : Citing
+    c = citing (theorems db) lists
+
+    pub file-order : IsFileOrder c
+    file-order = record {
+      rising = theorems-rise;
+      each = h.count;
+      earlier = λ i k l m.
+          let e = h.each i l in
+          let x = get_or (get_or lists i []) k 0 in
+          let both = and_parts (is_member (postfix e.derivation) x) (list_any is_assertion (statement_at db x)) (sym (e.exact x) ∙ at-member (get_or lists i []) k m) in
+          cited-earlier db (get_or (theorems db) i 0) x e.derivation e.proof both.0;
+    }
+
+    pub shows : Shows db c
+    shows = record { same = λ t a. ((to t a), (from t a)) }
+      where
+        to : (t a : ℕ) → Cites c t a → proof.Cites db t a
+        to t a x =
+            let e = h.each x.row x.within in
+            let l = get_or lists x.row [] in
+            let b = get_or l x.place 0 in
+            let both = and_parts (is_member (postfix e.derivation) b) (list_any is_assertion (statement_at db b)) (sym (e.exact b) ∙ at-member l x.place x.listed) in
+            subst (λ y. proof.Cites db t y) x.cited (subst (λ y. proof.Cites db y b) x.theorem (both.1, e.derivation, e.proof, both.0))
+
+        from : (t a : ℕ) → proof.Cites db t a → Cites c t a
+        from t a x =
+            let p = theorem-place db t (proof-theorem db t x.1 x.2) in
+            let e = h.each p.0 p.1 in
+            let l = get_or lists p.0 [] in
+            let same : e.derivation ≡ x.1 = proof_unique db complete t e.derivation x.1 (subst (λ y. IsProof db y e.derivation) p.2 e.proof) x.2 in
+            let m : is_member l a ≡ true = e.exact a ∙ and_from (is_member (postfix e.derivation) a) (list_any is_assertion (statement_at db a)) (ap (λ d. is_member (postfix d) a) same ∙ x.3) x.0 in
+            let q = member-at l a m in
+            record { row = p.0; place = q.0; within = p.1; listed = q.1; theorem = p.2; cited = q.2 }

@@ -1,0 +1,3 @@
+pub mod Judged
+pub mod Plans
+pub mod Ends
