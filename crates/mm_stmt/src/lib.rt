@@ -5,7 +5,6 @@ pub mod blocks;
 pub mod database;
 pub mod judge;
 pub mod names;
-pub mod numbers;
 pub mod parts;
 pub mod read;
 pub mod symbol;

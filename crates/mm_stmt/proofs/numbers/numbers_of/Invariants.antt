@@ -1,7 +1,0 @@
-use Rattle.std.proofs.Common.{◌≡◌, take}
-use Rattle.mm_stmt.specs.Read.{statements}
-use Rattle.mm_stmt.proofs.NumbersLaw.{Numbers}
-use Rattle.mm_stmt.proofs.numbers.numbers_of.Given as goal
-
-abbrev pub invariant-loop-outline : goal.invariant-loop-outline
-invariant-loop-outline g l = Numbers l.text l.tokens l.outlines l.outline-index l.numbers.items l.places.items
