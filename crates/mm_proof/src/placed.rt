@@ -48,7 +48,8 @@ impl<A: Allocator> Steps<A> {
     pub(crate) fn push(&mut self, at: u32, step: Step) -> Result<(), AllocError>
         ensures ok { OnOk result (self.new ≡ read self.old.theorem (self.old.steps ++ placed at (step_of step) ∷ [])) }
     {
-        self.steps.push((at, step))
+        self.steps.push((at, step))?;
+        Ok(())
     }
 
     /// The theorem, by its statement.

@@ -68,7 +68,7 @@ fn read_words<A: Allocator>(
     let text = database.text();
     for word in words {
         let label = bytes(text, *word);
-        if label == b"?" {
+        if label == b"?".as_slice() {
             return Err(ProofRefused::Fault(Fault {
                 at: word.start,
                 code: Code::IncompleteProof,
@@ -111,7 +111,7 @@ pub fn read_proof<A: Allocator>(
         }));
     }
     let first = words[0];
-    if bytes(database.text(), first) == b"(" {
+    if bytes(database.text(), first) == b"(".as_slice() {
         return Err(ProofRefused::Fault(Fault {
             at: first.start,
             code: Code::NotReadYet,
