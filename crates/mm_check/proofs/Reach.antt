@@ -1,6 +1,6 @@
 -- One step more, a step that fails, and the end.
-use Rattle.std.proofs.Common.{◌≡◌, ◌≢◌, ℕ, zero, suc, ◌+◌, ◌<◌, Bool, true, false, ◌&&◌, ◌||◌, ◌==◌, List, [], ◌∷◌, ◌++◌, length, take, drop, Some, Ok, Err, refl, sym, ap, ◌∙◌, subst, arith, append-nil, append_assoc, slice_get, length-append}
-use Rattle.std.specs.List.{AllByRecursion}
+use Rattle.std.proofs.Common.{◌≡◌, ◌≢◌, ℕ, zero, suc, ◌+◌, ◌<◌, Bool, true, false, ◌&&◌, ◌||◌, ◌==◌, List, [], ◌∷◌, ◌++◌, length, take, drop, Some, None, Option, true≢false, Ok, Err, refl, sym, ap, ◌∙◌, subst, arith, append-nil, append_assoc, slice_get, length-append}
+use Rattle.std.specs.List.{AllByRecursion, list_any}
 use Rattle.std.proofs.lemmas.List.{drop_more, take-append-drop, take_more, map-append}
 use Rattle.std.proofs.lemmas.List.Folds.{list_any-append}
 use Rattle.mm_spec.specs.Text.{fault}
@@ -10,9 +10,13 @@ use Rattle.mm_spec.specs.Derivation.{Formula, Context, Trees, none, more, tree, 
 use Rattle.mm_spec.specs.Steps.{Step, label, marked, PlacedStep, placed}
 use Rattle.mm_spec.specs.Valid.{Reason, code_of, Plain, Adds, Derives, StepFault, EndFault, end_code, IsLastTree}
 use Rattle.mm_spec.proofs.Steps.{behind_more, Grown, grows, IsGoodStep, AreGoodSteps, step_entries, top}
-use Rattle.mm_spec.specs.Statement.{Statement}
+use Rattle.mm_spec.specs.Statement.{Statement, provable}
 use Rattle.mm_spec.specs.Citation.{context_at}
 use Rattle.mm_proof.specs.Read.{step_at}
+use Rattle.std.specs.Option.{option_map}
+use Rattle.mm_spec.specs.Citation.{is_theorem}
+use Rattle.mm_spec.specs.Output.{is_theorem_at, end_of}
+use Rattle.mm_stmt.specs.Database.{last_place}
 use Rattle.mm_check.specs.Contract.{is_assertion_at, is_labelled_step}
 use Rattle.mm_check.specs.Reached.{Reached, steps_of}
 
@@ -165,3 +169,12 @@ fails_here k t steps i entries ends noted reason s at code h is at_is code_is r 
     let good' = subst (λ z. IsGoodStep (context_at k t) (length ends) z) is good in
     let made' : step_entries (context_at k t) (step_at steps i).step ends entries ≡ Err reason = ap (λ z. step_entries (context_at k t) z ends entries) (sym is) ∙ made in
     rw (at_is, code_is) (fails k t steps i entries ends noted reason h r good' made')
+
+-- the place of the end of a theorem's proof
+pub end_is : (db : List Statement) (t at : ℕ) → is_theorem_at db t ≡ true → option_map last_place (slice_get db t) ≡ Some at → end_of (slice_get db t) ≡ at
+end_is db t at h e = by (slice_get db t) h e
+  where
+    by : (o : Option Statement) → list_any is_theorem (elim o [ None ↦ [] | Some s ↦ s ∷ [] ]) ≡ true → option_map last_place o ≡ Some at → end_of o ≡ at
+    by None h e = absurd (true≢false (sym h))
+    by (Some (provable l p xs q ps d)) h e = cc
+    by (Some s) h e = absurd (true≢false (sym h))

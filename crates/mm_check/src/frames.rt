@@ -1,6 +1,6 @@
 //! What is asked of the database.
 
-ghost use Rattle.std.specs.Prelude.{◌≡◌, ◌<◌, ◌×◌, ℕ, All, length, map, nat_eq, true, false, IfSome, IfNone};
+ghost use Rattle.std.specs.Prelude.{◌≡◌, ◌<◌, ℕ, All, length, map, nat_eq, true, false, IfSome, IfNone};
 ghost use Rattle.mm_spec.specs.Derivation.{pair};
 ghost use Rattle.mm_spec.specs.Frame.{symbol_names, formula_at, mandatory_hypotheses, mandatory_pairs};
 ghost use Rattle.mm_spec.specs.Citation.{context_at};

@@ -41,7 +41,7 @@ mandatory_below db k x e = variable_below db x (member-those (is_variable db) _ 
 pub pairs_below : (db : List Statement) (k : ℕ) (ps : List (ℕ × ℕ)) → paired ps ≡ mandatory_pairs db k → All (λ (p : ℕ × ℕ). (p.0 < length (symbol_names db)) × (p.1 < length (symbol_names db))) ps
 pairs_below db k ps e = All-from_recursion (λ (p : ℕ × ℕ). (p.0 < length (symbol_names db)) × (p.1 < length (symbol_names db))) ps (back ps (subst (AllByRecursion Low) (sym e) low))
   where
-    abbrev Low : Pair → Type 0
+    Low : Pair → Type 0
     Low p = (p.low < length (symbol_names db)) × (p.high < length (symbol_names db))
 
     parts : (a b c d : Bool) → (a && b && c && d) ≡ true → (b ≡ true) × (c ≡ true)
@@ -51,7 +51,7 @@ pairs_below db k ps e = All-from_recursion (λ (p : ℕ × ℕ). (p.0 < length (
     parts true false false d h = absurd (cc)
     parts false b c d h = absurd (cc)
 
-    abbrev in_order : Pair → Bool
+    in_order : Pair → Bool
     in_order p = nat_lt p.low p.high && is_member (mandatory_variables db k) p.low && is_member (mandatory_variables db k) p.high && disjoint_at db k p.low p.high
 
     low : AllByRecursion Low (mandatory_pairs db k)
