@@ -1,13 +1,12 @@
 -- The numbers of a frame are those of the database.
-use Rattle.std.proofs.Common.{◌≡◌, ◌∙◌, ℕ, zero, suc, ◌<◌, ◌≤◌, Bool, true, false, ◌&&◌, List, [], ◌∷◌, length, Option, None, Some, slice_get, flat_map, nat_lt, refl, sym, ap, subst, All, arith, true≢false}
-use Rattle.std.specs.List.{AllByRecursion, range_with_len, list_any}
-use Rattle.std.proofs.lemmas.Bool.{and_parts}
+use Rattle.std.proofs.Common.{◌≡◌, ℕ, zero, suc, ◌<◌, ◌≤◌, Bool, true, false, ◌&&◌, List, [], ◌∷◌, length, Option, None, Some, slice_get, flat_map, nat_lt, refl, sym, subst, All, arith, true≢false}
+use Rattle.std.specs.List.{AllByRecursion, range_with_len}
 use Rattle.std.proofs.lemmas.List.Elements.{All-from_recursion}
 use Rattle.mm_spec.specs.Text.{Word, is_in}
 use Rattle.mm_spec.specs.Statement.{Statement}
 use Rattle.mm_spec.specs.Scope.{is_active, those, variables_of}
 use Rattle.mm_spec.specs.Derivation.{Pair, is_member}
-use Rattle.mm_spec.specs.Frame.{symbol_names, is_variable, mandatory_variables, mandatory_hypotheses, mandatory_pairs, disjoint_at, pairs_of, formula_at, active_of, is_essential}
+use Rattle.mm_spec.specs.Frame.{symbol_names, is_variable, mandatory_variables, mandatory_hypotheses, mandatory_pairs, disjoint_at, pairs_of}
 use Rattle.mm_spec.proofs.Finds.{is_before, each_those, each_any, member-those}
 use Rattle.mm_check.specs.Arena.{paired}
 

@@ -1,7 +1,7 @@
 -- The words of a proof rise, since those of the text do.
-use Rattle.std.proofs.Common.{◌≡◌, ◌∙◌, ℕ, zero, suc, ◌<◌, ◌≤◌, Bool, List, [], ◌∷◌, ◌++◌, length, map, flat_map, get_or, Option, None, Some, slice_get, codes, refl, sym, ap, subst, arith, append_assoc, length-append}
+use Rattle.std.proofs.Common.{◌≡◌, ◌∙◌, ℕ, zero, suc, ◌<◌, ◌≤◌, List, [], ◌∷◌, ◌++◌, length, map, flat_map, get_or, Option, Some, slice_get, codes, sym, ap, subst, arith, append_assoc, length-append}
 use Rattle.std.specs.List.{AllPairs, All}
-use Rattle.std.proofs.lemmas.List.{length-map, get_or_append_left}
+use Rattle.std.proofs.lemmas.List.{get_or_append_left}
 use Rattle.std.proofs.lemmas.List.Elements.{All-nil, All-cons, All-head, All-tail}
 use Rattle.std.proofs.lemmas.List.Kept.{AllPairs-cons}
 use Rattle.mm_spec.specs.Text.{Token, token}
@@ -62,7 +62,7 @@ proof_rising text db fault r k l p xs e ps d is =
     let a = spelled_in r.row k s (subst (λ z. slice_get z k ≡ Some s) (sym r.splits) (get_front db r.rest k s is)) in
     let ts = map (λ w. token w.start (bytes_of text w)) (lexed.tokens_of text) in
     let whole : ts ≡ a.before ++ (spelled s ++ (a.behind ++ r.is_row.rest)) =
-        r.is_row.splits ∙ ap (λ z. z ++ r.is_row.rest) a.is ∙ append_assoc a.before (spelled s ++ a.behind) r.is_row.rest ∙ ap (λ z. a.before ++ z) (append_assoc (spelled s) a.behind r.is_row.rest) in
+    r.is_row.splits ∙ ap (λ z. z ++ r.is_row.rest) a.is ∙ append_assoc a.before (spelled s ++ a.behind) r.is_row.rest ∙ ap (λ z. a.before ++ z) (append_assoc (spelled s) a.behind r.is_row.rest) in
     let all : AllPairs Earlier ts = begins_behind text (lexed.tokens_of text) (tokens_are_words text) (tokens_rising text) in
     pairs_in ps (spelled s) inner (pairs_in (spelled s) ts (record { before = a.before; behind = a.behind ++ r.is_row.rest; is = whole }) all)
   where

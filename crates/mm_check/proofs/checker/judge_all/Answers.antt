@@ -41,8 +41,11 @@ returns-clause-refused g c =
     let r = c.in_ok-run.ensures.reached in
     let end = end_is db t at c.requires.is_theorem c.end_at.ensures in
     let faulty : (code : Code) → end_code (context_at db t) c.run.new.machine.entries f code → ProofFault db t (end_of (slice_get db t)) (fault at code) = λ code h.
-    inr (c.requires.sound, inr (subst (λ ps. EndFault (context_at db t) ps f (end_of (slice_get db t)) (fault at code)) c.requires.steps
-    (subst (λ n. EndFault (context_at db t) c.args.steps.now.steps f n (fault at code)) (sym end) (ends_with db t c.args.steps.now.steps _ _ _ r at code f h)))) in
+    inr (
+      c.requires.sound,
+      inr (subst (λ ps. EndFault (context_at db t) ps f (end_of (slice_get db t)) (fault at code)) c.requires.steps
+          (subst (λ n. EndFault (context_at db t) c.args.steps.now.steps f n (fault at code)) (sym end) (ends_with db t c.args.steps.now.steps _ _ _ r at code f h))),
+    ) in
     elim c.match-only.branch [
       | in-None w ↦ rw w.code-is (faulty NotOneEntry (not_one (context_at db t) _ f w.in-None.ensures.none))
       | in-Some+else-eq w ↦ rw w.code-is (faulty OtherFormula (rw w.in-Some.ensures.some ((λ h. true≢false (sym ((slice_eq-Decides Decides-eqb _ _ _ w.eq.ensures).1 (h ∙ sym w.formula.ensures.formula)) ∙ w.if-eq.false)), refl)))

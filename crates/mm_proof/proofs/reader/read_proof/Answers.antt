@@ -1,7 +1,3 @@
-use Rattle.std.proofs.Common.{◌≡◌, ◌∷◌, drop, List, ap, ap₂, sym, ◌∙◌, subst, true, false, get_or, bytes_eq, codes, slice_range}
-use Rattle.mm_spec.specs.Text.{Token}
-use Rattle.mm_spec.specs.declared.Word.{Word}
-use Rattle.mm_stmt.specs.Parts.{token_of, tokens_of}
 use Rattle.mm_proof.proofs.RisingLaw.{proof_rising}
 use Rattle.mm_proof.proofs.ReadLaw.{theorem_is}
 use Rattle.mm_proof.proofs.reader.read_proof.Goals as goal
