@@ -1,17 +1,24 @@
 -- One step more, a step that fails, and the end.
-use Rattle.std.proofs.Common.{◌≡◌, ◌≢◌, ℕ, zero, suc, ◌+◌, ◌<◌, Bool, true, false, ◌&&◌, ◌||◌, ◌==◌, List, [], ◌∷◌, ◌++◌, length, take, drop, Some, Ok, Err, refl, sym, ap, ◌∙◌, subst, arith, append-nil, append_assoc, slice_get, length-append}
-use Rattle.std.specs.List.{AllByRecursion}
+use Rattle.std.proofs.Common.{◌≡◌, ◌≢◌, ℕ, zero, suc, ◌+◌, ◌<◌, Bool, true, false, ◌&&◌, ◌||◌, ◌==◌, List, [], ◌∷◌, ◌++◌, length, take, drop, Some, None, Option, true≢false, Ok, Err, refl, sym, ap, ◌∙◌, subst, arith, append-nil, append_assoc, slice_get, length-append}
+use Rattle.std.specs.List.{AllByRecursion, list_any}
 use Rattle.std.proofs.lemmas.List.{drop_more, take-append-drop, take_more, map-append}
 use Rattle.std.proofs.lemmas.List.Folds.{list_any-append}
 use Rattle.mm_spec.specs.Text.{fault}
+use Rattle.mm_spec.specs.declared.Code.{Code}
+use Rattle.mm_spec.specs.declared.Code.TheVariants.{NotOneEntry}
 use Rattle.mm_spec.specs.Derivation.{Formula, Context, Trees, none, more, tree, formulas, postfix, AreDerivations, is_member}
 use Rattle.mm_spec.specs.Steps.{Step, label, marked, PlacedStep, placed}
 use Rattle.mm_spec.specs.Valid.{Reason, code_of, Plain, Adds, Derives, StepFault, EndFault, end_code, IsLastTree}
 use Rattle.mm_spec.proofs.Steps.{behind_more, Grown, grows, IsGoodStep, AreGoodSteps, step_entries, top}
-use Rattle.mm_check.specs.Known.{Known, context_at}
-use Rattle.mm_check.specs.Read.{steps_of, step_at}
-use Rattle.mm_check.specs.Contract.{is_assertion, is_labelled_step}
-use Rattle.mm_check.specs.Reached.{Reached}
+use Rattle.mm_spec.specs.Statement.{Statement, provable}
+use Rattle.mm_spec.specs.Citation.{context_at}
+use Rattle.mm_proof.specs.Read.{step_at}
+use Rattle.std.specs.Option.{option_map}
+use Rattle.mm_spec.specs.Citation.{is_theorem}
+use Rattle.mm_spec.specs.Output.{is_theorem_at, end_of}
+use Rattle.mm_stmt.specs.Database.{last_place}
+use Rattle.mm_check.specs.Contract.{is_assertion_at, is_labelled_step}
+use Rattle.mm_check.specs.Reached.{Reached, steps_of}
 
 or_false : (a : Bool) → (a || false) ≡ a
 or_false true = refl
@@ -66,7 +73,7 @@ module _ (c : Context) where
       ∙ or_weak (is_member old a) (is_member h.1 a) (λ m. within_at lists old h.0 j w h.2 a (subst (λ z. is_member z a ≡ true) h.3.2 (last_member h.3.0 h.1 a h.3.3 m)))
 
 -- one step more
-pub next : (k : Known) (t : ℕ) (done : List Step) (entries ends : List Formula) (noted : List ℕ) (s : Step) (out : List Formula) (then : List ℕ) → Reached k t done entries ends noted → IsGoodStep (context_at k t) (length ends) s → step_entries (context_at k t) s ends entries ≡ Ok out → ((a : ℕ) → is_member then a ≡ (is_member noted a || (is_labelled_step s a && is_assertion k a))) → Reached k t (done ++ s ∷ []) out (ends ++ top out ∷ []) then
+pub next : (k : List Statement) (t : ℕ) (done : List Step) (entries ends : List Formula) (noted : List ℕ) (s : Step) (out : List Formula) (then : List ℕ) → Reached k t done entries ends noted → IsGoodStep (context_at k t) (length ends) s → step_entries (context_at k t) s ends entries ≡ Ok out → ((a : ℕ) → is_member then a ≡ (is_member noted a || (is_labelled_step s a && is_assertion_at k a))) → Reached k t (done ++ s ∷ []) out (ends ++ top out ∷ []) then
 next k t done entries ends noted s out then r good made notes =
     let c = context_at k t in
     let same : step_entries c s ends (formulas r.row) ≡ Ok out = ap (step_entries c s ends) r.entries_are ∙ made in
@@ -80,11 +87,11 @@ next k t done entries ends noted s out then r good made notes =
       behind = behind_more c r.lists ends (postfix g.0) (top out) r.behind (g.0, g.1, refl, g.4);
       plain = λ rest all h. subst (λ z. Plain c [] [] z all) (sym (append_assoc done (s ∷ []) rest)) (r.plain (s ∷ rest) all (postfix g.0, g.2, h));
       within = within_more r.lists (postfix r.row) (postfix g.0) r.within (λ a m. members a ∙ or_kept _ _ m);
-      noted_are = λ a. notes a ∙ ap (λ b. b || (is_labelled_step s a && is_assertion k a)) (r.noted_are a) ∙ spread (is_member (postfix r.row) a) (is_labelled_step s a) (is_assertion k a) ∙ ap (λ b. b && is_assertion k a) (sym (members a));
+      noted_are = λ a. notes a ∙ ap (λ b. b || (is_labelled_step s a && is_assertion_at k a)) (r.noted_are a) ∙ spread (is_member (postfix r.row) a) (is_labelled_step s a) (is_assertion_at k a) ∙ ap (λ b. b && is_assertion_at k a) (sym (members a));
     }
 
 -- a step that fails
-pub fails : (k : Known) (t : ℕ) (steps : List PlacedStep) (i : ℕ) (entries ends : List Formula) (noted : List ℕ) (reason : Reason) → i < length steps → Reached k t (steps_of (take i steps)) entries ends noted → IsGoodStep (context_at k t) (length ends) (step_at steps i).step → step_entries (context_at k t) (step_at steps i).step ends entries ≡ Err reason → StepFault (context_at k t) steps (fault (step_at steps i).at (code_of reason))
+pub fails : (k : List Statement) (t : ℕ) (steps : List PlacedStep) (i : ℕ) (entries ends : List Formula) (noted : List ℕ) (reason : Reason) → i < length steps → Reached k t (steps_of (take i steps)) entries ends noted → IsGoodStep (context_at k t) (length ends) (step_at steps i).step → step_entries (context_at k t) (step_at steps i).step ends entries ≡ Err reason → StepFault (context_at k t) steps (fault (step_at steps i).at (code_of reason))
 fails k t steps i entries ends noted reason h r good made =
     let c = context_at k t in
     let s = step_at steps i in
@@ -103,7 +110,7 @@ fails k t steps i entries ends noted reason h r good made =
       is = refl;
     }
 
-module _ (k : Known) (t : ℕ) (steps : List PlacedStep) (entries ends : List Formula) (noted : List ℕ) (r : Reached k t (steps_of steps) entries ends noted) where
+module _ (k : List Statement) (t : ℕ) (steps : List PlacedStep) (entries ends : List Formula) (noted : List ℕ) (r : Reached k t (steps_of steps) entries ends noted) where
   plain_all : Plain (context_at k t) [] [] (steps_of steps) (postfix r.row)
   plain_all = subst (λ z. Plain (context_at k t) [] [] z (postfix r.row)) (append-nil (steps_of steps)) (r.plain [] (postfix r.row) refl)
 
@@ -118,7 +125,7 @@ module _ (k : Known) (t : ℕ) (steps : List PlacedStep) (entries ends : List Fo
       one (more none l g cs) d e p = (l, cs, ap (λ z. tree l z cs) (ap top e), d, p)
       one (more (more ts m h bs) l g cs) d e p = absurd (two (formulas ts) h g e)
 
-  pub ends_with : (end code : ℕ) (formula : Formula) → end_code (context_at k t) entries formula code → EndFault (context_at k t) steps formula end (fault end code)
+  pub ends_with : (end : ℕ) (code : Code) (formula : Formula) → end_code (context_at k t) entries formula code → EndFault (context_at k t) steps formula end (fault end code)
   ends_with end code formula h = record {
     row = r.row;
     derivations = r.derivations;
@@ -129,7 +136,7 @@ module _ (k : Known) (t : ℕ) (steps : List PlacedStep) (entries ends : List Fo
   }
 
 -- not one entry
-pub not_one : (c : Context) (entries : List Formula) (formula : Formula) → length entries ≢ 1 → end_code c entries formula 37
+pub not_one : (c : Context) (entries : List Formula) (formula : Formula) → length entries ≢ 1 → end_code c entries formula NotOneEntry
 not_one c [] formula h = refl
 not_one c (g ∷ []) formula h = absurd (h refl)
 not_one c (g ∷ i ∷ gs) formula h = refl
@@ -147,18 +154,27 @@ pub take_step : (steps : List PlacedStep) (i : ℕ) → i < length steps → ste
 take_step steps i h = ap steps_of (take_more steps i (placed 0 (label 0)) h) ∙ map-append (λ s. s.step) (take i steps) (step_at steps i ∷ [])
 
 -- no step so far
-pub starts : (k : Known) (t : ℕ) (entries ends : List Formula) (noted : List ℕ) → entries ≡ [] → ends ≡ [] → noted ≡ [] → Reached k t [] entries ends noted
+pub starts : (k : List Statement) (t : ℕ) (entries ends : List Formula) (noted : List ℕ) → entries ≡ [] → ends ≡ [] → noted ≡ [] → Reached k t [] entries ends noted
 starts k t entries ends noted e f n = rw (e, f, n) (record { row = none; derivations = tt; entries_are = refl; lists = []; behind = tt; plain = λ rest all h. h; within = tt; noted_are = λ a. refl })
 
 -- the same by the values that the code has
-pub next_here : (k : Known) (t : ℕ) (steps : List PlacedStep) (i : ℕ) (entries ends : List Formula) (noted : List ℕ) (s : Step) (out outer : List Formula) (then : List ℕ) → i < length steps → s ≡ (step_at steps i).step → Reached k t (steps_of (take i steps)) entries ends noted → IsGoodStep (context_at k t) (length ends) s → step_entries (context_at k t) s ends entries ≡ Ok out → outer ≡ ends ++ top out ∷ [] → ((a : ℕ) → is_member then a ≡ (is_member noted a || (is_labelled_step s a && is_assertion k a))) → Reached k t (steps_of (take (i + 1) steps)) out outer then
+pub next_here : (k : List Statement) (t : ℕ) (steps : List PlacedStep) (i : ℕ) (entries ends : List Formula) (noted : List ℕ) (s : Step) (out outer : List Formula) (then : List ℕ) → i < length steps → s ≡ (step_at steps i).step → Reached k t (steps_of (take i steps)) entries ends noted → IsGoodStep (context_at k t) (length ends) s → step_entries (context_at k t) s ends entries ≡ Ok out → outer ≡ ends ++ top out ∷ [] → ((a : ℕ) → is_member then a ≡ (is_member noted a || (is_labelled_step s a && is_assertion_at k a))) → Reached k t (steps_of (take (i + 1) steps)) out outer then
 next_here k t steps i entries ends noted s out outer then h is r good made grown notes =
     let n = next k t (steps_of (take i steps)) entries ends noted s out then r good made notes in
     let e : steps_of (take (i + 1) steps) ≡ steps_of (take i steps) ++ s ∷ [] = take_step steps i h ∙ ap (λ z. steps_of (take i steps) ++ z ∷ []) (sym is) in
     rw (e, grown) n
 
-pub fails_here : (k : Known) (t : ℕ) (steps : List PlacedStep) (i : ℕ) (entries ends : List Formula) (noted : List ℕ) (reason : Reason) (s : Step) (at code : ℕ) → i < length steps → s ≡ (step_at steps i).step → at ≡ (step_at steps i).at → code ≡ code_of reason → Reached k t (steps_of (take i steps)) entries ends noted → IsGoodStep (context_at k t) (length ends) s → step_entries (context_at k t) s ends entries ≡ Err reason → StepFault (context_at k t) steps (fault at code)
+pub fails_here : (k : List Statement) (t : ℕ) (steps : List PlacedStep) (i : ℕ) (entries ends : List Formula) (noted : List ℕ) (reason : Reason) (s : Step) (at : ℕ) (code : Code) → i < length steps → s ≡ (step_at steps i).step → at ≡ (step_at steps i).at → code ≡ code_of reason → Reached k t (steps_of (take i steps)) entries ends noted → IsGoodStep (context_at k t) (length ends) s → step_entries (context_at k t) s ends entries ≡ Err reason → StepFault (context_at k t) steps (fault at code)
 fails_here k t steps i entries ends noted reason s at code h is at_is code_is r good made =
     let good' = subst (λ z. IsGoodStep (context_at k t) (length ends) z) is good in
     let made' : step_entries (context_at k t) (step_at steps i).step ends entries ≡ Err reason = ap (λ z. step_entries (context_at k t) z ends entries) (sym is) ∙ made in
     rw (at_is, code_is) (fails k t steps i entries ends noted reason h r good' made')
+
+-- the place of the end of a theorem's proof
+pub end_is : (db : List Statement) (t at : ℕ) → is_theorem_at db t ≡ true → option_map last_place (slice_get db t) ≡ Some at → end_of (slice_get db t) ≡ at
+end_is db t at h e = by (slice_get db t) h e
+  where
+    by : (o : Option Statement) → list_any is_theorem (elim o [ None ↦ [] | Some s ↦ s ∷ [] ]) ≡ true → option_map last_place o ≡ Some at → end_of o ≡ at
+    by None h e = absurd (true≢false (sym h))
+    by (Some (provable l p xs q ps d)) h e = cc
+    by (Some s) h e = absurd (true≢false (sym h))

@@ -1,16 +1,16 @@
 //! The database of a text: its statements, and what is asked of them.
 
-ghost use Rattle.std.specs.Prelude.{◌≡◌, ◌<◌, ◌≤◌, ◌^◌, ◌+◌, ℕ, Bool, List, Option, Some, None, IfSome, IfNone, IsTrue, All, length, map, slice_get, slice_index, get_or, vec_len, true, false};
+ghost use Rattle.std.specs.Prelude.{◌≡◌, ◌<◌, ◌≤◌, ◌^◌, ◌+◌, ◌&&◌, ℕ, Bool, List, Option, Some, None, IfSome, IfNone, IsTrue, All, length, map, slice_get, slice_index, get_or, vec_len, true, false};
 ghost use Rattle.std.specs.Option.{option_map, option_copied, option_and_then};
 ghost use Rattle.std.specs.List.{list_any};
 ghost use Rattle.mm_spec.specs.Statement.{label_of, proof_of};
 ghost use Rattle.mm_spec.specs.Scope.{is_active, statement_at};
-ghost use Rattle.mm_spec.specs.Derivation.{pair};
-ghost use Rattle.mm_spec.specs.Frame.{symbol_names, is_variable, formula_at, mandatory_hypotheses, mandatory_pairs, disjoint_at};
+ghost use Rattle.mm_spec.specs.Derivation.{pair, is_member};
+ghost use Rattle.mm_spec.specs.Frame.{symbol_names, is_variable, formula_at, mandatory_hypotheses, mandatory_pairs, disjoint_at, is_disjoint};
 ghost use Rattle.mm_spec.specs.NormalProof.{is_labelled};
 ghost use Rattle.mm_spec.specs.Citation.{is_assertion};
 ghost use Rattle.mm_spec.specs.Output.{IsRead, lexed_of, theorems, columns};
-ghost use Rattle.mm_stmt.specs.Parts.{tokens_of};
+ghost use Rattle.mm_stmt.specs.Parts.{tokens_of, AreWords};
 ghost use Rattle.mm_stmt.specs.Read.{active_kind};
 ghost use Rattle.mm_stmt.specs.Database.{kind_of, last_place, typecode_of, is_labelled_kind};
 
@@ -200,10 +200,48 @@ impl<'a, A: Allocator> Database<'a, A> {
         &self.frames[assertion as usize]
     }
 
+    /// Whether some `$d` that is active at a statement, or at the end, which is `len()`, has both symbols; never where
+    /// they are one.
+    pub fn disjoint_at(&self, statement: u32, x: Sym, y: Sym) -> bool
+        requires { statement ≤ length self.now.statements }
+        ensures { result ≡ disjoint_at self.now.statements statement x y }
+    {
+        if x == y {
+            return false;
+        }
+        for j in 0..statement {
+            if self.is_disjoint_at(j, statement) && self.has_both(j, x, y) {
+                return true;
+            }
+        }
+        false
+    }
+
+    /// Whether a statement is a `$d` that is active at another, or at the end.
+    fn is_disjoint_at(&self, statement: u32, at: u32) -> bool
+        requires statement { statement < length self.now.statements }
+        requires at { at ≤ length self.now.statements }
+        ensures { result ≡ (is_active self.now.statements statement at && list_any is_disjoint (statement_at self.now.statements statement)) }
+    {
+        let is_active = self.active_at(statement, at);
+        let kind = self.kind(statement);
+        is_active && kind == Kind::Disjoint
+    }
+
+    /// Whether the statement's formula has both symbols.
+    fn has_both(&self, statement: u32, x: Sym, y: Sym) -> bool
+        requires { statement < length self.now.statements }
+        ensures { result ≡ (is_member (formula_at self.now.statements statement) x && is_member (formula_at self.now.statements statement) y) }
+    {
+        let formula = self.formula(statement);
+        formula.contains(&x) && formula.contains(&y)
+    }
+
     /// The words of a theorem's proof, those behind its `$=`; none where the statement is no `$p`.
     pub fn proof_words(&self, statement: u32) -> &[Word]
         requires { statement < length self.now.statements }
-        ensures { option_map proof_of (slice_get self.now.statements statement) ≡ Some (tokens_of self.now.text result.now) }
+        ensures words { option_map proof_of (slice_get self.now.statements statement) ≡ Some (tokens_of self.now.text result.now) }
+        ensures within { AreWords self.now.text result.now }
     {
         let outline = self.outlines[statement as usize];
         match outline.kind {

@@ -1,0 +1,52 @@
+use Rattle.std.proofs.Common.{◌≡◌, slice_get, ap, sym, ◌∙◌, subst, refl, inr, ◌∷◌, [], true≢false}
+use Rattle.std.proofs.lemmas.Slice.Eq.{slice_eq-Decides}
+use Rattle.std.proofs.lemmas.Bool.Decides.{Decides-eqb}
+use Rattle.std.specs.List.Sorted.{IsStrictlyIncreasing}
+use Rattle.mm_spec.specs.Text.{fault}
+use Rattle.mm_spec.specs.Derivation.{is_member}
+use Rattle.mm_spec.specs.Output.{ProofFault, end_of}
+use Rattle.mm_spec.specs.declared.Code.{Code}
+use Rattle.mm_spec.specs.Valid.{Derives, EndFault, end_code}
+use Rattle.mm_spec.specs.Frame.{formula_at}
+use Rattle.mm_spec.specs.Citation.{context_at}
+use Rattle.mm_spec.specs.declared.Code.TheVariants.{NotOneEntry, OtherFormula}
+use Rattle.mm_check.specs.Reached.{steps_of}
+use Rattle.mm_check.proofs.Reach.{derives, ends_with, not_one, end_is}
+use Rattle.mm_check.proofs.checker.judge_all.Goals.{in-None, in-Some+else-eq}
+use Rattle.mm_check.proofs.checker.judge_all.Goals as goal
+
+pub returns-in-Ok-clause-valid : goal.returns-in-Ok-clause-valid
+returns-in-Ok-clause-valid g c =
+    let db = c.args.db.now.statements in
+    let t = c.args.theorem in
+    let r = c.in_ok-run.ensures.reached in
+    let is : c.in-Some.formula.now ≡ formula_at db t = (slice_eq-Decides Decides-eqb _ _ _ c.eq.ensures).0 c.if-eq.true ∙ c.formula.ensures.formula in
+    let one : c.run.new.machine.entries ≡ formula_at db t ∷ [] = c.in-Some.ensures.some ∙ ap (λ f. f ∷ []) is in
+    let items : c.in-Ok.cites.items ≡ c.tidy.new.noted.items = c.in-Ok.ensures.items_if_clones_equal (λ x y e. e) ∙ c.deref.ensures.value in (
+      refl,
+      record {
+        derivation = r.row;
+        proof = subst (λ ps. Derives (context_at db t) (steps_of ps) (formula_at db t) r.row) c.requires.steps (derives db t c.args.steps.now.steps _ _ _ r (formula_at db t) one);
+        rising = subst IsStrictlyIncreasing (sym items) c.tidy.ensures.rising;
+        exact = λ a. ap (λ l. is_member l a) items ∙ c.tidy.ensures.same a ∙ r.noted_are a;
+      },
+    )
+
+pub returns-clause-refused : goal.returns-clause-refused
+returns-clause-refused g c =
+    let db = c.args.db.now.statements in
+    let t = c.args.theorem in
+    let f = formula_at db t in
+    let at = c.end_at.result in
+    let r = c.in_ok-run.ensures.reached in
+    let end = end_is db t at c.requires.is_theorem c.end_at.ensures in
+    let faulty : (code : Code) → end_code (context_at db t) c.run.new.machine.entries f code → ProofFault db t (end_of (slice_get db t)) (fault at code) = λ code h.
+    inr (
+      c.requires.sound,
+      inr (subst (λ ps. EndFault (context_at db t) ps f (end_of (slice_get db t)) (fault at code)) c.requires.steps
+          (subst (λ n. EndFault (context_at db t) c.args.steps.now.steps f n (fault at code)) (sym end) (ends_with db t c.args.steps.now.steps _ _ _ r at code f h))),
+    ) in
+    elim c.match-only.branch [
+      | in-None w ↦ rw w.code-is (faulty NotOneEntry (not_one (context_at db t) _ f w.in-None.ensures.none))
+      | in-Some+else-eq w ↦ rw w.code-is (faulty OtherFormula (rw w.in-Some.ensures.some ((λ h. true≢false (sym ((slice_eq-Decides Decides-eqb _ _ _ w.eq.ensures).1 (h ∙ sym w.formula.ensures.formula)) ∙ w.if-eq.false)), refl)))
+    ]

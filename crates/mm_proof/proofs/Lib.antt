@@ -1,0 +1,4 @@
+pub mod UsableLaw
+pub mod LeastLaw
+pub mod RisingLaw
+pub mod ReadLaw

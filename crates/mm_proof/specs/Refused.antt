@@ -1,0 +1,24 @@
+-- What the answers of the reader mean.
+use Rattle.std.specs.Prelude.{◌≡◌, ℕ, true, false, List, [], ◌∷◌, Option, Some, None, bytes_eq, codes}
+use Rattle.mm_spec.specs.Text.{Token, fault}
+use Rattle.mm_spec.specs.declared.Fault.{Fault}
+use Rattle.mm_spec.specs.Statement.{Statement}
+use Rattle.mm_spec.specs.Lawful.{least}
+use Rattle.mm_spec.specs.NormalProof.{label_faults}
+use Rattle.mm_spec.specs.declared.Code.TheVariants.{IncompleteProof}
+use Rattle.mm_proof.specs.declared.reader.ProofRefused.{ProofRefused}
+use Rattle.mm_proof.specs.declared.reader.ProofRefused.TheVariants.{Fault as Faulty, Memory}
+
+-- a fault is the first of these
+abbrev pub Refuses : List Fault → ProofRefused → Type 0
+Refuses faults (Faulty f) = least faults ≡ Some f
+Refuses faults Memory = Unit {0}
+
+-- the number that was found, if one was
+abbrev pub found : Option ℕ → List ℕ
+found None = []
+found (Some j) = j ∷ []
+
+-- the fault of a word of a normal proof
+abbrev pub word_faults : List Statement → ℕ → Token → List Fault
+word_faults db k u = elim (bytes_eq u.word (codes "?")) [ true ↦ fault u.at IncompleteProof ∷ [] | false ↦ label_faults db k u ]
