@@ -1,14 +1,17 @@
 //! The statements of a Metamath text.
 #![tactic(auto)]
 
+pub mod active;
 pub mod blocks;
 pub mod database;
 pub mod judge;
+
 pub mod names;
 pub mod parts;
 pub mod read;
 pub mod symbol;
 pub mod symbols;
+pub mod tables;
 pub mod words;
 
 pub use mm_spec::{Code, Fault, Word};
