@@ -17,27 +17,27 @@ use Rattle.mm_stmt.specs.Blocks.{never}
 use Rattle.mm_stmt.specs.Latest.{is_on, IsCandidate, IsLatest, IsWalked}
 use Rattle.mm_stmt.proofs.Nested.{same_tests, stays_earlier, stays_nested}
 
-and_left : (a b : Bool) → (a && b) ≡ true → a ≡ true
+pub and_left : (a b : Bool) → (a && b) ≡ true → a ≡ true
 and_left true b e = refl
 and_left false b e = e
 
-and_right : (a b : Bool) → (a && b) ≡ true → b ≡ true
+pub and_right : (a b : Bool) → (a && b) ≡ true → b ≡ true
 and_right true b e = e
 and_right false b e = absurd (true≢false (sym e))
 
-not_true : (a : Bool) → (a ≡ true → ⊥) → a ≡ false
+pub not_true : (a : Bool) → (a ≡ true → ⊥) → a ≡ false
 not_true true f = absurd (f refl)
 not_true false f = refl
 
-or_true : (b : Bool) → (b || true) ≡ true
+pub or_true : (b : Bool) → (b || true) ≡ true
 or_true true = refl
 or_true false = refl
 
-or_false : (b : Bool) → (b || false) ≡ b
+pub or_false : (b : Bool) → (b || false) ≡ b
 or_false true = refl
 or_false false = refl
 
-and_false : (b : Bool) → (b && false) ≡ false
+pub and_false : (b : Bool) → (b && false) ≡ false
 and_false true = refl
 and_false false = refl
 
@@ -176,7 +176,7 @@ module _ (test : Statement → Bool) (db : List Statement) where
   abbrev pub IsLocalTest : Type 0
   IsLocalTest = (s : Statement) (b : Bool) → test s ≡ true → is_active_kind s b ≡ b
 
-  active_member : IsLocalTest → (k i : ℕ) → is_member (active_of test db k) i ≡ (nat_lt i k && is_on test db i k)
+  pub active_member : IsLocalTest → (k i : ℕ) → is_member (active_of test db k) i ≡ (nat_lt i k && is_on test db i k)
   active_member local k i =
       member_those (λ j. list_any test (statement_at db j)) (active db k) i
       ∙ ap (λ b. list_any test (statement_at db i) && b) (member_those (λ j. is_active db j k) (range_with_len 0 k) i ∙ ap (λ b. is_active db i k && b) (member_range k 0 i (omega arith) ∙ (let z : 0 + k ≡ k = omega arith in ap (nat_lt i) z)))

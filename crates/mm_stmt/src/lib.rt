@@ -12,6 +12,7 @@ pub mod read;
 pub mod symbol;
 pub mod symbols;
 pub mod tables;
+pub mod walk;
 pub mod words;
 
 pub use mm_spec::{Code, Fault, Word};

@@ -1,6 +1,6 @@
 //! The statements of a text with their blocks and the numbers of their symbols: what a walk over them asks.
 
-ghost use Rattle.std.specs.Prelude.{◌≡◌, ◌<◌, ◌≤◌, ◌^◌, ℕ, List, length, None};
+ghost use Rattle.std.specs.Prelude.{All, ◌≡◌, ◌<◌, ◌≤◌, ◌^◌, ℕ, List, length, None};
 ghost use Rattle.std.specs.List.{list_any};
 ghost use Rattle.mm_spec.specs.Scope.{statement_at};
 ghost use Rattle.mm_spec.specs.Frame.{symbol_names, is_variable, is_floating, formula_at};
@@ -156,7 +156,8 @@ impl<'s, A: Allocator> Tables<'s, A> {
     /// The symbols of a statement.
     pub fn formula(&self, statement: u32) -> &[Sym]
         requires { statement < length self.now }
-        ensures { result.now ≡ formula_at self.now statement }
+        ensures formula { result.now ≡ formula_at self.now statement }
+        ensures known { All (λ s. s < length (symbol_names self.now)) result.now }
     {
         let from = self.places[statement as usize] as usize;
         let to = self.places[statement as usize + 1] as usize;
