@@ -4,6 +4,7 @@
 pub mod active;
 pub mod blocks;
 pub mod database;
+pub mod disjoint;
 pub mod judge;
 
 pub mod names;
