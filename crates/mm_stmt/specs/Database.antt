@@ -6,7 +6,7 @@ use Rattle.mm_spec.specs.Statement.{Statement, constants, variables, disjoint, f
 use Rattle.mm_spec.specs.Scope.{statement_at, those}
 use Rattle.mm_spec.specs.Derivation.{Pair}
 use Rattle.mm_spec.specs.Frame.{symbol_names, is_variable, is_disjoint, formula_at, mandatory_hypotheses, mandatory_pairs}
-use Rattle.mm_spec.specs.NormalProof.{is_labelled}
+use Rattle.mm_stmt.specs.Labels.{AreLabels}
 use Rattle.mm_spec.specs.Citation.{is_assertion}
 use Rattle.mm_spec.specs.Output.{IsRead, lexed_of, theorems, columns}
 use Rattle.mm_spec.specs.declared.Word.{Word}
@@ -74,12 +74,6 @@ pub record AreSymbols (db : List Statement) (names : List (List ℕ)) (kinds : L
   pub names_are : names ≡ symbol_names db
   pub count : length kinds ≡ length names
   pub variable : (s : ℕ) → s < length names → get_or kinds s false ≡ is_variable db s
-
--- what the labels stand for
-pub record AreLabels (db : List Statement) (find : List ℕ → Option ℕ) : Type 0 where
-  pub found : (w : List ℕ) (k : ℕ) → find w ≡ Some k → (k < length db) × IsTrue (list_any (is_labelled w) (statement_at db k))
-  pub missing : (w : List ℕ) → find w ≡ None → (k : ℕ) → list_any (is_labelled w) (statement_at db k) ≡ false
-  pub only : (w : List ℕ) (j k : ℕ) → list_any (is_labelled w) (statement_at db j) ≡ true → list_any (is_labelled w) (statement_at db k) ≡ true → j ≡ k
 
 -- the mandatory hypotheses and pairs of the assertions
 pub record AreFrames (db : List Statement) (hyps : List (List ℕ)) (pairs : List (List Pair)) : Type 0 where

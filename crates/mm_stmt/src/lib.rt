@@ -5,6 +5,7 @@ pub mod active;
 pub mod blocks;
 pub mod database;
 pub mod disjoint;
+pub mod frames;
 pub mod judge;
 
 pub mod names;
