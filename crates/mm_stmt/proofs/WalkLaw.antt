@@ -117,7 +117,7 @@ module _ (db : List Statement) (k : ℕ) where
       by (inl l) = l
       by (inr l) = absurd (true≢false (sym e ∙ ap (λ o. elim o [ None ↦ false | Some w ↦ is_in w (flat_map variables_of db) ]) (slice_get_past (symbol_names db) x l)))
 
-  mandatory_named : (x : ℕ) → is_member (mandatory_variables db k) x ≡ true → x < length (symbol_names db)
+  pub mandatory_named : (x : ℕ) → is_member (mandatory_variables db k) x ≡ true → x < length (symbol_names db)
   mandatory_named x e = variable_named x (and_left (is_variable db x) (is_member (formula_at db k ++ flat_map (formula_at db) (active_of is_essential db k)) x) (sym (member_those (is_variable db) (formula_at db k ++ flat_map (formula_at db) (active_of is_essential db k)) x) ∙ e))
 
   pub found_below : (xs : List ℕ) → ((x : ℕ) → is_member xs x ≡ is_member (mandatory_variables db k) x) → All (λ s. s < length (symbol_names db)) xs
