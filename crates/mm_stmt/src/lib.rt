@@ -2,6 +2,7 @@
 #![tactic(auto)]
 
 pub mod active;
+pub mod apart;
 pub mod blocks;
 pub mod database;
 pub mod disjoint;
