@@ -33,8 +33,7 @@ abbrev pub has_both : List Statement → List ℕ → ℕ → ℕ → ℕ → �
 has_both db seen stamp x y j = (is_member (formula_at db j) x && nat_eq (get_or seen x 0) stamp) && ((is_member (formula_at db j) y && nat_eq (get_or seen y 0) stamp) && nat_lt x y)
 
 module _ (db : List Statement) (k : ℕ) (seen found : List ℕ) (marks : AreMarks (length (symbol_names db)) (k + 1) seen found) (found_is : (x : ℕ) → is_member found x ≡ is_member (mandatory_variables db k) x)
-  (js : List ℕ) (js_is : (i : ℕ) → is_member js i ≡ is_member (active_of is_disjoint db k) i) where
-
+    (js : List ℕ) (js_is : (i : ℕ) → is_member js i ≡ is_member (active_of is_disjoint db k) i) where
   abbrev vs : List ℕ
   vs = mandatory_variables db k
 

@@ -5,7 +5,11 @@ use Rattle.mm_spec.specs.Statement.{Statement}
 use Rattle.mm_spec.specs.Scope.{constants_of, variables_of}
 use Rattle.mm_spec.specs.Lawful.{scope_fault}
 use Rattle.mm_spec.specs.Frame.{symbol_names, formula_at}
+use Rattle.mm_spec.specs.declared.Fault.{Fault}
+use Rattle.mm_spec.specs.Output.{Lexed, IsRead}
+use Rattle.mm_spec.proofs.Local.{scope_fault-front}
 use Rattle.mm_stmt.specs.Blocks.{Lists}
+use Rattle.mm_stmt.specs.Database.{AreNumbered}
 use Rattle.mm_stmt.specs.Judge.{Entry, entry_of}
 use Rattle.mm_stmt.specs.Known.{is_constant_entry, is_variable_entry}
 use Rattle.mm_stmt.specs.Read.{Keeps}
@@ -28,3 +32,11 @@ sound_is db look labels b x few lawful below = record {
   apart = λ w e. let k = x.symbols w in k.variable ∙ one_kind (entry_of (look w)) (sym k.constant ∙ e);
   below = below;
 }
+
+-- what has been read is lawful
+pub lawful_is : (len : ℕ) (x : Lexed) (db : List Statement) (fault : Option Fault) → IsRead len x db fault → (k : ℕ) → k < length db → scope_fault db k ≡ None
+lawful_is len x db fault r k h = sym (scope_fault-front db r.rest k h) ∙ ap (λ row. scope_fault row k) (sym r.splits) ∙ r.lawful k h
+
+pub sound_read : (len : ℕ) (x : Lexed) (db : List Statement) (fault : Option Fault) → IsRead len x db fault → (look : List ℕ → Option Symbol) (labels : List ℕ → Option ℕ) (b : Lists) → Keeps db look labels b → length db < 2 ^ 31
+    → (numbers places : List ℕ) → AreNumbered db numbers places → IsSound db
+sound_read len x db fault r look labels b keeps few numbers places numbered = sound_is db look labels b keeps few (lawful_is len x db fault r) numbered.below

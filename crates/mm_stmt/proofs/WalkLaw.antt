@@ -159,8 +159,7 @@ module _ (db : List Statement) (k : ℕ) where
         let n : j < length db = omega arith in
         let at : typed_at db j ≡ Some v = ap (typed_at db) same ∙ s.1 in
         let x = typed_float db sound j v n at in
-        let c = place_of x.typecode.word (symbol_names db) in
-        (
+        let c = place_of x.typecode.word (symbol_names db) in (
           float_active db sound j v n x k l ∙ ap (λ i. stays db i k) same ∙ and_right (not (nat_eq t never)) (stays db t k) rest,
           floating_is db sound j v n x,
           ap (list_any (is_member (mandatory_variables db k))) (formula_is db sound j v n x) ∙ ap (λ b. is_member (mandatory_variables db k) c || (b || false)) m ∙ or_true (is_member (mandatory_variables db k) c),
@@ -183,8 +182,7 @@ module _ (db : List Statement) (k : ℕ) where
             by true m e =
                 let z = sym (essential_is j) ∙ m in
                 let t = and_left (list_any is_essential (statement_at db j)) (is_active db j k && nat_lt j k) z in
-                let y = and_right (list_any is_essential (statement_at db j)) (is_active db j k && nat_lt j k) z in
-                (
+                let y = and_right (list_any is_essential (statement_at db j)) (is_active db j k && nat_lt j k) z in (
                   ap₂ (λ a b. a && (b || (list_any is_floating (statement_at db j) && list_any (is_member (mandatory_variables db k)) (formula_at db j)))) (and_left (is_active db j k) (nat_lt j k) y) t,
                   ltb-true j k (and_right (is_active db j k) (nat_lt j k) y),
                 )

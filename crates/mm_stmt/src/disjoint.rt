@@ -50,10 +50,7 @@ fn add_higher<A: Allocator>(
 }
 
 /// Adds all pairs of the symbols, the lower first.
-fn add_all<A: Allocator>(
-    symbols: &[Sym],
-    pairs: &mut Vec<(u32, u32), A>,
-) -> Result<(), AllocError>
+fn add_all<A: Allocator>(symbols: &[Sym], pairs: &mut Vec<(u32, u32), A>) -> Result<(), AllocError>
     ensures { OnOk result ((x y : ℕ) → has_pair pairs.new.items x y ≡ (has_pair pairs.old.items x y || (is_member symbols.now x && (is_member symbols.now y && nat_lt x y)))) }
 {
     for low in symbols {
@@ -93,7 +90,10 @@ fn collect<A: Allocator>(
 }
 
 /// The pairs by their symbols.
-fn symbols_of<A: Allocator + Copy>(alloc: A, pairs: &[(u32, u32)]) -> Result<Vec<(Sym, Sym), A>, AllocError>
+fn symbols_of<A: Allocator + Copy>(
+    alloc: A,
+    pairs: &[(u32, u32)],
+) -> Result<Vec<(Sym, Sym), A>, AllocError>
     ensures { IfOk result (λ v. map (λ p. pair p.0 p.1) v.items ≡ map (λ p. pair p.0 p.1) pairs.now) }
 {
     let mut symbols = Vec::new(alloc);
@@ -123,7 +123,14 @@ pub fn pairs_of<A: Allocator + Copy>(
     actives(tables, Wanted::Disjoint, disjoints, assertion, &mut active)?;
     let mut symbols = Vec::new(alloc);
     let mut pairs = Vec::new(alloc);
-    collect(tables, &active, seen, assertion + 1, &mut symbols, &mut pairs)?;
+    collect(
+        tables,
+        &active,
+        seen,
+        assertion + 1,
+        &mut symbols,
+        &mut pairs,
+    )?;
     tidy(&mut pairs);
     symbols_of(alloc, &pairs)
 }

@@ -91,7 +91,16 @@ pub fn frames_of<A: Allocator + Copy>(
     let mut found = Vec::new(alloc);
     let mut frames = Vec::new(alloc);
     for k in 0..tables.len() {
-        let frame = frame_of(alloc, tables, &essentials, disjoints, &typed, k, &mut seen, &mut found)?;
+        let frame = frame_of(
+            alloc,
+            tables,
+            &essentials,
+            disjoints,
+            &typed,
+            k,
+            &mut seen,
+            &mut found,
+        )?;
         frames.push(frame)?;
         give_type(tables, k, &mut typed);
     }
@@ -99,7 +108,10 @@ pub fn frames_of<A: Allocator + Copy>(
 }
 
 /// The `$p` statements, in file order.
-pub fn theorems_of<A: Allocator + Copy>(alloc: A, tables: &Tables<A>) -> Result<Vec<u32, A>, AllocError>
+pub fn theorems_of<A: Allocator + Copy>(
+    alloc: A,
+    tables: &Tables<A>,
+) -> Result<Vec<u32, A>, AllocError>
     ensures { IfOk result (λ v. v.items ≡ theorems tables.now) }
 {
     let mut all = Vec::new(alloc);
@@ -112,7 +124,10 @@ pub fn theorems_of<A: Allocator + Copy>(alloc: A, tables: &Tables<A>) -> Result<
 }
 
 /// The `$a` statements, in file order.
-pub fn axioms_of<A: Allocator + Copy>(alloc: A, tables: &Tables<A>) -> Result<Vec<u32, A>, AllocError>
+pub fn axioms_of<A: Allocator + Copy>(
+    alloc: A,
+    tables: &Tables<A>,
+) -> Result<Vec<u32, A>, AllocError>
     ensures { IfOk result (λ v. v.items ≡ columns tables.now None) }
 {
     let mut all = Vec::new(alloc);
@@ -122,4 +137,32 @@ pub fn axioms_of<A: Allocator + Copy>(alloc: A, tables: &Tables<A>) -> Result<Ve
         }
     }
     Ok(all)
+}
+
+/// What is kept beside the statements: the last active `$d` at each, the frames, and the lists of the theorems and axioms.
+#[derive(Drop)]
+pub struct Beside<A: Allocator> {
+    pub latest_disjoint: Vec<u32, A>,
+    pub frames: Vec<Frame<A>, A>,
+    pub theorems: Vec<u32, A>,
+    pub axioms: Vec<u32, A>,
+}
+
+/// All that is kept beside lawful statements.
+pub fn beside<A: Allocator + Copy>(alloc: A, tables: &Tables<A>) -> Result<Beside<A>, AllocError>
+    ensures disjoint { IfOk result (λ b. AreLatest is_disjoint tables.now b.latest_disjoint.items) }
+    ensures frames { IfOk result (λ b. AreFrames tables.now (map (λ f. f.hyps.items) b.frames.items) (map (λ f. map (λ p. pair p.0 p.1) f.pairs.items) b.frames.items)) }
+    ensures theorems { IfOk result (λ b. b.theorems.items ≡ theorems tables.now) }
+    ensures axioms { IfOk result (λ b. b.axioms.items ≡ columns tables.now None) }
+{
+    let latest_disjoint = latest_of(alloc, tables, Wanted::Disjoint)?;
+    let frames = frames_of(alloc, tables, &latest_disjoint)?;
+    let theorems = theorems_of(alloc, tables)?;
+    let axioms = axioms_of(alloc, tables)?;
+    Ok(Beside {
+        latest_disjoint,
+        frames,
+        theorems,
+        axioms,
+    })
 }

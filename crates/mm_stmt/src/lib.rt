@@ -8,7 +8,6 @@ pub mod database;
 pub mod disjoint;
 pub mod frames;
 pub mod judge;
-
 pub mod names;
 pub mod parts;
 pub mod read;

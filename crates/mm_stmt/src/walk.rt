@@ -73,9 +73,21 @@ fn mandatory<A: Allocator>(
     ensures marks { OnOk result (AreMarks (length (symbol_names tables.now)) (assertion + 1) seen.new.items found.new.items) }
     ensures found { OnOk result ((x : ℕ) → is_member found.new.items x ≡ is_member (mandatory_variables tables.now assertion) x) }
 {
-    note(tables, tables.formula(assertion), assertion + 1, seen, found)?;
+    note(
+        tables,
+        tables.formula(assertion),
+        assertion + 1,
+        seen,
+        found,
+    )?;
     for essential in essentials {
-        note(tables, tables.formula(*essential), assertion + 1, seen, found)?;
+        note(
+            tables,
+            tables.formula(*essential),
+            assertion + 1,
+            seen,
+            found,
+        )?;
     }
     Ok(())
 }

@@ -1,4 +1,4 @@
-use Rattle.std.proofs.Common.{◌≡◌, ◌≢◌, ℕ, ◌≤◌, length, get_or, [], sym, ◌∙◌, subst, List, arith}
+use Rattle.std.proofs.Common.{ℕ, ◌≤◌, length, get_or, sym, subst, List, arith}
 use Rattle.mm_stmt.specs.Tables.{test_of}
 use Rattle.mm_stmt.specs.Latest.{IsWalked}
 use Rattle.mm_stmt.proofs.LatestLaw.{walked_start, walked_next, walked_end, height_less, test_local}

@@ -1,4 +1,4 @@
-use Rattle.std.proofs.Common.{◌≡◌, ◌≢◌, ℕ, length, get_or, sym, ◌∙◌, arith}
+use Rattle.std.proofs.Common.{get_or, sym, ◌∙◌}
 use Rattle.mm_stmt.specs.Tables.{test_of}
 use Rattle.mm_stmt.proofs.LatestLaw.{candidate_next, candidate_open, height_less}
 use Rattle.mm_stmt.proofs.active.last_open.Goals as goal

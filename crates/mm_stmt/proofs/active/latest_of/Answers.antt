@@ -1,9 +1,9 @@
-use Rattle.std.proofs.Common.{◌≡◌, ◌≢◌, ℕ, ◌+◌, ◌≤◌, ◌<◌, length, get_or, [], ◌∷◌, sym, ap, ◌∙◌, subst, List, arith}
+use Rattle.std.proofs.Common.{◌≡◌, ◌<◌, get_or, sym, ◌∙◌, subst, arith}
 use Rattle.std.proofs.lemmas.Grind.{get_or_default_zero}
 use Rattle.mm_stmt.specs.Tables.{test_of}
 use Rattle.mm_stmt.specs.Blocks.{never}
-use Rattle.mm_stmt.specs.Latest.{IsLatest, IsCandidate}
-use Rattle.mm_stmt.proofs.LatestLaw.{candidate_self, candidate_other, latest_start, each_pushed}
+use Rattle.mm_stmt.specs.Latest.{IsLatest}
+use Rattle.mm_stmt.proofs.LatestLaw.{candidate_self, candidate_other, each_pushed}
 use Rattle.mm_stmt.proofs.active.latest_of.Goals as goal
 use Rattle.mm_stmt.proofs.active.latest_of.Goals.{then-is_a, else-is_a}
 

@@ -1,4 +1,4 @@
-use Rattle.std.proofs.Common.{◌≡◌, ◌≢◌, ℕ, ◌≤◌, ◌<◌, ◌&&◌, length, get_or, [], true, false, refl, sym, ap, ap₂, ◌∙◌, arith}
+use Rattle.std.proofs.Common.{◌≤◌, ◌&&◌, length, get_or, [], refl, sym, ap, ◌∙◌, arith}
 use Rattle.mm_spec.specs.Derivation.{is_member}
 use Rattle.mm_spec.specs.Frame.{is_disjoint, formula_at}
 use Rattle.mm_stmt.proofs.LatestLaw.{walked_start, height_less}

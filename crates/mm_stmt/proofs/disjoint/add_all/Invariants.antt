@@ -1,4 +1,4 @@
-use Rattle.std.proofs.Common.{◌≡◌, ℕ, ◌&&◌, ◌||◌, take, nat_eq, nat_lt}
+use Rattle.std.proofs.Common.{◌≡◌, ℕ, ◌&&◌, ◌||◌, take, nat_lt}
 use Rattle.mm_spec.specs.Derivation.{is_member}
 use Rattle.mm_stmt.specs.Pairs.{has_pair}
 use Rattle.mm_stmt.proofs.disjoint.add_all.Given as goal

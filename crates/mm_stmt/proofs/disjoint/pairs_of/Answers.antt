@@ -1,6 +1,6 @@
-use Rattle.std.proofs.Common.{◌≡◌, ◌∙◌, ℕ, ◌+◌, ◌<◌, ◌≤◌, All, List, length, map, sym, ap, subst, arith}
+use Rattle.std.proofs.Common.{◌∙◌, ℕ, ◌+◌, ◌<◌, ◌≤◌, All, List, length, map, sym, ap, subst, arith}
 use Rattle.std.specs.List.{list_any}
-use Rattle.mm_spec.specs.Derivation.{Pair, pair}
+use Rattle.mm_spec.specs.Derivation.{pair}
 use Rattle.mm_stmt.proofs.JudgeLaw.{ok_then}
 use Rattle.mm_stmt.proofs.DisjointLaw.{disjoint_below, has_both, pairs_are}
 use Rattle.mm_stmt.proofs.disjoint.pairs_of.Goals as goal

@@ -1,5 +1,4 @@
 use Rattle.std.proofs.Common.{nat_eq, ◌&&◌}
-use Rattle.std.specs.List.{dedup}
 use Rattle.std.proofs.lemmas.List.Filters.{dedup_is}
 use Rattle.mm_stmt.proofs.PairsLaw.{strict_rising, tidy_same}
 use Rattle.mm_stmt.proofs.disjoint.tidy.Goals as goal

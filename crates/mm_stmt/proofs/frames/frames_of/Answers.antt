@@ -1,9 +1,7 @@
-use Rattle.std.proofs.Common.{◌≡◌, ◌∙◌, ℕ, ◌+◌, ◌<◌, ◌≤◌, ◌++◌, ◌∷◌, [], List, length, get_or, map, sym, ap, ap₂, subst, arith}
+use Rattle.std.proofs.Common.{◌∙◌, ◌∷◌, [], map, ap, arith}
 use Rattle.std.proofs.lemmas.List.{map-append}
-use Rattle.mm_spec.specs.Derivation.{Pair, pair}
-use Rattle.mm_stmt.specs.Frames.{AreFramesUpTo}
-use Rattle.mm_stmt.specs.Walk.{AreTyped}
-use Rattle.mm_stmt.proofs.FramesLaw.{typed_start, frames_start, frames_more, frames_all}
+use Rattle.mm_spec.specs.Derivation.{pair}
+use Rattle.mm_stmt.proofs.FramesLaw.{frames_more, frames_all}
 use Rattle.mm_stmt.proofs.frames.frames_of.Goals as goal
 
 pub loop-k-preserved : goal.loop-k-preserved

@@ -1,4 +1,4 @@
-use Rattle.std.proofs.Common.{◌≡◌, ◌∙◌, sym, ap, Some}
+use Rattle.std.proofs.Common.{◌∙◌, sym, ap, Some}
 use Rattle.mm_stmt.proofs.FramesLaw.{typed_none, typed_some}
 use Rattle.mm_stmt.proofs.frames.give_type.Goals as goal
 

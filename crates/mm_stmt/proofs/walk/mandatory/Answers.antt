@@ -1,4 +1,4 @@
-use Rattle.std.proofs.Common.{◌≡◌, ℕ, ◌<◌, ◌≤◌, ◌&&◌, ◌||◌, length, get_or, sym, ap, ◌∙◌, arith, take_all}
+use Rattle.std.proofs.Common.{◌&&◌, ◌||◌, ap, ◌∙◌, arith, take_all}
 use Rattle.std.specs.List.{list_any}
 use Rattle.mm_spec.specs.Derivation.{is_member}
 use Rattle.mm_spec.specs.Frame.{is_variable, formula_at}
