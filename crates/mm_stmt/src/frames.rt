@@ -149,7 +149,7 @@ pub struct Beside<A: Allocator> {
 }
 
 /// All that is kept beside lawful statements.
-pub fn beside<A: Allocator + Copy>(alloc: A, tables: &Tables<A>) -> Result<Beside<A>, AllocError>
+pub fn gather<A: Allocator + Copy>(alloc: A, tables: &Tables<A>) -> Result<Beside<A>, AllocError>
     ensures disjoint { IfOk result (λ b. AreLatest is_disjoint tables.now b.latest_disjoint.items) }
     ensures frames { IfOk result (λ b. AreFrames tables.now (map (λ f. f.hyps.items) b.frames.items) (map (λ f. map (λ p. pair p.0 p.1) f.pairs.items) b.frames.items)) }
     ensures theorems { IfOk result (λ b. b.theorems.items ≡ theorems tables.now) }
