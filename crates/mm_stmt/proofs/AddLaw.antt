@@ -20,6 +20,7 @@ use Rattle.mm_stmt.specs.declared.parts.Kind.TheVariants as kind
 use Rattle.mm_stmt.proofs.BlocksLaw.{blocks_plain, blocks_opening, blocks_closing}
 use Rattle.mm_stmt.proofs.JudgeLaw.{bytes_eq-sym, none_least}
 use Rattle.mm_stmt.proofs.KnowsLaw.{none_active, typed_in}
+use Rattle.mm_stmt.proofs.LabelsLaw.{labels_after, label_unused}
 use Rattle.mm_stmt.proofs.KnownLaw.{known_same, known_constant, known_variable, known_typed, in_more}
 use Rattle.mm_stmt.proofs.Faultless.{append_none, constant_new, variable_new, floating_new}
 
@@ -138,6 +139,7 @@ keeps_after text ws db look labels b x few k p m e law deep c same number is new
       blocks = subst (IsBlocks (db ++ made text ws k p m e ∷ [])) (sym same) (blocks_after text ws db b x.blocks few k p m e deep);
       symbols = λ w. subst (IsKnown (db ++ made text ws k p m e ∷ []) w) (sym (after w ∙ ap (λ i. entry_after i (made text ws k p m e) w (entry_of (look w))) n)) (known_after db few w (made text ws k p m e) (depth db (length db)) (entry_of (look w)) (x.symbols w) (none_least (scope_faults (names_before db (length db)) (depth db (length db)) (made text ws k p m e)) law));
       labels_known = λ w. labelled_after db few w (made text ws k p m e) number (labels w) (x.labels_known w) ∙ ap is_some (sym (known w));
+      labels_are = labels_after db s labels names x.labels_are (λ w. known w ∙ ap (λ i. label_after i (label_of s) w (labels w)) n) (label_unused db labels x.labels_known (depth db (length db)) s (none_least (scope_faults (names_before db (length db)) (depth db (length db)) s) law));
     }
 
 -- two clauses of one result

@@ -12,11 +12,11 @@ pub append_none : {X : Type 0} (xs ys : List X) → xs ++ ys ≡ [] → (xs ≡ 
 append_none [] ys e = (refl, e)
 append_none (x ∷ xs) ys e = absurd (cc)
 
-at_none : (p : ℕ) (cs : List Code) → at p cs ≡ [] → cs ≡ []
+pub at_none : (p : ℕ) (cs : List Code) → at p cs ≡ [] → cs ≡ []
 at_none p [] e = refl
 at_none p (c ∷ cs) e = absurd (cc)
 
-when_none : (b : Bool) (c : Code) → when b c ≡ [] → b ≡ false
+pub when_none : (b : Bool) (c : Code) → when b c ≡ [] → b ≡ false
 when_none true c e = absurd (cc)
 when_none false c e = refl
 

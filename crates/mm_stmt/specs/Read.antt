@@ -9,6 +9,7 @@ use Rattle.mm_stmt.specs.Parts.{tokens_of, statement_of}
 use Rattle.mm_stmt.specs.Blocks.{Lists, IsBlocks}
 use Rattle.mm_stmt.specs.Judge.{entry_of}
 use Rattle.mm_stmt.specs.Known.{IsKnown}
+use Rattle.mm_stmt.specs.Labels.{AreLabels}
 use Rattle.mm_stmt.specs.declared.names.Symbol.{Symbol}
 use Rattle.mm_stmt.specs.declared.parts.Kind.{Kind}
 use Rattle.mm_stmt.specs.declared.parts.Kind.TheVariants as kind
@@ -23,6 +24,7 @@ pub record Keeps (db : List Statement) (look : List ℕ → Option Symbol) (labe
   pub blocks : IsBlocks db b
   pub symbols : (w : List ℕ) → IsKnown db w (entry_of (look w))
   pub labels_known : (w : List ℕ) → is_in w (flat_map label_words db) ≡ is_some (labels w)
+  pub labels_are : AreLabels db labels
 
 abbrev pub lexed : List ℕ → List Word → Option Fault → Lexed
 lexed text ws fault = record { tokens = tokens_of text ws; fault = fault }

@@ -14,6 +14,7 @@ ghost use Rattle.mm_stmt.specs.Parts.{tokens_of, AreWords};
 ghost use Rattle.mm_stmt.specs.Read.{active_kind};
 ghost use Rattle.mm_stmt.specs.Database.{kind_of, last_place, typecode_of, is_labelled_kind};
 
+use crate::apart::is_some_disjoint;
 use crate::blocks::Blocks;
 use crate::names::Map;
 use crate::parts::{Kind, Outline};
@@ -50,7 +51,7 @@ pub struct Database<'a, A: Allocator> {
     pub(crate) numbers: Vec<Sym, A>,
     pub(crate) places: Vec<u32, A>,
     pub(crate) frames: Vec<Frame<A>, A>,
-    pub(crate) disjoint: Vec<u32, A>,
+    pub(crate) latest_disjoint: Vec<u32, A>,
     pub(crate) theorems: Vec<u32, A>,
     pub(crate) axioms: Vec<u32, A>,
 }
@@ -67,7 +68,7 @@ impl<'a, A: Allocator> Model for Database<'a, A> {
 
     ghost view = { λ d. known d.text.now (statements d.text.now d.words.items d.outlines.items) d.fault };
 
-    ghost invariant = { λ d. IsDatabase d.text.now d.words.items d.outlines.items d.fault (fields (lists d.blocks.of.items d.blocks.ends.items d.blocks.open.items) (find d.labels) (keys_of d.names) d.variables.items d.numbers.items d.places.items (map (λ f. f.hyps.items) d.frames.items) (map (λ f. map (λ p. pair p.0 p.1) f.pairs.items) d.frames.items) d.disjoint.items d.theorems.items d.axioms.items) };
+    ghost invariant = { λ d. IsDatabase d.text.now d.words.items d.outlines.items d.fault (fields (lists d.blocks.of.items d.blocks.ends.items d.blocks.open.items) (find d.labels) (keys_of d.names) d.variables.items d.numbers.items d.places.items (map (λ f. f.hyps.items) d.frames.items) (map (λ f. map (λ p. pair p.0 p.1) f.pairs.items) d.frames.items) d.latest_disjoint.items d.theorems.items d.axioms.items) };
 }
 
 impl<'a, A: Allocator> Database<'a, A> {
@@ -200,41 +201,12 @@ impl<'a, A: Allocator> Database<'a, A> {
         &self.frames[assertion as usize]
     }
 
-    /// Whether some `$d` that is active at a statement, or at the end, which is `len()`, has both symbols; never where
-    /// they are one.
+    /// Whether a `$d` that is active at the statement, or at the end, has both variables; never a variable and itself.
     pub fn disjoint_at(&self, statement: u32, x: Sym, y: Sym) -> bool
         requires { statement ≤ length self.now.statements }
         ensures { result ≡ disjoint_at self.now.statements statement x y }
     {
-        if x == y {
-            return false;
-        }
-        for j in 0..statement {
-            if self.is_disjoint_at(j, statement) && self.has_both(j, x, y) {
-                return true;
-            }
-        }
-        false
-    }
-
-    /// Whether a statement is a `$d` that is active at another, or at the end.
-    fn is_disjoint_at(&self, statement: u32, at: u32) -> bool
-        requires statement { statement < length self.now.statements }
-        requires at { at ≤ length self.now.statements }
-        ensures { result ≡ (is_active self.now.statements statement at && list_any is_disjoint (statement_at self.now.statements statement)) }
-    {
-        let is_active = self.active_at(statement, at);
-        let kind = self.kind(statement);
-        is_active && kind == Kind::Disjoint
-    }
-
-    /// Whether the statement's formula has both symbols.
-    fn has_both(&self, statement: u32, x: Sym, y: Sym) -> bool
-        requires { statement < length self.now.statements }
-        ensures { result ≡ (is_member (formula_at self.now.statements statement) x && is_member (formula_at self.now.statements statement) y) }
-    {
-        let formula = self.formula(statement);
-        formula.contains(&x) && formula.contains(&y)
+        x.number() != y.number() && is_some_disjoint(self, &self.latest_disjoint, statement, x, y)
     }
 
     /// The words of a theorem's proof, those behind its `$=`; none where the statement is no `$p`.

@@ -1,8 +1,12 @@
 //! The statements of a Metamath text.
 #![tactic(auto)]
 
+pub mod active;
+pub mod apart;
 pub mod blocks;
 pub mod database;
+pub mod disjoint;
+pub mod frames;
 pub mod judge;
 pub mod names;
 pub mod numbers;
@@ -10,6 +14,8 @@ pub mod parts;
 pub mod read;
 pub mod symbol;
 pub mod symbols;
+pub mod tables;
+pub mod walk;
 pub mod words;
 
 pub use database::{Database, Frame};

@@ -1,0 +1,42 @@
+-- The statements that reading keeps are sound.
+use Rattle.std.proofs.Common.{◌≡◌, ℕ, ◌<◌, ◌^◌, Bool, true, false, not, List, All, length, flat_map, Option, None, Some, refl, sym, ap, ◌∙◌, true≢false}
+use Rattle.mm_spec.specs.Text.{Word, is_in}
+use Rattle.mm_spec.specs.Statement.{Statement}
+use Rattle.mm_spec.specs.Scope.{constants_of, variables_of}
+use Rattle.mm_spec.specs.Lawful.{scope_fault}
+use Rattle.mm_spec.specs.Frame.{symbol_names, formula_at}
+use Rattle.mm_spec.specs.declared.Fault.{Fault}
+use Rattle.mm_spec.specs.Output.{Lexed, IsRead}
+use Rattle.mm_spec.proofs.Local.{scope_fault-front}
+use Rattle.mm_stmt.specs.Blocks.{Lists}
+use Rattle.mm_stmt.specs.Database.{AreNumbered}
+use Rattle.mm_stmt.specs.Judge.{Entry, entry_of}
+use Rattle.mm_stmt.specs.Known.{is_constant_entry, is_variable_entry}
+use Rattle.mm_stmt.specs.Read.{Keeps}
+use Rattle.mm_stmt.specs.Tables.{IsSound}
+use Rattle.mm_stmt.specs.declared.names.Symbol.{Symbol}
+
+one_kind : (x : Option Entry) → is_constant_entry x ≡ true → is_variable_entry x ≡ false
+one_kind None e = refl
+one_kind (Some e) h = by e.is_variable h
+  where
+    by : (b : Bool) → not b ≡ true → b ≡ false
+    by true h = absurd (true≢false (sym h))
+    by false h = refl
+
+pub sound_is : (db : List Statement) (look : List ℕ → Option Symbol) (labels : List ℕ → Option ℕ) (b : Lists) → Keeps db look labels b → length db < 2 ^ 31 → ((k : ℕ) → k < length db → scope_fault db k ≡ None)
+    → ((k : ℕ) → k < length db → All (λ s. s < length (symbol_names db)) (formula_at db k)) → IsSound db
+sound_is db look labels b x few lawful below = record {
+  few = few;
+  lawful = lawful;
+  apart = λ w e. let k = x.symbols w in k.variable ∙ one_kind (entry_of (look w)) (sym k.constant ∙ e);
+  below = below;
+}
+
+-- what has been read is lawful
+pub lawful_is : (len : ℕ) (x : Lexed) (db : List Statement) (fault : Option Fault) → IsRead len x db fault → (k : ℕ) → k < length db → scope_fault db k ≡ None
+lawful_is len x db fault r k h = sym (scope_fault-front db r.rest k h) ∙ ap (λ row. scope_fault row k) (sym r.splits) ∙ r.lawful k h
+
+pub sound_read : (len : ℕ) (x : Lexed) (db : List Statement) (fault : Option Fault) → IsRead len x db fault → (look : List ℕ → Option Symbol) (labels : List ℕ → Option ℕ) (b : Lists) → Keeps db look labels b → length db < 2 ^ 31
+    → (numbers places : List ℕ) → AreNumbered db numbers places → IsSound db
+sound_read len x db fault r look labels b keeps few numbers places numbered = sound_is db look labels b keeps few (lawful_is len x db fault r) numbered.below

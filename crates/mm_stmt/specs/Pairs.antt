@@ -1,0 +1,16 @@
+-- Pairs of symbols in lexicographic order, each once.
+use Rattle.std.specs.Prelude.{◌≡◌, ℕ, ◌<◌, Bool, true, ◌&&◌, List, [], ◌∷◌, nat_eq, ◌⊎◌}
+use Rattle.std.specs.List.{list_any}
+
+-- whether the pair is among them
+abbrev pub has_pair : List (ℕ × ℕ) → ℕ → ℕ → Bool
+has_pair ps x y = list_any (λ p. nat_eq x p.0 && nat_eq y p.1) ps
+
+-- one pair stands before another
+abbrev pub IsBefore : ℕ → ℕ → ℕ → ℕ → Type 0
+IsBefore a b x y = (a < x) ⊎ ((a ≡ x) × (b < y))
+
+-- each stands before those behind it
+abbrev pub AreRising : List (ℕ × ℕ) → Type 0
+AreRising [] = Unit {0}
+AreRising (p ∷ ps) = ((x y : ℕ) → has_pair ps x y ≡ true → IsBefore p.0 p.1 x y) × AreRising ps
