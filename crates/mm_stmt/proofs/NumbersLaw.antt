@@ -88,7 +88,6 @@ module _ (text : List ℕ) (ws : List place.Word) (os : List Outline) (i : ℕ) 
       by j k (inl s) = get_or_append_left places (at ∷ []) 0 j (let c = h.count in omega (arith, c, s)) ∙ h.place j s
       by j k (inr s) = let e : j ≡ i = omega (arith, k, s) in get_or_push places at 0 j (h.count ∙ sym e) ∙ a ∙ ap length h.so_far ∙ ap (λ n. length (numbered text ws os n)) (sym e)
 
-
 -- the numbers of the first statements stand in front
 module _ (text : List ℕ) (ws : List place.Word) (os : List Outline) where
   abbrev first : Outline

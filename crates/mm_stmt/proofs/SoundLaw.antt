@@ -1,7 +1,8 @@
 -- The statements that reading keeps are sound.
-use Rattle.std.proofs.Common.{◌≡◌, ℕ, ◌<◌, ◌^◌, Bool, true, false, not, List, All, length, flat_map, Option, None, Some, refl, sym, ap, ◌∙◌, true≢false}
+use Rattle.std.proofs.Common.{◌≡◌, ℕ, ◌<◌, ◌^◌, Bool, true, false, not, List, All, length, flat_map, get_or, Option, None, Some, refl, sym, ap, ◌∙◌, true≢false}
 use Rattle.mm_spec.specs.Text.{Word, is_in}
-use Rattle.mm_spec.specs.Statement.{Statement}
+use Rattle.std.proofs.lemmas.Option.{slice_get-get_or}
+use Rattle.mm_spec.specs.Statement.{Statement, opening}
 use Rattle.mm_spec.specs.Scope.{constants_of, variables_of}
 use Rattle.mm_spec.specs.Lawful.{scope_fault}
 use Rattle.mm_spec.specs.Frame.{symbol_names, formula_at}
@@ -9,12 +10,12 @@ use Rattle.mm_spec.specs.declared.Fault.{Fault}
 use Rattle.mm_spec.specs.Output.{Lexed, IsRead}
 use Rattle.mm_spec.proofs.Local.{scope_fault-front}
 use Rattle.mm_stmt.specs.Blocks.{Lists}
-use Rattle.mm_stmt.specs.Database.{AreNumbered}
 use Rattle.mm_stmt.specs.Judge.{Entry, entry_of}
 use Rattle.mm_stmt.specs.Known.{is_constant_entry, is_variable_entry}
 use Rattle.mm_stmt.specs.Read.{Keeps}
 use Rattle.mm_stmt.specs.Tables.{IsSound}
 use Rattle.mm_stmt.specs.declared.names.Symbol.{Symbol}
+use Rattle.mm_stmt.proofs.BoundsLaw.{symbols-known}
 
 one_kind : (x : Option Entry) → is_constant_entry x ≡ true → is_variable_entry x ≡ false
 one_kind None e = refl
@@ -37,6 +38,7 @@ sound_is db look labels b x few lawful below = record {
 pub lawful_is : (len : ℕ) (x : Lexed) (db : List Statement) (fault : Option Fault) → IsRead len x db fault → (k : ℕ) → k < length db → scope_fault db k ≡ None
 lawful_is len x db fault r k h = sym (scope_fault-front db r.rest k h) ∙ ap (λ row. scope_fault row k) (sym r.splits) ∙ r.lawful k h
 
-pub sound_read : (len : ℕ) (x : Lexed) (db : List Statement) (fault : Option Fault) → IsRead len x db fault → (look : List ℕ → Option Symbol) (labels : List ℕ → Option ℕ) (b : Lists) → Keeps db look labels b → length db < 2 ^ 31
-    → (numbers places : List ℕ) → AreNumbered db numbers places → IsSound db
-sound_read len x db fault r look labels b keeps few numbers places numbered = sound_is db look labels b keeps few (lawful_is len x db fault r) numbered.below
+pub sound_read : (len : ℕ) (x : Lexed) (db : List Statement) (fault : Option Fault) → IsRead len x db fault → (look : List ℕ → Option Symbol) (labels : List ℕ → Option ℕ) (b : Lists) → Keeps db look labels b → length db < 2 ^ 31 → IsSound db
+sound_read len x db fault r look labels b keeps few =
+    let lawful = lawful_is len x db fault r in
+    sound_is db look labels b keeps few lawful (λ k h. symbols-known db lawful k h (get_or db k (opening 0)) (slice_get-get_or db k (opening 0) h))

@@ -11,7 +11,7 @@ pub mod judge;
 pub mod names;
 pub mod numbers;
 pub mod parts;
-pub mod read;
+pub mod reader;
 pub mod symbol;
 pub mod symbols;
 pub mod tables;
@@ -21,6 +21,7 @@ pub mod words;
 pub use database::{Database, Frame};
 pub use mm_spec::{Code, Fault, Word};
 pub use parts::Kind;
+pub use reader::read;
 pub use symbol::Sym;
 
 #[cfg(test)]

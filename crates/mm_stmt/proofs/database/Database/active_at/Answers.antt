@@ -25,5 +25,5 @@ returns-then-statement-at g c =
     let there : j < length os = has_outline text ws os f.fault _ c.self.view_is j c.requires.statement in
     let law = active_is text ws os b c.self.invariant.blocks j k there within o in
     let test : (nat_lt j k && active_kind (get_or os j o).kind (nat_le k (end_of b j))) ≡ active_kind o.kind (nat_le k (end_of b j)) =
-        ap₂ (λ t p. t && active_kind p.kind (nat_le k (end_of b j))) (lt-ltb j k c.if-statement-at.true) (sym c.index.ensures) in
+    ap₂ (λ t p. t && active_kind p.kind (nat_le k (end_of b j))) (lt-ltb j k c.if-statement-at.true) (sym c.index.ensures) in
     subst (λ (n : Known). c.is_active_kind.result ≡ is_active n.statements j k) c.self.view_is (c.is_active_kind.ensures ∙ ap (active_kind o.kind) c.is_open_at.ensures ∙ sym test ∙ law)

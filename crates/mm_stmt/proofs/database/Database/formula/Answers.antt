@@ -25,6 +25,6 @@ returns-clause-known g c =
     let first : get_or ps k 0 ≡ a = sym (c.index.ensures ∙ get_or_default_zero ps k a (omega (arith, m, inside))) in
     let second : get_or ps (k + 1) 0 ≡ b = sym (c.index-2.ensures ∙ get_or_default_zero ps (k + 1) b (omega (arith, m, inside))) in
     let same : take (b - a) (drop a c.deref.result.now) ≡ formula_at db k =
-        ap (λ l. take (b - a) (drop a l)) c.deref.ensures.value ∙ ap₂ (λ i j. take (j - i) (drop i xs)) (sym first) (sym second) ∙ n.formula k inside in
+    ap (λ l. take (b - a) (drop a l)) c.deref.ensures.value ∙ ap₂ (λ i j. take (j - i) (drop i xs)) (sym first) (sym second) ∙ n.formula k inside in
     subst (λ (v : Known). All (λ s. s < length (symbol_names v.statements)) (take (b - a) (drop a c.deref.result.now))) c.self.view_is
     (subst (λ (l : List ℕ). All (λ s. s < length (symbol_names db)) l) (sym same) (c.self.invariant.below k there))

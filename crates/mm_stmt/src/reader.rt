@@ -1,6 +1,7 @@
 //! The statements of a text up to its first fault.
 
-ghost use Rattle.std.specs.Prelude.{◌≡◌, ◌<◌, ◌≤◌, ◌^◌, ◌++◌, ◌∷◌, [], List, None, length, OnOk, IfOk, vec_len};
+ghost use Rattle.std.specs.Prelude.{◌≡◌, ◌<◌, ◌≤◌, ◌^◌, ◌++◌, ◌∷◌, [], List, None, All, length, OnOk, IfOk};
+ghost use Rattle.mm_spec.specs.Lexed.{tokens_of, lexical_fault};
 ghost use Rattle.mm_spec.specs.Statement.{Statement, is_closing, label_of};
 ghost use Rattle.mm_spec.specs.Scope.{names_before, depth, is_active};
 ghost use Rattle.mm_spec.specs.Lawful.{least, scope_faults};
@@ -14,21 +15,25 @@ ghost use Rattle.mm_stmt.specs.Parts.{AreWords, between, token_at, IsOutline, de
 ghost use Rattle.mm_stmt.specs.Known.{entry_after, label_after};
 ghost use Rattle.mm_stmt.specs.Read.{Keeps, active_kind, end_fault_of, lexed, statements};
 
-use crate::blocks::{Blocks, NEVER, no_blocks};
+use crate::blocks::{NEVER, no_blocks};
+use crate::database::Database;
+use crate::frames::gather;
 use crate::names::{Names, Scope, Symbol};
+use crate::numbers::numbers_of;
 use crate::parts::{Found, Kind, Outline, Part, find};
+use crate::symbols::symbols_of;
+use crate::tables::Tables;
 use indexmap::IndexMap;
+use mm_lex::Lexed;
 use mm_spec::{Code, Fault, Word};
 use std::alloc::{AllocError, Allocator};
 
-/// The lawful statements of a text, and what stopped the reading.
+/// The lawful statements of a text by their outlines, the names behind them, and what stopped the reading.
 #[derive(Drop)]
-pub struct Database<'a, A: Allocator> {
-    pub text: &'a [u8],
-    pub words: Vec<Word, A>,
-    pub outlines: Vec<Outline, A>,
-    pub scope: Scope<'a, A>,
-    pub fault: Option<Fault>,
+struct Outlined<'a, A: Allocator> {
+    outlines: Vec<Outline, A>,
+    scope: Scope<'a, A>,
+    fault: Option<Fault>,
 }
 
 /// How many blocks are open behind a statement.
@@ -56,8 +61,9 @@ fn no_scope<'a, A: Allocator + Copy>(alloc: A) -> Result<Scope<'a, A>, AllocErro
 }
 
 /// The fault at the end of a text.
-fn end_fault(lexical: Option<Fault>, len: u32, part: Part, deep: u32) -> Option<Fault>
-    ensures { result ≡ end_fault_of lexical len part deep }
+fn end_fault(lexical: Option<Fault>, text: &[u8], part: Part, deep: u32) -> Option<Fault>
+    requires short { lexical ≡ None → length text.now < 2 ^ 31 }
+    ensures { result ≡ end_fault_of lexical (length text.now) part deep }
 {
     match lexical {
         Some(fault) => Some(fault),
@@ -67,29 +73,32 @@ fn end_fault(lexical: Option<Fault>, len: u32, part: Part, deep: u32) -> Option<
                     None
                 } else {
                     Some(Fault {
-                        at: len,
+                        at: text.len() as u32,
                         code: Code::OpenBlock,
                     })
                 }
             }
             _ => Some(Fault {
-                at: len,
+                at: text.len() as u32,
                 code: Code::OpenStatement,
             }),
         },
     }
 }
 
-/// Reads the statements of a text up to its first fault of words, shape, symbols, labels or scope.
-pub fn read<'a, A: Allocator + Copy>(
+/// Reads the statements up to the first fault of words, shape, symbols, labels or scope.
+fn outline<'a, A: Allocator + Copy>(
     alloc: A,
     text: &'a [u8],
     tokens: &[Word],
     lexical: Option<Fault>,
-) -> Result<Database<'a, A>, AllocError>
+) -> Result<Outlined<'a, A>, AllocError>
     requires words { AreWords text.now tokens.now }
     requires few { length tokens.now < 2 ^ 31 }
-    requires short { length text.now < 2 ^ 31 }
+    requires short { lexical ≡ None → length text.now < 2 ^ 31 }
+    ensures few { IfOk result (λ d. length d.outlines.items < 2 ^ 31) }
+    ensures outlines { IfOk result (λ d. All (λ o. IsOutline o × (o.end < length tokens.now)) d.outlines.items) }
+    ensures keeps { IfOk result (λ d. Keeps (statements text.now tokens.now d.outlines.items) (find_in d.scope.names.symbols) (find_in d.scope.names.labels) (lists d.scope.blocks.of.items d.scope.blocks.ends.items d.scope.blocks.open.items)) }
     ensures read { IfOk result (λ d. IsRead (length text.now) (lexed text.now tokens.now lexical) (statements text.now tokens.now d.outlines.items) d.fault) }
 {
     let mut scope = no_scope(alloc)?;
@@ -101,10 +110,7 @@ pub fn read<'a, A: Allocator + Copy>(
             Found::Whole(outline) => {
                 let fault = scope.fault(alloc, text, tokens, deep, outline)?;
                 if fault.is_some() {
-                    let words = tokens.to_vec(alloc)?;
-                    return Ok(Database {
-                        text,
-                        words,
+                    return Ok(Outlined {
                         outlines,
                         scope,
                         fault,
@@ -116,22 +122,16 @@ pub fn read<'a, A: Allocator + Copy>(
                 at = outline.end + 1;
             }
             Found::Stopped(fault) => {
-                let words = tokens.to_vec(alloc)?;
                 let fault = Some(fault);
-                return Ok(Database {
-                    text,
-                    words,
+                return Ok(Outlined {
                     outlines,
                     scope,
                     fault,
                 });
             }
             Found::Ended(part) => {
-                let fault = end_fault(lexical, text.len() as u32, part, deep);
-                let words = tokens.to_vec(alloc)?;
-                return Ok(Database {
-                    text,
-                    words,
+                let fault = end_fault(lexical, text, part, deep);
+                return Ok(Outlined {
                     outlines,
                     scope,
                     fault,
@@ -139,6 +139,52 @@ pub fn read<'a, A: Allocator + Copy>(
             }
         }
     }
+}
+
+/// The statements of a text before its first fault of words, shape, symbols, labels or scope, and that fault (sections
+/// 4.1 and 4.2 of the Metamath book). The tokens and the fault lent are those of this text; it is refused for memory
+/// alone.
+pub fn read<'a, A: Allocator + Copy>(
+    alloc: A,
+    text: &'a [u8],
+    lexed: &Lexed<A>,
+) -> Result<Database<'a, A>, AllocError>
+    requires tokens { lexed.now.tokens.items ≡ tokens_of text.now }
+    requires fault { lexed.now.fault ≡ lexical_fault text.now }
+    ensures { IfOk result (λ database. database.text ≡ text.now) }
+{
+    let words = lexed.tokens.to_vec(alloc)?;
+    let read = outline(alloc, text, &words, lexed.fault)?;
+    let symbols = symbols_of(alloc, text, &words, &read.outlines)?;
+    let numbered = numbers_of(alloc, text, &words, &read.outlines, &symbols)?;
+    let beside = gather(
+        alloc,
+        &Tables::new(
+            text,
+            &words,
+            &read.outlines,
+            &read.scope.blocks,
+            &numbered.numbers,
+            &numbered.places,
+            &symbols.variables,
+        ),
+    )?;
+    Ok(Database {
+        text,
+        words,
+        outlines: read.outlines,
+        fault: read.fault,
+        blocks: read.scope.blocks,
+        labels: read.scope.names.labels,
+        names: symbols.names,
+        variables: symbols.variables,
+        numbers: numbered.numbers,
+        places: numbered.places,
+        frames: beside.frames,
+        latest_disjoint: beside.latest_disjoint,
+        theorems: beside.theorems,
+        axioms: beside.axioms,
+    })
 }
 
 impl<'a, A: Allocator + Copy> Names<'a, A> {
@@ -293,32 +339,5 @@ impl<'a, A: Allocator + Copy> Scope<'a, A> {
             self.names.set_symbol(word, symbol)?;
         }
         Ok(())
-    }
-}
-
-/// Whether a statement of that kind is active, by whether its block is open.
-fn is_active_kind(kind: Kind, is_open: bool) -> bool
-    ensures { result ≡ active_kind kind is_open }
-{
-    match kind {
-        Kind::Constants => true,
-        Kind::Axiom => true,
-        Kind::Theorem => true,
-        Kind::Open => false,
-        Kind::Close => false,
-        _ => is_open,
-    }
-}
-
-impl<'a, A: Allocator> Database<'a, A> {
-    /// Whether the statement is active at another, or at the end.
-    pub fn active_at(&self, statement: u32, at: u32) -> bool
-        requires blocks { IsBlocks (statements self.now.text.now self.now.words.items self.now.outlines.items) (lists self.now.scope.blocks.of.items self.now.scope.blocks.ends.items self.now.scope.blocks.open.items) }
-        requires inside { statement < vec_len self.now.outlines }
-        requires at { at ≤ vec_len self.now.outlines }
-        ensures { result ≡ is_active (statements self.now.text.now self.now.words.items self.now.outlines.items) statement at }
-    {
-        let kind = self.outlines[statement as usize].kind;
-        statement < at && is_active_kind(kind, self.scope.blocks.is_open_at(statement, at))
     }
 }

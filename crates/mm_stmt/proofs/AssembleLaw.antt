@@ -1,0 +1,46 @@
+-- What the reading of a text gives is a database.
+use Rattle.std.proofs.Common.{◌≡◌, ℕ, ◌<◌, ◌≤◌, ◌^◌, Bool, List, [], ◌∷◌, length, map, take, flat_map, Option, sym, ap, ap₂, ◌∙◌, subst, arith}
+use Rattle.std.proofs.lemmas.List.{length-map, take-map}
+use Rattle.mm_spec.specs.declared.Word.{Word}
+use Rattle.mm_spec.specs.declared.Fault.{Fault}
+use Rattle.mm_spec.specs.Frame.{symbol_names, formula_of}
+use Rattle.mm_spec.specs.Lexed as spec
+use Rattle.mm_spec.specs.Output.{IsRead, lexed_of}
+use Rattle.mm_stmt.specs.Blocks.{Lists}
+use Rattle.mm_stmt.specs.Database.{AreSymbols}
+use Rattle.mm_stmt.specs.Parts.{statement_of, token_of}
+use Rattle.mm_stmt.specs.Read.{Keeps, lexed, statements}
+use Rattle.mm_stmt.specs.Tables.{IsSound}
+use Rattle.mm_stmt.specs.declared.names.Symbol.{Symbol}
+use Rattle.mm_stmt.specs.declared.parts.Outline.{Outline}
+use Rattle.mm_stmt.proofs.BoundsLaw.{few-symbols, few-numbers}
+use Rattle.mm_stmt.proofs.SoundLaw.{sound_read}
+
+-- the words lent are those of the text
+pub is_read : (text : List ℕ) (ws vs : List Word) (os : List Outline) (lexical fault : Option Fault) → ws ≡ vs → vs ≡ spec.tokens_of text → lexical ≡ spec.lexical_fault text
+    → IsRead (length text) (lexed text ws lexical) (statements text ws os) fault → IsRead (length text) (lexed_of text) (statements text vs os) fault
+is_read text ws vs os lexical fault e f l h = subst (λ x. IsRead (length text) x (statements text vs os) fault) (ap₂ (lexed text) f l) (subst (λ us. IsRead (length text) (lexed text us lexical) (statements text us os) fault) e h)
+
+module _ (text : List ℕ) (ws : List Word) (os : List Outline) (lexical fault : Option Fault) (r : IsRead (length text) (lexed text ws lexical) (statements text ws os) fault) (small : length ws < 2 ^ 31) where
+  -- there are few symbols
+  pub names_few : (db : List _) (names : List (List ℕ)) (kinds : List Bool) → db ≡ statements text ws os → AreSymbols db names kinds → length names < 2 ^ 31
+  names_few db names kinds e s =
+      let n = ap length s.names_are in
+      let m = ap (λ d. length (symbol_names d)) e in
+      let f = few-symbols (length text) (lexed text ws lexical) (statements text ws os) fault r in
+      let w = length-map ws (token_of text) in
+      omega (arith, n, m, f, w, small)
+
+  -- their numbers are few
+  pub numbers_few : (i : ℕ) → length (flat_map (formula_of (statements text ws os)) (statements text ws (take i os))) < 2 ^ 31
+  numbers_few i =
+      let f = few-numbers (length text) (lexed text ws lexical) (statements text ws os) fault r (statements text ws os) i in
+      let e = ap (λ l. length (flat_map (formula_of (statements text ws os)) l)) (take-map (statement_of text ws) i os) in
+      let w = length-map ws (token_of text) in
+      omega (arith, f, e, w, small)
+
+  -- they are sound
+  pub sound : (look : List ℕ → Option Symbol) (labels : List ℕ → Option ℕ) (b : Lists) → Keeps (statements text ws os) look labels b → length os < 2 ^ 31 → IsSound (statements text ws os)
+  sound look labels b keeps few =
+      let m = length-map os (statement_of text ws) in
+      sound_read (length text) (lexed text ws lexical) (statements text ws os) fault r look labels b keeps (omega (arith, m, few))
