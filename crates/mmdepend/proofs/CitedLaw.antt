@@ -117,7 +117,7 @@ module _ (db : List Statement) (few : length db < 2 ^ 31) (complete : AreComplet
       by p.0 p.1 p.2 (cases_lt p.0 i)
     where
       by : (n : ℕ) → n < length (theorems db) → get_or (theorems db) n 0 ≡ j → (n < i) ⊎ (i ≤ n) → IsValid db j
-      by n m e (inl s) = let c = h.each n s in subst (λ t. IsValid db t) e (c.read, c.derivation, c.proof)
+      by n m e (inl s) = let c = h.each n s in subst (λ t. IsValid db t) e (c.read, c.checked.derivation, c.checked.proof)
       by n m e (inr s) = absurd (go (cases_lt i n))
         where
           go : (i < n) ⊎ (n ≤ i) → ⊥
@@ -129,7 +129,7 @@ module _ (db : List Statement) (few : length db < 2 ^ 31) (complete : AreComplet
   all-valid lists h j k th =
       let p = theorem-place db j th in
       let c = h.each p.0 p.1 in
-      subst (λ t. IsValid db t) p.2 (c.read, c.derivation, c.proof)
+      subst (λ t. IsValid db t) p.2 (c.read, c.checked.derivation, c.checked.proof)
 
   module _ (lists : List (List ℕ)) (h : AreCited db (theorems db) (length (theorems db)) lists) where
     abbrev c : Citing
@@ -142,8 +142,8 @@ module _ (db : List Statement) (few : length db < 2 ^ 31) (complete : AreComplet
       earlier = λ i k l m.
           let e = h.each i l in
           let x = get_or (get_or lists i []) k 0 in
-          let both = and_parts (is_member (postfix e.derivation) x) (list_any is_assertion (statement_at db x)) (sym (e.exact x) ∙ at-member (get_or lists i []) k m) in
-          cited-earlier db (get_or (theorems db) i 0) x e.derivation e.proof both.0;
+          let both = and_parts (is_member (postfix e.checked.derivation) x) (list_any is_assertion (statement_at db x)) (sym (e.checked.exact x) ∙ at-member (get_or lists i []) k m) in
+          cited-earlier db (get_or (theorems db) i 0) x e.checked.derivation e.checked.proof both.0;
     }
 
     pub shows : Shows db c
@@ -154,15 +154,15 @@ module _ (db : List Statement) (few : length db < 2 ^ 31) (complete : AreComplet
             let e = h.each x.row x.within in
             let l = get_or lists x.row [] in
             let b = get_or l x.place 0 in
-            let both = and_parts (is_member (postfix e.derivation) b) (list_any is_assertion (statement_at db b)) (sym (e.exact b) ∙ at-member l x.place x.listed) in
-            subst (λ y. proof.Cites db t y) x.cited (subst (λ y. proof.Cites db y b) x.theorem (both.1, e.derivation, e.proof, both.0))
+            let both = and_parts (is_member (postfix e.checked.derivation) b) (list_any is_assertion (statement_at db b)) (sym (e.checked.exact b) ∙ at-member l x.place x.listed) in
+            subst (λ y. proof.Cites db t y) x.cited (subst (λ y. proof.Cites db y b) x.theorem (both.1, e.checked.derivation, e.checked.proof, both.0))
 
         from : (t a : ℕ) → proof.Cites db t a → Cites c t a
         from t a x =
             let p = theorem-place db t (proof-theorem db t x.1 x.2) in
             let e = h.each p.0 p.1 in
             let l = get_or lists p.0 [] in
-            let same : e.derivation ≡ x.1 = proof_unique db complete t e.derivation x.1 (subst (λ y. IsProof db y e.derivation) p.2 e.proof) x.2 in
-            let m : is_member l a ≡ true = e.exact a ∙ and_from (is_member (postfix e.derivation) a) (list_any is_assertion (statement_at db a)) (ap (λ d. is_member (postfix d) a) same ∙ x.3) x.0 in
+            let same : e.checked.derivation ≡ x.1 = proof_unique db complete t e.checked.derivation x.1 (subst (λ y. IsProof db y e.checked.derivation) p.2 e.checked.proof) x.2 in
+            let m : is_member l a ≡ true = e.checked.exact a ∙ and_from (is_member (postfix e.checked.derivation) a) (list_any is_assertion (statement_at db a)) (ap (λ d. is_member (postfix d) a) same ∙ x.3) x.0 in
             let q = member-at l a m in
             record { row = p.0; place = q.0; within = p.1; listed = q.1; theorem = p.2; cited = q.2 }

@@ -1,23 +1,19 @@
 -- What the checking of all proofs finds.
-use Rattle.std.specs.Prelude.{◌≡◌, ℕ, ◌<◌, Bool, ◌&&◌, List, [], length, slice_index, slice_index_or, IsTrue}
-use Rattle.std.specs.List.{list_any}
-use Rattle.std.specs.List.Sorted.{IsStrictlyIncreasing}
+use Rattle.std.specs.Prelude.{◌≡◌, ℕ, ◌<◌, List, [], length, slice_index, slice_index_or, slice_get}
 use Rattle.mm_spec.specs.Statement.{Statement}
-use Rattle.mm_spec.specs.Scope.{statement_at}
-use Rattle.mm_spec.specs.Derivation.{Trees, postfix, is_member}
-use Rattle.mm_spec.specs.Citation.{is_assertion, reading_faults_at, IsProof}
-use Rattle.mm_spec.specs.Output.{AreValid, FirstProofFault, theorems}
+use Rattle.mm_spec.specs.Citation.{reading_faults_at}
+use Rattle.mm_spec.specs.Output.{AreValid, FirstProofFault, ProofFault, end_of, theorems}
 use Rattle.mm_spec.specs.declared.Fault.{Fault}
+use Rattle.mmdepend.specs.declared.verify.VerifyRefused.{VerifyRefused}
+use Rattle.mmdepend.specs.declared.verify.VerifyRefused.TheVariants.{Fault as Faulty, Memory}
+use Rattle.mm_check.specs.Contract.{IsChecked}
 use Rattle.mm_rows.specs.Chains.{Citing, IsFileOrder}
 use Rattle.mm_rows.specs.Shows.{Shows}
 
 -- these are the citations of a valid theorem
 pub record IsCited (db : List Statement) (t : ℕ) (cites : List ℕ) : Type 0 where
   pub read : reading_faults_at db t ≡ []
-  pub derivation : Trees
-  pub proof : IsProof db t derivation
-  pub rising : IsStrictlyIncreasing cites
-  pub exact : (a : ℕ) → is_member cites a ≡ (is_member (postfix derivation) a && list_any is_assertion (statement_at db a))
+  pub checked : IsChecked db t cites
 
 -- the first theorems are valid, with these citations
 pub record AreCited (db : List Statement) (ts : List ℕ) (n : ℕ) (lists : List (List ℕ)) : Type 0 where
@@ -33,3 +29,13 @@ pub record AllCited (db : List Statement) (c : Citing) : Type 0 where
 -- the proof of some theorem has this fault, and those of the earlier ones have none
 abbrev pub IsFirstFault : List Statement → Fault → Type 0
 IsFirstFault db f = (k : ℕ) × FirstProofFault db k f
+
+-- a fault is that of the theorem's proof
+abbrev pub Faults : List Statement → ℕ → VerifyRefused → Type 0
+Faults db t (Faulty f) = ProofFault db t (end_of (slice_get db t)) f
+Faults db t Memory = Unit {0}
+
+-- a fault is that of the first proof that has one
+abbrev pub Stops : List Statement → VerifyRefused → Type 0
+Stops db (Faulty f) = IsFirstFault db f
+Stops db Memory = Unit {0}

@@ -7,6 +7,7 @@
 mod input;
 mod plan;
 mod run;
+mod verify;
 
 pub use plan::{Cutting, Plan};
 pub use run::RunEnd;
