@@ -1,4 +1,4 @@
-use Rattle.std.proofs.Common.{◌≡◌, ◌==◌, ◌∙◌, ◌&&◌, ℕ, ◌<◌, ◌≤◌, Bool, List, true, false, not, sym, ap, ap₂, arith, refl, true≢false}
+use Rattle.std.proofs.Common.{◌≡◌, ◌==◌, ◌∙◌, ◌&&◌, ℕ, ◌<◌, Bool, List, true, false, not, sym, ap₂, arith, refl, true≢false}
 use Rattle.std.specs.List.{list_any}
 use Rattle.std.proofs.lemmas.Bool.{and_parts, and_from}
 use Rattle.mm_spec.specs.Statement.{Statement}
