@@ -1,5 +1,5 @@
 -- Each of the theorems is one, so that a caller may read and check it.
-use Rattle.std.proofs.Common.{◌≡◌, ℕ, true, List, length, All, IsTrue}
+use Rattle.std.proofs.Common.{◌≡◌, true, List, length, All, IsTrue}
 use Rattle.std.specs.List.{range_with_len}
 use Rattle.std.proofs.lemmas.List.Elements.{All-from_recursion}
 use Rattle.mm_spec.specs.Statement.{Statement}
