@@ -2,3 +2,4 @@ pub mod UsableLaw
 pub mod LeastLaw
 pub mod RisingLaw
 pub mod ReadLaw
+pub mod TheoremsLaw
