@@ -1,2 +1,4 @@
 pub mod RowsLaw
 pub mod CitedLaw
+pub mod VerifyLaw
+pub mod EndsLaw

@@ -10,6 +10,6 @@ mod run;
 mod verify;
 
 pub use plan::{Cutting, Plan};
-pub use run::RunEnd;
+pub use run::{RunEnd, run};
 
 fn main() {}

@@ -11,11 +11,13 @@ ghost use Rattle.mmdepend.specs.Plans.{IsLawful, only_of};
 
 use crate::input::{ReadRefused, read_all};
 use crate::plan::Plan;
+use crate::verify::{VerifyRefused, verify};
+use mm_lex::{Cuts, lex};
 use mm_report::{write_refusal, write_report};
 use mm_rows::{Citations, Columns, matrix};
 use mm_spec::Fault;
-use mm_stmt::Database;
-use std::alloc::{AllocError, Allocator};
+use mm_stmt::{Database, read};
+use std::alloc::Allocator;
 use std::io::{Read, Write};
 use std::thread::Threads;
 
@@ -72,5 +74,59 @@ fn report<'a, A: Allocator + Copy, W: Write>(
     match write_report(to, database, &columns, &table, plan.choice) {
         Ok(()) => RunEnd::Accepted,
         Err(_) => RunEnd::WriteFailed,
+    }
+}
+
+/// Writes what the text and the choice of report define: the refusal of the first fault, or the report.
+fn answer<R: Threads + Sync, A: Allocator + Copy + Send + Sync, W: Write>(
+    rt: &R,
+    alloc: A,
+    text: &[u8],
+    plan: &Plan<A>,
+    to: &mut W,
+) -> RunEnd
+    requires few { length text.now ≤ reading_limit }
+    ensures { Answers result text.now (only_of plan.now) (choice_of plan.now.choice) (W.contents to.old) (W.contents to.new) }
+{
+    let Ok(cuts) = Cuts::equal(alloc, text.len(), 1) else {
+        return RunEnd::NoMemory;
+    };
+    let Ok(lexed) = lex(rt, alloc, text, &cuts) else {
+        return RunEnd::NoMemory;
+    };
+    let Ok(database) = read(alloc, text, &lexed) else {
+        return RunEnd::NoMemory;
+    };
+    let _ = database.len();
+    match verify(alloc, &database) {
+        Err(refused) => match refused {
+            VerifyRefused::Fault(fault) => refuse(text, fault, plan, to),
+            VerifyRefused::Memory => RunEnd::NoMemory,
+        },
+        Ok(citations) => match database.fault() {
+            Some(fault) => refuse(text, fault, plan, to),
+            None => report(alloc, &database, &citations, plan, to),
+        },
+    }
+}
+
+/// Reads a text to its end and writes what it and the plan's choice of report define: the refusal of its first fault, or
+/// its report. A text is no longer read once it is too long. Nothing was written where reading failed or memory was
+/// refused; a beginning of the output where writing failed.
+pub fn run<R: Threads + Sync, A: Allocator + Copy + Send + Sync, I: Read, O: Write>(
+    rt: &R,
+    alloc: A,
+    plan: &Plan<A>,
+    from: &mut I,
+    to: &mut O,
+) -> RunEnd
+    requires { IsLawful plan.now }
+    ensures { Ends result (only_of plan.now) (choice_of plan.now.choice) (I.remaining from.old) (I.remaining from.new) (O.contents to.old) (O.contents to.new) }
+{
+    let mut text = Vec::new(alloc);
+    match read_all(from, &mut text) {
+        Ok(()) => answer(rt, alloc, &text, plan, to),
+        Err(ReadRefused::Failed) => RunEnd::ReadFailed,
+        Err(ReadRefused::Memory) => RunEnd::NoMemory,
     }
 }

@@ -1,0 +1,10 @@
+use Rattle.std.proofs.Common.{ℕ, List, length, subst, inl}
+use Rattle.mm_spec.specs.Output.{IsRead, lexed_of}
+use Rattle.mmdepend.specs.Judged.{Stops}
+use Rattle.mmdepend.proofs.run.answer.Goals as goal
+
+pub refuse-requires : goal.refuse-requires
+refuse-requires g c =
+    let db = c.in-Ok-read.database.statements in
+    let fault = c.in-Ok-read.database.fault in
+    (db, fault, subst (λ (text : List ℕ). IsRead (length text) (lexed_of text) db fault) c.in-Ok-read.ensures c.len.ensures.read, inl (subst (λ e. Stops db e) c.in-Fault.is c.in-Err.ensures.refused))
