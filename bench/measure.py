@@ -32,36 +32,46 @@ def run(program, path):
         return time.monotonic() - begun, usage.ru_maxrss * 1024, os.waitstatus_to_exitcode(status)
 
 
-def figures(program, text, runs, wanted=0):
-    """The fastest of some runs on a text: seconds and peak memory in bytes."""
+def made(make, size, path):
+    """Writes a text to a file, and tells its size, theorems and steps. A process of its own makes it: what this process
+    holds would count as the program's memory."""
+    with tempfile.NamedTemporaryFile("r") as told:
+        child = os.fork()
+        if child == 0:
+            text, theorems, steps = make(size)
+            with open(path, "wb") as file:
+                file.write(text)
+            with open(told.name, "w") as file:
+                file.write(f"{len(text)} {theorems} {steps}")
+            os._exit(0)
+        _, status = os.waitpid(child, 0)
+        if status != 0:
+            sys.exit("the text could not be made")
+        return tuple(int(word) for word in told.read().split())
+
+
+def figures(name, make, size, words):
+    """Makes a text, runs the program on it some times, and prints the least seconds and the greatest memory."""
     with tempfile.NamedTemporaryFile(suffix=".mm") as file:
-        file.write(text)
-        file.flush()
-        found = [run(program, file.name) for _ in range(runs)]
+        length, theorems, steps = made(make, size, file.name)
+        found = [run(words.program, file.name) for _ in range(words.runs)]
     for _, _, status in found:
-        if status != wanted:
-            sys.exit(f"the program ended with status {status}, and {wanted} was wanted")
-    return min(seconds for seconds, _, _ in found), max(peak for _, peak, _ in found)
-
-
-def line(name, text, seconds, peak):
-    """One line of figures."""
-    size = len(text)
-    return (
-        f"{name}: {size / 1e6:.1f} MB of text, {seconds:.2f} s, {peak / 1e6:.0f} MB of peak memory, "
-        f"{peak / size:.1f} bytes for each byte of text"
-    )
+        if status != 0:
+            sys.exit(f"{name}: the program ended with status {status}")
+    seconds = min(it[0] for it in found)
+    peak = max(it[1] for it in found)
+    said = f"{name}: {length / 1e6:.1f} MB of text, {theorems} theorems, {steps} steps: {seconds:.2f} s, "
+    said += f"{peak / 1e6:.0f} MB of peak memory, {peak / length:.1f} bytes for each byte of text"
+    if steps > 1000000:
+        said += f", {steps / seconds / 1e6:.2f} million steps a second"
+    print(said, flush=True)
+    return seconds
 
 
 def compare(name, make, size, words):
-    """Runs the program on a text and on one of twice the size, and prints the figures of both and their ratio."""
-    times = []
-    for factor in (1, 2):
-        text, note = make(size * factor)
-        seconds, peak = figures(words.program, text, words.runs)
-        print(line(name, text, seconds, peak) + (f", {note(seconds)}" if note else ""), flush=True)
-        times.append(seconds)
-    print(f"{name}: twice the size takes {times[1] / times[0]:.2f} times the time", flush=True)
+    """The figures of a text and of one of twice the size, and the ratio of the two times."""
+    once, twice = (figures(name, make, size * factor, words) for factor in (1, 2))
+    print(f"{name}: twice the size takes {twice / once:.2f} times the time", flush=True)
 
 
 def machine():
