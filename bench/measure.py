@@ -1,0 +1,84 @@
+"""What the benchmarks share: the built program, its time and its peak memory."""
+import argparse
+import os
+import sys
+import tempfile
+import time
+
+ROOT = os.path.dirname(os.path.dirname(os.path.abspath(__file__)))
+PROGRAM = os.path.join(ROOT, "crates", "mmdepend", "out", "mmdepend")
+
+
+def words(description):
+    """The words that every benchmark takes."""
+    parser = argparse.ArgumentParser(description=description)
+    parser.add_argument("--program", default=PROGRAM, help="the built program (default: that of this repository)")
+    parser.add_argument("--runs", type=int, default=3, help="runs of each text; the fastest counts (default 3)")
+    parser.add_argument("--write", metavar="FILE", help="write the smaller text to FILE, and run nothing")
+    return parser
+
+
+def run(program, path):
+    """Runs the program on a file: its seconds, its peak memory in bytes, and its status."""
+    with open(os.devnull, "wb") as nowhere:
+        begun = time.monotonic()
+        child = os.posix_spawn(
+            program,
+            [program, path],
+            os.environ,
+            file_actions=[(os.POSIX_SPAWN_DUP2, nowhere.fileno(), 1)],
+        )
+        _, status, usage = os.wait4(child, 0)
+        return time.monotonic() - begun, usage.ru_maxrss * 1024, os.waitstatus_to_exitcode(status)
+
+
+def made(make, size, path):
+    """Writes a text to a file, and tells its size, theorems and steps. A process of its own makes it: what this process
+    holds would count as the program's memory."""
+    with tempfile.NamedTemporaryFile("r") as told:
+        child = os.fork()
+        if child == 0:
+            text, theorems, steps = make(size)
+            with open(path, "wb") as file:
+                file.write(text)
+            with open(told.name, "w") as file:
+                file.write(f"{len(text)} {theorems} {steps}")
+            os._exit(0)
+        _, status = os.waitpid(child, 0)
+        if status != 0:
+            sys.exit("the text could not be made")
+        return tuple(int(word) for word in told.read().split())
+
+
+def figures(name, make, size, words):
+    """Makes a text, runs the program on it some times, and prints the least seconds and the greatest memory."""
+    with tempfile.NamedTemporaryFile(suffix=".mm") as file:
+        length, theorems, steps = made(make, size, file.name)
+        found = [run(words.program, file.name) for _ in range(words.runs)]
+    for _, _, status in found:
+        if status != 0:
+            sys.exit(f"{name}: the program ended with status {status}")
+    seconds = min(it[0] for it in found)
+    peak = max(it[1] for it in found)
+    said = f"{name}: {length / 1e6:.1f} MB of text, {theorems} theorems, {steps} steps: {seconds:.2f} s, "
+    said += f"{peak / 1e6:.0f} MB of peak memory, {peak / length:.1f} bytes for each byte of text"
+    if steps > 1000000:
+        said += f", {steps / seconds / 1e6:.2f} million steps a second"
+    print(said, flush=True)
+    return seconds
+
+
+def compare(name, make, size, words):
+    """The figures of a text and of one of twice the size, and the ratio of the two times."""
+    once, twice = (figures(name, make, size * factor, words) for factor in (1, 2))
+    print(f"{name}: twice the size takes {twice / once:.2f} times the time", flush=True)
+
+
+def machine():
+    """The machine, for the record."""
+    print(f"{os.cpu_count()} cores", flush=True)
+
+
+def check_program(path):
+    if not os.access(path, os.X_OK):
+        sys.exit(f"there is no program at {path}: run ./mmdepend once, which builds it")
