@@ -32,3 +32,11 @@ abbrev pub Ends : RunEnd → Option Word → Choice → (before after held holds
 Ends ReadFailed only choice before after held holds = Keeps held holds
 Ends NoMemory only choice before after held holds = Keeps held holds
 Ends end only choice before after held holds = (text : List ℕ) × Gave before after text × Answers end text only choice held holds
+
+-- the program's status
+abbrev pub status_of : RunEnd → ℕ
+status_of Accepted = 0
+status_of (Refused f) = 1
+status_of ReadFailed = 3
+status_of WriteFailed = 3
+status_of NoMemory = 4
