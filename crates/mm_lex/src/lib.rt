@@ -11,11 +11,10 @@ mod roles;
 pub mod threads;
 mod words;
 
-pub use cuts::{Cuts, CutsFault};
-pub use mm_spec::{Code, Fault, Word};
-
 use crate::roles::{role, word_fault};
 use crate::words::next_word;
+pub use cuts::{Cuts, CutsFault};
+pub use mm_spec::{Code, Fault, Word};
 use mm_spec::{Role, TEXT_LIMIT};
 use std::alloc::{AllocError, Allocator};
 use std::thread::Threads;

@@ -59,5 +59,10 @@ pub is-output : (text : List ℕ) (only : Option Word) (choice : Choice) (db : L
     → HasNoFault (length text) (lexed_of text) db → AllCited db c → axioms ≡ columns db only → IsMatrix c axioms m → IsOutput text only choice (report_of db axioms m choice)
 is-output text only choice db c axioms m sound cited is h =
     let h' = subst (λ (l : List ℕ). IsMatrix c l m) is h in
-    inr (db, sound, rows_of m (map (label_at db) (theorems db)), rows-are db c (columns db only) m cited.theorems_are cited.shows h',
-    ap (λ (l : List ℕ). report (map (label_at db) l) (rows_of m (map (label_at db) (theorems db))) choice) is)
+    inr (
+      db,
+      sound,
+      rows_of m (map (label_at db) (theorems db)),
+      rows-are db c (columns db only) m cited.theorems_are cited.shows h',
+      ap (λ (l : List ℕ). report (map (label_at db) l) (rows_of m (map (label_at db) (theorems db))) choice) is,
+    )

@@ -12,22 +12,19 @@ ghost use Rattle.mmdepend.specs.declared.run.RunEnd.{RunEnd as End};
 mod input;
 mod plan;
 mod run;
-mod verify;
-
 #[cfg(test)]
 mod tests;
+mod verify;
 
 use mm_report::Choice;
+pub use plan::{Cutting, Plan};
+pub use run::{RunEnd, run};
 use std::alloc::Allocator;
-use std::env;
-use std::fs;
 use std::io::{Read, Write};
 use std::process::ExitCode;
 use std::rt::{Env, Files};
 use std::thread::Threads;
-
-pub use plan::{Cutting, Plan};
-pub use run::{RunEnd, run};
+use std::{env, fs};
 
 /// The whole program over a reader and two writers: runs with four pieces, four workers, all axioms and all sections.
 /// Answers the status: 0 for a report, 1 for a refusal, 3 where reading or writing failed, 4 where memory was refused.

@@ -37,12 +37,7 @@ pub enum RunEnd {
 }
 
 /// Writes the refusal of the text for its first fault.
-fn refuse<A: Allocator, W: Write>(
-    text: &[u8],
-    fault: Fault,
-    plan: &Plan<A>,
-    to: &mut W,
-) -> RunEnd
+fn refuse<A: Allocator, W: Write>(text: &[u8], fault: Fault, plan: &Plan<A>, to: &mut W) -> RunEnd
     requires { FirstFault (length text.now) (lexed_of text.now) fault }
     ensures { Answers result text.now (only_of plan.now) (choice_of plan.now.choice) (W.contents to.old) (W.contents to.new) }
 {

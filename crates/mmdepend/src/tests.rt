@@ -6,9 +6,11 @@ use std::io;
 use std::io::{ErrorKind, Read, Write};
 use std::thread::Threads;
 
-const FIRST: &[u8] = b"$c wff |- ( -> ) $.\n$v p q $.\nwp $f wff p $.\nwq $f wff q $.\nwi $a wff ( p -> q ) $.\nax-1 $a |- ( p -> ( q -> p ) ) $.\nwi2 $p wff ( p -> ( q -> p ) ) $= wp wq wp wi wi $.\n";
+const FIRST: &[u8] =
+    b"$c wff |- ( -> ) $.\n$v p q $.\nwp $f wff p $.\nwq $f wff q $.\nwi $a wff ( p -> q ) $.\nax-1 $a |- ( p -> ( q -> p ) ) $.\nwi2 $p wff ( p -> ( q -> p ) ) $= wp wq wp wi wi $.\n";
 
-const FIRST_REPORT: &[u8] = b"mmdepend 1\naxioms 2\ntheorems 1\nmatrix\nwi2:10\ncounts\nwi2:1\nusage\nwi:1:wi2\nax-1:0:\nend\n";
+const FIRST_REPORT: &[u8] =
+    b"mmdepend 1\naxioms 2\ntheorems 1\nmatrix\nwi2:10\ncounts\nwi2:1\nusage\nwi:1:wi2\nax-1:0:\nend\n";
 
 /// A reader that fails at its first read.
 #[derive(Drop)]
@@ -81,13 +83,31 @@ fn places(alloc: Global, all: &[u32]) -> Result<Cutting<Global>, AllocError> {
 #[test]
 fn first_theorem_is_reported(rt: HostRuntime) {
     let alloc = rt.alloc();
-    assert!(&rt; writes(&rt, alloc, Cutting::Count(4), FIRST, RunEnd::Accepted, FIRST_REPORT));
+    assert!(&rt;
+        writes(
+            &rt,
+            alloc,
+            Cutting::Count(4),
+            FIRST,
+            RunEnd::Accepted,
+            FIRST_REPORT
+        )
+    );
 }
 
 #[test]
 fn empty_text_is_reported(rt: HostRuntime) {
     let report = b"mmdepend 1\naxioms 0\ntheorems 0\nmatrix\ncounts\nusage\nend\n".as_slice();
-    assert!(&rt; writes(&rt, rt.alloc(), Cutting::Count(4), b"", RunEnd::Accepted, report));
+    assert!(&rt;
+        writes(
+            &rt,
+            rt.alloc(),
+            Cutting::Count(4),
+            b"",
+            RunEnd::Accepted,
+            report
+        )
+    );
 }
 
 #[test]
@@ -103,7 +123,8 @@ fn every_cut_gives_the_same_report(rt: HostRuntime) -> Result<(), AllocError> {
 #[test]
 fn cuts_in_keywords_give_the_same_report(rt: HostRuntime) -> Result<(), AllocError> {
     let alloc = rt.alloc();
-    let text = b"$c wff |- ( -> ) $.\n$v p q $.\nwp $f wff p $.\nwq $f wff q $.\nwi $a wff ( p -> q ) $.\nax-1 $a |- ( p -> ( q -> p ) ) $.\n$( a $c b $)\nwi2 $p wff ( p -> ( q -> p ) ) $= wp wq wp wi wi $.\n".as_slice();
+    let text =
+        b"$c wff |- ( -> ) $.\n$v p q $.\nwp $f wff p $.\nwq $f wff q $.\nwi $a wff ( p -> q ) $.\nax-1 $a |- ( p -> ( q -> p ) ) $.\n$( a $c b $)\nwi2 $p wff ( p -> ( q -> p ) ) $= wp wq wp wi wi $.\n".as_slice();
     let cuts = places(alloc, &[119, 124, 129])?;
     assert!(&rt; writes(&rt, alloc, cuts, text, RunEnd::Accepted, FIRST_REPORT));
     Ok(())
@@ -131,7 +152,16 @@ fn spaces_in_front_change_nothing(rt: HostRuntime) -> Result<(), AllocError> {
         let mut text = Vec::new(alloc);
         text.extend_from_slice(&spaces[..count])?;
         text.extend_from_slice(&FIRST[..169])?;
-        assert!(&rt; writes(&rt, alloc, Cutting::Count(4), &text, RunEnd::Accepted, FIRST_REPORT));
+        assert!(&rt;
+            writes(
+                &rt,
+                alloc,
+                Cutting::Count(4),
+                &text,
+                RunEnd::Accepted,
+                FIRST_REPORT
+            )
+        );
     }
     Ok(())
 }
@@ -146,7 +176,16 @@ fn bad_byte_is_refused_at_its_place(rt: HostRuntime) -> Result<(), AllocError> {
         at: 162,
         code: Code::BadByte,
     });
-    assert!(&rt; writes(&rt, alloc, Cutting::Count(4), &text, end, b"refused 7:45 E01\n"));
+    assert!(&rt;
+        writes(
+            &rt,
+            alloc,
+            Cutting::Count(4),
+            &text,
+            end,
+            b"refused 7:45 E01\n"
+        )
+    );
     Ok(())
 }
 
@@ -160,7 +199,16 @@ fn proof_fault_comes_before_a_later_bad_byte(rt: HostRuntime) -> Result<(), Allo
         at: 164,
         code: Code::NotOneEntry,
     });
-    assert!(&rt; writes(&rt, alloc, Cutting::Count(4), &text, end, b"refused 7:47 E37\n"));
+    assert!(&rt;
+        writes(
+            &rt,
+            alloc,
+            Cutting::Count(4),
+            &text,
+            end,
+            b"refused 7:47 E37\n"
+        )
+    );
     Ok(())
 }
 
@@ -170,7 +218,10 @@ fn failing_reader_writes_nothing(rt: HostRuntime) {
     let plan = plan(Cutting::Count(4));
     let mut written = Vec::new(alloc);
     assert!(&rt; plan.is_lawful());
-    assert_eq!(rt; run(&rt, alloc, &plan, &mut Failing {}, &mut written), RunEnd::ReadFailed);
+    assert_eq!(rt;
+        run(&rt, alloc, &plan, &mut Failing {}, &mut written),
+        RunEnd::ReadFailed
+    );
     assert_eq!(rt; written.len(), 0);
 }
 
@@ -183,6 +234,9 @@ fn failing_writer_has_a_beginning(rt: HostRuntime) {
         len: 0,
     };
     assert!(&rt; plan.is_lawful());
-    assert_eq!(rt; run(&rt, rt.alloc(), &plan, &mut text, &mut to), RunEnd::WriteFailed);
+    assert_eq!(rt;
+        run(&rt, rt.alloc(), &plan, &mut text, &mut to),
+        RunEnd::WriteFailed
+    );
     assert_eq!(rt; to.taken.as_slice(), b"mmdepend 1".as_slice());
 }

@@ -13,5 +13,5 @@ loop-i-preserved g c =
 pub invariant_of-result : goal.invariant_of-result
 invariant_of-result g c =
     let same : c.loop-i.places.items ≡ map (λ i. c.args.len * (i + 1) / c.args.count) (range_with_len 0 (c.args.count - 1)) =
-        let end : c.loop-i.i ≡ c.args.count - 1 = omega arith in c.loop-i.invariant ∙ ap (λ n. map (λ i. c.args.len * (i + 1) / c.args.count) (range_with_len 0 n)) end in
+    let end : c.loop-i.i ≡ c.args.count - 1 = omega arith in c.loop-i.invariant ∙ ap (λ n. map (λ i. c.args.len * (i + 1) / c.args.count) (range_with_len 0 n)) end in
     subst (λ (l : List ℕ). IsCutText (cut_text l c.args.len)) (sym same) (equal-cuts c.args.len c.args.count c.requires.some)
