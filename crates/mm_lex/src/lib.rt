@@ -1,4 +1,6 @@
-//! The words, tokens and comments of a Metamath text, and its first lexical fault.
+//! The words, tokens and comments of a Metamath text. This layer knows bytes and where a text is cut. It promises the
+//! tokens before the first lexical fault, as places in the text, and that fault (`Rattle.mm_spec.specs.Lexed`), the same
+//! for every way of cutting.
 #![tactic(auto)]
 
 ghost use Rattle.std.specs.Prelude.{◌≡◌, ◌<◌, ◌≤◌, ◌+◌, length, IfOk, is_some};
