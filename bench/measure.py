@@ -20,11 +20,16 @@ def words(description):
 
 def run(program, path):
     """Runs the program on a file: its seconds, its peak memory in bytes, and its status."""
+    return run_words([program, path])
+
+
+def run_words(words):
+    """Runs a program with these words, the program's path first: its seconds, its peak memory in bytes, and its status."""
     with open(os.devnull, "wb") as nowhere:
         begun = time.monotonic()
         child = os.posix_spawn(
-            program,
-            [program, path],
+            words[0],
+            words,
             os.environ,
             file_actions=[(os.POSIX_SPAWN_DUP2, nowhere.fileno(), 1)],
         )

@@ -14,6 +14,8 @@ mod plan;
 mod run;
 #[cfg(test)]
 mod tests;
+#[cfg(test)]
+mod vectors;
 mod verify;
 
 use mm_report::Choice;

@@ -75,6 +75,31 @@ fn writes<R: Threads + Sync>(
         && written.as_slice() == output
 }
 
+/// Whether a run on the text writes these bytes.
+pub(crate) fn prints<R: Threads + Sync>(
+    rt: &R,
+    alloc: Global,
+    mut text: &[u8],
+    output: &[u8],
+) -> bool {
+    let plan = plan(Cutting::Count(4));
+    let mut written = Vec::new(alloc);
+    if !plan.is_lawful() {
+        return false;
+    }
+    let _ = run(rt, alloc, &plan, &mut text, &mut written);
+    written.as_slice() == output
+}
+
+/// The parts, one behind the other.
+pub(crate) fn joined(alloc: Global, parts: &[&[u8]]) -> Result<Vec<u8>, AllocError> {
+    let mut text = Vec::new(alloc);
+    for part in parts {
+        text.extend_from_slice(part)?;
+    }
+    Ok(text)
+}
+
 /// The places, as a list.
 fn places(alloc: Global, all: &[u32]) -> Result<Cutting<Global>, AllocError> {
     Ok(Cutting::Places(all.to_vec(alloc)?))
