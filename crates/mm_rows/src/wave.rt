@@ -1,0 +1,246 @@
+//! The rows, wave by wave: a theorem's row needs those of the theorems that it cites, which are of lower waves.
+
+ghost use Rattle.std.specs.Prelude.{◌≡◌, ◌<◌, ◌≤◌, ◌+◌, ◌*◌, ℕ, List, length, slice_index, slice_index_or, IfOk, OnOk, All};
+ghost use Rattle.std.specs.List.{AllZip, range_with_len};
+ghost use Rattle.mm_rows.specs.Bits.{words_for};
+ghost use Rattle.mm_rows.specs.Chains.{IsRising, IsBitRow, IsReady, AreBitRows, IsMatrix, theorem_at, row_at};
+ghost use Rattle.mm_rows.specs.Waves.{IsWave, AreWaves, IsByWave, AreMade};
+
+use crate::citations::Citations;
+use crate::columns::Columns;
+use crate::rows::{bit_row, finish, place};
+use crate::table::Matrix;
+use rayon::prelude::*;
+use std::alloc::{AllocError, Allocator};
+use std::thread::Threads;
+
+/// The wave of a theorem, where those of the theorems before it are known.
+fn next_wave<A: Allocator>(citations: &Citations<A>, waves: &[u32], i: u32) -> u32
+    requires within { i < length citations.now.theorems }
+    requires waves { AreWaves citations.now i waves.now }
+    ensures wave { IsWave citations.now (theorem_at citations.now i) result }
+    ensures small { result ≤ i }
+{
+    let mut wave = 0u32;
+    for statement in citations.of(i) {
+        if let Some(r) = place(citations.theorems(), *statement) {
+            wave = wave.max(waves[r] + 1);
+        }
+    }
+    wave
+}
+
+/// For each theorem the number of citations in the longest chain from it through theorems alone.
+pub fn waves<A: Allocator + Copy>(
+    alloc: A,
+    citations: &Citations<A>,
+) -> Result<Vec<u32, A>, AllocError>
+    ensures { IfOk result (λ v. AreWaves citations.now (length citations.now.theorems) v.items) }
+{
+    let mut waves = Vec::new(alloc);
+    for i in 0..citations.rows() {
+        let wave = next_wave(citations, &waves, i);
+        waves.push(wave)?;
+    }
+    Ok(waves)
+}
+
+/// The rows of all theorems, those of the lowest wave first.
+fn by_wave<A: Allocator + Copy>(alloc: A, waves: &[u32]) -> Result<Vec<u32, A>, AllocError>
+    requires { length waves.now < 2147483648 }
+    ensures { IfOk result (λ v. IsByWave waves.now v.items) }
+{
+    let mut pairs = Vec::with_capacity(alloc, waves.len())?;
+    for row in 0..waves.len() as u32 {
+        pairs.push((waves[row as usize], row))?;
+    }
+    pairs.sort_unstable_by_key(
+        |pair: &(u32, u32)| -> u32
+            ensures { result ≡ pair.now.0 }
+        { pair.0 },
+    );
+    let mut rows = Vec::with_capacity(alloc, pairs.len())?;
+    for pair in &pairs {
+        rows.push(pair.1)?;
+    }
+    Ok(rows)
+}
+
+/// Where the wave of a row ends, among rows by wave.
+fn wave_end(waves: &[u32], rows: &[u32], from: usize) -> usize
+    requires known { All (λ r. r < length waves.now) rows.now }
+    requires from { from < length rows.now }
+    ensures further { from < result }
+    ensures within { result ≤ length rows.now }
+    ensures same { (p : ℕ) → from ≤ p → p < result → slice_index waves.now (slice_index rows.now p) ≡ slice_index waves.now (slice_index rows.now from) }
+{
+    let mut to = from + 1;
+    while to < rows.len() && waves[rows[to] as usize] == waves[rows[from] as usize] {
+        to += 1;
+    }
+    to
+}
+
+/// Writes a row to its place.
+fn store(bits: &mut [u64], width: usize, i: u32, row: &[u64])
+    requires fits { i * width + width ≤ length bits.old }
+    requires words { length row.now ≡ width }
+    ensures here { row_at bits.new width i ≡ row.now }
+    ensures others { (r : ℕ) → (r ≡ i → ⊥) → row_at bits.new width r ≡ row_at bits.old width r }
+{
+    let at = i as usize * width;
+    bits[at..at + width].copy_from_slice(row);
+}
+
+/// The bits of some rows, in their order, made side by side.
+fn bit_rows<R: Threads + Sync, A: Allocator + Copy + Send + Sync>(
+    rt: &R,
+    alloc: A,
+    citations: &Citations<A>,
+    columns: &[u32],
+    bits: &[u64],
+    rows: &[u32],
+) -> Result<Vec<Result<Vec<u64, A>, AllocError>, A>, AllocError>
+    requires rising { IsRising columns.now }
+    requires ready { All (λ i. (i < length citations.now.theorems) × IsReady citations.now columns.now bits.now i) rows.now }
+    ensures { IfOk result (λ v. AllZip (λ k r. IfOk r (λ w. IsBitRow citations.now columns.now (theorem_at citations.now (slice_index rows.now k)) w.items)) (range_with_len 0 (length rows.now)) v.items) }
+{
+    (0..rows.len())
+        .into_par_iter()
+        .map(
+            |k: usize| -> Result<Vec<u64, A>, AllocError>
+                requires within { k < length rows.now }
+                requires rising { IsRising columns.now }
+                requires ready { All (λ i. (i < length citations.now.theorems) × IsReady citations.now columns.now bits.now i) rows.now }
+                ensures { IfOk result (λ w. IsBitRow citations.entry.now columns.entry.now (theorem_at citations.entry.now (slice_index rows.entry.now k)) w.items) }
+            { bit_row(alloc, citations, columns, bits, rows[k]) },
+        )
+        .with_min_len(1)
+        .collect(rt, alloc)
+}
+
+/// Fills in some rows, none of which needs another, side by side.
+fn fill_side_by_side<R: Threads + Sync, A: Allocator + Copy + Send + Sync>(
+    rt: &R,
+    alloc: A,
+    citations: &Citations<A>,
+    columns: &[u32],
+    rows: &[u32],
+    bits: &mut [u64],
+) -> Result<(), AllocError>
+    requires rising { IsRising columns.now }
+    requires size { length bits.old ≡ length citations.now.theorems * words_for (length columns.now) }
+    requires ready { All (λ i. (i < length citations.now.theorems) × IsReady citations.now columns.now bits.old i) rows.now }
+    ensures { OnOk result (AreMade citations.now columns.now rows.now (length rows.now) bits.old bits.new) }
+{
+    let width = columns.len().div_ceil(64);
+    let made = bit_rows(rt, alloc, citations, columns, bits, rows)?;
+    for k in 0..rows.len() {
+        match &made[k] {
+            Ok(row) => store(bits, width, rows[k], row),
+            Err(_) => return Err(AllocError),
+        }
+    }
+    Ok(())
+}
+
+/// Fills in some rows, none of which needs another, one after the other.
+fn fill_in_turn<A: Allocator + Copy>(
+    alloc: A,
+    citations: &Citations<A>,
+    columns: &[u32],
+    rows: &[u32],
+    bits: &mut [u64],
+) -> Result<(), AllocError>
+    requires rising { IsRising columns.now }
+    requires size { length bits.old ≡ length citations.now.theorems * words_for (length columns.now) }
+    requires ready { All (λ i. (i < length citations.now.theorems) × IsReady citations.now columns.now bits.old i) rows.now }
+    ensures { OnOk result (AreMade citations.now columns.now rows.now (length rows.now) bits.old bits.new) }
+{
+    let width = columns.len().div_ceil(64);
+    for k in 0..rows.len() {
+        let row = bit_row(alloc, citations, columns, bits, rows[k])?;
+        store(bits, width, rows[k], &row);
+    }
+    Ok(())
+}
+
+/// The fewest rows for which threads are worth their start.
+const FEWEST_FOR_THREADS: usize = 512;
+
+/// Fills in the rows of one wave.
+fn fill_wave<R: Threads + Sync, A: Allocator + Copy + Send + Sync>(
+    rt: &R,
+    alloc: A,
+    citations: &Citations<A>,
+    columns: &[u32],
+    rows: &[u32],
+    bits: &mut [u64],
+) -> Result<(), AllocError>
+    requires rising { IsRising columns.now }
+    requires size { length bits.old ≡ length citations.now.theorems * words_for (length columns.now) }
+    requires ready { All (λ i. (i < length citations.now.theorems) × IsReady citations.now columns.now bits.old i) rows.now }
+    ensures { OnOk result (AreMade citations.now columns.now rows.now (length rows.now) bits.old bits.new) }
+{
+    if rows.len() < FEWEST_FOR_THREADS {
+        fill_in_turn(alloc, citations, columns, rows, bits)
+    } else {
+        fill_side_by_side(rt, alloc, citations, columns, rows, bits)
+    }
+}
+
+/// Fills in all rows, wave by wave.
+fn fill_waves<R: Threads + Sync, A: Allocator + Copy + Send + Sync>(
+    rt: &R,
+    alloc: A,
+    citations: &Citations<A>,
+    columns: &[u32],
+    waves: &[u32],
+    bits: &mut [u64],
+) -> Result<(), AllocError>
+    requires rising { IsRising columns.now }
+    requires small { length waves.now < 2147483648 }
+    requires waves { AreWaves citations.now (length citations.now.theorems) waves.now }
+    requires size { length bits.old ≡ length citations.now.theorems * words_for (length columns.now) }
+    ensures { OnOk result (AreBitRows citations.now columns.now (length citations.now.theorems) bits.new) }
+{
+    let rows = by_wave(alloc, waves)?;
+    let mut from = 0;
+    while from < rows.len() {
+        let to = wave_end(waves, &rows, from);
+        fill_wave(rt, alloc, citations, columns, &rows[from..to], bits)?;
+        from = to;
+    }
+    Ok(())
+}
+
+/// The rows of all theorems.
+fn all_rows<R: Threads + Sync, A: Allocator + Copy + Send + Sync>(
+    rt: &R,
+    alloc: A,
+    citations: &Citations<A>,
+    columns: &[u32],
+) -> Result<Vec<u64, A>, AllocError>
+    requires { IsRising columns.now }
+    ensures { IfOk result (λ v. AreBitRows citations.now columns.now (length citations.now.theorems) v.items) }
+{
+    let waves = waves(alloc, citations)?;
+    let mut bits = Vec::new(alloc);
+    bits.resize(citations.rows() as usize * columns.len().div_ceil(64), 0u64)?;
+    fill_waves(rt, alloc, citations, columns, &waves, &mut bits)?;
+    Ok(bits)
+}
+
+/// On which columns each theorem rests. The rows are made wave by wave, those of a wave by several threads where they are
+/// many.
+pub fn matrix<R: Threads + Sync, A: Allocator + Copy + Send + Sync>(
+    rt: &R,
+    alloc: A,
+    citations: &Citations<A>,
+    columns: &Columns<A>,
+) -> Result<Matrix<A>, AllocError>
+    ensures { IfOk result (λ m. IsMatrix citations.now columns.now m) }
+{
+    let bits = all_rows(rt, alloc, citations, columns.statements())?;
+    finish(alloc, citations, columns, bits)
+}
