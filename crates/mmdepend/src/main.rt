@@ -11,6 +11,8 @@ ghost use Rattle.mmdepend.specs.declared.run.RunEnd.{RunEnd as End};
 
 mod input;
 mod plan;
+#[cfg(test)]
+mod reports;
 mod run;
 #[cfg(test)]
 mod tests;

@@ -49,7 +49,8 @@ fn refuse<A: Allocator, W: Write>(text: &[u8], fault: Fault, plan: &Plan<A>, to:
 }
 
 /// Writes the report of a database without a fault.
-fn report<'a, A: Allocator + Copy, W: Write>(
+fn report<'a, R: Threads + Sync, A: Allocator + Copy + Send + Sync, W: Write>(
+    rt: &R,
     alloc: A,
     database: &Database<'a, A>,
     citations: &Citations<A>,
@@ -63,7 +64,7 @@ fn report<'a, A: Allocator + Copy, W: Write>(
     let Ok(columns) = Columns::new(alloc, database, plan.typecode()) else {
         return RunEnd::NoMemory;
     };
-    let Ok(table) = matrix(alloc, citations, &columns) else {
+    let Ok(table) = matrix(rt, alloc, citations, &columns) else {
         return RunEnd::NoMemory;
     };
     match write_report(to, database, &columns, &table, plan.choice) {
@@ -100,7 +101,7 @@ fn answer<R: Threads + Sync, A: Allocator + Copy + Send + Sync, W: Write>(
         },
         Ok(citations) => match database.fault() {
             Some(fault) => refuse(text, fault, plan, to),
-            None => report(alloc, &database, &citations, plan, to),
+            None => report(rt, alloc, &database, &citations, plan, to),
         },
     }
 }
