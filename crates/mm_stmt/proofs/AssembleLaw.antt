@@ -1,5 +1,5 @@
 -- What the reading of a text gives is a database.
-use Rattle.std.proofs.Common.{◌≡◌, ℕ, ◌<◌, ◌≤◌, ◌^◌, Bool, List, [], ◌∷◌, length, map, take, flat_map, Option, sym, ap, ap₂, ◌∙◌, subst, arith}
+use Rattle.std.proofs.Common.{◌≡◌, ℕ, ◌<◌, ◌^◌, Bool, List, length, take, flat_map, Option, ap, ap₂, subst, arith}
 use Rattle.std.proofs.lemmas.List.{length-map, take-map}
 use Rattle.mm_spec.specs.declared.Word.{Word}
 use Rattle.mm_spec.specs.declared.Fault.{Fault}

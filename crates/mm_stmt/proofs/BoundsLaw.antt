@@ -1,7 +1,7 @@
 -- How many symbols there are: the symbols of lawful statements are declared, and there are no more than tokens.
-use Rattle.std.proofs.Common.{◌≡◌, ℕ, zero, suc, ◌+◌, ◌<◌, ◌≤◌, ◌^◌, Bool, true, false, ◌||◌, List, [], ◌∷◌, ◌++◌, map, flat_map, take, drop, length, All, Option, Some, None, slice_get, get_or, refl, sym, ap, ap₂, ◌∙◌, subst, arith, bytes_eq, length-append, codes}
-use Rattle.std.proofs.lemmas.List.{length-map, map-append, take-append-drop}
-use Rattle.std.proofs.lemmas.Option.{slice_get_within, slice_get-get_or}
+use Rattle.std.proofs.Common.{◌≡◌, ℕ, zero, suc, ◌<◌, ◌≤◌, Bool, true, false, ◌||◌, List, [], ◌∷◌, ◌++◌, flat_map, take, drop, length, All, Option, Some, slice_get, get_or, refl, sym, ap, ◌∙◌, subst, arith, bytes_eq, length-append, codes}
+use Rattle.std.proofs.lemmas.List.{length-map, take-append-drop}
+use Rattle.std.proofs.lemmas.Option.{slice_get_within}
 use Rattle.std.proofs.lemmas.Grind.{flat_map-append}
 use Rattle.mm_spec.specs.Text.{Word, Token, token, words, is_in}
 use Rattle.mm_spec.specs.Statement.{Statement, constants, variables, disjoint, floating, essential, axiomatic, provable, opening, closing, symbols_of, spelled}

@@ -1,5 +1,5 @@
 -- What the outline of a statement says of it.
-use Rattle.std.proofs.Common.{◌≡◌, ℕ, zero, suc, ◌+◌, ◌-◌, ◌<◌, ◌≤◌, Bool, true, false, List, [], ◌∷◌, length, map, get_or, take, drop, slice_get, slice_range, Option, Some, None, All, refl, sym, ap, ◌∙◌, subst, arith, if◌then◌else◌}
+use Rattle.std.proofs.Common.{◌≡◌, ℕ, zero, suc, ◌-◌, ◌<◌, Bool, true, false, List, [], ◌∷◌, length, map, get_or, slice_get, Option, Some, None, refl, sym, ap, ◌∙◌, arith, if◌then◌else◌}
 use Rattle.std.specs.Option.{option_map, option_and_then}
 use Rattle.std.specs.List.{list_any}
 use Rattle.std.proofs.lemmas.List.{length-map}
@@ -9,7 +9,7 @@ use Rattle.mm_spec.specs.declared.Word.{Word}
 use Rattle.mm_stmt.specs.Parts.{word_at, token_at, made, statement_of, HasEnd, IsOutline}
 use Rattle.mm_stmt.specs.Read.{statements}
 use Rattle.mm_spec.specs.declared.Fault.{Fault}
-use Rattle.mm_stmt.specs.Database.{kind_of, last_place, is_labelled_kind, Known, known}
+use Rattle.mm_stmt.specs.Database.{last_place, is_labelled_kind, Known, known}
 use Rattle.mm_stmt.proofs.ActiveLaw.{get_map}
 use Rattle.mm_stmt.specs.declared.parts.Kind.{Kind}
 use Rattle.mm_stmt.specs.declared.parts.Kind.TheVariants as kind

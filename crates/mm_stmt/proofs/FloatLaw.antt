@@ -1,5 +1,5 @@
 -- What a lawful `$f` says of its two symbols.
-use Rattle.std.proofs.Common.{◌≡◌, ℕ, zero, suc, ◌<◌, ◌≤◌, Bool, true, false, ◌&&◌, ◌||◌, List, [], ◌∷◌, ◌++◌, length, take, drop, bytes_eq, flat_map, slice_get, get_or, Option, None, Some, refl, sym, ap, ap₂, ◌∙◌, subst, arith, true≢false, nat_lt, if◌then◌else◌}
+use Rattle.std.proofs.Common.{◌≡◌, ℕ, suc, ◌<◌, Bool, true, false, ◌&&◌, ◌||◌, List, [], ◌∷◌, ◌++◌, length, take, drop, bytes_eq, flat_map, slice_get, get_or, Option, None, Some, refl, sym, ap, ap₂, ◌∙◌, subst, arith, true≢false, if◌then◌else◌}
 use Rattle.std.proofs.lemmas.Bool.{lt-ltb}
 use Rattle.std.proofs.lemmas.List.{take-append-drop}
 use Rattle.std.proofs.lemmas.List.Folds.{list_any-append}
@@ -9,7 +9,7 @@ use Rattle.std.specs.List.{list_any}
 use Rattle.mm_spec.specs.Text.{Word, Token, is_in}
 use Rattle.mm_spec.specs.Statement.{Statement, constants, variables, disjoint, floating, essential, axiomatic, provable, opening, closing}
 use Rattle.mm_spec.specs.Scope.{Names, names_before, active_statements, is_active, is_active_some, depth, constants_of, variables_of}
-use Rattle.mm_spec.specs.Lawful.{scope_fault, scope_faults, least, is_typed, floating_faults, label_faults, at, when, is_typed_otherwise}
+use Rattle.mm_spec.specs.Lawful.{scope_faults, least, is_typed, floating_faults, label_faults, at, when, is_typed_otherwise}
 use Rattle.mm_spec.specs.Text.{fault}
 use Rattle.mm_spec.specs.declared.Fault.{Fault}
 use Rattle.mm_spec.specs.declared.Code.TheVariants.{BadFloating, TypedBefore, OtherTypecode}

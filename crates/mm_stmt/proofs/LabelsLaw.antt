@@ -1,6 +1,6 @@
 -- What the labels stand for behind one lawful statement more.
-use Rattle.std.proofs.Common.{◌≡◌, ℕ, ◌+◌, ◌<◌, ◌≤◌, Bool, true, false, ◌||◌, List, [], ◌∷◌, ◌++◌, length, take, flat_map, slice_get, bytes_eq, Option, None, Some, is_some, if◌then◌else◌, IsTrue, refl, sym, ap, ◌∙◌, subst, arith, ◌⊎◌, inl, inr, length-append, true≢false, le_refl, take_all}
-use Rattle.std.proofs.lemmas.Bool.{cases_lt, cases_eq, cases_order}
+use Rattle.std.proofs.Common.{◌≡◌, ℕ, ◌<◌, ◌≤◌, Bool, true, false, ◌||◌, List, [], ◌∷◌, ◌++◌, length, take, flat_map, bytes_eq, Option, None, Some, is_some, if◌then◌else◌, IsTrue, refl, sym, ap, ◌∙◌, subst, arith, ◌⊎◌, inl, inr, length-append, true≢false, le_refl, take_all}
+use Rattle.std.proofs.lemmas.Bool.{cases_lt, cases_order}
 use Rattle.std.proofs.lemmas.Option.{slice_get_past}
 use Rattle.std.proofs.lemmas.Slice.Eq.{bytes_eq-Decides}
 use Rattle.std.specs.List.{list_any}
@@ -8,7 +8,7 @@ use Rattle.mm_spec.specs.Text.{Word, Token, is_in}
 use Rattle.mm_spec.specs.Statement.{Statement, constants, variables, disjoint, floating, essential, axiomatic, provable, opening, closing, label_of}
 use Rattle.mm_spec.specs.Scope.{Names, names_before, statement_at, label_words}
 use Rattle.mm_spec.specs.NormalProof.{is_labelled}
-use Rattle.mm_spec.specs.Lawful.{scope_faults, label_faults, formula_faults, floating_faults, at, when}
+use Rattle.mm_spec.specs.Lawful.{scope_faults, label_faults, formula_faults, floating_faults, when}
 use Rattle.mm_spec.specs.declared.Code.TheVariants.{LabelIsSymbol, LabelUsedBefore}
 use Rattle.mm_spec.proofs.Local.{get-front, get-seam}
 use Rattle.mm_stmt.specs.Known.{label_after}

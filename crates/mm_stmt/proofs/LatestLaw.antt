@@ -6,12 +6,9 @@ use Rattle.std.proofs.lemmas.List.{get_or_append_left}
 use Rattle.std.proofs.Math.Seq.{get_or-append_seam}
 use Rattle.std.specs.List.{list_any, range_with_len}
 use Rattle.mm_spec.specs.Statement.{Statement, constants, variables, disjoint, floating, essential, axiomatic, provable, opening, closing}
-use Rattle.mm_stmt.specs.declared.tables.Wanted.{Wanted}
-use Rattle.mm_stmt.specs.declared.tables.Wanted.TheVariants.{Essential, Disjoint}
-use Rattle.mm_stmt.specs.Tables.{test_of}
 use Rattle.mm_spec.specs.Scope.{statement_at, is_active, is_active_some, is_active_kind, those, active}
 use Rattle.mm_spec.specs.Derivation.{is_member}
-use Rattle.mm_spec.specs.Frame.{active_of}
+use Rattle.mm_spec.specs.Frame.{active_of, is_essential, is_disjoint}
 use Rattle.mm_spec.proofs.Activity.{stays}
 use Rattle.mm_stmt.specs.Blocks.{never}
 use Rattle.mm_stmt.specs.Latest.{is_on, IsCandidate, IsLatest, IsWalked}
@@ -223,22 +220,24 @@ each_pushed test db xs ys last k n e old new = record {
         let j : i ≡ k + 1 = omega arith in
         subst (IsLatest test db i) (sym (ap (λ zs. get_or zs i 0) e ∙ ap (λ q. get_or (xs ++ last ∷ []) q 0) same ∙ get_or-append_seam xs last [] 0)) (subst (λ q. IsLatest test db q last) (sym j) new)
 
-pub test_local : (w : Wanted) (s : Statement) (b : Bool) → test_of w s ≡ true → is_active_kind s b ≡ b
-test_local Essential (essential l k xs d) b h = refl
-test_local Essential (constants k xs d) b h = absurd (true≢false (sym h))
-test_local Essential (variables k xs d) b h = absurd (true≢false (sym h))
-test_local Essential (disjoint k xs d) b h = absurd (true≢false (sym h))
-test_local Essential (floating l k xs d) b h = absurd (true≢false (sym h))
-test_local Essential (axiomatic l k xs d) b h = absurd (true≢false (sym h))
-test_local Essential (provable l k xs e ps d) b h = absurd (true≢false (sym h))
-test_local Essential (opening k) b h = absurd (true≢false (sym h))
-test_local Essential (closing k) b h = absurd (true≢false (sym h))
-test_local Disjoint (disjoint k xs d) b h = refl
-test_local Disjoint (constants k xs d) b h = absurd (true≢false (sym h))
-test_local Disjoint (variables k xs d) b h = absurd (true≢false (sym h))
-test_local Disjoint (essential l k xs d) b h = absurd (true≢false (sym h))
-test_local Disjoint (floating l k xs d) b h = absurd (true≢false (sym h))
-test_local Disjoint (axiomatic l k xs d) b h = absurd (true≢false (sym h))
-test_local Disjoint (provable l k xs e ps d) b h = absurd (true≢false (sym h))
-test_local Disjoint (opening k) b h = absurd (true≢false (sym h))
-test_local Disjoint (closing k) b h = absurd (true≢false (sym h))
+pub essential_local : (s : Statement) (b : Bool) → is_essential s ≡ true → is_active_kind s b ≡ b
+essential_local (essential l k xs d) b h = refl
+essential_local (constants k xs d) b h = absurd (true≢false (sym h))
+essential_local (variables k xs d) b h = absurd (true≢false (sym h))
+essential_local (disjoint k xs d) b h = absurd (true≢false (sym h))
+essential_local (floating l k xs d) b h = absurd (true≢false (sym h))
+essential_local (axiomatic l k xs d) b h = absurd (true≢false (sym h))
+essential_local (provable l k xs e ps d) b h = absurd (true≢false (sym h))
+essential_local (opening k) b h = absurd (true≢false (sym h))
+essential_local (closing k) b h = absurd (true≢false (sym h))
+
+pub disjoint_local : (s : Statement) (b : Bool) → is_disjoint s ≡ true → is_active_kind s b ≡ b
+disjoint_local (disjoint k xs d) b h = refl
+disjoint_local (constants k xs d) b h = absurd (true≢false (sym h))
+disjoint_local (variables k xs d) b h = absurd (true≢false (sym h))
+disjoint_local (essential l k xs d) b h = absurd (true≢false (sym h))
+disjoint_local (floating l k xs d) b h = absurd (true≢false (sym h))
+disjoint_local (axiomatic l k xs d) b h = absurd (true≢false (sym h))
+disjoint_local (provable l k xs e ps d) b h = absurd (true≢false (sym h))
+disjoint_local (opening k) b h = absurd (true≢false (sym h))
+disjoint_local (closing k) b h = absurd (true≢false (sym h))

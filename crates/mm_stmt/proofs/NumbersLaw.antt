@@ -1,13 +1,12 @@
 -- The symbols of the statements, one statement's behind another's.
-use Rattle.std.proofs.Common.{◌≡◌, ℕ, zero, suc, ◌+◌, ◌-◌, ◌<◌, ◌≤◌, List, [], ◌∷◌, ◌++◌, length, map, flat_map, take, drop, get_or, slice_get, slice_range, slice_index, Some, None, refl, sym, ap, ap₂, ◌∙◌, subst, arith, append_assoc, append-nil, length-append, Bool, true, false, bytes_eq, ◌⊎◌, inl, inr}
-use Rattle.std.proofs.lemmas.List.{map-append, take_more, take_all, length-take-le, length-map, get_or_push, get_or_append_left}
+use Rattle.std.proofs.Common.{◌≡◌, ℕ, zero, suc, ◌+◌, ◌-◌, ◌<◌, ◌≤◌, List, [], ◌∷◌, ◌++◌, length, map, flat_map, take, drop, get_or, slice_range, Some, None, refl, sym, ap, ap₂, ◌∙◌, arith, append_assoc, append-nil, length-append, Bool, true, false, bytes_eq, ◌⊎◌, inl, inr}
+use Rattle.std.proofs.lemmas.List.{map-append, take_more, length-map, get_or_push, get_or_append_left}
 use Rattle.std.proofs.lemmas.Grind.{flat_map-append}
 use Rattle.std.proofs.lemmas.Bool.{cases_lt}
 use Rattle.std.proofs.Math.Seq.{drop-append_seam, take-append_seam}
 use Rattle.mm_spec.specs.Text.{Word, Token, words}
-use Rattle.mm_spec.specs.Statement.{Statement, symbols_of}
-use Rattle.mm_spec.specs.Scope.{statement_at}
-use Rattle.mm_spec.specs.Frame.{place_of, symbol_names, formula_of, formula_at}
+use Rattle.mm_spec.specs.Statement.{symbols_of}
+use Rattle.mm_spec.specs.Frame.{place_of, formula_of}
 use Rattle.mm_spec.specs.declared.Word as place
 use Rattle.mm_stmt.specs.Parts.{between, token_at, statement_of, made}
 use Rattle.mm_stmt.specs.Read.{statements}

@@ -1,9 +1,7 @@
 -- The statements that reading keeps are sound.
-use Rattle.std.proofs.Common.{◌≡◌, ℕ, ◌<◌, ◌^◌, Bool, true, false, not, List, All, length, flat_map, get_or, Option, None, Some, refl, sym, ap, ◌∙◌, true≢false}
-use Rattle.mm_spec.specs.Text.{Word, is_in}
+use Rattle.std.proofs.Common.{◌≡◌, ℕ, ◌<◌, ◌^◌, Bool, true, false, not, List, All, length, get_or, Option, None, Some, refl, sym, ap, ◌∙◌, true≢false}
 use Rattle.std.proofs.lemmas.Option.{slice_get-get_or}
 use Rattle.mm_spec.specs.Statement.{Statement, opening}
-use Rattle.mm_spec.specs.Scope.{constants_of, variables_of}
 use Rattle.mm_spec.specs.Lawful.{scope_fault}
 use Rattle.mm_spec.specs.Frame.{symbol_names, formula_at}
 use Rattle.mm_spec.specs.declared.Fault.{Fault}

@@ -1,5 +1,5 @@
 -- Symbols in the order of their first declarations.
-use Rattle.std.proofs.Common.{nat_lt, ◌≡◌, ℕ, zero, suc, ◌+◌, ◌<◌, ◌≤◌, Bool, true, false, ◌||◌, ◌&&◌, not, List, [], ◌∷◌, ◌++◌, length, get_or, slice_get, Option, Some, None, bytes_eq, refl, sym, ap, ap₂, ◌∙◌, subst, arith, true≢false, append-nil, if◌then◌else◌, map, Bor, cond, ◌⊎◌, ◌≢◌, inl, inr, length-append, append_assoc, flat_map, take}
+use Rattle.std.proofs.Common.{nat_lt, ◌≡◌, ℕ, zero, suc, ◌+◌, ◌<◌, ◌≤◌, Bool, true, false, ◌||◌, not, List, [], ◌∷◌, ◌++◌, length, get_or, slice_get, Some, None, bytes_eq, refl, sym, ap, ap₂, ◌∙◌, subst, arith, true≢false, append-nil, if◌then◌else◌, map, Bor, cond, ◌⊎◌, ◌≢◌, inl, inr, length-append, append_assoc, flat_map, take}
 use Rattle.std.proofs.Math.ListN.{set, length-set}
 use Rattle.std.proofs.lemmas.List.Recursion.{is_position_or_len}
 use Rattle.std.proofs.lemmas.List.Folds.{list_any-append}

@@ -1,5 +1,5 @@
 -- The mandatory variables and hypotheses are those that the walk finds.
-use Rattle.std.proofs.Common.{◌≡◌, ◌≢◌, ℕ, zero, suc, ◌+◌, ◌==◌, ◌<◌, ◌≤◌, Bool, true, false, ◌&&◌, ◌||◌, not, All, List, [], ◌∷◌, ◌++◌, length, get_or, flat_map, slice_get, nat_eq, nat_lt, Option, None, Some, refl, sym, ap, ap₂, ◌∙◌, subst, arith, eqb-true, eq-eqb, true≢false, ◌⊎◌, inl, inr}
+use Rattle.std.proofs.Common.{◌≡◌, ℕ, zero, suc, ◌+◌, ◌==◌, ◌<◌, ◌≤◌, Bool, true, false, ◌&&◌, ◌||◌, not, All, List, [], ◌∷◌, ◌++◌, length, get_or, flat_map, nat_eq, nat_lt, None, Some, refl, sym, ap, ap₂, ◌∙◌, subst, arith, eqb-true, eq-eqb, true≢false, ◌⊎◌, inl, inr}
 use Rattle.std.proofs.lemmas.Bool.{cases_lt, lt-ltb, ltb-true, ne_eqb}
 use Rattle.std.proofs.lemmas.Option.{slice_get_past}
 use Rattle.std.specs.List.{Contains, dedup, list_any, range_with_len}
@@ -10,18 +10,17 @@ use Rattle.std.proofs.lemmas.List.Sorted.{Contains-permutation, IsPermutation-sy
 use Rattle.mm_spec.specs.Text.{is_in}
 use Rattle.mm_spec.specs.Derivation.{is_member}
 use Rattle.mm_spec.specs.Statement.{Statement}
-use Rattle.mm_spec.specs.Scope.{statement_at, those, active, is_active, is_active_some, is_active_kind, variables_of}
+use Rattle.mm_spec.specs.Scope.{statement_at, those, active, is_active, variables_of}
 use Rattle.mm_spec.specs.Frame.{symbol_names, place_of, is_variable, is_essential, is_floating, active_of, formula_at, mandatory_variables, mandatory_hypotheses}
 use Rattle.mm_spec.proofs.Activity.{stays}
 use Rattle.mm_stmt.specs.Blocks.{never}
 use Rattle.mm_stmt.specs.Latest.{is_on}
 use Rattle.mm_stmt.specs.Tables.{IsSound, typed_at}
 use Rattle.mm_stmt.specs.Walk.{AreTyped, is_float_of}
-use Rattle.mm_stmt.specs.declared.tables.Wanted.TheVariants.{Essential}
 use Rattle.mm_stmt.proofs.Rising.{Rising, those_is}
 use Rattle.mm_stmt.proofs.Nested.{same_tests}
-use Rattle.mm_stmt.proofs.LatestLaw.{and_left, and_right, or_true, or_false, not_true, member_those, member_range, active_member, test_local}
-use Rattle.mm_stmt.proofs.FloatLaw.{IsFloat, typed_float, floating_typed, formula_is, floating_is, typecode_constant, variable_below, float_active}
+use Rattle.mm_stmt.proofs.LatestLaw.{and_left, and_right, or_true, or_false, member_those, member_range, active_member, essential_local}
+use Rattle.mm_stmt.proofs.FloatLaw.{typed_float, floating_typed, formula_is, floating_is, typecode_constant, variable_below, float_active}
 
 contains : (xs : List ℕ) (a : ℕ) → is_member xs a ≡ true → Contains xs a
 contains xs a h =
@@ -107,7 +106,7 @@ module _ (db : List Statement) (k : ℕ) where
   pub essential_before : (xs : List ℕ) → ((i : ℕ) → is_member xs i ≡ is_member (active_of is_essential db k) i) → (i : ℕ) → i < length xs → get_or xs i 0 < k
   essential_before xs h i l =
       let j = get_or xs i 0 in
-      let e = sym (active_member is_essential db (test_local Essential) k j) ∙ sym (h j) ∙ member_at xs i 0 l in
+      let e = sym (active_member is_essential db essential_local k j) ∙ sym (h j) ∙ member_at xs i 0 l in
       ltb-true j k (and_left (nat_lt j k) (is_on is_essential db j k) e)
 
   variable_named : (x : ℕ) → is_variable db x ≡ true → x < length (symbol_names db)

@@ -1,11 +1,11 @@
 -- What a database of statements is to those who read it, and what its fields keep.
-use Rattle.std.specs.Prelude.{◌≡◌, ℕ, ◌+◌, ◌<◌, ◌≤◌, ◌^◌, Bool, true, false, List, [], ◌∷◌, map, length, slice_range, slice_index, slice_get, get_or, if◌then◌else◌, All, Option, None, Some, IsTrue, ◌↔◌}
+use Rattle.std.specs.Prelude.{◌≡◌, ℕ, ◌+◌, ◌<◌, ◌≤◌, ◌^◌, Bool, true, false, List, [], length, slice_range, slice_index, slice_get, get_or, if◌then◌else◌, All, Option, None}
 use Rattle.std.specs.List.{list_any}
 use Rattle.mm_spec.specs.declared.Fault.{Fault}
-use Rattle.mm_spec.specs.Statement.{Statement, constants, variables, disjoint, floating, essential, axiomatic, provable, opening, closing, symbols_of}
+use Rattle.mm_spec.specs.Statement.{Statement, constants, variables, disjoint, floating, essential, axiomatic, provable, opening, closing}
 use Rattle.mm_spec.specs.Scope.{statement_at}
 use Rattle.mm_spec.specs.Derivation.{Pair}
-use Rattle.mm_spec.specs.Frame.{symbol_names, is_variable, is_disjoint, formula_at, mandatory_hypotheses, mandatory_pairs}
+use Rattle.mm_spec.specs.Frame.{symbol_names, is_variable, formula_at, mandatory_hypotheses, mandatory_pairs}
 use Rattle.mm_stmt.specs.Labels.{AreLabels}
 use Rattle.mm_spec.specs.Citation.{is_assertion}
 use Rattle.mm_spec.specs.Output.{IsRead, lexed_of, theorems, columns}
@@ -13,7 +13,7 @@ use Rattle.mm_spec.specs.declared.Word.{Word}
 use Rattle.mm_stmt.specs.Parts.{AreWords, IsOutline}
 use Rattle.mm_stmt.specs.Read.{statements}
 use Rattle.mm_stmt.specs.Blocks.{Lists, IsBlocks}
-use Rattle.mm_stmt.specs.Latest.{AreLatest}
+use Rattle.mm_stmt.specs.Members.{AreMembers}
 use Rattle.mm_stmt.specs.declared.parts.Kind.{Kind}
 use Rattle.mm_stmt.specs.declared.parts.Kind.TheVariants as kind
 use Rattle.mm_stmt.specs.declared.parts.Outline.{Outline}
@@ -92,12 +92,13 @@ pub record Fields : Type 0 where
   pub places : List ℕ
   pub hyps : List (List ℕ)
   pub pairs : List (List Pair)
-  pub latest_disjoint : List ℕ
+  pub members : List (ℕ × ℕ)
+  pub skips : List ℕ
   pub theorems : List ℕ
   pub axioms : List ℕ
 
-abbrev pub fields : Lists → (List ℕ → Option ℕ) → List (List ℕ) → List Bool → List ℕ → List ℕ → List (List ℕ) → List (List Pair) → List ℕ → List ℕ → List ℕ → Fields
-fields b f ns vs xs ps hs ds js ts cs = record { blocks = b; find = f; names = ns; variables = vs; numbers = xs; places = ps; hyps = hs; pairs = ds; latest_disjoint = js; theorems = ts; axioms = cs }
+abbrev pub fields : Lists → (List ℕ → Option ℕ) → List (List ℕ) → List Bool → List ℕ → List ℕ → List (List ℕ) → List (List Pair) → List (ℕ × ℕ) → List ℕ → List ℕ → List ℕ → Fields
+fields b f ns vs xs ps hs ds ms ks ts cs = record { blocks = b; find = f; names = ns; variables = vs; numbers = xs; places = ps; hyps = hs; pairs = ds; members = ms; skips = ks; theorems = ts; axioms = cs }
 
 -- the fields are those of the statements, and these are the reading of the text
 pub record IsDatabase (text : List ℕ) (ws : List Word) (os : List Outline) (fault : Option Fault) (f : Fields) : Type 0 where
@@ -110,7 +111,7 @@ pub record IsDatabase (text : List ℕ) (ws : List Word) (os : List Outline) (fa
   pub below : (k : ℕ) → k < length os → All (λ s. s < length (symbol_names (statements text ws os))) (formula_at (statements text ws os) k)
   pub numbered : AreNumbered (statements text ws os) f.numbers f.places
   pub frames : AreFrames (statements text ws os) f.hyps f.pairs
-  pub latest_disjoint : AreLatest is_disjoint (statements text ws os) f.latest_disjoint
+  pub members_are : AreMembers (statements text ws os) f.blocks f.members f.skips
   pub theorems_are : f.theorems ≡ theorems (statements text ws os)
   pub axioms_are : f.axioms ≡ columns (statements text ws os) None
   pub few_symbols : length f.names < 2 ^ 31

@@ -1,5 +1,5 @@
 -- Pairs of symbols in lexicographic order, each once.
-use Rattle.std.specs.Prelude.{◌≡◌, ℕ, ◌<◌, Bool, true, ◌&&◌, List, [], ◌∷◌, nat_eq, ◌⊎◌}
+use Rattle.std.specs.Prelude.{◌≡◌, ℕ, ◌<◌, Bool, true, ◌&&◌, ◌||◌, List, [], ◌∷◌, nat_eq, nat_lt, ◌⊎◌}
 use Rattle.std.specs.List.{list_any}
 
 -- whether the pair is among them
@@ -9,6 +9,10 @@ has_pair ps x y = list_any (λ p. nat_eq x p.0 && nat_eq y p.1) ps
 -- one pair stands before another
 abbrev pub IsBefore : ℕ → ℕ → ℕ → ℕ → Type 0
 IsBefore a b x y = (a < x) ⊎ ((a ≡ x) × (b < y))
+
+-- whether a pair stands before another
+abbrev pub is_before : ℕ × ℕ → ℕ → ℕ → Bool
+is_before p x y = nat_lt p.0 x || (nat_eq p.0 x && nat_lt p.1 y)
 
 -- each stands before those behind it
 abbrev pub AreRising : List (ℕ × ℕ) → Type 0

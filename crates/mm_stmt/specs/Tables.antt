@@ -5,11 +5,9 @@ use Rattle.mm_spec.specs.Text.{Word, is_in}
 use Rattle.mm_spec.specs.Statement.{Statement}
 use Rattle.mm_spec.specs.Scope.{statement_at, constants_of, variables_of}
 use Rattle.mm_spec.specs.Lawful.{scope_fault}
-use Rattle.mm_spec.specs.Frame.{symbol_names, is_variable, is_floating, is_essential, is_disjoint, formula_at}
+use Rattle.mm_spec.specs.Frame.{symbol_names, is_variable, is_floating, formula_at}
 use Rattle.mm_stmt.specs.Blocks.{Lists, IsBlocks}
 use Rattle.mm_stmt.specs.Database.{AreNumbered}
-use Rattle.mm_stmt.specs.declared.tables.Wanted.{Wanted}
-use Rattle.mm_stmt.specs.declared.tables.Wanted.TheVariants.{Essential, Disjoint}
 
 -- the statements are lawful, no constant is a variable too, and each symbol has a number
 pub record IsSound (db : List Statement) : Type 0 where
@@ -26,11 +24,6 @@ pub record AreTables (db : List Statement) (b : Lists) (numbers places : List �
   pub few_symbols : length marks < 2 ^ 31
   pub count : length marks ≡ length (symbol_names db)
   pub variable : (s : ℕ) → s < length (symbol_names db) → get_or marks s false ≡ is_variable db s
-
--- the statements of a kind
-abbrev pub test_of : Wanted → Statement → Bool
-test_of Essential = is_essential
-test_of Disjoint = is_disjoint
 
 -- the variable of a `$f`
 abbrev pub typed_at : List Statement → ℕ → Option ℕ

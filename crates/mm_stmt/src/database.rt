@@ -14,8 +14,8 @@ ghost use Rattle.mm_stmt.specs.Parts.{tokens_of, AreWords};
 ghost use Rattle.mm_stmt.specs.Read.{active_kind};
 ghost use Rattle.mm_stmt.specs.Database.{kind_of, last_place, typecode_of, is_labelled_kind};
 
-use crate::apart::is_some_disjoint;
 use crate::blocks::Blocks;
+use crate::members::{Members, are_together};
 use crate::names::Map;
 use crate::parts::{Kind, Outline};
 use crate::symbol::Sym;
@@ -51,7 +51,7 @@ pub struct Database<'a, A: Allocator> {
     pub(crate) numbers: Vec<Sym, A>,
     pub(crate) places: Vec<u32, A>,
     pub(crate) frames: Vec<Frame<A>, A>,
-    pub(crate) latest_disjoint: Vec<u32, A>,
+    pub(crate) members: Members<A>,
     pub(crate) theorems: Vec<u32, A>,
     pub(crate) axioms: Vec<u32, A>,
 }
@@ -68,7 +68,7 @@ impl<'a, A: Allocator> Model for Database<'a, A> {
 
     ghost view = { λ d. known d.text.now (statements d.text.now d.words.items d.outlines.items) d.fault };
 
-    ghost invariant = { λ d. IsDatabase d.text.now d.words.items d.outlines.items d.fault (fields (lists d.blocks.of.items d.blocks.ends.items d.blocks.open.items) (find d.labels) (keys_of d.names) d.variables.items d.numbers.items d.places.items (map (λ f. f.hyps.items) d.frames.items) (map (λ f. map (λ p. pair p.0 p.1) f.pairs.items) d.frames.items) d.latest_disjoint.items d.theorems.items d.axioms.items) };
+    ghost invariant = { λ d. IsDatabase d.text.now d.words.items d.outlines.items d.fault (fields (lists d.blocks.of.items d.blocks.ends.items d.blocks.open.items) (find d.labels) (keys_of d.names) d.variables.items d.numbers.items d.places.items (map (λ f. f.hyps.items) d.frames.items) (map (λ f. map (λ p. pair p.0 p.1) f.pairs.items) d.frames.items) d.members.pairs.items d.members.skips.items d.theorems.items d.axioms.items) };
 }
 
 impl<'a, A: Allocator> Database<'a, A> {
@@ -206,7 +206,7 @@ impl<'a, A: Allocator> Database<'a, A> {
         requires { statement ≤ length self.now.statements }
         ensures { result ≡ disjoint_at self.now.statements statement x y }
     {
-        x.number() != y.number() && is_some_disjoint(self, &self.latest_disjoint, statement, x, y)
+        x.number() != y.number() && are_together(&self.blocks, &self.members, x, y, statement)
     }
 
     /// The words of a theorem's proof, those behind its `$=`; none where the statement is no `$p`.

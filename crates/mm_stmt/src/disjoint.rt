@@ -1,90 +1,66 @@
 //! The mandatory pairs of disjoint variables of assertions.
 
-ghost use Rattle.std.specs.Prelude.{◌≡◌, ◌<◌, ◌≤◌, ◌+◌, ◌^◌, ◌&&◌, ◌||◌, ℕ, All, OnOk, length, nat_eq, nat_lt, slice_index, map, IfOk};
+ghost use Rattle.std.specs.Prelude.{◌≡◌, ◌<◌, ◌≤◌, ◌^◌, ◌&&◌, ◌||◌, ℕ, OnOk, IfOk, length, get_or, nat_eq, nat_lt, map};
 ghost use Rattle.std.specs.List.{list_any};
 ghost use Rattle.mm_spec.specs.Derivation.{is_member, pair};
-ghost use Rattle.mm_spec.specs.Frame.{symbol_names, is_disjoint, active_of, formula_at, mandatory_variables, mandatory_pairs};
-ghost use Rattle.mm_stmt.specs.Latest.{AreLatest};
+ghost use Rattle.mm_spec.specs.Frame.{mandatory_variables, mandatory_pairs};
+ghost use Rattle.mm_stmt.specs.Blocks.{IsBlocks, lists};
+ghost use Rattle.mm_stmt.specs.Members.{is_live, AreKnown, AreSkips, AreMembers};
 ghost use Rattle.mm_stmt.specs.Pairs.{has_pair, AreRising};
-ghost use Rattle.mm_stmt.specs.Tables.{IsSound};
-ghost use Rattle.mm_stmt.specs.Walk.{AreMarks};
 
-use crate::active::actives;
+use crate::blocks::Blocks;
+use crate::members::{Members, add_active, tidy};
 use crate::symbol::Sym;
-use crate::tables::{Tables, Wanted};
+use crate::tables::Tables;
 use std::alloc::{AllocError, Allocator};
 
-/// The symbols that have the stamp.
-fn stamped<A: Allocator>(
-    symbols: &[Sym],
-    seen: &[u32],
-    stamp: u32,
-    into: &mut Vec<Sym, A>,
+/// Adds the pairs of the variable at a place and those behind it that stand in the same statement.
+fn add_behind<A: Allocator>(
+    had: &[(u32, u32)],
+    place: usize,
+    pairs: &mut Vec<(u32, u32), A>,
 ) -> Result<(), AllocError>
-    requires { All (λ s. s < length seen.now) symbols.now }
-    ensures { OnOk result ((x : ℕ) → is_member into.new.items x ≡ (is_member symbols.now x && nat_eq (slice_index seen.now x) stamp)) }
+    requires rising { AreRising had.now }
+    requires place { place < length had.now }
+    ensures { OnOk result ((x y : ℕ) → has_pair pairs.new.items x y ≡ (has_pair pairs.old.items x y || (nat_eq x (get_or had.now place (0, 0)).1 && (has_pair had.now (get_or had.now place (0, 0)).0 y && nat_lt x y)))) }
 {
-    into.clear();
+    let mut at = place + 1;
+    while at < had.len() && had[at].0 == had[place].0 {
+        pairs.push((had[place].1, had[at].1))?;
+        at += 1;
+    }
+    Ok(())
+}
+
+/// Adds all pairs of variables that stand in the same statement, the lower first.
+fn add_together<A: Allocator>(
+    had: &[(u32, u32)],
+    pairs: &mut Vec<(u32, u32), A>,
+) -> Result<(), AllocError>
+    requires rising { AreRising had.now }
+    ensures { OnOk result ((x y : ℕ) → has_pair pairs.new.items x y ≡ (has_pair pairs.old.items x y || list_any (λ p. nat_eq x p.1 && (has_pair had.now p.0 y && nat_lt x y)) had.now)) }
+{
+    for place in 0..had.len() {
+        add_behind(had, place, pairs)?;
+    }
+    Ok(())
+}
+
+/// Adds the `$d` that are active at a place, each with those of the symbols that it has.
+fn add_all_active<A: Allocator>(
+    blocks: &Blocks<A>,
+    members: &Members<A>,
+    symbols: &[Sym],
+    at: u32,
+    into: &mut Vec<(u32, u32), A>,
+) -> Result<(), AllocError>
+    requires rising { AreRising members.now.pairs.items }
+    requires known { AreKnown (lists blocks.now.of.items blocks.now.ends.items blocks.now.open.items) members.now.pairs.items }
+    requires skips { AreSkips (lists blocks.now.of.items blocks.now.ends.items blocks.now.open.items) members.now.pairs.items members.now.skips.items }
+    ensures { OnOk result ((j y : ℕ) → has_pair into.new.items j y ≡ (has_pair into.old.items j y || (is_member symbols.now y && (has_pair members.now.pairs.items y j && is_live (lists blocks.now.of.items blocks.now.ends.items blocks.now.open.items) j at)))) }
+{
     for symbol in symbols {
-        if seen[symbol.number() as usize] == stamp {
-            into.push(*symbol)?;
-        }
-    }
-    Ok(())
-}
-
-/// Adds the pairs of a symbol and a higher one.
-fn add_higher<A: Allocator>(
-    low: Sym,
-    symbols: &[Sym],
-    pairs: &mut Vec<(u32, u32), A>,
-) -> Result<(), AllocError>
-    ensures { OnOk result ((x y : ℕ) → has_pair pairs.new.items x y ≡ (has_pair pairs.old.items x y || (nat_eq x low && (is_member symbols.now y && nat_lt x y)))) }
-{
-    for high in symbols {
-        if low.number() < high.number() {
-            pairs.push((low.number(), high.number()))?;
-        }
-    }
-    Ok(())
-}
-
-/// Adds all pairs of the symbols, the lower first.
-fn add_all<A: Allocator>(symbols: &[Sym], pairs: &mut Vec<(u32, u32), A>) -> Result<(), AllocError>
-    ensures { OnOk result ((x y : ℕ) → has_pair pairs.new.items x y ≡ (has_pair pairs.old.items x y || (is_member symbols.now x && (is_member symbols.now y && nat_lt x y)))) }
-{
-    for low in symbols {
-        add_higher(*low, symbols, pairs)?;
-    }
-    Ok(())
-}
-
-/// Puts the pairs in order, each once.
-fn tidy<A: Allocator>(pairs: &mut Vec<(u32, u32), A>)
-    ensures rising { AreRising pairs.new.items }
-    ensures same { (x y : ℕ) → has_pair pairs.new.items x y ≡ has_pair pairs.old.items x y }
-{
-    pairs.sort_unstable();
-    pairs.dedup();
-}
-
-/// The pairs that the active `$d` have of the variables with the stamp.
-fn collect<A: Allocator>(
-    tables: &Tables<A>,
-    disjoints: &[u32],
-    seen: &[u32],
-    stamp: u32,
-    symbols: &mut Vec<Sym, A>,
-    pairs: &mut Vec<(u32, u32), A>,
-) -> Result<(), AllocError>
-    requires disjoints { All (λ j. j < length tables.now) disjoints.now }
-    requires seen { length seen.now ≡ length (symbol_names tables.now) }
-    requires none { length pairs.old.items ≡ 0 }
-    ensures { OnOk result ((x y : ℕ) → has_pair pairs.new.items x y ≡ list_any (λ j. (is_member (formula_at tables.now j) x && nat_eq (slice_index seen.now x) stamp) && ((is_member (formula_at tables.now j) y && nat_eq (slice_index seen.now y) stamp) && nat_lt x y)) disjoints.now) }
-{
-    for disjoint in disjoints {
-        stamped(tables.formula(*disjoint), seen, stamp, symbols)?;
-        add_all(symbols, pairs)?;
+        add_active(blocks, members, *symbol, at, into)?;
     }
     Ok(())
 }
@@ -103,34 +79,28 @@ fn symbols_of<A: Allocator + Copy>(
     Ok(symbols)
 }
 
-/// The mandatory pairs of an assertion, whose mandatory variables are marked.
+/// The mandatory pairs of an assertion, by its mandatory variables. This costs a step for each active `$d` of each of
+/// them, and one for each pair in each of these.
 pub fn pairs_of<A: Allocator + Copy>(
     alloc: A,
     tables: &Tables<A>,
-    disjoints: &[u32],
-    seen: &[u32],
+    blocks: &Blocks<A>,
+    members: &Members<A>,
     found: &[Sym],
     assertion: u32,
 ) -> Result<Vec<(Sym, Sym), A>, AllocError>
-    requires few { length tables.now < 2 ^ 31 }
     requires assertion { assertion < length tables.now }
-    requires disjoints { AreLatest is_disjoint tables.now disjoints.now }
-    requires marks { AreMarks (length (symbol_names tables.now)) (assertion + 1) seen.now found.now }
+    requires blocks { IsBlocks tables.now (lists blocks.now.of.items blocks.now.ends.items blocks.now.open.items) }
+    requires members { AreMembers tables.now (lists blocks.now.of.items blocks.now.ends.items blocks.now.open.items) members.now.pairs.items members.now.skips.items }
     requires found { (x : ℕ) → is_member found.now x ≡ is_member (mandatory_variables tables.now assertion) x }
     ensures { IfOk result (λ v. map (λ p. pair p.0 p.1) v.items ≡ mandatory_pairs tables.now assertion) }
 {
-    let mut active = Vec::new(alloc);
-    actives(tables, Wanted::Disjoint, disjoints, assertion, &mut active)?;
-    let mut symbols = Vec::new(alloc);
+    let _ = tables;
+    let mut had = Vec::new(alloc);
+    add_all_active(blocks, members, found, assertion, &mut had)?;
+    tidy(&mut had);
     let mut pairs = Vec::new(alloc);
-    collect(
-        tables,
-        &active,
-        seen,
-        assertion + 1,
-        &mut symbols,
-        &mut pairs,
-    )?;
+    add_together(&had, &mut pairs)?;
     tidy(&mut pairs);
     symbols_of(alloc, &pairs)
 }

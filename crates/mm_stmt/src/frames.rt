@@ -2,20 +2,23 @@
 
 ghost use Rattle.std.specs.Prelude.{◌≡◌, ◌<◌, ◌≤◌, ◌+◌, ℕ, IfOk, OnOk, None, length, map, slice_index};
 ghost use Rattle.mm_spec.specs.Derivation.{pair};
-ghost use Rattle.mm_spec.specs.Frame.{symbol_names, is_essential, is_disjoint};
+ghost use Rattle.mm_spec.specs.Frame.{symbol_names, is_essential};
 ghost use Rattle.mm_spec.specs.Output.{theorems, columns};
+ghost use Rattle.mm_stmt.specs.Blocks.{IsBlocks, lists};
 ghost use Rattle.mm_stmt.specs.Database.{AreFrames};
 ghost use Rattle.mm_stmt.specs.Frames.{IsFrame};
 ghost use Rattle.mm_stmt.specs.Latest.{AreLatest};
+ghost use Rattle.mm_stmt.specs.Members.{AreMembers};
 ghost use Rattle.mm_stmt.specs.Tables.{IsSound};
 ghost use Rattle.mm_stmt.specs.Walk.{AreTyped};
 
-use crate::active::latest_of;
-use crate::blocks::NEVER;
+use crate::active::latest_essentials;
+use crate::blocks::{Blocks, NEVER};
 use crate::database::Frame;
 use crate::disjoint::pairs_of;
+use crate::members::{Members, members_of};
 use crate::symbol::Sym;
-use crate::tables::{Tables, Wanted};
+use crate::tables::Tables;
 use crate::walk::hypotheses;
 use std::alloc::{AllocError, Allocator};
 
@@ -47,8 +50,9 @@ fn give_type<A: Allocator>(tables: &Tables<A>, statement: u32, typed: &mut Vec<u
 fn frame_of<A: Allocator + Copy>(
     alloc: A,
     tables: &Tables<A>,
+    blocks: &Blocks<A>,
     essentials: &[u32],
-    disjoints: &[u32],
+    members: &Members<A>,
     typed: &[u32],
     statement: u32,
     seen: &mut Vec<u32, A>,
@@ -57,7 +61,8 @@ fn frame_of<A: Allocator + Copy>(
     requires sound { IsSound tables.now }
     requires statement { statement < length tables.now }
     requires essentials { AreLatest is_essential tables.now essentials.now }
-    requires disjoints { AreLatest is_disjoint tables.now disjoints.now }
+    requires blocks { IsBlocks tables.now (lists blocks.now.of.items blocks.now.ends.items blocks.now.open.items) }
+    requires members { AreMembers tables.now (lists blocks.now.of.items blocks.now.ends.items blocks.now.open.items) members.now.pairs.items members.now.skips.items }
     requires typed { AreTyped tables.now statement typed.now }
     requires count { length seen.old.items ≡ length (symbol_names tables.now) }
     requires seen { (x : ℕ) → x < length (symbol_names tables.now) → slice_index seen.old.items x ≤ statement }
@@ -68,7 +73,7 @@ fn frame_of<A: Allocator + Copy>(
     let mut hyps = Vec::new(alloc);
     if tables.is_assertion(statement) {
         hypotheses(tables, essentials, typed, statement, seen, found, &mut hyps)?;
-        let pairs = pairs_of(alloc, tables, disjoints, seen, found, statement)?;
+        let pairs = pairs_of(alloc, tables, blocks, members, found, statement)?;
         Ok(Frame { hyps, pairs })
     } else {
         let pairs = Vec::new(alloc);
@@ -80,12 +85,14 @@ fn frame_of<A: Allocator + Copy>(
 pub fn frames_of<A: Allocator + Copy>(
     alloc: A,
     tables: &Tables<A>,
-    disjoints: &[u32],
+    blocks: &Blocks<A>,
+    members: &Members<A>,
 ) -> Result<Vec<Frame<A>, A>, AllocError>
-    requires { AreLatest is_disjoint tables.now disjoints.now }
+    requires blocks { IsBlocks tables.now (lists blocks.now.of.items blocks.now.ends.items blocks.now.open.items) }
+    requires members { AreMembers tables.now (lists blocks.now.of.items blocks.now.ends.items blocks.now.open.items) members.now.pairs.items members.now.skips.items }
     ensures { IfOk result (λ v. AreFrames tables.now (map (λ f. f.hyps.items) v.items) (map (λ f. map (λ p. pair p.0 p.1) f.pairs.items) v.items)) }
 {
-    let essentials = latest_of(alloc, tables, Wanted::Essential)?;
+    let essentials = latest_essentials(alloc, tables)?;
     let mut typed = filled(alloc, NEVER, tables.symbol_count())?;
     let mut seen = filled(alloc, 0, tables.symbol_count())?;
     let mut found = Vec::new(alloc);
@@ -94,8 +101,9 @@ pub fn frames_of<A: Allocator + Copy>(
         let frame = frame_of(
             alloc,
             tables,
+            blocks,
             &essentials,
-            disjoints,
+            members,
             &typed,
             k,
             &mut seen,
@@ -139,28 +147,33 @@ pub fn axioms_of<A: Allocator + Copy>(
     Ok(all)
 }
 
-/// What is kept beside the statements: the last active `$d` at each, the frames, and the lists of the theorems and axioms.
+/// What is kept beside the statements: the `$d` by their variables, the frames, and the lists of the theorems and axioms.
 #[derive(Drop)]
 pub struct Beside<A: Allocator> {
-    pub latest_disjoint: Vec<u32, A>,
+    pub members: Members<A>,
     pub frames: Vec<Frame<A>, A>,
     pub theorems: Vec<u32, A>,
     pub axioms: Vec<u32, A>,
 }
 
 /// All that is kept beside lawful statements.
-pub fn gather<A: Allocator + Copy>(alloc: A, tables: &Tables<A>) -> Result<Beside<A>, AllocError>
-    ensures disjoint { IfOk result (λ b. AreLatest is_disjoint tables.now b.latest_disjoint.items) }
+pub fn gather<A: Allocator + Copy>(
+    alloc: A,
+    tables: &Tables<A>,
+    blocks: &Blocks<A>,
+) -> Result<Beside<A>, AllocError>
+    requires { IsBlocks tables.now (lists blocks.now.of.items blocks.now.ends.items blocks.now.open.items) }
+    ensures members { IfOk result (λ b. AreMembers tables.now (lists blocks.now.of.items blocks.now.ends.items blocks.now.open.items) b.members.pairs.items b.members.skips.items) }
     ensures frames { IfOk result (λ b. AreFrames tables.now (map (λ f. f.hyps.items) b.frames.items) (map (λ f. map (λ p. pair p.0 p.1) f.pairs.items) b.frames.items)) }
     ensures theorems { IfOk result (λ b. b.theorems.items ≡ theorems tables.now) }
     ensures axioms { IfOk result (λ b. b.axioms.items ≡ columns tables.now None) }
 {
-    let latest_disjoint = latest_of(alloc, tables, Wanted::Disjoint)?;
-    let frames = frames_of(alloc, tables, &latest_disjoint)?;
+    let members = members_of(alloc, tables, blocks)?;
+    let frames = frames_of(alloc, tables, blocks, &members)?;
     let theorems = theorems_of(alloc, tables)?;
     let axioms = axioms_of(alloc, tables)?;
     Ok(Beside {
-        latest_disjoint,
+        members,
         frames,
         theorems,
         axioms,

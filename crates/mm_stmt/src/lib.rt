@@ -5,12 +5,12 @@
 #![tactic(auto)]
 
 pub mod active;
-pub mod apart;
 pub mod blocks;
 pub mod database;
 pub mod disjoint;
 pub mod frames;
 pub mod judge;
+pub mod members;
 pub mod names;
 pub mod numbers;
 pub mod parts;

@@ -168,6 +168,7 @@ pub fn read<'a, A: Allocator + Copy>(
             &numbered.places,
             &symbols.variables,
         ),
+        &read.scope.blocks,
     )?;
     Ok(Database {
         text,
@@ -181,7 +182,7 @@ pub fn read<'a, A: Allocator + Copy>(
         numbers: numbered.numbers,
         places: numbered.places,
         frames: beside.frames,
-        latest_disjoint: beside.latest_disjoint,
+        members: beside.members,
         theorems: beside.theorems,
         axioms: beside.axioms,
     })

@@ -3,14 +3,14 @@
 ghost use Rattle.std.specs.Prelude.{All, ◌≡◌, ◌<◌, ◌≤◌, ◌^◌, ℕ, List, length, None};
 ghost use Rattle.std.specs.List.{list_any};
 ghost use Rattle.mm_spec.specs.Scope.{statement_at};
-ghost use Rattle.mm_spec.specs.Frame.{symbol_names, is_variable, is_floating, formula_at};
+ghost use Rattle.mm_spec.specs.Frame.{symbol_names, is_variable, is_disjoint, is_essential, is_floating, formula_at};
 ghost use Rattle.mm_spec.specs.Citation.{is_assertion, is_theorem};
 ghost use Rattle.mm_spec.specs.Output.{is_column};
 ghost use Rattle.mm_spec.proofs.Activity.{stays};
 ghost use Rattle.mm_stmt.specs.Blocks.{IsBlocks, lists};
 ghost use Rattle.mm_stmt.specs.Read.{statements};
 ghost use Rattle.mm_stmt.specs.Database.{AreNumbered, AreSymbols};
-ghost use Rattle.mm_stmt.specs.Tables.{IsSound, test_of, typed_at};
+ghost use Rattle.mm_stmt.specs.Tables.{IsSound, typed_at};
 
 use crate::blocks::Blocks;
 use crate::parts::{Kind, Outline};
@@ -18,13 +18,6 @@ use crate::symbol::Sym;
 use mm_spec::Word;
 use std::alloc::Allocator;
 use std::marker::Model;
-
-/// The kinds of statements that are looked up where they are active.
-#[derive(Clone, Copy)]
-pub enum Wanted {
-    Essential,
-    Disjoint,
-}
 
 /// The statements, lent, with what is known of them.
 #[derive(Drop)]
@@ -97,14 +90,24 @@ impl<'s, A: Allocator> Tables<'s, A> {
         self.variables.len() as u32
     }
 
-    /// Whether a statement is of the kind.
-    pub fn is_a(&self, wanted: Wanted, statement: u32) -> bool
+    /// Whether a statement is a `$e`.
+    pub fn is_essential(&self, statement: u32) -> bool
         requires { statement < length self.now }
-        ensures { result ≡ list_any (test_of wanted) (statement_at self.now statement) }
+        ensures { result ≡ list_any is_essential (statement_at self.now statement) }
     {
-        match (wanted, self.outlines[statement as usize].kind) {
-            (Wanted::Essential, Kind::Essential) => true,
-            (Wanted::Disjoint, Kind::Disjoint) => true,
+        match self.outlines[statement as usize].kind {
+            Kind::Essential => true,
+            _ => false,
+        }
+    }
+
+    /// Whether a statement is a `$d`.
+    pub fn is_disjoint(&self, statement: u32) -> bool
+        requires { statement < length self.now }
+        ensures { result ≡ list_any is_disjoint (statement_at self.now statement) }
+    {
+        match self.outlines[statement as usize].kind {
+            Kind::Disjoint => true,
             _ => false,
         }
     }

@@ -9,10 +9,10 @@ ghost use Rattle.mm_stmt.specs.Latest.{AreLatest};
 ghost use Rattle.mm_stmt.specs.Tables.{IsSound};
 ghost use Rattle.mm_stmt.specs.Walk.{AreMarks, AreTyped, is_float_of};
 
-use crate::active::actives;
+use crate::active::active_essentials;
 use crate::blocks::NEVER;
 use crate::symbol::Sym;
-use crate::tables::{Tables, Wanted};
+use crate::tables::Tables;
 use std::alloc::{AllocError, Allocator};
 
 /// Marks and lists a variable, unless it is marked.
@@ -146,7 +146,7 @@ pub fn hypotheses<A: Allocator>(
     ensures hyps { OnOk result (hyps.new.items ≡ mandatory_hypotheses tables.now assertion) }
 {
     found.clear();
-    actives(tables, Wanted::Essential, essentials, assertion, hyps)?;
+    active_essentials(tables, essentials, assertion, hyps)?;
     mandatory(tables, hyps, assertion, seen, found)?;
     add_floats(tables, typed, assertion, found, hyps)?;
     tidy(hyps);

@@ -1,10 +1,10 @@
-use Rattle.mm_stmt.specs.Tables.{test_of}
+use Rattle.mm_spec.specs.Frame.{is_essential}
 use Rattle.mm_stmt.specs.Latest.{IsCandidate}
 use Rattle.mm_stmt.proofs.LatestLaw.{height}
 use Rattle.mm_stmt.proofs.active.last_open.Given as goal
 
 abbrev pub invariant-loop-last : goal.invariant-loop-last
-invariant-loop-last g l = IsCandidate (test_of l.fn.wanted) l.tables l.at l.last
+invariant-loop-last g l = IsCandidate is_essential l.tables l.at l.last
 
 abbrev pub decreases-loop-last : goal.decreases-loop-last
 decreases-loop-last g l = height l.last

@@ -1,4 +1,4 @@
-use Rattle.std.proofs.Common.{◌≡◌, ◌∙◌, ◌≤◌, ◌++◌, ◌∷◌, [], List, ℕ, length, map, sym, ap, ap₂, subst, arith, append_assoc, append-nil, Fits}
+use Rattle.std.proofs.Common.{◌∙◌, ◌≤◌, ◌++◌, ◌∷◌, [], length, map, sym, ap, ap₂, subst, arith, append_assoc, append-nil}
 use Rattle.mm_spec.specs.Text.{words}
 use Rattle.mm_spec.specs.Frame.{place_of}
 use Rattle.mm_stmt.specs.Names.{keys_of}

@@ -1,4 +1,4 @@
-use Rattle.std.proofs.Common.{◌≡◌, ◌∙◌, ◌+◌, ◌++◌, ◌∷◌, [], List, ℕ, length, map, get_or, take, sym, ap, ap₂, subst, arith, append-nil}
+use Rattle.std.proofs.Common.{◌≡◌, ◌∙◌, ◌+◌, [], List, ℕ, length, map, get_or, sym, ap, ap₂, subst, arith, append-nil}
 use Rattle.mm_spec.specs.Text.{words}
 use Rattle.mm_spec.specs.Frame.{place_of, symbol_names}
 use Rattle.mm_stmt.specs.Names.{keys_of}

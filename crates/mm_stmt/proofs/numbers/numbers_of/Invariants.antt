@@ -1,5 +1,3 @@
-use Rattle.std.proofs.Common.{◌≡◌, take}
-use Rattle.mm_stmt.specs.Read.{statements}
 use Rattle.mm_stmt.proofs.NumbersLaw.{Numbers}
 use Rattle.mm_stmt.proofs.numbers.numbers_of.Given as goal
 

@@ -1,4 +1,4 @@
-use Rattle.std.proofs.Common.{◌≡◌, ◌∙◌, ◌^◌, ◌<◌, ℕ, List, sym, ap, ap₂, subst, arith, length, None}
+use Rattle.std.proofs.Common.{◌≡◌, ◌∙◌, ◌^◌, ◌<◌, List, sym, ap, ap₂, subst, arith, length, None}
 use Rattle.std.proofs.lemmas.List.{length-map}
 use Rattle.mm_spec.specs.Output.{theorems, columns}
 use Rattle.mm_spec.specs.declared.Word.{Word}
@@ -76,7 +76,7 @@ invariant_of-result g c =
       symbols = rw (sym c.deref-3.ensures.value, sym c.deref-4.ensures.value) c.in_ok-symbols.ensures;
       numbered = rw (sym c.deref-5.ensures.value, sym c.deref-6.ensures.value) c.in_ok-numbered.ensures;
       frames = rw (sym tables) c.in_ok-beside.ensures.frames;
-      latest_disjoint = rw (sym tables) c.in_ok-beside.ensures.disjoint;
+      members_are = rw (sym tables) c.in_ok-beside.ensures.members;
       theorems_are = c.in_ok-beside.ensures.theorems ∙ ap (λ db. theorems db) tables;
       axioms_are = c.in_ok-beside.ensures.axioms ∙ ap (λ db. columns db None) tables;
       below = λ k h. (subst IsSound same (sound text c.deref-2.result.now os _ _ c.in_ok-read.ensures.read small _ _ _ c.in_ok-read.ensures.keeps c.in_ok-read.ensures.few)).below k (let m = length-map os (statement_of text words) in omega (arith, m, h));

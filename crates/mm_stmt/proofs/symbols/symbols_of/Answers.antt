@@ -1,11 +1,11 @@
-use Rattle.std.proofs.Common.{◌≡◌, ◌∙◌, ℕ, ◌+◌, ◌<◌, ◌++◌, [], List, Bool, length, take, get_or, map, sym, ap, subst, arith, append-nil, true, false}
+use Rattle.std.proofs.Common.{◌≡◌, ℕ, ◌+◌, ◌++◌, [], List, take, get_or, sym, subst, arith, append-nil, true, false}
 use Rattle.std.proofs.lemmas.List.{take_all}
-use Rattle.mm_stmt.specs.declared.parts.Kind.TheVariants.{Constants, Variables}
+use Rattle.mm_stmt.specs.declared.parts.Kind.TheVariants.{Constants}
 use Rattle.mm_stmt.specs.declared.parts.Outline.{Outline}
 use Rattle.mm_stmt.specs.declared.parts.Kind.{Kind}
 use Rattle.mm_spec.specs.Text.{words}
 use Rattle.mm_stmt.specs.Names.{keys_of}
-use Rattle.mm_stmt.specs.Parts.{statement_of, between, outline}
+use Rattle.mm_stmt.specs.Parts.{between, outline}
 use Rattle.mm_stmt.specs.Read.{statements}
 use Rattle.mm_stmt.specs.Symbols.{Declares, variables_in, all_declared, all_variables}
 use Rattle.mm_stmt.proofs.SymbolsLaw.{declares-next, declares-by, declares-constants, declares-variables, declares-nothing, DeclaresAs, are-symbols}

@@ -1,7 +1,5 @@
-use Rattle.std.proofs.Common.{◌≡◌, take, flat_map}
-use Rattle.mm_spec.specs.Scope.{variables_of}
+use Rattle.std.proofs.Common.{take}
 use Rattle.mm_stmt.specs.Names.{keys_of}
-use Rattle.mm_stmt.specs.Parts.{statement_of}
 use Rattle.mm_stmt.specs.Read.{statements}
 use Rattle.mm_stmt.specs.Symbols.{Declares, all_declared, all_variables}
 use Rattle.mm_stmt.proofs.symbols.symbols_of.Given as goal

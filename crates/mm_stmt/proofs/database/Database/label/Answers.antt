@@ -1,4 +1,4 @@
-use Rattle.std.proofs.Common.{◌≡◌, ◌∙◌, ℕ, ◌-◌, ◌<◌, ◌≤◌, length, get_or, take, drop, true, false, Option, Some, None, List, sym, ap, subst, slice_get, arith, if◌then◌else◌}
+use Rattle.std.proofs.Common.{◌≡◌, ◌∙◌, ◌-◌, ◌<◌, length, get_or, take, drop, true, false, Some, None, sym, ap, subst, slice_get, arith, if◌then◌else◌}
 use Rattle.std.specs.Option.{option_map, option_and_then}
 use Rattle.std.proofs.lemmas.List.{get_or_default}
 use Rattle.mm_spec.specs.Statement.{label_of}

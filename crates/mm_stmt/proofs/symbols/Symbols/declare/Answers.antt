@@ -1,4 +1,4 @@
-use Rattle.std.proofs.Common.{◌≡◌, ◌∙◌, ℕ, Bool, true, false, List, ◌++◌, ◌∷◌, [], length, map, sym, ap, ap₂, subst, Bor, not}
+use Rattle.std.proofs.Common.{◌≡◌, ◌∙◌, ℕ, Bool, true, false, List, ◌++◌, ◌∷◌, [], map, sym, ap, subst}
 use Rattle.std.proofs.lemmas.Bool.{not-true}
 use Rattle.std.proofs.Math.ListN.{set}
 use Rattle.mm_spec.specs.Text.{is_in}

@@ -1,10 +1,8 @@
-use Rattle.std.proofs.Common.{◌≡◌, ◌∙◌, ℕ, ◌+◌, ◌<◌, Bool, true, false, List, ◌++◌, ◌∷◌, [], length, map, sym, ap, ap₂, subst, arith, append_assoc, append-nil}
-use Rattle.std.proofs.lemmas.List.{map-append}
+use Rattle.std.proofs.Common.{◌≡◌, ℕ, ◌++◌, subst, arith}
 use Rattle.mm_spec.specs.Text.{words}
 use Rattle.mm_stmt.specs.Names.{keys_of}
-use Rattle.mm_stmt.specs.Parts.{between, token_at}
-use Rattle.mm_stmt.specs.Symbols.{Declares, declared_of, variables_in}
-use Rattle.mm_stmt.proofs.Turns.{between-more, between-none}
+use Rattle.mm_stmt.specs.Parts.{between}
+use Rattle.mm_stmt.specs.Symbols.{Declares, variables_in}
 use Rattle.mm_stmt.proofs.SymbolsLaw.{declares-one, declares-none}
 use Rattle.mm_stmt.proofs.symbols.Symbols.declare_all.Goals as goal
 

@@ -1,4 +1,4 @@
-use Rattle.std.proofs.Common.{◌≡◌, ◌++◌, List, ℕ}
+use Rattle.std.proofs.Common.{◌++◌, List, ℕ}
 use Rattle.mm_spec.specs.Text.{words}
 use Rattle.mm_stmt.specs.Names.{keys_of}
 use Rattle.mm_stmt.specs.Parts.{between}

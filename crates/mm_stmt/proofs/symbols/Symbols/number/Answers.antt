@@ -1,4 +1,4 @@
-use Rattle.std.proofs.Common.{◌≡◌, ◌∙◌, sym, ap, map, is_some, false}
+use Rattle.std.proofs.Common.{◌≡◌, ◌∙◌, sym, ap, is_some, false}
 use Rattle.mm_spec.specs.Text.{is_in}
 use Rattle.mm_stmt.proofs.SymbolsLaw.{found-place, missing-place, keys-in}
 use Rattle.mm_stmt.specs.Names.{keys_of}
