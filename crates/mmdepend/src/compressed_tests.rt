@@ -50,7 +50,13 @@ fn proof_writes<R: Threads + Sync>(
     proof: &[u8],
     output: &[u8],
 ) -> Result<bool, AllocError> {
-    let parts = [SYNTAX, DETACHMENT, BEFORE_PROOF, proof, b" $. $}\n".as_slice()];
+    let parts = [
+        SYNTAX,
+        DETACHMENT,
+        BEFORE_PROOF,
+        proof,
+        b" $. $}\n".as_slice(),
+    ];
     writes(rt, alloc, &parts, output)
 }
 
@@ -81,12 +87,18 @@ fn compressed_proofs_are_refused(rt: HostRuntime) -> Result<(), AllocError> {
         (b"( wi ax-1 ax-mp ) ABADCABF", b"refused 8:66 E35\n"),
         (b"( wi ax-1 ax-mp", b"refused 8:57 E41\n"),
         (b"( wi ax-1 ax-mp ) ABADCAbEF", b"refused 8:65 E42\n"),
-        (b"( wi ax-1 ax-mp ) YYYYYYYYYYYYYYYYb", b"refused 8:75 E42\n"),
+        (
+            b"( wi ax-1 ax-mp ) YYYYYYYYYYYYYYYYb",
+            b"refused 8:75 E42\n",
+        ),
         (b"( wi ax-1 ax-mp ) ABADCABEU", b"refused 8:69 E43\n"),
         (b"( wi ax-1 ax-mp ) ABADUZCABEF", b"refused 8:64 E43\n"),
         (b"( wi ax-1 ax-mp ) ZABADCABEF", b"refused 8:59 E44\n"),
         (b"( wi ax-1 ax-mp ) ABADCABEG", b"refused 8:67 E45\n"),
-        (b"( wi ax-1 ax-mp ) AYYYYYYYYYYYYYYYYYYYYYYYYYYYYYYYYA", b"refused 8:60 E45\n"),
+        (
+            b"( wi ax-1 ax-mp ) AYYYYYYYYYYYYYYYYYYYYYYYYYYYYYYYYA",
+            b"refused 8:60 E45\n",
+        ),
     ];
     for row in rows {
         assert!(&rt; proof_writes(&rt, rt.alloc(), row.0, row.1)?);
@@ -111,7 +123,8 @@ fn mentioned_label_is_not_cited(rt: HostRuntime) -> Result<(), AllocError> {
 
 #[test]
 fn marked_formula_doubles_up_to_the_limit(rt: HostRuntime) -> Result<(), AllocError> {
-    let big = b"big $p wff p $= ( wi ) AABZCBZDBZEBZFBZGBZHBZIBZJBZKBZLBZMBZNBZOBZPBZQBZRBZSBZ".as_slice();
+    let big =
+        b"big $p wff p $= ( wi ) AABZCBZDBZEBZFBZGBZHBZIBZJBZKBZLBZMBZNBZOBZPBZQBZRBZSBZ".as_slice();
     let above = [SYNTAX, big, b"TBZ $.\n".as_slice()];
     assert!(&rt; writes(&rt, rt.alloc(), &above, b"refused 7:80 E39\n")?);
     let within = [SYNTAX, big, b" $.\n".as_slice()];
