@@ -3,3 +3,7 @@ pub mod LeastLaw
 pub mod RisingLaw
 pub mod ReadLaw
 pub mod TheoremsLaw
+pub mod NumberLaw
+pub mod LettersLaw
+pub mod BracketsLaw
+pub mod OrderLaw

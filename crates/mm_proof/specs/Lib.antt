@@ -1,2 +1,4 @@
 pub mod Read
 pub mod Refused
+pub mod Number
+pub mod Letters

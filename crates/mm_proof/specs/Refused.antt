@@ -6,13 +6,18 @@ use Rattle.mm_spec.specs.Statement.{Statement}
 use Rattle.mm_spec.specs.Lawful.{least}
 use Rattle.mm_spec.specs.NormalProof.{label_faults}
 use Rattle.mm_spec.specs.declared.Code.TheVariants.{IncompleteProof}
-use Rattle.mm_proof.specs.declared.reader.ProofRefused.{ProofRefused}
-use Rattle.mm_proof.specs.declared.reader.ProofRefused.TheVariants.{Fault as Faulty, Memory}
+use Rattle.mm_proof.specs.declared.refused.ProofRefused.{ProofRefused}
+use Rattle.mm_proof.specs.declared.refused.ProofRefused.TheVariants.{Fault as Faulty, Memory}
 
 -- a fault is the first of these
 abbrev pub Refuses : List Fault → ProofRefused → Type 0
 Refuses faults (Faulty f) = least faults ≡ Some f
 Refuses faults Memory = Unit {0}
+
+-- a fault is the one with which these begin
+abbrev pub StartsWith : List Fault → ProofRefused → Type 0
+StartsWith faults (Faulty f) = (more : List Fault) × (faults ≡ f ∷ more)
+StartsWith faults Memory = Unit {0}
 
 -- the number that was found, if one was
 abbrev pub found : Option ℕ → List ℕ

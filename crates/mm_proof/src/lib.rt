@@ -1,12 +1,22 @@
 //! The proofs of theorems, read. This layer knows the words behind the `$=` of a theorem, the labels that are usable
-//! there, and the steps that the words stand for. It promises that the steps are those of the definitions
+//! there, and the steps that the words stand for: in a normal proof the labels one by one, in a compressed one the numbers
+//! in letters behind the labels in brackets. It promises that the steps are those of the definitions
 //! (`Rattle.mm_spec.specs.Citation.steps_at`), where the proof has no reading fault, and otherwise the first such fault.
-//! Normal proofs alone are read: a compressed one is refused at its first word.
+//! A step that names a marked subproof stays one step: the list of labels that it stands for is never written out.
 #![tactic(auto)]
 
+mod compressed;
+mod digits;
+mod labels;
+mod letters;
 mod placed;
 mod reader;
+mod refused;
+#[cfg(test)]
+mod tests;
 
+pub use digits::number;
 pub use mm_stmt::{Code, Fault};
 pub use placed::{Step, Steps};
-pub use reader::{ProofRefused, read_proof};
+pub use reader::read_proof;
+pub use refused::ProofRefused;

@@ -7,48 +7,15 @@ ghost use Rattle.mm_spec.specs.Citation.{steps_at, reading_faults_at};
 ghost use Rattle.mm_spec.specs.Output.{is_theorem_at};
 ghost use Rattle.mm_stmt.specs.Parts.{tokens_of, AreWords};
 ghost use Rattle.mm_proof.specs.Read.{Read, read};
-ghost use Rattle.mm_proof.specs.Refused.{Refuses, found, word_faults};
+ghost use Rattle.mm_proof.specs.Refused.{Refuses, word_faults};
 
+use crate::compressed::read_compressed;
+use crate::labels::{bytes, usable_label};
 use crate::placed::{Step, Steps};
+use crate::refused::{ProofRefused, refused};
 use mm_stmt::database::Database;
-use mm_stmt::{Code, Fault, Word};
-use std::alloc::{AllocError, Allocator};
-
-/// Why a proof has no steps.
-#[derive(Drop)]
-pub enum ProofRefused {
-    /// Its first reading fault.
-    Fault(Fault),
-    /// Memory was refused.
-    Memory,
-}
-
-/// The statement of a label that is usable in the proof of a theorem: that of an active hypothesis or of an earlier
-/// assertion.
-fn usable_label<A: Allocator>(database: &Database<A>, theorem: u32, label: &[u8]) -> Option<u32>
-    requires { theorem < length database.now.statements }
-    ensures { usable database.now.statements theorem label.now ≡ found result }
-{
-    match database.find(label) {
-        None => None,
-        Some(statement) => {
-            if database.active_at(statement, theorem) {
-                Some(statement)
-            } else {
-                None
-            }
-        }
-    }
-}
-
-/// The bytes of a word.
-fn bytes<'a>(text: &'a [u8], word: Word) -> &'a [u8]
-    requires order { word.start ≤ word.end }
-    requires within { word.end ≤ length text.now }
-    ensures { result.now ≡ slice_range text.now word.start word.end }
-{
-    &text[word.start as usize..word.end as usize]
-}
+use mm_stmt::{Code, Word};
+use std::alloc::Allocator;
 
 /// Reads the words of a normal proof.
 fn read_words<A: Allocator>(
@@ -69,30 +36,19 @@ fn read_words<A: Allocator>(
     for word in words {
         let label = bytes(text, *word);
         if label == b"?".as_slice() {
-            return Err(ProofRefused::Fault(Fault {
-                at: word.start,
-                code: Code::IncompleteProof,
-            }));
+            return Err(refused(word.start, Code::IncompleteProof));
         }
         match usable_label(database, theorem, label) {
-            None => {
-                return Err(ProofRefused::Fault(Fault {
-                    at: word.start,
-                    code: Code::UnusableLabel,
-                }));
-            }
-            Some(statement) => match steps.push(word.start, Step::Label(statement)) {
-                Ok(()) => {}
-                Err(_) => return Err(ProofRefused::Memory),
-            },
+            None => return Err(refused(word.start, Code::UnusableLabel)),
+            Some(statement) => steps.push(word.start, Step::Label(statement))?,
         }
     }
     Ok(())
 }
 
-/// Reads the proof of a theorem, which is the number of a `$p`. It is refused with its first reading fault (E31 to E33; a
-/// compressed proof with E90 at its first word), whose place is a byte offset from 0, or where memory is refused.
-pub fn read_proof<A: Allocator>(
+/// Reads the proof of a theorem, which is the number of a `$p`. It is refused with its first reading fault (E31 to E33, E41
+/// to E45), whose place is a byte offset from 0, or where memory is refused.
+pub fn read_proof<A: Allocator + Copy>(
     alloc: A,
     database: &Database<A>,
     theorem: u32,
@@ -104,22 +60,14 @@ pub fn read_proof<A: Allocator>(
 {
     let _ = database.len();
     let words = database.proof_words(theorem);
-    if words.len() == 0 {
-        return Err(ProofRefused::Fault(Fault {
-            at: database.end_at(theorem),
-            code: Code::EmptyProof,
-        }));
-    }
-    let first = words[0];
-    if bytes(database.text(), first) == b"(".as_slice() {
-        return Err(ProofRefused::Fault(Fault {
-            at: first.start,
-            code: Code::NotReadYet,
-        }));
+    let end = database.end_at(theorem);
+    let Some((first, rest)) = words.split_first() else {
+        return Err(refused(end, Code::EmptyProof));
+    };
+    if bytes(database.text(), *first) == b"(".as_slice() {
+        return read_compressed(alloc, database, theorem, rest, end);
     }
     let mut steps = Steps::none(alloc, theorem);
-    match read_words(database, theorem, words, &mut steps) {
-        Ok(()) => Ok(steps),
-        Err(refused) => Err(refused),
-    }
+    read_words(database, theorem, words, &mut steps)?;
+    Ok(steps)
 }

@@ -12,7 +12,6 @@ use Rattle.mm_spec.specs.Steps.{Step, PlacedStep, placed, label, marked}
 use Rattle.mm_spec.specs.NormalProof.{is_labelled, usable, normal_steps, normal_faults, label_faults}
 use Rattle.mm_spec.specs.CompressedProof.{Compressed, bracketed, Letter, letters_of, Group, is_last, groups, value, starts_at, step_of, group_steps, group_faults, letter_faults, compressed_faults, compressed_steps}
 use Rattle.mm_spec.specs.Proof.{steps, reading_faults}
-use Rattle.mm_spec.specs.Unread.{unless_unread, at_first}
 use Rattle.mm_spec.specs.Citation.{rule_of, rule_at, context_at, steps_at, reading_faults_at}
 use Rattle.mm_spec.specs.Complete.{IsFine}
 use Rattle.mm_spec.specs.declared.Code.TheVariants.{OpenBrackets, OpenNumber, MarkBeforeStep, NumberTooLarge, UnusableLabel, IncompleteProof, BadLetter}
@@ -264,24 +263,15 @@ module _ (db : List Statement) (k : ℕ) (fine : (l : ℕ) → IsFine (context_a
       by true e = compressed_good end (bracketed ts) e
       by false e = normal_good (t ∷ ts) 0
 
-  -- what is laid over the reading faults is a fault more
-  unread_none : (ts : List Token) (fs : List Fault) → unless_unread ts fs ≡ [] → fs ≡ []
-  unread_none [] fs e = e
-  unread_none (t ∷ ts) fs e = by (bytes_eq t.word (codes "(")) e
-    where
-      by : (b : Bool) → ◌≡◌ {A = List Fault} (elim b [ true ↦ at_first (t ∷ ts) | false ↦ fs ]) [] → fs ≡ []
-      by true e = absurd (cc)
-      by false e = e
-
   pub good_steps : reading_faults_at db k ≡ [] → AreGoodSteps (context_at db k) 0 (bare (steps_at db k))
   good_steps e = by (slice_get db k) e
     where
       faults : Option Statement → List Fault
-      faults o = elim o [ Some (provable l p xs q ps d) ↦ unless_unread ps (reading_faults db k d ps) | _ ↦ [] ]
+      faults o = elim o [ Some (provable l p xs q ps d) ↦ reading_faults db k d ps | _ ↦ [] ]
 
       out : Option Statement → List PlacedStep
       out o = elim o [ Some (provable l p xs q ps d) ↦ steps db k ps | _ ↦ [] ]
 
       by : (o : Option Statement) → faults o ≡ [] → AreGoodSteps (context_at db k) 0 (bare (out o))
-      by (Some (provable l p xs q ps d)) e = proof_good d ps (unread_none ps (reading_faults db k d ps) e)
+      by (Some (provable l p xs q ps d)) e = proof_good d ps e
       by _ e = tt

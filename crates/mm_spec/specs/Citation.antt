@@ -9,7 +9,6 @@ use Rattle.mm_spec.specs.Frame.{is_variable, disjoint_at, formula_at, frame_at}
 use Rattle.mm_spec.specs.Derivation.{Context, Rule, hypothesis, assertion, Trees, postfix, is_member}
 use Rattle.mm_spec.specs.Steps.{PlacedStep}
 use Rattle.mm_spec.specs.Proof.{steps, reading_faults}
-use Rattle.mm_spec.specs.Unread.{unless_unread}
 use Rattle.mm_spec.specs.Valid.{Derives}
 
 -- what an active statement stands for in a proof
@@ -30,7 +29,7 @@ abbrev pub steps_at : List Statement → ℕ → List PlacedStep
 steps_at db k = elim (slice_get db k) [ Some (provable l p xs e ps d) ↦ steps db k ps | _ ↦ [] ]
 
 abbrev pub reading_faults_at : List Statement → ℕ → List Fault
-reading_faults_at db k = elim (slice_get db k) [ Some (provable l p xs e ps d) ↦ unless_unread ps (reading_faults db k d ps) | _ ↦ [] ]
+reading_faults_at db k = elim (slice_get db k) [ Some (provable l p xs e ps d) ↦ reading_faults db k d ps | _ ↦ [] ]
 
 abbrev pub is_theorem : Statement → Bool
 is_theorem (provable l k xs e ps d) = true

@@ -44,4 +44,3 @@ code_number code.BadLetter = 42
 code_number code.OpenNumber = 43
 code_number code.MarkBeforeStep = 44
 code_number code.NumberTooLarge = 45
-code_number code.NotReadYet = 90

@@ -16,7 +16,6 @@ pub mod Steps
 pub mod NormalProof
 pub mod CompressedProof
 pub mod Proof
-pub mod Unread
 pub mod Valid
 pub mod Citation
 pub mod Report

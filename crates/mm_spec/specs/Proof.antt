@@ -1,15 +1,11 @@
 -- How the words of a proof are read: as a compressed proof where the first is `(`, and else as a normal one (Metamath
 -- book, section 4.1.4 and Appendix B).
-use Rattle.std.specs.Prelude.{ℕ, Bool, true, false, List, [], ◌∷◌, bytes_eq, codes}
+use Rattle.std.specs.Prelude.{ℕ, true, false, List, [], ◌∷◌, bytes_eq, codes}
 use Rattle.mm_spec.specs.Text.{Token, Fault}
 use Rattle.mm_spec.specs.Statement.{Statement}
 use Rattle.mm_spec.specs.Steps.{PlacedStep}
 use Rattle.mm_spec.specs.NormalProof.{normal_steps, normal_faults}
 use Rattle.mm_spec.specs.CompressedProof.{bracketed, compressed_faults, compressed_steps}
-
-abbrev pub is_compressed : List Token → Bool
-is_compressed [] = false
-is_compressed (t ∷ ts) = bytes_eq t.word (codes "(")
 
 abbrev pub reading_faults : List Statement → ℕ → ℕ → List Token → List Fault
 reading_faults db k end [] = normal_faults db k end []

@@ -52,7 +52,6 @@ impl Code {
             Code::OpenNumber => 43,
             Code::MarkBeforeStep => 44,
             Code::NumberTooLarge => 45,
-            Code::NotReadYet => 90,
         }
     }
 }

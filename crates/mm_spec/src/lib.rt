@@ -124,6 +124,4 @@ pub enum Code {
     MarkBeforeStep,
     /// E45: a number above all that have a meaning. At its first letter.
     NumberTooLarge,
-    /// E90: a compressed proof, which this version does not read yet. At its first word.
-    NotReadYet,
 }

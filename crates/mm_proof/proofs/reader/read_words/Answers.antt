@@ -15,8 +15,9 @@ returns-then-eq-clause-fault g c =
     let w = get_or c.args.words.now c.loop-word.word-index none in
     let label = c.bytes-label.ensures ∙ ap (λ t. slice_range t w.start w.end) c.text-text.ensures in
     let test : bytes_eq (slice_range text w.start w.end) (codes "?") ≡ true = ap₂ bytes_eq (sym label) (sym c.as_slice.ensures) ∙ sym c.eq.ensures ∙ c.if-eq.true in
-    faulty_word text c.args.words.now c.loop-word.word-index none c.loop-word-test.true db c.args.theorem (fault w.start IncompleteProof) c.requires.rising c.loop-word.invariant.faults
-    (question_fault db c.args.theorem (token_of text w) test)
+    rw c.refused.ensures
+    (faulty_word text c.args.words.now c.loop-word.word-index none c.loop-word-test.true db c.args.theorem (fault w.start IncompleteProof) c.requires.rising c.loop-word.invariant.faults
+    (question_fault db c.args.theorem (token_of text w) test))
 
 pub returns-in-None-clause-fault : goal.returns-in-None-clause-fault
 returns-in-None-clause-fault g c =
@@ -26,5 +27,6 @@ returns-in-None-clause-fault g c =
     let w = get_or c.args.words.now c.loop-word.word-index none in
     let label = c.bytes-label.ensures ∙ ap (λ t. slice_range t w.start w.end) c.text-text.ensures in
     let test : bytes_eq (slice_range text w.start w.end) (codes "?") ≡ false = ap₂ bytes_eq (sym label) (sym c.as_slice.ensures) ∙ sym c.eq.ensures ∙ c.if-eq.false in
-    faulty_word text c.args.words.now c.loop-word.word-index none c.loop-word-test.true db c.args.theorem (fault w.start UnusableLabel) c.requires.rising c.loop-word.invariant.faults
-    (label_fault db c.args.theorem (token_of text w) test (ap (usable db c.args.theorem) (sym label) ∙ c.in-None.ensures))
+    rw c.refused-in-None.ensures
+    (faulty_word text c.args.words.now c.loop-word.word-index none c.loop-word-test.true db c.args.theorem (fault w.start UnusableLabel) c.requires.rising c.loop-word.invariant.faults
+    (label_fault db c.args.theorem (token_of text w) test (ap (usable db c.args.theorem) (sym label) ∙ c.in-None.ensures)))

@@ -1,6 +1,6 @@
 use Rattle.std.proofs.Common.{sym, ◌∙◌}
 use Rattle.mm_proof.proofs.UsableLaw.{none_usable, inactive_usable, active_usable}
-use Rattle.mm_proof.proofs.reader.usable_label.Goals as goal
+use Rattle.mm_proof.proofs.labels.usable_label.Goals as goal
 
 pub returns-in-None : goal.returns-in-None
 returns-in-None g c = none_usable c.args.database.now.statements c.args.theorem c.args.label.now c.in-None.ensures.none

@@ -1,0 +1,13 @@
+use Rattle.std.proofs.Common.{◌≡◌, ◌∙◌, ◌*◌, ◌+◌, ap}
+use Rattle.mm_proof.specs.Number.{told}
+use Rattle.mm_proof.specs.Letters.{begun_at}
+use Rattle.mm_proof.proofs.LettersLaw.{last_reads}
+use Rattle.mm_proof.proofs.letters.Progress.end_number.Goals as goal
+
+pub returns-clause-reads : goal.returns-clause-reads
+returns-clause-reads g c = λ byte k.
+    let s = c.args.self.now in
+    let begun = c.begun-begun.ensures in
+    rw (c.in_ok-add_step.ensures, begun)
+    (last_reads s.theorem s.labels s.marks s.number s.steps c.args.at byte _ k.0 k.1
+    (λ n e. c.in-Some.ensures.step n (c.with_digit.ensures ∙ ap (λ b. told (20 * b.value + c.args.digit)) begun ∙ ap (λ d. told (20 * (begun_at s.number c.args.at).value + d)) k.2 ∙ e)))

@@ -1,0 +1,14 @@
+use Rattle.std.proofs.Common.{◌≡◌, List, drop, length}
+use Rattle.mm_spec.specs.CompressedProof.{Letter, letters_of}
+use Rattle.mm_stmt.specs.Parts.{tokens_of}
+use Rattle.mm_proof.specs.Letters.{StandsAt, Continues, InOrder}
+use Rattle.mm_proof.proofs.LettersLaw.{StandsBefore}
+use Rattle.mm_proof.proofs.letters.Progress.read_all.Given as goal
+
+abbrev pub invariant-loop-word : goal.invariant-loop-word
+invariant-loop-word g l = record {
+  theorem : l.self.theorem ≡ l.fn.self.theorem;
+  labels : l.self.labels ≡ l.fn.self.labels;
+  stands : StandsBefore l.self (tokens_of l.text (drop l.word-index l.words)) l.end;
+  reads : (all : List Letter) → Continues l.fn.self all (letters_of (tokens_of l.text l.words)) → Continues l.self all (letters_of (tokens_of l.text (drop l.word-index l.words)));
+}

@@ -1,0 +1,26 @@
+-- The letters of compressed proofs, and the numbers that they spell (Metamath book, Appendix B).
+use Rattle.std.specs.Prelude.{◌≡◌, ℕ, ◌+◌, ◌-◌, ◌*◌, min, true, false, ◌==◌, List, [], ◌∷◌, ◌++◌, map, IsTrue}
+use Rattle.std.specs.List.{list_all}
+use Rattle.mm_spec.specs.CompressedProof.{Group, is_early, is_last, value}
+use Rattle.mm_proof.specs.declared.digits.LetterKind.{LetterKind}
+use Rattle.mm_proof.specs.declared.digits.LetterKind.TheVariants.{Early, Last, Mark, Unknown, Other}
+
+-- the word is early letters and a last one behind them, which have this value
+pub record IsNumber (word : List ℕ) (n : ℕ) : Type 0 where
+  pub group : Group
+  pub spelled : map (λ x. x.byte) group.early ++ group.last.byte ∷ [] ≡ word
+  pub early : IsTrue (list_all (λ x. is_early x.byte) group.early)
+  pub last : IsTrue (is_last group.last.byte)
+  pub is : value group ≡ n
+
+-- what a byte is, and its digit
+abbrev pub IsLetter : ℕ → LetterKind → Type 0
+IsLetter b (Early d) = (is_early b ≡ true) × (d ≡ b - 84)
+IsLetter b (Last d) = (is_early b ≡ false) × (is_last b ≡ true) × (d ≡ b - 64)
+IsLetter b Mark = b ≡ 90
+IsLetter b Unknown = b ≡ 63
+IsLetter b Other = (is_early b ≡ false) × (is_last b ≡ false) × ((b == 90) ≡ false) × ((b == 63) ≡ false)
+
+-- a number as far as it can be told: above the greatest of 64 bits all are alike
+abbrev pub told : ℕ → ℕ
+told n = min n 18446744073709551615

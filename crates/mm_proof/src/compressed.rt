@@ -1,0 +1,73 @@
+//! The reader of compressed proofs.
+
+ghost use Rattle.std.specs.Prelude.{◌≡◌, ◌<◌, ◌+◌, ◌++◌, [], length, take, drop, flat_map, IfOk, IfErr, IsTrue};
+ghost use Rattle.mm_spec.specs.NormalProof.{usable, label_faults};
+ghost use Rattle.mm_spec.specs.CompressedProof.{bracketed, compressed_faults, compressed_steps};
+ghost use Rattle.mm_spec.specs.Output.{is_theorem_at};
+ghost use Rattle.mm_stmt.specs.Parts.{tokens_of, AreWords};
+ghost use Rattle.mm_proof.specs.Read.{read};
+ghost use Rattle.mm_proof.specs.Letters.{InOrder, closed};
+ghost use Rattle.mm_proof.specs.Refused.{StartsWith};
+
+use crate::labels::{bytes, usable_label};
+use crate::letters::Progress;
+use crate::placed::Steps;
+use crate::refused::{ProofRefused, refused};
+use mm_stmt::database::Database;
+use mm_stmt::{Code, Word};
+use std::alloc::Allocator;
+
+/// Reads the labels in brackets, up to the `)`, and tells how many there are.
+fn read_labels<A: Allocator>(
+    database: &Database<A>,
+    theorem: u32,
+    words: &[Word],
+    end: u32,
+    labels: &mut Vec<u32, A>,
+) -> Result<usize, ProofRefused>
+    requires theorem { theorem < length database.now.statements }
+    requires within { AreWords database.now.text words.now }
+    ensures some { IfOk result (λ n. n < length words.now) }
+    ensures closed { IfOk result (λ n. bracketed (tokens_of database.now.text words.now) ≡ closed (tokens_of database.now.text (take n words.now)) (tokens_of database.now.text (drop (n + 1) words.now))) }
+    ensures labels { IfOk result (λ n. labels.new.items ≡ labels.old.items ++ flat_map (λ t. usable database.now.statements theorem t.word) (tokens_of database.now.text (take n words.now))) }
+    ensures many { IfOk result (λ n. length labels.new.items ≡ length labels.old.items + n) }
+    ensures sound { IfOk result (λ n. flat_map (label_faults database.now.statements theorem) (tokens_of database.now.text (take n words.now)) ≡ []) }
+    ensures fault { IfErr result (λ e. StartsWith (compressed_faults database.now.statements theorem end (bracketed (tokens_of database.now.text words.now))) e) }
+{
+    let text = database.text();
+    for n in 0..words.len() {
+        let word = words[n];
+        let label = bytes(text, word);
+        if label == b")".as_slice() {
+            return Ok(n);
+        }
+        match usable_label(database, theorem, label) {
+            None => return Err(refused(word.start, Code::UnusableLabel)),
+            Some(statement) => labels.push(statement)?,
+        }
+    }
+    Err(refused(end, Code::OpenBrackets))
+}
+
+/// Reads the words of a compressed proof behind its `(`. The proof ends at that place.
+pub(crate) fn read_compressed<A: Allocator + Copy>(
+    alloc: A,
+    database: &Database<A>,
+    theorem: u32,
+    words: &[Word],
+    end: u32,
+) -> Result<Steps<A>, ProofRefused>
+    requires theorem { IsTrue (is_theorem_at database.now.statements theorem) }
+    requires within { AreWords database.now.text words.now }
+    requires in_order { InOrder 0 (tokens_of database.now.text words.now) end }
+    ensures steps { IfOk result (λ s. s ≡ read theorem (compressed_steps database.now.statements theorem (bracketed (tokens_of database.now.text words.now)))) }
+    ensures sound { IfOk result (λ s. compressed_faults database.now.statements theorem end (bracketed (tokens_of database.now.text words.now)) ≡ []) }
+    ensures fault { IfErr result (λ e. StartsWith (compressed_faults database.now.statements theorem end (bracketed (tokens_of database.now.text words.now))) e) }
+{
+    let mut labels = Vec::new(alloc);
+    labels.extend_from_slice(database.frame(theorem).hyps.as_slice())?;
+    let count = read_labels(database, theorem, words, end, &mut labels)?;
+    let mut progress = Progress::none(alloc, theorem, labels);
+    progress.read_all(database.text(), &words[count + 1..], end)?;
+    Ok(progress.into_steps())
+}

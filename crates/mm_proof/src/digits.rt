@@ -1,0 +1,59 @@
+//! The letters of compressed proofs, and the numbers that they spell.
+
+ghost use Rattle.std.specs.Prelude.{◌≡◌, ◌+◌, ◌*◌, ◌<◌, ◌≤◌, ℕ, IfSome, IfNone};
+ghost use Rattle.mm_proof.specs.Number.{IsNumber, IsLetter, told};
+
+/// What a byte behind the brackets of a compressed proof is (Metamath book, Appendix B).
+#[derive(Clone, Copy, Debug, PartialEq, Eq)]
+pub(crate) enum LetterKind {
+    /// `U` to `Y`: a digit 1 to 5 of a number that goes on.
+    Early(u8),
+    /// `A` to `T`: the last digit of a number, 1 to 20.
+    Last(u8),
+    /// `Z`: the step before it is marked.
+    Mark,
+    /// `?`: a step is missing.
+    Unknown,
+    /// Any other byte.
+    Other,
+}
+
+/// What a byte is.
+pub(crate) fn letter_of(byte: u8) -> LetterKind
+    ensures { IsLetter byte result }
+{
+    match byte {
+        b'A'..=b'T' => LetterKind::Last(byte - b'A' + 1),
+        b'U'..=b'Y' => LetterKind::Early(byte - b'U' + 1),
+        b'Z' => LetterKind::Mark,
+        b'?' => LetterKind::Unknown,
+        _ => LetterKind::Other,
+    }
+}
+
+/// A number with one digit more, or the greatest of 64 bits where it is above that.
+pub(crate) fn with_digit(number: u64, base: u64, digit: u8) -> u64
+    ensures { result ≡ told (base * number + digit) }
+{
+    number.saturating_mul(base).saturating_add(digit as u64)
+}
+
+/// The value of a number in letters: any number of `U` to `Y`, and behind them one of `A` to `T`. It is `None` for any
+/// other word, and for a value above 4,294,967,295.
+pub fn number(letters: &[u8]) -> Option<u32>
+    ensures some { IfSome result (λ n. IsNumber letters.now n) }
+    ensures none { IfNone result ((n : ℕ) → IsNumber letters.now n → 4294967295 < n) }
+{
+    let (last, early) = letters.split_last()?;
+    let LetterKind::Last(digit) = letter_of(*last) else {
+        return None;
+    };
+    let mut value = 0u64;
+    for byte in early {
+        let LetterKind::Early(digit) = letter_of(*byte) else {
+            return None;
+        };
+        value = with_digit(value, 5, digit);
+    }
+    u32::try_from(with_digit(value, 20, digit)).ok()
+}

@@ -1,0 +1,40 @@
+//! The labels of a proof.
+
+ghost use Rattle.std.specs.Prelude.{◌≡◌, ◌<◌, ◌≤◌, length, slice_range};
+ghost use Rattle.mm_spec.specs.NormalProof.{usable};
+ghost use Rattle.mm_proof.specs.Refused.{found};
+
+use mm_stmt::Word;
+use mm_stmt::database::Database;
+use std::alloc::Allocator;
+
+/// The statement of a label that is usable in the proof of a theorem: that of an active hypothesis or of an earlier
+/// assertion.
+pub(crate) fn usable_label<A: Allocator>(
+    database: &Database<A>,
+    theorem: u32,
+    label: &[u8],
+) -> Option<u32>
+    requires { theorem < length database.now.statements }
+    ensures { usable database.now.statements theorem label.now ≡ found result }
+{
+    match database.find(label) {
+        None => None,
+        Some(statement) => {
+            if database.active_at(statement, theorem) {
+                Some(statement)
+            } else {
+                None
+            }
+        }
+    }
+}
+
+/// The bytes of a word.
+pub(crate) fn bytes<'a>(text: &'a [u8], word: Word) -> &'a [u8]
+    requires order { word.start ≤ word.end }
+    requires within { word.end ≤ length text.now }
+    ensures { result.now ≡ slice_range text.now word.start word.end }
+{
+    &text[word.start as usize..word.end as usize]
+}

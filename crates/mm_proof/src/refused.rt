@@ -1,0 +1,46 @@
+//! Why a proof is refused.
+
+ghost use Rattle.std.specs.Prelude.{◌≡◌};
+ghost use Rattle.mm_spec.specs.Text.{fault};
+ghost use Rattle.mm_proof.specs.declared.refused.ProofRefused.TheVariants.{Fault as Faulty};
+
+use mm_stmt::{Code, Fault};
+use std::alloc::{AllocError, AllocFailed};
+
+/// Why a proof has no steps.
+#[derive(Drop)]
+pub enum ProofRefused {
+    /// Its first reading fault.
+    Fault(Fault),
+    /// Memory was refused.
+    Memory,
+}
+
+impl From<AllocError> for ProofRefused {
+    ghost use Rattle.std.specs.Prelude.{◌≡◌};
+    ghost use Rattle.mm_proof.specs.declared.refused.ProofRefused.TheVariants.{Memory};
+
+    ghost from_gives = { λ _ e. e ≡ Memory };
+
+    fn from(_e: AllocError) -> ProofRefused {
+        ProofRefused::Memory
+    }
+}
+
+impl<T: Drop> From<AllocFailed<T>> for ProofRefused {
+    ghost use Rattle.std.specs.Prelude.{◌≡◌};
+    ghost use Rattle.mm_proof.specs.declared.refused.ProofRefused.TheVariants.{Memory};
+
+    ghost from_gives = { λ _ e. e ≡ Memory };
+
+    fn from(_e: AllocFailed<T>) -> ProofRefused {
+        ProofRefused::Memory
+    }
+}
+
+/// The refusal for a fault at a place.
+pub(crate) fn refused(at: u32, code: Code) -> ProofRefused
+    ensures { result ≡ Faulty (fault at code) }
+{
+    ProofRefused::Fault(Fault { at, code })
+}
