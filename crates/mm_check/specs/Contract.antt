@@ -1,14 +1,15 @@
 -- What the answers of the checker mean.
 use Rattle.std.specs.Prelude.{ℕ, ◌≡◌, ◌<◌, Bool, false, ◌&&◌, ◌==◌, List, slice_get}
-use Rattle.std.specs.List.{list_any}
+use Rattle.std.specs.List.{list_any, Contains}
 use Rattle.std.specs.List.Sorted.{IsStrictlyIncreasing}
 use Rattle.mm_spec.specs.Statement.{Statement}
 use Rattle.mm_spec.specs.Scope.{statement_at}
-use Rattle.mm_spec.specs.Derivation.{Trees, postfix, is_member}
+use Rattle.mm_spec.specs.Derivation.{Context, Trees, postfix, is_member}
 use Rattle.mm_spec.specs.Steps.{Step, label, marked, PlacedStep}
 use Rattle.mm_spec.specs.Valid.{StepFault}
 use Rattle.mm_spec.specs.Citation.{IsProof, is_assertion, context_at}
 use Rattle.mm_spec.specs.Output.{ProofFault, end_of}
+use Rattle.mm_spec.proofs.Machine.{IsGood}
 use Rattle.mm_check.specs.declared.checker.CheckRefused.{CheckRefused}
 use Rattle.mm_check.specs.declared.checker.CheckRefused.TheVariants.{Fault as Faulty, Memory}
 
@@ -50,3 +51,8 @@ labels (marked j) n = Unit {0}
 abbrev pub is_labelled_step : Step → ℕ → Bool
 is_labelled_step (label l) a = a == l
 is_labelled_step (marked j) a = false
+
+-- a label that stands for something, or a marked step whose formula is kept
+abbrev pub IsReady : Context → List ℕ → Step → Type 0
+IsReady c marks (label l) = IsGood c (c.rule l)
+IsReady c marks (marked j) = Contains marks j

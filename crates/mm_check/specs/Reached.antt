@@ -1,12 +1,14 @@
 -- What holds behind the steps so far.
-use Rattle.std.specs.Prelude.{ℕ, ◌≡◌, true, ◌&&◌, List, [], ◌++◌, map}
-use Rattle.std.specs.List.{AllByRecursion, AllZip}
+use Rattle.std.specs.Prelude.{ℕ, ◌≡◌, ◌<◌, true, ◌&&◌, List, [], ◌++◌, map, take, length, All, Some, slice_get}
+use Rattle.std.specs.List.{AllByRecursion, AllZip, Contains}
 use Rattle.mm_spec.specs.Derivation.{Formula, Trees, formulas, postfix, AreDerivations, is_member}
 use Rattle.mm_spec.specs.Steps.{Step, PlacedStep}
 use Rattle.mm_spec.specs.Valid.{Plain}
 use Rattle.mm_spec.proofs.Steps.{Behind}
 use Rattle.mm_spec.specs.Statement.{Statement}
 use Rattle.mm_spec.specs.Citation.{context_at}
+use Rattle.mm_proof.specs.Read.{is_marked}
+use Rattle.mm_check.specs.State.{State}
 use Rattle.mm_check.specs.Contract.{is_assertion_at}
 
 -- A row of derivations stands behind the steps: its formulas are the entries, the ends are the last formulas of the earlier rows, and its assertions were noted.
@@ -23,3 +25,16 @@ pub record Reached (k : List Statement) (t : ℕ) (done : List Step) (entries en
 -- the steps without their places
 abbrev pub steps_of : List PlacedStep → List Step
 steps_of steps = map (λ s. s.step) steps
+
+-- marked formulas are those that their steps ended with
+abbrev pub Agree : List Formula → List ℕ → List Formula → Type 0
+Agree ends marks formulas = AllZip (λ j f. slice_get ends j ≡ Some f) marks formulas
+
+-- The state behind the first steps: their entries, and each of them that is marked with its formula.
+pub record Ran (k : List Statement) (t : ℕ) (steps : List PlacedStep) (i : ℕ) (s : State) (noted : List ℕ) : Type 0 where
+  pub ends : List Formula
+  pub count : length ends ≡ i
+  pub reached : Reached k t (steps_of (take i steps)) s.entries ends noted
+  pub agree : Agree ends s.marks s.formulas
+  pub before : All (λ j. j < i) s.marks
+  pub present : (j : ℕ) → j < i → is_marked steps j ≡ true → Contains s.marks j

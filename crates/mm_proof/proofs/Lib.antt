@@ -2,6 +2,7 @@ pub mod UsableLaw
 pub mod LeastLaw
 pub mod RisingLaw
 pub mod ReadLaw
+pub mod FlagsLaw
 pub mod TheoremsLaw
 pub mod NumberLaw
 pub mod LettersLaw

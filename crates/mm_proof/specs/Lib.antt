@@ -1,4 +1,5 @@
 pub mod Read
+pub mod Flags
 pub mod Refused
 pub mod Number
 pub mod Letters

@@ -2,7 +2,7 @@
 
 ghost use Rattle.std.specs.Prelude.{◌≡◌, ◌<◌, ◌++◌, ◌∷◌, [], length, OnOk, OnErr};
 ghost use Rattle.mm_spec.specs.Steps.{placed};
-ghost use Rattle.mm_proof.specs.Read.{Read, read, step_of, step_at};
+ghost use Rattle.mm_proof.specs.Read.{Read, read, step_of, step_at, is_marked as marked_in, IsEarlier};
 
 use std::alloc::{AllocError, Allocator};
 use std::marker::Model;
@@ -16,21 +16,38 @@ pub enum Step {
     Marked(u32),
 }
 
+/// What the number of a step is that of.
+#[derive(Clone, Copy, Drop)]
+enum Kind {
+    Label,
+    Marked,
+}
+
+/// A step with its place, and whether it is marked. (With a `Step` within it would take a third more memory.)
+#[derive(Clone, Copy, Drop)]
+struct Placed {
+    at: u32,
+    number: u32,
+    kind: Kind,
+    is_marked: bool,
+}
+
 /// The steps of a theorem's proof, by their numbers from 0, each with its place.
 #[derive(Drop)]
 pub struct Steps<A: Allocator> {
     theorem: u32,
-    steps: Vec<(u32, Step), A>,
+    steps: Vec<Placed, A>,
 }
 
 impl<A: Allocator> Model for Steps<A> {
-    ghost use Rattle.std.specs.Prelude.{map};
-    ghost use Rattle.mm_spec.specs.Steps.{placed};
-    ghost use Rattle.mm_proof.specs.Read.{Read, read, step_of};
+    ghost use Rattle.mm_proof.specs.Read.{Read, read};
+    ghost use Rattle.mm_proof.specs.Flags.{told, AreFlags};
 
     ghost Value = { Read };
 
-    ghost view = { λ s. read s.theorem (map (λ p. placed p.0 (step_of p.1)) s.steps.items) };
+    ghost view = { λ s. read s.theorem (told s.steps.items) };
+
+    ghost invariant = { λ s. AreFlags s.steps.items };
 }
 
 impl<A: Allocator> Steps<A> {
@@ -44,11 +61,28 @@ impl<A: Allocator> Steps<A> {
         }
     }
 
-    /// One step more.
+    /// One step more, which takes up the subproof of an earlier one if it is a marked one.
     pub(crate) fn push(&mut self, at: u32, step: Step) -> Result<(), AllocError>
+        requires { IsEarlier (step_of step) (length self.old.steps) }
         ensures ok { OnOk result (self.new ≡ read self.old.theorem (self.old.steps ++ placed at (step_of step) ∷ [])) }
     {
-        self.steps.push((at, step))?;
+        match step {
+            Step::Label(number) => self.steps.push(Placed {
+                at,
+                number,
+                kind: Kind::Label,
+                is_marked: false,
+            })?,
+            Step::Marked(number) => {
+                self.steps.push(Placed {
+                    at,
+                    number,
+                    kind: Kind::Marked,
+                    is_marked: false,
+                })?;
+                self.steps[number as usize].is_marked = true;
+            }
+        }
         Ok(())
     }
 
@@ -71,7 +105,19 @@ impl<A: Allocator> Steps<A> {
         requires { i < length self.now.steps }
         ensures { step_of result ≡ (step_at self.now.steps i).step }
     {
-        self.steps[i].1
+        let placed = self.steps[i];
+        match placed.kind {
+            Kind::Label => Step::Label(placed.number),
+            Kind::Marked => Step::Marked(placed.number),
+        }
+    }
+
+    /// Whether a step is marked: some step takes up the subproof that it ended.
+    pub fn is_marked(&self, i: usize) -> bool
+        requires { i < length self.now.steps }
+        ensures { result ≡ marked_in self.now.steps i }
+    {
+        self.steps[i].is_marked
     }
 
     /// The place of a step, a byte offset from 0: that of its label.
@@ -79,6 +125,6 @@ impl<A: Allocator> Steps<A> {
         requires { i < length self.now.steps }
         ensures { result ≡ (step_at self.now.steps i).at }
     {
-        self.steps[i].0
+        self.steps[i].at
     }
 }

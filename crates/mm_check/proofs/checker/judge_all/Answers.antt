@@ -19,7 +19,7 @@ pub returns-in-Ok-clause-valid : goal.returns-in-Ok-clause-valid
 returns-in-Ok-clause-valid g c =
     let db = c.args.db.now.statements in
     let t = c.args.theorem in
-    let r = c.in_ok-run.ensures.reached in
+    let r = c.in_ok-run.ensures.reached.1 in
     let is : c.in-Some.formula.now ≡ formula_at db t = (slice_eq-Decides Decides-eqb _ _ _ c.eq.ensures).0 c.if-eq.true ∙ c.formula.ensures.formula in
     let one : c.run.new.machine.entries ≡ formula_at db t ∷ [] = c.in-Some.ensures.some ∙ ap (λ f. f ∷ []) is in
     let items : c.in-Ok.cites.items ≡ c.tidy.new.noted.items = c.in-Ok.ensures.items_if_clones_equal (λ x y e. e) ∙ c.deref.ensures.value in (
@@ -38,7 +38,7 @@ returns-clause-refused g c =
     let t = c.args.theorem in
     let f = formula_at db t in
     let at = c.end_at.result in
-    let r = c.in_ok-run.ensures.reached in
+    let r = c.in_ok-run.ensures.reached.1 in
     let end = end_is db t at c.requires.is_theorem c.end_at.ensures in
     let faulty : (code : Code) → end_code (context_at db t) c.run.new.machine.entries f code → ProofFault db t (end_of (slice_get db t)) (fault at code) = λ code h.
     inr (
