@@ -1,4 +1,5 @@
 pub mod Stretches
 pub mod Pieces
+pub mod Inners
 pub mod Cuts
 pub mod Places

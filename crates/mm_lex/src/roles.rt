@@ -7,7 +7,8 @@ ghost use Rattle.mm_spec.specs.Roles.{fault_of, has_mark, is_clean, is_comment_w
 ghost use Rattle.mm_spec.specs.Text.{has_dollar};
 
 use crate::bytes::is_printable;
-use crate::{Code, Fault, Role};
+use crate::{Code, Fault};
+use mm_spec::Role;
 
 #[tactic(auto, unfolding(mm_spec::specs::Roles::is_clean))]
 fn is_clean(word: &[u8]) -> bool
