@@ -3,3 +3,4 @@ pub mod Pieces
 pub mod Inners
 pub mod Cuts
 pub mod Places
+pub mod Plain

@@ -6,14 +6,15 @@
 ghost use Rattle.std.specs.Prelude.{◌≡◌, ◌<◌, ◌≤◌, ◌+◌, length, IfOk, is_some};
 ghost use Rattle.mm_spec.specs.Lexed.{fault_in, lexical_fault, tokens_of};
 
+mod blocks;
 mod bytes;
 mod cuts;
 mod ends;
+mod masks;
 mod pieces;
 mod roles;
 mod rows;
 mod runs;
-mod words;
 
 use crate::runs::read_text;
 pub use cuts::{Cuts, CutsFault};

@@ -8,9 +8,10 @@ ghost use Rattle.mm_lex.specs.Stretches.{joined_word};
 ghost use Rattle.mm_spec.specs.Lexed.{fault_in, lexical_fault, tokens_of};
 ghost use Rattle.mm_spec.specs.Words.{words_between, IsBoundary};
 
+use crate::blocks::Blocks;
 use crate::ends::bounds;
+use crate::roles::is_plain;
 use crate::rows::{Opened, Row};
-use crate::words::next_word;
 use crate::{Code, Fault, Lexed, TEXT_LIMIT, Word};
 use std::alloc::{AllocError, Allocator};
 use std::marker::Model;
@@ -152,10 +153,13 @@ fn lex_inner<A: Allocator + Copy>(
 {
     let mut outside = Row::new(alloc, Opened::Nowhere);
     let mut inside = Row::new(alloc, Opened::Before);
+    let mut blocks = Blocks::new(text, head - head % 64);
     let mut at = head;
-    while let Some(word) = next_word(text, at, tail) {
-        outside.read_word(text, word)?;
-        inside.read_word(text, word)?;
+    while let Some(found) = blocks.next_word(at, tail) {
+        let word = found.word;
+        let plain = found.clean && is_plain(&text[word.start as usize..word.end as usize]);
+        outside.read_word(text, word, plain)?;
+        inside.read_word(text, word, plain)?;
         at = word.end as usize;
     }
     Ok(Inner {
@@ -213,8 +217,8 @@ fn join_inner<A: Allocator + Copy>(
             start: before.tail,
             end: behind.head,
         };
-        outside.read_word(text, word)?;
-        inside.read_word(text, word)?;
+        outside.read_word(text, word, false)?;
+        inside.read_word(text, word, false)?;
     }
     outside.read_all(&behind.outside, &behind.inside)?;
     inside.read_all(&behind.outside, &behind.inside)?;

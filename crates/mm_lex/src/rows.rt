@@ -1,9 +1,10 @@
 //! Rows of words, each read in one comment mode.
 
-ghost use Rattle.std.specs.Prelude.{◌≡◌, ◌<◌, ◌≤◌, ◌+◌, ℕ, List, [], ◌∷◌, ◌++◌, length, OnOk, is_some};
-ghost use Rattle.mm_spec.specs.Readings.{go_on, start};
+ghost use Rattle.std.specs.Prelude.{◌≡◌, ◌<◌, ◌≤◌, ◌+◌, ℕ, List, [], ◌∷◌, ◌++◌, length, OnOk, is_some, true};
+ghost use Rattle.mm_spec.specs.Readings.{bytes_of, go_on, start};
 ghost use Rattle.mm_lex.specs.Pieces.{resolved, seen, AreReadings};
 ghost use Rattle.mm_lex.specs.Inners.{carried, side};
+ghost use Rattle.mm_lex.specs.Plain.{IsPlain};
 
 use crate::roles::{role, word_fault};
 use crate::{Fault, TEXT_LIMIT, Word};
@@ -55,11 +56,12 @@ impl<A: Allocator + Copy> Row<A> {
         }
     }
 
-    /// Reads one further word.
-    pub fn read_word(&mut self, text: &[u8], word: Word) -> Result<(), AllocError>
+    /// Reads one further word, of which it may be known that it is plain.
+    pub fn read_word(&mut self, text: &[u8], word: Word, plain: bool) -> Result<(), AllocError>
         requires order { word.start ≤ word.end }
         requires within { word.end ≤ length text.now }
         requires short { length text.now ≤ TEXT_LIMIT }
+        requires plain { plain ≡ true → IsPlain (bytes_of text.now word) }
         ensures { OnOk result ((p : ℕ) → seen p (side self.new) ≡ go_on text.now (seen p (side self.old)) (word ∷ [])) }
     {
         if self.fault.is_some() {
@@ -67,7 +69,7 @@ impl<A: Allocator + Copy> Row<A> {
         }
         let in_comment = self.comment.is_open();
         let bytes = &text[word.start as usize..word.end as usize];
-        match role(in_comment, bytes) {
+        match role(in_comment, plain, bytes) {
             Role::Token => self.tokens.push(word)?,
             Role::Opening => self.comment = Opened::At(word.start),
             Role::Closing => self.comment = Opened::Nowhere,
