@@ -3,3 +3,4 @@ pub mod StretchesLaw
 pub mod PiecesLemmas
 pub mod CutsLemmas
 pub mod CutLaw
+pub mod MaskFacts

@@ -4,14 +4,12 @@ use Rattle.mm_spec.specs.declared.Word.{Word}
 use Rattle.mm_spec.specs.declared.Fault.{Fault}
 use Rattle.mm_spec.specs.declared.Role.{Role}
 use Rattle.mm_spec.specs.declared.Role.TheVariants as roles
-use Rattle.mm_lex.specs.declared.pieces.Opened.{Opened}
-use Rattle.mm_lex.specs.declared.pieces.Opened.TheVariants.{Nowhere, Before, At}
-use Rattle.mm_lex.specs.declared.pieces.Row.{Row}
+use Rattle.mm_lex.specs.declared.rows.Opened.{Opened}
+use Rattle.mm_lex.specs.declared.rows.Opened.TheVariants.{Nowhere, Before, At}
 use Rattle.mm_spec.specs.Roles.{role_of, fault_of}
 use Rattle.mm_spec.specs.Readings.{Reading, reading, with_tokens, bytes_of, start, go_on}
-use Rattle.mm_lex.specs.Pieces.{resolved, carried, seen, AreReadings, IsInner, IsPiece}
-use Rattle.mm_lex.specs.declared.pieces.Inner.{Inner}
-use Rattle.mm_lex.specs.declared.pieces.Piece.{Piece}
+use Rattle.mm_lex.specs.Pieces.{resolved, seen, Side, Between, Stretch, AreReadings, IsBetween, IsSummary}
+use Rattle.mm_lex.specs.Inners.{carried}
 use Rattle.mm_spec.specs.Words.{words_of}
 use Rattle.mm_lex.specs.Stretches.{IsUnbroken, IsBroken, joined_word}
 use Rattle.mm_lex.proofs.StretchesLaw.{join-words, join-broken, join-unbroken_broken, join-broken_unbroken, join-unbroken, whole-broken}
@@ -68,14 +66,14 @@ resolved-carried p x c Before h = h
 resolved-carried p x c (At q) h = refl
 
 -- The words go on inside a comment.
-pub go_on-inside : {A : Type 0} (text : List ℕ) (ws : List Word) (p : ℕ) (r next : Row A) (items : List Word) → ((q : ℕ) → reading text (Some q) ws ≡ seen q next) →
-    r.fault ≡ None → is_some (resolved p r.comment) ≡ true → items ≡ r.tokens.items ++ next.tokens.items →
+pub go_on-inside : (text : List ℕ) (ws : List Word) (p : ℕ) (r next : Side) (items : List Word) → ((q : ℕ) → reading text (Some q) ws ≡ seen q next) →
+    r.fault ≡ None → is_some (resolved p r.comment) ≡ true → items ≡ r.tokens ++ next.tokens →
     record { tokens = items; fault = next.fault; comment = resolved p (carried r.comment next.comment) } ≡ go_on text (seen p r) ws
 go_on-inside text ws p r next items readings none is_open e =
     let opened = some_from (resolved p r.comment) is_open in
-    let all : go_on text (seen p r) ws ≡ with_tokens r.tokens.items (reading text (resolved p r.comment) ws) = go_on-none text (seen p r) ws none in
+    let all : go_on text (seen p r) ws ≡ with_tokens r.tokens (reading text (resolved p r.comment) ws) = go_on-none text (seen p r) ws none in
     rw (e, resolved-carried p opened.0 r.comment next.comment opened.1)
-    (sym (all ∙ ap (λ (c : Option ℕ). with_tokens r.tokens.items (reading text c ws)) opened.1 ∙ ap (with_tokens r.tokens.items) (readings opened.0)))
+    (sym (all ∙ ap (λ (c : Option ℕ). with_tokens r.tokens (reading text c ws)) opened.1 ∙ ap (with_tokens r.tokens) (readings opened.0)))
 
 -- The words go on outside. No comment from before them can be open behind them.
 
@@ -87,14 +85,14 @@ not_before x Nowhere h c = refl
 not_before x Before h c = absurd (omega (arith, some_same 0 1 (sym (h 0) ∙ h 1)))
 not_before x (At q) h c = refl
 
-pub go_on-outside : {A : Type 0} (text : List ℕ) (ws : List Word) (p : ℕ) (r next : Row A) (items : List Word) → ((q : ℕ) → reading text None ws ≡ seen q next) →
-    r.fault ≡ None → is_some (resolved p r.comment) ≡ false → items ≡ r.tokens.items ++ next.tokens.items →
+pub go_on-outside : (text : List ℕ) (ws : List Word) (p : ℕ) (r next : Side) (items : List Word) → ((q : ℕ) → reading text None ws ≡ seen q next) →
+    r.fault ≡ None → is_some (resolved p r.comment) ≡ false → items ≡ r.tokens ++ next.tokens →
     record { tokens = items; fault = next.fault; comment = resolved p (carried r.comment next.comment) } ≡ go_on text (seen p r) ws
 go_on-outside text ws p r next items readings none is_open e =
     let closed : resolved p r.comment ≡ None = none_from (resolved p r.comment) is_open in
-    let all : go_on text (seen p r) ws ≡ with_tokens r.tokens.items (reading text (resolved p r.comment) ws) = go_on-none text (seen p r) ws none in
+    let all : go_on text (seen p r) ws ≡ with_tokens r.tokens (reading text (resolved p r.comment) ws) = go_on-none text (seen p r) ws none in
     rw (e, not_before (reading text None ws).comment next.comment (λ q. ap (λ (x : Reading). x.comment) (readings q)) r.comment)
-    (sym (all ∙ ap (λ (c : Option ℕ). with_tokens r.tokens.items (reading text c ws)) closed ∙ ap (with_tokens r.tokens.items) (readings p)))
+    (sym (all ∙ ap (λ (c : Option ℕ). with_tokens r.tokens (reading text c ws)) closed ∙ ap (with_tokens r.tokens) (readings p)))
 
 pub go_on-nil : (text : List ℕ) (r : Reading) → go_on text r [] ≡ r
 go_on-nil text r = by r.tokens r.fault r.comment
@@ -119,42 +117,42 @@ go_on-three text c first mid last ws vs us a b d =
 
 -- ---- pieces
 
-module _ {A : Type 0} (text : List ℕ) (a b c : ℕ) where
-  pub piece-behind_unbroken : (first second : Option (Inner A)) → first ≡ None → MatchOption first (IsUnbroken text a b) (IsInner text a b) →
-      MatchOption second (IsUnbroken text b c) (IsInner text b c) → MatchOption second (IsUnbroken text a c) (IsInner text a c)
-  piece-behind_unbroken first None e s r = join-unbroken (subst (λ (o : Option (Inner A)). MatchOption o (IsUnbroken text a b) (IsInner text a b)) e s) r
+module _ (text : List ℕ) (a b c : ℕ) where
+  pub piece-behind_unbroken : (first second : Option Between) → first ≡ None → MatchOption first (IsUnbroken text a b) (IsBetween text a b) →
+      MatchOption second (IsUnbroken text b c) (IsBetween text b c) → MatchOption second (IsUnbroken text a c) (IsBetween text a c)
+  piece-behind_unbroken first None e s r = join-unbroken (subst (λ (o : Option Between). MatchOption o (IsUnbroken text a b) (IsBetween text a b)) e s) r
   piece-behind_unbroken first (Some inner) e s r =
-      record { broken = join-unbroken_broken (subst (λ (o : Option (Inner A)). MatchOption o (IsUnbroken text a b) (IsInner text a b)) e s) r.broken; readings = r.readings }
+      record { broken = join-unbroken_broken (subst (λ (o : Option Between). MatchOption o (IsUnbroken text a b) (IsBetween text a b)) e s) r.broken; readings = r.readings }
 
-  pub piece-before_unbroken : (first second : Option (Inner A)) (inner : Inner A) → first ≡ Some inner → second ≡ None → MatchOption first (IsUnbroken text a b) (IsInner text a b) →
-      MatchOption second (IsUnbroken text b c) (IsInner text b c) → IsInner text a c inner
+  pub piece-before_unbroken : (first second : Option Between) (inner : Between) → first ≡ Some inner → second ≡ None → MatchOption first (IsUnbroken text a b) (IsBetween text a b) →
+      MatchOption second (IsUnbroken text b c) (IsBetween text b c) → IsBetween text a c inner
   piece-before_unbroken first second inner e f s r =
-      let x : IsInner text a b inner = subst (λ (o : Option (Inner A)). MatchOption o (IsUnbroken text a b) (IsInner text a b)) e s in
-      let y : IsUnbroken text b c = subst (λ (o : Option (Inner A)). MatchOption o (IsUnbroken text b c) (IsInner text b c)) f r in
+      let x : IsBetween text a b inner = subst (λ (o : Option Between). MatchOption o (IsUnbroken text a b) (IsBetween text a b)) e s in
+      let y : IsUnbroken text b c = subst (λ (o : Option Between). MatchOption o (IsUnbroken text b c) (IsBetween text b c)) f r in
       record { broken = join-broken_unbroken x.broken y; readings = x.readings }
 
-  pub piece-both : (first second : Option (Inner A)) (before behind inner : Inner A) → first ≡ Some before → second ≡ Some behind → MatchOption first (IsUnbroken text a b) (IsInner text a b) →
-      MatchOption second (IsUnbroken text b c) (IsInner text b c) → inner.head ≡ before.head → inner.tail ≡ behind.tail →
+  pub piece-both : (first second : Option Between) (before behind inner : Between) → first ≡ Some before → second ≡ Some behind → MatchOption first (IsUnbroken text a b) (IsBetween text a b) →
+      MatchOption second (IsUnbroken text b c) (IsBetween text b c) → inner.head ≡ before.head → inner.tail ≡ behind.tail →
       ((ws us : List Word) → AreReadings text ws before.outside before.inside → AreReadings text us behind.outside behind.inside →
       AreReadings text (ws ++ (joined_word before.tail behind.head ++ us)) inner.outside inner.inside) →
-      IsInner text a c inner
+      IsBetween text a c inner
   piece-both first second before behind inner e f s r head tail readings =
-      let x : IsInner text a b before = subst (λ (o : Option (Inner A)). MatchOption o (IsUnbroken text a b) (IsInner text a b)) e s in
-      let y : IsInner text b c behind = subst (λ (o : Option (Inner A)). MatchOption o (IsUnbroken text b c) (IsInner text b c)) f r in
+      let x : IsBetween text a b before = subst (λ (o : Option Between). MatchOption o (IsUnbroken text a b) (IsBetween text a b)) e s in
+      let y : IsBetween text b c behind = subst (λ (o : Option Between). MatchOption o (IsUnbroken text b c) (IsBetween text b c)) f r in
       record {
         broken = rw (head, tail) (join-broken x.broken y.broken);
         readings = rw (head, tail, join-words x.broken y.broken) (readings _ _ x.readings y.readings);
       }
 
 -- the piece of the whole text has what lies between head and tail, and that is the whole text
-pub whole-some : {A : Type 0} (text : List ℕ) (piece : Piece A) → IsPiece text piece → piece.from ≡ 0 → piece.inner ≡ None → ⊥
+pub whole-some : (text : List ℕ) (piece : Stretch) → IsSummary text piece → piece.from ≡ 0 → piece.between ≡ None → ⊥
 whole-some text piece s from e =
-    let x : IsUnbroken text piece.from piece.to = subst (λ (o : Option (Inner _)). MatchOption o (IsUnbroken text piece.from piece.to) (IsInner text piece.from piece.to)) e s in
+    let x : IsUnbroken text piece.from piece.to = subst (λ (o : Option Between). MatchOption o (IsUnbroken text piece.from piece.to) (IsBetween text piece.from piece.to)) e s in
     omega (arith, x.first)
 
-pub whole-reading : {A : Type 0} (text : List ℕ) (piece : Piece A) (inner : Inner A) → IsPiece text piece → piece.from ≡ 0 → piece.to ≡ length text → piece.inner ≡ Some inner →
+pub whole-reading : (text : List ℕ) (piece : Stretch) (inner : Between) → IsSummary text piece → piece.from ≡ 0 → piece.to ≡ length text → piece.between ≡ Some inner →
     reading text None (words_of text) ≡ seen 0 inner.outside
 whole-reading text piece inner s from to e =
-    let x : IsInner text piece.from piece.to inner = subst (λ (o : Option (Inner _)). MatchOption o (IsUnbroken text piece.from piece.to) (IsInner text piece.from piece.to)) e s in
+    let x : IsBetween text piece.from piece.to inner = subst (λ (o : Option Between). MatchOption o (IsUnbroken text piece.from piece.to) (IsBetween text piece.from piece.to)) e s in
     let broken : IsBroken text 0 (length text) inner.head inner.tail = subst (λ (b : ℕ). IsBroken text 0 b inner.head inner.tail) to (subst (λ (a : ℕ). IsBroken text a piece.to inner.head inner.tail) from x.broken) in
     ap (reading text None) (sym (whole-broken broken)) ∙ x.readings.out 0

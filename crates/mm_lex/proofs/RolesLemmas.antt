@@ -1,6 +1,9 @@
 -- What a word is.
-use Rattle.std.proofs.Common.{◌≡◌, ℕ, zero, suc, ◌+◌, ◌-◌, ◌<◌, ◌≤◌, ◌||◌, true, false, List, [], ◌∷◌, length, drop, get_or, refl, ◌∙◌, arith}
-use Rattle.mm_spec.specs.Roles.{has_mark, is_mark}
+use Rattle.std.proofs.Common.{◌≡◌, ℕ, zero, suc, ◌+◌, ◌-◌, ◌<◌, ◌≤◌, ◌||◌, ◌&&◌, ◌==◌, Bool, true, false, true≢false, List, [], ◌∷◌, length, drop, get_or, refl, ◌∙◌, arith}
+use Rattle.mm_spec.specs.Roles.{has_mark, is_mark, is_dollar_and, is_token, is_comment_word, role_of}
+use Rattle.mm_spec.specs.Text.{has_dollar}
+use Rattle.mm_spec.specs.declared.Role.TheVariants.{Token, Comment}
+use Rattle.mm_lex.specs.Plain.{IsPlain}
 
 add_one_suc : (i : ℕ) → suc (i + 1) ≡ suc i + 1
 add_one_suc i = omega arith
@@ -31,3 +34,36 @@ has_mark-no word i low h mark =
     let same : i - 1 + 1 ≡ i = omega arith in
     let next : i + 1 - 1 ≡ i = omega arith in
     has_mark-more word (i - 1) (omega arith) ∙ rw (same, mark, next) refl
+
+-- ---- plain words
+
+no_left : (a b : Bool) → (a || b) ≡ false → a ≡ false
+no_left false b h = refl
+no_left true b h = absurd (true≢false h)
+
+no_right : (a b : Bool) → (a || b) ≡ false → b ≡ false
+no_right false b h = h
+no_right true b h = absurd (true≢false h)
+
+no_mark : (word : List ℕ) → has_dollar word ≡ false → has_mark word ≡ false
+unfolding has_mark is_mark
+no_mark [] h = refl
+no_mark (a ∷ []) h = refl
+no_mark (a ∷ b ∷ word) h = rw (no_left (a == 0x24) (has_dollar (b ∷ word)) h) (no_mark (b ∷ word) (no_right (a == 0x24) (has_dollar (b ∷ word)) h))
+
+and_false : (l x : Bool) → (l && false && x) ≡ false
+and_false true x = refl
+and_false false x = refl
+
+not_closing : (b : ℕ) (word : List ℕ) → has_dollar word ≡ false → is_dollar_and b word ≡ false
+unfolding is_dollar_and
+not_closing b [] h = refl
+not_closing b (a ∷ word) h = rw (no_left (a == 0x24) (has_dollar word) h) (and_false (length (a ∷ word) == 2) (get_or word 0 0 == b))
+
+pub plain-token : (word : List ℕ) → IsPlain word → role_of false word ≡ Token
+unfolding role_of is_token
+plain-token word plain = rw (plain.clean, plain.no_dollar) refl
+
+pub plain-comment : (word : List ℕ) → IsPlain word → role_of true word ≡ Comment
+unfolding role_of is_comment_word
+plain-comment word plain = rw (not_closing 0x29 word plain.no_dollar, plain.clean, no_mark word plain.no_dollar) refl

@@ -1,14 +1,37 @@
--- What is known of a stretch of a text, in both comment modes.
-use Rattle.std.specs.Prelude.{◌≡◌, ℕ, List, Option, Some, None, MatchOption}
+-- What a stretch of a text tells by itself, in both comment modes.
+use Rattle.std.specs.Prelude.{◌≡◌, ℕ, Bool, List, [], Option, Some, None, MatchOption, if◌then◌else◌}
 use Rattle.mm_spec.specs.Words.{words_between}
 use Rattle.mm_spec.specs.Readings.{Reading, reading}
-use Rattle.mm_lex.specs.Stretches.{IsUnbroken, IsBroken}
 use Rattle.mm_spec.specs.declared.Word.{Word}
-use Rattle.mm_lex.specs.declared.pieces.Opened.{Opened}
-use Rattle.mm_lex.specs.declared.pieces.Opened.TheVariants.{Nowhere, Before, At}
-use Rattle.mm_lex.specs.declared.pieces.Row.{Row}
-use Rattle.mm_lex.specs.declared.pieces.Inner.{Inner}
-use Rattle.mm_lex.specs.declared.pieces.Piece.{Piece}
+use Rattle.mm_spec.specs.declared.Fault.{Fault}
+use Rattle.mm_lex.specs.Stretches.{IsUnbroken, IsBroken}
+use Rattle.mm_lex.specs.declared.rows.Opened.{Opened}
+use Rattle.mm_lex.specs.declared.rows.Opened.TheVariants.{Nowhere, Before, At}
+
+-- A row of words read in one comment mode: its tokens before the faulty word, the fault of that, and the comment that is
+-- open there, which began nowhere, before the words, or at a place among them.
+pub record Side : Type 0 where
+  pub tokens : List Word
+  pub fault : Option Fault
+  pub comment : Opened
+
+-- what lies between the place at which a head ends and that at which a tail begins, read outside a comment and inside one
+pub record Between : Type 0 where
+  pub head : ℕ
+  pub tail : ℕ
+  pub outside : Side
+  pub inside : Side
+
+-- a stretch between two places, and what lies between its head and its tail, unless it is unbroken
+pub record Stretch : Type 0 where
+  pub from : ℕ
+  pub to : ℕ
+  pub between : Option Between
+
+abbrev pub stretch : ℕ → ℕ → Option Between → Stretch
+stretch from to between = record { from = from; to = to; between = between }
+
+-- ---- the summary of a stretch
 
 -- the open comment, where the one from before the words began at the place p
 abbrev pub resolved : ℕ → Opened → Option ℕ
@@ -16,26 +39,34 @@ resolved p Nowhere = None
 resolved p Before = Some p
 resolved p (At q) = Some q
 
--- the comment that is open behind a second row of words, where this one was open behind the first
-abbrev pub carried : Opened → Opened → Opened
-carried first Nowhere = Nowhere
-carried first Before = first
-carried first (At q) = At q
+-- what a side has read, where the comment from before the words began at the place p
+abbrev pub seen : ℕ → Side → Reading
+seen p s = record { tokens = s.tokens; fault = s.fault; comment = resolved p s.comment }
 
--- what a row has read, where a comment from before it began at the place p
-abbrev pub seen : {A : Type 0} → ℕ → Row A → Reading
-seen p row = record { tokens = row.tokens.items; fault = row.fault; comment = resolved p row.comment }
-
--- The two rows are the readings of the words, outside a comment, and inside one that began anywhere before.
-pub record AreReadings {A : Type 0} (text : List ℕ) (ws : List Word) (outside inside : Row A) : Type 0 where
+-- The two sides are the readings of the words, outside a comment, and inside one that began anywhere before.
+pub record AreReadings (text : List ℕ) (ws : List Word) (outside inside : Side) : Type 0 where
   pub out : (p : ℕ) → reading text None ws ≡ seen p outside
   pub within : (p : ℕ) → reading text (Some p) ws ≡ seen p inside
 
--- what lies between head and tail of a stretch, with the readings of its words
-pub record IsInner {A : Type 0} (text : List ℕ) (from to : ℕ) (inner : Inner A) : Type 0 where
-  pub broken : IsBroken text from to inner.head inner.tail
-  pub readings : AreReadings text (words_between text inner.head inner.tail) inner.outside inner.inside
+-- head and tail of a stretch are known by its white bytes, and the words between them are read
+pub record IsBetween (text : List ℕ) (from to : ℕ) (b : Between) : Type 0 where
+  pub broken : IsBroken text from to b.head b.tail
+  pub readings : AreReadings text (words_between text b.head b.tail) b.outside b.inside
 
--- the piece is the summary of its stretch
-abbrev pub IsPiece : {A : Type 0} → List ℕ → Piece A → Type 0
-IsPiece text piece = MatchOption piece.inner (IsUnbroken text piece.from piece.to) (IsInner text piece.from piece.to)
+-- the summary of the stretch
+abbrev pub IsSummary : List ℕ → Stretch → Type 0
+IsSummary text s = MatchOption s.between (IsUnbroken text s.from s.to) (IsBetween text s.from s.to)
+
+-- ---- what is asked of it
+
+abbrev pub head_of : Stretch → Word
+head_of s = record { start = s.from; end = elim s.between [ None ↦ s.from | Some b ↦ b.head ] }
+
+abbrev pub tail_of : Stretch → Word
+tail_of s = record { start = elim s.between [ None ↦ s.to | Some b ↦ b.tail ]; end = s.to }
+
+abbrev pub tokens_in_mode : Bool → Stretch → List Word
+tokens_in_mode inside s = elim s.between [ None ↦ [] | Some b ↦ (if inside then b.inside else b.outside).tokens ]
+
+abbrev pub fault_in_mode : Bool → Stretch → Option Fault
+fault_in_mode inside s = elim s.between [ None ↦ None | Some b ↦ (if inside then b.inside else b.outside).fault ]

@@ -1,5 +1,5 @@
 -- The places at which texts of a given length are cut.
-use Rattle.std.specs.Prelude.{◌≡◌, ℕ, ◌+◌, ◌<◌, ◌≤◌, List, length, slice_index}
+use Rattle.std.specs.Prelude.{ℕ, ◌+◌, ◌<◌, ◌≤◌, List, length, slice_index}
 use Rattle.mm_lex.specs.declared.cuts.CutsFault.{CutsFault}
 use Rattle.mm_lex.specs.declared.cuts.CutsFault.TheVariants.{NotRising, PastEnd}
 

@@ -1,51 +1,20 @@
 //! Stretches of a text, each read for both comment modes, and how neighbours join.
 
-ghost use Rattle.std.specs.Prelude.{◌≡◌, ◌<◌, ◌≤◌, ◌+◌, true, ℕ, List, [], ◌∷◌, ◌++◌, length, OnOk, IfOk, MatchOption, is_some, slice_index};
-ghost use Rattle.mm_spec.specs.Readings.{go_on, start};
-ghost use Rattle.mm_lex.specs.Pieces.{carried, resolved, seen, AreReadings, IsPiece};
+ghost use Rattle.std.specs.Prelude.{◌≡◌, ◌<◌, ◌≤◌, ◌+◌, ℕ, List, ◌++◌, length, IfOk, not, is_some, if◌then◌else◌};
+ghost use Rattle.std.specs.Option.{option_map};
+ghost use Rattle.mm_lex.specs.Pieces.{fault_in_mode, head_of, resolved, stretch, tail_of, tokens_in_mode, AreReadings, IsSummary, Stretch};
+ghost use Rattle.mm_lex.specs.Inners.{between, side};
+ghost use Rattle.mm_lex.specs.Stretches.{joined_word};
 ghost use Rattle.mm_spec.specs.Lexed.{fault_in, lexical_fault, tokens_of};
-ghost use Rattle.mm_lex.specs.Stretches.{joined_word, NoWhite, IsBroken, IsUnbroken};
-ghost use Rattle.mm_spec.specs.Words.{white_at, words_between, IsBoundary};
+ghost use Rattle.mm_spec.specs.Words.{words_between, IsBoundary};
 
-use crate::bytes::is_white;
-use crate::roles::{role, word_fault};
-use crate::words::next_word;
-use crate::{Code, Fault, Lexed, Role, TEXT_LIMIT, Word};
+use crate::blocks::Blocks;
+use crate::ends::bounds;
+use crate::roles::is_plain;
+use crate::rows::{Opened, Row};
+use crate::{Code, Fault, Lexed, TEXT_LIMIT, Word};
 use std::alloc::{AllocError, Allocator};
-
-/// The comment that is open behind a row of words: one that began before them, or in them.
-#[derive(Clone, Copy, Debug, PartialEq, Eq)]
-pub enum Opened {
-    Nowhere,
-    Before,
-    At(u32),
-}
-
-impl Opened {
-    fn is_open(self) -> bool
-        ensures { (p : ℕ) → result ≡ is_some (resolved p self) }
-    {
-        !matches!(self, Opened::Nowhere)
-    }
-
-    /// The comment that is open behind these words and the ones before them.
-    fn after(self, before: Opened) -> Opened
-        ensures { result ≡ carried before self }
-    {
-        match self {
-            Opened::Before => before,
-            comment => comment,
-        }
-    }
-}
-
-/// A row of words that was read in one comment mode.
-#[derive(Drop)]
-pub struct Row<A: Allocator> {
-    pub tokens: Vec<Word, A>,
-    pub fault: Option<Fault>,
-    pub comment: Opened,
-}
+use std::marker::Model;
 
 /// What lies between the head and the tail of a stretch, read outside a comment and inside one.
 #[derive(Drop)]
@@ -56,121 +25,114 @@ pub struct Inner<A: Allocator> {
     pub inside: Row<A>,
 }
 
-/// The summary of a stretch; one inside a word has nothing between head and tail.
+/// What a stretch of a text tells by itself. Its head goes up to its first white byte, its tail begins behind its last
+/// one: parts of words, or words, of which the stretch doesn't know. The words between them were read twice, as those of
+/// a text and as those of a comment. A stretch without a white byte that touches neither end of the text is unbroken: a
+/// part of a word, or nothing.
 #[derive(Drop)]
 pub struct Piece<A: Allocator> {
-    pub from: u32,
-    pub to: u32,
-    pub inner: Option<Inner<A>>,
+    from: u32,
+    to: u32,
+    inner: Option<Inner<A>>,
 }
 
-impl<A: Allocator + Copy> Row<A> {
-    fn new(alloc: A, comment: Opened) -> Row<A>
-        ensures { (p : ℕ) → seen p result ≡ start (resolved p comment) }
+impl<A: Allocator> Model for Piece<A> {
+    ghost Value = { Stretch };
+
+    ghost view = { λ p. stretch p.from p.to (option_map between p.inner) };
+}
+
+impl<A: Allocator> Piece<A> {
+    /// The place at which the stretch begins.
+    pub fn from(&self) -> u32
+        ensures { result ≡ self.now.from }
     {
-        Row {
-            tokens: Vec::new(alloc),
-            fault: None,
-            comment,
+        self.from
+    }
+
+    /// The place behind its last byte.
+    pub fn to(&self) -> u32
+        ensures { result ≡ self.now.to }
+    {
+        self.to
+    }
+
+    /// Whether it lies inside a word, or is empty, and touches neither end of the text.
+    pub fn unbroken(&self) -> bool
+        ensures { result ≡ not (is_some self.now.between) }
+    {
+        self.inner.is_none()
+    }
+
+    /// Its bytes before the first white one, which may end a word of the stretch before it; empty, at `from`, where there
+    /// are none or where it is unbroken or begins the text.
+    pub fn head(&self) -> Word
+        ensures { result ≡ head_of self.now }
+    {
+        Word {
+            start: self.from,
+            end: self.inner.as_ref().map_or(self.from, |inner| inner.head),
         }
     }
 
-    /// Reads one further word.
-    fn read_word(&mut self, text: &[u8], word: Word) -> Result<(), AllocError>
-        requires order { word.start ≤ word.end }
-        requires within { word.end ≤ length text.now }
+    /// Its bytes behind the last white one, which may begin a word of the stretch behind it; empty, at `to`, where there
+    /// are none or where it is unbroken or ends the text.
+    pub fn tail(&self) -> Word
+        ensures { result ≡ tail_of self.now }
+    {
+        Word {
+            start: self.inner.as_ref().map_or(self.to, |inner| inner.tail),
+            end: self.to,
+        }
+    }
+
+    /// The tokens between head and tail up to the first faulty word, as they are where a comment is open behind the head
+    /// (`inside`), or where none is.
+    pub fn tokens(&self, inside: bool) -> &[Word]
+        ensures { result.now ≡ tokens_in_mode inside self.now }
+    {
+        match &self.inner {
+            None => &[],
+            Some(inner) => inner.row(inside).tokens.as_slice(),
+        }
+    }
+
+    /// The fault of the first faulty word between head and tail in the same mode. That a comment stays open is none.
+    pub fn fault(&self, inside: bool) -> Option<Fault>
+        ensures { result ≡ fault_in_mode inside self.now }
+    {
+        self.inner
+            .as_ref()
+            .and_then(|inner| inner.row(inside).fault)
+    }
+
+    /// The first reading of the summary of a whole text.
+    pub(crate) fn into_lexed(self, text: &[u8]) -> Lexed<A>
         requires short { length text.now ≤ TEXT_LIMIT }
-        ensures { OnOk result ((p : ℕ) → seen p self.new ≡ go_on text.now (seen p self.old) (word ∷ [])) }
+        requires summary { IsSummary text.now self }
+        requires from { self.from ≡ 0 }
+        requires to { self.to ≡ length text.now }
+        ensures tokens { result.tokens.items ≡ tokens_of text.now }
+        ensures fault { result.fault ≡ lexical_fault text.now }
     {
-        if self.fault.is_some() {
-            return Ok(());
-        }
-        let in_comment = self.comment.is_open();
-        let bytes = &text[word.start as usize..word.end as usize];
-        match role(in_comment, bytes) {
-            Role::Token => self.tokens.push(word)?,
-            Role::Opening => self.comment = Opened::At(word.start),
-            Role::Closing => self.comment = Opened::Nowhere,
-            Role::Comment => {}
-            Role::Faulty => self.fault = Some(word_fault(in_comment, word.start, bytes)),
-        }
-        Ok(())
-    }
-
-    /// Reads further words, whose readings in both modes are known.
-    fn read_all(&mut self, outside: &Row<A>, inside: &Row<A>) -> Result<(), AllocError>
-        ensures { OnOk result ((text : List ℕ) (ws : List Word) → AreReadings text ws outside.now inside.now →
-            (p : ℕ) → seen p self.new ≡ go_on text (seen p self.old) ws) }
-    {
-        if self.fault.is_some() {
-            return Ok(());
-        }
-        let next = if self.comment.is_open() {
-            inside
-        } else {
-            outside
+        let _ = text;
+        let row = match self.inner {
+            Some(inner) => inner.outside,
+            None => unreachable!("a stretch that begins the text isn't unbroken"),
         };
-        self.tokens.extend_from_slice(&next.tokens)?;
-        self.fault = next.fault;
-        self.comment = next.comment.after(self.comment);
-        Ok(())
+        Lexed {
+            tokens: row.tokens,
+            fault: fault_of(row.fault, row.comment),
+        }
     }
 }
 
-/// The place of the first white byte from `from` on, or `to`.
-#[tactic(auto, unfolding(mm_spec::specs::Words::white_at))]
-fn first_white(text: &[u8], from: usize, to: usize) -> usize
-    requires order { from ≤ to }
-    requires within { to ≤ length text.now }
-    ensures from_here { from ≤ result }
-    ensures up_to { result ≤ to }
-    ensures no_white { NoWhite text.now from result }
-    ensures white { result < to → white_at text.now result ≡ true }
-{
-    let mut place = from;
-    while place < to && !is_white(text[place]) {
-        place += 1;
+impl<A: Allocator> Inner<A> {
+    fn row(&self, inside: bool) -> &Row<A>
+        ensures { result.now ≡ (if inside then self.now.inside else self.now.outside) }
+    {
+        if inside { &self.inside } else { &self.outside }
     }
-    place
-}
-
-/// The place behind the last white byte before `to`, or `from`.
-#[tactic(auto, unfolding(mm_spec::specs::Words::white_at))]
-fn behind_white(text: &[u8], from: usize, to: usize) -> usize
-    requires order { from ≤ to }
-    requires within { to ≤ length text.now }
-    ensures from_here { from ≤ result }
-    ensures up_to { result ≤ to }
-    ensures no_white { NoWhite text.now result to }
-    ensures white { (i : ℕ) → i + 1 ≡ result → from ≤ i → white_at text.now i ≡ true }
-{
-    let mut place = to;
-    while place > from && !is_white(text[place - 1]) {
-        place -= 1;
-    }
-    place
-}
-
-/// The places between which the words of a stretch are known to lie; none for a stretch inside a word.
-fn bounds(text: &[u8], from: usize, to: usize) -> Option<(usize, usize)>
-    requires order { from ≤ to }
-    requires within { to ≤ length text.now }
-    ensures { MatchOption result (IsUnbroken text.now from to) (λ b. IsBroken text.now from to b.0 b.1) }
-{
-    let head = if from == 0 {
-        0
-    } else {
-        first_white(text, from, to)
-    };
-    if from > 0 && to < text.len() && head == to {
-        return None;
-    }
-    let tail = if to == text.len() {
-        to
-    } else {
-        behind_white(text, from, to)
-    };
-    Some((head, tail))
 }
 
 /// The words between two places over which no word goes on, read in both modes.
@@ -187,14 +149,17 @@ fn lex_inner<A: Allocator + Copy>(
     requires tail { IsBoundary text.now tail }
     ensures head { IfOk result (λ inner. inner.head ≡ head) }
     ensures tail { IfOk result (λ inner. inner.tail ≡ tail) }
-    ensures readings { IfOk result (λ inner. AreReadings text.now (words_between text.now head tail) inner.outside inner.inside) }
+    ensures readings { IfOk result (λ inner. AreReadings text.now (words_between text.now head tail) (side inner.outside) (side inner.inside)) }
 {
     let mut outside = Row::new(alloc, Opened::Nowhere);
     let mut inside = Row::new(alloc, Opened::Before);
+    let mut blocks = Blocks::new(text, head - head % 64);
     let mut at = head;
-    while let Some(word) = next_word(text, at, tail) {
-        outside.read_word(text, word)?;
-        inside.read_word(text, word)?;
+    while let Some(found) = blocks.next_word(at, tail) {
+        let word = found.word;
+        let plain = found.clean && is_plain(&text[word.start as usize..word.end as usize]);
+        outside.read_word(text, word, plain)?;
+        inside.read_word(text, word, plain)?;
         at = word.end as usize;
     }
     Ok(Inner {
@@ -205,7 +170,8 @@ fn lex_inner<A: Allocator + Copy>(
     })
 }
 
-/// The summary of a stretch of the text.
+/// The summary of the stretch of a text from the one place up to the other, read for both comment modes that may hold
+/// behind its head. Refused only where memory is.
 pub fn lex_piece<A: Allocator + Copy>(
     alloc: A,
     text: &[u8],
@@ -217,7 +183,7 @@ pub fn lex_piece<A: Allocator + Copy>(
     requires short { length text.now ≤ TEXT_LIMIT }
     ensures from { IfOk result (λ piece. piece.from ≡ from) }
     ensures to { IfOk result (λ piece. piece.to ≡ to) }
-    ensures summary { IfOk result (IsPiece text.now) }
+    ensures summary { IfOk result (IsSummary text.now) }
 {
     let inner = match bounds(text, from, to) {
         None => None,
@@ -241,8 +207,8 @@ fn join_inner<A: Allocator + Copy>(
     ensures head { IfOk result (λ inner. inner.head ≡ before.head) }
     ensures tail { IfOk result (λ inner. inner.tail ≡ behind.tail) }
     ensures readings { IfOk result (λ inner. (ws us : List Word) →
-        AreReadings text.now ws before.outside before.inside → AreReadings text.now us behind.outside behind.inside →
-        AreReadings text.now (ws ++ (joined_word before.tail behind.head ++ us)) inner.outside inner.inside) }
+        AreReadings text.now ws (side before.outside) (side before.inside) → AreReadings text.now us (side behind.outside) (side behind.inside) →
+        AreReadings text.now (ws ++ (joined_word before.tail behind.head ++ us)) (side inner.outside) (side inner.inside)) }
 {
     let mut outside = before.outside;
     let mut inside = before.inside;
@@ -251,8 +217,8 @@ fn join_inner<A: Allocator + Copy>(
             start: before.tail,
             end: behind.head,
         };
-        outside.read_word(text, word)?;
-        inside.read_word(text, word)?;
+        outside.read_word(text, word, false)?;
+        inside.read_word(text, word, false)?;
     }
     outside.read_all(&behind.outside, &behind.inside)?;
     inside.read_all(&behind.outside, &behind.inside)?;
@@ -264,19 +230,21 @@ fn join_inner<A: Allocator + Copy>(
     })
 }
 
-/// The summary of two neighbouring stretches together.
+/// The summary of two neighbouring stretches of one text together. The second one's tokens are appended to those of the
+/// first. Refused only where memory is; both are dropped then.
 pub fn join<A: Allocator + Copy>(
+    _alloc: A,
     text: &[u8],
     first: Piece<A>,
     second: Piece<A>,
 ) -> Result<Piece<A>, AllocError>
     requires short { length text.now ≤ TEXT_LIMIT }
-    requires first { IsPiece text.now first }
-    requires second { IsPiece text.now second }
+    requires first { IsSummary text.now first }
+    requires second { IsSummary text.now second }
     requires neighbours { first.to ≡ second.from }
     ensures from { IfOk result (λ piece. piece.from ≡ first.from) }
     ensures to { IfOk result (λ piece. piece.to ≡ second.to) }
-    ensures summary { IfOk result (IsPiece text.now) }
+    ensures summary { IfOk result (IsSummary text.now) }
 {
     let from = first.from;
     let to = second.to;
@@ -290,61 +258,18 @@ pub fn join<A: Allocator + Copy>(
     Ok(Piece { from, to, inner })
 }
 
-/// The tokens and the fault of a text that one piece covers.
-pub(crate) fn finish<A: Allocator + Copy>(text: &[u8], piece: Piece<A>) -> Lexed<A>
-    requires short { length text.now ≤ TEXT_LIMIT }
-    requires summary { IsPiece text.now piece }
-    requires from { piece.from ≡ 0 }
-    requires to { piece.to ≡ length text.now }
-    ensures tokens { result.tokens.items ≡ tokens_of text.now }
-    ensures fault { result.fault ≡ lexical_fault text.now }
-{
-    let row = match piece.inner {
-        Some(inner) => inner.outside,
-        None => unreachable!("a piece of the whole text isn't inside a word"),
-    };
-    Lexed {
-        tokens: row.tokens,
-        fault: fault_of(row.fault, row.comment),
-    }
-}
-
 /// A faulty word decides, and else a comment that is open at the end.
 fn fault_of(fault: Option<Fault>, comment: Opened) -> Option<Fault>
     ensures { result ≡ fault_in fault (resolved 0 comment) }
 {
+    let open = |at| Fault {
+        at,
+        code: Code::OpenComment,
+    };
     match (fault, comment) {
         (Some(fault), _) => Some(fault),
-        (None, Opened::At(at)) => Some(Fault {
-            at,
-            code: Code::OpenComment,
-        }),
-        (None, Opened::Before) => Some(Fault {
-            at: 0,
-            code: Code::OpenComment,
-        }),
+        (None, Opened::At(at)) => Some(open(at)),
+        (None, Opened::Before) => Some(open(0)),
         (None, Opened::Nowhere) => None,
     }
-}
-
-/// The tokens and the first lexical fault of a text that is cut at these places.
-pub fn lex_cut<A: Allocator + Copy>(
-    alloc: A,
-    text: &[u8],
-    places: &[usize],
-) -> Result<Lexed<A>, AllocError>
-    requires short { length text.now ≤ TEXT_LIMIT }
-    requires rising { (i j : ℕ) → i ≤ j → j < length places.now → slice_index places.now i ≤ slice_index places.now j }
-    requires within { (i : ℕ) → i < length places.now → slice_index places.now i ≤ length text.now }
-    ensures tokens { IfOk result (λ lexed. lexed.tokens.items ≡ tokens_of text.now) }
-    ensures fault { IfOk result (λ lexed. lexed.fault ≡ lexical_fault text.now) }
-{
-    let mut whole = lex_piece(alloc, text, 0, 0)?;
-    for place in places {
-        let next = lex_piece(alloc, text, whole.to as usize, *place)?;
-        whole = join(text, whole, next)?;
-    }
-    let last = lex_piece(alloc, text, whole.to as usize, text.len())?;
-    whole = join(text, whole, last)?;
-    Ok(finish(text, whole))
 }

@@ -1,13 +1,15 @@
 //! What a word is, by its bytes.
 
-ghost use Rattle.std.specs.Prelude.{◌≡◌, ◌+◌, ◌<◌, ◌^◌, length, not, IfSome};
+ghost use Rattle.std.specs.Prelude.{◌≡◌, ◌+◌, ◌<◌, ◌^◌, length, not, true, false, IfSome};
 ghost use Rattle.std.specs.List.{position};
 ghost use Rattle.mm_spec.specs.Bytes.{is_printable};
 ghost use Rattle.mm_spec.specs.Roles.{fault_of, has_mark, is_clean, is_comment_word, is_dollar_and, is_keyword, is_mark, is_token, role_of};
 ghost use Rattle.mm_spec.specs.Text.{has_dollar};
+ghost use Rattle.mm_lex.specs.Plain.{IsPlain};
 
 use crate::bytes::is_printable;
-use crate::{Code, Fault, Role};
+use crate::{Code, Fault};
+use mm_spec::Role;
 
 #[tactic(auto, unfolding(mm_spec::specs::Roles::is_clean))]
 fn is_clean(word: &[u8]) -> bool
@@ -70,19 +72,45 @@ fn is_comment_word(word: &[u8]) -> bool
     is_clean(word) && !has_mark(word)
 }
 
-#[tactic(auto, unfolding(mm_spec::specs::Roles::role_of))]
-pub fn role(in_comment: bool, word: &[u8]) -> Role
+/// Whether a word whose bytes are printable has no `$`.
+pub fn is_plain(word: &[u8]) -> bool
+    requires { is_clean word.now ≡ true }
+    ensures { result ≡ true → IsPlain word.now }
+{
+    !has_dollar(word)
+}
+
+/// What a word is, of which it may be known that it is plain.
+pub fn role(in_comment: bool, plain: bool, word: &[u8]) -> Role
+    requires { plain ≡ true → IsPlain word.now }
     ensures { result ≡ role_of in_comment word.now }
 {
-    if in_comment {
-        if is_dollar_and(b')', word) {
-            Role::Closing
-        } else if is_comment_word(word) {
-            Role::Comment
-        } else {
-            Role::Faulty
-        }
-    } else if is_token(word) {
+    match (plain, in_comment) {
+        (true, true) => Role::Comment,
+        (true, false) => Role::Token,
+        (false, true) => role_inside(word),
+        (false, false) => role_outside(word),
+    }
+}
+
+#[tactic(auto, unfolding(mm_spec::specs::Roles::role_of))]
+fn role_inside(word: &[u8]) -> Role
+    ensures { result ≡ role_of true word.now }
+{
+    if is_dollar_and(b')', word) {
+        Role::Closing
+    } else if is_comment_word(word) {
+        Role::Comment
+    } else {
+        Role::Faulty
+    }
+}
+
+#[tactic(auto, unfolding(mm_spec::specs::Roles::role_of))]
+fn role_outside(word: &[u8]) -> Role
+    ensures { result ≡ role_of false word.now }
+{
+    if is_token(word) {
         Role::Token
     } else if is_dollar_and(b'(', word) {
         Role::Opening

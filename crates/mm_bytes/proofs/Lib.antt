@@ -1,0 +1,2 @@
+pub mod MaskLaw
+pub mod CountLaw

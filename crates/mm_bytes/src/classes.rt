@@ -1,0 +1,66 @@
+//! The classes of up to 64 bytes.
+
+ghost use Rattle.std.specs.Prelude.{◌≡◌, ◌<◌, length};
+ghost use Rattle.mm_spec.specs.Bytes.{is_white, is_printable};
+ghost use Rattle.mm_bytes.specs.Masks.{is_bad, mask};
+
+use crate::lanes::{bad_mask, white_mask};
+use std::simd::prelude::*;
+
+/// The classes of up to 64 bytes, a bit each: bit i is byte i.
+#[derive(Clone, Copy, PartialEq, Eq, Debug)]
+pub struct Classes {
+    /// The white bytes: tab, line feed, form feed, carriage return and space.
+    pub white: u64,
+    /// The bytes that are neither white nor printable.
+    pub bad: u64,
+}
+
+/// The classes of 64 bytes.
+pub fn class_block(bytes: &[u8; 64]) -> Classes
+    ensures white { result.white ≡ mask is_white bytes.now }
+    ensures bad { result.bad ≡ mask is_bad bytes.now }
+{
+    let lanes = u8x64::from_array(*bytes);
+    Classes {
+        white: white_mask(lanes),
+        bad: bad_mask(lanes),
+    }
+}
+
+/// The classes of at most 63 bytes; the bits behind the last byte are 0.
+pub fn class_tail(bytes: &[u8]) -> Classes
+    requires { length bytes.now < 64 }
+    ensures white { result.white ≡ mask is_white bytes.now }
+    ensures bad { result.bad ≡ mask is_bad bytes.now }
+{
+    let mut classes = Classes { white: 0, bad: 0 };
+    let mut at = bytes.len();
+    while at > 0 {
+        at -= 1;
+        classes.white = 2 * classes.white + u64::from(is_white(bytes[at]));
+        classes.bad = 2 * classes.bad + u64::from(is_bad(bytes[at]));
+    }
+    classes
+}
+
+#[tactic(auto, unfolding(mm_spec::specs::Bytes::is_white))]
+fn is_white(b: u8) -> bool
+    ensures { result ≡ is_white b }
+{
+    matches!(b, b'\t' | b'\n' | 0x0C | b'\r' | b' ')
+}
+
+#[tactic(auto, unfolding(mm_spec::specs::Bytes::is_printable))]
+fn is_printable(b: u8) -> bool
+    ensures { result ≡ is_printable b }
+{
+    matches!(b, b'!'..=b'~')
+}
+
+#[tactic(auto, unfolding(crate::specs::Masks::is_bad))]
+pub(crate) fn is_bad(b: u8) -> bool
+    ensures { result ≡ is_bad b }
+{
+    !is_white(b) && !is_printable(b)
+}

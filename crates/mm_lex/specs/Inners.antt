@@ -1,0 +1,18 @@
+-- The parts of a piece as what they stand for.
+use Rattle.mm_lex.specs.Pieces.{Side, Between}
+use Rattle.mm_lex.specs.declared.rows.Opened.{Opened}
+use Rattle.mm_lex.specs.declared.rows.Opened.TheVariants.{Nowhere, Before, At}
+use Rattle.mm_lex.specs.declared.rows.Row.{Row}
+use Rattle.mm_lex.specs.declared.pieces.Inner.{Inner}
+
+abbrev pub side : {A : Type 0} → Row A → Side
+side row = record { tokens = row.tokens.items; fault = row.fault; comment = row.comment }
+
+abbrev pub between : {A : Type 0} → Inner A → Between
+between inner = record { head = inner.head; tail = inner.tail; outside = side inner.outside; inside = side inner.inside }
+
+-- the comment that is open behind a second row of words, where this one was open behind the first
+abbrev pub carried : Opened → Opened → Opened
+carried first Nowhere = Nowhere
+carried first Before = first
+carried first (At q) = At q

@@ -1,0 +1,63 @@
+//! Where the head of a stretch ends and its tail begins.
+
+ghost use Rattle.std.specs.Prelude.{◌≡◌, ◌<◌, ◌≤◌, ◌+◌, true, ℕ, length, MatchOption};
+ghost use Rattle.mm_lex.specs.Stretches.{NoWhite, IsBroken, IsUnbroken};
+ghost use Rattle.mm_spec.specs.Words.{white_at};
+
+use crate::bytes::is_white;
+
+/// The place of the first white byte from `from` on, or `to`.
+#[tactic(auto, unfolding(mm_spec::specs::Words::white_at))]
+fn first_white(text: &[u8], from: usize, to: usize) -> usize
+    requires order { from ≤ to }
+    requires within { to ≤ length text.now }
+    ensures from_here { from ≤ result }
+    ensures up_to { result ≤ to }
+    ensures no_white { NoWhite text.now from result }
+    ensures white { result < to → white_at text.now result ≡ true }
+{
+    let mut place = from;
+    while place < to && !is_white(text[place]) {
+        place += 1;
+    }
+    place
+}
+
+/// The place behind the last white byte before `to`, or `from`.
+#[tactic(auto, unfolding(mm_spec::specs::Words::white_at))]
+fn behind_white(text: &[u8], from: usize, to: usize) -> usize
+    requires order { from ≤ to }
+    requires within { to ≤ length text.now }
+    ensures from_here { from ≤ result }
+    ensures up_to { result ≤ to }
+    ensures no_white { NoWhite text.now result to }
+    ensures white { (i : ℕ) → i + 1 ≡ result → from ≤ i → white_at text.now i ≡ true }
+{
+    let mut place = to;
+    while place > from && !is_white(text[place - 1]) {
+        place -= 1;
+    }
+    place
+}
+
+/// The places between which the words of a stretch are known to lie; none for a stretch inside a word.
+pub fn bounds(text: &[u8], from: usize, to: usize) -> Option<(usize, usize)>
+    requires order { from ≤ to }
+    requires within { to ≤ length text.now }
+    ensures { MatchOption result (IsUnbroken text.now from to) (λ b. IsBroken text.now from to b.0 b.1) }
+{
+    let head = if from == 0 {
+        0
+    } else {
+        first_white(text, from, to)
+    };
+    if from > 0 && to < text.len() && head == to {
+        return None;
+    }
+    let tail = if to == text.len() {
+        to
+    } else {
+        behind_white(text, from, to)
+    };
+    Some((head, tail))
+}

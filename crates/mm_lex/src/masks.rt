@@ -1,0 +1,21 @@
+//! The next bit of a mask.
+
+ghost use Rattle.std.specs.Prelude.{◌≡◌, ◌<◌, ◌≤◌, ℕ};
+ghost use Rattle.std.specs.Int.{bit_at};
+
+/// The first place from `from` on whose bit is 1; 64 where there is none.
+#[inline(always)]
+pub fn first_one(mask: u64, from: usize) -> usize
+    requires { from < 64 }
+    ensures from_here { from ≤ result }
+    ensures up_to { result ≤ 64 }
+    ensures zeros { (i : ℕ) → from ≤ i → i < result → bit_at mask i ≡ 0 }
+    ensures one { result < 64 → bit_at mask result ≡ 1 }
+{
+    let rest = mask >> from;
+    if rest == 0 {
+        64
+    } else {
+        from + rest.trailing_zeros() as usize
+    }
+}

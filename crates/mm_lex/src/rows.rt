@@ -1,0 +1,100 @@
+//! Rows of words, each read in one comment mode.
+
+ghost use Rattle.std.specs.Prelude.{◌≡◌, ◌<◌, ◌≤◌, ◌+◌, ℕ, List, [], ◌∷◌, ◌++◌, length, OnOk, is_some, true};
+ghost use Rattle.mm_spec.specs.Readings.{bytes_of, go_on, start};
+ghost use Rattle.mm_lex.specs.Pieces.{resolved, seen, AreReadings};
+ghost use Rattle.mm_lex.specs.Inners.{carried, side};
+ghost use Rattle.mm_lex.specs.Plain.{IsPlain};
+
+use crate::roles::{role, word_fault};
+use crate::{Fault, TEXT_LIMIT, Word};
+use mm_spec::Role;
+use std::alloc::{AllocError, Allocator};
+
+/// The comment that is open behind a row of words: one that began before them, or in them.
+#[derive(Clone, Copy, Debug, PartialEq, Eq)]
+pub enum Opened {
+    Nowhere,
+    Before,
+    At(u32),
+}
+
+impl Opened {
+    fn is_open(self) -> bool
+        ensures { (p : ℕ) → result ≡ is_some (resolved p self) }
+    {
+        !matches!(self, Opened::Nowhere)
+    }
+
+    /// The comment that is open behind these words and the ones before them.
+    fn after(self, before: Opened) -> Opened
+        ensures { result ≡ carried before self }
+    {
+        match self {
+            Opened::Before => before,
+            comment => comment,
+        }
+    }
+}
+
+/// A row of words that was read in one comment mode.
+#[derive(Drop)]
+pub struct Row<A: Allocator> {
+    pub tokens: Vec<Word, A>,
+    pub fault: Option<Fault>,
+    pub comment: Opened,
+}
+
+impl<A: Allocator + Copy> Row<A> {
+    pub fn new(alloc: A, comment: Opened) -> Row<A>
+        ensures { (p : ℕ) → seen p (side result) ≡ start (resolved p comment) }
+    {
+        Row {
+            tokens: Vec::new(alloc),
+            fault: None,
+            comment,
+        }
+    }
+
+    /// Reads one further word, of which it may be known that it is plain.
+    pub fn read_word(&mut self, text: &[u8], word: Word, plain: bool) -> Result<(), AllocError>
+        requires order { word.start ≤ word.end }
+        requires within { word.end ≤ length text.now }
+        requires short { length text.now ≤ TEXT_LIMIT }
+        requires plain { plain ≡ true → IsPlain (bytes_of text.now word) }
+        ensures { OnOk result ((p : ℕ) → seen p (side self.new) ≡ go_on text.now (seen p (side self.old)) (word ∷ [])) }
+    {
+        if self.fault.is_some() {
+            return Ok(());
+        }
+        let in_comment = self.comment.is_open();
+        let bytes = &text[word.start as usize..word.end as usize];
+        match role(in_comment, plain, bytes) {
+            Role::Token => self.tokens.push(word)?,
+            Role::Opening => self.comment = Opened::At(word.start),
+            Role::Closing => self.comment = Opened::Nowhere,
+            Role::Comment => {}
+            Role::Faulty => self.fault = Some(word_fault(in_comment, word.start, bytes)),
+        }
+        Ok(())
+    }
+
+    /// Reads further words, whose readings in both modes are known.
+    pub fn read_all(&mut self, outside: &Row<A>, inside: &Row<A>) -> Result<(), AllocError>
+        ensures { OnOk result ((text : List ℕ) (ws : List Word) → AreReadings text ws (side outside.now) (side inside.now) →
+            (p : ℕ) → seen p (side self.new) ≡ go_on text (seen p (side self.old)) ws) }
+    {
+        if self.fault.is_some() {
+            return Ok(());
+        }
+        let next = if self.comment.is_open() {
+            inside
+        } else {
+            outside
+        };
+        self.tokens.extend_from_slice(&next.tokens)?;
+        self.fault = next.fault;
+        self.comment = next.comment.after(self.comment);
+        Ok(())
+    }
+}

@@ -1,0 +1,131 @@
+//! A text read in runs of neighbouring pieces, each run on a thread.
+
+ghost use Rattle.std.specs.Prelude.{◌≡◌, ◌<◌, ◌≤◌, ◌+◌, ℕ, length, vec_len, slice_index_or, IfOk, Result};
+ghost use Rattle.mm_lex.specs.Cuts.{cut_at, run_start, IsRun};
+ghost use Rattle.mm_lex.specs.Pieces.{IsSummary, Stretch};
+ghost use Rattle.mm_lex.specs.Places.{cut_text, IsCutText};
+
+use crate::TEXT_LIMIT;
+use crate::pieces::{Piece, join, lex_piece};
+use std::alloc::{AllocError, Allocator};
+use std::thread::{self, Threads};
+
+/// The most runs in which the pieces of a text are taken.
+const RUNS: usize = 64;
+
+/// Where piece `index` begins, and the one before it ends.
+fn cut_at(text: &[u8], places: &[u32], index: usize) -> usize
+    ensures { result ≡ cut_at text.now places.now index }
+{
+    match index.checked_sub(1) {
+        None => 0,
+        Some(before) => places
+            .get(before)
+            .map_or(text.len(), |place| *place as usize),
+    }
+}
+
+/// The first piece of run `index`, where `count` pieces are taken in so many runs, the longer ones first.
+fn run_start(count: usize, runs: usize, index: usize) -> usize
+    requires some { 0 < runs }
+    requires index { index ≤ runs }
+    ensures { result ≡ run_start count runs index }
+{
+    index * (count / runs) + index.min(count % runs)
+}
+
+/// The summaries of the pieces from `first` up to `behind`, read one by one and joined.
+fn read_run<A: Allocator + Copy>(
+    alloc: A,
+    text: &[u8],
+    places: &[u32],
+    first: usize,
+    behind: usize,
+) -> Result<Piece<A>, AllocError>
+    requires short { length text.now ≤ TEXT_LIMIT }
+    requires cuts { IsCutText (cut_text places.now (length text.now)) }
+    requires some { first < behind }
+    requires behind { behind ≤ length places.now + 1 }
+    ensures { IfOk result (IsRun text.now places.now first behind) }
+{
+    let mut run = lex_piece(
+        alloc,
+        text,
+        cut_at(text, places, first),
+        cut_at(text, places, first + 1),
+    )?;
+    for index in first + 1..behind {
+        let to = cut_at(text, places, index + 1);
+        let next = lex_piece(alloc, text, run.to() as usize, to)?;
+        run = join(alloc, text, run, next)?;
+    }
+    Ok(run)
+}
+
+/// The summary of run `index` of so many.
+fn run_at<A: Allocator + Copy>(
+    alloc: A,
+    text: &[u8],
+    places: &[u32],
+    runs: usize,
+    index: usize,
+) -> Result<Piece<A>, AllocError>
+    requires short { length text.now ≤ TEXT_LIMIT }
+    requires cuts { IsCutText (cut_text places.now (length text.now)) }
+    requires few { runs ≤ length places.now + 1 }
+    requires index { index < runs }
+    ensures { IfOk result (IsRun text.now places.now (run_start (length places.now + 1) runs index) (run_start (length places.now + 1) runs (index + 1))) }
+{
+    let count = places.len() + 1;
+    let first = run_start(count, runs, index);
+    let behind = run_start(count, runs, index + 1);
+    read_run(alloc, text, places, first, behind)
+}
+
+/// The summaries of the runs, in order.
+fn read_runs<R: Threads + Sync, A: Allocator + Copy + Send + Sync>(
+    rt: &R,
+    alloc: A,
+    text: &[u8],
+    places: &[u32],
+    runs: usize,
+) -> Result<Vec<Result<Piece<A>, AllocError>, A>, AllocError>
+    requires short { length text.now ≤ TEXT_LIMIT }
+    requires cuts { IsCutText (cut_text places.now (length text.now)) }
+    requires some { 0 < runs }
+    requires few { runs ≤ length places.now + 1 }
+    ensures len { IfOk result (λ pieces. vec_len pieces ≡ runs) }
+    ensures each { IfOk result (λ pieces. (i : ℕ) (d : Result Stretch AllocError) → i < runs →
+        IfOk (slice_index_or pieces.items i d)
+        (IsRun text.now places.now (run_start (length places.now + 1) runs i) (run_start (length places.now + 1) runs (i + 1)))) }
+{
+    thread::map_indices(
+        rt,
+        alloc,
+        runs,
+        &|index| { run_at(alloc, text, places, runs, index) },
+    )
+}
+
+/// The summary of a text that is cut at these places.
+pub fn read_text<R: Threads + Sync, A: Allocator + Copy + Send + Sync>(
+    rt: &R,
+    alloc: A,
+    text: &[u8],
+    places: &[u32],
+) -> Result<Piece<A>, AllocError>
+    requires short { length text.now ≤ TEXT_LIMIT }
+    requires cuts { IsCutText (cut_text places.now (length text.now)) }
+    ensures from { IfOk result (λ piece. piece.from ≡ 0) }
+    ensures to { IfOk result (λ piece. piece.to ≡ length text.now) }
+    ensures summary { IfOk result (IsSummary text.now) }
+{
+    let runs = (places.len() + 1).min(RUNS);
+    let mut pieces = read_runs(rt, alloc, text, places, runs)?;
+    let mut whole = pieces.remove(0)?;
+    'joining: while !pieces.is_empty() {
+        let run = pieces.remove(0)?;
+        whole = join(alloc, text, whole, run)?;
+    }
+    Ok(whole)
+}

@@ -1,0 +1,202 @@
+//! Texts cut in many ways, and the summaries of stretches.
+
+ghost use Rattle.std.specs.Prelude.{◌<◌, ◌≤◌};
+
+use crate::{Code, Cuts, Fault, Lexed, Piece, Word, join, lex, lex_piece};
+use std::alloc::{AllocError, Allocator};
+use std::thread::{self, Threads};
+
+/// Tokens, comments and a comment that stays open.
+const MIXED: &[u8] = b"$c a $( $c b $) xy $. $( z $) $( $d";
+
+/// The text of the table of stretches.
+const SMALL: &[u8] = b"ab $( c $) d";
+
+fn fault(at: u32, code: Code) -> Option<Fault> {
+    Some(Fault { at, code })
+}
+
+fn word(start: u32, end: u32) -> Word {
+    Word { start, end }
+}
+
+/// The text in so many equal pieces.
+fn in_pieces<R: Threads + Sync, A: Allocator + Copy + Send + Sync>(
+    rt: &R,
+    alloc: A,
+    text: &[u8],
+    count: u32,
+) -> Result<Lexed<A>, AllocError>
+    requires some { 0 < count }
+    requires count { count ≤ 65536 }
+{
+    let cuts = Cuts::equal(alloc, text.len().min(2_147_483_648), count)?;
+    lex(rt, alloc, text, &cuts)
+}
+
+#[test]
+fn lexes_vectors(rt: HostRuntime) -> Result<(), AllocError> {
+    let vectors: [(&[u8], usize, Option<Fault>); 10] = [
+        (b"", 0, None),
+        (b"$c a\x07 $.", 1, fault(4, Code::BadByte)),
+        (b"$c a $( b $( c $) $.", 2, fault(10, Code::MarkInComment)),
+        (b"$c a $.\n$( x", 3, fault(8, Code::OpenComment)),
+        (b"$c a$b $.", 1, fault(3, Code::StrayDollar)),
+        (b"$)", 0, fault(0, Code::StrayDollar)),
+        (b"$[ set.mm $]", 3, None),
+        (b"$c a $. $.", 4, None),
+        (b"a,b $( a $c b $) $a a $.\x0C", 4, None),
+        (b"$( x $(y", 0, fault(5, Code::MarkInComment)),
+    ];
+    for (text, tokens, want) in vectors {
+        for count in 1..6 {
+            let lexed = in_pieces(&rt, rt.alloc(), text, count)?;
+            assert_eq!(rt; lexed.tokens.len(), tokens);
+            assert_eq!(rt; lexed.fault, want);
+        }
+    }
+    Ok(())
+}
+
+#[test]
+fn gives_places(rt: HostRuntime) -> Result<(), AllocError> {
+    let lexed = in_pieces(&rt, rt.alloc(), b" $c  ab\n$.", 1)?;
+    let want = [word(1, 3), word(5, 7), word(8, 10)];
+    assert_eq!(rt; lexed.tokens.as_slice(), want.as_slice());
+    Ok(())
+}
+
+/// The text cut twice at each place, with an empty piece between, gives what the whole text does.
+#[test]
+fn lexes_every_cut(rt: HostRuntime) -> Result<(), AllocError> {
+    let whole = in_pieces(&rt, rt.alloc(), MIXED, 1)?;
+    assert_eq!(rt; whole.tokens.len(), 4);
+    assert_eq!(rt; whole.fault, fault(30, Code::OpenComment));
+    for place in 0..=MIXED.len() as u32 {
+        let places = vec![in rt.alloc(); place, place]?;
+        if let Ok(cuts) = Cuts::from_places(places, MIXED.len()) {
+            let lexed = lex(&rt, rt.alloc(), MIXED, &cuts)?;
+            assert_eq!(rt; lexed.tokens.as_slice(), whole.tokens.as_slice());
+            assert_eq!(rt; lexed.fault, whole.fault);
+        }
+    }
+    Ok(())
+}
+
+/// More pieces than bytes, and more pieces than runs.
+#[test]
+fn lexes_many_pieces(rt: HostRuntime) -> Result<(), AllocError> {
+    let mut text = Vec::new(rt.alloc());
+    for _ in 0..1000 {
+        text.extend_from_slice(b"$c a $( $c b $) xy $. $( z $)\n")?;
+    }
+    let whole = in_pieces(&rt, rt.alloc(), &text, 1)?;
+    assert_eq!(rt; whole.tokens.len(), 4000);
+    assert_eq!(rt; whole.fault, None);
+    for count in [2, 63, 64, 65, 1000, 65536] {
+        let lexed = in_pieces(&rt, rt.alloc(), &text, count)?;
+        assert_eq!(rt; lexed.tokens.as_slice(), whole.tokens.as_slice());
+        assert_eq!(rt; lexed.fault, whole.fault);
+    }
+    Ok(())
+}
+
+#[test]
+fn summarizes_the_beginning(rt: HostRuntime) -> Result<(), AllocError> {
+    let piece = lex_piece(rt.alloc(), SMALL, 0, 1)?;
+    assert_eq!(rt; piece.from(), 0);
+    assert_eq!(rt; piece.to(), 1);
+    assert!(rt; !piece.unbroken());
+    assert_eq!(rt; piece.head(), word(0, 0));
+    assert_eq!(rt; piece.tail(), word(0, 1));
+    assert!(rt; piece.tokens(false).is_empty());
+    assert!(rt; piece.tokens(true).is_empty());
+    Ok(())
+}
+
+#[test]
+fn summarizes_both_modes(rt: HostRuntime) -> Result<(), AllocError> {
+    let piece = lex_piece(rt.alloc(), SMALL, 1, 9)?;
+    assert_eq!(rt; piece.head(), word(1, 2));
+    assert_eq!(rt; piece.tail(), word(8, 9));
+    assert!(rt; piece.tokens(false).is_empty());
+    assert_eq!(rt; piece.fault(false), None);
+    assert!(rt; piece.tokens(true).is_empty());
+    assert_eq!(rt; piece.fault(true), fault(3, Code::MarkInComment));
+    Ok(())
+}
+
+#[test]
+fn summarizes_the_end(rt: HostRuntime) -> Result<(), AllocError> {
+    let piece = lex_piece(rt.alloc(), SMALL, 9, 12)?;
+    assert_eq!(rt; piece.head(), word(9, 10));
+    assert_eq!(rt; piece.tail(), word(12, 12));
+    assert_eq!(rt; piece.tokens(false), [word(11, 12)].as_slice());
+    assert!(rt; piece.tokens(true).is_empty());
+    Ok(())
+}
+
+#[test]
+fn summarizes_a_part_of_a_word(rt: HostRuntime) -> Result<(), AllocError> {
+    let piece = lex_piece(rt.alloc(), SMALL, 6, 7)?;
+    assert!(rt; piece.unbroken());
+    assert_eq!(rt; piece.head(), word(6, 6));
+    assert_eq!(rt; piece.tail(), word(7, 7));
+    assert!(rt; piece.tokens(false).is_empty());
+    assert_eq!(rt; piece.fault(true), None);
+    Ok(())
+}
+
+/// What the summary of the whole text has to be.
+fn is_whole<A: Allocator>(piece: &Piece<A>) -> bool {
+    piece.from() == 0
+        && piece.to() == 12
+        && piece.tokens(false) == [word(0, 2), word(11, 12)].as_slice()
+        && piece.fault(false).is_none()
+}
+
+/// The stretches 0 to 1, 1 to 9 and 9 to 12, the first two read by threads; the first two are joined first.
+#[test]
+fn joins_from_the_left(rt: HostRuntime) -> Result<(), AllocError> {
+    let alloc = rt.alloc();
+    let (first, second) = thread::join(
+        &rt,
+        move || lex_piece(alloc, SMALL, 0, 1),
+        move || lex_piece(alloc, SMALL, 1, 9),
+    );
+    let third = lex_piece(alloc, SMALL, 9, 12)?;
+    let front = join(alloc, SMALL, first?, second?)?;
+    let whole = join(alloc, SMALL, front, third)?;
+    assert!(rt; is_whole(&whole));
+    Ok(())
+}
+
+/// The same stretches, the last two read by threads and joined first.
+#[test]
+fn joins_from_the_right(rt: HostRuntime) -> Result<(), AllocError> {
+    let alloc = rt.alloc();
+    let (second, third) = thread::join(
+        &rt,
+        move || lex_piece(alloc, SMALL, 1, 9),
+        move || lex_piece(alloc, SMALL, 9, 12),
+    );
+    let back = join(alloc, SMALL, second?, third?)?;
+    let first = lex_piece(alloc, SMALL, 0, 1)?;
+    let whole = join(alloc, SMALL, first, back)?;
+    assert!(rt; is_whole(&whole));
+    Ok(())
+}
+
+/// The stretches 0 to 5 and 5 to 12, each read by a thread.
+#[test]
+fn joins_from_threads(rt: HostRuntime) -> Result<(), AllocError> {
+    let alloc = rt.alloc();
+    let (first, second) = thread::join(
+        &rt,
+        move || lex_piece(alloc, SMALL, 0, 5),
+        move || lex_piece(alloc, SMALL, 5, 12),
+    );
+    let whole = join(alloc, SMALL, first?, second?)?;
+    assert!(rt; is_whole(&whole));
+    Ok(())
+}
