@@ -10,7 +10,7 @@ ghost use Rattle.mmdepend.specs.Ends.{Ends, status_of};
 ghost use Rattle.mmdepend.specs.declared.run.RunEnd.{RunEnd as End};
 
 #[cfg(test)]
-mod compressed_tests;
+mod compressed;
 mod input;
 mod plan;
 #[cfg(test)]

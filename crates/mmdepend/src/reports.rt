@@ -1,6 +1,6 @@
 //! What reports show: the sections and columns that are chosen, and rows of more than one word.
 
-use crate::tests::joined;
+use crate::tests::{BASE, DETACHMENT, joined};
 use crate::verify::{VerifyRefused, verify};
 use crate::{Cutting, Plan, RunEnd, run};
 use mm_lex::{Cuts, lex};
@@ -9,11 +9,6 @@ use mm_rows::waves;
 use mm_stmt::read;
 use std::alloc::{AllocError, Global};
 use std::thread::Threads;
-
-const BASE: &[u8] =
-    b"$c wff |- ( -> ) $.\n$v p q $.\nwp $f wff p $.\nwq $f wff q $.\nwi $a wff ( p -> q ) $.\nax-1 $a |- ( p -> ( q -> p ) ) $.\n";
-
-const DETACHMENT: &[u8] = b"${ min $e |- p $. maj $e |- ( p -> q ) $. ax-mp $a |- q $. $}\n";
 
 const FIRST: &[u8] =
     b"${ h $e |- p $. a1i $p |- ( q -> p ) $= wp wq wp wi h wp wq ax-1 ax-mp $. $}\n";

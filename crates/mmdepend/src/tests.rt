@@ -12,6 +12,25 @@ const FIRST: &[u8] =
 const FIRST_REPORT: &[u8] =
     b"mmdepend 1\naxioms 2\ntheorems 1\nmatrix\nwi2:10\ncounts\nwi2:1\nusage\nwi:1:wi2\nax-1:0:\nend\n";
 
+/// Symbols, the formulas of a conditional, and the first axiom.
+pub(crate) const BASE: &[u8] =
+    b"$c wff |- ( -> ) $.\n$v p q $.\nwp $f wff p $.\nwq $f wff q $.\nwi $a wff ( p -> q ) $.\nax-1 $a |- ( p -> ( q -> p ) ) $.\n";
+
+/// The rule of detachment.
+pub(crate) const DETACHMENT: &[u8] =
+    b"${ min $e |- p $. maj $e |- ( p -> q ) $. ax-mp $a |- q $. $}\n";
+
+/// A theorem with a hypothesis, up to its proof, which begins at column 41, and what stands behind the proof.
+pub(crate) const CONSEQUENT: &[u8] = b"${ h $e |- p $. a1i $p |- ( q -> p ) $= ";
+
+pub(crate) const CLOSE: &[u8] = b" $. $}\n";
+
+/// The proof of that theorem, and the report on it.
+pub(crate) const CONSEQUENT_PROOF: &[u8] = b"wp wq wp wi h wp wq ax-1 ax-mp";
+
+pub(crate) const CONSEQUENT_REPORT: &[u8] =
+    b"mmdepend 1\naxioms 3\ntheorems 1\nmatrix\na1i:111\ncounts\na1i:3\nusage\nwi:1:a1i\nax-1:1:a1i\nax-mp:1:a1i\nend\n";
+
 /// A reader that fails at its first read.
 #[derive(Drop)]
 struct Failing {}

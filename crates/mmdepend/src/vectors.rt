@@ -1,26 +1,10 @@
 //! Each fault by its smallest example, with the line that it gives (the examples of `docs/FAULTS.md`), and theorems that
 //! rest on one another.
 
-use crate::tests::{joined, prints};
+use crate::tests::{
+    BASE, CLOSE, CONSEQUENT, CONSEQUENT_PROOF, CONSEQUENT_REPORT, DETACHMENT, joined, prints,
+};
 use std::alloc::AllocError;
-
-/// Symbols, the formulas of a conditional, and the first axiom.
-const BASE: &[u8] =
-    b"$c wff |- ( -> ) $.\n$v p q $.\nwp $f wff p $.\nwq $f wff q $.\nwi $a wff ( p -> q ) $.\nax-1 $a |- ( p -> ( q -> p ) ) $.\n";
-
-/// The rule of detachment.
-const DETACHMENT: &[u8] = b"${ min $e |- p $. maj $e |- ( p -> q ) $. ax-mp $a |- q $. $}\n";
-
-/// A theorem with a hypothesis, up to its proof, which begins at column 41, and what stands behind the proof.
-const CONSEQUENT: &[u8] = b"${ h $e |- p $. a1i $p |- ( q -> p ) $= ";
-
-const CLOSE: &[u8] = b" $. $}\n";
-
-/// The proof of that theorem, and the report on it.
-const CONSEQUENT_PROOF: &[u8] = b"wp wq wp wi h wp wq ax-1 ax-mp";
-
-const CONSEQUENT_REPORT: &[u8] =
-    b"mmdepend 1\naxioms 3\ntheorems 1\nmatrix\na1i:111\ncounts\na1i:3\nusage\nwi:1:a1i\nax-1:1:a1i\nax-mp:1:a1i\nend\n";
 
 /// A theorem that cites the theorem before it, twice.
 const THROUGH: &[u8] =
