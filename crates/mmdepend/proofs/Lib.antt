@@ -2,3 +2,4 @@ pub mod RowsLaw
 pub mod CitedLaw
 pub mod VerifyLaw
 pub mod EndsLaw
+pub mod PlansLaw
