@@ -9,6 +9,8 @@ ghost use Rattle.mm_spec.specs.Report.{all};
 ghost use Rattle.mmdepend.specs.Ends.{Ends, status_of};
 ghost use Rattle.mmdepend.specs.declared.run.RunEnd.{RunEnd as End};
 
+#[cfg(test)]
+mod check_tests;
 mod input;
 mod plan;
 mod run;
