@@ -19,12 +19,12 @@ def words(description):
 
 
 def run(program, path):
-    """Runs the program on a file: its seconds, its peak memory in bytes, and its status."""
+    """Runs the program on a file: its seconds, those of the processor, its peak memory in bytes, and its status."""
     return run_words([program, path])
 
 
 def run_words(words):
-    """Runs a program with these words, the program's path first: its seconds, its peak memory in bytes, and its status."""
+    """Runs a program with these words, its path first: its seconds, those of the processor, its peak memory, its status."""
     with open(os.devnull, "wb") as nowhere:
         begun = time.monotonic()
         child = os.posix_spawn(
@@ -34,7 +34,8 @@ def run_words(words):
             file_actions=[(os.POSIX_SPAWN_DUP2, nowhere.fileno(), 1)],
         )
         _, status, usage = os.wait4(child, 0)
-        return time.monotonic() - begun, usage.ru_maxrss * 1024, os.waitstatus_to_exitcode(status)
+        busy = usage.ru_utime + usage.ru_stime
+        return time.monotonic() - begun, busy, usage.ru_maxrss * 1024, os.waitstatus_to_exitcode(status)
 
 
 def made(make, size, path):
@@ -56,27 +57,30 @@ def made(make, size, path):
 
 
 def figures(name, make, size, words):
-    """Makes a text, runs the program on it some times, and prints the least seconds and the greatest memory."""
+    """Makes a text, runs the program on it some times, and prints the least seconds and the greatest memory.
+    The processor's seconds say more than the others on a machine that has other work."""
     with tempfile.NamedTemporaryFile(suffix=".mm") as file:
         length, theorems, steps = made(make, size, file.name)
         found = [run(words.program, file.name) for _ in range(words.runs)]
-    for _, _, status in found:
+    for *_, status in found:
         if status != 0:
             sys.exit(f"{name}: the program ended with status {status}")
     seconds = min(it[0] for it in found)
-    peak = max(it[1] for it in found)
-    said = f"{name}: {length / 1e6:.1f} MB of text, {theorems} theorems, {steps} steps: {seconds:.2f} s, "
+    busy = min(it[1] for it in found)
+    peak = max(it[2] for it in found)
+    said = f"{name}: {length / 1e6:.1f} MB of text, {theorems} theorems, {steps} steps: {seconds:.2f} s ({busy:.2f} s of processor), "
     said += f"{peak / 1e6:.0f} MB of peak memory, {peak / length:.1f} bytes for each byte of text"
     if steps > 1000000:
         said += f", {steps / seconds / 1e6:.2f} million steps a second"
     print(said, flush=True)
-    return seconds
+    return seconds, busy
 
 
 def compare(name, make, size, words):
     """The figures of a text and of one of twice the size, and the ratio of the two times."""
     once, twice = (figures(name, make, size * factor, words) for factor in (1, 2))
-    print(f"{name}: twice the size takes {twice / once:.2f} times the time", flush=True)
+    ratios = [after / before for before, after in zip(once, twice)]
+    print(f"{name}: twice the size takes {ratios[0]:.2f} times the time ({ratios[1]:.2f} of the processor's)", flush=True)
 
 
 def machine():

@@ -10,6 +10,8 @@ ghost use Rattle.mmdepend.specs.Ends.{Ends, status_of};
 ghost use Rattle.mmdepend.specs.declared.run.RunEnd.{RunEnd as End};
 
 #[cfg(test)]
+mod checking;
+#[cfg(test)]
 mod compressed;
 mod input;
 mod plan;
