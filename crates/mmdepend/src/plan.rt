@@ -1,11 +1,12 @@
 //! What a run is asked to do.
 
-ghost use Rattle.std.specs.Prelude.{◌≡◌, ◌↔◌, IsTrue, length};
+ghost use Rattle.std.specs.Prelude.{◌≡◌, ◌↔◌, ◌<◌, ◌≤◌, ◌^◌, ℕ, IfOk, IsTrue, length, slice_index};
 ghost use Rattle.std.specs.Option.{option_map};
 ghost use Rattle.mmdepend.specs.Plans.{IsLawful, IsLawfulCutting, RisesTo, only_of};
 
+use mm_lex::Cuts;
 use mm_report::Choice;
-use std::alloc::Allocator;
+use std::alloc::{AllocError, Allocator};
 
 /// Where a text is cut into pieces: into so many of about the same length, or at these places, byte offsets from 0, of
 /// which those past the text's end are dropped.
@@ -45,6 +46,41 @@ impl<A: Allocator> Cutting<A> {
         match self {
             Cutting::Count(count) => 1 <= *count && *count <= 64,
             Cutting::Places(places) => rises(places),
+        }
+    }
+}
+
+/// How many of the places are within the length, up to the first that isn't.
+fn within(places: &[u32], len: usize) -> usize
+    ensures few { result ≤ length places.now }
+    ensures within { (i : ℕ) → i < result → slice_index places.now i ≤ len }
+{
+    for (i, place) in places.iter().enumerate() {
+        if *place as usize > len {
+            return i;
+        }
+    }
+    places.len()
+}
+
+impl<A: Allocator + Copy> Cutting<A> {
+    /// The cuts of a text of this length, at most 2,147,483,648; places past its end are dropped. Refused only where
+    /// memory is.
+    pub fn cuts(&self, alloc: A, len: usize) -> Result<Cuts<A>, AllocError>
+        requires lawful { IsLawfulCutting self.now }
+        requires len { len ≤ 2 ^ 31 }
+        ensures { IfOk result (λ cuts. cuts.len ≡ len) }
+    {
+        match self {
+            Cutting::Count(count) => Cuts::equal(alloc, len, *count),
+            Cutting::Places(places) => {
+                let mut kept = Vec::new(alloc);
+                kept.extend_from_slice(&places[..within(places, len)])?;
+                match Cuts::from_places(kept, len) {
+                    Ok(cuts) => Ok(cuts),
+                    Err(_) => unreachable!("the places of a lawful plan rise"),
+                }
+            }
         }
     }
 }

@@ -12,7 +12,7 @@ ghost use Rattle.mmdepend.specs.Plans.{IsLawful, only_of};
 use crate::input::{ReadRefused, read_all};
 use crate::plan::Plan;
 use crate::verify::{VerifyRefused, verify};
-use mm_lex::{Cuts, lex};
+use mm_lex::lex;
 use mm_report::{write_refusal, write_report};
 use mm_rows::{Citations, Columns, matrix};
 use mm_spec::Fault;
@@ -81,9 +81,10 @@ fn answer<R: Threads + Sync, A: Allocator + Copy + Send + Sync, W: Write>(
     to: &mut W,
 ) -> RunEnd
     requires few { length text.now ≤ reading_limit }
+    requires lawful { IsLawful plan.now }
     ensures { Answers result text.now (only_of plan.now) (choice_of plan.now.choice) (W.contents to.old) (W.contents to.new) }
 {
-    let Ok(cuts) = Cuts::equal(alloc, text.len(), 1) else {
+    let Ok(cuts) = plan.cuts.cuts(alloc, text.len()) else {
         return RunEnd::NoMemory;
     };
     let Ok(lexed) = lex(rt, alloc, text, &cuts) else {
