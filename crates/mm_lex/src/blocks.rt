@@ -107,6 +107,7 @@ impl<'a> Blocks<'a> {
     }
 
     /// The first word that begins at a place from `from` up to `to`, where no word goes on over either.
+    #[inline(always)]
     pub fn next_word(&mut self, from: usize, to: usize) -> Option<Found>
         requires order { from ≤ to }
         requires within { to ≤ length self.old.text.now }

@@ -18,6 +18,7 @@ fn is_clean(word: &[u8]) -> bool
     word.iter().all(|b| is_printable(*b))
 }
 
+#[inline(always)]
 #[tactic(auto, unfolding(mm_spec::specs::Text::has_dollar))]
 fn has_dollar(word: &[u8]) -> bool
     ensures { result ≡ has_dollar word.now }
@@ -73,6 +74,7 @@ fn is_comment_word(word: &[u8]) -> bool
 }
 
 /// Whether a word whose bytes are printable has no `$`.
+#[inline(always)]
 pub fn is_plain(word: &[u8]) -> bool
     requires { is_clean word.now ≡ true }
     ensures { result ≡ true → IsPlain word.now }
@@ -81,6 +83,7 @@ pub fn is_plain(word: &[u8]) -> bool
 }
 
 /// What a word is, of which it may be known that it is plain.
+#[inline(always)]
 pub fn role(in_comment: bool, plain: bool, word: &[u8]) -> Role
     requires { plain ≡ true → IsPlain word.now }
     ensures { result ≡ role_of in_comment word.now }

@@ -57,6 +57,7 @@ impl<A: Allocator + Copy> Row<A> {
     }
 
     /// Reads one further word, of which it may be known that it is plain.
+    #[inline(always)]
     pub fn read_word(&mut self, text: &[u8], word: Word, plain: bool) -> Result<(), AllocError>
         requires order { word.start ≤ word.end }
         requires within { word.end ≤ length text.now }

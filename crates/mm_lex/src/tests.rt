@@ -83,6 +83,22 @@ fn lexes_every_cut(rt: HostRuntime) -> Result<(), AllocError> {
     Ok(())
 }
 
+/// Two words and a bad byte at every place about two blocks.
+#[test]
+fn lexes_at_every_place(rt: HostRuntime) -> Result<(), AllocError> {
+    let spaces = [b' '; 130];
+    for place in 0..130u32 {
+        let mut text = Vec::new(rt.alloc());
+        text.extend_from_slice(&spaces[..place as usize])?;
+        text.extend_from_slice(b"ab $c x\x80")?;
+        let lexed = in_pieces(&rt, rt.alloc(), &text, 1)?;
+        let want = [word(place, place + 2), word(place + 3, place + 5)];
+        assert_eq!(rt; lexed.tokens.as_slice(), want.as_slice());
+        assert_eq!(rt; lexed.fault, fault(place + 7, Code::BadByte));
+    }
+    Ok(())
+}
+
 /// More pieces than bytes, and more pieces than runs.
 #[test]
 fn lexes_many_pieces(rt: HostRuntime) -> Result<(), AllocError> {

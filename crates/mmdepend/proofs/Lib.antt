@@ -2,4 +2,3 @@ pub mod RowsLaw
 pub mod CitedLaw
 pub mod VerifyLaw
 pub mod EndsLaw
-pub mod PlansLaw

@@ -14,7 +14,7 @@ loop-at-preserved c = record {
   from_here = omega (arith, c.min-at.ensures, c.turn_to.ensures.behind, c.loop-at.invariant.from_here, c.loop-at-test.true);
   within = omega (arith, c.min-at.ensures);
   skipped = skip-on c.turn_to.new.self.text.now c.args.self.now.text.now c.args.white c.unlike.result c.args.from c.loop-at.at c.turn_to.new.self.base c.first_one-found.result c.min-at.result
-    (c.turn_to.ensures.text ∙ c.loop-at.invariant.text) c.turn_to.ensures.from c.first_one-found.ensures.up_to (omega (arith, c.min-at.ensures, c.if-found-lt64.false)) (omega (arith, c.min-at.ensures))
-    c.loop-at.invariant.skipped c.first_one-found.ensures.zeros c.unlike.ensures.same;
+      (c.turn_to.ensures.text ∙ c.loop-at.invariant.text) c.turn_to.ensures.from c.first_one-found.ensures.up_to (omega (arith, c.min-at.ensures, c.if-found-lt64.false)) (omega (arith, c.min-at.ensures))
+      c.loop-at.invariant.skipped c.first_one-found.ensures.zeros c.unlike.ensures.same;
   reached = λ h. omega (arith, c.min-at.ensures);
 }
