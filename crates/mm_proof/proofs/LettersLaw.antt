@@ -1,5 +1,5 @@
 -- How the steps and the faults of a compressed proof go on behind the last letter of a number.
-use Rattle.std.proofs.Common.{◌≡◌, ◌∙◌, ℕ, zero, suc, ◌+◌, ◌-◌, ◌*◌, ◌<◌, ◌≤◌, ◌==◌, Bool, true, false, ◌&&◌, List, [], ◌∷◌, ◌++◌, map, length, Option, Some, None, slice_get, nat_le, nat_lt, refl, sym, ap, subst, arith, append_assoc, length-append, leb-true, eqb-true, Result, Ok, Err, IfErr, slice_range, get_or, take, drop, true≢false, is_some}
+use Rattle.std.proofs.Common.{◌≡◌, ◌∙◌, ℕ, zero, suc, ◌+◌, ◌-◌, ◌*◌, ◌<◌, ◌≤◌, ◌==◌, Bool, true, false, List, [], ◌∷◌, ◌++◌, map, length, Option, Some, None, slice_get, nat_le, nat_lt, refl, sym, ap, subst, arith, append_assoc, length-append, leb-true, eqb-true, Result, Ok, Err, IfErr, slice_range, get_or, take, drop, true≢false, is_some}
 use Rattle.std.specs.Result.{IsErrAnd}
 use Rattle.std.proofs.lemmas.List.{drop_more, append-nil}
 use Rattle.std.proofs.lemmas.Bool.{and_parts, le-ltb, lt-ltb}
@@ -8,7 +8,7 @@ use Rattle.mm_spec.specs.Text.{Word, Token, fault}
 use Rattle.mm_spec.specs.Lawful.{when, at}
 use Rattle.mm_spec.specs.Steps as spec
 use Rattle.mm_spec.specs.Steps.{PlacedStep, placed, label, marked}
-use Rattle.mm_spec.specs.CompressedProof.{Letter, letters_from, letters_of, letter_faults, Group, is_early, is_last, groups, value, starts_at, step_of, group_steps, group_fault, group_faults}
+use Rattle.mm_spec.specs.CompressedProof.{Letter, letters_from, letters_of, letter_faults, Group, is_early, is_last, groups, value, starts_at, step_of, group_steps, group_faults}
 use Rattle.mm_spec.specs.declared.Code.TheVariants.{OpenNumber, MarkBeforeStep, NumberTooLarge, IncompleteProof, BadLetter}
 use Rattle.mm_spec.specs.declared.Word.{Word as Place}
 use Rattle.mm_stmt.specs.Parts.{tokens_of, token_of}

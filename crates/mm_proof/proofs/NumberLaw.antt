@@ -1,8 +1,8 @@
 -- What the numbers of compressed proofs are, by their bytes.
-use Rattle.std.proofs.Common.{◌≡◌, ◌∙◌, ℕ, zero, suc, ◌+◌, ◌-◌, ◌*◌, ◌<◌, ◌≤◌, Bool, true, false, ◌&&◌, List, [], ◌∷◌, ◌++◌, map, length, take, get_or, fold, min, refl, sym, ap, ap₂, subst, arith, true≢false, Option, Some, None, Result, Ok, Err, IfSome, IfNone, ◌⊎◌, inl, inr}
+use Rattle.std.proofs.Common.{◌≡◌, ◌∙◌, ℕ, zero, suc, ◌+◌, ◌-◌, ◌*◌, ◌<◌, ◌≤◌, true, false, ◌&&◌, List, [], ◌∷◌, ◌++◌, map, length, get_or, fold, refl, sym, ap, ap₂, arith, true≢false, Result, Ok, Err, IfSome, IfNone, ◌⊎◌, inl, inr}
 use Rattle.std.specs.List.{list_all}
 use Rattle.std.proofs.lemmas.Bool.{and_parts, cases_lt}
-use Rattle.mm_spec.specs.CompressedProof.{Letter, letters_from, Group, is_early, is_last, value}
+use Rattle.mm_spec.specs.CompressedProof.{Letter, letters_from, Group, is_early, is_last}
 use Rattle.std.specs.Result.{OkIff, result_ok}
 use Rattle.mm_proof.specs.declared.digits.LetterKind.{LetterKind}
 use Rattle.mm_proof.specs.declared.digits.LetterKind.TheVariants.{Early, Last, Mark, Unknown, Other}

@@ -1,5 +1,5 @@
 -- The reading faults of a compressed proof stand in the order of their places.
-use Rattle.std.proofs.Common.{◌≡◌, ◌∙◌, ℕ, suc, ◌+◌, ◌<◌, ◌≤◌, ◌==◌, Bool, true, false, ◌||◌, ◌&&◌, List, [], ◌∷◌, ◌++◌, map, length, flat_map, Option, None, Some, bytes_eq, codes, nat_le, nat_lt, refl, sym, ap, subst, arith, append_assoc, eq-eqb}
+use Rattle.std.proofs.Common.{◌≡◌, ◌∙◌, ℕ, suc, ◌+◌, ◌<◌, ◌≤◌, ◌==◌, Bool, true, false, ◌||◌, ◌&&◌, List, [], ◌∷◌, ◌++◌, length, flat_map, Option, None, Some, bytes_eq, codes, nat_le, nat_lt, refl, sym, ap, subst, arith, append_assoc, eq-eqb}
 use Rattle.std.specs.List.{AllByRecursion}
 use Rattle.std.proofs.lemmas.Bool.{lt-ltb}
 use Rattle.mm_spec.specs.Text.{Token, Word, fault}

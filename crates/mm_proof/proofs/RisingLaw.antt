@@ -1,5 +1,5 @@
 -- The words of a proof rise, since those of the text do.
-use Rattle.std.proofs.Common.{◌≡◌, ◌∙◌, ℕ, zero, suc, ◌+◌, ◌-◌, ◌<◌, ◌≤◌, List, [], ◌∷◌, ◌++◌, length, map, flat_map, get_or, Option, Some, slice_get, codes, sym, ap, subst, arith, append_assoc, length-append, drop}
+use Rattle.std.proofs.Common.{◌≡◌, ◌∙◌, ℕ, zero, suc, ◌+◌, ◌-◌, ◌≤◌, List, [], ◌∷◌, ◌++◌, length, map, flat_map, get_or, Option, Some, slice_get, codes, sym, ap, subst, arith, append_assoc, length-append, drop}
 use Rattle.std.specs.List.{AllPairs, All}
 use Rattle.std.proofs.lemmas.List.{get_or_append_left, append-nil, length-take-le, length-drop}
 use Rattle.std.proofs.lemmas.List.Elements.{All-nil, All-cons, All-head, All-tail}

@@ -1,4 +1,4 @@
-use Rattle.std.proofs.Common.{◌≡◌, ◌∙◌, ◌+◌, ◌++◌, ap, ap₂, take, drop, flat_map}
+use Rattle.std.proofs.Common.{◌∙◌, ◌+◌, ◌++◌, ap, ap₂, take, drop, flat_map}
 use Rattle.std.proofs.lemmas.List.{take_rest}
 use Rattle.mm_spec.specs.CompressedProof.{bracketed}
 use Rattle.mm_spec.specs.NormalProof.{usable}

@@ -1,4 +1,4 @@
-use Rattle.std.proofs.Common.{◌≡◌, ◌∙◌, ◌*◌, ◌+◌, ap}
+use Rattle.std.proofs.Common.{◌∙◌, ◌*◌, ◌+◌, ap}
 use Rattle.mm_proof.specs.Number.{told}
 use Rattle.mm_proof.specs.Letters.{begun_at}
 use Rattle.mm_proof.proofs.LettersLaw.{last_reads}

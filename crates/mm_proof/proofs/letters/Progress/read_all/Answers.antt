@@ -1,5 +1,5 @@
-use Rattle.std.proofs.Common.{rules, ◌≡◌, ◌∙◌, ◌+◌, ◌==◌, List, [], ap, sym, subst, length, drop, is_some, true, false}
-use Rattle.mm_spec.specs.CompressedProof.{Letter, letters_of, letter_faults, groups, group_faults, group_steps}
+use Rattle.std.proofs.Common.{◌≡◌, ◌∙◌, ◌+◌, [], ap, sym, subst, length, drop, is_some, true, false}
+use Rattle.mm_spec.specs.CompressedProof.{letters_of, letter_faults, groups, group_faults, group_steps}
 use Rattle.mm_stmt.specs.Parts.{tokens_of}
 use Rattle.mm_proof.specs.Letters.{Continues}
 use Rattle.mm_spec.specs.Text.{fault}

@@ -1,7 +1,7 @@
-use Rattle.std.proofs.Common.{◌≡◌, List, drop, length}
+use Rattle.std.proofs.Common.{◌≡◌, List, drop}
 use Rattle.mm_spec.specs.CompressedProof.{Letter, letters_of}
 use Rattle.mm_stmt.specs.Parts.{tokens_of}
-use Rattle.mm_proof.specs.Letters.{StandsAt, Continues, InOrder}
+use Rattle.mm_proof.specs.Letters.{Continues}
 use Rattle.mm_proof.proofs.LettersLaw.{StandsBefore}
 use Rattle.mm_proof.proofs.letters.Progress.read_all.Given as goal
 

@@ -1,4 +1,4 @@
-use Rattle.std.proofs.Common.{◌≡◌, ◌≤◌, ◌++◌, List, slice_range}
+use Rattle.std.proofs.Common.{◌≡◌, ◌++◌, List, slice_range}
 use Rattle.mm_spec.specs.CompressedProof.{Letter, letters_from}
 use Rattle.mm_proof.specs.Letters.{StandsAt, Continues}
 use Rattle.mm_proof.proofs.letters.Progress.read_word.Given as goal
