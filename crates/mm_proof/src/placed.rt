@@ -120,7 +120,7 @@ impl<A: Allocator> Steps<A> {
         self.steps[i].is_marked
     }
 
-    /// The place of a step, a byte offset from 0: that of its label.
+    /// The place of a step, a byte offset from 0: that of its label, or in a compressed proof of its number's first letter.
     pub fn place(&self, i: usize) -> u32
         requires { i < length self.now.steps }
         ensures { result ≡ (step_at self.now.steps i).at }
