@@ -6,6 +6,7 @@ use crate::{Cutting, Plan, RunEnd, run};
 use mm_lex::{Cuts, lex};
 use mm_report::Choice;
 use mm_rows::waves;
+use mm_spec::TEXT_LIMIT;
 use mm_stmt::read;
 use std::alloc::{AllocError, Global};
 use std::thread::Threads;
@@ -137,6 +138,9 @@ fn chain(alloc: Global) -> Result<Vec<u8>, AllocError> {
 
 /// The waves of the theorems of a text without a fault.
 fn waves_of<R: Threads + Sync>(rt: &R, alloc: Global, text: &[u8]) -> Result<Vec<u32>, AllocError> {
+    if text.len() > TEXT_LIMIT {
+        return Err(AllocError);
+    }
     let cuts = Cuts::equal(alloc, text.len(), 1)?;
     let lexed = lex(rt, alloc, text, &cuts)?;
     let database = read(alloc, text, &lexed)?;
