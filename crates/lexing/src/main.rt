@@ -1,0 +1,80 @@
+//! How fast a text is read as tokens: `lexing FILE PIECES` writes the bytes, the tokens, and the nanoseconds of a plain
+//! loop over the bytes that keeps each word, and of `lex` in so many equal pieces (0: `lex` isn't called). Without words
+//! it does nothing. `bench/lexing` runs it; it is no part of the program, and promises nothing.
+#![tactic(auto)]
+
+use anyhow::Result;
+use mm_lex::{Cuts, Word, lex};
+use std::alloc::{AllocError, Global};
+use std::thread::Threads;
+use std::time::{Duration, Instant};
+use std::{env, fs};
+
+fn is_white(b: u8) -> bool {
+    matches!(b, b'\t' | b'\n' | 0x0C | b'\r' | b' ')
+}
+
+/// The words of a text, byte by byte; none where it is too long.
+fn words(alloc: Global, text: &[u8]) -> Result<Vec<Word>, AllocError> {
+    let mut words = Vec::new(alloc);
+    if text.len() > 0x7FFF_FFFF {
+        return Ok(words);
+    }
+    let mut start = None;
+    for (i, b) in text.iter().enumerate() {
+        match (start, is_white(*b)) {
+            (None, false) => start = Some(i as u32),
+            (Some(from), true) => {
+                words.push(Word {
+                    start: from,
+                    end: i as u32,
+                })?;
+                start = None;
+            }
+            _ => {}
+        }
+    }
+    Ok(words)
+}
+
+/// The number of tokens of a text that is read in so many pieces.
+fn tokens<R: Threads + Sync>(
+    rt: &R,
+    alloc: Global,
+    text: &[u8],
+    pieces: u32,
+) -> Result<usize, AllocError> {
+    let cuts = Cuts::equal(alloc, text.len().min(2_147_483_648), pieces.clamp(1, 65536))?;
+    Ok(lex(rt, alloc, text, &cuts)?.tokens.len())
+}
+
+fn nanoseconds(time: Option<Duration>) -> u128 {
+    time.map_or(0, |time| time.as_nanos())
+}
+
+fn main(rt: HostRuntime) -> Result<()> {
+    let alloc = rt.alloc();
+    let given = env::args(&rt)?.collect::<Vec<String>>(alloc)?;
+    let (Some(name), Some(pieces)) = (given.as_slice().get(1), given.as_slice().get(2)) else {
+        return Ok(());
+    };
+    let pieces = pieces.parse::<u32>().unwrap_or(1);
+    let text = fs::read(&rt, name.as_str())?;
+    let begun = Instant::now(&rt)?;
+    let plain = if pieces == 1 {
+        words(alloc, &text)?.len()
+    } else {
+        0
+    };
+    let between = Instant::now(&rt)?;
+    let found = if pieces == 0 {
+        0
+    } else {
+        tokens(&rt, alloc, &text, pieces)?
+    };
+    let ended = Instant::now(&rt)?;
+    let looped = nanoseconds(between.checked_duration_since(begun));
+    let lexed = nanoseconds(ended.checked_duration_since(between));
+    println!(rt; "{} {found} {plain} {looped} {lexed}", text.len())?;
+    Ok(())
+}
