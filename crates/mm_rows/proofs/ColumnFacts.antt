@@ -10,7 +10,7 @@ use Rattle.mm_spec.specs.Frame.{symbol_names, place_of}
 use Rattle.mm_spec.proofs.Finds.{found_at, statement_at-is, formula_at-is}
 use Rattle.mm_spec.proofs.Faultless.{place_get}
 use Rattle.mm_stmt.specs.Database.{typecode_of, is_labelled_kind, kind_of}
-use Rattle.mm_rows.specs.Chains.{IsRising}
+use Rattle.mm_work.specs.Citing.{IsRising}
 
 -- a selection of a selection
 pub those-those : (p q r : ℕ → Bool) (xs : List ℕ) → ((x : ℕ) → r x ≡ (p x && q x)) → those q (those p xs) ≡ those r xs
@@ -21,16 +21,6 @@ those-those p q r (x ∷ xs) h = by (p x) (h x) (those-those p q r xs h)
     by false e i = i ∙ sym (ap (λ c. elim c [ true ↦ x ∷ those r xs | false ↦ those r xs ]) e)
     by true e i = ap₂ (λ (c : Bool) (l : List ℕ). elim c [ true ↦ x ∷ l | false ↦ l ]) (sym e) i
 
--- an element of a selection passes
-pub those-at : (p : ℕ → Bool) (xs : List ℕ) (i d : ℕ) → i < length (those p xs) → p (get_or (those p xs) i d) ≡ true
-those-at p [] i d h = absurd (omega arith)
-those-at p (x ∷ xs) i d h = by (p x) refl (those-at p xs) i h
-  where
-    by : (a : Bool) → p x ≡ a → ((i d : ℕ) → i < length (those p xs) → p (get_or (those p xs) i d) ≡ true) → (i : ℕ) → i < length {A = ℕ} (elim a [ true ↦ x ∷ those p xs | false ↦ those p xs ]) → p (get_or (elim a [ true ↦ x ∷ those p xs | false ↦ those p xs ]) i d) ≡ true
-    by true e r zero h = e
-    by true e r (suc i) h = r i d (omega arith)
-    by false e r i h = r i d h
-
 -- one element more
 pub those-snoc : (p : ℕ → Bool) (xs : List ℕ) (x : ℕ) → those p (xs ++ x ∷ []) ≡ those p xs ++ elim (p x) [ true ↦ x ∷ [] | false ↦ [] ]
 those-snoc p [] x = refl
@@ -40,43 +30,6 @@ those-snoc p (y ∷ xs) x = by (p y) (those-snoc p xs x)
         → elim a [ true ↦ y ∷ those p (xs ++ x ∷ []) | false ↦ those p (xs ++ x ∷ []) ] ≡ ◌++◌ {A = ℕ} (elim a [ true ↦ y ∷ those p xs | false ↦ those p xs ]) (elim (p x) [ true ↦ x ∷ [] | false ↦ [] ])
     by true r = ap (λ l. y ∷ l) r
     by false r = r
-
--- a selection of numbers in order rises
-pub those-rising : (p : ℕ → Bool) (n : ℕ) → n < 2 ^ 31 → IsRising (those p (range_with_len 0 n))
-those-rising p n few = record { few = let l = shorter p n 0 in omega (arith, l, few); rises = λ i j l h. rises p n 0 i j l h }
-  where
-    shorter : (p : ℕ → Bool) (n a : ℕ) → length (those p (range_with_len a n)) ≤ n
-    shorter p zero a = omega arith
-    shorter p (suc n) a = by (p a) (shorter p n (a + 1))
-      where
-        by : (b : Bool) → length (those p (range_with_len (a + 1) n)) ≤ n → length {A = ℕ} (elim b [ true ↦ a ∷ those p (range_with_len (a + 1) n) | false ↦ those p (range_with_len (a + 1) n) ]) ≤ suc n
-        by true h = omega (arith, h)
-        by false h = omega (arith, h)
-
-    least : (p : ℕ → Bool) (n a i : ℕ) → i < length (those p (range_with_len a n)) → a ≤ get_or (those p (range_with_len a n)) i 0
-    least p zero a i h = absurd (omega arith)
-    least p (suc n) a i h = by (p a) (least p n (a + 1)) i h
-      where
-        by : (b : Bool) → ((i : ℕ) → i < length (those p (range_with_len (a + 1) n)) → a + 1 ≤ get_or (those p (range_with_len (a + 1) n)) i 0)
-            → (i : ℕ) → i < length {A = ℕ} (elim b [ true ↦ a ∷ those p (range_with_len (a + 1) n) | false ↦ those p (range_with_len (a + 1) n) ])
-            → a ≤ get_or {A = ℕ} (elim b [ true ↦ a ∷ those p (range_with_len (a + 1) n) | false ↦ those p (range_with_len (a + 1) n) ]) i 0
-        by true r zero h = omega arith
-        by true r (suc i) h = let k = r i (omega arith) in omega (arith, k)
-        by false r i h = let k = r i h in omega (arith, k)
-
-    rises : (p : ℕ → Bool) (n a i j : ℕ) → i < j → j < length (those p (range_with_len a n)) → get_or (those p (range_with_len a n)) i 0 < get_or (those p (range_with_len a n)) j 0
-    rises p zero a i j l h = absurd (omega arith)
-    rises p (suc n) a i j l h = by (p a) (rises p n (a + 1)) (least p n (a + 1)) i j l h
-      where
-        by : (b : Bool) → ((i j : ℕ) → i < j → j < length (those p (range_with_len (a + 1) n)) → get_or (those p (range_with_len (a + 1) n)) i 0 < get_or (those p (range_with_len (a + 1) n)) j 0)
-            → ((i : ℕ) → i < length (those p (range_with_len (a + 1) n)) → a + 1 ≤ get_or (those p (range_with_len (a + 1) n)) i 0)
-            → (i j : ℕ) → i < j → j < length {A = ℕ} (elim b [ true ↦ a ∷ those p (range_with_len (a + 1) n) | false ↦ those p (range_with_len (a + 1) n) ])
-            → get_or {A = ℕ} (elim b [ true ↦ a ∷ those p (range_with_len (a + 1) n) | false ↦ those p (range_with_len (a + 1) n) ]) i 0 < get_or {A = ℕ} (elim b [ true ↦ a ∷ those p (range_with_len (a + 1) n) | false ↦ those p (range_with_len (a + 1) n) ]) j 0
-        by true r m zero zero l h = absurd (omega arith)
-        by true r m zero (suc j) l h = let k = m j (omega arith) in omega (arith, k)
-        by true r m (suc i) zero l h = absurd (omega arith)
-        by true r m (suc i) (suc j) l h = r i j (omega arith) (omega arith)
-        by false r m i j l h = r i j l h
 
 -- an axiom is a column where it has the typecode
 column-split : (only : Option Word) (s : Statement) → is_column only s ≡ (is_column None s && has_typecode only s)

@@ -1,4 +1,2 @@
 pub mod RowsLaw
-pub mod CitedLaw
-pub mod VerifyLaw
 pub mod EndsLaw

@@ -9,11 +9,12 @@ use Rattle.mm_spec.specs.Statement.{Statement}
 use Rattle.mm_spec.specs.Citation as proof
 use Rattle.mm_spec.specs.Report.{Row, Choice, report}
 use Rattle.mm_spec.specs.Output.{IsRowOf, theorems, columns, label_at, lexed_of, HasNoFault, IsOutput}
-use Rattle.mm_rows.specs.Chains.{Citing, Marks, mark, IsMatrix, RestsOn, theorem_at}
-use Rattle.mm_rows.specs.Shows.{Shows}
+use Rattle.mm_work.specs.Citing.{Citing, theorem_at}
+use Rattle.mm_rows.specs.Chains.{Marks, mark, IsMatrix, RestsOn}
+use Rattle.mm_work.specs.Citing.{Shows}
 use Rattle.mm_rows.proofs.ShowsFacts.{alike}
 use Rattle.mm_report.specs.Rows.{row_of, rows_of, marks_of, report_of}
-use Rattle.mmdepend.specs.Judged.{AllCited}
+use Rattle.mm_work.specs.Judged.{AllCited}
 
 -- two lists agree at each place
 pub zip-at : {A B : Type 0} (R : A → B → Type 0) (xs : List A) (ys : List B) (d : A) (e : B) → length xs ≡ length ys → ((i : ℕ) → i < length xs → R (get_or xs i d) (get_or ys i e)) → AllZip R xs ys

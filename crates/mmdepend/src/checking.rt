@@ -4,6 +4,7 @@ use crate::{Cutting, Plan, RunEnd, run};
 use mm_report::Choice;
 use mm_spec::Code;
 use std::alloc::{AllocError, Global};
+use std::sync::Wait;
 use std::thread::Threads;
 
 static HEAD: &[u8] = b"$c ( ) -> A. = wff set |- $. $v p q x $.
@@ -15,7 +16,7 @@ twice $a wff p p $. more $a wff p p ( $.
 ";
 
 /// How a run ends on a theorem behind the head and these statements, and where its proof begins.
-fn judged<R: Threads + Sync>(
+fn judged<R: Threads + Wait + Sync>(
     rt: &R,
     alloc: Global,
     statements: &[u8],
@@ -43,7 +44,7 @@ fn judged<R: Threads + Sync>(
 }
 
 /// Whether the proof is valid.
-fn is_valid<R: Threads + Sync>(rt: &R, alloc: Global, statements: &[u8], proof: &[u8]) -> bool {
+fn is_valid<R: Threads + Wait + Sync>(rt: &R, alloc: Global, statements: &[u8], proof: &[u8]) -> bool {
     match judged(rt, alloc, statements, proof) {
         Ok((_, end)) => end == RunEnd::Accepted,
         Err(_) => false,
@@ -51,7 +52,7 @@ fn is_valid<R: Threads + Sync>(rt: &R, alloc: Global, statements: &[u8], proof: 
 }
 
 /// Whether the proof has this fault, so many bytes behind its beginning.
-fn is_faulty<R: Threads + Sync>(
+fn is_faulty<R: Threads + Wait + Sync>(
     rt: &R,
     alloc: Global,
     statements: &[u8],

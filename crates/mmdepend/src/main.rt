@@ -22,7 +22,6 @@ mod run;
 mod tests;
 #[cfg(test)]
 mod vectors;
-mod verify;
 
 use mm_report::Choice;
 pub use plan::{Cutting, Plan};
@@ -31,12 +30,13 @@ use std::alloc::Allocator;
 use std::io::{Read, Write};
 use std::process::ExitCode;
 use std::rt::{Env, Files};
+use std::sync::Wait;
 use std::thread::Threads;
 use std::{env, fs};
 
 /// The whole program over a reader and two writers: runs with four pieces, four workers, all axioms and all sections.
 /// Answers the status: 0 for a report, 1 for a refusal, 3 where reading or writing failed, 4 where memory was refused.
-pub fn status<R: Threads + Sync, A: Allocator + Copy + Send + Sync, I: Read, O: Write, E: Write>(
+pub fn status<R: Threads + Wait + Sync, A: Allocator + Copy + Send + Sync, I: Read, O: Write, E: Write>(
     rt: &R,
     alloc: A,
     input: &mut I,

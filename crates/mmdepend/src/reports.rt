@@ -1,14 +1,15 @@
 //! What reports show: the sections and columns that are chosen, and rows of more than one word.
 
 use crate::tests::{BASE, DETACHMENT, joined};
-use crate::verify::{VerifyRefused, verify};
 use crate::{Cutting, Plan, RunEnd, run};
 use mm_lex::{Cuts, lex};
 use mm_report::Choice;
 use mm_rows::waves;
 use mm_spec::TEXT_LIMIT;
 use mm_stmt::read;
+use mm_work::{Judged, Open, check_all};
 use std::alloc::{AllocError, Global};
+use std::sync::Wait;
 use std::thread::Threads;
 
 const FIRST: &[u8] =
@@ -18,7 +19,7 @@ const SECOND: &[u8] =
     b"${ g $e |- p $. a2 $p |- ( q -> ( q -> p ) ) $= wq wp wi wq wp wq g a1i a1i $. $}\n";
 
 /// Whether a run on the text with this typecode and this choice of sections writes these bytes.
-fn shows<R: Threads + Sync>(
+fn shows<R: Threads + Wait + Sync>(
     rt: &R,
     alloc: Global,
     mut text: &[u8],
@@ -137,17 +138,16 @@ fn chain(alloc: Global) -> Result<Vec<u8>, AllocError> {
 }
 
 /// The waves of the theorems of a text without a fault.
-fn waves_of<R: Threads + Sync>(rt: &R, alloc: Global, text: &[u8]) -> Result<Vec<u32>, AllocError> {
+fn waves_of<R: Threads + Wait + Sync>(rt: &R, alloc: Global, text: &[u8]) -> Result<Vec<u32>, AllocError> {
     if text.len() > TEXT_LIMIT {
         return Err(AllocError);
     }
     let cuts = Cuts::equal(alloc, text.len(), 1)?;
     let lexed = lex(rt, alloc, text, &cuts)?;
     let database = read(alloc, text, &lexed)?;
-    match verify(alloc, &database) {
-        Ok(citations) => waves(alloc, &citations),
-        Err(VerifyRefused::Fault(_)) => Ok(Vec::new(alloc)),
-        Err(VerifyRefused::Memory) => Err(AllocError),
+    match check_all(rt, alloc, &database, 1, &Open)? {
+        Judged::Valid(citations) => waves(alloc, &citations),
+        Judged::Faulty(_) => Ok(Vec::new(alloc)),
     }
 }
 

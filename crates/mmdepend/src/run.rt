@@ -6,19 +6,20 @@ ghost use Rattle.mm_spec.specs.Statement.{Statement};
 ghost use Rattle.mm_spec.specs.Output.{lexed_of, FirstFault, HasNoFault, IsRead};
 ghost use Rattle.mm_report.specs.Choices.{choice_of};
 ghost use Rattle.mmdepend.specs.Ends.{Answers, Ends, reading_limit};
-ghost use Rattle.mmdepend.specs.Judged.{AllCited, IsFirstFault};
+ghost use Rattle.mm_work.specs.Judged.{AllCited, IsFirstFault};
 ghost use Rattle.mmdepend.specs.Plans.{IsLawful, only_of};
 
 use crate::input::{ReadRefused, read_all};
 use crate::plan::Plan;
-use crate::verify::{VerifyRefused, verify};
 use mm_lex::lex;
 use mm_report::{write_refusal, write_report};
-use mm_rows::{Citations, Columns, matrix};
+use mm_rows::{Columns, matrix};
 use mm_spec::Fault;
 use mm_stmt::{Database, read};
+use mm_work::{Citations, Judged, Open, check_all};
 use std::alloc::Allocator;
 use std::io::{Read, Write};
+use std::sync::Wait;
 use std::thread::Threads;
 
 /// How a run ends.
@@ -74,7 +75,7 @@ fn report<'a, R: Threads + Sync, A: Allocator + Copy + Send + Sync, W: Write>(
 }
 
 /// Writes what the text and the choice of report define: the refusal of the first fault, or the report.
-fn answer<R: Threads + Sync, A: Allocator + Copy + Send + Sync, W: Write>(
+fn answer<R: Threads + Wait + Sync, A: Allocator + Copy + Send + Sync, W: Write>(
     rt: &R,
     alloc: A,
     text: &[u8],
@@ -95,12 +96,12 @@ fn answer<R: Threads + Sync, A: Allocator + Copy + Send + Sync, W: Write>(
         return RunEnd::NoMemory;
     };
     let _ = database.len();
-    match verify(alloc, &database) {
-        Err(refused) => match refused {
-            VerifyRefused::Fault(fault) => refuse(text, fault, plan, to),
-            VerifyRefused::Memory => RunEnd::NoMemory,
-        },
-        Ok(citations) => match database.fault() {
+    let Ok(judged) = check_all(rt, alloc, &database, plan.workers, &Open) else {
+        return RunEnd::NoMemory;
+    };
+    match judged {
+        Judged::Faulty(fault) => refuse(text, fault, plan, to),
+        Judged::Valid(citations) => match database.fault() {
             Some(fault) => refuse(text, fault, plan, to),
             None => report(rt, alloc, &database, &citations, plan, to),
         },
@@ -110,7 +111,7 @@ fn answer<R: Threads + Sync, A: Allocator + Copy + Send + Sync, W: Write>(
 /// Reads a text to its end and writes what it and the plan's choice of report define: the refusal of its first fault, or
 /// its report. A text is no longer read once it is too long. Nothing was written where reading failed or memory was
 /// refused; a beginning of the output where writing failed.
-pub fn run<R: Threads + Sync, A: Allocator + Copy + Send + Sync, I: Read, O: Write>(
+pub fn run<R: Threads + Wait + Sync, A: Allocator + Copy + Send + Sync, I: Read, O: Write>(
     rt: &R,
     alloc: A,
     plan: &Plan<A>,

@@ -4,6 +4,7 @@ use mm_spec::{Code, Fault};
 use std::alloc::{AllocError, Global};
 use std::io;
 use std::io::{ErrorKind, Read, Write};
+use std::sync::Wait;
 use std::thread::Threads;
 
 const FIRST: &[u8] =
@@ -79,7 +80,7 @@ fn plan(cuts: Cutting<Global>) -> Plan<Global> {
 }
 
 /// Whether a run on the text ends so and writes these bytes.
-fn writes<R: Threads + Sync>(
+fn writes<R: Threads + Wait + Sync>(
     rt: &R,
     alloc: Global,
     cuts: Cutting<Global>,
@@ -95,7 +96,7 @@ fn writes<R: Threads + Sync>(
 }
 
 /// Whether a run on the text writes these bytes.
-pub(crate) fn prints<R: Threads + Sync>(
+pub(crate) fn prints<R: Threads + Wait + Sync>(
     rt: &R,
     alloc: Global,
     mut text: &[u8],

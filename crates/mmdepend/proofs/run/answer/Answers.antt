@@ -1,6 +1,6 @@
 use Rattle.std.proofs.Common.{ℕ, List, length, subst, inl}
 use Rattle.mm_spec.specs.Output.{IsRead, lexed_of}
-use Rattle.mmdepend.specs.Judged.{Stops}
+use Rattle.mm_work.specs.Judged.{Stops}
 use Rattle.mmdepend.proofs.run.answer.Goals as goal
 
 pub refuse-requires : goal.refuse-requires

@@ -15,10 +15,10 @@ use Rattle.mm_spec.specs.Complete.{AreComplete}
 use Rattle.mm_spec.specs.Output.{theorems, is_theorem_at, AreValid}
 use Rattle.mm_spec.proofs.Finds.{is_before, those-member, member-those, found_at, inside_of}
 use Rattle.mm_spec.proofs.TheoremLaw.{proof_unique}
-use Rattle.mm_rows.specs.Chains.{Citing, citing, Cites, IsRising, IsFileOrder, theorem_at, list_at}
-use Rattle.mm_rows.specs.Shows.{Shows}
-use Rattle.mm_rows.proofs.ColumnFacts.{those-rising, those-at}
-use Rattle.mmdepend.specs.Judged.{IsCited, AreCited, AllCited}
+use Rattle.mm_work.specs.Citing.{Citing, citing, Cites, IsRising, IsFileOrder, theorem_at, list_at}
+use Rattle.mm_work.specs.Citing.{Shows}
+use Rattle.mm_work.proofs.RisingLaw.{those-rising, those-at}
+use Rattle.mm_work.specs.Judged.{IsCited, AreCited, AllCited}
 
 member-append : (xs ys : List ℕ) (a : ℕ) → is_member (xs ++ ys) a ≡ (is_member xs a || is_member ys a)
 member-append xs ys a = list_any-append (λ y. a == y) xs ys
@@ -106,18 +106,22 @@ theorem-place db t h =
     let f = found_at db is_theorem t h in
     member-at (theorems db) t (those-member (λ j. list_any is_theorem (statement_at db j)) (range_with_len 0 (length db)) t h (in-range (length db) 0 t (omega arith) (let l = inside_of db t f.0 f.1 in omega (arith, l))))
 
+-- a theorem with citations is valid
+pub cited-valid : (db : List Statement) (t : ℕ) (cites : List ℕ) → IsCited db t cites → IsValid db t
+cited-valid db t cites c = (c.read, c.checked.derivation, c.checked.proof)
+
 module _ (db : List Statement) (few : length db < 2 ^ 31) (complete : AreComplete db) where
   pub theorems-rise : IsRising (theorems db)
   theorems-rise = those-rising (λ j. list_any is_theorem (statement_at db j)) (length db) few
 
   -- the theorems before theorem i are valid
-  pub valid-before : (i : ℕ) (lists : List (List ℕ)) → AreCited db (theorems db) i lists → i < length (theorems db) → AreValid db (get_or (theorems db) i 0)
-  valid-before i lists h l j k th =
+  pub valid-before : (i : ℕ) → ((n : ℕ) → n < i → IsValid db (get_or (theorems db) n 0)) → i < length (theorems db) → AreValid db (get_or (theorems db) i 0)
+  valid-before i h l j k th =
       let p = theorem-place db j th in
       by p.0 p.1 p.2 (cases_lt p.0 i)
     where
       by : (n : ℕ) → n < length (theorems db) → get_or (theorems db) n 0 ≡ j → (n < i) ⊎ (i ≤ n) → IsValid db j
-      by n m e (inl s) = let c = h.each n s in subst (λ t. IsValid db t) e (c.read, c.checked.derivation, c.checked.proof)
+      by n m e (inl s) = subst (λ t. IsValid db t) e (h n s)
       by n m e (inr s) = absurd (go (cases_lt i n))
         where
           go : (i < n) ⊎ (n ≤ i) → ⊥
@@ -128,8 +132,7 @@ module _ (db : List Statement) (few : length db < 2 ^ 31) (complete : AreComplet
   pub all-valid : (lists : List (List ℕ)) → AreCited db (theorems db) (length (theorems db)) lists → AreValid db (length db)
   all-valid lists h j k th =
       let p = theorem-place db j th in
-      let c = h.each p.0 p.1 in
-      subst (λ t. IsValid db t) p.2 (c.read, c.checked.derivation, c.checked.proof)
+      subst (λ t. IsValid db t) p.2 (cited-valid db _ _ (h.each p.0 p.1))
 
   module _ (lists : List (List ℕ)) (h : AreCited db (theorems db) (length (theorems db)) lists) where
     abbrev c : Citing

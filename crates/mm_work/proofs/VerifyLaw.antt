@@ -4,13 +4,13 @@ use Rattle.std.proofs.lemmas.Bool.{cases_lt}
 use Rattle.std.proofs.lemmas.List.{get_or_append_left, get_or-append_right}
 use Rattle.mm_spec.specs.Statement.{Statement}
 use Rattle.mm_spec.specs.Complete.{AreComplete}
+use Rattle.mm_spec.specs.Citation.{IsValid}
 use Rattle.mm_spec.specs.Output.{theorems, is_theorem_at, AreValid}
+use Rattle.mm_spec.specs.declared.Fault.{Fault}
 use Rattle.mm_proof.proofs.TheoremsLaw.{theorems_are}
-use Rattle.mm_rows.specs.Chains.{Citing, citing, IsFileOrder}
-use Rattle.mmdepend.specs.Judged.{IsCited, AreCited, AllCited, Faults, Stops}
-use Rattle.mmdepend.specs.declared.verify.VerifyRefused.{VerifyRefused}
-use Rattle.mmdepend.specs.declared.verify.VerifyRefused.TheVariants.{Fault as Faulty, Memory}
-use Rattle.mmdepend.proofs.CitedLaw.{valid-before, all-valid, file-order, shows}
+use Rattle.mm_work.specs.Citing.{Citing, citing, IsFileOrder}
+use Rattle.mm_work.specs.Judged.{IsCited, AreCited, AllCited, IsFirstFault, HasFault}
+use Rattle.mm_work.proofs.CitedLaw.{cited-valid, valid-before, all-valid, file-order, shows}
 
 -- one list of citations more
 pub cited-more : (db : List Statement) (ts : List ℕ) (n : ℕ) (lists : List (List ℕ)) (cites : List ℕ) → AreCited db ts n lists → IsCited db (get_or ts n 0) cites → AreCited db ts (n + 1) (lists ++ cites ∷ [])
@@ -30,13 +30,14 @@ cited-more db ts n lists cites h one = record {
         zero-of k = omega arith
 
 module _ (db : List Statement) (few : length db < 2 ^ 31) (complete : AreComplete db) where
-  -- the first fault that is met is the first fault
-  pub stops-there : (i : ℕ) (lists : List (List ℕ)) → AreCited db (theorems db) i lists → i < length (theorems db) → (e : VerifyRefused) → Faults db (get_or (theorems db) i 0) e → Stops db e
-  stops-there i lists h l (Faulty f) p = (get_or (theorems db) i 0, (theorems_are db i 0 l, valid-before db few complete i lists h l, p))
-  stops-there i lists h l Memory p = p
+  -- a fault behind valid proofs alone is the first fault
+  pub first-fault : (i : ℕ) (f : Fault) → ((n : ℕ) → n < i → IsValid db (get_or (theorems db) n 0)) → i < length (theorems db) → HasFault db (get_or (theorems db) i 0) f → IsFirstFault db f
+  first-fault i f h l p = (get_or (theorems db) i 0, (theorems_are db i 0 l, valid-before db few complete i h l, p))
 
-  pub all-cited : (ts : List ℕ) (n : ℕ) (lists : List (List ℕ)) → ts ≡ theorems db → n ≡ length (theorems db) → AreCited db (theorems db) n lists → IsFileOrder (citing ts lists) × AllCited db (citing ts lists)
-  all-cited ts n lists e m h =
+  pub cited-before : (i : ℕ) (lists : List (List ℕ)) → AreCited db (theorems db) i lists → (n : ℕ) → n < i → IsValid db (get_or (theorems db) n 0)
+  cited-before i lists h n l = cited-valid db _ _ (h.each n l)
+
+  pub all-cited : (ts : List ℕ) (lists : List (List ℕ)) → ts ≡ theorems db → AreCited db (theorems db) (length (theorems db)) lists → IsFileOrder (citing ts lists) × AllCited db (citing ts lists)
+  all-cited ts lists e h =
       subst (λ (us : List ℕ). IsFileOrder (citing us lists) × AllCited db (citing us lists)) (sym e)
-      (let k = subst (λ j. AreCited db (theorems db) j lists) m h in
-      (file-order db few complete lists k, record { theorems_are = refl; valid = all-valid db few complete lists k; shows = shows db few complete lists k }))
+      (file-order db few complete lists h, record { theorems_are = refl; valid = all-valid db few complete lists h; shows = shows db few complete lists h })

@@ -4,11 +4,12 @@ use Rattle.mm_spec.specs.Statement.{Statement}
 use Rattle.mm_spec.specs.Citation.{reading_faults_at}
 use Rattle.mm_spec.specs.Output.{AreValid, FirstProofFault, ProofFault, end_of, theorems}
 use Rattle.mm_spec.specs.declared.Fault.{Fault}
-use Rattle.mmdepend.specs.declared.verify.VerifyRefused.{VerifyRefused}
-use Rattle.mmdepend.specs.declared.verify.VerifyRefused.TheVariants.{Fault as Faulty, Memory}
 use Rattle.mm_check.specs.Contract.{IsChecked}
-use Rattle.mm_rows.specs.Chains.{Citing, IsFileOrder}
-use Rattle.mm_rows.specs.Shows.{Shows}
+use Rattle.mm_work.specs.Citing.{Citing, Shows}
+use Rattle.mm_work.specs.declared.proof.VerifyRefused.{VerifyRefused}
+use Rattle.mm_work.specs.declared.proof.VerifyRefused.TheVariants.{Fault as FaultOf, Memory}
+use Rattle.mm_work.specs.declared.citations.Judged.{Judged}
+use Rattle.mm_work.specs.declared.citations.Judged.TheVariants.{Valid, Faulty}
 
 -- these are the citations of a valid theorem
 pub record IsCited (db : List Statement) (t : ℕ) (cites : List ℕ) : Type 0 where
@@ -30,12 +31,17 @@ pub record AllCited (db : List Statement) (c : Citing) : Type 0 where
 abbrev pub IsFirstFault : List Statement → Fault → Type 0
 IsFirstFault db f = (k : ℕ) × FirstProofFault db k f
 
+-- the proof of the theorem has this fault
+abbrev pub HasFault : List Statement → ℕ → Fault → Type 0
+HasFault db t f = ProofFault db t (end_of (slice_get db t)) f
+
 -- a fault is that of the theorem's proof
 abbrev pub Faults : List Statement → ℕ → VerifyRefused → Type 0
-Faults db t (Faulty f) = ProofFault db t (end_of (slice_get db t)) f
+Faults db t (FaultOf f) = HasFault db t f
 Faults db t Memory = Unit {0}
 
--- a fault is that of the first proof that has one
-abbrev pub Stops : List Statement → VerifyRefused → Type 0
-Stops db (Faulty f) = IsFirstFault db f
-Stops db Memory = Unit {0}
+-- what was found: the citations of all theorems, or the first fault of a proof
+module _ {A : Type 0} where
+  abbrev pub Judges : List Statement → Judged A → Type 0
+  Judges db (Valid citations) = AllCited db citations
+  Judges db (Faulty f) = IsFirstFault db f

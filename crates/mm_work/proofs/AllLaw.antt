@@ -1,0 +1,30 @@
+-- What a closed board says of the proofs.
+use Rattle.std.proofs.Common.{◌≡◌, ℕ, ◌+◌, ◌<◌, ◌≤◌, ◌⊎◌, inl, inr, List, [], ◌∷◌, length, get_or, refl, sym, subst, arith, ◌∙◌}
+use Rattle.mm_spec.specs.Statement.{Statement}
+use Rattle.mm_spec.specs.Citation.{IsValid}
+use Rattle.mm_board.specs.declared.views.View.{View}
+use Rattle.mm_board.specs.Records.{times_in}
+use Rattle.mm_board.specs.Rule.{IsLeastReported, times_reported}
+use Rattle.mm_board.specs.Models.{BoardValue, SeatValue}
+use Rattle.mm_work.specs.Judged.{IsCited}
+use Rattle.mm_work.specs.Workers.{theorem_of, AreGathered, AreFound, IsFoundFaulty}
+use Rattle.mm_work.specs.declared.worker.Found.{Found}
+use Rattle.mm_work.proofs.CitedLaw.{cited-valid}
+use Rattle.mm_work.proofs.ListsLaw.{get_or-same}
+
+module _ {A : Type 0} (home : BoardValue) (db : List Statement) (seat : SeatValue) (fs : List (Found A)) (h : AreGathered home db seat fs) where
+  -- the theorems below the floor are valid
+  pub valid-below : (first : ℕ) → ((x : ℕ) → x < first → times_in x seat.view.settled ≡ 1) → (n : ℕ) → n < first → IsValid db (theorem_of db n)
+  valid-below first all n l =
+      let one = all n l in
+      let r = h.settled n (omega (arith, one)) in
+      let f : AreFound db r.0 = subst (λ (x : Found A). AreFound db x) r.1.2 (h.found r.1.0 r.0 r.1.1) in
+      cited-valid db _ _ (subst (λ i. IsCited db (theorem_of db i) (get_or r.0.cites r.2.0 [])) (get_or-same r.0.valid.items r.2.0 0 n r.2.1 ∙ r.2.2) (f.each r.2.0 r.2.1))
+
+  -- the floor is a theorem with a fault, where it is no theorem's end
+  pub faulty-at : (first : ℕ) → IsLeastReported home.count (seat.view ∷ []) first → first < home.count → IsFoundFaulty fs first
+  faulty-at first least l = by least.is
+    where
+      by : (first ≡ home.count) ⊎ (0 < times_reported (seat.view ∷ []) first) → IsFoundFaulty fs first
+      by (inl e) = absurd (omega (arith, e, l))
+      by (inr p) = let own : times_reported (seat.view ∷ []) first ≡ times_in first seat.view.reported + 0 = refl in h.reported first (omega (arith, p, own))

@@ -1,0 +1,7 @@
+pub mod ListsLaw
+pub mod RisingLaw
+pub mod CitedLaw
+pub mod VerifyLaw
+pub mod WorkersLaw
+pub mod PlacesLaw
+pub mod AllLaw

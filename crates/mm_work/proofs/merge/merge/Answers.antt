@@ -1,0 +1,52 @@
+use Rattle.std.proofs.Common.{◌≡◌, ◌∙◌, ◌+◌, ◌<◌, ◌≤◌, ℕ, List, [], ◌∷◌, ◌++◌, length, get_or, sym, ap, subst, arith}
+use Rattle.mm_spec.specs.Output.{theorems}
+use Rattle.mm_work.specs.Judged.{AreCited}
+use Rattle.mm_work.specs.declared.merge.Place.{Place}
+use Rattle.mm_work.proofs.PlacesLaw.{less-le, worker-within, found-there, list-within, list-cited}
+use Rattle.mm_work.proofs.VerifyLaw.{cited-more}
+use Rattle.mm_work.proofs.merge.merge.Goals as goal
+
+pub offset_bounds-found-place : goal.offset_bounds-found-place
+offset_bounds-found-place g c =
+    let db = c.args.database.now.statements in
+    let k = c.loop-place.place-index in
+    let same = c.deref-place-items.ensures.value in
+    let within : k < length (theorems db) = let l = c.loop-place-test.true in let e = ap (λ (ps : List Place). length ps) same in let n = c.in_ok-places.ensures.count in let t = ap (λ (ts : List ℕ). length ts) c.theorems.ensures.theorems in omega (arith, l, e, n, t) in
+    less-le (worker-within db c.args.found.now c.requires.found c.in_ok-places.places.items c.deref-place-items.result.now k _ same (c.in_ok-places.ensures.places k (c.requires.valid k within)))
+
+pub bounds-found-place : goal.bounds-found-place
+bounds-found-place g c =
+    let db = c.args.database.now.statements in
+    let k = c.loop-place.place-index in
+    let same = c.deref-place-items.ensures.value in
+    let within : k < length (theorems db) = let l = c.loop-place-test.true in let e = ap (λ (ps : List Place). length ps) same in let n = c.in_ok-places.ensures.count in let t = ap (λ (ts : List ℕ). length ts) c.theorems.ensures.theorems in omega (arith, l, e, n, t) in
+    worker-within db c.args.found.now c.requires.found c.in_ok-places.places.items c.deref-place-items.result.now k _ same (c.in_ok-places.ensures.places k (c.requires.valid k within))
+
+pub get-requires : goal.get-requires
+get-requires g c =
+    let db = c.args.database.now.statements in
+    let fs = c.args.found.now in
+    let k = c.loop-place.place-index in
+    let same = c.deref-place-items.ensures.value in
+    let within : k < length (theorems db) = let l = c.loop-place-test.true in let e = ap (λ (ps : List Place). length ps) same in let n = c.in_ok-places.ensures.count in let t = ap (λ (ts : List ℕ). length ts) c.theorems.ensures.theorems in omega (arith, l, e, n, t) in
+    let h = c.in_ok-places.ensures.places k (c.requires.valid k within) in
+    list-within db fs c.requires.found c.in_ok-places.places.items c.deref-place-items.result.now k _ same h _ (found-there db fs c.requires.found c.in_ok-places.places.items c.deref-place-items.result.now k _ same h c.index-found-place.result)
+
+pub loop-place-preserved : goal.loop-place-preserved
+loop-place-preserved g c =
+    let db = c.args.database.now.statements in
+    let fs = c.args.found.now in
+    let k = c.loop-place.place-index in
+    let same = c.deref-place-items.ensures.value in
+    let within : k < length (theorems db) = let l = c.loop-place-test.true in let e = ap (λ (ps : List Place). length ps) same in let n = c.in_ok-places.ensures.count in let t = ap (λ (ts : List ℕ). length ts) c.theorems.ensures.theorems in omega (arith, l, e, n, t) in
+    let h = c.in_ok-places.ensures.places k (c.requires.valid k within) in
+    let there = found-there db fs c.requires.found c.in_ok-places.places.items c.deref-place-items.result.now k _ same h c.index-found-place.result in
+    rw c.in_ok-push.ensures.ok (cited-more db (theorems db) k c.loop-place.lists c.get.result.now c.loop-place.invariant
+    (list-cited db fs c.requires.found c.in_ok-places.places.items c.deref-place-items.result.now k _ same h _ c.get.result.now there c.get.ensures))
+
+pub returns : goal.returns
+returns g c =
+    let db = c.args.database.now.statements in
+    let k = c.loop-place.place-index in
+    let all : k ≡ length (theorems db) = let end = c.loop-place.auto.place-index-end in let past = c.loop-place-test.false in let e = ap (λ (ps : List Place). length ps) c.deref-place-items.ensures.value in let n = c.in_ok-places.ensures.count in let t = ap (λ (ts : List ℕ). length ts) c.theorems.ensures.theorems in omega (arith, end, past, e, n, t) in
+    subst (λ n. AreCited db (theorems db) n c.loop-place.lists) all c.loop-place.invariant

@@ -1,0 +1,7 @@
+use Rattle.std.proofs.Common.{length}
+use Rattle.mm_spec.specs.Output.{theorems}
+use Rattle.mm_work.specs.Judged.{AreCited}
+use Rattle.mm_work.proofs.merge.merge.Given as goal
+
+abbrev pub invariant-loop-place : goal.invariant-loop-place
+invariant-loop-place g l = AreCited l.database.statements (theorems l.database.statements) l.place-index l.lists

@@ -1,0 +1,9 @@
+use Rattle.std.proofs.Common.{◌≡◌, ◌∙◌, ◌+◌, ◌<◌, ◌≤◌, ◌⊎◌, inl, inr, ℕ, Some, Option, sym, ap, subst, arith}
+use Rattle.mm_board.specs.declared.views.View.{View}
+use Rattle.mm_board.specs.Records.{times_recorded, times_open, times_in}
+use Rattle.mm_work.proofs.WorkersLaw.{fresh-drawn}
+use Rattle.mm_work.proofs.worker.work.Goals as goal
+
+pub loop-index-smaller : goal.loop-index-smaller
+loop-index-smaller g c =
+    fresh-drawn c.args.board.now.count c.in-Some.index c.loop-index.worked.seat.view c.claim.new.seat.view c.judge.new.worked.seat.view c.loop-index.invariant.closed c.in-Some.ensures.some c.in-Some.ensures.below c.in-Some.ensures.above c.judge.ensures.kept

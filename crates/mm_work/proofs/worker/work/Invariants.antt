@@ -1,0 +1,19 @@
+use Rattle.std.proofs.Common.{◌≡◌, None, false, length}
+use Rattle.mm_spec.specs.Frame.{symbol_names}
+use Rattle.mm_spec.specs.Output.{theorems}
+use Rattle.mm_board.specs.Models.{IsSeatOf}
+use Rattle.mm_work.specs.Workers.{TellsUnlessShort}
+use Rattle.mm_work.proofs.WorkersLaw.{fresh}
+use Rattle.mm_work.proofs.worker.work.Given as goal
+
+abbrev pub invariant-loop-index : goal.invariant-loop-index
+invariant-loop-index g l = record {
+  made_for : l.checker ≡ length (symbol_names l.database.statements);
+  home : IsSeatOf l.board l.worked.seat;
+  not_over : l.worked.seat.view.over ≡ false;
+  closed : l.worked.seat.view.open_number ≡ None;
+  tells : TellsUnlessShort l.database.statements l.worked.seat.view l.worked.found;
+}
+
+abbrev pub decreases-loop-index : goal.decreases-loop-index
+decreases-loop-index g l = fresh l.board.count l.worked.seat.view

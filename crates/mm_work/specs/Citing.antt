@@ -1,0 +1,42 @@
+-- What each theorem cites, as lists.
+use Rattle.std.specs.Prelude.{◌≡◌, ℕ, ◌<◌, ◌^◌, List, [], length, slice_index, slice_index_or, ◌↔◌}
+use Rattle.mm_spec.specs.Statement.{Statement}
+use Rattle.mm_spec.specs.Citation as proof
+
+-- the theorems' statements, and for each the statements that it cites
+pub record Citing : Type 0 where
+  pub theorems : List ℕ
+  pub cites : List (List ℕ)
+
+abbrev pub citing : List ℕ → List (List ℕ) → Citing
+citing theorems cites = record { theorems = theorems; cites = cites }
+
+abbrev pub theorem_at : Citing → ℕ → ℕ
+theorem_at c i = slice_index c.theorems i
+
+abbrev pub list_at : Citing → ℕ → List ℕ
+list_at c i = slice_index_or c.cites i []
+
+-- few statements, each above the one before it
+pub record IsRising (xs : List ℕ) : Type 0 where
+  pub few : length xs < 2 ^ 31
+  pub rises : (i j : ℕ) → i < j → j < length xs → slice_index xs i < slice_index xs j
+
+-- a theorem cites what is earlier than it
+pub record IsFileOrder (c : Citing) : Type 0 where
+  pub rising : IsRising c.theorems
+  pub each : length c.cites ≡ length c.theorems
+  pub earlier : (i k : ℕ) → i < length c.theorems → k < length (list_at c i) → slice_index (list_at c i) k < theorem_at c i
+
+-- theorem t cites a
+pub record Cites (c : Citing) (t a : ℕ) : Type 0 where
+  pub row : ℕ
+  pub place : ℕ
+  pub within : row < length c.theorems
+  pub listed : place < length (list_at c row)
+  pub theorem : theorem_at c row ≡ t
+  pub cited : slice_index (list_at c row) place ≡ a
+
+-- the lists are what the theorems of a database cite
+pub record Shows (db : List Statement) (c : Citing) : Type 0 where
+  pub same : (t a : ℕ) → Cites c t a ↔ proof.Cites db t a

@@ -1,0 +1,5 @@
+pub mod Lists
+pub mod Citing
+pub mod Judged
+pub mod Workers
+pub mod Places

@@ -1,0 +1,20 @@
+-- Where among the workers' findings the citations of a theorem are.
+use Rattle.std.specs.Prelude.{◌≡◌, ℕ, ◌<◌, List, Some, length, slice_index, slice_get}
+use Rattle.mm_work.specs.declared.merge.Place.{Place}
+use Rattle.mm_work.specs.declared.worker.Found.{Found}
+
+-- among the places, that of index i is with this worker, who found these proofs valid
+pub record IsNoted (places : List Place) (worker : ℕ) (valid : List ℕ) (i : ℕ) : Type 0 where
+  pub place : Place
+  pub place_is : slice_get places i ≡ Some place
+  pub worker_is : place.worker ≡ worker
+  pub within : place.place < length valid
+  pub index_is : slice_index valid place.place ≡ i
+
+-- among the places, that of index i is with one of the workers
+module _ {A : Type 0} where
+  pub record HasPlace (places : List Place) (fs : List (Found A)) (i : ℕ) : Type 0 where
+    pub worker : ℕ
+    pub found : Found A
+    pub found_is : slice_get fs worker ≡ Some found
+    pub noted : IsNoted places worker found.valid.items i

@@ -1,0 +1,78 @@
+-- What a worker's seat and its findings say.
+use Rattle.std.specs.Prelude.{◌≡◌, ℕ, ◌<◌, All, List, [], Option, None, Some, length, false, true, slice_index, slice_index_or}
+use Rattle.std.specs.List.{Contains}
+use Rattle.std.specs.Option.{option_map}
+use Rattle.mm_spec.specs.Statement.{Statement}
+use Rattle.mm_spec.specs.Output.{theorems}
+use Rattle.mm_stmt.specs.Database.{Known}
+use Rattle.mm_board.specs.declared.views.View.{View}
+use Rattle.mm_board.specs.Records.{times_in}
+use Rattle.mm_board.specs.Models.{BoardValue, SeatValue, IsSeatOf}
+use Rattle.mm_work.specs.Judged.{IsCited, HasFault}
+use Rattle.mm_work.specs.declared.worker.IndexedFault.{IndexedFault}
+use Rattle.mm_work.specs.declared.worker.Found.{Found}
+use Rattle.mm_work.specs.declared.worker.Worked.{Worked}
+
+-- the theorem of this index
+abbrev pub theorem_of : List Statement → ℕ → ℕ
+theorem_of db i = slice_index (theorems db) i
+
+-- the proof of the theorem has the fault, if there is one
+abbrev pub IsFaultFound : List Statement → Option IndexedFault → Type 0
+IsFaultFound db None = Unit {0}
+IsFaultFound db (Some g) = (g.index < length (theorems db)) × HasFault db (theorem_of db g.index) g.fault
+
+-- the theorem, by its index, in whose proof a fault was found, if there is one
+abbrev pub faulty_index : Option IndexedFault → Option ℕ
+faulty_index g = option_map (λ f. f.index) g
+
+module _ {A : Type 0} where
+  -- what a worker found is so: the proofs that it found valid are, with these citations, and the fault is that of its theorem
+  pub record AreFound (db : List Statement) (f : Found A) : Type 0 where
+    pub count : length f.cites ≡ length f.valid.items
+    pub known : All (λ i. i < length (theorems db)) f.valid.items
+    pub each : (k : ℕ) → k < length f.valid.items → IsCited db (theorem_of db (slice_index f.valid.items k)) (slice_index_or f.cites k [])
+    pub faulty : IsFaultFound db f.faulty
+
+  -- the numbers that a seat has settled are those of the proofs that were found valid, and what it has reported is the fault
+  pub record Tells (db : List Statement) (v : View) (f : Found A) : Type 0 where
+    pub found : AreFound db f
+    pub settled : v.settled ≡ f.valid.items
+    pub reported : (i : ℕ) → 0 < times_in i v.reported → faulty_index f.faulty ≡ Some i
+
+  -- the same where no growth of memory was refused
+  abbrev pub TellsUnlessShort : List Statement → View → Found A → Type 0
+  TellsUnlessShort db v f = f.short_of_memory ≡ false → Tells db v f
+
+-- a seat that can begin to work
+pub record IsReady (home : BoardValue) (seat : SeatValue) : Type 0 where
+  pub at : IsSeatOf home seat
+  pub not_over : seat.view.over ≡ false
+  pub closed : seat.view.open_number ≡ None
+  pub none_settled : seat.view.settled ≡ []
+  pub none_reported : seat.view.reported ≡ []
+
+module _ {A : Type 0} where
+  -- a worker that drew until no number was left, or that was short of memory
+  pub record IsDone (home : BoardValue) (database : Known) (w : Worked A) : Type 0 where
+    pub at : IsSeatOf home w.seat
+    pub closed : w.seat.view.open_number ≡ None
+    pub over : w.found.short_of_memory ≡ false → w.seat.view.over ≡ true
+    pub tells : TellsUnlessShort database.statements w.seat.view w.found
+
+  -- one of the workers found the proof of the theorem of this index valid
+  abbrev pub IsFoundValid : List (Found A) → ℕ → Type 0
+  IsFoundValid fs i = (f : Found A) × Contains fs f × Contains f.valid.items i
+
+  -- one of the workers found a fault in the proof of the theorem of this index
+  abbrev pub IsFoundFaulty : List (Found A) → ℕ → Type 0
+  IsFoundFaulty fs i = (f : Found A) × Contains fs f × (faulty_index f.faulty ≡ Some i)
+
+  -- the workers' seats were joined to this one, none was short of memory, and this is what they found
+  pub record AreGathered (home : BoardValue) (db : List Statement) (seat : SeatValue) (fs : List (Found A)) : Type 0 where
+    pub at : IsSeatOf home seat
+    pub closed : seat.view.open_number ≡ None
+    pub over : seat.view.over ≡ true
+    pub found : All (AreFound db) fs
+    pub settled : (i : ℕ) → 0 < times_in i seat.view.settled → IsFoundValid fs i
+    pub reported : (i : ℕ) → 0 < times_in i seat.view.reported → IsFoundFaulty fs i

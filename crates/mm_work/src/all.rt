@@ -1,0 +1,50 @@
+//! All proofs, by workers.
+
+ghost use Rattle.std.specs.Prelude.{◌≡◌, ◌≤◌, IfOk};
+ghost use Rattle.mm_work.specs.Judged.{Judges};
+
+use crate::citations::Judged;
+use crate::gate::Gate;
+use crate::gathered::work_all;
+use crate::in_order::{check_in_order, valid};
+use crate::merge::{fault_of, merge};
+use mm_board::Board;
+use mm_stmt::Database;
+use std::alloc::{AllocError, Allocator};
+use std::sync::Wait;
+use std::thread::Threads;
+
+/// The share of a board's only seat.
+const WHOLE: u32 = 64;
+
+/// Checks the proofs of all theorems by this many workers, 1 to 64, of which the calling thread is the first: what each
+/// theorem cites, or the fault of the first proof that has one, its place a byte offset from 0. Each worker passes the gate
+/// between the claim of a theorem and its look at it. A thread that can't be started changes no answer: where one took its
+/// seat with it, the calling thread checks all proofs anew, in file order and without the gate. Refused only where memory
+/// is, to whichever worker.
+pub fn check_all<'d, R: Threads + Wait + Sync, A: Allocator + Copy + Send + Sync, G: Gate>(
+    rt: &R,
+    alloc: A,
+    database: &Database<'d, A>,
+    workers: u32,
+    gate: &G,
+) -> Result<Judged<A>, AllocError>
+    requires { (1 ≤ workers) × (workers ≤ 64) }
+    ensures { IfOk result (λ judged. Judges database.now.statements judged) }
+{
+    let _ = database.len();
+    let count = database.theorems().len();
+    let Ok((board, seat)) = Board::new(alloc, count as u32) else {
+        return Err(AllocError);
+    };
+    let gathered = work_all(rt, alloc, database, &board, gate, seat, workers)?;
+    if gathered.seat.share() < WHOLE {
+        return check_in_order(alloc, database);
+    }
+    let (first, _) = board.close(gathered.seat);
+    if (first as usize) < count {
+        return Ok(Judged::Faulty(fault_of(database, &gathered.found, first)));
+    }
+    let lists = merge(alloc, database, &gathered.found)?;
+    valid(alloc, database, lists)
+}

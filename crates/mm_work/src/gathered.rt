@@ -1,0 +1,119 @@
+//! The workers at one board, and what they found together.
+
+ghost use Rattle.std.specs.Prelude.{◌≡◌, ◌<◌, ◌≤◌, All, IfOk, IfSome, false, length};
+ghost use Rattle.mm_spec.specs.Output.{theorems};
+ghost use Rattle.mm_work.specs.Workers.{IsReady, IsDone, AreGathered};
+
+use crate::gate::Gate;
+use crate::worker::{Found, Worked, work};
+use mm_board::{Board, Seat};
+use mm_stmt::Database;
+use std::alloc::{AllocError, Allocator};
+use std::sync::Wait;
+use std::thread;
+use std::thread::{Promise, Threads};
+
+/// What a thread promises of what it hands back: that it worked at this board, on the theorems of this database.
+#[derive(Clone, Copy)]
+pub(crate) struct AtBoard<'a, 'd, A: Allocator>(&'a Board<A>, &'a Database<'d, A>);
+
+impl<'a, 'd, A: Allocator> Promise<Worked<A>> for AtBoard<'a, 'd, A> {
+    ghost use Rattle.mm_work.specs.Workers.{IsDone};
+
+    ghost kept_by = { λ p r. IsDone p.0.now p.1.now r };
+}
+
+/// What the workers found, and the seat that took in theirs.
+#[derive(Drop)]
+pub(crate) struct Gathered<A: Allocator> {
+    pub seat: Seat,
+    pub found: Vec<Found<A>, A>,
+}
+
+/// A seat for one more worker.
+fn split<A: Allocator>(board: &Board<A>, seat: &mut Seat) -> Option<Seat>
+    requires { IsReady board.now seat.old }
+    ensures own { IsReady board.now seat.new }
+    ensures other { IfSome result (λ new. IsReady board.now new) }
+{
+    board.split(seat).ok()
+}
+
+/// Takes in the seats of the others. It is refused where a worker was short of memory, or where there is none for the list.
+fn join_all<'d, A: Allocator + Copy>(
+    alloc: A,
+    database: &Database<'d, A>,
+    board: &Board<A>,
+    own: Worked<A>,
+    mut others: Vec<Worked<A>, A>,
+) -> Result<Gathered<A>, AllocError>
+    requires own { IsDone board.now database.now own }
+    requires others { All (λ w. IsDone board.now database.now w) others.items }
+    ensures { IfOk result (λ g. AreGathered board.now database.now.statements g.seat g.found.items) }
+{
+    let _ = database;
+    let Worked { mut seat, found } = own;
+    if found.short_of_memory {
+        return Err(AllocError);
+    }
+    let mut all = Vec::with_capacity(alloc, others.len() + 1)?;
+    all.push(found)?;
+    while let Some(other) = others.pop() {
+        let Worked {
+            seat: theirs,
+            found,
+        } = other;
+        if found.short_of_memory {
+            return Err(AllocError);
+        }
+        board.join(&mut seat, theirs);
+        all.push(found)?;
+    }
+    Ok(Gathered { seat, found: all })
+}
+
+/// Has all theorems checked by this many workers. The calling thread is worker 0; each further one has a thread, as far as
+/// threads can be had, and a seat that was split off for it, which is lost where no thread could be started.
+pub(crate) fn work_all<'d, R: Threads + Wait + Sync, A: Allocator + Copy + Send + Sync, G: Gate>(
+    rt: &R,
+    alloc: A,
+    database: &Database<'d, A>,
+    board: &Board<A>,
+    gate: &G,
+    seat: Seat,
+    workers: u32,
+) -> Result<Gathered<A>, AllocError>
+    requires ready { IsReady board.now seat }
+    requires count { board.now.count ≡ length (theorems database.now.statements) }
+    ensures { IfOk result (λ g. AreGathered board.now database.now.statements g.seat g.found.items) }
+{
+    thread::scope(
+        thread::scope_env(),
+        rt,
+        move |scope| -> Result<Gathered<A>, AllocError>
+            requires { IsReady board.now seat × (board.now.count ≡ length (theorems database.now.statements)) }
+            ensures { IfOk result (λ g. AreGathered board.entry.now database.entry.now.statements g.seat g.found.items) }
+        {
+            let mut mine = seat;
+            let mut handles = Vec::with_capacity(alloc, workers as usize)?;
+            for worker in 1..workers {
+                if let Some(other) = split(board, &mut mine) {
+                    if let Ok(handle) = scope.spawn_with(
+                        AtBoard(board, database),
+                        move || -> Worked<A>
+                            requires { IsReady board.now other × (board.now.count ≡ length (theorems database.now.statements)) }
+                            ensures { IsDone board.entry.now database.entry.now result }
+                        { work(alloc, database, board, gate, other, worker) },
+                    ) {
+                        handles.push(handle)?;
+                    }
+                }
+            }
+            let own = work(alloc, database, board, gate, mine, 0);
+            let Ok(others) = thread::join_promised(rt, handles) else {
+                return Err(AllocError);
+            };
+            join_all(alloc, database, board, own, others)
+        },
+    )
+}

@@ -1,0 +1,47 @@
+//! All proofs by the calling thread alone.
+
+ghost use Rattle.std.specs.Prelude.{◌≡◌, IfOk, length};
+ghost use Rattle.mm_work.specs.Judged.{Judges, AreCited};
+ghost use Rattle.mm_spec.specs.Output.{theorems};
+
+use crate::citations::{Citations, Judged};
+use crate::lists::Lists;
+use crate::proof::{VerifyRefused, verify};
+use mm_check::Checker;
+use mm_stmt::Database;
+use std::alloc::{AllocError, Allocator};
+
+/// The answer where all proofs are valid, from what each theorem cites, in file order.
+pub(crate) fn valid<'a, A: Allocator + Copy>(
+    alloc: A,
+    database: &Database<'a, A>,
+    lists: Lists<A>,
+) -> Result<Judged<A>, AllocError>
+    requires { AreCited database.now.statements (theorems database.now.statements) (length (theorems database.now.statements)) lists }
+    ensures { IfOk result (λ judged. Judges database.now.statements judged) }
+{
+    let _ = database.len();
+    let theorems = database.theorems().to_vec(alloc)?;
+    Ok(Judged::Valid(Citations::new(theorems, lists)))
+}
+
+/// Checks the proofs in file order, up to the first that isn't valid.
+pub(crate) fn check_in_order<'a, A: Allocator + Copy>(
+    alloc: A,
+    database: &Database<'a, A>,
+) -> Result<Judged<A>, AllocError>
+    ensures { IfOk result (λ judged. Judges database.now.statements judged) }
+{
+    let _ = database.len();
+    let mut checker = Checker::new(alloc, database)?;
+    let mut lists = Lists::new(alloc);
+    let theorems = database.theorems();
+    for theorem in theorems {
+        match verify(alloc, database, &mut checker, *theorem) {
+            Ok(checked) => lists.push(checked.cites())?,
+            Err(VerifyRefused::Fault(fault)) => return Ok(Judged::Faulty(fault)),
+            Err(VerifyRefused::Memory) => return Err(AllocError),
+        }
+    }
+    valid(alloc, database, lists)
+}

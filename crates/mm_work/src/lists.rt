@@ -1,0 +1,84 @@
+//! Lists of numbers, one behind the other.
+
+ghost use Rattle.std.specs.Prelude.{◌≡◌, ◌<◌, ◌++◌, ◌∷◌, [], OnOk, OnErr, length, slice_index_or, slice_range, ◌≤◌};
+ghost use Rattle.mm_work.specs.Lists.{start_of};
+
+use std::alloc::{AllocError, Allocator};
+use std::marker::Model;
+
+/// A growing row of lists of numbers. They stand one behind the other in one list, with the place at which each ends, so
+/// a short list costs no memory of its own.
+#[derive(Drop)]
+pub(crate) struct Lists<A: Allocator> {
+    numbers: Vec<u32, A>,
+    ends: Vec<usize, A>,
+}
+
+impl<A: Allocator> Model for Lists<A> {
+    ghost use Rattle.std.specs.Prelude.{List, ℕ, length};
+    ghost use Rattle.mm_work.specs.Lists.{cut_at, AreEnds};
+
+    ghost Value = { List (List ℕ) };
+
+    ghost view = { λ l. cut_at 0 l.ends.items l.numbers.items };
+
+    ghost invariant = { λ l. AreEnds 0 l.ends.items (length l.numbers.items) };
+}
+
+/// Where the list of this index begins.
+fn start(ends: &[usize], index: usize) -> usize
+    requires { index < length ends.now }
+    ensures { result ≡ start_of ends.now index }
+{
+    match index.checked_sub(1) {
+        Some(before) => ends[before],
+        None => 0,
+    }
+}
+
+/// A part of a list.
+fn part(numbers: &[u32], from: usize, to: usize) -> &[u32]
+    requires from { from ≤ to }
+    requires to { to ≤ length numbers.now }
+    ensures { result.now ≡ slice_range numbers.now from to }
+{
+    &numbers[from..to]
+}
+
+impl<A: Allocator> Lists<A> {
+    /// No lists.
+    pub fn new(alloc: A) -> Lists<A>
+    where
+        A: Copy,
+        ensures { result ≡ [] }
+    {
+        Lists {
+            numbers: Vec::new(alloc),
+            ends: Vec::new(alloc),
+        }
+    }
+
+    /// Puts a list behind the others. It is refused only where memory is, and changes nothing then.
+    pub fn push(&mut self, list: &[u32]) -> Result<(), AllocError>
+        ensures ok { OnOk result (self.new ≡ self.old ++ list.now ∷ []) }
+        ensures err { OnErr result (self.new ≡ self.old) }
+    {
+        let before = self.numbers.len();
+        self.numbers.extend_from_slice(list)?;
+        match self.ends.push(self.numbers.len()) {
+            Ok(()) => Ok(()),
+            Err(_) => {
+                self.numbers.truncate(before);
+                Err(AllocError)
+            }
+        }
+    }
+
+    /// The list of this index, from 0.
+    pub fn get(&self, index: usize) -> &[u32]
+        requires { index < length self.now }
+        ensures { result.now ≡ slice_index_or self.now index [] }
+    {
+        part(&self.numbers, start(&self.ends, index), self.ends[index])
+    }
+}

@@ -1,0 +1,95 @@
+//! What the workers found, put together in the order of the theorems.
+
+ghost use Rattle.std.specs.Prelude.{◌≡◌, ◌<◌, ◌≤◌, ◌⊎◌, ℕ, All, IfOk, length, slice_get};
+ghost use Rattle.mm_spec.specs.Output.{theorems};
+ghost use Rattle.mm_work.specs.Judged.{AreCited, HasFault};
+ghost use Rattle.mm_work.specs.Workers.{AreFound, IsFoundValid, IsFoundFaulty, theorem_of};
+ghost use Rattle.mm_work.specs.Places.{IsNoted, HasPlace};
+
+use crate::lists::Lists;
+use crate::worker::Found;
+use mm_spec::Fault;
+use mm_stmt::Database;
+use std::alloc::{AllocError, Allocator};
+
+/// Where the citations of a theorem are: with which worker, and at which place among the theorems that it found valid.
+#[derive(Clone, Copy)]
+pub(crate) struct Place {
+    pub worker: usize,
+    pub place: usize,
+}
+
+/// Notes where the citations of a worker's theorems are.
+fn note(places: &mut [Place], worker: usize, valid: &[u32])
+    requires { All (λ i. i < length places.old) valid.now }
+    ensures count { length places.new ≡ length places.old }
+    ensures noted { All (λ i. IsNoted places.new worker valid.now i) valid.now }
+    ensures others { (i : ℕ) → IsNoted places.new worker valid.now i ⊎ (slice_get places.new i ≡ slice_get places.old i) }
+{
+    for (place, index) in valid.iter().enumerate() {
+        places[*index as usize] = Place { worker, place };
+    }
+}
+
+/// Where the citations of each theorem are.
+fn places<A: Allocator + Copy>(
+    alloc: A,
+    found: &[Found<A>],
+    count: usize,
+) -> Result<Vec<Place, A>, AllocError>
+    requires { All (λ f. All (λ i. i < count) f.valid.items) found.now }
+    ensures count { IfOk result (λ places. length places.items ≡ count) }
+    ensures places { IfOk result (λ places. (i : ℕ) → IsFoundValid found.now i → HasPlace places.items found.now i) }
+{
+    let mut places = Vec::new(alloc);
+    places.resize(
+        count,
+        Place {
+            worker: 0,
+            place: 0,
+        },
+    )?;
+    for (worker, one) in found.iter().enumerate() {
+        note(&mut places, worker, &one.valid);
+    }
+    Ok(places)
+}
+
+/// What each theorem cites, in file order.
+pub(crate) fn merge<'d, A: Allocator + Copy>(
+    alloc: A,
+    database: &Database<'d, A>,
+    found: &[Found<A>],
+) -> Result<Lists<A>, AllocError>
+    requires found { All (AreFound database.now.statements) found.now }
+    requires valid { (i : ℕ) → i < length (theorems database.now.statements) → IsFoundValid found.now i }
+    ensures { IfOk result (λ lists. AreCited database.now.statements (theorems database.now.statements) (length (theorems database.now.statements)) lists) }
+{
+    let places = places(alloc, found, database.theorems().len())?;
+    let mut lists = Lists::new(alloc);
+    for place in &places {
+        lists.push(found[place.worker].cites.get(place.place))?;
+    }
+    Ok(lists)
+}
+
+/// The fault of the theorem of this index.
+pub(crate) fn fault_of<'d, A: Allocator>(
+    database: &Database<'d, A>,
+    found: &[Found<A>],
+    index: u32,
+) -> Fault
+    requires found { All (AreFound database.now.statements) found.now }
+    requires faulty { IsFoundFaulty found.now index }
+    ensures { HasFault database.now.statements (theorem_of database.now.statements index) result }
+{
+    let _ = database;
+    for one in found {
+        if let Some(faulty) = one.faulty
+            && faulty.index == index
+        {
+            return faulty.fault;
+        }
+    }
+    unreachable!("the index that was reported is that of a fault")
+}

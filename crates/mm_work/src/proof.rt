@@ -1,0 +1,46 @@
+//! One proof.
+
+ghost use Rattle.std.specs.Prelude.{◌≡◌, IfOk, IfErr, IsTrue, length};
+ghost use Rattle.mm_spec.specs.Frame.{symbol_names};
+ghost use Rattle.mm_spec.specs.Output.{is_theorem_at};
+ghost use Rattle.mm_work.specs.Judged.{IsCited, Faults};
+
+use mm_check::{CheckRefused, Checked, Checker};
+use mm_proof::{ProofRefused, read_proof};
+use mm_spec::Fault;
+use mm_stmt::Database;
+use std::alloc::Allocator;
+
+/// Why a proof wasn't found valid.
+#[derive(Clone, Copy)]
+pub(crate) enum VerifyRefused {
+    /// It has this fault.
+    Fault(Fault),
+    /// Memory was refused.
+    Memory,
+}
+
+/// Reads and checks the proof of a theorem: what it cites, or its fault.
+pub(crate) fn verify<'a, A: Allocator + Copy>(
+    alloc: A,
+    database: &Database<'a, A>,
+    checker: &mut Checker<A>,
+    theorem: u32,
+) -> Result<Checked<A>, VerifyRefused>
+    requires made_for { checker.old ≡ length (symbol_names database.now.statements) }
+    requires theorem { IsTrue (is_theorem_at database.now.statements theorem) }
+    ensures made_for { checker.new ≡ checker.old }
+    ensures valid { IfOk result (λ checked. IsCited database.now.statements theorem checked.cites) }
+    ensures refused { IfErr result (λ e. Faults database.now.statements theorem e) }
+{
+    let steps = match read_proof(alloc, database, theorem) {
+        Ok(steps) => steps,
+        Err(ProofRefused::Fault(fault)) => return Err(VerifyRefused::Fault(fault)),
+        Err(ProofRefused::Memory) => return Err(VerifyRefused::Memory),
+    };
+    match checker.check(alloc, database, theorem, &steps) {
+        Ok(checked) => Ok(checked),
+        Err(CheckRefused::Fault(fault)) => Err(VerifyRefused::Fault(fault)),
+        Err(CheckRefused::Memory) => Err(VerifyRefused::Memory),
+    }
+}

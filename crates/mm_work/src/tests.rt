@@ -1,0 +1,232 @@
+//! Databases whose proofs are checked by one worker and by more, and gates at which workers wait for one another.
+
+ghost use Rattle.std.specs.Prelude.{◌≤◌};
+
+use crate::{Citations, Gate, Judged, Open, check_all};
+use mm_lex::{Cuts, lex};
+use mm_spec::{Code, Fault, TEXT_LIMIT};
+use mm_stmt::read;
+use std::alloc::{AllocError, Global};
+use std::process::Abort;
+use std::sync::Wait;
+use std::sync::atomic::{AtomicU64, Ordering};
+use std::thread;
+use std::thread::Threads;
+
+/// Symbols, the formulas of a conditional, and the first axiom.
+const BASE: &[u8] =
+    b"$c wff |- ( -> ) $.\n$v p q $.\nwp $f wff p $.\nwq $f wff q $.\nwi $a wff ( p -> q ) $.\nax-1 $a |- ( p -> ( q -> p ) ) $.\n";
+
+/// The rule of detachment, a theorem by it, and a theorem by that theorem.
+const THROUGH_A_THEOREM: &[u8] =
+    b"${ min $e |- p $. maj $e |- ( p -> q ) $. ax-mp $a |- q $. $}\n${ h $e |- p $. a1i $p |- ( q -> p ) $= wp wq wp wi h wp wq ax-1 ax-mp $. $}\n${ g $e |- p $. a2 $p |- ( q -> ( q -> p ) ) $= wq wp wi wq wp wq g a1i a1i $. $}\n";
+
+/// Two theorems whose proofs aren't valid; the first takes longer to check.
+const TWO_FAULTY: &[u8] =
+    b"long $p wff p $= wp wq wp wi wp wi wp wi wp wi $.\nshort $p wff p $= wq $.\n";
+
+/// How many theorems the long database has.
+const MANY: u32 = 3000;
+
+/// The bytes of one of its theorems.
+const LINE: u32 = 54;
+
+/// The turns after which a worker no longer waits at the gate.
+const MOST_TURNS: u32 = 10_000_000;
+
+/// The text of some parts.
+fn joined(alloc: Global, parts: &[&[u8]]) -> Result<Vec<u8>, AllocError> {
+    let mut text = Vec::new(alloc);
+    for part in parts {
+        text.extend_from_slice(part)?;
+    }
+    Ok(text)
+}
+
+/// A database of 3,000 theorems, all with the same formula. The proofs of some of them lack their last step.
+fn many(alloc: Global, faulty: &[u32]) -> Result<Vec<u8>, AllocError> {
+    let mut text = BASE.to_vec(alloc)?;
+    for k in 0..MANY {
+        text.push(b't')?;
+        for unit in [1000, 100, 10, 1] {
+            text.push(b'0' + (k / unit % 10) as u8)?;
+        }
+        text.extend_from_slice(b" $p wff ( p -> ( q -> p ) ) $= wp wq wp wi")?;
+        if !faulty.contains(&k) {
+            text.extend_from_slice(b" wi")?;
+        }
+        text.extend_from_slice(b" $.\n")?;
+    }
+    Ok(text)
+}
+
+/// What checking the proofs of a text finds.
+fn judged<R: Threads + Wait + Sync, G: Gate>(
+    rt: &R,
+    alloc: Global,
+    text: &[u8],
+    workers: u32,
+    gate: &G,
+) -> Result<Judged<Global>, AllocError>
+    requires { (1 ≤ workers) × (workers ≤ 64) }
+{
+    if text.len() > TEXT_LIMIT {
+        return Err(AllocError);
+    }
+    let cuts = Cuts::equal(alloc, text.len(), 1)?;
+    let lexed = lex(rt, alloc, text, &cuts)?;
+    let database = read(alloc, text, &lexed)?;
+    check_all(rt, alloc, &database, workers, gate)
+}
+
+/// Whether the first fault is this one.
+fn is_refused(judged: &Judged<Global>, at: u32, code: Code) -> bool {
+    match judged {
+        Judged::Valid(_) => false,
+        Judged::Faulty(fault) => *fault == Fault { at, code },
+    }
+}
+
+/// Asserts that these are the citations of the two theorems, by their statements.
+fn cites_through_a_theorem<R: Abort>(rt: &R, citations: &Citations<Global>) {
+    assert_eq!(rt; citations.rows(), 2);
+    assert_eq!(rt; citations.theorems(), [13u32, 17].as_slice());
+    assert_eq!(rt; citations.theorem(0), 13);
+    assert_eq!(rt; citations.of(0), [4u32, 5, 9].as_slice());
+    assert_eq!(rt; citations.theorem(1), 17);
+    assert_eq!(rt; citations.of(1), [4u32, 13].as_slice());
+}
+
+/// Asserts that each of the many theorems cites the same assertion.
+fn many_cite_one<R: Abort>(rt: &R, citations: &Citations<Global>) {
+    assert_eq!(rt; citations.rows(), MANY);
+    for row in 0..citations.rows() {
+        assert_eq!(rt; citations.theorem(row), row + 6);
+        assert_eq!(rt; citations.of(row), [4u32].as_slice());
+    }
+}
+
+#[test]
+fn what_theorems_cite(rt: HostRuntime) -> Result<(), AllocError> {
+    let text = joined(rt.alloc(), &[BASE, THROUGH_A_THEOREM])?;
+    for workers in [1, 2, 64] {
+        match judged(&rt, rt.alloc(), &text, workers, &Open)? {
+            Judged::Valid(citations) => cites_through_a_theorem(&rt, &citations),
+            Judged::Faulty(fault) => panic!(&rt; "a fault at {}", fault.at),
+        }
+    }
+    Ok(())
+}
+
+#[test]
+fn the_first_of_two_faults(rt: HostRuntime) -> Result<(), AllocError> {
+    let text = joined(rt.alloc(), &[BASE, TWO_FAULTY])?;
+    for workers in [1, 2, 64] {
+        let found = judged(&rt, rt.alloc(), &text, workers, &Open)?;
+        assert!(&rt; is_refused(&found, BASE.len() as u32 + 47, Code::NotOneEntry));
+    }
+    Ok(())
+}
+
+#[test]
+fn many_theorems(rt: HostRuntime) -> Result<(), AllocError> {
+    let text = many(rt.alloc(), &[])?;
+    for workers in [1, 2, 64] {
+        match judged(&rt, rt.alloc(), &text, workers, &Open)? {
+            Judged::Valid(citations) => many_cite_one(&rt, &citations),
+            Judged::Faulty(fault) => panic!(&rt; "a fault at {}", fault.at),
+        }
+    }
+    Ok(())
+}
+
+#[test]
+fn the_first_fault_of_many_theorems(rt: HostRuntime) -> Result<(), AllocError> {
+    let text = many(rt.alloc(), &[2000, 2900])?;
+    for workers in [1, 2, 64] {
+        let found = judged(&rt, rt.alloc(), &text, workers, &Open)?;
+        assert!(&rt;
+            is_refused(
+                &found,
+                BASE.len() as u32 + 2000 * LINE + 48,
+                Code::NotOneEntry
+            )
+        );
+    }
+    Ok(())
+}
+
+/// A gate at which each worker's first call waits until all workers have come, but not longer than a number of turns.
+struct Meeting {
+    /// A bit for each worker.
+    all: u64,
+    /// The bits of those that have come.
+    come: AtomicU64,
+    /// How many no longer waited.
+    gave_up: AtomicU64,
+}
+
+impl Drop for Meeting {
+    fn drop(self) {
+        let Self {
+            all: _,
+            come: _,
+            gave_up: _,
+        } = self;
+    }
+}
+
+impl Meeting {
+    fn of(all: u64) -> Meeting {
+        Meeting {
+            all,
+            come: AtomicU64::new(0),
+            gave_up: AtomicU64::new(0),
+        }
+    }
+
+    /// Whether all workers came, and none of them waited to the end of its turns.
+    fn was_held(&self) -> bool {
+        self.come.load(Ordering::SeqCst) == self.all && self.gave_up.load(Ordering::SeqCst) == 0
+    }
+}
+
+impl Gate for Meeting {
+    fn enter(&self, worker: u32, _theorem: u32) {
+        let own = 1u64.wrapping_shl(worker);
+        if self.come.fetch_or(own, Ordering::SeqCst) & own != 0 {
+            return;
+        }
+        for _ in 0..MOST_TURNS {
+            if self.come.load(Ordering::SeqCst) == self.all {
+                return;
+            }
+            thread::yield_now();
+        }
+        self.gave_up.fetch_add(1, Ordering::SeqCst);
+    }
+}
+
+#[test]
+fn two_at_the_gate(rt: HostRuntime) -> Result<(), AllocError> {
+    let text = joined(rt.alloc(), &[BASE, THROUGH_A_THEOREM])?;
+    let gate = Meeting::of(0b11);
+    match judged(&rt, rt.alloc(), &text, 2, &gate)? {
+        Judged::Valid(citations) => cites_through_a_theorem(&rt, &citations),
+        Judged::Faulty(fault) => panic!(&rt; "a fault at {}", fault.at),
+    }
+    assert!(&rt; gate.was_held());
+    Ok(())
+}
+
+#[test]
+fn four_at_the_gate(rt: HostRuntime) -> Result<(), AllocError> {
+    let text = many(rt.alloc(), &[])?;
+    let gate = Meeting::of(0b1111);
+    match judged(&rt, rt.alloc(), &text, 4, &gate)? {
+        Judged::Valid(citations) => many_cite_one(&rt, &citations),
+        Judged::Faulty(fault) => panic!(&rt; "a fault at {}", fault.at),
+    }
+    assert!(&rt; gate.was_held());
+    Ok(())
+}

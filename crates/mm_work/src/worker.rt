@@ -1,0 +1,167 @@
+//! A worker: draws theorems from the board and checks their proofs.
+
+ghost use Rattle.std.specs.Prelude.{◌≡◌, ◌<◌, ◌++◌, ◌∷◌, [], ℕ, None, Some, OnOk, true, false, length};
+ghost use Rattle.mm_spec.specs.Frame.{symbol_names};
+ghost use Rattle.mm_spec.specs.Output.{theorems};
+ghost use Rattle.mm_board.specs.Records.{times_in, times_recorded};
+ghost use Rattle.mm_board.specs.Models.{IsSeatOf};
+ghost use Rattle.mm_work.specs.Workers.{AreFound, TellsUnlessShort, IsReady, IsDone, faulty_index};
+
+use crate::gate::Gate;
+use crate::lists::Lists;
+use crate::proof::{VerifyRefused, verify};
+use mm_board::{Board, Seat};
+use mm_check::Checker;
+use mm_spec::Fault;
+use mm_stmt::Database;
+use std::alloc::{AllocError, Allocator};
+
+/// The fault of a theorem's proof, and the theorem by its index.
+#[derive(Clone, Copy)]
+pub(crate) struct IndexedFault {
+    pub index: u32,
+    pub fault: Fault,
+}
+
+/// What a worker found.
+#[derive(Drop)]
+pub(crate) struct Found<A: Allocator> {
+    /// The theorems whose proofs are valid, by their indices, in the order in which they were checked.
+    pub valid: Vec<u32, A>,
+    /// What each of these cites.
+    pub cites: Lists<A>,
+    /// The fault of a proof that isn't valid. After its report the worker skips all that it draws.
+    pub faulty: Option<IndexedFault>,
+    /// Whether a growth of memory was refused. Then the rest is of no worth.
+    pub short_of_memory: bool,
+}
+
+impl<A: Allocator> Found<A> {
+    /// Nothing yet.
+    fn new(alloc: A) -> Found<A>
+    where
+        A: Copy,
+        ensures valid { result.valid.items ≡ [] }
+        ensures cites { result.cites ≡ [] }
+        ensures faulty { result.faulty ≡ None }
+    {
+        Found {
+            valid: Vec::new(alloc),
+            cites: Lists::new(alloc),
+            faulty: None,
+            short_of_memory: false,
+        }
+    }
+
+    /// Keeps what a valid theorem cites.
+    fn keep(&mut self, index: u32, cites: &[u32]) -> Result<(), AllocError>
+        ensures valid { OnOk result (self.new.valid.items ≡ self.old.valid.items ++ index ∷ []) }
+        ensures cites { OnOk result (self.new.cites ≡ self.old.cites ++ cites.now ∷ []) }
+        ensures faulty { self.new.faulty ≡ self.old.faulty }
+        ensures short { self.new.short_of_memory ≡ self.old.short_of_memory }
+    {
+        self.cites.push(cites)?;
+        self.valid.push(index)?;
+        Ok(())
+    }
+}
+
+/// A worker's seat, and what it found.
+#[derive(Drop)]
+pub(crate) struct Worked<A: Allocator> {
+    pub seat: Seat,
+    pub found: Found<A>,
+}
+
+/// Checks the proof of a theorem, by its index, and keeps what comes of it. Whether the proof is valid and what it cites is
+/// kept.
+fn check<'a, A: Allocator + Copy>(
+    alloc: A,
+    database: &Database<'a, A>,
+    checker: &mut Checker<A>,
+    found: &mut Found<A>,
+    index: u32,
+) -> bool
+    requires index { index < length (theorems database.now.statements) }
+    requires made_for { checker.old ≡ length (symbol_names database.now.statements) }
+    requires found { found.old.short_of_memory ≡ false → AreFound database.now.statements found.old }
+    ensures made_for { checker.new ≡ checker.old }
+    ensures short { found.new.short_of_memory ≡ false → found.old.short_of_memory ≡ false }
+    ensures found { found.new.short_of_memory ≡ false → AreFound database.now.statements found.new }
+    ensures valid { found.new.short_of_memory ≡ false → result ≡ true → (found.new.valid.items ≡ found.old.valid.items ++ index ∷ []) × (found.new.faulty ≡ found.old.faulty) }
+    ensures faulty { found.new.short_of_memory ≡ false → result ≡ false → (found.new.valid.items ≡ found.old.valid.items) × (faulty_index found.new.faulty ≡ Some index) }
+{
+    let _ = database.len();
+    let theorem = database.theorems()[index as usize];
+    match verify(alloc, database, checker, theorem) {
+        Ok(checked) => match found.keep(index, checked.cites()) {
+            Ok(()) => return true,
+            Err(_) => found.short_of_memory = true,
+        },
+        Err(VerifyRefused::Fault(fault)) => found.faulty = Some(IndexedFault { index, fault }),
+        Err(VerifyRefused::Memory) => found.short_of_memory = true,
+    }
+    false
+}
+
+/// Judges the theorem that the seat has open: looks whether it is still wanted, and if so checks its proof, and then
+/// settles or reports it.
+fn judge<'a, A: Allocator + Copy>(
+    alloc: A,
+    database: &Database<'a, A>,
+    board: &Board<A>,
+    checker: &mut Checker<A>,
+    worked: &mut Worked<A>,
+    index: u32,
+)
+    requires index { index < length (theorems database.now.statements) }
+    requires made_for { checker.old ≡ length (symbol_names database.now.statements) }
+    requires home { IsSeatOf board.now worked.old.seat }
+    requires held { worked.old.seat.view.open_number ≡ Some index }
+    requires above { (i : ℕ) → 0 < times_in i worked.old.seat.view.reported → i < index }
+    requires tells { TellsUnlessShort database.now.statements worked.old.seat.view worked.old.found }
+    ensures made_for { checker.new ≡ checker.old }
+    ensures home { IsSeatOf board.now worked.new.seat }
+    ensures closed { worked.new.seat.view.open_number ≡ None }
+    ensures over { worked.new.seat.view.over ≡ worked.old.seat.view.over }
+    ensures kept { (i : ℕ) → times_recorded i worked.new.seat.view ≡ times_recorded i worked.old.seat.view }
+    ensures tells { TellsUnlessShort database.now.statements worked.new.seat.view worked.new.found }
+{
+    board.look(&mut worked.seat);
+    if worked.seat.held().is_none() {
+        return;
+    }
+    if check(alloc, database, checker, &mut worked.found, index) {
+        board.settle(&mut worked.seat, index);
+    } else {
+        board.report(&mut worked.seat, index);
+    }
+}
+
+/// The work of one worker: draws theorems until none is left, and judges each.
+pub(crate) fn work<'a, A: Allocator + Copy, G: Gate>(
+    alloc: A,
+    database: &Database<'a, A>,
+    board: &Board<A>,
+    gate: &G,
+    seat: Seat,
+    worker: u32,
+) -> Worked<A>
+    requires ready { IsReady board.now seat }
+    requires count { board.now.count ≡ length (theorems database.now.statements) }
+    ensures { IsDone board.now database.now result }
+{
+    let mut worked = Worked {
+        seat,
+        found: Found::new(alloc),
+    };
+    let Ok(mut checker) = Checker::new(alloc, database) else {
+        worked.found.short_of_memory = true;
+        return worked;
+    };
+    while let Some(index) = board.claim(&mut worked.seat) {
+        gate.enter(worker, index);
+        judge(alloc, database, board, &mut checker, &mut worked, index);
+    }
+    worked
+}
