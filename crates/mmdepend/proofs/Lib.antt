@@ -1,2 +1,4 @@
 pub mod RowsLaw
 pub mod EndsLaw
+mod EntryLaw
+mod LineLaw

@@ -20,6 +20,11 @@ pub enum ReadRefused {
 }
 
 impl From<AllocError> for ReadRefused {
+    ghost use Rattle.std.specs.Prelude.{◌≡◌};
+    ghost use Rattle.mmdepend.specs.declared.input.ReadRefused.TheVariants.{Memory};
+
+    ghost from_gives = { λ _ e. e ≡ Memory };
+
     fn from(_: AllocError) -> ReadRefused {
         ReadRefused::Memory
     }

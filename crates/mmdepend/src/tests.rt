@@ -7,10 +7,10 @@ use std::io::{ErrorKind, Read, Write};
 use std::sync::Wait;
 use std::thread::Threads;
 
-const FIRST: &[u8] =
+pub(crate) const FIRST: &[u8] =
     b"$c wff |- ( -> ) $.\n$v p q $.\nwp $f wff p $.\nwq $f wff q $.\nwi $a wff ( p -> q ) $.\nax-1 $a |- ( p -> ( q -> p ) ) $.\nwi2 $p wff ( p -> ( q -> p ) ) $= wp wq wp wi wi $.\n";
 
-const FIRST_REPORT: &[u8] =
+pub(crate) const FIRST_REPORT: &[u8] =
     b"mmdepend 1\naxioms 2\ntheorems 1\nmatrix\nwi2:10\ncounts\nwi2:1\nusage\nwi:1:wi2\nax-1:0:\nend\n";
 
 /// Symbols, the formulas of a conditional, and the first axiom.
@@ -32,9 +32,13 @@ pub(crate) const CONSEQUENT_PROOF: &[u8] = b"wp wq wp wi h wp wq ax-1 ax-mp";
 pub(crate) const CONSEQUENT_REPORT: &[u8] =
     b"mmdepend 1\naxioms 3\ntheorems 1\nmatrix\na1i:111\ncounts\na1i:3\nusage\nwi:1:a1i\nax-1:1:a1i\nax-mp:1:a1i\nend\n";
 
+/// A theorem that cites the theorem before it, twice.
+pub(crate) const THROUGH: &[u8] =
+    b"${ g $e |- p $. a2 $p |- ( q -> ( q -> p ) ) $= wq wp wi wq wp wq g a1i a1i $. $}\n";
+
 /// A reader that fails at its first read.
 #[derive(Drop)]
-struct Failing {}
+pub(crate) struct Failing {}
 
 impl Read for Failing {
     fn read(&mut self, _: &mut [u8]) -> io::Result<usize> {

@@ -2,13 +2,10 @@
 //! rest on one another.
 
 use crate::tests::{
-    BASE, CLOSE, CONSEQUENT, CONSEQUENT_PROOF, CONSEQUENT_REPORT, DETACHMENT, joined, prints,
+    BASE, CLOSE, CONSEQUENT, CONSEQUENT_PROOF, CONSEQUENT_REPORT, DETACHMENT, THROUGH, joined,
+    prints,
 };
 use std::alloc::AllocError;
-
-/// A theorem that cites the theorem before it, twice.
-const THROUGH: &[u8] =
-    b"${ g $e |- p $. a2 $p |- ( q -> ( q -> p ) ) $= wq wp wi wq wp wq g a1i a1i $. $}\n";
 
 const NOTHING_REPORT: &[u8] = b"mmdepend 1\naxioms 0\ntheorems 0\nmatrix\ncounts\nusage\nend\n";
 
@@ -65,6 +62,54 @@ fn faults_of_symbols_labels_and_scope(rt: HostRuntime) {
         (b"$v x $. $d x x $.", b"refused 1:14 E25\n"),
         (b"${ $v x $. $} $v x $.", NOTHING_REPORT),
         (b"$c a $. ${ $v x $. $} b $a a x $.", b"refused 1:30 E18\n"),
+    ];
+    for (text, output) in vectors {
+        assert!(&rt; prints(&rt, alloc, text, output));
+    }
+}
+
+#[test]
+fn faults_of_proofs(rt: HostRuntime) {
+    let alloc = rt.alloc();
+    let vectors: [(&[u8], &[u8]); 14] = [
+        (b"$c a $. t $p a $= $.", b"refused 1:19 E31\n"),
+        (b"$c a $. t $p a $= ? $.", b"refused 1:19 E32\n"),
+        (b"$c a $. t $p a $= u $.", b"refused 1:19 E33\n"),
+        (b"$c a $. b $a a $. t $p a $= ( b $.", b"refused 1:33 E41\n"),
+        (
+            b"$c a $. b $a a $. t $p a $= ( b ) Aa $.",
+            b"refused 1:36 E42\n",
+        ),
+        (
+            b"$c a $. b $a a $. t $p a $= ( b ) AUZ $.",
+            b"refused 1:37 E43\n",
+        ),
+        (
+            b"$c a $. b $a a $. t $p a $= ( b ) ZA $.",
+            b"refused 1:35 E44\n",
+        ),
+        (
+            b"$c a $. b $a a $. t $p a $= ( b ) AUA $.",
+            b"refused 1:36 E45\n",
+        ),
+        (
+            b"$c a $. $v x $. fx $f a x $. b $a a x $. t $p a x $= b $.",
+            b"refused 1:54 E34\n",
+        ),
+        (
+            b"$c a b $. $v x $. fx $f a x $. c $a b $. d $a a x $. t $p a $= c d $.",
+            b"refused 1:66 E35\n",
+        ),
+        (
+            b"$c a $. $v x y $. fx $f a x $. fy $f a y $. ${ $d x y $. b $a a x y $. $} t $p a x x $= fx fx b $.",
+            b"refused 1:95 E36\n",
+        ),
+        (
+            b"$c a $. $v x $. fx $f a x $. b $a a x x $. t $p a x $= fx b b b b b b b b b b b b b b b b b b b b $.",
+            b"refused 1:97 E39\n",
+        ),
+        (b"$c a $. b $a a $. t $p a $= b b $.", b"refused 1:33 E37\n"),
+        (b"$c a b $. c $a b $. t $p a $= c $.", b"refused 1:33 E38\n"),
     ];
     for (text, output) in vectors {
         assert!(&rt; prints(&rt, alloc, text, output));

@@ -1,0 +1,66 @@
+-- How the program ends: what the words ask for, what is read and written, the message and the status.
+use Rattle.std.specs.Prelude.{◌++◌, ℕ, List, [], ◌∷◌, take, codes, Option, Some, None, IsSome}
+use Rattle.std.specs.String.{string_bytes}
+use Rattle.std.specs.Io.KnownBytes.{Appends, Keeps}
+use Rattle.clap.specs.Walk.{Text}
+use Rattle.mm_report.specs.Choices.{choice_of}
+use Rattle.mmdepend.specs.Ends.{Ends}
+use Rattle.mmdepend.specs.Ends as run
+use Rattle.mmdepend.specs.Lines.{Refuses, Says}
+use Rattle.mmdepend.specs.Plans.{only_of}
+use Rattle.mmdepend.specs.declared.command_line.Line.{Line}
+use Rattle.mmdepend.specs.declared.command_line.LineRefused.TheVariants.{Help, Bad}
+use Rattle.mmdepend.specs.declared.ending.Ending.{Ending}
+use Rattle.mmdepend.specs.declared.ending.Ending.TheVariants.{Ran, Helped, HelpFailed, Misread, NotOpened, NoMemory}
+use Rattle.mmdepend.specs.declared.run.RunEnd.{RunEnd}
+use Rattle.mmdepend.specs.declared.run.RunEnd.TheVariants.{Accepted, Refused, ReadFailed, WriteFailed}
+use Rattle.mmdepend.specs.declared.run.RunEnd.TheVariants.{NoMemory as RunNoMemory}
+
+-- the text is written, or a beginning of it where writing failed
+abbrev pub Begins : (held holds : Option (List ℕ)) → List ℕ → Type 0
+Begins held holds text = (k : ℕ) × Appends held holds (take k text)
+
+-- An opened file is of a type File, of which this is what there is still to read.
+module _ {File : Type 0} (remaining : File → Option (List ℕ)) where
+  -- A run reads the standard input where the line names no file. Where it names one it reads what was opened, and the
+  -- standard input stays as it was.
+  abbrev pub Runs : {X : Type 0} → Option X → RunEnd → Line → (before after held holds : Option (List ℕ)) → Type 0
+  Runs None end line before after held holds = Ends end (only_of line.plan) (choice_of line.plan.choice) before after held holds
+  Runs (Some name) end line before after held holds =
+      Keeps before after × ((opened read : File) × Ends end (only_of line.plan) (choice_of line.plan.choice) (remaining opened) (remaining read) held holds)
+
+  -- what the words ask for, by the ending, and what is read from the standard input and written to the output
+  abbrev pub IsEndingOf : List Text → Ending → (before after held holds : Option (List ℕ)) → Type 0
+  IsEndingOf words (Ran end) before after held holds = (line : Line) × Says words line × Runs line.file end line before after held holds
+  IsEndingOf words NotOpened before after held holds = (line : Line) × Says words line × IsSome line.file × Keeps before after × Keeps held holds
+  IsEndingOf words (Helped text) before after held holds = Refuses words (Help text) × Keeps before after × Appends held holds (string_bytes text)
+  IsEndingOf words (HelpFailed text) before after held holds = Refuses words (Help text) × Keeps before after × Begins held holds (string_bytes text)
+  IsEndingOf words (Misread text) before after held holds = Refuses words (Bad text) × Keeps before after × Keeps held holds
+  IsEndingOf words NoMemory before after held holds = Keeps before after × Keeps held holds
+
+abbrev pub status_of : Ending → ℕ
+status_of (Ran end) = run.status_of end
+status_of (Helped text) = 0
+status_of (HelpFailed text) = 3
+status_of (Misread text) = 2
+status_of NotOpened = 3
+status_of NoMemory = 4
+
+abbrev pub message : List ℕ → List ℕ
+message text = codes "mmdepend: " ++ text ++ 10 ∷ []
+
+abbrev pub run_message_of : RunEnd → List ℕ
+run_message_of Accepted = []
+run_message_of (Refused f) = []
+run_message_of ReadFailed = message (codes "reading failed")
+run_message_of WriteFailed = message (codes "writing failed")
+run_message_of RunNoMemory = message (codes "out of memory")
+
+-- what is told on standard error
+abbrev pub message_of : Ending → List ℕ
+message_of (Ran end) = run_message_of end
+message_of (Helped text) = []
+message_of (HelpFailed text) = message (codes "writing failed")
+message_of (Misread text) = string_bytes text
+message_of NotOpened = message (codes "cannot open the file")
+message_of NoMemory = message (codes "out of memory")

@@ -1,0 +1,140 @@
+//! Tests of the program: its statuses, its messages, and what it writes where an end fails.
+
+use crate::lines::HELP;
+use crate::status;
+use crate::tests::{
+    BASE, CLOSE, CONSEQUENT, CONSEQUENT_PROOF, DETACHMENT, FIRST, FIRST_REPORT, Failing, THROUGH,
+    joined,
+};
+use std::alloc::AllocError;
+use std::io::{ErrorKind, Read, Write};
+use std::rt::Files;
+use std::sync::Wait;
+use std::test::Fail;
+use std::thread::Threads;
+use std::{env, fs, io};
+
+/// A writer that takes nothing.
+#[derive(Drop)]
+struct Closed {}
+
+impl Write for Closed {
+    fn write(&mut self, _: &[u8]) -> io::Result<usize> {
+        Err(io::Error::from(ErrorKind::BrokenPipe))
+    }
+
+    fn flush(&mut self) -> io::Result<()> {
+        Ok(())
+    }
+}
+
+/// Whether the program, on these words and this input, has this status and writes these outputs.
+fn ends<R: Threads + Wait + Files + Sync + AllocGlobal, I: Read + Drop>(
+    rt: &R,
+    words: &[&str],
+    mut input: I,
+    number: u8,
+    output: &[u8],
+    errors: &[u8],
+) -> bool {
+    let mut written = Vec::new(rt.alloc());
+    let mut told = Vec::new(rt.alloc());
+    let found = status(rt, rt.alloc(), words, &mut input, &mut written, &mut told);
+    found == number && written.as_slice() == output && told.as_slice() == errors
+}
+
+#[test]
+fn a_report_and_a_refusal(rt: HostRuntime) {
+    let words = ["mmdepend"];
+    assert!(&rt; ends(&rt, &words, FIRST, 0, FIRST_REPORT, b""));
+    let unended = b"$c".as_slice();
+    assert!(&rt; ends(&rt, &words, unended, 1, b"refused 1:3 E08\n", b""));
+}
+
+#[test]
+fn options_choose_workers_pieces_columns_and_sections(rt: HostRuntime) -> Result<(), AllocError> {
+    let parts = [
+        BASE,
+        DETACHMENT,
+        CONSEQUENT,
+        CONSEQUENT_PROOF,
+        CLOSE,
+        THROUGH,
+    ];
+    let text = joined(rt.alloc(), &parts)?;
+    let words = [
+        "mmdepend",
+        "--workers",
+        "64",
+        "--pieces",
+        "64",
+        "--only",
+        "|-",
+        "--report",
+        "counts",
+    ];
+    let counts = b"mmdepend 1\naxioms 2\ntheorems 2\ncounts\na1i:2\na2:2\nend\n".as_slice();
+    assert!(&rt; ends(&rt, &words, text.as_slice(), 0, counts, b""));
+    Ok(())
+}
+
+#[test]
+fn words_that_are_no_line(rt: HostRuntime) {
+    let words = ["mmdepend", "--workers", "65", "x.mm"];
+    let told =
+        b"error: invalid value '65' for '--workers <N>': 65 is not in 1..=64\n\nFor more information, try '--help'.\n".as_slice();
+    assert!(&rt; ends(&rt, &words, FIRST, 2, b"", told));
+    let help = HELP.as_bytes();
+    assert!(&rt; ends(&rt, &["mmdepend", "--help"], FIRST, 0, help, b""));
+}
+
+// Where a file is named the standard input isn't read, so that one that fails changes nothing.
+#[test]
+fn files_that_cannot_be_opened_or_read(rt: HostRuntime) {
+    let unopened = b"mmdepend: cannot open the file\n".as_slice();
+    let missing = ["mmdepend", "no/such/file.mm"];
+    assert!(&rt; ends(&rt, &missing, Failing {}, 3, b"", unopened));
+    let unread = b"mmdepend: reading failed\n".as_slice();
+    assert!(&rt; ends(&rt, &["mmdepend", "/"], FIRST, 3, b"", unread));
+    assert!(&rt; ends(&rt, &["mmdepend"], Failing {}, 3, b"", unread));
+}
+
+#[test]
+fn a_file_is_read_in_place_of_the_input(rt: HostRuntime) -> Result<(), Fail> {
+    let mut path = env::temp_dir(&rt)?;
+    path.push("mmdepend-first.mm")?;
+    let name = path.as_str();
+    fs::write(&rt, name, FIRST)?;
+    let words = ["mmdepend", name];
+    let is_read = ends(&rt, &words, Failing {}, 0, FIRST_REPORT, b"");
+    fs::remove_file(&rt, name)?;
+    assert!(&rt; is_read);
+    Ok(())
+}
+
+#[test]
+fn an_output_that_is_closed(rt: HostRuntime) {
+    let alloc = rt.alloc();
+    for words in [["mmdepend"].as_slice(), &["mmdepend", "--help"]] {
+        let mut text = FIRST;
+        let mut told = Vec::new(alloc);
+        let found = status(&rt, alloc, words, &mut text, &mut Closed {}, &mut told);
+        assert_eq!(rt; found, 3);
+        assert_eq!(rt; told.as_slice(), b"mmdepend: writing failed\n".as_slice());
+    }
+}
+
+#[test]
+fn a_message_that_cannot_be_written_leaves_the_status(rt: HostRuntime) {
+    let alloc = rt.alloc();
+    for (words, number) in [
+        (["mmdepend", "--pieces", "0"].as_slice(), 2u8),
+        (&["mmdepend", "no/such/file.mm"], 3),
+    ] {
+        let mut text = FIRST;
+        let mut written = Vec::new(alloc);
+        let found = status(&rt, alloc, words, &mut text, &mut written, &mut Closed {});
+        assert_eq!(rt; found, number);
+        assert_eq!(rt; written.len(), 0);
+    }
+}
