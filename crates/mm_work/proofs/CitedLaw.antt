@@ -1,11 +1,11 @@
 -- The citations of valid theorems are the database's.
-use Rattle.std.proofs.Common.{◌≡◌, ℕ, zero, suc, ◌+◌, ◌==◌, ◌<◌, ◌≤◌, ◌^◌, Bool, true, false, ◌&&◌, ◌||◌, ◌⊎◌, inl, inr, List, [], ◌∷◌, ◌++◌, map, length, get_or, slice_get, Option, Some, None, refl, sym, ap, ap₂, ◌∙◌, subst, arith, true≢false, eqb-true, length-append, ◌↔◌}
+use Rattle.std.proofs.Common.{◌≡◌, ℕ, zero, suc, ◌+◌, ◌==◌, ◌<◌, ◌≤◌, ◌^◌, Bool, true, false, ◌||◌, ◌⊎◌, inl, inr, List, [], ◌∷◌, ◌++◌, map, length, get_or, slice_get, Option, Some, None, refl, sym, ap, ◌∙◌, subst, arith, true≢false, eqb-true, length-append}
 use Rattle.std.specs.List.{list_any, range_with_len}
 use Rattle.std.proofs.lemmas.Bool.{or_cases, or_left, or_right, and_parts, and_from, cases_lt, eq-eqb}
 use Rattle.std.proofs.lemmas.List.Folds.{list_any-append}
 use Rattle.mm_spec.specs.Statement.{Statement, constants, variables, disjoint, floating, essential, axiomatic, provable, opening, closing}
-use Rattle.mm_spec.specs.Scope.{those, is_active, statement_at}
-use Rattle.mm_spec.specs.Derivation.{Context, Rule, hypothesis, assertion, Trees, none, more, tree, postfix, formulas, AreDerivations, Follows, is_member}
+use Rattle.mm_spec.specs.Scope.{is_active, statement_at}
+use Rattle.mm_spec.specs.Derivation.{Context, Rule, Trees, none, more, postfix, formulas, AreDerivations, Follows, is_member}
 use Rattle.mm_spec.specs.Valid.{IsPlain}
 use Rattle.mm_spec.specs.Steps.{PlacedStep}
 use Rattle.mm_spec.specs.Proof.{steps}
@@ -13,12 +13,12 @@ use Rattle.mm_spec.specs.Citation.{context_at, rule_at, steps_at, reading_faults
 use Rattle.mm_spec.specs.Citation as proof
 use Rattle.mm_spec.specs.Complete.{AreComplete}
 use Rattle.mm_spec.specs.Output.{theorems, is_theorem_at, AreValid}
-use Rattle.mm_spec.proofs.Finds.{is_before, those-member, member-those, found_at, inside_of}
+use Rattle.mm_spec.proofs.Finds.{is_before, those-member, found_at, inside_of}
 use Rattle.mm_spec.proofs.TheoremLaw.{proof_unique}
-use Rattle.mm_work.specs.Citing.{Citing, citing, Cites, IsRising, IsFileOrder, theorem_at, list_at}
+use Rattle.mm_work.specs.Citing.{Citing, citing, Cites, IsRising, IsFileOrder}
 use Rattle.mm_work.specs.Citing.{Shows}
-use Rattle.mm_work.proofs.RisingLaw.{those-rising, those-at}
-use Rattle.mm_work.specs.Judged.{IsCited, AreCited, AllCited}
+use Rattle.mm_work.proofs.RisingLaw.{those-rising}
+use Rattle.mm_work.specs.Judged.{IsCited, AreCited}
 
 member-append : (xs ys : List ℕ) (a : ℕ) → is_member (xs ++ ys) a ≡ (is_member xs a || is_member ys a)
 member-append xs ys a = list_any-append (λ y. a == y) xs ys

@@ -1,14 +1,14 @@
 -- Verifying theorem after theorem.
-use Rattle.std.proofs.Common.{◌≡◌, ℕ, suc, ◌+◌, ◌-◌, ◌<◌, ◌≤◌, ◌^◌, ◌⊎◌, inl, inr, List, [], ◌∷◌, ◌++◌, length, get_or, refl, sym, ap, ◌∙◌, subst, arith, length-append, IsTrue}
+use Rattle.std.proofs.Common.{◌≡◌, ℕ, ◌+◌, ◌-◌, ◌<◌, ◌≤◌, ◌^◌, ◌⊎◌, inl, inr, List, [], ◌∷◌, ◌++◌, length, get_or, refl, sym, ap, ◌∙◌, subst, arith, length-append}
 use Rattle.std.proofs.lemmas.Bool.{cases_lt}
 use Rattle.std.proofs.lemmas.List.{get_or_append_left, get_or-append_right}
 use Rattle.mm_spec.specs.Statement.{Statement}
 use Rattle.mm_spec.specs.Complete.{AreComplete}
 use Rattle.mm_spec.specs.Citation.{IsValid}
-use Rattle.mm_spec.specs.Output.{theorems, is_theorem_at, AreValid}
+use Rattle.mm_spec.specs.Output.{theorems}
 use Rattle.mm_spec.specs.declared.Fault.{Fault}
 use Rattle.mm_proof.proofs.TheoremsLaw.{theorems_are}
-use Rattle.mm_work.specs.Citing.{Citing, citing, IsFileOrder}
+use Rattle.mm_work.specs.Citing.{citing, IsFileOrder}
 use Rattle.mm_work.specs.Judged.{IsCited, AreCited, AllCited, IsFirstFault, HasFault}
 use Rattle.mm_work.proofs.CitedLaw.{cited-valid, valid-before, all-valid, file-order, shows}
 

@@ -1,21 +1,21 @@
 -- What each step does to what a worker's seat and its findings say.
-use Rattle.std.proofs.Common.{◌≡◌, ◌≢◌, ℕ, zero, suc, ◌+◌, ◌-◌, ◌<◌, ◌≤◌, ◌==◌, ◌||◌, ◌⊎◌, inl, inr, All, Bool, true, false, cond, Option, None, Some, List, [], ◌∷◌, ◌++◌, length, get_or, refl, sym, ap, ◌∙◌, subst, arith, length-append}
+use Rattle.std.proofs.Common.{◌≡◌, ℕ, zero, suc, ◌+◌, ◌-◌, ◌<◌, ◌≤◌, ◌==◌, ◌||◌, ◌⊎◌, inl, inr, All, Bool, false, cond, Option, None, Some, List, [], ◌∷◌, ◌++◌, length, get_or, refl, sym, ap, ◌∙◌, subst, arith, length-append}
 use Rattle.std.specs.List.{Contains}
-use Rattle.std.proofs.lemmas.Bool.{cases_lt, lt-ltb, le-ltb}
+use Rattle.std.proofs.lemmas.Bool.{cases_lt, lt-ltb}
 use Rattle.std.proofs.lemmas.Bool.Decides.{nat_tests}
 use Rattle.std.proofs.lemmas.List.{get_or_append_left}
 use Rattle.std.proofs.Math.Seq.{get_or-append_right}
-use Rattle.std.proofs.lemmas.List.Elements.{All-append, All-push, Contains-push, Contains-append_left}
+use Rattle.std.proofs.lemmas.List.Elements.{All-push, Contains-push, Contains-append_left}
 use Rattle.mm_spec.specs.Statement.{Statement}
 use Rattle.mm_spec.specs.Output.{theorems}
 use Rattle.mm_stmt.specs.Database.{Known}
 use Rattle.mm_board.specs.declared.views.View.{View}
 use Rattle.mm_board.specs.Records.{times_in, times_open, times_recorded}
-use Rattle.mm_board.specs.Events.{after_look, after_settle, after_report, after_join, after_split, new_seat_view, open_after_look, open_list}
+use Rattle.mm_board.specs.Events.{after_join, open_after_look}
 use Rattle.mm_board.specs.Models.{BoardValue, SeatValue, IsSeatOf}
 use Rattle.mm_board.proofs.Sums.{times_in-append}
-use Rattle.mm_work.specs.Judged.{IsCited, HasFault}
-use Rattle.mm_work.specs.Workers.{theorem_of, AreFound, Tells, TellsUnlessShort, IsReady, IsDone, AreGathered, IsFoundValid, IsFoundFaulty, faulty_index, IsFaultFound}
+use Rattle.mm_work.specs.Judged.{IsCited}
+use Rattle.mm_work.specs.Workers.{theorem_of, AreFound, Tells, TellsUnlessShort, IsDone, AreGathered, IsFoundValid, IsFoundFaulty, faulty_index, IsFaultFound}
 use Rattle.mm_work.specs.declared.worker.IndexedFault.{IndexedFault}
 use Rattle.mm_work.specs.declared.worker.Found.{Found}
 use Rattle.mm_work.specs.declared.worker.Worked.{Worked}

@@ -1,5 +1,4 @@
-use Rattle.std.proofs.Common.{◌≡◌, ◌∙◌, ◌++◌, ◌∷◌, [], All, List, sym, ap, subst}
-use Rattle.mm_board.specs.Models.{IsSeatOf}
+use Rattle.std.proofs.Common.{◌∙◌, ◌++◌, ◌∷◌, [], All, List, sym, ap, subst}
 use Rattle.mm_work.specs.Workers.{IsDone, AreGathered}
 use Rattle.mm_work.specs.declared.worker.Found.{Found}
 use Rattle.mm_work.specs.declared.worker.Worked.{Worked}

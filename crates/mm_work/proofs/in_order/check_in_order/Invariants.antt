@@ -1,4 +1,4 @@
-use Rattle.std.proofs.Common.{◌≡◌, ℕ, length}
+use Rattle.std.proofs.Common.{◌≡◌, length}
 use Rattle.mm_spec.specs.Frame.{symbol_names}
 use Rattle.mm_spec.specs.Output.{theorems}
 use Rattle.mm_work.specs.Judged.{AreCited}

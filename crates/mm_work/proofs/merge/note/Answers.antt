@@ -1,4 +1,4 @@
-use Rattle.std.proofs.Common.{◌≡◌, ◌∙◌, ◌<◌, ℕ, length, get_or, refl, sym, subst, arith}
+use Rattle.std.proofs.Common.{◌∙◌, ◌<◌, length, get_or, refl, subst, arith}
 use Rattle.std.proofs.lemmas.List.{length-set}
 use Rattle.mm_work.specs.Places.{IsNoted}
 use Rattle.mm_work.specs.declared.merge.Place.{Place}

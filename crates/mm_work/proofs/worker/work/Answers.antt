@@ -1,6 +1,3 @@
-use Rattle.std.proofs.Common.{◌≡◌, ◌∙◌, ◌+◌, ◌<◌, ◌≤◌, ◌⊎◌, inl, inr, ℕ, Some, Option, sym, ap, subst, arith}
-use Rattle.mm_board.specs.declared.views.View.{View}
-use Rattle.mm_board.specs.Records.{times_recorded, times_open, times_in}
 use Rattle.mm_work.proofs.WorkersLaw.{fresh-drawn}
 use Rattle.mm_work.proofs.worker.work.Goals as goal
 

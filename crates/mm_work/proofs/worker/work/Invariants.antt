@@ -1,6 +1,5 @@
 use Rattle.std.proofs.Common.{◌≡◌, None, false, length}
 use Rattle.mm_spec.specs.Frame.{symbol_names}
-use Rattle.mm_spec.specs.Output.{theorems}
 use Rattle.mm_board.specs.Models.{IsSeatOf}
 use Rattle.mm_work.specs.Workers.{TellsUnlessShort}
 use Rattle.mm_work.proofs.WorkersLaw.{fresh}

@@ -1,4 +1,4 @@
-use Rattle.std.proofs.Common.{◌≡◌, ◌≤◌, ◌∙◌, ℕ, List, [], length, get_or, sym, ap, subst, arith}
+use Rattle.std.proofs.Common.{◌≡◌, ◌∙◌, ℕ, List, [], get_or, sym, ap}
 use Rattle.mm_work.proofs.ListsLaw.{cut_at-index, starts-rise, end-within, index-within, get_or-same}
 use Rattle.mm_work.proofs.lists.Lists.get.Goals as goal
 

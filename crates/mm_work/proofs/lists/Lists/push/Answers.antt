@@ -1,6 +1,5 @@
-use Rattle.std.proofs.Common.{◌≡◌, ◌∙◌, ◌+◌, ◌++◌, ◌∷◌, [], ℕ, List, length, sym, ap, ap₂, subst}
+use Rattle.std.proofs.Common.{◌≡◌, ◌∙◌, ◌+◌, ◌++◌, ◌∷◌, [], ℕ, List, length, ap}
 use Rattle.std.proofs.Common.{length-append}
-use Rattle.mm_work.specs.Lists.{cut_at, AreEnds}
 use Rattle.mm_work.proofs.ListsLaw.{cut_at-more, ends-more}
 use Rattle.mm_work.proofs.lists.Lists.push.Goals as goal
 

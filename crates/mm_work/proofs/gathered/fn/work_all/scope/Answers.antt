@@ -1,4 +1,4 @@
-use Rattle.std.proofs.Common.{All, ℕ, ◌≡◌, ◌<◌, ◌∙◌, length, get_or, sym, ap, subst, arith, vec_len}
+use Rattle.std.proofs.Common.{◌<◌, ◌∙◌, get_or, ap, subst, arith, vec_len}
 use Rattle.mm_stmt.specs.Database.{Known}
 use Rattle.mm_board.specs.Models.{BoardValue}
 use Rattle.mm_work.specs.Workers.{IsDone}
