@@ -1,7 +1,7 @@
 -- What each step does to what a worker's seat and its findings say.
 use Rattle.std.proofs.Common.{◌≡◌, ℕ, zero, suc, ◌+◌, ◌-◌, ◌<◌, ◌≤◌, ◌==◌, ◌||◌, ◌⊎◌, inl, inr, All, Bool, false, cond, Option, None, Some, List, [], ◌∷◌, ◌++◌, length, get_or, refl, sym, ap, ◌∙◌, subst, arith, length-append}
 use Rattle.std.specs.List.{Contains}
-use Rattle.std.proofs.lemmas.Bool.{cases_lt, lt-ltb}
+use Rattle.std.proofs.lemmas.Bool.{cases_lt}
 use Rattle.std.proofs.lemmas.Bool.Decides.{nat_tests}
 use Rattle.std.proofs.lemmas.List.{get_or_append_left}
 use Rattle.std.proofs.Math.Seq.{get_or-append_right}
@@ -11,11 +11,11 @@ use Rattle.mm_spec.specs.Output.{theorems}
 use Rattle.mm_stmt.specs.Database.{Known}
 use Rattle.mm_board.specs.declared.views.View.{View}
 use Rattle.mm_board.specs.Records.{times_in, times_open, times_recorded}
-use Rattle.mm_board.specs.Events.{after_join, open_after_look}
+use Rattle.mm_board.specs.Events.{after_join}
 use Rattle.mm_board.specs.Models.{BoardValue, SeatValue, IsSeatOf}
 use Rattle.mm_board.proofs.Sums.{times_in-append}
 use Rattle.mm_work.specs.Judged.{IsCited}
-use Rattle.mm_work.specs.Workers.{theorem_of, AreFound, Tells, TellsUnlessShort, IsDone, AreGathered, IsFoundValid, IsFoundFaulty, faulty_index, IsFaultFound}
+use Rattle.mm_work.specs.Workers.{theorem_of, AreFound, IsDone, AreGathered, IsFoundValid, IsFoundFaulty, IsFaultFound}
 use Rattle.mm_work.specs.declared.worker.IndexedFault.{IndexedFault}
 use Rattle.mm_work.specs.declared.worker.Found.{Found}
 use Rattle.mm_work.specs.declared.worker.Worked.{Worked}
@@ -26,17 +26,7 @@ same_number x i = grind (arith, nat_tests)
 own_number : (i : ℕ) → 0 < cond (i == i) 1 0
 own_number i = grind (arith, nat_tests)
 
--- a number of a longer list is one of the list or the last
-times-cases : (x i : ℕ) (l : List ℕ) → 0 < times_in x (l ++ i ∷ []) → (0 < times_in x l) ⊎ (i ≡ x)
-times-cases x i l p = go (cases_lt 0 (times_in x l))
-  where
-    go : (0 < times_in x l) ⊎ (times_in x l ≤ 0) → (0 < times_in x l) ⊎ (i ≡ x)
-    go (inl h) = inl h
-    go (inr h) =
-        let a = times_in-append x l (i ∷ []) in
-        let one : times_in x (i ∷ []) ≡ cond (i == x) 1 0 + 0 = refl in
-        inr (same_number x i (omega arith))
-
+-- a number of two lists is one of either
 times-both : (x : ℕ) (l m : List ℕ) → 0 < times_in x (l ++ m) → (0 < times_in x l) ⊎ (0 < times_in x m)
 times-both x l m p = go (cases_lt 0 (times_in x l))
   where
@@ -73,44 +63,6 @@ module _ {A : Type 0} (db : List Statement) where
           let last : get_or (f.valid.items ++ i ∷ []) k 0 ≡ i = get_or-append_right f.valid.items (i ∷ []) k 0 b ∙ ap (λ j. get_or (i ∷ []) j 0) z in
           let list : get_or (f.cites ++ cites ∷ []) k [] ≡ cites = get_or-append_right f.cites (cites ∷ []) k [] (omega (arith, n, b)) ∙ ap (λ j. get_or (cites ∷ []) j []) y in
           rw (last, list) one
-
-  -- a settled number
-  pub tells-settled : (v w : View) (f g : Found A) (i : ℕ) → Tells db v f → AreFound db g → g.valid.items ≡ f.valid.items ++ i ∷ [] → g.faulty ≡ f.faulty
-      → w.settled ≡ v.settled ++ i ∷ [] → w.reported ≡ v.reported → Tells db w g
-  tells-settled v w f g i t h valid faulty settled reported = record {
-    found = h;
-    settled = settled ∙ ap (λ (l : List ℕ). l ++ i ∷ []) t.settled ∙ sym valid;
-    reported = λ j p. ap faulty_index faulty ∙ t.reported j (subst (λ (l : List ℕ). 0 < times_in j l) reported p);
-  }
-
-  -- a reported number, where none was reported before
-  pub tells-reported : (v w : View) (f g : Found A) (i : ℕ) → Tells db v f → AreFound db g → g.valid.items ≡ f.valid.items → faulty_index g.faulty ≡ Some i
-      → ((j : ℕ) → 0 < times_in j v.reported → ⊥) → w.settled ≡ v.settled → w.reported ≡ v.reported ++ i ∷ [] → Tells db w g
-  tells-reported v w f g i t h valid faulty none settled reported = record {
-    found = h;
-    settled = settled ∙ t.settled ∙ sym valid;
-    reported = λ j p. by j (times-cases j i v.reported (subst (λ (l : List ℕ). 0 < times_in j l) reported p));
-  }
-    where
-      by : (j : ℕ) → (0 < times_in j v.reported) ⊎ (i ≡ j) → faulty_index g.faulty ≡ Some j
-      by j (inl p) = absurd (none j p)
-      by j (inr e) = faulty ∙ ap Some e
-
-  -- the same view but for what is open or over
-  pub tells-same : (v w : View) (f : Found A) → w.settled ≡ v.settled → w.reported ≡ v.reported → TellsUnlessShort db v f → TellsUnlessShort db w f
-  tells-same v w f s r t short = let h = t short in record {
-    found = h.found;
-    settled = s ∙ h.settled;
-    reported = λ j p. h.reported j (subst (λ (l : List ℕ). 0 < times_in j l) r p);
-  }
-
--- a look that leaves the number open found no lower floor
-pub open-above : (i floor : ℕ) → (open_after_look (Some i) floor ≡ None → ⊥) → i ≤ floor
-open-above i floor h = go (cases_lt floor i)
-  where
-    go : (floor < i) ⊎ (i ≤ floor) → i ≤ floor
-    go (inr l) = l
-    go (inl l) = absurd (h (ap (λ (b : Bool). cond b None (Some i)) (lt-ltb floor i l)))
 
 -- how many of the numbers below n stand in no part of the record
 abbrev pub fresh : ℕ → View → ℕ

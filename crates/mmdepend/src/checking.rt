@@ -44,7 +44,12 @@ fn judged<R: Threads + Wait + Sync>(
 }
 
 /// Whether the proof is valid.
-fn is_valid<R: Threads + Wait + Sync>(rt: &R, alloc: Global, statements: &[u8], proof: &[u8]) -> bool {
+fn is_valid<R: Threads + Wait + Sync>(
+    rt: &R,
+    alloc: Global,
+    statements: &[u8],
+    proof: &[u8],
+) -> bool {
     match judged(rt, alloc, statements, proof) {
         Ok((_, end)) => end == RunEnd::Accepted,
         Err(_) => false,

@@ -138,7 +138,11 @@ fn chain(alloc: Global) -> Result<Vec<u8>, AllocError> {
 }
 
 /// The waves of the theorems of a text without a fault.
-fn waves_of<R: Threads + Wait + Sync>(rt: &R, alloc: Global, text: &[u8]) -> Result<Vec<u32>, AllocError> {
+fn waves_of<R: Threads + Wait + Sync>(
+    rt: &R,
+    alloc: Global,
+    text: &[u8],
+) -> Result<Vec<u32>, AllocError> {
     if text.len() > TEXT_LIMIT {
         return Err(AllocError);
     }
