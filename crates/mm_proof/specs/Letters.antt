@@ -44,11 +44,6 @@ pub record Continues (s : State) (all left : List Letter) : Type 0 where
   pub faults : group_faults (length s.labels) 0 0 (groups [] all).0 ≡ group_faults (length s.labels) (length s.marks) (length s.steps) (groups early left).0
   pub run : (groups [] all).1 ≡ (groups early left).1
 
--- a step that isn't a label is one of the first so many
-abbrev pub IsEarlier : ℕ → Step → Type 0
-IsEarlier n (Label k) = Unit {0}
-IsEarlier n (Marked j) = j < n
-
 -- each mark is of a step so far, and there are no more steps than bytes before the place
 pub record StandsAt (s : State) (at : ℕ) : Type 0 where
   pub few : length s.steps ≤ at

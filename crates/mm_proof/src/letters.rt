@@ -5,10 +5,10 @@ ghost use Rattle.mm_spec.specs.Steps.{placed};
 ghost use Rattle.mm_spec.specs.CompressedProof.{letters_from, letters_of, letter_faults, groups, group_steps};
 ghost use Rattle.mm_spec.specs.CompressedProof as compressed;
 ghost use Rattle.mm_stmt.specs.Parts.{tokens_of, AreWords};
-ghost use Rattle.mm_proof.specs.Read.{read, step_of};
+ghost use Rattle.mm_proof.specs.Read.{read, step_of, IsEarlier};
 ghost use Rattle.mm_proof.specs.Number.{IsLetter, told};
 ghost use Rattle.mm_proof.specs.declared.digits.LetterKind.TheVariants.{Early, Last};
-ghost use Rattle.mm_proof.specs.Letters.{State, state, letter, IsEarlier, StandsAt, Reads, Stops, begun_at, named, InOrder};
+ghost use Rattle.mm_proof.specs.Letters.{State, state, letter, StandsAt, Reads, Stops, begun_at, named, InOrder};
 ghost use Rattle.mm_proof.specs.Refused.{StartsWith};
 
 use crate::digits::{LetterKind, letter_of, with_digit};
@@ -83,7 +83,7 @@ impl<A: Allocator> Progress<A> {
         requires { 0 < value }
         ensures step { (n : ℕ) → value ≡ told n → compressed.step_of self.now.labels self.now.marks n ≡ named result }
         ensures large { IfNone result ((n : ℕ) → value ≡ told n → length self.now.labels + length self.now.marks < n) }
-        ensures earlier { IfSome result (λ s. (n : ℕ) → All (λ j. j < n) self.now.marks → IsEarlier n s) }
+        ensures earlier { IfSome result (λ s. (n : ℕ) → All (λ j. j < n) self.now.marks → IsEarlier (step_of s) n) }
     {
         let labels = self.labels.as_slice();
         let marks = self.marks.as_slice();
@@ -116,7 +116,7 @@ impl<A: Allocator> Progress<A> {
 
     /// Adds the step of a number that ends, which is a label or an earlier step.
     fn add_step(&mut self, at: u32, step: Step) -> Result<(), AllocError>
-        requires earlier { IsEarlier (length self.old.steps) step }
+        requires earlier { IsEarlier (step_of step) (length self.old.steps) }
         ensures { OnOk result (self.new ≡ state self.old.theorem self.old.labels self.old.marks None (self.old.steps ++ placed at (step_of step) ∷ [])) }
     {
         self.steps.push(at, step)?;
