@@ -12,8 +12,6 @@ mod letters;
 mod placed;
 mod reader;
 mod refused;
-#[cfg(test)]
-mod tests;
 
 pub use digits::number;
 pub use mm_stmt::{Code, Fault};

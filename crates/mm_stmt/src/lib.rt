@@ -26,6 +26,3 @@ pub use mm_spec::{Code, Fault, Word};
 pub use parts::Kind;
 pub use reader::read;
 pub use symbol::Sym;
-
-#[cfg(test)]
-mod tests;

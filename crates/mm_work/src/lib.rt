@@ -17,8 +17,6 @@ mod in_order;
 mod lists;
 mod merge;
 mod proof;
-#[cfg(test)]
-mod tests;
 mod worker;
 
 pub use all::check_all;

@@ -2,10 +2,10 @@
 
 ghost use Rattle.std.specs.Prelude.{◌≤◌};
 
-use crate::{Citations, Gate, Judged, Open, check_all};
 use mm_lex::{Cuts, lex};
 use mm_spec::{Code, Fault, TEXT_LIMIT};
 use mm_stmt::read;
+use mm_work::{Citations, Gate, Judged, Open, check_all};
 use std::alloc::{AllocError, Global};
 use std::process::Abort;
 use std::sync::Wait;

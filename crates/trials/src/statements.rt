@@ -1,7 +1,7 @@
 ghost use Rattle.std.specs.Prelude.{◌≤◌, length};
 
-use crate::reader::read;
 use mm_lex::{Cuts, lex};
+use mm_stmt::read;
 use std::alloc::{AllocError, Global};
 use std::rt::HostRuntime;
 use std::thread::Threads;

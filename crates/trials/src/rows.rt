@@ -1,4 +1,4 @@
-use crate::{ones, or_row};
+use mm_rows::{ones, or_row};
 
 /// Words with some bits set, no two alike.
 fn words() -> [u64; 33] {

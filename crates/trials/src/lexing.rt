@@ -2,7 +2,7 @@
 
 ghost use Rattle.std.specs.Prelude.{◌<◌, ◌≤◌};
 
-use crate::{Code, Cuts, Fault, Lexed, Piece, Word, join, lex, lex_piece};
+use mm_lex::{Code, Cuts, Fault, Lexed, Piece, Word, join, lex, lex_piece};
 use std::alloc::{AllocError, Allocator};
 use std::thread::{self, Threads};
 

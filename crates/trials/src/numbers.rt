@@ -1,4 +1,4 @@
-use crate::number;
+use mm_proof::number;
 use std::rt::HostRuntime;
 
 #[test]
