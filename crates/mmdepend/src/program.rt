@@ -9,6 +9,7 @@ use crate::command_line::LineRefused;
 use crate::ending::Ending;
 use crate::run::run;
 use crate::words::line;
+use mm_report::write_whole;
 use std::alloc::Global;
 use std::convert::AsStr;
 use std::fs;
@@ -22,14 +23,10 @@ fn put<W: Write>(to: &mut W, text: &[u8]) -> bool
     ensures whole { IsTrue result → Appends (W.contents to.old) (W.contents to.new) text.now }
     ensures beginning { Begins (W.contents to.old) (W.contents to.new) text.now }
 {
-    let mut at = 0usize;
-    while at < text.len() {
-        match to.write(&text[at..]) {
-            Ok(n) if 0 < n => at += n,
-            _ => return false,
-        }
+    match write_whole(to, text) {
+        Ok(()) => true,
+        Err(_) => false,
     }
-    true
 }
 
 /// Reads the words, opens the file that they name, and runs; or writes help.
