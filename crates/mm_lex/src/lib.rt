@@ -31,7 +31,7 @@ pub struct Lexed<A: Allocator> {
     pub fault: Option<Fault>,
 }
 
-/// The tokens and the first lexical fault of a text (section 4.1.1 of the Metamath book). The cuts, which are made for
+/// The tokens and the first lexical fault of a text (sections 4.1.1 and 4.1.2 of the Metamath book). The cuts, which are made for
 /// the text's length where that is within the limit, don't change what it answers; it is refused for memory alone.
 pub fn lex<R: Threads + Sync, A: Allocator + Copy + Send + Sync>(
     rt: &R,

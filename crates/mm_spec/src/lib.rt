@@ -21,7 +21,7 @@ pub struct Word {
     pub end: u32,
 }
 
-/// What a word is, inside a comment or outside (section 4.1.1).
+/// What a word is, inside a comment or outside (sections 4.1.1 and 4.1.2).
 #[derive(Clone, Copy, Debug, PartialEq, Eq)]
 pub enum Role {
     /// A keyword, a label, a math symbol, a word of a proof.
