@@ -1,5 +1,5 @@
 -- What a database of statements is to those who read it, and what its fields keep.
-use Rattle.std.specs.Prelude.{◌≡◌, ℕ, ◌+◌, ◌<◌, ◌≤◌, ◌^◌, Bool, true, false, List, [], length, slice_range, slice_index, slice_get, get_or, if◌then◌else◌, All, Option, None}
+use Rattle.std.specs.Prelude.{◌≡◌, ℕ, ◌+◌, ◌<◌, ◌≤◌, ◌^◌, Bool, true, false, List, [], length, map, slice_range, slice_index, slice_get, get_or, if◌then◌else◌, All, Option, None}
 use Rattle.std.specs.List.{list_any}
 use Rattle.mm_spec.specs.declared.Fault.{Fault}
 use Rattle.mm_spec.specs.Statement.{Statement, constants, variables, disjoint, floating, essential, axiomatic, provable, opening, closing}
@@ -8,12 +8,13 @@ use Rattle.mm_spec.specs.Derivation.{Pair}
 use Rattle.mm_spec.specs.Frame.{symbol_names, is_variable, formula_at, mandatory_hypotheses, mandatory_pairs}
 use Rattle.mm_stmt.specs.Labels.{AreLabels}
 use Rattle.mm_spec.specs.Citation.{is_assertion}
-use Rattle.mm_spec.specs.Output.{IsRead, lexed_of, theorems, columns}
+use Rattle.mm_spec.specs.Output.{IsRead, lexed_of, theorems, columns, label_at}
 use Rattle.mm_spec.specs.declared.Word.{Word}
 use Rattle.mm_stmt.specs.Parts.{AreWords, IsOutline}
 use Rattle.mm_stmt.specs.Read.{statements}
 use Rattle.mm_stmt.specs.Blocks.{Lists, IsBlocks}
 use Rattle.mm_stmt.specs.Members.{AreMembers}
+use Rattle.mm_stmt.specs.Spaced.{AreSpaced}
 use Rattle.mm_stmt.specs.declared.parts.Kind.{Kind}
 use Rattle.mm_stmt.specs.declared.parts.Kind.TheVariants as kind
 use Rattle.mm_stmt.specs.declared.parts.Outline.{Outline}
@@ -96,9 +97,11 @@ pub record Fields : Type 0 where
   pub skips : List ℕ
   pub theorems : List ℕ
   pub axioms : List ℕ
+  pub label_bytes : List ℕ
+  pub label_starts : List ℕ
 
-abbrev pub fields : Lists → (List ℕ → Option ℕ) → List (List ℕ) → List Bool → List ℕ → List ℕ → List (List ℕ) → List (List Pair) → List (ℕ × ℕ) → List ℕ → List ℕ → List ℕ → Fields
-fields b f ns vs xs ps hs ds ms ks ts cs = record { blocks = b; find = f; names = ns; variables = vs; numbers = xs; places = ps; hyps = hs; pairs = ds; members = ms; skips = ks; theorems = ts; axioms = cs }
+abbrev pub fields : Lists → (List ℕ → Option ℕ) → List (List ℕ) → List Bool → List ℕ → List ℕ → List (List ℕ) → List (List Pair) → List (ℕ × ℕ) → List ℕ → List ℕ → List ℕ → List ℕ → List ℕ → Fields
+fields b f ns vs xs ps hs ds ms ks ts cs bs ss = record { blocks = b; find = f; names = ns; variables = vs; numbers = xs; places = ps; hyps = hs; pairs = ds; members = ms; skips = ks; theorems = ts; axioms = cs; label_bytes = bs; label_starts = ss }
 
 -- the fields are those of the statements, and these are the reading of the text
 pub record IsDatabase (text : List ℕ) (ws : List Word) (os : List Outline) (fault : Option Fault) (f : Fields) : Type 0 where
@@ -114,5 +117,6 @@ pub record IsDatabase (text : List ℕ) (ws : List Word) (os : List Outline) (fa
   pub members_are : AreMembers (statements text ws os) f.blocks f.members f.skips
   pub theorems_are : f.theorems ≡ theorems (statements text ws os)
   pub axioms_are : f.axioms ≡ columns (statements text ws os) None
+  pub spaced : AreSpaced (map (label_at (statements text ws os)) (theorems (statements text ws os))) f.label_bytes f.label_starts
   pub few_symbols : length f.names < 2 ^ 31
   pub read : IsRead (length text) (lexed_of text) (statements text ws os) fault

@@ -1,6 +1,6 @@
 //! The database of a text: its statements, and what is asked of them.
 
-ghost use Rattle.std.specs.Prelude.{◌≡◌, ◌<◌, ◌≤◌, ◌^◌, ◌+◌, ◌&&◌, ℕ, Bool, List, Option, Some, None, IfSome, IfNone, IsTrue, All, length, map, slice_get, slice_index, get_or, vec_len, true, false};
+ghost use Rattle.std.specs.Prelude.{◌≡◌, ◌<◌, ◌≤◌, ◌^◌, ◌+◌, ◌&&◌, ◌∷◌, ℕ, Bool, List, Option, Some, None, IfSome, IfNone, IsTrue, All, length, map, flat_map, slice_get, slice_index, slice_range, get_or, vec_len, true, false};
 ghost use Rattle.std.specs.Option.{option_map, option_copied, option_and_then};
 ghost use Rattle.std.specs.List.{list_any};
 ghost use Rattle.mm_spec.specs.Statement.{label_of, proof_of};
@@ -9,7 +9,7 @@ ghost use Rattle.mm_spec.specs.Derivation.{pair, is_member};
 ghost use Rattle.mm_spec.specs.Frame.{symbol_names, is_variable, formula_at, mandatory_hypotheses, mandatory_pairs, disjoint_at, is_disjoint};
 ghost use Rattle.mm_spec.specs.NormalProof.{is_labelled};
 ghost use Rattle.mm_spec.specs.Citation.{is_assertion};
-ghost use Rattle.mm_spec.specs.Output.{IsRead, lexed_of, theorems, columns};
+ghost use Rattle.mm_spec.specs.Output.{IsRead, lexed_of, theorems, columns, label_at};
 ghost use Rattle.mm_stmt.specs.Parts.{tokens_of, AreWords};
 ghost use Rattle.mm_stmt.specs.Read.{active_kind};
 ghost use Rattle.mm_stmt.specs.Database.{kind_of, last_place, typecode_of, is_labelled_kind};
@@ -18,6 +18,7 @@ use crate::blocks::Blocks;
 use crate::members::{Members, are_together};
 use crate::names::Map;
 use crate::parts::{Kind, Outline};
+use crate::spaced::SpacedLabels;
 use crate::symbol::Sym;
 use indexmap::IndexSet;
 use mm_spec::{Fault, Word};
@@ -54,6 +55,7 @@ pub struct Database<'a, A: Allocator> {
     pub(crate) members: Members<A>,
     pub(crate) theorems: Vec<u32, A>,
     pub(crate) axioms: Vec<u32, A>,
+    pub(crate) spaced: SpacedLabels<A>,
 }
 
 impl<'a, A: Allocator> Model for Database<'a, A> {
@@ -68,7 +70,7 @@ impl<'a, A: Allocator> Model for Database<'a, A> {
 
     ghost view = { λ d. known d.text.now (statements d.text.now d.words.items d.outlines.items) d.fault };
 
-    ghost invariant = { λ d. IsDatabase d.text.now d.words.items d.outlines.items d.fault (fields (lists d.blocks.of.items d.blocks.ends.items d.blocks.open.items) (find d.labels) (keys_of d.names) d.variables.items d.numbers.items d.places.items (map (λ f. f.hyps.items) d.frames.items) (map (λ f. map (λ p. pair p.0 p.1) f.pairs.items) d.frames.items) d.members.pairs.items d.members.skips.items d.theorems.items d.axioms.items) };
+    ghost invariant = { λ d. IsDatabase d.text.now d.words.items d.outlines.items d.fault (fields (lists d.blocks.of.items d.blocks.ends.items d.blocks.open.items) (find d.labels) (keys_of d.names) d.variables.items d.numbers.items d.places.items (map (λ f. f.hyps.items) d.frames.items) (map (λ f. map (λ p. pair p.0 p.1) f.pairs.items) d.frames.items) d.members.pairs.items d.members.skips.items d.theorems.items d.axioms.items d.spaced.bytes.items d.spaced.starts.items) };
 }
 
 impl<'a, A: Allocator> Database<'a, A> {
@@ -236,6 +238,17 @@ impl<'a, A: Allocator> Database<'a, A> {
         ensures few { length self.now.statements < 2 ^ 31 }
     {
         self.axioms.as_slice()
+    }
+
+    /// The labels of the theorems from the one number in `theorems` up to the other, each behind a space.
+    pub fn spaced_labels(&self, from: u32, to: u32) -> &[u8]
+        requires order { from ≤ to }
+        requires within { to ≤ length (theorems self.now.statements) }
+        ensures { result.now ≡ flat_map (λ k. 32 ∷ label_at self.now.statements k) (slice_range (theorems self.now.statements) from to) }
+    {
+        let begin = self.spaced.starts[from as usize];
+        let end = self.spaced.starts[to as usize];
+        &self.spaced.bytes[begin..end]
     }
 }
 

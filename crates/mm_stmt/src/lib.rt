@@ -15,6 +15,7 @@ pub mod names;
 pub mod numbers;
 pub mod parts;
 pub mod reader;
+mod spaced;
 pub mod symbol;
 pub mod symbols;
 pub mod tables;

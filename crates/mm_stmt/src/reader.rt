@@ -21,6 +21,7 @@ use crate::frames::gather;
 use crate::names::{Names, Scope, Symbol};
 use crate::numbers::numbers_of;
 use crate::parts::{Found, Kind, Outline, Part, find};
+use crate::spaced::spaced_labels_of;
 use crate::symbols::symbols_of;
 use crate::tables::Tables;
 use indexmap::IndexMap;
@@ -170,6 +171,7 @@ pub fn read<'a, A: Allocator + Copy>(
         ),
         &read.scope.blocks,
     )?;
+    let spaced = spaced_labels_of(alloc, text, &words, &read.outlines, &beside.theorems)?;
     Ok(Database {
         text,
         words,
@@ -185,6 +187,7 @@ pub fn read<'a, A: Allocator + Copy>(
         members: beside.members,
         theorems: beside.theorems,
         axioms: beside.axioms,
+        spaced,
     })
 }
 

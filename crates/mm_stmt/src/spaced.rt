@@ -1,0 +1,54 @@
+//! The labels of the theorems side by side.
+
+ghost use Rattle.std.specs.Prelude.{◌≡◌, ◌<◌, ◌≤◌, ◌-◌, All, IfOk, IsTrue, length, map};
+ghost use Rattle.mm_spec.specs.Output.{is_theorem_at, label_at};
+ghost use Rattle.mm_stmt.specs.Parts.{AreWords, IsOutline, token_at};
+ghost use Rattle.mm_stmt.specs.Read.{statements};
+ghost use Rattle.mm_stmt.specs.Spaced.{AreSpaced};
+
+use crate::parts::Outline;
+use mm_spec::Word;
+use std::alloc::{AllocError, Allocator};
+
+/// The labels of the theorems, each behind a space: that of the theorem with index i from `starts[i]` up to
+/// `starts[i + 1]`. So the labels of theorems that follow one another are one slice.
+#[derive(Drop)]
+pub struct SpacedLabels<A: Allocator> {
+    pub bytes: Vec<u8, A>,
+    pub starts: Vec<usize, A>,
+}
+
+/// The label of a statement that has one.
+fn label_of<'a>(text: &'a [u8], tokens: &[Word], outline: Outline) -> &'a [u8]
+    requires words { AreWords text.now tokens.now }
+    requires label { 0 < outline.keyword }
+    requires within { outline.keyword ≤ length tokens.now }
+    ensures { result.now ≡ (token_at text.now tokens.now (outline.keyword - 1)).word }
+{
+    let word = tokens[outline.keyword as usize - 1];
+    &text[word.start as usize..word.end as usize]
+}
+
+/// The labels of the theorems, side by side.
+pub fn spaced_labels_of<A: Allocator + Copy>(
+    alloc: A,
+    text: &[u8],
+    tokens: &[Word],
+    outlines: &[Outline],
+    theorems: &[u32],
+) -> Result<SpacedLabels<A>, AllocError>
+    requires words { AreWords text.now tokens.now }
+    requires outlines { All (λ o. IsOutline o × (o.end < length tokens.now)) outlines.now }
+    requires theorems { All (λ k. IsTrue (is_theorem_at (statements text.now tokens.now outlines.now) k)) theorems.now }
+    ensures { IfOk result (λ l. AreSpaced (map (label_at (statements text.now tokens.now outlines.now)) theorems.now) l.bytes.items l.starts.items) }
+{
+    let mut bytes = Vec::new(alloc);
+    let mut starts = Vec::new(alloc);
+    for theorem in theorems {
+        starts.push(bytes.len())?;
+        bytes.push(b' ')?;
+        bytes.extend_from_slice(label_of(text, tokens, outlines[*theorem as usize]))?;
+    }
+    starts.push(bytes.len())?;
+    Ok(SpacedLabels { bytes, starts })
+}
