@@ -1,6 +1,10 @@
 -- Statements that are selected, and their labels.
-use Rattle.std.proofs.Common.{◌≡◌, ℕ, zero, suc, ◌+◌, ◌<◌, ◌≤◌, Bool, true, false, List, [], ◌∷◌, length, get_or, All, arith, Option, Some, None, slice_get, refl, sym, ap, ◌∙◌, unwrap_or}
+use Rattle.std.proofs.Common.{◌≡◌, ℕ, zero, suc, ◌+◌, ◌-◌, ◌<◌, Bool, true, false, List, ◌∷◌, length, get_or, map, take, drop, All, arith, sym, ap, ◌∙◌}
+use Rattle.std.specs.Prelude.{flat_map, slice_range}
 use Rattle.std.specs.List.{range_with_len}
+use Rattle.std.proofs.lemmas.List.{take-map, drop-map}
+use Rattle.std.proofs.lemmas.List.Folds.{flat_map-map}
+use Rattle.mm_spec.specs.Text.{Word}
 use Rattle.mm_spec.specs.Scope.{those}
 
 -- a selection among the numbers below n is below n
@@ -17,3 +21,9 @@ selected-below p n i d h = let k = below n 0 i h in omega (arith, k)
         by true r zero h = omega arith
         by true r (suc i) h = let k = r i (omega arith) in omega (arith, k)
         by false r i h = let k = r i h in omega (arith, k)
+
+-- what is looked up of part of a list, each behind a space
+pub spaced-map : (f : ℕ → Word) (ks : List ℕ) (from to : ℕ) → flat_map (λ k. 32 ∷ f k) (slice_range ks from to) ≡ flat_map (λ (l : Word). 32 ∷ l) (slice_range (map f ks) from to)
+spaced-map f ks from to =
+    sym (flat_map-map (λ (l : Word). 32 ∷ l) f (slice_range ks from to))
+    ∙ ap (flat_map (λ (l : Word). 32 ∷ l)) (sym (ap (take (to - from)) (drop-map f from ks) ∙ take-map f (to - from) (drop from ks)))

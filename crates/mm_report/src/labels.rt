@@ -1,6 +1,6 @@
-//! The labels of statements.
+//! The labels of theorems and of columns.
 
-ghost use Rattle.std.specs.Prelude.{◌≡◌, ◌<◌, ℕ, Option, List, [], All, length, slice_index_or, map};
+ghost use Rattle.std.specs.Prelude.{◌≡◌, ◌<◌, ◌≤◌, ◌∷◌, ℕ, Option, List, [], All, length, slice_index_or, slice_range, map, flat_map};
 ghost use Rattle.mm_spec.specs.Text.{Word};
 ghost use Rattle.mm_spec.specs.Output.{label_at, theorems, columns};
 
@@ -9,14 +9,61 @@ use mm_stmt::Database;
 use std::alloc::Allocator;
 use std::marker::Model;
 
-/// The labels of some statements of a database.
+/// The labels of the theorems of a database.
 #[derive(Drop)]
-pub struct Labels<'d, 'a, D: Allocator> {
+pub struct TheoremLabels<'d, 'a, D: Allocator> {
+    database: &'d Database<'a, D>,
+}
+
+impl<'d, 'a, D: Allocator> Model for TheoremLabels<'d, 'a, D> {
+    ghost use Rattle.std.specs.Prelude.{List, ℕ, map};
+    ghost use Rattle.mm_spec.specs.Output.{label_at, theorems};
+
+    ghost Value = { List (List ℕ) };
+
+    ghost view = { λ l. map (label_at l.database.now.statements) (theorems l.database.now.statements) };
+}
+
+impl<'d, 'a, D: Allocator> TheoremLabels<'d, 'a, D> {
+    pub fn new(database: &'d Database<'a, D>) -> TheoremLabels<'d, 'a, D>
+        ensures { result ≡ map (label_at database.entry.now.statements) (theorems database.entry.now.statements) }
+    {
+        TheoremLabels { database }
+    }
+
+    /// How many there are.
+    pub fn len(&self) -> usize
+        ensures { result ≡ length self.now }
+    {
+        self.database.theorems().len()
+    }
+
+    /// A label.
+    pub fn label(&self, index: u32) -> &'a [u8]
+        requires { index < length self.now }
+        ensures { result.now ≡ slice_index_or self.now index [] }
+    {
+        label_of(self.database, self.database.theorems()[index as usize])
+    }
+
+    /// The labels from the one number up to the other, each behind a space.
+    pub fn spaced(&self, from: u32, to: u32) -> &'d [u8]
+        requires order { from ≤ to }
+        requires within { to ≤ length self.now }
+        ensures { result.now ≡ flat_map (λ l. 32 ∷ l) (slice_range self.now from to) }
+    {
+        self.database.spaced_labels(from, to)
+    }
+}
+
+/// The labels of columns of a database.
+#[derive(Drop)]
+pub struct ColumnLabels<'d, 'a, D: Allocator> {
     database: &'d Database<'a, D>,
     statements: &'d [u32],
 }
 
-impl<'d, 'a, D: Allocator> Model for Labels<'d, 'a, D> {
+impl<'d, 'a, D: Allocator> Model for ColumnLabels<'d, 'a, D> {
     ghost use Rattle.std.specs.Prelude.{List, ℕ, map, All, length, ◌<◌};
     ghost use Rattle.mm_spec.specs.Output.{label_at};
 
@@ -27,26 +74,15 @@ impl<'d, 'a, D: Allocator> Model for Labels<'d, 'a, D> {
     ghost invariant = { λ l. All (λ k. k < length l.database.now.statements) l.statements.now };
 }
 
-impl<'d, 'a, D: Allocator> Labels<'d, 'a, D> {
-    /// The labels of the theorems.
-    pub fn of_theorems(database: &'d Database<'a, D>) -> Labels<'d, 'a, D>
-        ensures { result ≡ map (label_at database.entry.now.statements) (theorems database.entry.now.statements) }
-    {
-        Labels {
-            database,
-            statements: database.theorems(),
-        }
-    }
-
-    /// The labels of columns of the database.
-    pub fn of_columns<A: Allocator>(
+impl<'d, 'a, D: Allocator> ColumnLabels<'d, 'a, D> {
+    pub fn new<A: Allocator>(
         database: &'d Database<'a, D>,
         chosen: &'d Columns<A>,
-    ) -> Labels<'d, 'a, D>
+    ) -> ColumnLabels<'d, 'a, D>
         requires { (only : Option Word) × (chosen.now ≡ columns database.now.statements only) }
         ensures { result ≡ map (label_at database.entry.now.statements) chosen.entry.now }
     {
-        Labels {
+        ColumnLabels {
             database,
             statements: chosen.statements(),
         }
@@ -64,9 +100,17 @@ impl<'d, 'a, D: Allocator> Labels<'d, 'a, D> {
         requires { index < length self.now }
         ensures { result.now ≡ slice_index_or self.now index [] }
     {
-        match self.database.label(self.statements[index as usize]) {
-            Some(label) => label,
-            None => &[],
-        }
+        label_of(self.database, self.statements[index as usize])
+    }
+}
+
+/// The label of a statement.
+fn label_of<'a, D: Allocator>(database: &Database<'a, D>, statement: u32) -> &'a [u8]
+    requires { statement < length database.now.statements }
+    ensures { result.now ≡ label_at database.now.statements statement }
+{
+    match database.label(statement) {
+        Some(label) => label,
+        None => &[],
     }
 }

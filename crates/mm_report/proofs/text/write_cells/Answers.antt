@@ -1,4 +1,4 @@
-use Rattle.std.proofs.Common.{rules, refl, ◌+◌, ◌≡◌, ◌∙◌, ◌∷◌, ◌++◌, [], ℕ, ap, sym, arith, take, map, length}
+use Rattle.std.proofs.Common.{refl, ◌+◌, ◌∙◌, ◌∷◌, ◌++◌, [], ap, sym, arith, take, map}
 use Rattle.std.specs.List.{range_with_len}
 use Rattle.std.proofs.lemmas.List.{map_push, length-set, take_more_set}
 use Rattle.std.proofs.lemmas.List.FromFn.{map-range_with_len_more}

@@ -3,7 +3,7 @@ use Rattle.mm_report.proofs.LabelFacts.{selected-below}
 use Rattle.std.specs.List.{list_any}
 use Rattle.mm_spec.specs.Scope.{statement_at}
 use Rattle.mm_spec.specs.Output.{is_column}
-use Rattle.mm_report.proofs.labels.Labels.of_columns.Goals as goal
+use Rattle.mm_report.proofs.labels.ColumnLabels.new.Goals as goal
 
 pub invariant_of-result : goal.invariant_of-result
 invariant_of-result g c =
