@@ -1,5 +1,5 @@
 -- Bits of masks, and the bytes for which they stand.
-use Rattle.std.proofs.Common.{◌≡◌, ◌≢◌, ℕ, zero, suc, ◌+◌, ◌-◌, ◌*◌, ◌/◌, ◌%◌, ◌^◌, ◌<◌, ◌≤◌, Bool, true, false, not, ◌&&◌, cond, List, [], ◌∷◌, map, length, take, drop, get_or, refl, sym, ap, subst, ◌∙◌, ⊎_elim, w64, true≢false, arith}
+use Rattle.std.proofs.Common.{◌≡◌, ℕ, zero, suc, ◌+◌, ◌-◌, ◌/◌, ◌%◌, ◌^◌, ◌<◌, ◌≤◌, Bool, true, false, not, ◌&&◌, cond, List, [], map, length, take, drop, get_or, refl, sym, ap, subst, ◌∙◌, ⊎_elim, w64, true≢false, arith}
 use Rattle.std.specs.Int.{bit_at, bit_not, trailing_zeros}
 use Rattle.std.specs.List.{list_all}
 use Rattle.std.proofs.Math.Nat.{div-div-eq-div-mul}
@@ -20,7 +20,7 @@ use Rattle.mm_spec.specs.Roles.{is_clean}
 
 -- ---- the next bit that is 1
 
-shifted : (n k i : ℕ) → bit_at (n / 2 ^ k) i ≡ bit_at n (k + i)
+pub shifted : (n k i : ℕ) → bit_at (n / 2 ^ k) i ≡ bit_at n (k + i)
 shifted n k i = ap (λ (x : ℕ). x % 2) (div-div-eq-div-mul n (2 ^ k) (2 ^ i) ∙ ap (λ (y : ℕ). n / y) (sym (pow-add 2 k i)))
 
 at_place : (n k i : ℕ) → k ≤ i → bit_at n i ≡ bit_at (n / 2 ^ k) (i - k)
@@ -46,16 +46,16 @@ module _ (n k : ℕ) (fits : n < 2 ^ 64) (rest : n / 2 ^ k < 2 ^ 64) (some : 0 <
 
 -- ---- bits of a block
 
-one_of : (b : Bool) → ◌≡◌ {A = ℕ} (cond b 1 0) 1 → b ≡ true
+pub one_of : (b : Bool) → ◌≡◌ {A = ℕ} (cond b 1 0) 1 → b ≡ true
 one_of true h = refl
 one_of false h = absurd (omega (arith, h))
 
-zero_of : (b : Bool) → ◌≡◌ {A = ℕ} (cond b 1 0) 0 → b ≡ false
+pub zero_of : (b : Bool) → ◌≡◌ {A = ℕ} (cond b 1 0) 0 → b ≡ false
 zero_of true h = absurd (omega (arith, h))
 zero_of false h = refl
 
 module _ (p : ℕ → Bool) (text : List ℕ) (base : ℕ) where
-  inside : (i : ℕ) → i < 64 → base + i < length text → get_or (map p (take 64 (drop base text))) i false ≡ p (get_or text (base + i) 0)
+  pub inside : (i : ℕ) → i < 64 → base + i < length text → get_or (map p (take 64 (drop base text))) i false ≡ p (get_or text (base + i) 0)
   inside i lt within =
       get_or-map p (take 64 (drop base text)) i 0 false (omega (arith, length-take {A = ℕ}, length-drop {A = ℕ}))
       ∙ ap p (get_or-take 64 (drop base text) i 0 lt ∙ get_or-drop base text i 0)
