@@ -143,6 +143,17 @@ impl<'a> Blocks<'a> {
         }
     }
 
+    /// Goes on to the next block.
+    #[inline(always)]
+    fn turn(&mut self)
+        requires { self.old.base + 64 ≤ length self.old.text.now }
+        ensures text { self.new.text.now ≡ self.old.text.now }
+        ensures base { self.new.base ≡ self.old.base + 64 }
+        ensures from { self.new.from ≡ self.old.base + 64 }
+    {
+        *self = Blocks::at(self.text, self.base + 64);
+    }
+
     /// The word that begins at `start` in the block at hand, the last one whose beginning was taken; and the blocks from
     /// its end on.
     fn word_from(self, start: usize) -> (Blocks<'a>, Found)
@@ -195,7 +206,7 @@ impl<'a> Blocks<'a> {
             if to <= self.base + 64 {
                 return None;
             }
-            *self = Blocks::at(self.text, self.base + 64);
+            self.turn();
         }
         let place = self.starts.trailing_zeros() as usize;
         let start = self.base + place;
