@@ -17,7 +17,7 @@ use Rattle.mm_spec.specs.declared.Word.{Word}
 use Rattle.mm_spec.proofs.WordsLemmas.{begins_word-inside, words_between-none, words_between-skips, words_between-take}
 use Rattle.mm_spec.proofs.WordsLaw.{begins_word-boundary, begins_word-ink, IsWord-is}
 use Rattle.mm_lex.specs.Plain.{plain_at, IsPlain}
-use Rattle.mm_lex.proofs.MaskFacts.{all-from, bit-one, bit-zero, shifted, inside, one_of, zero_of}
+use Rattle.mm_lex.proofs.MaskFacts.{all-from, bit-one, none-in, bit-zero, shifted, inside, one_of, zero_of}
 
 -- ---- bytes at which nothing stops
 
@@ -263,3 +263,11 @@ plain-word text start end order short each = record {
   clean = all-from is_printable text start (end - start) (omega arith) (λ i a b. (and_parts _ _ (each i a (omega arith))).0);
   no_dollar = no_dollars (take (end - start) (drop start text)) (all-from (λ x. not (x == 36)) text start (end - start) (omega arith) (λ i a b. (and_parts _ _ (each i a (omega arith))).1));
 }
+
+-- ---- blocks without a white byte
+
+pub block-ink : (text : List ℕ) (base m : ℕ) → m ≡ mask is_white (take 64 (take (length text - base) (drop base text))) → m ≡ 0 → base + 64 ≤ length text → (i : ℕ) → base ≤ i → i < base + 64 → white_at text i ≡ false
+unfolding white_at
+block-ink text base m is empty within i low high =
+    let whole = subst (λ (bytes : List ℕ). m ≡ mask is_white (take 64 bytes)) (dropped-all text base) is in
+    none-in is_white text base (sym whole ∙ empty) i low high (omega arith)

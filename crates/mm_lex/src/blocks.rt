@@ -1,6 +1,6 @@
 //! The words of a text, found from the classes of its blocks of 64 bytes.
 
-ghost use Rattle.std.specs.Prelude.{◌≡◌, ◌<◌, ◌≤◌, ◌+◌, ◌-◌, ◌||◌, ◌==◌, ℕ, Bool, true, false, [], ◌∷◌, length, take, drop, min, IfSome, MatchOption, if◌then◌else◌};
+ghost use Rattle.std.specs.Prelude.{◌≡◌, ◌<◌, ◌≤◌, ◌+◌, ◌-◌, ◌||◌, ◌==◌, ℕ, Bool, true, false, [], ◌∷◌, length, take, drop, min, IfNone, IfSome, MatchOption, if◌then◌else◌};
 ghost use Rattle.std.specs.Int.{bit_at};
 ghost use Rattle.mm_bytes.specs.Masks.{is_bad, mask};
 ghost use Rattle.mm_spec.specs.Bytes.{is_white};
@@ -15,7 +15,7 @@ use mm_bytes::{Classes, class_block, class_tail, dollars_block, dollars_tail};
 
 /// The classes of the first 64 bytes, or of all where they are fewer.
 #[inline(always)]
-fn classes_of(bytes: &[u8]) -> Classes
+pub fn classes_of(bytes: &[u8]) -> Classes
     ensures white { result.white ≡ mask is_white (take 64 bytes.now) }
     ensures bad { result.bad ≡ mask is_bad (take 64 bytes.now) }
 {
@@ -196,6 +196,7 @@ impl<'a> Blocks<'a> {
         requires short { length self.old.text.now ≤ TEXT_LIMIT }
         ensures text { self.new.text.now ≡ self.old.text.now }
         ensures before { MatchOption result (words_between self.old.text.now self.old.from to ≡ []) (λ start. (i : ℕ) → self.old.from ≤ i → i < start → begins_word self.old.text.now i ≡ false) }
+        ensures done { IfNone result (words_between self.old.text.now self.new.from to ≡ []) }
         ensures begins { IfSome result (λ start. begins_word self.old.text.now start ≡ true) }
         ensures low { IfSome result (λ start. self.old.from ≤ start) }
         ensures within { IfSome result (λ start. start < to) }
@@ -225,6 +226,7 @@ impl<'a> Blocks<'a> {
         requires short { length self.old.text.now ≤ TEXT_LIMIT }
         ensures text { self.new.text.now ≡ self.old.text.now }
         ensures words { MatchOption result (words_between self.old.text.now self.old.from to ≡ []) (λ found. words_between self.old.text.now self.old.from to ≡ found.word ∷ words_between self.old.text.now self.new.from to) }
+        ensures done { IfNone result (words_between self.old.text.now self.new.from to ≡ []) }
         ensures each { IfSome result (λ found. IsWord self.old.text.now found.word) }
         ensures plain { IfSome result (λ found. found.plain ≡ true → IsPlain (bytes_of self.old.text.now found.word)) }
         ensures onward { IfSome result (λ found. self.old.from < self.new.from) }

@@ -151,9 +151,15 @@ fn lex_inner<A: Allocator + Copy>(
     let mut outside = Row::new(alloc, Opened::Nowhere);
     let mut inside = Row::new(alloc, Opened::Before);
     let mut blocks = Blocks::new(text, head);
-    while let Some(found) = blocks.next_word(tail) {
+    while inside.fault.is_none()
+        && let Some(found) = blocks.next_word(tail)
+    {
         outside.read_word(text, found.word, found.plain)?;
         inside.read_word(text, found.word, found.plain)?;
+    }
+    // Behind its fault the reading inside a comment stays as it is.
+    while let Some(found) = blocks.next_word(tail) {
+        outside.read_word(text, found.word, found.plain)?;
     }
     Ok(Inner {
         head: head as u32,

@@ -77,3 +77,20 @@ returns-clause-low c =
     let b = c.loop-self.self in
     let place = bit_at-trailing_zeros w64 b.starts (omega (arith, c.loop-self-test.false)) (omega arith) in
     omega (arith, c.loop-self.invariant.rises, b.further (trailing_zeros w64 b.starts) place.0 place.1)
+
+pub returns-then-to-self-clause-done : goal.returns-then-to-self-clause-done
+returns-then-to-self-clause-done c =
+    let b = c.loop-self.self in
+    let text = c.args.self.now.text.now in
+    between-none text b.from (b.base + 64) c.args.to b.high c.if-to-self.true
+    (λ i low high lt. run-on (λ t k. begins_word t k ≡ false) b.text.now text b.starts b.from b.from b.base 64 c.loop-self.invariant.same b.low (omega arith) (λ k a h _. absurd (omega arith))
+    (λ k _ _. ap (λ (n : ℕ). bit_at n k) c.loop-self-test.true ∙ bit_at-zero k) b.none i low high (omega (arith, c.requires.within)))
+
+pub returns-then-to-start-clause-done : goal.returns-then-to-start-clause-done
+returns-then-to-start-clause-done c =
+    let b = c.loop-self.self in
+    let text = c.args.self.now.text.now in
+    let place = bit_at-trailing_zeros w64 b.starts (omega (arith, c.loop-self-test.false)) (omega arith) in
+    between-none text b.from (b.base + trailing_zeros w64 b.starts) c.args.to (b.further (trailing_zeros w64 b.starts) place.0 place.1) c.if-to-start.true
+    (λ i low high lt. run-on (λ t k. begins_word t k ≡ false) b.text.now text b.starts b.from b.from b.base (trailing_zeros w64 b.starts) c.loop-self.invariant.same b.low (omega (arith, place.0))
+    (λ k a h _. absurd (omega arith)) (λ k _ under. place.2 k under) b.none i low high (omega (arith, c.requires.within)))
