@@ -1,11 +1,11 @@
 //! The words of a text, found from the classes of its blocks of 64 bytes.
 
-ghost use Rattle.std.specs.Prelude.{◌≡◌, ◌<◌, ◌≤◌, ◌+◌, ◌-◌, ◌||◌, ◌==◌, ℕ, Bool, true, false, [], ◌∷◌, length, take, drop, min, IfNone, IfSome, MatchOption, if◌then◌else◌};
+ghost use Rattle.std.specs.Prelude.{◌≡◌, ◌<◌, ◌≤◌, ◌+◌, ◌-◌, ◌||◌, ◌==◌, ℕ, true, false, [], ◌∷◌, length, take, drop, min, IfNone, IfSome, MatchOption, if◌then◌else◌};
 ghost use Rattle.std.specs.Int.{bit_at};
 ghost use Rattle.mm_bytes.specs.Masks.{is_bad, mask};
 ghost use Rattle.mm_spec.specs.Bytes.{is_white};
 ghost use Rattle.mm_spec.specs.Readings.{bytes_of};
-ghost use Rattle.mm_spec.specs.Words.{begins_word, white_at, words_between, IsBoundary, IsWord};
+ghost use Rattle.mm_spec.specs.Words.{begins_word, white_at, words_between, IsWord};
 ghost use Rattle.mm_lex.specs.Plain.{plain_at, IsPlain};
 
 use crate::bytes::is_white;
