@@ -1,10 +1,10 @@
 //! The classes of up to 64 bytes.
 
-ghost use Rattle.std.specs.Prelude.{◌≡◌, ◌<◌, length};
+ghost use Rattle.std.specs.Prelude.{◌≡◌, ◌==◌, ◌<◌, length};
 ghost use Rattle.mm_spec.specs.Bytes.{is_white, is_printable};
 ghost use Rattle.mm_bytes.specs.Masks.{is_bad, mask};
 
-use crate::lanes::{bad_mask, white_mask};
+use crate::lanes::{bad_mask, dollar_mask, white_mask};
 use std::simd::prelude::*;
 
 /// The classes of up to 64 bytes, a bit each: bit i is byte i.
@@ -42,6 +42,33 @@ pub fn class_tail(bytes: &[u8]) -> Classes
         classes.bad = 2 * classes.bad + u64::from(is_bad(bytes[at]));
     }
     classes
+}
+
+/// The dollar signs among 64 bytes, a bit each: bit i is byte i.
+pub fn dollars_block(bytes: &[u8; 64]) -> u64
+    ensures { result ≡ mask (λ b. b == 0x24) bytes.now }
+{
+    dollar_mask(u8x64::from_array(*bytes))
+}
+
+/// The dollar signs among at most 63 bytes; the bits behind the last byte are 0.
+pub fn dollars_tail(bytes: &[u8]) -> u64
+    requires { length bytes.now < 64 }
+    ensures { result ≡ mask (λ b. b == 0x24) bytes.now }
+{
+    let mut dollars = 0;
+    let mut at = bytes.len();
+    while at > 0 {
+        at -= 1;
+        dollars = 2 * dollars + u64::from(is_dollar(bytes[at]));
+    }
+    dollars
+}
+
+fn is_dollar(b: u8) -> bool
+    ensures { result ≡ (b == 0x24) }
+{
+    b == b'$'
 }
 
 #[tactic(auto, unfolding(mm_spec::specs::Bytes::is_white))]

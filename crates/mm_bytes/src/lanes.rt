@@ -37,3 +37,10 @@ pub fn lf_mask(v: u8x64) -> u64
 {
     v.simd_eq(u8x64::splat(b'\n')).to_bitmask()
 }
+
+#[inline(always)]
+pub fn dollar_mask(v: u8x64) -> u64
+    ensures { result ≡ mask (λ b. b == 0x24) v }
+{
+    v.simd_eq(u8x64::splat(b'$')).to_bitmask()
+}

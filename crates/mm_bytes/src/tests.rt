@@ -1,6 +1,6 @@
 //! Byte rows, and every length about a few blocks.
 
-use crate::{Classes, class_block, class_tail, count_lf, first_bad};
+use crate::{Classes, class_block, class_tail, count_lf, dollars_block, dollars_tail, first_bad};
 use std::alloc::AllocError;
 
 #[test]
@@ -21,6 +21,9 @@ fn knows_rows(rt: HostRuntime) {
         bad: 0,
     };
     assert_eq!(rt; class_block(&[b' '; 64]), spaces);
+    assert_eq!(rt; dollars_tail(b"a$$b$"), 22);
+    assert_eq!(rt; dollars_tail(b""), 0);
+    assert_eq!(rt; dollars_block(&[b'$'; 64]), 18_446_744_073_709_551_615);
 }
 
 /// Line feeds of every length, and one other byte among them at every place.
@@ -53,6 +56,7 @@ fn knows_blocks_as_tails(rt: HostRuntime) {
                 bad: one.bad << lane,
             };
             assert_eq!(rt; class_block(&block), want);
+            assert_eq!(rt; dollars_block(&block), dollars_tail(&[byte]) << lane);
         }
     }
 }

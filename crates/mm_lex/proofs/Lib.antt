@@ -4,3 +4,4 @@ pub mod PiecesLemmas
 pub mod CutsLemmas
 pub mod CutLaw
 pub mod MaskFacts
+pub mod BlockFacts

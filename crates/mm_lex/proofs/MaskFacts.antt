@@ -1,26 +1,19 @@
 -- Bits of masks, and the bytes for which they stand.
-use Rattle.std.proofs.Common.{◌≡◌, ◌≢◌, ℕ, zero, suc, ◌+◌, ◌-◌, ◌*◌, ◌/◌, ◌%◌, ◌^◌, ◌<◌, ◌≤◌, Bool, true, false, not, ◌&&◌, cond, List, [], ◌∷◌, map, length, take, drop, get_or, refl, sym, ap, subst, ◌∙◌, ⊎_elim, w64, true≢false, arith}
-use Rattle.std.specs.Int.{bit_at, bit_not, trailing_zeros}
+use Rattle.std.proofs.Common.{◌≡◌, ℕ, zero, suc, ◌+◌, ◌-◌, ◌/◌, ◌%◌, ◌^◌, ◌<◌, ◌≤◌, Bool, true, false, cond, List, map, length, take, drop, get_or, refl, sym, ap, subst, ◌∙◌, ⊎_elim, w64, true≢false, arith}
+use Rattle.std.specs.Int.{bit_at, trailing_zeros}
 use Rattle.std.specs.List.{list_all}
 use Rattle.std.proofs.Math.Nat.{div-div-eq-div-mul}
 use Rattle.std.proofs.lemmas.Nat.{pow-add}
-use Rattle.std.proofs.lemmas.Nat.Bits.{bit_at-trailing_zeros, bit_at-zero, bit_at_above, bit_at_not, bit_at-lt}
+use Rattle.std.proofs.lemmas.Nat.Bits.{bit_at-trailing_zeros, bit_at-zero, bit_at_above}
 use Rattle.std.proofs.lemmas.Simd.{bit_mask_l}
 use Rattle.std.proofs.lemmas.List.{get_or-map, get_or-take, get_or-drop, get_or_past, length-map, length-take, length-drop}
 use Rattle.std.proofs.lemmas.List.Folds.{list_all_more}
 use Rattle.std.proofs.lemmas.Bool.{cases_lt}
-use Rattle.mm_bytes.specs.Masks.{mask, is_bad}
-use Rattle.mm_spec.specs.Bytes.{is_white, is_printable}
-use Rattle.mm_spec.specs.Words.{white_at, words_between, IsNextWord, IsBoundary, IsWord}
-use Rattle.mm_spec.specs.declared.Word.{Word}
-use Rattle.mm_spec.proofs.WordsLemmas.{next_is, words_between-skips, words_between-none, begins_word-white}
-use Rattle.mm_spec.proofs.WordsLaw.{IsWord-is}
-use Rattle.mm_spec.specs.Readings.{bytes_of}
-use Rattle.mm_spec.specs.Roles.{is_clean}
+use Rattle.mm_bytes.specs.Masks.{mask}
 
 -- ---- the next bit that is 1
 
-shifted : (n k i : ℕ) → bit_at (n / 2 ^ k) i ≡ bit_at n (k + i)
+pub shifted : (n k i : ℕ) → bit_at (n / 2 ^ k) i ≡ bit_at n (k + i)
 shifted n k i = ap (λ (x : ℕ). x % 2) (div-div-eq-div-mul n (2 ^ k) (2 ^ i) ∙ ap (λ (y : ℕ). n / y) (sym (pow-add 2 k i)))
 
 at_place : (n k i : ℕ) → k ≤ i → bit_at n i ≡ bit_at (n / 2 ^ k) (i - k)
@@ -46,16 +39,16 @@ module _ (n k : ℕ) (fits : n < 2 ^ 64) (rest : n / 2 ^ k < 2 ^ 64) (some : 0 <
 
 -- ---- bits of a block
 
-one_of : (b : Bool) → ◌≡◌ {A = ℕ} (cond b 1 0) 1 → b ≡ true
+pub one_of : (b : Bool) → ◌≡◌ {A = ℕ} (cond b 1 0) 1 → b ≡ true
 one_of true h = refl
 one_of false h = absurd (omega (arith, h))
 
-zero_of : (b : Bool) → ◌≡◌ {A = ℕ} (cond b 1 0) 0 → b ≡ false
+pub zero_of : (b : Bool) → ◌≡◌ {A = ℕ} (cond b 1 0) 0 → b ≡ false
 zero_of true h = absurd (omega (arith, h))
 zero_of false h = refl
 
 module _ (p : ℕ → Bool) (text : List ℕ) (base : ℕ) where
-  inside : (i : ℕ) → i < 64 → base + i < length text → get_or (map p (take 64 (drop base text))) i false ≡ p (get_or text (base + i) 0)
+  pub inside : (i : ℕ) → i < 64 → base + i < length text → get_or (map p (take 64 (drop base text))) i false ≡ p (get_or text (base + i) 0)
   inside i lt within =
       get_or-map p (take 64 (drop base text)) i 0 false (omega (arith, length-take {A = ℕ}, length-drop {A = ℕ}))
       ∙ ap p (get_or-take 64 (drop base text) i 0 lt ∙ get_or-drop base text i 0)
@@ -74,16 +67,6 @@ module _ (p : ℕ → Bool) (text : List ℕ) (base : ℕ) where
   pub bit-zero : (i : ℕ) → i < 64 → base + i < length text → bit_at (mask p (take 64 (drop base text))) i ≡ 0 → p (get_or text (base + i) 0) ≡ false
   bit-zero i lt within none = sym (inside i lt within) ∙ zero_of _ (sym (bit_mask_l (map p (take 64 (drop base text))) i) ∙ none)
 
-  pub not-one : (i : ℕ) → i < 64 → base + i < length text → mask p (take 64 (drop base text)) < 2 ^ 64 → bit_at (bit_not w64 (mask p (take 64 (drop base text)))) i ≡ 1 → p (get_or text (base + i) 0) ≡ false
-  not-one i lt within fits one =
-      let turned : bit_at (bit_not w64 (mask p (take 64 (drop base text)))) i ≡ 1 - bit_at (mask p (take 64 (drop base text))) i = bit_at_not w64 (mask p (take 64 (drop base text))) i fits lt in
-      bit-zero i lt within (omega (arith, turned, one, bit_at-lt (mask p (take 64 (drop base text))) i))
-
-  pub not-zero : (i : ℕ) → i < 64 → mask p (take 64 (drop base text)) < 2 ^ 64 → bit_at (bit_not w64 (mask p (take 64 (drop base text)))) i ≡ 0 → p (get_or text (base + i) 0) ≡ true
-  not-zero i lt fits none =
-      let turned : bit_at (bit_not w64 (mask p (take 64 (drop base text)))) i ≡ 1 - bit_at (mask p (take 64 (drop base text))) i = bit_at_not w64 (mask p (take 64 (drop base text))) i fits lt in
-      (bit-one i lt (omega (arith, turned, none, bit_at-lt (mask p (take 64 (drop base text))) i))).1
-
   -- no byte of a block whose mask is 0
   pub none-in : mask p (take 64 (drop base text)) ≡ 0 → (i : ℕ) → base ≤ i → i < base + 64 → i < length text → p (get_or text i 0) ≡ false
   none-in empty i low high within =
@@ -99,63 +82,3 @@ all-from p text a (suc n) within each =
     let here : p (get_or (drop a text) n 0) ≡ true = ap p (get_or-drop a text n 0) ∙ each (a + n) (omega arith) (omega arith) in
     let rest : list_all p (take n (drop a text)) ≡ true = all-from p text a n (omega arith) (λ i low high. each i low (omega arith)) in
     ap (λ (k : ℕ). list_all p (take k (drop a text))) more ∙ list_all_more p (drop a text) n 0 (omega (arith, length-drop {A = ℕ})) ∙ rw (rest, here) refl
-
--- ---- a run of bytes goes on
-
-pub skip-on : (t text : List ℕ) (white : Bool) (m from at base found upto : ℕ) → t ≡ text → base ≤ at → found ≤ 64 → upto ≤ base + found → upto ≤ length text →
-    ((i : ℕ) → from ≤ i → i < at → white_at text i ≡ white) → ((i : ℕ) → at - base ≤ i → i < found → bit_at m i ≡ 0) →
-    ((i : ℕ) → i < 64 → base + i < length t → bit_at m i ≡ 0 → white_at t (base + i) ≡ white) → (i : ℕ) → from ≤ i → i < upto → white_at text i ≡ white
-skip-on t text white m from at base found upto same low few high within before zeros tells i from_here lt =
-    ⊎_elim {C = white_at text i ≡ white} (λ h. before i from_here h)
-    (λ h.
-    let place : base + (i - base) ≡ i = omega arith in
-    let inside : base + (i - base) < length t = subst (λ (s : List ℕ). base + (i - base) < length s) (sym same) (omega arith) in
-    let here : white_at t (base + (i - base)) ≡ white = tells (i - base) (omega arith) inside (zeros (i - base) (omega arith) (omega arith)) in
-    subst (λ (s : List ℕ). white_at s i ≡ white) same (subst (λ (k : ℕ). white_at t k ≡ white) place here))
-    (cases_lt i at)
-
--- ---- words
-
-pub words-none : (text : List ℕ) (from start to : ℕ) → from ≤ to → to ≤ start → ((i : ℕ) → from ≤ i → i < start → white_at text i ≡ true) → words_between text from to ≡ []
-words-none text from start to le past white =
-    words_between-skips text (to - from) from to to (omega arith) (omega arith) (λ j low high. begins_word-white text j (white j low (omega arith))) ∙ words_between-none text to to (omega arith)
-
-pub next-found : (text : List ℕ) (from start end to : ℕ) → from ≤ start → start < to → to ≤ length text → IsBoundary text from → IsBoundary text to → ((i : ℕ) → from ≤ i → i < start → white_at text i ≡ true) →
-    (start < length text → white_at text start ≡ false) → start ≤ end → end ≤ length text → ((i : ℕ) → start ≤ i → i < end → white_at text i ≡ false) → (end < length text → white_at text end ≡ true) →
-    IsNextWord text from to (record { start = start; end = end })
-next-found text from start end to low lt within first last white stops rises short inside behind =
-    let next = next_is text start end to lt within ink boundary last (ap (λ (w : Word). w.end) (sym (IsWord-is word))) in
-    record {
-      word = next.0;
-      from_here = low;
-      up_to = next.1;
-      rest = words_between-skips text (start - from) from start to (omega arith) (omega arith) (λ j a b. begins_word-white text j (white j a b)) ∙ next.2;
-    }
-  where
-    ink : white_at text start ≡ false
-    ink = stops (omega arith)
-
-    boundary : IsBoundary text start
-    boundary i e h solid =
-        ⊎_elim {C = white_at text i ≡ true} (λ before. white i (omega arith) (omega arith))
-        (λ at. let same : start ≡ from = omega arith in first i (e ∙ same) (omega arith) (ap (white_at text) (sym same) ∙ solid)) (cases_lt from start)
-
-    some : start < end
-    some = ⊎_elim {C = start < end} (λ h. h)
-        (λ h. let same : end ≡ start = omega arith in absurd (true≢false (sym (behind (omega arith)) ∙ ap (white_at text) same ∙ ink))) (cases_lt start end)
-
-    word : IsWord text (record { start = start; end = end })
-    word = record { nonempty = some; within = short; no_white = inside; white_before = λ i e. boundary i e (omega arith) ink; white_behind = behind }
-
--- a word in a block without a bad byte is clean
-pub clean-word : (text : List ℕ) (base start end : ℕ) → mask is_bad (take 64 (drop base text)) ≡ 0 → base ≤ start → start ≤ end → end ≤ base + 64 → end ≤ length text →
-    ((i : ℕ) → start ≤ i → i < end → white_at text i ≡ false) → is_clean (bytes_of text (record { start = start; end = end })) ≡ true
-unfolding white_at is_bad is_clean
-clean-word text base start end empty low rises high within ink =
-    all-from is_printable text start (end - start) (omega arith)
-    (λ i a b. printable (is_white (get_or text i 0)) (is_printable (get_or text i 0)) (none-in is_bad text base empty i (omega arith) (omega arith) (omega arith)) (ink i a (omega arith)))
-  where
-    printable : (w p : Bool) → (not w && not p) ≡ false → w ≡ false → p ≡ true
-    printable false true h e = refl
-    printable false false h e = absurd (true≢false h)
-    printable true p h e = absurd (true≢false e)

@@ -1,37 +1,21 @@
 //! The words of a text, found from the classes of its blocks of 64 bytes.
 
-ghost use Rattle.std.specs.Prelude.{◌≡◌, ◌<◌, ◌≤◌, ◌+◌, ℕ, Bool, true, not, [], length, take, drop, MatchOption};
+ghost use Rattle.std.specs.Prelude.{◌≡◌, ◌<◌, ◌≤◌, ◌+◌, ◌-◌, ◌||◌, ◌==◌, ℕ, true, false, [], ◌∷◌, length, take, drop, min, IfNone, IfSome, MatchOption, if◌then◌else◌};
 ghost use Rattle.std.specs.Int.{bit_at};
 ghost use Rattle.mm_bytes.specs.Masks.{is_bad, mask};
 ghost use Rattle.mm_spec.specs.Bytes.{is_white};
 ghost use Rattle.mm_spec.specs.Readings.{bytes_of};
-ghost use Rattle.mm_spec.specs.Roles.{is_clean};
-ghost use Rattle.mm_spec.specs.Words.{white_at, words_between, IsNextWord, IsBoundary};
+ghost use Rattle.mm_spec.specs.Words.{begins_word, white_at, words_between, IsWord};
+ghost use Rattle.mm_lex.specs.Plain.{plain_at, IsPlain};
 
+use crate::bytes::is_white;
 use crate::masks::first_one;
 use crate::{TEXT_LIMIT, Word};
-use mm_bytes::{Classes, class_block, class_tail};
-
-/// A text, and the classes of the block of it that was looked at last.
-#[derive(Drop)]
-pub struct Blocks<'a> {
-    text: &'a [u8],
-    base: usize,
-    classes: Classes,
-    ghost within: { base ≤ length text.now },
-    ghost white: { classes.white ≡ mask is_white (take 64 (drop base text.now)) },
-    ghost bad: { classes.bad ≡ mask is_bad (take 64 (drop base text.now)) },
-}
-
-/// A word. Where it is `clean`, it is known to have printable bytes alone.
-#[derive(Clone, Copy)]
-pub struct Found {
-    pub word: Word,
-    pub clean: bool,
-}
+use mm_bytes::{Classes, class_block, class_tail, dollars_block, dollars_tail};
 
 /// The classes of the first 64 bytes, or of all where they are fewer.
-fn classes_of(bytes: &[u8]) -> Classes
+#[inline(always)]
+pub fn classes_of(bytes: &[u8]) -> Classes
     ensures white { result.white ≡ mask is_white (take 64 bytes.now) }
     ensures bad { result.bad ≡ mask is_bad (take 64 bytes.now) }
 {
@@ -41,94 +25,223 @@ fn classes_of(bytes: &[u8]) -> Classes
     }
 }
 
+/// The dollar signs among the first 64 bytes, or among all where they are fewer.
+#[inline(always)]
+fn dollars_of(bytes: &[u8]) -> u64
+    ensures { result ≡ mask (λ b. b == 0x24) (take 64 bytes.now) }
+{
+    match bytes.first_chunk::<64>() {
+        Some(block) => dollars_block(block),
+        None => dollars_tail(bytes),
+    }
+}
+
+/// The first 64 bytes of some, or all where they are fewer, a bit each.
+#[derive(Clone, Copy)]
+struct Marks {
+    white: u64,
+    /// White bytes, bad ones and dollar signs: what ends a word, or keeps it from being plain.
+    stops: u64,
+}
+
+#[inline(always)]
+fn marks_of(bytes: &[u8]) -> Marks
+    ensures white { result.white ≡ mask is_white (take 64 bytes.now) }
+    ensures plain { (i : ℕ) → i < 64 → i < length bytes.now → bit_at result.stops i ≡ 0 → plain_at bytes.now i ≡ true }
+    ensures ink { (i : ℕ) → i < 64 → i < length bytes.now → bit_at result.stops i ≡ 0 → white_at bytes.now i ≡ false }
+{
+    let classes = classes_of(bytes);
+    let dollars = dollars_of(bytes);
+    Marks {
+        white: classes.white,
+        stops: classes.white | classes.bad | dollars,
+    }
+}
+
+/// The zeros of a mask that stand behind a one, the first one where `first` says so.
+#[inline(always)]
+fn starts_of(white: u64, first: bool) -> u64
+    ensures first { bit_at result 0 ≡ (if first then 1 - bit_at white 0 else 0) }
+    ensures next { (i : ℕ) → i + 1 < 64 → bit_at result (i + 1) ≡ min (1 - bit_at white (i + 1)) (bit_at white i) }
+{
+    !white & (white << 1 | u64::from(first))
+}
+
+/// Whether a word may begin at the place: there is a white byte before it, or nothing.
+#[inline(always)]
+#[tactic(auto, unfolding(mm_spec::specs::Words::white_at))]
+fn may_begin(text: &[u8], at: usize) -> bool
+    requires { at ≤ length text.now }
+    ensures { result ≡ (at == 0 || white_at text.now (at - 1)) }
+{
+    at == 0 || is_white(text[at - 1])
+}
+
+/// A text, the block of it at hand, and where in that further words begin.
+#[derive(Clone, Copy)]
+pub struct Blocks<'a> {
+    text: &'a [u8],
+    /// The words that begin before this place are done with.
+    from: usize,
+    base: usize,
+    white: u64,
+    stops: u64,
+    /// Where words begin, from `from` on. Bits behind the text's end tell nothing.
+    starts: u64,
+    ghost within: { base ≤ length text.now },
+    ghost low: { base ≤ from },
+    ghost high: { from ≤ base + 64 },
+    ghost white_is: { white ≡ mask is_white (take 64 (drop base text.now)) },
+    ghost plain: { (i : ℕ) → i < 64 → base + i < length text.now → bit_at stops i ≡ 0 → plain_at text.now (base + i) ≡ true },
+    ghost ink: { (i : ℕ) → i < 64 → base + i < length text.now → bit_at stops i ≡ 0 → white_at text.now (base + i) ≡ false },
+    ghost begins: { (i : ℕ) → i < 64 → base + i < length text.now → bit_at starts i ≡ 1 → begins_word text.now (base + i) ≡ true },
+    ghost further: { (i : ℕ) → i < 64 → bit_at starts i ≡ 1 → from ≤ base + i },
+    ghost none: { (i : ℕ) → i < 64 → base + i < length text.now → from ≤ base + i → bit_at starts i ≡ 0 → begins_word text.now (base + i) ≡ false },
+}
+
+/// A word. Where it is `plain`, it is known to have printable bytes alone, and no `$`.
+#[derive(Clone, Copy)]
+pub struct Found {
+    pub word: Word,
+    pub plain: bool,
+}
+
 impl<'a> Blocks<'a> {
-    /// The block that begins at `base`.
-    pub fn new(text: &'a [u8], base: usize) -> Blocks<'a>
+    /// The block that begins at `base`, with all words that begin in it.
+    fn at(text: &'a [u8], base: usize) -> Blocks<'a>
         requires { base ≤ length text.now }
         ensures text { result.text.now ≡ text.now }
         ensures base { result.base ≡ base }
+        ensures from { result.from ≡ base }
     {
+        let marks = marks_of(&text[base..]);
         Blocks {
             text,
+            from: base,
             base,
-            classes: classes_of(&text[base..]),
+            white: marks.white,
+            stops: marks.stops,
+            starts: starts_of(marks.white, may_begin(text, base)),
         }
     }
 
-    /// Looks at the block with this place.
-    #[inline(always)]
-    fn turn_to(&mut self, at: usize)
-        requires { at < length self.old.text.now }
-        ensures text { self.new.text.now ≡ self.old.text.now }
-        ensures from { self.new.base ≤ at }
-        ensures behind { at < self.new.base + 64 }
+    /// The words of a text that begin at a place from `from` on.
+    pub fn new(text: &'a [u8], from: usize) -> Blocks<'a>
+        requires { from ≤ length text.now }
+        ensures text { result.text.now ≡ text.now }
+        ensures from { result.from ≡ from }
     {
-        if at < self.base || 64 <= at - self.base {
-            *self = Blocks::new(self.text, at - at % 64);
+        let place = from % 64;
+        let block = Blocks::at(text, from - place);
+        Blocks {
+            text: block.text,
+            from,
+            base: block.base,
+            white: block.white,
+            stops: block.stops,
+            starts: block.starts >> place << place,
         }
     }
 
-    /// The bytes of the block that aren't white, or those that are. Bits behind the text's end tell nothing.
+    /// Goes on to the next block.
     #[inline(always)]
-    fn unlike(&self, white: bool) -> u64
-        ensures same { (i : ℕ) → i < 64 → self.now.base + i < length self.now.text.now → bit_at result i ≡ 0 → white_at self.now.text.now (self.now.base + i) ≡ white }
-        ensures other { (i : ℕ) → i < 64 → self.now.base + i < length self.now.text.now → bit_at result i ≡ 1 → white_at self.now.text.now (self.now.base + i) ≡ not white }
-    {
-        if white {
-            !self.classes.white
-        } else {
-            self.classes.white
-        }
-    }
-
-    /// The first place from `from` on whose byte is white, or isn't, other than those that are skipped; else the text's
-    /// end. The block of the byte before it is then at hand.
-    #[inline(always)]
-    fn skip(&mut self, from: usize, white: bool) -> usize
-        requires { from ≤ length self.old.text.now }
+    fn turn(&mut self)
+        requires { self.old.base + 64 ≤ length self.old.text.now }
         ensures text { self.new.text.now ≡ self.old.text.now }
-        ensures from_here { from ≤ result }
-        ensures within { result ≤ length self.old.text.now }
-        ensures skipped { (i : ℕ) → from ≤ i → i < result → white_at self.old.text.now i ≡ white }
-        ensures stops { result < length self.old.text.now → white_at self.old.text.now result ≡ not white }
-        ensures reached { from < length self.old.text.now → result ≤ self.new.base + 64 }
+        ensures base { self.new.base ≡ self.old.base + 64 }
+        ensures from { self.new.from ≡ self.old.base + 64 }
+    {
+        *self = Blocks::at(self.text, self.base + 64);
+    }
+
+    /// The word that begins at `start` in the block at hand, the last one whose beginning was taken; and the blocks from
+    /// its end on.
+    fn word_from(self, start: usize) -> (Blocks<'a>, Found)
+        requires from { self.from ≡ start + 1 }
+        requires low { self.base ≤ start }
+        requires within { start < length self.text.now }
+        requires short { length self.text.now ≤ TEXT_LIMIT }
+        requires ink { white_at self.text.now start ≡ false }
+        ensures text { result.0.text.now ≡ self.entry.text.now }
+        ensures behind { start < result.0.from }
+        ensures none { (i : ℕ) → start < i → i < result.0.from → begins_word self.entry.text.now i ≡ false }
+        ensures start { result.1.word.start ≡ start }
+        ensures order { start ≤ result.1.word.end }
+        ensures within { result.1.word.end ≤ length self.entry.text.now }
+        ensures solid { (i : ℕ) → start ≤ i → i < result.1.word.end → white_at self.entry.text.now i ≡ false }
+        ensures white { result.1.word.end < length self.entry.text.now → white_at self.entry.text.now result.1.word.end ≡ true }
+        ensures plain { result.1.plain ≡ true → (i : ℕ) → start ≤ i → i < result.1.word.end → plain_at self.entry.text.now i ≡ true }
     {
         let len = self.text.len();
-        let mut at = from;
-        while at < len {
-            self.turn_to(at);
-            let found = first_one(self.unlike(white), at - self.base);
-            if found < 64 {
-                return (self.base + found).min(len);
-            }
-            at = (self.base + 64).min(len);
+        let mut blocks = self;
+        let mut white = first_one(blocks.white, start - blocks.base);
+        let mut plain = first_one(blocks.stops, start - blocks.base) == white;
+        while white == 64 && 64 < len - blocks.base {
+            blocks = Blocks::at(self.text, blocks.base + 64);
+            white = first_one(blocks.white, 0);
+            plain = plain && first_one(blocks.stops, 0) == white;
         }
-        len
+        let end = (blocks.base + white).min(len);
+        let word = Word {
+            start: start as u32,
+            end: end as u32,
+        };
+        (blocks, Found { word, plain })
     }
 
-    /// The first word that begins at a place from `from` up to `to`, where no word goes on over either.
+    /// The first further place before `to` at which a word begins; it is taken.
     #[inline(always)]
-    pub fn next_word(&mut self, from: usize, to: usize) -> Option<Found>
-        requires order { from ≤ to }
+    fn next_start(&mut self, to: usize) -> Option<usize>
         requires within { to ≤ length self.old.text.now }
         requires short { length self.old.text.now ≤ TEXT_LIMIT }
-        requires boundary { IsBoundary self.old.text.now from }
-        requires end { IsBoundary self.old.text.now to }
         ensures text { self.new.text.now ≡ self.old.text.now }
-        ensures next { MatchOption result (words_between self.old.text.now from to ≡ []) (λ found. IsNextWord self.old.text.now from to found.word) }
-        ensures clean { MatchOption result (Unit {0}) (λ found. found.clean ≡ true → is_clean (bytes_of self.old.text.now found.word) ≡ true) }
+        ensures before { MatchOption result (words_between self.old.text.now self.old.from to ≡ []) (λ start. (i : ℕ) → self.old.from ≤ i → i < start → begins_word self.old.text.now i ≡ false) }
+        ensures done { IfNone result (words_between self.old.text.now self.new.from to ≡ []) }
+        ensures begins { IfSome result (λ start. begins_word self.old.text.now start ≡ true) }
+        ensures low { IfSome result (λ start. self.old.from ≤ start) }
+        ensures within { IfSome result (λ start. start < to) }
+        ensures base { IfSome result (λ start. self.new.base ≤ start) }
+        ensures from { IfSome result (λ start. self.new.from ≡ start + 1) }
     {
-        let start = self.skip(from, true);
+        while self.starts == 0 {
+            if to <= self.base + 64 {
+                return None;
+            }
+            self.turn();
+        }
+        let place = self.starts.trailing_zeros() as usize;
+        let start = self.base + place;
         if to <= start {
             return None;
         }
-        let end = self.skip(start, false);
-        Some(Found {
-            word: Word {
+        self.starts &= !(1 << place);
+        self.from = start + 1;
+        Some(start)
+    }
+
+    /// The first further word that begins before `to`.
+    #[inline(always)]
+    pub fn next_word(&mut self, to: usize) -> Option<Found>
+        requires within { to ≤ length self.old.text.now }
+        requires short { length self.old.text.now ≤ TEXT_LIMIT }
+        ensures text { self.new.text.now ≡ self.old.text.now }
+        ensures words { MatchOption result (words_between self.old.text.now self.old.from to ≡ []) (λ found. words_between self.old.text.now self.old.from to ≡ found.word ∷ words_between self.old.text.now self.new.from to) }
+        ensures done { IfNone result (words_between self.old.text.now self.new.from to ≡ []) }
+        ensures each { IfSome result (λ found. IsWord self.old.text.now found.word) }
+        ensures plain { IfSome result (λ found. found.plain ≡ true → IsPlain (bytes_of self.old.text.now found.word)) }
+        ensures onward { IfSome result (λ found. self.old.from < self.new.from) }
+    {
+        let start = self.next_start(to)?;
+        let stop = first_one(self.stops, start - self.base);
+        if stop < 64 && (self.white >> stop) & 1 == 1 {
+            let word = Word {
                 start: start as u32,
-                end: end as u32,
-            },
-            clean: self.base <= start && self.classes.bad == 0,
-        })
+                end: (self.base + stop) as u32,
+            };
+            return Some(Found { word, plain: true });
+        }
+        let (blocks, found) = self.word_from(start);
+        *self = blocks;
+        Some(found)
     }
 }

@@ -1,9 +1,10 @@
-//! Where the head of a stretch ends and its tail begins.
+//! Where the head of a stretch ends and its tail begins. Of a long word, blocks of 64 bytes are passed over.
 
 ghost use Rattle.std.specs.Prelude.{◌≡◌, ◌<◌, ◌≤◌, ◌+◌, true, ℕ, length, MatchOption};
 ghost use Rattle.mm_lex.specs.Stretches.{NoWhite, IsBroken, IsUnbroken};
 ghost use Rattle.mm_spec.specs.Words.{white_at};
 
+use crate::blocks::classes_of;
 use crate::bytes::is_white;
 
 /// The place of the first white byte from `from` on, or `to`.
@@ -17,6 +18,9 @@ fn first_white(text: &[u8], from: usize, to: usize) -> usize
     ensures white { result < to → white_at text.now result ≡ true }
 {
     let mut place = from;
+    while 64 <= to - place && classes_of(&text[place..]).white == 0 {
+        place += 64;
+    }
     while place < to && !is_white(text[place]) {
         place += 1;
     }
@@ -34,6 +38,9 @@ fn behind_white(text: &[u8], from: usize, to: usize) -> usize
     ensures white { (i : ℕ) → i + 1 ≡ result → from ≤ i → white_at text.now i ≡ true }
 {
     let mut place = to;
+    while 64 <= place - from && classes_of(&text[place - 64..]).white == 0 {
+        place -= 64;
+    }
     while place > from && !is_white(text[place - 1]) {
         place -= 1;
     }

@@ -6,11 +6,10 @@ ghost use Rattle.mm_lex.specs.Pieces.{fault_in_mode, head_of, resolved, stretch,
 ghost use Rattle.mm_lex.specs.Inners.{between, side};
 ghost use Rattle.mm_lex.specs.Stretches.{joined_word};
 ghost use Rattle.mm_spec.specs.Lexed.{fault_in, lexical_fault, tokens_of};
-ghost use Rattle.mm_spec.specs.Words.{words_between, IsBoundary};
+ghost use Rattle.mm_spec.specs.Words.{words_between};
 
 use crate::blocks::Blocks;
 use crate::ends::bounds;
-use crate::roles::is_plain;
 use crate::rows::{Opened, Row};
 use crate::{Code, Fault, Lexed, TEXT_LIMIT, Word};
 use std::alloc::{AllocError, Allocator};
@@ -135,7 +134,7 @@ impl<A: Allocator> Inner<A> {
     }
 }
 
-/// The words between two places over which no word goes on, read in both modes.
+/// The words that begin between two places, read in both modes.
 fn lex_inner<A: Allocator + Copy>(
     alloc: A,
     text: &[u8],
@@ -145,22 +144,22 @@ fn lex_inner<A: Allocator + Copy>(
     requires order { head ≤ tail }
     requires within { tail ≤ length text.now }
     requires short { length text.now ≤ TEXT_LIMIT }
-    requires head { IsBoundary text.now head }
-    requires tail { IsBoundary text.now tail }
     ensures head { IfOk result (λ inner. inner.head ≡ head) }
     ensures tail { IfOk result (λ inner. inner.tail ≡ tail) }
     ensures readings { IfOk result (λ inner. AreReadings text.now (words_between text.now head tail) (side inner.outside) (side inner.inside)) }
 {
     let mut outside = Row::new(alloc, Opened::Nowhere);
     let mut inside = Row::new(alloc, Opened::Before);
-    let mut blocks = Blocks::new(text, head - head % 64);
-    let mut at = head;
-    while let Some(found) = blocks.next_word(at, tail) {
-        let word = found.word;
-        let plain = found.clean && is_plain(&text[word.start as usize..word.end as usize]);
-        outside.read_word(text, word, plain)?;
-        inside.read_word(text, word, plain)?;
-        at = word.end as usize;
+    let mut blocks = Blocks::new(text, head);
+    while inside.fault.is_none()
+        && let Some(found) = blocks.next_word(tail)
+    {
+        outside.read_word(text, found.word, found.plain)?;
+        inside.read_word(text, found.word, found.plain)?;
+    }
+    // Behind its fault the reading inside a comment stays as it is.
+    while let Some(found) = blocks.next_word(tail) {
+        outside.read_word(text, found.word, found.plain)?;
     }
     Ok(Inner {
         head: head as u32,

@@ -73,15 +73,6 @@ fn is_comment_word(word: &[u8]) -> bool
     is_clean(word) && !has_mark(word)
 }
 
-/// Whether a word whose bytes are printable has no `$`.
-#[inline(always)]
-pub fn is_plain(word: &[u8]) -> bool
-    requires { is_clean word.now ≡ true }
-    ensures { result ≡ true → IsPlain word.now }
-{
-    !has_dollar(word)
-}
-
 /// What a word is, of which it may be known that it is plain.
 #[inline(always)]
 pub fn role(in_comment: bool, plain: bool, word: &[u8]) -> Role

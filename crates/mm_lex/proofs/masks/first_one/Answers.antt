@@ -1,4 +1,4 @@
-use Rattle.std.proofs.Common.{arith, ◌^◌, ◌<◌, ◌/◌, ◌≤◌}
+use Rattle.std.proofs.Common.{arith, ◌^◌, ◌<◌, ◌/◌}
 use Rattle.std.proofs.Math.Nat.{div-le_self}
 use Rattle.mm_lex.proofs.MaskFacts.{none-left, next-one, next-zeros, next-within}
 use Rattle.mm_lex.proofs.masks.first_one.Goals as goal

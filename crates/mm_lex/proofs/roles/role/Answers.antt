@@ -1,4 +1,4 @@
-use Rattle.std.proofs.Common.{◌≡◌, ◌∙◌, Bool, sym, ap}
+use Rattle.std.proofs.Common.{◌∙◌, Bool, sym, ap}
 use Rattle.mm_spec.specs.Roles.{role_of}
 use Rattle.mm_lex.proofs.RolesLemmas.{plain-token, plain-comment}
 use Rattle.mm_lex.proofs.roles.role.Goals as goal
