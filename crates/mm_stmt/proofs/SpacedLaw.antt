@@ -1,5 +1,5 @@
 -- Labels side by side: one more, and those between two places.
-use Rattle.std.proofs.Common.{◌≡◌, ℕ, ◌+◌, ◌-◌, ◌<◌, ◌≤◌, List, [], ◌∷◌, ◌++◌, length, flat_map, take, drop, get_or, slice_range, map, All, IsTrue, Bool, true, false, Option, Some, None, refl, sym, ap, ap₂, ◌∙◌, arith, append_assoc, append-nil, length-append, ◌⊎◌, inl, inr}
+use Rattle.std.proofs.Common.{◌≡◌, ℕ, ◌+◌, ◌-◌, ◌<◌, ◌≤◌, List, [], ◌∷◌, ◌++◌, length, flat_map, take, drop, get_or, slice_range, map, All, IsTrue, true, false, Some, None, sym, ap, ap₂, ◌∙◌, arith, append-nil, length-append, ◌⊎◌, inl, inr}
 use Rattle.std.specs.List.{list_any, range_with_len}
 use Rattle.std.proofs.lemmas.List.{get_or_push, get_or_append_left, take-append-le, take-append-drop, take-map, drop-map, length-map}
 use Rattle.std.proofs.lemmas.List.Elements.{All-from_recursion}
@@ -57,9 +57,6 @@ prefix-within f xs i =
     omega (arith, e)
 
 -- ---- the labels
-
-pub spaced_none : AreSpaced [] [] (0 ∷ [])
-spaced_none = record { bytes_are = refl; count = refl; start = λ i h. let e : 0 ≡ i = omega (arith, h) in ap (λ n. get_or (0 ∷ []) n 0) (sym e) ∙ ap (λ n. length (spaced (take n []))) e }
 
 -- one label more
 pub spaced_more : (labels : List (List ℕ)) (bytes starts label : List ℕ) → AreSpaced labels bytes starts → AreSpaced (labels ++ label ∷ []) (bytes ++ 32 ∷ label) (starts ++ length (bytes ++ 32 ∷ label) ∷ [])

@@ -97,11 +97,11 @@ pub record Fields : Type 0 where
   pub skips : List ℕ
   pub theorems : List ℕ
   pub axioms : List ℕ
-  pub bytes : List ℕ
-  pub starts : List ℕ
+  pub label_bytes : List ℕ
+  pub label_starts : List ℕ
 
 abbrev pub fields : Lists → (List ℕ → Option ℕ) → List (List ℕ) → List Bool → List ℕ → List ℕ → List (List ℕ) → List (List Pair) → List (ℕ × ℕ) → List ℕ → List ℕ → List ℕ → List ℕ → List ℕ → Fields
-fields b f ns vs xs ps hs ds ms ks ts cs bs ss = record { blocks = b; find = f; names = ns; variables = vs; numbers = xs; places = ps; hyps = hs; pairs = ds; members = ms; skips = ks; theorems = ts; axioms = cs; bytes = bs; starts = ss }
+fields b f ns vs xs ps hs ds ms ks ts cs bs ss = record { blocks = b; find = f; names = ns; variables = vs; numbers = xs; places = ps; hyps = hs; pairs = ds; members = ms; skips = ks; theorems = ts; axioms = cs; label_bytes = bs; label_starts = ss }
 
 -- the fields are those of the statements, and these are the reading of the text
 pub record IsDatabase (text : List ℕ) (ws : List Word) (os : List Outline) (fault : Option Fault) (f : Fields) : Type 0 where
@@ -117,6 +117,6 @@ pub record IsDatabase (text : List ℕ) (ws : List Word) (os : List Outline) (fa
   pub members_are : AreMembers (statements text ws os) f.blocks f.members f.skips
   pub theorems_are : f.theorems ≡ theorems (statements text ws os)
   pub axioms_are : f.axioms ≡ columns (statements text ws os) None
-  pub spaced : AreSpaced (map (label_at (statements text ws os)) (theorems (statements text ws os))) f.bytes f.starts
+  pub spaced : AreSpaced (map (label_at (statements text ws os)) (theorems (statements text ws os))) f.label_bytes f.label_starts
   pub few_symbols : length f.names < 2 ^ 31
   pub read : IsRead (length text) (lexed_of text) (statements text ws os) fault

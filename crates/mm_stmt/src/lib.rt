@@ -15,7 +15,7 @@ pub mod names;
 pub mod numbers;
 pub mod parts;
 pub mod reader;
-pub mod spaced;
+mod spaced;
 pub mod symbol;
 pub mod symbols;
 pub mod tables;

@@ -65,3 +65,40 @@ fn stops_where_a_statement_is_at_fault(rt: HostRuntime) -> Result<(), AllocError
     }
     Ok(())
 }
+
+/// The labels of the theorems with the indices from the one up to the other; none where there are not so many.
+fn labels_between<R: Threads + Sync>(
+    rt: &R,
+    alloc: Global,
+    text: &[u8],
+    from: u32,
+    to: u32,
+) -> Result<Vec<u8>, AllocError>
+    requires { length text.now ≤ 2147483647 }
+{
+    let cuts = Cuts::equal(alloc, text.len(), 1)?;
+    let lexed = lex(rt, alloc, text, &cuts)?;
+    let database = read(alloc, text, &lexed)?;
+    if from <= to && to as usize <= database.theorems().len() {
+        database.spaced_labels(from, to).to_vec(alloc)
+    } else {
+        Ok(Vec::new(alloc))
+    }
+}
+
+#[test]
+fn lends_labels_of_neighbours_as_one(rt: HostRuntime) -> Result<(), AllocError> {
+    let text: &[u8] = b"$c a $. x $p a $= ? $. y $a a $. zz $p a $= ? $. t $p a $= ? $.";
+    let rows: [(u32, u32, &[u8]); 5] = [
+        (0, 3, b" x zz t"),
+        (0, 1, b" x"),
+        (1, 3, b" zz t"),
+        (1, 1, b""),
+        (3, 3, b""),
+    ];
+    for (from, to, labels) in rows {
+        let found = labels_between(&rt, rt.alloc(), text, from, to)?;
+        assert_eq!(rt; found.as_slice(), labels);
+    }
+    Ok(())
+}

@@ -2,7 +2,7 @@ use Rattle.std.proofs.Common.{◌≡◌, ◌∙◌, ◌≤◌, length, slice_ran
 use Rattle.mm_spec.specs.Output.{theorems, label_at}
 use Rattle.mm_stmt.specs.Read.{statements}
 use Rattle.mm_stmt.specs.Database.{Known}
-use Rattle.mm_stmt.proofs.SpacedLaw.{AreBetween, theorems_between}
+use Rattle.mm_stmt.proofs.SpacedLaw.{theorems_between}
 use Rattle.mm_stmt.proofs.database.Database.spaced_labels.Goals as goal
 
 pub slice_bounds-result-count : goal.slice_bounds-result-count
@@ -12,10 +12,7 @@ slice_bounds-result-count g c =
     (theorems_between (statements f.text.now f.words.items f.outlines.items) f.spaced.bytes.items f.spaced.starts.items c.self.invariant.spaced c.args.from c.args.to _ _ c.requires.order within c.index-begin.ensures c.index-end.ensures).order
 
 pub slice_bounds-result-start : goal.slice_bounds-result-start
-slice_bounds-result-start g c =
-    let f = c.self.inside in
-    let within = subst (λ (n : Known). c.args.to ≤ length (theorems n.statements)) (sym c.self.view_is) c.requires.within in
-    (theorems_between (statements f.text.now f.words.items f.outlines.items) f.spaced.bytes.items f.spaced.starts.items c.self.invariant.spaced c.args.from c.args.to _ _ c.requires.order within c.index-begin.ensures c.index-end.ensures).order
+slice_bounds-result-start g c = slice_bounds-result-count g c
 
 pub slice_bounds-result-end : goal.slice_bounds-result-end
 slice_bounds-result-end g c =
