@@ -1,5 +1,5 @@
 -- Statements that are selected, and their labels.
-use Rattle.std.proofs.Common.{◌≡◌, ℕ, zero, suc, ◌+◌, ◌-◌, ◌<◌, Bool, true, false, List, ◌∷◌, length, get_or, map, take, drop, All, arith, sym, ap, ◌∙◌}
+use Rattle.std.proofs.Common.{◌≡◌, ℕ, zero, suc, ◌+◌, ◌-◌, ◌<◌, ◌≤◌, Bool, true, false, List, [], ◌∷◌, length, get_or, map, take, drop, All, arith, length-take, length-drop, sym, ap, ◌∙◌}
 use Rattle.std.specs.Prelude.{flat_map, slice_range}
 use Rattle.std.specs.List.{range_with_len}
 use Rattle.std.proofs.lemmas.List.{take-map, drop-map}
@@ -27,3 +27,11 @@ pub spaced-map : (f : ℕ → Word) (ks : List ℕ) (from to : ℕ) → flat_map
 spaced-map f ks from to =
     sym (flat_map-map (λ (l : Word). 32 ∷ l) f (slice_range ks from to))
     ∙ ap (flat_map (λ (l : Word). 32 ∷ l)) (sym (ap (take (to - from)) (drop-map f from ks) ∙ take-map f (to - from) (drop from ks)))
+
+-- labels of neighbours, each behind a space, are some bytes
+pub some_spaced : (names : List Word) (from to : ℕ) → from < to → to ≤ length names → 0 < length (flat_map (λ (l : Word). 32 ∷ l) (slice_range names from to))
+some_spaced names from to order within = some (slice_range names from to) (simp (length-take, length-drop) (omega arith))
+  where
+    some : (ls : List Word) → 0 < length ls → 0 < length (flat_map (λ (l : Word). 32 ∷ l) ls)
+    some [] none = absurd (omega arith)
+    some (l ∷ ls) none = omega arith

@@ -50,7 +50,8 @@ impl<'d, 'a, D: Allocator> TheoremLabels<'d, 'a, D> {
     pub fn spaced(&self, from: u32, to: u32) -> &'d [u8]
         requires order { from ≤ to }
         requires within { to ≤ length self.now }
-        ensures { result.now ≡ flat_map (λ l. 32 ∷ l) (slice_range self.now from to) }
+        ensures labels { result.now ≡ flat_map (λ l. 32 ∷ l) (slice_range self.now from to) }
+        ensures some { from < to → 0 < length result.now }
     {
         self.database.spaced_labels(from, to)
     }

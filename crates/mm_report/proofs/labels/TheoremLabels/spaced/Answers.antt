@@ -1,12 +1,13 @@
-use Rattle.std.proofs.Common.{List, ◌∷◌, ap, ◌∙◌}
+use Rattle.std.proofs.Common.{List, ℕ, ◌<◌, ◌∷◌, length, sym, ap, subst, ◌∙◌}
 use Rattle.std.specs.Prelude.{flat_map, slice_range}
 use Rattle.mm_spec.specs.Text.{Word}
 use Rattle.mm_spec.specs.Output.{label_at, theorems}
-use Rattle.mm_report.proofs.LabelFacts.{spaced-map}
+use Rattle.mm_report.proofs.LabelFacts.{spaced-map, some_spaced}
 use Rattle.mm_report.proofs.labels.TheoremLabels.spaced.Goals as goal
 
 pub returns : goal.returns
 returns g c =
     let db = c.self.inside.database.now.statements in
-    c.spaced_labels.ensures ∙ spaced-map (label_at db) (theorems db) c.args.from c.args.to
-    ∙ ap (λ (ls : List Word). flat_map (λ (l : Word). 32 ∷ l) (slice_range ls c.args.from c.args.to)) c.self.view_is
+    let whole = c.spaced_labels.ensures ∙ spaced-map (label_at db) (theorems db) c.args.from c.args.to
+    ∙ ap (λ (ls : List Word). flat_map (λ (l : Word). 32 ∷ l) (slice_range ls c.args.from c.args.to)) c.self.view_is in
+    record { labels = whole; some = λ lt. subst (λ (bytes : List ℕ). 0 < length bytes) (sym whole) (some_spaced c.args.self.now c.args.from c.args.to lt c.requires.within) }
