@@ -92,40 +92,39 @@ row_byte bits across i at b lt =
     ap (λ x. eqb x 1) (byte_bit (get_or bits (i * across + at / 8) 0) (8 * (at % 8)) b lt)
     ∙ sym (ap₂ (λ x y. eqb (bit_at (get_or bits x 0) y) 1) (spot_word across i (8 * at + b) ∙ ap (λ x. i * across + x) q) (spot_bit across i (8 * at + b) ∙ r))
 
--- the bytes of the rows from first up to n are there
+-- the bytes of the first n of the rows from first on are there
 pub record BytesTo (across : ℕ) (bits : List ℕ) (at : ℕ) (bytes : List ℕ) (first n : ℕ) : Type 0 where
   pub size : length bytes ≡ 64
-  pub done : (k b : ℕ) → k < 64 → first + k < n → b < 8 → eqb (bit_at (get_or bytes k 0) b) 1 ≡ is_bit bits (spot across (first + k) (8 * at + b))
-  pub left : (k : ℕ) → k < 64 → n ≤ first + k → get_or bytes k 0 ≡ 0
+  pub done : (k b : ℕ) → k < n → b < 8 → eqb (bit_at (get_or bytes k 0) b) 1 ≡ is_bit bits (spot across (first + k) (8 * at + b))
+  pub left : (k : ℕ) → n ≤ k → k < 64 → get_or bytes k 0 ≡ 0
 
-pub bytes_none : (across : ℕ) (bits : List ℕ) (at first : ℕ) → BytesTo across bits at (replicate 64 0) first first
-bytes_none across bits at first = let none : ℕ = 0 in record { size = length-replicate 64 none; done = λ k b lt less small. absurd (omega arith); left = λ k lt le. get_or-replicate 64 k none none lt }
+pub bytes_none : (across : ℕ) (bits : List ℕ) (at first : ℕ) → BytesTo across bits at (replicate 64 0) first 0
+bytes_none across bits at first = let none : ℕ = 0 in record { size = length-replicate 64 none; done = λ k b less small. absurd (omega arith); left = λ k le lt. get_or-replicate 64 k none none lt }
 
-pub bytes_more : (across : ℕ) (bits : List ℕ) (at : ℕ) (bytes : List ℕ) (first n : ℕ) → first ≤ n → n < first + 64 → BytesTo across bits at bytes first n
-    → BytesTo across bits at (set bytes (n - first) (bit_and (get_or bits (n * across + at / 8) 0 / 2 ^ (8 * (at % 8))) 255)) first (n + 1)
-bytes_more across bits at bytes first n from within h = record {
-  size = omega (arith, h.size, length-set bytes (n - first) byte);
-  done = λ k b lt less small. go k b lt less small (cases_eq k (n - first));
-  left = λ k lt le. let ne : k ≡ n - first → ⊥ = λ e. omega arith in get_or-set_other bytes (n - first) k byte 0 ne ∙ h.left k lt (omega arith);
+pub bytes_more : (across : ℕ) (bits : List ℕ) (at : ℕ) (bytes : List ℕ) (first n : ℕ) → n < 64 → BytesTo across bits at bytes first n
+    → BytesTo across bits at (set bytes n (bit_and (get_or bits ((first + n) * across + at / 8) 0 / 2 ^ (8 * (at % 8))) 255)) first (n + 1)
+bytes_more across bits at bytes first n within h = record {
+  size = length-set bytes n byte ∙ h.size;
+  done = λ k b less small. go k b less small (cases_eq k n);
+  left = λ k le lt. let ne : k ≡ n → ⊥ = λ e. omega arith in get_or-set_other bytes n k byte 0 ne ∙ h.left k (omega arith) lt;
 }
   where
     byte : ℕ
-    byte = bit_and (get_or bits (n * across + at / 8) 0 / 2 ^ (8 * (at % 8))) 255
+    byte = bit_and (get_or bits ((first + n) * across + at / 8) 0 / 2 ^ (8 * (at % 8))) 255
 
-    go : (k b : ℕ) → k < 64 → first + k < n + 1 → b < 8 → (k ≡ n - first) ⊎ (k ≡ n - first → ⊥) → eqb (bit_at (get_or (set bytes (n - first) byte) k 0) b) 1 ≡ is_bit bits (spot across (first + k) (8 * at + b))
-    go k b lt less small (inl e) =
-        let here : n ≡ first + k = omega arith in
-        ap (λ x. eqb (bit_at (get_or (set bytes (n - first) byte) x 0) b) 1) e
-        ∙ ap (λ x. eqb (bit_at x b) 1) (get_or-set_same bytes (n - first) byte 0 (let s = h.size in omega (arith, s)))
-        ∙ row_byte bits across n at b small ∙ ap (λ x. is_bit bits (spot across x (8 * at + b))) here
-    go k b lt less small (inr ne) = ap (λ x. eqb (bit_at x b) 1) (get_or-set_other bytes (n - first) k byte 0 ne) ∙ h.done k b lt (omega arith) small
+    go : (k b : ℕ) → k < n + 1 → b < 8 → (k ≡ n) ⊎ (k ≡ n → ⊥) → eqb (bit_at (get_or (set bytes n byte) k 0) b) 1 ≡ is_bit bits (spot across (first + k) (8 * at + b))
+    go k b less small (inl e) =
+        ap (λ x. eqb (bit_at (get_or (set bytes n byte) x 0) b) 1) e
+        ∙ ap (λ x. eqb (bit_at x b) 1) (get_or-set_same bytes n byte 0 (let s = h.size in omega (arith, s)))
+        ∙ row_byte bits across (first + n) at b small ∙ ap (λ x. is_bit bits (spot across (first + x) (8 * at + b))) (sym e)
+    go k b less small (inr ne) = ap (λ x. eqb (bit_at x b) 1) (get_or-set_other bytes n k byte 0 ne) ∙ h.done k b (omega arith) small
 
-pub all_bytes : (rows across : ℕ) (bits : List ℕ) (w at : ℕ) (bytes : List ℕ) (end : ℕ) → end ≤ rows → min (64 * w + 64) rows ≤ end → BytesTo across bits at bytes (64 * w) end → AreRowBytes rows across bits w at bytes
-all_bytes rows across bits w at bytes end most least h k b lt small = go (cases_lt (64 * w + k) end)
+pub all_bytes : (rows across : ℕ) (bits : List ℕ) (w at : ℕ) (bytes : List ℕ) (n : ℕ) → min (rows - 64 * w) 64 ≤ n → 64 * w + n ≤ rows → BytesTo across bits at bytes (64 * w) n → AreRowBytes rows across bits w at bytes
+all_bytes rows across bits w at bytes n least most h k b lt small = go (cases_lt k n)
   where
-    go : (64 * w + k < end) ⊎ (end ≤ 64 * w + k) → eqb (bit_at (get_or bytes k 0) b) 1 ≡ in_row rows across bits (64 * w + k) (8 * at + b)
-    go (inl l) = h.done k b lt l small ∙ sym (in_row_within rows across bits (64 * w + k) (8 * at + b) (omega arith))
-    go (inr g) = ap (λ x. eqb (bit_at x b) 1) (h.left k lt g) ∙ ap (λ x. eqb x 1) (bit_at-zero b) ∙ sym (in_row_past rows across bits (64 * w + k) (8 * at + b) (omega arith))
+    go : (k < n) ⊎ (n ≤ k) → eqb (bit_at (get_or bytes k 0) b) 1 ≡ in_row rows across bits (64 * w + k) (8 * at + b)
+    go (inl l) = h.done k b l small ∙ sym (in_row_within rows across bits (64 * w + k) (8 * at + b) (omega arith))
+    go (inr g) = ap (λ x. eqb (bit_at x b) 1) (h.left k g lt) ∙ ap (λ x. eqb x 1) (bit_at-zero b) ∙ sym (in_row_past rows across bits (64 * w + k) (8 * at + b) (omega arith))
 
 -- the word of a column whose bits are those of the bytes
 pub lane_is_word : (rows across : ℕ) (bits : List ℕ) (w at : ℕ) (bytes : List ℕ) (j word : ℕ) → AreRowBytes rows across bits w at bytes → 8 * at ≤ j → j < 8 * at + 8
@@ -213,15 +212,6 @@ written_block rows columns bits turned w from le h = record {
     go : (j v : ℕ) → j < columns → v < w + 1 → v < words_for rows → (v ≡ w) ⊎ (v ≡ w → ⊥) → IsColumnWord rows (words_for columns) bits v j (get_or turned (j * words_for rows + v) 0)
     go j v a b d (inl e) = subst (λ x. IsColumnWord rows (words_for columns) bits x j (get_or turned (j * words_for rows + x) 0)) (sym e) (h.done j a (omega arith))
     go j v a b d (inr ne) = h.before j v a (omega arith) d
-
-pub written_none : (rows columns : ℕ) (bits turned : List ℕ) → length turned ≡ columns * words_for rows → ((k : ℕ) → get_or turned k 0 ≡ 0) → Written rows columns bits turned 0 0
-written_none rows columns bits turned size empty = record {
-  size = size;
-  before = λ j v a b d. absurd (omega arith);
-  done = λ j a b. absurd (omega arith);
-  left = λ j a b d. empty (j * words_for rows + 0);
-  after = λ j v a b d. empty (j * words_for rows + v);
-}
 
 -- all blocks are written
 pub written_all : (rows columns : ℕ) (bits turned : List ℕ) (w : ℕ) → words_for rows ≤ w → Written rows columns bits turned w 0 → AreTurned rows columns bits turned
