@@ -9,7 +9,6 @@ use Rattle.mm_proof.specs.Read.{step_of}
 use Rattle.mm_proof.specs.Refused.{StartsWith}
 use Rattle.mm_proof.specs.declared.letters.Begun.{Begun}
 use Rattle.mm_proof.specs.declared.placed.Step.{Step}
-use Rattle.mm_proof.specs.declared.placed.Step.TheVariants.{Label, Marked}
 use Rattle.mm_proof.specs.declared.refused.ProofRefused.{ProofRefused}
 
 -- the labels that have numbers, the steps that were marked, the number whose last letter is missing, and the steps

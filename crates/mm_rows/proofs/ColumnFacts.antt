@@ -1,7 +1,6 @@
 -- Columns, as a selection among the axioms.
-use Rattle.std.proofs.Common.{◌≡◌, ℕ, zero, suc, ◌+◌, ◌<◌, ◌≤◌, ◌^◌, Bool, true, false, ◌&&◌, ◌||◌, List, [], ◌∷◌, ◌++◌, length, take, get_or, map, slice_get, Option, Some, None, refl, sym, ap, ap₂, ◌∙◌, subst, arith, true≢false, bytes_eq, ◌⊎◌, inl, inr, if◌then◌else◌}
+use Rattle.std.proofs.Common.{◌≡◌, ℕ, Bool, true, false, ◌&&◌, ◌||◌, List, [], ◌∷◌, ◌++◌, length, map, slice_get, Option, Some, None, refl, sym, ap, ap₂, ◌∙◌, true≢false, bytes_eq, if◌then◌else◌}
 use Rattle.std.specs.List.{list_any, range_with_len}
-use Rattle.std.proofs.lemmas.Bool.{cases_lt, and_parts}
 use Rattle.mm_spec.specs.Text.{Word, Token, words}
 use Rattle.mm_spec.specs.Statement.{Statement, constants, variables, disjoint, floating, essential, axiomatic, provable, opening, closing}
 use Rattle.mm_spec.specs.Scope.{those, statement_at}
@@ -10,7 +9,6 @@ use Rattle.mm_spec.specs.Frame.{symbol_names, place_of}
 use Rattle.mm_spec.proofs.Finds.{found_at, statement_at-is, formula_at-is}
 use Rattle.mm_spec.proofs.Faultless.{place_get}
 use Rattle.mm_stmt.specs.Database.{typecode_of, is_labelled_kind, kind_of}
-use Rattle.mm_work.specs.Citing.{IsRising}
 
 -- a selection of a selection
 pub those-those : (p q r : ℕ → Bool) (xs : List ℕ) → ((x : ℕ) → r x ≡ (p x && q x)) → those q (those p xs) ≡ those r xs

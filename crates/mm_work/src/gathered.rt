@@ -1,6 +1,6 @@
 //! The workers at one board, and what they found together.
 
-ghost use Rattle.std.specs.Prelude.{◌≡◌, ◌<◌, ◌≤◌, All, IfOk, IfSome, false, length};
+ghost use Rattle.std.specs.Prelude.{◌≡◌, ◌<◌, ◌≤◌, All, IfNone, IfOk, IfSome, false, length};
 ghost use Rattle.mm_spec.specs.Output.{theorems};
 ghost use Rattle.mm_work.specs.Workers.{IsReady, IsDone, AreGathered};
 
@@ -30,11 +30,12 @@ pub(crate) struct Gathered<A: Allocator> {
     pub found: Vec<Found<A>, A>,
 }
 
-/// A seat for one more worker.
+/// A seat for one more worker; none where the seat has no share to give.
 fn split<A: Allocator>(board: &Board<A>, seat: &mut Seat) -> Option<Seat>
     requires { IsReady board.now seat.old }
     ensures own { IsReady board.now seat.new }
     ensures other { IfSome result (λ new. IsReady board.now new) }
+    ensures last { IfNone result (seat.old.view.share ≡ 1) }
 {
     board.split(seat).ok()
 }

@@ -9,6 +9,6 @@ use Rattle.mmdepend.specs.declared.run.RunEnd.TheVariants.{Accepted, Refused, Re
 pub ends-so : (end : RunEnd) (text : List ℕ) (only : Option Word) (choice : Choice) (before after held holds : Option (List ℕ)) → Gave before after text → Answers end text only choice held holds → Ends end only choice before after held holds
 ends-so Accepted text only choice before after held holds g a = (text, g, a)
 ends-so (Refused f) text only choice before after held holds g a = (text, g, a)
-ends-so ReadFailed text only choice before after held holds g a = a
+ends-so ReadFailed text only choice before after held holds g a = absurd a
 ends-so WriteFailed text only choice before after held holds g a = (text, g, a)
 ends-so NoMemory text only choice before after held holds g a = a

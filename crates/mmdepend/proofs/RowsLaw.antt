@@ -1,8 +1,7 @@
 -- The report that is written is that of the definitions: a mark stands for a chain of citations.
-use Rattle.std.proofs.Common.{◌≡◌, ℕ, zero, suc, ◌+◌, ◌<◌, ◌≤◌, Bool, true, false, List, [], ◌∷◌, length, map, get_or, Option, refl, sym, ap, ap₂, ◌∙◌, subst, arith, ◌↔◌, inr}
+use Rattle.std.proofs.Common.{◌≡◌, ℕ, zero, suc, ◌<◌, Bool, false, List, [], ◌∷◌, length, map, get_or, Option, refl, sym, ap, subst, arith, ◌↔◌, inr}
 use Rattle.std.specs.Prelude.{Decides}
-use Rattle.std.specs.List.{AllZip, range_with_len}
-use Rattle.std.proofs.lemmas.List.{length-map}
+use Rattle.std.specs.List.{AllZip}
 use Rattle.std.proofs.lemmas.List.FromFn.{get_or-map-range_with_len, length-map-range_with_len}
 use Rattle.mm_spec.specs.Text.{Word}
 use Rattle.mm_spec.specs.Statement.{Statement}
@@ -10,7 +9,7 @@ use Rattle.mm_spec.specs.Citation as proof
 use Rattle.mm_spec.specs.Report.{Row, Choice, report}
 use Rattle.mm_spec.specs.Output.{IsRowOf, theorems, columns, label_at, lexed_of, HasNoFault, IsOutput}
 use Rattle.mm_work.specs.Citing.{Citing, theorem_at}
-use Rattle.mm_rows.specs.Chains.{Marks, mark, IsMatrix, RestsOn}
+use Rattle.mm_rows.specs.Chains.{Marks, mark, IsMatrix}
 use Rattle.mm_work.specs.Citing.{Shows}
 use Rattle.mm_rows.proofs.ShowsFacts.{alike}
 use Rattle.mm_report.specs.Rows.{row_of, rows_of, marks_of, report_of}

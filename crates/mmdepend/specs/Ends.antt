@@ -18,13 +18,14 @@ Gave before after text = Consumes before after text × (IsAtEnd after ⊎ (lengt
 
 -- What is written for a text. It has no fault where it is accepted, and its output is written; else the first fault is
 -- the one that is answered, and its refusal is written. Where a write failed, a beginning of the output is written.
+-- Of a text that was read, none answers that reading failed.
 abbrev pub Answers : RunEnd → List ℕ → Option Word → Choice → (held holds : Option (List ℕ)) → Type 0
 Answers Accepted text only choice held holds =
     ((db : List Statement) × HasNoFault (length text) (lexed_of text) db) × ((bytes : List ℕ) × IsOutput text only choice bytes × Appends held holds bytes)
 Answers (Refused f) text only choice held holds =
     FirstFault (length text) (lexed_of text) f × IsOutput text only choice (refusal text f) × Appends held holds (refusal text f)
 Answers WriteFailed text only choice held holds = (bytes : List ℕ) × (k : ℕ) × IsOutput text only choice bytes × Appends held holds (take k bytes)
-Answers ReadFailed text only choice held holds = Keeps held holds
+Answers ReadFailed text only choice held holds = ⊥
 Answers NoMemory text only choice held holds = Keeps held holds
 
 -- The bytes written are those of the text that was read; none where reading failed or memory was refused.

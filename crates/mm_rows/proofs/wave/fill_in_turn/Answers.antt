@@ -1,8 +1,5 @@
-use Rattle.std.proofs.Common.{ℕ, List, ◌≡◌, ◌<◌, ◌∙◌, ◌*◌, length, get_or, subst, sym, ap, arith, refl}
-use Rattle.mm_rows.specs.Bits.{words_for}
-use Rattle.mm_work.specs.Citing.{theorem_at}
-use Rattle.mm_rows.specs.Chains.{IsBitRow, IsReady, row_at}
-use Rattle.mm_rows.proofs.TurnFacts.{row_end}
+use Rattle.std.proofs.Common.{ℕ, ◌≡◌, ◌∙◌, get_or, subst, arith, refl}
+use Rattle.mm_rows.specs.Chains.{row_at}
 use Rattle.mm_rows.proofs.WaveFacts.{made_more, ready_still}
 use Rattle.mm_rows.proofs.wave.fill_in_turn.Goals as goal
 

@@ -1,7 +1,7 @@
-use Rattle.std.proofs.Common.{ℕ, List, ◌≡◌, ◌<◌, ◌≤◌, ◌+◌, ◌-◌, ◌∙◌, ◌*◌, All, slice_range, length, get_or, subst, sym, ap, arith, refl}
+use Rattle.std.proofs.Common.{ℕ, List, ◌≡◌, ◌<◌, ◌≤◌, ◌+◌, ◌-◌, ◌∙◌, slice_range, length, get_or, subst, sym, ap, arith}
 use Rattle.std.proofs.lemmas.Grind.{get_or_default_zero}
-use Rattle.mm_rows.specs.Chains.{IsReady, AreBitRows}
-use Rattle.mm_rows.proofs.WaveFacts.{made_start, wave_ready, made_wave, made_all, part_length, part_at}
+use Rattle.mm_rows.specs.Chains.{IsReady}
+use Rattle.mm_rows.proofs.WaveFacts.{wave_ready, made_wave, made_all, part_length, part_at}
 use Rattle.mm_rows.proofs.wave.fill_waves.Goals as goal
 
 pub fill_wave-requires-clause-ready : goal.fill_wave-requires-clause-ready

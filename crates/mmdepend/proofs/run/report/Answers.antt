@@ -1,4 +1,4 @@
-use Rattle.std.proofs.Common.{◌≡◌, ◌∙◌, sym, ap, subst, List, ℕ, length}
+use Rattle.std.proofs.Common.{◌≡◌, ◌∙◌, ap}
 use Rattle.mm_spec.specs.Output.{columns}
 use Rattle.mm_report.specs.Choices.{choice_of}
 use Rattle.mm_report.specs.Rows.{report_of}
