@@ -8,9 +8,9 @@ ghost use Rattle.mm_spec.specs.Complete.{binds};
 ghost use Rattle.mm_check.specs.Arena.{paired};
 ghost use Rattle.mm_check.specs.Contract.{is_assertion_at};
 
-use mm_stmt::database::Database;
-use mm_stmt::parts::Kind;
-use mm_stmt::symbol::Sym;
+use mm_stmt::Database;
+use mm_stmt::Kind;
+use mm_stmt::Sym;
 use std::alloc::Allocator;
 
 /// Whether a statement is an assertion.

@@ -12,7 +12,7 @@ use Rattle.mm_spec.specs.Readings.{bytes_of}
 use Rattle.mm_spec.specs.Lexed as lexed
 use Rattle.mm_spec.specs.Statement.{Statement, provable, spelled}
 use Rattle.mm_spec.specs.Output.{IsRead, lexed_of}
-use Rattle.mm_stmt.proofs.TokensLaw.{tokens_rising, tokens_are_words}
+use Rattle.mm_outline.proofs.TokensLaw.{tokens_rising, tokens_are_words}
 use Rattle.mm_proof.specs.Letters.{InOrder}
 use Rattle.mm_proof.proofs.LeastLaw.{Earlier, pairs_head, pairs_tail, pairs_back}
 

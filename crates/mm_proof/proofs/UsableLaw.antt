@@ -6,7 +6,7 @@ use Rattle.mm_spec.specs.Statement.{Statement}
 use Rattle.mm_spec.specs.Scope.{is_active, statement_at}
 use Rattle.mm_spec.specs.NormalProof.{is_labelled, usable}
 use Rattle.mm_spec.proofs.Finds.{is_before, lone}
-use Rattle.mm_stmt.proofs.Rising.{those_is}
+use Rattle.mm_frame.proofs.Rising.{those_is}
 
 and_no : (b : Bool) → (b && false) ≡ false
 and_no true = refl

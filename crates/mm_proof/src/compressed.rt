@@ -13,7 +13,7 @@ use crate::labels::{bytes, usable_label};
 use crate::letters::Progress;
 use crate::placed::Steps;
 use crate::refused::{ProofRefused, refused};
-use mm_stmt::database::Database;
+use mm_stmt::Database;
 use mm_stmt::{Code, Word};
 use std::alloc::Allocator;
 

@@ -5,7 +5,7 @@ ghost use Rattle.mm_spec.specs.NormalProof.{usable};
 ghost use Rattle.mm_proof.specs.Refused.{found};
 
 use mm_stmt::Word;
-use mm_stmt::database::Database;
+use mm_stmt::Database;
 use std::alloc::Allocator;
 
 /// The statement of a label that is usable in the proof of a theorem: that of an active hypothesis or of an earlier

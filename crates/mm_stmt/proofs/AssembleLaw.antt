@@ -6,14 +6,15 @@ use Rattle.mm_spec.specs.declared.Fault.{Fault}
 use Rattle.mm_spec.specs.Frame.{symbol_names, formula_of}
 use Rattle.mm_spec.specs.Lexed as spec
 use Rattle.mm_spec.specs.Output.{IsRead, lexed_of}
-use Rattle.mm_stmt.specs.Blocks.{Lists}
-use Rattle.mm_stmt.specs.Database.{AreSymbols}
-use Rattle.mm_stmt.specs.Parts.{statement_of, token_of}
-use Rattle.mm_stmt.specs.Read.{Keeps, lexed, statements}
-use Rattle.mm_stmt.specs.Tables.{IsSound}
-use Rattle.mm_stmt.specs.declared.names.Symbol.{Symbol}
-use Rattle.mm_stmt.specs.declared.parts.Outline.{Outline}
-use Rattle.mm_stmt.proofs.BoundsLaw.{few-symbols, few-numbers}
+use Rattle.mm_outline.specs.Blocks.{Lists}
+use Rattle.mm_outline.specs.Numbered.{AreSymbols}
+use Rattle.mm_outline.specs.Parts.{statement_of, token_of}
+use Rattle.mm_outline.specs.Statements.{lexed, statements}
+use Rattle.mm_scope.specs.Keeps.{Keeps}
+use Rattle.mm_frame.specs.Tables.{IsSound}
+use Rattle.mm_scope.specs.declared.names.Symbol.{Symbol}
+use Rattle.mm_outline.specs.declared.parts.Outline.{Outline}
+use Rattle.mm_scope.proofs.BoundsLaw.{few-symbols, few-numbers}
 use Rattle.mm_stmt.proofs.SoundLaw.{sound_read}
 
 -- the words lent are those of the text

@@ -6,19 +6,17 @@ use Rattle.std.proofs.lemmas.List.{length-map}
 use Rattle.mm_spec.specs.Statement.{Statement, label_of}
 use Rattle.mm_spec.specs.Scope.{statement_at}
 use Rattle.mm_spec.specs.declared.Word.{Word}
-use Rattle.mm_stmt.specs.Parts.{word_at, token_at, made, statement_of, HasEnd, IsOutline}
-use Rattle.mm_stmt.specs.Read.{statements}
+use Rattle.mm_outline.proofs.StatementsLaw.{statement_is}
+use Rattle.mm_outline.specs.Parts.{word_at, token_at, made, statement_of, HasEnd, IsOutline}
+use Rattle.mm_outline.specs.Statements.{statements}
 use Rattle.mm_spec.specs.declared.Fault.{Fault}
 use Rattle.mm_stmt.specs.Database.{last_place, is_labelled_kind, Known, known}
-use Rattle.mm_stmt.proofs.ActiveLaw.{get_map}
-use Rattle.mm_stmt.specs.declared.parts.Kind.{Kind}
-use Rattle.mm_stmt.specs.declared.parts.Kind.TheVariants as kind
-use Rattle.mm_stmt.specs.declared.parts.Outline.{Outline}
+use Rattle.mm_outline.proofs.ActiveLaw.{get_map}
+use Rattle.mm_outline.specs.declared.parts.Kind.{Kind}
+use Rattle.mm_outline.specs.declared.parts.Kind.TheVariants as kind
+use Rattle.mm_outline.specs.declared.parts.Outline.{Outline}
 
 module _ (text : List ℕ) (ws : List Word) where
-  pub statement_is : (os : List Outline) (k : ℕ) (d : Outline) → k < length os → slice_get (statements text ws os) k ≡ Some (statement_of text ws (get_or os k d))
-  statement_is os k d h = get_map (statement_of text ws) os k d h
-
   -- the last token
   last_made : (o : Kind) (k m e : ℕ) → HasEnd o k m e → last_place (made text ws o k m e) ≡ (word_at ws e).start
   last_made kind.Theorem k m e h = refl
@@ -34,7 +32,7 @@ module _ (text : List ℕ) (ws : List Word) where
   pub last_is : (os : List Outline) (k : ℕ) (d : Outline) → k < length os → IsOutline (get_or os k d) → option_map last_place (slice_get (statements text ws os) k) ≡ Some (word_at ws (get_or os k d).end).start
   last_is os k d h o =
       let x = get_or os k d in
-      ap (option_map last_place) (statement_is os k d h) ∙ ap Some (last_made x.kind x.keyword x.middle x.end o.4)
+      ap (option_map last_place) (statement_is text ws os k d h) ∙ ap Some (last_made x.kind x.keyword x.middle x.end o.4)
 
   -- the label
   label_made : (o : Kind) (k m e : ℕ) → option_map (λ t. t.word) (label_of (made text ws o k m e)) ≡ (if is_labelled_kind o then Some (token_at text ws (k - 1)).word else None)
@@ -52,21 +50,8 @@ module _ (text : List ℕ) (ws : List Word) where
       → option_map (λ t. t.word) (option_and_then label_of (slice_get (statements text ws os) k)) ≡ (if is_labelled_kind (get_or os k d).kind then Some (token_at text ws ((get_or os k d).keyword - 1)).word else None)
   label_is os k d h =
       let x = get_or os k d in
-      ap (λ o. option_map (λ t. t.word) (option_and_then label_of o)) (statement_is os k d h) ∙ label_made x.kind x.keyword x.middle x.end
-
--- a statement that is there stands below the length
-pub is_there : (p : Statement → Bool) (db : List Statement) (k : ℕ) → list_any p (statement_at db k) ≡ true → k < length db
-is_there p [] zero h = absurd (let e : false ≡ true = h in cc)
-is_there p [] (suc k) h = absurd (let e : false ≡ true = h in cc)
-is_there p (s ∷ db) zero h = omega arith
-is_there p (s ∷ db) (suc k) h = let l = is_there p db k h in omega (arith, l)
+      ap (λ o. option_map (λ t. t.word) (option_and_then label_of o)) (statement_is text ws os k d h) ∙ label_made x.kind x.keyword x.middle x.end
 
 -- a statement of the database has an outline
 pub has_outline : (text : List ℕ) (ws : List Word) (os : List Outline) (fault : Option Fault) (n : Known) → known text (statements text ws os) fault ≡ n → (k : ℕ) → k < length n.statements → k < length os
 has_outline text ws os fault n e k h = let q : length n.statements ≡ length os = ap (λ m. length m.statements) (sym e) ∙ length-map os (statement_of text ws) in omega (arith, q, h)
-
--- an element of a mapped list
-pub get_mapped : {X Y : Type 0} (f : X → Y) (xs : List X) (i : ℕ) (d : X) (e : Y) → i < length xs → get_or (map f xs) i e ≡ f (get_or xs i d)
-get_mapped f [] i d e h = absurd (omega arith)
-get_mapped f (x ∷ xs) zero d e h = refl
-get_mapped f (x ∷ xs) (suc i) d e h = get_mapped f xs i d e (omega arith)

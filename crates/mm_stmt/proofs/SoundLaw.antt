@@ -7,13 +7,13 @@ use Rattle.mm_spec.specs.Frame.{symbol_names, formula_at}
 use Rattle.mm_spec.specs.declared.Fault.{Fault}
 use Rattle.mm_spec.specs.Output.{Lexed, IsRead}
 use Rattle.mm_spec.proofs.Local.{scope_fault-front}
-use Rattle.mm_stmt.specs.Blocks.{Lists}
-use Rattle.mm_stmt.specs.Judge.{Entry, entry_of}
-use Rattle.mm_stmt.specs.Known.{is_constant_entry, is_variable_entry}
-use Rattle.mm_stmt.specs.Read.{Keeps}
-use Rattle.mm_stmt.specs.Tables.{IsSound}
-use Rattle.mm_stmt.specs.declared.names.Symbol.{Symbol}
-use Rattle.mm_stmt.proofs.BoundsLaw.{symbols-known}
+use Rattle.mm_outline.specs.Blocks.{Lists}
+use Rattle.mm_scope.specs.Judge.{Entry, entry_of}
+use Rattle.mm_scope.specs.Known.{is_constant_entry, is_variable_entry}
+use Rattle.mm_scope.specs.Keeps.{Keeps}
+use Rattle.mm_frame.specs.Tables.{IsSound}
+use Rattle.mm_scope.specs.declared.names.Symbol.{Symbol}
+use Rattle.mm_scope.proofs.BoundsLaw.{symbols-known}
 
 one_kind : (x : Option Entry) → is_constant_entry x ≡ true → is_variable_entry x ≡ false
 one_kind None e = refl

@@ -13,12 +13,12 @@ use Rattle.mm_spec.specs.Citation.{is_theorem}
 use Rattle.mm_spec.specs.Output.{is_theorem_at, theorems, label_at}
 use Rattle.mm_spec.specs.declared.Word.{Word}
 use Rattle.mm_spec.proofs.Finds.{each_those, each_any}
-use Rattle.mm_stmt.specs.Parts.{token_at, made, statement_of}
-use Rattle.mm_stmt.specs.Read.{statements}
-use Rattle.mm_stmt.specs.declared.parts.Kind.{Kind}
-use Rattle.mm_stmt.specs.declared.parts.Kind.TheVariants as kind
-use Rattle.mm_stmt.specs.declared.parts.Outline.{Outline}
-use Rattle.mm_stmt.proofs.DatabaseLaw.{statement_is, is_there}
+use Rattle.mm_outline.specs.Parts.{token_at, made, statement_of}
+use Rattle.mm_outline.specs.Statements.{statements}
+use Rattle.mm_outline.specs.declared.parts.Kind.{Kind}
+use Rattle.mm_outline.specs.declared.parts.Kind.TheVariants as kind
+use Rattle.mm_outline.specs.declared.parts.Outline.{Outline}
+use Rattle.mm_outline.proofs.StatementsLaw.{statement_is, is_there}
 use Rattle.mm_stmt.specs.Spaced.{AreSpaced, spaced}
 
 -- ---- a slice of what the elements give

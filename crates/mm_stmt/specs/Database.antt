@@ -6,18 +6,20 @@ use Rattle.mm_spec.specs.Statement.{Statement, constants, variables, disjoint, f
 use Rattle.mm_spec.specs.Scope.{statement_at}
 use Rattle.mm_spec.specs.Derivation.{Pair}
 use Rattle.mm_spec.specs.Frame.{symbol_names, is_variable, formula_at, mandatory_hypotheses, mandatory_pairs}
-use Rattle.mm_stmt.specs.Labels.{AreLabels}
+use Rattle.mm_scope.specs.Labels.{AreLabels}
 use Rattle.mm_spec.specs.Citation.{is_assertion}
 use Rattle.mm_spec.specs.Output.{IsRead, lexed_of, theorems, columns, label_at}
 use Rattle.mm_spec.specs.declared.Word.{Word}
-use Rattle.mm_stmt.specs.Parts.{AreWords, IsOutline}
-use Rattle.mm_stmt.specs.Read.{statements}
-use Rattle.mm_stmt.specs.Blocks.{Lists, IsBlocks}
-use Rattle.mm_stmt.specs.Members.{AreMembers}
+use Rattle.mm_outline.specs.Numbered.{AreNumbered, AreSymbols}
+use Rattle.mm_frame.specs.Frames.{AreFrames}
+use Rattle.mm_outline.specs.Parts.{AreWords, IsOutline}
+use Rattle.mm_outline.specs.Statements.{statements}
+use Rattle.mm_outline.specs.Blocks.{Lists, IsBlocks}
+use Rattle.mm_frame.specs.Members.{AreMembers}
 use Rattle.mm_stmt.specs.Spaced.{AreSpaced}
-use Rattle.mm_stmt.specs.declared.parts.Kind.{Kind}
-use Rattle.mm_stmt.specs.declared.parts.Kind.TheVariants as kind
-use Rattle.mm_stmt.specs.declared.parts.Outline.{Outline}
+use Rattle.mm_outline.specs.declared.parts.Kind.{Kind}
+use Rattle.mm_outline.specs.declared.parts.Kind.TheVariants as kind
+use Rattle.mm_outline.specs.declared.parts.Outline.{Outline}
 
 -- a text, its statements before the first that is no whole and lawful one, and what is wrong there
 pub record Known : Type 0 where
@@ -62,26 +64,6 @@ is_labelled_kind _ = false
 
 abbrev pub typecode_of : List Statement → ℕ → Option ℕ
 typecode_of db k = if list_any (λ s. is_labelled_kind (kind_of s)) (statement_at db k) then slice_get (formula_at db k) 0 else None
-
--- the symbols of each statement, one behind the other: those of statement k from place k up to place k + 1
-pub record AreNumbered (db : List Statement) (numbers places : List ℕ) : Type 0 where
-  pub count : length places ≡ length db + 1
-  pub order : (k : ℕ) → k < length db → slice_index places k ≤ slice_index places (k + 1)
-  pub within : (k : ℕ) → k < length db → slice_index places (k + 1) ≤ length numbers
-  pub formula : (k : ℕ) → k < length db → slice_range numbers (slice_index places k) (slice_index places (k + 1)) ≡ formula_at db k
-
--- the names of the symbols, and which of them are variables
-pub record AreSymbols (db : List Statement) (names : List (List ℕ)) (kinds : List Bool) : Type 0 where
-  pub names_are : names ≡ symbol_names db
-  pub count : length kinds ≡ length names
-  pub variable : (s : ℕ) → s < length names → get_or kinds s false ≡ is_variable db s
-
--- the mandatory hypotheses and pairs of the assertions
-pub record AreFrames (db : List Statement) (hyps : List (List ℕ)) (pairs : List (List Pair)) : Type 0 where
-  pub count : length hyps ≡ length db
-  pub count_pairs : length pairs ≡ length db
-  pub hypotheses : (k : ℕ) → k < length db → list_any is_assertion (statement_at db k) ≡ true → get_or hyps k [] ≡ mandatory_hypotheses db k
-  pub disjoint : (k : ℕ) → k < length db → list_any is_assertion (statement_at db k) ≡ true → get_or pairs k [] ≡ mandatory_pairs db k
 
 -- what is kept beside the statements
 pub record Fields : Type 0 where

@@ -10,33 +10,21 @@ ghost use Rattle.mm_spec.specs.Frame.{symbol_names, is_variable, formula_at, man
 ghost use Rattle.mm_spec.specs.NormalProof.{is_labelled};
 ghost use Rattle.mm_spec.specs.Citation.{is_assertion};
 ghost use Rattle.mm_spec.specs.Output.{IsRead, lexed_of, theorems, columns, label_at};
-ghost use Rattle.mm_stmt.specs.Parts.{tokens_of, AreWords};
-ghost use Rattle.mm_stmt.specs.Read.{active_kind};
+ghost use Rattle.mm_outline.specs.Parts.{tokens_of, AreWords};
+ghost use Rattle.mm_outline.specs.Statements.{active_kind};
 ghost use Rattle.mm_stmt.specs.Database.{kind_of, last_place, typecode_of, is_labelled_kind};
 
-use crate::blocks::Blocks;
-use crate::members::{Members, are_together};
-use crate::names::Map;
-use crate::parts::{Kind, Outline};
 use crate::spaced::SpacedLabels;
-use crate::symbol::Sym;
-use indexmap::IndexSet;
+use mm_frame::frames::Frame;
+use mm_frame::members::{Members, are_together};
+use mm_outline::blocks::Blocks;
+use mm_outline::parts::{Kind, Outline};
+use mm_outline::symbol::Sym;
+use mm_scope::names::Map;
+use mm_scope::symbols::SymbolNames;
 use mm_spec::{Fault, Word};
 use std::alloc::Allocator;
-use std::hash::{BuildHasherDefault, FoldHasher};
 use std::marker::Model;
-
-/// The frame of an assertion (section 4.2.7 of the Metamath book, "Frames").
-#[derive(Drop)]
-pub struct Frame<A: Allocator> {
-    /// The mandatory hypotheses, by their statements, in order of appearance.
-    pub hyps: Vec<u32, A>,
-    /// The mandatory pairs of disjoint variables: the lower symbol first, rising, each once.
-    pub pairs: Vec<(Sym, Sym), A>,
-}
-
-/// The names of the symbols, each in the place of its number.
-pub type SymbolNames<'a, A> = IndexSet<&'a [u8], BuildHasherDefault<FoldHasher>, A>;
 
 /// The statements of a text before the first that is no whole and lawful one, by their numbers from 0 in file order.
 #[derive(Drop)]
@@ -61,9 +49,9 @@ pub struct Database<'a, A: Allocator> {
 impl<'a, A: Allocator> Model for Database<'a, A> {
     ghost use Rattle.std.specs.Prelude.{map};
     ghost use Rattle.mm_spec.specs.Derivation.{pair};
-    ghost use Rattle.mm_stmt.specs.Names.{find, keys_of};
-    ghost use Rattle.mm_stmt.specs.Blocks.{lists};
-    ghost use Rattle.mm_stmt.specs.Read.{statements};
+    ghost use Rattle.mm_scope.specs.Names.{find, keys_of};
+    ghost use Rattle.mm_outline.specs.Blocks.{lists};
+    ghost use Rattle.mm_outline.specs.Statements.{statements};
     ghost use Rattle.mm_stmt.specs.Database.{Known, known, fields, IsDatabase};
 
     ghost Value = { Known };

@@ -4,26 +4,12 @@
 //! (`Rattle.mm_spec.specs.Output.IsRead`), and that each reading call answers what the definitions say of them.
 #![tactic(auto)]
 
-pub mod active;
-pub mod blocks;
-pub mod database;
-pub mod disjoint;
-pub mod frames;
-pub mod judge;
-pub mod members;
-pub mod names;
-pub mod numbers;
-pub mod parts;
-pub mod reader;
+mod database;
+mod reader;
 mod spaced;
-pub mod symbol;
-pub mod symbols;
-pub mod tables;
-pub mod walk;
-pub mod words;
 
-pub use database::{Database, Frame};
+pub use database::Database;
+pub use mm_frame::Frame;
+pub use mm_outline::{Kind, Sym};
 pub use mm_spec::{Code, Fault, Word};
-pub use parts::Kind;
 pub use reader::read;
-pub use symbol::Sym;

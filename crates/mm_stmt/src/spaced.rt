@@ -2,11 +2,11 @@
 
 ghost use Rattle.std.specs.Prelude.{◌≡◌, ◌<◌, ◌≤◌, ◌-◌, All, IfOk, IsTrue, length, map};
 ghost use Rattle.mm_spec.specs.Output.{is_theorem_at, label_at};
-ghost use Rattle.mm_stmt.specs.Parts.{AreWords, IsOutline, token_at};
-ghost use Rattle.mm_stmt.specs.Read.{statements};
+ghost use Rattle.mm_outline.specs.Parts.{AreWords, IsOutline, token_at};
+ghost use Rattle.mm_outline.specs.Statements.{statements};
 ghost use Rattle.mm_stmt.specs.Spaced.{AreSpaced};
 
-use crate::parts::Outline;
+use mm_outline::parts::Outline;
 use mm_spec::Word;
 use std::alloc::{AllocError, Allocator};
 

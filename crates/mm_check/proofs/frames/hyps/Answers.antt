@@ -1,6 +1,6 @@
 use Rattle.std.proofs.Common.{◌<◌, length, All, sym, ◌∙◌, subst, arith}
 use Rattle.mm_spec.specs.Citation.{is_assertion}
-use Rattle.mm_stmt.proofs.DatabaseLaw.{is_there}
+use Rattle.mm_outline.proofs.StatementsLaw.{is_there}
 use Rattle.mm_check.proofs.FrameLaw.{hyps_below}
 use Rattle.mm_check.proofs.frames.hyps.Goals as goal
 

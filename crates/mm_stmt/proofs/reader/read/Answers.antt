@@ -2,13 +2,13 @@ use Rattle.std.proofs.Common.{◌≡◌, ◌∙◌, ℕ, ◌^◌, ◌<◌, List,
 use Rattle.std.proofs.lemmas.List.{length-map}
 use Rattle.mm_spec.specs.Output.{theorems, is_theorem_at, columns, label_at}
 use Rattle.mm_spec.specs.declared.Word.{Word}
-use Rattle.mm_stmt.specs.Parts.{AreWords, statement_of}
-use Rattle.mm_stmt.specs.Read.{statements}
+use Rattle.mm_outline.specs.Parts.{AreWords, statement_of}
+use Rattle.mm_outline.specs.Statements.{statements}
 use Rattle.mm_stmt.specs.Spaced.{AreSpaced}
-use Rattle.mm_stmt.specs.Tables.{IsSound}
+use Rattle.mm_frame.specs.Tables.{IsSound}
 use Rattle.mm_stmt.proofs.AssembleLaw.{is_read, names_few, numbers_few, sound}
 use Rattle.mm_stmt.proofs.SpacedLaw.{theorems_are}
-use Rattle.mm_stmt.proofs.TokensLaw.{tokens_stand, tokens_small, short_text}
+use Rattle.mm_outline.proofs.TokensLaw.{tokens_stand, tokens_small, short_text}
 use Rattle.mm_stmt.proofs.reader.read.Goals as goal
 
 pub outline-requires-clause-words : goal.outline-requires-clause-words

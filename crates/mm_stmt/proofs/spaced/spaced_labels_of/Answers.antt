@@ -1,9 +1,9 @@
 use Rattle.std.proofs.Common.{◌≡◌, ◌∙◌, ◌+◌, ◌++◌, ◌∷◌, [], length, map, take, get_or, sym, ap, arith, append_assoc}
 use Rattle.std.proofs.lemmas.List.{take_more, map-append}
 use Rattle.mm_spec.specs.Output.{label_at}
-use Rattle.mm_stmt.specs.Parts.{outline}
-use Rattle.mm_stmt.specs.Read.{statements}
-use Rattle.mm_stmt.specs.declared.parts.Kind.TheVariants.{Constants}
+use Rattle.mm_outline.specs.Parts.{outline}
+use Rattle.mm_outline.specs.Statements.{statements}
+use Rattle.mm_outline.specs.declared.parts.Kind.TheVariants.{Constants}
 use Rattle.mm_stmt.proofs.SpacedLaw.{spaced_more, theorem_label}
 use Rattle.mm_stmt.proofs.spaced.spaced_labels_of.Goals as goal
 

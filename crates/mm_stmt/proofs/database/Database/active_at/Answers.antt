@@ -2,11 +2,11 @@ use Rattle.std.proofs.Common.{◌≡◌, ◌∙◌, ◌<◌, ◌≤◌, ◌&&◌
 use Rattle.std.proofs.lemmas.Bool.{lt-ltb}
 use Rattle.std.proofs.lemmas.List.{length-map}
 use Rattle.mm_spec.specs.Scope.{is_active}
-use Rattle.mm_stmt.specs.Blocks.{lists, end_of}
-use Rattle.mm_stmt.specs.Parts.{statement_of}
-use Rattle.mm_stmt.specs.Read.{statements, active_kind}
+use Rattle.mm_outline.specs.Blocks.{lists, end_of}
+use Rattle.mm_outline.specs.Parts.{statement_of}
+use Rattle.mm_outline.specs.Statements.{statements, active_kind}
 use Rattle.mm_stmt.specs.Database.{Known, known}
-use Rattle.mm_stmt.proofs.ActiveLaw.{active_is}
+use Rattle.mm_outline.proofs.ActiveLaw.{active_is}
 use Rattle.mm_stmt.proofs.DatabaseLaw.{has_outline}
 use Rattle.mm_stmt.proofs.database.Database.active_at.Goals as goal
 

@@ -3,10 +3,10 @@ use Rattle.std.proofs.lemmas.Bool.{ne_eqb}
 use Rattle.std.specs.List.{list_any}
 use Rattle.mm_spec.specs.Derivation.{is_member}
 use Rattle.mm_spec.specs.Frame.{disjoint_at, is_disjoint, active_of, formula_at}
-use Rattle.mm_stmt.specs.Blocks.{lists}
-use Rattle.mm_stmt.specs.Read.{statements}
+use Rattle.mm_outline.specs.Blocks.{lists}
+use Rattle.mm_outline.specs.Statements.{statements}
 use Rattle.mm_stmt.specs.Database.{Known}
-use Rattle.mm_stmt.proofs.DisjointLaw.{together_is}
+use Rattle.mm_frame.proofs.DisjointLaw.{together_is}
 use Rattle.mm_stmt.proofs.database.Database.disjoint_at.Goals as goal
 
 pub returns-then-number : goal.returns-then-number

@@ -1,7 +1,7 @@
 use Rattle.std.proofs.Common.{◌≡◌, ◌∙◌, ◌<◌, length, get_or, Some, sym, ap, subst, slice_get}
 use Rattle.std.specs.Option.{option_map}
 use Rattle.std.proofs.lemmas.List.{get_or_default}
-use Rattle.mm_stmt.specs.Parts.{word_at}
+use Rattle.mm_outline.specs.Parts.{word_at}
 use Rattle.mm_stmt.specs.Database.{Known, last_place}
 use Rattle.mm_stmt.proofs.DatabaseLaw.{has_outline, last_is}
 use Rattle.mm_stmt.proofs.database.Database.end_at.Goals as goal

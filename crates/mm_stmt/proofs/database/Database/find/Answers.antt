@@ -2,8 +2,8 @@ use Rattle.std.proofs.Common.{◌≡◌, ◌∙◌, ℕ, Option, Some, None, tru
 use Rattle.std.specs.List.{list_any}
 use Rattle.mm_spec.specs.Scope.{statement_at}
 use Rattle.mm_spec.specs.NormalProof.{is_labelled}
-use Rattle.mm_stmt.specs.Names.{find}
-use Rattle.mm_stmt.specs.Read.{statements}
+use Rattle.mm_scope.specs.Names.{find}
+use Rattle.mm_outline.specs.Statements.{statements}
 use Rattle.mm_stmt.specs.Database.{Known}
 use Rattle.mm_stmt.proofs.database.Database.find.Goals as goal
 

@@ -1,8 +1,8 @@
 use Rattle.std.proofs.Common.{◌≡◌, ◌∙◌, ℕ, ◌+◌, ◌-◌, ◌<◌, List, length, get_or, take, drop, All, sym, ap, ap₂, subst, arith}
 use Rattle.std.proofs.lemmas.Grind.{get_or_default_zero}
 use Rattle.mm_spec.specs.Frame.{symbol_names, formula_at}
-use Rattle.mm_stmt.specs.Read.{statements}
-use Rattle.mm_stmt.specs.Parts.{statement_of}
+use Rattle.mm_outline.specs.Statements.{statements}
+use Rattle.mm_outline.specs.Parts.{statement_of}
 use Rattle.std.proofs.lemmas.List.{length-map}
 use Rattle.mm_stmt.specs.Database.{Known}
 use Rattle.mm_stmt.proofs.DatabaseLaw.{has_outline}

@@ -5,9 +5,9 @@ use Rattle.mm_spec.specs.Scope.{statement_at}
 use Rattle.mm_spec.specs.Derivation.{pair}
 use Rattle.mm_spec.specs.Citation.{is_assertion}
 use Rattle.mm_spec.specs.Frame.{mandatory_hypotheses, mandatory_pairs}
-use Rattle.mm_stmt.specs.Read.{statements}
+use Rattle.mm_outline.specs.Statements.{statements}
 use Rattle.mm_stmt.specs.Database.{Known}
-use Rattle.mm_stmt.proofs.DatabaseLaw.{is_there, get_mapped}
+use Rattle.mm_outline.proofs.StatementsLaw.{is_there, get_mapped}
 use Rattle.mm_stmt.proofs.database.Database.frame.Goals as goal
 
 pub returns-clause-hypotheses : goal.returns-clause-hypotheses

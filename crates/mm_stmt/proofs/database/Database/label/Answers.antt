@@ -2,7 +2,7 @@ use Rattle.std.proofs.Common.{◌≡◌, ◌∙◌, ◌-◌, ◌<◌, length, ge
 use Rattle.std.specs.Option.{option_map, option_and_then}
 use Rattle.std.proofs.lemmas.List.{get_or_default}
 use Rattle.mm_spec.specs.Statement.{label_of}
-use Rattle.mm_stmt.specs.Parts.{word_at, token_at}
+use Rattle.mm_outline.specs.Parts.{word_at, token_at}
 use Rattle.mm_stmt.specs.Database.{Known, is_labelled_kind}
 use Rattle.mm_stmt.proofs.DatabaseLaw.{has_outline, label_is}
 use Rattle.mm_stmt.proofs.database.Database.label.Goals as goal

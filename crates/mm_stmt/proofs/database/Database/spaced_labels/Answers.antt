@@ -1,6 +1,6 @@
 use Rattle.std.proofs.Common.{◌≡◌, ◌∙◌, ◌≤◌, length, slice_range, flat_map, ◌∷◌, sym, ap, subst}
 use Rattle.mm_spec.specs.Output.{theorems, label_at}
-use Rattle.mm_stmt.specs.Read.{statements}
+use Rattle.mm_outline.specs.Statements.{statements}
 use Rattle.mm_stmt.specs.Database.{Known}
 use Rattle.mm_stmt.proofs.SpacedLaw.{theorems_between}
 use Rattle.mm_stmt.proofs.database.Database.spaced_labels.Goals as goal

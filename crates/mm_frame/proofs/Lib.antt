@@ -1,0 +1,10 @@
+pub mod DisjointLaw
+pub mod FloatLaw
+pub mod FramesLaw
+pub mod LatestLaw
+pub mod MarksLaw
+pub mod MembersLaw
+pub mod Nested
+pub mod PairsLaw
+pub mod Rising
+pub mod WalkLaw

@@ -1,0 +1,34 @@
+-- The last statement of a kind that is active at a place.
+use Rattle.std.specs.Prelude.{◌≡◌, ◌≢◌, ℕ, ◌+◌, ◌<◌, ◌≤◌, Bool, true, false, ◌&&◌, List, length, slice_index, ◌⊎◌}
+use Rattle.std.specs.List.{list_any}
+use Rattle.mm_spec.specs.Statement.{Statement}
+use Rattle.mm_spec.specs.Scope.{statement_at}
+use Rattle.mm_spec.specs.Derivation.{is_member}
+use Rattle.mm_spec.proofs.Activity.{stays}
+use Rattle.mm_outline.specs.Blocks.{never}
+
+module _ (test : Statement → Bool) (db : List Statement) where
+  -- statement j is of the kind, and its block is open at k
+  abbrev pub is_on : ℕ → ℕ → Bool
+  is_on j k = list_any test (statement_at db j) && stays db j k
+
+  -- no later one is active; it may be none
+  pub record IsCandidate (k last : ℕ) : Type 0 where
+    pub found : last ≢ never → (last < k) × (list_any test (statement_at db last) ≡ true)
+    pub behind : (i : ℕ) → i < k → (last < i) ⊎ (last ≡ never) → is_on i k ≡ false
+
+  -- and it is active
+  pub record IsLatest (k last : ℕ) : Type 0 where
+    pub found : last ≢ never → (last < k) × (is_on last k ≡ true)
+    pub behind : (i : ℕ) → i < k → (last < i) ⊎ (last ≡ never) → is_on i k ≡ false
+
+  -- at each statement and at the end
+  pub record AreLatest (lasts : List ℕ) : Type 0 where
+    pub count : length lasts ≡ length db + 1
+    pub each : (k : ℕ) → k ≤ length db → IsLatest k (slice_index lasts k)
+
+  -- those that are active at k and behind the last one are listed
+  pub record IsWalked (k : ℕ) (xs : List ℕ) (last : ℕ) : Type 0 where
+    pub found : last ≢ never → (last < k) × (is_on last k ≡ true)
+    pub only : (i : ℕ) → is_member xs i ≡ true → (i < k) × (is_on i k ≡ true)
+    pub all : (i : ℕ) → i < k → is_on i k ≡ true → (is_member xs i ≡ true) ⊎ ((last ≢ never) × (i ≤ last))

@@ -1,0 +1,66 @@
+//! The last active `$e` at each statement: from it the others are found, since blocks are nested.
+
+ghost use Rattle.std.specs.Prelude.{◌≡◌, ◌<◌, ◌≤◌, ℕ, IfOk, OnOk, length, slice_index};
+ghost use Rattle.mm_spec.specs.Derivation.{is_member};
+ghost use Rattle.mm_spec.specs.Frame.{active_of, is_essential};
+ghost use Rattle.mm_frame.specs.Latest.{IsCandidate, IsLatest, AreLatest};
+
+use crate::tables::Tables;
+use mm_outline::blocks::NEVER;
+use std::alloc::{AllocError, Allocator};
+
+/// The last one that is active, from a candidate on.
+fn last_open<A: Allocator>(tables: &Tables<A>, latest: &[u32], first: u32, at: u32) -> u32
+    requires at { at ≤ length tables.now }
+    requires long { at ≤ length latest.now }
+    requires latest { (k : ℕ) → k < at → IsLatest is_essential tables.now k (slice_index latest.now k) }
+    requires first { IsCandidate is_essential tables.now at first }
+    ensures { IsLatest is_essential tables.now at result }
+{
+    let mut last = first;
+    while last != NEVER && !tables.is_open(last, at) {
+        last = latest[last as usize];
+    }
+    last
+}
+
+/// For each statement and for the end the last `$e` that is active there, or `NEVER`.
+pub fn latest_essentials<A: Allocator + Copy>(
+    alloc: A,
+    tables: &Tables<A>,
+) -> Result<Vec<u32, A>, AllocError>
+    ensures { IfOk result (λ v. AreLatest is_essential tables.now v.items) }
+{
+    let mut latest = Vec::new(alloc);
+    latest.push(NEVER)?;
+    for k in 0..tables.len() {
+        let first = if tables.is_essential(k) {
+            k
+        } else {
+            latest[k as usize]
+        };
+        let last = last_open(tables, &latest, first, k + 1);
+        latest.push(last)?;
+    }
+    Ok(latest)
+}
+
+/// The `$e` that are active, in some order.
+pub fn active_essentials<A: Allocator>(
+    tables: &Tables<A>,
+    latest: &[u32],
+    at: u32,
+    into: &mut Vec<u32, A>,
+) -> Result<(), AllocError>
+    requires at { at ≤ length tables.now }
+    requires latest { AreLatest is_essential tables.now latest.now }
+    ensures { OnOk result ((i : ℕ) → is_member into.new.items i ≡ is_member (active_of is_essential tables.now at) i) }
+{
+    into.clear();
+    let mut last = latest[at as usize];
+    while last != NEVER {
+        into.push(last)?;
+        last = latest[last as usize];
+    }
+    Ok(())
+}

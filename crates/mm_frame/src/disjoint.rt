@@ -1,0 +1,106 @@
+//! The mandatory pairs of disjoint variables of assertions.
+
+ghost use Rattle.std.specs.Prelude.{◌≡◌, ◌<◌, ◌≤◌, ◌^◌, ◌&&◌, ◌||◌, ℕ, OnOk, IfOk, length, get_or, nat_eq, nat_lt, map};
+ghost use Rattle.std.specs.List.{list_any};
+ghost use Rattle.mm_spec.specs.Derivation.{is_member, pair};
+ghost use Rattle.mm_spec.specs.Frame.{mandatory_variables, mandatory_pairs};
+ghost use Rattle.mm_outline.specs.Blocks.{IsBlocks, lists};
+ghost use Rattle.mm_frame.specs.Members.{is_live, AreKnown, AreSkips, AreMembers};
+ghost use Rattle.mm_frame.specs.Pairs.{has_pair, AreRising};
+
+use crate::members::{Members, add_active, tidy};
+use crate::tables::Tables;
+use mm_outline::blocks::Blocks;
+use mm_outline::symbol::Sym;
+use std::alloc::{AllocError, Allocator};
+
+/// Adds the pairs of the variable at a place and those behind it that stand in the same statement.
+fn add_behind<A: Allocator>(
+    had: &[(u32, u32)],
+    place: usize,
+    pairs: &mut Vec<(u32, u32), A>,
+) -> Result<(), AllocError>
+    requires rising { AreRising had.now }
+    requires place { place < length had.now }
+    ensures { OnOk result ((x y : ℕ) → has_pair pairs.new.items x y ≡ (has_pair pairs.old.items x y || (nat_eq x (get_or had.now place (0, 0)).1 && (has_pair had.now (get_or had.now place (0, 0)).0 y && nat_lt x y)))) }
+{
+    let mut at = place + 1;
+    while at < had.len() && had[at].0 == had[place].0 {
+        pairs.push((had[place].1, had[at].1))?;
+        at += 1;
+    }
+    Ok(())
+}
+
+/// Adds all pairs of variables that stand in the same statement, the lower first.
+fn add_together<A: Allocator>(
+    had: &[(u32, u32)],
+    pairs: &mut Vec<(u32, u32), A>,
+) -> Result<(), AllocError>
+    requires rising { AreRising had.now }
+    ensures { OnOk result ((x y : ℕ) → has_pair pairs.new.items x y ≡ (has_pair pairs.old.items x y || list_any (λ p. nat_eq x p.1 && (has_pair had.now p.0 y && nat_lt x y)) had.now)) }
+{
+    for place in 0..had.len() {
+        add_behind(had, place, pairs)?;
+    }
+    Ok(())
+}
+
+/// Adds the `$d` that are active at a place, each with those of the symbols that it has.
+fn add_all_active<A: Allocator>(
+    blocks: &Blocks<A>,
+    members: &Members<A>,
+    symbols: &[Sym],
+    at: u32,
+    into: &mut Vec<(u32, u32), A>,
+) -> Result<(), AllocError>
+    requires rising { AreRising members.now.pairs.items }
+    requires known { AreKnown (lists blocks.now.of.items blocks.now.ends.items blocks.now.open.items) members.now.pairs.items }
+    requires skips { AreSkips (lists blocks.now.of.items blocks.now.ends.items blocks.now.open.items) members.now.pairs.items members.now.skips.items }
+    ensures { OnOk result ((j y : ℕ) → has_pair into.new.items j y ≡ (has_pair into.old.items j y || (is_member symbols.now y && (has_pair members.now.pairs.items y j && is_live (lists blocks.now.of.items blocks.now.ends.items blocks.now.open.items) j at)))) }
+{
+    for symbol in symbols {
+        add_active(blocks, members, *symbol, at, into)?;
+    }
+    Ok(())
+}
+
+/// The pairs by their symbols.
+fn symbols_of<A: Allocator + Copy>(
+    alloc: A,
+    pairs: &[(u32, u32)],
+) -> Result<Vec<(Sym, Sym), A>, AllocError>
+    ensures { IfOk result (λ v. map (λ p. pair p.0 p.1) v.items ≡ map (λ p. pair p.0 p.1) pairs.now) }
+{
+    let mut symbols = Vec::new(alloc);
+    for (low, high) in pairs {
+        symbols.push((Sym::new(*low), Sym::new(*high)))?;
+    }
+    Ok(symbols)
+}
+
+/// The mandatory pairs of an assertion, by its mandatory variables. This costs a step for each active `$d` of each of
+/// them, and one for each pair in each of these.
+pub fn pairs_of<A: Allocator + Copy>(
+    alloc: A,
+    tables: &Tables<A>,
+    blocks: &Blocks<A>,
+    members: &Members<A>,
+    found: &[Sym],
+    assertion: u32,
+) -> Result<Vec<(Sym, Sym), A>, AllocError>
+    requires assertion { assertion < length tables.now }
+    requires blocks { IsBlocks tables.now (lists blocks.now.of.items blocks.now.ends.items blocks.now.open.items) }
+    requires members { AreMembers tables.now (lists blocks.now.of.items blocks.now.ends.items blocks.now.open.items) members.now.pairs.items members.now.skips.items }
+    requires found { (x : ℕ) → is_member found.now x ≡ is_member (mandatory_variables tables.now assertion) x }
+    ensures { IfOk result (λ v. map (λ p. pair p.0 p.1) v.items ≡ mandatory_pairs tables.now assertion) }
+{
+    let _ = tables;
+    let mut had = Vec::new(alloc);
+    add_all_active(blocks, members, found, assertion, &mut had)?;
+    tidy(&mut had);
+    let mut pairs = Vec::new(alloc);
+    add_together(&had, &mut pairs)?;
+    tidy(&mut pairs);
+    symbols_of(alloc, &pairs)
+}

@@ -1,0 +1,204 @@
+//! The `$d` statements by their variables: what a question costs depends on the `$d` of the variables that it names, not
+//! on all that are active.
+
+ghost use Rattle.std.specs.Prelude.{◌≡◌, ◌≢◌, ◌<◌, ◌≤◌, ◌+◌, ◌-◌, ◌&&◌, ◌||◌, ℕ, IfOk, OnOk, length, get_or, nat_eq, nat_lt, nat_le, true, false};
+ghost use Rattle.mm_spec.specs.Derivation.{is_member};
+ghost use Rattle.mm_outline.specs.Blocks.{IsBlocks, lists, end_of};
+ghost use Rattle.mm_frame.specs.Members.{has_symbol, is_live, AreKnown, AreSkips, AreMembers, Covers};
+ghost use Rattle.mm_frame.specs.Pairs.{has_pair, AreRising, is_before};
+
+use crate::tables::Tables;
+use mm_outline::blocks::Blocks;
+use mm_outline::symbol::Sym;
+use std::alloc::{AllocError, Allocator};
+
+/// The `$d` statements by their variables.
+#[derive(Drop)]
+pub struct Members<A: Allocator> {
+    /// Each variable with each `$d` that has it, rising.
+    pub pairs: Vec<(u32, u32), A>,
+    /// For each of these an earlier one, or itself: from there up to it all are of its variable, and of blocks that end no
+    /// later than its own. So where its block is closed, all these are passed over at once.
+    pub skips: Vec<usize, A>,
+}
+
+/// Puts the pairs in order, each once.
+pub fn tidy<A: Allocator>(pairs: &mut Vec<(u32, u32), A>)
+    ensures rising { AreRising pairs.new.items }
+    ensures same { (x y : ℕ) → has_pair pairs.new.items x y ≡ has_pair pairs.old.items x y }
+{
+    pairs.sort_unstable();
+    pairs.dedup();
+}
+
+/// Adds each symbol with the statement.
+fn add_symbols<A: Allocator>(
+    symbols: &[Sym],
+    statement: u32,
+    pairs: &mut Vec<(u32, u32), A>,
+) -> Result<(), AllocError>
+    ensures { OnOk result ((x j : ℕ) → has_pair pairs.new.items x j ≡ (has_pair pairs.old.items x j || (is_member symbols.now x && nat_eq j statement))) }
+{
+    for symbol in symbols {
+        pairs.push((symbol.number(), statement))?;
+    }
+    Ok(())
+}
+
+/// Each variable with each `$d` that has it.
+fn pairs_by_symbol<A: Allocator + Copy>(
+    alloc: A,
+    tables: &Tables<A>,
+) -> Result<Vec<(u32, u32), A>, AllocError>
+    ensures rising { IfOk result (λ v. AreRising v.items) }
+    ensures are { IfOk result (λ v. (x j : ℕ) → has_pair v.items x j ≡ has_symbol tables.now x j) }
+{
+    let mut pairs = Vec::new(alloc);
+    for k in 0..tables.len() {
+        if tables.is_disjoint(k) {
+            add_symbols(tables.formula(k), k, &mut pairs)?;
+        }
+    }
+    tidy(&mut pairs);
+    Ok(pairs)
+}
+
+/// Whether a pair has the symbol of another, and a block that ends no later.
+fn is_covered<A: Allocator>(blocks: &Blocks<A>, pair: (u32, u32), by: (u32, u32)) -> bool
+    requires pair { (pair.1 < length blocks.now.of.items) × (get_or blocks.now.of.items pair.1 0 < length blocks.now.ends.items) }
+    requires by { (by.1 < length blocks.now.of.items) × (get_or blocks.now.of.items by.1 0 < length blocks.now.ends.items) }
+    ensures { result ≡ (nat_eq pair.0 by.0 && nat_le (end_of (lists blocks.now.of.items blocks.now.ends.items blocks.now.open.items) pair.1) (end_of (lists blocks.now.of.items blocks.now.ends.items blocks.now.open.items) by.1)) }
+{
+    pair.0 == by.0 && blocks.end_of(pair.1) <= blocks.end_of(by.1)
+}
+
+/// For each pair how far back all are covered by it.
+fn skips_of<A: Allocator + Copy>(
+    alloc: A,
+    blocks: &Blocks<A>,
+    pairs: &[(u32, u32)],
+) -> Result<Vec<usize, A>, AllocError>
+    requires known { AreKnown (lists blocks.now.of.items blocks.now.ends.items blocks.now.open.items) pairs.now }
+    ensures { IfOk result (λ v. AreSkips (lists blocks.now.of.items blocks.now.ends.items blocks.now.open.items) pairs.now v.items) }
+{
+    let mut skips = Vec::new(alloc);
+    for at in 0..pairs.len() {
+        let mut first = at;
+        while first > 0 && is_covered(blocks, pairs[first - 1], pairs[at]) {
+            first = skips[first - 1];
+        }
+        skips.push(first)?;
+    }
+    Ok(skips)
+}
+
+/// The `$d` statements by their variables.
+pub fn members_of<A: Allocator + Copy>(
+    alloc: A,
+    tables: &Tables<A>,
+    blocks: &Blocks<A>,
+) -> Result<Members<A>, AllocError>
+    requires { IsBlocks tables.now (lists blocks.now.of.items blocks.now.ends.items blocks.now.open.items) }
+    ensures { IfOk result (λ m. AreMembers tables.now (lists blocks.now.of.items blocks.now.ends.items blocks.now.open.items) m.pairs.items m.skips.items) }
+{
+    let pairs = pairs_by_symbol(alloc, tables)?;
+    let skips = skips_of(alloc, blocks, &pairs)?;
+    Ok(Members { pairs, skips })
+}
+
+/// How many pairs stand before that of the symbol and the place.
+fn count_before(pairs: &[(u32, u32)], symbol: u32, at: u32) -> usize
+    requires { AreRising pairs.now }
+    ensures within { result ≤ length pairs.now }
+    ensures before { (p : ℕ) → p < result → is_before (get_or pairs.now p (0, 0)) symbol at ≡ true }
+    ensures behind { (p : ℕ) → result ≤ p → p < length pairs.now → is_before (get_or pairs.now p (0, 0)) symbol at ≡ false }
+{
+    pairs.partition_point(
+        |pair: &(u32, u32)| -> bool
+            ensures { result ≡ is_before pair.now symbol at }
+        { pair.0 < symbol || (pair.0 == symbol && pair.1 < at) },
+    )
+}
+
+/// Whether the last of so many pairs, if there is one, has the symbol.
+fn ends_with(pairs: &[(u32, u32)], left: usize, symbol: u32) -> bool
+    requires { left ≤ length pairs.now }
+    ensures some { result ≡ true → (0 < left) × ((get_or pairs.now (left - 1) (0, 0)).0 ≡ symbol) }
+    ensures none { result ≡ false → 0 < left → (get_or pairs.now (left - 1) (0, 0)).0 ≢ symbol }
+{
+    left > 0 && pairs[left - 1].0 == symbol
+}
+
+/// How many pairs are left behind the last of so many: it is passed over, and with it what it covers where its block is
+/// closed.
+fn back<A: Allocator>(blocks: &Blocks<A>, members: &Members<A>, left: usize, at: u32) -> usize
+    requires some { 0 < left }
+    requires within { left ≤ length members.now.pairs.items }
+    requires known { AreKnown (lists blocks.now.of.items blocks.now.ends.items blocks.now.open.items) members.now.pairs.items }
+    requires skips { AreSkips (lists blocks.now.of.items blocks.now.ends.items blocks.now.open.items) members.now.pairs.items members.now.skips.items }
+    ensures less { result < left }
+    ensures passed { (p : ℕ) → result ≤ p → p + 1 < left → nat_le at (end_of (lists blocks.now.of.items blocks.now.ends.items blocks.now.open.items) (get_or members.now.pairs.items p (0, 0)).1) ≡ false }
+{
+    if blocks.is_open_at(members.pairs[left - 1].1, at) {
+        left - 1
+    } else {
+        members.skips[left - 1]
+    }
+}
+
+/// Adds the `$d` that are active at a place and have the symbol, each with the symbol.
+pub fn add_active<A: Allocator>(
+    blocks: &Blocks<A>,
+    members: &Members<A>,
+    symbol: Sym,
+    at: u32,
+    into: &mut Vec<(u32, u32), A>,
+) -> Result<(), AllocError>
+    requires rising { AreRising members.now.pairs.items }
+    requires known { AreKnown (lists blocks.now.of.items blocks.now.ends.items blocks.now.open.items) members.now.pairs.items }
+    requires skips { AreSkips (lists blocks.now.of.items blocks.now.ends.items blocks.now.open.items) members.now.pairs.items members.now.skips.items }
+    ensures { OnOk result ((j y : ℕ) → has_pair into.new.items j y ≡ (has_pair into.old.items j y || (nat_eq y symbol && (has_pair members.now.pairs.items symbol j && is_live (lists blocks.now.of.items blocks.now.ends.items blocks.now.open.items) j at)))) }
+{
+    let pairs = members.pairs.as_slice();
+    let mut left = count_before(pairs, symbol.number(), at);
+    while ends_with(pairs, left, symbol.number()) {
+        let statement = pairs[left - 1].1;
+        if blocks.is_open_at(statement, at) {
+            into.push((statement, symbol.number()))?;
+        }
+        left = back(blocks, members, left, at);
+    }
+    Ok(())
+}
+
+/// Whether a `$d` that is active at a place has both symbols.
+pub fn are_together<A: Allocator>(
+    blocks: &Blocks<A>,
+    members: &Members<A>,
+    x: Sym,
+    y: Sym,
+    at: u32,
+) -> bool
+    requires rising { AreRising members.now.pairs.items }
+    requires known { AreKnown (lists blocks.now.of.items blocks.now.ends.items blocks.now.open.items) members.now.pairs.items }
+    requires skips { AreSkips (lists blocks.now.of.items blocks.now.ends.items blocks.now.open.items) members.now.pairs.items members.now.skips.items }
+    ensures found { result ≡ true → (j : ℕ) × (has_pair members.now.pairs.items x j ≡ true) × (has_pair members.now.pairs.items y j ≡ true) × (is_live (lists blocks.now.of.items blocks.now.ends.items blocks.now.open.items) j at ≡ true) }
+    ensures none { result ≡ false → (j : ℕ) → has_pair members.now.pairs.items x j ≡ true → has_pair members.now.pairs.items y j ≡ true → is_live (lists blocks.now.of.items blocks.now.ends.items blocks.now.open.items) j at ≡ false }
+{
+    let pairs = members.pairs.as_slice();
+    let mut left = count_before(pairs, x.number(), at);
+    let mut right = count_before(pairs, y.number(), at);
+    while ends_with(pairs, left, x.number()) && ends_with(pairs, right, y.number()) {
+        let one = pairs[left - 1].1;
+        let other = pairs[right - 1].1;
+        if one == other && blocks.is_open_at(one, at) {
+            return true;
+        }
+        if one < other {
+            right = back(blocks, members, right, at);
+        } else {
+            left = back(blocks, members, left, at);
+        }
+    }
+    false
+}

@@ -1,0 +1,198 @@
+//! The statements of a text with their blocks and the numbers of their symbols: what a walk over them asks.
+
+ghost use Rattle.std.specs.Prelude.{All, ◌≡◌, ◌<◌, ◌≤◌, ◌^◌, ℕ, List, length, None};
+ghost use Rattle.std.specs.List.{list_any};
+ghost use Rattle.mm_spec.specs.Scope.{statement_at};
+ghost use Rattle.mm_spec.specs.Frame.{symbol_names, is_variable, is_disjoint, is_essential, is_floating, formula_at};
+ghost use Rattle.mm_spec.specs.Citation.{is_assertion, is_theorem};
+ghost use Rattle.mm_spec.specs.Output.{is_column};
+ghost use Rattle.mm_spec.proofs.Activity.{stays};
+ghost use Rattle.mm_outline.specs.Blocks.{IsBlocks, lists};
+ghost use Rattle.mm_outline.specs.Statements.{statements};
+ghost use Rattle.mm_outline.specs.Numbered.{AreNumbered, AreSymbols};
+ghost use Rattle.mm_frame.specs.Tables.{IsSound, typed_at};
+
+use mm_outline::blocks::Blocks;
+use mm_outline::parts::{Kind, Outline};
+use mm_outline::symbol::Sym;
+use mm_spec::Word;
+use std::alloc::Allocator;
+use std::marker::Model;
+
+/// The statements, lent, with what is known of them.
+#[derive(Drop)]
+pub struct Tables<'s, A: Allocator> {
+    text: &'s [u8],
+    tokens: &'s [Word],
+    outlines: &'s [Outline],
+    blocks: &'s Blocks<A>,
+    numbers: &'s [Sym],
+    places: &'s [u32],
+    variables: &'s [bool],
+}
+
+impl<'s, A: Allocator> Model for Tables<'s, A> {
+    ghost use Rattle.std.specs.Prelude.{List};
+    ghost use Rattle.mm_spec.specs.Statement.{Statement};
+    ghost use Rattle.mm_outline.specs.Blocks.{lists};
+    ghost use Rattle.mm_outline.specs.Statements.{statements};
+    ghost use Rattle.mm_frame.specs.Tables.{AreTables};
+
+    ghost Value = { List Statement };
+
+    ghost view = { λ t. statements t.text.now t.tokens.now t.outlines.now };
+
+    ghost invariant = { λ t. AreTables (statements t.text.now t.tokens.now t.outlines.now) (lists t.blocks.now.of.items t.blocks.now.ends.items t.blocks.now.open.items) t.numbers.now t.places.now t.variables.now };
+}
+
+impl<'s, A: Allocator> Tables<'s, A> {
+    /// The tables of lawful statements.
+    pub fn new(
+        text: &'s [u8],
+        tokens: &'s [Word],
+        outlines: &'s [Outline],
+        blocks: &'s Blocks<A>,
+        numbers: &'s [Sym],
+        places: &'s [u32],
+        variables: &'s [bool],
+    ) -> Tables<'s, A>
+        requires sound { IsSound (statements text.now tokens.now outlines.now) }
+        requires blocks { IsBlocks (statements text.now tokens.now outlines.now) (lists blocks.now.of.items blocks.now.ends.items blocks.now.open.items) }
+        requires numbered { AreNumbered (statements text.now tokens.now outlines.now) numbers.now places.now }
+        requires symbols { (names : List (List ℕ)) × AreSymbols (statements text.now tokens.now outlines.now) names variables.now }
+        requires few_symbols { length variables.now < 2 ^ 31 }
+        ensures { result ≡ statements text.now tokens.now outlines.now }
+    {
+        Tables {
+            text,
+            tokens,
+            outlines,
+            blocks,
+            numbers,
+            places,
+            variables,
+        }
+    }
+
+    /// How many statements there are.
+    pub fn len(&self) -> u32
+        ensures len { result ≡ length self.now }
+        ensures sound { IsSound self.now }
+    {
+        self.outlines.len() as u32
+    }
+
+    /// How many symbols there are.
+    pub fn symbol_count(&self) -> u32
+        ensures count { result ≡ length (symbol_names self.now) }
+        ensures few { result < 2 ^ 31 }
+    {
+        self.variables.len() as u32
+    }
+
+    /// Whether a statement is a `$e`.
+    pub fn is_essential(&self, statement: u32) -> bool
+        requires { statement < length self.now }
+        ensures { result ≡ list_any is_essential (statement_at self.now statement) }
+    {
+        match self.outlines[statement as usize].kind {
+            Kind::Essential => true,
+            _ => false,
+        }
+    }
+
+    /// Whether a statement is a `$d`.
+    pub fn is_disjoint(&self, statement: u32) -> bool
+        requires { statement < length self.now }
+        ensures { result ≡ list_any is_disjoint (statement_at self.now statement) }
+    {
+        match self.outlines[statement as usize].kind {
+            Kind::Disjoint => true,
+            _ => false,
+        }
+    }
+
+    /// Whether a statement is a `$f`.
+    fn is_floating(&self, statement: u32) -> bool
+        requires { statement < length self.now }
+        ensures { result ≡ list_any is_floating (statement_at self.now statement) }
+    {
+        match self.outlines[statement as usize].kind {
+            Kind::Floating => true,
+            _ => false,
+        }
+    }
+
+    /// Whether a statement is an `$a`.
+    pub fn is_axiom(&self, statement: u32) -> bool
+        requires { statement < length self.now }
+        ensures { result ≡ list_any (is_column None) (statement_at self.now statement) }
+    {
+        match self.outlines[statement as usize].kind {
+            Kind::Axiom => true,
+            _ => false,
+        }
+    }
+
+    /// Whether a statement is a `$p`.
+    pub fn is_theorem(&self, statement: u32) -> bool
+        requires { statement < length self.now }
+        ensures { result ≡ list_any is_theorem (statement_at self.now statement) }
+    {
+        match self.outlines[statement as usize].kind {
+            Kind::Theorem => true,
+            _ => false,
+        }
+    }
+
+    /// Whether a statement is an `$a` or a `$p`.
+    pub fn is_assertion(&self, statement: u32) -> bool
+        requires { statement < length self.now }
+        ensures { result ≡ list_any is_assertion (statement_at self.now statement) }
+    {
+        match self.outlines[statement as usize].kind {
+            Kind::Axiom | Kind::Theorem => true,
+            _ => false,
+        }
+    }
+
+    /// The symbols of a statement.
+    pub fn formula(&self, statement: u32) -> &[Sym]
+        requires { statement < length self.now }
+        ensures formula { result.now ≡ formula_at self.now statement }
+        ensures known { All (λ s. s < length (symbol_names self.now)) result.now }
+    {
+        let from = self.places[statement as usize] as usize;
+        let to = self.places[statement as usize + 1] as usize;
+        &self.numbers[from..to]
+    }
+
+    /// The variable that a `$f` types.
+    pub fn typed(&self, statement: u32) -> Option<Sym>
+        requires { statement < length self.now }
+        ensures { result ≡ typed_at self.now statement }
+    {
+        if self.is_floating(statement) {
+            self.formula(statement).get(1).copied()
+        } else {
+            None
+        }
+    }
+
+    /// Whether a symbol is a variable.
+    pub fn is_variable(&self, symbol: Sym) -> bool
+        requires { symbol < length (symbol_names self.now) }
+        ensures { result ≡ is_variable self.now symbol }
+    {
+        self.variables[symbol.number() as usize]
+    }
+
+    /// Whether the block of a statement is still open before a later one.
+    pub fn is_open(&self, statement: u32, at: u32) -> bool
+        requires before { statement < at }
+        requires within { at ≤ length self.now }
+        ensures { result ≡ stays self.now statement at }
+    {
+        self.blocks.is_open_at(statement, at)
+    }
+}

@@ -1,0 +1,9 @@
+pub mod ActiveLaw
+pub mod Among
+pub mod BlocksLaw
+pub mod Faultless
+pub mod Leads
+pub mod Results
+pub mod StatementsLaw
+pub mod TokensLaw
+pub mod Turns

@@ -1,0 +1,130 @@
+-- The tokens of a text lie in it, rise, and are few; a text that is too long has none, and its lexical fault.
+use Rattle.std.proofs.Common.{◌≡◌, ℕ, suc, ◌-◌, ◌^◌, ◌<◌, ◌≤◌, Bool, List, [], ◌∷◌, length, map, Option, None, Some, is_some, ◌⊎◌, inl, inr, refl, sym, ap, ◌∙◌, subst, arith}
+use Rattle.std.proofs.lemmas.Bool.{cases_lt}
+use Rattle.std.proofs.lemmas.List.{length-map}
+use Rattle.std.proofs.lemmas.List.FromFn.{length-range_with_len}
+use Rattle.std.proofs.lemmas.List.Elements.{All-nil, All-cons, All-head, All-tail, All-weaker}
+use Rattle.std.proofs.lemmas.List.Sums.{length-filter, count_by-le-length}
+use Rattle.std.proofs.lemmas.List.Kept.{AllPairs-cons}
+use Rattle.std.specs.List.{All, AllPairs, filter, range_with_len}
+use Rattle.mm_spec.specs.declared.Word.{Word}
+use Rattle.mm_spec.specs.declared.Fault.{Fault}
+use Rattle.mm_spec.specs.declared.Role.{Role}
+use Rattle.mm_spec.specs.declared.Role.TheVariants.{Token, Opening, Closing, Comment, Faulty}
+use Rattle.mm_spec.specs.declared.Code.TheVariants.{TextTooLong}
+use Rattle.mm_spec.specs.declared.TheConstants.{TEXT_LIMIT}
+use Rattle.mm_spec.specs.Roles.{role_of}
+use Rattle.mm_spec.specs.Words.{IsWord, begins_word, word_at, words_between, words_of}
+use Rattle.mm_spec.specs.Readings.{reading, bytes_of}
+use Rattle.mm_spec.specs.Lexed.{tokens_of, lexical_fault}
+use Rattle.mm_spec.specs.Output.{lexed_of}
+use Rattle.mm_spec.proofs.WordsLaw.{words_of-AreWords}
+use Rattle.mm_spec.proofs.ReadingsLemmas.{reading-opening, reading-closing, reading-comment, reading-faulty, reading-end}
+use Rattle.mm_spec.proofs.GrammarLaw.{reading-one}
+use Rattle.mm_spec.proofs.LexedLemmas.{tokens_of-long, lexical_fault-long, tokens_of-read}
+use Rattle.mm_outline.specs.Parts.{AreWords}
+use Rattle.mm_outline.specs.Statements.{lexed, end_fault_of}
+use Rattle.mm_outline.specs.declared.parts.Part.{Part}
+
+-- what tokens keep of words: it holds of no words, and of one word more before others that are read
+module _ (Q : List Word → List Word → Type 0) (none : (ws : List Word) → Q ws []) (taken : (w : Word) (ws ts : List Word) → Q ws ts → Q (w ∷ ws) (w ∷ ts)) (skipped : (w : Word) (ws ts : List Word) → Q ws ts → Q (w ∷ ws) ts) where
+  tokens_kept : (text : List ℕ) (c : Option ℕ) (ws : List Word) → Q ws (reading text c ws).tokens
+  tokens_kept text c [] = subst (λ r. Q [] r.tokens) (sym (reading-end text c)) (none [])
+  tokens_kept text c (w ∷ ws) = by (role_of (is_some c) (bytes_of text w)) refl (λ d. tokens_kept text d ws)
+    where
+      by : (r : Role) → role_of (is_some c) (bytes_of text w) ≡ r → ((d : Option ℕ) → Q ws (reading text d ws).tokens) → Q (w ∷ ws) (reading text c (w ∷ ws)).tokens
+      by Token e rest = subst (λ r. Q (w ∷ ws) r.tokens) (sym (reading-one text c w ws e)) (taken w ws (reading text c ws).tokens (rest c))
+      by Opening e rest = subst (λ r. Q (w ∷ ws) r.tokens) (sym (reading-opening text c w ws e)) (skipped w ws (reading text (Some w.start) ws).tokens (rest (Some w.start)))
+      by Closing e rest = subst (λ r. Q (w ∷ ws) r.tokens) (sym (reading-closing text c w ws e)) (skipped w ws (reading text None ws).tokens (rest None))
+      by Comment e rest = subst (λ r. Q (w ∷ ws) r.tokens) (sym (reading-comment text c w ws e)) (skipped w ws (reading text c ws).tokens (rest c))
+      by Faulty e rest = subst (λ r. Q (w ∷ ws) r.tokens) (sym (reading-faulty text c w ws e)) (none (w ∷ ws))
+
+-- the tokens are some of the words, in their order
+all_kept : (P : Word → Type 0) (text : List ℕ) (c : Option ℕ) (ws : List Word) → All P ws → All P (reading text c ws).tokens
+all_kept P text c ws =
+    tokens_kept (λ vs ts. All P vs → All P ts) (λ vs h. All-nil P) (λ w vs ts r h. All-cons P w ts (All-head P w vs h) (r (All-tail P w vs h))) (λ w vs ts r h. r (All-tail P w vs h)) text c ws
+
+pairs_head : {X : Type 0} (R : X → X → Type 0) (x : X) (xs : List X) → AllPairs R (x ∷ xs) → All (R x) xs
+pairs_head R x xs p = λ j d h. p 0 (suc j) d (omega arith) (omega arith)
+
+pairs_tail : {X : Type 0} (R : X → X → Type 0) (x : X) (xs : List X) → AllPairs R (x ∷ xs) → AllPairs R xs
+pairs_tail R x xs p = λ i j d l h. p (suc i) (suc j) d (omega arith) (omega arith)
+
+abbrev Later : Word → Word → Type 0
+Later v w = v.end ≤ w.start
+
+-- with it, that the tokens are behind whatever the words are behind
+rising_kept : (text : List ℕ) (c : Option ℕ) (ws : List Word) → AllPairs Later ws → AllPairs Later (reading text c ws).tokens
+rising_kept text c ws p =
+    (tokens_kept (λ vs ts. AllPairs Later vs → AllPairs Later ts × ((u : Word) → All (Later u) vs → All (Later u) ts)) (λ vs h. (λ i j d l k. absurd (omega arith), λ u a. All-nil (Later u)))
+    (λ w vs ts r h.
+    let rest = r (pairs_tail Later w vs h) in
+    (AllPairs-cons Later w ts (rest.1 w (pairs_head Later w vs h)) rest.0, λ u a. All-cons (Later u) w ts (All-head (Later u) w vs a) (rest.1 u (All-tail (Later u) w vs a))))
+    (λ w vs ts r h. let rest = r (pairs_tail Later w vs h) in (rest.0, λ u a. rest.1 u (All-tail (Later u) w vs a))) text c ws p).0
+
+length_kept : (text : List ℕ) (c : Option ℕ) (ws : List Word) → length (reading text c ws).tokens ≤ length ws
+length_kept text c ws = tokens_kept (λ vs ts. length ts ≤ length vs) (λ vs. omega arith) (λ w vs ts h. omega (arith, h)) (λ w vs ts h. omega (arith, h)) text c ws
+
+fewer : {X : Type 0} (p : X → Bool) (xs : List X) → length (filter p xs) ≤ length xs
+fewer p xs = let e = length-filter p xs in let n = count_by-le-length p xs in omega (arith, e, n)
+
+-- a text has no more words than bytes
+words_few : (text : List ℕ) → length (words_of text) ≤ length text
+unfolding words_between
+words_few text =
+    let places = range_with_len 0 (length text - 0) in
+    let m : length (map (word_at text) (filter (begins_word text) places)) ≡ length (filter (begins_word text) places) = length-map (filter (begins_word text) places) (word_at text) in
+    let n = fewer (begins_word text) places in
+    let l : length places ≡ length text - 0 = length-range_with_len 0 (length text - 0) in
+    omega (arith, m, n, l)
+
+-- what holds of the tokens of all texts, by those of the texts that are short
+by_limit : (P : List Word → Type 0) (text : List ℕ) → P [] → P (reading text None (words_of text)).tokens → P (tokens_of text)
+by_limit P text none some = by (cases_lt TEXT_LIMIT (length text))
+  where
+    by : (TEXT_LIMIT < length text) ⊎ (length text ≤ TEXT_LIMIT) → P (tokens_of text)
+    by (inl h) = subst P (sym (tokens_of-long text h)) none
+    by (inr h) = subst P (sym (tokens_of-read text (reading text None (words_of text)) h refl)) some
+
+-- each token is a word of the text
+pub tokens_are_words : (text : List ℕ) → All (IsWord text) (tokens_of text)
+tokens_are_words text = by_limit (All (IsWord text)) text (All-nil (IsWord text)) (all_kept (IsWord text) text None (words_of text) (words_of-AreWords text).each)
+
+-- each token ends before the next begins
+pub tokens_rising : (text : List ℕ) → AllPairs (λ v w. v.end ≤ w.start) (tokens_of text)
+tokens_rising text = by_limit (AllPairs Later) text (λ i j d l k. absurd (omega arith)) (rising_kept text None (words_of text) (words_of-AreWords text).rising)
+
+-- the tokens stand in the text
+pub tokens_stand : (text : List ℕ) → AreWords text (tokens_of text)
+tokens_stand text = All-weaker (IsWord text) (λ w. (w.start ≤ w.end) × (w.end ≤ length text)) (λ w x. (let n = x.nonempty in omega (arith, n), x.within)) (tokens_of text) (tokens_are_words text)
+
+-- there are no more tokens than bytes, and fewer than the limit
+pub tokens_few : (text : List ℕ) → length (tokens_of text) ≤ length text
+tokens_few text = by_limit (λ ts. length ts ≤ length text) text (omega arith) (let a = length_kept text None (words_of text) in let b = words_few text in omega (arith, a, b))
+
+pub tokens_small : (text : List ℕ) → length (tokens_of text) < 2 ^ 31
+tokens_small text = by (cases_lt TEXT_LIMIT (length text))
+  where
+    by : (TEXT_LIMIT < length text) ⊎ (length text ≤ TEXT_LIMIT) → length (tokens_of text) < 2 ^ 31
+    by (inl h) = let e : length (tokens_of text) ≡ 0 = ap length (tokens_of-long text h) in omega (arith, e)
+    by (inr h) = let n = tokens_few text in omega (arith, h, n)
+
+-- a text without a lexical fault is short
+pub short_text : (text : List ℕ) → lexical_fault text ≡ None → length text ≤ TEXT_LIMIT
+short_text text e = by (cases_lt TEXT_LIMIT (length text))
+  where
+    by : (TEXT_LIMIT < length text) ⊎ (length text ≤ TEXT_LIMIT) → length text ≤ TEXT_LIMIT
+    by (inl h) = absurd (let f : Some (record { at = 0; code = TextTooLong }) ≡ None = sym (lexical_fault-long text h) ∙ e in cc)
+    by (inr h) = h
+
+-- the fault at the end needs the length of a short text alone
+pub end_fault_short : (text : List ℕ) (len : ℕ) → (length text ≤ TEXT_LIMIT → len ≡ length text) → (part : Part) (deep : ℕ) → end_fault_of (lexical_fault text) len part deep ≡ end_fault_of (lexical_fault text) (length text) part deep
+end_fault_short text len same part deep = by (lexical_fault text) refl
+  where
+    by : (o : Option Fault) → lexical_fault text ≡ o → end_fault_of o len part deep ≡ end_fault_of o (length text) part deep
+    by None e = ap (λ n. end_fault_of None n part deep) (same (short_text text e))
+    by (Some f) e = refl
+
+-- what the reading takes is what the text's bytes give
+pub lexed_is : (text : List ℕ) → lexed text (tokens_of text) (lexical_fault text) ≡ lexed_of text
+lexed_is text = refl

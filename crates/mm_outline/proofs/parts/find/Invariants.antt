@@ -1,0 +1,12 @@
+use Rattle.std.proofs.Common.{◌≤◌, []}
+use Rattle.mm_spec.specs.Table.{start}
+use Rattle.mm_outline.specs.Parts.{IsPart, reading}
+use Rattle.mm_outline.specs.Found.{Leads, behind}
+use Rattle.mm_outline.proofs.parts.find.Given as goal
+
+abbrev pub invariant-loop-at : goal.invariant-loop-at
+invariant-loop-at l = record {
+  part : IsPart l.part l.at;
+  later : l.from ≤ l.at;
+  leads : Leads (start l.deep) (behind l.text l.tokens l.from) [] (reading l.text l.tokens l.deep l.part l.at) (behind l.text l.tokens l.at);
+}

@@ -1,0 +1,6 @@
+pub mod Blocks
+pub mod Found
+pub mod Numbered
+pub mod Parts
+pub mod Statements
+pub mod Typed

@@ -1,0 +1,185 @@
+-- What the code's types stand for.
+use Rattle.std.specs.Prelude.{◌≡◌, ℕ, suc, ◌+◌, ◌-◌, ◌<◌, ◌≤◌, zero, Bool, true, false, List, [], map, length, slice_range, get_or, All}
+use Rattle.mm_spec.specs.Text.{Token, token}
+use Rattle.mm_spec.specs.Statement as statement
+use Rattle.mm_spec.specs.Statement.{Statement}
+use Rattle.mm_spec.specs.Table as table
+use Rattle.mm_spec.specs.declared.Word.{Word}
+use Rattle.mm_outline.specs.declared.words.Class.{Class}
+use Rattle.mm_outline.specs.declared.words.Class.TheVariants.{Constant, Variable, Disjoint, Floating, Essential, Axiom, Theorem, Equals, Dot, Open, Close, Plain, Other}
+use Rattle.mm_outline.specs.declared.parts.Kind.{Kind}
+use Rattle.mm_outline.specs.declared.parts.Kind.TheVariants as kind
+use Rattle.mm_outline.specs.declared.parts.Outline.{Outline}
+use Rattle.mm_outline.specs.declared.parts.Part.{Part}
+use Rattle.mm_outline.specs.declared.parts.Part.TheVariants.{Start, Labelled, Words, Formula, Proof}
+use Rattle.mm_outline.specs.declared.parts.Turn.{Turn}
+use Rattle.mm_outline.specs.declared.parts.Turn.TheVariants.{Stop, Go, Done}
+
+abbrev pub class_of : Class → table.Class
+class_of Constant = table.constant
+class_of Variable = table.variable
+class_of Disjoint = table.disjoint_of
+class_of Floating = table.type_of
+class_of Essential = table.logical
+class_of Axiom = table.axiom_of
+class_of Theorem = table.proof_of
+class_of Equals = table.equals
+class_of Dot = table.dot
+class_of Open = table.open_block
+class_of Close = table.close_block
+class_of Plain = table.plain
+class_of Other = table.other
+
+-- the words stand in the text
+abbrev pub AreWords : List ℕ → List Word → Type 0
+AreWords text ws = All (λ w. (w.start ≤ w.end) × (w.end ≤ length text)) ws
+
+-- words as tokens
+abbrev pub token_of : List ℕ → Word → Token
+token_of text w = token w.start (slice_range text w.start w.end)
+
+abbrev pub tokens_of : List ℕ → List Word → List Token
+tokens_of text ws = map (token_of text) ws
+
+abbrev pub word_at : List Word → ℕ → Word
+word_at ws i = get_or ws i (record { start = 0; end = 0 })
+
+abbrev pub token_at : List ℕ → List Word → ℕ → Token
+token_at text ws i = token_of text (word_at ws i)
+
+-- the tokens from i up to j
+abbrev pub between : List ℕ → List Word → ℕ → ℕ → List Token
+between text ws i j = tokens_of text (slice_range ws i j)
+
+-- what the turns of the code are
+abbrev pub outline : Kind → ℕ → ℕ → ℕ → Outline
+outline kind keyword middle end = record { kind = kind; keyword = keyword; middle = middle; end = end }
+
+abbrev pub single_of : Kind → ℕ → Turn
+single_of kind at = Done (outline kind at at at)
+
+abbrev pub stop_unless : Bool → Turn → Turn
+stop_unless true t = t
+stop_unless false t = Stop
+
+abbrev pub step_of : Part → Class → Bool → Bool → ℕ → Turn
+step_of Start Constant is_label is_inside at = Go (Words kind.Constants at)
+step_of Start Variable is_label is_inside at = Go (Words kind.Variables at)
+step_of Start Disjoint is_label is_inside at = Go (Words kind.Disjoint at)
+step_of Start Open is_label is_inside at = single_of kind.Open at
+step_of Start Close is_label is_inside at = stop_unless is_inside (single_of kind.Close at)
+step_of Start Plain is_label is_inside at = stop_unless is_label (Go (Labelled at))
+step_of (Labelled l) Floating is_label is_inside at = Go (Words kind.Floating at)
+step_of (Labelled l) Essential is_label is_inside at = Go (Words kind.Essential at)
+step_of (Labelled l) Axiom is_label is_inside at = Go (Words kind.Axiom at)
+step_of (Labelled l) Theorem is_label is_inside at = Go (Formula at)
+step_of (Words k w) Plain is_label is_inside at = Go (Words k w)
+step_of (Words k w) Dot is_label is_inside at = Done (outline k w at at)
+step_of (Formula w) Plain is_label is_inside at = Go (Formula w)
+step_of (Formula w) Equals is_label is_inside at = Go (Proof w at)
+step_of (Proof w e) Plain is_label is_inside at = Go (Proof w e)
+step_of (Proof w e) Dot is_label is_inside at = Done (outline kind.Theorem w e at)
+step_of _ _ is_label is_inside at = Stop
+
+abbrev pub less_one : ℕ → ℕ
+less_one zero = zero
+less_one (suc d) = d
+
+-- how deep it is behind a statement
+abbrev pub depth_behind : Kind → ℕ → ℕ
+depth_behind kind.Open d = suc d
+depth_behind kind.Close d = less_one d
+depth_behind _ d = d
+
+module _ (text : List ℕ) (ws : List Word) where
+  -- the label's token and the keyword's place
+  abbrev pub label_before : ℕ → Token
+  label_before keyword = token_at text ws (keyword - 1)
+
+  abbrev pub place : ℕ → ℕ
+  place i = (word_at ws i).start
+
+  -- the statement with these words and this end
+  abbrev pub make : Kind → ℕ → List Token → ℕ → Statement
+  make kind.Constants k xs d = statement.constants (place k) xs d
+  make kind.Variables k xs d = statement.variables (place k) xs d
+  make kind.Disjoint k xs d = statement.disjoint (place k) xs d
+  make kind.Floating k xs d = statement.floating (label_before k) (place k) xs d
+  make kind.Essential k xs d = statement.essential (label_before k) (place k) xs d
+  make kind.Axiom k xs d = statement.axiomatic (label_before k) (place k) xs d
+  make kind.Theorem k xs d = statement.provable (label_before k) (place k) xs d [] d
+  make kind.Open k xs d = statement.opening (place k)
+  make kind.Close k xs d = statement.closing (place k)
+
+  abbrev pub make_proved : ℕ → ℕ → List Token → ℕ → Statement
+  make_proved k e ps d = statement.provable (label_before k) (place k) (between text ws (k + 1) e) (place e) ps d
+
+  abbrev pub made : Kind → ℕ → ℕ → ℕ → Statement
+  made kind.Theorem k e d = make_proved k e (between text ws (e + 1) d) (place d)
+  made kind k e d = make kind k (between text ws (k + 1) e) (place e)
+
+  -- the statement of an outline
+  abbrev pub statement_of : Outline → Statement
+  statement_of o = made o.kind o.keyword o.middle o.end
+
+  -- what has been read before token i
+  abbrev pub reading : ℕ → Part → ℕ → table.Reading
+  reading d Start i = table.start d
+  reading d (Labelled l) i = table.labelled d (token_at text ws l)
+  reading d (Words kind k) i = table.words d (make kind k) (between text ws (k + 1) i)
+  reading d (Formula k) i = table.formula d (label_before k) (place k) (between text ws (k + 1) i)
+  reading d (Proof k e) i = table.words d (make_proved k e) (between text ws (e + 1) i)
+
+  abbrev pub turn_of : ℕ → ℕ → Turn → table.Turn
+  turn_of d i Stop = table.stop
+  turn_of d i (Go part) = table.go (reading d part (i + 1))
+  turn_of d i (Done o) = table.done (depth_behind o.kind d) (statement_of o)
+
+-- where nothing has been read
+abbrev pub AtStart : Part → Type 0 → Type 0
+AtStart Start P = P
+AtStart _ P = Unit {0}
+
+-- a kind of statements of words
+abbrev pub HasWords : Kind → Type 0
+HasWords kind.Theorem = ⊥
+HasWords kind.Open = ⊥
+HasWords kind.Close = ⊥
+HasWords _ = Unit {0}
+
+abbrev pub HasLabel : Kind → ℕ → Type 0
+HasLabel kind.Floating k = 0 < k
+HasLabel kind.Essential k = 0 < k
+HasLabel kind.Axiom k = 0 < k
+HasLabel kind.Theorem k = 0 < k
+HasLabel _ k = Unit {0}
+
+-- where the parts stand before token i
+abbrev pub IsPart : Part → ℕ → Type 0
+IsPart Start i = Unit {0}
+IsPart (Labelled l) i = l + 1 ≡ i
+IsPart (Words kind k) i = HasWords kind × HasLabel kind k × (k < i)
+IsPart (Formula k) i = (0 < k) × (k < i)
+IsPart (Proof k e) i = (0 < k) × (k < e) × (e < i)
+
+-- a statement of words has its last token behind its keyword
+abbrev pub IsRising : Kind → ℕ → ℕ → Type 0
+IsRising kind.Open k m = Unit {0}
+IsRising kind.Close k m = Unit {0}
+IsRising _ k m = k < m
+
+-- a `$p` has its `$=` before its last token, `${` and `$}` have one token, and the others have no `$=`
+abbrev pub HasEnd : Kind → ℕ → ℕ → ℕ → Type 0
+HasEnd kind.Theorem k m e = m < e
+HasEnd kind.Open k m e = (k ≡ m) × (m ≡ e)
+HasEnd kind.Close k m e = (k ≡ m) × (m ≡ e)
+HasEnd _ k m e = m ≡ e
+
+abbrev pub IsOutline : Outline → Type 0
+IsOutline o = HasLabel o.kind o.keyword × IsRising o.kind o.keyword o.middle × (o.keyword ≤ o.middle) × (o.middle ≤ o.end) × HasEnd o.kind o.keyword o.middle o.end
+
+-- what a turn at token i leaves
+abbrev pub Holds : ℕ → Turn → Type 0
+Holds i Stop = Unit {0}
+Holds i (Go part) = IsPart part (i + 1)
+Holds i (Done o) = IsOutline o × (o.end ≡ i)

@@ -1,0 +1,34 @@
+-- The statements of a text by their outlines, and what stands at its end.
+use Rattle.std.specs.Prelude.{ℕ, zero, suc, Bool, true, false, List, map, Option, None, Some}
+use Rattle.mm_spec.specs.Statement.{Statement}
+use Rattle.mm_spec.specs.Output.{Lexed}
+use Rattle.mm_spec.specs.declared.Word.{Word}
+use Rattle.mm_spec.specs.declared.Fault.{Fault}
+use Rattle.mm_outline.specs.Parts.{tokens_of, statement_of}
+use Rattle.mm_outline.specs.declared.parts.Kind.{Kind}
+use Rattle.mm_outline.specs.declared.parts.Kind.TheVariants as kind
+use Rattle.mm_outline.specs.declared.parts.Outline.{Outline}
+use Rattle.mm_spec.specs.Text.{fault}
+use Rattle.mm_outline.specs.declared.parts.Part.{Part}
+use Rattle.mm_outline.specs.declared.parts.Part.TheVariants.{Start}
+use Rattle.mm_spec.specs.declared.Code.TheVariants.{OpenStatement, OpenBlock}
+
+abbrev pub lexed : List ℕ → List Word → Option Fault → Lexed
+lexed text ws fault = record { tokens = tokens_of text ws; fault = fault }
+
+abbrev pub statements : List ℕ → List Word → List Outline → List Statement
+statements text ws os = map (statement_of text ws) os
+
+abbrev pub end_fault_of : Option Fault → ℕ → Part → ℕ → Option Fault
+end_fault_of (Some f) len part deep = Some f
+end_fault_of None len Start zero = None
+end_fault_of None len Start (suc d) = Some (fault len OpenBlock)
+end_fault_of None len _ d = Some (fault len OpenStatement)
+
+abbrev pub active_kind : Kind → Bool → Bool
+active_kind kind.Constants b = true
+active_kind kind.Axiom b = true
+active_kind kind.Theorem b = true
+active_kind kind.Open b = false
+active_kind kind.Close b = false
+active_kind _ b = b

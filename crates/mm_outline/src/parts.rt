@@ -1,0 +1,213 @@
+//! A statement, token by token.
+
+ghost use Rattle.std.specs.Prelude.{◌≡◌, ◌<◌, ◌≤◌, ◌^◌, length, slice_range, All};
+ghost use Rattle.mm_spec.specs.Text.{fault, is_label as spec_is_label};
+ghost use Rattle.mm_spec.specs.Statement.{shape_code};
+ghost use Rattle.mm_outline.specs.Found.{IsFound, is_start as spec_is_start};
+ghost use Rattle.mm_spec.specs.Table.{class, turn as spec_turn};
+ghost use Rattle.mm_outline.specs.Parts.{IsPart, Holds, AreWords, reading, token_at, turn_of, step_of, single_of, AtStart};
+
+use crate::words::{Class, classify, is_label};
+use mm_spec::{Code, Fault, Word};
+
+/// What a statement is.
+#[derive(Clone, Copy, Debug, PartialEq, Eq)]
+pub enum Kind {
+    Constants,
+    Variables,
+    Disjoint,
+    Floating,
+    Essential,
+    Axiom,
+    Theorem,
+    Open,
+    Close,
+}
+
+/// Where a statement stands among the tokens: its keyword, its `$=` (where it has none, its last token), and its last token.
+#[derive(Clone, Copy, Debug, PartialEq, Eq)]
+pub struct Outline {
+    pub kind: Kind,
+    pub keyword: u32,
+    pub middle: u32,
+    pub end: u32,
+}
+
+/// What of a statement has been read: nothing, the label, words behind the keyword, those of a `$p`, those behind its `$=`.
+#[derive(Clone, Copy, Debug, PartialEq, Eq)]
+pub enum Part {
+    Start,
+    Labelled(u32),
+    Words(Kind, u32),
+    Formula(u32),
+    Proof(u32, u32),
+}
+
+/// What a token does.
+#[derive(Clone, Copy, Debug, PartialEq, Eq)]
+pub enum Turn {
+    Stop,
+    Go(Part),
+    Done(Outline),
+}
+
+/// What a token of that class does at `at`.
+fn step(part: Part, class: Class, is_label: bool, is_inside: bool, at: u32) -> Turn
+    ensures { result ≡ step_of part class is_label is_inside at }
+{
+    match part {
+        Part::Start => match class {
+            Class::Constant => Turn::Go(Part::Words(Kind::Constants, at)),
+            Class::Variable => Turn::Go(Part::Words(Kind::Variables, at)),
+            Class::Disjoint => Turn::Go(Part::Words(Kind::Disjoint, at)),
+            Class::Open => single(Kind::Open, at),
+            Class::Close => {
+                if is_inside {
+                    single(Kind::Close, at)
+                } else {
+                    Turn::Stop
+                }
+            }
+            Class::Plain => {
+                if is_label {
+                    Turn::Go(Part::Labelled(at))
+                } else {
+                    Turn::Stop
+                }
+            }
+            _ => Turn::Stop,
+        },
+        Part::Labelled(_) => match class {
+            Class::Floating => Turn::Go(Part::Words(Kind::Floating, at)),
+            Class::Essential => Turn::Go(Part::Words(Kind::Essential, at)),
+            Class::Axiom => Turn::Go(Part::Words(Kind::Axiom, at)),
+            Class::Theorem => Turn::Go(Part::Formula(at)),
+            _ => Turn::Stop,
+        },
+        Part::Words(kind, keyword) => match class {
+            Class::Plain => Turn::Go(part),
+            Class::Dot => Turn::Done(Outline {
+                kind,
+                keyword,
+                middle: at,
+                end: at,
+            }),
+            _ => Turn::Stop,
+        },
+        Part::Formula(keyword) => match class {
+            Class::Plain => Turn::Go(part),
+            Class::Equals => Turn::Go(Part::Proof(keyword, at)),
+            _ => Turn::Stop,
+        },
+        Part::Proof(keyword, equals) => match class {
+            Class::Plain => Turn::Go(part),
+            Class::Dot => Turn::Done(Outline {
+                kind: Kind::Theorem,
+                keyword,
+                middle: equals,
+                end: at,
+            }),
+            _ => Turn::Stop,
+        },
+    }
+}
+
+/// A statement of one token.
+fn single(kind: Kind, at: u32) -> Turn
+    ensures { result ≡ single_of kind at }
+{
+    Turn::Done(Outline {
+        kind,
+        keyword: at,
+        middle: at,
+        end: at,
+    })
+}
+
+/// Whether the word is a label, where a label may stand.
+fn is_label_at(part: Part, word: &[u8]) -> bool
+    ensures { AtStart part (result ≡ spec_is_label word.now) }
+{
+    match part {
+        Part::Start => is_label(word),
+        _ => false,
+    }
+}
+
+/// What the token at `at` does.
+pub fn take_turn(text: &[u8], tokens: &[Word], deep: u32, part: Part, at: u32) -> Turn
+    requires words { AreWords text.now tokens.now }
+    requires inside { at < length tokens.now }
+    requires part { IsPart part at }
+    ensures same { turn_of text.now tokens.now deep at result ≡ spec_turn (reading text.now tokens.now deep part at) (class (token_at text.now tokens.now at).word) (token_at text.now tokens.now at) }
+    ensures holds { Holds at result }
+{
+    let token = tokens[at as usize];
+    let word = &text[token.start as usize..token.end as usize];
+    let class = classify(word);
+    step(part, class, is_label_at(part, word), deep > 0, at)
+}
+
+/// What stands where a statement should begin: a whole one, a token that is not expected, or the end, behind part of one.
+#[derive(Clone, Copy, Debug, PartialEq, Eq)]
+pub enum Found {
+    Whole(Outline),
+    Stopped(Fault),
+    Ended(Part),
+}
+
+/// The code of a token that is not expected.
+fn unexpected_code(is_between: bool, word: &[u8]) -> Code
+    ensures { result ≡ shape_code is_between word.now }
+{
+    if word == b"$[".as_slice() || word == b"$]".as_slice() {
+        Code::Inclusion
+    } else if !is_between {
+        Code::UnexpectedToken
+    } else if word == b"$}".as_slice() {
+        Code::UnopenedBlock
+    } else if word.contains(&b'$') {
+        Code::UnexpectedToken
+    } else {
+        Code::BadLabel
+    }
+}
+
+/// Whether nothing of a statement has been read.
+fn is_start(part: Part) -> bool
+    ensures { result ≡ spec_is_start part }
+{
+    matches!(part, Part::Start)
+}
+
+/// The fault of the token that is not expected at `at`.
+fn unexpected(text: &[u8], tokens: &[Word], part: Part, at: u32) -> Fault
+    requires words { AreWords text.now tokens.now }
+    requires inside { at < length tokens.now }
+    ensures { result ≡ fault (token_at text.now tokens.now at).at (shape_code (spec_is_start part) (token_at text.now tokens.now at).word) }
+{
+    let token = tokens[at as usize];
+    let word = &text[token.start as usize..token.end as usize];
+    Fault {
+        at: token.start,
+        code: unexpected_code(is_start(part), word),
+    }
+}
+
+/// What stands from the token `from` on.
+pub fn find(text: &[u8], tokens: &[Word], deep: u32, from: u32) -> Found
+    requires words { AreWords text.now tokens.now }
+    requires limit { length tokens.now < 2 ^ 31 }
+    requires inside { from ≤ length tokens.now }
+    ensures { IsFound text.now tokens.now deep from result }
+{
+    let mut part = Part::Start;
+    for at in from..tokens.len() as u32 {
+        match take_turn(text, tokens, deep, part, at) {
+            Turn::Stop => return Found::Stopped(unexpected(text, tokens, part, at)),
+            Turn::Go(next) => part = next,
+            Turn::Done(outline) => return Found::Whole(outline),
+        }
+    }
+    Found::Ended(part)
+}

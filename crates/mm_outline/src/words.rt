@@ -1,0 +1,75 @@
+//! What a word is, by its bytes.
+
+ghost use Rattle.std.specs.Prelude.{◌≡◌, codes};
+ghost use Rattle.mm_spec.specs.Text.{has_dollar, is_label as spec_is_label, is_label_byte as spec_is_label_byte};
+ghost use Rattle.mm_spec.specs.Table.{class};
+ghost use Rattle.mm_outline.specs.Parts.{class_of};
+
+/// What a word may be in a statement.
+#[derive(Clone, Copy, Debug, PartialEq, Eq)]
+pub enum Class {
+    Constant,
+    Variable,
+    Disjoint,
+    Floating,
+    Essential,
+    Axiom,
+    Theorem,
+    Equals,
+    Dot,
+    Open,
+    Close,
+    Plain,
+    Other,
+}
+
+/// What the word is.
+pub fn classify(word: &[u8]) -> Class
+    ensures { class_of result ≡ class word.now }
+{
+    if !word.contains(&b'$') {
+        Class::Plain
+    } else if word == b"$c".as_slice() {
+        Class::Constant
+    } else if word == b"$v".as_slice() {
+        Class::Variable
+    } else if word == b"$d".as_slice() {
+        Class::Disjoint
+    } else if word == b"$f".as_slice() {
+        Class::Floating
+    } else if word == b"$e".as_slice() {
+        Class::Essential
+    } else if word == b"$a".as_slice() {
+        Class::Axiom
+    } else if word == b"$p".as_slice() {
+        Class::Theorem
+    } else if word == b"$=".as_slice() {
+        Class::Equals
+    } else if word == b"$.".as_slice() {
+        Class::Dot
+    } else if word == b"${".as_slice() {
+        Class::Open
+    } else if word == b"$}".as_slice() {
+        Class::Close
+    } else {
+        Class::Other
+    }
+}
+
+fn is_label_byte(byte: u8) -> bool
+    ensures { result ≡ spec_is_label_byte byte }
+{
+    (65 <= byte && byte <= 90)
+        || (97 <= byte && byte <= 122)
+        || (48 <= byte && byte <= 57)
+        || byte == 45
+        || byte == 95
+        || byte == 46
+}
+
+/// Whether the word has a label's bytes alone.
+pub fn is_label(word: &[u8]) -> bool
+    ensures { result ≡ spec_is_label word.now }
+{
+    word.iter().all(|b| is_label_byte(*b))
+}

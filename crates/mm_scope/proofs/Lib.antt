@@ -1,0 +1,13 @@
+pub mod AddLaw
+pub mod BoundsLaw
+pub mod Declared
+pub mod JudgeLaw
+pub mod KnownLaw
+pub mod KnowsLaw
+pub mod LabelsLaw
+pub mod Latest
+pub mod NumbersLaw
+pub mod OpenLaw
+pub mod ReadLaw
+pub mod SymbolsLaw
+pub mod Typed

@@ -1,0 +1,17 @@
+use Rattle.std.proofs.Common.{◌<◌, ◌≤◌, arith, length, ◌∙◌}
+use Rattle.mm_scope.specs.Names.{find}
+use Rattle.mm_scope.proofs.Declared.{declared_step}
+use Rattle.mm_scope.proofs.names.Scope.declare.Goals as goal
+
+pub loop-at-preserved : goal.loop-at-preserved
+loop-at-preserved g c =
+    let test = c.loop-at-test.true in
+    let within = c.requires.within in
+    let inside : c.loop-at.at < length c.args.tokens.now = omega (arith, test, within) in
+    let later : c.args.from ≤ c.loop-at.at = omega arith in
+    let i = c.loop-at.invariant in
+    record {
+      labels = λ w. c.in_ok-set_symbol.ensures.labels w ∙ i.labels w;
+      symbols = declared_step c.args.text.now c.args.tokens.now c.args.from c.loop-at.at later inside c.args.is_variable c.args.number c.declared-symbol.result (find c.args.self.now.names.symbols) (find c.loop-at.self.names.symbols) (find c.set_symbol.new.self.symbols) c.in_ok-set_symbol.ensures.symbols c.declared-symbol.ensures i.symbols;
+      blocks = i.blocks;
+    }

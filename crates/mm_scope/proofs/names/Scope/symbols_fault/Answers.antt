@@ -1,0 +1,18 @@
+use Rattle.std.proofs.Common.{◌<◌, ◌≤◌, ◌∙◌, ap, arith, length}
+use Rattle.mm_scope.specs.Names.{find}
+use Rattle.mm_outline.specs.Parts.{token_at}
+use Rattle.mm_scope.specs.Judge.{merge, fault_at, is_open_in}
+use Rattle.mm_scope.proofs.JudgeLaw.{symbols_more}
+use Rattle.mm_scope.proofs.names.Scope.symbols_fault.Goals as goal
+
+pub loop-at-preserved : goal.loop-at-preserved
+loop-at-preserved g c = record {
+  least = λ n k.
+      let s = c.args.self.now in
+      let test = c.loop-at-test.true in
+      let within = c.requires.within in
+      let inside : c.loop-at.at < length c.args.tokens.now = omega (arith, test, within) in
+      let later : c.args.from ≤ c.loop-at.at = omega arith in
+      c.note-best.ensures ∙ ap (λ o. merge c.loop-at.best (fault_at (token_at c.args.text.now c.args.tokens.now c.loop-at.at).at o)) c.symbol_code-code.ensures
+      ∙ symbols_more n (find s.names.symbols) (find s.names.labels) (is_open_in s.blocks.of.items s.blocks.ends.items) k c.args.text.now c.args.tokens.now c.args.from c.loop-at.at later inside c.loop-at.best (c.loop-at.invariant.least n k);
+}

@@ -1,0 +1,6 @@
+pub mod Judge
+pub mod Keeps
+pub mod Known
+pub mod Labels
+pub mod Names
+pub mod Symbols

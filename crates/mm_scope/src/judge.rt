@@ -1,0 +1,282 @@
+//! The faults of a statement that comes next.
+
+ghost use Rattle.std.specs.Prelude.{◌≡◌, ◌<◌, ◌≤◌, ◌++◌, [], length, OnOk, IfOk};
+ghost use Rattle.std.specs.Prelude.{◌+◌, ◌-◌, ℕ, List, is_some, Some, if◌then◌else◌, bytes_eq};
+ghost use Rattle.mm_scope.specs.Names.{find};
+ghost use Rattle.mm_spec.specs.Lawful.{least, at_each, symbol_codes, formula_faults, floating_faults, label_faults, scope_faults};
+ghost use Rattle.mm_spec.specs.Scope.{Names as Known};
+ghost use Rattle.mm_outline.specs.Parts.{AreWords, IsOutline, between, word_at, token_at, statement_of};
+ghost use Rattle.mm_scope.specs.Judge.{merge as spec_merge, fault_at, is_open_in, declared_codes, list_fault, Knows};
+
+use crate::names::{Map, Scope};
+use indexmap::IndexMap;
+use mm_outline::parts::{Kind, Outline};
+use mm_spec::{Code, Fault, Word};
+use std::alloc::{AllocError, Allocator};
+
+impl<'a, A: Allocator + Copy> Scope<'a, A> {
+    /// The first fault of the symbols of a formula behind its typecode.
+    fn symbols_fault(&self, text: &[u8], tokens: &[Word], from: u32, to: u32) -> Option<Fault>
+        requires words { AreWords text.now tokens.now }
+        requires order { from ≤ to }
+        requires within { to ≤ length tokens.now }
+        ensures { (n : Known) → Knows n (find self.now.names.symbols) (find self.now.names.labels) (is_open_in self.now.blocks.of.items self.now.blocks.ends.items) → result ≡ least (at_each (symbol_codes n) [] (between text.now tokens.now from to)) }
+    {
+        let mut best = None;
+        for at in from..to {
+            let token = tokens[at as usize];
+            let code = self.symbol_code(&text[token.start as usize..token.end as usize]);
+            best = note(best, token.start, code);
+        }
+        best
+    }
+
+    /// The first fault of the symbols of `$c`, `$v` or `$d`.
+    fn declared_fault(
+        &self,
+        alloc: A,
+        text: &'a [u8],
+        tokens: &[Word],
+        kind: Kind,
+        from: u32,
+        to: u32,
+    ) -> Result<Option<Fault>, AllocError>
+        requires words { AreWords text.now tokens.now }
+        requires order { from ≤ to }
+        requires within { to < length tokens.now }
+        ensures { IfOk result (λ r. (n : Known) → Knows n (find self.now.names.symbols) (find self.now.names.labels) (is_open_in self.now.blocks.of.items self.now.blocks.ends.items) → r ≡ least (at_each (declared_codes n kind) [] (between text.now tokens.now from to))) }
+    {
+        let mut seen = IndexMap::new(alloc);
+        let mut best = None;
+        for at in from..to {
+            let token = tokens[at as usize];
+            let word = &text[token.start as usize..token.end as usize];
+            let repeated = see(&mut seen, word)?;
+            best = note(best, token.start, self.declared_code(kind, word, repeated));
+        }
+        Ok(best)
+    }
+
+    /// The first fault of a formula, which ends at the token `to`.
+    fn formula_fault(&self, text: &[u8], tokens: &[Word], from: u32, to: u32) -> Option<Fault>
+        requires words { AreWords text.now tokens.now }
+        requires order { from ≤ to }
+        requires within { to < length tokens.now }
+        ensures { (n : Known) → Knows n (find self.now.names.symbols) (find self.now.names.labels) (is_open_in self.now.blocks.of.items self.now.blocks.ends.items) → result ≡ least (formula_faults n (between text.now tokens.now from to) (word_at tokens.now to).start) }
+    {
+        if from == to {
+            return note(None, tokens[to as usize].start, Some(Code::BadTypecode));
+        }
+        let token = tokens[from as usize];
+        let code = self.typecode_code(&text[token.start as usize..token.end as usize]);
+        merge(
+            note(None, token.start, code),
+            self.symbols_fault(text, tokens, from + 1, to),
+        )
+    }
+
+    /// The fault of a label.
+    fn label_fault(&self, text: &[u8], tokens: &[Word], at: u32) -> Option<Fault>
+        requires words { AreWords text.now tokens.now }
+        requires within { at < length tokens.now }
+        ensures { (n : Known) → Knows n (find self.now.names.symbols) (find self.now.names.labels) (is_open_in self.now.blocks.of.items self.now.blocks.ends.items) → result ≡ least (label_faults n (token_at text.now tokens.now at)) }
+    {
+        let token = tokens[at as usize];
+        note(
+            None,
+            token.start,
+            self.label_code(&text[token.start as usize..token.end as usize]),
+        )
+    }
+
+    /// The fault of the symbols of a `$f`.
+    fn floating_fault(&self, text: &[u8], tokens: &[Word], keyword: u32, to: u32) -> Option<Fault>
+        requires words { AreWords text.now tokens.now }
+        requires order { keyword < to }
+        requires within { to < length tokens.now }
+        ensures { (n : Known) → Knows n (find self.now.names.symbols) (find self.now.names.labels) (is_open_in self.now.blocks.of.items self.now.blocks.ends.items) → result ≡ least (floating_faults n (word_at tokens.now keyword).start (between text.now tokens.now (keyword + 1) to)) }
+    {
+        if to - keyword != 3 {
+            return note(
+                None,
+                tokens[keyword as usize].start,
+                Some(Code::BadFloating),
+            );
+        }
+        let first = tokens[keyword as usize + 1];
+        let second = tokens[keyword as usize + 2];
+        let typecode = &text[first.start as usize..first.end as usize];
+        let variable = &text[second.start as usize..second.end as usize];
+        match self.typing_code(typecode, variable) {
+            Some(code) => note(None, second.start, code),
+            None => note(
+                None,
+                tokens[keyword as usize].start,
+                Some(Code::BadFloating),
+            ),
+        }
+    }
+
+    /// The fault of a `$c`, `$v` or `$d` as a whole.
+    fn list_fault(
+        &self,
+        tokens: &[Word],
+        kind: Kind,
+        deep: u32,
+        keyword: u32,
+        end: u32,
+    ) -> Option<Fault>
+        requires order { keyword < end }
+        requires within { end < length tokens.now }
+        ensures { result ≡ list_fault kind deep (word_at tokens.now keyword).start (word_at tokens.now end).start (end - keyword - 1) }
+    {
+        let place = tokens[end as usize].start;
+        let count = end - keyword - 1;
+        match kind {
+            Kind::Constants => {
+                let deep = if deep > 0 {
+                    Some(Code::ConstantInBlock)
+                } else {
+                    None
+                };
+                let none = if count == 0 {
+                    Some(Code::EmptyDeclaration)
+                } else {
+                    None
+                };
+                note(
+                    note(None, tokens[keyword as usize].start, deep),
+                    place,
+                    none,
+                )
+            }
+            Kind::Variables => note(
+                None,
+                place,
+                if count == 0 {
+                    Some(Code::EmptyDeclaration)
+                } else {
+                    None
+                },
+            ),
+            _ => note(
+                None,
+                place,
+                if count < 2 {
+                    Some(Code::TooFewVariables)
+                } else {
+                    None
+                },
+            ),
+        }
+    }
+
+    /// The least fault of a statement that comes next.
+    pub fn fault(
+        &self,
+        alloc: A,
+        text: &'a [u8],
+        tokens: &[Word],
+        deep: u32,
+        outline: Outline,
+    ) -> Result<Option<Fault>, AllocError>
+        requires words { AreWords text.now tokens.now }
+        requires outline { IsOutline outline }
+        requires within { outline.end < length tokens.now }
+        ensures { IfOk result (λ r. (n : Known) → Knows n (find self.now.names.symbols) (find self.now.names.labels) (is_open_in self.now.blocks.of.items self.now.blocks.ends.items) → r ≡ least (scope_faults n deep (statement_of text.now tokens.now outline))) }
+    {
+        let kind = outline.kind;
+        let keyword = outline.keyword;
+        let middle = outline.middle;
+        match kind {
+            Kind::Open => Ok(None),
+            Kind::Close => Ok(None),
+            Kind::Constants => self.declared(alloc, text, tokens, deep, kind, keyword, middle),
+            Kind::Variables => self.declared(alloc, text, tokens, deep, kind, keyword, middle),
+            Kind::Disjoint => self.declared(alloc, text, tokens, deep, kind, keyword, middle),
+            Kind::Floating => {
+                let label = self.label_fault(text, tokens, keyword - 1);
+                Ok(merge(label, self.floating_fault(text, tokens, keyword, middle)))
+            }
+            Kind::Essential => Ok(self.labelled(text, tokens, keyword, middle)),
+            Kind::Axiom => Ok(self.labelled(text, tokens, keyword, middle)),
+            Kind::Theorem => Ok(self.labelled(text, tokens, keyword, middle)),
+        }
+    }
+
+    /// The least fault of a label and a formula.
+    fn labelled(&self, text: &[u8], tokens: &[Word], keyword: u32, to: u32) -> Option<Fault>
+        requires words { AreWords text.now tokens.now }
+        requires label { 0 < keyword }
+        requires order { keyword < to }
+        requires within { to < length tokens.now }
+        ensures { (n : Known) → Knows n (find self.now.names.symbols) (find self.now.names.labels) (is_open_in self.now.blocks.of.items self.now.blocks.ends.items) → result ≡ least (label_faults n (token_at text.now tokens.now (keyword - 1)) ++ formula_faults n (between text.now tokens.now (keyword + 1) to) (word_at tokens.now to).start) }
+    {
+        let label = self.label_fault(text, tokens, keyword - 1);
+        merge(label, self.formula_fault(text, tokens, keyword + 1, to))
+    }
+
+    /// The least fault of a `$c`, `$v` or `$d`.
+    fn declared(
+        &self,
+        alloc: A,
+        text: &'a [u8],
+        tokens: &[Word],
+        deep: u32,
+        kind: Kind,
+        keyword: u32,
+        to: u32,
+    ) -> Result<Option<Fault>, AllocError>
+        requires words { AreWords text.now tokens.now }
+        requires order { keyword < to }
+        requires within { to < length tokens.now }
+        ensures { IfOk result (λ r. (n : Known) → Knows n (find self.now.names.symbols) (find self.now.names.labels) (is_open_in self.now.blocks.of.items self.now.blocks.ends.items) → r ≡ spec_merge (list_fault kind deep (word_at tokens.now keyword).start (word_at tokens.now to).start (to - keyword - 1)) (least (at_each (declared_codes n kind) [] (between text.now tokens.now (keyword + 1) to)))) }
+    {
+        let rest = self.declared_fault(alloc, text, tokens, kind, keyword + 1, to)?;
+        Ok(merge(self.list_fault(tokens, kind, deep, keyword, to), rest))
+    }
+}
+
+/// The lesser of two faults, if any.
+fn merge(best: Option<Fault>, fault: Option<Fault>) -> Option<Fault>
+    ensures { result ≡ spec_merge best fault }
+{
+    match fault {
+        Some(fault) => note(best, fault.at, Some(fault.code)),
+        None => best,
+    }
+}
+
+/// Whether the word was seen, and sees it.
+fn see<'a, A: Allocator + Copy>(
+    seen: &mut Map<'a, u32, A>,
+    word: &'a [u8],
+) -> Result<bool, AllocError>
+    ensures was { IfOk result (λ b. b ≡ is_some (find seen.old word.now)) }
+    ensures now { OnOk result ((w : List ℕ) → find seen.new w ≡ (if bytes_eq word.now w then Some 0 else find seen.old w)) }
+{
+    let old = seen.insert(word, 0)?;
+    Ok(old.is_some())
+}
+
+/// The fault, or one at that place with that code, if it is before it.
+fn note(best: Option<Fault>, at: u32, code: Option<Code>) -> Option<Fault>
+    ensures { result ≡ spec_merge best (fault_at at code) }
+{
+    match code {
+        Some(code) => {
+            let new = Fault { at, code };
+            match best {
+                Some(old) => {
+                    if old.at < at || (old.at == at && old.code.number() <= code.number()) {
+                        Some(old)
+                    } else {
+                        Some(new)
+                    }
+                }
+                None => Some(new),
+            }
+        }
+        None => best,
+    }
+}

@@ -1,0 +1,210 @@
+//! The names before a statement.
+
+ghost use Rattle.std.specs.Prelude.{◌≡◌, OnOk};
+ghost use Rattle.std.specs.Prelude.{ℕ, List, is_some, Some, if◌then◌else◌, bytes_eq};
+ghost use Rattle.mm_scope.specs.Names.{find};
+ghost use Rattle.mm_scope.specs.Judge.{is_open_in, is_active_symbol, is_typed_symbol, symbol_code, label_code, typecode_code, floating_code, declared_code, typing_code};
+
+use indexmap::IndexMap;
+use mm_outline::blocks::{Blocks, NEVER};
+use mm_outline::parts::Kind;
+use mm_spec::Code;
+use std::alloc::{AllocError, Allocator};
+use std::hash::{BuildHasherDefault, FoldHasher};
+
+/// What is known of a symbol: a constant, or a variable with its last declaration and its last `$f`, whose typecode is kept.
+#[derive(Clone, Copy, Drop)]
+pub struct Symbol<'a> {
+    pub is_variable: bool,
+    pub declared: u32,
+    pub typed: u32,
+    pub typecode: &'a [u8],
+}
+
+pub type Map<'a, V, A> = IndexMap<&'a [u8], V, BuildHasherDefault<FoldHasher>, A>;
+
+/// The symbols and the labels.
+#[derive(Drop)]
+pub struct Names<'a, A: Allocator> {
+    pub symbols: Map<'a, Symbol<'a>, A>,
+    pub labels: Map<'a, u32, A>,
+}
+
+impl<'a, A: Allocator + Copy> Names<'a, A> {
+    /// What is known of the symbol.
+    pub fn symbol(&self, word: &[u8]) -> Option<Symbol<'a>>
+        ensures { result ≡ find self.now.symbols word.now }
+    {
+        self.symbols.get(word).copied()
+    }
+
+    /// Whether the word is a label.
+    pub fn is_label(&self, word: &[u8]) -> bool
+        ensures { result ≡ is_some (find self.now.labels word.now) }
+    {
+        self.labels.get(word).is_some()
+    }
+
+    /// The symbol with that name from now on.
+    pub fn set_symbol(&mut self, word: &'a [u8], symbol: Symbol<'a>) -> Result<(), AllocError>
+        ensures symbols { OnOk result ((w : List ℕ) → find self.new.symbols w ≡ (if bytes_eq word.now w then Some symbol.entry else find self.old.symbols w)) }
+        ensures labels { OnOk result ((w : List ℕ) → find self.new.labels w ≡ find self.old.labels w) }
+    {
+        self.symbols.insert(word, symbol)?;
+        Ok(())
+    }
+
+    /// The label with that statement from now on.
+    pub fn set_label(&mut self, word: &'a [u8], statement: u32) -> Result<(), AllocError>
+        ensures labels { OnOk result ((w : List ℕ) → find self.new.labels w ≡ (if bytes_eq word.now w then Some statement else find self.old.labels w)) }
+        ensures symbols { OnOk result ((w : List ℕ) → find self.new.symbols w ≡ find self.old.symbols w) }
+    {
+        self.labels.insert(word, statement)?;
+        Ok(())
+    }
+}
+
+/// The names and the blocks behind the statements so far.
+#[derive(Drop)]
+pub struct Scope<'a, A: Allocator> {
+    pub names: Names<'a, A>,
+    pub blocks: Blocks<A>,
+}
+
+impl<'a, A: Allocator + Copy> Scope<'a, A> {
+    /// Whether the statement's block is open here.
+    fn is_open(&self, statement: u32) -> bool
+        ensures { result ≡ is_open_in self.now.blocks.of.items self.now.blocks.ends.items statement }
+    {
+        match self.blocks.of.get(statement as usize) {
+            Some(block) => match self.blocks.ends.get(*block as usize) {
+                Some(end) => *end == NEVER,
+                None => false,
+            },
+            None => false,
+        }
+    }
+
+    /// Whether it is an active variable.
+    fn is_active(&self, symbol: Symbol<'a>) -> bool
+        ensures { result ≡ is_active_symbol (is_open_in self.now.blocks.of.items self.now.blocks.ends.items) symbol.entry }
+    {
+        symbol.is_variable && self.is_open(symbol.declared)
+    }
+
+    /// Whether it has an active `$f`.
+    fn is_typed(&self, symbol: Symbol<'a>) -> bool
+        ensures { result ≡ is_typed_symbol (is_open_in self.now.blocks.of.items self.now.blocks.ends.items) symbol.entry }
+    {
+        self.is_open(symbol.typed)
+    }
+
+    /// What is wrong with the word as a symbol of a formula behind its typecode.
+    pub(crate) fn symbol_code(&self, word: &[u8]) -> Option<Code>
+        ensures { result ≡ symbol_code (is_open_in self.now.blocks.of.items self.now.blocks.ends.items) (find self.now.names.symbols word.now) }
+    {
+        match self.names.symbol(word) {
+            Some(symbol) => {
+                if !symbol.is_variable {
+                    None
+                } else if !self.is_active(symbol) {
+                    Some(Code::UndeclaredSymbol)
+                } else if self.is_typed(symbol) {
+                    None
+                } else {
+                    Some(Code::UntypedVariable)
+                }
+            }
+            None => Some(Code::UndeclaredSymbol),
+        }
+    }
+
+    /// What is wrong with the word as a label.
+    pub(crate) fn label_code(&self, word: &[u8]) -> Option<Code>
+        ensures { result ≡ label_code (find self.now.names.symbols word.now) (is_some (find self.now.names.labels word.now)) }
+    {
+        if self.names.symbol(word).is_some() {
+            Some(Code::LabelIsSymbol)
+        } else if self.names.is_label(word) {
+            Some(Code::LabelUsedBefore)
+        } else {
+            None
+        }
+    }
+
+    /// What is wrong with the word as a typecode.
+    pub(crate) fn typecode_code(&self, word: &[u8]) -> Option<Code>
+        ensures { result ≡ typecode_code (find self.now.names.symbols word.now) }
+    {
+        match self.names.symbol(word) {
+            Some(symbol) => {
+                if symbol.is_variable {
+                    Some(Code::BadTypecode)
+                } else {
+                    None
+                }
+            }
+            None => Some(Code::BadTypecode),
+        }
+    }
+
+    /// What is wrong with the typecode for the variable of a `$f`.
+    pub(crate) fn floating_code(&self, typecode: &[u8], symbol: Symbol<'a>) -> Option<Code>
+        ensures { result ≡ floating_code (is_open_in self.now.blocks.of.items self.now.blocks.ends.items) typecode.now (Some symbol.entry) }
+    {
+        if self.is_typed(symbol) {
+            Some(Code::TypedBefore)
+        } else if symbol.typed != NEVER && typecode != symbol.typecode {
+            Some(Code::OtherTypecode)
+        } else {
+            None
+        }
+    }
+
+    /// What is wrong with the word as a symbol of `$c`, `$v` or `$d`.
+    pub(crate) fn declared_code(&self, kind: Kind, word: &[u8], repeated: bool) -> Option<Code>
+        ensures { result ≡ declared_code (is_open_in self.now.blocks.of.items self.now.blocks.ends.items) kind (find self.now.names.symbols word.now) repeated (is_some (find self.now.names.labels word.now)) }
+    {
+        let (is_known, is_active) = match self.names.symbol(word) {
+            Some(symbol) => {
+                let is_active = self.is_active(symbol);
+                (
+                    kind == Kind::Constants || !symbol.is_variable || is_active,
+                    is_active,
+                )
+            }
+            None => (false, false),
+        };
+        if kind != Kind::Constants && kind != Kind::Variables {
+            if !is_active {
+                Some(Code::UndeclaredVariable)
+            } else if repeated {
+                Some(Code::RepeatedVariable)
+            } else {
+                None
+            }
+        } else if is_known || repeated {
+            Some(Code::DeclaredBefore)
+        } else if self.names.is_label(word) {
+            Some(Code::LabelIsSymbol)
+        } else {
+            None
+        }
+    }
+
+    /// What is wrong with a constant as the type of an active variable; None where they are not these.
+    pub(crate) fn typing_code(&self, typecode: &[u8], variable: &[u8]) -> Option<Option<Code>>
+        ensures { result ≡ typing_code (is_open_in self.now.blocks.of.items self.now.blocks.ends.items) typecode.now (find self.now.names.symbols typecode.now) (find self.now.names.symbols variable.now) }
+    {
+        match self.names.symbol(variable) {
+            Some(symbol) => {
+                if self.typecode_code(typecode).is_none() && self.is_active(symbol) {
+                    Some(self.floating_code(typecode, symbol))
+                } else {
+                    None
+                }
+            }
+            None => None,
+        }
+    }
+}

@@ -1,0 +1,291 @@
+//! The reading of statements, one after the other.
+
+ghost use Rattle.std.specs.Prelude.{◌≡◌, ◌<◌, ◌≤◌, ◌^◌, ◌++◌, ◌∷◌, [], List, None, All, length, OnOk, IfOk};
+ghost use Rattle.mm_spec.specs.Statement.{Statement, is_closing, label_of};
+ghost use Rattle.mm_spec.specs.Scope.{names_before, depth, is_active};
+ghost use Rattle.mm_spec.specs.Lawful.{least, scope_faults};
+ghost use Rattle.mm_spec.specs.Output.{IsRead};
+ghost use Rattle.mm_scope.specs.Names.{find as find_in};
+ghost use Rattle.mm_outline.specs.Blocks.{IsBlocks, lists};
+ghost use Rattle.std.specs.Prelude.{◌+◌, ◌-◌, ℕ, Some, if◌then◌else◌, bytes_eq, true};
+ghost use Rattle.mm_spec.specs.Text.{is_in, words};
+ghost use Rattle.mm_scope.specs.Judge.{declared_entry, entry_of, typed_entry};
+ghost use Rattle.mm_outline.specs.Parts.{AreWords, between, token_at, IsOutline, depth_behind, statement_of};
+ghost use Rattle.mm_scope.specs.Known.{entry_after, label_after};
+ghost use Rattle.mm_outline.specs.Statements.{active_kind, end_fault_of, lexed, statements};
+ghost use Rattle.mm_scope.specs.Keeps.{Keeps};
+
+use crate::names::{Names, Scope, Symbol};
+use indexmap::IndexMap;
+use mm_outline::blocks::{NEVER, no_blocks};
+use mm_outline::parts::{Found, Kind, Outline, Part, find};
+use mm_spec::{Code, Fault, Word};
+use std::alloc::{AllocError, Allocator};
+
+/// The lawful statements of a text by their outlines, the names behind them, and what stopped the reading.
+#[derive(Drop)]
+pub struct Outlined<'a, A: Allocator> {
+    pub outlines: Vec<Outline, A>,
+    pub scope: Scope<'a, A>,
+    pub fault: Option<Fault>,
+}
+
+/// How many blocks are open behind a statement.
+fn depth_after(kind: Kind, deep: u32) -> u32
+    requires { deep < 2 ^ 31 }
+    ensures { result ≡ depth_behind kind deep }
+{
+    match kind {
+        Kind::Open => deep + 1,
+        Kind::Close => { if deep == 0 { 0 } else { deep - 1 } }
+        _ => deep,
+    }
+}
+
+/// No names yet.
+fn no_scope<'a, A: Allocator + Copy>(alloc: A) -> Result<Scope<'a, A>, AllocError>
+    ensures { IfOk result (λ s. Keeps [] (find_in s.names.symbols) (find_in s.names.labels) (lists s.blocks.of.items s.blocks.ends.items s.blocks.open.items)) }
+{
+    let blocks = no_blocks(alloc)?;
+    let names = Names {
+        symbols: IndexMap::new(alloc),
+        labels: IndexMap::new(alloc),
+    };
+    Ok(Scope { names, blocks })
+}
+
+/// The fault at the end of a text.
+fn end_fault(lexical: Option<Fault>, text: &[u8], part: Part, deep: u32) -> Option<Fault>
+    requires short { lexical ≡ None → length text.now < 2 ^ 31 }
+    ensures { result ≡ end_fault_of lexical (length text.now) part deep }
+{
+    match lexical {
+        Some(fault) => Some(fault),
+        None => match part {
+            Part::Start => {
+                if deep == 0 {
+                    None
+                } else {
+                    Some(Fault {
+                        at: text.len() as u32,
+                        code: Code::OpenBlock,
+                    })
+                }
+            }
+            _ => Some(Fault {
+                at: text.len() as u32,
+                code: Code::OpenStatement,
+            }),
+        },
+    }
+}
+
+/// Reads the statements up to the first fault of words, shape, symbols, labels or scope.
+pub fn outline<'a, A: Allocator + Copy>(
+    alloc: A,
+    text: &'a [u8],
+    tokens: &[Word],
+    lexical: Option<Fault>,
+) -> Result<Outlined<'a, A>, AllocError>
+    requires words { AreWords text.now tokens.now }
+    requires few { length tokens.now < 2 ^ 31 }
+    requires short { lexical ≡ None → length text.now < 2 ^ 31 }
+    ensures few { IfOk result (λ d. length d.outlines.items < 2 ^ 31) }
+    ensures outlines { IfOk result (λ d. All (λ o. IsOutline o × (o.end < length tokens.now)) d.outlines.items) }
+    ensures keeps { IfOk result (λ d. Keeps (statements text.now tokens.now d.outlines.items) (find_in d.scope.names.symbols) (find_in d.scope.names.labels) (lists d.scope.blocks.of.items d.scope.blocks.ends.items d.scope.blocks.open.items)) }
+    ensures read { IfOk result (λ d. IsRead (length text.now) (lexed text.now tokens.now lexical) (statements text.now tokens.now d.outlines.items) d.fault) }
+{
+    let mut scope = no_scope(alloc)?;
+    let mut outlines: Vec<Outline, A> = Vec::new(alloc);
+    let mut deep = 0;
+    let mut at = 0;
+    'statements: loop {
+        match find(text, tokens, deep, at) {
+            Found::Whole(outline) => {
+                let fault = scope.fault(alloc, text, tokens, deep, outline)?;
+                if fault.is_some() {
+                    return Ok(Outlined {
+                        outlines,
+                        scope,
+                        fault,
+                    });
+                }
+                scope.add(text, tokens, outline)?;
+                outlines.push(outline)?;
+                deep = depth_after(outline.kind, deep);
+                at = outline.end + 1;
+            }
+            Found::Stopped(fault) => {
+                let fault = Some(fault);
+                return Ok(Outlined {
+                    outlines,
+                    scope,
+                    fault,
+                });
+            }
+            Found::Ended(part) => {
+                let fault = end_fault(lexical, text, part, deep);
+                return Ok(Outlined {
+                    outlines,
+                    scope,
+                    fault,
+                });
+            }
+        }
+    }
+}
+
+impl<'a, A: Allocator + Copy> Names<'a, A> {
+    /// What is known of the symbol behind a declaration.
+    fn declared(&self, is_variable: bool, number: u32, word: &'a [u8]) -> Symbol<'a>
+        ensures { entry_of (Some result) ≡ declared_entry is_variable number word.entry.now (entry_of (find_in self.now.symbols word.entry.now)) }
+    {
+        match self.symbol(word) {
+            Some(old) => Symbol {
+                is_variable,
+                declared: number,
+                typed: old.typed,
+                typecode: old.typecode,
+            },
+            None => Symbol {
+                is_variable,
+                declared: number,
+                typed: NEVER,
+                typecode: word,
+            },
+        }
+    }
+}
+
+impl<'a, A: Allocator + Copy> Scope<'a, A> {
+    /// The names behind one lawful statement more.
+    pub fn add(
+        &mut self,
+        text: &'a [u8],
+        tokens: &[Word],
+        outline: Outline,
+    ) -> Result<(), AllocError>
+        requires words { AreWords text.now tokens.now }
+        requires outline { IsOutline outline }
+        requires few { length tokens.now < 2 ^ 31 }
+        requires within { outline.end < length tokens.now }
+        requires keeps { (db : List Statement) × Keeps db (find_in self.old.names.symbols) (find_in self.old.names.labels) (lists self.old.blocks.of.items self.old.blocks.ends.items self.old.blocks.open.items) × (length db < 2 ^ 31) }
+        ensures { OnOk result ((db : List Statement) → Keeps db (find_in self.old.names.symbols) (find_in self.old.names.labels) (lists self.old.blocks.of.items self.old.blocks.ends.items self.old.blocks.open.items) → least (scope_faults (names_before db (length db)) (depth db (length db)) (statement_of text.now tokens.now outline)) ≡ None → (is_closing (statement_of text.now tokens.now outline) ≡ true → 0 < depth db (length db)) → Keeps (db ++ statement_of text.now tokens.now outline ∷ []) (find_in self.new.names.symbols) (find_in self.new.names.labels) (lists self.new.blocks.of.items self.new.blocks.ends.items self.new.blocks.open.items)) }
+    {
+        let number = self.blocks.of.len() as u32;
+        self.blocks.push(outline.kind)?;
+        self.add_names(text, tokens, outline, number)
+    }
+
+    /// The names of a statement.
+    fn add_names(
+        &mut self,
+        text: &'a [u8],
+        tokens: &[Word],
+        outline: Outline,
+        number: u32,
+    ) -> Result<(), AllocError>
+        requires words { AreWords text.now tokens.now }
+        requires outline { IsOutline outline }
+        requires few { length tokens.now < 2 ^ 31 }
+        requires within { outline.end < length tokens.now }
+        ensures symbols { OnOk result ((w : List ℕ) → entry_of (find_in self.new.names.symbols w) ≡ entry_after number (statement_of text.now tokens.now outline) w (entry_of (find_in self.old.names.symbols w))) }
+        ensures labels { OnOk result ((w : List ℕ) → find_in self.new.names.labels w ≡ label_after number (label_of (statement_of text.now tokens.now outline)) w (find_in self.old.names.labels w)) }
+        ensures blocks { self.new.blocks ≡ self.old.blocks }
+    {
+        let from = outline.keyword + 1;
+        match outline.kind {
+            Kind::Constants => self.declare(text, tokens, false, from, outline.middle, number)?,
+            Kind::Variables => self.declare(text, tokens, true, from, outline.middle, number)?,
+            Kind::Floating => {
+                self.give_label(text, tokens, outline.keyword, number)?;
+                if outline.middle - outline.keyword == 3 {
+                    self.give_type(text, tokens, from, number)?;
+                }
+            }
+            Kind::Essential => self.give_label(text, tokens, outline.keyword, number)?,
+            Kind::Axiom => self.give_label(text, tokens, outline.keyword, number)?,
+            Kind::Theorem => self.give_label(text, tokens, outline.keyword, number)?,
+            _ => {}
+        }
+        Ok(())
+    }
+
+    /// The label before the keyword is that of the statement.
+    fn give_label(
+        &mut self,
+        text: &'a [u8],
+        tokens: &[Word],
+        keyword: u32,
+        number: u32,
+    ) -> Result<(), AllocError>
+        requires words { AreWords text.now tokens.now }
+        requires label { 0 < keyword }
+        requires within { keyword < length tokens.now }
+        ensures labels { OnOk result ((w : List ℕ) → find_in self.new.names.labels w ≡ (if bytes_eq (token_at text.now tokens.now (keyword - 1)).word w then Some number else find_in self.old.names.labels w)) }
+        ensures symbols { OnOk result ((w : List ℕ) → find_in self.new.names.symbols w ≡ find_in self.old.names.symbols w) }
+        ensures blocks { self.new.blocks ≡ self.old.blocks }
+    {
+        let token = tokens[keyword as usize - 1];
+        self.names
+            .set_label(&text[token.start as usize..token.end as usize], number)
+    }
+
+    /// The variable behind the typecode at `from` has that type.
+    fn give_type(
+        &mut self,
+        text: &'a [u8],
+        tokens: &[Word],
+        from: u32,
+        number: u32,
+    ) -> Result<(), AllocError>
+        requires words { AreWords text.now tokens.now }
+        requires within { from + 1 < length tokens.now }
+        ensures labels { OnOk result ((w : List ℕ) → find_in self.new.names.labels w ≡ find_in self.old.names.labels w) }
+        ensures symbols { OnOk result ((w : List ℕ) → entry_of (find_in self.new.names.symbols w) ≡ (if bytes_eq (token_at text.now tokens.now (from + 1)).word w then typed_entry number (token_at text.now tokens.now from).word (entry_of (find_in self.old.names.symbols (token_at text.now tokens.now (from + 1)).word)) else entry_of (find_in self.old.names.symbols w))) }
+        ensures blocks { self.new.blocks ≡ self.old.blocks }
+    {
+        let first = tokens[from as usize];
+        let second = tokens[from as usize + 1];
+        let typecode = &text[first.start as usize..first.end as usize];
+        let word = &text[second.start as usize..second.end as usize];
+        match self.names.symbol(word) {
+            Some(old) => {
+                let symbol = Symbol {
+                    is_variable: old.is_variable,
+                    declared: old.declared,
+                    typed: number,
+                    typecode,
+                };
+                self.names.set_symbol(word, symbol)
+            }
+            None => Ok(()),
+        }
+    }
+
+    /// The words from `from` up to `to` are declared by the statement.
+    fn declare(
+        &mut self,
+        text: &'a [u8],
+        tokens: &[Word],
+        is_variable: bool,
+        from: u32,
+        to: u32,
+        number: u32,
+    ) -> Result<(), AllocError>
+        requires words { AreWords text.now tokens.now }
+        requires order { from ≤ to }
+        requires within { to < length tokens.now }
+        ensures labels { OnOk result ((w : List ℕ) → find_in self.new.names.labels w ≡ find_in self.old.names.labels w) }
+        ensures symbols { OnOk result ((w : List ℕ) → entry_of (find_in self.new.names.symbols w) ≡ (if is_in w (words (between text.now tokens.now from to)) then declared_entry is_variable number w (entry_of (find_in self.old.names.symbols w)) else entry_of (find_in self.old.names.symbols w))) }
+        ensures blocks { self.new.blocks ≡ self.old.blocks }
+    {
+        for at in from..to {
+            let token = tokens[at as usize];
+            let word = &text[token.start as usize..token.end as usize];
+            let symbol = self.names.declared(is_variable, number, word);
+            self.names.set_symbol(word, symbol)?;
+        }
+        Ok(())
+    }
+}
