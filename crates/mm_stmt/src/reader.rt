@@ -25,8 +25,7 @@ use crate::spaced::spaced_labels_of;
 use crate::symbols::symbols_of;
 use crate::tables::Tables;
 use indexmap::IndexMap;
-use mm_lex::Lexed;
-use mm_spec::{Code, Fault, Word};
+use mm_spec::{Code, Fault, Lexed, Word};
 use std::alloc::{AllocError, Allocator};
 
 /// The lawful statements of a text by their outlines, the names behind them, and what stopped the reading.
