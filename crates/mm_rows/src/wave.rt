@@ -3,14 +3,14 @@
 ghost use Rattle.std.specs.Prelude.{◌≡◌, ◌<◌, ◌≤◌, ◌+◌, ◌*◌, ℕ, List, length, slice_index, slice_index_or, IfOk, OnOk, All};
 ghost use Rattle.std.specs.List.{AllZip, range_with_len};
 ghost use Rattle.mm_rows.specs.Bits.{words_for};
-ghost use Rattle.mm_work.specs.Citing.{IsRising, theorem_at};
+ghost use Rattle.mm_cites.specs.Citing.{IsRising, theorem_at};
 ghost use Rattle.mm_rows.specs.Chains.{IsBitRow, IsReady, AreBitRows, IsMatrix, row_at};
 ghost use Rattle.mm_rows.specs.Waves.{IsWave, AreWaves, IsByWave, AreMade};
 
 use crate::columns::Columns;
 use crate::rows::{bit_row, finish, place};
 use crate::table::Matrix;
-use mm_work::Citations;
+use mm_cites::Citations;
 use rayon::prelude::*;
 use std::alloc::{AllocError, Allocator};
 use std::thread::Threads;

@@ -10,7 +10,7 @@ use Rattle.mm_spec.specs.Report.{Row, Choice, report}
 use Rattle.mm_spec.specs.Output.{IsRowOf, theorems, columns, label_at, lexed_of, HasNoFault, IsOutput}
 use Rattle.mm_work.specs.Citing.{Citing, theorem_at}
 use Rattle.mm_rows.specs.Chains.{Marks, mark, IsMatrix}
-use Rattle.mm_work.specs.Citing.{Shows}
+use Rattle.mm_work.specs.Judged.{Shows}
 use Rattle.mm_rows.proofs.ShowsFacts.{alike}
 use Rattle.mm_report.specs.Rows.{row_of, rows_of, marks_of, report_of}
 use Rattle.mm_work.specs.Judged.{AllCited}
