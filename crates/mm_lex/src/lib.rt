@@ -19,17 +19,10 @@ mod runs;
 use crate::runs::read_text;
 pub use cuts::{Cuts, CutsFault};
 use mm_spec::TEXT_LIMIT;
-pub use mm_spec::{Code, Fault, Word};
+pub use mm_spec::{Code, Fault, Lexed, Word};
 pub use pieces::{Piece, join, lex_piece};
 use std::alloc::{AllocError, Allocator};
 use std::thread::Threads;
-
-/// The tokens before the first lexical fault, and that fault.
-#[derive(Drop)]
-pub struct Lexed<A: Allocator> {
-    pub tokens: Vec<Word, A>,
-    pub fault: Option<Fault>,
-}
 
 /// The tokens and the first lexical fault of a text (sections 4.1.1 and 4.1.2 of the Metamath book). The cuts, which are made for
 /// the text's length where that is within the limit, don't change what it answers; it is refused for memory alone.

@@ -5,7 +5,7 @@ ghost use Rattle.std.specs.Option.{option_map};
 ghost use Rattle.std.specs.List.{list_any};
 ghost use Rattle.mm_spec.specs.Scope.{statement_at};
 ghost use Rattle.mm_spec.specs.Output.{columns, has_typecode, is_column};
-ghost use Rattle.mm_work.specs.Citing.{IsRising};
+ghost use Rattle.mm_cites.specs.Citing.{IsRising};
 
 use mm_stmt::Database;
 use std::alloc::{AllocError, Allocator};

@@ -8,6 +8,8 @@
 mod codes;
 pub mod laws;
 
+use std::alloc::Allocator;
+
 /// The greatest number of bytes of a text.
 pub const TEXT_LIMIT: usize = 2_147_483_647;
 
@@ -41,6 +43,13 @@ pub enum Role {
 pub struct Fault {
     pub at: u32,
     pub code: Code,
+}
+
+/// The tokens of a text before its first lexical fault, and that fault (sections 4.1.1 and 4.1.2).
+#[derive(Drop)]
+pub struct Lexed<A: Allocator> {
+    pub tokens: Vec<Word, A>,
+    pub fault: Option<Fault>,
 }
 
 /// What is wrong at a place. It prints as `E` and two digits.

@@ -7,7 +7,7 @@ use crate::database::Database;
 use crate::spaced::spaced_labels_of;
 use mm_frame::frames::gather;
 use mm_frame::tables::Tables;
-use mm_lex::Lexed;
+use mm_spec::Lexed;
 use mm_scope::numbers::numbers_of;
 use mm_scope::reading::outline;
 use mm_scope::symbols::symbols_of;

@@ -9,7 +9,7 @@ use Rattle.mm_work.specs.Judged.{IsCited}
 use Rattle.mm_work.specs.Workers.{theorem_of, AreGathered, AreFound, IsFoundFaulty}
 use Rattle.mm_work.specs.declared.worker.Found.{Found}
 use Rattle.mm_work.proofs.CitedLaw.{cited-valid}
-use Rattle.mm_work.proofs.ListsLaw.{get_or-same}
+use Rattle.std.proofs.lemmas.List.{get_or_default}
 
 module _ {A : Type 0} (home : BoardValue) (db : List Statement) (seat : SeatValue) (fs : List (Found A)) (h : AreGathered home db seat fs) where
   -- the theorems below the floor are valid
@@ -18,7 +18,7 @@ module _ {A : Type 0} (home : BoardValue) (db : List Statement) (seat : SeatValu
       let one = all n l in
       let r = h.settled n (omega (arith, one)) in
       let f : AreFound db r.0 = subst (λ (x : Found A). AreFound db x) r.1.2 (h.found r.1.0 r.0 r.1.1) in
-      cited-valid db _ _ (subst (λ i. IsCited db (theorem_of db i) (get_or r.0.cites r.2.0 [])) (get_or-same r.0.valid.items r.2.0 0 n r.2.1 ∙ r.2.2) (f.each r.2.0 r.2.1))
+      cited-valid db _ _ (subst (λ i. IsCited db (theorem_of db i) (get_or r.0.cites r.2.0 [])) (get_or_default r.0.valid.items r.2.0 0 n r.2.1 ∙ r.2.2) (f.each r.2.0 r.2.1))
 
   -- the floor is a theorem with a fault, where it is no theorem's end
   pub faulty-at : (first : ℕ) → IsLeastReported home.count (seat.view ∷ []) first → first < home.count → IsFoundFaulty fs first

@@ -15,10 +15,9 @@ use Rattle.mm_spec.specs.Complete.{AreComplete}
 use Rattle.mm_spec.specs.Output.{theorems, is_theorem_at, AreValid}
 use Rattle.mm_spec.proofs.Finds.{is_before, those-member, found_at, inside_of}
 use Rattle.mm_spec.proofs.TheoremLaw.{proof_unique}
-use Rattle.mm_work.specs.Citing.{Citing, citing, Cites, IsRising, IsFileOrder}
-use Rattle.mm_work.specs.Citing.{Shows}
-use Rattle.mm_work.proofs.RisingLaw.{those-rising}
-use Rattle.mm_work.specs.Judged.{IsCited, AreCited}
+use Rattle.mm_cites.specs.Citing.{Citing, citing, Cites, IsRising, IsFileOrder}
+use Rattle.mm_cites.proofs.RisingLaw.{those-rising}
+use Rattle.mm_work.specs.Judged.{IsCited, AreCited, Shows}
 
 member-append : (xs ys : List ℕ) (a : ℕ) → is_member (xs ++ ys) a ≡ (is_member xs a || is_member ys a)
 member-append xs ys a = list_any-append (λ y. a == y) xs ys

@@ -1,5 +1,3 @@
-pub mod ListsLaw
-pub mod RisingLaw
 pub mod CitedLaw
 pub mod VerifyLaw
 pub mod WorkersLaw

@@ -8,7 +8,7 @@ use Rattle.mm_spec.specs.Citation.{IsValid}
 use Rattle.mm_spec.specs.Output.{theorems}
 use Rattle.mm_spec.specs.declared.Fault.{Fault}
 use Rattle.mm_proof.proofs.TheoremsLaw.{theorems_are}
-use Rattle.mm_work.specs.Citing.{citing, IsFileOrder}
+use Rattle.mm_cites.specs.Citing.{citing, IsFileOrder}
 use Rattle.mm_work.specs.Judged.{IsCited, AreCited, AllCited, IsFirstFault, HasFault}
 use Rattle.mm_work.proofs.CitedLaw.{cited-valid, valid-before, all-valid, file-order, shows}
 

@@ -1,15 +1,16 @@
 -- What the checking of all proofs finds.
-use Rattle.std.specs.Prelude.{◌≡◌, ℕ, ◌<◌, List, [], length, slice_index, slice_index_or, slice_get}
+use Rattle.std.specs.Prelude.{◌≡◌, ℕ, ◌<◌, List, [], length, slice_index, slice_index_or, slice_get, ◌↔◌}
 use Rattle.mm_spec.specs.Statement.{Statement}
 use Rattle.mm_spec.specs.Citation.{reading_faults_at}
+use Rattle.mm_spec.specs.Citation as proof
 use Rattle.mm_spec.specs.Output.{AreValid, FirstProofFault, ProofFault, end_of, theorems}
 use Rattle.mm_spec.specs.declared.Fault.{Fault}
 use Rattle.mm_check.specs.Contract.{IsChecked}
-use Rattle.mm_work.specs.Citing.{Citing, Shows}
+use Rattle.mm_cites.specs.Citing.{Citing, Cites}
 use Rattle.mm_work.specs.declared.proof.VerifyRefused.{VerifyRefused}
 use Rattle.mm_work.specs.declared.proof.VerifyRefused.TheVariants.{Fault as FaultOf, Memory}
-use Rattle.mm_work.specs.declared.citations.Judged.{Judged}
-use Rattle.mm_work.specs.declared.citations.Judged.TheVariants.{Valid, Faulty}
+use Rattle.mm_work.specs.declared.judged.Judged.{Judged}
+use Rattle.mm_work.specs.declared.judged.Judged.TheVariants.{Valid, Faulty}
 
 -- these are the citations of a valid theorem
 pub record IsCited (db : List Statement) (t : ℕ) (cites : List ℕ) : Type 0 where
@@ -20,6 +21,10 @@ pub record IsCited (db : List Statement) (t : ℕ) (cites : List ℕ) : Type 0 w
 pub record AreCited (db : List Statement) (ts : List ℕ) (n : ℕ) (lists : List (List ℕ)) : Type 0 where
   pub count : length lists ≡ n
   pub each : (i : ℕ) → i < n → IsCited db (slice_index ts i) (slice_index_or lists i [])
+
+-- the lists are what the theorems of a database cite
+pub record Shows (db : List Statement) (c : Citing) : Type 0 where
+  pub same : (t a : ℕ) → Cites c t a ↔ proof.Cites db t a
 
 -- all theorems are valid, and these are their citations
 pub record AllCited (db : List Statement) (c : Citing) : Type 0 where

@@ -1,5 +1,4 @@
-pub mod Lists
-pub mod Citing
+pub use Rattle.mm_cites.specs.Citing
 pub mod Judged
 pub mod Workers
 pub mod Places

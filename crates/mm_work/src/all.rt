@@ -3,10 +3,10 @@
 ghost use Rattle.std.specs.Prelude.{◌≡◌, ◌≤◌, IfOk};
 ghost use Rattle.mm_work.specs.Judged.{Judges};
 
-use crate::citations::Judged;
 use crate::gate::Gate;
 use crate::gathered::work_all;
 use crate::in_order::{check_in_order, valid};
+use crate::judged::Judged;
 use crate::merge::{fault_of, merge};
 use mm_board::Board;
 use mm_stmt::Database;

@@ -4,10 +4,10 @@ ghost use Rattle.std.specs.Prelude.{◌≡◌, IfOk, length};
 ghost use Rattle.mm_work.specs.Judged.{Judges, AreCited};
 ghost use Rattle.mm_spec.specs.Output.{theorems};
 
-use crate::citations::{Citations, Judged};
-use crate::lists::Lists;
+use crate::judged::Judged;
 use crate::proof::{VerifyRefused, verify};
 use mm_check::Checker;
+use mm_cites::{Citations, Lists};
 use mm_stmt::Database;
 use std::alloc::{AllocError, Allocator};
 

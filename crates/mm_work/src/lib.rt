@@ -5,20 +5,20 @@
 //! else the fault of the first proof that has one. Not promised: that a worker gets on, that workers get equally much, that
 //! a thread could be started.
 //!
-//! A caller meets, in this order: [`check_all`] with a [`Gate`], as [`Open`]; [`Judged`]; and what [`Citations`] tell:
-//! [`Citations::rows`], [`Citations::theorem`], [`Citations::of`] and [`Citations::theorems`].
+//! A caller meets, in this order: [`check_all`] with a [`Gate`], as [`Open`]; [`Judged`]; and the [`Citations`], which are
+//! those of `mm_cites`.
 #![tactic(auto)]
 
 mod all;
-mod citations;
 mod gate;
 mod gathered;
 mod in_order;
-mod lists;
+mod judged;
 mod merge;
 mod proof;
 mod worker;
 
 pub use all::check_all;
-pub use citations::{Citations, Judged};
 pub use gate::{Gate, Open};
+pub use judged::Judged;
+pub use mm_cites::Citations;

@@ -6,8 +6,8 @@ ghost use Rattle.mm_work.specs.Judged.{AreCited, HasFault};
 ghost use Rattle.mm_work.specs.Workers.{AreFound, IsFoundValid, IsFoundFaulty, theorem_of};
 ghost use Rattle.mm_work.specs.Places.{IsNoted, HasPlace};
 
-use crate::lists::Lists;
 use crate::worker::Found;
+use mm_cites::Lists;
 use mm_spec::Fault;
 use mm_stmt::Database;
 use std::alloc::{AllocError, Allocator};

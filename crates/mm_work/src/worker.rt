@@ -8,10 +8,10 @@ ghost use Rattle.mm_board.specs.Models.{IsSeatOf};
 ghost use Rattle.mm_work.specs.Workers.{AreFound, TellsUnlessShort, IsReady, IsDone, faulty_index};
 
 use crate::gate::Gate;
-use crate::lists::Lists;
 use crate::proof::{VerifyRefused, verify};
 use mm_board::{Board, Seat};
 use mm_check::Checker;
+use mm_cites::Lists;
 use mm_spec::Fault;
 use mm_stmt::Database;
 use std::alloc::{AllocError, Allocator};

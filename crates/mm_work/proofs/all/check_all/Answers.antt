@@ -6,7 +6,7 @@ use Rattle.mm_spec.specs.Scope.{statement_at}
 use Rattle.mm_spec.proofs.CompleteLaw.{reads_complete}
 use Rattle.mm_work.specs.Workers.{AreFound, IsFoundValid, IsFoundFaulty}
 use Rattle.mm_work.specs.declared.worker.Found.{Found}
-use Rattle.mm_work.proofs.RisingLaw.{those-rising}
+use Rattle.mm_cites.proofs.RisingLaw.{those-rising}
 use Rattle.mm_work.proofs.AllLaw.{valid-below, faulty-at}
 use Rattle.mm_work.proofs.VerifyLaw.{first-fault}
 use Rattle.mm_work.proofs.all.check_all.Goals as goal

@@ -2,7 +2,7 @@ use Rattle.std.proofs.Common.{◌∙◌, ◌<◌, length, get_or, refl, subst, a
 use Rattle.std.proofs.lemmas.List.{length-set}
 use Rattle.mm_work.specs.Places.{IsNoted}
 use Rattle.mm_work.specs.declared.merge.Place.{Place}
-use Rattle.mm_work.proofs.ListsLaw.{get_or-same}
+use Rattle.std.proofs.lemmas.List.{get_or_default}
 use Rattle.mm_work.proofs.PlacesLaw.{noted-more, others-more}
 use Rattle.mm_work.proofs.merge.note.Goals as goal
 
@@ -23,4 +23,4 @@ pub returns-clause-noted : goal.returns-clause-noted
 returns-clause-noted c = λ q d l.
     let end = c.loop-place.auto.place-end in
     let past = c.loop-place-test.false in
-    subst (λ i. IsNoted c.loop-place.places c.args.worker c.args.valid.now i) (get_or-same c.args.valid.now q 0 d l) (c.loop-place.invariant.noted q (omega (arith, l, end, past)))
+    subst (λ i. IsNoted c.loop-place.places c.args.worker c.args.valid.now i) (get_or_default c.args.valid.now q 0 d l) (c.loop-place.invariant.noted q (omega (arith, l, end, past)))

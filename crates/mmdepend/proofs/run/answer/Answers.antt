@@ -1,7 +1,7 @@
 use Rattle.std.proofs.Common.{ℕ, List, length, subst, inl}
 use Rattle.mm_spec.specs.Output.{IsRead, lexed_of}
 use Rattle.mm_work.specs.Judged.{Judges}
-use Rattle.mm_work.specs.declared.citations.Judged.{Judged}
+use Rattle.mm_work.specs.declared.judged.Judged.{Judged}
 use Rattle.mmdepend.proofs.run.answer.Goals as goal
 
 pub refuse-requires : goal.refuse-requires

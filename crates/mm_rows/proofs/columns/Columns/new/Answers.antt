@@ -4,8 +4,8 @@ use Rattle.std.specs.List.{list_any, range_with_len}
 use Rattle.std.proofs.lemmas.List.{take_all, take_more}
 use Rattle.mm_spec.specs.Scope.{those, statement_at}
 use Rattle.mm_spec.specs.Output.{columns, has_typecode, is_column}
-use Rattle.mm_work.specs.Citing.{IsRising}
-use Rattle.mm_work.proofs.RisingLaw.{those-at, those-rising}
+use Rattle.mm_cites.specs.Citing.{IsRising}
+use Rattle.mm_cites.proofs.RisingLaw.{those-at, those-rising}
 use Rattle.mm_rows.proofs.ColumnFacts.{those-snoc, columns-are}
 use Rattle.mm_rows.proofs.columns.Columns.new.Goals as goal
 use Rattle.mm_rows.proofs.columns.Columns.new.Goals.{then-is_chosen+in_ok-push, else-is_chosen}

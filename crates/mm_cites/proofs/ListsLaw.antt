@@ -2,7 +2,7 @@
 use Rattle.std.proofs.Common.{◌≡◌, ℕ, zero, suc, ◌+◌, ◌-◌, ◌<◌, ◌≤◌, List, [], ◌∷◌, ◌++◌, length, take, drop, get_or, refl, sym, ap, ap₂, ◌∙◌, subst, arith}
 use Rattle.std.specs.List.{slice_range}
 use Rattle.std.proofs.lemmas.List.{take-append-le}
-use Rattle.mm_work.specs.Lists.{cut_at, AreEnds, start_of}
+use Rattle.mm_cites.specs.Lists.{cut_at, AreEnds, start_of}
 
 pub length-cut_at : (from : ℕ) (ends numbers : List ℕ) → length (cut_at from ends numbers) ≡ length ends
 length-cut_at from [] numbers = refl
@@ -77,9 +77,3 @@ ends-more from (e ∷ ends) len more h = (h.0, ends-more e ends len more h.1)
 
 pub index-within : (ends numbers : List ℕ) (lists : List (List ℕ)) (i : ℕ) → cut_at 0 ends numbers ≡ lists → i < length lists → i < length ends
 index-within ends numbers lists i e l = let n = length-cut_at 0 ends numbers in let m = ap length e in omega (arith, n, m, l)
-
--- within a list the default is of no matter
-pub get_or-same : {X : Type 0} (xs : List X) (i : ℕ) (d e : X) → i < length xs → get_or xs i d ≡ get_or xs i e
-get_or-same [] i d e l = absurd (omega arith)
-get_or-same (x ∷ xs) zero d e l = refl
-get_or-same (x ∷ xs) (suc i) d e l = get_or-same xs i d e (omega arith)

@@ -1,7 +1,5 @@
 -- What each theorem cites, as lists.
-use Rattle.std.specs.Prelude.{◌≡◌, ℕ, ◌<◌, ◌^◌, List, [], length, slice_index, slice_index_or, ◌↔◌}
-use Rattle.mm_spec.specs.Statement.{Statement}
-use Rattle.mm_spec.specs.Citation as proof
+use Rattle.std.specs.Prelude.{◌≡◌, ℕ, ◌<◌, ◌^◌, List, [], length, slice_index, slice_index_or}
 
 -- the theorems' statements, and for each the statements that it cites
 pub record Citing : Type 0 where
@@ -36,7 +34,3 @@ pub record Cites (c : Citing) (t a : ℕ) : Type 0 where
   pub listed : place < length (list_at c row)
   pub theorem : theorem_at c row ≡ t
   pub cited : slice_index (list_at c row) place ≡ a
-
--- the lists are what the theorems of a database cite
-pub record Shows (db : List Statement) (c : Citing) : Type 0 where
-  pub same : (t a : ℕ) → Cites c t a ↔ proof.Cites db t a

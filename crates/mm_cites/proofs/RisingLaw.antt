@@ -2,7 +2,7 @@
 use Rattle.std.proofs.Common.{◌≡◌, ℕ, zero, suc, ◌+◌, ◌<◌, ◌≤◌, ◌^◌, Bool, true, false, List, [], ◌∷◌, length, get_or, refl, arith}
 use Rattle.std.specs.List.{range_with_len}
 use Rattle.mm_spec.specs.Scope.{those}
-use Rattle.mm_work.specs.Citing.{IsRising}
+use Rattle.mm_cites.specs.Citing.{IsRising}
 
 -- an element of a selection passes
 pub those-at : (p : ℕ → Bool) (xs : List ℕ) (i d : ℕ) → i < length (those p xs) → p (get_or (those p xs) i d) ≡ true

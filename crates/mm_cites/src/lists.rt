@@ -1,22 +1,23 @@
 //! Lists of numbers, one behind the other.
 
 ghost use Rattle.std.specs.Prelude.{◌≡◌, ◌<◌, ◌++◌, ◌∷◌, [], OnOk, OnErr, length, slice_index_or, slice_range, ◌≤◌};
-ghost use Rattle.mm_work.specs.Lists.{start_of};
+ghost use Rattle.mm_cites.specs.Lists.{start_of};
 
 use std::alloc::{AllocError, Allocator};
 use std::marker::Model;
 
-/// A growing row of lists of numbers. They stand one behind the other in one list, with the place at which each ends, so
+/// A growing row of lists of numbers, as the layer that checks proofs keeps them: what each theorem cites, in the order in
+/// which the theorems were found valid. They stand one behind the other in one list, with the place at which each ends, so
 /// a short list costs no memory of its own.
 #[derive(Drop)]
-pub(crate) struct Lists<A: Allocator> {
+pub struct Lists<A: Allocator> {
     numbers: Vec<u32, A>,
     ends: Vec<usize, A>,
 }
 
 impl<A: Allocator> Model for Lists<A> {
     ghost use Rattle.std.specs.Prelude.{List, ℕ, length};
-    ghost use Rattle.mm_work.specs.Lists.{cut_at, AreEnds};
+    ghost use Rattle.mm_cites.specs.Lists.{cut_at, AreEnds};
 
     ghost Value = { List (List ℕ) };
 

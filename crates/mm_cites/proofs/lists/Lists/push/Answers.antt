@@ -1,7 +1,7 @@
 use Rattle.std.proofs.Common.{◌≡◌, ◌∙◌, ◌+◌, ◌++◌, ◌∷◌, [], ℕ, List, length, ap}
 use Rattle.std.proofs.Common.{length-append}
-use Rattle.mm_work.proofs.ListsLaw.{cut_at-more, ends-more}
-use Rattle.mm_work.proofs.lists.Lists.push.Goals as goal
+use Rattle.mm_cites.proofs.ListsLaw.{cut_at-more, ends-more}
+use Rattle.mm_cites.proofs.lists.Lists.push.Goals as goal
 
 pub invariant_of-self-in-Ok : goal.invariant_of-self-in-Ok
 invariant_of-self-in-Ok g c =

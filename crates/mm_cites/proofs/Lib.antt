@@ -1,0 +1,2 @@
+pub mod ListsLaw
+pub mod RisingLaw
