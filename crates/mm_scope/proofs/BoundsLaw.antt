@@ -26,6 +26,10 @@ in-get (w ∷ ws) (suc i) d h = ap (λ b. bytes_eq (get_or ws i d) w || b) (in-g
     or-true true = refl
     or-true false = refl
 
+-- each symbol of a lawful statement has a name
+pub symbol-known : (db : List Statement) → ((k : ℕ) → k < length db → IsLawful db k) → (k : ℕ) → k < length db → (s : Statement) → slice_get db k ≡ Some s → (w : Word) → is_in w (words (symbols_of s)) ≡ true → is_in w (symbol_names db) ≡ true
+symbol-known db law k l s e w h = in-first (flat_map (λ s. constants_of s ++ variables_of s) db) [] w refl ∙ declared-here db k s e (law k l) w h
+
 pub symbols-known : (db : List Statement) → ((k : ℕ) → k < length db → IsLawful db k) → (k : ℕ) → k < length db → (s : Statement) → slice_get db k ≡ Some s → All (λ x. x < length (symbol_names db)) (formula_at db k)
 symbols-known db law k l s e =
     subst (λ (xs : List ℕ). All (λ x. x < length (symbol_names db)) xs) (sym (formula_at-is db k s e))
@@ -33,7 +37,7 @@ symbols-known db law k l s e =
     let ws = words (symbols_of s) in
     let inside : i < length ws = omega (arith, h, length-map ws (λ w. place_of w (symbol_names db))) in
     let w = get_or ws i [] in
-    let known : is_in w (symbol_names db) ≡ true = in-first (flat_map (λ s. constants_of s ++ variables_of s) db) [] w refl ∙ declared-here db k s e (law k l) w (in-get ws i [] inside) in
+    let known : is_in w (symbol_names db) ≡ true = symbol-known db law k l s e w (in-get ws i [] inside) in
     let place = slice_get_within (symbol_names db) (place_of w (symbol_names db)) w (place-in (symbol_names db) w known) in
     subst (λ x. x < length (symbol_names db)) (sym (get_mapped (λ w. place_of w (symbol_names db)) ws i [] d inside)) place)
 
@@ -86,28 +90,27 @@ first-shorter e (w ∷ ws) = by (is_in w e) (first-shorter e ws) (first-shorter 
     by true p q = omega (arith, p)
     by false p q = omega (arith, q)
 
-module _ (len : ℕ) (x : Lexed) (db : List Statement) (fault : Option Fault) (r : IsRead len x db fault) where
-  spelled-few : length (flat_map spelled db) ≤ length x.tokens
+-- statements that stand in front of a row of statements, which are the first of the tokens
+module _ (ts rest : List Token) (row : List Statement) (splits : ts ≡ flat_map spelled row ++ rest) (db more : List Statement) (is : row ≡ db ++ more) where
+  spelled-few : length (flat_map spelled db) ≤ length ts
   spelled-few =
-      let a = ap length r.is_row.splits in
-      let b = length-append (flat_map spelled r.row) r.is_row.rest in
-      let c = front spelled db r.rest in
-      let d : length (flat_map spelled (db ++ r.rest)) ≡ length (flat_map spelled r.row) = ap (λ l. length (flat_map spelled l)) (sym r.splits) in
+      let a = ap length splits in
+      let b = length-append (flat_map spelled row) rest in
+      let c = front spelled db more in
+      let d : length (flat_map spelled (db ++ more)) ≡ length (flat_map spelled row) = ap (λ l. length (flat_map spelled l)) (sym is) in
       omega (arith, a, b, c, d)
 
   -- the symbols are no more than the tokens
-  pub few-symbols : length (symbol_names db) ≤ length x.tokens
+  pub few-symbols : length (symbol_names db) ≤ length ts
   few-symbols =
       let a = first-shorter [] (flat_map (λ s. constants_of s ++ variables_of s) db) in
       let b = shorter (λ s. constants_of s ++ variables_of s) spelled declared-spelled db in
       let c = spelled-few in
       omega (arith, a, b, c)
 
-  -- the symbols of the first statements are no more than the tokens
-  pub few-numbers : (all : List Statement) (i : ℕ) → length (flat_map (formula_of all) (take i db)) ≤ length x.tokens
-  few-numbers all i =
-      let a = shorter (formula_of all) spelled (λ s. subst (λ n. n ≤ length (spelled s)) (sym (length-map (words (symbols_of s)) (λ w. place_of w (symbol_names all)) ∙ length-map (symbols_of s) (λ t. t.word))) (symbols-spelled s)) (take i db) in
-      let b = front spelled (take i db) (drop i db) in
-      let c : length (flat_map spelled (take i db ++ drop i db)) ≡ length (flat_map spelled db) = ap (λ l. length (flat_map spelled l)) (take-append-drop i db) in
-      let d = spelled-few in
-      omega (arith, a, b, c, d)
+  -- the symbols of the statements are no more than the tokens
+  pub few-numbers : (all : List Statement) → length (flat_map (formula_of all) db) ≤ length ts
+  few-numbers all =
+      let a = shorter (formula_of all) spelled (λ s. subst (λ n. n ≤ length (spelled s)) (sym (length-map (words (symbols_of s)) (λ w. place_of w (symbol_names all)) ∙ length-map (symbols_of s) (λ t. t.word))) (symbols-spelled s)) db in
+      let c = spelled-few in
+      omega (arith, a, c)

@@ -6,7 +6,7 @@ pub mod KnownLaw
 pub mod KnowsLaw
 pub mod LabelsLaw
 pub mod Latest
-pub mod NumbersLaw
+pub mod NumberedLaw
 pub mod OpenLaw
 pub mod ReadLaw
 pub mod SymbolsLaw

@@ -1,5 +1,13 @@
 -- What is known behind some statements.
-use Rattle.std.specs.Prelude.{◌≡◌, ℕ, List, Option, flat_map, is_some}
+use Rattle.std.specs.Prelude.{◌≡◌, ℕ, ◌<◌, ◌^◌, List, [], ◌∷◌, ◌++◌, length, Option, None, flat_map, is_some, true}
+use Rattle.mm_spec.specs.Statement.{is_closing}
+use Rattle.mm_spec.specs.Scope.{depth}
+use Rattle.mm_spec.specs.Lawful.{scope_fault}
+use Rattle.mm_spec.specs.Frame.{symbol_names, formula_of}
+use Rattle.mm_outline.specs.Blocks.{lists}
+use Rattle.mm_scope.specs.Names.{find, names_of}
+use Rattle.mm_scope.specs.Formulas.{AreFormulas}
+use Rattle.mm_scope.specs.declared.reading.Outlined.{Outlined}
 use Rattle.mm_spec.specs.Statement.{Statement}
 use Rattle.mm_spec.specs.Scope.{label_words}
 use Rattle.mm_spec.specs.Text.{is_in}
@@ -15,3 +23,37 @@ pub record Keeps (db : List Statement) (look : List ℕ → Option Symbol) (labe
   pub symbols : (w : List ℕ) → IsKnown db w (entry_of (look w))
   pub labels_known : (w : List ℕ) → is_in w (flat_map label_words db) ≡ is_some (labels w)
   pub labels_are : AreLabels db labels
+
+-- all that is kept behind some statements: names, blocks, and the symbols by their numbers
+pub record Kept : Type 0 where
+  pub look : List ℕ → Option Symbol
+  pub labels : List ℕ → Option ℕ
+  pub blocks : Lists
+  pub names : List (List ℕ)
+  pub numbers : List ℕ
+  pub places : List ℕ
+
+pub record IsKept (db : List Statement) (k : Kept) : Type 0 where
+  pub keeps : Keeps db k.look k.labels k.blocks
+  pub names_are : k.names ≡ symbol_names db
+  pub formulas : AreFormulas db k.numbers k.places
+
+module _ {A : Type 0} where
+  abbrev pub kept_by : Outlined A → Kept
+  kept_by r = record {
+    look = find r.scope.names.symbols;
+    labels = find r.scope.names.labels;
+    blocks = lists r.scope.blocks.of.items r.scope.blocks.ends.items r.scope.blocks.open.items;
+    names = names_of r.scope.names.symbols;
+    numbers = r.formulas.numbers.items;
+    places = r.formulas.places.items;
+  }
+
+-- a statement that may stand behind lawful ones
+pub record MayTake (db : List Statement) (deep : ℕ) (s : Statement) : Type 0 where
+  pub lawful : (k : ℕ) → k < length db → scope_fault db k ≡ None
+  pub few : length db < 2 ^ 31
+  pub depth_is : deep ≡ depth db (length db)
+  pub inside : is_closing s ≡ true → 0 < depth db (length db)
+  pub few_names : length (symbol_names (db ++ s ∷ [])) < 2 ^ 31
+  pub few_numbers : length (flat_map (formula_of (db ++ s ∷ [])) (db ++ s ∷ [])) < 2 ^ 31

@@ -1,8 +1,8 @@
 -- The names that the code knows.
-use Rattle.std.specs.Prelude.{ℕ, Bool, false, not, List, Option, None, Some, bytes_eq, map}
+use Rattle.std.specs.Prelude.{ℕ, Bool, false, not, List, Option, None, Some, bytes_eq, map, [], ◌∷◌, ◌++◌, if◌then◌else◌}
 use denote.Ref.{Bor}
-use Rattle.indexmap.specs.IndexMap.{IndexMap, get_by}
-use Rattle.indexmap.specs.IndexSet.{IndexSet}
+use Rattle.indexmap.specs.IndexMap.{IndexMap, get_by, keys}
+use Rattle.mm_spec.specs.Text.{is_in}
 use Rattle.mm_scope.specs.declared.names.Symbol.{Symbol}
 
 -- what the map has for a word
@@ -18,7 +18,11 @@ abbrev pub is_variable_in : Option Symbol → Bool
 is_variable_in None = false
 is_variable_in (Some s) = s.is_variable
 
--- the names of a set, in order
-module _ {S : Type 0} where
-  abbrev pub keys_of : IndexSet (Bor (List ℕ)) S → List (List ℕ)
-  keys_of s = map (λ k. k.now) s.keys
+-- the names that the map has, in order
+module _ {V S : Type 0} where
+  abbrev pub names_of : IndexMap (Bor (List ℕ)) V S → List (List ℕ)
+  names_of m = map (λ k. k.now) (keys m)
+
+-- the names with one more, where it is new
+abbrev pub with_name : List ℕ → List (List ℕ) → List (List ℕ)
+with_name w ns = if is_in w ns then ns else (ns ++ w ∷ [])

@@ -2,7 +2,11 @@
 
 ghost use Rattle.std.specs.Prelude.{◌≡◌, ◌<◌, ◌≤◌, ◌++◌, [], length, OnOk, IfOk};
 ghost use Rattle.std.specs.Prelude.{◌+◌, ◌-◌, ℕ, List, is_some, Some, if◌then◌else◌, bytes_eq};
-ghost use Rattle.mm_scope.specs.Names.{find};
+ghost use Rattle.std.specs.Prelude.{◌^◌, map};
+ghost use Rattle.mm_spec.specs.Text.{words};
+ghost use Rattle.mm_spec.specs.Frame.{place_of};
+ghost use Rattle.mm_scope.specs.Names.{find, names_of};
+ghost use Rattle.mm_scope.specs.Formulas.{judged};
 ghost use Rattle.mm_spec.specs.Lawful.{least, at_each, symbol_codes, formula_faults, floating_faults, label_faults, scope_faults};
 ghost use Rattle.mm_spec.specs.Scope.{Names as Known};
 ghost use Rattle.mm_outline.specs.Parts.{AreWords, IsOutline, between, word_at, token_at, statement_of};
@@ -11,24 +15,37 @@ ghost use Rattle.mm_scope.specs.Judge.{merge as spec_merge, fault_at, is_open_in
 use crate::names::{Map, Scope};
 use indexmap::IndexMap;
 use mm_outline::parts::{Kind, Outline};
+use mm_outline::symbol::Sym;
 use mm_spec::{Code, Fault, Word};
 use std::alloc::{AllocError, Allocator};
 
 impl<'a, A: Allocator + Copy> Scope<'a, A> {
-    /// The first fault of the symbols of a formula behind its typecode.
-    fn symbols_fault(&self, text: &[u8], tokens: &[Word], from: u32, to: u32) -> Option<Fault>
+    /// The first fault of the symbols of a formula behind its typecode, whose numbers are added to the others.
+    fn symbols_fault(
+        &self,
+        text: &[u8],
+        tokens: &[Word],
+        from: u32,
+        to: u32,
+        numbers: &mut Vec<Sym, A>,
+    ) -> Result<Option<Fault>, AllocError>
         requires words { AreWords text.now tokens.now }
         requires order { from ≤ to }
         requires within { to ≤ length tokens.now }
-        ensures { (n : Known) → Knows n (find self.now.names.symbols) (find self.now.names.labels) (is_open_in self.now.blocks.of.items self.now.blocks.ends.items) → result ≡ least (at_each (symbol_codes n) [] (between text.now tokens.now from to)) }
+        requires few { length (names_of self.now.names.symbols) < 2 ^ 31 }
+        ensures fault { IfOk result (λ r. (n : Known) → Knows n (find self.now.names.symbols) (find self.now.names.labels) (is_open_in self.now.blocks.of.items self.now.blocks.ends.items) → r ≡ least (at_each (symbol_codes n) [] (between text.now tokens.now from to))) }
+        ensures numbers { OnOk result (numbers.new.items ≡ numbers.old.items ++ map (λ w. place_of w (names_of self.now.names.symbols)) (words (between text.now tokens.now from to))) }
     {
         let mut best = None;
         for at in from..to {
             let token = tokens[at as usize];
-            let code = self.symbol_code(&text[token.start as usize..token.end as usize]);
-            best = note(best, token.start, code);
+            let (number, known) = self
+                .names
+                .numbered(&text[token.start as usize..token.end as usize]);
+            numbers.push(Sym::new(number as u32))?;
+            best = note(best, token.start, self.symbol_code(known));
         }
-        best
+        Ok(best)
     }
 
     /// The first fault of the symbols of `$c`, `$v` or `$d`.
@@ -57,22 +74,33 @@ impl<'a, A: Allocator + Copy> Scope<'a, A> {
         Ok(best)
     }
 
-    /// The first fault of a formula, which ends at the token `to`.
-    fn formula_fault(&self, text: &[u8], tokens: &[Word], from: u32, to: u32) -> Option<Fault>
+    /// The first fault of a formula, which ends at the token `to`. The numbers of its symbols are added to the others.
+    fn formula_fault(
+        &self,
+        text: &[u8],
+        tokens: &[Word],
+        from: u32,
+        to: u32,
+        numbers: &mut Vec<Sym, A>,
+    ) -> Result<Option<Fault>, AllocError>
         requires words { AreWords text.now tokens.now }
         requires order { from ≤ to }
         requires within { to < length tokens.now }
-        ensures { (n : Known) → Knows n (find self.now.names.symbols) (find self.now.names.labels) (is_open_in self.now.blocks.of.items self.now.blocks.ends.items) → result ≡ least (formula_faults n (between text.now tokens.now from to) (word_at tokens.now to).start) }
+        requires few { length (names_of self.now.names.symbols) < 2 ^ 31 }
+        ensures fault { IfOk result (λ r. (n : Known) → Knows n (find self.now.names.symbols) (find self.now.names.labels) (is_open_in self.now.blocks.of.items self.now.blocks.ends.items) → r ≡ least (formula_faults n (between text.now tokens.now from to) (word_at tokens.now to).start)) }
+        ensures numbers { OnOk result (numbers.new.items ≡ numbers.old.items ++ map (λ w. place_of w (names_of self.now.names.symbols)) (words (between text.now tokens.now from to))) }
     {
         if from == to {
-            return note(None, tokens[to as usize].start, Some(Code::BadTypecode));
+            return Ok(note(None, tokens[to as usize].start, Some(Code::BadTypecode)));
         }
         let token = tokens[from as usize];
-        let code = self.typecode_code(&text[token.start as usize..token.end as usize]);
-        merge(
-            note(None, token.start, code),
-            self.symbols_fault(text, tokens, from + 1, to),
-        )
+        let (number, known) = self
+            .names
+            .numbered(&text[token.start as usize..token.end as usize]);
+        numbers.push(Sym::new(number as u32))?;
+        let typecode = note(None, token.start, Self::typecode_code(known));
+        let rest = self.symbols_fault(text, tokens, from + 1, to, numbers)?;
+        Ok(merge(typecode, rest))
     }
 
     /// The fault of a label.
@@ -171,7 +199,8 @@ impl<'a, A: Allocator + Copy> Scope<'a, A> {
         }
     }
 
-    /// The least fault of a statement that comes next.
+    /// The least fault of a statement that comes next. The numbers of the symbols of a `$e`, `$a` or `$p` are added to the
+    /// others.
     pub fn fault(
         &self,
         alloc: A,
@@ -179,11 +208,14 @@ impl<'a, A: Allocator + Copy> Scope<'a, A> {
         tokens: &[Word],
         deep: u32,
         outline: Outline,
+        numbers: &mut Vec<Sym, A>,
     ) -> Result<Option<Fault>, AllocError>
         requires words { AreWords text.now tokens.now }
         requires outline { IsOutline outline }
         requires within { outline.end < length tokens.now }
-        ensures { IfOk result (λ r. (n : Known) → Knows n (find self.now.names.symbols) (find self.now.names.labels) (is_open_in self.now.blocks.of.items self.now.blocks.ends.items) → r ≡ least (scope_faults n deep (statement_of text.now tokens.now outline))) }
+        requires few { length (names_of self.now.names.symbols) < 2 ^ 31 }
+        ensures numbers { OnOk result (numbers.new.items ≡ numbers.old.items ++ judged (names_of self.now.names.symbols) (statement_of text.now tokens.now outline)) }
+        ensures fault { IfOk result (λ r. (n : Known) → Knows n (find self.now.names.symbols) (find self.now.names.labels) (is_open_in self.now.blocks.of.items self.now.blocks.ends.items) → r ≡ least (scope_faults n deep (statement_of text.now tokens.now outline))) }
     {
         let kind = outline.kind;
         let keyword = outline.keyword;
@@ -198,22 +230,32 @@ impl<'a, A: Allocator + Copy> Scope<'a, A> {
                 let label = self.label_fault(text, tokens, keyword - 1);
                 Ok(merge(label, self.floating_fault(text, tokens, keyword, middle)))
             }
-            Kind::Essential => Ok(self.labelled(text, tokens, keyword, middle)),
-            Kind::Axiom => Ok(self.labelled(text, tokens, keyword, middle)),
-            Kind::Theorem => Ok(self.labelled(text, tokens, keyword, middle)),
+            Kind::Essential => self.labelled(text, tokens, keyword, middle, numbers),
+            Kind::Axiom => self.labelled(text, tokens, keyword, middle, numbers),
+            Kind::Theorem => self.labelled(text, tokens, keyword, middle, numbers),
         }
     }
 
-    /// The least fault of a label and a formula.
-    fn labelled(&self, text: &[u8], tokens: &[Word], keyword: u32, to: u32) -> Option<Fault>
+    /// The least fault of a label and a formula. The numbers of the formula's symbols are added to the others.
+    fn labelled(
+        &self,
+        text: &[u8],
+        tokens: &[Word],
+        keyword: u32,
+        to: u32,
+        numbers: &mut Vec<Sym, A>,
+    ) -> Result<Option<Fault>, AllocError>
         requires words { AreWords text.now tokens.now }
         requires label { 0 < keyword }
         requires order { keyword < to }
         requires within { to < length tokens.now }
-        ensures { (n : Known) → Knows n (find self.now.names.symbols) (find self.now.names.labels) (is_open_in self.now.blocks.of.items self.now.blocks.ends.items) → result ≡ least (label_faults n (token_at text.now tokens.now (keyword - 1)) ++ formula_faults n (between text.now tokens.now (keyword + 1) to) (word_at tokens.now to).start) }
+        requires few { length (names_of self.now.names.symbols) < 2 ^ 31 }
+        ensures fault { IfOk result (λ r. (n : Known) → Knows n (find self.now.names.symbols) (find self.now.names.labels) (is_open_in self.now.blocks.of.items self.now.blocks.ends.items) → r ≡ least (label_faults n (token_at text.now tokens.now (keyword - 1)) ++ formula_faults n (between text.now tokens.now (keyword + 1) to) (word_at tokens.now to).start)) }
+        ensures numbers { OnOk result (numbers.new.items ≡ numbers.old.items ++ map (λ w. place_of w (names_of self.now.names.symbols)) (words (between text.now tokens.now (keyword + 1) to))) }
     {
         let label = self.label_fault(text, tokens, keyword - 1);
-        merge(label, self.formula_fault(text, tokens, keyword + 1, to))
+        let formula = self.formula_fault(text, tokens, keyword + 1, to, numbers)?;
+        Ok(merge(label, formula))
     }
 
     /// The least fault of a `$c`, `$v` or `$d`.

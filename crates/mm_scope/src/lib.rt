@@ -4,8 +4,7 @@
 //! with the fault behind them (`Rattle.mm_spec.specs.Output.IsRead`).
 #![tactic(auto)]
 
+pub mod formulas;
 pub mod judge;
 pub mod names;
-pub mod numbers;
 pub mod reading;
-pub mod symbols;

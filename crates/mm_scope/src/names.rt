@@ -2,7 +2,9 @@
 
 ghost use Rattle.std.specs.Prelude.{◌≡◌, OnOk};
 ghost use Rattle.std.specs.Prelude.{ℕ, List, is_some, Some, if◌then◌else◌, bytes_eq};
-ghost use Rattle.mm_scope.specs.Names.{find};
+ghost use Rattle.mm_spec.specs.Frame.{place_of};
+ghost use Rattle.mm_spec.specs.Text.{is_in};
+ghost use Rattle.mm_scope.specs.Names.{find, names_of, with_name};
 ghost use Rattle.mm_scope.specs.Judge.{is_open_in, is_active_symbol, is_typed_symbol, symbol_code, label_code, typecode_code, floating_code, declared_code, typing_code};
 
 use indexmap::IndexMap;
@@ -38,6 +40,18 @@ impl<'a, A: Allocator + Copy> Names<'a, A> {
         self.symbols.get(word).copied()
     }
 
+    /// The symbol's number, in the order of first declarations, and what is known of it. Where it is none, the number is
+    /// how many symbols there are.
+    pub fn numbered(&self, word: &[u8]) -> (usize, Option<Symbol<'a>>)
+        ensures number { result.0 ≡ place_of word.now (names_of self.now.symbols) }
+        ensures symbol { result.1 ≡ find self.now.symbols word.now }
+    {
+        match self.symbols.get_full(word) {
+            Some((number, _, symbol)) => (number, Some(*symbol)),
+            None => (self.symbols.len(), None),
+        }
+    }
+
     /// Whether the word is a label.
     pub fn is_label(&self, word: &[u8]) -> bool
         ensures { result ≡ is_some (find self.now.labels word.now) }
@@ -49,6 +63,7 @@ impl<'a, A: Allocator + Copy> Names<'a, A> {
     pub fn set_symbol(&mut self, word: &'a [u8], symbol: Symbol<'a>) -> Result<(), AllocError>
         ensures symbols { OnOk result ((w : List ℕ) → find self.new.symbols w ≡ (if bytes_eq word.now w then Some symbol.entry else find self.old.symbols w)) }
         ensures labels { OnOk result ((w : List ℕ) → find self.new.labels w ≡ find self.old.labels w) }
+        ensures names { OnOk result (names_of self.new.symbols ≡ with_name word.now (names_of self.old.symbols)) }
     {
         self.symbols.insert(word, symbol)?;
         Ok(())
@@ -57,7 +72,7 @@ impl<'a, A: Allocator + Copy> Names<'a, A> {
     /// The label with that statement from now on.
     pub fn set_label(&mut self, word: &'a [u8], statement: u32) -> Result<(), AllocError>
         ensures labels { OnOk result ((w : List ℕ) → find self.new.labels w ≡ (if bytes_eq word.now w then Some statement else find self.old.labels w)) }
-        ensures symbols { OnOk result ((w : List ℕ) → find self.new.symbols w ≡ find self.old.symbols w) }
+        ensures symbols { OnOk result (self.new.symbols ≡ self.old.symbols) }
     {
         self.labels.insert(word, statement)?;
         Ok(())
@@ -99,11 +114,11 @@ impl<'a, A: Allocator + Copy> Scope<'a, A> {
         self.is_open(symbol.typed)
     }
 
-    /// What is wrong with the word as a symbol of a formula behind its typecode.
-    pub(crate) fn symbol_code(&self, word: &[u8]) -> Option<Code>
-        ensures { result ≡ symbol_code (is_open_in self.now.blocks.of.items self.now.blocks.ends.items) (find self.now.names.symbols word.now) }
+    /// What is wrong with a word of which that is known as a symbol of a formula behind its typecode.
+    pub(crate) fn symbol_code(&self, known: Option<Symbol<'a>>) -> Option<Code>
+        ensures { result ≡ symbol_code (is_open_in self.now.blocks.of.items self.now.blocks.ends.items) known.entry }
     {
-        match self.names.symbol(word) {
+        match known {
             Some(symbol) => {
                 if !symbol.is_variable {
                     None
@@ -132,11 +147,11 @@ impl<'a, A: Allocator + Copy> Scope<'a, A> {
         }
     }
 
-    /// What is wrong with the word as a typecode.
-    pub(crate) fn typecode_code(&self, word: &[u8]) -> Option<Code>
-        ensures { result ≡ typecode_code (find self.now.names.symbols word.now) }
+    /// What is wrong with a word of which that is known as a typecode.
+    pub(crate) fn typecode_code(known: Option<Symbol<'a>>) -> Option<Code>
+        ensures { result ≡ typecode_code known.entry }
     {
-        match self.names.symbol(word) {
+        match known {
             Some(symbol) => {
                 if symbol.is_variable {
                     Some(Code::BadTypecode)
@@ -198,7 +213,9 @@ impl<'a, A: Allocator + Copy> Scope<'a, A> {
     {
         match self.names.symbol(variable) {
             Some(symbol) => {
-                if self.typecode_code(typecode).is_none() && self.is_active(symbol) {
+                if Self::typecode_code(self.names.symbol(typecode)).is_none()
+                    && self.is_active(symbol)
+                {
                     Some(self.floating_code(typecode, symbol))
                 } else {
                     None

@@ -13,8 +13,13 @@ ghost use Rattle.mm_scope.specs.Judge.{declared_entry, entry_of, typed_entry};
 ghost use Rattle.mm_outline.specs.Parts.{AreWords, between, token_at, IsOutline, depth_behind, statement_of};
 ghost use Rattle.mm_scope.specs.Known.{entry_after, label_after};
 ghost use Rattle.mm_outline.specs.Statements.{active_kind, end_fault_of, lexed, statements};
-ghost use Rattle.mm_scope.specs.Keeps.{Keeps};
+ghost use Rattle.mm_scope.specs.Keeps.{Keeps, IsKept, MayTake, kept_by};
+ghost use Rattle.mm_scope.specs.Names.{names_of};
+ghost use Rattle.mm_spec.specs.Frame.{first_occurrences};
+ghost use Rattle.mm_spec.specs.Scope.{constants_of, variables_of};
+ghost use Rattle.std.specs.Prelude.{◌≢◌};
 
+use crate::formulas::{Formulas, no_formulas};
 use crate::names::{Names, Scope, Symbol};
 use indexmap::IndexMap;
 use mm_outline::blocks::{NEVER, no_blocks};
@@ -22,11 +27,13 @@ use mm_outline::parts::{Found, Kind, Outline, Part, find};
 use mm_spec::{Code, Fault, Word};
 use std::alloc::{AllocError, Allocator};
 
-/// The lawful statements of a text by their outlines, the names behind them, and what stopped the reading.
+/// The lawful statements of a text by their outlines, the names and the symbols by number after them, and what stopped the
+/// reading.
 #[derive(Drop)]
 pub struct Outlined<'a, A: Allocator> {
     pub outlines: Vec<Outline, A>,
     pub scope: Scope<'a, A>,
+    pub formulas: Formulas<A>,
     pub fault: Option<Fault>,
 }
 
@@ -44,7 +51,8 @@ fn depth_after(kind: Kind, deep: u32) -> u32
 
 /// No names yet.
 fn no_scope<'a, A: Allocator + Copy>(alloc: A) -> Result<Scope<'a, A>, AllocError>
-    ensures { IfOk result (λ s. Keeps [] (find_in s.names.symbols) (find_in s.names.labels) (lists s.blocks.of.items s.blocks.ends.items s.blocks.open.items)) }
+    ensures keeps { IfOk result (λ s. Keeps [] (find_in s.names.symbols) (find_in s.names.labels) (lists s.blocks.of.items s.blocks.ends.items s.blocks.open.items)) }
+    ensures names { IfOk result (λ s. names_of s.names.symbols ≡ []) }
 {
     let blocks = no_blocks(alloc)?;
     let names = Names {
@@ -80,6 +88,65 @@ fn end_fault(lexical: Option<Fault>, text: &[u8], part: Part, deep: u32) -> Opti
     }
 }
 
+/// Nothing read yet.
+fn nothing<'a, A: Allocator + Copy>(alloc: A) -> Result<Outlined<'a, A>, AllocError>
+    ensures { IfOk result (λ r. (r.outlines.items ≡ []) × (r.fault ≡ None) × IsKept [] (kept_by r)) }
+{
+    let scope = no_scope(alloc)?;
+    let formulas = no_formulas(alloc)?;
+    Ok(Outlined {
+        outlines: Vec::new(alloc),
+        scope,
+        formulas,
+        fault: None,
+    })
+}
+
+impl<'a, A: Allocator + Copy> Outlined<'a, A> {
+    /// Takes a statement more where it is lawful; else its fault is noted, and all else stays.
+    fn take(
+        &mut self,
+        alloc: A,
+        text: &'a [u8],
+        tokens: &[Word],
+        deep: u32,
+        outline: Outline,
+    ) -> Result<(), AllocError>
+        requires words { AreWords text.now tokens.now }
+        requires few { length tokens.now < 2 ^ 31 }
+        requires outline { IsOutline outline }
+        requires within { outline.end < length tokens.now }
+        requires sound { self.old.fault ≡ None }
+        requires kept { IsKept (statements text.now tokens.now self.old.outlines.items) (kept_by self.old) }
+        requires next { MayTake (statements text.now tokens.now self.old.outlines.items) deep (statement_of text.now tokens.now outline) }
+        ensures fault { OnOk result (self.new.fault ≡ least (scope_faults (names_before (statements text.now tokens.now self.old.outlines.items) (length self.old.outlines.items)) deep (statement_of text.now tokens.now outline))) }
+        ensures taken { OnOk result (self.new.fault ≡ None → (self.new.outlines.items ≡ self.old.outlines.items ++ outline ∷ []) × IsKept (statements text.now tokens.now self.old.outlines.items ++ statement_of text.now tokens.now outline ∷ []) (kept_by self.new)) }
+        ensures stays { OnOk result (self.new.fault ≢ None → (self.new.outlines.items ≡ self.old.outlines.items) × IsKept (statements text.now tokens.now self.old.outlines.items) (kept_by self.new)) }
+    {
+        let begin = self.formulas.numbers.len();
+        self.fault = self.scope.fault(
+            alloc,
+            text,
+            tokens,
+            deep,
+            outline,
+            &mut self.formulas.numbers,
+        )?;
+        if self.fault.is_some() {
+            self.formulas.numbers.truncate(begin);
+            return Ok(());
+        }
+        self.scope.add(text, tokens, outline)?;
+        self.scope
+            .number_others(text, tokens, outline, &mut self.formulas.numbers)?;
+        self.formulas
+            .places
+            .push(self.formulas.numbers.len() as u32)?;
+        self.outlines.push(outline)?;
+        Ok(())
+    }
+}
+
 /// Reads the statements up to the first fault of words, shape, symbols, labels or scope.
 pub fn outline<'a, A: Allocator + Copy>(
     alloc: A,
@@ -92,44 +159,29 @@ pub fn outline<'a, A: Allocator + Copy>(
     requires short { lexical ≡ None → length text.now < 2 ^ 31 }
     ensures few { IfOk result (λ d. length d.outlines.items < 2 ^ 31) }
     ensures outlines { IfOk result (λ d. All (λ o. IsOutline o × (o.end < length tokens.now)) d.outlines.items) }
-    ensures keeps { IfOk result (λ d. Keeps (statements text.now tokens.now d.outlines.items) (find_in d.scope.names.symbols) (find_in d.scope.names.labels) (lists d.scope.blocks.of.items d.scope.blocks.ends.items d.scope.blocks.open.items)) }
+    ensures kept { IfOk result (λ d. IsKept (statements text.now tokens.now d.outlines.items) (kept_by d)) }
     ensures read { IfOk result (λ d. IsRead (length text.now) (lexed text.now tokens.now lexical) (statements text.now tokens.now d.outlines.items) d.fault) }
 {
-    let mut scope = no_scope(alloc)?;
-    let mut outlines: Vec<Outline, A> = Vec::new(alloc);
+    let mut read = nothing(alloc)?;
     let mut deep = 0;
     let mut at = 0;
     'statements: loop {
         match find(text, tokens, deep, at) {
             Found::Whole(outline) => {
-                let fault = scope.fault(alloc, text, tokens, deep, outline)?;
-                if fault.is_some() {
-                    return Ok(Outlined {
-                        outlines,
-                        scope,
-                        fault,
-                    });
+                read.take(alloc, text, tokens, deep, outline)?;
+                if read.fault.is_some() {
+                    return Ok(read);
                 }
-                scope.add(text, tokens, outline)?;
-                outlines.push(outline)?;
                 deep = depth_after(outline.kind, deep);
                 at = outline.end + 1;
             }
             Found::Stopped(fault) => {
-                let fault = Some(fault);
-                return Ok(Outlined {
-                    outlines,
-                    scope,
-                    fault,
-                });
+                read.fault = Some(fault);
+                return Ok(read);
             }
             Found::Ended(part) => {
-                let fault = end_fault(lexical, text, part, deep);
-                return Ok(Outlined {
-                    outlines,
-                    scope,
-                    fault,
-                });
+                read.fault = end_fault(lexical, text, part, deep);
+                return Ok(read);
             }
         }
     }
@@ -170,7 +222,8 @@ impl<'a, A: Allocator + Copy> Scope<'a, A> {
         requires few { length tokens.now < 2 ^ 31 }
         requires within { outline.end < length tokens.now }
         requires keeps { (db : List Statement) × Keeps db (find_in self.old.names.symbols) (find_in self.old.names.labels) (lists self.old.blocks.of.items self.old.blocks.ends.items self.old.blocks.open.items) × (length db < 2 ^ 31) }
-        ensures { OnOk result ((db : List Statement) → Keeps db (find_in self.old.names.symbols) (find_in self.old.names.labels) (lists self.old.blocks.of.items self.old.blocks.ends.items self.old.blocks.open.items) → least (scope_faults (names_before db (length db)) (depth db (length db)) (statement_of text.now tokens.now outline)) ≡ None → (is_closing (statement_of text.now tokens.now outline) ≡ true → 0 < depth db (length db)) → Keeps (db ++ statement_of text.now tokens.now outline ∷ []) (find_in self.new.names.symbols) (find_in self.new.names.labels) (lists self.new.blocks.of.items self.new.blocks.ends.items self.new.blocks.open.items)) }
+        ensures keeps { OnOk result ((db : List Statement) → Keeps db (find_in self.old.names.symbols) (find_in self.old.names.labels) (lists self.old.blocks.of.items self.old.blocks.ends.items self.old.blocks.open.items) → least (scope_faults (names_before db (length db)) (depth db (length db)) (statement_of text.now tokens.now outline)) ≡ None → (is_closing (statement_of text.now tokens.now outline) ≡ true → 0 < depth db (length db)) → Keeps (db ++ statement_of text.now tokens.now outline ∷ []) (find_in self.new.names.symbols) (find_in self.new.names.labels) (lists self.new.blocks.of.items self.new.blocks.ends.items self.new.blocks.open.items)) }
+        ensures names { OnOk result ((d : List (List ℕ)) → names_of self.old.names.symbols ≡ first_occurrences [] d → names_of self.new.names.symbols ≡ first_occurrences [] (d ++ (constants_of (statement_of text.now tokens.now outline) ++ variables_of (statement_of text.now tokens.now outline)))) }
     {
         let number = self.blocks.of.len() as u32;
         self.blocks.push(outline.kind)?;
@@ -192,6 +245,7 @@ impl<'a, A: Allocator + Copy> Scope<'a, A> {
         ensures symbols { OnOk result ((w : List ℕ) → entry_of (find_in self.new.names.symbols w) ≡ entry_after number (statement_of text.now tokens.now outline) w (entry_of (find_in self.old.names.symbols w))) }
         ensures labels { OnOk result ((w : List ℕ) → find_in self.new.names.labels w ≡ label_after number (label_of (statement_of text.now tokens.now outline)) w (find_in self.old.names.labels w)) }
         ensures blocks { self.new.blocks ≡ self.old.blocks }
+        ensures names { OnOk result ((d : List (List ℕ)) → names_of self.old.names.symbols ≡ first_occurrences [] d → names_of self.new.names.symbols ≡ first_occurrences [] (d ++ (constants_of (statement_of text.now tokens.now outline) ++ variables_of (statement_of text.now tokens.now outline)))) }
     {
         let from = outline.keyword + 1;
         match outline.kind {
@@ -223,7 +277,7 @@ impl<'a, A: Allocator + Copy> Scope<'a, A> {
         requires label { 0 < keyword }
         requires within { keyword < length tokens.now }
         ensures labels { OnOk result ((w : List ℕ) → find_in self.new.names.labels w ≡ (if bytes_eq (token_at text.now tokens.now (keyword - 1)).word w then Some number else find_in self.old.names.labels w)) }
-        ensures symbols { OnOk result ((w : List ℕ) → find_in self.new.names.symbols w ≡ find_in self.old.names.symbols w) }
+        ensures symbols { OnOk result (self.new.names.symbols ≡ self.old.names.symbols) }
         ensures blocks { self.new.blocks ≡ self.old.blocks }
     {
         let token = tokens[keyword as usize - 1];
@@ -244,6 +298,7 @@ impl<'a, A: Allocator + Copy> Scope<'a, A> {
         ensures labels { OnOk result ((w : List ℕ) → find_in self.new.names.labels w ≡ find_in self.old.names.labels w) }
         ensures symbols { OnOk result ((w : List ℕ) → entry_of (find_in self.new.names.symbols w) ≡ (if bytes_eq (token_at text.now tokens.now (from + 1)).word w then typed_entry number (token_at text.now tokens.now from).word (entry_of (find_in self.old.names.symbols (token_at text.now tokens.now (from + 1)).word)) else entry_of (find_in self.old.names.symbols w))) }
         ensures blocks { self.new.blocks ≡ self.old.blocks }
+        ensures names { OnOk result (names_of self.new.names.symbols ≡ names_of self.old.names.symbols) }
     {
         let first = tokens[from as usize];
         let second = tokens[from as usize + 1];
@@ -279,6 +334,7 @@ impl<'a, A: Allocator + Copy> Scope<'a, A> {
         ensures labels { OnOk result ((w : List ℕ) → find_in self.new.names.labels w ≡ find_in self.old.names.labels w) }
         ensures symbols { OnOk result ((w : List ℕ) → entry_of (find_in self.new.names.symbols w) ≡ (if is_in w (words (between text.now tokens.now from to)) then declared_entry is_variable number w (entry_of (find_in self.old.names.symbols w)) else entry_of (find_in self.old.names.symbols w))) }
         ensures blocks { self.new.blocks ≡ self.old.blocks }
+        ensures names { OnOk result ((d : List (List ℕ)) → names_of self.old.names.symbols ≡ first_occurrences [] d → names_of self.new.names.symbols ≡ first_occurrences [] (d ++ words (between text.now tokens.now from to))) }
     {
         for at in from..to {
             let token = tokens[at as usize];

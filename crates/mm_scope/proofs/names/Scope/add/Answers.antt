@@ -11,8 +11,8 @@ push-requires-clause-few_blocks g c =
     let v = c.args.self.now.blocks.ends.ok.0 in
     omega (arith, k, m, v)
 
-pub returns : goal.returns
-returns g c = on_both c.add_names.result c.add_names.ensures.symbols c.add_names.ensures.labels (λ symbols labels db keeps law deep.
+pub returns-clause-keeps : goal.returns-clause-keeps
+returns-clause-keeps g c = on_both c.add_names.result c.add_names.ensures.symbols c.add_names.ensures.labels (λ symbols labels db keeps law deep.
     let text = c.args.text.now in
     let ws = c.args.tokens.now in
     let o = c.args.outline in

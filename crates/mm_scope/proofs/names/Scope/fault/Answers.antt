@@ -6,8 +6,8 @@ use Rattle.mm_scope.proofs.JudgeLaw.{least-append, constants_is, variables_is}
 use Rattle.mm_outline.proofs.Results.{ok_then}
 use Rattle.mm_scope.proofs.names.Scope.fault.Goals as goal
 
-pub returns-in-Constants : goal.returns-in-Constants
-returns-in-Constants g c =
+pub returns-in-Constants-clause-fault : goal.returns-in-Constants-clause-fault
+returns-in-Constants-clause-fault g c =
     let text = c.args.text.now in
     let ws = c.args.tokens.now in
     let o = c.args.outline in
@@ -17,8 +17,8 @@ returns-in-Constants g c =
     ok_then c.declared.result c.declared.ensures (λ r h. λ n k.
     h n k ∙ ap (λ kd. merge (list_fault kd c.args.deep (word_at ws o.keyword).start (word_at ws o.middle).start (o.middle - o.keyword - 1)) (least (at_each (declared_codes n kd) [] (between text ws (o.keyword + 1) o.middle)))) c.in-Constants.is ∙ constants_is n c.args.deep (word_at ws o.keyword).start (word_at ws o.middle).start text ws o.keyword o.middle below (omega (arith, within, later)) ∙ ap (λ kd. least (scope_faults n c.args.deep (made text ws kd o.keyword o.middle o.end))) (sym c.in-Constants.is))
 
-pub returns-in-Variables : goal.returns-in-Variables
-returns-in-Variables g c =
+pub returns-in-Variables-clause-fault : goal.returns-in-Variables-clause-fault
+returns-in-Variables-clause-fault g c =
     let text = c.args.text.now in
     let ws = c.args.tokens.now in
     let o = c.args.outline in
@@ -28,8 +28,8 @@ returns-in-Variables g c =
     ok_then c.declared-in-Variables.result c.declared-in-Variables.ensures (λ r h. λ n k.
     h n k ∙ ap (λ kd. merge (list_fault kd c.args.deep (word_at ws o.keyword).start (word_at ws o.middle).start (o.middle - o.keyword - 1)) (least (at_each (declared_codes n kd) [] (between text ws (o.keyword + 1) o.middle)))) c.in-Variables.is ∙ variables_is n c.args.deep (word_at ws o.keyword).start (word_at ws o.middle).start text ws o.keyword o.middle below (omega (arith, within, later)) ∙ ap (λ kd. least (scope_faults n c.args.deep (made text ws kd o.keyword o.middle o.end))) (sym c.in-Variables.is))
 
-pub returns-in-Floating : goal.returns-in-Floating
-returns-in-Floating g c = λ n k.
+pub returns-in-Floating-clause-fault : goal.returns-in-Floating-clause-fault
+returns-in-Floating-clause-fault g c = λ n k.
     let text = c.args.text.now in
     let ws = c.args.tokens.now in
     let o = c.args.outline in

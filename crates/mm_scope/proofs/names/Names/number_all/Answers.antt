@@ -1,0 +1,28 @@
+use Rattle.std.proofs.Common.{◌≡◌, ◌∙◌, ◌≤◌, ◌++◌, ◌∷◌, [], length, sym, ap, ap₂, arith, append_assoc, append-nil}
+use Rattle.mm_spec.specs.Frame.{place_of}
+use Rattle.mm_outline.specs.Parts.{between, token_at}
+use Rattle.mm_scope.specs.Formulas.{numbers_in}
+use Rattle.mm_scope.specs.Names.{names_of}
+use Rattle.mm_scope.proofs.NumberedLaw.{place-le, numbers-more, numbers-none}
+use Rattle.mm_scope.proofs.names.Names.number_all.Goals as goal
+
+pub overflow_cast-number : goal.overflow_cast-number
+overflow_cast-number g c =
+    let ns = names_of c.args.self.now.symbols in
+    let few = c.requires.few in
+    let le = place-le (token_at c.args.text.now c.args.tokens.now c.loop-at.at).word ns in
+    let is = c.numbered-number.ensures.number in
+    omega (arith, le, is, few)
+
+pub loop-at-init : goal.loop-at-init
+loop-at-init g c = sym (append-nil _) ∙ ap (λ l. c.args.numbers.now.items ++ l) (numbers-none c.args.text.now c.args.tokens.now (names_of c.args.self.now.symbols) c.args.from)
+
+pub loop-at-preserved : goal.loop-at-preserved
+loop-at-preserved g c =
+    let text = c.args.text.now in
+    let ws = c.args.tokens.now in
+    let ns = names_of c.args.self.now.symbols in
+    let at = c.loop-at.at in
+    let xs = numbers_in ns (between text ws c.args.from at) in
+    c.in_ok-push.ensures.items ∙ ap₂ (λ x y. x ++ y ∷ []) c.loop-at.invariant (c.new.ensures ∙ c.numbered-number.ensures.number)
+    ∙ append_assoc c.args.numbers.now.items xs (place_of (token_at text ws at).word ns ∷ []) ∙ ap (λ l. c.args.numbers.now.items ++ l) (sym (numbers-more text ws ns c.args.from at (omega arith) (omega arith)))

@@ -1,0 +1,95 @@
+use Rattle.std.proofs.Common.{◌≡◌, ℕ, ◌^◌, ◌<◌, ◌≤◌, ◌++◌, ◌∷◌, [], List, None, length, sym, ap, ap₂, ◌∙◌, subst, arith, append_assoc}
+use Rattle.std.proofs.lemmas.List.{length-map}
+use Rattle.mm_spec.specs.Statement.{Statement}
+use Rattle.mm_spec.specs.Scope.{names_before, depth}
+use Rattle.mm_spec.specs.Lawful.{least, scope_faults}
+use Rattle.mm_spec.specs.Frame.{symbol_names, formula_of}
+use Rattle.mm_outline.specs.Blocks.{lists, never}
+use Rattle.mm_outline.specs.Parts.{statement_of}
+use Rattle.mm_outline.specs.Statements.{statements}
+use Rattle.mm_scope.specs.Formulas.{AreFormulas, judged, unjudged}
+use Rattle.mm_scope.specs.Names.{find, names_of}
+use Rattle.mm_scope.proofs.KnowsLaw.{knows_is}
+use Rattle.mm_scope.proofs.NumberedLaw.{declared, names-shorter, names-next, taken-numbers, formulas-more}
+use Rattle.mm_scope.proofs.reading.Outlined.take.Goals as goal
+
+pub fault-requires-clause-few : goal.fault-requires-clause-few
+fault-requires-clause-few g c =
+    let db = statements c.args.text.now c.args.tokens.now c.args.self.now.outlines.items in
+    let s = statement_of c.args.text.now c.args.tokens.now c.args.outline in
+    let e = ap length c.requires.kept.names_are in
+    let l = names-shorter db s in
+    let f = c.requires.next.few_names in
+    omega (arith, e, l, f)
+
+pub returns-then-is_some-clause-fault : goal.returns-then-is_some-clause-fault
+returns-then-is_some-clause-fault g c =
+    let text = c.args.text.now in
+    let ws = c.args.tokens.now in
+    let os = c.args.self.now.outlines.items in
+    let db = statements text ws os in
+    let s = statement_of text ws c.args.outline in
+    let k = c.requires.kept in
+    let next = c.requires.next in
+    let b = lists c.args.self.now.scope.blocks.of.items c.args.self.now.scope.blocks.ends.items c.args.self.now.scope.blocks.open.items in
+    let few = next.few in
+    let few_blocks : length db < never = omega (arith, few) in
+    let fault = c.in_ok-self.ensures.fault (names_before db (length db)) (knows_is db (find c.args.self.now.scope.names.symbols) (find c.args.self.now.scope.names.labels) b k.keeps few_blocks) in
+    fault ∙ ap (λ n. least (scope_faults (names_before db n) c.args.deep s)) (length-map os (statement_of text ws))
+
+pub overflow_cast-len : goal.overflow_cast-len
+overflow_cast-len g c =
+    let text = c.args.text.now in
+    let ws = c.args.tokens.now in
+    let os = c.args.self.now.outlines.items in
+    let db = statements text ws os in
+    let s = statement_of text ws c.args.outline in
+    let k = c.requires.kept in
+    let next = c.requires.next in
+    let names = names-next db s (names_of c.add.new.self.names.symbols) (c.in_ok-add.ensures.names (declared db) k.names_are) in
+    let more = taken-numbers db s c.args.self.now.formulas.numbers.items c.fault.new.numbers.items c.number_others.new.numbers.items (names_of c.args.self.now.scope.names.symbols) (names_of c.add.new.self.names.symbols) k.names_are names c.in_ok-self.ensures.numbers c.in_ok-number_others.ensures in
+    let at : c.len.result ≡ length c.number_others.new.numbers.items = c.len.ensures ∙ c.number_others.new.numbers.ok.0 in
+    let formulas = formulas-more db next.lawful s c.args.self.now.formulas.numbers.items c.args.self.now.formulas.places.items k.formulas c.number_others.new.numbers.items more c.len.result at in
+    let small = next.few_numbers in
+    let long = ap length formulas.numbers_are in
+    omega (arith, at, small, long)
+
+pub returns-clause-fault : goal.returns-clause-fault
+returns-clause-fault g c =
+    let text = c.args.text.now in
+    let ws = c.args.tokens.now in
+    let os = c.args.self.now.outlines.items in
+    let db = statements text ws os in
+    let s = statement_of text ws c.args.outline in
+    let k = c.requires.kept in
+    let next = c.requires.next in
+    let b = lists c.args.self.now.scope.blocks.of.items c.args.self.now.scope.blocks.ends.items c.args.self.now.scope.blocks.open.items in
+    let few = next.few in
+    let few_blocks : length db < never = omega (arith, few) in
+    let fault = c.in_ok-self.ensures.fault (names_before db (length db)) (knows_is db (find c.args.self.now.scope.names.symbols) (find c.args.self.now.scope.names.labels) b k.keeps few_blocks) in
+    fault ∙ ap (λ n. least (scope_faults (names_before db n) c.args.deep s)) (length-map os (statement_of text ws))
+
+pub returns-clause-taken : goal.returns-clause-taken
+returns-clause-taken g c none =
+    let text = c.args.text.now in
+    let ws = c.args.tokens.now in
+    let os = c.args.self.now.outlines.items in
+    let db = statements text ws os in
+    let s = statement_of text ws c.args.outline in
+    let k = c.requires.kept in
+    let next = c.requires.next in
+    let b = lists c.args.self.now.scope.blocks.of.items c.args.self.now.scope.blocks.ends.items c.args.self.now.scope.blocks.open.items in
+    let few = next.few in
+    let few_blocks : length db < never = omega (arith, few) in
+    let fault = c.in_ok-self.ensures.fault (names_before db (length db)) (knows_is db (find c.args.self.now.scope.names.symbols) (find c.args.self.now.scope.names.labels) b k.keeps few_blocks) in
+    let names = names-next db s (names_of c.add.new.self.names.symbols) (c.in_ok-add.ensures.names (declared db) k.names_are) in
+    let more = taken-numbers db s c.args.self.now.formulas.numbers.items c.fault.new.numbers.items c.number_others.new.numbers.items (names_of c.args.self.now.scope.names.symbols) (names_of c.add.new.self.names.symbols) k.names_are names c.in_ok-self.ensures.numbers c.in_ok-number_others.ensures in
+    let at : c.len.result ≡ length c.number_others.new.numbers.items = c.len.ensures ∙ c.number_others.new.numbers.ok.0 in
+    let formulas = formulas-more db next.lawful s c.args.self.now.formulas.numbers.items c.args.self.now.formulas.places.items k.formulas c.number_others.new.numbers.items more c.len.result at in (
+      c.in_ok-push-2.ensures.items,
+      record {
+        keeps = c.in_ok-add.ensures.keeps db k.keeps (ap (λ d. least (scope_faults (names_before db (length db)) d s)) (sym next.depth_is) ∙ sym fault ∙ none) next.inside;
+        names_are = names;
+        formulas = subst (λ (ps : List ℕ). AreFormulas (db ++ s ∷ []) c.number_others.new.numbers.items ps) (sym c.in_ok-push.ensures.items) formulas;
+      },
+    )
