@@ -5,6 +5,7 @@ use Rattle.std.proofs.lemmas.Grind.{flat_map-append}
 use Rattle.std.proofs.lemmas.Bool.{cases_lt}
 use Rattle.std.proofs.lemmas.Option.{slice_get_within, slice_get-get_or}
 use Rattle.std.proofs.Math.Seq.{drop-append_seam, take-append_seam}
+use Rattle.std.specs.Option.{option_map}
 use Rattle.std.specs.Map.{keys_of}
 use Rattle.indexmap.specs.IndexMap.{insert_entry}
 use Rattle.mm_spec.specs.Text.{Word, Token, is_in, words}
@@ -273,3 +274,9 @@ name-at [] zero k v w h e = absurd (let q : None ≡ Some w = e in cc)
 name-at [] (suc i) k v w h e = absurd (let q : None ≡ Some w = e in cc)
 name-at (x ∷ es) zero k v w h e = let p : Some x ≡ Some (k, v) = h in let q : Some x.0.now ≡ Some w = e in let r : x ≡ (k, v) = cc in let s : x.0.now ≡ w = cc in ap (λ y. y.0.now) (sym r) ∙ s
 name-at (x ∷ es) (suc i) k v w h e = name-at es i k v w h e
+
+pub got-name : {V : Type 0} (es : List (Bor Word × V)) (i : ℕ) (k : Bor Word) (v : V) → slice_get es i ≡ Some (k, v) → slice_get (map (λ x. x.now) (keys_of es)) i ≡ Some k.now
+got-name [] zero k v h = absurd (let q : None ≡ Some (k, v) = h in cc)
+got-name [] (suc i) k v h = absurd (let q : None ≡ Some (k, v) = h in cc)
+got-name (x ∷ es) zero k v h = ap (option_map (λ y. y.0.now)) h
+got-name (x ∷ es) (suc i) k v h = got-name es i k v h

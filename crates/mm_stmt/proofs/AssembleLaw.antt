@@ -14,7 +14,7 @@ use Rattle.mm_scope.specs.Keeps.{Keeps}
 use Rattle.mm_frame.specs.Tables.{IsSound}
 use Rattle.mm_scope.specs.declared.names.Symbol.{Symbol}
 use Rattle.mm_outline.specs.declared.parts.Outline.{Outline}
-use Rattle.mm_scope.proofs.BoundsLaw.{few-symbols, few-numbers}
+use Rattle.mm_scope.proofs.BoundsLaw.{few-symbols}
 use Rattle.mm_stmt.proofs.SoundLaw.{sound_read}
 
 -- the words lent are those of the text
@@ -24,21 +24,12 @@ is_read text ws vs os lexical fault e f l h = subst (λ x. IsRead (length text) 
 
 module _ (text : List ℕ) (ws : List Word) (os : List Outline) (lexical fault : Option Fault) (r : IsRead (length text) (lexed text ws lexical) (statements text ws os) fault) (small : length ws < 2 ^ 31) where
   -- there are few symbols
-  pub names_few : (db : List _) (names : List (List ℕ)) (kinds : List Bool) → db ≡ statements text ws os → AreSymbols db names kinds → length names < 2 ^ 31
-  names_few db names kinds e s =
-      let n = ap length s.names_are in
-      let m = ap (λ d. length (symbol_names d)) e in
-      let f = few-symbols (length text) (lexed text ws lexical) (statements text ws os) fault r in
+  pub names_few : (names : List (List ℕ)) → names ≡ symbol_names (statements text ws os) → length names < 2 ^ 31
+  names_few names e =
+      let n = ap length e in
+      let f = few-symbols (lexed text ws lexical).tokens r.is_row.rest r.row r.is_row.splits (statements text ws os) r.rest r.splits in
       let w = length-map ws (token_of text) in
-      omega (arith, n, m, f, w, small)
-
-  -- their numbers are few
-  pub numbers_few : (i : ℕ) → length (flat_map (formula_of (statements text ws os)) (statements text ws (take i os))) < 2 ^ 31
-  numbers_few i =
-      let f = few-numbers (length text) (lexed text ws lexical) (statements text ws os) fault r (statements text ws os) i in
-      let e = ap (λ l. length (flat_map (formula_of (statements text ws os)) l)) (take-map (statement_of text ws) i os) in
-      let w = length-map ws (token_of text) in
-      omega (arith, f, e, w, small)
+      omega (arith, n, f, w, small)
 
   -- they are sound
   pub sound : (look : List ℕ → Option Symbol) (labels : List ℕ → Option ℕ) (b : Lists) → Keeps (statements text ws os) look labels b → length os < 2 ^ 31 → IsSound (statements text ws os)

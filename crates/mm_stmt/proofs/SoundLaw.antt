@@ -1,6 +1,10 @@
 -- The statements that reading keeps are sound.
-use Rattle.std.proofs.Common.{◌≡◌, ℕ, ◌<◌, ◌^◌, Bool, true, false, not, List, All, length, get_or, Option, None, Some, refl, sym, ap, ◌∙◌, true≢false}
+use Rattle.std.proofs.Common.{◌≡◌, ℕ, ◌<◌, ◌^◌, Bool, true, false, not, List, All, length, get_or, slice_get, flat_map, [], Option, None, Some, refl, sym, ap, ◌∙◌, true≢false}
 use Rattle.std.proofs.lemmas.Option.{slice_get-get_or}
+use Rattle.mm_spec.specs.Text.{is_in}
+use Rattle.mm_spec.specs.Scope.{variables_of}
+use Rattle.mm_outline.specs.Numbered.{AreSymbols}
+use Rattle.mm_scope.specs.Names.{is_variable_in}
 use Rattle.mm_spec.specs.Statement.{Statement, opening}
 use Rattle.mm_spec.specs.Lawful.{scope_fault}
 use Rattle.mm_spec.specs.Frame.{symbol_names, formula_at}
@@ -40,3 +44,19 @@ pub sound_read : (len : ℕ) (x : Lexed) (db : List Statement) (fault : Option F
 sound_read len x db fault r look labels b keeps few =
     let lawful = lawful_is len x db fault r in
     sound_is db look labels b keeps few lawful (λ k h. symbols-known db lawful k h (get_or db k (opening 0)) (slice_get-get_or db k (opening 0) h))
+
+-- the marks of the variables are those that the map has
+known_as : (x : Option Symbol) → is_variable_in x ≡ is_variable_entry (entry_of x)
+known_as None = refl
+known_as (Some s) = refl
+
+pub are_symbols : (db : List Statement) (look : List ℕ → Option Symbol) (labels : List ℕ → Option ℕ) (b : Lists) → Keeps db look labels b → (names : List (List ℕ)) (kinds : List Bool) → names ≡ symbol_names db → length kinds ≡ length names
+    → ((s : ℕ) (w : List ℕ) → slice_get names s ≡ Some w → get_or kinds s false ≡ is_variable_in (look w)) → AreSymbols db names kinds
+are_symbols db look labels b x names kinds e n h = record {
+  names_are = e;
+  count = n;
+  variable = λ s l.
+      let w = get_or names s [] in
+      let there = slice_get-get_or names s [] l in
+      h s w there ∙ known_as (look w) ∙ sym (x.symbols w).variable ∙ ap (λ o. elim o [ None ↦ false | Some w ↦ is_in w (flat_map variables_of db) ]) (sym there ∙ ap (λ l. slice_get l s) e);
+}

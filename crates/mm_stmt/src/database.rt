@@ -20,8 +20,7 @@ use mm_frame::members::{Members, are_together};
 use mm_outline::blocks::Blocks;
 use mm_outline::parts::{Kind, Outline};
 use mm_outline::symbol::Sym;
-use mm_scope::names::Map;
-use mm_scope::symbols::SymbolNames;
+use mm_scope::names::{Map, Symbol};
 use mm_spec::{Fault, Word};
 use std::alloc::Allocator;
 use std::marker::Model;
@@ -35,7 +34,7 @@ pub struct Database<'a, A: Allocator> {
     pub(crate) fault: Option<Fault>,
     pub(crate) blocks: Blocks<A>,
     pub(crate) labels: Map<'a, u32, A>,
-    pub(crate) names: SymbolNames<'a, A>,
+    pub(crate) symbols: Map<'a, Symbol<'a>, A>,
     pub(crate) variables: Vec<bool, A>,
     pub(crate) numbers: Vec<Sym, A>,
     pub(crate) places: Vec<u32, A>,
@@ -49,7 +48,7 @@ pub struct Database<'a, A: Allocator> {
 impl<'a, A: Allocator> Model for Database<'a, A> {
     ghost use Rattle.std.specs.Prelude.{map};
     ghost use Rattle.mm_spec.specs.Derivation.{pair};
-    ghost use Rattle.mm_scope.specs.Names.{find, keys_of};
+    ghost use Rattle.mm_scope.specs.Names.{find, names_of};
     ghost use Rattle.mm_outline.specs.Blocks.{lists};
     ghost use Rattle.mm_outline.specs.Statements.{statements};
     ghost use Rattle.mm_stmt.specs.Database.{Known, known, fields, IsDatabase};
@@ -58,7 +57,7 @@ impl<'a, A: Allocator> Model for Database<'a, A> {
 
     ghost view = { λ d. known d.text.now (statements d.text.now d.words.items d.outlines.items) d.fault };
 
-    ghost invariant = { λ d. IsDatabase d.text.now d.words.items d.outlines.items d.fault (fields (lists d.blocks.of.items d.blocks.ends.items d.blocks.open.items) (find d.labels) (keys_of d.names) d.variables.items d.numbers.items d.places.items (map (λ f. f.hyps.items) d.frames.items) (map (λ f. map (λ p. pair p.0 p.1) f.pairs.items) d.frames.items) d.members.pairs.items d.members.skips.items d.theorems.items d.axioms.items d.spaced.bytes.items d.spaced.starts.items) };
+    ghost invariant = { λ d. IsDatabase d.text.now d.words.items d.outlines.items d.fault (fields (lists d.blocks.of.items d.blocks.ends.items d.blocks.open.items) (find d.labels) (names_of d.symbols) d.variables.items d.numbers.items d.places.items (map (λ f. f.hyps.items) d.frames.items) (map (λ f. map (λ p. pair p.0 p.1) f.pairs.items) d.frames.items) d.members.pairs.items d.members.skips.items d.theorems.items d.axioms.items d.spaced.bytes.items d.spaced.starts.items) };
 }
 
 impl<'a, A: Allocator> Database<'a, A> {
@@ -161,7 +160,10 @@ impl<'a, A: Allocator> Database<'a, A> {
         requires { symbol < length (symbol_names self.now.statements) }
         ensures { slice_get (symbol_names self.now.statements) symbol ≡ Some result.now }
     {
-        self.names.as_slice()[symbol.number() as usize]
+        match self.symbols.get_index(symbol.number() as usize) {
+            Some((name, _)) => *name,
+            None => unreachable!("each symbol has a name"),
+        }
     }
 
     /// Whether a symbol is a variable.

@@ -7,28 +7,24 @@ use crate::database::Database;
 use crate::spaced::spaced_labels_of;
 use mm_frame::frames::gather;
 use mm_frame::tables::Tables;
-use mm_spec::Lexed;
-use mm_scope::numbers::numbers_of;
 use mm_scope::reading::outline;
-use mm_scope::symbols::symbols_of;
+use mm_spec::Lexed;
 use std::alloc::{AllocError, Allocator};
 
 /// The statements of a text before its first fault of words, shape, symbols, labels or scope, and that fault (sections
-/// 4.1 and 4.2 of the Metamath book). The tokens and the fault lent are those of this text; it is refused for memory
-/// alone.
+/// 4.1 and 4.2 of the Metamath book). The tokens and the fault are those of this text; it is refused for memory alone.
 pub fn read<'a, A: Allocator + Copy>(
     alloc: A,
     text: &'a [u8],
-    lexed: &Lexed<A>,
+    lexed: Lexed<A>,
 ) -> Result<Database<'a, A>, AllocError>
-    requires tokens { lexed.now.tokens.items ≡ tokens_of text.now }
-    requires fault { lexed.now.fault ≡ lexical_fault text.now }
+    requires tokens { lexed.tokens.items ≡ tokens_of text.now }
+    requires fault { lexed.fault ≡ lexical_fault text.now }
     ensures { IfOk result (λ database. database.text ≡ text.now) }
 {
-    let words = lexed.tokens.to_vec(alloc)?;
+    let words = lexed.tokens;
     let read = outline(alloc, text, &words, lexed.fault)?;
-    let symbols = symbols_of(alloc, text, &words, &read.outlines)?;
-    let numbered = numbers_of(alloc, text, &words, &read.outlines, &symbols)?;
+    let variables = read.scope.names.variables(alloc)?;
     let beside = gather(
         alloc,
         &Tables::new(
@@ -36,9 +32,9 @@ pub fn read<'a, A: Allocator + Copy>(
             &words,
             &read.outlines,
             &read.scope.blocks,
-            &numbered.numbers,
-            &numbered.places,
-            &symbols.variables,
+            &read.formulas.numbers,
+            &read.formulas.places,
+            &variables,
         ),
         &read.scope.blocks,
     )?;
@@ -50,10 +46,10 @@ pub fn read<'a, A: Allocator + Copy>(
         fault: read.fault,
         blocks: read.scope.blocks,
         labels: read.scope.names.labels,
-        names: symbols.names,
-        variables: symbols.variables,
-        numbers: numbered.numbers,
-        places: numbered.places,
+        symbols: read.scope.names.symbols,
+        variables,
+        numbers: read.formulas.numbers,
+        places: read.formulas.places,
         frames: beside.frames,
         members: beside.members,
         theorems: beside.theorems,
