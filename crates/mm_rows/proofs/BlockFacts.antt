@@ -8,7 +8,7 @@ use Rattle.std.proofs.lemmas.Simd.{length-zip2, get_or-zip2, bit_mask_l, get_or-
 use Rattle.std.proofs.Math.Nat.{mul_comm}
 use Rattle.std.specs.Int.{bit_at}
 use Rattle.mm_rows.specs.Bits.{is_bit, words_for, spot, AreTurned}
-use Rattle.mm_rows.specs.Chains.{row_at}
+use Rattle.mm_rows.specs.BitRows.{row_at}
 use Rattle.mm_rows.specs.Blocks.{in_row, IsColumnWord, AreRowBytes, Written}
 use Rattle.mm_rows.proofs.BitFacts.{or_bits}
 use Rattle.mm_rows.proofs.TurnFacts.{spot_word, spot_bit, row_bit, row_length}

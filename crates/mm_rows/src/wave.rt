@@ -3,9 +3,11 @@
 ghost use Rattle.std.specs.Prelude.{◌≡◌, ◌<◌, ◌≤◌, ◌+◌, ◌*◌, ℕ, List, length, slice_index, slice_index_or, IfOk, OnOk, All};
 ghost use Rattle.std.specs.List.{AllZip, range_with_len};
 ghost use Rattle.mm_rows.specs.Bits.{words_for};
-ghost use Rattle.mm_cites.specs.Citing.{IsRising, theorem_at};
-ghost use Rattle.mm_rows.specs.Chains.{IsBitRow, IsReady, AreBitRows, IsMatrix, row_at};
-ghost use Rattle.mm_rows.specs.Waves.{IsWave, AreWaves, IsByWave, AreMade};
+ghost use Rattle.mm_cites.specs.Citing.{Cites, IsRising, theorem_at};
+ghost use Rattle.mm_spec.specs.Chains.{IsWave};
+ghost use Rattle.mm_rows.specs.BitRows.{IsBitRow, IsReady, AreBitRows, row_at};
+ghost use Rattle.mm_rows.specs.Marks.{IsMatrix};
+ghost use Rattle.mm_rows.specs.Waves.{IsTheorem, AreWaves, IsByWave, AreMade};
 
 use crate::columns::Columns;
 use crate::rows::{bit_row, finish, place};
@@ -19,7 +21,7 @@ use std::thread::Threads;
 fn next_wave<A: Allocator>(citations: &Citations<A>, waves: &[u32], i: u32) -> u32
     requires within { i < length citations.now.theorems }
     requires waves { AreWaves citations.now i waves.now }
-    ensures wave { IsWave citations.now (theorem_at citations.now i) result }
+    ensures wave { IsWave (Cites citations.now) (IsTheorem citations.now) (theorem_at citations.now i) result }
     ensures small { result ≤ i }
 {
     let mut wave = 0u32;

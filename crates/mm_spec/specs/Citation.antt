@@ -1,6 +1,6 @@
 -- What a proof may use, and which theorems are valid (Metamath book, section 4.1.4); on which assertions a theorem rests
 -- (this project's own).
-use Rattle.std.specs.Prelude.{◌≡◌, ℕ, zero, suc, ◌≤◌, Bool, true, false, List, [], ◌∷◌, map, Option, Some, None, slice_get, IsTrue}
+use Rattle.std.specs.Prelude.{◌≡◌, ℕ, Bool, true, false, List, [], map, Option, Some, None, slice_get, IsTrue}
 use Rattle.std.specs.List.{list_any}
 use Rattle.mm_spec.specs.Text.{Fault}
 use Rattle.mm_spec.specs.Statement.{Statement, floating, essential, axiomatic, provable}
@@ -10,6 +10,7 @@ use Rattle.mm_spec.specs.Derivation.{Context, Rule, hypothesis, assertion, Trees
 use Rattle.mm_spec.specs.Steps.{PlacedStep}
 use Rattle.mm_spec.specs.Proof.{steps, reading_faults}
 use Rattle.mm_spec.specs.Valid.{Derives}
+use Rattle.mm_spec.specs.Chains as chain
 
 -- what an active statement stands for in a proof
 abbrev pub rule_of : List Statement → ℕ → Statement → Option Rule
@@ -51,19 +52,13 @@ IsValid db k = (reading_faults_at db k ≡ []) × (d : Trees) × IsProof db k d
 abbrev pub Cites : List Statement → ℕ → ℕ → Type 0
 Cites db t a = IsTrue (list_any is_assertion (statement_at db a)) × (d : Trees) × IsProof db t d × IsTrue (is_member (postfix d) a)
 
--- a chain of citations from t through the assertions between to a
-abbrev pub IsChain : List Statement → ℕ → List ℕ → ℕ → Type 0
-IsChain db t [] a = Cites db t a
-IsChain db t (b ∷ between) a = Cites db t b × IsChain db b between a
-
--- the cell of a theorem and an axiom is marked
+-- the cell of a theorem and an axiom is marked: a chain of citations leads from the one to the other
 abbrev pub RestsOn : List Statement → ℕ → ℕ → Type 0
-RestsOn db t a = (between : List ℕ) × IsChain db t between a
+RestsOn db t a = chain.RestsOn (Cites db) t a
 
--- a chain of so many citations from t on, through theorems alone
-abbrev pub TheoremChain : List Statement → ℕ → ℕ → Type 0
-TheoremChain db t zero = Unit {0}
-TheoremChain db t (suc n) = (b : ℕ) × Cites db t b × IsTrue (list_any is_theorem (statement_at db b)) × TheoremChain db b n
+abbrev pub IsTheorem : List Statement → ℕ → Type 0
+IsTheorem db b = IsTrue (list_any is_theorem (statement_at db b))
 
+-- the longest chain of citations from t through theorems alone has so many
 abbrev pub IsWave : List Statement → ℕ → ℕ → Type 0
-IsWave db t n = TheoremChain db t n × ((m : ℕ) → TheoremChain db t m → m ≤ n)
+IsWave db t n = chain.IsWave (Cites db) (IsTheorem db) t n

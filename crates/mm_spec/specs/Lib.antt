@@ -17,6 +17,7 @@ pub mod NormalProof
 pub mod CompressedProof
 pub mod Proof
 pub mod Valid
+pub mod Chains
 pub mod Citation
 pub mod Report
 pub mod Output

@@ -8,12 +8,11 @@ use Rattle.mm_spec.specs.Statement.{Statement}
 use Rattle.mm_spec.specs.Citation as proof
 use Rattle.mm_spec.specs.Report.{Row, Choice, report}
 use Rattle.mm_spec.specs.Output.{IsRowOf, theorems, columns, label_at, lexed_of, HasNoFault, IsOutput}
-use Rattle.mm_work.specs.Citing.{Citing, theorem_at}
-use Rattle.mm_rows.specs.Chains.{Marks, mark, IsMatrix}
-use Rattle.mm_work.specs.Judged.{Shows}
-use Rattle.mm_rows.proofs.ShowsFacts.{alike}
+use Rattle.mm_spec.proofs.Chains.{chains_alike}
+use Rattle.mm_work.specs.Citing.{Citing, Cites, theorem_at}
+use Rattle.mm_rows.specs.Marks.{Marks, mark, IsMatrix}
 use Rattle.mm_report.specs.Rows.{row_of, rows_of, marks_of, report_of}
-use Rattle.mm_work.specs.Judged.{AllCited}
+use Rattle.mm_work.specs.Judged.{AllCited, Shows}
 
 -- two lists agree at each place
 pub zip-at : {A B : Type 0} (R : A → B → Type 0) (xs : List A) (ys : List B) (d : A) (e : B) → length xs ≡ length ys → ((i : ℕ) → i < length xs → R (get_or xs i d) (get_or ys i e)) → AllZip R xs ys
@@ -33,7 +32,7 @@ module _ (db : List Statement) (c : Citing) (axioms : List ℕ) (m : Marks) (sam
       zip-at (λ a b. Decides b (proof.RestsOn db (get_or (theorems db) i 0) a)) axioms (marks_of m i) 0 false (omega (arith, n, w))
       (λ j k.
       let inside : i < length c.theorems = subst (λ (ts : List ℕ). i < length ts) (sym same) l in
-      let d = decides (mark m i j) (h.marked i j inside k) (alike db c shows (theorem_at c i) (get_or axioms j 0)) in
+      let d = decides (mark m i j) (h.marked i j inside k) (chains_alike (Cites c) (proof.Cites db) shows.same (theorem_at c i) (get_or axioms j 0)) in
       subst (λ b. Decides b (proof.RestsOn db (get_or (theorems db) i 0) (get_or axioms j 0))) (sym (get_or-map-range_with_len (mark m i) 0 m.columns j j false (omega (arith, k, w)) (omega arith)))
       (subst (λ t. Decides (mark m i j) (proof.RestsOn db t (get_or axioms j 0))) (ap (λ ts. get_or ts i 0) same) d))
 

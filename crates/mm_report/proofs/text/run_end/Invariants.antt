@@ -1,5 +1,5 @@
 use Rattle.std.proofs.Common.{ℕ, ◌≡◌, ◌<◌, ◌≤◌, true}
-use Rattle.mm_rows.specs.Chains.{mark}
+use Rattle.mm_rows.specs.Marks.{mark}
 use Rattle.mm_report.proofs.text.run_end.Given as goal
 
 abbrev pub invariant-loop-end : goal.invariant-loop-end

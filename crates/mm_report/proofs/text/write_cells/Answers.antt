@@ -3,7 +3,7 @@ use Rattle.std.specs.List.{range_with_len}
 use Rattle.std.proofs.lemmas.List.{map_push, length-set, take_more_set}
 use Rattle.std.proofs.lemmas.List.FromFn.{map-range_with_len_more}
 use Rattle.mm_spec.specs.Report.{digit_of}
-use Rattle.mm_rows.specs.Chains.{mark}
+use Rattle.mm_rows.specs.Marks.{mark}
 use Rattle.mm_report.proofs.text.write_cells.Goals as goal
 
 pub loop-k-preserved : goal.loop-k-preserved

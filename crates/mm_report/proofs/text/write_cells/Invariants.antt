@@ -1,7 +1,7 @@
 use Rattle.std.proofs.Common.{◌≡◌, ◌≤◌, ◌+◌, length, map, take}
 use Rattle.std.specs.List.{range_with_len}
 use Rattle.mm_spec.specs.Report.{digit_of}
-use Rattle.mm_rows.specs.Chains.{mark}
+use Rattle.mm_rows.specs.Marks.{mark}
 use Rattle.mm_report.proofs.text.write_cells.Given as goal
 
 abbrev pub invariant-loop-k : goal.invariant-loop-k

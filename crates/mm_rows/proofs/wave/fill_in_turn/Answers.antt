@@ -1,5 +1,5 @@
 use Rattle.std.proofs.Common.{ℕ, ◌≡◌, ◌∙◌, get_or, subst, arith, refl}
-use Rattle.mm_rows.specs.Chains.{row_at}
+use Rattle.mm_rows.specs.BitRows.{row_at}
 use Rattle.mm_rows.proofs.WaveFacts.{made_more, ready_still}
 use Rattle.mm_rows.proofs.wave.fill_in_turn.Goals as goal
 

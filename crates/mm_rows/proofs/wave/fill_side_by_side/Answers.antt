@@ -1,7 +1,7 @@
 use Rattle.std.proofs.Common.{ℕ, ◌≡◌, ◌∙◌, ◌+◌, ◌*◌, length, get_or, subst, sym, ap, arith, refl}
 use Rattle.std.specs.Prelude.{IfOk}
 use Rattle.mm_cites.specs.Citing.{theorem_at}
-use Rattle.mm_rows.specs.Chains.{IsBitRow, row_at}
+use Rattle.mm_rows.specs.BitRows.{IsBitRow, row_at}
 use Rattle.mm_rows.proofs.TurnFacts.{row_end}
 use Rattle.mm_rows.proofs.WaveFacts.{made_more, zip_at}
 use Rattle.mm_rows.proofs.wave.fill_side_by_side.Goals as goal

@@ -1,6 +1,6 @@
 use Rattle.std.proofs.Common.{ℕ, List, ◌≡◌, ◌<◌, ◌≤◌, ◌+◌, ◌-◌, ◌∙◌, slice_range, length, get_or, subst, sym, ap, arith}
 use Rattle.std.proofs.lemmas.Grind.{get_or_default_zero}
-use Rattle.mm_rows.specs.Chains.{IsReady}
+use Rattle.mm_rows.specs.BitRows.{IsReady}
 use Rattle.mm_rows.proofs.WaveFacts.{wave_ready, made_wave, made_all, part_length, part_at}
 use Rattle.mm_rows.proofs.wave.fill_waves.Goals as goal
 

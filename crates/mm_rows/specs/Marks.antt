@@ -1,0 +1,30 @@
+-- A table of marks, and what it says of chains of citations.
+use Rattle.std.specs.Prelude.{Option, Some, None, ◌≡◌, ℕ, ◌+◌, ◌<◌, Bool, false, List, [], length, slice_index, slice_index_or, Decides}
+use Rattle.mm_spec.specs.Chains.{RestsOn}
+use Rattle.mm_cites.specs.Citing.{Citing, Cites, theorem_at}
+
+-- so many rows and columns, and for each row whether it is marked in each column
+pub record Marks : Type 0 where
+  pub rows : ℕ
+  pub columns : ℕ
+  pub cells : List (List Bool)
+
+-- whether a row is marked in a column
+abbrev pub mark : Marks → ℕ → ℕ → Bool
+mark m i j = slice_index_or (slice_index_or m.cells i []) j false
+
+-- above a number, if there is one
+abbrev pub IsAbove : Option ℕ → ℕ → Type 0
+IsAbove None k = Unit {0}
+IsAbove (Some i) k = i < k
+
+-- the first number above another, or of all
+abbrev pub start_of : Option ℕ → ℕ
+start_of None = 0
+start_of (Some i) = i + 1
+
+-- a table of the theorems and the columns, with a mark where a chain of citations leads from the one to the other
+pub record IsMatrix (c : Citing) (columns : List ℕ) (m : Marks) : Type 0 where
+  pub rows : m.rows ≡ length c.theorems
+  pub columns_are : m.columns ≡ length columns
+  pub marked : (i j : ℕ) → i < length c.theorems → j < length columns → Decides (mark m i j) (RestsOn (Cites c) (theorem_at c i) (slice_index columns j))
