@@ -1,0 +1,17 @@
+pub mod Reader
+pub mod Examples
+pub mod Vectors
+pub mod Outputs
+pub mod GrammarLaw
+pub mod Judged
+pub mod OneOutput
+pub mod TheoremLaw
+pub mod SomeReading
+pub mod SomeFault
+pub mod Rests
+pub mod SomeOutput
+pub mod Waves
+pub mod Spelling
+pub mod SpelledSteps
+pub mod WellSpelled
+pub mod Numerals
