@@ -9,7 +9,8 @@ use Rattle.mm_spec.specs.Valid.{code_of, Plain, IsPlain, Derives, StepFault, End
 use Rattle.mm_spec.proofs.Machine.{Failed}
 use Rattle.mm_spec.proofs.Steps.{run_steps, AreGoodSteps, StoppedStep, RanSteps, means_steps}
 use Rattle.mm_spec.specs.Complete.{IsFine}
-use Rattle.mm_spec.proofs.Checked.{same_row, plain_unique, excludes}
+use Rattle.mm_spec.proofs.Checked.{same_row, plain_unique}
+use Rattle.mm_laws.proofs.Excluded.{excludes}
 use Rattle.mm_spec.specs.declared.Code.TheVariants.{NotOneEntry, OtherFormula}
 
 abbrev steps_of : List PlacedStep → List Step

@@ -3,6 +3,8 @@ pub mod Examples
 pub mod Vectors
 pub mod Outputs
 pub mod GrammarLaw
+pub mod Exact
+pub mod Excluded
 pub mod Judged
 pub mod OneOutput
 pub mod TheoremLaw

@@ -19,10 +19,11 @@ use Rattle.mm_spec.specs.Report.{Choice, Row, report, refusal}
 use Rattle.mm_spec.specs.declared.Code.{Code}
 use Rattle.mm_spec.specs.Output.{Lexed, lexed_of, TextFault, Stops, IsRead, ProofFault, end_of, is_theorem_at, AreValid, FirstProofFault, FirstFault, HasNoFault, theorems, columns, label_at, IsRowOf, IsOutput}
 use Rattle.mm_spec.proofs.Machine.{IsGood}
-use Rattle.mm_spec.proofs.Exact.{stops}
+use Rattle.mm_laws.proofs.Exact.{stops}
 use Rattle.mm_spec.specs.Complete.{IsFine, AreComplete}
 use Rattle.mm_spec.proofs.CompleteLaw.{reads_complete}
-use Rattle.mm_spec.proofs.Checked.{same_row, plain_unique, excludes}
+use Rattle.mm_spec.proofs.Checked.{same_row, plain_unique}
+use Rattle.mm_laws.proofs.Excluded.{excludes}
 use Rattle.mm_laws.proofs.Judged.{stopped, no_step_fault, no_end_fault, no_both_faults}
 use Rattle.mm_spec.proofs.RowLaw.{longest_unique}
 use Rattle.mm_spec.specs.declared.Code.TheVariants.{OpenStatement, OpenBlock}

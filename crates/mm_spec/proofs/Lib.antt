@@ -1,6 +1,5 @@
 pub mod Unify
 pub mod Machine
-pub mod Exact
 pub mod Unique
 pub mod Steps
 pub mod Checked
