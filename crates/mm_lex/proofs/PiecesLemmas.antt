@@ -13,8 +13,7 @@ use Rattle.mm_lex.specs.Inners.{carried}
 use Rattle.mm_spec.specs.Words.{words_of}
 use Rattle.mm_lex.specs.Stretches.{IsUnbroken, IsBroken, joined_word}
 use Rattle.mm_lex.proofs.StretchesLaw.{join-words, join-broken, join-unbroken_broken, join-broken_unbroken, join-unbroken, whole-broken}
-use Rattle.mm_spec.proofs.ReadingsLemmas.{reading-opening, reading-closing, reading-comment, reading-faulty, reading-end}
-use Rattle.mm_spec.proofs.GrammarLaw.{reading-append, reading-one, go_on-with_tokens}
+use Rattle.mm_spec.proofs.ReadingsLemmas.{reading-opening, reading-closing, reading-comment, reading-faulty, reading-end, reading-append, reading-one, go_on-with_tokens}
 
 pub none_from : {X : Type 0} (o : Option X) → is_some o ≡ false → o ≡ None
 none_from None h = refl

@@ -19,8 +19,7 @@ use Rattle.mm_spec.specs.Readings.{reading, bytes_of}
 use Rattle.mm_spec.specs.Lexed.{tokens_of, lexical_fault}
 use Rattle.mm_spec.specs.Output.{lexed_of}
 use Rattle.mm_spec.proofs.WordsLaw.{words_of-AreWords}
-use Rattle.mm_spec.proofs.ReadingsLemmas.{reading-opening, reading-closing, reading-comment, reading-faulty, reading-end}
-use Rattle.mm_spec.proofs.GrammarLaw.{reading-one}
+use Rattle.mm_spec.proofs.ReadingsLemmas.{reading-opening, reading-closing, reading-comment, reading-faulty, reading-end, reading-one}
 use Rattle.mm_spec.proofs.LexedLemmas.{tokens_of-long, lexical_fault-long, tokens_of-read}
 use Rattle.mm_outline.specs.Parts.{AreWords}
 use Rattle.mm_outline.specs.Statements.{lexed, end_fault_of}

@@ -1,5 +1,6 @@
 -- What rows of bits say of chains of citations.
-use Rattle.std.specs.Prelude.{◌≡◌, ℕ, ◌+◌, ◌*◌, slice_range, ◌<◌, ◌≤◌, false, List, length, slice_index, Decides}
+use Rattle.std.specs.Prelude.{◌≡◌, ℕ, ◌+◌, ◌*◌, slice_range, ◌<◌, ◌≤◌, Bool, false, List, map, length, slice_index, Decides}
+use Rattle.std.specs.List.{range_with_len}
 use Rattle.mm_spec.specs.Chains.{RestsOn}
 use Rattle.mm_cites.specs.Citing.{Citing, Cites, theorem_at, list_at}
 use Rattle.mm_rows.specs.Bits.{is_bit, words_for, spot}
@@ -25,6 +26,10 @@ pub record AreBitRows (c : Citing) (columns : List ℕ) (n : ℕ) (bits : List �
   pub size : length bits ≡ n * words_for (length columns)
   pub each : (r : ℕ) → r < n → IsBitRow c columns (theorem_at c r) (row_at bits (words_for (length columns)) r)
 
+-- the cells of row i of a table of bits
+abbrev pub cells_of : ℕ → List ℕ → ℕ → List Bool
+cells_of columns bits i = map (λ j. is_bit bits (spot (words_for columns) i j)) (range_with_len 0 columns)
+
 -- the marks of a table of bits
 abbrev pub marks : ℕ → ℕ → List ℕ → Marks
-marks rows columns bits = record { rows = rows; columns = columns; is_marked = λ i j. is_bit bits (spot (words_for columns) i j) }
+marks rows columns bits = record { rows = rows; columns = columns; cells = map (cells_of columns bits) (range_with_len 0 rows) }

@@ -1,17 +1,17 @@
 -- A table of marks, and what it says of chains of citations.
-use Rattle.std.specs.Prelude.{Option, Some, None, ◌≡◌, ℕ, ◌+◌, ◌<◌, Bool, List, length, slice_index, Decides}
+use Rattle.std.specs.Prelude.{Option, Some, None, ◌≡◌, ℕ, ◌+◌, ◌<◌, Bool, false, List, [], length, slice_index, slice_index_or, Decides}
 use Rattle.mm_spec.specs.Chains.{RestsOn}
 use Rattle.mm_cites.specs.Citing.{Citing, Cites, theorem_at}
 
--- so many rows and columns, and which rows are marked in which columns
+-- so many rows and columns, and for each row whether it is marked in each column
 pub record Marks : Type 0 where
   pub rows : ℕ
   pub columns : ℕ
-  pub is_marked : ℕ → ℕ → Bool
+  pub cells : List (List Bool)
 
 -- whether a row is marked in a column
 abbrev pub mark : Marks → ℕ → ℕ → Bool
-mark m i j = m.is_marked i j
+mark m i j = slice_index_or (slice_index_or m.cells i []) j false
 
 -- above a number, if there is one
 abbrev pub IsAbove : Option ℕ → ℕ → Type 0

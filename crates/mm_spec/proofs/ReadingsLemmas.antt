@@ -2,8 +2,10 @@
 use Rattle.std.proofs.Common.{◌≡◌, ℕ, Bool, List, [], ◌∷◌, ◌++◌, Option, Some, None, is_some, refl, sym, ap, ◌∙◌, append_assoc, append-nil, length}
 use Rattle.mm_spec.specs.Roles.{role_of, fault_of}
 use Rattle.mm_spec.specs.Words.{words_of, words_between, IsNextWord}
-use Rattle.mm_spec.specs.Readings.{Reading, reading, with_tokens, bytes_of}
+use Rattle.mm_spec.specs.Readings.{Reading, reading, with_tokens, bytes_of, go_on}
 use Rattle.mm_spec.specs.declared.Word.{Word}
+use Rattle.mm_spec.specs.declared.Fault.{Fault}
+use Rattle.mm_spec.specs.declared.Role.{Role}
 use Rattle.mm_spec.specs.declared.Role.TheVariants.{Token, Opening, Closing, Comment, Faulty}
 
 with_tokens-push : (ts : List Word) (w : Word) (r : Reading) → with_tokens ts (with_tokens (w ∷ []) r) ≡ with_tokens (ts ++ w ∷ []) r
@@ -74,3 +76,28 @@ module _ {text : List ℕ} {ts : List Word} {comment : Option ℕ} {at : ℕ} {w
 module _ {text : List ℕ} {ts : List Word} {comment : Option ℕ} {at : ℕ} where
   pub Reads-end : Reads text ts comment at → words_between text at (length text) ≡ [] → reading text None (words_of text) ≡ record { tokens = ts; fault = None; comment = comment }
   Reads-end reads next = reads.same ∙ ap (λ (xs : List Word). with_tokens ts (reading text comment xs)) next ∙ ap (with_tokens ts) (reading-end text comment) ∙ rw append-nil refl
+
+-- ---- one stretch of words after another
+
+pub go_on-with_tokens : (text : List ℕ) (ts ys us : List Word) (f : Option Fault) (c : Option ℕ) →
+    with_tokens ts (go_on text (record { tokens = us; fault = f; comment = c }) ys) ≡ go_on text (record { tokens = ts ++ us; fault = f; comment = c }) ys
+go_on-with_tokens text ts ys us None c = rw append_assoc refl
+go_on-with_tokens text ts ys us (Some f) c = refl
+
+pub reading-one : (text : List ℕ) (c : Option ℕ) (w : Word) (ws : List Word) → role_of (is_some c) (bytes_of text w) ≡ Token →
+    reading text c (w ∷ ws) ≡ with_tokens (w ∷ []) (reading text c ws)
+reading-one text c w ws h = reading-token text [] c w ws h
+
+pub reading-append : (text : List ℕ) (c : Option ℕ) (xs ys : List Word) → reading text c (xs ++ ys) ≡ go_on text (reading text c xs) ys
+reading-append text c [] ys = sym (ap (λ (r : Reading). go_on text r ys) (reading-end text c))
+reading-append text c (x ∷ xs) ys = by (role_of (is_some c) (bytes_of text x)) refl (λ d. reading-append text d xs ys)
+  where
+    by : (r : Role) → role_of (is_some c) (bytes_of text x) ≡ r → ((d : Option ℕ) → reading text d (xs ++ ys) ≡ go_on text (reading text d xs) ys) →
+        reading text c (x ∷ (xs ++ ys)) ≡ go_on text (reading text c (x ∷ xs)) ys
+    by Token h ih = reading-one text c x (xs ++ ys) h ∙ ap (with_tokens (x ∷ [])) (ih c)
+        ∙ go_on-with_tokens text (x ∷ []) ys (reading text c xs).tokens (reading text c xs).fault (reading text c xs).comment
+        ∙ sym (ap (λ (r : Reading). go_on text r ys) (reading-one text c x xs h))
+    by Opening h ih = reading-opening text c x (xs ++ ys) h ∙ ih (Some x.start) ∙ sym (ap (λ (r : Reading). go_on text r ys) (reading-opening text c x xs h))
+    by Closing h ih = reading-closing text c x (xs ++ ys) h ∙ ih None ∙ sym (ap (λ (r : Reading). go_on text r ys) (reading-closing text c x xs h))
+    by Comment h ih = reading-comment text c x (xs ++ ys) h ∙ ih c ∙ sym (ap (λ (r : Reading). go_on text r ys) (reading-comment text c x xs h))
+    by Faulty h ih = reading-faulty text c x (xs ++ ys) h ∙ sym (ap (λ (r : Reading). go_on text r ys) (reading-faulty text c x xs h))

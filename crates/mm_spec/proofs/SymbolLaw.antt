@@ -1,5 +1,5 @@
 -- The symbols of lawful statements are declared.
-use Rattle.std.proofs.Common.{◌≡◌, ℕ, zero, suc, ◌<◌, ◌≤◌, Bool, true, false, ◌&&◌, ◌||◌, not, ◌⊎◌, inl, inr, List, [], ◌∷◌, ◌++◌, map, flat_map, take, length, All, Option, Some, None, slice_get, nat_lt, get_or, refl, sym, ap, ◌∙◌, subst, true≢false, arith, bytes_eq}
+use Rattle.std.proofs.Common.{◌≡◌, ℕ, Bool, true, false, ◌&&◌, ◌||◌, not, ◌⊎◌, inl, inr, List, [], ◌∷◌, ◌++◌, flat_map, length, Some, None, slice_get, nat_lt, refl, sym, ap, ◌∙◌, subst, true≢false, arith, bytes_eq}
 use Rattle.std.specs.List.{list_any}
 use Rattle.std.proofs.lemmas.Bool.{or_cases, or_left, or_right, and_parts}
 use Rattle.std.proofs.lemmas.List.{take_all}
@@ -7,10 +7,9 @@ use Rattle.std.proofs.lemmas.List.Folds.{list_any-append}
 use Rattle.mm_spec.specs.Text.{Word, Token, Fault, fault, is_in, words}
 use Rattle.mm_spec.specs.Statement.{Statement, constants, variables, disjoint, floating, essential, axiomatic, provable, opening, closing, symbols_of}
 use Rattle.mm_spec.specs.Scope.{Names, names_before, depth, active, active_statements, constants_of, variables_of, statement_at}
-use Rattle.mm_spec.specs.Lawful.{when, at, at_each, symbol_codes, disjoint_codes, is_typed, is_typed_otherwise, formula_faults, label_faults, floating_faults, scope_faults, scope_fault, least, IsLawful}
-use Rattle.mm_spec.specs.Frame.{symbol_names, place_of, first_occurrences, formula_at, formula_of}
+use Rattle.mm_spec.specs.Lawful.{when, at, at_each, symbol_codes, disjoint_codes, is_typed, formula_faults, label_faults, floating_faults, scope_faults, least, IsLawful}
 use Rattle.mm_spec.specs.declared.Code.TheVariants.{UndeclaredSymbol, UntypedVariable, BadTypecode, BadFloating, TooFewVariables, UndeclaredVariable, RepeatedVariable}
-use Rattle.mm_spec.proofs.Finds.{any-flat_map, inside_of, formula_at-is, found_at, found_active, same_word, declares, declared_before}
+use Rattle.mm_spec.proofs.Finds.{any-flat_map, inside_of, found_at, found_active, same_word, declares, declared_before}
 use Rattle.mm_spec.proofs.Faultless.{least_none, nil_first, nil_second, at_none, when_none, not_false, each_none}
 
 -- what is known of a symbol of a statement: a constant, an active variable, or one that the statement declares

@@ -1,8 +1,7 @@
 -- The tokens of a text (Metamath book, sections 4.1.1 and 4.1.2), and its lexical fault (this project's own).
-use Rattle.std.specs.Prelude.{◌≡◌, ◌<◌, ◌≤◌, ℕ, List, [], length, nat_lt, if◌then◌else◌, Option, Some, None}
-use Rattle.mm_spec.specs.Words.{words_of, AreWords}
-use Rattle.mm_spec.specs.Readings.{Reading, reading}
-use Rattle.mm_spec.specs.Grammar.{IsReading}
+use Rattle.std.specs.Prelude.{ℕ, List, [], length, nat_lt, if◌then◌else◌, Option, Some, None}
+use Rattle.mm_spec.specs.Words.{words_of}
+use Rattle.mm_spec.specs.Readings.{reading}
 use Rattle.mm_spec.specs.declared.Word.{Word}
 use Rattle.mm_spec.specs.declared.Fault.{Fault}
 use Rattle.mm_spec.specs.declared.Code.TheVariants.{TextTooLong, OpenComment}
@@ -20,9 +19,3 @@ tokens_of text = if nat_lt TEXT_LIMIT (length text) then [] else (reading text N
 unfoldable pub lexical_fault : List ℕ → Option Fault
 lexical_fault text = if nat_lt TEXT_LIMIT (length text) then Some (record { at = 0; code = TextTooLong })
     else fault_in (reading text None (words_of text)).fault (reading text None (words_of text)).comment
-
--- What the tokens and the fault of a text are, in terms of its words and the grammar alone.
-pub record IsLexed (text : List ℕ) (tokens : List Word) (fault : Option Fault) : Type 0 where
-  pub too_long : TEXT_LIMIT < length text → (tokens ≡ []) × (fault ≡ Some (record { at = 0; code = TextTooLong }))
-  pub read : length text ≤ TEXT_LIMIT → (ws : List Word) → AreWords text ws →
-      (r : Reading) × IsReading text ws r × (tokens ≡ r.tokens) × (fault ≡ fault_in r.fault r.comment)

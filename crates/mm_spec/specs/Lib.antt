@@ -4,7 +4,6 @@ pub mod Codes
 pub mod Words
 pub mod Roles
 pub mod Readings
-pub mod Grammar
 pub mod Lexed
 pub mod Statement
 pub mod Table
@@ -22,4 +21,3 @@ pub mod Citation
 pub mod Report
 pub mod Output
 pub mod Complete
-pub mod Laws

@@ -1,81 +1,19 @@
 -- The citations of valid theorems are the database's.
-use Rattle.std.proofs.Common.{◌≡◌, ℕ, zero, suc, ◌+◌, ◌==◌, ◌<◌, ◌≤◌, ◌^◌, Bool, true, false, ◌||◌, ◌⊎◌, inl, inr, List, [], ◌∷◌, ◌++◌, map, length, get_or, slice_get, Option, Some, None, refl, sym, ap, ◌∙◌, subst, arith, true≢false, eqb-true, length-append}
+use Rattle.std.proofs.Common.{◌≡◌, ℕ, zero, suc, ◌+◌, ◌==◌, ◌<◌, ◌≤◌, ◌^◌, true, ◌⊎◌, inl, inr, List, [], ◌∷◌, length, get_or, refl, sym, ap, ◌∙◌, subst, arith, true≢false, eqb-true}
 use Rattle.std.specs.List.{list_any, range_with_len}
 use Rattle.std.proofs.lemmas.Bool.{or_cases, or_left, or_right, and_parts, and_from, cases_lt, eq-eqb}
-use Rattle.std.proofs.lemmas.List.Folds.{list_any-append}
-use Rattle.mm_spec.specs.Statement.{Statement, constants, variables, disjoint, floating, essential, axiomatic, provable, opening, closing}
-use Rattle.mm_spec.specs.Scope.{is_active, statement_at}
-use Rattle.mm_spec.specs.Derivation.{Context, Rule, Trees, none, more, postfix, formulas, AreDerivations, Follows, is_member}
-use Rattle.mm_spec.specs.Valid.{IsPlain}
-use Rattle.mm_spec.specs.Steps.{PlacedStep}
-use Rattle.mm_spec.specs.Proof.{steps}
-use Rattle.mm_spec.specs.Citation.{context_at, rule_at, steps_at, reading_faults_at, is_theorem, is_assertion, IsProof, IsValid}
+use Rattle.mm_spec.specs.Statement.{Statement}
+use Rattle.mm_spec.specs.Scope.{statement_at}
+use Rattle.mm_spec.specs.Derivation.{postfix, is_member}
+use Rattle.mm_spec.specs.Citation.{is_theorem, is_assertion, IsProof, IsValid}
 use Rattle.mm_spec.specs.Citation as proof
 use Rattle.mm_spec.specs.Complete.{AreComplete}
 use Rattle.mm_spec.specs.Output.{theorems, is_theorem_at, AreValid}
-use Rattle.mm_spec.proofs.Finds.{is_before, those-member, found_at, inside_of}
-use Rattle.mm_spec.proofs.TheoremLaw.{proof_unique}
+use Rattle.mm_spec.proofs.Finds.{those-member, found_at, inside_of}
+use Rattle.mm_spec.proofs.Cited.{cited_earlier, proof_theorem, proof_unique}
 use Rattle.mm_cites.specs.Citing.{Citing, citing, Cites, IsRising, IsFileOrder}
 use Rattle.mm_cites.proofs.RisingLaw.{those-rising}
 use Rattle.mm_work.specs.Judged.{IsCited, AreCited, Shows}
-
-member-append : (xs ys : List ℕ) (a : ℕ) → is_member (xs ++ ys) a ≡ (is_member xs a || is_member ys a)
-member-append xs ys a = list_any-append (λ y. a == y) xs ys
-
--- a label of a derivation stands for something
-label_stands : (c : Context) (a : ℕ) (row : Trees) → AreDerivations c row → is_member (postfix row) a ≡ true → c.rule a ≡ None → ⊥
-label_stands c a none d m n = true≢false (sym m)
-label_stands c a (more ts l f cs) d m n =
-    by (or_cases (is_member (postfix ts) a) (is_member (postfix cs ++ l ∷ []) a) (sym (member-append (postfix ts) (postfix cs ++ l ∷ []) a) ∙ m)) (λ h. label_stands c a ts d.0 h n) (λ h. label_stands c a cs d.1 h n)
-  where
-    own : (a == l) ≡ true → ⊥
-    own e = subst (λ (r : Option Rule). Follows c r (formulas cs) f) (ap c.rule (sym (eqb-true a l e)) ∙ n) d.2
-
-    by : (is_member (postfix ts) a ≡ true) ⊎ (is_member (postfix cs ++ l ∷ []) a ≡ true) → (is_member (postfix ts) a ≡ true → ⊥) → (is_member (postfix cs) a ≡ true → ⊥) → ⊥
-    by (inl h) x y = x h
-    by (inr h) x y = go (or_cases (is_member (postfix cs) a) (is_member (l ∷ []) a) (sym (member-append (postfix cs) (l ∷ []) a) ∙ h))
-      where
-        go : (is_member (postfix cs) a ≡ true) ⊎ (((a == l) || false) ≡ true) → ⊥
-        go (inl k) = y k
-        go (inr k) = last (or_cases (a == l) false k)
-          where
-            last : ((a == l) ≡ true) ⊎ (false ≡ true) → ⊥
-            last (inl e) = own e
-            last (inr e) = true≢false (sym e)
-
-module _ (db : List Statement) where
-  -- a theorem cites what is earlier
-  pub cited-earlier : (t a : ℕ) (d : Trees) → IsProof db t d → is_member (postfix d) a ≡ true → a < t
-  cited-earlier t a d p m = by (is_active db a t) refl
-    where
-      by : (b : Bool) → is_active db a t ≡ b → a < t
-      by true e = is_before db a t e
-      by false e = absurd (label_stands (context_at db t) a d p.3 m (ap (λ b. elim b [ false ↦ None | true ↦ elim (slice_get db a) [ None ↦ None | Some s ↦ proof.rule_of db a s ] ]) e))
-
-  -- what has a proof is a theorem
-  no-steps : (t : ℕ) (d : Trees) → steps_at db t ≡ [] → IsProof db t d → ⊥
-  no-steps t d e p =
-      let plain : postfix d ≡ [] = subst (λ (ss : List PlacedStep). IsPlain (context_at db t) (map (λ s. s.step) ss) (postfix d)) e p.4 in
-      let whole = ap length (sym (ap postfix p.2) ∙ plain) in
-      omega (arith, whole, length-append (postfix p.1) (p.0 ∷ []))
-
-  pub proof-theorem : (t : ℕ) (d : Trees) → IsProof db t d → is_theorem_at db t ≡ true
-  proof-theorem t d p = by (slice_get db t) refl
-    where
-      none_of : (o : Option Statement) → slice_get db t ≡ o → ◌≡◌ {A = List PlacedStep} (elim o [ Some (provable l k xs q ps f) ↦ steps db t ps | _ ↦ [] ]) [] → is_theorem_at db t ≡ true
-      none_of o e n = absurd (no-steps t d (ap (λ (o : Option Statement). elim o [ Some (provable l k xs q ps f) ↦ steps db t ps | _ ↦ [] ]) e ∙ n) p)
-
-      by : (o : Option Statement) → slice_get db t ≡ o → is_theorem_at db t ≡ true
-      by None e = none_of None e refl
-      by (Some (provable l k xs q ps f)) e = ap (λ o. list_any is_theorem (elim o [ None ↦ [] | Some s ↦ s ∷ [] ])) e
-      by (Some (constants k xs f)) e = none_of (Some (constants k xs f)) e refl
-      by (Some (variables k xs f)) e = none_of (Some (variables k xs f)) e refl
-      by (Some (disjoint k xs f)) e = none_of (Some (disjoint k xs f)) e refl
-      by (Some (floating l k xs f)) e = none_of (Some (floating l k xs f)) e refl
-      by (Some (essential l k xs f)) e = none_of (Some (essential l k xs f)) e refl
-      by (Some (axiomatic l k xs f)) e = none_of (Some (axiomatic l k xs f)) e refl
-      by (Some (opening k)) e = none_of (Some (opening k)) e refl
-      by (Some (closing k)) e = none_of (Some (closing k)) e refl
 
 -- a member stands at some place
 member-at : (xs : List ℕ) (x : ℕ) → is_member xs x ≡ true → (i : ℕ) × (i < length xs) × (get_or xs i 0 ≡ x)
@@ -145,7 +83,7 @@ module _ (db : List Statement) (few : length db < 2 ^ 31) (complete : AreComplet
           let e = h.each i l in
           let x = get_or (get_or lists i []) k 0 in
           let both = and_parts (is_member (postfix e.checked.derivation) x) (list_any is_assertion (statement_at db x)) (sym (e.checked.exact x) ∙ at-member (get_or lists i []) k m) in
-          cited-earlier db (get_or (theorems db) i 0) x e.checked.derivation e.checked.proof both.0;
+          cited_earlier db (get_or (theorems db) i 0) x e.checked.derivation e.checked.proof both.0;
     }
 
     pub shows : Shows db c
@@ -161,7 +99,7 @@ module _ (db : List Statement) (few : length db < 2 ^ 31) (complete : AreComplet
 
         from : (t a : ℕ) → proof.Cites db t a → Cites c t a
         from t a x =
-            let p = theorem-place db t (proof-theorem db t x.1 x.2) in
+            let p = theorem-place db t (proof_theorem db t x.1 x.2) in
             let e = h.each p.0 p.1 in
             let l = get_or lists p.0 [] in
             let same : e.checked.derivation ≡ x.1 = proof_unique db complete t e.checked.derivation x.1 (subst (λ y. IsProof db y e.checked.derivation) p.2 e.checked.proof) x.2 in

@@ -1,0 +1,5 @@
+use Rattle.mm_spec.proofs.CompleteLaw.{reads_complete}
+use Rattle.mm_laws.proofs.lawful_statements_have_complete_frames.Goals as goal
+
+pub returns : goal.returns
+returns c = reads_complete

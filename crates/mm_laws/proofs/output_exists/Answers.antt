@@ -1,0 +1,5 @@
+use Rattle.mm_laws.proofs.SomeOutput.{output_exists}
+use Rattle.mm_laws.proofs.output_exists.Goals as goal
+
+pub returns : goal.returns
+returns c = output_exists

@@ -1,0 +1,4 @@
+pub mod Grammar
+pub mod Lexing
+pub mod Spelling
+pub mod Laws

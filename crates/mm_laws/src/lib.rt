@@ -1,0 +1,130 @@
+//! What the definitions of `mm_spec` mean, as laws over them. Nothing runs here: each function has an empty body, and its
+//! contract is a law, in the subject's own words. The words of the laws that no definition needs are in `specs/`: the
+//! grammar of tokens and comments, what the letters of a proof spell, and the statements of the laws. No other crate stands
+//! on this one, so that nothing waits for the laws, and a program is built without them.
+//!
+//! No wrong body can be made of an empty one, so there is no folder `must-fail` here: a law is refused only where a
+//! definition is turned. Small texts for which the definitions are worked out stand in `proofs/` (`Examples`, `Vectors`,
+//! `Outputs`).
+#![tactic(auto)]
+
+ghost use Rattle.std.specs.Prelude.{◌≡◌, ◌↔◌, ℕ, List, None};
+ghost use Rattle.mm_spec.specs.Words.{words_of, AreWords};
+ghost use Rattle.mm_spec.specs.Readings.{reading};
+ghost use Rattle.mm_spec.specs.Lexed.{lexical_fault, tokens_of};
+ghost use Rattle.mm_spec.specs.declared.Word.{Word};
+ghost use Rattle.mm_spec.specs.Text.{Token};
+ghost use Rattle.mm_spec.specs.Statement.{Statement, IsLongestRow};
+ghost use Rattle.mm_spec.specs.Table.{statements_of};
+ghost use Rattle.mm_spec.specs.Output.{Lexed};
+ghost use Rattle.mm_spec.specs.Complete.{ReadsComplete};
+ghost use Rattle.mm_laws.specs.Grammar.{IsReading};
+ghost use Rattle.mm_laws.specs.Lexing.{IsLexed};
+ghost use Rattle.mm_laws.specs.Laws.{WhereRead, LabelsDetermine, ProofIsUnique};
+ghost use Rattle.mm_laws.specs.Laws.{IsValidOrFaulty, IsNeverBoth, FaultIsUnique};
+ghost use Rattle.mm_laws.specs.Laws.{IsReadable, IsSoundOrFaulty, AreDecided, HaveWaves};
+ghost use Rattle.mm_laws.specs.Laws.{OutputExists, OutputIsUnique};
+ghost use Rattle.mm_laws.specs.Laws.{PartsAreUnique, SpellingIsUnique, ProofsAreSpelled};
+ghost use Rattle.mm_laws.specs.Laws.{StepsAreNamed, NamedStepsAreUnique, StepsAreLabels};
+ghost use Rattle.mm_laws.specs.Laws.{CompressedIsExact, NormalIsExact};
+ghost use Rattle.mm_laws.specs.Laws.{NumbersHaveOneSpelling, BookNumbers};
+
+/// The words of a text are its longest runs of bytes that aren't white, in order, and no other list is.
+pub fn words_are_the_longest_runs()
+    ensures are { (text : List ℕ) → AreWords text (words_of text) }
+    ensures only { (text : List ℕ) (ws : List Word) → AreWords text ws → ws ≡ words_of text }
+{}
+
+/// A reading follows the grammar of tokens and comments, up to the first word with which the words don't.
+pub fn a_reading_follows_the_grammar()
+    ensures { (text : List ℕ) (ws : List Word) → IsReading text ws (reading text None ws) }
+{}
+
+/// The tokens and the lexical fault of a text are those of its words, read by the grammar.
+pub fn tokens_are_those_of_the_grammar()
+    ensures { (text : List ℕ) → IsLexed text (tokens_of text) (lexical_fault text) }
+{}
+
+/// The statements of a text are the longest row of whole statements, with no `$}` too many, at the beginning of its
+/// tokens, and no other row is.
+pub fn statements_are_the_longest_row()
+    ensures are { (tokens : List Token) → IsLongestRow tokens (statements_of tokens) }
+    ensures only { (tokens : List Token) (row : List Statement) → IsLongestRow tokens row → row ≡ statements_of tokens }
+{}
+
+/// Each variable of a frame of what is read has a `$f` among the frame's mandatory hypotheses: lawful statements have an
+/// active `$f` for each variable of their formulas.
+pub fn lawful_statements_have_complete_frames()
+    ensures { (len : ℕ) (x : Lexed) → ReadsComplete len x }
+{}
+
+/// A derivation is known by its labels in postfix order, and a theorem has one proof at most.
+pub fn labels_determine_a_derivation()
+    ensures labels { WhereRead LabelsDetermine }
+    ensures proof { WhereRead ProofIsUnique }
+{}
+
+/// Each theorem is valid, or its proof has a fault; never both, and it has one fault at most.
+pub fn theorems_are_valid_or_faulty()
+    ensures one_holds { WhereRead IsValidOrFaulty }
+    ensures never_both { WhereRead IsNeverBoth }
+    ensures one_fault { WhereRead FaultIsUnique }
+{}
+
+/// There is at most one output of a text.
+pub fn output_is_unique()
+    ensures { OutputIsUnique }
+{}
+
+/// Each text is read: there are lawful statements, and what stops behind them, if anything does.
+pub fn every_text_is_read()
+    ensures { (len : ℕ) (x : Lexed) → IsReadable len x }
+{}
+
+/// Each text has a first fault, or it has none and all its proofs are valid.
+pub fn texts_are_sound_or_faulty()
+    ensures { (len : ℕ) (x : Lexed) → IsSoundOrFaulty len x }
+{}
+
+/// In a text without faults it is decided whether a theorem rests on a statement.
+pub fn cells_are_decided()
+    ensures { (len : ℕ) (x : Lexed) → AreDecided len x }
+{}
+
+/// There is an output of each text, for each choice of columns and sections.
+pub fn output_exists()
+    ensures { OutputExists }
+{}
+
+/// The words of a compressed proof part in one way into labels and letters. Letters spell one row of numbers and marks at
+/// most, and where reading finds no fault in a compressed proof, its letters spell one.
+pub fn letters_spell_one_row()
+    ensures parts { PartsAreUnique }
+    ensures one { SpellingIsUnique }
+    ensures some { ProofsAreSpelled }
+{}
+
+/// The steps of a compressed proof are what its numbers name: hypotheses, labels in brackets, and marked steps. Those of a
+/// normal proof are its labels.
+pub fn steps_are_what_is_named()
+    ensures compressed { WhereRead StepsAreNamed }
+    ensures one { NamedStepsAreUnique }
+    ensures normal { WhereRead StepsAreLabels }
+{}
+
+/// In a text without faults each theorem has one wave.
+pub fn theorems_have_one_wave()
+    ensures { (len : ℕ) (x : Lexed) → HaveWaves len x }
+{}
+
+/// Reading finds no fault in exactly the proofs that are well formed.
+pub fn well_formed_proofs_are_read()
+    ensures compressed { WhereRead CompressedIsExact }
+    ensures normal { WhereRead NormalIsExact }
+{}
+
+/// Each number from 1 on is spelled by one row of letters: 1 by `A`, 20 by `T`, 21 by `UA`, as in the book.
+pub fn numbers_have_one_spelling()
+    ensures one { NumbersHaveOneSpelling }
+    ensures book { BookNumbers }
+{}

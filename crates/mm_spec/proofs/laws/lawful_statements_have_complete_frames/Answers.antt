@@ -1,5 +1,0 @@
-use Rattle.mm_spec.proofs.CompleteLaw.{reads_complete}
-use Rattle.mm_spec.proofs.laws.lawful_statements_have_complete_frames.Goals as goal
-
-pub returns : goal.returns
-returns c = reads_complete

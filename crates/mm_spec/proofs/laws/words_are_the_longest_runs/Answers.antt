@@ -1,5 +1,0 @@
-use Rattle.mm_spec.proofs.WordsLaw.{words_of-AreWords, AreWords-only}
-use Rattle.mm_spec.proofs.laws.words_are_the_longest_runs.Goals as goal
-
-pub returns : goal.returns
-returns c = record { are = words_of-AreWords; only = AreWords-only }
