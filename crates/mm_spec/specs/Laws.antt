@@ -4,7 +4,7 @@ use Rattle.mm_spec.specs.Text.{Word, Fault}
 use Rattle.mm_spec.specs.Statement.{Statement}
 use Rattle.mm_spec.specs.Derivation.{Trees, AreDerivations, postfix}
 use Rattle.mm_spec.specs.Citation.{context_at, IsProof, IsValid}
-use Rattle.mm_spec.specs.Report.{Choice}
+use Rattle.mm_spec.specs.declared.Choice.{Choice}
 use Rattle.mm_spec.specs.Output.{Lexed, IsRead, ProofFault, end_of, is_theorem_at, IsOutput}
 
 -- what holds at each place of the statements that are read of any text

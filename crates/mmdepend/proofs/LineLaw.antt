@@ -30,11 +30,11 @@ use Rattle.clap.specs.declared.parser.matches.ArgMatches.{ArgMatches}
 use Rattle.clap.specs.declared.error.Error.{Error}
 use Rattle.clap.specs.declared.error.kind.ErrorKind.TheVariants.{OutOfMemory}
 use Rattle.clap.proofs.WalkLemmas.{first_value-rows, list_any-map, one_text-rows}
-use Rattle.mm_spec.specs.Report.{Choice, all, matrix, counts, usage}
+use Rattle.mm_spec.specs.declared.Choice.{Choice}
+use Rattle.mm_spec.specs.declared.Choice.TheVariants.{All, Matrix, Counts, Usage}
 use Rattle.mmdepend.specs.Lines.{IsCommand, IsReportRule, Refuses, command_of, number_rule, only_rule, report_rule, file_rule, report_word, report_words, Says}
 use Rattle.mmdepend.specs.Found.{Finds, HasNumber, HasReport, IsFor}
 use Rattle.mmdepend.proofs.EntryLaw.{Defaulted, default_reads, nothing_in, rule_at, simple_parts}
-use Rattle.mm_report.specs.Choices.{choice_of}
 use Rattle.mmdepend.specs.declared.plan.Cutting.TheVariants.{Count}
 use Rattle.mmdepend.specs.Plans.{IsLawfulCutting, only_of}
 use Rattle.mmdepend.specs.declared.command_line.Line.{Line}
@@ -110,19 +110,19 @@ one_of_words t h = by (or_cases (bytes_eq (codes "all") t) _ h)
     same w e = sym ((bytes_eq-Decides w t).0 e)
 
     last : (bytes_eq (codes "usage") t ≡ true) ⊎ (false ≡ true) → (choice : Choice) × (t ≡ report_word choice)
-    last (inl e) = (usage, same _ e)
+    last (inl e) = (Usage, same _ e)
     last (inr e) = absurd (true≢false (sym e))
 
     third : (bytes_eq (codes "counts") t ≡ true) ⊎ ((bytes_eq (codes "usage") t || false) ≡ true) → (choice : Choice) × (t ≡ report_word choice)
-    third (inl e) = (counts, same _ e)
+    third (inl e) = (Counts, same _ e)
     third (inr e) = last (or_cases (bytes_eq (codes "usage") t) false e)
 
     second : (bytes_eq (codes "matrix") t ≡ true) ⊎ ((bytes_eq (codes "counts") t || (bytes_eq (codes "usage") t || false)) ≡ true) → (choice : Choice) × (t ≡ report_word choice)
-    second (inl e) = (matrix, same _ e)
+    second (inl e) = (Matrix, same _ e)
     second (inr e) = third (or_cases (bytes_eq (codes "counts") t) _ e)
 
     by : (bytes_eq (codes "all") t ≡ true) ⊎ ((bytes_eq (codes "matrix") t || (bytes_eq (codes "counts") t || (bytes_eq (codes "usage") t || false))) ≡ true) → (choice : Choice) × (t ≡ report_word choice)
-    by (inl e) = (all, same _ e)
+    by (inl e) = (All, same _ e)
     by (inr e) = second (or_cases (bytes_eq (codes "matrix") t) _ e)
 
 module _ (names : Bor (List (Bor Text))) where
@@ -259,7 +259,7 @@ digits t = digits_value 10 (without_leading_plus t)
 pub says : (words : List Text) (m : ArgMatches) → Finds words m → (line : Line) (n : ℕ) → line.plan.cuts ≡ Count n
     → option_map digits (one_text (found_of m) (codes "pieces")) ≡ Some n → 1 ≤ n → n ≤ 64
     → option_map digits (one_text (found_of m) (codes "workers")) ≡ Some line.plan.workers → 1 ≤ line.plan.workers → line.plan.workers ≤ 64
-    → only_of line.plan ≡ first_value (found_of m) (codes "only") → first_value (found_of m) (codes "report") ≡ Some (report_word (choice_of line.plan.choice))
+    → only_of line.plan ≡ first_value (found_of m) (codes "only") → first_value (found_of m) (codes "report") ≡ Some (report_word line.plan.choice)
     → option_map string_bytes line.file ≡ first_value (found_of m) (codes "FILE") → Says words line
 says words m f line n cuts pieces least most workers few many only choice file =
     let rows = matches_of f.app words in

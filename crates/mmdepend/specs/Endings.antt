@@ -3,7 +3,6 @@ use Rattle.std.specs.Prelude.{◌++◌, ℕ, List, [], ◌∷◌, take, codes, O
 use Rattle.std.specs.String.{string_bytes}
 use Rattle.std.specs.Io.KnownBytes.{Appends, Keeps}
 use Rattle.clap.specs.Walk.{Text}
-use Rattle.mm_report.specs.Choices.{choice_of}
 use Rattle.mmdepend.specs.Ends.{Ends}
 use Rattle.mmdepend.specs.Ends as run
 use Rattle.mmdepend.specs.Lines.{Refuses, Says}
@@ -25,9 +24,9 @@ module _ {File : Type 0} (remaining : File → Option (List ℕ)) where
   -- A run reads the standard input where the line names no file. Where it names one it reads what was opened, and the
   -- standard input stays as it was.
   abbrev pub Runs : {X : Type 0} → Option X → RunEnd → Line → (before after held holds : Option (List ℕ)) → Type 0
-  Runs None end line before after held holds = Ends end (only_of line.plan) (choice_of line.plan.choice) before after held holds
+  Runs None end line before after held holds = Ends end (only_of line.plan) line.plan.choice before after held holds
   Runs (Some name) end line before after held holds =
-      Keeps before after × ((opened read : File) × Ends end (only_of line.plan) (choice_of line.plan.choice) (remaining opened) (remaining read) held holds)
+      Keeps before after × ((opened read : File) × Ends end (only_of line.plan) line.plan.choice (remaining opened) (remaining read) held holds)
 
   -- what the words ask for, by the ending, and what is read from the standard input and written to the output
   abbrev pub IsEndingOf : List Text → Ending → (before after held holds : Option (List ℕ)) → Type 0

@@ -14,8 +14,8 @@ use Rattle.clap.specs.declared.builder.action.ArgAction.TheVariants.{Set}
 use Rattle.clap.specs.declared.builder.value_parser.ValueParser.TheVariants.{Signed, Names}
 use Rattle.clap.specs.declared.error.kind.ErrorKind.{ErrorKind}
 use Rattle.clap.specs.declared.error.kind.ErrorKind.TheVariants.{DisplayHelp}
-use Rattle.mm_spec.specs.Report.{Choice, all, matrix, counts, usage}
-use Rattle.mm_report.specs.Choices.{choice_of}
+use Rattle.mm_spec.specs.declared.Choice.{Choice}
+use Rattle.mm_spec.specs.declared.Choice.TheVariants.{All, Matrix, Counts, Usage}
 use Rattle.mmdepend.specs.Plans.{IsLawful, only_of}
 use Rattle.mmdepend.specs.declared.plan.Cutting.TheVariants.{Count}
 use Rattle.mmdepend.specs.declared.command_line.Line.{Line}
@@ -24,13 +24,13 @@ use Rattle.mmdepend.specs.declared.command_line.LineRefused.TheVariants.{Help, B
 
 -- the words of `--report`
 abbrev pub report_word : Choice → Text
-report_word all = codes "all"
-report_word matrix = codes "matrix"
-report_word counts = codes "counts"
-report_word usage = codes "usage"
+report_word All = codes "all"
+report_word Matrix = codes "matrix"
+report_word Counts = codes "counts"
+report_word Usage = codes "usage"
 
 abbrev pub report_words : List Text
-report_words = map report_word (all ∷ matrix ∷ counts ∷ usage ∷ [])
+report_words = map report_word (All ∷ Matrix ∷ Counts ∷ Usage ∷ [])
 
 -- an option with a whole number from 1 to 64, 4 where it isn't given
 abbrev pub number_rule : Text → Rule
@@ -79,7 +79,7 @@ pub record IsLine (rows : List Row) (line : Line) : Type 0 where
   pub pieces : (n : ℕ) × (line.plan.cuts ≡ Count n) × (number_of (codes "pieces") rows ≡ Some n)
   pub workers : number_of (codes "workers") rows ≡ Some line.plan.workers
   pub only : first_of (codes "only") rows ≡ only_of line.plan
-  pub choice : first_of (codes "report") rows ≡ Some (report_word (choice_of line.plan.choice))
+  pub choice : first_of (codes "report") rows ≡ Some (report_word line.plan.choice)
   pub file : first_of (codes "FILE") rows ≡ option_map string_bytes line.file
   pub lawful : IsLawful line.plan
 

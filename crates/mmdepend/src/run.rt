@@ -4,7 +4,6 @@ ghost use Rattle.std.specs.Prelude.{◌≡◌, ◌<◌, ◌≤◌, ◌^◌, ℕ,
 ghost use Rattle.mm_spec.specs.Lexed.{lexical_fault, tokens_of};
 ghost use Rattle.mm_spec.specs.Statement.{Statement};
 ghost use Rattle.mm_spec.specs.Output.{lexed_of, FirstFault, HasNoFault, IsRead};
-ghost use Rattle.mm_report.specs.Choices.{choice_of};
 ghost use Rattle.mmdepend.specs.Ends.{Answers, Ends, reading_limit};
 ghost use Rattle.mm_work.specs.Judged.{AllCited, IsFirstFault};
 ghost use Rattle.mmdepend.specs.Plans.{IsLawful, only_of};
@@ -40,7 +39,7 @@ pub enum RunEnd {
 /// Writes the refusal of the text for its first fault.
 fn refuse<A: Allocator, W: Write>(text: &[u8], fault: Fault, plan: &Plan<A>, to: &mut W) -> RunEnd
     requires { FirstFault (length text.now) (lexed_of text.now) fault }
-    ensures { Answers result text.now (only_of plan.now) (choice_of plan.now.choice) (W.contents to.old) (W.contents to.new) }
+    ensures { Answers result text.now (only_of plan.now) plan.now.choice (W.contents to.old) (W.contents to.new) }
 {
     let _ = plan.workers;
     match write_refusal(to, text, &fault) {
@@ -60,7 +59,7 @@ fn report<'a, R: Threads + Sync, A: Allocator + Copy + Send + Sync, W: Write>(
 ) -> RunEnd
     requires sound { HasNoFault (length database.now.text) (lexed_of database.now.text) database.now.statements }
     requires cited { AllCited database.now.statements citations.now }
-    ensures { Answers result database.now.text (only_of plan.now) (choice_of plan.now.choice) (W.contents to.old) (W.contents to.new) }
+    ensures { Answers result database.now.text (only_of plan.now) plan.now.choice (W.contents to.old) (W.contents to.new) }
 {
     let Ok(columns) = Columns::new(alloc, database, plan.typecode()) else {
         return RunEnd::NoMemory;
@@ -84,7 +83,7 @@ fn answer<R: Threads + Wait + Sync, A: Allocator + Copy + Send + Sync, W: Write>
 ) -> RunEnd
     requires few { length text.now ≤ reading_limit }
     requires lawful { IsLawful plan.now }
-    ensures { Answers result text.now (only_of plan.now) (choice_of plan.now.choice) (W.contents to.old) (W.contents to.new) }
+    ensures { Answers result text.now (only_of plan.now) plan.now.choice (W.contents to.old) (W.contents to.new) }
 {
     let Ok(cuts) = plan.cuts.cuts(alloc, text.len()) else {
         return RunEnd::NoMemory;
@@ -119,7 +118,7 @@ pub fn run<R: Threads + Wait + Sync, A: Allocator + Copy + Send + Sync, I: Read,
     to: &mut O,
 ) -> RunEnd
     requires { IsLawful plan.now }
-    ensures { Ends result (only_of plan.now) (choice_of plan.now.choice) (I.remaining from.old) (I.remaining from.new) (O.contents to.old) (O.contents to.new) }
+    ensures { Ends result (only_of plan.now) plan.now.choice (I.remaining from.old) (I.remaining from.new) (O.contents to.old) (O.contents to.new) }
 {
     let mut text = Vec::new(alloc);
     match read_all(from, &mut text) {

@@ -4,7 +4,6 @@ ghost use Rattle.std.specs.Prelude.{◌≡◌, ◌≤◌, IfOk, IfErr, Some, cod
 ghost use Rattle.std.specs.String.{string_bytes};
 ghost use Rattle.std.specs.Str.Parse.{digits_value, without_leading_plus};
 ghost use Rattle.clap.specs.Words.{app_of, first_value, found_of, kind_of, one_text, rule_of};
-ghost use Rattle.mm_report.specs.Choices.{choice_of};
 ghost use Rattle.mmdepend.specs.Found.{Finds, HasNumber, HasReport, IsFor};
 ghost use Rattle.mmdepend.specs.Lines.{IsCommand, IsReportRule, Refuses, Says, file_rule, number_rule, only_rule, report_word};
 
@@ -118,7 +117,7 @@ fn number_in(matches: &ArgMatches<'_>, option: &str) -> u32
 /// What `--report` asks for.
 fn choice_in(matches: &ArgMatches<'_>) -> Choice
     requires { HasReport matches.now }
-    ensures { first_value (found_of matches.now) (codes "report") ≡ Some (report_word (choice_of result)) }
+    ensures { first_value (found_of matches.now) (codes "report") ≡ Some (report_word result) }
 {
     match matches.get_str("report") {
         Some("matrix") => Choice::Matrix,

@@ -1,6 +1,5 @@
 use Rattle.std.proofs.Common.{◌≡◌, ◌∙◌, ap}
 use Rattle.mm_spec.specs.Output.{columns}
-use Rattle.mm_report.specs.Choices.{choice_of}
 use Rattle.mm_report.specs.Rows.{report_of}
 use Rattle.mmdepend.specs.Plans.{only_of}
 use Rattle.mmdepend.proofs.RowsLaw.{is-output}
@@ -10,7 +9,7 @@ pub returns-in-Ok-write_report : goal.returns-in-Ok-write_report
 returns-in-Ok-write_report g c =
     let db = c.args.database.now.statements in
     let only = only_of c.args.plan.now in
-    let choice = choice_of c.args.plan.now.choice in
+    let choice = c.args.plan.now.choice in
     let axioms : c.in-Ok.columns ≡ columns db only = c.in-Ok.ensures ∙ ap (columns db) c.typecode.ensures in (
       (db, c.requires.sound),
       (
@@ -24,7 +23,7 @@ pub returns : goal.returns
 returns g c =
     let db = c.args.database.now.statements in
     let only = only_of c.args.plan.now in
-    let choice = choice_of c.args.plan.now.choice in
+    let choice = c.args.plan.now.choice in
     let axioms : c.in-Ok.columns ≡ columns db only = c.in-Ok.ensures ∙ ap (columns db) c.typecode.ensures in
     let cut = c.in-Err.ensures.err in (
       report_of db c.in-Ok.columns c.in-Ok-matrix.table choice,

@@ -1,5 +1,4 @@
 use Rattle.std.proofs.Common.{ℕ, List, subst}
-use Rattle.mm_report.specs.Choices.{choice_of}
 use Rattle.mmdepend.specs.Ends.{Answers}
 use Rattle.mmdepend.specs.Plans.{only_of}
 use Rattle.mmdepend.proofs.EndsLaw.{ends-so}
@@ -8,6 +7,6 @@ use Rattle.mmdepend.proofs.run.run.Goals as goal
 pub returns-in-Ok : goal.returns-in-Ok
 returns-in-Ok g c =
     let only = only_of c.args.plan.now in
-    let choice = choice_of c.args.plan.now.choice in
+    let choice = c.args.plan.now.choice in
     ends-so c.answer.result c.read_all.new.text.items only choice _ _ _ _ c.in-Ok.ensures.gave
     (subst (λ (text : List ℕ). Answers c.answer.result text only choice (g.O.Write.contents c.args.to.now) (g.O.Write.contents c.answer.new.to)) c.deref.ensures.value c.answer.ensures)
