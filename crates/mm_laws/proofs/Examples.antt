@@ -12,7 +12,8 @@ use Rattle.mm_spec.specs.Derivation.{Trees, none, more, tree, AreDerivations, pa
 use Rattle.mm_spec.specs.Frame.{symbol_names, frame_at}
 use Rattle.mm_spec.specs.Steps.{label, placed}
 use Rattle.mm_spec.specs.Citation.{context_at, steps_at, IsValid}
-use Rattle.mm_spec.specs.Report.{all, report, line, refusal}
+use Rattle.mm_spec.specs.Report.{report, line, refusal}
+use Rattle.mm_spec.specs.declared.Choice.TheVariants.{All}
 use Rattle.mm_laws.proofs.Reader.{lexed, statements}
 use Rattle.mm_spec.specs.declared.Code.TheVariants.{OpenComment, BadByte, UnopenedBlock, ConstantInBlock, OtherTypecode, UntypedVariable, RepeatedVariable, NotDisjoint}
 
@@ -123,7 +124,7 @@ refusal_13 : refusal (text_b ++ 10 ∷ codes "ab") (fault 121 NotDisjoint) ≡ c
 unfolding digits
 refusal_13 = refl
 
-report_1 : report (codes "wi" ∷ codes "ax-1" ∷ []) (record { label = codes "wi2"; marks = true ∷ false ∷ [] } ∷ []) all
+report_1 : report (codes "wi" ∷ codes "ax-1" ∷ []) (record { label = codes "wi2"; marks = true ∷ false ∷ [] } ∷ []) All
     ≡ flat_map line (codes "mmdepend 1" ∷ codes "axioms 2" ∷ codes "theorems 1" ∷ codes "matrix" ∷ codes "wi2:10" ∷ codes "counts" ∷ codes "wi2:1" ∷ codes "usage" ∷ codes "wi:1:wi2" ∷ codes "ax-1:0:" ∷ codes "end" ∷ [])
 unfolding digits
 report_1 = refl

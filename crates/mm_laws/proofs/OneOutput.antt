@@ -15,7 +15,8 @@ use Rattle.mm_spec.specs.Valid as proof
 use Rattle.mm_spec.specs.Valid.{Reason, code_of, Fails, StepFails, StepFault, IsPlain, end_code}
 use Rattle.mm_spec.specs.Citation.{context_at, steps_at, reading_faults_at, IsValid, RestsOn}
 use Rattle.mm_spec.specs.Frame.{formula_at}
-use Rattle.mm_spec.specs.Report.{Choice, Row, report, refusal}
+use Rattle.mm_spec.specs.Report.{Row, report, refusal}
+use Rattle.mm_spec.specs.declared.Choice.{Choice}
 use Rattle.mm_spec.specs.declared.Code.{Code}
 use Rattle.mm_spec.specs.Output.{Lexed, lexed_of, TextFault, Stops, IsRead, ProofFault, end_of, is_theorem_at, AreValid, FirstProofFault, FirstFault, HasNoFault, theorems, columns, label_at, IsRowOf, IsOutput}
 use Rattle.mm_spec.proofs.Machine.{IsGood}

@@ -4,7 +4,8 @@ use Rattle.std.specs.Fmt.{digits}
 use Rattle.mm_spec.specs.Text.{token, fault}
 use Rattle.mm_spec.specs.Statement.{Statement, constants, axiomatic, opening, closing}
 use Rattle.mm_spec.specs.Lawful.{scope_fault}
-use Rattle.mm_spec.specs.Report.{all, line}
+use Rattle.mm_spec.specs.Report.{line}
+use Rattle.mm_spec.specs.declared.Choice.TheVariants.{All}
 use Rattle.mm_spec.specs.Output.{lexed_of, IsRead, AreValid, IsOutput}
 use Rattle.mm_spec.specs.declared.Code.TheVariants.{ConstantInBlock}
 use Rattle.mm_laws.proofs.Reader.{statements}
@@ -41,7 +42,7 @@ front_read = record {
   stops = ((λ e. cc), refl);
 }
 
-refused : IsOutput faulty None all (line (codes "refused 1:12 E11"))
+refused : IsOutput faulty None All (line (codes "refused 1:12 E11"))
 unfolding digits
 refused = inl (fault 11 ConstantInBlock, (front, Some (fault 11 ConstantInBlock), front_read, inr (front_valid, refl)), refl)
 
@@ -74,6 +75,6 @@ db_read = record {
   stops = no_text_fault 18 (lexed_of sound) refl;
 }
 
-reported : IsOutput sound None all (flat_map line (codes "mmdepend 1" ∷ codes "axioms 1" ∷ codes "theorems 0" ∷ codes "matrix" ∷ codes "counts" ∷ codes "usage" ∷ codes "ax:0:" ∷ codes "end" ∷ []))
+reported : IsOutput sound None All (flat_map line (codes "mmdepend 1" ∷ codes "axioms 1" ∷ codes "theorems 0" ∷ codes "matrix" ∷ codes "counts" ∷ codes "usage" ∷ codes "ax:0:" ∷ codes "end" ∷ []))
 unfolding digits
 reported = inr (db, (db_read, db_valid), [], tt, refl)

@@ -10,7 +10,7 @@ use Rattle.mm_spec.specs.Steps.{Step, label}
 use Rattle.mm_spec.specs.Proof.{steps, reading_faults}
 use Rattle.mm_laws.specs.Spelling.{Item, IsNumber, IsCompressed, letters_in, Spells, IsUsable, IsWellSpelled, AreSteps}
 use Rattle.mm_spec.specs.Citation.{context_at, IsProof, IsValid, RestsOn, IsWave}
-use Rattle.mm_spec.specs.Report.{Choice}
+use Rattle.mm_spec.specs.declared.Choice.{Choice}
 use Rattle.mm_spec.specs.Output.{Lexed, IsRead, ProofFault, end_of, is_theorem_at, FirstFault, HasNoFault, IsOutput}
 
 -- what holds at each place of the statements that are read of any text

@@ -10,7 +10,8 @@ use Rattle.mm_spec.specs.Lawful.{least, scope_fault}
 use Rattle.mm_spec.specs.Frame.{formula_at}
 use Rattle.mm_spec.specs.Valid as proof
 use Rattle.mm_spec.specs.Citation.{context_at, steps_at, reading_faults_at, is_theorem, IsValid, RestsOn}
-use Rattle.mm_spec.specs.Report.{Choice, Row, report, refusal}
+use Rattle.mm_spec.specs.Report.{Row, report, refusal}
+use Rattle.mm_spec.specs.declared.Choice.{Choice}
 
 -- the words of a text up to its first faulty word, as tokens, and that fault
 pub record Lexed : Type 0 where

@@ -3,9 +3,8 @@ use Rattle.std.specs.Prelude.{ℕ, zero, suc, ◌+◌, Bool, true, false, List, 
 use Rattle.mm_spec.specs.Text.{Word, Fault}
 use Rattle.mm_spec.specs.Scope.{those}
 use Rattle.mm_spec.specs.Codes.{code_number}
-
-pub data Choice : Type 0 where
-  all matrix counts usage : Choice
+use Rattle.mm_spec.specs.declared.Choice.{Choice}
+use Rattle.mm_spec.specs.declared.Choice.TheVariants.{All, Matrix, Counts, Usage}
 
 -- a theorem: its label, and for each column whether it is marked
 pub record Row : Type 0 where
@@ -46,11 +45,12 @@ abbrev pub usage_line : List Row → ℕ → Word → List ℕ
 usage_line rows column label = let marked = users column rows in
     line (label ++ 58 ∷ (decimal (length marked) ++ 58 ∷ joined marked))
 
+-- whether the choice has this section
 abbrev pub has : Choice → Choice → Bool
-has all _ = true
-has matrix matrix = true
-has counts counts = true
-has usage usage = true
+has All _ = true
+has Matrix Matrix = true
+has Counts Counts = true
+has Usage Usage = true
 has _ _ = false
 
 abbrev pub section : Bool → List ℕ → List ℕ → List ℕ
@@ -65,9 +65,9 @@ usage_lines rows column (l ∷ ls) = usage_line rows column l ++ usage_lines row
 abbrev pub report : List Word → List Row → Choice → List ℕ
 report columns rows choice =
     line (codes "mmdepend 1") ++ heading (codes "axioms") (length columns) ++ heading (codes "theorems") (length rows)
-    ++ section (has choice matrix) (codes "matrix") (flat_map matrix_line rows)
-    ++ section (has choice counts) (codes "counts") (flat_map count_line rows)
-    ++ section (has choice usage) (codes "usage") (usage_lines rows 0 columns)
+    ++ section (has choice Matrix) (codes "matrix") (flat_map matrix_line rows)
+    ++ section (has choice Counts) (codes "counts") (flat_map count_line rows)
+    ++ section (has choice Usage) (codes "usage") (usage_lines rows 0 columns)
     ++ line (codes "end")
 
 -- how many bytes stand behind the last line feed

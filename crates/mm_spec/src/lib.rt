@@ -37,6 +37,19 @@ pub enum Role {
     Faulty,
 }
 
+/// Which sections a report has, of matrix, counts and usage; each report has its first lines and its last one.
+#[derive(Clone, Copy, Debug, PartialEq, Eq)]
+pub enum Choice {
+    /// All three, in this order.
+    All,
+    /// A row for each theorem: its label, and a digit for each column, 1 where the theorem rests on that axiom.
+    Matrix,
+    /// A line for each theorem: its label, and the number of columns on whose axioms it rests.
+    Counts,
+    /// A line for each column: its label, the number of theorems that rest on that axiom, and their labels.
+    Usage,
+}
+
 /// A fault of a text: the place, a byte offset from 0, and what is wrong there.
 #[derive(Clone, Copy, Debug, PartialEq, Eq)]
 pub struct Fault {

@@ -3,18 +3,16 @@ use Rattle.std.specs.Prelude.{◌++◌, ℕ, List, [], ◌∷◌, take, codes, O
 use Rattle.std.specs.String.{string_bytes}
 use Rattle.std.specs.Io.KnownBytes.{Appends, Keeps}
 use Rattle.clap.specs.Walk.{Text}
-use Rattle.mm_report.specs.Choices.{choice_of}
-use Rattle.mmdepend.specs.Ends.{Ends}
-use Rattle.mmdepend.specs.Ends as run
-use Rattle.mmdepend.specs.Lines.{Refuses, Says}
-use Rattle.mmdepend.specs.Plans.{only_of}
-use Rattle.mmdepend.specs.declared.command_line.Line.{Line}
-use Rattle.mmdepend.specs.declared.command_line.LineRefused.TheVariants.{Help, Bad}
+use Rattle.mm_plan.specs.Plans.{only_of}
+use Rattle.mm_run.specs.Ends.{Ends}
+use Rattle.mm_run.specs.declared.RunEnd.{RunEnd}
+use Rattle.mm_run.specs.declared.RunEnd.TheVariants.{Accepted, Refused, ReadFailed, WriteFailed}
+use Rattle.mm_run.specs.declared.RunEnd.TheVariants.{NoMemory as RunNoMemory}
+use Rattle.mm_line.specs.Lines.{Refuses, Says}
+use Rattle.mm_line.specs.declared.command_line.Line.{Line}
+use Rattle.mm_line.specs.declared.command_line.LineRefused.TheVariants.{Help, Bad}
 use Rattle.mmdepend.specs.declared.ending.Ending.{Ending}
 use Rattle.mmdepend.specs.declared.ending.Ending.TheVariants.{Ran, Helped, HelpFailed, Misread, NotOpened, NoMemory}
-use Rattle.mmdepend.specs.declared.run.RunEnd.{RunEnd}
-use Rattle.mmdepend.specs.declared.run.RunEnd.TheVariants.{Accepted, Refused, ReadFailed, WriteFailed}
-use Rattle.mmdepend.specs.declared.run.RunEnd.TheVariants.{NoMemory as RunNoMemory}
 
 -- the text is written, or a beginning of it where writing failed
 abbrev pub Begins : (held holds : Option (List ℕ)) → List ℕ → Type 0
@@ -25,9 +23,9 @@ module _ {File : Type 0} (remaining : File → Option (List ℕ)) where
   -- A run reads the standard input where the line names no file. Where it names one it reads what was opened, and the
   -- standard input stays as it was.
   abbrev pub Runs : {X : Type 0} → Option X → RunEnd → Line → (before after held holds : Option (List ℕ)) → Type 0
-  Runs None end line before after held holds = Ends end (only_of line.plan) (choice_of line.plan.choice) before after held holds
+  Runs None end line before after held holds = Ends end (only_of line.plan) line.plan.choice before after held holds
   Runs (Some name) end line before after held holds =
-      Keeps before after × ((opened read : File) × Ends end (only_of line.plan) (choice_of line.plan.choice) (remaining opened) (remaining read) held holds)
+      Keeps before after × ((opened read : File) × Ends end (only_of line.plan) line.plan.choice (remaining opened) (remaining read) held holds)
 
   -- what the words ask for, by the ending, and what is read from the standard input and written to the output
   abbrev pub IsEndingOf : List Text → Ending → (before after held holds : Option (List ℕ)) → Type 0
@@ -38,8 +36,16 @@ module _ {File : Type 0} (remaining : File → Option (List ℕ)) where
   IsEndingOf words (Misread text) before after held holds = Refuses words (Bad text) × Keeps before after × Keeps held holds
   IsEndingOf words NoMemory before after held holds = Keeps before after × Keeps held holds
 
+abbrev pub run_status_of : RunEnd → ℕ
+run_status_of Accepted = 0
+run_status_of (Refused f) = 1
+run_status_of ReadFailed = 3
+run_status_of WriteFailed = 3
+run_status_of RunNoMemory = 4
+
+-- the program's status
 abbrev pub status_of : Ending → ℕ
-status_of (Ran end) = run.status_of end
+status_of (Ran end) = run_status_of end
 status_of (Helped text) = 0
 status_of (HelpFailed text) = 3
 status_of (Misread text) = 2

@@ -1,5 +1,1 @@
-pub mod Plans
-pub mod Ends
-pub mod Lines
-pub mod Found
 pub mod Endings

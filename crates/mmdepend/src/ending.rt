@@ -3,7 +3,7 @@
 ghost use Rattle.std.specs.Prelude.{◌≡◌};
 ghost use Rattle.mmdepend.specs.Endings.{message_of, status_of};
 
-use crate::run::RunEnd;
+use mm_run::RunEnd;
 
 /// How the program ends.
 #[derive(Drop)]

@@ -1,41 +1,22 @@
 //! The program `mmdepend`: reads a Metamath database, verifies every proof, and reports on which axioms each theorem
-//! rests, or refuses the database for its first fault. `run` composes the layers below; what it promises, that the bytes
-//! written are those that the text and the choice of report define, is its contract. `line` reads the words of a command
-//! line. `status` is the program over a reader and two writers: the words are read, the file that they name is opened,
-//! and `run` is called.
+//! rests, or refuses the database for its first fault. `status` is the program over a reader and two writers: the words
+//! of the command line are read (`line`), the file that they name is opened, and `run` is called; what it promises is what
+//! is written, the message on standard error, and the status.
 #![tactic(auto)]
 
-#[cfg(test)]
-mod checking;
-mod command_line;
-#[cfg(test)]
-mod compressed;
 mod ending;
-mod input;
-#[cfg(test)]
-mod lines;
-mod plan;
 mod program;
 #[cfg(test)]
-mod reports;
-mod run;
-#[cfg(test)]
 mod statuses;
-#[cfg(test)]
-mod tests;
-#[cfg(test)]
-mod vectors;
-mod words;
 
-pub use command_line::{Line, LineRefused};
-pub use plan::{Cutting, Plan};
+pub use mm_line::{Line, LineRefused, line};
+pub use mm_plan::{Cutting, Plan};
+pub use mm_run::{RunEnd, run};
 pub use program::status;
-pub use run::{RunEnd, run};
 use std::env;
 use std::io::{ErrorKind, Write};
 use std::process::ExitCode;
 use std::rt::Env;
-pub use words::line;
 
 /// The words of the command line, or the status with which the program ends without them, and a message.
 fn given_words<R: Env + AllocGlobal>(rt: &R) -> Result<Vec<String>, (u8, &'static str)> {

@@ -5,11 +5,10 @@ ghost use Rattle.std.specs.Io.KnownBytes.{Appends};
 ghost use Rattle.mmdepend.specs.Endings.{Begins, IsEndingOf, message_of, status_of};
 ghost use Rattle.mmdepend.specs.declared.ending.Ending.{Ending as End};
 
-use crate::command_line::LineRefused;
 use crate::ending::Ending;
-use crate::run::run;
-use crate::words::line;
+use mm_line::{LineRefused, line};
 use mm_report::write_whole;
+use mm_run::run;
 use std::alloc::Global;
 use std::convert::AsStr;
 use std::fs;

@@ -1,18 +1,29 @@
 //! Tests of the program: its statuses, its messages, and what it writes where an end fails.
 
-use crate::lines::HELP;
-use crate::status;
-use crate::tests::{
-    BASE, CLOSE, CONSEQUENT, CONSEQUENT_PROOF, DETACHMENT, FIRST, FIRST_REPORT, Failing, THROUGH,
-    joined,
-};
-use std::alloc::AllocError;
+use crate::{LineRefused, line, status};
 use std::io::{ErrorKind, Read, Write};
 use std::rt::Files;
 use std::sync::Wait;
 use std::test::Fail;
 use std::thread::Threads;
 use std::{env, fs, io};
+
+/// The text of the program's example, and the report on it.
+const FIRST: &[u8] =
+    b"$c wff |- ( -> ) $.\n$v p q $.\nwp $f wff p $.\nwq $f wff q $.\nwi $a wff ( p -> q ) $.\nax-1 $a |- ( p -> ( q -> p ) ) $.\nwi2 $p wff ( p -> ( q -> p ) ) $= wp wq wp wi wi $.\n";
+
+const FIRST_REPORT: &[u8] =
+    b"mmdepend 1\naxioms 2\ntheorems 1\nmatrix\nwi2:10\ncounts\nwi2:1\nusage\nwi:1:wi2\nax-1:0:\nend\n";
+
+/// A reader that fails at its first read.
+#[derive(Drop)]
+struct Failing {}
+
+impl Read for Failing {
+    fn read(&mut self, _: &mut [u8]) -> io::Result<usize> {
+        Err(io::Error::from(ErrorKind::Other))
+    }
+}
 
 /// A writer that takes nothing.
 #[derive(Drop)]
@@ -52,16 +63,7 @@ fn a_report_and_a_refusal(rt: HostRuntime) {
 }
 
 #[test]
-fn options_choose_workers_pieces_columns_and_sections(rt: HostRuntime) -> Result<(), AllocError> {
-    let parts = [
-        BASE,
-        DETACHMENT,
-        CONSEQUENT,
-        CONSEQUENT_PROOF,
-        CLOSE,
-        THROUGH,
-    ];
-    let text = joined(rt.alloc(), &parts)?;
+fn options_choose_workers_pieces_columns_and_sections(rt: HostRuntime) {
     let words = [
         "mmdepend",
         "--workers",
@@ -73,19 +75,26 @@ fn options_choose_workers_pieces_columns_and_sections(rt: HostRuntime) -> Result
         "--report",
         "counts",
     ];
-    let counts = b"mmdepend 1\naxioms 2\ntheorems 2\ncounts\na1i:2\na2:2\nend\n".as_slice();
-    assert!(&rt; ends(&rt, &words, text.as_slice(), 0, counts, b""));
-    Ok(())
+    let counts = b"mmdepend 1\naxioms 1\ntheorems 1\ncounts\nwi2:0\nend\n".as_slice();
+    assert!(&rt; ends(&rt, &words, FIRST, 0, counts, b""));
 }
 
 #[test]
 fn words_that_are_no_line(rt: HostRuntime) {
-    let words = ["mmdepend", "--workers", "65", "x.mm"];
-    let told =
-        b"error: invalid value '65' for '--workers <N>': 65 is not in 1..=64\n\nFor more information, try '--help'.\n".as_slice();
-    assert!(&rt; ends(&rt, &words, FIRST, 2, b"", told));
-    let help = HELP.as_bytes();
-    assert!(&rt; ends(&rt, &["mmdepend", "--help"], FIRST, 0, help, b""));
+    let words = ["mmdepend", "--pieces", "65", "x.mm"];
+    match line(rt.alloc(), &words) {
+        Err(LineRefused::Bad(text)) => {
+            assert!(&rt; ends(&rt, &words, FIRST, 2, b"", text.as_bytes()));
+        }
+        _ => assert!(&rt; false),
+    }
+    let words = ["mmdepend", "--help"];
+    match line(rt.alloc(), &words) {
+        Err(LineRefused::Help(text)) => {
+            assert!(&rt; ends(&rt, &words, FIRST, 0, text.as_bytes(), b""));
+        }
+        _ => assert!(&rt; false),
+    }
 }
 
 // Where a file is named the standard input isn't read, so that one that fails changes nothing.

@@ -2,6 +2,7 @@
 
 ghost use Rattle.std.specs.Prelude.{◌<◌, ◌≤◌};
 
+use crate::examples::words;
 use mm_lex::{Code, Cuts, Fault, Lexed, Piece, Word, join, lex, lex_piece};
 use std::alloc::{AllocError, Allocator};
 use std::thread::{self, Threads};
@@ -20,6 +21,14 @@ fn word(start: u32, end: u32) -> Word {
     Word { start, end }
 }
 
+/// The place of the fault and the number of its code.
+fn place_and_number<A: Allocator>(lexed: &Lexed<A>) -> Option<(u32, u8)> {
+    match lexed.fault {
+        Some(fault) => Some((fault.at, fault.code.number())),
+        None => None,
+    }
+}
+
 /// The text in so many equal pieces.
 fn in_pieces<R: Threads + Sync, A: Allocator + Copy + Send + Sync>(
     rt: &R,
@@ -36,23 +45,21 @@ fn in_pieces<R: Threads + Sync, A: Allocator + Copy + Send + Sync>(
 
 #[test]
 fn lexes_vectors(rt: HostRuntime) -> Result<(), AllocError> {
-    let vectors: [(&[u8], usize, Option<Fault>); 10] = [
-        (b"", 0, None),
-        (b"$c a\x07 $.", 1, fault(4, Code::BadByte)),
-        (b"$c a $( b $( c $) $.", 2, fault(10, Code::MarkInComment)),
-        (b"$c a $.\n$( x", 3, fault(8, Code::OpenComment)),
-        (b"$c a$b $.", 1, fault(3, Code::StrayDollar)),
-        (b"$)", 0, fault(0, Code::StrayDollar)),
-        (b"$[ set.mm $]", 3, None),
-        (b"$c a $. $.", 4, None),
-        (b"a,b $( a $c b $) $a a $.\x0C", 4, None),
-        (b"$( x $(y", 0, fault(5, Code::MarkInComment)),
-    ];
-    for (text, tokens, want) in vectors {
-        for count in 1..6 {
+    for count in 1..6 {
+        for example in words() {
+            let lexed = in_pieces(&rt, rt.alloc(), example.text, count)?;
+            assert_eq!(rt; lexed.tokens.len(), example.before);
+            assert_eq!(rt; place_and_number(&lexed), example.fault);
+        }
+        for (text, tokens) in [
+            (b"".as_slice(), 0),
+            (b"$[ set.mm $]", 3),
+            (b"$c a $. $.", 4),
+            (b"a,b $( a $c b $) $a a $.\x0C", 4),
+        ] {
             let lexed = in_pieces(&rt, rt.alloc(), text, count)?;
             assert_eq!(rt; lexed.tokens.len(), tokens);
-            assert_eq!(rt; lexed.fault, want);
+            assert_eq!(rt; lexed.fault, None);
         }
     }
     Ok(())

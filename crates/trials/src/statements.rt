@@ -1,6 +1,8 @@
 ghost use Rattle.std.specs.Prelude.{◌≤◌, length};
 
+use crate::examples::{scopes, shapes};
 use mm_lex::{Cuts, lex};
+use mm_spec::TEXT_LIMIT;
 use mm_stmt::read;
 use std::alloc::{AllocError, Global};
 use std::rt::HostRuntime;
@@ -11,9 +13,10 @@ fn stops<R: Threads + Sync>(
     rt: &R,
     alloc: Global,
     text: &[u8],
-) -> Result<(Option<(u32, u8)>, u32), AllocError>
-    requires { length text.now ≤ 2147483647 }
-{
+) -> Result<(Option<(u32, u8)>, u32), AllocError> {
+    if text.len() > TEXT_LIMIT {
+        return Err(AllocError);
+    }
     let cuts = Cuts::equal(alloc, text.len(), 1)?;
     let lexed = lex(rt, alloc, text, &cuts)?;
     let database = read(alloc, text, &lexed)?;
@@ -26,42 +29,15 @@ fn stops<R: Threads + Sync>(
 
 #[test]
 fn stops_where_a_statement_is_at_fault(rt: HostRuntime) -> Result<(), AllocError> {
-    let rows: [(&[u8], Option<(u32, u8)>, u32); 20] = [
-        (b"$c a $. ${ $c b $. $}", Some((11, 11)), 2),
-        (b"$c $.", Some((3, 12)), 0),
-        (b"$c a a $.", Some((5, 13)), 0),
-        (b"$c a $. b $a a $. $c b $.", Some((21, 14)), 2),
-        (b"$c a $. b $a a $. b $a a $.", Some((18, 15)), 2),
-        (b"$c a $. b $a $.", Some((13, 17)), 1),
-        (b"$c a $. b $a a x $.", Some((15, 18)), 1),
-        (b"$c a $. $v x $. fx $f a $.", Some((19, 19)), 2),
-        (
-            b"$c a $. $v x $. fx $f a x $. gx $f a x $.",
-            Some((37, 20)),
-            3,
-        ),
-        (
-            b"$c a b $. ${ $v x $. fx $f a x $. $} ${ $v x $. gx $f b x $. $}",
-            Some((56, 21)),
-            7,
-        ),
-        (
-            b"$c a b $. ${ $v x $. fx $f a x $. $} ${ $v x $. gx $f a x $. $}",
-            None,
-            9,
-        ),
-        (b"$c a $. $v x $. y $a a x $.", Some((23, 22)), 2),
-        (b"$v x $. $d x $.", Some((13, 23)), 1),
-        (b"$v x $. $d x y $.", Some((13, 24)), 1),
-        (b"$v x $. $d x x $.", Some((13, 25)), 1),
-        (b"$[ set.mm $]", Some((0, 5)), 0),
-        (b"a,b $a a $.", Some((0, 6)), 0),
-        (b"$c a $. $.", Some((8, 7)), 1),
-        (b"$c a", Some((4, 8)), 0),
-        (b"$c a $. $}", Some((8, 9)), 1),
-    ];
-    for (text, fault, count) in rows {
-        assert_eq!(rt; stops(&rt, rt.alloc(), text)?, (fault, count));
+    for example in shapes() {
+        let (fault, before) = stops(&rt, rt.alloc(), example.text)?;
+        assert_eq!(rt; fault, example.fault);
+        assert_eq!(rt; before as usize, example.before);
+    }
+    for example in scopes() {
+        let (fault, before) = stops(&rt, rt.alloc(), example.text)?;
+        assert_eq!(rt; fault, example.fault);
+        assert_eq!(rt; before as usize, example.before);
     }
     Ok(())
 }

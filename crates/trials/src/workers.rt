@@ -2,6 +2,7 @@
 
 ghost use Rattle.std.specs.Prelude.{◌≤◌};
 
+use crate::texts::{BASE, LONG, SHORT, joined, through_a_theorem};
 use mm_lex::{Cuts, lex};
 use mm_spec::{Code, Fault, TEXT_LIMIT};
 use mm_stmt::read;
@@ -13,18 +14,6 @@ use std::sync::atomic::{AtomicU64, Ordering};
 use std::thread;
 use std::thread::Threads;
 
-/// Symbols, the formulas of a conditional, and the first axiom.
-const BASE: &[u8] =
-    b"$c wff |- ( -> ) $.\n$v p q $.\nwp $f wff p $.\nwq $f wff q $.\nwi $a wff ( p -> q ) $.\nax-1 $a |- ( p -> ( q -> p ) ) $.\n";
-
-/// The rule of detachment, a theorem by it, and a theorem by that theorem.
-const THROUGH_A_THEOREM: &[u8] =
-    b"${ min $e |- p $. maj $e |- ( p -> q ) $. ax-mp $a |- q $. $}\n${ h $e |- p $. a1i $p |- ( q -> p ) $= wp wq wp wi h wp wq ax-1 ax-mp $. $}\n${ g $e |- p $. a2 $p |- ( q -> ( q -> p ) ) $= wq wp wi wq wp wq g a1i a1i $. $}\n";
-
-/// Two theorems whose proofs aren't valid; the first takes longer to check.
-const TWO_FAULTY: &[u8] =
-    b"long $p wff p $= wp wq wp wi wp wi wp wi wp wi $.\nshort $p wff p $= wq $.\n";
-
 /// How many theorems the long database has.
 const MANY: u32 = 3000;
 
@@ -33,15 +22,6 @@ const LINE: u32 = 54;
 
 /// The turns after which a worker no longer waits at the gate.
 const MOST_TURNS: u32 = 10_000_000;
-
-/// The text of some parts.
-fn joined(alloc: Global, parts: &[&[u8]]) -> Result<Vec<u8>, AllocError> {
-    let mut text = Vec::new(alloc);
-    for part in parts {
-        text.extend_from_slice(part)?;
-    }
-    Ok(text)
-}
 
 /// A database of 3,000 theorems, all with the same formula. The proofs of some of them lack their last step.
 fn many(alloc: Global, faulty: &[u32]) -> Result<Vec<u8>, AllocError> {
@@ -108,7 +88,7 @@ fn many_cite_one<R: Abort>(rt: &R, citations: &Citations<Global>) {
 
 #[test]
 fn what_theorems_cite(rt: HostRuntime) -> Result<(), AllocError> {
-    let text = joined(rt.alloc(), &[BASE, THROUGH_A_THEOREM])?;
+    let text = through_a_theorem(rt.alloc())?;
     for workers in [1, 2, 64] {
         match judged(&rt, rt.alloc(), &text, workers, &Open)? {
             Judged::Valid(citations) => cites_through_a_theorem(&rt, &citations),
@@ -120,7 +100,7 @@ fn what_theorems_cite(rt: HostRuntime) -> Result<(), AllocError> {
 
 #[test]
 fn the_first_of_two_faults(rt: HostRuntime) -> Result<(), AllocError> {
-    let text = joined(rt.alloc(), &[BASE, TWO_FAULTY])?;
+    let text = joined(rt.alloc(), &[BASE, LONG, SHORT])?;
     for workers in [1, 2, 64] {
         let found = judged(&rt, rt.alloc(), &text, workers, &Open)?;
         assert!(&rt; is_refused(&found, BASE.len() as u32 + 47, Code::NotOneEntry));
@@ -209,7 +189,7 @@ impl Gate for Meeting {
 
 #[test]
 fn two_at_the_gate(rt: HostRuntime) -> Result<(), AllocError> {
-    let text = joined(rt.alloc(), &[BASE, THROUGH_A_THEOREM])?;
+    let text = through_a_theorem(rt.alloc())?;
     let gate = Meeting::of(0b11);
     match judged(&rt, rt.alloc(), &text, 2, &gate)? {
         Judged::Valid(citations) => cites_through_a_theorem(&rt, &citations),

@@ -1,0 +1,2 @@
+mod EntryLaw
+mod LineLaw

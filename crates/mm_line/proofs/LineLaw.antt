@@ -1,0 +1,279 @@
+-- What the words of a command line come to.
+use Rattle.std.proofs.Common.{◌≡◌, ◌∙◌, ◌⊎◌, ◌<◌, ◌≤◌, option_map, inl, inr, ℕ, zero, suc, Bool, true, false, true≢false, ◌&&◌, ◌||◌, refl, sym, ap, subst, arith, codes, map, length, slice_index_or, List, [], ◌∷◌, Some, None}
+use Rattle.std.proofs.lemmas.Bool.{and_parts, or_cases}
+use Rattle.std.proofs.lemmas.List.{length-map}
+use Rattle.std.proofs.lemmas.Slice.Eq.{bytes_eq-Decides}
+use Rattle.std.specs.Prelude.{not, pos}
+use Rattle.std.specs.List.{list_all, list_any}
+use Rattle.std.specs.Borrow.{Bor}
+use Rattle.std.specs.Str.{bytes_eq}
+use Rattle.std.specs.Str.Parse.{digits_value, without_leading_plus}
+use Rattle.std.specs.String.{string_bytes}
+use Rattle.clap.specs.Values.{kind_of}
+use Rattle.clap.specs.Texts.{items_of}
+use Rattle.clap.specs.Matches.{first_value, found_of, one_text}
+use Rattle.clap.specs.Walk.{Row, Rule, Text, first_of, is_empty, one_of, is_simple_arg, rule_of, rows_of}
+use Rattle.clap.specs.Simple.{App, HasMatchesOf, app_of, built, is_simple, matches_of, with_rule}
+use Rattle.clap.specs.Facts.{args_of, groups_of}
+use Rattle.clap.specs.Takes.{takes}
+use Rattle.clap.specs.Kinds.{HasKind, IsAmong}
+use Rattle.clap.specs.Faults.{fault_of, is_free_app, is_simple_and_free}
+use Rattle.clap.specs.Built.{AddsArg, IsParsedFrom, NamesNoGroup}
+use Rattle.clap.specs.declared.builder.arg.Arg.{Arg}
+use Rattle.clap.specs.declared.builder.command.Command.{Command}
+use Rattle.clap.specs.declared.builder.command.Command.TheViews.{out-Command}
+use Rattle.clap.specs.declared.builder.action.ArgAction.TheVariants.{Set}
+use Rattle.clap.specs.declared.builder.value_parser.ValueParser.{ValueParser}
+use Rattle.clap.specs.declared.builder.value_parser.ValueParser.TheVariants.{Signed, Names}
+use Rattle.clap.specs.declared.parser.matches.Found.{Found}
+use Rattle.clap.specs.declared.parser.matches.ArgMatches.{ArgMatches}
+use Rattle.clap.specs.declared.error.Error.{Error}
+use Rattle.clap.specs.declared.error.kind.ErrorKind.TheVariants.{OutOfMemory}
+use Rattle.clap.proofs.WalkLemmas.{first_value-rows, list_any-map, one_text-rows}
+use Rattle.mm_spec.specs.declared.Choice.{Choice}
+use Rattle.mm_spec.specs.declared.Choice.TheVariants.{All, Matrix, Counts, Usage}
+use Rattle.mm_line.specs.Lines.{IsCommand, IsReportRule, Refuses, command_of, number_rule, only_rule, report_rule, file_rule, report_word, report_words, Says}
+use Rattle.mm_line.specs.Found.{Finds, HasNumber, HasReport, IsFor}
+use Rattle.mm_line.proofs.EntryLaw.{Defaulted, default_reads, nothing_in, rule_at, simple_parts}
+use Rattle.mm_plan.specs.declared.Cutting.TheVariants.{Count}
+use Rattle.mm_plan.specs.Plans.{IsLawfulCutting, only_of}
+use Rattle.mm_line.specs.declared.command_line.Line.{Line}
+use Rattle.mm_line.specs.declared.command_line.LineRefused.{LineRefused}
+use Rattle.mm_line.specs.declared.command_line.LineRefused.TheVariants.{Help, Bad, Memory}
+
+-- a command with one rule more
+pub one_more : (old new : Command) (a : Arg) (app : App) (r : Rule) → AddsArg old a new → app_of old ≡ app → rule_of a ≡ r → r.is_simple ≡ true → app_of new ≡ with_rule app r
+one_more old new a app r added is rule simple =
+    added.shape (simple_parts a (ap (λ (x : Rule). x.is_simple) rule ∙ simple)).global ∙ ap (λ (x : App). with_rule x (rule_of a)) is ∙ ap (with_rule app) rule
+
+pub is_command : (c : Command) (report : Rule) → IsReportRule report → app_of c ≡ command_of report → IsCommand (app_of c)
+is_command c report is same = (report, is, same)
+
+command_simple : (report : Rule) → IsReportRule report → is_simple_and_free (command_of report) ≡ true
+unfolding command_of
+command_simple report is = subst (λ (r : Rule). is_simple_and_free (command_of r) ≡ true) (sym is.2) refl
+
+pub simple : (app : App) → IsCommand app → is_simple_and_free app ≡ true
+simple app is = subst (λ (a : App). is_simple_and_free a ≡ true) (sym is.2) (command_simple is.0 is.1)
+
+pub refuses : (app : App) (words : List Text) (e : Error) (r : LineRefused) → IsCommand app → (takes app words ≡ true → kind_of e ≡ OutOfMemory)
+    → HasKind (fault_of app words) e → IsFor (kind_of e) r → Refuses words r
+refuses app words e Memory is passes kind for = tt
+refuses app words e (Help text) is passes kind for = (app, is, untaken (takes app words) refl, kind_of e, among kind, for)
+  where
+    untaken : (b : Bool) → takes app words ≡ b → b ≡ false
+    untaken true t = let m = passes t in cc
+    untaken false t = refl
+
+    among : HasKind (fault_of app words) e → IsAmong (kind_of e) (fault_of app words)
+    among (inl m) = cc
+    among (inr k) = k
+refuses app words e (Bad text) is passes kind for = (app, is, untaken (takes app words) refl, kind_of e, among kind, for.0)
+  where
+    untaken : (b : Bool) → takes app words ≡ b → b ≡ false
+    untaken true t = absurd (for.1 (passes t))
+    untaken false t = refl
+
+    among : HasKind (fault_of app words) e → IsAmong (kind_of e) (fault_of app words)
+    among (inl m) = absurd (for.1 m)
+    among (inr k) = k
+
+differ : (a b : Text) → bytes_eq a b ≡ false → a ≡ b → ⊥
+differ a b h e = true≢false (sym ((bytes_eq-Decides a b).1 e) ∙ h)
+
+-- ---- the entries of words that the command takes
+
+some_arg : (xs : List Arg) (k : ℕ) → k < length xs → (a : Arg) × (slice_index_or xs k a ≡ a)
+some_arg [] k lt = absurd (omega arith)
+some_arg (x ∷ xs) zero lt = (x, refl)
+some_arg (x ∷ xs) (suc k) lt = some_arg xs k (omega arith)
+
+all_simple : (xs : List Arg) → list_all (λ r. r.is_simple) (map rule_of xs) ≡ true → (k : ℕ) (d : Arg) → k < length xs → is_simple_arg (slice_index_or xs k d) ≡ true
+all_simple [] h k d lt = absurd (omega arith)
+all_simple (x ∷ xs) h zero d lt = (and_parts (is_simple_arg x) (list_all (λ r. r.is_simple) (map rule_of xs)) h).0
+all_simple (x ∷ xs) h (suc k) d lt = all_simple xs (and_parts (is_simple_arg x) (list_all (λ r. r.is_simple) (map rule_of xs)) h).1 k d (omega arith)
+
+first_and_third : (a b c d : Bool) → (a && (b && (c && d))) ≡ true → (a ≡ true) × (not c ≡ false)
+first_and_third true true true d h = (refl, refl)
+first_and_third false b c d h = absurd (true≢false (sym h))
+first_and_third true false c d h = absurd (true≢false (sym h))
+first_and_third true true false d h = absurd (true≢false (sym h))
+
+not_twice : (b : Bool) → not (not b) ≡ b
+not_twice true = refl
+not_twice false = refl
+
+one_of_words : (t : Text) → list_any (λ (w : Text). bytes_eq w t) report_words ≡ true → (choice : Choice) × (t ≡ report_word choice)
+one_of_words t h = by (or_cases (bytes_eq (codes "all") t) _ h)
+  where
+    same : (w : Text) → bytes_eq w t ≡ true → t ≡ w
+    same w e = sym ((bytes_eq-Decides w t).0 e)
+
+    last : (bytes_eq (codes "usage") t ≡ true) ⊎ (false ≡ true) → (choice : Choice) × (t ≡ report_word choice)
+    last (inl e) = (Usage, same _ e)
+    last (inr e) = absurd (true≢false (sym e))
+
+    third : (bytes_eq (codes "counts") t ≡ true) ⊎ ((bytes_eq (codes "usage") t || false) ≡ true) → (choice : Choice) × (t ≡ report_word choice)
+    third (inl e) = (Counts, same _ e)
+    third (inr e) = last (or_cases (bytes_eq (codes "usage") t) false e)
+
+    second : (bytes_eq (codes "matrix") t ≡ true) ⊎ ((bytes_eq (codes "counts") t || (bytes_eq (codes "usage") t || false)) ≡ true) → (choice : Choice) × (t ≡ report_word choice)
+    second (inl e) = (Matrix, same _ e)
+    second (inr e) = third (or_cases (bytes_eq (codes "counts") t) _ e)
+
+    by : (bytes_eq (codes "all") t ≡ true) ⊎ ((bytes_eq (codes "matrix") t || (bytes_eq (codes "counts") t || (bytes_eq (codes "usage") t || false))) ≡ true) → (choice : Choice) × (t ≡ report_word choice)
+    by (inl e) = (All, same _ e)
+    by (inr e) = second (or_cases (bytes_eq (codes "matrix") t) _ e)
+
+module _ (names : Bor (List (Bor Text))) where
+  abbrev the_rules : List Rule
+  the_rules = number_rule (codes "workers") ∷ number_rule (codes "pieces") ∷ only_rule ∷ report_rule names ∷ file_rule ∷ []
+
+  workers_at : (j : ℕ) → j < 5 → bytes_eq (slice_index_or the_rules j file_rule).id (codes "workers") ≡ true → j ≡ 0
+  workers_at zero lt h = refl
+  workers_at (suc zero) lt h = absurd (true≢false (sym h))
+  workers_at (suc (suc zero)) lt h = absurd (true≢false (sym h))
+  workers_at (suc (suc (suc zero))) lt h = absurd (true≢false (sym h))
+  workers_at (suc (suc (suc (suc zero)))) lt h = absurd (true≢false (sym h))
+  workers_at (suc (suc (suc (suc (suc j))))) lt h = absurd (omega arith)
+
+  pieces_at : (j : ℕ) → j < 5 → bytes_eq (slice_index_or the_rules j file_rule).id (codes "pieces") ≡ true → j ≡ 1
+  pieces_at zero lt h = absurd (true≢false (sym h))
+  pieces_at (suc zero) lt h = refl
+  pieces_at (suc (suc zero)) lt h = absurd (true≢false (sym h))
+  pieces_at (suc (suc (suc zero))) lt h = absurd (true≢false (sym h))
+  pieces_at (suc (suc (suc (suc zero)))) lt h = absurd (true≢false (sym h))
+  pieces_at (suc (suc (suc (suc (suc j))))) lt h = absurd (omega arith)
+
+  report_at : (j : ℕ) → j < 5 → bytes_eq (slice_index_or the_rules j file_rule).id (codes "report") ≡ true → j ≡ 3
+  report_at zero lt h = absurd (true≢false (sym h))
+  report_at (suc zero) lt h = absurd (true≢false (sym h))
+  report_at (suc (suc zero)) lt h = absurd (true≢false (sym h))
+  report_at (suc (suc (suc zero))) lt h = refl
+  report_at (suc (suc (suc (suc zero)))) lt h = absurd (true≢false (sym h))
+  report_at (suc (suc (suc (suc (suc j))))) lt h = absurd (omega arith)
+
+  module _ (c : Command) (is : app_of c ≡ command_of (report_rule names)) where
+    rules : map rule_of (args_of c) ≡ the_rules
+    unfolding command_of
+    rules = ap (λ (a : App). a.top.rules) is
+
+    count : length (args_of c) ≡ 5
+    count = sym (length-map (args_of c) rule_of) ∙ ap length rules
+
+    plain : (is_empty (out-Command c).groups.items ≡ true) × (not (not (out-Command c).has_globals) ≡ false)
+    unfolding command_of
+    plain = first_and_third (is_empty (out-Command c).groups.items) (not (out-Command c).allow_external_subcommands) (not (out-Command c).has_globals) _ (ap (λ (a : App). a.top.is_plain) is)
+
+    globals : (out-Command c).has_globals ≡ false
+    globals = sym (not_twice (out-Command c).has_globals) ∙ plain.1
+
+    no_groups : groups_of c ≡ []
+    no_groups = nothing_in (out-Command c).groups.items plain.0
+
+    each_simple : (k : ℕ) (d : Arg) → k < length (args_of c) → is_simple_arg (slice_index_or (args_of c) k d) ≡ true
+    each_simple = all_simple (args_of c) (ap (list_all (λ (r : Rule). r.is_simple)) rules)
+
+    names_no_group : NamesNoGroup c
+    names_no_group k d lt = (simple_parts (slice_index_or (args_of c) k d) (each_simple k d lt)).groups
+
+    -- an argument with a default, by its rule
+    defaulted : (k : ℕ) (id value : Text) (q : ValueParser) → k < 5 → ((a : Arg) → slice_index_or the_rules k (rule_of a) ≡ slice_index_or the_rules k file_rule)
+        → (slice_index_or the_rules k file_rule).id ≡ id → (slice_index_or the_rules k file_rule).action ≡ Some Set → (slice_index_or the_rules k file_rule).range ≡ None
+        → (slice_index_or the_rules k file_rule).defaults ≡ value ∷ [] → (slice_index_or the_rules k file_rule).parser ≡ Some q
+        → ((j : ℕ) → j < 5 → bytes_eq (slice_index_or the_rules j file_rule).id id ≡ true → j ≡ k) → (id ≡ [] → ⊥) → ((id ≡ codes "help") ⊎ (id ≡ codes "version") → ⊥)
+        → (a : Arg) × Defaulted c k a id q × (a.ignore_case ≡ (slice_index_or the_rules k file_rule).ignore_case)
+    defaulted k id value q lt _ id_is action range default parser only named own =
+        let inside : k < length (args_of c) = subst (λ (n : ℕ). k < n) (sym count) lt in
+        let some = some_arg (args_of c) k inside in
+        let a = some.0 in
+        let rule : rule_of a ≡ slice_index_or the_rules k file_rule = ap rule_of (sym some.1) ∙ rule_at (args_of c) the_rules k a file_rule rules inside in
+        let same_id : a.id.now ≡ id = ap (λ (r : Rule). r.id) rule ∙ id_is in (
+          a,
+          record {
+            inside = inside;
+            at = some.1;
+            id_is = same_id;
+            simple = subst (λ (y : Arg). is_simple_arg y ≡ true) some.1 (each_simple k a inside);
+            action = ap (λ (r : Rule). r.action) rule ∙ action;
+            range = ap (λ (r : Rule). r.range) rule ∙ range;
+            default = (let one : length (items_of a.default_vals) ≡ 1 = sym (length-map (items_of a.default_vals) (λ s. s.now)) ∙ ap length (ap (λ (r : Rule). r.defaults) rule ∙ default) in omega (arith, one));
+            parser = ap (λ (r : Rule). r.parser) rule ∙ parser;
+            unique = λ j e l h. only j (subst (λ (n : ℕ). j < n) count l) (subst (λ (r : Rule). bytes_eq r.id id ≡ true) (rule_at (args_of c) the_rules j e file_rule rules l) h);
+            named = named;
+            own = λ auto. own (elim auto [ inl h ↦ inl (sym same_id ∙ h) | inr h ↦ inr (sym same_id ∙ h) ]);
+          },
+          ap (λ (r : Rule). r.ignore_case) rule,
+        )
+
+    module _ (m : ArgMatches) (p : IsParsedFrom c m) where
+      built_has_none : groups_of p.built ≡ []
+      built_has_none = (p.from.same_groups names_no_group).1 ∙ no_groups
+
+      workers_read : HasNumber m (codes "workers")
+      workers_read =
+          let d = defaulted 0 (codes "workers") (codes "4") (Signed (pos 1) (pos 64)) (omega arith) (λ _. refl) refl refl refl refl refl workers_at (differ _ _ refl) (λ e. elim e [ inl h ↦ differ _ _ refl h | inr h ↦ differ _ _ refl h ]) in
+          let r = default_reads c m p globals built_has_none 0 d.0 (codes "workers") (Signed (pos 1) (pos 64)) d.1 in
+          (r.text, r.one, r.accepted)
+
+      pieces_read : HasNumber m (codes "pieces")
+      pieces_read =
+          let d = defaulted 1 (codes "pieces") (codes "4") (Signed (pos 1) (pos 64)) (omega arith) (λ _. refl) refl refl refl refl refl pieces_at (differ _ _ refl) (λ e. elim e [ inl h ↦ differ _ _ refl h | inr h ↦ differ _ _ refl h ]) in
+          let r = default_reads c m p globals built_has_none 1 d.0 (codes "pieces") (Signed (pos 1) (pos 64)) d.1 in
+          (r.text, r.one, r.accepted)
+
+      report_read : map (λ n. n.now) names.now ≡ report_words → HasReport m
+      report_read words =
+          let d = defaulted 3 (codes "report") (codes "all") (Names names) (omega arith) (λ _. refl) refl refl refl refl refl report_at (differ _ _ refl) (λ e. elim e [ inl h ↦ differ _ _ refl h | inr h ↦ differ _ _ refl h ]) in
+          let r = default_reads c m p globals built_has_none 3 d.0 (codes "report") (Names names) d.1 in
+          let taken : list_any (λ n. bytes_eq n.now r.text) names.now ≡ true = rw d.2 at r.accepted in
+          let word = one_of_words r.text (ap (list_any (λ (w : Text). bytes_eq w r.text)) (sym words) ∙ (sym (list_any-map (λ (w : Text). bytes_eq w r.text) (λ n. n.now) names.now) ∙ taken)) in
+          (word.0, r.first ∙ ap Some word.1)
+
+pub finds : (c : Command) (m : ArgMatches) (words : List Text) → IsCommand (app_of c) → IsParsedFrom c m → fault_of (app_of c) words ≡ [] → HasMatchesOf (app_of c) words m → Finds words m
+finds c m words is p fault matches =
+    let names = is.1.0 in
+    let same : app_of c ≡ command_of (report_rule names) = is.2 ∙ ap command_of is.1.2 in
+    record {
+      app = app_of c;
+      command = is;
+      no_fault = fault;
+      rows = (matches (and_parts (is_simple (app_of c)) (is_free_app (built (app_of c))) (simple (app_of c) is)).0).0;
+      workers = workers_read names c same m p;
+      pieces = pieces_read names c same m p;
+      report = report_read names c same m p is.1.1;
+    }
+
+-- ---- what a line says
+
+module _ (f : Found) (rows : List Row) (is : rows_of f ≡ rows) where
+  first_is : (id : Text) → first_value f id ≡ first_of id rows
+  first_is id = first_value-rows f id ∙ ap (first_of id) is
+
+  one_is : (id : Text) → one_text f id ≡ one_of id rows
+  one_is id = one_text-rows f id ∙ ap (one_of id) is
+
+abbrev digits : Text → ℕ
+digits t = digits_value 10 (without_leading_plus t)
+
+pub says : (words : List Text) (m : ArgMatches) → Finds words m → (line : Line) (n : ℕ) → line.plan.cuts ≡ Count n
+    → option_map digits (one_text (found_of m) (codes "pieces")) ≡ Some n → 1 ≤ n → n ≤ 64
+    → option_map digits (one_text (found_of m) (codes "workers")) ≡ Some line.plan.workers → 1 ≤ line.plan.workers → line.plan.workers ≤ 64
+    → only_of line.plan ≡ first_value (found_of m) (codes "only") → first_value (found_of m) (codes "report") ≡ Some (report_word line.plan.choice)
+    → option_map string_bytes line.file ≡ first_value (found_of m) (codes "FILE") → Says words line
+says words m f line n cuts pieces least most workers few many only choice file =
+    let rows = matches_of f.app words in
+    let first = first_is (found_of m) rows f.rows in
+    let one = one_is (found_of m) rows f.rows in (
+      f.app,
+      f.command,
+      f.no_fault,
+      record {
+        pieces = (n, cuts, ap (option_map digits) (sym (one (codes "pieces"))) ∙ pieces);
+        workers = ap (option_map digits) (sym (one (codes "workers"))) ∙ workers;
+        only = sym (first (codes "only")) ∙ sym only;
+        choice = sym (first (codes "report")) ∙ choice;
+        file = sym (first (codes "FILE")) ∙ sym file;
+        lawful = (subst IsLawfulCutting (sym cuts) (least, most), few, many);
+      },
+    )

@@ -1,0 +1,39 @@
+-- What is known of the entries that clap found: their texts have passed the tests of the command.
+use Rattle.std.specs.Prelude.{◌≡◌, ◌≢◌, List, [], Some, codes, pos}
+use Rattle.clap.specs.Lexer.{without_minus}
+use Rattle.clap.specs.Matches.{first_value, found_of, one_text}
+use Rattle.clap.specs.Values.{IsSignedIn}
+use Rattle.clap.specs.Walk.{Text, rows_of}
+use Rattle.clap.specs.Simple.{App, matches_of}
+use Rattle.clap.specs.Faults.{fault_of}
+use Rattle.clap.specs.declared.parser.matches.ArgMatches.{ArgMatches}
+use Rattle.clap.specs.declared.error.kind.ErrorKind.{ErrorKind}
+use Rattle.clap.specs.declared.error.kind.ErrorKind.TheVariants.{DisplayHelp, OutOfMemory}
+use Rattle.mm_spec.specs.declared.Choice.{Choice}
+use Rattle.mm_line.specs.declared.command_line.LineRefused.{LineRefused}
+use Rattle.mm_line.specs.declared.command_line.LineRefused.TheVariants.{Help, Bad, Memory}
+use Rattle.mm_line.specs.Lines.{IsCommand, report_word}
+
+-- the entry is read as a number from 1 to 64
+abbrev pub HasNumber : ArgMatches → Text → Type 0
+HasNumber m id = (t : Text) × (one_text (found_of m) id ≡ Some (without_minus t)) × IsSignedIn (pos 1) (pos 64) t
+
+-- the entry of `--report` is one of its words
+abbrev pub HasReport : ArgMatches → Type 0
+HasReport m = (choice : Choice) × (first_value (found_of m) (codes "report") ≡ Some (report_word choice))
+
+-- the command finds no fault in the words, and these are its matches
+pub record Finds (words : List Text) (m : ArgMatches) : Type 0 where
+  pub app : App
+  pub command : IsCommand app
+  pub no_fault : fault_of app words ≡ []
+  pub rows : rows_of (found_of m) ≡ matches_of app words
+  pub workers : HasNumber m (codes "workers")
+  pub pieces : HasNumber m (codes "pieces")
+  pub report : HasReport m
+
+-- the refusal is for an error of this kind
+abbrev pub IsFor : ErrorKind → LineRefused → Type 0
+IsFor kind (Help text) = kind ≡ DisplayHelp
+IsFor kind (Bad text) = (kind ≢ DisplayHelp) × (kind ≢ OutOfMemory)
+IsFor kind Memory = kind ≡ OutOfMemory

@@ -1,0 +1,98 @@
+-- The command line: which words the command takes, and what a line says. Both are as `clap` states them: `matches_of` is
+-- what it finds in the words, `fault_of` the kinds of error that the words may have.
+use Rattle.std.specs.Prelude.{◌≡◌, ℕ, List, [], ◌∷◌, map, Option, Some, codes, pos, ◌≢◌, false, ⊤}
+use Rattle.std.specs.Option.{option_map}
+use Rattle.std.specs.String.{string_bytes}
+use Rattle.std.specs.Borrow.{Bor}
+use Rattle.std.specs.Str.Parse.{digits_value, without_leading_plus}
+use Rattle.clap.specs.Walk.{Row, Rule, Text, first_of, one_of}
+use Rattle.clap.specs.Simple.{App, new_app, new_rule, with_rule, matches_of}
+use Rattle.clap.specs.Takes.{takes}
+use Rattle.clap.specs.Kinds.{IsAmong}
+use Rattle.clap.specs.Faults.{fault_of}
+use Rattle.clap.specs.declared.builder.action.ArgAction.TheVariants.{Set}
+use Rattle.clap.specs.declared.builder.value_parser.ValueParser.TheVariants.{Signed, Names}
+use Rattle.clap.specs.declared.error.kind.ErrorKind.{ErrorKind}
+use Rattle.clap.specs.declared.error.kind.ErrorKind.TheVariants.{DisplayHelp}
+use Rattle.mm_spec.specs.declared.Choice.{Choice}
+use Rattle.mm_spec.specs.declared.Choice.TheVariants.{All, Matrix, Counts, Usage}
+use Rattle.mm_plan.specs.Plans.{IsLawful, only_of}
+use Rattle.mm_plan.specs.declared.Cutting.TheVariants.{Count}
+use Rattle.mm_line.specs.declared.command_line.Line.{Line}
+use Rattle.mm_line.specs.declared.command_line.LineRefused.{LineRefused}
+use Rattle.mm_line.specs.declared.command_line.LineRefused.TheVariants.{Help, Bad, Memory}
+
+-- the words of `--report`
+abbrev pub report_word : Choice → Text
+report_word All = codes "all"
+report_word Matrix = codes "matrix"
+report_word Counts = codes "counts"
+report_word Usage = codes "usage"
+
+abbrev pub report_words : List Text
+report_words = map report_word (All ∷ Matrix ∷ Counts ∷ Usage ∷ [])
+
+-- an option with a whole number from 1 to 64, 4 where it isn't given
+abbrev pub number_rule : Text → Rule
+number_rule id = record (new_rule id) {
+  long = Some id;
+  action = Some Set;
+  value_names = 1;
+  defaults = codes "4" ∷ [];
+  parser = Some (Signed (pos 1) (pos 64));
+}
+
+abbrev pub only_rule : Rule
+only_rule = record (new_rule (codes "only")) { long = Some (codes "only"); action = Some Set; value_names = 1 }
+
+-- an option with one of these words, the one for all sections where it isn't given
+abbrev pub report_rule : Bor (List (Bor Text)) → Rule
+report_rule names = record (new_rule (codes "report")) {
+  long = Some (codes "report");
+  action = Some Set;
+  value_names = 1;
+  defaults = codes "all" ∷ [];
+  parser = Some (Names names);
+}
+
+-- the rule of `--report`, wherever its words lie
+abbrev pub IsReportRule : Rule → Type 0
+IsReportRule rule = (names : Bor (List (Bor Text))) × (map (λ n. n.now) names.now ≡ report_words) × (rule ≡ report_rule names)
+
+abbrev pub file_rule : Rule
+file_rule = record (new_rule (codes "FILE")) { action = Some Set }
+
+-- mmdepend [--workers N] [--pieces N] [--only T] [--report PART] [FILE]
+unfoldable pub command_of : Rule → App
+command_of report =
+    with_rule (with_rule (with_rule (with_rule (with_rule (new_app (codes "mmdepend")) (number_rule (codes "workers"))) (number_rule (codes "pieces"))) only_rule) report) file_rule
+
+abbrev pub IsCommand : App → Type 0
+IsCommand app = (report : Rule) × IsReportRule report × (app ≡ command_of report)
+
+-- the number that an entry spells
+abbrev pub number_of : Text → List Row → Option ℕ
+number_of id rows = option_map (λ t. digits_value 10 (without_leading_plus t)) (one_of id rows)
+
+-- the plan is lawful, and each field is its entry
+pub record IsLine (rows : List Row) (line : Line) : Type 0 where
+  pub pieces : (n : ℕ) × (line.plan.cuts ≡ Count n) × (number_of (codes "pieces") rows ≡ Some n)
+  pub workers : number_of (codes "workers") rows ≡ Some line.plan.workers
+  pub only : first_of (codes "only") rows ≡ only_of line.plan
+  pub choice : first_of (codes "report") rows ≡ Some (report_word line.plan.choice)
+  pub file : first_of (codes "FILE") rows ≡ option_map string_bytes line.file
+  pub lawful : IsLawful line.plan
+
+-- the command finds no fault in the words, and the line is what they say
+abbrev pub Says : List Text → Line → Type 0
+Says words line = (app : App) × IsCommand app × (fault_of app words ≡ []) × IsLine (matches_of app words) line
+
+-- the command doesn't take the words, for a fault of which this holds
+abbrev pub Faults : List Text → (ErrorKind → Type 0) → Type 0
+Faults words P = (app : App) × IsCommand app × (takes app words ≡ false) × (kind : ErrorKind) × IsAmong kind (fault_of app words) × P kind
+
+-- Help is asked for, or the words have another fault. Nothing is said where memory was refused.
+abbrev pub Refuses : List Text → LineRefused → Type 0
+Refuses words (Help text) = Faults words (λ kind. kind ≡ DisplayHelp)
+Refuses words (Bad text) = Faults words (λ kind. kind ≢ DisplayHelp)
+Refuses words Memory = ⊤

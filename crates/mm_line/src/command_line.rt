@@ -1,0 +1,34 @@
+//! What a command line says.
+
+use mm_plan::Plan;
+use std::alloc::{AllocError, Global};
+
+/// What the words of a command line say: what the run is asked to do, and the file that it reads, the standard input
+/// where it is `None`.
+#[derive(Drop)]
+pub struct Line {
+    pub plan: Plan<Global>,
+    pub file: Option<String>,
+}
+
+/// Why there is no line.
+#[derive(Drop)]
+pub enum LineRefused {
+    /// Help is asked for, and this is its text.
+    Help(String),
+    /// The words have a fault, which this text tells.
+    Bad(String),
+    /// Memory was refused.
+    Memory,
+}
+
+impl From<AllocError> for LineRefused {
+    ghost use Rattle.std.specs.Prelude.{◌≡◌};
+    ghost use Rattle.mm_line.specs.declared.command_line.LineRefused.TheVariants.{Memory};
+
+    ghost from_gives = { λ _ e. e ≡ Memory };
+
+    fn from(_: AllocError) -> LineRefused {
+        LineRefused::Memory
+    }
+}

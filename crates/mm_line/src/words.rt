@@ -1,0 +1,159 @@
+//! Reading the words of a command line.
+
+ghost use Rattle.std.specs.Prelude.{◌≡◌, ◌≤◌, IfOk, IfErr, Some, codes, map, option_map};
+ghost use Rattle.std.specs.String.{string_bytes};
+ghost use Rattle.std.specs.Str.Parse.{digits_value, without_leading_plus};
+ghost use Rattle.clap.specs.Words.{app_of, first_value, found_of, kind_of, one_text, rule_of};
+ghost use Rattle.mm_line.specs.Found.{Finds, HasNumber, HasReport, IsFor};
+ghost use Rattle.mm_line.specs.Lines.{IsCommand, IsReportRule, Refuses, Says, file_rule, number_rule, only_rule, report_word};
+
+use crate::command_line::{Line, LineRefused};
+use clap::error::ErrorKind;
+use clap::{Arg, ArgAction, ArgMatches, Command, Error};
+use mm_plan::{Cutting, Plan};
+use mm_spec::Choice;
+use std::alloc::{AllocError, Global};
+use std::convert::AsStr;
+
+static REPORTS: [&str; 4] = ["all", "matrix", "counts", "usage"];
+
+/// An option with a whole number from 1 to 64, 4 where it isn't given.
+fn number<'a>(alloc: Global, name: &'a str, help: &'a str) -> Arg<'a>
+    ensures { rule_of result ≡ number_rule name.entry.now }
+{
+    Arg::new(alloc, name)
+        .long(name)
+        .action(ArgAction::Set)
+        .value_name("N")
+        .value_parser(clap::value_parser!(u32).range(1..65))
+        .default_value("4")
+        .help(help)
+}
+
+/// The option that chooses the columns.
+fn only<'a>(alloc: Global) -> Arg<'a>
+    ensures { rule_of result ≡ only_rule }
+{
+    Arg::new(alloc, "only")
+        .long("only")
+        .action(ArgAction::Set)
+        .value_name("T")
+        .help("Report on the axioms of typecode T alone, such as '|-'")
+}
+
+/// The option that chooses the sections.
+fn report<'a>(alloc: Global) -> Arg<'a>
+    ensures { IsReportRule (rule_of result) }
+{
+    Arg::new(alloc, "report")
+        .long("report")
+        .action(ArgAction::Set)
+        .value_name("PART")
+        .value_parser(REPORTS.as_slice())
+        .default_value("all")
+        .help("Write this part of the report")
+}
+
+/// The argument that names the database.
+fn file<'a>(alloc: Global) -> Arg<'a>
+    ensures { rule_of result ≡ file_rule }
+{
+    Arg::new(alloc, "FILE")
+        .action(ArgAction::Set)
+        .help("The database; without it the standard input is read")
+}
+
+/// The command, with one line of help for each argument.
+fn command<'a>(alloc: Global) -> Result<Command<'a>, AllocError>
+    ensures { IfOk result (λ c. IsCommand (app_of c)) }
+{
+    let workers = number(alloc, "workers", "Check the proofs by N threads, 1 to 64");
+    let pieces = number(alloc, "pieces", "Read the text in N pieces, 1 to 64");
+    Command::new(alloc, "mmdepend")
+        .about("Verifies a Metamath database and reports on which axioms each theorem rests")
+        .arg(workers)?
+        .arg(pieces)?
+        .arg(only(alloc))?
+        .arg(report(alloc))?
+        .arg(file(alloc))
+}
+
+/// Why clap refused the words.
+fn refused(alloc: Global, error: &Error) -> Result<LineRefused, AllocError>
+    ensures { IfOk result (IsFor (kind_of error.now)) }
+{
+    let text = error.to_string(alloc)?;
+    Ok(match error.kind() {
+        ErrorKind::DisplayHelp => LineRefused::Help(text),
+        ErrorKind::OutOfMemory => LineRefused::Memory,
+        _ => LineRefused::Bad(text),
+    })
+}
+
+/// What clap finds in the words.
+fn parsed<'a, S: AsStr>(alloc: Global, words: &'a [S]) -> Result<ArgMatches<'a>, LineRefused>
+    ensures finds { IfOk result (λ m. Finds (map S.text words.entry.now) m) }
+    ensures refuses { IfErr result (λ e. Refuses (map S.text words.entry.now) e) }
+{
+    match command(alloc)?.try_get_matches_from(words) {
+        Ok(matches) => Ok(matches),
+        Err(error) => Err(refused(alloc, &error)?),
+    }
+}
+
+/// The number that an option has.
+fn number_in(matches: &ArgMatches<'_>, option: &str) -> u32
+    requires { HasNumber matches.now option.now }
+    ensures number { option_map (λ t. digits_value 10 (without_leading_plus t)) (one_text (found_of matches.now) option.now) ≡ Some result }
+    ensures least { 1 ≤ result }
+    ensures most { result ≤ 64 }
+{
+    match matches.get_one(option) {
+        Some(number) => number,
+        None => unreachable!("clap has read a number there"),
+    }
+}
+
+/// What `--report` asks for.
+fn choice_in(matches: &ArgMatches<'_>) -> Choice
+    requires { HasReport matches.now }
+    ensures { first_value (found_of matches.now) (codes "report") ≡ Some (report_word result) }
+{
+    match matches.get_str("report") {
+        Some("matrix") => Choice::Matrix,
+        Some("counts") => Choice::Counts,
+        Some("usage") => Choice::Usage,
+        _ => Choice::All,
+    }
+}
+
+/// A copy of the text that an argument has, if it has one.
+fn text_in(
+    alloc: Global,
+    matches: &ArgMatches<'_>,
+    argument: &str,
+) -> Result<Option<String>, AllocError>
+    ensures { IfOk result (λ r. option_map string_bytes r ≡ first_value (found_of matches.now) argument.now) }
+{
+    match matches.get_str(argument) {
+        Some(text) => Ok(Some(String::from_str(alloc, text)?)),
+        None => Ok(None),
+    }
+}
+
+/// Reads the words of a command line, of which the first is the program's name. `Help` and `Bad` come only where the
+/// command doesn't take the words.
+pub fn line<S: AsStr>(alloc: Global, words: &[S]) -> Result<Line, LineRefused>
+    ensures says { IfOk result (λ l. Says (map S.text words.now) l) }
+    ensures refuses { IfErr result (λ e. Refuses (map S.text words.now) e) }
+{
+    let matches = parsed(alloc, words)?;
+    let plan = Plan {
+        cuts: Cutting::Count(number_in(&matches, "pieces")),
+        workers: number_in(&matches, "workers"),
+        only: text_in(alloc, &matches, "only")?,
+        choice: choice_in(&matches),
+    };
+    let file = text_in(alloc, &matches, "FILE")?;
+    Ok(Line { plan, file })
+}

@@ -1,0 +1,24 @@
+-- Plans that a run takes.
+use Rattle.std.specs.Prelude.{ℕ, ◌+◌, ◌<◌, ◌≤◌, List, length, slice_index, Option}
+use Rattle.std.specs.Option.{option_map}
+use Rattle.std.specs.String.{string_bytes}
+use Rattle.mm_spec.specs.Text.{Word}
+use Rattle.mm_plan.specs.declared.Plan.{Plan}
+use Rattle.mm_plan.specs.declared.Cutting.{Cutting}
+use Rattle.mm_plan.specs.declared.Cutting.TheVariants.{Count, Places}
+
+-- none of the first n places is less than the one before it
+abbrev pub RisesTo : List ℕ → ℕ → Type 0
+RisesTo xs n = (i : ℕ) → i + 1 < n → slice_index xs i ≤ slice_index xs (i + 1)
+
+module _ {A : Type 0} where
+  abbrev pub IsLawfulCutting : Cutting A → Type 0
+  IsLawfulCutting (Count n) = (1 ≤ n) × (n ≤ 64)
+  IsLawfulCutting (Places v) = RisesTo v.items (length v.items)
+
+  abbrev pub IsLawful : Plan A → Type 0
+  IsLawful p = IsLawfulCutting p.cuts × (1 ≤ p.workers) × (p.workers ≤ 64)
+
+  -- the typecode of the columns, if one is chosen
+  abbrev pub only_of : Plan A → Option Word
+  only_of p = option_map string_bytes p.only

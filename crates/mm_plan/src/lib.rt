@@ -1,0 +1,73 @@
+//! What a run is asked to do. This crate knows the fields of a plan and which plans a run takes: where a text is cut into
+//! pieces, how many workers check the proofs, and the columns and sections of the report. It promises that `is_lawful`
+//! answers for exactly those plans that are lawful by the definitions in `specs/`. It reads no text and takes no memory.
+#![tactic(auto)]
+
+ghost use Rattle.std.specs.Prelude.{◌≡◌, ◌↔◌, IsTrue, length};
+ghost use Rattle.std.specs.Option.{option_map};
+ghost use Rattle.mm_plan.specs.Plans.{IsLawful, IsLawfulCutting, RisesTo, only_of};
+
+use mm_spec::Choice;
+use std::alloc::Allocator;
+
+/// Where a text is cut into pieces: into so many of about the same length, or at these places, byte offsets from 0, of
+/// which those past the text's end are dropped.
+#[derive(Drop)]
+pub enum Cutting<A: Allocator> {
+    Count(u32),
+    Places(Vec<u32, A>),
+}
+
+/// What a run is asked to do: how the text is cut, how many workers check the proofs, the typecode of the axioms that
+/// are columns (all axioms where it is `None`), and the sections of the report. Neither the cuts nor the workers change
+/// what is written.
+#[derive(Drop)]
+pub struct Plan<A: Allocator> {
+    pub cuts: Cutting<A>,
+    pub workers: u32,
+    pub only: Option<String<A>>,
+    pub choice: Choice,
+}
+
+/// Whether no place is less than the one before it.
+fn rises(places: &[u32]) -> bool
+    ensures { IsTrue result ↔ RisesTo places.now (length places.now) }
+{
+    for i in 1..places.len() {
+        if places[i] < places[i - 1] {
+            return false;
+        }
+    }
+    true
+}
+
+impl<A: Allocator> Cutting<A> {
+    fn is_lawful(&self) -> bool
+        ensures { IsTrue result ↔ IsLawfulCutting self.now }
+    {
+        match self {
+            Cutting::Count(count) => 1 <= *count && *count <= 64,
+            Cutting::Places(places) => rises(places),
+        }
+    }
+}
+
+impl<A: Allocator> Plan<A> {
+    /// Whether a run takes the plan: 1 to 64 pieces, or places none of which is less than the one before it, and 1 to 64
+    /// workers.
+    pub fn is_lawful(&self) -> bool
+        ensures { IsTrue result ↔ IsLawful self.now }
+    {
+        self.cuts.is_lawful() && 1 <= self.workers && self.workers <= 64
+    }
+
+    /// The typecode of the columns, if one is chosen.
+    pub fn typecode(&self) -> Option<&[u8]>
+        ensures { option_map (λ w. w.now) result ≡ only_of self.now }
+    {
+        match &self.only {
+            Some(typecode) => Some(typecode.as_bytes()),
+            None => None,
+        }
+    }
+}

@@ -1,0 +1,45 @@
+//! The cuts of a text that a plan asks for.
+
+ghost use Rattle.std.specs.Prelude.{◌≡◌, ◌<◌, ◌≤◌, ◌^◌, ℕ, IfOk, length, slice_index};
+ghost use Rattle.mm_plan.specs.Plans.{IsLawfulCutting};
+
+use mm_lex::Cuts;
+use mm_plan::Cutting;
+use std::alloc::{AllocError, Allocator};
+
+/// How many of the places are within the length, up to the first that isn't.
+fn within(places: &[u32], len: usize) -> usize
+    ensures few { result ≤ length places.now }
+    ensures within { (i : ℕ) → i < result → slice_index places.now i ≤ len }
+{
+    for (i, place) in places.iter().enumerate() {
+        if *place as usize > len {
+            return i;
+        }
+    }
+    places.len()
+}
+
+/// The cuts of a text of this length, at most 2,147,483,648 bytes; places past its end are dropped. Refused only where
+/// memory is.
+pub fn cuts_of<A: Allocator + Copy>(
+    cutting: &Cutting<A>,
+    alloc: A,
+    len: usize,
+) -> Result<Cuts<A>, AllocError>
+    requires lawful { IsLawfulCutting cutting.now }
+    requires len { len ≤ 2 ^ 31 }
+    ensures { IfOk result (λ cuts. cuts.len ≡ len) }
+{
+    match cutting {
+        Cutting::Count(count) => Cuts::equal(alloc, len, *count),
+        Cutting::Places(places) => {
+            let mut kept = Vec::new(alloc);
+            kept.extend_from_slice(&places[..within(places, len)])?;
+            match Cuts::from_places(kept, len) {
+                Ok(cuts) => Ok(cuts),
+                Err(_) => unreachable!("the places of a lawful plan rise"),
+            }
+        }
+    }
+}

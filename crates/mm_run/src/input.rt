@@ -1,0 +1,52 @@
+//! Reading a text.
+
+ghost use Rattle.std.specs.Prelude.{◌≡◌, ◌≤◌, ◌<◌, OnOk, vec_len, length};
+ghost use Rattle.mm_run.specs.Ends.{Gave, reading_limit};
+
+use std::alloc::{AllocError, Allocator};
+use std::io::Read;
+
+/// The most bytes that are read: one more than a text may have, so that a longer text is seen to be too long.
+pub const READING_LIMIT: usize = 2_147_483_648;
+
+/// How many bytes are asked for at a time.
+const PIECE: usize = 65536;
+
+/// Why a text was not read.
+#[derive(Clone, Copy, PartialEq, Eq, Debug)]
+pub enum ReadRefused {
+    Failed,
+    Memory,
+}
+
+impl From<AllocError> for ReadRefused {
+    ghost use Rattle.std.specs.Prelude.{◌≡◌};
+    ghost use Rattle.mm_run.specs.declared.input.ReadRefused.TheVariants.{Memory};
+
+    ghost from_gives = { λ _ e. e ≡ Memory };
+
+    fn from(_: AllocError) -> ReadRefused {
+        ReadRefused::Memory
+    }
+}
+
+/// Reads to the end, or to the limit. A read that answers an error of any kind is a failure and is not tried again.
+pub fn read_all<R: Read, A: Allocator>(
+    from: &mut R,
+    text: &mut Vec<u8, A>,
+) -> Result<(), ReadRefused>
+    requires { vec_len text.old ≡ 0 }
+    ensures gave { OnOk result (Gave (R.remaining from.old) (R.remaining from.new) text.new.items) }
+    ensures few { OnOk result (length text.new.items ≤ reading_limit) }
+{
+    let mut piece = [0u8; PIECE];
+    while text.len() < READING_LIMIT {
+        let room = (READING_LIMIT - text.len()).min(PIECE);
+        match from.read(&mut piece[..room]) {
+            Ok(0) => return Ok(()),
+            Ok(count) => text.extend_from_slice(&piece[..count])?,
+            Err(_) => return Err(ReadRefused::Failed),
+        }
+    }
+    Ok(())
+}

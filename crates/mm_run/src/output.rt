@@ -1,0 +1,94 @@
+//! What is written of a text: its report, or its refusal.
+
+ghost use Rattle.std.specs.Prelude.{◌≡◌, ◌<◌, ◌≤◌, ◌^◌, ℕ, List, IfOk, length};
+ghost use Rattle.mm_spec.specs.Lexed.{lexical_fault, tokens_of};
+ghost use Rattle.mm_spec.specs.Statement.{Statement};
+ghost use Rattle.mm_spec.specs.Output.{lexed_of, FirstFault, HasNoFault, IsRead};
+ghost use Rattle.mm_run.specs.Ends.{Answers, reading_limit};
+ghost use Rattle.mm_work.specs.Judged.{AllCited, IsFirstFault};
+ghost use Rattle.mm_plan.specs.Plans.{IsLawful, only_of};
+
+use crate::RunEnd;
+use crate::cuts::cuts_of;
+use mm_lex::lex;
+use mm_plan::Plan;
+use mm_report::{write_refusal, write_report};
+use mm_rows::{Columns, matrix};
+use mm_spec::Fault;
+use mm_stmt::{Database, read};
+use mm_work::{Citations, Judged, Open, check_all};
+use std::alloc::Allocator;
+use std::io::Write;
+use std::sync::Wait;
+use std::thread::Threads;
+
+/// Writes the refusal of the text for its first fault.
+fn refuse<A: Allocator, W: Write>(text: &[u8], fault: Fault, plan: &Plan<A>, to: &mut W) -> RunEnd
+    requires { FirstFault (length text.now) (lexed_of text.now) fault }
+    ensures { Answers result text.now (only_of plan.now) plan.now.choice (W.contents to.old) (W.contents to.new) }
+{
+    let _ = plan.workers;
+    match write_refusal(to, text, &fault) {
+        Ok(()) => RunEnd::Refused(fault),
+        Err(_) => RunEnd::WriteFailed,
+    }
+}
+
+/// Writes the report of a database without a fault.
+fn report<'a, R: Threads + Sync, A: Allocator + Copy + Send + Sync, W: Write>(
+    rt: &R,
+    alloc: A,
+    database: &Database<'a, A>,
+    citations: &Citations<A>,
+    plan: &Plan<A>,
+    to: &mut W,
+) -> RunEnd
+    requires sound { HasNoFault (length database.now.text) (lexed_of database.now.text) database.now.statements }
+    requires cited { AllCited database.now.statements citations.now }
+    ensures { Answers result database.now.text (only_of plan.now) plan.now.choice (W.contents to.old) (W.contents to.new) }
+{
+    let Ok(columns) = Columns::new(alloc, database, plan.typecode()) else {
+        return RunEnd::NoMemory;
+    };
+    let Ok(table) = matrix(rt, alloc, citations, &columns) else {
+        return RunEnd::NoMemory;
+    };
+    match write_report(to, database, &columns, &table, plan.choice) {
+        Ok(()) => RunEnd::Accepted,
+        Err(_) => RunEnd::WriteFailed,
+    }
+}
+
+/// Writes what the text and the choice of report define: the refusal of the first fault, or the report.
+pub fn answer<R: Threads + Wait + Sync, A: Allocator + Copy + Send + Sync, W: Write>(
+    rt: &R,
+    alloc: A,
+    text: &[u8],
+    plan: &Plan<A>,
+    to: &mut W,
+) -> RunEnd
+    requires few { length text.now ≤ reading_limit }
+    requires lawful { IsLawful plan.now }
+    ensures { Answers result text.now (only_of plan.now) plan.now.choice (W.contents to.old) (W.contents to.new) }
+{
+    let Ok(cuts) = cuts_of(&plan.cuts, alloc, text.len()) else {
+        return RunEnd::NoMemory;
+    };
+    let Ok(lexed) = lex(rt, alloc, text, &cuts) else {
+        return RunEnd::NoMemory;
+    };
+    let Ok(database) = read(alloc, text, &lexed) else {
+        return RunEnd::NoMemory;
+    };
+    let _ = database.len();
+    let Ok(judged) = check_all(rt, alloc, &database, plan.workers, &Open) else {
+        return RunEnd::NoMemory;
+    };
+    match judged {
+        Judged::Faulty(fault) => refuse(text, fault, plan, to),
+        Judged::Valid(citations) => match database.fault() {
+            Some(fault) => refuse(text, fault, plan, to),
+            None => report(rt, alloc, &database, &citations, plan, to),
+        },
+    }
+}

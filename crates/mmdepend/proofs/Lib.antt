@@ -1,4 +1,0 @@
-pub mod RowsLaw
-pub mod EndsLaw
-mod EntryLaw
-mod LineLaw

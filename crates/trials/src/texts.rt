@@ -1,0 +1,68 @@
+//! Texts that several tests read, and the reports on them.
+
+use std::alloc::{AllocError, Global};
+
+/// The symbols and formulas of a conditional, its first axiom, and a theorem that rests on one of the two axioms.
+pub(crate) const FIRST: &[u8] =
+    b"$c wff |- ( -> ) $.\n$v p q $.\nwp $f wff p $.\nwq $f wff q $.\nwi $a wff ( p -> q ) $.\nax-1 $a |- ( p -> ( q -> p ) ) $.\nwi2 $p wff ( p -> ( q -> p ) ) $= wp wq wp wi wi $.\n";
+
+/// The report on it.
+pub(crate) const FIRST_REPORT: &[u8] =
+    b"mmdepend 1\naxioms 2\ntheorems 1\nmatrix\nwi2:10\ncounts\nwi2:1\nusage\nwi:1:wi2\nax-1:0:\nend\n";
+
+/// Symbols, the formulas of a conditional, and the first axiom.
+pub(crate) const BASE: &[u8] =
+    b"$c wff |- ( -> ) $.\n$v p q $.\nwp $f wff p $.\nwq $f wff q $.\nwi $a wff ( p -> q ) $.\nax-1 $a |- ( p -> ( q -> p ) ) $.\n";
+
+/// The rule of detachment.
+pub(crate) const DETACHMENT: &[u8] =
+    b"${ min $e |- p $. maj $e |- ( p -> q ) $. ax-mp $a |- q $. $}\n";
+
+/// A theorem with a hypothesis, up to its proof, which begins at column 41.
+pub(crate) const CONSEQUENT: &[u8] = b"${ h $e |- p $. a1i $p |- ( q -> p ) $= ";
+
+/// What stands behind the proof of that theorem.
+pub(crate) const CLOSE: &[u8] = b" $. $}\n";
+
+/// The proof of that theorem, and the report on it.
+pub(crate) const CONSEQUENT_PROOF: &[u8] = b"wp wq wp wi h wp wq ax-1 ax-mp";
+
+pub(crate) const CONSEQUENT_REPORT: &[u8] =
+    b"mmdepend 1\naxioms 3\ntheorems 1\nmatrix\na1i:111\ncounts\na1i:3\nusage\nwi:1:a1i\nax-1:1:a1i\nax-mp:1:a1i\nend\n";
+
+/// A theorem that cites the theorem before it, twice.
+pub(crate) const THROUGH: &[u8] =
+    b"${ g $e |- p $. a2 $p |- ( q -> ( q -> p ) ) $= wq wp wi wq wp wq g a1i a1i $. $}\n";
+
+/// Two theorems whose proofs aren't valid; the first takes longer to check.
+pub(crate) const LONG: &[u8] = b"long $p wff p $= wp wq wp wi wp wi wp wi wp wi $.\n";
+
+pub(crate) const SHORT: &[u8] = b"short $p wff p $= wq $.\n";
+
+/// The report on a text without axioms and theorems.
+pub(crate) const NOTHING_REPORT: &[u8] =
+    b"mmdepend 1\naxioms 0\ntheorems 0\nmatrix\ncounts\nusage\nend\n";
+
+/// The parts, one behind the other.
+pub(crate) fn joined(alloc: Global, parts: &[&[u8]]) -> Result<Vec<u8>, AllocError> {
+    let mut text = Vec::new(alloc);
+    for part in parts {
+        text.extend_from_slice(part)?;
+    }
+    Ok(text)
+}
+
+/// A theorem with a hypothesis, by the rule of detachment.
+pub(crate) fn consequent(alloc: Global) -> Result<Vec<u8>, AllocError> {
+    joined(
+        alloc,
+        &[BASE, DETACHMENT, CONSEQUENT, CONSEQUENT_PROOF, CLOSE],
+    )
+}
+
+/// The same, and a theorem by that theorem.
+pub(crate) fn through_a_theorem(alloc: Global) -> Result<Vec<u8>, AllocError> {
+    let mut text = consequent(alloc)?;
+    text.extend_from_slice(THROUGH)?;
+    Ok(text)
+}
