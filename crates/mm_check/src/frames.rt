@@ -1,8 +1,8 @@
 //! What is asked of the database.
 
-ghost use Rattle.std.specs.Prelude.{◌≡◌, ◌<◌, ℕ, All, length, map, nat_eq, true, false, IfSome, IfNone};
+ghost use Rattle.std.specs.Prelude.{◌≡◌, ◌<◌, ◌∷◌, [], get_or, ℕ, All, length, map, nat_eq, true, false, IfSome, IfNone};
 ghost use Rattle.mm_spec.specs.Derivation.{pair};
-ghost use Rattle.mm_spec.specs.Frame.{symbol_names, formula_at, mandatory_hypotheses, mandatory_pairs};
+ghost use Rattle.mm_spec.specs.Frame.{symbol_names, is_variable, formula_at, mandatory_hypotheses, mandatory_pairs};
 ghost use Rattle.mm_spec.specs.Citation.{context_at};
 ghost use Rattle.mm_spec.specs.Complete.{binds};
 ghost use Rattle.mm_check.specs.Arena.{paired};
@@ -46,6 +46,7 @@ pub fn pairs<'b, A: Allocator>(db: &'b Database<A>, k: u32) -> &'b [(Sym, Sym)]
 pub fn bound_by<A: Allocator>(db: &Database<A>, h: u32) -> Option<Sym>
     requires { h < length db.now.statements }
     ensures some { IfSome result (λ y. (y < length (symbol_names db.now.statements)) × ((x : ℕ) → binds (context_at db.now.statements 0) x (formula_at db.now.statements h) ≡ nat_eq x y)) }
+    ensures shape { IfSome result (λ y. (formula_at db.now.statements h ≡ get_or (formula_at db.now.statements h) 0 0 ∷ y ∷ []) × (is_variable db.now.statements (get_or (formula_at db.now.statements h) 0 0) ≡ false) × (is_variable db.now.statements y ≡ true)) }
     ensures none { IfNone result ((x : ℕ) → binds (context_at db.now.statements 0) x (formula_at db.now.statements h) ≡ false) }
 {
     let wanted = db.formula(h);

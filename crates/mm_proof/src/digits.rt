@@ -35,6 +35,9 @@ pub(crate) fn letter_of(byte: u8) -> LetterKind
 pub(crate) fn with_digit(number: u64, base: u64, digit: u8) -> u64
     ensures { result ≡ told (base * number + digit) }
 {
+    if number == 0 {
+        return digit as u64;
+    }
     number.saturating_mul(base).saturating_add(digit as u64)
 }
 

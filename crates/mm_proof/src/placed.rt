@@ -32,6 +32,9 @@ struct Placed {
     is_marked: bool,
 }
 
+/// For how many steps there is room at first, where memory isn't refused: so the list of a common proof doesn't grow.
+const ROOM: usize = 64;
+
 /// The steps of a theorem's proof, by their numbers from 0, each with its place.
 #[derive(Drop)]
 pub struct Steps<A: Allocator> {
@@ -55,10 +58,12 @@ impl<A: Allocator> Steps<A> {
     pub(crate) fn none(alloc: A, theorem: u32) -> Self
         ensures { result ≡ read theorem [] }
     {
-        Steps {
-            theorem,
-            steps: Vec::new(alloc),
+        let mut steps = Vec::new(alloc);
+        match steps.reserve(ROOM) {
+            Ok(()) => {}
+            Err(_) => {}
         }
+        Steps { theorem, steps }
     }
 
     /// One step more, which takes up the subproof of an earlier one if it is a marked one.

@@ -77,7 +77,7 @@ pub fn answer<R: Threads + Wait + Sync, A: Allocator + Copy + Send + Sync, W: Wr
     let Ok(lexed) = lex(rt, alloc, text, &cuts) else {
         return RunEnd::NoMemory;
     };
-    let Ok(database) = read(alloc, text, &lexed) else {
+    let Ok(database) = read(alloc, text, lexed) else {
         return RunEnd::NoMemory;
     };
     let _ = database.len();
