@@ -25,7 +25,7 @@ fn last_open<A: Allocator>(tables: &Tables<A>, latest: &[u32], first: u32, at: u
 }
 
 /// For each statement and for the end the last `$e` that is active there, or `NEVER`.
-pub fn latest_essentials<A: Allocator + Copy>(
+pub(crate) fn latest_essentials<A: Allocator + Copy>(
     alloc: A,
     tables: &Tables<A>,
 ) -> Result<Vec<u32, A>, AllocError>
@@ -46,7 +46,7 @@ pub fn latest_essentials<A: Allocator + Copy>(
 }
 
 /// The `$e` that are active, in some order.
-pub fn active_essentials<A: Allocator>(
+pub(crate) fn active_essentials<A: Allocator>(
     tables: &Tables<A>,
     latest: &[u32],
     at: u32,

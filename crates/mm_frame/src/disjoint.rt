@@ -81,7 +81,7 @@ fn symbols_of<A: Allocator + Copy>(
 
 /// The mandatory pairs of an assertion, by its mandatory variables. This costs a step for each active `$d` of each of
 /// them, and one for each pair in each of these.
-pub fn pairs_of<A: Allocator + Copy>(
+pub(crate) fn pairs_of<A: Allocator + Copy>(
     alloc: A,
     tables: &Tables<A>,
     blocks: &Blocks<A>,

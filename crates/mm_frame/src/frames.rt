@@ -90,7 +90,7 @@ fn frame_of<A: Allocator + Copy>(
 }
 
 /// The frames of the statements: those of the assertions, and empty ones for the others.
-pub fn frames_of<A: Allocator + Copy>(
+pub(crate) fn frames_of<A: Allocator + Copy>(
     alloc: A,
     tables: &Tables<A>,
     blocks: &Blocks<A>,
@@ -124,7 +124,7 @@ pub fn frames_of<A: Allocator + Copy>(
 }
 
 /// The `$p` statements, in file order.
-pub fn theorems_of<A: Allocator + Copy>(
+pub(crate) fn theorems_of<A: Allocator + Copy>(
     alloc: A,
     tables: &Tables<A>,
 ) -> Result<Vec<u32, A>, AllocError>
@@ -140,7 +140,7 @@ pub fn theorems_of<A: Allocator + Copy>(
 }
 
 /// The `$a` statements, in file order.
-pub fn axioms_of<A: Allocator + Copy>(
+pub(crate) fn axioms_of<A: Allocator + Copy>(
     alloc: A,
     tables: &Tables<A>,
 ) -> Result<Vec<u32, A>, AllocError>

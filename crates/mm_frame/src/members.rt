@@ -23,7 +23,7 @@ pub struct Members<A: Allocator> {
 }
 
 /// Puts the pairs in order, each once.
-pub fn tidy<A: Allocator>(pairs: &mut Vec<(u32, u32), A>)
+pub(crate) fn tidy<A: Allocator>(pairs: &mut Vec<(u32, u32), A>)
     ensures rising { AreRising pairs.new.items }
     ensures same { (x y : ℕ) → has_pair pairs.new.items x y ≡ has_pair pairs.old.items x y }
 {
@@ -93,7 +93,7 @@ fn skips_of<A: Allocator + Copy>(
 }
 
 /// The `$d` statements by their variables.
-pub fn members_of<A: Allocator + Copy>(
+pub(crate) fn members_of<A: Allocator + Copy>(
     alloc: A,
     tables: &Tables<A>,
     blocks: &Blocks<A>,
@@ -147,7 +147,7 @@ fn back<A: Allocator>(blocks: &Blocks<A>, members: &Members<A>, left: usize, at:
 }
 
 /// Adds the `$d` that are active at a place and have the symbol, each with the symbol.
-pub fn add_active<A: Allocator>(
+pub(crate) fn add_active<A: Allocator>(
     blocks: &Blocks<A>,
     members: &Members<A>,
     symbol: Sym,

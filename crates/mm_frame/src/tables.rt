@@ -75,7 +75,7 @@ impl<'s, A: Allocator> Tables<'s, A> {
     }
 
     /// How many statements there are.
-    pub fn len(&self) -> u32
+    pub(crate) fn len(&self) -> u32
         ensures len { result ≡ length self.now }
         ensures sound { IsSound self.now }
     {
@@ -83,7 +83,7 @@ impl<'s, A: Allocator> Tables<'s, A> {
     }
 
     /// How many symbols there are.
-    pub fn symbol_count(&self) -> u32
+    pub(crate) fn symbol_count(&self) -> u32
         ensures count { result ≡ length (symbol_names self.now) }
         ensures few { result < 2 ^ 31 }
     {
@@ -91,7 +91,7 @@ impl<'s, A: Allocator> Tables<'s, A> {
     }
 
     /// Whether a statement is a `$e`.
-    pub fn is_essential(&self, statement: u32) -> bool
+    pub(crate) fn is_essential(&self, statement: u32) -> bool
         requires { statement < length self.now }
         ensures { result ≡ list_any is_essential (statement_at self.now statement) }
     {
@@ -102,7 +102,7 @@ impl<'s, A: Allocator> Tables<'s, A> {
     }
 
     /// Whether a statement is a `$d`.
-    pub fn is_disjoint(&self, statement: u32) -> bool
+    pub(crate) fn is_disjoint(&self, statement: u32) -> bool
         requires { statement < length self.now }
         ensures { result ≡ list_any is_disjoint (statement_at self.now statement) }
     {
@@ -124,7 +124,7 @@ impl<'s, A: Allocator> Tables<'s, A> {
     }
 
     /// Whether a statement is an `$a`.
-    pub fn is_axiom(&self, statement: u32) -> bool
+    pub(crate) fn is_axiom(&self, statement: u32) -> bool
         requires { statement < length self.now }
         ensures { result ≡ list_any (is_column None) (statement_at self.now statement) }
     {
@@ -135,7 +135,7 @@ impl<'s, A: Allocator> Tables<'s, A> {
     }
 
     /// Whether a statement is a `$p`.
-    pub fn is_theorem(&self, statement: u32) -> bool
+    pub(crate) fn is_theorem(&self, statement: u32) -> bool
         requires { statement < length self.now }
         ensures { result ≡ list_any is_theorem (statement_at self.now statement) }
     {
@@ -146,7 +146,7 @@ impl<'s, A: Allocator> Tables<'s, A> {
     }
 
     /// Whether a statement is an `$a` or a `$p`.
-    pub fn is_assertion(&self, statement: u32) -> bool
+    pub(crate) fn is_assertion(&self, statement: u32) -> bool
         requires { statement < length self.now }
         ensures { result ≡ list_any is_assertion (statement_at self.now statement) }
     {
@@ -157,7 +157,7 @@ impl<'s, A: Allocator> Tables<'s, A> {
     }
 
     /// The symbols of a statement.
-    pub fn formula(&self, statement: u32) -> &[Sym]
+    pub(crate) fn formula(&self, statement: u32) -> &[Sym]
         requires { statement < length self.now }
         ensures formula { result.now ≡ formula_at self.now statement }
         ensures known { All (λ s. s < length (symbol_names self.now)) result.now }
@@ -168,7 +168,7 @@ impl<'s, A: Allocator> Tables<'s, A> {
     }
 
     /// The variable that a `$f` types.
-    pub fn typed(&self, statement: u32) -> Option<Sym>
+    pub(crate) fn typed(&self, statement: u32) -> Option<Sym>
         requires { statement < length self.now }
         ensures { result ≡ typed_at self.now statement }
     {
@@ -180,7 +180,7 @@ impl<'s, A: Allocator> Tables<'s, A> {
     }
 
     /// Whether a symbol is a variable.
-    pub fn is_variable(&self, symbol: Sym) -> bool
+    pub(crate) fn is_variable(&self, symbol: Sym) -> bool
         requires { symbol < length (symbol_names self.now) }
         ensures { result ≡ is_variable self.now symbol }
     {
@@ -188,7 +188,7 @@ impl<'s, A: Allocator> Tables<'s, A> {
     }
 
     /// Whether the block of a statement is still open before a later one.
-    pub fn is_open(&self, statement: u32, at: u32) -> bool
+    pub(crate) fn is_open(&self, statement: u32, at: u32) -> bool
         requires before { statement < at }
         requires within { at ≤ length self.now }
         ensures { result ≡ stays self.now statement at }

@@ -126,7 +126,7 @@ fn tidy<A: Allocator>(numbers: &mut Vec<u32, A>)
 }
 
 /// The mandatory hypotheses of an assertion, and its mandatory variables, which are marked.
-pub fn hypotheses<A: Allocator>(
+pub(crate) fn hypotheses<A: Allocator>(
     tables: &Tables<A>,
     essentials: &[u32],
     typed: &[u32],

@@ -135,7 +135,7 @@ fn is_label_at(part: Part, word: &[u8]) -> bool
 }
 
 /// What the token at `at` does.
-pub fn take_turn(text: &[u8], tokens: &[Word], deep: u32, part: Part, at: u32) -> Turn
+fn take_turn(text: &[u8], tokens: &[Word], deep: u32, part: Part, at: u32) -> Turn
     requires words { AreWords text.now tokens.now }
     requires inside { at < length tokens.now }
     requires part { IsPart part at }

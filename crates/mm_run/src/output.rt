@@ -17,7 +17,7 @@ use mm_rows::{Columns, matrix};
 use mm_spec::Fault;
 use mm_stmt::{Database, read};
 use mm_work::{Citations, Judged, Open, check_all};
-use std::alloc::Allocator;
+use std::alloc::{AllocError, Allocator};
 use std::io::Write;
 use std::sync::Wait;
 use std::thread::Threads;
@@ -59,6 +59,23 @@ fn report<'a, R: Threads + Sync, A: Allocator + Copy + Send + Sync, W: Write>(
     }
 }
 
+/// The database of a text: cut as the plan says, lexed and read. Refused for memory alone.
+fn database_of<'a, R: Threads + Sync, A: Allocator + Copy + Send + Sync>(
+    rt: &R,
+    alloc: A,
+    text: &'a [u8],
+    plan: &Plan<A>,
+) -> Result<Database<'a, A>, AllocError>
+    requires few { length text.now ≤ reading_limit }
+    requires lawful { IsLawful plan.now }
+    ensures text { IfOk result (λ database. database.text ≡ text.now) }
+    ensures read { IfOk result (λ database. IsRead (length text.now) (lexed_of text.now) database.statements database.fault) }
+{
+    let cuts = cuts_of(&plan.cuts, alloc, text.len())?;
+    let lexed = lex(rt, alloc, text, &cuts)?;
+    read(alloc, text, lexed)
+}
+
 /// Writes what the text and the choice of report define: the refusal of the first fault, or the report.
 pub fn answer<R: Threads + Wait + Sync, A: Allocator + Copy + Send + Sync, W: Write>(
     rt: &R,
@@ -71,16 +88,9 @@ pub fn answer<R: Threads + Wait + Sync, A: Allocator + Copy + Send + Sync, W: Wr
     requires lawful { IsLawful plan.now }
     ensures { Answers result text.now (only_of plan.now) plan.now.choice (W.contents to.old) (W.contents to.new) }
 {
-    let Ok(cuts) = cuts_of(&plan.cuts, alloc, text.len()) else {
+    let Ok(database) = database_of(rt, alloc, text, plan) else {
         return RunEnd::NoMemory;
     };
-    let Ok(lexed) = lex(rt, alloc, text, &cuts) else {
-        return RunEnd::NoMemory;
-    };
-    let Ok(database) = read(alloc, text, lexed) else {
-        return RunEnd::NoMemory;
-    };
-    let _ = database.len();
     let Ok(judged) = check_all(rt, alloc, &database, plan.workers, &Open) else {
         return RunEnd::NoMemory;
     };

@@ -20,7 +20,7 @@ pub struct Formulas<A: Allocator> {
 }
 
 /// Those of no statement.
-pub fn no_formulas<A: Allocator + Copy>(alloc: A) -> Result<Formulas<A>, AllocError>
+pub(crate) fn no_formulas<A: Allocator + Copy>(alloc: A) -> Result<Formulas<A>, AllocError>
     ensures { IfOk result (λ f. AreFormulas [] f.numbers.items f.places.items) }
 {
     let numbers = Vec::new(alloc);
@@ -73,7 +73,7 @@ impl<'a, A: Allocator + Copy> Names<'a, A> {
 impl<'a, A: Allocator + Copy> Scope<'a, A> {
     /// Adds the numbers of the symbols of a `$c`, `$v`, `$d` or `$f` to the others; those of a formula are added as it is
     /// judged.
-    pub fn number_others(
+    pub(crate) fn number_others(
         &self,
         text: &[u8],
         tokens: &[Word],

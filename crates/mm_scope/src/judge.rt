@@ -201,7 +201,7 @@ impl<'a, A: Allocator + Copy> Scope<'a, A> {
 
     /// The least fault of a statement that comes next. The numbers of the symbols of a `$e`, `$a` or `$p` are added to the
     /// others.
-    pub fn fault(
+    pub(crate) fn fault(
         &self,
         alloc: A,
         text: &'a [u8],

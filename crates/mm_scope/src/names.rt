@@ -34,7 +34,7 @@ pub struct Names<'a, A: Allocator> {
 
 impl<'a, A: Allocator + Copy> Names<'a, A> {
     /// What is known of the symbol.
-    pub fn symbol(&self, word: &[u8]) -> Option<Symbol<'a>>
+    pub(crate) fn symbol(&self, word: &[u8]) -> Option<Symbol<'a>>
         ensures { result ≡ find self.now.symbols word.now }
     {
         self.symbols.get(word).copied()
@@ -42,7 +42,7 @@ impl<'a, A: Allocator + Copy> Names<'a, A> {
 
     /// The symbol's number, in the order of first declarations, and what is known of it. Where it is none, the number is
     /// how many symbols there are.
-    pub fn numbered(&self, word: &[u8]) -> (usize, Option<Symbol<'a>>)
+    pub(crate) fn numbered(&self, word: &[u8]) -> (usize, Option<Symbol<'a>>)
         ensures number { result.0 ≡ place_of word.now (names_of self.now.symbols) }
         ensures symbol { result.1 ≡ find self.now.symbols word.now }
     {
@@ -53,14 +53,14 @@ impl<'a, A: Allocator + Copy> Names<'a, A> {
     }
 
     /// Whether the word is a label.
-    pub fn is_label(&self, word: &[u8]) -> bool
+    pub(crate) fn is_label(&self, word: &[u8]) -> bool
         ensures { result ≡ is_some (find self.now.labels word.now) }
     {
         self.labels.get(word).is_some()
     }
 
     /// The symbol with that name from now on.
-    pub fn set_symbol(&mut self, word: &'a [u8], symbol: Symbol<'a>) -> Result<(), AllocError>
+    pub(crate) fn set_symbol(&mut self, word: &'a [u8], symbol: Symbol<'a>) -> Result<(), AllocError>
         ensures symbols { OnOk result ((w : List ℕ) → find self.new.symbols w ≡ (if bytes_eq word.now w then Some symbol.entry else find self.old.symbols w)) }
         ensures labels { OnOk result ((w : List ℕ) → find self.new.labels w ≡ find self.old.labels w) }
         ensures names { OnOk result (names_of self.new.symbols ≡ with_name word.now (names_of self.old.symbols)) }
@@ -70,7 +70,7 @@ impl<'a, A: Allocator + Copy> Names<'a, A> {
     }
 
     /// The label with that statement from now on.
-    pub fn set_label(&mut self, word: &'a [u8], statement: u32) -> Result<(), AllocError>
+    pub(crate) fn set_label(&mut self, word: &'a [u8], statement: u32) -> Result<(), AllocError>
         ensures labels { OnOk result ((w : List ℕ) → find self.new.labels w ≡ (if bytes_eq word.now w then Some statement else find self.old.labels w)) }
         ensures symbols { OnOk result (self.new.symbols ≡ self.old.symbols) }
     {

@@ -211,7 +211,7 @@ impl<'a, A: Allocator + Copy> Names<'a, A> {
 
 impl<'a, A: Allocator + Copy> Scope<'a, A> {
     /// The names behind one lawful statement more.
-    pub fn add(
+    pub(crate) fn add(
         &mut self,
         text: &'a [u8],
         tokens: &[Word],

@@ -1,7 +1,8 @@
 //! The statements of a text up to its first fault.
 
-ghost use Rattle.std.specs.Prelude.{◌≡◌, IfOk};
+ghost use Rattle.std.specs.Prelude.{◌≡◌, IfOk, length};
 ghost use Rattle.mm_spec.specs.Lexed.{tokens_of, lexical_fault};
+ghost use Rattle.mm_spec.specs.Output.{IsRead, lexed_of};
 
 use crate::database::Database;
 use crate::spaced::spaced_labels_of;
@@ -20,7 +21,8 @@ pub fn read<'a, A: Allocator + Copy>(
 ) -> Result<Database<'a, A>, AllocError>
     requires tokens { lexed.tokens.items ≡ tokens_of text.now }
     requires fault { lexed.fault ≡ lexical_fault text.now }
-    ensures { IfOk result (λ database. database.text ≡ text.now) }
+    ensures text { IfOk result (λ database. database.text ≡ text.now) }
+    ensures read { IfOk result (λ database. IsRead (length text.now) (lexed_of text.now) database.statements database.fault) }
 {
     let words = lexed.tokens;
     let read = outline(alloc, text, &words, lexed.fault)?;

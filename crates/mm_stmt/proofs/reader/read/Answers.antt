@@ -102,3 +102,6 @@ invariant_of-result g c =
       few_symbols = names_few text c.deref.result.now os _ _ c.in_ok-read.ensures.read small (names_of m) kept.names_are;
       read = is_read text c.deref.result.now words os _ _ c.deref.ensures.value c.requires.tokens c.requires.fault c.in_ok-read.ensures.read;
     }
+
+pub returns-clause-read : goal.returns-clause-read
+returns-clause-read g c = is_read c.args.text.now c.deref.result.now c.args.lexed.tokens.items c.in_ok-read.read.outlines.items _ _ c.deref.ensures.value c.requires.tokens c.requires.fault c.in_ok-read.ensures.read
