@@ -1,12 +1,13 @@
 -- The numbers of a frame are those of the database.
-use Rattle.std.proofs.Common.{◌≡◌, ℕ, zero, suc, ◌<◌, ◌≤◌, Bool, true, false, ◌&&◌, List, [], ◌∷◌, length, Option, None, Some, slice_get, flat_map, nat_lt, refl, sym, subst, All, arith, true≢false}
-use Rattle.std.specs.List.{AllByRecursion, range_with_len}
+use Rattle.std.proofs.Common.{◌≡◌, ℕ, zero, suc, ◌<◌, ◌≤◌, Bool, true, false, ◌&&◌, ◌||◌, List, [], ◌∷◌, length, Option, None, Some, slice_get, flat_map, nat_lt, refl, sym, subst, All, arith, true≢false}
+use Rattle.std.specs.List.{AllByRecursion, list_any, range_with_len}
 use Rattle.std.proofs.lemmas.List.Elements.{All-from_recursion}
 use Rattle.mm_spec.specs.Text.{Word, is_in}
 use Rattle.mm_spec.specs.Statement.{Statement}
-use Rattle.mm_spec.specs.Scope.{is_active, those, variables_of}
+use Rattle.std.proofs.lemmas.List.FromFn.{length-range_with_len}
+use Rattle.mm_spec.specs.Scope.{is_active, active, statement_at, those, variables_of}
 use Rattle.mm_spec.specs.Derivation.{Pair, is_member}
-use Rattle.mm_spec.specs.Frame.{symbol_names, is_variable, mandatory_variables, mandatory_hypotheses, mandatory_pairs, disjoint_at, pairs_of}
+use Rattle.mm_spec.specs.Frame.{symbol_names, is_variable, is_essential, is_floating, formula_at, mandatory_variables, mandatory_hypotheses, mandatory_pairs, disjoint_at, pairs_of}
 use Rattle.mm_spec.proofs.Finds.{is_before, each_those, each_any, member-those}
 use Rattle.mm_check.specs.Arena.{paired}
 
@@ -16,6 +17,21 @@ weaker P Q f (x ∷ xs) h = (f x h.0, weaker P Q f xs h.1)
 
 kept : (P : ℕ → Type 0) (t : ℕ → Bool) (xs : List ℕ) → AllByRecursion P xs → AllByRecursion P (those t xs)
 kept P t xs h = each_those P t xs (weaker P (λ x. t x ≡ true → P x) (λ x p e. p) xs h)
+
+those_few : (t : ℕ → Bool) (xs : List ℕ) → length (those t xs) ≤ length xs
+those_few t [] = omega arith
+those_few t (x ∷ xs) = by (t x) (those_few t xs)
+  where
+    by : (b : Bool) → length (those t xs) ≤ length xs → length {A = ℕ} (elim b [ true ↦ x ∷ those t xs | false ↦ those t xs ]) ≤ suc (length xs)
+    by true h = omega (arith, h)
+    by false h = omega (arith, h)
+
+-- an assertion has no more hypotheses than there are statements before it
+pub hyps_few : (db : List Statement) (k : ℕ) → length (mandatory_hypotheses db k) ≤ k
+hyps_few db k =
+    let a = those_few (λ j. is_active db j k) (range_with_len 0 k) in
+    let b = those_few (λ j. list_any is_essential (statement_at db j) || (list_any is_floating (statement_at db j) && list_any (is_member (mandatory_variables db k)) (formula_at db j))) (active db k) in
+    omega (arith, a, b, length-range_with_len 0 k)
 
 pub hyps_below : (db : List Statement) (k : ℕ) → k ≤ length db → All (λ h. h < length db) (mandatory_hypotheses db k)
 hyps_below db k u = All-from_recursion (λ h. h < length db) (mandatory_hypotheses db k)

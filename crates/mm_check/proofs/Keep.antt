@@ -1,5 +1,5 @@
 -- The formula of a marked step is kept.
-use Rattle.std.proofs.Common.{◌≡◌, ℕ, ◌<◌, List, [], ◌∷◌, ◌++◌, length, ap₂, ◌∙◌, arith, All, length-append}
+use Rattle.std.proofs.Common.{◌≡◌, ℕ, ◌<◌, List, [], ◌∷◌, ◌++◌, ap₂, ◌∙◌, arith, All, length-append}
 use Rattle.std.proofs.lemmas.List.Elements.{All-push, All-append}
 use Rattle.mm_spec.specs.Derivation.{Formula}
 use Rattle.mm_check.specs.declared.arena.Entry.{Entry}
@@ -8,39 +8,36 @@ use Rattle.mm_check.specs.State.{texts, IsStack, IsKept, IsMachine, Moves}
 use Rattle.mm_check.proofs.Grow.{all_stay, stay_texts, kept_more, kept_all_in, kept_all_more, texts-push}
 use Rattle.mm_check.proofs.Marks.{rising_more}
 
-pub moved_machine : (own kept : List ℕ) (es : List Entry) (marks : List ℕ) (marked table : List Entry) (own' kept' : List ℕ) (es' : List Entry) → IsMachine own kept es marks marked table → Moves own kept own' kept' → IsStack own' kept' es' → IsMachine own' kept' es' marks marked table
-moved_machine own kept es marks marked table own' kept' es' m v s =
-    let k = v.known (length table) m.known_own in
+pub moved_machine : (own kept : List ℕ) (es : List Entry) (marks : List ℕ) (marked : List Entry) (width : ℕ) (own' kept' : List ℕ) (es' : List Entry) → IsMachine own kept es marks marked width → Moves own kept own' kept' → IsStack own' kept' es' → IsMachine own' kept' es' marks marked width
+moved_machine own kept es marks marked width own' kept' es' m v s =
+    let k = v.known width m.known_own in
     record {
       known_own = k.1;
-      known_kept = rw v.kept_is (All-append (λ s. s < length table) kept v.more m.known_kept k.0);
+      known_kept = rw v.kept_is (All-append (λ s. s < width) kept v.more m.known_kept k.0);
       is_stack = s;
       marked_in = rw v.kept_is (kept_all_more kept v.more marked m.marked_in);
       rising = m.rising;
       count = m.count;
-      is_clear = m.is_clear;
     }
 
-pub marked_more : (own kept : List ℕ) (es : List Entry) (marks : List ℕ) (marked table : List Entry) (e : Entry) → IsMachine own kept es marks marked table → IsKept kept e → IsMachine own kept es marks (marked ++ e ∷ []) table
-marked_more own kept es marks marked table e m k = record {
+pub marked_more : (own kept : List ℕ) (es : List Entry) (marks : List ℕ) (marked : List Entry) (width : ℕ) (e : Entry) → IsMachine own kept es marks marked width → IsKept kept e → IsMachine own kept es marks (marked ++ e ∷ []) width
+marked_more own kept es marks marked width e m k = record {
   known_own = m.known_own;
   known_kept = m.known_kept;
   is_stack = m.is_stack;
   marked_in = All-push (IsKept kept) marked e m.marked_in k;
   rising = m.rising;
   count = omega (arith, m.count, length-append marked (e ∷ []));
-  is_clear = m.is_clear;
 }
 
-pub both_more : (own kept : List ℕ) (es : List Entry) (marks : List ℕ) (marked table : List Entry) (e : Entry) (step : ℕ) → IsMachine own kept es marks marked table → IsKept kept e → All (λ j. j < step) marks → IsMachine own kept es (marks ++ step ∷ []) (marked ++ e ∷ []) table
-both_more own kept es marks marked table e step m k later = record {
+pub both_more : (own kept : List ℕ) (es : List Entry) (marks : List ℕ) (marked : List Entry) (width : ℕ) (e : Entry) (step : ℕ) → IsMachine own kept es marks marked width → IsKept kept e → All (λ j. j < step) marks → IsMachine own kept es (marks ++ step ∷ []) (marked ++ e ∷ []) width
+both_more own kept es marks marked width e step m k later = record {
   known_own = m.known_own;
   known_kept = m.known_kept;
   is_stack = m.is_stack;
   marked_in = All-push (IsKept kept) marked e m.marked_in k;
   rising = rising_more marks step m.rising later;
   count = omega (arith, m.count, length-append marked (e ∷ []), length-append marks (step ∷ []));
-  is_clear = m.is_clear;
 }
 
 -- the formulas of the marked steps, and one more

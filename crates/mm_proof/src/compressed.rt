@@ -11,7 +11,7 @@ ghost use Rattle.mm_proof.specs.Refused.{StartsWith};
 
 use crate::labels::{bytes, usable_label};
 use crate::letters::Progress;
-use crate::placed::Steps;
+use crate::placed::{Steps, with_room};
 use crate::refused::{ProofRefused, refused};
 use mm_stmt::Database;
 use mm_stmt::{Code, Word};
@@ -64,7 +64,7 @@ pub(crate) fn read_compressed<A: Allocator + Copy>(
     ensures sound { IfOk result (λ s. compressed_faults database.now.statements theorem end (bracketed (tokens_of database.now.text words.now)) ≡ []) }
     ensures fault { IfErr result (λ e. StartsWith (compressed_faults database.now.statements theorem end (bracketed (tokens_of database.now.text words.now))) e) }
 {
-    let mut labels = Vec::new(alloc);
+    let mut labels = with_room(alloc);
     labels.extend_from_slice(database.frame(theorem).hyps.as_slice())?;
     let count = read_labels(database, theorem, words, end, &mut labels)?;
     let mut progress = Progress::none(alloc, theorem, labels);

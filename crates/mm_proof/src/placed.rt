@@ -32,8 +32,20 @@ struct Placed {
     is_marked: bool,
 }
 
-/// For how many steps there is room at first, where memory isn't refused: so the list of a common proof doesn't grow.
+/// For how many elements a list has room at first, where memory isn't refused: so those of a common proof don't grow.
 const ROOM: usize = 64;
+
+/// No numbers yet.
+pub(crate) fn with_room<A: Allocator>(alloc: A) -> Vec<u32, A>
+    ensures { result.items ≡ [] }
+{
+    let mut numbers = Vec::new(alloc);
+    match numbers.reserve(ROOM) {
+        Ok(()) => {}
+        Err(_) => {}
+    }
+    numbers
+}
 
 /// The steps of a theorem's proof, by their numbers from 0, each with its place.
 #[derive(Drop)]

@@ -1,7 +1,7 @@
 //! One proof.
 
-ghost use Rattle.std.specs.Prelude.{◌≡◌, IfOk, IfErr, IsTrue, length};
-ghost use Rattle.mm_spec.specs.Frame.{symbol_names};
+ghost use Rattle.std.specs.Prelude.{◌≡◌, IfOk, IfErr, IsTrue};
+ghost use Rattle.mm_check.specs.Checker.{IsMadeFor};
 ghost use Rattle.mm_spec.specs.Output.{is_theorem_at};
 ghost use Rattle.mm_work.specs.Judged.{IsCited, Faults};
 
@@ -27,9 +27,9 @@ pub(crate) fn verify<'a, A: Allocator + Copy>(
     checker: &mut Checker<A>,
     theorem: u32,
 ) -> Result<Checked<A>, VerifyRefused>
-    requires made_for { checker.old ≡ length (symbol_names database.now.statements) }
+    requires made_for { IsMadeFor database.now.statements checker.old }
     requires theorem { IsTrue (is_theorem_at database.now.statements theorem) }
-    ensures made_for { checker.new ≡ checker.old }
+    ensures made_for { IsMadeFor database.now.statements checker.new }
     ensures valid { IfOk result (λ checked. IsCited database.now.statements theorem checked.cites) }
     ensures refused { IfErr result (λ e. Faults database.now.statements theorem e) }
 {

@@ -1,7 +1,7 @@
 //! A worker: draws theorems from the board and checks their proofs.
 
 ghost use Rattle.std.specs.Prelude.{◌≡◌, ◌<◌, ◌++◌, ◌∷◌, [], ℕ, None, Some, OnOk, true, false, length};
-ghost use Rattle.mm_spec.specs.Frame.{symbol_names};
+ghost use Rattle.mm_check.specs.Checker.{IsMadeFor};
 ghost use Rattle.mm_spec.specs.Output.{theorems};
 ghost use Rattle.mm_board.specs.Records.{times_in, times_recorded};
 ghost use Rattle.mm_board.specs.Models.{IsSeatOf};
@@ -83,9 +83,9 @@ fn check<'a, A: Allocator + Copy>(
     index: u32,
 ) -> bool
     requires index { index < length (theorems database.now.statements) }
-    requires made_for { checker.old ≡ length (symbol_names database.now.statements) }
+    requires made_for { IsMadeFor database.now.statements checker.old }
     requires found { found.old.short_of_memory ≡ false → AreFound database.now.statements found.old }
-    ensures made_for { checker.new ≡ checker.old }
+    ensures made_for { IsMadeFor database.now.statements checker.new }
     ensures short { found.new.short_of_memory ≡ false → found.old.short_of_memory ≡ false }
     ensures found { found.new.short_of_memory ≡ false → AreFound database.now.statements found.new }
     ensures valid { found.new.short_of_memory ≡ false → result ≡ true → (found.new.valid.items ≡ found.old.valid.items ++ index ∷ []) × (found.new.faulty ≡ found.old.faulty) }
@@ -115,12 +115,12 @@ fn judge<'a, A: Allocator + Copy>(
     index: u32,
 )
     requires index { index < length (theorems database.now.statements) }
-    requires made_for { checker.old ≡ length (symbol_names database.now.statements) }
+    requires made_for { IsMadeFor database.now.statements checker.old }
     requires home { IsSeatOf board.now worked.old.seat }
     requires held { worked.old.seat.view.open_number ≡ Some index }
     requires above { (i : ℕ) → 0 < times_in i worked.old.seat.view.reported → i < index }
     requires tells { TellsUnlessShort database.now.statements worked.old.seat.view worked.old.found }
-    ensures made_for { checker.new ≡ checker.old }
+    ensures made_for { IsMadeFor database.now.statements checker.new }
     ensures home { IsSeatOf board.now worked.new.seat }
     ensures closed { worked.new.seat.view.open_number ≡ None }
     ensures over { worked.new.seat.view.over ≡ worked.old.seat.view.over }

@@ -16,7 +16,7 @@ returns-clause-steps g c =
     let words = c.args.words.now in
     let n = c.in_ok-count.count in
     let steps = rw (c.none-progress.ensures, c.text.ensures, take_rest) at c.in_ok-read_all.ensures.steps in
-    let hypotheses = c.in_ok-extend_from_slice.ensures.items ∙ ap₂ (λ xs ys. xs ++ ys) c.new-labels.ensures.items (c.as_slice.ensures.value ∙ c.frame.ensures.hypotheses) in
+    let hypotheses = c.in_ok-extend_from_slice.ensures.items ∙ ap₂ (λ xs ys. xs ++ ys) c.with_room-labels.ensures (c.as_slice.ensures.value ∙ c.frame.ensures.hypotheses) in
     let labels = c.in_ok-count.ensures.labels ∙ ap (λ xs. xs ++ flat_map (λ t. usable db c.args.theorem t.word) (tokens_of text (take n words))) hypotheses in
     let theorem = c.in_ok-read_all.ensures.theorem ∙ ap (λ s. s.theorem) c.none-progress.ensures in
     c.into_steps.ensures

@@ -30,6 +30,6 @@ loop-theorem-preserved g c =
     let i = c.loop-theorem.theorem-index in
     let one = subst (λ (ts : List ℕ). IsCited db (get_or ts i 0) c.in-Ok.checked.cites) c.theorems-theorems.ensures.theorems c.in-Ok.ensures.valid in
     record {
-      made_for = c.in-Ok.ensures.made_for ∙ c.loop-theorem.invariant.made_for;
+      made_for = c.in-Ok.ensures.made_for;
       cited = rw (c.in_ok-push-in-Ok.ensures.ok, c.cites.ensures) (cited-more db (theorems db) i c.loop-theorem.lists c.in-Ok.checked.cites c.loop-theorem.invariant.cited one);
     }

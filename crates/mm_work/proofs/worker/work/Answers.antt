@@ -4,3 +4,12 @@ use Rattle.mm_work.proofs.worker.work.Goals as goal
 pub loop-index-smaller : goal.loop-index-smaller
 loop-index-smaller g c =
     fresh-drawn c.args.board.now.count c.in-Some.index c.loop-index.worked.seat.view c.claim.new.seat.view c.judge.new.worked.seat.view c.loop-index.invariant.closed c.in-Some.ensures.some c.in-Some.ensures.below c.in-Some.ensures.above c.judge.ensures.kept
+
+pub judge-requires-clause-tells : goal.judge-requires-clause-tells
+judge-requires-clause-tells g c = λ short.
+    let t = c.loop-index.invariant.tells short in
+    rw c.in-Some.ensures.some (record {
+      found = t.found;
+      settled = t.settled;
+      reported = t.reported;
+    })

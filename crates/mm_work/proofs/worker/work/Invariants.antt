@@ -1,5 +1,5 @@
 use Rattle.std.proofs.Common.{◌≡◌, None, false, length}
-use Rattle.mm_spec.specs.Frame.{symbol_names}
+use Rattle.mm_check.specs.Checker.{IsMadeFor}
 use Rattle.mm_board.specs.Models.{IsSeatOf}
 use Rattle.mm_work.specs.Workers.{TellsUnlessShort}
 use Rattle.mm_work.proofs.WorkersLaw.{fresh}
@@ -7,7 +7,7 @@ use Rattle.mm_work.proofs.worker.work.Given as goal
 
 abbrev pub invariant-loop-index : goal.invariant-loop-index
 invariant-loop-index g l = record {
-  made_for : l.checker ≡ length (symbol_names l.database.statements);
+  made_for : IsMadeFor l.database.statements l.checker;
   home : IsSeatOf l.board l.worked.seat;
   not_over : l.worked.seat.view.over ≡ false;
   closed : l.worked.seat.view.open_number ≡ None;

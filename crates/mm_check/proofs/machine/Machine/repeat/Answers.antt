@@ -17,5 +17,4 @@ invariant_of-self-2 g c =
       marked_in = i.marked_in;
       rising = i.rising;
       count = i.count;
-      is_clear = i.is_clear;
     }

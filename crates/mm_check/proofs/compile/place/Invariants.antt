@@ -1,0 +1,14 @@
+use Rattle.std.proofs.Common.{◌≡◌, ◌≤◌, length, drop, map}
+use Rattle.mm_spec.specs.Frame.{symbol_names, formula_at}
+use Rattle.mm_check.proofs.First.{PlacedFrom}
+use Rattle.mm_check.proofs.compile.place.Given as goal
+
+abbrev pub invariant-loop-j : goal.invariant-loop-j
+invariant-loop-j g l = record {
+  upto : l.j ≤ length l.hyps;
+  width : length l.places ≡ length (symbol_names l.db.statements);
+  placed : PlacedFrom l.db.statements l.j (map (formula_at l.db.statements) (drop l.j l.hyps)) l.places;
+}
+
+abbrev pub decreases-loop-j : goal.decreases-loop-j
+decreases-loop-j g l = l.j
