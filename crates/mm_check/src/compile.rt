@@ -11,8 +11,7 @@ ghost use Rattle.mm_check.specs.declared.rule.Part.TheVariants.{Constant, Variab
 
 use crate::frames;
 use crate::rule::{Asked, Part, Rule, Stretch};
-use mm_stmt::Database;
-use mm_stmt::Sym;
+use mm_stmt::{Database, Sym};
 use std::alloc::{AllocError, Allocator};
 
 /// The variable of a hypothesis `$f`.

@@ -5,9 +5,7 @@ ghost use Rattle.mm_spec.specs.Frame.{symbol_names, mandatory_hypotheses, mandat
 ghost use Rattle.mm_check.specs.Arena.{paired};
 ghost use Rattle.mm_check.specs.Contract.{is_assertion_at};
 
-use mm_stmt::Database;
-use mm_stmt::Kind;
-use mm_stmt::Sym;
+use mm_stmt::{Database, Kind, Sym};
 use std::alloc::Allocator;
 
 /// Whether a statement is an assertion.

@@ -13,8 +13,7 @@ use crate::labels::{bytes, usable_label};
 use crate::letters::Progress;
 use crate::placed::{Steps, with_room};
 use crate::refused::{ProofRefused, refused};
-use mm_stmt::Database;
-use mm_stmt::{Code, Word};
+use mm_stmt::{Code, Database, Word};
 use std::alloc::Allocator;
 
 /// Reads the labels in brackets, up to the `)`, and tells how many there are.

@@ -4,8 +4,7 @@ ghost use Rattle.std.specs.Prelude.{◌≡◌, ◌<◌, ◌≤◌, length, slice
 ghost use Rattle.mm_spec.specs.NormalProof.{usable};
 ghost use Rattle.mm_proof.specs.Refused.{found};
 
-use mm_stmt::Word;
-use mm_stmt::Database;
+use mm_stmt::{Database, Word};
 use std::alloc::Allocator;
 
 /// The statement of a label that is usable in the proof of a theorem: that of an active hypothesis or of an earlier

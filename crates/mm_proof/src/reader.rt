@@ -13,8 +13,7 @@ use crate::compressed::read_compressed;
 use crate::labels::{bytes, usable_label};
 use crate::placed::{Step, Steps};
 use crate::refused::{ProofRefused, refused};
-use mm_stmt::Database;
-use mm_stmt::{Code, Word};
+use mm_stmt::{Code, Database, Word};
 use std::alloc::Allocator;
 
 /// Reads the words of a normal proof.

@@ -1,6 +1,7 @@
 //! Tests of the program: its statuses, its messages, and what it writes where an end fails.
 
 use crate::{LineRefused, line, status};
+use std::alloc::Global;
 use std::io::{ErrorKind, Read, Write};
 use std::rt::Files;
 use std::sync::Wait;
@@ -36,6 +37,15 @@ impl Write for Closed {
 
     fn flush(&mut self) -> io::Result<()> {
         Ok(())
+    }
+}
+
+/// The text for which the words are refused, and whether it is help.
+fn refusal(alloc: Global, words: &[&str]) -> Option<(bool, String)> {
+    match line(alloc, words) {
+        Err(LineRefused::Help(text)) => Some((true, text)),
+        Err(LineRefused::Bad(text)) => Some((false, text)),
+        _ => None,
     }
 }
 
@@ -81,19 +91,19 @@ fn options_choose_workers_pieces_columns_and_sections(rt: HostRuntime) {
 
 #[test]
 fn words_that_are_no_line(rt: HostRuntime) {
-    let words = ["mmdepend", "--pieces", "65", "x.mm"];
-    match line(rt.alloc(), &words) {
-        Err(LineRefused::Bad(text)) => {
-            assert!(&rt; ends(&rt, &words, FIRST, 2, b"", text.as_bytes()));
+    for (words, number) in [
+        (["mmdepend", "--pieces", "65", "x.mm"].as_slice(), 2u8),
+        (&["mmdepend", "--help"], 0),
+    ] {
+        match refusal(rt.alloc(), words) {
+            Some((true, help)) => {
+                assert!(&rt; ends(&rt, words, FIRST, number, help.as_bytes(), b""));
+            }
+            Some((false, told)) => {
+                assert!(&rt; ends(&rt, words, FIRST, number, b"", told.as_bytes()));
+            }
+            None => assert!(&rt; false),
         }
-        _ => assert!(&rt; false),
-    }
-    let words = ["mmdepend", "--help"];
-    match line(rt.alloc(), &words) {
-        Err(LineRefused::Help(text)) => {
-            assert!(&rt; ends(&rt, &words, FIRST, 0, text.as_bytes(), b""));
-        }
-        _ => assert!(&rt; false),
     }
 }
 
