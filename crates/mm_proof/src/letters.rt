@@ -12,7 +12,7 @@ ghost use Rattle.mm_proof.specs.Letters.{State, state, letter, StandsAt, Reads, 
 ghost use Rattle.mm_proof.specs.Refused.{StartsWith};
 
 use crate::digits::{LetterKind, letter_of, with_digit};
-use crate::placed::{Step, Steps, with_room};
+use crate::placed::{Step, Steps};
 use crate::refused::{ProofRefused, refused};
 use mm_stmt::{Code, Word};
 use std::alloc::{AllocError, Allocator};
@@ -55,7 +55,7 @@ impl<A: Allocator> Progress<A> {
     {
         Progress {
             labels,
-            marks: with_room(alloc),
+            marks: Vec::new(alloc),
             number: None,
             steps: Steps::none(alloc, theorem),
         }
