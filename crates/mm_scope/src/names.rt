@@ -60,7 +60,11 @@ impl<'a, A: Allocator + Copy> Names<'a, A> {
     }
 
     /// The symbol with that name from now on.
-    pub(crate) fn set_symbol(&mut self, word: &'a [u8], symbol: Symbol<'a>) -> Result<(), AllocError>
+    pub(crate) fn set_symbol(
+        &mut self,
+        word: &'a [u8],
+        symbol: Symbol<'a>,
+    ) -> Result<(), AllocError>
         ensures symbols { OnOk result ((w : List ℕ) → find self.new.symbols w ≡ (if bytes_eq word.now w then Some symbol.entry else find self.old.symbols w)) }
         ensures labels { OnOk result ((w : List ℕ) → find self.new.labels w ≡ find self.old.labels w) }
         ensures names { OnOk result (names_of self.new.symbols ≡ with_name word.now (names_of self.old.symbols)) }
