@@ -1,8 +1,8 @@
 //! What Metamath databases mean (Metamath book, second edition: sections 4.1.1 to 4.1.4, and Appendix B on compressed
 //! proofs): the definitions of words, tokens, statements, proofs, faults, citations and reports, in `specs/`, on which
-//! every other crate stands, and the plain types that go with them. There is no code here but the numbers of codes. What a
-//! reader has to believe is the folder `specs/` and nothing else; the laws that the definitions obey are in the crate
-//! `mm_laws`.
+//! every other crate stands, and the plain types that go with them. There is no code here but the numbers of codes. What
+//! a reader has to believe is the folder `specs/`, with the limits below and what the contract of the run names beside it;
+//! the laws that the definitions obey are in the crate `mm_laws`.
 #![tactic(auto)]
 
 mod codes;
