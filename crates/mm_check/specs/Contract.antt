@@ -1,13 +1,13 @@
 -- What the answers of the checker mean.
-use Rattle.std.specs.Prelude.{ℕ, ◌≡◌, ◌<◌, Bool, false, ◌&&◌, ◌==◌, List, slice_get}
+use Rattle.std.specs.Prelude.{ℕ, ◌<◌, Bool, false, ◌==◌, List, slice_get, Decides}
 use Rattle.std.specs.List.{list_any, Contains}
 use Rattle.std.specs.List.Sorted.{IsStrictlyIncreasing}
 use Rattle.mm_spec.specs.Statement.{Statement}
 use Rattle.mm_spec.specs.Scope.{statement_at}
-use Rattle.mm_spec.specs.Derivation.{Context, Trees, postfix, is_member}
+use Rattle.mm_spec.specs.Derivation.{Context, Trees, is_member}
 use Rattle.mm_spec.specs.Steps.{Step, label, marked, PlacedStep}
 use Rattle.mm_spec.specs.Valid.{StepFault}
-use Rattle.mm_spec.specs.Citation.{IsProof, is_assertion, context_at}
+use Rattle.mm_spec.specs.Citation.{IsProof, Cites, is_assertion, context_at}
 use Rattle.mm_spec.specs.Output.{ProofFault, end_of}
 use Rattle.mm_spec.proofs.Machine.{IsGood}
 use Rattle.mm_check.specs.declared.checker.CheckRefused.{CheckRefused}
@@ -25,12 +25,12 @@ cited t cites = record { theorem = t; cites = cites }
 abbrev pub is_assertion_at : List Statement → ℕ → Bool
 is_assertion_at db a = list_any is_assertion (statement_at db a)
 
--- the theorem has a proof, and these are the assertions that label a node of it, rising, each once
-pub record IsChecked (db : List Statement) (t : ℕ) (cites : List ℕ) : Type 0 where
+-- the theorem has a proof, and these are the assertions that it cites, rising, each once
+pub record IsChecked (db : List Statement) (by_essential : Bool) (t : ℕ) (cites : List ℕ) : Type 0 where
   pub derivation : Trees
   pub proof : IsProof db t derivation
   pub rising : IsStrictlyIncreasing cites
-  pub exact : (a : ℕ) → is_member cites a ≡ (is_member (postfix derivation) a && is_assertion_at db a)
+  pub exact : (a : ℕ) → Decides (is_member cites a) (Cites db by_essential t a)
 
 -- a fault is the fault of the theorem's proof
 abbrev pub Refuses : List Statement → ℕ → CheckRefused → Type 0

@@ -20,3 +20,4 @@ pub mod CompleteLaw
 pub mod GoodSteps
 pub mod Cited
 pub mod SymbolLaw
+pub mod NodesLemmas

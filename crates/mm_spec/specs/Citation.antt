@@ -6,7 +6,8 @@ use Rattle.mm_spec.specs.Text.{Fault}
 use Rattle.mm_spec.specs.Statement.{Statement, floating, essential, axiomatic, provable}
 use Rattle.mm_spec.specs.Scope.{is_active, statement_at}
 use Rattle.mm_spec.specs.Frame.{is_variable, disjoint_at, formula_at, frame_at}
-use Rattle.mm_spec.specs.Derivation.{Context, Rule, hypothesis, assertion, Trees, postfix, is_member}
+use Rattle.mm_spec.specs.Derivation.{Context, Rule, hypothesis, assertion, Trees}
+use Rattle.mm_spec.specs.Nodes.{IsNodeLabel}
 use Rattle.mm_spec.specs.Steps.{PlacedStep}
 use Rattle.mm_spec.specs.Proof.{steps, reading_faults}
 use Rattle.mm_spec.specs.Valid.{Derives}
@@ -48,17 +49,17 @@ IsProof db k d = Derives (context_at db k) (map (λ s. s.step) (steps_at db k)) 
 abbrev pub IsValid : List Statement → ℕ → Type 0
 IsValid db k = (reading_faults_at db k ≡ []) × (d : Trees) × IsProof db k d
 
--- a theorem cites an assertion that is the label of a node of its proof
-abbrev pub Cites : List Statement → ℕ → ℕ → Type 0
-Cites db t a = IsTrue (list_any is_assertion (statement_at db a)) × (d : Trees) × IsProof db t d × IsTrue (is_member (postfix d) a)
+-- a theorem cites an assertion that is the label of a node of its proof, or with the flag of an essential one
+abbrev pub Cites : List Statement → (by_essential : Bool) → ℕ → ℕ → Type 0
+Cites db by_essential t a = IsTrue (list_any is_assertion (statement_at db a)) × (d : Trees) × IsProof db t d × IsNodeLabel db by_essential d a
 
 -- the cell of a theorem and an axiom is marked: a chain of citations leads from the one to the other
-abbrev pub RestsOn : List Statement → ℕ → ℕ → Type 0
-RestsOn db t a = chain.RestsOn (Cites db) t a
+abbrev pub RestsOn : List Statement → (by_essential : Bool) → ℕ → ℕ → Type 0
+RestsOn db by_essential t a = chain.RestsOn (Cites db by_essential) t a
 
 abbrev pub IsTheorem : List Statement → ℕ → Type 0
 IsTheorem db b = IsTrue (list_any is_theorem (statement_at db b))
 
 -- the longest chain of citations from t through theorems alone has so many
-abbrev pub IsWave : List Statement → ℕ → ℕ → Type 0
-IsWave db t n = chain.IsWave (Cites db) (IsTheorem db) t n
+abbrev pub IsWave : List Statement → (by_essential : Bool) → ℕ → ℕ → Type 0
+IsWave db by_essential t n = chain.IsWave (Cites db by_essential) (IsTheorem db) t n

@@ -17,7 +17,9 @@ pub mod CompressedProof
 pub mod Proof
 pub mod Valid
 pub mod Chains
+pub mod Nodes
 pub mod Citation
 pub mod Report
+pub mod Request
 pub mod Output
 pub mod Complete

@@ -11,7 +11,7 @@ use Rattle.mm_spec.specs.Frame.{formula_at}
 use Rattle.mm_spec.specs.Valid as proof
 use Rattle.mm_spec.specs.Citation.{context_at, steps_at, reading_faults_at, is_theorem, IsValid, RestsOn}
 use Rattle.mm_spec.specs.Report.{Row, report, refusal}
-use Rattle.mm_spec.specs.declared.Choice.{Choice}
+use Rattle.mm_spec.specs.Request.{Request}
 
 -- the words of a text up to its first faulty word, as tokens, and that fault
 pub record Lexed : Type 0 where
@@ -89,15 +89,15 @@ abbrev pub label_at : List Statement → ℕ → Word
 label_at db j = flat_map (λ w. w) (flat_map label_words (statement_at db j))
 
 -- a row is that of a theorem: its label, and a mark where it rests on the column's axiom
-abbrev pub IsRowOf : List Statement → List ℕ → ℕ → Row → Type 0
-IsRowOf db axioms t r = (r.label ≡ label_at db t) × AllZip (λ a mark. Decides mark (RestsOn db t a)) axioms r.marks
+abbrev pub IsRowOf : List Statement → Request → ℕ → Row → Type 0
+IsRowOf db request t r = (r.label ≡ label_at db t) × AllZip (λ a mark. Decides mark (RestsOn db request.essential t a)) (columns db request.only) r.marks
 
 -- the words of a text up to its first faulty one, with that fault
 abbrev pub lexed_of : List ℕ → Lexed
 lexed_of text = record { tokens = map (λ w. token w.start (bytes_of text w)) (tokens_of text); fault = lexical_fault text }
 
 -- what is written for a text
-abbrev pub IsOutput : List ℕ → Option Word → Choice → List ℕ → Type 0
-IsOutput text only choice bytes =
+abbrev pub IsOutput : List ℕ → Request → List ℕ → Type 0
+IsOutput text request bytes =
     ((f : Fault) × FirstFault (length text) (lexed_of text) f × (bytes ≡ refusal text f))
-    ⊎ ((db : List Statement) × HasNoFault (length text) (lexed_of text) db × (rows : List Row) × AllZip (IsRowOf db (columns db only)) (theorems db) rows × (bytes ≡ report (map (label_at db) (columns db only)) rows choice))
+    ⊎ ((db : List Statement) × HasNoFault (length text) (lexed_of text) db × (rows : List Row) × AllZip (IsRowOf db request) (theorems db) rows × (bytes ≡ report (map (label_at db) (columns db request.only)) rows request.choice))

@@ -1,4 +1,4 @@
-use Rattle.std.proofs.Common.{◌≡◌, slice_get, ap, sym, ◌∙◌, subst, refl, inr, ◌∷◌, [], true≢false}
+use Rattle.std.proofs.Common.{◌≡◌, ℕ, slice_get, ap, sym, ◌∙◌, subst, refl, inr, ◌∷◌, [], true≢false}
 use Rattle.std.proofs.lemmas.Slice.Eq.{slice_eq-Decides}
 use Rattle.std.proofs.lemmas.Bool.Decides.{Decides-eqb}
 use Rattle.std.specs.List.Sorted.{IsStrictlyIncreasing}
@@ -8,9 +8,11 @@ use Rattle.mm_spec.specs.Output.{ProofFault, end_of}
 use Rattle.mm_spec.specs.declared.Code.{Code}
 use Rattle.mm_spec.specs.Valid.{Derives, EndFault, end_code}
 use Rattle.mm_spec.specs.Frame.{formula_at}
-use Rattle.mm_spec.specs.Citation.{context_at}
+use Rattle.std.specs.Prelude.{Decides}
+use Rattle.mm_spec.specs.Citation.{context_at, IsProof, Cites}
 use Rattle.mm_spec.specs.declared.Code.TheVariants.{NotOneEntry, OtherFormula}
 use Rattle.mm_check.specs.Reached.{steps_of}
+use Rattle.mm_check.proofs.CitesLaw.{all_cited}
 use Rattle.mm_check.proofs.Reach.{derives, ends_with, not_one, end_is}
 use Rattle.mm_check.proofs.checker.judge_all.Goals.{in-None, in-Some+else-eq}
 use Rattle.mm_check.proofs.checker.judge_all.Goals as goal
@@ -22,13 +24,14 @@ returns-in-Ok-clause-valid g c =
     let r = c.in_ok-run.ensures.reached.1 in
     let is : c.in-Some.formula.now ≡ formula_at db t = (slice_eq-Decides Decides-eqb _ _ _ c.eq.ensures).0 c.if-eq.true ∙ c.formula.ensures.formula in
     let one : c.run.new.machine.entries ≡ formula_at db t ∷ [] = c.in-Some.ensures.some ∙ ap (λ f. f ∷ []) is in
-    let items : c.in-Ok.cites.items ≡ c.tidy.new.noted.items = c.in-Ok.ensures.items_if_clones_equal (λ x y e. e) ∙ c.deref.ensures.value in (
+    let items : c.in-Ok.cites.items ≡ c.tidy.new.noted.items = c.in-Ok.ensures.items_if_clones_equal (λ x y e. e) ∙ c.deref.ensures.value in
+    let proof : IsProof db t r.row = subst (λ ps. Derives (context_at db t) (steps_of ps) (formula_at db t) r.row) c.requires.steps (derives db t c.args.steps.now.steps _ _ _ r (formula_at db t) one) in (
       refl,
       record {
         derivation = r.row;
-        proof = subst (λ ps. Derives (context_at db t) (steps_of ps) (formula_at db t) r.row) c.requires.steps (derives db t c.args.steps.now.steps _ _ _ r (formula_at db t) one);
+        proof = proof;
         rising = subst IsStrictlyIncreasing (sym items) c.tidy.ensures.rising;
-        exact = λ a. ap (λ l. is_member l a) items ∙ c.tidy.ensures.same a ∙ r.noted_are a;
+        exact = subst (λ e. (a : ℕ) → Decides (is_member c.in-Ok.cites.items a) (Cites db e t a)) (sym c.if-essential.false) (all_cited db t r.row c.in-Ok.cites.items c.requires.complete proof (λ a. ap (λ l. is_member l a) items ∙ c.tidy.ensures.same a ∙ r.noted_are a));
       },
     )
 

@@ -1,0 +1,12 @@
+-- What a report is asked for (this project's own).
+use Rattle.std.specs.Prelude.{Bool, Option}
+use Rattle.mm_spec.specs.Text.{Word}
+use Rattle.mm_spec.specs.declared.Choice.{Choice}
+
+pub record Request : Type 0 where
+  -- the typecode of the axioms that are columns, if one is chosen
+  pub only : Option Word
+  -- the sections
+  pub choice : Choice
+  -- whether a theorem cites by the essential nodes of its proof alone
+  pub essential : Bool
