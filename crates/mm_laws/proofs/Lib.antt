@@ -17,3 +17,4 @@ pub mod Spelling
 pub mod SpelledSteps
 pub mod WellSpelled
 pub mod Numerals
+pub mod CitationLaw

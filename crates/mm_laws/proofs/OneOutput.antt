@@ -16,7 +16,7 @@ use Rattle.mm_spec.specs.Valid.{Reason, code_of, Fails, StepFails, StepFault, Is
 use Rattle.mm_spec.specs.Citation.{context_at, steps_at, reading_faults_at, IsValid, RestsOn}
 use Rattle.mm_spec.specs.Frame.{formula_at}
 use Rattle.mm_spec.specs.Report.{Row, report, refusal}
-use Rattle.mm_spec.specs.declared.Choice.{Choice}
+use Rattle.mm_spec.specs.Request.{Request}
 use Rattle.mm_spec.specs.declared.Code.{Code}
 use Rattle.mm_spec.specs.Output.{Lexed, lexed_of, TextFault, Stops, IsRead, ProofFault, end_of, is_theorem_at, AreValid, FirstProofFault, FirstFault, HasNoFault, theorems, columns, label_at, IsRowOf, IsOutput}
 use Rattle.mm_spec.proofs.Machine.{IsGood}
@@ -140,24 +140,24 @@ module _ (db : List Statement) (fine : AreComplete db) where
 
 -- ---- rows of marks
 
-marks_unique : (db : List Statement) (t : ℕ) (axioms : List ℕ) (a b : List Bool) → AllZip (λ x mark. Decides mark (RestsOn db t x)) axioms a → AllZip (λ x mark. Decides mark (RestsOn db t x)) axioms b → a ≡ b
-marks_unique db t [] [] [] h k = refl
-marks_unique db t [] [] (y ∷ b) h k = absurd k
-marks_unique db t [] (x ∷ a) b h k = absurd h
-marks_unique db t (n ∷ axioms) [] b h k = absurd h
-marks_unique db t (n ∷ axioms) (x ∷ a) [] h k = absurd k
-marks_unique db t (n ∷ axioms) (x ∷ a) (y ∷ b) h k = ap₂ (λ p q. p ∷ q) (same_from_decides x y h.0 k.0) (marks_unique db t axioms a b h.1 k.1)
+marks_unique : (db : List Statement) (by_essential : Bool) (t : ℕ) (axioms : List ℕ) (a b : List Bool) → AllZip (λ x mark. Decides mark (RestsOn db by_essential t x)) axioms a → AllZip (λ x mark. Decides mark (RestsOn db by_essential t x)) axioms b → a ≡ b
+marks_unique db by_essential t [] [] [] h k = refl
+marks_unique db by_essential t [] [] (y ∷ b) h k = absurd k
+marks_unique db by_essential t [] (x ∷ a) b h k = absurd h
+marks_unique db by_essential t (n ∷ axioms) [] b h k = absurd h
+marks_unique db by_essential t (n ∷ axioms) (x ∷ a) [] h k = absurd k
+marks_unique db by_essential t (n ∷ axioms) (x ∷ a) (y ∷ b) h k = ap₂ (λ p q. p ∷ q) (same_from_decides x y h.0 k.0) (marks_unique db by_essential t axioms a b h.1 k.1)
 
-row_unique : (db : List Statement) (axioms : List ℕ) (t : ℕ) (r s : Row) → IsRowOf db axioms t r → IsRowOf db axioms t s → r ≡ s
-row_unique db axioms t r s h k = ap₂ (λ (l : Word) (m : List Bool). record { label = l; marks = m }) (h.0 ∙ sym k.0) (marks_unique db t axioms r.marks s.marks h.1 k.1)
+row_unique : (db : List Statement) (request : Request) (t : ℕ) (r s : Row) → IsRowOf db request t r → IsRowOf db request t s → r ≡ s
+row_unique db request t r s h k = ap₂ (λ (l : Word) (m : List Bool). record { label = l; marks = m }) (h.0 ∙ sym k.0) (marks_unique db request.essential t (columns db request.only) r.marks s.marks h.1 k.1)
 
-rows_unique : (db : List Statement) (axioms ts : List ℕ) (a b : List Row) → AllZip (IsRowOf db axioms) ts a → AllZip (IsRowOf db axioms) ts b → a ≡ b
-rows_unique db axioms [] [] [] h k = refl
-rows_unique db axioms [] [] (y ∷ b) h k = absurd k
-rows_unique db axioms [] (x ∷ a) b h k = absurd h
-rows_unique db axioms (n ∷ ts) [] b h k = absurd h
-rows_unique db axioms (n ∷ ts) (x ∷ a) [] h k = absurd k
-rows_unique db axioms (n ∷ ts) (x ∷ a) (y ∷ b) h k = ap₂ (λ p q. p ∷ q) (row_unique db axioms n x y h.0 k.0) (rows_unique db axioms ts a b h.1 k.1)
+rows_unique : (db : List Statement) (request : Request) (ts : List ℕ) (a b : List Row) → AllZip (IsRowOf db request) ts a → AllZip (IsRowOf db request) ts b → a ≡ b
+rows_unique db request [] [] [] h k = refl
+rows_unique db request [] [] (y ∷ b) h k = absurd k
+rows_unique db request [] (x ∷ a) b h k = absurd h
+rows_unique db request (n ∷ ts) [] b h k = absurd h
+rows_unique db request (n ∷ ts) (x ∷ a) [] h k = absurd k
+rows_unique db request (n ∷ ts) (x ∷ a) (y ∷ b) h k = ap₂ (λ p q. p ∷ q) (row_unique db request n x y h.0 k.0) (rows_unique db request ts a b h.1 k.1)
 
 -- ---- faults of the text
 
@@ -285,12 +285,12 @@ module _ (len : ℕ) (x : Lexed) where
       go (inr a) = let e : None ≡ Some f = a.1 in cc
 
 -- there is one output
-pub output_unique : (text : List ℕ) (only : Option Word) (choice : Choice) (a b : List ℕ) → IsOutput text only choice a → IsOutput text only choice b → a ≡ b
-output_unique text only choice a b (inl h) (inl k) = h.2 ∙ ap (refusal text) (first_fault_unique (length text) (lexed_of text) h.0 k.0 h.1 k.1) ∙ sym k.2
-output_unique text only choice a b (inl h) (inr k) = absurd (no_both (length text) (lexed_of text) h.0 k.0 h.1 k.1)
-output_unique text only choice a b (inr h) (inl k) = absurd (no_both (length text) (lexed_of text) k.0 h.0 k.1 h.1)
-output_unique text only choice a b (inr h) (inr k) =
+pub output_unique : (text : List ℕ) (request : Request) (a b : List ℕ) → IsOutput text request a → IsOutput text request b → a ≡ b
+output_unique text request a b (inl h) (inl k) = h.2 ∙ ap (refusal text) (first_fault_unique (length text) (lexed_of text) h.0 k.0 h.1 k.1) ∙ sym k.2
+output_unique text request a b (inl h) (inr k) = absurd (no_both (length text) (lexed_of text) h.0 k.0 h.1 k.1)
+output_unique text request a b (inr h) (inl k) = absurd (no_both (length text) (lexed_of text) k.0 h.0 k.1 h.1)
+output_unique text request a b (inr h) (inr k) =
     let db : h.0 ≡ k.0 = (read_unique (length text) (lexed_of text) h.0 k.0 None None h.1.0 k.1.0).0 in
-    let mine = subst (λ d. AllZip (IsRowOf d (columns d only)) (theorems d) h.2) db h.3 in
-    let rows : h.2 ≡ k.2 = rows_unique k.0 (columns k.0 only) (theorems k.0) h.2 k.2 mine k.3 in
-    h.4 ∙ ap₂ (λ d r. report (map (label_at d) (columns d only)) r choice) db rows ∙ sym k.4
+    let mine = subst (λ d. AllZip (IsRowOf d request) (theorems d) h.2) db h.3 in
+    let rows : h.2 ≡ k.2 = rows_unique k.0 request (theorems k.0) h.2 k.2 mine k.3 in
+    h.4 ∙ ap₂ (λ d r. report (map (label_at d) (columns d request.only)) r request.choice) db rows ∙ sym k.4

@@ -1,16 +1,21 @@
 -- What is written for two small texts, a faulty one and a sound one.
-use Rattle.std.proofs.Common.{◌≡◌, ℕ, zero, suc, ◌<◌, List, [], ◌∷◌, flat_map, Some, None, codes, refl, sym, inl, inr, true≢false, arith}
+use Rattle.std.proofs.Common.{◌≡◌, ℕ, zero, suc, ◌<◌, false, List, [], ◌∷◌, flat_map, Some, None, codes, refl, sym, inl, inr, true≢false, arith}
 use Rattle.std.specs.Fmt.{digits}
 use Rattle.mm_spec.specs.Text.{token, fault}
 use Rattle.mm_spec.specs.Statement.{Statement, constants, axiomatic, opening, closing}
 use Rattle.mm_spec.specs.Lawful.{scope_fault}
 use Rattle.mm_spec.specs.Report.{line}
 use Rattle.mm_spec.specs.declared.Choice.TheVariants.{All}
+use Rattle.mm_spec.specs.Request.{Request}
 use Rattle.mm_spec.specs.Output.{lexed_of, IsRead, AreValid, IsOutput}
 use Rattle.mm_spec.specs.declared.Code.TheVariants.{ConstantInBlock}
 use Rattle.mm_laws.proofs.Reader.{statements}
 use Rattle.mm_spec.proofs.RowLaw.{is_longest}
 use Rattle.mm_spec.proofs.Stops.{no_text_fault}
+
+-- the whole report, by all nodes
+abbrev whole : Request
+whole = record { only = None; choice = All; essential = false }
 
 -- ---- a `$c` in a block
 
@@ -42,7 +47,7 @@ front_read = record {
   stops = ((λ e. cc), refl);
 }
 
-refused : IsOutput faulty None All (line (codes "refused 1:12 E11"))
+refused : IsOutput faulty whole (line (codes "refused 1:12 E11"))
 unfolding digits
 refused = inl (fault 11 ConstantInBlock, (front, Some (fault 11 ConstantInBlock), front_read, inr (front_valid, refl)), refl)
 
@@ -75,6 +80,6 @@ db_read = record {
   stops = no_text_fault 18 (lexed_of sound) refl;
 }
 
-reported : IsOutput sound None All (flat_map line (codes "mmdepend 1" ∷ codes "axioms 1" ∷ codes "theorems 0" ∷ codes "matrix" ∷ codes "counts" ∷ codes "usage" ∷ codes "ax:0:" ∷ codes "end" ∷ []))
+reported : IsOutput sound whole (flat_map line (codes "mmdepend 1" ∷ codes "axioms 1" ∷ codes "theorems 0" ∷ codes "matrix" ∷ codes "counts" ∷ codes "usage" ∷ codes "ax:0:" ∷ codes "end" ∷ []))
 unfolding digits
 reported = inr (db, (db_read, db_valid), [], tt, refl)

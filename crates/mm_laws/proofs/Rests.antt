@@ -6,15 +6,18 @@ use Rattle.std.proofs.lemmas.Bool.{and_parts, and_from, cases_eq}
 use Rattle.std.proofs.lemmas.Bool.Decides.{Decides-and, Decides-or, Decides-like}
 use Rattle.mm_spec.specs.Statement.{Statement}
 use Rattle.mm_spec.specs.Scope.{statement_at}
-use Rattle.mm_spec.specs.Derivation.{postfix, is_member}
+use Rattle.mm_spec.specs.Derivation.{is_member}
+use Rattle.mm_spec.specs.Nodes.{child_counts, each_place, IsNodeLabel}
+use Rattle.mm_spec.specs.Request.{Request}
 use Rattle.mm_spec.specs.Citation.{is_theorem, is_assertion, IsValid, Cites, RestsOn}
 use Rattle.mm_spec.specs.Complete.{AreComplete}
 use Rattle.mm_spec.specs.Report.{Row}
-use Rattle.mm_spec.specs.Output.{is_theorem_at, AreValid, label_at, IsRowOf}
+use Rattle.mm_spec.specs.Output.{is_theorem_at, AreValid, columns, label_at, IsRowOf}
 use Rattle.mm_laws.specs.Laws.{IsDecided}
 use Rattle.mm_spec.proofs.Chains.{rests_step}
 use Rattle.mm_spec.proofs.Finds.{found_at, inside_of}
-use Rattle.mm_spec.proofs.Cited.{cited_earlier, proof_theorem, proof_unique}
+use Rattle.mm_spec.proofs.Cited.{cites_earlier, proof_theorem, proof_unique}
+use Rattle.mm_spec.proofs.NodesLemmas.{node_labels, node_labels_are}
 
 -- ---- what is decided
 
@@ -40,53 +43,55 @@ some_below P (suc n) each = like (P n ⊎ ((b : ℕ) × (b < n) × P b)) ((b : �
     from b l h (inl e) = inl (subst P e h)
     from b l h (inr ne) = inr (b, omega arith, h)
 
-module _ (db : List Statement) (fine : AreComplete db) (valid : AreValid db (length db)) where
-  pub cites_decided : (t a : ℕ) → IsDecided (Cites db t a)
+module _ (db : List Statement) (by_essential : Bool) (fine : AreComplete db) (valid : AreValid db (length db)) where
+  pub cites_decided : (t a : ℕ) → IsDecided (Cites db by_essential t a)
   cites_decided t a = by (is_theorem_at db t) refl
     where
-      of : IsValid db t → IsDecided (Cites db t a)
-      of v = (
-        list_any is_assertion (statement_at db a) && is_member (postfix v.1) a,
-        (
-          (λ e. let p = and_parts (list_any is_assertion (statement_at db a)) (is_member (postfix v.1) a) e in (p.0, v.1, v.2, p.1)),
-          λ c. and_from (list_any is_assertion (statement_at db a)) (is_member (postfix v.1) a) c.0 (subst (λ e. is_member (postfix e) a ≡ true) (proof_unique db fine t c.1 v.1 c.2 v.2) c.3),
-        ),
-      )
+      of : IsValid db t → IsDecided (Cites db by_essential t a)
+      of v =
+          let listed = is_member (node_labels (child_counts db by_essential) each_place v.1) a in
+          let are = node_labels_are (child_counts db by_essential) each_place v.1 a in (
+            list_any is_assertion (statement_at db a) && listed,
+            (
+              (λ e. let p = and_parts (list_any is_assertion (statement_at db a)) listed e in (p.0, v.1, v.2, are.1 p.1)),
+              λ c. and_from (list_any is_assertion (statement_at db a)) listed c.0 (are.0 (subst (λ e. IsNodeLabel db by_essential e a) (proof_unique db fine t c.1 v.1 c.2 v.2) c.3)),
+            ),
+          )
 
-      by : (b : Bool) → is_theorem_at db t ≡ b → IsDecided (Cites db t a)
+      by : (b : Bool) → is_theorem_at db t ≡ b → IsDecided (Cites db by_essential t a)
       by true e = let f = found_at db is_theorem t e in of (valid t (inside_of db t f.0 f.1) e)
       by false e = (false, ((λ h. absurd (true≢false (sym h))), λ c. absurd (true≢false (sym (proof_theorem db t c.1 c.2) ∙ e))))
 
   -- citations go to what is earlier, so chains are decided from the first theorem on
-  rests_below : (n t : ℕ) → t < n → (a : ℕ) → IsDecided (RestsOn db t a)
+  rests_below : (n t : ℕ) → t < n → (a : ℕ) → IsDecided (RestsOn db by_essential t a)
   rests_below zero t l a = absurd (omega arith)
   rests_below (suc n) t l a =
-      like (Cites db t a ⊎ ((b : ℕ) × (b < t) × (Cites db t b × RestsOn db b a))) (RestsOn db t a) to (λ r. from ((rests_step (Cites db) t a).0 r))
-      (either (Cites db t a) ((b : ℕ) × (b < t) × (Cites db t b × RestsOn db b a)) (cites_decided t a) (some_below (λ b. Cites db t b × RestsOn db b a) t (λ b m. both (Cites db t b) (RestsOn db b a) (cites_decided t b) (rests_below n b (omega arith) a))))
+      like (Cites db by_essential t a ⊎ ((b : ℕ) × (b < t) × (Cites db by_essential t b × RestsOn db by_essential b a))) (RestsOn db by_essential t a) to (λ r. from ((rests_step (Cites db by_essential) t a).0 r))
+      (either (Cites db by_essential t a) ((b : ℕ) × (b < t) × (Cites db by_essential t b × RestsOn db by_essential b a)) (cites_decided t a) (some_below (λ b. Cites db by_essential t b × RestsOn db by_essential b a) t (λ b m. both (Cites db by_essential t b) (RestsOn db by_essential b a) (cites_decided t b) (rests_below n b (omega arith) a))))
     where
-      to : Cites db t a ⊎ ((b : ℕ) × (b < t) × (Cites db t b × RestsOn db b a)) → RestsOn db t a
-      to (inl c) = (rests_step (Cites db) t a).1 (inl c)
-      to (inr h) = (rests_step (Cites db) t a).1 (inr (h.0, h.2.0, h.2.1))
+      to : Cites db by_essential t a ⊎ ((b : ℕ) × (b < t) × (Cites db by_essential t b × RestsOn db by_essential b a)) → RestsOn db by_essential t a
+      to (inl c) = (rests_step (Cites db by_essential) t a).1 (inl c)
+      to (inr h) = (rests_step (Cites db by_essential) t a).1 (inr (h.0, h.2.0, h.2.1))
 
-      from : Cites db t a ⊎ ((b : ℕ) × Cites db t b × RestsOn db b a) → Cites db t a ⊎ ((b : ℕ) × (b < t) × (Cites db t b × RestsOn db b a))
+      from : Cites db by_essential t a ⊎ ((b : ℕ) × Cites db by_essential t b × RestsOn db by_essential b a) → Cites db by_essential t a ⊎ ((b : ℕ) × (b < t) × (Cites db by_essential t b × RestsOn db by_essential b a))
       from (inl c) = inl c
-      from (inr h) = inr (h.0, cited_earlier db t h.0 h.1.1 h.1.2 h.1.3, (h.1, h.2))
+      from (inr h) = inr (h.0, cites_earlier db by_essential t h.0 h.1, (h.1, h.2))
 
-  pub rests_decided : (t a : ℕ) → IsDecided (RestsOn db t a)
+  pub rests_decided : (t a : ℕ) → IsDecided (RestsOn db by_essential t a)
   rests_decided t a = rests_below (suc t) t (omega arith) a
 
   -- ---- rows of marks
 
-  marks_of : (t : ℕ) (axioms : List ℕ) → (marks : List Bool) × AllZip (λ a mark. Decides mark (RestsOn db t a)) axioms marks
+  marks_of : (t : ℕ) (axioms : List ℕ) → (marks : List Bool) × AllZip (λ a mark. Decides mark (RestsOn db by_essential t a)) axioms marks
   marks_of t [] = ([], tt)
   marks_of t (a ∷ axioms) =
       let first = rests_decided t a in
       let rest = marks_of t axioms in
       (first.0 ∷ rest.0, (first.1, rest.1))
 
-  pub rows_of : (axioms ts : List ℕ) → (rows : List Row) × AllZip (IsRowOf db axioms) ts rows
-  rows_of axioms [] = ([], tt)
-  rows_of axioms (t ∷ ts) =
-      let marks = marks_of t axioms in
-      let rest = rows_of axioms ts in
-      (record { label = label_at db t; marks = marks.0 } ∷ rest.0, ((refl, marks.1), rest.1))
+pub rows_of : (db : List Statement) (request : Request) → AreComplete db → AreValid db (length db) → (ts : List ℕ) → (rows : List Row) × AllZip (IsRowOf db request) ts rows
+rows_of db request fine valid [] = ([], tt)
+rows_of db request fine valid (t ∷ ts) =
+    let marks = marks_of db request.essential fine valid t (columns db request.only) in
+    let rest = rows_of db request fine valid ts in
+    (record { label = label_at db t; marks = marks.0 } ∷ rest.0, ((refl, marks.1), rest.1))

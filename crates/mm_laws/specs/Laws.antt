@@ -1,16 +1,17 @@
 -- The statements of laws over the definitions (this project's own).
-use Rattle.std.specs.Prelude.{◌≡◌, ◌≢◌, ◌↔◌, ◌≤◌, ℕ, Bool, List, [], ◌∷◌, map, Option, ◌⊎◌, Decides, IsTrue, slice_get, codes}
-use Rattle.std.specs.List.{AllZip, AllByRecursion}
-use Rattle.mm_spec.specs.Text.{Word, Token}
+use Rattle.std.specs.Prelude.{◌≡◌, ◌≢◌, ◌↔◌, ◌≤◌, ℕ, Bool, true, false, List, [], ◌∷◌, map, Option, ◌⊎◌, Decides, IsTrue, slice_get, codes}
+use Rattle.std.specs.List.{AllZip, AllByRecursion, list_any}
+use Rattle.mm_spec.specs.Text.{Token}
 use Rattle.mm_spec.specs.declared.Fault.{Fault}
 use Rattle.mm_spec.specs.Statement.{Statement}
-use Rattle.mm_spec.specs.Derivation.{Trees, AreDerivations, postfix}
+use Rattle.mm_spec.specs.Scope.{statement_at}
+use Rattle.mm_spec.specs.Derivation.{Trees, AreDerivations, postfix, is_member}
 use Rattle.mm_spec.specs.Frame.{mandatory_hypotheses}
 use Rattle.mm_spec.specs.Steps.{Step, label}
 use Rattle.mm_spec.specs.Proof.{steps, reading_faults}
 use Rattle.mm_laws.specs.Spelling.{Item, IsNumber, IsCompressed, letters_in, Spells, IsUsable, IsWellSpelled, AreSteps}
-use Rattle.mm_spec.specs.Citation.{context_at, IsProof, IsValid, RestsOn, IsWave}
-use Rattle.mm_spec.specs.declared.Choice.{Choice}
+use Rattle.mm_spec.specs.Citation.{context_at, is_assertion, IsProof, IsValid, Cites, RestsOn, IsWave}
+use Rattle.mm_spec.specs.Request.{Request}
 use Rattle.mm_spec.specs.Output.{Lexed, IsRead, ProofFault, end_of, is_theorem_at, FirstFault, HasNoFault, IsOutput}
 
 -- what holds at each place of the statements that are read of any text
@@ -40,7 +41,7 @@ FaultIsUnique db k = (f g : Fault) → IsFaultOf db k f → IsFaultOf db k g →
 
 -- what is written for a text is one
 abbrev pub OutputIsUnique : Type 0
-OutputIsUnique = (text : List ℕ) (only : Option Word) (choice : Choice) (a b : List ℕ) → IsOutput text only choice a → IsOutput text only choice b → a ≡ b
+OutputIsUnique = (text : List ℕ) (request : Request) (a b : List ℕ) → IsOutput text request a → IsOutput text request b → a ≡ b
 
 -- reading gives something
 abbrev pub IsReadable : ℕ → Lexed → Type 0
@@ -56,11 +57,11 @@ IsDecided P = (mark : Bool) × Decides mark P
 
 -- where there is no fault, each cell is marked or not
 abbrev pub AreDecided : ℕ → Lexed → Type 0
-AreDecided len x = (db : List Statement) → HasNoFault len x db → (t a : ℕ) → IsDecided (RestsOn db t a)
+AreDecided len x = (db : List Statement) → HasNoFault len x db → (by_essential : Bool) (t a : ℕ) → IsDecided (RestsOn db by_essential t a)
 
 -- something is written for each text
 abbrev pub OutputExists : Type 0
-OutputExists = (text : List ℕ) (only : Option Word) (choice : Choice) → (bytes : List ℕ) × IsOutput text only choice bytes
+OutputExists = (text : List ℕ) (request : Request) → (bytes : List ℕ) × IsOutput text request bytes
 
 -- the words of a compressed proof part in one way
 abbrev pub PartsAreUnique : Type 0
@@ -103,7 +104,15 @@ StepsAreLabels db k = (end : ℕ) (t : Token) (ts : List Token) → reading_faul
 
 -- where there is no fault, each theorem has a wave, and no other
 abbrev pub HaveWaves : ℕ → Lexed → Type 0
-HaveWaves len x = (db : List Statement) → HasNoFault len x db → (t : ℕ) → (n : ℕ) × IsWave db t n × ((m : ℕ) → IsWave db t m → m ≡ n)
+HaveWaves len x = (db : List Statement) → HasNoFault len x db → (by_essential : Bool) (t : ℕ) → (n : ℕ) × IsWave db by_essential t n × ((m : ℕ) → IsWave db by_essential t m → m ≡ n)
+
+-- what a theorem cites by the essential nodes of its proof, it cites
+abbrev pub EssentialIsCited : Type 0
+EssentialIsCited = (db : List Statement) (t a : ℕ) → Cites db true t a → Cites db false t a
+
+-- without the flag each label of an assertion is cited
+abbrev pub EachLabelIsCited : Type 0
+EachLabelIsCited = (db : List Statement) (t a : ℕ) → Cites db false t a ↔ (IsTrue (list_any is_assertion (statement_at db a)) × (d : Trees) × IsProof db t d × IsTrue (is_member (postfix d) a))
 
 -- reading finds no fault in a compressed proof that is well formed, and in no other
 abbrev pub CompressedIsExact : List Statement → ℕ → Type 0

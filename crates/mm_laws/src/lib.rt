@@ -23,7 +23,7 @@ ghost use Rattle.mm_laws.specs.Lexing.{IsLexed};
 ghost use Rattle.mm_laws.specs.Laws.{WhereRead, LabelsDetermine, ProofIsUnique};
 ghost use Rattle.mm_laws.specs.Laws.{IsValidOrFaulty, IsNeverBoth, FaultIsUnique};
 ghost use Rattle.mm_laws.specs.Laws.{IsReadable, IsSoundOrFaulty, AreDecided, HaveWaves};
-ghost use Rattle.mm_laws.specs.Laws.{OutputExists, OutputIsUnique};
+ghost use Rattle.mm_laws.specs.Laws.{OutputExists, OutputIsUnique, EachLabelIsCited, EssentialIsCited};
 ghost use Rattle.mm_laws.specs.Laws.{PartsAreUnique, SpellingIsUnique, ProofsAreSpelled};
 ghost use Rattle.mm_laws.specs.Laws.{StepsAreNamed, NamedStepsAreUnique, StepsAreLabels};
 ghost use Rattle.mm_laws.specs.Laws.{CompressedIsExact, NormalIsExact};
@@ -110,6 +110,13 @@ pub fn steps_are_what_is_named()
     ensures compressed { WhereRead StepsAreNamed }
     ensures one { NamedStepsAreUnique }
     ensures normal { WhereRead StepsAreLabels }
+{}
+
+/// A theorem cites, by all nodes of its proof, each assertion that is the label of one; and by the essential nodes nothing
+/// that it doesn't cite by all.
+pub fn essential_citations_are_citations()
+    ensures all { EachLabelIsCited }
+    ensures some { EssentialIsCited }
 {}
 
 /// In a text without faults each theorem has one wave.

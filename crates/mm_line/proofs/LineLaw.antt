@@ -1,6 +1,6 @@
 -- What the words of a command line come to.
-use Rattle.std.proofs.Common.{◌≡◌, ◌∙◌, ◌⊎◌, ◌<◌, ◌≤◌, option_map, inl, inr, ℕ, zero, suc, Bool, true, false, true≢false, ◌&&◌, ◌||◌, refl, sym, ap, subst, arith, codes, map, length, slice_index_or, List, [], ◌∷◌, Some, None}
-use Rattle.std.proofs.lemmas.Bool.{and_parts, or_cases}
+use Rattle.std.proofs.Common.{◌≡◌, ◌∙◌, ◌⊎◌, ◌<◌, ◌≤◌, ◌+◌, ◌==◌, eqb-true, eq-eqb, option_map, inl, inr, ℕ, zero, suc, Bool, true, false, true≢false, ◌&&◌, ◌||◌, refl, sym, ap, subst, arith, codes, map, length, slice_index_or, List, [], ◌∷◌, Some, None}
+use Rattle.std.proofs.lemmas.Bool.{and_parts, or_cases, or_left, or_right}
 use Rattle.std.proofs.lemmas.List.{length-map}
 use Rattle.std.proofs.lemmas.Slice.Eq.{bytes_eq-Decides}
 use Rattle.std.specs.Prelude.{not, pos}
@@ -28,11 +28,13 @@ use Rattle.clap.specs.declared.builder.value_parser.ValueParser.TheVariants.{Sig
 use Rattle.clap.specs.declared.parser.matches.Found.{Found}
 use Rattle.clap.specs.declared.parser.matches.ArgMatches.{ArgMatches}
 use Rattle.clap.specs.declared.error.Error.{Error}
-use Rattle.clap.specs.declared.error.kind.ErrorKind.TheVariants.{OutOfMemory}
+use Rattle.clap.specs.declared.error.kind.ErrorKind.TheVariants.{DisplayHelp, DisplayVersion, OutOfMemory}
+use Rattle.clap.specs.declared.error.kind.ErrorKind.{ErrorKind}
 use Rattle.clap.proofs.WalkLemmas.{first_value-rows, list_any-map, one_text-rows}
 use Rattle.mm_spec.specs.declared.Choice.{Choice}
 use Rattle.mm_spec.specs.declared.Choice.TheVariants.{All, Matrix, Counts, Usage}
-use Rattle.mm_line.specs.Lines.{IsCommand, IsReportRule, Refuses, command_of, number_rule, only_rule, report_rule, file_rule, report_word, report_words, Says}
+use Rattle.mm_spec.specs.Derivation.{is_member}
+use Rattle.mm_line.specs.Lines.{IsCommand, IsReportRule, IsFlag, IsAsking, Refuses, command_of, flag_rule, number_rule, only_rule, report_rule, file_rule, report_word, report_words, Says}
 use Rattle.mm_line.specs.Found.{Finds, HasNumber, HasReport, IsFor}
 use Rattle.mm_line.proofs.EntryLaw.{Defaulted, default_reads, nothing_in, rule_at, simple_parts}
 use Rattle.mm_plan.specs.declared.Cutting.TheVariants.{Count}
@@ -56,17 +58,21 @@ command_simple report is = subst (λ (r : Rule). is_simple_and_free (command_of 
 pub simple : (app : App) → IsCommand app → is_simple_and_free app ≡ true
 simple app is = subst (λ (a : App). is_simple_and_free a ≡ true) (sym is.2) (command_simple is.0 is.1)
 
+not_memory : (kind : ErrorKind) → IsAsking kind → kind ≡ OutOfMemory → ⊥
+not_memory kind (inl h) m = let e : DisplayHelp ≡ OutOfMemory = sym h ∙ m in cc
+not_memory kind (inr h) m = let e : DisplayVersion ≡ OutOfMemory = sym h ∙ m in cc
+
 pub refuses : (app : App) (words : List Text) (e : Error) (r : LineRefused) → IsCommand app → (takes app words ≡ true → kind_of e ≡ OutOfMemory)
     → HasKind (fault_of app words) e → IsFor (kind_of e) r → Refuses words r
 refuses app words e Memory is passes kind for = tt
 refuses app words e (Help text) is passes kind for = (app, is, untaken (takes app words) refl, kind_of e, among kind, for)
   where
     untaken : (b : Bool) → takes app words ≡ b → b ≡ false
-    untaken true t = let m = passes t in cc
+    untaken true t = absurd (not_memory (kind_of e) for (passes t))
     untaken false t = refl
 
     among : HasKind (fault_of app words) e → IsAmong (kind_of e) (fault_of app words)
-    among (inl m) = cc
+    among (inl m) = absurd (not_memory (kind_of e) for m)
     among (inr k) = k
 refuses app words e (Bad text) is passes kind for = (app, is, untaken (takes app words) refl, kind_of e, among kind, for.0)
   where
@@ -125,40 +131,38 @@ one_of_words t h = by (or_cases (bytes_eq (codes "all") t) _ h)
     by (inl e) = (All, same _ e)
     by (inr e) = second (or_cases (bytes_eq (codes "matrix") t) _ e)
 
+-- the places of the rules with an id, numbered from a number on
+abbrev hits : Text → ℕ → List Rule → List ℕ
+hits id n [] = []
+hits id n (r ∷ rs) = elim (bytes_eq r.id id) [ true ↦ n ∷ hits id (suc n) rs | false ↦ hits id (suc n) rs ]
+
+hit : (id : Text) (rs : List Rule) (d : Rule) (n j : ℕ) → j < length rs → bytes_eq (slice_index_or rs j d).id id ≡ true → is_member (hits id n rs) (n + j) ≡ true
+hit id [] d n j lt h = absurd (omega arith)
+hit id (r ∷ rs) d n zero lt h = subst (λ b. is_member (elim b [ true ↦ n ∷ hits id (suc n) rs | false ↦ hits id (suc n) rs ]) (n + 0) ≡ true) (sym h) (or_left (n + 0 == n) _ (eq-eqb (n + 0) n (omega arith)))
+hit id (r ∷ rs) d n (suc j) lt h = by (bytes_eq r.id id) (let e : suc n + j ≡ n + suc j = omega arith in subst (λ k. is_member (hits id (suc n) rs) k ≡ true) e (hit id rs d (suc n) j (omega arith) h))
+  where
+    by : (b : Bool) → is_member (hits id (suc n) rs) (n + suc j) ≡ true → is_member (elim b [ true ↦ n ∷ hits id (suc n) rs | false ↦ hits id (suc n) rs ]) (n + suc j) ≡ true
+    by true m = or_right (n + suc j == n) _ m
+    by false m = m
+
+-- where one rule has the id, each with the id is that one
+one_place : (rs : List Rule) (d : Rule) (id : Text) (k : ℕ) → hits id 0 rs ≡ k ∷ [] → (j : ℕ) → j < length rs → bytes_eq (slice_index_or rs j d).id id ≡ true → j ≡ k
+one_place rs d id k one j lt h = by (or_cases (j == k) false (subst (λ (l : List ℕ). is_member l j ≡ true) one (let e : 0 + j ≡ j = omega arith in subst (λ i. is_member (hits id 0 rs) i ≡ true) e (hit id rs d 0 j lt h))))
+  where
+    by : ((j == k) ≡ true) ⊎ (false ≡ true) → j ≡ k
+    by (inl e) = eqb-true j k e
+    by (inr e) = absurd (true≢false (sym e))
+
 module _ (names : Bor (List (Bor Text))) where
   abbrev the_rules : List Rule
-  the_rules = number_rule (codes "workers") ∷ number_rule (codes "pieces") ∷ only_rule ∷ report_rule names ∷ file_rule ∷ []
-
-  workers_at : (j : ℕ) → j < 5 → bytes_eq (slice_index_or the_rules j file_rule).id (codes "workers") ≡ true → j ≡ 0
-  workers_at zero lt h = refl
-  workers_at (suc zero) lt h = absurd (true≢false (sym h))
-  workers_at (suc (suc zero)) lt h = absurd (true≢false (sym h))
-  workers_at (suc (suc (suc zero))) lt h = absurd (true≢false (sym h))
-  workers_at (suc (suc (suc (suc zero)))) lt h = absurd (true≢false (sym h))
-  workers_at (suc (suc (suc (suc (suc j))))) lt h = absurd (omega arith)
-
-  pieces_at : (j : ℕ) → j < 5 → bytes_eq (slice_index_or the_rules j file_rule).id (codes "pieces") ≡ true → j ≡ 1
-  pieces_at zero lt h = absurd (true≢false (sym h))
-  pieces_at (suc zero) lt h = refl
-  pieces_at (suc (suc zero)) lt h = absurd (true≢false (sym h))
-  pieces_at (suc (suc (suc zero))) lt h = absurd (true≢false (sym h))
-  pieces_at (suc (suc (suc (suc zero)))) lt h = absurd (true≢false (sym h))
-  pieces_at (suc (suc (suc (suc (suc j))))) lt h = absurd (omega arith)
-
-  report_at : (j : ℕ) → j < 5 → bytes_eq (slice_index_or the_rules j file_rule).id (codes "report") ≡ true → j ≡ 3
-  report_at zero lt h = absurd (true≢false (sym h))
-  report_at (suc zero) lt h = absurd (true≢false (sym h))
-  report_at (suc (suc zero)) lt h = absurd (true≢false (sym h))
-  report_at (suc (suc (suc zero))) lt h = refl
-  report_at (suc (suc (suc (suc zero)))) lt h = absurd (true≢false (sym h))
-  report_at (suc (suc (suc (suc (suc j))))) lt h = absurd (omega arith)
+  the_rules = number_rule (codes "workers") ∷ number_rule (codes "pieces") ∷ only_rule ∷ report_rule names ∷ flag_rule (codes "essential") ∷ file_rule ∷ []
 
   module _ (c : Command) (is : app_of c ≡ command_of (report_rule names)) where
     rules : map rule_of (args_of c) ≡ the_rules
     unfolding command_of
     rules = ap (λ (a : App). a.top.rules) is
 
-    count : length (args_of c) ≡ 5
+    count : length (args_of c) ≡ length the_rules
     count = sym (length-map (args_of c) rule_of) ∙ ap length rules
 
     plain : (is_empty (out-Command c).groups.items ≡ true) × (not (not (out-Command c).has_globals) ≡ false)
@@ -178,10 +182,10 @@ module _ (names : Bor (List (Bor Text))) where
     names_no_group k d lt = (simple_parts (slice_index_or (args_of c) k d) (each_simple k d lt)).groups
 
     -- an argument with a default, by its rule
-    defaulted : (k : ℕ) (id value : Text) (q : ValueParser) → k < 5 → ((a : Arg) → slice_index_or the_rules k (rule_of a) ≡ slice_index_or the_rules k file_rule)
+    defaulted : (k : ℕ) (id value : Text) (q : ValueParser) → k < length the_rules → ((a : Arg) → slice_index_or the_rules k (rule_of a) ≡ slice_index_or the_rules k file_rule)
         → (slice_index_or the_rules k file_rule).id ≡ id → (slice_index_or the_rules k file_rule).action ≡ Some Set → (slice_index_or the_rules k file_rule).range ≡ None
         → (slice_index_or the_rules k file_rule).defaults ≡ value ∷ [] → (slice_index_or the_rules k file_rule).parser ≡ Some q
-        → ((j : ℕ) → j < 5 → bytes_eq (slice_index_or the_rules j file_rule).id id ≡ true → j ≡ k) → (id ≡ [] → ⊥) → ((id ≡ codes "help") ⊎ (id ≡ codes "version") → ⊥)
+        → ((j : ℕ) → j < length the_rules → bytes_eq (slice_index_or the_rules j file_rule).id id ≡ true → j ≡ k) → (id ≡ [] → ⊥) → ((id ≡ codes "help") ⊎ (id ≡ codes "version") → ⊥)
         → (a : Arg) × Defaulted c k a id q × (a.ignore_case ≡ (slice_index_or the_rules k file_rule).ignore_case)
     defaulted k id value q lt _ id_is action range default parser only named own =
         let inside : k < length (args_of c) = subst (λ (n : ℕ). k < n) (sym count) lt in
@@ -212,19 +216,19 @@ module _ (names : Bor (List (Bor Text))) where
 
       workers_read : HasNumber m (codes "workers")
       workers_read =
-          let d = defaulted 0 (codes "workers") (codes "4") (Signed (pos 1) (pos 64)) (omega arith) (λ _. refl) refl refl refl refl refl workers_at (differ _ _ refl) (λ e. elim e [ inl h ↦ differ _ _ refl h | inr h ↦ differ _ _ refl h ]) in
+          let d = defaulted 0 (codes "workers") (codes "4") (Signed (pos 1) (pos 64)) (omega arith) (λ _. refl) refl refl refl refl refl (one_place the_rules file_rule (codes "workers") 0 refl) (differ _ _ refl) (λ e. elim e [ inl h ↦ differ _ _ refl h | inr h ↦ differ _ _ refl h ]) in
           let r = default_reads c m p globals built_has_none 0 d.0 (codes "workers") (Signed (pos 1) (pos 64)) d.1 in
           (r.text, r.one, r.accepted)
 
       pieces_read : HasNumber m (codes "pieces")
       pieces_read =
-          let d = defaulted 1 (codes "pieces") (codes "4") (Signed (pos 1) (pos 64)) (omega arith) (λ _. refl) refl refl refl refl refl pieces_at (differ _ _ refl) (λ e. elim e [ inl h ↦ differ _ _ refl h | inr h ↦ differ _ _ refl h ]) in
+          let d = defaulted 1 (codes "pieces") (codes "4") (Signed (pos 1) (pos 64)) (omega arith) (λ _. refl) refl refl refl refl refl (one_place the_rules file_rule (codes "pieces") 1 refl) (differ _ _ refl) (λ e. elim e [ inl h ↦ differ _ _ refl h | inr h ↦ differ _ _ refl h ]) in
           let r = default_reads c m p globals built_has_none 1 d.0 (codes "pieces") (Signed (pos 1) (pos 64)) d.1 in
           (r.text, r.one, r.accepted)
 
       report_read : map (λ n. n.now) names.now ≡ report_words → HasReport m
       report_read words =
-          let d = defaulted 3 (codes "report") (codes "all") (Names names) (omega arith) (λ _. refl) refl refl refl refl refl report_at (differ _ _ refl) (λ e. elim e [ inl h ↦ differ _ _ refl h | inr h ↦ differ _ _ refl h ]) in
+          let d = defaulted 3 (codes "report") (codes "all") (Names names) (omega arith) (λ _. refl) refl refl refl refl refl (one_place the_rules file_rule (codes "report") 3 refl) (differ _ _ refl) (λ e. elim e [ inl h ↦ differ _ _ refl h | inr h ↦ differ _ _ refl h ]) in
           let r = default_reads c m p globals built_has_none 3 d.0 (codes "report") (Names names) d.1 in
           let taken : list_any (λ n. bytes_eq n.now r.text) names.now ≡ true = rw d.2 at r.accepted in
           let word = one_of_words r.text (ap (list_any (λ (w : Text). bytes_eq w r.text)) (sym words) ∙ (sym (list_any-map (λ (w : Text). bytes_eq w r.text) (λ n. n.now) names.now) ∙ taken)) in
@@ -260,8 +264,9 @@ pub says : (words : List Text) (m : ArgMatches) → Finds words m → (line : Li
     → option_map digits (one_text (found_of m) (codes "pieces")) ≡ Some n → 1 ≤ n → n ≤ 64
     → option_map digits (one_text (found_of m) (codes "workers")) ≡ Some line.plan.workers → 1 ≤ line.plan.workers → line.plan.workers ≤ 64
     → only_of line.plan ≡ first_value (found_of m) (codes "only") → first_value (found_of m) (codes "report") ≡ Some (report_word line.plan.choice)
+    → IsFlag (one_text (found_of m) (codes "essential")) line.plan.essential
     → option_map string_bytes line.file ≡ first_value (found_of m) (codes "FILE") → Says words line
-says words m f line n cuts pieces least most workers few many only choice file =
+says words m f line n cuts pieces least most workers few many only choice essential file =
     let rows = matches_of f.app words in
     let first = first_is (found_of m) rows f.rows in
     let one = one_is (found_of m) rows f.rows in (
@@ -273,6 +278,7 @@ says words m f line n cuts pieces least most workers few many only choice file =
         workers = ap (option_map digits) (sym (one (codes "workers"))) ∙ workers;
         only = sym (first (codes "only")) ∙ sym only;
         choice = sym (first (codes "report")) ∙ choice;
+        essential = subst (λ entry. IsFlag entry line.plan.essential) (one (codes "essential")) essential;
         file = sym (first (codes "FILE")) ∙ sym file;
         lawful = (subst IsLawfulCutting (sym cuts) (least, most), few, many);
       },

@@ -8,11 +8,11 @@ use Rattle.clap.specs.Simple.{App, matches_of}
 use Rattle.clap.specs.Faults.{fault_of}
 use Rattle.clap.specs.declared.parser.matches.ArgMatches.{ArgMatches}
 use Rattle.clap.specs.declared.error.kind.ErrorKind.{ErrorKind}
-use Rattle.clap.specs.declared.error.kind.ErrorKind.TheVariants.{DisplayHelp, OutOfMemory}
+use Rattle.clap.specs.declared.error.kind.ErrorKind.TheVariants.{OutOfMemory}
 use Rattle.mm_spec.specs.declared.Choice.{Choice}
 use Rattle.mm_line.specs.declared.command_line.LineRefused.{LineRefused}
 use Rattle.mm_line.specs.declared.command_line.LineRefused.TheVariants.{Help, Bad, Memory}
-use Rattle.mm_line.specs.Lines.{IsCommand, report_word}
+use Rattle.mm_line.specs.Lines.{IsCommand, IsAsking, report_word}
 
 -- the entry is read as a number from 1 to 64
 abbrev pub HasNumber : ArgMatches → Text → Type 0
@@ -34,6 +34,6 @@ pub record Finds (words : List Text) (m : ArgMatches) : Type 0 where
 
 -- the refusal is for an error of this kind
 abbrev pub IsFor : ErrorKind → LineRefused → Type 0
-IsFor kind (Help text) = kind ≡ DisplayHelp
-IsFor kind (Bad text) = (kind ≢ DisplayHelp) × (kind ≢ OutOfMemory)
+IsFor kind (Help text) = IsAsking kind
+IsFor kind (Bad text) = (¬ IsAsking kind) × (kind ≢ OutOfMemory)
 IsFor kind Memory = kind ≡ OutOfMemory

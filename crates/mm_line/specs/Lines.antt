@@ -1,6 +1,6 @@
 -- The command line: which words the command takes, and what a line says. Both are as `clap` states them: `matches_of` is
 -- what it finds in the words, `fault_of` the kinds of error that the words may have.
-use Rattle.std.specs.Prelude.{◌≡◌, ℕ, List, [], ◌∷◌, map, Option, Some, codes, pos, ◌≢◌, false, ⊤}
+use Rattle.std.specs.Prelude.{◌≡◌, ℕ, Bool, true, false, ◌⊎◌, List, [], ◌∷◌, map, Option, Some, None, codes, pos, ⊤}
 use Rattle.std.specs.Option.{option_map}
 use Rattle.std.specs.String.{string_bytes}
 use Rattle.std.specs.Borrow.{Bor}
@@ -10,10 +10,10 @@ use Rattle.clap.specs.Simple.{App, new_app, new_rule, with_rule, matches_of}
 use Rattle.clap.specs.Takes.{takes}
 use Rattle.clap.specs.Kinds.{IsAmong}
 use Rattle.clap.specs.Faults.{fault_of}
-use Rattle.clap.specs.declared.builder.action.ArgAction.TheVariants.{Set}
+use Rattle.clap.specs.declared.builder.action.ArgAction.TheVariants.{Set, SetTrue}
 use Rattle.clap.specs.declared.builder.value_parser.ValueParser.TheVariants.{Signed, Names}
 use Rattle.clap.specs.declared.error.kind.ErrorKind.{ErrorKind}
-use Rattle.clap.specs.declared.error.kind.ErrorKind.TheVariants.{DisplayHelp}
+use Rattle.clap.specs.declared.error.kind.ErrorKind.TheVariants.{DisplayHelp, DisplayVersion}
 use Rattle.mm_spec.specs.declared.Choice.{Choice}
 use Rattle.mm_spec.specs.declared.Choice.TheVariants.{All, Matrix, Counts, Usage}
 use Rattle.mm_plan.specs.Plans.{IsLawful, only_of}
@@ -62,10 +62,18 @@ IsReportRule rule = (names : Bor (List (Bor Text))) × (map (λ n. n.now) names.
 abbrev pub file_rule : Rule
 file_rule = record (new_rule (codes "FILE")) { action = Some Set }
 
--- mmdepend [--workers N] [--pieces N] [--only T] [--report PART] [FILE]
+-- a flag
+abbrev pub flag_rule : Text → Rule
+flag_rule id = record (new_rule id) { long = Some id; action = Some SetTrue }
+
+-- the program's name, and that it has a version
+abbrev pub named : App
+named = let app = new_app (codes "mmdepend") in record app { top = record app.top { has_version = true } }
+
+-- mmdepend [--workers N] [--pieces N] [--only T] [--report PART] [--essential] [FILE]
 unfoldable pub command_of : Rule → App
 command_of report =
-    with_rule (with_rule (with_rule (with_rule (with_rule (new_app (codes "mmdepend")) (number_rule (codes "workers"))) (number_rule (codes "pieces"))) only_rule) report) file_rule
+    with_rule (with_rule (with_rule (with_rule (with_rule (with_rule named (number_rule (codes "workers"))) (number_rule (codes "pieces"))) only_rule) report) (flag_rule (codes "essential"))) file_rule
 
 abbrev pub IsCommand : App → Type 0
 IsCommand app = (report : Rule) × IsReportRule report × (app ≡ command_of report)
@@ -74,12 +82,17 @@ IsCommand app = (report : Rule) × IsReportRule report × (app ≡ command_of re
 abbrev pub number_of : Text → List Row → Option ℕ
 number_of id rows = option_map (λ t. digits_value 10 (without_leading_plus t)) (one_of id rows)
 
+-- a flag is set where its entry is the word for that, and isn't where it is the other word, or where there is none
+abbrev pub IsFlag : Option Text → Bool → Type 0
+IsFlag entry set = (entry ≡ None → set ≡ false) × (entry ≡ Some (codes "true") → set ≡ true) × (entry ≡ Some (codes "false") → set ≡ false)
+
 -- the plan is lawful, and each field is its entry
 pub record IsLine (rows : List Row) (line : Line) : Type 0 where
   pub pieces : (n : ℕ) × (line.plan.cuts ≡ Count n) × (number_of (codes "pieces") rows ≡ Some n)
   pub workers : number_of (codes "workers") rows ≡ Some line.plan.workers
   pub only : first_of (codes "only") rows ≡ only_of line.plan
   pub choice : first_of (codes "report") rows ≡ Some (report_word line.plan.choice)
+  pub essential : IsFlag (one_of (codes "essential") rows) line.plan.essential
   pub file : first_of (codes "FILE") rows ≡ option_map string_bytes line.file
   pub lawful : IsLawful line.plan
 
@@ -91,8 +104,12 @@ Says words line = (app : App) × IsCommand app × (fault_of app words ≡ []) ×
 abbrev pub Faults : List Text → (ErrorKind → Type 0) → Type 0
 Faults words P = (app : App) × IsCommand app × (takes app words ≡ false) × (kind : ErrorKind) × IsAmong kind (fault_of app words) × P kind
 
--- Help is asked for, or the words have another fault. Nothing is said where memory was refused.
+-- a text is asked for, that of help or of the version
+abbrev pub IsAsking : ErrorKind → Type 0
+IsAsking kind = (kind ≡ DisplayHelp) ⊎ (kind ≡ DisplayVersion)
+
+-- A text is asked for, or the words have another fault. Nothing is said where memory was refused.
 abbrev pub Refuses : List Text → LineRefused → Type 0
-Refuses words (Help text) = Faults words (λ kind. kind ≡ DisplayHelp)
-Refuses words (Bad text) = Faults words (λ kind. kind ≢ DisplayHelp)
+Refuses words (Help text) = Faults words IsAsking
+Refuses words (Bad text) = Faults words (λ kind. ¬ IsAsking kind)
 Refuses words Memory = ⊤

@@ -14,7 +14,7 @@ pub struct Line {
 /// Why there is no line.
 #[derive(Drop)]
 pub enum LineRefused {
-    /// Help is asked for, and this is its text.
+    /// Help or the version is asked for, and this is its text.
     Help(String),
     /// The words have a fault, which this text tells.
     Bad(String),

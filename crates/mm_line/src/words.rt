@@ -5,7 +5,7 @@ ghost use Rattle.std.specs.String.{string_bytes};
 ghost use Rattle.std.specs.Str.Parse.{digits_value, without_leading_plus};
 ghost use Rattle.clap.specs.Words.{app_of, first_value, found_of, kind_of, one_text, rule_of};
 ghost use Rattle.mm_line.specs.Found.{Finds, HasNumber, HasReport, IsFor};
-ghost use Rattle.mm_line.specs.Lines.{IsCommand, IsReportRule, Refuses, Says, file_rule, number_rule, only_rule, report_word};
+ghost use Rattle.mm_line.specs.Lines.{IsCommand, IsReportRule, Refuses, Says, file_rule, flag_rule, number_rule, only_rule, report_word};
 
 use crate::command_line::{Line, LineRefused};
 use clap::error::ErrorKind;
@@ -16,6 +16,15 @@ use std::alloc::{AllocError, Global};
 use std::convert::AsStr;
 
 static REPORTS: [&str; 4] = ["all", "matrix", "counts", "usage"];
+
+/// The program's version, and the toolchain with which it was proved, as `rt version` tells it.
+const VERSION: &str = "0.1.0, proved with rattle-kit-13b logic dac8208d650f15bf";
+
+/// What stands at the end of the help.
+const AFTER: &str = "\
+The standard output gets the report, or one line with the first fault and its place.
+Status: 0 accepted, 1 refused, 2 invalid command line, 3 reading or writing failed,
+4 out of memory. For 2 to 4 the standard error says why.";
 
 /// An option with a whole number from 1 to 64, 4 where it isn't given.
 fn number<'a>(alloc: Global, name: &'a str, help: &'a str) -> Arg<'a>
@@ -54,13 +63,23 @@ fn report<'a>(alloc: Global) -> Arg<'a>
         .help("Write this part of the report")
 }
 
+/// The flag that takes citations from the logical part of proofs alone.
+fn essential<'a>(alloc: Global) -> Arg<'a>
+    ensures { rule_of result ≡ flag_rule (codes "essential") }
+{
+    Arg::new(alloc, "essential")
+        .long("essential")
+        .action(ArgAction::SetTrue)
+        .help("Count what the logical part of a proof cites, and not what builds its formulas")
+}
+
 /// The argument that names the database.
 fn file<'a>(alloc: Global) -> Arg<'a>
     ensures { rule_of result ≡ file_rule }
 {
-    Arg::new(alloc, "FILE")
-        .action(ArgAction::Set)
-        .help("The database; without it the standard input is read")
+    Arg::new(alloc, "FILE").action(ArgAction::Set).help(
+        "The database; without it, or where it is -, the standard input is read",
+    )
 }
 
 /// The command, with one line of help for each argument.
@@ -71,10 +90,13 @@ fn command<'a>(alloc: Global) -> Result<Command<'a>, AllocError>
     let pieces = number(alloc, "pieces", "Read the text in N pieces, 1 to 64");
     Command::new(alloc, "mmdepend")
         .about("Verifies a Metamath database and reports on which axioms each theorem rests")
+        .after_help(AFTER)
+        .version(VERSION)
         .arg(workers)?
         .arg(pieces)?
         .arg(only(alloc))?
         .arg(report(alloc))?
+        .arg(essential(alloc))?
         .arg(file(alloc))
 }
 
@@ -84,7 +106,7 @@ fn refused(alloc: Global, error: &Error) -> Result<LineRefused, AllocError>
 {
     let text = error.to_string(alloc)?;
     Ok(match error.kind() {
-        ErrorKind::DisplayHelp => LineRefused::Help(text),
+        ErrorKind::DisplayHelp | ErrorKind::DisplayVersion => LineRefused::Help(text),
         ErrorKind::OutOfMemory => LineRefused::Memory,
         _ => LineRefused::Bad(text),
     })
@@ -153,6 +175,7 @@ pub fn line<S: AsStr>(alloc: Global, words: &[S]) -> Result<Line, LineRefused>
         workers: number_in(&matches, "workers"),
         only: text_in(alloc, &matches, "only")?,
         choice: choice_in(&matches),
+        essential: matches.get_flag("essential"),
     };
     let file = text_in(alloc, &matches, "FILE")?;
     Ok(Line { plan, file })

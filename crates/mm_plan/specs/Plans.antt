@@ -3,6 +3,7 @@ use Rattle.std.specs.Prelude.{ℕ, ◌+◌, ◌<◌, ◌≤◌, List, length, sl
 use Rattle.std.specs.Option.{option_map}
 use Rattle.std.specs.String.{string_bytes}
 use Rattle.mm_spec.specs.Text.{Word}
+use Rattle.mm_spec.specs.Request.{Request}
 use Rattle.mm_plan.specs.declared.Plan.{Plan}
 use Rattle.mm_plan.specs.declared.Cutting.{Cutting}
 use Rattle.mm_plan.specs.declared.Cutting.TheVariants.{Count, Places}
@@ -22,3 +23,7 @@ module _ {A : Type 0} where
   -- the typecode of the columns, if one is chosen
   abbrev pub only_of : Plan A → Option Word
   only_of p = option_map string_bytes p.only
+
+  -- what a plan asks of the report
+  abbrev pub request_of : Plan A → Request
+  request_of p = record { only = only_of p; choice = p.choice; essential = p.essential }

@@ -19,14 +19,16 @@ pub enum Cutting<A: Allocator> {
 }
 
 /// What a run is asked to do: how the text is cut, how many workers check the proofs, the typecode of the axioms that
-/// are columns (all axioms where it is `None`), and the sections of the report. Neither the cuts nor the workers change
-/// what is written.
+/// are columns (all axioms where it is `None`), the sections of the report, and whether a theorem rests on what the
+/// essential nodes of proofs cite, and not on what builds formulas alone. Neither the cuts nor the workers change what is
+/// written.
 #[derive(Drop)]
 pub struct Plan<A: Allocator> {
     pub cuts: Cutting<A>,
     pub workers: u32,
     pub only: Option<String<A>>,
     pub choice: Choice,
+    pub essential: bool,
 }
 
 /// Whether no place is less than the one before it.

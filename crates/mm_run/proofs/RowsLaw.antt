@@ -1,13 +1,12 @@
 -- The report that is written is that of the definitions: a mark stands for a chain of citations.
-use Rattle.std.proofs.Common.{◌≡◌, ℕ, zero, suc, ◌<◌, Bool, false, List, [], ◌∷◌, length, map, get_or, Option, refl, sym, ap, subst, arith, ◌↔◌, inr}
+use Rattle.std.proofs.Common.{◌≡◌, ℕ, zero, suc, ◌<◌, Bool, false, List, [], ◌∷◌, length, map, get_or, refl, sym, ap, subst, arith, ◌↔◌, inr}
 use Rattle.std.specs.Prelude.{Decides}
 use Rattle.std.specs.List.{AllZip}
 use Rattle.std.proofs.lemmas.List.FromFn.{get_or-map-range_with_len, length-map-range_with_len}
-use Rattle.mm_spec.specs.Text.{Word}
 use Rattle.mm_spec.specs.Statement.{Statement}
 use Rattle.mm_spec.specs.Citation as proof
 use Rattle.mm_spec.specs.Report.{Row, report}
-use Rattle.mm_spec.specs.declared.Choice.{Choice}
+use Rattle.mm_spec.specs.Request.{Request}
 use Rattle.mm_spec.specs.Output.{IsRowOf, theorems, columns, label_at, lexed_of, HasNoFault, IsOutput}
 use Rattle.mm_spec.proofs.Chains.{chains_alike}
 use Rattle.mm_work.specs.Citing.{Citing, Cites, theorem_at}
@@ -25,28 +24,28 @@ zip-at R (x ∷ xs) (y ∷ ys) d e n h = (h 0 (omega arith), zip-at R xs ys d e 
 decides : {P Q : Type 0} (b : Bool) → Decides b P → P ↔ Q → Decides b Q
 decides b h e = ((λ t. e.0 (h.0 t)), (λ q. h.1 (e.1 q)))
 
-module _ (db : List Statement) (c : Citing) (axioms : List ℕ) (m : Marks) (same : c.theorems ≡ theorems db) (shows : Shows db c) (h : IsMatrix c axioms m) where
-  marks-zip : (i : ℕ) → i < length (theorems db) → AllZip (λ a b. Decides b (proof.RestsOn db (get_or (theorems db) i 0) a)) axioms (marks_of m i)
+module _ (db : List Statement) (request : Request) (c : Citing) (m : Marks) (same : c.theorems ≡ theorems db) (shows : Shows db request.essential c) (h : IsMatrix c (columns db request.only) m) where
+  marks-zip : (i : ℕ) → i < length (theorems db) → AllZip (λ a b. Decides b (proof.RestsOn db request.essential (get_or (theorems db) i 0) a)) (columns db request.only) (marks_of m i)
   marks-zip i l =
       let n = length-map-range_with_len (mark m i) 0 m.columns in
       let w = h.columns_are in
-      zip-at (λ a b. Decides b (proof.RestsOn db (get_or (theorems db) i 0) a)) axioms (marks_of m i) 0 false (omega (arith, n, w))
+      zip-at (λ a b. Decides b (proof.RestsOn db request.essential (get_or (theorems db) i 0) a)) (columns db request.only) (marks_of m i) 0 false (omega (arith, n, w))
       (λ j k.
       let inside : i < length c.theorems = subst (λ (ts : List ℕ). i < length ts) (sym same) l in
-      let d = decides (mark m i j) (h.marked i j inside k) (chains_alike (Cites c) (proof.Cites db) shows.same (theorem_at c i) (get_or axioms j 0)) in
-      subst (λ b. Decides b (proof.RestsOn db (get_or (theorems db) i 0) (get_or axioms j 0))) (sym (get_or-map-range_with_len (mark m i) 0 m.columns j j false (omega (arith, k, w)) (omega arith)))
-      (subst (λ t. Decides (mark m i j) (proof.RestsOn db t (get_or axioms j 0))) (ap (λ ts. get_or ts i 0) same) d))
+      let d = decides (mark m i j) (h.marked i j inside k) (chains_alike (Cites c) (proof.Cites db request.essential) shows.same (theorem_at c i) (get_or (columns db request.only) j 0)) in
+      subst (λ b. Decides b (proof.RestsOn db request.essential (get_or (theorems db) i 0) (get_or (columns db request.only) j 0))) (sym (get_or-map-range_with_len (mark m i) 0 m.columns j j false (omega (arith, k, w)) (omega arith)))
+      (subst (λ t. Decides (mark m i j) (proof.RestsOn db request.essential t (get_or (columns db request.only) j 0))) (ap (λ ts. get_or ts i 0) same) d))
 
-  pub rows-are : AllZip (IsRowOf db axioms) (theorems db) (rows_of m (map (label_at db) (theorems db)))
+  pub rows-are : AllZip (IsRowOf db request) (theorems db) (rows_of m (map (label_at db) (theorems db)))
   rows-are =
       let names = map (label_at db) (theorems db) in
       let f = λ (i : ℕ). row_of m (get_or names i []) i in
       let r = h.rows in
       let s = ap (λ (ts : List ℕ). length ts) same in
       let n = length-map-range_with_len f 0 m.rows in
-      zip-at (IsRowOf db axioms) (theorems db) (rows_of m names) 0 (f 0) (omega (arith, n, r, s))
+      zip-at (IsRowOf db request) (theorems db) (rows_of m names) 0 (f 0) (omega (arith, n, r, s))
       (λ i l.
-      subst (λ (x : Row). IsRowOf db axioms (get_or (theorems db) i 0) x) (sym (get_or-map-range_with_len f 0 m.rows i i (f 0) (omega (arith, r, s, l)) (omega arith)))
+      subst (λ (x : Row). IsRowOf db request (get_or (theorems db) i 0) x) (sym (get_or-map-range_with_len f 0 m.rows i i (f 0) (omega (arith, r, s, l)) (omega arith)))
       (mapped (theorems db) i l, marks-zip i l))
     where
       mapped : (ts : List ℕ) (i : ℕ) → i < length ts → get_or (map (label_at db) ts) i [] ≡ label_at db (get_or ts i 0)
@@ -55,14 +54,14 @@ module _ (db : List Statement) (c : Citing) (axioms : List ℕ) (m : Marks) (sam
       mapped (t ∷ ts) (suc i) l = mapped ts i (omega arith)
 
 -- what is written of a database without a fault
-pub is-output : (text : List ℕ) (only : Option Word) (choice : Choice) (db : List Statement) (c : Citing) (axioms : List ℕ) (m : Marks)
-    → HasNoFault (length text) (lexed_of text) db → AllCited db c → axioms ≡ columns db only → IsMatrix c axioms m → IsOutput text only choice (report_of db axioms m choice)
-is-output text only choice db c axioms m sound cited is h =
+pub is-output : (text : List ℕ) (request : Request) (db : List Statement) (c : Citing) (axioms : List ℕ) (m : Marks)
+    → HasNoFault (length text) (lexed_of text) db → AllCited db request.essential c → axioms ≡ columns db request.only → IsMatrix c axioms m → IsOutput text request (report_of db axioms m request.choice)
+is-output text request db c axioms m sound cited is h =
     let h' = subst (λ (l : List ℕ). IsMatrix c l m) is h in
     inr (
       db,
       sound,
       rows_of m (map (label_at db) (theorems db)),
-      rows-are db c (columns db only) m cited.theorems_are cited.shows h',
-      ap (λ (l : List ℕ). report (map (label_at db) l) (rows_of m (map (label_at db) (theorems db))) choice) is,
+      rows-are db request c m cited.theorems_are cited.shows h',
+      ap (λ (l : List ℕ). report (map (label_at db) l) (rows_of m (map (label_at db) (theorems db))) request.choice) is,
     )

@@ -1,9 +1,8 @@
 -- How a run ends: what was read and written, by what it answers.
 use Rattle.std.specs.Prelude.{◌≡◌, ℕ, List, length, take, Option, ◌⊎◌}
 use Rattle.std.specs.Io.KnownBytes.{Consumes, Appends, Keeps, IsAtEnd}
-use Rattle.mm_spec.specs.Text.{Word}
 use Rattle.mm_spec.specs.Report.{refusal}
-use Rattle.mm_spec.specs.declared.Choice.{Choice}
+use Rattle.mm_spec.specs.Request.{Request}
 use Rattle.mm_spec.specs.Statement.{Statement}
 use Rattle.mm_spec.specs.Output.{lexed_of, IsOutput, FirstFault, HasNoFault}
 use Rattle.mm_run.specs.declared.RunEnd.{RunEnd}
@@ -20,17 +19,17 @@ Gave before after text = Consumes before after text × (IsAtEnd after ⊎ (lengt
 -- What is written for a text. It has no fault where it is accepted, and its output is written; else the first fault is
 -- the one that is answered, and its refusal is written. Where a write failed, a beginning of the output is written.
 -- Of a text that was read, none answers that reading failed.
-abbrev pub Answers : RunEnd → List ℕ → Option Word → Choice → (held holds : Option (List ℕ)) → Type 0
-Answers Accepted text only choice held holds =
-    ((db : List Statement) × HasNoFault (length text) (lexed_of text) db) × ((bytes : List ℕ) × IsOutput text only choice bytes × Appends held holds bytes)
-Answers (Refused f) text only choice held holds =
-    FirstFault (length text) (lexed_of text) f × IsOutput text only choice (refusal text f) × Appends held holds (refusal text f)
-Answers WriteFailed text only choice held holds = (bytes : List ℕ) × (k : ℕ) × IsOutput text only choice bytes × Appends held holds (take k bytes)
-Answers ReadFailed text only choice held holds = ⊥
-Answers NoMemory text only choice held holds = Keeps held holds
+abbrev pub Answers : RunEnd → List ℕ → Request → (held holds : Option (List ℕ)) → Type 0
+Answers Accepted text request held holds =
+    ((db : List Statement) × HasNoFault (length text) (lexed_of text) db) × ((bytes : List ℕ) × IsOutput text request bytes × Appends held holds bytes)
+Answers (Refused f) text request held holds =
+    FirstFault (length text) (lexed_of text) f × IsOutput text request (refusal text f) × Appends held holds (refusal text f)
+Answers WriteFailed text request held holds = (bytes : List ℕ) × (k : ℕ) × IsOutput text request bytes × Appends held holds (take k bytes)
+Answers ReadFailed text request held holds = ⊥
+Answers NoMemory text request held holds = Keeps held holds
 
 -- The bytes written are those of the text that was read; none where reading failed or memory was refused.
-abbrev pub Ends : RunEnd → Option Word → Choice → (before after held holds : Option (List ℕ)) → Type 0
-Ends ReadFailed only choice before after held holds = Keeps held holds
-Ends NoMemory only choice before after held holds = Keeps held holds
-Ends end only choice before after held holds = (text : List ℕ) × Gave before after text × Answers end text only choice held holds
+abbrev pub Ends : RunEnd → Request → (before after held holds : Option (List ℕ)) → Type 0
+Ends ReadFailed request before after held holds = Keeps held holds
+Ends NoMemory request before after held holds = Keeps held holds
+Ends end request before after held holds = (text : List ℕ) × Gave before after text × Answers end text request held holds

@@ -8,7 +8,7 @@ mod cuts;
 mod input;
 mod output;
 
-ghost use Rattle.mm_plan.specs.Plans.{IsLawful, only_of};
+ghost use Rattle.mm_plan.specs.Plans.{IsLawful, request_of};
 ghost use Rattle.mm_run.specs.Ends.{Ends};
 
 use crate::input::{ReadRefused, read_all};
@@ -46,7 +46,7 @@ pub fn run<R: Threads + Wait + Sync, A: Allocator + Copy + Send + Sync, I: Read,
     to: &mut O,
 ) -> RunEnd
     requires { IsLawful plan.now }
-    ensures { Ends result (only_of plan.now) plan.now.choice (I.remaining from.old) (I.remaining from.new) (O.contents to.old) (O.contents to.new) }
+    ensures { Ends result (request_of plan.now) (I.remaining from.old) (I.remaining from.new) (O.contents to.old) (O.contents to.new) }
 {
     let mut text = Vec::new(alloc);
     match read_all(from, &mut text) {

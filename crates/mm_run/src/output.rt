@@ -6,7 +6,7 @@ ghost use Rattle.mm_spec.specs.Statement.{Statement};
 ghost use Rattle.mm_spec.specs.Output.{lexed_of, FirstFault, HasNoFault, IsRead};
 ghost use Rattle.mm_run.specs.Ends.{Answers, reading_limit};
 ghost use Rattle.mm_work.specs.Judged.{AllCited, IsFirstFault};
-ghost use Rattle.mm_plan.specs.Plans.{IsLawful, only_of};
+ghost use Rattle.mm_plan.specs.Plans.{IsLawful, request_of};
 
 use crate::RunEnd;
 use crate::cuts::cuts_of;
@@ -25,7 +25,7 @@ use std::thread::Threads;
 /// Writes the refusal of the text for its first fault.
 fn refuse<A: Allocator, W: Write>(text: &[u8], fault: Fault, plan: &Plan<A>, to: &mut W) -> RunEnd
     requires { FirstFault (length text.now) (lexed_of text.now) fault }
-    ensures { Answers result text.now (only_of plan.now) plan.now.choice (W.contents to.old) (W.contents to.new) }
+    ensures { Answers result text.now (request_of plan.now) (W.contents to.old) (W.contents to.new) }
 {
     let _ = plan.workers;
     match write_refusal(to, text, &fault) {
@@ -44,8 +44,8 @@ fn report<'a, R: Threads + Sync, A: Allocator + Copy + Send + Sync, W: Write>(
     to: &mut W,
 ) -> RunEnd
     requires sound { HasNoFault (length database.now.text) (lexed_of database.now.text) database.now.statements }
-    requires cited { AllCited database.now.statements citations.now }
-    ensures { Answers result database.now.text (only_of plan.now) plan.now.choice (W.contents to.old) (W.contents to.new) }
+    requires cited { AllCited database.now.statements plan.now.essential citations.now }
+    ensures { Answers result database.now.text (request_of plan.now) (W.contents to.old) (W.contents to.new) }
 {
     let Ok(columns) = Columns::new(alloc, database, plan.typecode()) else {
         return RunEnd::NoMemory;
@@ -86,12 +86,12 @@ pub fn answer<R: Threads + Wait + Sync, A: Allocator + Copy + Send + Sync, W: Wr
 ) -> RunEnd
     requires few { length text.now ≤ reading_limit }
     requires lawful { IsLawful plan.now }
-    ensures { Answers result text.now (only_of plan.now) plan.now.choice (W.contents to.old) (W.contents to.new) }
+    ensures { Answers result text.now (request_of plan.now) (W.contents to.old) (W.contents to.new) }
 {
     let Ok(database) = database_of(rt, alloc, text, plan) else {
         return RunEnd::NoMemory;
     };
-    let Ok(judged) = check_all(rt, alloc, &database, plan.workers, &Open) else {
+    let Ok(judged) = check_all(rt, alloc, &database, plan.workers, plan.essential, &Open) else {
         return RunEnd::NoMemory;
     };
     match judged {

@@ -9,11 +9,12 @@ use Rattle.mm_spec.specs.Derivation.{Context, Rule, Trees, none, more, postfix, 
 use Rattle.mm_spec.specs.Valid.{IsPlain}
 use Rattle.mm_spec.specs.Steps.{PlacedStep}
 use Rattle.mm_spec.specs.Proof.{steps}
-use Rattle.mm_spec.specs.Citation.{context_at, rule_of, steps_at, is_theorem, IsProof}
+use Rattle.mm_spec.specs.Citation.{context_at, rule_of, steps_at, is_theorem, IsProof, Cites}
 use Rattle.mm_spec.specs.Complete.{AreComplete}
 use Rattle.mm_spec.specs.Output.{is_theorem_at}
 use Rattle.mm_spec.proofs.Checked.{same_row, plain_unique}
 use Rattle.mm_spec.proofs.Finds.{is_before}
+use Rattle.mm_spec.proofs.NodesLemmas.{label_member}
 
 member_append : (xs ys : List ℕ) (a : ℕ) → is_member (xs ++ ys) a ≡ (is_member xs a || is_member ys a)
 member_append xs ys a = list_any-append (λ y. a == y) xs ys
@@ -47,6 +48,10 @@ module _ (db : List Statement) where
       by : (b : Bool) → is_active db a t ≡ b → a < t
       by true e = is_before db a t e
       by false e = absurd (label_stands (context_at db t) a d p.3 m (ap (λ b. elim b [ false ↦ None | true ↦ elim (slice_get db a) [ None ↦ None | Some s ↦ rule_of db a s ] ]) e))
+
+  -- what a theorem cites is earlier
+  pub cites_earlier : (by_essential : Bool) (t a : ℕ) → Cites db by_essential t a → a < t
+  cites_earlier by_essential t a c = cited_earlier t a c.1 c.2 (label_member db by_essential c.1 a c.3)
 
   no_steps : (t : ℕ) (d : Trees) → steps_at db t ≡ [] → IsProof db t d → ⊥
   no_steps t d e p =

@@ -1,16 +1,16 @@
 -- The citations of valid theorems are the database's.
-use Rattle.std.proofs.Common.{◌≡◌, ℕ, zero, suc, ◌+◌, ◌==◌, ◌<◌, ◌≤◌, ◌^◌, true, ◌⊎◌, inl, inr, List, [], ◌∷◌, length, get_or, refl, sym, ap, ◌∙◌, subst, arith, true≢false, eqb-true}
+use Rattle.std.proofs.Common.{◌≡◌, ℕ, zero, suc, ◌+◌, ◌==◌, ◌<◌, ◌≤◌, ◌^◌, Bool, true, ◌⊎◌, inl, inr, List, [], ◌∷◌, length, get_or, refl, sym, ap, ◌∙◌, subst, arith, true≢false, eqb-true}
 use Rattle.std.specs.List.{list_any, range_with_len}
-use Rattle.std.proofs.lemmas.Bool.{or_cases, or_left, or_right, and_parts, and_from, cases_lt, eq-eqb}
+use Rattle.std.proofs.lemmas.Bool.{or_cases, or_left, or_right, cases_lt, eq-eqb}
 use Rattle.mm_spec.specs.Statement.{Statement}
 use Rattle.mm_spec.specs.Scope.{statement_at}
-use Rattle.mm_spec.specs.Derivation.{postfix, is_member}
-use Rattle.mm_spec.specs.Citation.{is_theorem, is_assertion, IsProof, IsValid}
+use Rattle.mm_spec.specs.Derivation.{is_member}
+use Rattle.mm_spec.specs.Citation.{is_theorem, IsValid}
 use Rattle.mm_spec.specs.Citation as proof
 use Rattle.mm_spec.specs.Complete.{AreComplete}
 use Rattle.mm_spec.specs.Output.{theorems, is_theorem_at, AreValid}
 use Rattle.mm_spec.proofs.Finds.{those-member, found_at, inside_of}
-use Rattle.mm_spec.proofs.Cited.{cited_earlier, proof_theorem, proof_unique}
+use Rattle.mm_spec.proofs.Cited.{cites_earlier, proof_theorem}
 use Rattle.mm_cites.specs.Citing.{Citing, citing, Cites, IsRising, IsFileOrder}
 use Rattle.mm_cites.proofs.RisingLaw.{those-rising}
 use Rattle.mm_work.specs.Judged.{IsCited, AreCited, Shows}
@@ -44,8 +44,8 @@ theorem-place db t h =
     member-at (theorems db) t (those-member (λ j. list_any is_theorem (statement_at db j)) (range_with_len 0 (length db)) t h (in-range (length db) 0 t (omega arith) (let l = inside_of db t f.0 f.1 in omega (arith, l))))
 
 -- a theorem with citations is valid
-pub cited-valid : (db : List Statement) (t : ℕ) (cites : List ℕ) → IsCited db t cites → IsValid db t
-cited-valid db t cites c = (c.read, c.checked.derivation, c.checked.proof)
+pub cited-valid : (db : List Statement) (by_essential : Bool) (t : ℕ) (cites : List ℕ) → IsCited db by_essential t cites → IsValid db t
+cited-valid db by_essential t cites c = (c.read, c.checked.derivation, c.checked.proof)
 
 module _ (db : List Statement) (few : length db < 2 ^ 31) (complete : AreComplete db) where
   pub theorems-rise : IsRising (theorems db)
@@ -66,12 +66,12 @@ module _ (db : List Statement) (few : length db < 2 ^ 31) (complete : AreComplet
           go (inr q) = let same : get_or (theorems db) n 0 ≡ get_or (theorems db) i 0 = ap (λ x. get_or (theorems db) x 0) (let o : n ≡ i = omega (arith, s, q) in o) in omega (arith, same, e, k)
 
   -- all theorems are valid
-  pub all-valid : (lists : List (List ℕ)) → AreCited db (theorems db) (length (theorems db)) lists → AreValid db (length db)
-  all-valid lists h j k th =
+  pub all-valid : (by_essential : Bool) (lists : List (List ℕ)) → AreCited db by_essential (theorems db) (length (theorems db)) lists → AreValid db (length db)
+  all-valid by_essential lists h j k th =
       let p = theorem-place db j th in
-      subst (λ t. IsValid db t) p.2 (cited-valid db _ _ (h.each p.0 p.1))
+      subst (λ t. IsValid db t) p.2 (cited-valid db by_essential _ _ (h.each p.0 p.1))
 
-  module _ (lists : List (List ℕ)) (h : AreCited db (theorems db) (length (theorems db)) lists) where
+  module _ (by_essential : Bool) (lists : List (List ℕ)) (h : AreCited db by_essential (theorems db) (length (theorems db)) lists) where
     abbrev c : Citing
     c = citing (theorems db) lists
 
@@ -79,30 +79,22 @@ module _ (db : List Statement) (few : length db < 2 ^ 31) (complete : AreComplet
     file-order = record {
       rising = theorems-rise;
       each = h.count;
-      earlier = λ i k l m.
-          let e = h.each i l in
-          let x = get_or (get_or lists i []) k 0 in
-          let both = and_parts (is_member (postfix e.checked.derivation) x) (list_any is_assertion (statement_at db x)) (sym (e.checked.exact x) ∙ at-member (get_or lists i []) k m) in
-          cited_earlier db (get_or (theorems db) i 0) x e.checked.derivation e.checked.proof both.0;
+      earlier = λ i k l m. cites_earlier db by_essential (get_or (theorems db) i 0) _ (((h.each i l).checked.exact (get_or (get_or lists i []) k 0)).0 (at-member (get_or lists i []) k m));
     }
 
-    pub shows : Shows db c
+    pub shows : Shows db by_essential c
     shows = record { same = λ t a. ((to t a), (from t a)) }
       where
-        to : (t a : ℕ) → Cites c t a → proof.Cites db t a
+        to : (t a : ℕ) → Cites c t a → proof.Cites db by_essential t a
         to t a x =
-            let e = h.each x.row x.within in
             let l = get_or lists x.row [] in
             let b = get_or l x.place 0 in
-            let both = and_parts (is_member (postfix e.checked.derivation) b) (list_any is_assertion (statement_at db b)) (sym (e.checked.exact b) ∙ at-member l x.place x.listed) in
-            subst (λ y. proof.Cites db t y) x.cited (subst (λ y. proof.Cites db y b) x.theorem (both.1, e.checked.derivation, e.checked.proof, both.0))
+            subst (λ y. proof.Cites db by_essential t y) x.cited (subst (λ y. proof.Cites db by_essential y b) x.theorem (((h.each x.row x.within).checked.exact b).0 (at-member l x.place x.listed)))
 
-        from : (t a : ℕ) → proof.Cites db t a → Cites c t a
+        from : (t a : ℕ) → proof.Cites db by_essential t a → Cites c t a
         from t a x =
             let p = theorem-place db t (proof_theorem db t x.1 x.2) in
-            let e = h.each p.0 p.1 in
             let l = get_or lists p.0 [] in
-            let same : e.checked.derivation ≡ x.1 = proof_unique db complete t e.checked.derivation x.1 (subst (λ y. IsProof db y e.checked.derivation) p.2 e.checked.proof) x.2 in
-            let m : is_member l a ≡ true = e.checked.exact a ∙ and_from (is_member (postfix e.checked.derivation) a) (list_any is_assertion (statement_at db a)) (ap (λ d. is_member (postfix d) a) same ∙ x.3) x.0 in
+            let m : is_member l a ≡ true = ((h.each p.0 p.1).checked.exact a).1 (subst (λ y. proof.Cites db by_essential y a) (sym p.2) x) in
             let q = member-at l a m in
             record { row = p.0; place = q.0; within = p.1; listed = q.1; theorem = p.2; cited = q.2 }

@@ -1,5 +1,5 @@
 -- Noting where citations are.
-use Rattle.std.proofs.Common.{◌≡◌, ◌≢◌, ℕ, zero, suc, ◌+◌, ◌<◌, ◌≤◌, ◌⊎◌, inl, inr, All, Some, List, [], ◌∷◌, length, get_or, slice_get, slice_set, refl, sym, ap, ◌∙◌, subst, arith, take, drop, ◌++◌}
+use Rattle.std.proofs.Common.{◌≡◌, Bool, ◌≢◌, ℕ, zero, suc, ◌+◌, ◌<◌, ◌≤◌, ◌⊎◌, inl, inr, All, Some, List, [], ◌∷◌, length, get_or, slice_get, slice_set, refl, sym, ap, ◌∙◌, subst, arith, take, drop, ◌++◌}
 use Rattle.std.specs.List.{Contains}
 use Rattle.std.proofs.lemmas.Bool.{cases_lt, cases_eq}
 use Rattle.std.proofs.Math.Seq.{take-append_seam}
@@ -91,7 +91,7 @@ module _ {A : Type 0} (fs : List (Found A)) where
 pub refilled : {X : Type 0} (len : ℕ) (new old : List X) → length new ≡ len → take len (new ++ drop (length new) old) ≡ new
 refilled len new old e = subst (λ n. take n (new ++ drop (length new) old) ≡ new) e (take-append_seam new (drop (length new) old))
 
-module _ {A : Type 0} (db : List Statement) (fs : List (Found A)) (found : All (AreFound db) fs) (ps qs : List Place) (k : ℕ) (d : Place) (same : qs ≡ ps) (h : HasPlace ps fs k) where
+module _ {A : Type 0} (db : List Statement) (by_essential : Bool) (fs : List (Found A)) (found : All (AreFound db by_essential) fs) (ps qs : List Place) (k : ℕ) (d : Place) (same : qs ≡ ps) (h : HasPlace ps fs k) where
   -- the place that is read
   abbrev p : Place
   p = get_or qs k d
@@ -108,8 +108,8 @@ module _ {A : Type 0} (db : List Statement) (fs : List (Found A)) (found : All (
   pub found-there : (e : Found A) → get_or fs p.worker e ≡ h.found
   found-there e = ap (λ n. get_or fs n e) worker ∙ get_or_from_slice_get fs h.worker h.found e h.found_is
 
-  are-found : AreFound db h.found
-  are-found = subst (λ (f : Found A). AreFound db f) (found-there h.found) (found p.worker h.found worker-within)
+  are-found : AreFound db by_essential h.found
+  are-found = subst (λ (f : Found A). AreFound db by_essential f) (found-there h.found) (found p.worker h.found worker-within)
 
   place-within : p.place < length h.found.valid.items
   place-within = subst (λ (q : Place). q.place < length h.found.valid.items) (sym is) h.noted.within
@@ -117,11 +117,11 @@ module _ {A : Type 0} (db : List Statement) (fs : List (Found A)) (found : All (
   pub list-within : (f : Found A) → f ≡ h.found → p.place < length f.cites
   list-within f e = subst (λ (g : Found A). p.place < length g.cites) (sym e) (subst (λ n. p.place < n) (sym are-found.count) place-within)
 
-  pub list-cited : (f : Found A) (list : List ℕ) → f ≡ h.found → list ≡ get_or f.cites p.place [] → IsCited db (theorem_of db k) list
+  pub list-cited : (f : Found A) (list : List ℕ) → f ≡ h.found → list ≡ get_or f.cites p.place [] → IsCited db by_essential (theorem_of db k) list
   list-cited f list e l =
       let index : get_or h.found.valid.items p.place 0 ≡ k = ap (λ (q : Place). get_or h.found.valid.items q.place 0) is ∙ h.noted.index_is in
-      let one = subst (λ i. IsCited db (theorem_of db i) (get_or h.found.cites p.place [])) index (are-found.each p.place place-within) in
-      subst (λ (xs : List ℕ). IsCited db (theorem_of db k) xs) (sym (l ∙ ap (λ (g : Found A). get_or g.cites p.place []) e)) one
+      let one = subst (λ i. IsCited db by_essential (theorem_of db i) (get_or h.found.cites p.place [])) index (are-found.each p.place place-within) in
+      subst (λ (xs : List ℕ). IsCited db by_essential (theorem_of db k) xs) (sym (l ∙ ap (λ (g : Found A). get_or g.cites p.place []) e)) one
 
 pub less-le : {m n : ℕ} → m < n → m ≤ n
 less-le l = omega (arith, l)

@@ -43,10 +43,10 @@ times-contains x (y ∷ l) p = go (cases_lt 0 (times_in x l)) (times-contains x 
     go (inl h) r = let k = r h in (suc k.0, (let b = k.1 in omega (arith, b)), k.2)
     go (inr h) r = (0, omega arith, same_number x y (let one : times_in x (y ∷ l) ≡ cond (y == x) 1 0 + times_in x l = refl in omega arith))
 
-module _ {A : Type 0} (db : List Statement) where
+module _ {A : Type 0} (db : List Statement) (by_essential : Bool) where
   -- one valid theorem more
-  pub found-more : (f g : Found A) (i : ℕ) (cites : List ℕ) → AreFound db f → i < length (theorems db) → IsCited db (theorem_of db i) cites
-      → g.valid.items ≡ f.valid.items ++ i ∷ [] → g.cites ≡ f.cites ++ cites ∷ [] → g.faulty ≡ f.faulty → AreFound db g
+  pub found-more : (f g : Found A) (i : ℕ) (cites : List ℕ) → AreFound db by_essential f → i < length (theorems db) → IsCited db by_essential (theorem_of db i) cites
+      → g.valid.items ≡ f.valid.items ++ i ∷ [] → g.cites ≡ f.cites ++ cites ∷ [] → g.faulty ≡ f.faulty → AreFound db by_essential g
   found-more f g i cites h l one v c e = record {
     count = ap length c ∙ length-append f.cites (cites ∷ []) ∙ ap (λ n. n + 1) h.count ∙ sym (length-append f.valid.items (i ∷ [])) ∙ sym (ap length v);
     known = subst (λ (xs : List ℕ). All (λ j. j < length (theorems db)) xs) (sym v) (All-push (λ j. j < length (theorems db)) f.valid.items i h.known l);
@@ -54,7 +54,7 @@ module _ {A : Type 0} (db : List Statement) where
     faulty = subst (λ (o : Option IndexedFault). IsFaultFound db o) (sym e) h.faulty;
   }
     where
-      by : (k : ℕ) → k < length f.valid.items + 1 → (k < length f.valid.items) ⊎ (length f.valid.items ≤ k) → IsCited db (theorem_of db (get_or (f.valid.items ++ i ∷ []) k 0)) (get_or (f.cites ++ cites ∷ []) k [])
+      by : (k : ℕ) → k < length f.valid.items + 1 → (k < length f.valid.items) ⊎ (length f.valid.items ≤ k) → IsCited db by_essential (theorem_of db (get_or (f.valid.items ++ i ∷ []) k 0)) (get_or (f.cites ++ cites ∷ []) k [])
       by k m (inl b) = rw (get_or_append_left f.valid.items (i ∷ []) 0 k b, get_or_append_left f.cites (cites ∷ []) [] k (let n = h.count in omega (arith, n, b))) (h.each k b)
       by k m (inr b) =
           let n = h.count in
@@ -92,30 +92,30 @@ fresh-less (suc n) i v w h l z p = go (cases_lt i n) (λ b. fresh-less n i v w h
         let o = fresh-one (times_recorded n v) (times_recorded n w) (subst (λ k. times_recorded k v ≡ 0) e z) (subst (λ k. 0 < times_recorded k w) e p) in
         omega (arith, r, o)
 
-module _ {A : Type 0} (home : BoardValue) (database : Known) where
+module _ {A : Type 0} (home : BoardValue) (database : Known) (by_essential : Bool) where
   -- one worker's seat
-  pub gathered-first : (w : Worked A) → IsDone home database w → w.found.short_of_memory ≡ false → AreGathered home database.statements w.seat (w.found ∷ [])
+  pub gathered-first : (w : Worked A) → IsDone home database by_essential w → w.found.short_of_memory ≡ false → AreGathered home database.statements by_essential w.seat (w.found ∷ [])
   gathered-first w d short =
       let t = d.tells short in
       record {
         at = d.at;
         closed = d.closed;
         over = d.over short;
-        found = All-push (AreFound database.statements) [] w.found (λ k e l. absurd (omega arith)) t.found;
+        found = All-push (AreFound database.statements by_essential) [] w.found (λ k e l. absurd (omega arith)) t.found;
         settled = λ i p. (w.found, (0, omega arith, refl), times-contains i w.found.valid.items (subst (λ (l : List ℕ). 0 < times_in i l) t.settled p));
         reported = λ i p. (w.found, (0, omega arith, refl), t.reported i p);
       }
 
   -- one more worker's seat
-  pub gathered-more : (s u : SeatValue) (fs : List (Found A)) (w : Worked A) → AreGathered home database.statements s fs → IsDone home database w → w.found.short_of_memory ≡ false
-      → IsSeatOf home u → u.view ≡ after_join s.view w.seat.view → AreGathered home database.statements u (fs ++ w.found ∷ [])
+  pub gathered-more : (s u : SeatValue) (fs : List (Found A)) (w : Worked A) → AreGathered home database.statements by_essential s fs → IsDone home database by_essential w → w.found.short_of_memory ≡ false
+      → IsSeatOf home u → u.view ≡ after_join s.view w.seat.view → AreGathered home database.statements by_essential u (fs ++ w.found ∷ [])
   gathered-more s u fs w h d short at is =
       let t = d.tells short in
       record {
         at = at;
         closed = ap (λ (v : View). v.open_number) is ∙ h.closed;
         over = ap (λ (v : View). v.over) is ∙ ap (λ (b : Bool). b || w.seat.view.over) h.over;
-        found = All-push (AreFound database.statements) fs w.found h.found t.found;
+        found = All-push (AreFound database.statements by_essential) fs w.found h.found t.found;
         settled = λ i p. valid i (times-both i s.view.settled w.seat.view.settled (subst (λ (l : List ℕ). 0 < times_in i l) (ap (λ (v : View). v.settled) is) p));
         reported = λ i p. faulty i (times-both i s.view.reported w.seat.view.reported (subst (λ (l : List ℕ). 0 < times_in i l) (ap (λ (v : View). v.reported) is) p));
       }

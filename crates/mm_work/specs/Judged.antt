@@ -1,36 +1,38 @@
 -- What the checking of all proofs finds.
-use Rattle.std.specs.Prelude.{◌≡◌, ℕ, ◌<◌, List, [], length, slice_index, slice_index_or, slice_get, ◌↔◌}
+use Rattle.std.specs.Prelude.{◌≡◌, ℕ, ◌<◌, Bool, List, [], length, slice_index, slice_index_or, slice_get, ◌↔◌}
+use Rattle.std.specs.List.Sorted.{IsStrictlyIncreasing}
 use Rattle.mm_spec.specs.Statement.{Statement}
 use Rattle.mm_spec.specs.Citation.{reading_faults_at}
 use Rattle.mm_spec.specs.Citation as proof
 use Rattle.mm_spec.specs.Output.{AreValid, FirstProofFault, ProofFault, end_of, theorems}
 use Rattle.mm_spec.specs.declared.Fault.{Fault}
 use Rattle.mm_check.specs.Contract.{IsChecked}
-use Rattle.mm_cites.specs.Citing.{Citing, Cites}
+use Rattle.mm_cites.specs.Citing.{Citing, Cites, list_at}
 use Rattle.mm_work.specs.declared.proof.VerifyRefused.{VerifyRefused}
 use Rattle.mm_work.specs.declared.proof.VerifyRefused.TheVariants.{Fault as FaultOf, Memory}
 use Rattle.mm_work.specs.declared.judged.Judged.{Judged}
 use Rattle.mm_work.specs.declared.judged.Judged.TheVariants.{Valid, Faulty}
 
 -- these are the citations of a valid theorem
-pub record IsCited (db : List Statement) (t : ℕ) (cites : List ℕ) : Type 0 where
+pub record IsCited (db : List Statement) (by_essential : Bool) (t : ℕ) (cites : List ℕ) : Type 0 where
   pub read : reading_faults_at db t ≡ []
-  pub checked : IsChecked db t cites
+  pub checked : IsChecked db by_essential t cites
 
 -- the first theorems are valid, with these citations
-pub record AreCited (db : List Statement) (ts : List ℕ) (n : ℕ) (lists : List (List ℕ)) : Type 0 where
+pub record AreCited (db : List Statement) (by_essential : Bool) (ts : List ℕ) (n : ℕ) (lists : List (List ℕ)) : Type 0 where
   pub count : length lists ≡ n
-  pub each : (i : ℕ) → i < n → IsCited db (slice_index ts i) (slice_index_or lists i [])
+  pub each : (i : ℕ) → i < n → IsCited db by_essential (slice_index ts i) (slice_index_or lists i [])
 
 -- the lists are what the theorems of a database cite
-pub record Shows (db : List Statement) (c : Citing) : Type 0 where
-  pub same : (t a : ℕ) → Cites c t a ↔ proof.Cites db t a
+pub record Shows (db : List Statement) (by_essential : Bool) (c : Citing) : Type 0 where
+  pub same : (t a : ℕ) → Cites c t a ↔ proof.Cites db by_essential t a
 
--- all theorems are valid, and these are their citations
-pub record AllCited (db : List Statement) (c : Citing) : Type 0 where
+-- all theorems are valid, and these are their citations, each list rising and each assertion in it once
+pub record AllCited (db : List Statement) (by_essential : Bool) (c : Citing) : Type 0 where
   pub theorems_are : c.theorems ≡ theorems db
   pub valid : AreValid db (length db)
-  pub shows : Shows db c
+  pub rising : (i : ℕ) → i < length c.theorems → IsStrictlyIncreasing (list_at c i)
+  pub shows : Shows db by_essential c
 
 -- the proof of some theorem has this fault, and those of the earlier ones have none
 abbrev pub IsFirstFault : List Statement → Fault → Type 0
@@ -47,6 +49,6 @@ Faults db t Memory = Unit {0}
 
 -- what was found: the citations of all theorems, or the first fault of a proof
 module _ {A : Type 0} where
-  abbrev pub Judges : List Statement → Judged A → Type 0
-  Judges db (Valid citations) = AllCited db citations
-  Judges db (Faulty f) = IsFirstFault db f
+  abbrev pub Judges : List Statement → Bool → Judged A → Type 0
+  Judges db by_essential (Valid citations) = AllCited db by_essential citations
+  Judges db by_essential (Faulty f) = IsFirstFault db f

@@ -1,5 +1,5 @@
 -- What a worker's seat and its findings say.
-use Rattle.std.specs.Prelude.{◌≡◌, ℕ, ◌<◌, All, List, [], Option, None, Some, length, false, true, slice_index, slice_index_or}
+use Rattle.std.specs.Prelude.{◌≡◌, ℕ, ◌<◌, Bool, All, List, [], Option, None, Some, length, false, true, slice_index, slice_index_or}
 use Rattle.std.specs.List.{Contains}
 use Rattle.std.specs.Option.{option_map}
 use Rattle.mm_spec.specs.Statement.{Statement}
@@ -28,21 +28,21 @@ faulty_index g = option_map (λ f. f.index) g
 
 module _ {A : Type 0} where
   -- what a worker found is so: the proofs that it found valid are, with these citations, and the fault is that of its theorem
-  pub record AreFound (db : List Statement) (f : Found A) : Type 0 where
+  pub record AreFound (db : List Statement) (by_essential : Bool) (f : Found A) : Type 0 where
     pub count : length f.cites ≡ length f.valid.items
     pub known : All (λ i. i < length (theorems db)) f.valid.items
-    pub each : (k : ℕ) → k < length f.valid.items → IsCited db (theorem_of db (slice_index f.valid.items k)) (slice_index_or f.cites k [])
+    pub each : (k : ℕ) → k < length f.valid.items → IsCited db by_essential (theorem_of db (slice_index f.valid.items k)) (slice_index_or f.cites k [])
     pub faulty : IsFaultFound db f.faulty
 
   -- the numbers that a seat has settled are those of the proofs that were found valid, and what it has reported is the fault
-  pub record Tells (db : List Statement) (v : View) (f : Found A) : Type 0 where
-    pub found : AreFound db f
+  pub record Tells (db : List Statement) (by_essential : Bool) (v : View) (f : Found A) : Type 0 where
+    pub found : AreFound db by_essential f
     pub settled : v.settled ≡ f.valid.items
     pub reported : (i : ℕ) → 0 < times_in i v.reported → faulty_index f.faulty ≡ Some i
 
   -- the same where no growth of memory was refused
-  abbrev pub TellsUnlessShort : List Statement → View → Found A → Type 0
-  TellsUnlessShort db v f = f.short_of_memory ≡ false → Tells db v f
+  abbrev pub TellsUnlessShort : List Statement → Bool → View → Found A → Type 0
+  TellsUnlessShort db by_essential v f = f.short_of_memory ≡ false → Tells db by_essential v f
 
 -- a seat that can begin to work
 pub record IsReady (home : BoardValue) (seat : SeatValue) : Type 0 where
@@ -54,11 +54,11 @@ pub record IsReady (home : BoardValue) (seat : SeatValue) : Type 0 where
 
 module _ {A : Type 0} where
   -- a worker that drew until no number was left, or that was short of memory
-  pub record IsDone (home : BoardValue) (database : Known) (w : Worked A) : Type 0 where
+  pub record IsDone (home : BoardValue) (database : Known) (by_essential : Bool) (w : Worked A) : Type 0 where
     pub at : IsSeatOf home w.seat
     pub closed : w.seat.view.open_number ≡ None
     pub over : w.found.short_of_memory ≡ false → w.seat.view.over ≡ true
-    pub tells : TellsUnlessShort database.statements w.seat.view w.found
+    pub tells : TellsUnlessShort database.statements by_essential w.seat.view w.found
 
   -- one of the workers found the proof of the theorem of this index valid
   abbrev pub IsFoundValid : List (Found A) → ℕ → Type 0
@@ -69,10 +69,10 @@ module _ {A : Type 0} where
   IsFoundFaulty fs i = (f : Found A) × Contains fs f × (faulty_index f.faulty ≡ Some i)
 
   -- the workers' seats were joined to this one, none was short of memory, and this is what they found
-  pub record AreGathered (home : BoardValue) (db : List Statement) (seat : SeatValue) (fs : List (Found A)) : Type 0 where
+  pub record AreGathered (home : BoardValue) (db : List Statement) (by_essential : Bool) (seat : SeatValue) (fs : List (Found A)) : Type 0 where
     pub at : IsSeatOf home seat
     pub closed : seat.view.open_number ≡ None
     pub over : seat.view.over ≡ true
-    pub found : All (AreFound db) fs
+    pub found : All (AreFound db by_essential) fs
     pub settled : (i : ℕ) → 0 < times_in i seat.view.settled → IsFoundValid fs i
     pub reported : (i : ℕ) → 0 < times_in i seat.view.reported → IsFoundFaulty fs i

@@ -18,7 +18,7 @@ use std::thread::Threads;
 const WHOLE: u32 = 64;
 
 /// Checks the proofs of all theorems by this many workers, 1 to 64, of which the calling thread is the first: what each
-/// theorem cites, or the fault of the first proof that has one, its place a byte offset from 0. Each worker passes the gate
+/// theorem cites, with `essential` by the essential nodes of its proof alone, or the fault of the first proof that has one, its place a byte offset from 0. Each worker passes the gate
 /// between the claim of a theorem and its look at it. A thread that can't be started changes no answer: where one took its
 /// seat with it, the calling thread checks all proofs anew, in file order and without the gate. Refused only where memory
 /// is, to whichever worker.
@@ -27,24 +27,25 @@ pub fn check_all<'d, R: Threads + Wait + Sync, A: Allocator + Copy + Send + Sync
     alloc: A,
     database: &Database<'d, A>,
     workers: u32,
+    essential: bool,
     gate: &G,
 ) -> Result<Judged<A>, AllocError>
     requires { (1 ≤ workers) × (workers ≤ 64) }
-    ensures { IfOk result (λ judged. Judges database.now.statements judged) }
+    ensures { IfOk result (λ judged. Judges database.now.statements essential judged) }
 {
     let _ = database.len();
     let count = database.theorems().len();
     let Ok((board, seat)) = Board::new(alloc, count as u32) else {
         return Err(AllocError);
     };
-    let gathered = work_all(rt, alloc, database, &board, gate, seat, workers)?;
+    let gathered = work_all(rt, alloc, database, &board, gate, seat, workers, essential)?;
     if gathered.seat.share() < WHOLE {
-        return check_in_order(alloc, database);
+        return check_in_order(alloc, database, essential);
     }
     let (first, _) = board.close(gathered.seat);
     if (first as usize) < count {
-        return Ok(Judged::Faulty(fault_of(database, &gathered.found, first)));
+        return Ok(Judged::Faulty(fault_of(database, essential, &gathered.found, first)));
     }
-    let lists = merge(alloc, database, &gathered.found)?;
-    valid(alloc, database, lists)
+    let lists = merge(alloc, database, essential, &gathered.found)?;
+    valid(alloc, database, essential, lists)
 }

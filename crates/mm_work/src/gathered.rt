@@ -13,14 +13,15 @@ use std::sync::Wait;
 use std::thread;
 use std::thread::{Promise, Threads};
 
-/// What a thread promises of what it hands back: that it worked at this board, on the theorems of this database.
+/// What a thread promises of what it hands back: that it worked at this board, on the theorems of this database, and by
+/// essential nodes alone where that is so.
 #[derive(Clone, Copy)]
-pub(crate) struct AtBoard<'a, 'd, A: Allocator>(&'a Board<A>, &'a Database<'d, A>);
+pub(crate) struct AtBoard<'a, 'd, A: Allocator>(&'a Board<A>, &'a Database<'d, A>, bool);
 
 impl<'a, 'd, A: Allocator> Promise<Worked<A>> for AtBoard<'a, 'd, A> {
     ghost use Rattle.mm_work.specs.Workers.{IsDone};
 
-    ghost kept_by = { λ p r. IsDone p.0.now p.1.now r };
+    ghost kept_by = { λ p r. IsDone p.0.now p.1.now p.2 r };
 }
 
 /// What the workers found, and the seat that took in theirs.
@@ -45,14 +46,16 @@ fn join_all<'d, A: Allocator + Copy>(
     alloc: A,
     database: &Database<'d, A>,
     board: &Board<A>,
+    essential: bool,
     own: Worked<A>,
     mut others: Vec<Worked<A>, A>,
 ) -> Result<Gathered<A>, AllocError>
-    requires own { IsDone board.now database.now own }
-    requires others { All (λ w. IsDone board.now database.now w) others.items }
-    ensures { IfOk result (λ g. AreGathered board.now database.now.statements g.seat g.found.items) }
+    requires own { IsDone board.now database.now essential own }
+    requires others { All (λ w. IsDone board.now database.now essential w) others.items }
+    ensures { IfOk result (λ g. AreGathered board.now database.now.statements essential g.seat g.found.items) }
 {
     let _ = database;
+    let _ = essential;
     let Worked { mut seat, found } = own;
     if found.short_of_memory {
         return Err(AllocError);
@@ -83,38 +86,39 @@ pub(crate) fn work_all<'d, R: Threads + Wait + Sync, A: Allocator + Copy + Send 
     gate: &G,
     seat: Seat,
     workers: u32,
+    essential: bool,
 ) -> Result<Gathered<A>, AllocError>
     requires ready { IsReady board.now seat }
     requires count { board.now.count ≡ length (theorems database.now.statements) }
-    ensures { IfOk result (λ g. AreGathered board.now database.now.statements g.seat g.found.items) }
+    ensures { IfOk result (λ g. AreGathered board.now database.now.statements essential g.seat g.found.items) }
 {
     thread::scope(
         thread::scope_env(),
         rt,
         move |scope| -> Result<Gathered<A>, AllocError>
             requires { IsReady board.now seat × (board.now.count ≡ length (theorems database.now.statements)) }
-            ensures { IfOk result (λ g. AreGathered board.entry.now database.entry.now.statements g.seat g.found.items) }
+            ensures { IfOk result (λ g. AreGathered board.entry.now database.entry.now.statements essential g.seat g.found.items) }
         {
             let mut mine = seat;
             let mut handles = Vec::with_capacity(alloc, workers as usize)?;
             for worker in 1..workers {
                 if let Some(other) = split(board, &mut mine) {
                     if let Ok(handle) = scope.spawn_with(
-                        AtBoard(board, database),
+                        AtBoard(board, database, essential),
                         move || -> Worked<A>
                             requires { IsReady board.now other × (board.now.count ≡ length (theorems database.now.statements)) }
-                            ensures { IsDone board.entry.now database.entry.now result }
-                        { work(alloc, database, board, gate, other, worker) },
+                            ensures { IsDone board.entry.now database.entry.now essential result }
+                        { work(alloc, database, board, gate, other, worker, essential) },
                     ) {
                         handles.push(handle)?;
                     }
                 }
             }
-            let own = work(alloc, database, board, gate, mine, 0);
+            let own = work(alloc, database, board, gate, mine, 0, essential);
             let Ok(others) = thread::join_promised(rt, handles) else {
                 return Err(AllocError);
             };
-            join_all(alloc, database, board, own, others)
+            join_all(alloc, database, board, essential, own, others)
         },
     )
 }

@@ -15,12 +15,14 @@ use std::alloc::{AllocError, Allocator};
 pub(crate) fn valid<'a, A: Allocator + Copy>(
     alloc: A,
     database: &Database<'a, A>,
+    essential: bool,
     lists: Lists<A>,
 ) -> Result<Judged<A>, AllocError>
-    requires { AreCited database.now.statements (theorems database.now.statements) (length (theorems database.now.statements)) lists }
-    ensures { IfOk result (λ judged. Judges database.now.statements judged) }
+    requires { AreCited database.now.statements essential (theorems database.now.statements) (length (theorems database.now.statements)) lists }
+    ensures { IfOk result (λ judged. Judges database.now.statements essential judged) }
 {
     let _ = database.len();
+    let _ = essential;
     let theorems = database.theorems().to_vec(alloc)?;
     Ok(Judged::Valid(Citations::new(theorems, lists)))
 }
@@ -29,19 +31,20 @@ pub(crate) fn valid<'a, A: Allocator + Copy>(
 pub(crate) fn check_in_order<'a, A: Allocator + Copy>(
     alloc: A,
     database: &Database<'a, A>,
+    essential: bool,
 ) -> Result<Judged<A>, AllocError>
-    ensures { IfOk result (λ judged. Judges database.now.statements judged) }
+    ensures { IfOk result (λ judged. Judges database.now.statements essential judged) }
 {
     let _ = database.len();
     let mut checker = Checker::new(alloc, database)?;
     let mut lists = Lists::new(alloc);
     let theorems = database.theorems();
     for theorem in theorems {
-        match verify(alloc, database, &mut checker, *theorem) {
+        match verify(alloc, database, &mut checker, *theorem, essential) {
             Ok(checked) => lists.push(checked.cites())?,
             Err(VerifyRefused::Fault(fault)) => return Ok(Judged::Faulty(fault)),
             Err(VerifyRefused::Memory) => return Err(AllocError),
         }
     }
-    valid(alloc, database, lists)
+    valid(alloc, database, essential, lists)
 }

@@ -59,12 +59,14 @@ fn places<A: Allocator + Copy>(
 pub(crate) fn merge<'d, A: Allocator + Copy>(
     alloc: A,
     database: &Database<'d, A>,
+    essential: bool,
     found: &[Found<A>],
 ) -> Result<Lists<A>, AllocError>
-    requires found { All (AreFound database.now.statements) found.now }
+    requires found { All (AreFound database.now.statements essential) found.now }
     requires valid { (i : ℕ) → i < length (theorems database.now.statements) → IsFoundValid found.now i }
-    ensures { IfOk result (λ lists. AreCited database.now.statements (theorems database.now.statements) (length (theorems database.now.statements)) lists) }
+    ensures { IfOk result (λ lists. AreCited database.now.statements essential (theorems database.now.statements) (length (theorems database.now.statements)) lists) }
 {
+    let _ = essential;
     let places = places(alloc, found, database.theorems().len())?;
     let mut lists = Lists::new(alloc);
     for place in &places {
@@ -76,14 +78,16 @@ pub(crate) fn merge<'d, A: Allocator + Copy>(
 /// The fault of the theorem of this index.
 pub(crate) fn fault_of<'d, A: Allocator>(
     database: &Database<'d, A>,
+    essential: bool,
     found: &[Found<A>],
     index: u32,
 ) -> Fault
-    requires found { All (AreFound database.now.statements) found.now }
+    requires found { All (AreFound database.now.statements essential) found.now }
     requires faulty { IsFoundFaulty found.now index }
     ensures { HasFault database.now.statements (theorem_of database.now.statements index) result }
 {
     let _ = database;
+    let _ = essential;
     for one in found {
         if let Some(faulty) = one.faulty
             && faulty.index == index

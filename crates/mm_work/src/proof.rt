@@ -20,17 +20,18 @@ pub(crate) enum VerifyRefused {
     Memory,
 }
 
-/// Reads and checks the proof of a theorem: what it cites, or its fault.
+/// Reads and checks the proof of a theorem: what it cites, or by its essential nodes alone, or its fault.
 pub(crate) fn verify<'a, A: Allocator + Copy>(
     alloc: A,
     database: &Database<'a, A>,
     checker: &mut Checker<A>,
     theorem: u32,
+    essential: bool,
 ) -> Result<Checked<A>, VerifyRefused>
     requires made_for { IsMadeFor database.now.statements checker.old }
     requires theorem { IsTrue (is_theorem_at database.now.statements theorem) }
     ensures made_for { IsMadeFor database.now.statements checker.new }
-    ensures valid { IfOk result (λ checked. IsCited database.now.statements theorem checked.cites) }
+    ensures valid { IfOk result (λ checked. IsCited database.now.statements essential theorem checked.cites) }
     ensures refused { IfErr result (λ e. Faults database.now.statements theorem e) }
 {
     let steps = match read_proof(alloc, database, theorem) {
@@ -38,7 +39,7 @@ pub(crate) fn verify<'a, A: Allocator + Copy>(
         Err(ProofRefused::Fault(fault)) => return Err(VerifyRefused::Fault(fault)),
         Err(ProofRefused::Memory) => return Err(VerifyRefused::Memory),
     };
-    match checker.check(alloc, database, theorem, &steps) {
+    match checker.check(alloc, database, theorem, &steps, essential) {
         Ok(checked) => Ok(checked),
         Err(CheckRefused::Fault(fault)) => Err(VerifyRefused::Fault(fault)),
         Err(CheckRefused::Memory) => Err(VerifyRefused::Memory),

@@ -81,19 +81,20 @@ fn check<'a, A: Allocator + Copy>(
     checker: &mut Checker<A>,
     found: &mut Found<A>,
     index: u32,
+    essential: bool,
 ) -> bool
     requires index { index < length (theorems database.now.statements) }
     requires made_for { IsMadeFor database.now.statements checker.old }
-    requires found { found.old.short_of_memory ≡ false → AreFound database.now.statements found.old }
+    requires found { found.old.short_of_memory ≡ false → AreFound database.now.statements essential found.old }
     ensures made_for { IsMadeFor database.now.statements checker.new }
     ensures short { found.new.short_of_memory ≡ false → found.old.short_of_memory ≡ false }
-    ensures found { found.new.short_of_memory ≡ false → AreFound database.now.statements found.new }
+    ensures found { found.new.short_of_memory ≡ false → AreFound database.now.statements essential found.new }
     ensures valid { found.new.short_of_memory ≡ false → result ≡ true → (found.new.valid.items ≡ found.old.valid.items ++ index ∷ []) × (found.new.faulty ≡ found.old.faulty) }
     ensures faulty { found.new.short_of_memory ≡ false → result ≡ false → (found.new.valid.items ≡ found.old.valid.items) × (faulty_index found.new.faulty ≡ Some index) }
 {
     let _ = database.len();
     let theorem = database.theorems()[index as usize];
-    match verify(alloc, database, checker, theorem) {
+    match verify(alloc, database, checker, theorem, essential) {
         Ok(checked) => match found.keep(index, checked.cites()) {
             Ok(()) => return true,
             Err(_) => found.short_of_memory = true,
@@ -113,25 +114,33 @@ fn judge<'a, A: Allocator + Copy>(
     checker: &mut Checker<A>,
     worked: &mut Worked<A>,
     index: u32,
+    essential: bool,
 )
     requires index { index < length (theorems database.now.statements) }
     requires made_for { IsMadeFor database.now.statements checker.old }
     requires home { IsSeatOf board.now worked.old.seat }
     requires held { worked.old.seat.view.open_number ≡ Some index }
     requires above { (i : ℕ) → 0 < times_in i worked.old.seat.view.reported → i < index }
-    requires tells { TellsUnlessShort database.now.statements worked.old.seat.view worked.old.found }
+    requires tells { TellsUnlessShort database.now.statements essential worked.old.seat.view worked.old.found }
     ensures made_for { IsMadeFor database.now.statements checker.new }
     ensures home { IsSeatOf board.now worked.new.seat }
     ensures closed { worked.new.seat.view.open_number ≡ None }
     ensures over { worked.new.seat.view.over ≡ worked.old.seat.view.over }
     ensures kept { (i : ℕ) → times_recorded i worked.new.seat.view ≡ times_recorded i worked.old.seat.view }
-    ensures tells { TellsUnlessShort database.now.statements worked.new.seat.view worked.new.found }
+    ensures tells { TellsUnlessShort database.now.statements essential worked.new.seat.view worked.new.found }
 {
     board.look(&mut worked.seat);
     if worked.seat.held().is_none() {
         return;
     }
-    if check(alloc, database, checker, &mut worked.found, index) {
+    if check(
+        alloc,
+        database,
+        checker,
+        &mut worked.found,
+        index,
+        essential,
+    ) {
         board.settle(&mut worked.seat, index);
     } else {
         board.report(&mut worked.seat, index);
@@ -146,10 +155,11 @@ pub(crate) fn work<'a, A: Allocator + Copy, G: Gate>(
     gate: &G,
     seat: Seat,
     worker: u32,
+    essential: bool,
 ) -> Worked<A>
     requires ready { IsReady board.now seat }
     requires count { board.now.count ≡ length (theorems database.now.statements) }
-    ensures { IsDone board.now database.now result }
+    ensures { IsDone board.now database.now essential result }
 {
     let mut worked = Worked {
         seat,
@@ -161,7 +171,15 @@ pub(crate) fn work<'a, A: Allocator + Copy, G: Gate>(
     };
     while let Some(index) = board.claim(&mut worked.seat) {
         gate.enter(worker, index);
-        judge(alloc, database, board, &mut checker, &mut worked, index);
+        judge(
+            alloc,
+            database,
+            board,
+            &mut checker,
+            &mut worked,
+            index,
+            essential,
+        );
     }
     worked
 }

@@ -10,9 +10,9 @@ use mm_run::RunEnd;
 pub enum Ending {
     /// The database was read, and the run ended so.
     Ran(RunEnd),
-    /// This text of help was written.
+    /// This text of help, or of the version, was written.
     Helped(String),
-    /// Writing this text of help failed; a beginning of it was written.
+    /// Writing this text failed; a beginning of it was written.
     HelpFailed(String),
     /// The words have a fault, which this text tells.
     Misread(String),

@@ -1,12 +1,12 @@
 //! The program over a reader and two writers.
 
-ghost use Rattle.std.specs.Prelude.{◌≡◌, IsTrue, map};
+ghost use Rattle.std.specs.Prelude.{◌≡◌, IsTrue, map, option_map};
 ghost use Rattle.std.specs.Io.KnownBytes.{Appends};
-ghost use Rattle.mmdepend.specs.Endings.{Begins, IsEndingOf, message_of, status_of};
+ghost use Rattle.mmdepend.specs.Endings.{Begins, IsEndingOf, message_of, opens, status_of};
 ghost use Rattle.mmdepend.specs.declared.ending.Ending.{Ending as End};
 
 use crate::ending::Ending;
-use mm_line::{LineRefused, line};
+use mm_line::{Line, LineRefused, line};
 use mm_report::write_whole;
 use mm_run::run;
 use std::alloc::Global;
@@ -28,7 +28,23 @@ fn put<W: Write>(to: &mut W, text: &[u8]) -> bool
     }
 }
 
-/// Reads the words, opens the file that they name, and runs; or writes help.
+/// The file that is opened; none where the standard input is read, as where `-` is named.
+fn opened_file(line: &Line) -> Option<&str>
+    ensures { option_map (λ name. name.now) result ≡ opens line.now }
+{
+    match &line.file {
+        Some(name) => {
+            if name.as_str() == "-" {
+                None
+            } else {
+                Some(name.as_str())
+            }
+        }
+        None => None,
+    }
+}
+
+/// Reads the words, opens the file that they name, and runs; or writes help or the version.
 fn end<S: AsStr, R: Threads + Wait + Files + Sync, I: Read, O: Write>(
     rt: &R,
     alloc: Global,
@@ -50,9 +66,9 @@ fn end<S: AsStr, R: Threads + Wait + Files + Sync, I: Read, O: Write>(
         Err(LineRefused::Bad(text)) => return Ending::Misread(text),
         Err(LineRefused::Memory) => return Ending::NoMemory,
     };
-    match &line.file {
+    match opened_file(&line) {
         None => Ending::Ran(run(rt, alloc, &line.plan, input, output)),
-        Some(name) => match fs::open(rt, name.as_str()) {
+        Some(name) => match fs::open(rt, name) {
             Ok(mut file) => Ending::Ran(run(rt, alloc, &line.plan, &mut file, output)),
             Err(_) => Ending::NotOpened,
         },

@@ -1,20 +1,19 @@
 use Rattle.std.proofs.Common.{◌≡◌, ◌∙◌, ap}
 use Rattle.mm_spec.specs.Output.{columns}
 use Rattle.mm_report.specs.Rows.{report_of}
-use Rattle.mm_plan.specs.Plans.{only_of}
+use Rattle.mm_plan.specs.Plans.{request_of}
 use Rattle.mm_run.proofs.RowsLaw.{is-output}
 use Rattle.mm_run.proofs.output.report.Goals as goal
 
 pub returns-in-Ok-write_report : goal.returns-in-Ok-write_report
 returns-in-Ok-write_report g c =
     let db = c.args.database.now.statements in
-    let only = only_of c.args.plan.now in
-    let choice = c.args.plan.now.choice in
-    let axioms : c.in-Ok.columns ≡ columns db only = c.in-Ok.ensures ∙ ap (columns db) c.typecode.ensures in (
+    let request = request_of c.args.plan.now in
+    let axioms : c.in-Ok.columns ≡ columns db request.only = c.in-Ok.ensures ∙ ap (columns db) c.typecode.ensures in (
       (db, c.requires.sound),
       (
-        report_of db c.in-Ok.columns c.in-Ok-matrix.table choice,
-        is-output c.args.database.now.text only choice db c.args.citations.now c.in-Ok.columns c.in-Ok-matrix.table c.requires.sound c.requires.cited axioms c.in-Ok-matrix.ensures,
+        report_of db c.in-Ok.columns c.in-Ok-matrix.table request.choice,
+        is-output c.args.database.now.text request db c.args.citations.now c.in-Ok.columns c.in-Ok-matrix.table c.requires.sound c.requires.cited axioms c.in-Ok-matrix.ensures,
         c.in-Ok-write_report.ensures.ok,
       ),
     )
@@ -22,12 +21,11 @@ returns-in-Ok-write_report g c =
 pub returns : goal.returns
 returns g c =
     let db = c.args.database.now.statements in
-    let only = only_of c.args.plan.now in
-    let choice = c.args.plan.now.choice in
-    let axioms : c.in-Ok.columns ≡ columns db only = c.in-Ok.ensures ∙ ap (columns db) c.typecode.ensures in
+    let request = request_of c.args.plan.now in
+    let axioms : c.in-Ok.columns ≡ columns db request.only = c.in-Ok.ensures ∙ ap (columns db) c.typecode.ensures in
     let cut = c.in-Err.ensures.err in (
-      report_of db c.in-Ok.columns c.in-Ok-matrix.table choice,
+      report_of db c.in-Ok.columns c.in-Ok-matrix.table request.choice,
       cut.0,
-      is-output c.args.database.now.text only choice db c.args.citations.now c.in-Ok.columns c.in-Ok-matrix.table c.requires.sound c.requires.cited axioms c.in-Ok-matrix.ensures,
+      is-output c.args.database.now.text request db c.args.citations.now c.in-Ok.columns c.in-Ok-matrix.table c.requires.sound c.requires.cited axioms c.in-Ok-matrix.ensures,
       cut.1,
     )

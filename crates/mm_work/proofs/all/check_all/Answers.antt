@@ -19,7 +19,7 @@ overflow_cast-count g c =
     omega (arith, few, same)
 
 pub fault_of-requires-clause-found : goal.fault_of-requires-clause-found
-fault_of-requires-clause-found g c = subst (λ (fs : List (Found _)). All (AreFound c.args.database.now.statements) fs) (sym c.deref.ensures.value) c.in_ok-gathered.ensures.found
+fault_of-requires-clause-found g c = subst (λ (fs : List (Found _)). All (AreFound c.args.database.now.statements c.args.essential) fs) (sym c.deref.ensures.value) c.in_ok-gathered.ensures.found
 
 pub fault_of-requires-clause-faulty : goal.fault_of-requires-clause-faulty
 fault_of-requires-clause-faulty g c =
@@ -28,7 +28,7 @@ fault_of-requires-clause-faulty g c =
     let count = c.in-Ok.ensures.board.0 in
     let within : c.close-first.result.0 < c.in-Ok.board.count = let l = c.if-first-count.true in omega (arith, l, count) in
     subst (λ (fs : List (Found _)). IsFoundFaulty fs c.close-first.result.0) (sym c.deref.ensures.value)
-    (faulty-at c.in-Ok.board db c.in_ok-gathered.gathered.seat c.in_ok-gathered.gathered.found.items c.in_ok-gathered.ensures c.close-first.result.0 (c.close-first.ensures.whole all).0 within)
+    (faulty-at c.in-Ok.board db c.args.essential c.in_ok-gathered.gathered.seat c.in_ok-gathered.gathered.found.items c.in_ok-gathered.ensures c.close-first.result.0 (c.close-first.ensures.whole all).0 within)
 
 pub returns-then-first-count : goal.returns-then-first-count
 returns-then-first-count g c =
@@ -38,11 +38,11 @@ returns-then-first-count g c =
     let same = ap (λ (ts : List ℕ). length ts) c.theorems-count.ensures.theorems in
     let l = c.if-first-count.true in
     first-fault db c.theorems-count.ensures.few (reads_complete _ _ db _ c.len.ensures.read) c.close-first.result.0 c.fault_of.result
-    (valid-below c.in-Ok.board db c.in_ok-gathered.gathered.seat c.in_ok-gathered.gathered.found.items h c.close-first.result.0 (c.close-first.ensures.finished all h.over h.closed))
+    (valid-below c.in-Ok.board db c.args.essential c.in_ok-gathered.gathered.seat c.in_ok-gathered.gathered.found.items h c.close-first.result.0 (c.close-first.ensures.finished all h.over h.closed))
     (omega (arith, same, l)) c.fault_of.ensures
 
 pub merge-requires-clause-found : goal.merge-requires-clause-found
-merge-requires-clause-found g c = subst (λ (fs : List (Found _)). All (AreFound c.args.database.now.statements) fs) (sym c.deref-2.ensures.value) c.in_ok-gathered.ensures.found
+merge-requires-clause-found g c = subst (λ (fs : List (Found _)). All (AreFound c.args.database.now.statements c.args.essential) fs) (sym c.deref-2.ensures.value) c.in_ok-gathered.ensures.found
 
 pub merge-requires-clause-valid : goal.merge-requires-clause-valid
 merge-requires-clause-valid g c =

@@ -21,15 +21,15 @@ returns-in-Err-Fault g c =
     let i = c.loop-theorem.theorem-index in
     let within = c.loop-theorem-test.true in
     let same = ap (λ (ts : List ℕ). length ts) c.theorems-theorems.ensures.theorems in
-    subst (λ (f : Fault). IsFirstFault db f) (sym c.in-Err-Fault.fault-is) (first-fault db c.theorems-theorems.ensures.few (reads_complete _ _ db _ c.len.ensures.read) i c.in-Err-Fault.fault (cited-before db c.theorems-theorems.ensures.few (reads_complete _ _ db _ c.len.ensures.read) i c.loop-theorem.lists c.loop-theorem.invariant.cited) (omega (arith, within, same))
+    subst (λ (f : Fault). IsFirstFault db f) (sym c.in-Err-Fault.fault-is) (first-fault db c.theorems-theorems.ensures.few (reads_complete _ _ db _ c.len.ensures.read) i c.in-Err-Fault.fault (cited-before db c.theorems-theorems.ensures.few (reads_complete _ _ db _ c.len.ensures.read) c.args.essential i c.loop-theorem.lists c.loop-theorem.invariant.cited) (omega (arith, within, same))
     (subst (λ (ts : List ℕ). HasFault db (get_or ts i 0) c.in-Err-Fault.fault) c.theorems-theorems.ensures.theorems (subst (λ (e : VerifyRefused). Faults db (get_or c.theorems-theorems.result.now i 0) e) c.in-Err-Fault.field-0-is c.in-Err-Fault.ensures.refused)))
 
 pub loop-theorem-preserved : goal.loop-theorem-preserved
 loop-theorem-preserved g c =
     let db = c.args.database.now.statements in
     let i = c.loop-theorem.theorem-index in
-    let one = subst (λ (ts : List ℕ). IsCited db (get_or ts i 0) c.in-Ok.checked.cites) c.theorems-theorems.ensures.theorems c.in-Ok.ensures.valid in
+    let one = subst (λ (ts : List ℕ). IsCited db c.args.essential (get_or ts i 0) c.in-Ok.checked.cites) c.theorems-theorems.ensures.theorems c.in-Ok.ensures.valid in
     record {
       made_for = c.in-Ok.ensures.made_for;
-      cited = rw (c.in_ok-push-in-Ok.ensures.ok, c.cites.ensures) (cited-more db (theorems db) i c.loop-theorem.lists c.in-Ok.checked.cites c.loop-theorem.invariant.cited one);
+      cited = rw (c.in_ok-push-in-Ok.ensures.ok, c.cites.ensures) (cited-more db c.args.essential (theorems db) i c.loop-theorem.lists c.in-Ok.checked.cites c.loop-theorem.invariant.cited one);
     }

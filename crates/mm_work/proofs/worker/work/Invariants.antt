@@ -11,7 +11,7 @@ invariant-loop-index g l = record {
   home : IsSeatOf l.board l.worked.seat;
   not_over : l.worked.seat.view.over ≡ false;
   closed : l.worked.seat.view.open_number ≡ None;
-  tells : TellsUnlessShort l.database.statements l.worked.seat.view l.worked.found;
+  tells : TellsUnlessShort l.database.statements l.essential l.worked.seat.view l.worked.found;
 }
 
 abbrev pub decreases-loop-index : goal.decreases-loop-index

@@ -1,0 +1,10 @@
+-- Citations by all nodes of a proof, and by the essential ones.
+use Rattle.std.proofs.Common.{true}
+use Rattle.mm_laws.specs.Laws.{EssentialIsCited, EachLabelIsCited}
+use Rattle.mm_spec.proofs.NodesLemmas.{label_member, all_labels}
+
+pub essential_is_cited : EssentialIsCited
+essential_is_cited db t a c = (c.0, c.1, c.2, (all_labels db c.1 a).1 (label_member db true c.1 a c.3))
+
+pub each_label_is_cited : EachLabelIsCited
+each_label_is_cited db t a = (λ c. (c.0, c.1, c.2, (all_labels db c.1 a).0 c.3), λ c. (c.0, c.1, c.2, (all_labels db c.1 a).1 c.3))
