@@ -9,9 +9,13 @@ use Rattle.mm_spec.specs.Scope.{those, statement_at, label_words}
 use Rattle.mm_spec.specs.Lawful.{least, scope_fault}
 use Rattle.mm_spec.specs.Frame.{formula_at}
 use Rattle.mm_spec.specs.Valid as proof
-use Rattle.mm_spec.specs.Citation.{context_at, steps_at, reading_faults_at, is_theorem, IsValid, RestsOn}
-use Rattle.mm_spec.specs.Report.{Row, report, refusal}
+use Rattle.mm_spec.specs.Citation.{context_at, steps_at, reading_faults_at, is_theorem, IsValid, Cites, RestsOn}
+use Rattle.mm_spec.specs.Report.{Row, CitingRow, report, citation_report, refusal}
 use Rattle.mm_spec.specs.Request.{Request}
+use Rattle.mm_spec.specs.Derivation.{is_member}
+use Rattle.std.specs.List.Sorted.{IsStrictlyIncreasing}
+use Rattle.mm_spec.specs.declared.Choice.{Choice}
+use Rattle.mm_spec.specs.declared.Choice.TheVariants.{Citations}
 
 -- the words of a text up to its first faulty word, as tokens, and that fault
 pub record Lexed : Type 0 where
@@ -92,6 +96,20 @@ label_at db j = flat_map (λ w. w) (flat_map label_words (statement_at db j))
 abbrev pub IsRowOf : List Statement → Request → ℕ → Row → Type 0
 IsRowOf db request t r = (r.label ≡ label_at db t) × AllZip (λ a mark. Decides mark (RestsOn db request.essential t a)) (columns db request.only) r.marks
 
+-- the assertions of this list are those that the theorem cites, with the typecode if one is chosen, in file order
+pub record AreCited (db : List Statement) (request : Request) (t : ℕ) (list : List ℕ) : Type 0 where
+  pub rising : IsStrictlyIncreasing list
+  pub cited : (a : ℕ) → Decides (is_member list a) (Cites db request.essential t a × IsTrue (list_any (has_typecode request.only) (statement_at db a)))
+
+-- a row of citations is that of a theorem: its label, and the labels of what it cites
+abbrev pub IsCitingRowOf : List Statement → Request → ℕ → CitingRow → Type 0
+IsCitingRowOf db request t r = (r.label ≡ label_at db t) × ((list : List ℕ) × AreCited db request t list × (r.cited ≡ map (label_at db) list))
+
+-- the report of a database: of what its theorems cite, or of what they rest on
+abbrev pub IsReportOf : Choice → List Statement → Request → List ℕ → Type 0
+IsReportOf Citations db request bytes = (rows : List CitingRow) × AllZip (IsCitingRowOf db request) (theorems db) rows × (bytes ≡ citation_report request.form None (length (columns db request.only)) rows)
+IsReportOf choice db request bytes = (rows : List Row) × AllZip (IsRowOf db request) (theorems db) rows × (bytes ≡ report request.form None (map (label_at db) (columns db request.only)) rows choice)
+
 -- the words of a text up to its first faulty one, with that fault
 abbrev pub lexed_of : List ℕ → Lexed
 lexed_of text = record { tokens = map (λ w. token w.start (bytes_of text w)) (tokens_of text); fault = lexical_fault text }
@@ -100,4 +118,4 @@ lexed_of text = record { tokens = map (λ w. token w.start (bytes_of text w)) (t
 abbrev pub IsOutput : List ℕ → Request → List ℕ → Type 0
 IsOutput text request bytes =
     ((f : Fault) × FirstFault (length text) (lexed_of text) f × (bytes ≡ refusal text f))
-    ⊎ ((db : List Statement) × HasNoFault (length text) (lexed_of text) db × (rows : List Row) × AllZip (IsRowOf db request) (theorems db) rows × (bytes ≡ report (map (label_at db) (columns db request.only)) rows request.choice))
+    ⊎ ((db : List Statement) × HasNoFault (length text) (lexed_of text) db × IsReportOf request.choice db request bytes)

@@ -1,8 +1,12 @@
 -- The texts of a report and of a refusal (this project's own).
-use Rattle.std.specs.Prelude.{ℕ, zero, suc, ◌+◌, Bool, true, false, List, [], ◌∷◌, ◌++◌, length, map, take, flat_map, codes, decimal, count_by, ◌==◌, if◌then◌else◌}
+use Rattle.std.specs.Prelude.{ℕ, zero, suc, ◌+◌, ◌*◌, Bool, true, false, List, [], ◌∷◌, ◌++◌, length, map, take, flat_map, codes, decimal, count_by, ◌==◌, if◌then◌else◌, nat_lt, Option, Some, None}
+use Rattle.std.specs.Int.{div_ceil}
+use Rattle.std.specs.List.{range_with_len}
 use Rattle.mm_spec.specs.Text.{Word, Fault}
 use Rattle.mm_spec.specs.Scope.{those}
 use Rattle.mm_spec.specs.Codes.{code_number}
+use Rattle.mm_spec.specs.declared.Form.{Form}
+use Rattle.mm_spec.specs.declared.Form.TheVariants.{One, Two}
 use Rattle.mm_spec.specs.declared.Choice.{Choice}
 use Rattle.mm_spec.specs.declared.Choice.TheVariants.{All, Matrix, Counts, Usage}
 
@@ -10,6 +14,11 @@ use Rattle.mm_spec.specs.declared.Choice.TheVariants.{All, Matrix, Counts, Usage
 pub record Row : Type 0 where
   pub label : Word
   pub marks : List Bool
+
+-- a theorem: its label, and the labels of what its proof cites
+pub record CitingRow : Type 0 where
+  pub label : Word
+  pub cited : List Word
 
 abbrev pub line : List ℕ → List ℕ
 line text = text ++ 10 ∷ []
@@ -21,29 +30,53 @@ abbrev pub digit_of : Bool → ℕ
 digit_of true = 49
 digit_of false = 48
 
-abbrev pub matrix_line : Row → List ℕ
-matrix_line r = line (r.label ++ 58 ∷ map digit_of r.marks)
-
-abbrev pub count_line : Row → List ℕ
-count_line r = line (r.label ++ 58 ∷ decimal (count_by (λ b. b) r.marks))
-
+-- past the last column nothing is marked
 abbrev pub mark_at : ℕ → List Bool → Bool
 mark_at n [] = false
 mark_at zero (b ∷ bs) = b
 mark_at (suc n) (b ∷ bs) = mark_at n bs
 
+abbrev pub bit_of : Bool → ℕ
+bit_of true = 1
+bit_of false = 0
+
+-- the number of columns 4i to 4i + 3, the first of them as the highest bit
+abbrev pub digit_at : ℕ → List Bool → ℕ
+digit_at i marks = 8 * bit_of (mark_at (4 * i) marks) + 4 * bit_of (mark_at (4 * i + 1) marks) + 2 * bit_of (mark_at (4 * i + 2) marks) + bit_of (mark_at (4 * i + 3) marks)
+
+-- `0` to `9`, `a` to `f`
+abbrev pub hex_digit : ℕ → ℕ
+hex_digit n = if nat_lt n 10 then 48 + n else 87 + n
+
+-- how the cells of a row are written
+abbrev pub cells : Form → List Bool → List ℕ
+cells One marks = map digit_of marks
+cells Two marks = map (λ i. hex_digit (digit_at i marks)) (range_with_len 0 (div_ceil (length marks) 4))
+
+abbrev pub matrix_line : Form → Row → List ℕ
+matrix_line form r = line (r.label ++ 58 ∷ cells form r.marks)
+
+abbrev pub count_line : Row → List ℕ
+count_line r = line (r.label ++ 58 ∷ decimal (count_by (λ b. b) r.marks))
+
 abbrev pub users : ℕ → List Row → List Row
 users column rows = those (λ r. mark_at column r.marks) rows
 
 -- the labels, with spaces between them
-abbrev pub joined : List Row → List ℕ
+abbrev pub joined : List Word → List ℕ
 joined [] = []
-joined (r ∷ []) = r.label
-joined (r ∷ s ∷ rs) = r.label ++ 32 ∷ joined (s ∷ rs)
+joined (l ∷ []) = l
+joined (l ∷ m ∷ ls) = l ++ 32 ∷ joined (m ∷ ls)
+
+-- a label, and how many labels follow, and these
+abbrev pub list_line : Word → List Word → List ℕ
+list_line label labels = line (label ++ 58 ∷ (decimal (length labels) ++ 58 ∷ joined labels))
 
 abbrev pub usage_line : List Row → ℕ → Word → List ℕ
-usage_line rows column label = let marked = users column rows in
-    line (label ++ 58 ∷ (decimal (length marked) ++ 58 ∷ joined marked))
+usage_line rows column label = list_line label (map (λ r. r.label) (users column rows))
+
+abbrev pub citation_line : CitingRow → List ℕ
+citation_line r = list_line r.label r.cited
 
 -- whether the choice has this section
 abbrev pub has : Choice → Choice → Bool
@@ -61,14 +94,29 @@ abbrev pub usage_lines : List Row → ℕ → List Word → List ℕ
 usage_lines rows column [] = []
 usage_lines rows column (l ∷ ls) = usage_line rows column l ++ usage_lines rows (column + 1) ls
 
+abbrev pub version : Form → ℕ
+version One = 1
+version Two = 2
+
+-- the first lines: the version, how many columns there are, how many of them are open theorems if these count as axioms,
+-- and how many theorems there are
+abbrev pub head : Form → ℕ → Option ℕ → ℕ → List ℕ
+head form axioms open_theorems theorems =
+    heading (codes "mmdepend") (version form) ++ heading (codes "axioms") axioms ++ elim open_theorems [ None ↦ [] | Some n ↦ heading (codes "open") n ] ++ heading (codes "theorems") theorems
+
 -- the report on columns with these labels and on these rows
-abbrev pub report : List Word → List Row → Choice → List ℕ
-report columns rows choice =
-    line (codes "mmdepend 1") ++ heading (codes "axioms") (length columns) ++ heading (codes "theorems") (length rows)
-    ++ section (has choice Matrix) (codes "matrix") (flat_map matrix_line rows)
+abbrev pub report : Form → Option ℕ → List Word → List Row → Choice → List ℕ
+report form open_theorems columns rows choice =
+    head form (length columns) open_theorems (length rows)
+    ++ section (has choice Matrix) (codes "matrix") (flat_map (matrix_line form) rows)
     ++ section (has choice Counts) (codes "counts") (flat_map count_line rows)
     ++ section (has choice Usage) (codes "usage") (usage_lines rows 0 columns)
     ++ line (codes "end")
+
+-- the report of citations, where there are so many columns
+abbrev pub citation_report : Form → Option ℕ → ℕ → List CitingRow → List ℕ
+citation_report form open_theorems axioms rows =
+    head form axioms open_theorems (length rows) ++ section true (codes "citations") (flat_map citation_line rows) ++ line (codes "end")
 
 -- how many bytes stand behind the last line feed
 abbrev pub behind_from : ℕ → List ℕ → ℕ

@@ -2,11 +2,14 @@
 use Rattle.std.specs.Prelude.{Bool, Option}
 use Rattle.mm_spec.specs.Text.{Word}
 use Rattle.mm_spec.specs.declared.Choice.{Choice}
+use Rattle.mm_spec.specs.declared.Form.{Form}
 
 pub record Request : Type 0 where
   -- the typecode of the axioms that are columns, if one is chosen
   pub only : Option Word
   -- the sections
   pub choice : Choice
+  -- how the matrix is written
+  pub form : Form
   -- whether a theorem cites by the essential nodes of its proof alone
   pub essential : Bool

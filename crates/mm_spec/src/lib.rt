@@ -37,10 +37,10 @@ pub enum Role {
     Faulty,
 }
 
-/// Which sections a report has, of matrix, counts and usage; each report has its first lines and its last one.
+/// Which sections a report has, of matrix, counts, usage and citations; each report has its first lines and its last one.
 #[derive(Clone, Copy, Debug, PartialEq, Eq)]
 pub enum Choice {
-    /// All three, in this order.
+    /// Matrix, counts and usage, in this order.
     All,
     /// A row for each theorem: its label, and a digit for each column, 1 where the theorem rests on that axiom.
     Matrix,
@@ -48,6 +48,17 @@ pub enum Choice {
     Counts,
     /// A line for each column: its label, the number of theorems that rest on that axiom, and their labels.
     Usage,
+    /// A line for each theorem: its label, the number of assertions that its own proof cites, and their labels.
+    Citations,
+}
+
+/// How the matrix of a report is written.
+#[derive(Clone, Copy, Debug, PartialEq, Eq)]
+pub enum Form {
+    /// A digit for each column, 0 or 1.
+    One,
+    /// A hexadecimal digit for each four columns, the first of them as its highest bit.
+    Two,
 }
 
 /// A fault of a text: the place, a byte offset from 0, and what is wrong there.
