@@ -12,7 +12,8 @@ use Rattle.mm_spec.specs.Derivation.{Trees, none, more, tree, AreDerivations, pa
 use Rattle.mm_spec.specs.Frame.{symbol_names, frame_at}
 use Rattle.mm_spec.specs.Steps.{label, placed}
 use Rattle.mm_spec.specs.Citation.{context_at, steps_at, IsValid}
-use Rattle.mm_spec.specs.Report.{report, line, refusal}
+use Rattle.mm_spec.specs.Report.{cells, report, citation_report, line, refusal}
+use Rattle.mm_spec.specs.declared.Form.TheVariants.{One, Two}
 use Rattle.mm_spec.specs.declared.Choice.TheVariants.{All}
 use Rattle.mm_laws.proofs.Reader.{lexed, statements}
 use Rattle.mm_spec.specs.declared.Code.TheVariants.{OpenComment, BadByte, UnopenedBlock, ConstantInBlock, OtherTypecode, UntypedVariable, RepeatedVariable, NotDisjoint}
@@ -124,7 +125,16 @@ refusal_13 : refusal (text_b ++ 10 ∷ codes "ab") (fault 121 NotDisjoint) ≡ c
 unfolding digits
 refusal_13 = refl
 
-report_1 : report (codes "wi" ∷ codes "ax-1" ∷ []) (record { label = codes "wi2"; marks = true ∷ false ∷ [] } ∷ []) All
+report_1 : report One None (codes "wi" ∷ codes "ax-1" ∷ []) (record { label = codes "wi2"; marks = true ∷ false ∷ [] } ∷ []) All
     ≡ flat_map line (codes "mmdepend 1" ∷ codes "axioms 2" ∷ codes "theorems 1" ∷ codes "matrix" ∷ codes "wi2:10" ∷ codes "counts" ∷ codes "wi2:1" ∷ codes "usage" ∷ codes "wi:1:wi2" ∷ codes "ax-1:0:" ∷ codes "end" ∷ [])
 unfolding digits
 report_1 = refl
+
+-- four columns a digit, the first as the highest bit, and what is missing is 0
+digits_2 : cells Two (true ∷ false ∷ true ∷ true ∷ true ∷ false ∷ []) ≡ codes "b8"
+digits_2 = refl
+
+citations_1 : citation_report Two None 3 (record { label = codes "a2"; cited = codes "wi" ∷ codes "a1i" ∷ [] } ∷ record { label = codes "b"; cited = [] } ∷ [])
+    ≡ flat_map line (codes "mmdepend 2" ∷ codes "axioms 3" ∷ codes "theorems 2" ∷ codes "citations" ∷ codes "a2:2:wi a1i" ∷ codes "b:0:" ∷ codes "end" ∷ [])
+unfolding digits
+citations_1 = refl

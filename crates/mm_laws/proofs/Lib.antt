@@ -18,3 +18,4 @@ pub mod SpelledSteps
 pub mod WellSpelled
 pub mod Numerals
 pub mod CitationLaw
+pub mod RisingLists

@@ -15,10 +15,14 @@ use Rattle.mm_spec.specs.Valid as proof
 use Rattle.mm_spec.specs.Valid.{Reason, code_of, Fails, StepFails, StepFault, IsPlain, end_code}
 use Rattle.mm_spec.specs.Citation.{context_at, steps_at, reading_faults_at, IsValid, RestsOn}
 use Rattle.mm_spec.specs.Frame.{formula_at}
-use Rattle.mm_spec.specs.Report.{Row, report, refusal}
+use Rattle.mm_spec.specs.Report.{Row, CitingRow, report, citation_report, refusal}
+use Rattle.mm_spec.specs.declared.Choice.{Choice}
+use Rattle.mm_spec.specs.declared.Choice.TheVariants.{All, Matrix, Counts, Usage, Citations}
+use Rattle.mm_spec.specs.Derivation.{is_member}
+use Rattle.mm_laws.proofs.RisingLists.{same_list}
 use Rattle.mm_spec.specs.Request.{Request}
 use Rattle.mm_spec.specs.declared.Code.{Code}
-use Rattle.mm_spec.specs.Output.{Lexed, lexed_of, TextFault, Stops, IsRead, ProofFault, end_of, is_theorem_at, AreValid, FirstProofFault, FirstFault, HasNoFault, theorems, columns, label_at, IsRowOf, IsOutput}
+use Rattle.mm_spec.specs.Output.{Lexed, lexed_of, TextFault, Stops, IsRead, ProofFault, end_of, is_theorem_at, AreValid, FirstProofFault, FirstFault, HasNoFault, theorems, columns, label_at, IsRowOf, AreCited, IsCitingRowOf, IsReportOf, IsOutput}
 use Rattle.mm_spec.proofs.Machine.{IsGood}
 use Rattle.mm_laws.proofs.Exact.{stops}
 use Rattle.mm_spec.specs.Complete.{IsFine, AreComplete}
@@ -284,6 +288,31 @@ module _ (len : ℕ) (x : Lexed) where
       go (inl a) = valid_no_fault db (reads_complete len x db None k.0) a.0 (end_of (slice_get db a.0)) f (k.1 a.0 (inside db a.0 a.1.0) a.1.0) a.1.2
       go (inr a) = let e : None ≡ Some f = a.1 in cc
 
+-- ---- rows of citations
+
+cited_unique : (db : List Statement) (request : Request) (t : ℕ) (a b : List ℕ) → AreCited db request t a → AreCited db request t b → a ≡ b
+cited_unique db request t a b h k = same_list a b h.rising k.rising (λ x. same_from_decides (is_member a x) (is_member b x) (h.cited x) (k.cited x))
+
+citing_unique : (db : List Statement) (request : Request) (t : ℕ) (r s : CitingRow) → IsCitingRowOf db request t r → IsCitingRowOf db request t s → r ≡ s
+citing_unique db request t r s h k =
+    ap₂ (λ (l : Word) (m : List Word). record { label = l; cited = m }) (h.0 ∙ sym k.0) (h.1.2 ∙ ap (map (label_at db)) (cited_unique db request t h.1.0 k.1.0 h.1.1 k.1.1) ∙ sym k.1.2)
+
+all_citing_unique : (db : List Statement) (request : Request) (ts : List ℕ) (a b : List CitingRow) → AllZip (IsCitingRowOf db request) ts a → AllZip (IsCitingRowOf db request) ts b → a ≡ b
+all_citing_unique db request [] [] [] h k = refl
+all_citing_unique db request [] [] (y ∷ b) h k = absurd k
+all_citing_unique db request [] (x ∷ a) b h k = absurd h
+all_citing_unique db request (n ∷ ts) [] b h k = absurd h
+all_citing_unique db request (n ∷ ts) (x ∷ a) [] h k = absurd k
+all_citing_unique db request (n ∷ ts) (x ∷ a) (y ∷ b) h k = ap₂ (λ p q. p ∷ q) (citing_unique db request n x y h.0 k.0) (all_citing_unique db request ts a b h.1 k.1)
+
+-- a database has one report
+report_unique : (db : List Statement) (request : Request) (choice : Choice) (a b : List ℕ) → IsReportOf choice db request a → IsReportOf choice db request b → a ≡ b
+report_unique db request Citations a b h k = h.2 ∙ ap (citation_report request.form None (length (columns db request.only))) (all_citing_unique db request (theorems db) h.0 k.0 h.1 k.1) ∙ sym k.2
+report_unique db request All a b h k = h.2 ∙ ap (λ r. report request.form None (map (label_at db) (columns db request.only)) r All) (rows_unique db request (theorems db) h.0 k.0 h.1 k.1) ∙ sym k.2
+report_unique db request Matrix a b h k = h.2 ∙ ap (λ r. report request.form None (map (label_at db) (columns db request.only)) r Matrix) (rows_unique db request (theorems db) h.0 k.0 h.1 k.1) ∙ sym k.2
+report_unique db request Counts a b h k = h.2 ∙ ap (λ r. report request.form None (map (label_at db) (columns db request.only)) r Counts) (rows_unique db request (theorems db) h.0 k.0 h.1 k.1) ∙ sym k.2
+report_unique db request Usage a b h k = h.2 ∙ ap (λ r. report request.form None (map (label_at db) (columns db request.only)) r Usage) (rows_unique db request (theorems db) h.0 k.0 h.1 k.1) ∙ sym k.2
+
 -- there is one output
 pub output_unique : (text : List ℕ) (request : Request) (a b : List ℕ) → IsOutput text request a → IsOutput text request b → a ≡ b
 output_unique text request a b (inl h) (inl k) = h.2 ∙ ap (refusal text) (first_fault_unique (length text) (lexed_of text) h.0 k.0 h.1 k.1) ∙ sym k.2
@@ -291,6 +320,4 @@ output_unique text request a b (inl h) (inr k) = absurd (no_both (length text) (
 output_unique text request a b (inr h) (inl k) = absurd (no_both (length text) (lexed_of text) k.0 h.0 k.1 h.1)
 output_unique text request a b (inr h) (inr k) =
     let db : h.0 ≡ k.0 = (read_unique (length text) (lexed_of text) h.0 k.0 None None h.1.0 k.1.0).0 in
-    let mine = subst (λ d. AllZip (IsRowOf d request) (theorems d) h.2) db h.3 in
-    let rows : h.2 ≡ k.2 = rows_unique k.0 request (theorems k.0) h.2 k.2 mine k.3 in
-    h.4 ∙ ap₂ (λ d r. report (map (label_at d) (columns d request.only)) r request.choice) db rows ∙ sym k.4
+    report_unique k.0 request request.choice a b (subst (λ d. IsReportOf request.choice d request a) db h.2) k.2

@@ -6,6 +6,7 @@ use Rattle.mm_spec.specs.Statement.{Statement, constants, axiomatic, opening, cl
 use Rattle.mm_spec.specs.Lawful.{scope_fault}
 use Rattle.mm_spec.specs.Report.{line}
 use Rattle.mm_spec.specs.declared.Choice.TheVariants.{All}
+use Rattle.mm_spec.specs.declared.Form.TheVariants.{One}
 use Rattle.mm_spec.specs.Request.{Request}
 use Rattle.mm_spec.specs.Output.{lexed_of, IsRead, AreValid, IsOutput}
 use Rattle.mm_spec.specs.declared.Code.TheVariants.{ConstantInBlock}
@@ -15,7 +16,7 @@ use Rattle.mm_spec.proofs.Stops.{no_text_fault}
 
 -- the whole report, by all nodes
 abbrev whole : Request
-whole = record { only = None; choice = All; essential = false }
+whole = record { only = None; choice = All; form = One; essential = false }
 
 -- ---- a `$c` in a block
 
@@ -82,4 +83,4 @@ db_read = record {
 
 reported : IsOutput sound whole (flat_map line (codes "mmdepend 1" ∷ codes "axioms 1" ∷ codes "theorems 0" ∷ codes "matrix" ∷ codes "counts" ∷ codes "usage" ∷ codes "ax:0:" ∷ codes "end" ∷ []))
 unfolding digits
-reported = inr (db, (db_read, db_valid), [], tt, refl)
+reported = inr (db, (db_read, db_valid), ([], tt, refl))

@@ -1,6 +1,6 @@
 -- Where all theorems are valid, it is decided on what each of them rests.
 use Rattle.std.proofs.Common.{◌≡◌, ℕ, zero, suc, ◌<◌, Bool, true, false, ◌||◌, ◌&&◌, ◌⊎◌, inl, inr, List, [], ◌∷◌, length, refl, sym, ◌∙◌, subst, arith, true≢false}
-use Rattle.std.specs.Prelude.{Decides}
+use Rattle.std.specs.Prelude.{Decides, IsTrue, Option, map}
 use Rattle.std.specs.List.{list_any, AllZip}
 use Rattle.std.proofs.lemmas.Bool.{and_parts, and_from, cases_eq}
 use Rattle.std.proofs.lemmas.Bool.Decides.{Decides-and, Decides-or, Decides-like}
@@ -11,8 +11,11 @@ use Rattle.mm_spec.specs.Nodes.{child_counts, each_place, IsNodeLabel}
 use Rattle.mm_spec.specs.Request.{Request}
 use Rattle.mm_spec.specs.Citation.{is_theorem, is_assertion, IsValid, Cites, RestsOn}
 use Rattle.mm_spec.specs.Complete.{AreComplete}
-use Rattle.mm_spec.specs.Report.{Row}
-use Rattle.mm_spec.specs.Output.{is_theorem_at, AreValid, columns, label_at, IsRowOf}
+use Rattle.mm_spec.specs.Report.{Row, CitingRow}
+use Rattle.mm_spec.specs.Output.{is_theorem_at, AreValid, columns, has_typecode, label_at, IsRowOf, AreCited, IsCitingRowOf}
+use Rattle.mm_spec.specs.Text.{Word}
+use Rattle.std.specs.List.Sorted.{IsStrictlyIncreasing}
+use Rattle.mm_laws.proofs.RisingLists.{list_of}
 use Rattle.mm_laws.specs.Laws.{IsDecided}
 use Rattle.mm_spec.proofs.Chains.{rests_step}
 use Rattle.mm_spec.proofs.Finds.{found_at, inside_of}
@@ -88,6 +91,26 @@ module _ (db : List Statement) (by_essential : Bool) (fine : AreComplete db) (va
       let first = rests_decided t a in
       let rest = marks_of t axioms in
       (first.0 ∷ rest.0, (first.1, rest.1))
+
+  -- ---- rows of citations
+
+  abbrev IsListed : Option Word → ℕ → ℕ → Type 0
+  IsListed only t a = Cites db by_essential t a × IsTrue (list_any (has_typecode only) (statement_at db a))
+
+  listed_decided : (only : Option Word) (t a : ℕ) → IsDecided (IsListed only t a)
+  listed_decided only t a = both (Cites db by_essential t a) (IsTrue (list_any (has_typecode only) (statement_at db a))) (cites_decided t a) (list_any (has_typecode only) (statement_at db a), ((λ e. e), λ e. e))
+
+  cited_list : (only : Option Word) (t : ℕ) → (list : List ℕ) × IsStrictlyIncreasing list × ((a : ℕ) → Decides (is_member list a) (IsListed only t a))
+  cited_list only t =
+      let r = list_of (IsListed only t) (listed_decided only t) 0 t in
+      (r.0, r.1.0, λ a. ((λ e. ((r.1.1 a).0 e).2), λ h. (r.1.1 a).1 (omega arith, (let l = cites_earlier db by_essential t a h.0 in omega (arith, l)), h)))
+
+pub citing_rows_of : (db : List Statement) (request : Request) → AreComplete db → AreValid db (length db) → (ts : List ℕ) → (rows : List CitingRow) × AllZip (IsCitingRowOf db request) ts rows
+citing_rows_of db request fine valid [] = ([], tt)
+citing_rows_of db request fine valid (t ∷ ts) =
+    let list = cited_list db request.essential fine valid request.only t in
+    let rest = citing_rows_of db request fine valid ts in
+    (record { label = label_at db t; cited = map (label_at db) list.0 } ∷ rest.0, ((refl, (list.0, record { rising = list.1; cited = list.2 }, refl)), rest.1))
 
 pub rows_of : (db : List Statement) (request : Request) → AreComplete db → AreValid db (length db) → (ts : List ℕ) → (rows : List Row) × AllZip (IsRowOf db request) ts rows
 rows_of db request fine valid [] = ([], tt)

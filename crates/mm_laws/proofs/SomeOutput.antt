@@ -1,15 +1,28 @@
 -- There is an output.
-use Rattle.std.proofs.Common.{ℕ, List, None, inl, inr, refl, map, length}
-use Rattle.mm_spec.specs.Report.{report, refusal}
-use Rattle.mm_spec.specs.Output.{Lexed, lexed_of, theorems, columns, label_at, IsOutput}
+use Rattle.std.proofs.Common.{ℕ, List, None, inl, inr, refl, length}
+use Rattle.mm_spec.specs.Report.{refusal}
+use Rattle.mm_spec.specs.Statement.{Statement}
+use Rattle.mm_spec.specs.Complete.{AreComplete}
+use Rattle.mm_spec.specs.Request.{Request}
+use Rattle.mm_spec.specs.declared.Choice.{Choice}
+use Rattle.mm_spec.specs.declared.Choice.TheVariants.{All, Matrix, Counts, Usage, Citations}
+use Rattle.mm_spec.specs.Output.{Lexed, lexed_of, theorems, AreValid, IsReportOf, IsOutput}
 use Rattle.mm_laws.specs.Laws.{IsSoundOrFaulty, AreDecided, OutputExists}
 use Rattle.mm_spec.proofs.CompleteLaw.{reads_complete}
 use Rattle.mm_laws.proofs.SomeFault.{sound_or_faulty}
-use Rattle.mm_laws.proofs.Rests.{rests_decided, rows_of}
+use Rattle.mm_laws.proofs.Rests.{rests_decided, rows_of, citing_rows_of}
 
 -- in a sound text each cell is marked or not
 pub cells_decided : (len : ℕ) (x : Lexed) → AreDecided len x
 cells_decided len x db h by_essential t a = rests_decided db by_essential (reads_complete len x db None h.0) h.1 t a
+
+-- a database without faults has a report
+some_report : (db : List Statement) (request : Request) → AreComplete db → AreValid db (length db) → (choice : Choice) → (bytes : List ℕ) × IsReportOf choice db request bytes
+some_report db request fine valid Citations = let rows = citing_rows_of db request fine valid (theorems db) in (_, (rows.0, rows.1, refl))
+some_report db request fine valid All = let rows = rows_of db request fine valid (theorems db) in (_, (rows.0, rows.1, refl))
+some_report db request fine valid Matrix = let rows = rows_of db request fine valid (theorems db) in (_, (rows.0, rows.1, refl))
+some_report db request fine valid Counts = let rows = rows_of db request fine valid (theorems db) in (_, (rows.0, rows.1, refl))
+some_report db request fine valid Usage = let rows = rows_of db request fine valid (theorems db) in (_, (rows.0, rows.1, refl))
 
 -- each text has an output
 pub output_exists : OutputExists
@@ -18,5 +31,5 @@ output_exists text request = by (sound_or_faulty (length text) (lexed_of text))
     by : IsSoundOrFaulty (length text) (lexed_of text) → (bytes : List ℕ) × IsOutput text request bytes
     by (inl h) = (refusal text h.0, inl (h.0, h.1, refl))
     by (inr h) =
-        let rows = rows_of h.0 request (reads_complete (length text) (lexed_of text) h.0 None h.1.0) h.1.1 (theorems h.0) in
-        (report (map (label_at h.0) (columns h.0 request.only)) rows.0 request.choice, inr (h.0, h.1, rows.0, rows.1, refl))
+        let r = some_report h.0 request (reads_complete (length text) (lexed_of text) h.0 None h.1.0) h.1.1 request.choice in
+        (r.0, inr (h.0, h.1, r.1))
