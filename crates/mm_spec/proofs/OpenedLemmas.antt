@@ -1,6 +1,6 @@
 -- What counts as an axiom has the label, the symbols, the scope and the frame that it has as a theorem.
-use Rattle.std.proofs.Common.{◌≡◌, ℕ, zero, suc, ◌+◌, ◌-◌, ◌<◌, Bool, true, false, ◌&&◌, ◌||◌, not, ◌==◌, List, [], ◌∷◌, ◌++◌, map, take, length, flat_map, count_by, Option, Some, None, slice_get, nat_le, nat_lt, refl, sym, ap, ap₂, ◌∙◌, subst, cond}
-use Rattle.std.specs.Option.{option_map}
+use Rattle.std.proofs.Common.{◌≡◌, ℕ, zero, suc, ◌+◌, ◌-◌, ◌<◌, Bool, true, false, ◌&&◌, ◌||◌, not, ◌==◌, List, [], ◌∷◌, ◌++◌, map, take, length, flat_map, count_by, Option, Some, None, slice_get, nat_le, nat_lt, refl, sym, ap, ap₂, ◌∙◌, subst, cond, true≢false}
+use Rattle.std.specs.Option.{option_map, option_and_then}
 use Rattle.std.specs.List.{list_any, list_all, range_with_len}
 use Rattle.std.proofs.Math.Path.{fun_ext}
 use Rattle.std.proofs.lemmas.List.{length-map, take-map}
@@ -17,7 +17,7 @@ use Rattle.mm_spec.specs.Citation.{rule_of, rule_at, context_at, is_assertion, i
 use Rattle.mm_spec.specs.Complete.{IsFine, AreComplete}
 use Rattle.mm_spec.specs.Output.{label_at}
 use Rattle.mm_spec.proofs.Activity.{stays}
-use Rattle.mm_spec.proofs.Finds.{any-map}
+use Rattle.mm_spec.proofs.Finds.{any-map, found_at, at_found}
 
 -- ---- one statement
 
@@ -45,14 +45,14 @@ kept f h (closing k) = refl
 abbrev pub axioms_of : List Statement → List Statement
 axioms_of db = map as_axiom db
 
-get_mapped : (db : List Statement) (j : ℕ) → slice_get (axioms_of db) j ≡ option_map as_axiom (slice_get db j)
-get_mapped [] zero = refl
-get_mapped [] (suc j) = refl
-get_mapped (s ∷ db) zero = refl
-get_mapped (s ∷ db) (suc j) = get_mapped db j
+pub got_axiom : (db : List Statement) (j : ℕ) → slice_get (axioms_of db) j ≡ option_map as_axiom (slice_get db j)
+got_axiom [] zero = refl
+got_axiom [] (suc j) = refl
+got_axiom (s ∷ db) zero = refl
+got_axiom (s ∷ db) (suc j) = got_axiom db j
 
 at_mapped : (db : List Statement) (j : ℕ) → statement_at (axioms_of db) j ≡ map as_axiom (statement_at db j)
-at_mapped db j = ap (λ o. elim o [ None ↦ [] | Some s ↦ s ∷ [] ]) (get_mapped db j) ∙ by (slice_get db j)
+at_mapped db j = ap (λ o. elim o [ None ↦ [] | Some s ↦ s ∷ [] ]) (got_axiom db j) ∙ by (slice_get db j)
   where
     by : (o : Option Statement) → elim (option_map as_axiom o) [ None ↦ [] | Some s ↦ s ∷ [] ] ≡ map as_axiom (elim o [ None ↦ [] | Some s ↦ s ∷ [] ])
     by None = refl
@@ -72,7 +72,7 @@ any_at : (p : Statement → Bool) → IsAlike p → (db : List Statement) (j : �
 any_at p h db j = ap (list_any p) (at_mapped db j) ∙ any-map p as_axiom (statement_at db j) ∙ ap (λ q. list_any q (statement_at db j)) (fun_ext (kept p h))
 
 got : {X : Type 0} (f : Statement → X) → IsAlike f → (db : List Statement) (j : ℕ) → option_map f (slice_get (axioms_of db) j) ≡ option_map f (slice_get db j)
-got f h db j = ap (option_map f) (get_mapped db j) ∙ by (slice_get db j)
+got f h db j = ap (option_map f) (got_axiom db j) ∙ by (slice_get db j)
   where
     by : (o : Option Statement) → option_map f (option_map as_axiom o) ≡ option_map f o
     by None = refl
@@ -92,7 +92,7 @@ module _ (db : List Statement) where
 
   is_active_kept : is_active as_axioms ≡ is_active db
   is_active_kept = fun_ext (λ j. fun_ext (λ k.
-      ap (λ o. nat_lt j k && is_active_some o (stays as_axioms j k)) (get_mapped db j)
+      ap (λ o. nat_lt j k && is_active_some o (stays as_axioms j k)) (got_axiom db j)
       ∙ ap (λ b. nat_lt j k && b) (by (slice_get db j) (stays as_axioms j k))
       ∙ ap (λ (s : ℕ → ℕ → Bool). nat_lt j k && is_active_some (slice_get db j) (s j k)) stays_kept))
     where
@@ -170,7 +170,7 @@ module _ (db : List Statement) where
   rule_kept : rule_at as_axioms ≡ rule_at db
   rule_kept = fun_ext (λ k. fun_ext (λ j.
       ap (λ (t : ℕ → ℕ → Bool). if_active (t j k) (ruled_as j (slice_get as_axioms j))) is_active_kept
-      ∙ ap (if_active (is_active db j k)) (ap (ruled_as j) (get_mapped db j) ∙ by j (slice_get db j))))
+      ∙ ap (if_active (is_active db j k)) (ap (ruled_as j) (got_axiom db j) ∙ by j (slice_get db j))))
     where
       by : (j : ℕ) (o : Option Statement) → ruled_as j (option_map as_axiom o) ≡ ruled j o
       by j None = refl
@@ -204,6 +204,16 @@ module _ (w : Bool) (db : List Statement) where
   pub counted_got : {X : Type 0} (f : Statement → X) → IsAlike f → (j : ℕ) → option_map f (slice_get (counted w db) j) ≡ option_map f (slice_get db j)
   counted_got f h j = either (λ db. option_map f (slice_get db j)) (λ db. got f h db j) w db
 
+  pub counted_then : {X : Type 0} (f : Statement → Option X) → IsAlike f → (j : ℕ) → option_and_then f (slice_get (counted w db) j) ≡ option_and_then f (slice_get db j)
+  counted_then {X} f h j = sym (both (slice_get (counted w db) j)) ∙ ap flat (counted_got f h j) ∙ both (slice_get db j)
+    where
+      flat : Option (Option X) → Option X
+      flat o = elim o [ None ↦ None | Some x ↦ x ]
+
+      both : (o : Option Statement) → flat (option_map f o) ≡ option_and_then f o
+      both None = refl
+      both (Some s) = refl
+
   pub counted_depth : depth (counted w db) ≡ depth db
   counted_depth = either depth depth_kept w db
 
@@ -222,6 +232,9 @@ module _ (w : Bool) (db : List Statement) where
   pub counted_formula : formula_at (counted w db) ≡ formula_at db
   counted_formula = either formula_at formula_kept w db
 
+  pub counted_label : label_at (counted w db) ≡ label_at db
+  counted_label = fun_ext (λ j. ap (flat_map (λ v. v)) (counted_flat label_words (λ l k xs e ps d. refl) j))
+
   pub counted_hypotheses : mandatory_hypotheses (counted w db) ≡ mandatory_hypotheses db
   counted_hypotheses = either mandatory_hypotheses hypotheses_kept w db
 
@@ -237,7 +250,7 @@ module _ (w : Bool) (db : List Statement) where
 -- a theorem among them was read as it is
 pub theorem_read : (w : Bool) (db : List Statement) (j : ℕ) (l : Token) (k : ℕ) (xs : List Token) (e : ℕ) (ps : List Token) (d : ℕ) → slice_get (counted w db) j ≡ Some (provable l k xs e ps d) → slice_get db j ≡ Some (provable l k xs e ps d)
 theorem_read false db j l k xs e ps d h = h
-theorem_read true db j l k xs e ps d h = go (slice_get db j) (sym (get_mapped db j) ∙ h)
+theorem_read true db j l k xs e ps d h = go (slice_get db j) (sym (got_axiom db j) ∙ h)
   where
     same : (s : Statement) → as_axiom s ≡ provable l k xs e ps d → s ≡ provable l k xs e ps d
     same (constants k' xs' d') h = h
@@ -257,3 +270,17 @@ theorem_read true db j l k xs e ps d h = go (slice_get db j) (sym (get_mapped db
     go : (o : Option Statement) → option_map as_axiom o ≡ Some (provable l k xs e ps d) → o ≡ Some (provable l k xs e ps d)
     go None h = absurd (cc)
     go (Some s) h = let e : as_axiom s ≡ provable l k xs e ps d = cc in ap Some (same s e)
+
+pub theorem_still : (w : Bool) (db : List Statement) (j : ℕ) → list_any is_theorem (statement_at (counted w db) j) ≡ true → list_any is_theorem (statement_at db j) ≡ true
+theorem_still w db j h = let f = found_at (counted w db) is_theorem j h in go f.0 f.1 f.2
+  where
+    go : (s : Statement) → slice_get (counted w db) j ≡ Some s → is_theorem s ≡ true → list_any is_theorem (statement_at db j) ≡ true
+    go (constants k xs d) e t = absurd (true≢false (sym t))
+    go (variables k xs d) e t = absurd (true≢false (sym t))
+    go (disjoint k xs d) e t = absurd (true≢false (sym t))
+    go (floating l k xs d) e t = absurd (true≢false (sym t))
+    go (essential l k xs d) e t = absurd (true≢false (sym t))
+    go (axiomatic l k xs d) e t = absurd (true≢false (sym t))
+    go (provable l k xs q ps d) e t = at_found db is_theorem j (provable l k xs q ps d) (theorem_read w db j l k xs q ps d e) refl
+    go (opening k) e t = absurd (true≢false (sym t))
+    go (closing k) e t = absurd (true≢false (sym t))

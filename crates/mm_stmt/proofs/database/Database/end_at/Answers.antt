@@ -15,10 +15,10 @@ returns g c =
     let k = c.args.statement in
     let o = c.index-outline.result.now in
     let w = c.index.result.now in
-    let there : k < length os = has_outline text ws os f.fault _ c.self.view_is k c.requires in
+    let there : k < length os = has_outline text ws os f.with_open f.fault _ c.self.view_is k c.requires in
     let same : get_or os k o ≡ o = sym c.index-outline.ensures in
     let kept = c.self.invariant.outlines k o there in
     let within : o.end < length ws = subst (λ x. x.end < length ws) same kept.1 in
     let word : word_at ws o.end ≡ w = get_or_default ws o.end (record { start = 0; end = 0 }) w within ∙ sym c.index.ensures in
     subst (λ (n : Known). option_map last_place (slice_get n.statements k) ≡ Some w.start) c.self.view_is
-    (last_is text ws os k o there kept.0 ∙ ap (λ x. Some (word_at ws x.end).start) same ∙ ap (λ x. Some x.start) word)
+    (last_is text ws f.with_open os k o there kept.0 ∙ ap (λ x. Some (word_at ws x.end).start) same ∙ ap (λ x. Some x.start) word)

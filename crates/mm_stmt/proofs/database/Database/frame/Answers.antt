@@ -6,14 +6,14 @@ use Rattle.mm_spec.specs.Derivation.{pair}
 use Rattle.mm_spec.specs.Citation.{is_assertion}
 use Rattle.mm_spec.specs.Frame.{mandatory_hypotheses, mandatory_pairs}
 use Rattle.mm_outline.specs.Statements.{statements}
-use Rattle.mm_stmt.specs.Database.{Known}
+use Rattle.mm_stmt.specs.Database.{held, Known}
 use Rattle.mm_outline.proofs.StatementsLaw.{is_there, get_mapped}
 use Rattle.mm_stmt.proofs.database.Database.frame.Goals as goal
 
 pub returns-clause-hypotheses : goal.returns-clause-hypotheses
 returns-clause-hypotheses g c =
     let f = c.self.inside in
-    let db = statements f.text.now f.words.items f.outlines.items in
+    let db = held f.text.now f.words.items f.outlines.items f.with_open in
     let k = c.args.assertion in
     let x = c.index.result.now in
     let is = subst (λ (n : Known). list_any is_assertion (statement_at n.statements k) ≡ true) (sym c.self.view_is) c.requires in
@@ -25,7 +25,7 @@ returns-clause-hypotheses g c =
 pub returns-clause-pairs : goal.returns-clause-pairs
 returns-clause-pairs g c =
     let f = c.self.inside in
-    let db = statements f.text.now f.words.items f.outlines.items in
+    let db = held f.text.now f.words.items f.outlines.items f.with_open in
     let k = c.args.assertion in
     let x = c.index.result.now in
     let is = subst (λ (n : Known). list_any is_assertion (statement_at n.statements k) ≡ true) (sym c.self.view_is) c.requires in

@@ -1,0 +1,23 @@
+use Rattle.std.proofs.Common.{◌≡◌, ◌∙◌, ◌<◌, ◌&&◌, Some, length, get_or, sym, ap, subst, slice_get}
+use Rattle.std.specs.Option.{option_map}
+use Rattle.std.specs.List.{list_any}
+use Rattle.mm_spec.specs.Opened.{is_open}
+use Rattle.mm_spec.specs.Scope.{statement_at}
+use Rattle.mm_stmt.specs.Database.{Known, kind_of}
+use Rattle.mm_stmt.specs.Kinds.{is_theorem_kind, is_axiom_kind}
+use Rattle.mm_stmt.proofs.DatabaseLaw.{has_outline, open_is}
+use Rattle.mm_stmt.proofs.database.Database.is_open.Goals as goal
+
+pub returns : goal.returns
+returns g c =
+    let f = c.self.inside in
+    let text = f.text.now in
+    let ws = f.words.items in
+    let os = f.outlines.items in
+    let k = c.args.statement in
+    let o = c.index-outline.result.now in
+    let there : k < length os = has_outline text ws os f.with_open f.fault _ c.self.view_is k c.requires in
+    let same : get_or os k o ≡ o = sym c.index-outline.ensures in
+    let kind = subst (λ (n : Known). option_map kind_of (slice_get n.statements k) ≡ Some c.kind.result) (sym c.self.view_is) c.kind.ensures in
+    subst (λ (n : Known). c.counts_otherwise.result ≡ (n.with_open && list_any is_open (statement_at n.read k))) c.self.view_is
+    (c.counts_otherwise.ensures ∙ ap (λ x. is_theorem_kind x.kind && is_axiom_kind c.kind.result) (sym same) ∙ open_is text ws f.with_open os k o c.kind.result there kind)
