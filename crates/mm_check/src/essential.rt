@@ -13,7 +13,7 @@ ghost use Rattle.mm_check.specs.Contract.{is_assertion_at, is_labelled_step, lab
 ghost use Rattle.mm_check.specs.Flags.{child_flags, taken_flags, wanted_flags};
 ghost use Rattle.mm_check.specs.Reached.{steps_of};
 
-use crate::frames::{hyps, is_assertion, is_essential};
+use crate::frames::{hyps, is_assertion, is_essential_hypothesis};
 use crate::machine::empty;
 use crate::noted::cite;
 use mm_proof::{Step, Steps};
@@ -101,36 +101,36 @@ fn pop_flag<A: Allocator>(waiting: &mut Vec<bool, A>) -> bool
     }
 }
 
-/// Whether the premise for a hypothesis is essential: if that is a `$e`, and the node whose premise it is is needed.
-fn flag_for<A: Allocator>(db: &Database<A>, h: u32, is_needed: bool) -> bool
+/// Whether the child for a hypothesis is essential: its parent is, and the hypothesis is a `$e`.
+fn flag_for<A: Allocator>(db: &Database<A>, h: u32, is_essential: bool) -> bool
     requires { h < length db.now.statements }
-    ensures { result ≡ (is_needed && list_any is_essential_statement (statement_at db.now.statements h)) }
+    ensures { result ≡ (is_essential && list_any is_essential_statement (statement_at db.now.statements h)) }
 {
-    is_needed && is_essential(db, h)
+    is_essential && is_essential_hypothesis(db, h)
 }
 
-/// Puts a flag on top for each premise of an assertion.
+/// Puts a flag on top for each child of a node with an assertion's label, by whether the node is essential.
 fn push_flags<A: Allocator>(
     db: &Database<A>,
     k: u32,
-    is_needed: bool,
+    is_essential: bool,
     waiting: &mut Vec<bool, A>,
 ) -> Result<(), AllocError>
     requires { is_assertion_at db.now.statements k ≡ true }
-    ensures { OnOk result (waiting.new.items ≡ waiting.old.items ++ child_flags db.now.statements is_needed k) }
+    ensures { OnOk result (waiting.new.items ≡ waiting.old.items ++ child_flags db.now.statements is_essential k) }
 {
     for h in hyps(db, k) {
-        waiting.push(flag_for(db, *h, is_needed))?;
+        waiting.push(flag_for(db, *h, is_essential))?;
     }
     Ok(())
 }
 
-/// Undoes a step, whose flag was taken: puts the flags of the entries that it took, notes its assertion and marks the
-/// earlier step that it takes up, both only if it is essential.
+/// Undoes a step, whose own flag was taken: puts the flags of the entries that it took. Where the step is essential, its
+/// assertion is noted, or the step whose subproof it takes up is wanted.
 fn undo<A: Allocator>(
     db: &Database<A>,
     step: Step,
-    is_needed: bool,
+    is_essential: bool,
     noted: &mut Vec<u32, A>,
     places: &mut [u32],
     waiting: &mut Vec<bool, A>,
@@ -138,21 +138,21 @@ fn undo<A: Allocator>(
 ) -> Result<(), AllocError>
     requires known { labels (step_of step) (length db.now.statements) }
     requires earlier { IsEarlier (step_of step) (length wanted.old) }
-    ensures noted { OnOk result ((a : ℕ) → is_member noted.new.items a ≡ (is_member noted.old.items a || (is_needed && (is_labelled_step (step_of step) a && is_assertion_at db.now.statements a)))) }
-    ensures waiting { OnOk result (waiting.new.items ≡ waiting.old.items ++ taken_flags db.now.statements is_needed (step_of step)) }
-    ensures wanted { OnOk result (wanted.new ≡ wanted_flags is_needed (step_of step) wanted.old) }
+    ensures noted { OnOk result ((a : ℕ) → is_member noted.new.items a ≡ (is_member noted.old.items a || (is_essential && (is_labelled_step (step_of step) a && is_assertion_at db.now.statements a)))) }
+    ensures waiting { OnOk result (waiting.new.items ≡ waiting.old.items ++ taken_flags db.now.statements is_essential (step_of step)) }
+    ensures wanted { OnOk result (wanted.new ≡ wanted_flags is_essential (step_of step) wanted.old) }
 {
-    if is_needed {
+    if is_essential {
         cite(db, step, noted, places)?;
     }
     match step {
         Step::Label(k) => {
             if is_assertion(db, k) {
-                push_flags(db, k, is_needed, waiting)?;
+                push_flags(db, k, is_essential, waiting)?;
             }
         }
         Step::Marked(j) => {
-            if is_needed {
+            if is_essential {
                 wanted[j as usize] = true;
             }
         }
@@ -160,9 +160,8 @@ fn undo<A: Allocator>(
     Ok(())
 }
 
-/// Goes through the steps from the last to the first, and notes the labels of essential nodes. The flag of the entry that
-/// a step put says whether that is essential as it stands on the stack; a subproof is essential too if a later step that
-/// is takes it up.
+/// Notes the assertions of essential nodes, in one pass back over the steps: so at each step it is known whether the entry
+/// that it put is essential, and whether an essential later step takes its subproof up.
 fn walk_back<A: Allocator>(
     db: &Database<A>,
     theorem: u32,
@@ -182,8 +181,16 @@ fn walk_back<A: Allocator>(
     restart(steps.len(), waiting, wanted)?;
     for i in (0..steps.len()).rev() {
         let flag = pop_flag(waiting);
-        let is_needed = flag || wanted[i];
-        undo(db, steps.step(i), is_needed, noted, places, waiting, wanted)?;
+        let is_essential = flag || wanted[i];
+        undo(
+            db,
+            steps.step(i),
+            is_essential,
+            noted,
+            places,
+            waiting,
+            wanted,
+        )?;
     }
     Ok(())
 }

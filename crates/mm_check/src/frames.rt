@@ -3,7 +3,7 @@
 ghost use Rattle.std.specs.Prelude.{◌≡◌, ◌<◌, ◌^◌, ℕ, All, length, map, true};
 ghost use Rattle.std.specs.List.{list_any};
 ghost use Rattle.mm_spec.specs.Scope.{statement_at};
-ghost use Rattle.mm_spec.specs.Frame.{is_essential as is_essential_statement, symbol_names, mandatory_hypotheses, mandatory_pairs};
+ghost use Rattle.mm_spec.specs.Frame.{is_essential, symbol_names, mandatory_hypotheses, mandatory_pairs};
 ghost use Rattle.mm_check.specs.Arena.{paired};
 ghost use Rattle.mm_check.specs.Contract.{is_assertion_at};
 
@@ -22,9 +22,9 @@ pub fn is_assertion<A: Allocator>(db: &Database<A>, k: u32) -> bool
 }
 
 /// Whether a statement is a `$e`.
-pub fn is_essential<A: Allocator>(db: &Database<A>, h: u32) -> bool
+pub fn is_essential_hypothesis<A: Allocator>(db: &Database<A>, h: u32) -> bool
     requires { h < length db.now.statements }
-    ensures { result ≡ list_any is_essential_statement (statement_at db.now.statements h) }
+    ensures { result ≡ list_any is_essential (statement_at db.now.statements h) }
 {
     match db.kind(h) {
         Kind::Essential => true,

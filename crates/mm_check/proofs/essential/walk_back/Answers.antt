@@ -49,14 +49,14 @@ loop-i-preserved g c =
     let wanted = c.loop-i.wanted.items in
     let inside : i < length steps = omega (arith, c.loop-i-test.true, c.loop-i.auto.i, c.len-i.ensures) in
     let next : c.loop-i.i ≡ suc i = omega (arith, c.loop-i-test.true) in
-    let needed : c.if-flag.is_needed ≡ (c.pop_flag-flag.result || flag_at wanted i) = elim c.if-flag.branch [
-      | then-flag w ↦ w.is_needed-is ∙ w.if-flag.true ∙ sym (or_left c.pop_flag-flag.result (flag_at wanted i) w.if-flag.true)
-      | else-flag w ↦ w.is_needed-is ∙ w.index.ensures ∙ sym (get_or_default wanted i false w.index.result.now (omega (arith, inside, c.loop-i.invariant.many))) ∙ sym (ap (λ f. f || flag_at wanted i) w.if-flag.false)
+    let needed : c.if-flag.is_essential ≡ (c.pop_flag-flag.result || flag_at wanted i) = elim c.if-flag.branch [
+      | then-flag w ↦ w.is_essential-is ∙ w.if-flag.true ∙ sym (or_left c.pop_flag-flag.result (flag_at wanted i) w.if-flag.true)
+      | else-flag w ↦ w.is_essential-is ∙ w.index.ensures ∙ sym (get_or_default wanted i false w.index.result.now (omega (arith, inside, c.loop-i.invariant.many))) ∙ sym (ap (λ f. f || flag_at wanted i) w.if-flag.false)
     ] in
-    let want : c.undo.new.wanted ≡ wanted_flags c.if-flag.is_needed (step_of c.step.result) wanted = c.in_ok-undo.ensures.wanted ∙ ap (wanted_flags c.if-flag.is_needed (step_of c.step.result)) c.deref_mut.ensures.value in
+    let want : c.undo.new.wanted ≡ wanted_flags c.if-flag.is_essential (step_of c.step.result) wanted = c.in_ok-undo.ensures.wanted ∙ ap (wanted_flags c.if-flag.is_essential (step_of c.step.result)) c.deref_mut.ensures.value in
     let long : length wanted ≡ c.loop-i.wanted.len = search rules in
-    let whole : take c.loop-i.wanted.len (c.undo.new.wanted ++ drop (length c.undo.new.wanted) wanted) ≡ c.undo.new.wanted = take_at c.undo.new.wanted (drop (length c.undo.new.wanted) wanted) c.loop-i.wanted.len (ap length want ∙ wanted_count c.if-flag.is_needed (step_of c.step.result) wanted ∙ long) in
-    walk_here db c.args.theorem steps c.loop-i.i i c.loop-i.waiting.items wanted c.loop-i.noted.items c.loop-i.invariant inside next c.pop_flag-flag.new.waiting.items c.pop_flag-flag.result c.if-flag.is_needed (step_of c.step.result) c.undo.new.waiting.items _ c.undo.new.noted.items c.pop_flag-flag.ensures needed c.requires.usable c.step.ensures c.in_ok-undo.ensures.waiting (whole ∙ want) c.in_ok-undo.ensures.noted
+    let whole : take c.loop-i.wanted.len (c.undo.new.wanted ++ drop (length c.undo.new.wanted) wanted) ≡ c.undo.new.wanted = take_at c.undo.new.wanted (drop (length c.undo.new.wanted) wanted) c.loop-i.wanted.len (ap length want ∙ wanted_count c.if-flag.is_essential (step_of c.step.result) wanted ∙ long) in
+    walk_here db c.args.theorem steps c.loop-i.i i c.loop-i.waiting.items wanted c.loop-i.noted.items c.loop-i.invariant inside next c.pop_flag-flag.new.waiting.items c.pop_flag-flag.result c.if-flag.is_essential (step_of c.step.result) c.undo.new.waiting.items _ c.undo.new.noted.items c.pop_flag-flag.ensures needed c.requires.usable c.step.ensures c.in_ok-undo.ensures.waiting (whole ∙ want) c.in_ok-undo.ensures.noted
 
 pub returns : goal.returns
 returns g c =
