@@ -1,9 +1,9 @@
 -- Four columns as one digit.
-use Rattle.std.proofs.Common.{◌≡◌, ℕ, Bool, true, false, zero, suc, List, [], ◌∷◌, ◌⊎◌, inl, inr, ◌<◌, ◌≤◌, ◌+◌, ◌-◌, ◌*◌, ◌/◌, ◌%◌, ◌^◌, min, length, map, get_or, bit_and, eqb, subst, sym, ap, ap₂, refl, arith, ◌∙◌, eqb-true, w8}
+use Rattle.std.proofs.Common.{◌≡◌, ℕ, Bool, true, false, zero, suc, List, [], ◌∷◌, ◌⊎◌, inl, inr, ◌<◌, ◌≤◌, ◌+◌, ◌-◌, ◌*◌, ◌/◌, ◌%◌, ◌^◌, min, length, map, take, drop, get_or, bit_and, eqb, subst, sym, ap, ap₂, refl, arith, ◌∙◌, eqb-true, w8}
 use Rattle.std.proofs.lemmas.Bool.{cases_lt, cases_eq, agree_below_at}
 use Rattle.std.proofs.lemmas.Nat.{and_le_r}
 use Rattle.std.proofs.lemmas.Nat.Bits.{bit_at_and, bit_at_ones, bit_at-lt}
-use Rattle.std.proofs.lemmas.List.{ext_get_or, length-map, get_or_past}
+use Rattle.std.proofs.lemmas.List.{ext_get_or, length-map, get_or_past, get_or-take, get_or-drop}
 use Rattle.std.proofs.lemmas.List.FromFn.{get_or-map-range_with_len, length-range_with_len}
 use Rattle.std.proofs.lemmas.Simd.{get_or-put_chunk_below, get_or-put_chunk_at, swz_l, get_or-swz_l_below}
 use Rattle.std.specs.Int.{bit_at}
@@ -14,7 +14,7 @@ use Rattle.mm_rows.specs.BitRows.{marks, row_at}
 use Rattle.mm_rows.specs.Marks.{Marks, mark, row_marks}
 use Rattle.mm_rows.specs.declared.digits.TheConstants.{NUMBERS, DIGITS}
 use Rattle.mm_rows.proofs.BlockFacts.{shifted}
-use Rattle.mm_rows.proofs.TurnFacts.{row_bit}
+use Rattle.mm_rows.proofs.TurnFacts.{row_bit, row_length}
 use Rattle.mm_rows.proofs.TableFacts.{mark-bit}
 use lib.Lanes.{put_chunk}
 
@@ -131,3 +131,30 @@ module _ (m : Marks) (rows columns : ℕ) (words : List ℕ) (view : m ≡ marks
       let whole : four_at (get_or row (k / 16) 0) (k % 16) ≡ digit_at k ms = omega (arith, a, b, c, d, e, f) in
       subst (λ (x : Marks). four_at (get_or part (k / 16) 0) (k % 16) ≡ digit_at k (row_marks x i)) (sym view)
       (ap (λ xs. four_at (get_or xs (k / 16) 0) (k % 16)) is ∙ whole)
+
+  pub part_long : (i : ℕ) (part : List ℕ) → i < m.rows → part ≡ row_at words (words_for columns) i → length part ≡ words_for columns
+  part_long i part lt is =
+      let lt' = subst (λ (x : Marks). i < x.rows) view lt in
+      ap length is ∙ row_length words (words_for columns) i rows lt' t.size
+
+  -- digits that were written from a word on
+  pub digits_are : (i word : ℕ) (part into old : List ℕ) → i < m.rows → part ≡ row_at words (words_for columns) i → 16 * word + length old ≤ 16 * words_for m.columns → length old % 16 ≡ 0 → length into ≡ length old
+      → ((k : ℕ) → k < length old → get_or into k 0 ≡ hex_digit (four_at (get_or (take (word + length old / 16 - word) (drop word part)) (k / 16) 0) (k % 16)))
+      → into ≡ map (λ k. hex_digit (digit_at k (row_marks m i))) (range_with_len (16 * word) (length old))
+  digits_are i word part into old lt is within whole same each =
+      ext_get_or 0 into (map digit (range_with_len (16 * word) (length old))) (same ∙ sym (length-map (range_with_len (16 * word) (length old)) digit ∙ length-range_with_len (16 * word) (length old))) (λ k less. at k (omega (arith, same, less)))
+    where
+      digit : ℕ → ℕ
+      digit k = hex_digit (digit_at k (row_marks m i))
+
+      at : (k : ℕ) → k < length old → get_or into k 0 ≡ get_or (map digit (range_with_len (16 * word) (length old))) k 0
+      at k less =
+          let width : 16 * word + length old ≤ 16 * words_for columns = subst (λ (x : Marks). 16 * word + length old ≤ 16 * words_for x.columns) view within in
+          let q : word + k / 16 ≡ (16 * word + k) / 16 = omega arith in
+          let r : k % 16 ≡ (16 * word + k) % 16 = omega arith in
+          let here : k / 16 < word + length old / 16 - word = omega (arith, less, whole) in
+          each k less
+          ∙ ap (λ w. hex_digit (four_at w (k % 16))) (get_or-take (word + length old / 16 - word) (drop word part) (k / 16) 0 here ∙ get_or-drop word part (k / 16) 0)
+          ∙ ap₂ (λ a b. hex_digit (four_at (get_or part a 0) b)) q r
+          ∙ ap hex_digit (row_digit i (16 * word + k) part lt (omega (arith, width, less)) is)
+          ∙ sym (get_or-map-range_with_len digit (16 * word) (length old) k (16 * word + k) 0 less refl)
