@@ -1,7 +1,9 @@
 //! What is asked of the database.
 
 ghost use Rattle.std.specs.Prelude.{◌≡◌, ◌<◌, ◌^◌, ℕ, All, length, map, true};
-ghost use Rattle.mm_spec.specs.Frame.{symbol_names, mandatory_hypotheses, mandatory_pairs};
+ghost use Rattle.std.specs.List.{list_any};
+ghost use Rattle.mm_spec.specs.Scope.{statement_at};
+ghost use Rattle.mm_spec.specs.Frame.{is_essential, symbol_names, mandatory_hypotheses, mandatory_pairs};
 ghost use Rattle.mm_check.specs.Arena.{paired};
 ghost use Rattle.mm_check.specs.Contract.{is_assertion_at};
 
@@ -15,6 +17,17 @@ pub fn is_assertion<A: Allocator>(db: &Database<A>, k: u32) -> bool
 {
     match db.kind(k) {
         Kind::Axiom | Kind::Theorem => true,
+        _ => false,
+    }
+}
+
+/// Whether a statement is a `$e`.
+pub fn is_essential_hypothesis<A: Allocator>(db: &Database<A>, h: u32) -> bool
+    requires { h < length db.now.statements }
+    ensures { result ≡ list_any is_essential (statement_at db.now.statements h) }
+{
+    match db.kind(h) {
+        Kind::Essential => true,
         _ => false,
     }
 }

@@ -1,5 +1,5 @@
 -- What the words of a command line come to.
-use Rattle.std.proofs.Common.{◌≡◌, ◌∙◌, ◌⊎◌, ◌<◌, ◌≤◌, ◌+◌, ◌==◌, eqb-true, eq-eqb, option_map, inl, inr, ℕ, zero, suc, Bool, true, false, true≢false, ◌&&◌, ◌||◌, refl, sym, ap, subst, arith, codes, map, length, slice_index_or, List, [], ◌∷◌, Some, None}
+use Rattle.std.proofs.Common.{◌≡◌, ◌∙◌, ◌⊎◌, ◌<◌, ◌≤◌, ◌+◌, ◌==◌, eqb-true, eq-eqb, option_map, inl, inr, ℕ, zero, suc, Bool, true, false, true≢false, ◌&&◌, ◌||◌, refl, sym, ap, ap₂, subst, arith, codes, map, length, slice_index_or, List, [], ◌∷◌, Some, None}
 use Rattle.std.proofs.lemmas.Bool.{and_parts, or_cases, or_left, or_right}
 use Rattle.std.proofs.lemmas.List.{length-map}
 use Rattle.std.proofs.lemmas.Slice.Eq.{bytes_eq-Decides}
@@ -32,10 +32,12 @@ use Rattle.clap.specs.declared.error.kind.ErrorKind.TheVariants.{DisplayHelp, Di
 use Rattle.clap.specs.declared.error.kind.ErrorKind.{ErrorKind}
 use Rattle.clap.proofs.WalkLemmas.{first_value-rows, list_any-map, one_text-rows}
 use Rattle.mm_spec.specs.declared.Choice.{Choice}
-use Rattle.mm_spec.specs.declared.Choice.TheVariants.{All, Matrix, Counts, Usage}
+use Rattle.mm_spec.specs.declared.Choice.TheVariants.{All, Matrix, Counts, Usage, Citations}
+use Rattle.mm_spec.specs.declared.Form.{Form}
+use Rattle.mm_spec.specs.declared.Form.TheVariants.{One, Two}
 use Rattle.mm_spec.specs.Derivation.{is_member}
-use Rattle.mm_line.specs.Lines.{IsCommand, IsReportRule, IsFlag, IsAsking, Refuses, command_of, flag_rule, number_rule, only_rule, report_rule, file_rule, report_word, report_words, Says}
-use Rattle.mm_line.specs.Found.{Finds, HasNumber, HasReport, IsFor}
+use Rattle.mm_line.specs.Lines.{IsCommand, IsReportRule, IsFormRule, IsFlag, IsAsking, Refuses, command_of, flag_rule, number_rule, only_rule, report_rule, file_rule, form_rule, form_word, form_words, report_word, report_words, Says}
+use Rattle.mm_line.specs.Found.{Finds, HasForm, HasNumber, HasReport, IsFor}
 use Rattle.mm_line.proofs.EntryLaw.{Defaulted, default_reads, nothing_in, rule_at, simple_parts}
 use Rattle.mm_plan.specs.declared.Cutting.TheVariants.{Count}
 use Rattle.mm_plan.specs.Plans.{IsLawfulCutting, only_of}
@@ -48,15 +50,15 @@ pub one_more : (old new : Command) (a : Arg) (app : App) (r : Rule) → AddsArg 
 one_more old new a app r added is rule simple =
     added.shape (simple_parts a (ap (λ (x : Rule). x.is_simple) rule ∙ simple)).global ∙ ap (λ (x : App). with_rule x (rule_of a)) is ∙ ap (with_rule app) rule
 
-pub is_command : (c : Command) (report : Rule) → IsReportRule report → app_of c ≡ command_of report → IsCommand (app_of c)
-is_command c report is same = (report, is, same)
+pub is_command : (c : Command) (report form : Rule) → IsReportRule report → IsFormRule form → app_of c ≡ command_of report form → IsCommand (app_of c)
+is_command c report form is is_form same = record { report = report; is_report = is; form = form; is_form = is_form; is = same }
 
-command_simple : (report : Rule) → IsReportRule report → is_simple_and_free (command_of report) ≡ true
+command_simple : (report form : Rule) → IsReportRule report → IsFormRule form → is_simple_and_free (command_of report form) ≡ true
 unfolding command_of
-command_simple report is = subst (λ (r : Rule). is_simple_and_free (command_of r) ≡ true) (sym is.2) refl
+command_simple report form is is_form = subst (λ (r : Rule). is_simple_and_free (command_of r form) ≡ true) (sym is.2) (subst (λ (r : Rule). is_simple_and_free (command_of (report_rule is.0) r) ≡ true) (sym is_form.2) refl)
 
 pub simple : (app : App) → IsCommand app → is_simple_and_free app ≡ true
-simple app is = subst (λ (a : App). is_simple_and_free a ≡ true) (sym is.2) (command_simple is.0 is.1)
+simple app is = subst (λ (a : App). is_simple_and_free a ≡ true) (sym is.is) (command_simple is.report is.form is.is_report is.is_form)
 
 not_memory : (kind : ErrorKind) → IsAsking kind → kind ≡ OutOfMemory → ⊥
 not_memory kind (inl h) m = let e : DisplayHelp ≡ OutOfMemory = sym h ∙ m in cc
@@ -115,21 +117,36 @@ one_of_words t h = by (or_cases (bytes_eq (codes "all") t) _ h)
     same : (w : Text) → bytes_eq w t ≡ true → t ≡ w
     same w e = sym ((bytes_eq-Decides w t).0 e)
 
-    last : (bytes_eq (codes "usage") t ≡ true) ⊎ (false ≡ true) → (choice : Choice) × (t ≡ report_word choice)
-    last (inl e) = (Usage, same _ e)
+    last : (bytes_eq (codes "citations") t ≡ true) ⊎ (false ≡ true) → (choice : Choice) × (t ≡ report_word choice)
+    last (inl e) = (Citations, same _ e)
     last (inr e) = absurd (true≢false (sym e))
 
-    third : (bytes_eq (codes "counts") t ≡ true) ⊎ ((bytes_eq (codes "usage") t || false) ≡ true) → (choice : Choice) × (t ≡ report_word choice)
-    third (inl e) = (Counts, same _ e)
-    third (inr e) = last (or_cases (bytes_eq (codes "usage") t) false e)
+    fourth : (bytes_eq (codes "usage") t ≡ true) ⊎ ((bytes_eq (codes "citations") t || false) ≡ true) → (choice : Choice) × (t ≡ report_word choice)
+    fourth (inl e) = (Usage, same _ e)
+    fourth (inr e) = last (or_cases (bytes_eq (codes "citations") t) false e)
 
-    second : (bytes_eq (codes "matrix") t ≡ true) ⊎ ((bytes_eq (codes "counts") t || (bytes_eq (codes "usage") t || false)) ≡ true) → (choice : Choice) × (t ≡ report_word choice)
+    third : (bytes_eq (codes "counts") t ≡ true) ⊎ ((bytes_eq (codes "usage") t || (bytes_eq (codes "citations") t || false)) ≡ true) → (choice : Choice) × (t ≡ report_word choice)
+    third (inl e) = (Counts, same _ e)
+    third (inr e) = fourth (or_cases (bytes_eq (codes "usage") t) _ e)
+
+    second : (bytes_eq (codes "matrix") t ≡ true) ⊎ ((bytes_eq (codes "counts") t || (bytes_eq (codes "usage") t || (bytes_eq (codes "citations") t || false))) ≡ true) → (choice : Choice) × (t ≡ report_word choice)
     second (inl e) = (Matrix, same _ e)
     second (inr e) = third (or_cases (bytes_eq (codes "counts") t) _ e)
 
-    by : (bytes_eq (codes "all") t ≡ true) ⊎ ((bytes_eq (codes "matrix") t || (bytes_eq (codes "counts") t || (bytes_eq (codes "usage") t || false))) ≡ true) → (choice : Choice) × (t ≡ report_word choice)
+    by : (bytes_eq (codes "all") t ≡ true) ⊎ ((bytes_eq (codes "matrix") t || (bytes_eq (codes "counts") t || (bytes_eq (codes "usage") t || (bytes_eq (codes "citations") t || false)))) ≡ true) → (choice : Choice) × (t ≡ report_word choice)
     by (inl e) = (All, same _ e)
     by (inr e) = second (or_cases (bytes_eq (codes "matrix") t) _ e)
+
+one_of_forms : (t : Text) → list_any (λ (w : Text). bytes_eq w t) form_words ≡ true → (form : Form) × (t ≡ form_word form)
+one_of_forms t h = by (or_cases (bytes_eq (codes "1") t) _ h)
+  where
+    last : (bytes_eq (codes "2") t ≡ true) ⊎ (false ≡ true) → (form : Form) × (t ≡ form_word form)
+    last (inl e) = (Two, sym ((bytes_eq-Decides (codes "2") t).0 e))
+    last (inr e) = absurd (true≢false (sym e))
+
+    by : (bytes_eq (codes "1") t ≡ true) ⊎ ((bytes_eq (codes "2") t || false) ≡ true) → (form : Form) × (t ≡ form_word form)
+    by (inl e) = (One, sym ((bytes_eq-Decides (codes "1") t).0 e))
+    by (inr e) = last (or_cases (bytes_eq (codes "2") t) false e)
 
 -- the places of the rules with an id, numbered from a number on
 abbrev hits : Text → ℕ → List Rule → List ℕ
@@ -153,11 +170,11 @@ one_place rs d id k one j lt h = by (or_cases (j == k) false (subst (λ (l : Lis
     by (inl e) = eqb-true j k e
     by (inr e) = absurd (true≢false (sym e))
 
-module _ (names : Bor (List (Bor Text))) where
+module _ (names forms : Bor (List (Bor Text))) where
   abbrev the_rules : List Rule
-  the_rules = number_rule (codes "workers") ∷ number_rule (codes "pieces") ∷ only_rule ∷ report_rule names ∷ flag_rule (codes "essential") ∷ file_rule ∷ []
+  the_rules = number_rule (codes "workers") ∷ number_rule (codes "pieces") ∷ only_rule ∷ report_rule names ∷ form_rule forms ∷ flag_rule (codes "essential") ∷ file_rule ∷ []
 
-  module _ (c : Command) (is : app_of c ≡ command_of (report_rule names)) where
+  module _ (c : Command) (is : app_of c ≡ command_of (report_rule names) (form_rule forms)) where
     rules : map rule_of (args_of c) ≡ the_rules
     unfolding command_of
     rules = ap (λ (a : App). a.top.rules) is
@@ -234,18 +251,28 @@ module _ (names : Bor (List (Bor Text))) where
           let word = one_of_words r.text (ap (list_any (λ (w : Text). bytes_eq w r.text)) (sym words) ∙ (sym (list_any-map (λ (w : Text). bytes_eq w r.text) (λ n. n.now) names.now) ∙ taken)) in
           (word.0, r.first ∙ ap Some word.1)
 
+      form_read : map (λ n. n.now) forms.now ≡ form_words → HasForm m
+      form_read words =
+          let d = defaulted 4 (codes "form") (codes "1") (Names forms) (omega arith) (λ _. refl) refl refl refl refl refl (one_place the_rules file_rule (codes "form") 4 refl) (differ _ _ refl) (λ e. elim e [ inl h ↦ differ _ _ refl h | inr h ↦ differ _ _ refl h ]) in
+          let r = default_reads c m p globals built_has_none 4 d.0 (codes "form") (Names forms) d.1 in
+          let taken : list_any (λ n. bytes_eq n.now r.text) forms.now ≡ true = rw d.2 at r.accepted in
+          let word = one_of_forms r.text (ap (list_any (λ (w : Text). bytes_eq w r.text)) (sym words) ∙ (sym (list_any-map (λ (w : Text). bytes_eq w r.text) (λ n. n.now) forms.now) ∙ taken)) in
+          (word.0, r.first ∙ ap Some word.1)
+
 pub finds : (c : Command) (m : ArgMatches) (words : List Text) → IsCommand (app_of c) → IsParsedFrom c m → fault_of (app_of c) words ≡ [] → HasMatchesOf (app_of c) words m → Finds words m
 finds c m words is p fault matches =
-    let names = is.1.0 in
-    let same : app_of c ≡ command_of (report_rule names) = is.2 ∙ ap command_of is.1.2 in
+    let names = is.is_report.0 in
+    let forms = is.is_form.0 in
+    let same : app_of c ≡ command_of (report_rule names) (form_rule forms) = is.is ∙ ap₂ command_of is.is_report.2 is.is_form.2 in
     record {
       app = app_of c;
       command = is;
       no_fault = fault;
       rows = (matches (and_parts (is_simple (app_of c)) (is_free_app (built (app_of c))) (simple (app_of c) is)).0).0;
-      workers = workers_read names c same m p;
-      pieces = pieces_read names c same m p;
-      report = report_read names c same m p is.1.1;
+      workers = workers_read names forms c same m p;
+      pieces = pieces_read names forms c same m p;
+      report = report_read names forms c same m p is.is_report.1;
+      form = form_read names forms c same m p is.is_form.1;
     }
 
 -- ---- what a line says
@@ -264,9 +291,10 @@ pub says : (words : List Text) (m : ArgMatches) → Finds words m → (line : Li
     → option_map digits (one_text (found_of m) (codes "pieces")) ≡ Some n → 1 ≤ n → n ≤ 64
     → option_map digits (one_text (found_of m) (codes "workers")) ≡ Some line.plan.workers → 1 ≤ line.plan.workers → line.plan.workers ≤ 64
     → only_of line.plan ≡ first_value (found_of m) (codes "only") → first_value (found_of m) (codes "report") ≡ Some (report_word line.plan.choice)
+    → first_value (found_of m) (codes "form") ≡ Some (form_word line.plan.form)
     → IsFlag (one_text (found_of m) (codes "essential")) line.plan.essential
     → option_map string_bytes line.file ≡ first_value (found_of m) (codes "FILE") → Says words line
-says words m f line n cuts pieces least most workers few many only choice essential file =
+says words m f line n cuts pieces least most workers few many only choice form essential file =
     let rows = matches_of f.app words in
     let first = first_is (found_of m) rows f.rows in
     let one = one_is (found_of m) rows f.rows in (
@@ -278,6 +306,7 @@ says words m f line n cuts pieces least most workers few many only choice essent
         workers = ap (option_map digits) (sym (one (codes "workers"))) ∙ workers;
         only = sym (first (codes "only")) ∙ sym only;
         choice = sym (first (codes "report")) ∙ choice;
+        form = sym (first (codes "form")) ∙ form;
         essential = subst (λ entry. IsFlag entry line.plan.essential) (one (codes "essential")) essential;
         file = sym (first (codes "FILE")) ∙ sym file;
         lawful = (subst IsLawfulCutting (sym cuts) (least, most), few, many);

@@ -10,9 +10,10 @@ use Rattle.clap.specs.declared.parser.matches.ArgMatches.{ArgMatches}
 use Rattle.clap.specs.declared.error.kind.ErrorKind.{ErrorKind}
 use Rattle.clap.specs.declared.error.kind.ErrorKind.TheVariants.{OutOfMemory}
 use Rattle.mm_spec.specs.declared.Choice.{Choice}
+use Rattle.mm_spec.specs.declared.Form.{Form}
 use Rattle.mm_line.specs.declared.command_line.LineRefused.{LineRefused}
 use Rattle.mm_line.specs.declared.command_line.LineRefused.TheVariants.{Help, Bad, Memory}
-use Rattle.mm_line.specs.Lines.{IsCommand, IsAsking, report_word}
+use Rattle.mm_line.specs.Lines.{IsCommand, IsAsking, report_word, form_word}
 
 -- the entry is read as a number from 1 to 64
 abbrev pub HasNumber : ArgMatches → Text → Type 0
@@ -21,6 +22,10 @@ HasNumber m id = (t : Text) × (one_text (found_of m) id ≡ Some (without_minus
 -- the entry of `--report` is one of its words
 abbrev pub HasReport : ArgMatches → Type 0
 HasReport m = (choice : Choice) × (first_value (found_of m) (codes "report") ≡ Some (report_word choice))
+
+-- the entry of `--form` is one of its words
+abbrev pub HasForm : ArgMatches → Type 0
+HasForm m = (form : Form) × (first_value (found_of m) (codes "form") ≡ Some (form_word form))
 
 -- the command finds no fault in the words, and these are its matches
 pub record Finds (words : List Text) (m : ArgMatches) : Type 0 where
@@ -31,6 +36,7 @@ pub record Finds (words : List Text) (m : ArgMatches) : Type 0 where
   pub workers : HasNumber m (codes "workers")
   pub pieces : HasNumber m (codes "pieces")
   pub report : HasReport m
+  pub form : HasForm m
 
 -- the refusal is for an error of this kind
 abbrev pub IsFor : ErrorKind → LineRefused → Type 0

@@ -15,7 +15,9 @@ use Rattle.clap.specs.declared.builder.value_parser.ValueParser.TheVariants.{Sig
 use Rattle.clap.specs.declared.error.kind.ErrorKind.{ErrorKind}
 use Rattle.clap.specs.declared.error.kind.ErrorKind.TheVariants.{DisplayHelp, DisplayVersion}
 use Rattle.mm_spec.specs.declared.Choice.{Choice}
-use Rattle.mm_spec.specs.declared.Choice.TheVariants.{All, Matrix, Counts, Usage}
+use Rattle.mm_spec.specs.declared.Choice.TheVariants.{All, Matrix, Counts, Usage, Citations}
+use Rattle.mm_spec.specs.declared.Form.{Form}
+use Rattle.mm_spec.specs.declared.Form.TheVariants.{One, Two}
 use Rattle.mm_plan.specs.Plans.{IsLawful, only_of}
 use Rattle.mm_plan.specs.declared.Cutting.TheVariants.{Count}
 use Rattle.mm_line.specs.declared.command_line.Line.{Line}
@@ -28,9 +30,18 @@ report_word All = codes "all"
 report_word Matrix = codes "matrix"
 report_word Counts = codes "counts"
 report_word Usage = codes "usage"
+report_word Citations = codes "citations"
+
+-- the words of `--form`
+abbrev pub form_word : Form → Text
+form_word One = codes "1"
+form_word Two = codes "2"
 
 abbrev pub report_words : List Text
-report_words = map report_word (All ∷ Matrix ∷ Counts ∷ Usage ∷ [])
+report_words = map report_word (All ∷ Matrix ∷ Counts ∷ Usage ∷ Citations ∷ [])
+
+abbrev pub form_words : List Text
+form_words = map form_word (One ∷ Two ∷ [])
 
 -- an option with a whole number from 1 to 64, 4 where it isn't given
 abbrev pub number_rule : Text → Rule
@@ -45,19 +56,28 @@ number_rule id = record (new_rule id) {
 abbrev pub only_rule : Rule
 only_rule = record (new_rule (codes "only")) { long = Some (codes "only"); action = Some Set; value_names = 1 }
 
--- an option with one of these words, the one for all sections where it isn't given
-abbrev pub report_rule : Bor (List (Bor Text)) → Rule
-report_rule names = record (new_rule (codes "report")) {
-  long = Some (codes "report");
+-- an option with one of these words, or with the first one where it isn't given
+abbrev pub word_rule : Text → Text → Bor (List (Bor Text)) → Rule
+word_rule id first names = record (new_rule id) {
+  long = Some id;
   action = Some Set;
   value_names = 1;
-  defaults = codes "all" ∷ [];
+  defaults = first ∷ [];
   parser = Some (Names names);
 }
 
--- the rule of `--report`, wherever its words lie
+abbrev pub report_rule : Bor (List (Bor Text)) → Rule
+report_rule names = word_rule (codes "report") (codes "all") names
+
+abbrev pub form_rule : Bor (List (Bor Text)) → Rule
+form_rule names = word_rule (codes "form") (codes "1") names
+
+-- the rules of `--report` and `--form`, wherever their words lie
 abbrev pub IsReportRule : Rule → Type 0
 IsReportRule rule = (names : Bor (List (Bor Text))) × (map (λ n. n.now) names.now ≡ report_words) × (rule ≡ report_rule names)
+
+abbrev pub IsFormRule : Rule → Type 0
+IsFormRule rule = (names : Bor (List (Bor Text))) × (map (λ n. n.now) names.now ≡ form_words) × (rule ≡ form_rule names)
 
 abbrev pub file_rule : Rule
 file_rule = record (new_rule (codes "FILE")) { action = Some Set }
@@ -70,13 +90,17 @@ flag_rule id = record (new_rule id) { long = Some id; action = Some SetTrue }
 abbrev pub named : App
 named = let app = new_app (codes "mmdepend") in record app { top = record app.top { has_version = true } }
 
--- mmdepend [--workers N] [--pieces N] [--only T] [--report PART] [--essential] [FILE]
-unfoldable pub command_of : Rule → App
-command_of report =
-    with_rule (with_rule (with_rule (with_rule (with_rule (with_rule named (number_rule (codes "workers"))) (number_rule (codes "pieces"))) only_rule) report) (flag_rule (codes "essential"))) file_rule
+-- mmdepend [--workers N] [--pieces N] [--only T] [--report PART] [--form N] [--essential] [FILE]
+unfoldable pub command_of : Rule → Rule → App
+command_of report form =
+    with_rule (with_rule (with_rule (with_rule (with_rule (with_rule (with_rule named (number_rule (codes "workers"))) (number_rule (codes "pieces"))) only_rule) report) form) (flag_rule (codes "essential"))) file_rule
 
-abbrev pub IsCommand : App → Type 0
-IsCommand app = (report : Rule) × IsReportRule report × (app ≡ command_of report)
+pub record IsCommand (app : App) : Type 0 where
+  pub report : Rule
+  pub is_report : IsReportRule report
+  pub form : Rule
+  pub is_form : IsFormRule form
+  pub is : app ≡ command_of report form
 
 -- the number that an entry spells
 abbrev pub number_of : Text → List Row → Option ℕ
@@ -92,6 +116,7 @@ pub record IsLine (rows : List Row) (line : Line) : Type 0 where
   pub workers : number_of (codes "workers") rows ≡ Some line.plan.workers
   pub only : first_of (codes "only") rows ≡ only_of line.plan
   pub choice : first_of (codes "report") rows ≡ Some (report_word line.plan.choice)
+  pub form : first_of (codes "form") rows ≡ Some (form_word line.plan.form)
   pub essential : IsFlag (one_of (codes "essential") rows) line.plan.essential
   pub file : first_of (codes "FILE") rows ≡ option_map string_bytes line.file
   pub lawful : IsLawful line.plan

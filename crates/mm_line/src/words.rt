@@ -4,18 +4,20 @@ ghost use Rattle.std.specs.Prelude.{◌≡◌, ◌≤◌, IfOk, IfErr, Some, cod
 ghost use Rattle.std.specs.String.{string_bytes};
 ghost use Rattle.std.specs.Str.Parse.{digits_value, without_leading_plus};
 ghost use Rattle.clap.specs.Words.{app_of, first_value, found_of, kind_of, one_text, rule_of};
-ghost use Rattle.mm_line.specs.Found.{Finds, HasNumber, HasReport, IsFor};
-ghost use Rattle.mm_line.specs.Lines.{IsCommand, IsReportRule, Refuses, Says, file_rule, flag_rule, number_rule, only_rule, report_word};
+ghost use Rattle.mm_line.specs.Found.{Finds, HasForm, HasNumber, HasReport, IsFor};
+ghost use Rattle.mm_line.specs.Lines.{IsCommand, IsFormRule, IsReportRule, Refuses, Says, file_rule, flag_rule, form_word, number_rule, only_rule, report_word};
 
 use crate::command_line::{Line, LineRefused};
 use clap::error::ErrorKind;
 use clap::{Arg, ArgAction, ArgMatches, Command, Error};
 use mm_plan::{Cutting, Plan};
-use mm_spec::Choice;
+use mm_spec::{Choice, Form};
 use std::alloc::{AllocError, Global};
 use std::convert::AsStr;
 
-static REPORTS: [&str; 4] = ["all", "matrix", "counts", "usage"];
+static REPORTS: [&str; 5] = ["all", "matrix", "counts", "usage", "citations"];
+
+static FORMS: [&str; 2] = ["1", "2"];
 
 /// The program's version, and the toolchain with which it was proved, as `rt version` tells it.
 const VERSION: &str = "0.1.0, proved with rattle-kit-13b logic dac8208d650f15bf";
@@ -63,6 +65,19 @@ fn report<'a>(alloc: Global) -> Arg<'a>
         .help("Write this part of the report")
 }
 
+/// The option that chooses the form of the matrix.
+fn form<'a>(alloc: Global) -> Arg<'a>
+    ensures { IsFormRule (rule_of result) }
+{
+    Arg::new(alloc, "form")
+        .long("form")
+        .action(ArgAction::Set)
+        .value_name("N")
+        .value_parser(FORMS.as_slice())
+        .default_value("1")
+        .help("Write the matrix as a digit for each column, or for each four")
+}
+
 /// The flag that takes citations from the logical part of proofs alone.
 fn essential<'a>(alloc: Global) -> Arg<'a>
     ensures { rule_of result ≡ flag_rule (codes "essential") }
@@ -96,6 +111,7 @@ fn command<'a>(alloc: Global) -> Result<Command<'a>, AllocError>
         .arg(pieces)?
         .arg(only(alloc))?
         .arg(report(alloc))?
+        .arg(form(alloc))?
         .arg(essential(alloc))?
         .arg(file(alloc))
 }
@@ -145,7 +161,19 @@ fn choice_in(matches: &ArgMatches<'_>) -> Choice
         Some("matrix") => Choice::Matrix,
         Some("counts") => Choice::Counts,
         Some("usage") => Choice::Usage,
+        Some("citations") => Choice::Citations,
         _ => Choice::All,
+    }
+}
+
+/// What `--form` asks for.
+fn form_in(matches: &ArgMatches<'_>) -> Form
+    requires { HasForm matches.now }
+    ensures { first_value (found_of matches.now) (codes "form") ≡ Some (form_word result) }
+{
+    match matches.get_str("form") {
+        Some("2") => Form::Two,
+        _ => Form::One,
     }
 }
 
@@ -175,6 +203,7 @@ pub fn line<S: AsStr>(alloc: Global, words: &[S]) -> Result<Line, LineRefused>
         workers: number_in(&matches, "workers"),
         only: text_in(alloc, &matches, "only")?,
         choice: choice_in(&matches),
+        form: form_in(&matches),
         essential: matches.get_flag("essential"),
     };
     let file = text_in(alloc, &matches, "FILE")?;

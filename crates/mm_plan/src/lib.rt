@@ -7,7 +7,7 @@ ghost use Rattle.std.specs.Prelude.{◌≡◌, ◌↔◌, IsTrue, length};
 ghost use Rattle.std.specs.Option.{option_map};
 ghost use Rattle.mm_plan.specs.Plans.{IsLawful, IsLawfulCutting, RisesTo, only_of};
 
-use mm_spec::Choice;
+use mm_spec::{Choice, Form};
 use std::alloc::Allocator;
 
 /// Where a text is cut into pieces: into so many of about the same length, or at these places, byte offsets from 0, of
@@ -19,15 +19,16 @@ pub enum Cutting<A: Allocator> {
 }
 
 /// What a run is asked to do: how the text is cut, how many workers check the proofs, the typecode of the axioms that
-/// are columns (all axioms where it is `None`), the sections of the report, and whether a theorem rests on what the
-/// essential nodes of proofs cite, and not on what builds formulas alone. Neither the cuts nor the workers change what is
-/// written.
+/// are columns (all axioms where it is `None`), the sections of the report, the form of its matrix, and whether a theorem
+/// rests on what the essential nodes of proofs cite, and not on what builds formulas alone. Neither the cuts nor the workers
+/// change what is written.
 #[derive(Drop)]
 pub struct Plan<A: Allocator> {
     pub cuts: Cutting<A>,
     pub workers: u32,
     pub only: Option<String<A>>,
     pub choice: Choice,
+    pub form: Form,
     pub essential: bool,
 }
 

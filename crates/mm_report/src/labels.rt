@@ -106,7 +106,7 @@ impl<'d, 'a, D: Allocator> ColumnLabels<'d, 'a, D> {
 }
 
 /// The label of a statement.
-fn label_of<'a, D: Allocator>(database: &Database<'a, D>, statement: u32) -> &'a [u8]
+pub(crate) fn label_of<'a, D: Allocator>(database: &Database<'a, D>, statement: u32) -> &'a [u8]
     requires { statement < length database.now.statements }
     ensures { result.now ≡ label_at database.now.statements statement }
 {

@@ -72,7 +72,7 @@ all_marked across rows bits any w end le h k j lt small one = go (cases_lt (64 *
     go (inr g) = let no = in_row_past rows across bits (64 * w + k) j g in absurd (let e : true ≡ false = sym one ∙ no in cc)
 
 -- a bit of a byte of a word
-shifted : (n s b : ℕ) → bit_at (n / 2 ^ s) b ≡ bit_at n (s + b)
+pub shifted : (n s b : ℕ) → bit_at (n / 2 ^ s) b ≡ bit_at n (s + b)
 shifted n s b =
     let back : s + b - s ≡ b = omega arith in
     ap (bit_at (n / 2 ^ s)) (sym back) ∙ sym (bit_at_cat_high (n / 2 ^ s) s (n % 2 ^ s) (s + b) (mod_below n (2 ^ s) (pow_pos s)) (omega arith)) ∙ ap (λ x. bit_at x (s + b)) (shr_split n s)

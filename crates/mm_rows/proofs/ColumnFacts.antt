@@ -2,8 +2,9 @@
 use Rattle.std.proofs.Common.{◌≡◌, ℕ, Bool, true, false, ◌&&◌, ◌||◌, List, [], ◌∷◌, ◌++◌, length, map, slice_get, Option, Some, None, refl, sym, ap, ap₂, ◌∙◌, true≢false, bytes_eq, if◌then◌else◌}
 use Rattle.std.specs.List.{list_any, range_with_len}
 use Rattle.mm_spec.specs.Text.{Word, Token, words}
-use Rattle.mm_spec.specs.Statement.{Statement, constants, variables, disjoint, floating, essential, axiomatic, provable, opening, closing}
+use Rattle.mm_spec.specs.Statement.{Statement, constants, variables, disjoint, floating, essential, axiomatic, provable, opening, closing, symbols_of}
 use Rattle.mm_spec.specs.Scope.{those, statement_at}
+use Rattle.mm_spec.specs.Citation.{is_assertion}
 use Rattle.mm_spec.specs.Output.{columns, has_typecode, is_column}
 use Rattle.mm_spec.specs.Frame.{symbol_names, place_of}
 use Rattle.mm_spec.proofs.Finds.{found_at, statement_at-is, formula_at-is}
@@ -57,34 +58,66 @@ columns-split only db j = by (slice_get db j)
 pub columns-are : (only : Option Word) (db : List Statement) → those (λ j. list_any (has_typecode only) (statement_at db j)) (columns db None) ≡ columns db only
 columns-are only db = those-those (λ j. list_any (is_column None) (statement_at db j)) (λ j. list_any (has_typecode only) (statement_at db j)) (λ j. list_any (is_column only) (statement_at db j)) (range_with_len 0 (length db)) (columns-split only db)
 
--- the typecode is compared by its name
-pub typecode-test : (db : List Statement) (k x : ℕ) (v w : Word) → list_any (is_column None) (statement_at db k) ≡ true → typecode_of db k ≡ Some x → slice_get (symbol_names db) x ≡ Some v
-    → bytes_eq v w ≡ list_any (has_typecode (Some w)) (statement_at db k)
-typecode-test db k x v w is e n = let f = found_at db (is_column None) k is in by f.0 f.1 f.2
+-- an axiom is an assertion
+pub axiom-asserts : (db : List Statement) (j : ℕ) → list_any (is_column None) (statement_at db j) ≡ true → list_any is_assertion (statement_at db j) ≡ true
+axiom-asserts db j h = by (slice_get db j) h
   where
-    by : (s : Statement) → slice_get db k ≡ Some s → is_column None s ≡ true → bytes_eq v w ≡ list_any (has_typecode (Some w)) (statement_at db k)
+    shut : (s : Statement) → is_column None s ≡ true → is_assertion s ≡ true
+    shut (axiomatic l k xs d) e = refl
+    shut (provable l k xs q ps d) e = refl
+    shut (constants k xs d) e = absurd (true≢false (sym e))
+    shut (variables k xs d) e = absurd (true≢false (sym e))
+    shut (disjoint k xs d) e = absurd (true≢false (sym e))
+    shut (floating l k xs d) e = absurd (true≢false (sym e))
+    shut (essential l k xs d) e = absurd (true≢false (sym e))
+    shut (opening k) e = absurd (true≢false (sym e))
+    shut (closing k) e = absurd (true≢false (sym e))
+
+    open_or : (b : Bool) → (b || false) ≡ true → b ≡ true
+    open_or true e = refl
+    open_or false e = e
+
+    by : (o : Option Statement) → list_any (is_column None) (elim o [ None ↦ [] | Some s ↦ s ∷ [] ]) ≡ true → list_any is_assertion (elim o [ None ↦ [] | Some s ↦ s ∷ [] ]) ≡ true
+    by None e = absurd (true≢false (sym e))
+    by (Some s) e = ap (λ b. b || false) (shut s (open_or (is_column None s) e))
+
+-- the typecode is compared by its name
+pub typecode-test : (db : List Statement) (k x : ℕ) (v w : Word) → list_any is_assertion (statement_at db k) ≡ true → typecode_of db k ≡ Some x → slice_get (symbol_names db) x ≡ Some v
+    → bytes_eq v w ≡ list_any (has_typecode (Some w)) (statement_at db k)
+typecode-test db k x v w is e n = let f = found_at db is_assertion k is in by f.0 f.1 f.2
+  where
+    shut : (b : Bool) → (b || false) ≡ b
+    shut true = refl
+    shut false = refl
+
+    -- a statement with a label, by its symbols
+    labelled : (s : Statement) → slice_get db k ≡ Some s → is_labelled_kind (kind_of s) ≡ true → (xs : List Token) → symbols_of s ≡ xs → bytes_eq v w ≡ list_any (has_typecode (Some w)) (statement_at db k)
+    labelled s g lab xs same = at xs same
+      where
+        code : (xs : List Token) → symbols_of s ≡ xs → typecode_of db k ≡ slice_get (map (λ u. place_of u (symbol_names db)) (words xs)) 0
+        code xs same =
+            ap₂ (λ ss f. if list_any (λ s. is_labelled_kind (kind_of s)) ss then slice_get f 0 else None) (statement_at-is db k s g) (formula_at-is db k s g)
+            ∙ ap (λ b. if b || false then slice_get (map (λ u. place_of u (symbol_names db)) (words (symbols_of s))) 0 else None) lab
+            ∙ ap (λ ys. slice_get (map (λ u. place_of u (symbol_names db)) (words ys)) 0) same
+
+        test : (t : Token) (ts : List Token) → symbols_of s ≡ t ∷ ts → has_typecode (Some w) s ≡ bytes_eq t.word w
+        test t ts same = ap (λ (ys : List Token). elim ys [ [] ↦ false | u ∷ us ↦ bytes_eq u.word w ]) same
+
+        at : (xs : List Token) → symbols_of s ≡ xs → bytes_eq v w ≡ list_any (has_typecode (Some w)) (statement_at db k)
+        at [] same = absurd (let no : None ≡ Some x = sym (code [] same) ∙ e in cc)
+        at (t ∷ ts) same =
+            let found : Some (place_of t.word (symbol_names db)) ≡ Some x = sym (code (t ∷ ts) same) ∙ e in
+            let place : place_of t.word (symbol_names db) ≡ x = cc in
+            let word : v ≡ t.word = place_get t.word v (symbol_names db) (ap (slice_get (symbol_names db)) place ∙ n) in
+            ap (λ u. bytes_eq u w) word ∙ sym (ap (list_any (has_typecode (Some w))) (statement_at-is db k s g) ∙ shut (has_typecode (Some w) s) ∙ test t ts same)
+
+    by : (s : Statement) → slice_get db k ≡ Some s → is_assertion s ≡ true → bytes_eq v w ≡ list_any (has_typecode (Some w)) (statement_at db k)
     by (constants kw xs d) g c = absurd (true≢false (sym c))
     by (variables kw xs d) g c = absurd (true≢false (sym c))
     by (disjoint kw xs d) g c = absurd (true≢false (sym c))
     by (floating l kw xs d) g c = absurd (true≢false (sym c))
     by (essential l kw xs d) g c = absurd (true≢false (sym c))
-    by (provable l kw xs q ps d) g c = absurd (true≢false (sym c))
     by (opening kw) g c = absurd (true≢false (sym c))
     by (closing kw) g c = absurd (true≢false (sym c))
-    by (axiomatic l kw [] d) g c =
-        absurd (let no : None ≡ Some x = sym (code [] g) ∙ e in cc)
-      where
-        code : (xs : List Token) → slice_get db k ≡ Some (axiomatic l kw xs d) → typecode_of db k ≡ slice_get (map (λ u. place_of u (symbol_names db)) (words xs)) 0
-        code xs g = ap₂ (λ ss f. if list_any (λ s. is_labelled_kind (kind_of s)) ss then slice_get f 0 else None) (statement_at-is db k (axiomatic l kw xs d) g) (formula_at-is db k (axiomatic l kw xs d) g)
-    by (axiomatic l kw (t ∷ ts) d) g c =
-        let same : Some (place_of t.word (symbol_names db)) ≡ Some x = sym (code (t ∷ ts) g) ∙ e in
-        let place : place_of t.word (symbol_names db) ≡ x = cc in
-        let word : v ≡ t.word = place_get t.word v (symbol_names db) (ap (slice_get (symbol_names db)) place ∙ n) in
-        ap (λ u. bytes_eq u w) word ∙ sym (ap (list_any (has_typecode (Some w))) (statement_at-is db k (axiomatic l kw (t ∷ ts) d) g) ∙ shut (bytes_eq t.word w))
-      where
-        code : (xs : List Token) → slice_get db k ≡ Some (axiomatic l kw xs d) → typecode_of db k ≡ slice_get (map (λ u. place_of u (symbol_names db)) (words xs)) 0
-        code xs g = ap₂ (λ ss f. if list_any (λ s. is_labelled_kind (kind_of s)) ss then slice_get f 0 else None) (statement_at-is db k (axiomatic l kw xs d) g) (formula_at-is db k (axiomatic l kw xs d) g)
-
-        shut : (b : Bool) → (b || false) ≡ b
-        shut true = refl
-        shut false = refl
+    by (provable l kw xs q ps d) g c = labelled (provable l kw xs q ps d) g refl xs refl
+    by (axiomatic l kw xs d) g c = labelled (axiomatic l kw xs d) g refl xs refl

@@ -1,5 +1,6 @@
 -- A table of marks, and what it says of chains of citations.
-use Rattle.std.specs.Prelude.{Option, Some, None, ◌≡◌, ℕ, ◌+◌, ◌<◌, Bool, false, List, [], length, slice_index, slice_index_or, Decides}
+use Rattle.std.specs.Prelude.{Option, Some, None, ◌≡◌, ℕ, ◌+◌, ◌<◌, Bool, false, List, [], length, map, slice_index, slice_index_or, Decides}
+use Rattle.std.specs.List.{range_with_len}
 use Rattle.mm_spec.specs.Chains.{RestsOn}
 use Rattle.mm_cites.specs.Citing.{Citing, Cites, theorem_at}
 
@@ -12,6 +13,10 @@ pub record Marks : Type 0 where
 -- whether a row is marked in a column
 abbrev pub mark : Marks → ℕ → ℕ → Bool
 mark m i j = slice_index_or (slice_index_or m.cells i []) j false
+
+-- the marks of a row
+abbrev pub row_marks : Marks → ℕ → List Bool
+row_marks m i = map (mark m i) (range_with_len 0 m.columns)
 
 -- above a number, if there is one
 abbrev pub IsAbove : Option ℕ → ℕ → Type 0

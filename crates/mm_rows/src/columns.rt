@@ -4,7 +4,8 @@ ghost use Rattle.std.specs.Prelude.{◌≡◌, ◌<◌, ◌&&◌, ℕ, List, Opt
 ghost use Rattle.std.specs.Option.{option_map};
 ghost use Rattle.std.specs.List.{list_any};
 ghost use Rattle.mm_spec.specs.Scope.{statement_at};
-ghost use Rattle.mm_spec.specs.Output.{columns, has_typecode, is_column};
+ghost use Rattle.mm_spec.specs.Citation.{is_assertion};
+ghost use Rattle.mm_spec.specs.Output.{columns, has_typecode};
 ghost use Rattle.mm_cites.specs.Citing.{IsRising};
 
 use mm_stmt::Database;
@@ -25,13 +26,13 @@ impl<A: Allocator> Model for Columns<A> {
     ghost invariant = { λ c. IsRising c.statements.items };
 }
 
-/// Whether an axiom has the typecode, where one is chosen.
-fn is_chosen<'a, D: Allocator>(
+/// Whether an assertion has the typecode, where one is chosen.
+pub fn is_chosen<'a, D: Allocator>(
     database: &Database<'a, D>,
     only: Option<&[u8]>,
     statement: u32,
 ) -> bool
-    requires { list_any (is_column None) (statement_at database.now.statements statement) ≡ true }
+    requires { list_any is_assertion (statement_at database.now.statements statement) ≡ true }
     ensures { result ≡ list_any (has_typecode (option_map (λ w. w.now) only.entry)) (statement_at database.now.statements statement) }
 {
     match only {

@@ -1,2 +1,3 @@
 pub mod RowsLaw
 pub mod EndsLaw
+pub mod CitationsLaw

@@ -1,6 +1,7 @@
 //! What is written of a text: its report, or its refusal.
 
 ghost use Rattle.std.specs.Prelude.{◌≡◌, ◌<◌, ◌≤◌, ◌^◌, ℕ, List, IfOk, length};
+ghost use Rattle.mm_spec.specs.declared.Choice.TheVariants as choices;
 ghost use Rattle.mm_spec.specs.Lexed.{lexical_fault, tokens_of};
 ghost use Rattle.mm_spec.specs.Statement.{Statement};
 ghost use Rattle.mm_spec.specs.Output.{lexed_of, FirstFault, HasNoFault, IsRead};
@@ -12,7 +13,7 @@ use crate::RunEnd;
 use crate::cuts::cuts_of;
 use mm_lex::lex;
 use mm_plan::Plan;
-use mm_report::{write_refusal, write_report};
+use mm_report::{Choice, write_citations, write_refusal, write_report};
 use mm_rows::{Columns, matrix};
 use mm_spec::Fault;
 use mm_stmt::{Database, read};
@@ -34,6 +35,61 @@ fn refuse<A: Allocator, W: Write>(text: &[u8], fault: Fault, plan: &Plan<A>, to:
     }
 }
 
+/// Writes the report of what each theorem of a database without a fault cites. No table is made for it.
+fn report_citations<'a, A: Allocator + Copy, W: Write>(
+    alloc: A,
+    database: &Database<'a, A>,
+    citations: &Citations<A>,
+    plan: &Plan<A>,
+    to: &mut W,
+) -> RunEnd
+    requires sound { HasNoFault (length database.now.text) (lexed_of database.now.text) database.now.statements }
+    requires cited { AllCited database.now.statements plan.now.essential citations.now }
+    requires choice { plan.now.choice ≡ choices.Citations }
+    ensures { Answers result database.now.text (request_of plan.now) (W.contents to.old) (W.contents to.new) }
+{
+    let Ok(columns) = Columns::new(alloc, database, plan.typecode()) else {
+        return RunEnd::NoMemory;
+    };
+    match write_citations(
+        to,
+        database,
+        &columns,
+        citations,
+        plan.typecode(),
+        plan.form,
+    ) {
+        Ok(()) => RunEnd::Accepted,
+        Err(_) => RunEnd::WriteFailed,
+    }
+}
+
+/// Writes the report of what each theorem of a database without a fault rests on.
+fn report_rests<'a, R: Threads + Sync, A: Allocator + Copy + Send + Sync, W: Write>(
+    rt: &R,
+    alloc: A,
+    database: &Database<'a, A>,
+    citations: &Citations<A>,
+    plan: &Plan<A>,
+    to: &mut W,
+) -> RunEnd
+    requires sound { HasNoFault (length database.now.text) (lexed_of database.now.text) database.now.statements }
+    requires cited { AllCited database.now.statements plan.now.essential citations.now }
+    requires choice { plan.now.choice ≡ choices.Citations → ⊥ }
+    ensures { Answers result database.now.text (request_of plan.now) (W.contents to.old) (W.contents to.new) }
+{
+    let Ok(columns) = Columns::new(alloc, database, plan.typecode()) else {
+        return RunEnd::NoMemory;
+    };
+    let Ok(table) = matrix(rt, alloc, citations, &columns) else {
+        return RunEnd::NoMemory;
+    };
+    match write_report(to, database, &columns, &table, plan.form, plan.choice) {
+        Ok(()) => RunEnd::Accepted,
+        Err(_) => RunEnd::WriteFailed,
+    }
+}
+
 /// Writes the report of a database without a fault.
 fn report<'a, R: Threads + Sync, A: Allocator + Copy + Send + Sync, W: Write>(
     rt: &R,
@@ -47,15 +103,10 @@ fn report<'a, R: Threads + Sync, A: Allocator + Copy + Send + Sync, W: Write>(
     requires cited { AllCited database.now.statements plan.now.essential citations.now }
     ensures { Answers result database.now.text (request_of plan.now) (W.contents to.old) (W.contents to.new) }
 {
-    let Ok(columns) = Columns::new(alloc, database, plan.typecode()) else {
-        return RunEnd::NoMemory;
-    };
-    let Ok(table) = matrix(rt, alloc, citations, &columns) else {
-        return RunEnd::NoMemory;
-    };
-    match write_report(to, database, &columns, &table, plan.choice) {
-        Ok(()) => RunEnd::Accepted,
-        Err(_) => RunEnd::WriteFailed,
+    if plan.choice == Choice::Citations {
+        report_citations(alloc, database, citations, plan, to)
+    } else {
+        report_rests(rt, alloc, database, citations, plan, to)
     }
 }
 

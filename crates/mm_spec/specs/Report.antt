@@ -98,11 +98,16 @@ abbrev pub version : Form → ℕ
 version One = 1
 version Two = 2
 
+-- how many open theorems there are, if these count as axioms
+abbrev pub open_line : Option ℕ → List ℕ
+open_line None = []
+open_line (Some n) = heading (codes "open") n
+
 -- the first lines: the version, how many columns there are, how many of them are open theorems if these count as axioms,
 -- and how many theorems there are
 abbrev pub head : Form → ℕ → Option ℕ → ℕ → List ℕ
 head form axioms open_theorems theorems =
-    heading (codes "mmdepend") (version form) ++ heading (codes "axioms") axioms ++ elim open_theorems [ None ↦ [] | Some n ↦ heading (codes "open") n ] ++ heading (codes "theorems") theorems
+    heading (codes "mmdepend") (version form) ++ heading (codes "axioms") axioms ++ open_line open_theorems ++ heading (codes "theorems") theorems
 
 -- the report on columns with these labels and on these rows
 abbrev pub report : Form → Option ℕ → List Word → List Row → Choice → List ℕ

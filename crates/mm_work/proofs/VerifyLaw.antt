@@ -40,4 +40,4 @@ module _ (db : List Statement) (few : length db < 2 ^ 31) (complete : AreComplet
   pub all-cited : (by_essential : Bool) (ts : List ℕ) (lists : List (List ℕ)) → ts ≡ theorems db → AreCited db by_essential (theorems db) (length (theorems db)) lists → IsFileOrder (citing ts lists) × AllCited db by_essential (citing ts lists)
   all-cited by_essential ts lists e h =
       subst (λ (us : List ℕ). IsFileOrder (citing us lists) × AllCited db by_essential (citing us lists)) (sym e)
-      (file-order db few complete by_essential lists h, record { theorems_are = refl; valid = all-valid db few complete by_essential lists h; rising = λ i l. (h.each i l).checked.rising; shows = shows db few complete by_essential lists h })
+      (file-order db few complete by_essential lists h, record { theorems_are = refl; valid = all-valid db few complete by_essential lists h; rising = λ i l. (h.each i l).checked.rising; exact = λ i l. (h.each i l).checked.exact; shows = shows db few complete by_essential lists h })

@@ -1,5 +1,6 @@
 -- What the checking of all proofs finds.
-use Rattle.std.specs.Prelude.{◌≡◌, ℕ, ◌<◌, Bool, List, [], length, slice_index, slice_index_or, slice_get, ◌↔◌}
+use Rattle.std.specs.Prelude.{◌≡◌, ℕ, ◌<◌, Bool, List, [], length, slice_index, slice_index_or, slice_get, Decides, ◌↔◌}
+use Rattle.mm_spec.specs.Derivation.{is_member}
 use Rattle.std.specs.List.Sorted.{IsStrictlyIncreasing}
 use Rattle.mm_spec.specs.Statement.{Statement}
 use Rattle.mm_spec.specs.Citation.{reading_faults_at}
@@ -7,7 +8,7 @@ use Rattle.mm_spec.specs.Citation as proof
 use Rattle.mm_spec.specs.Output.{AreValid, FirstProofFault, ProofFault, end_of, theorems}
 use Rattle.mm_spec.specs.declared.Fault.{Fault}
 use Rattle.mm_check.specs.Contract.{IsChecked}
-use Rattle.mm_cites.specs.Citing.{Citing, Cites, list_at}
+use Rattle.mm_cites.specs.Citing.{Citing, Cites, theorem_at, list_at}
 use Rattle.mm_work.specs.declared.proof.VerifyRefused.{VerifyRefused}
 use Rattle.mm_work.specs.declared.proof.VerifyRefused.TheVariants.{Fault as FaultOf, Memory}
 use Rattle.mm_work.specs.declared.judged.Judged.{Judged}
@@ -32,6 +33,7 @@ pub record AllCited (db : List Statement) (by_essential : Bool) (c : Citing) : T
   pub theorems_are : c.theorems ≡ theorems db
   pub valid : AreValid db (length db)
   pub rising : (i : ℕ) → i < length c.theorems → IsStrictlyIncreasing (list_at c i)
+  pub exact : (i : ℕ) → i < length c.theorems → (a : ℕ) → Decides (is_member (list_at c i) a) (proof.Cites db by_essential (theorem_at c i) a)
   pub shows : Shows db by_essential c
 
 -- the proof of some theorem has this fault, and those of the earlier ones have none

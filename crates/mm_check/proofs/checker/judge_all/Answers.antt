@@ -1,37 +1,58 @@
-use Rattle.std.proofs.Common.{◌≡◌, ℕ, slice_get, ap, sym, ◌∙◌, subst, refl, inr, ◌∷◌, [], true≢false}
+use Rattle.std.proofs.Common.{◌≡◌, ℕ, List, slice_get, ap, sym, ◌∙◌, subst, refl, inr, ◌∷◌, [], true≢false}
 use Rattle.std.proofs.lemmas.Slice.Eq.{slice_eq-Decides}
 use Rattle.std.proofs.lemmas.Bool.Decides.{Decides-eqb}
 use Rattle.std.specs.List.Sorted.{IsStrictlyIncreasing}
 use Rattle.mm_spec.specs.Text.{fault}
-use Rattle.mm_spec.specs.Derivation.{is_member}
+use Rattle.mm_spec.specs.Statement.{Statement}
+use Rattle.mm_spec.specs.Steps.{PlacedStep}
+use Rattle.mm_spec.specs.Derivation.{Formula, is_member}
 use Rattle.mm_spec.specs.Output.{ProofFault, end_of}
 use Rattle.mm_spec.specs.declared.Code.{Code}
 use Rattle.mm_spec.specs.Valid.{Derives, EndFault, end_code}
 use Rattle.mm_spec.specs.Frame.{formula_at}
 use Rattle.std.specs.Prelude.{Decides}
-use Rattle.mm_spec.specs.Citation.{context_at, IsProof, Cites}
+use Rattle.mm_spec.specs.Citation.{context_at, steps_at, IsProof, Cites}
 use Rattle.mm_spec.specs.declared.Code.TheVariants.{NotOneEntry, OtherFormula}
-use Rattle.mm_check.specs.Reached.{steps_of}
+use Rattle.mm_check.specs.Reached.{Reached, steps_of}
 use Rattle.mm_check.proofs.CitesLaw.{all_cited}
 use Rattle.mm_check.proofs.Reach.{derives, ends_with, not_one, end_is}
 use Rattle.mm_check.proofs.checker.judge_all.Goals.{in-None, in-Some+else-eq}
 use Rattle.mm_check.proofs.checker.judge_all.Goals as goal
 
-pub returns-in-Ok-clause-valid : goal.returns-in-Ok-clause-valid
-returns-in-Ok-clause-valid g c =
+-- the row behind all steps is the theorem's proof
+proof_of : (db : List Statement) (t : ℕ) (steps : List PlacedStep) (entries ends : List Formula) (noted : List ℕ) (r : Reached db t (steps_of steps) entries ends noted) → steps ≡ steps_at db t → entries ≡ formula_at db t ∷ [] → IsProof db t r.row
+proof_of db t steps entries ends noted r are one = subst (λ ps. Derives (context_at db t) (steps_of ps) (formula_at db t) r.row) are (derives db t steps entries ends noted r (formula_at db t) one)
+
+pub choose-requires-clause-valid : goal.choose-requires-clause-valid
+choose-requires-clause-valid g c =
     let db = c.args.db.now.statements in
     let t = c.args.theorem in
     let r = c.in_ok-run.ensures.reached.1 in
     let is : c.in-Some.formula.now ≡ formula_at db t = (slice_eq-Decides Decides-eqb _ _ _ c.eq.ensures).0 c.if-eq.true ∙ c.formula.ensures.formula in
-    let one : c.run.new.machine.entries ≡ formula_at db t ∷ [] = c.in-Some.ensures.some ∙ ap (λ f. f ∷ []) is in
-    let items : c.in-Ok.cites.items ≡ c.tidy.new.noted.items = c.in-Ok.ensures.items_if_clones_equal (λ x y e. e) ∙ c.deref.ensures.value in
-    let proof : IsProof db t r.row = subst (λ ps. Derives (context_at db t) (steps_of ps) (formula_at db t) r.row) c.requires.steps (derives db t c.args.steps.now.steps _ _ _ r (formula_at db t) one) in (
+    (r.row, proof_of db t c.args.steps.now.steps _ _ _ r c.requires.steps (c.in-Some.ensures.some ∙ ap (λ f. f ∷ []) is))
+
+pub choose-requires-clause-noted : goal.choose-requires-clause-noted
+choose-requires-clause-noted g c =
+    let db = c.args.db.now.statements in
+    let t = c.args.theorem in
+    let r = c.in_ok-run.ensures.reached.1 in
+    let is : c.in-Some.formula.now ≡ formula_at db t = (slice_eq-Decides Decides-eqb _ _ _ c.eq.ensures).0 c.if-eq.true ∙ c.formula.ensures.formula in
+    all_cited db t r.row c.run.new.noted.items c.requires.complete (proof_of db t c.args.steps.now.steps _ _ _ r c.requires.steps (c.in-Some.ensures.some ∙ ap (λ f. f ∷ []) is)) r.noted_are
+
+pub returns-in-Ok-to_vec-clause-valid : goal.returns-in-Ok-to_vec-clause-valid
+returns-in-Ok-to_vec-clause-valid g c =
+    let db = c.args.db.now.statements in
+    let t = c.args.theorem in
+    let r = c.in_ok-run.ensures.reached.1 in
+    let is : c.in-Some.formula.now ≡ formula_at db t = (slice_eq-Decides Decides-eqb _ _ _ c.eq.ensures).0 c.if-eq.true ∙ c.formula.ensures.formula in
+    let items : c.in-Ok-to_vec.cites.items ≡ c.tidy.new.noted.items = c.in-Ok-to_vec.ensures.items_if_clones_equal (λ x y e. e) ∙ c.deref.ensures.value in
+    let same = λ (a : ℕ). ap (λ l. is_member l a) items ∙ c.tidy.ensures.same a in (
       refl,
       record {
         derivation = r.row;
-        proof = proof;
+        proof = proof_of db t c.args.steps.now.steps _ _ _ r c.requires.steps (c.in-Some.ensures.some ∙ ap (λ f. f ∷ []) is);
         rising = subst IsStrictlyIncreasing (sym items) c.tidy.ensures.rising;
-        exact = subst (λ e. (a : ℕ) → Decides (is_member c.in-Ok.cites.items a) (Cites db e t a)) (sym c.if-essential.false) (all_cited db t r.row c.in-Ok.cites.items c.requires.complete proof (λ a. ap (λ l. is_member l a) items ∙ c.tidy.ensures.same a ∙ r.noted_are a));
+        exact = λ a. subst (λ b. Decides b (Cites db c.args.essential t a)) (sym (same a)) (c.in-Ok.ensures a);
       },
     )
 

@@ -16,5 +16,7 @@ returns c =
     let third = one_more _ _ _ _ _ c.in_ok-arg-3.ensures second c.only.ensures refl in
     let made : (rule_of c.report.result).is_simple ≡ true = ap (λ (r : Rule). r.is_simple) c.report.ensures.2 in
     let fourth = one_more _ _ _ _ _ c.in_ok-arg-4.ensures third refl made in
-    let fifth = one_more _ _ _ _ _ c.in_ok-arg-5.ensures fourth c.essential.ensures refl in
-    IfOk-weaker c.arg-6.result _ _ (λ m h. is_command m _ c.report.ensures (one_more _ _ _ _ _ h fifth c.file.ensures refl)) c.arg-6.ensures
+    let formed : (rule_of c.form.result).is_simple ≡ true = ap (λ (r : Rule). r.is_simple) c.form.ensures.2 in
+    let fifth = one_more _ _ _ _ _ c.in_ok-arg-5.ensures fourth refl formed in
+    let sixth = one_more _ _ _ _ _ c.in_ok-arg-6.ensures fifth c.essential.ensures refl in
+    IfOk-weaker c.arg-7.result _ _ (λ m h. is_command m _ _ c.report.ensures c.form.ensures (one_more _ _ _ _ _ h sixth c.file.ensures refl)) c.arg-7.ensures

@@ -6,7 +6,7 @@ use Rattle.mm_spec.specs.Scope.{those, statement_at}
 use Rattle.mm_spec.specs.Output.{columns, has_typecode, is_column}
 use Rattle.mm_cites.specs.Citing.{IsRising}
 use Rattle.mm_cites.proofs.RisingLaw.{those-at, those-rising}
-use Rattle.mm_rows.proofs.ColumnFacts.{those-snoc, columns-are}
+use Rattle.mm_rows.proofs.ColumnFacts.{those-snoc, columns-are, axiom-asserts}
 use Rattle.mm_rows.proofs.columns.Columns.new.Goals as goal
 use Rattle.mm_rows.proofs.columns.Columns.new.Goals.{then-is_chosen+in_ok-push, else-is_chosen}
 
@@ -16,8 +16,8 @@ is_chosen-requires g c =
     let p = λ (j : ℕ). list_any (is_column None) (statement_at db j) in
     let i = c.loop-statement.statement-index in
     let there : i < length c.axioms-axioms.result.now = omega arith in
-    subst (λ (l : List ℕ). list_any (is_column None) (statement_at db (get_or l i 0)) ≡ true) (sym c.axioms-axioms.ensures.axioms)
-    (those-at p (range_with_len 0 (length db)) i 0 (subst (λ (l : List ℕ). i < length l) c.axioms-axioms.ensures.axioms there))
+    axiom-asserts db (get_or c.axioms-axioms.result.now i 0) (subst (λ (l : List ℕ). list_any (is_column None) (statement_at db (get_or l i 0)) ≡ true) (sym c.axioms-axioms.ensures.axioms)
+    (those-at p (range_with_len 0 (length db)) i 0 (subst (λ (l : List ℕ). i < length l) c.axioms-axioms.ensures.axioms there)))
 
 pub loop-statement-preserved : goal.loop-statement-preserved
 loop-statement-preserved g c =

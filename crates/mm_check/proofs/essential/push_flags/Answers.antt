@@ -1,0 +1,12 @@
+use Rattle.std.proofs.Common.{ℕ, ◌≤◌, ◌++◌, ◌&&◌, length, List, map, ap, ◌∙◌, arith}
+use Rattle.std.specs.List.{list_any}
+use Rattle.std.proofs.lemmas.List.{take_all}
+use Rattle.mm_spec.specs.Scope.{statement_at}
+use Rattle.mm_spec.specs.Frame.{is_essential}
+use Rattle.mm_check.proofs.essential.push_flags.Goals as goal
+
+pub returns : goal.returns
+returns g c =
+    let hs = c.hyps-h-items.result.now in
+    let all : length hs ≤ c.loop-h.h-index = omega (arith, c.loop-h-test.false) in
+    c.loop-h.invariant ∙ ap (λ (ks : List ℕ). c.args.waiting.now.items ++ map (λ h. c.args.is_essential && list_any is_essential (statement_at c.args.db.now.statements h)) ks) (take_all c.loop-h.h-index hs all ∙ c.hyps-h-items.ensures.are)

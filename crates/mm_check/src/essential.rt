@@ -1,0 +1,196 @@
+//! The assertions that essential nodes of a proof have as their labels.
+
+ghost use Rattle.std.specs.Prelude.{◌≡◌, ◌<◌, ◌++◌, ◌∷◌, ◌||◌, ◌&&◌, [], ℕ, length, replicate, true, false, Decides, OnOk};
+ghost use Rattle.std.specs.List.{list_any};
+ghost use Rattle.mm_spec.specs.Scope.{statement_at};
+ghost use Rattle.mm_spec.specs.Frame.{is_essential as is_essential_statement};
+ghost use Rattle.mm_spec.specs.Derivation.{Trees, is_member};
+ghost use Rattle.mm_spec.specs.Citation.{context_at, steps_at, IsProof, Cites};
+ghost use Rattle.mm_spec.specs.Complete.{AreComplete};
+ghost use Rattle.mm_spec.proofs.Steps.{AreGoodSteps};
+ghost use Rattle.mm_proof.specs.Read.{step_of, IsEarlier};
+ghost use Rattle.mm_check.specs.Contract.{is_assertion_at, is_labelled_step, labels};
+ghost use Rattle.mm_check.specs.Flags.{child_flags, taken_flags, wanted_flags};
+ghost use Rattle.mm_check.specs.Reached.{steps_of};
+
+use crate::frames::{hyps, is_assertion, is_essential_hypothesis};
+use crate::machine::empty;
+use crate::noted::cite;
+use mm_proof::{Step, Steps};
+use mm_stmt::Database;
+use std::alloc::{AllocError, Allocator};
+
+/// Which entries and which steps are essential, while the steps of a proof are gone through from the last to the first.
+/// It is kept from proof to proof for its memory.
+#[derive(Drop)]
+pub struct Flags<A: Allocator> {
+    /// Of each entry that stands on the stack behind a step, from the lowest to the top: whether it is essential.
+    waiting: Vec<bool, A>,
+    /// Of each step: whether an essential later one takes up the subproof that it ended.
+    wanted: Vec<bool, A>,
+}
+
+impl<A: Allocator> Flags<A> {
+    /// No flags.
+    pub fn new(alloc: A) -> Self
+    where
+        A: Copy,
+    {
+        Flags {
+            waiting: Vec::new(alloc),
+            wanted: Vec::new(alloc),
+        }
+    }
+
+    /// Leaves those of the noted assertions that are cited: all, or the labels of essential nodes alone.
+    pub fn choose(
+        &mut self,
+        db: &Database<A>,
+        theorem: u32,
+        steps: &Steps<A>,
+        essential: bool,
+        noted: &mut Vec<u32, A>,
+        places: &mut [u32],
+    ) -> Result<(), AllocError>
+        requires complete { AreComplete db.now.statements }
+        requires steps { steps.now.steps ≡ steps_at db.now.statements theorem }
+        requires usable { AreGoodSteps (context_at db.now.statements theorem) 0 (steps_of steps.now.steps) }
+        requires valid { (d : Trees) × IsProof db.now.statements theorem d }
+        requires noted { (a : ℕ) → Decides (is_member noted.old.items a) (Cites db.now.statements false theorem a) }
+        ensures { OnOk result ((a : ℕ) → Decides (is_member noted.new.items a) (Cites db.now.statements essential theorem a)) }
+    {
+        if essential {
+            walk_back(
+                db,
+                theorem,
+                steps,
+                noted,
+                places,
+                &mut self.waiting,
+                &mut self.wanted,
+            )
+        } else {
+            Ok(())
+        }
+    }
+}
+
+/// One entry, which is essential, and so many steps that none takes up.
+fn restart<A: Allocator>(
+    count: usize,
+    waiting: &mut Vec<bool, A>,
+    wanted: &mut Vec<bool, A>,
+) -> Result<(), AllocError>
+    ensures waiting { OnOk result (waiting.new.items ≡ true ∷ []) }
+    ensures wanted { OnOk result (wanted.new.items ≡ replicate count false) }
+{
+    empty(waiting);
+    empty(wanted);
+    waiting.push(true)?;
+    wanted.resize(count, false)
+}
+
+/// Takes the flag on top.
+fn pop_flag<A: Allocator>(waiting: &mut Vec<bool, A>) -> bool
+    requires { 0 < length waiting.old.items }
+    ensures { waiting.old.items ≡ waiting.new.items ++ result ∷ [] }
+{
+    match waiting.pop() {
+        Some(flag) => flag,
+        None => false,
+    }
+}
+
+/// Whether the child for a hypothesis is essential: its parent is, and the hypothesis is a `$e`.
+fn flag_for<A: Allocator>(db: &Database<A>, h: u32, is_essential: bool) -> bool
+    requires { h < length db.now.statements }
+    ensures { result ≡ (is_essential && list_any is_essential_statement (statement_at db.now.statements h)) }
+{
+    is_essential && is_essential_hypothesis(db, h)
+}
+
+/// Puts a flag on top for each child of a node with an assertion's label, by whether the node is essential.
+fn push_flags<A: Allocator>(
+    db: &Database<A>,
+    k: u32,
+    is_essential: bool,
+    waiting: &mut Vec<bool, A>,
+) -> Result<(), AllocError>
+    requires { is_assertion_at db.now.statements k ≡ true }
+    ensures { OnOk result (waiting.new.items ≡ waiting.old.items ++ child_flags db.now.statements is_essential k) }
+{
+    for h in hyps(db, k) {
+        waiting.push(flag_for(db, *h, is_essential))?;
+    }
+    Ok(())
+}
+
+/// Undoes a step, whose own flag was taken: puts the flags of the entries that it took. Where the step is essential, its
+/// assertion is noted, or the step whose subproof it takes up is wanted.
+fn undo<A: Allocator>(
+    db: &Database<A>,
+    step: Step,
+    is_essential: bool,
+    noted: &mut Vec<u32, A>,
+    places: &mut [u32],
+    waiting: &mut Vec<bool, A>,
+    wanted: &mut [bool],
+) -> Result<(), AllocError>
+    requires known { labels (step_of step) (length db.now.statements) }
+    requires earlier { IsEarlier (step_of step) (length wanted.old) }
+    ensures noted { OnOk result ((a : ℕ) → is_member noted.new.items a ≡ (is_member noted.old.items a || (is_essential && (is_labelled_step (step_of step) a && is_assertion_at db.now.statements a)))) }
+    ensures waiting { OnOk result (waiting.new.items ≡ waiting.old.items ++ taken_flags db.now.statements is_essential (step_of step)) }
+    ensures wanted { OnOk result (wanted.new ≡ wanted_flags is_essential (step_of step) wanted.old) }
+{
+    if is_essential {
+        cite(db, step, noted, places)?;
+    }
+    match step {
+        Step::Label(k) => {
+            if is_assertion(db, k) {
+                push_flags(db, k, is_essential, waiting)?;
+            }
+        }
+        Step::Marked(j) => {
+            if is_essential {
+                wanted[j as usize] = true;
+            }
+        }
+    }
+    Ok(())
+}
+
+/// Notes the assertions of essential nodes, in one pass back over the steps: so at each step it is known whether the entry
+/// that it put is essential, and whether an essential later step takes its subproof up.
+fn walk_back<A: Allocator>(
+    db: &Database<A>,
+    theorem: u32,
+    steps: &Steps<A>,
+    noted: &mut Vec<u32, A>,
+    places: &mut [u32],
+    waiting: &mut Vec<bool, A>,
+    wanted: &mut Vec<bool, A>,
+) -> Result<(), AllocError>
+    requires complete { AreComplete db.now.statements }
+    requires steps { steps.now.steps ≡ steps_at db.now.statements theorem }
+    requires usable { AreGoodSteps (context_at db.now.statements theorem) 0 (steps_of steps.now.steps) }
+    requires valid { (d : Trees) × IsProof db.now.statements theorem d }
+    ensures { OnOk result ((a : ℕ) → Decides (is_member noted.new.items a) (Cites db.now.statements true theorem a)) }
+{
+    noted.clear();
+    restart(steps.len(), waiting, wanted)?;
+    for i in (0..steps.len()).rev() {
+        let flag = pop_flag(waiting);
+        let is_essential = flag || wanted[i];
+        undo(
+            db,
+            steps.step(i),
+            is_essential,
+            noted,
+            places,
+            waiting,
+            wanted,
+        )?;
+    }
+    Ok(())
+}

@@ -1,0 +1,56 @@
+//! The assertions that were noted as cited.
+
+ghost use Rattle.std.specs.Prelude.{◌≡◌, ◌&&◌, ◌||◌, ℕ, length, true, OnOk};
+ghost use Rattle.std.specs.List.Sorted.{IsStrictlyIncreasing};
+ghost use Rattle.mm_spec.specs.Derivation.{is_member};
+ghost use Rattle.mm_proof.specs.Read.{step_of};
+ghost use Rattle.mm_check.specs.Contract.{is_assertion_at, labels, is_labelled_step};
+
+use crate::frames::is_assertion;
+use crate::rules::put_number;
+use mm_proof::Step;
+use mm_stmt::Database;
+use std::alloc::{AllocError, Allocator};
+
+/// Whether a number stands among the noted ones where it is said to. Of one that doesn't, nothing is known.
+fn is_noted(places: &[u32], noted: &[u32], k: u32) -> bool
+    ensures { result ≡ true → is_member noted.now k ≡ true }
+{
+    let i = k as usize;
+    if i >= places.len() {
+        return false;
+    }
+    let place = places[i] as usize;
+    place < noted.len() && noted[place] == k
+}
+
+/// Notes the assertion that a step applies, unless it stands where the places say.
+pub fn cite<A: Allocator>(
+    db: &Database<A>,
+    step: Step,
+    noted: &mut Vec<u32, A>,
+    places: &mut [u32],
+) -> Result<(), AllocError>
+    requires known { labels (step_of step) (length db.now.statements) }
+    ensures { OnOk result ((a : ℕ) → is_member noted.new.items a ≡ (is_member noted.old.items a || (is_labelled_step (step_of step) a && is_assertion_at db.now.statements a))) }
+{
+    if let Step::Label(k) = step {
+        let is_cited = is_assertion(db, k);
+        if is_cited {
+            if !is_noted(places, noted, k) {
+                put_number(places, k as usize, noted.len());
+                noted.push(k)?;
+            }
+        }
+    }
+    Ok(())
+}
+
+/// Puts the numbers in rising order, each once.
+pub fn tidy<A: Allocator>(noted: &mut Vec<u32, A>)
+    ensures rising { IsStrictlyIncreasing noted.new.items }
+    ensures same { (a : ℕ) → is_member noted.new.items a ≡ is_member noted.old.items a }
+{
+    noted.sort_unstable();
+    noted.dedup();
+}

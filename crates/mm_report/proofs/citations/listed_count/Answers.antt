@@ -1,0 +1,21 @@
+use Rattle.std.proofs.Common.{◌≡◌, ◌<◌, length, sym, ◌∙◌, ap, arith, ℕ}
+use Rattle.std.specs.Option.{option_map}
+use Rattle.std.proofs.lemmas.List.{take_all}
+use Rattle.mm_report.specs.Rows.{listed}
+use Rattle.mm_report.proofs.CitationFacts.{count_more, count_same}
+use Rattle.mm_report.proofs.citations.listed_count.Goals as goal
+use Rattle.mm_report.proofs.citations.listed_count.Goals.{then-is_chosen, else-is_chosen}
+
+pub loop-statement-preserved : goal.loop-statement-preserved
+loop-statement-preserved g c =
+    let db = c.args.database.now.statements in
+    let only = option_map (λ w. w.now) c.args.only in
+    let cited = c.args.cited.now in
+    let i = c.loop-statement.statement-index in
+    let l : i < length cited = c.loop-statement-test.true in
+    let n = c.loop-statement.invariant.counted in
+    let few = c.loop-statement.invariant.few in
+    elim c.if-is_chosen.branch [
+      | then-is_chosen w ↦ let more = count_more db only cited i l (sym c.is_chosen.ensures ∙ w.if-is_chosen.true) in rw w.count-is (record { few = omega (arith, few); counted = omega (arith, n, more) })
+      | else-is_chosen w ↦ let same = count_same db only cited i l (sym c.is_chosen.ensures ∙ w.if-is_chosen.false) in rw w.count-is (record { few = omega (arith, few); counted = omega (arith, n, same) })
+    ]

@@ -1,0 +1,42 @@
+//! The marks of a theorem as hexadecimal digits.
+
+ghost use Rattle.std.specs.Prelude.{◌<◌};
+ghost use Rattle.mm_spec.specs.Report.{cells};
+ghost use Rattle.mm_spec.specs.declared.Form.TheVariants.{Two};
+ghost use Rattle.mm_report.specs.Sent.{Sent};
+ghost use Rattle.mm_report.specs.Rows.{marks_of};
+
+use crate::sink::Sink;
+use mm_rows::Matrix;
+use std::alloc::Allocator;
+use std::io::Write;
+
+/// How many words of marks are written at a time.
+const WORDS: u32 = 32;
+
+/// How many digits these words have.
+const DIGITS: usize = 16 * WORDS as usize;
+
+/// Sends a theorem's digits, those of some words at a time.
+pub(crate) fn send_digits<W: Write, A: Allocator>(
+    sink: &mut Sink,
+    to: &mut W,
+    matrix: &Matrix<A>,
+    i: u32,
+)
+    requires { i < matrix.now.rows }
+    ensures { Sent (W.contents to.old) (W.contents to.new) sink.old sink.new (cells Two (marks_of matrix.now i)) }
+{
+    let mut digits = [b'0'; DIGITS];
+    let words = matrix.columns().div_ceil(64);
+    let mut word = 0u32;
+    while word < words {
+        let count = (words - word).min(WORDS);
+        let part = &mut digits[..16 * count as usize];
+        matrix.write_digits(i, word, part);
+        // The last word may have columns past the last one.
+        let left = matrix.columns().div_ceil(4) - 16 * word;
+        sink.send(to, &part[..left.min(16 * count) as usize]);
+        word += count;
+    }
+}

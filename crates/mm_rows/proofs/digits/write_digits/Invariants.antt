@@ -1,0 +1,5 @@
+use Rattle.mm_rows.proofs.DigitFacts.{AreDigits}
+use Rattle.mm_rows.proofs.digits.write_digits.Given as goal
+
+abbrev pub invariant-loop-w : goal.invariant-loop-w
+invariant-loop-w l = AreDigits l.words l.into l.w

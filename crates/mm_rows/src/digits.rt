@@ -1,0 +1,46 @@
+//! Rows of marks as hexadecimal digits: a digit has four columns, the first of them as its highest bit. A word has 16 digits,
+//! which are made side by side.
+
+ghost use Rattle.std.specs.Prelude.{◌≡◌, ◌<◌, ◌*◌, ◌/◌, ◌%◌, ℕ, length, slice_index};
+ghost use Rattle.mm_spec.specs.Report.{hex_digit};
+ghost use Rattle.mm_rows.specs.Bits.{four_at};
+
+use std::simd::prelude::*;
+
+/// The number of four columns, by what they are as the lowest bits of a word: there the first column is the lowest bit.
+const NUMBERS: [u8; 16] = [0, 8, 4, 12, 2, 10, 6, 14, 1, 9, 5, 13, 3, 11, 7, 15];
+
+/// The same numbers as hexadecimal digits.
+const DIGITS: [u8; 16] = [
+    b'0', b'8', b'4', b'c', b'2', b'a', b'6', b'e', b'1', b'9', b'5', b'd', b'3', b'b', b'7', b'f',
+];
+
+/// The number of the four columns of digit k of a word.
+pub fn number(word: u64, k: usize) -> u8
+    requires { k < 16 }
+    ensures { result ≡ four_at word k }
+{
+    NUMBERS[((word >> (4 * k)) & 15) as usize]
+}
+
+/// The digits of a word.
+#[inline(always)]
+fn word_digits(word: u64) -> u8x16
+    ensures length { length result ≡ 16 }
+    ensures each { (k : ℕ) → k < 16 → slice_index result k ≡ hex_digit (four_at word k) }
+{
+    let places = u64x16::from_array([0, 4, 8, 12, 16, 20, 24, 28, 32, 36, 40, 44, 48, 52, 56, 60]);
+    let fours = (u64x16::splat(word) >> places) & u64x16::splat(15);
+    u8x16::from_array(DIGITS).swizzle_dyn(fours.cast::<u8>())
+}
+
+/// Writes the digits of words.
+pub fn write_digits(into: &mut [u8], words: &[u64])
+    requires { length into.old ≡ 16 * length words.now }
+    ensures length { length into.new ≡ length into.old }
+    ensures each { (i : ℕ) → i < length into.old → slice_index into.new i ≡ hex_digit (four_at (slice_index words.now (i / 16)) (i % 16)) }
+{
+    for (w, word) in words.iter().enumerate() {
+        word_digits(*word).copy_to_slice(&mut into[16 * w..]);
+    }
+}
