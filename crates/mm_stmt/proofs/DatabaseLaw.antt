@@ -1,5 +1,5 @@
 -- What the outline of a statement says of it.
-use Rattle.std.proofs.Common.{◌≡◌, ℕ, zero, suc, ◌+◌, ◌-◌, ◌<◌, Bool, true, false, ◌&&◌, List, [], ◌∷◌, length, map, get_or, slice_get, Option, Some, None, refl, sym, ap, ◌∙◌, subst, arith, if◌then◌else◌}
+use Rattle.std.proofs.Common.{◌≡◌, ℕ, zero, suc, ◌+◌, ◌-◌, ◌<◌, ◌≤◌, Bool, true, false, ◌&&◌, List, [], ◌∷◌, length, map, get_or, slice_get, Option, Some, None, refl, sym, ap, ◌∙◌, subst, arith, if◌then◌else◌}
 use Rattle.std.specs.Option.{option_map, option_and_then}
 use Rattle.std.specs.List.{list_any}
 use Rattle.std.proofs.lemmas.List.{length-map}
@@ -111,3 +111,14 @@ no_proof (Some (axiomatic l k xs d)) x h n = refl
 no_proof (Some (provable l k xs e ps d)) x h n = let is : kind.Theorem ≡ x = cc in absurd (n (sym is))
 no_proof (Some (opening k)) x h n = refl
 no_proof (Some (closing k)) x h n = refl
+
+-- behind the last statement is none
+pub none_there : (p : Statement → Bool) (db : List Statement) (k : ℕ) → length db ≤ k → list_any p (statement_at db k) ≡ false
+none_there p [] zero h = refl
+none_there p [] (suc k) h = refl
+none_there p (s ∷ db) zero h = absurd (omega arith)
+none_there p (s ∷ db) (suc k) h = none_there p db k (omega arith)
+
+pub no_and : (b : Bool) → (b && false) ≡ false
+no_and true = refl
+no_and false = refl

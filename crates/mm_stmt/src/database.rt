@@ -99,11 +99,13 @@ impl<'a, A: Allocator> Database<'a, A> {
         self.kinds[statement as usize]
     }
 
-    /// Whether a statement is an open theorem that counts as an axiom.
+    /// Whether there is such a statement and it is an open theorem that counts as an axiom.
     pub fn is_open(&self, statement: u32) -> bool
-        requires { statement < length self.now.statements }
         ensures { result ≡ (self.now.with_open && list_any is_open (statement_at self.now.read statement)) }
     {
+        if statement >= self.len() {
+            return false;
+        }
         let outline = self.outlines[statement as usize];
         counts_otherwise(outline.kind, self.kind(statement))
     }
