@@ -11,6 +11,7 @@ ghost use Rattle.std.specs.Prelude.{◌+◌, ◌-◌, ℕ, Some, if◌then◌els
 ghost use Rattle.mm_spec.specs.Text.{is_in, words};
 ghost use Rattle.mm_scope.specs.Judge.{declared_entry, entry_of, typed_entry};
 ghost use Rattle.mm_outline.specs.Parts.{AreWords, between, token_at, IsOutline, depth_behind, statement_of};
+ghost use Rattle.mm_outline.specs.Tokens.{AreTokens};
 ghost use Rattle.mm_scope.specs.Known.{entry_after, label_after};
 ghost use Rattle.mm_outline.specs.Statements.{active_kind, end_fault_of, lexed, statements};
 ghost use Rattle.mm_scope.specs.Keeps.{Keeps, IsKept, MayTake, kept_by};
@@ -155,6 +156,7 @@ pub fn outline<'a, A: Allocator + Copy>(
     lexical: Option<Fault>,
 ) -> Result<Outlined<'a, A>, AllocError>
     requires words { AreWords text.now tokens.now }
+    requires tokens { AreTokens text.now tokens.now }
     requires few { length tokens.now < 2 ^ 31 }
     requires short { lexical ≡ None → length text.now < 2 ^ 31 }
     ensures few { IfOk result (λ d. length d.outlines.items < 2 ^ 31) }

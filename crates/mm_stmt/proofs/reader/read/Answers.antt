@@ -6,7 +6,8 @@ use Rattle.mm_outline.specs.Blocks.{lists}
 use Rattle.mm_outline.specs.Numbered.{AreNumbered, AreSymbols}
 use Rattle.mm_outline.specs.Parts.{AreWords, statement_of}
 use Rattle.mm_outline.specs.Statements.{statements}
-use Rattle.mm_outline.proofs.TokensLaw.{tokens_stand, tokens_small, short_text}
+use Rattle.mm_outline.specs.Tokens.{AreTokens}
+use Rattle.mm_outline.proofs.TokensLaw.{tokens_stand, tokens_tell, tokens_small, short_text}
 use Rattle.mm_scope.specs.Names.{find, names_of}
 use Rattle.mm_scope.proofs.NumberedLaw.{formulas-numbered}
 use Rattle.mm_frame.specs.Tables.{IsSound}
@@ -18,6 +19,9 @@ use Rattle.mm_stmt.proofs.reader.read.Goals as goal
 
 pub outline-requires-clause-words : goal.outline-requires-clause-words
 outline-requires-clause-words g c = subst (AreWords c.args.text.now) (sym (c.deref.ensures.value ∙ c.requires.tokens)) (tokens_stand c.args.text.now)
+
+pub outline-requires-clause-tokens : goal.outline-requires-clause-tokens
+outline-requires-clause-tokens g c = subst (AreTokens c.args.text.now) (sym (c.deref.ensures.value ∙ c.requires.tokens)) (tokens_tell c.args.text.now)
 
 pub outline-requires-clause-few : goal.outline-requires-clause-few
 outline-requires-clause-few g c = subst (λ (ws : List Word). length ws < 2 ^ 31) (sym (c.deref.ensures.value ∙ c.requires.tokens)) (tokens_small c.args.text.now)
