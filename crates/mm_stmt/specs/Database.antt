@@ -73,6 +73,7 @@ pub record Fields : Type 0 where
   pub variables : List Bool
   pub numbers : List ℕ
   pub places : List ℕ
+  pub frame_places : List ℕ
   pub hyps : List (List ℕ)
   pub pairs : List (List Pair)
   pub members : List (ℕ × ℕ)
@@ -82,8 +83,8 @@ pub record Fields : Type 0 where
   pub label_bytes : List ℕ
   pub label_starts : List ℕ
 
-abbrev pub fields : Lists → (List ℕ → Option ℕ) → List (List ℕ) → List Bool → List ℕ → List ℕ → List (List ℕ) → List (List Pair) → List (ℕ × ℕ) → List ℕ → List ℕ → List ℕ → List ℕ → List ℕ → Fields
-fields b f ns vs xs ps hs ds ms ks ts cs bs ss = record { blocks = b; find = f; names = ns; variables = vs; numbers = xs; places = ps; hyps = hs; pairs = ds; members = ms; skips = ks; theorems = ts; axioms = cs; label_bytes = bs; label_starts = ss }
+abbrev pub fields : Lists → (List ℕ → Option ℕ) → List (List ℕ) → List Bool → List ℕ → List ℕ → List ℕ → List (List ℕ) → List (List Pair) → List (ℕ × ℕ) → List ℕ → List ℕ → List ℕ → List ℕ → List ℕ → Fields
+fields b f ns vs xs ps fs hs ds ms ks ts cs bs ss = record { blocks = b; find = f; names = ns; variables = vs; numbers = xs; places = ps; frame_places = fs; hyps = hs; pairs = ds; members = ms; skips = ks; theorems = ts; axioms = cs; label_bytes = bs; label_starts = ss }
 
 -- the fields are those of the statements, and these are the reading of the text
 pub record IsDatabase (text : List ℕ) (ws : List Word) (os : List Outline) (fault : Option Fault) (f : Fields) : Type 0 where
@@ -95,7 +96,7 @@ pub record IsDatabase (text : List ℕ) (ws : List Word) (os : List Outline) (fa
   pub symbols : AreSymbols (statements text ws os) f.names f.variables
   pub below : (k : ℕ) → k < length os → All (λ s. s < length (symbol_names (statements text ws os))) (formula_at (statements text ws os) k)
   pub numbered : AreNumbered (statements text ws os) f.numbers f.places
-  pub frames : AreFrames (statements text ws os) f.hyps f.pairs
+  pub frames : AreFrames (statements text ws os) f.frame_places f.hyps f.pairs
   pub members_are : AreMembers (statements text ws os) f.blocks f.members f.skips
   pub theorems_are : f.theorems ≡ theorems (statements text ws os)
   pub axioms_are : f.axioms ≡ columns (statements text ws os) None

@@ -15,7 +15,7 @@ ghost use Rattle.mm_outline.specs.Statements.{active_kind};
 ghost use Rattle.mm_stmt.specs.Database.{kind_of, last_place, typecode_of, is_labelled_kind};
 
 use crate::spaced::SpacedLabels;
-use mm_frame::frames::Frame;
+use mm_frame::frames::{Frame, Frames};
 use mm_frame::members::{Members, are_together};
 use mm_outline::blocks::Blocks;
 use mm_outline::parts::{Kind, Outline};
@@ -38,7 +38,7 @@ pub struct Database<'a, A: Allocator> {
     pub(crate) variables: Vec<bool, A>,
     pub(crate) numbers: Vec<Sym, A>,
     pub(crate) places: Vec<u32, A>,
-    pub(crate) frames: Vec<Frame<A>, A>,
+    pub(crate) frames: Frames<A>,
     pub(crate) members: Members<A>,
     pub(crate) theorems: Vec<u32, A>,
     pub(crate) axioms: Vec<u32, A>,
@@ -57,7 +57,7 @@ impl<'a, A: Allocator> Model for Database<'a, A> {
 
     ghost view = { λ d. known d.text.now (statements d.text.now d.words.items d.outlines.items) d.fault };
 
-    ghost invariant = { λ d. IsDatabase d.text.now d.words.items d.outlines.items d.fault (fields (lists d.blocks.of.items d.blocks.ends.items d.blocks.open.items) (find d.labels) (names_of d.symbols) d.variables.items d.numbers.items d.places.items (map (λ f. f.hyps.items) d.frames.items) (map (λ f. map (λ p. pair p.0 p.1) f.pairs.items) d.frames.items) d.members.pairs.items d.members.skips.items d.theorems.items d.axioms.items d.spaced.bytes.items d.spaced.starts.items) };
+    ghost invariant = { λ d. IsDatabase d.text.now d.words.items d.outlines.items d.fault (fields (lists d.blocks.of.items d.blocks.ends.items d.blocks.open.items) (find d.labels) (names_of d.symbols) d.variables.items d.numbers.items d.places.items d.frames.places.items (map (λ f. f.hyps.items) d.frames.list.items) (map (λ f. map (λ p. pair p.0 p.1) f.pairs.items) d.frames.list.items) d.members.pairs.items d.members.skips.items d.theorems.items d.axioms.items d.spaced.bytes.items d.spaced.starts.items) };
 }
 
 impl<'a, A: Allocator> Database<'a, A> {
@@ -190,7 +190,8 @@ impl<'a, A: Allocator> Database<'a, A> {
         ensures hypotheses { result.now.hyps.items ≡ mandatory_hypotheses self.now.statements assertion }
         ensures pairs { map (λ p. pair p.0 p.1) result.now.pairs.items ≡ mandatory_pairs self.now.statements assertion }
     {
-        &self.frames[assertion as usize]
+        let place = self.frames.places[assertion as usize];
+        &self.frames.list[place as usize]
     }
 
     /// Whether a `$d` that is active at the statement, or at the end, has both variables; never a variable and itself.
