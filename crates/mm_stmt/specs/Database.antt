@@ -17,6 +17,8 @@ use Rattle.mm_outline.specs.Statements.{statements}
 use Rattle.mm_outline.specs.Blocks.{Lists, IsBlocks}
 use Rattle.mm_frame.specs.Members.{AreMembers}
 use Rattle.mm_stmt.specs.Spaced.{AreSpaced}
+use Rattle.mm_stmt.specs.Kept.{AreKept}
+pub use Rattle.mm_stmt.specs.Kept.{is_labelled_kind}
 use Rattle.mm_outline.specs.declared.parts.Kind.{Kind}
 use Rattle.mm_outline.specs.declared.parts.Kind.TheVariants as kind
 use Rattle.mm_outline.specs.declared.parts.Outline.{Outline}
@@ -54,19 +56,13 @@ last_place (provable l k xs e ps d) = d
 last_place (opening k) = k
 last_place (closing k) = k
 
--- the kinds of statements that have a label, and so a typecode
-abbrev pub is_labelled_kind : Kind → Bool
-is_labelled_kind kind.Floating = true
-is_labelled_kind kind.Essential = true
-is_labelled_kind kind.Axiom = true
-is_labelled_kind kind.Theorem = true
-is_labelled_kind _ = false
-
 abbrev pub typecode_of : List Statement → ℕ → Option ℕ
 typecode_of db k = if list_any (λ s. is_labelled_kind (kind_of s)) (statement_at db k) then slice_get (formula_at db k) 0 else None
 
 -- what is kept beside the statements
 pub record Fields : Type 0 where
+  pub kept : List Word
+  pub kept_starts : List ℕ
   pub blocks : Lists
   pub find : List ℕ → Option ℕ
   pub names : List (List ℕ)
@@ -83,14 +79,15 @@ pub record Fields : Type 0 where
   pub label_bytes : List ℕ
   pub label_starts : List ℕ
 
-abbrev pub fields : Lists → (List ℕ → Option ℕ) → List (List ℕ) → List Bool → List ℕ → List ℕ → List ℕ → List (List ℕ) → List (List Pair) → List (ℕ × ℕ) → List ℕ → List ℕ → List ℕ → List ℕ → List ℕ → Fields
-fields b f ns vs xs ps fs hs ds ms ks ts cs bs ss = record { blocks = b; find = f; names = ns; variables = vs; numbers = xs; places = ps; frame_places = fs; hyps = hs; pairs = ds; members = ms; skips = ks; theorems = ts; axioms = cs; label_bytes = bs; label_starts = ss }
+abbrev pub fields : List Word → List ℕ → Lists → (List ℕ → Option ℕ) → List (List ℕ) → List Bool → List ℕ → List ℕ → List ℕ → List (List ℕ) → List (List Pair) → List (ℕ × ℕ) → List ℕ → List ℕ → List ℕ → List ℕ → List ℕ → Fields
+fields kept starts b f ns vs xs ps fs hs ds ms ks ts cs bs ss = record { kept = kept; kept_starts = starts; blocks = b; find = f; names = ns; variables = vs; numbers = xs; places = ps; frame_places = fs; hyps = hs; pairs = ds; members = ms; skips = ks; theorems = ts; axioms = cs; label_bytes = bs; label_starts = ss }
 
 -- the fields are those of the statements, and these are the reading of the text
 pub record IsDatabase (text : List ℕ) (ws : List Word) (os : List Outline) (fault : Option Fault) (f : Fields) : Type 0 where
   pub words : AreWords text ws
   pub few : length os < 2 ^ 31
   pub outlines : All (λ o. IsOutline o × (o.end < length ws)) os
+  pub kept_are : AreKept ws os f.kept f.kept_starts
   pub blocks : IsBlocks (statements text ws os) f.blocks
   pub labels : AreLabels (statements text ws os) f.find
   pub symbols : AreSymbols (statements text ws os) f.names f.variables

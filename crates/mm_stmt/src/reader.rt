@@ -5,6 +5,7 @@ ghost use Rattle.mm_spec.specs.Lexed.{tokens_of, lexical_fault};
 ghost use Rattle.mm_spec.specs.Output.{IsRead, lexed_of};
 
 use crate::database::Database;
+use crate::kept::keep_all;
 use crate::spaced::spaced_labels_of;
 use mm_frame::frames::gather;
 use mm_frame::tables::Tables;
@@ -41,9 +42,10 @@ pub fn read<'a, A: Allocator + Copy>(
         &read.scope.blocks,
     )?;
     let spaced = spaced_labels_of(alloc, text, &words, &read.outlines, &beside.theorems)?;
+    let kept = keep_all(alloc, &words, &read.outlines)?;
     Ok(Database {
         text,
-        words,
+        kept,
         outlines: read.outlines,
         fault: read.fault,
         blocks: read.scope.blocks,

@@ -1,6 +1,7 @@
 use Rattle.std.proofs.Common.{◌≡◌, ◌∙◌, ◌<◌, [], length, map, get_or, slice_index, true, sym, ap, subst, arith}
 use Rattle.std.proofs.lemmas.List.{length-map, get_or_default}
 use Rattle.std.specs.List.{list_any}
+use Rattle.mm_spec.specs.Lexed.{tokens_of as words_of}
 use Rattle.mm_spec.specs.Scope.{statement_at}
 use Rattle.mm_spec.specs.Derivation.{pair}
 use Rattle.mm_spec.specs.Citation.{is_assertion}
@@ -13,7 +14,7 @@ use Rattle.mm_stmt.proofs.database.Database.frame.Goals as goal
 pub returns : goal.returns
 returns g c =
     let f = c.self.inside in
-    let db = statements f.text.now f.words.items f.outlines.items in
+    let db = statements f.text.now (words_of f.text.now) f.outlines.items in
     let k = c.args.assertion in
     let fs = f.frames.list.items in
     let ps = f.frames.places.items in
