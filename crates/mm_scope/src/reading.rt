@@ -21,8 +21,7 @@ ghost use Rattle.mm_spec.specs.Scope.{constants_of, variables_of};
 ghost use Rattle.std.specs.Prelude.{◌≢◌};
 
 use crate::formulas::{Formulas, no_formulas};
-use crate::names::{Names, Scope, Symbol};
-use indexmap::IndexMap;
+use crate::names::{Names, Scope, Symbol, no_names};
 use mm_outline::blocks::{NEVER, no_blocks};
 use mm_outline::parts::{Found, Kind, Outline, Part, find};
 use mm_spec::{Code, Fault, Word};
@@ -56,10 +55,7 @@ fn no_scope<'a, A: Allocator + Copy>(alloc: A) -> Result<Scope<'a, A>, AllocErro
     ensures names { IfOk result (λ s. names_of s.names.symbols ≡ []) }
 {
     let blocks = no_blocks(alloc)?;
-    let names = Names {
-        symbols: IndexMap::new(alloc),
-        labels: IndexMap::new(alloc),
-    };
+    let names = no_names(alloc)?;
     Ok(Scope { names, blocks })
 }
 

@@ -27,19 +27,21 @@ pub fn read<'a, A: Allocator + Copy>(
 {
     let words = lexed.tokens;
     let read = outline(alloc, text, &words, lexed.fault)?;
-    let variables = read.scope.names.variables(alloc)?;
+    let names = read.scope.names;
+    let blocks = read.scope.blocks;
+    let variables = names.variables(alloc)?;
     let beside = gather(
         alloc,
         &Tables::new(
             text,
             &words,
             &read.outlines,
-            &read.scope.blocks,
+            &blocks,
             &read.formulas.numbers,
             &read.formulas.places,
             &variables,
         ),
-        &read.scope.blocks,
+        &blocks,
     )?;
     let spaced = spaced_labels_of(alloc, text, &words, &read.outlines, &beside.theorems)?;
     let kept = keep_all(alloc, &words, &read.outlines)?;
@@ -48,9 +50,9 @@ pub fn read<'a, A: Allocator + Copy>(
         kept,
         outlines: read.outlines,
         fault: read.fault,
-        blocks: read.scope.blocks,
-        labels: read.scope.names.labels,
-        symbols: read.scope.names.symbols,
+        blocks,
+        labels: names.labels,
+        symbols: names.symbols,
         variables,
         numbers: read.formulas.numbers,
         places: read.formulas.places,
