@@ -101,13 +101,22 @@ impl<'a, A: Allocator + Copy> Names<'a, A> {
 
     /// The symbol's number, in the order of first declarations, and what is known of it. Where it is none, the number is
     /// how many symbols there are.
+    #[inline(always)]
     pub(crate) fn numbered(&self, word: &[u8]) -> (usize, Option<Symbol<'a>>)
         ensures number { result.0 ≡ place_of word.now (names_of self.now.symbols) }
         ensures symbol { result.1 ≡ find self.now.symbols word.now }
     {
-        if let Some((number, symbol)) = self.guessed(word) {
-            return (number, Some(symbol));
+        match self.guessed(word) {
+            Some((number, symbol)) => (number, Some(symbol)),
+            None => self.looked_up(word),
         }
+    }
+
+    /// The same, by the word's hash.
+    fn looked_up(&self, word: &[u8]) -> (usize, Option<Symbol<'a>>)
+        ensures number { result.0 ≡ place_of word.now (names_of self.now.symbols) }
+        ensures symbol { result.1 ≡ find self.now.symbols word.now }
+    {
         match self.symbols.get_full(word) {
             Some((number, _, symbol)) => (number, Some(*symbol)),
             None => (self.symbols.len(), None),

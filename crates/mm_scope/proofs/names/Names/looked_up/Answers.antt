@@ -6,10 +6,10 @@ use Rattle.mm_scope.specs.Names.{names_of}
 use Rattle.mm_scope.proofs.SymbolsLaw.{found-place, missing-place, keys-in}
 use Rattle.std.proofs.lemmas.Map.Made.{is_some-lookup}
 use Rattle.mm_scope.proofs.NumberedLaw.{map-len}
-use Rattle.mm_scope.proofs.names.Names.numbered.Goals as goal
+use Rattle.mm_scope.proofs.names.Names.looked_up.Goals as goal
 
-pub returns-in-Some-get_full-clause-number : goal.returns-in-Some-get_full-clause-number
-returns-in-Some-get_full-clause-number g c = found-place c.args.word.now (keys c.args.self.now.symbols) c.in-Some-get_full.number (sym c.in-Some-get_full.ensures.index)
+pub returns-in-Some-clause-number : goal.returns-in-Some-clause-number
+returns-in-Some-clause-number g c = found-place c.args.word.now (keys c.args.self.now.symbols) c.in-Some.number (sym c.in-Some.ensures.index)
 
 pub returns-in-None-clause-number : goal.returns-in-None-clause-number
 returns-in-None-clause-number g c =
