@@ -1,8 +1,7 @@
 -- Words behind a keyword are passed over.
-use Rattle.std.proofs.Common.{◌≡◌, ℕ, zero, suc, ◌+◌, ◌-◌, ◌<◌, ◌≤◌, Bool, true, false, List, [], ◌∷◌, length, refl, sym, ap, ◌∙◌, subst, arith, nat_lt}
+use Rattle.std.proofs.Common.{◌≡◌, ℕ, zero, suc, ◌+◌, ◌-◌, ◌<◌, ◌≤◌, true, false, List, [], ◌∷◌, length, refl, sym, ap, ◌∙◌, subst, arith, nat_lt}
 use Rattle.mm_spec.specs.Text.{has_dollar}
 use Rattle.mm_spec.specs.Table as table
-use Rattle.mm_spec.specs.Text.{is_label}
 use Rattle.mm_spec.specs.declared.Word.{Word}
 use Rattle.mm_outline.specs.Parts.{reading, token_at, IsPart}
 use Rattle.mm_outline.specs.Found.{Leads, behind}
@@ -10,7 +9,7 @@ use Rattle.mm_outline.specs.declared.words.Class.TheVariants.{Plain}
 use Rattle.mm_outline.specs.declared.parts.Part.{Part}
 use Rattle.mm_outline.specs.declared.parts.Part.TheVariants.{Start, Labelled, Words, Formula, Proof}
 use Rattle.mm_outline.proofs.Turns.{step_same}
-use Rattle.mm_outline.proofs.Leads.{leads-none, goes-go, leads-then, leads-go, behind-one}
+use Rattle.mm_outline.proofs.Leads.{leads-none, leads-then, leads-go, behind-one}
 
 -- a part behind a keyword
 abbrev pub TakesWords : Part → Type 0

@@ -1,26 +1,10 @@
 -- Symbols in the order of their first declarations.
-use Rattle.std.proofs.Common.{nat_lt, ◌≡◌, ℕ, zero, suc, ◌+◌, ◌<◌, ◌≤◌, Bool, true, false, ◌||◌, ◌&&◌, not, List, [], ◌∷◌, ◌++◌, length, get_or, slice_get, Some, None, bytes_eq, refl, sym, ap, ap₂, ◌∙◌, subst, arith, true≢false, append-nil, if◌then◌else◌, map, Bor, cond, ◌⊎◌, ◌≢◌, inl, inr, length-append, append_assoc, flat_map, take}
-use Rattle.std.proofs.Math.ListN.{set, length-set}
+use Rattle.std.proofs.Common.{nat_lt, ◌≡◌, ℕ, zero, suc, ◌+◌, Bool, true, false, ◌||◌, ◌&&◌, not, List, [], ◌∷◌, ◌++◌, length, slice_get, Some, None, bytes_eq, refl, sym, ap, ap₂, ◌∙◌, arith, true≢false, if◌then◌else◌, map, Bor, cond}
 use Rattle.std.proofs.lemmas.List.Recursion.{is_position_or_len}
 use Rattle.std.proofs.lemmas.List.Folds.{list_any-append}
-use Rattle.std.proofs.lemmas.List.{map-append, take_more, get_or_append_left, get_or_push, get_or-set_same, get_or-set_other}
-use Rattle.std.proofs.lemmas.Option.{slice_get_within, slice_get-get_or}
-use Rattle.std.proofs.lemmas.Bool.{cases_lt, cases_eq}
-use Rattle.mm_spec.proofs.Local.{get-front, get-seam}
 use Rattle.std.specs.List.{list_any, position_or_len, position}
 use Rattle.std.proofs.lemmas.Slice.Eq.{bytes_eq-Decides}
-use Rattle.mm_spec.specs.Text.{Word, Token, is_in, words}
-use Rattle.mm_spec.specs.declared.Word as place
-use Rattle.mm_spec.specs.Statement.{Statement}
-use Rattle.mm_spec.specs.Scope.{constants_of, variables_of}
-use Rattle.mm_outline.specs.Parts.{between, token_at, statement_of, made}
-use Rattle.mm_outline.specs.Statements.{statements}
-use Rattle.mm_outline.specs.Numbered.{AreSymbols}
-use Rattle.mm_outline.specs.declared.parts.Kind.{Kind}
-use Rattle.mm_outline.specs.declared.parts.Kind.TheVariants as kind
-use Rattle.mm_outline.specs.declared.parts.Outline.{Outline}
-use Rattle.std.proofs.lemmas.Grind.{flat_map-append}
-use Rattle.mm_outline.proofs.Turns.{between-more, between-none}
+use Rattle.mm_spec.specs.Text.{Word, is_in}
 use Rattle.mm_spec.specs.Frame.{first_occurrences, place_of}
 use Rattle.mm_scope.specs.Names.{are_distinct, with_name}
 

@@ -1,17 +1,14 @@
 -- What the outline of a statement says of it.
-use Rattle.std.proofs.Common.{◌≡◌, ℕ, zero, suc, ◌+◌, ◌-◌, ◌<◌, ◌≤◌, Bool, true, false, List, [], ◌∷◌, length, map, get_or, slice_get, Option, Some, None, refl, sym, ap, ◌∙◌, arith, if◌then◌else◌}
+use Rattle.std.proofs.Common.{◌≡◌, ℕ, ◌+◌, ◌-◌, ◌<◌, ◌≤◌, List, [], length, get_or, slice_get, Option, Some, None, refl, sym, ap, ◌∙◌, arith, if◌then◌else◌}
 use Rattle.std.specs.Option.{option_map, option_and_then}
-use Rattle.std.specs.List.{list_any}
 use Rattle.std.proofs.lemmas.List.{length-map}
-use Rattle.mm_spec.specs.Statement.{Statement, label_of, proof_of}
-use Rattle.mm_spec.specs.Scope.{statement_at}
+use Rattle.mm_spec.specs.Statement.{label_of, proof_of}
 use Rattle.mm_spec.specs.declared.Word.{Word}
 use Rattle.mm_outline.proofs.StatementsLaw.{statement_is}
 use Rattle.mm_outline.specs.Parts.{AreWords, between, word_at, token_at, made, statement_of, HasEnd, IsOutline}
 use Rattle.mm_outline.specs.Statements.{statements}
 use Rattle.mm_spec.specs.declared.Fault.{Fault}
 use Rattle.mm_stmt.specs.Database.{last_place, is_labelled_kind, Known, known}
-use Rattle.mm_outline.proofs.ActiveLaw.{get_map}
 use Rattle.mm_outline.specs.declared.parts.Kind.{Kind}
 use Rattle.mm_outline.specs.declared.parts.Kind.TheVariants as kind
 use Rattle.mm_outline.specs.declared.parts.Outline.{Outline}

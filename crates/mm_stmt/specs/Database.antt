@@ -1,13 +1,12 @@
 -- What a database of statements is to those who read it, and what its fields keep.
-use Rattle.std.specs.Prelude.{◌≡◌, ℕ, ◌+◌, ◌<◌, ◌≤◌, ◌^◌, Bool, true, false, List, [], length, map, slice_range, slice_index, slice_get, get_or, if◌then◌else◌, All, Option, None}
+use Rattle.std.specs.Prelude.{◌≡◌, ℕ, ◌<◌, ◌^◌, Bool, List, length, map, slice_get, if◌then◌else◌, All, Option, None}
 use Rattle.std.specs.List.{list_any}
 use Rattle.mm_spec.specs.declared.Fault.{Fault}
 use Rattle.mm_spec.specs.Statement.{Statement, constants, variables, disjoint, floating, essential, axiomatic, provable, opening, closing}
 use Rattle.mm_spec.specs.Scope.{statement_at}
 use Rattle.mm_spec.specs.Derivation.{Pair}
-use Rattle.mm_spec.specs.Frame.{symbol_names, is_variable, formula_at, mandatory_hypotheses, mandatory_pairs}
+use Rattle.mm_spec.specs.Frame.{symbol_names, formula_at}
 use Rattle.mm_scope.specs.Labels.{AreLabels}
-use Rattle.mm_spec.specs.Citation.{is_assertion}
 use Rattle.mm_spec.specs.Output.{IsRead, lexed_of, theorems, columns, label_at}
 use Rattle.mm_spec.specs.declared.Word.{Word}
 use Rattle.mm_outline.specs.Numbered.{AreNumbered, AreSymbols}

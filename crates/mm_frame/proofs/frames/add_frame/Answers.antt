@@ -1,7 +1,6 @@
-use Rattle.std.proofs.Common.{◌≡◌, ◌∙◌, ◌++◌, ◌∷◌, ◌+◌, ℕ, List, [], map, length, sym, ap, subst, arith}
+use Rattle.std.proofs.Common.{◌≡◌, ◌∙◌, ◌++◌, ◌∷◌, [], map, length, sym, ap, arith}
 use Rattle.std.proofs.lemmas.List.{map-append, length-map}
 use Rattle.mm_spec.specs.Derivation.{pair}
-use Rattle.mm_frame.specs.Frames.{AreFramesUpTo}
 use Rattle.mm_frame.proofs.FramesLaw.{frames_more, frames_pass}
 use Rattle.mm_frame.proofs.frames.add_frame.Goals as goal
 

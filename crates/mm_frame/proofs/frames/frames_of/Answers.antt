@@ -1,4 +1,4 @@
-use Rattle.std.proofs.Common.{◌∙◌, ◌≡◌, ℕ, length, map, ap, subst, arith}
+use Rattle.std.proofs.Common.{◌≡◌, length, map, subst, arith}
 use Rattle.mm_spec.specs.Derivation.{pair}
 use Rattle.mm_frame.specs.Frames.{AreFramesUpTo}
 use Rattle.mm_frame.proofs.frames.frames_of.Goals as goal

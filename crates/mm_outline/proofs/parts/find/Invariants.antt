@@ -1,4 +1,4 @@
-use Rattle.std.proofs.Common.{◌≤◌, ◌-◌, ℕ, [], length}
+use Rattle.std.proofs.Common.{◌≤◌, ◌-◌, [], length}
 use Rattle.mm_spec.specs.Table.{start}
 use Rattle.mm_outline.specs.Parts.{IsPart, reading}
 use Rattle.mm_outline.specs.Found.{Leads, behind}

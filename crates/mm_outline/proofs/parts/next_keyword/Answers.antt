@@ -1,4 +1,4 @@
-use Rattle.std.proofs.Common.{◌≡◌, ◌∙◌, ℕ, ◌+◌, ◌<◌, ◌≤◌, false, inl, inr, ◌⊎◌, eq-or-lt_of_le, sym, ap, subst, arith}
+use Rattle.std.proofs.Common.{◌≡◌, ◌∙◌, ℕ, ◌<◌, ◌≤◌, false, inl, inr, ◌⊎◌, eq-or-lt_of_le, sym, arith}
 use Rattle.mm_spec.specs.Text.{has_dollar}
 use Rattle.mm_outline.specs.Parts.{token_at}
 use Rattle.mm_outline.proofs.parts.next_keyword.Goals as goal

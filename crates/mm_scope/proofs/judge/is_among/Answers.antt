@@ -1,4 +1,4 @@
-use Rattle.std.proofs.Common.{◌≡◌, ◌∙◌, ◌<◌, ◌≤◌, ◌||◌, ap, sym, arith, length, []}
+use Rattle.std.proofs.Common.{◌∙◌, ◌||◌, ap, sym, arith, []}
 use Rattle.mm_spec.specs.Text.{is_in}
 use Rattle.mm_outline.specs.Parts.{between, token_at}
 use Rattle.mm_scope.specs.Judge.{before_next}

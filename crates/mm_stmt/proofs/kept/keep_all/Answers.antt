@@ -1,11 +1,10 @@
-use Rattle.std.proofs.Common.{◌≡◌, ◌∙◌, ◌+◌, ◌++◌, ◌∷◌, ◌<◌, ◌≤◌, List, [], length, take, get_or, sym, ap, ap₂, subst, arith}
+use Rattle.std.proofs.Common.{◌≡◌, ◌∙◌, ◌+◌, ◌++◌, ◌∷◌, List, [], length, take, get_or, ap, ap₂, subst, arith}
 use Rattle.std.proofs.lemmas.List.{take_more}
 use Rattle.std.proofs.Math.Seq.{take-length}
-use Rattle.mm_spec.specs.declared.Word.{Word}
 use Rattle.mm_outline.specs.Parts.{outline}
 use Rattle.mm_outline.specs.declared.parts.Kind.TheVariants.{Constants}
 use Rattle.mm_outline.specs.declared.parts.Outline.{Outline}
-use Rattle.mm_stmt.specs.Kept.{AreKept, kept_words}
+use Rattle.mm_stmt.specs.Kept.{AreKept}
 use Rattle.mm_stmt.proofs.KeptLaw.{kept_none, kept_more}
 use Rattle.mm_stmt.proofs.kept.keep_all.Goals as goal
 

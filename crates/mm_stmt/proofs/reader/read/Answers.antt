@@ -3,13 +3,11 @@ use Rattle.std.proofs.lemmas.List.{length-map}
 use Rattle.mm_spec.specs.Lexed.{tokens_of as words_of}
 use Rattle.mm_spec.specs.Output.{theorems, is_theorem_at, columns, label_at}
 use Rattle.mm_spec.specs.declared.Word.{Word}
-use Rattle.mm_outline.specs.Blocks.{lists}
-use Rattle.mm_outline.specs.Numbered.{AreNumbered, AreSymbols}
 use Rattle.mm_outline.specs.Parts.{AreWords, statement_of}
 use Rattle.mm_outline.specs.Statements.{statements}
 use Rattle.mm_outline.specs.Tokens.{AreTokens}
 use Rattle.mm_outline.proofs.TokensLaw.{tokens_stand, tokens_tell, tokens_small, short_text}
-use Rattle.mm_scope.specs.Names.{find, names_of}
+use Rattle.mm_scope.specs.Names.{names_of}
 use Rattle.mm_scope.proofs.NumberedLaw.{formulas-numbered}
 use Rattle.mm_frame.specs.Tables.{IsSound}
 use Rattle.mm_stmt.specs.Kept.{AreKept}

@@ -1,7 +1,5 @@
-use Rattle.std.proofs.Common.{◌≡◌, ◌∙◌, sym, ap, map, is_some, false, bytes_eq}
-use Rattle.std.proofs.lemmas.List.{length-map}
+use Rattle.std.proofs.Common.{◌∙◌, sym, ap, is_some, bytes_eq}
 use Rattle.indexmap.specs.IndexMap.{keys}
-use Rattle.mm_spec.specs.Text.{is_in}
 use Rattle.mm_scope.specs.Names.{names_of}
 use Rattle.mm_scope.proofs.SymbolsLaw.{found-place, missing-place, keys-in}
 use Rattle.std.proofs.lemmas.Map.Made.{is_some-lookup}

@@ -1,4 +1,4 @@
-use Rattle.std.proofs.Common.{◌≡◌, ◌∙◌, ◌<◌, ◌-◌, length, get_or, Some, sym, ap, ap₂, subst, slice_get, arith}
+use Rattle.std.proofs.Common.{◌≡◌, ◌∙◌, ◌<◌, ◌-◌, length, get_or, Some, sym, ap, subst, slice_get, arith}
 use Rattle.std.specs.Option.{option_map}
 use Rattle.mm_spec.specs.Lexed.{tokens_of as words_of}
 use Rattle.mm_outline.specs.Parts.{outline}

@@ -1,9 +1,8 @@
 use Rattle.std.proofs.Common.{◌≡◌, ◌∙◌, ◌-◌, ◌<◌, length, get_or, take, drop, true, false, Some, None, sym, ap, subst, slice_get, arith, if◌then◌else◌}
 use Rattle.std.specs.Option.{option_map, option_and_then}
-use Rattle.std.proofs.lemmas.List.{get_or_default}
 use Rattle.mm_spec.specs.Lexed.{tokens_of as words_of}
 use Rattle.mm_spec.specs.Statement.{label_of}
-use Rattle.mm_outline.specs.Parts.{word_at, token_at}
+use Rattle.mm_outline.specs.Parts.{token_at}
 use Rattle.mm_spec.specs.declared.Word.{Word}
 use Rattle.mm_stmt.specs.Database.{Known, is_labelled_kind}
 use Rattle.mm_stmt.proofs.DatabaseLaw.{has_outline, label_is, label_stands}
