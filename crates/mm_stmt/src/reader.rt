@@ -5,6 +5,7 @@ ghost use Rattle.mm_spec.specs.Lexed.{tokens_of, lexical_fault};
 ghost use Rattle.mm_spec.specs.Output.{IsRead, lexed_of};
 
 use crate::database::Database;
+use crate::kept::keep_all;
 use crate::spaced::spaced_labels_of;
 use mm_frame::frames::gather;
 use mm_frame::tables::Tables;
@@ -26,29 +27,32 @@ pub fn read<'a, A: Allocator + Copy>(
 {
     let words = lexed.tokens;
     let read = outline(alloc, text, &words, lexed.fault)?;
-    let variables = read.scope.names.variables(alloc)?;
+    let names = read.scope.names;
+    let blocks = read.scope.blocks;
+    let variables = names.variables(alloc)?;
     let beside = gather(
         alloc,
         &Tables::new(
             text,
             &words,
             &read.outlines,
-            &read.scope.blocks,
+            &blocks,
             &read.formulas.numbers,
             &read.formulas.places,
             &variables,
         ),
-        &read.scope.blocks,
+        &blocks,
     )?;
     let spaced = spaced_labels_of(alloc, text, &words, &read.outlines, &beside.theorems)?;
+    let kept = keep_all(alloc, &words, &read.outlines)?;
     Ok(Database {
         text,
-        words,
+        kept,
         outlines: read.outlines,
         fault: read.fault,
-        blocks: read.scope.blocks,
-        labels: read.scope.names.labels,
-        symbols: read.scope.names.symbols,
+        blocks,
+        labels: names.labels,
+        symbols: names.symbols,
         variables,
         numbers: read.formulas.numbers,
         places: read.formulas.places,

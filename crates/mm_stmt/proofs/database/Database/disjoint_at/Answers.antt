@@ -1,6 +1,7 @@
 use Rattle.std.proofs.Common.{◌≡◌, ◌∙◌, ◌≤◌, ◌&&◌, not, length, sym, ap, subst, nat_eq, false}
 use Rattle.std.proofs.lemmas.Bool.{ne_eqb}
 use Rattle.std.specs.List.{list_any}
+use Rattle.mm_spec.specs.Lexed.{tokens_of as words_of}
 use Rattle.mm_spec.specs.Derivation.{is_member}
 use Rattle.mm_spec.specs.Frame.{disjoint_at, is_disjoint, active_of, formula_at}
 use Rattle.mm_outline.specs.Blocks.{lists}
@@ -12,7 +13,7 @@ use Rattle.mm_stmt.proofs.database.Database.disjoint_at.Goals as goal
 pub returns-then-number : goal.returns-then-number
 returns-then-number g c =
     let f = c.self.inside in
-    let db = statements f.text.now f.words.items f.outlines.items in
+    let db = statements f.text.now (words_of f.text.now) f.outlines.items in
     let b = lists f.blocks.of.items f.blocks.ends.items f.blocks.open.items in
     let k = c.args.statement in
     let x = c.args.x in
