@@ -17,32 +17,6 @@ use Rattle.mm_frame.specs.Walk.{AreTyped}
 use Rattle.mm_frame.proofs.Nested.{stays_earlier}
 use Rattle.mm_frame.proofs.FloatLaw.{typed_float, typed_once, variable_below}
 
--- ---- the numbers that pass a test
-
-those_append : (p : ℕ → Bool) (xs : List ℕ) (y : ℕ) (b : Bool) → p y ≡ b → those p (xs ++ y ∷ []) ≡ those p xs ++ (elim b [ true ↦ y ∷ [] | false ↦ [] ])
-those_append p [] y b e = ap (λ b. elim b [ true ↦ y ∷ [] | false ↦ [] ]) e ∙ by b
-  where
-    by : (b : Bool) → ◌≡◌ {A = List ℕ} (elim b [ true ↦ y ∷ [] | false ↦ [] ]) ([] ++ (elim b [ true ↦ y ∷ [] | false ↦ [] ]))
-    by true = refl
-    by false = refl
-those_append p (x ∷ xs) y b e = by (p x) (those_append p xs y b e)
-  where
-    by : (c : Bool) → those p (xs ++ y ∷ []) ≡ those p xs ++ (elim b [ true ↦ y ∷ [] | false ↦ [] ]) → ◌≡◌ {A = List ℕ} (elim c [ true ↦ x ∷ those p (xs ++ y ∷ []) | false ↦ those p (xs ++ y ∷ []) ]) ((elim c [ true ↦ x ∷ those p xs | false ↦ those p xs ]) ++ (elim b [ true ↦ y ∷ [] | false ↦ [] ]))
-    by true r = ap (λ zs. x ∷ zs) r
-    by false r = r
-
-those_more : (p : ℕ → Bool) (k : ℕ) (b : Bool) → p k ≡ b → those p (range_with_len 0 (k + 1)) ≡ those p (range_with_len 0 k) ++ (elim b [ true ↦ k ∷ [] | false ↦ [] ])
-those_more p k b e =
-    let s : k + 1 ≡ suc k = omega arith in
-    let z : 0 + k ≡ k = omega arith in
-    ap (λ n. those p (range_with_len 0 n)) s ∙ ap (those p) (range_more 0 k) ∙ ap (λ i. those p (range_with_len 0 k ++ i ∷ [])) z ∙ those_append p (range_with_len 0 k) k b e
-
-pub those_push : (p : ℕ → Bool) (k : ℕ) (xs ys : List ℕ) → xs ≡ those p (range_with_len 0 k) → p k ≡ true → ys ≡ xs ++ k ∷ [] → ys ≡ those p (range_with_len 0 (k + 1))
-those_push p k xs ys h e is = is ∙ ap (λ zs. zs ++ k ∷ []) h ∙ sym (those_more p k true e)
-
-pub those_skip : (p : ℕ → Bool) (k : ℕ) (xs : List ℕ) → xs ≡ those p (range_with_len 0 k) → p k ≡ false → xs ≡ those p (range_with_len 0 (k + 1))
-those_skip p k xs h e = h ∙ sym (append-nil (those p (range_with_len 0 k))) ∙ sym (those_more p k false e)
-
 -- ---- the types of variables
 
 pub typed_start : (db : List Statement) (ts : List ℕ) (n : ℕ) → n ≡ length (symbol_names db) → length ts ≡ n → ((i : ℕ) → i < n → get_or ts i 0 ≡ never) → AreTyped db 0 ts

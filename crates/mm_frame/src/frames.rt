@@ -1,9 +1,8 @@
-//! The frames of the assertions, and the lists of the theorems and of the axioms.
+//! The frames of the assertions.
 
-ghost use Rattle.std.specs.Prelude.{◌≡◌, ◌<◌, ◌≤◌, ◌+◌, ℕ, IfOk, OnOk, None, length, map, slice_index};
+ghost use Rattle.std.specs.Prelude.{◌≡◌, ◌<◌, ◌≤◌, ◌+◌, ℕ, IfOk, OnOk, length, map, slice_index};
 ghost use Rattle.mm_spec.specs.Derivation.{pair};
 ghost use Rattle.mm_spec.specs.Frame.{symbol_names, is_essential};
-ghost use Rattle.mm_spec.specs.Output.{theorems, columns};
 ghost use Rattle.mm_outline.specs.Blocks.{IsBlocks, lists};
 ghost use Rattle.mm_frame.specs.Frames.{AreFrames, AreFramesUpTo, IsFrame};
 ghost use Rattle.mm_frame.specs.Latest.{AreLatest};
@@ -199,45 +198,11 @@ pub(crate) fn frames_of<A: Allocator + Copy>(
     Ok(frames)
 }
 
-/// The `$p` statements, in file order.
-pub(crate) fn theorems_of<A: Allocator + Copy>(
-    alloc: A,
-    tables: &Tables<A>,
-) -> Result<Vec<u32, A>, AllocError>
-    ensures { IfOk result (λ v. v.items ≡ theorems tables.now) }
-{
-    let mut all = Vec::new(alloc);
-    for k in 0..tables.len() {
-        if tables.is_theorem(k) {
-            all.push(k)?;
-        }
-    }
-    Ok(all)
-}
-
-/// The `$a` statements, in file order.
-pub(crate) fn axioms_of<A: Allocator + Copy>(
-    alloc: A,
-    tables: &Tables<A>,
-) -> Result<Vec<u32, A>, AllocError>
-    ensures { IfOk result (λ v. v.items ≡ columns tables.now None) }
-{
-    let mut all = Vec::new(alloc);
-    for k in 0..tables.len() {
-        if tables.is_axiom(k) {
-            all.push(k)?;
-        }
-    }
-    Ok(all)
-}
-
-/// What is kept beside the statements: the `$d` by their variables, the frames, and the lists of the theorems and axioms.
+/// What is kept beside the statements: the `$d` by their variables, and the frames.
 #[derive(Drop)]
 pub struct Beside<A: Allocator> {
     pub members: Members<A>,
     pub frames: Frames<A>,
-    pub theorems: Vec<u32, A>,
-    pub axioms: Vec<u32, A>,
 }
 
 /// All that is kept beside lawful statements.
@@ -249,17 +214,8 @@ pub fn gather<A: Allocator + Copy>(
     requires { IsBlocks tables.now (lists blocks.now.of.items blocks.now.ends.items blocks.now.open.items) }
     ensures members { IfOk result (λ b. AreMembers tables.now (lists blocks.now.of.items blocks.now.ends.items blocks.now.open.items) b.members.pairs.items b.members.skips.items) }
     ensures frames { IfOk result (λ b. AreFrames tables.now b.frames.places.items (map (λ f. f.hyps.items) b.frames.list.items) (map (λ f. map (λ p. pair p.0 p.1) f.pairs.items) b.frames.list.items)) }
-    ensures theorems { IfOk result (λ b. b.theorems.items ≡ theorems tables.now) }
-    ensures axioms { IfOk result (λ b. b.axioms.items ≡ columns tables.now None) }
 {
     let members = members_of(alloc, tables, blocks)?;
     let frames = frames_of(alloc, tables, blocks, &members)?;
-    let theorems = theorems_of(alloc, tables)?;
-    let axioms = axioms_of(alloc, tables)?;
-    Ok(Beside {
-        members,
-        frames,
-        theorems,
-        axioms,
-    })
+    Ok(Beside { members, frames })
 }

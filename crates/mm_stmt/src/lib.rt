@@ -6,6 +6,7 @@
 
 mod database;
 mod kept;
+mod kinds;
 mod reader;
 mod spaced;
 

@@ -14,7 +14,7 @@ of-kept-requires g c =
     let ws = words_of f.text.now in
     let os = f.outlines.items in
     let k = c.args.statement in
-    let there : k < length os = has_outline f.text.now ws os f.fault _ c.self.view_is k c.requires in
+    let there : k < length os = has_outline f.text.now ws os f.with_open f.fault _ c.self.view_is k c.requires in
     let kept = c.self.invariant.kept_are in
     record {
       inside = (let n = kept_inside ws os f.kept.words.items f.kept.starts.items kept k there in let m = f.kept.starts.ok.0 in omega (arith, n, m));
@@ -28,7 +28,7 @@ overflow_sub-result g c =
     let ws = words_of f.text.now in
     let os = f.outlines.items in
     let k = c.args.statement in
-    let there : k < length os = has_outline f.text.now ws os f.fault _ c.self.view_is k c.requires in
+    let there : k < length os = has_outline f.text.now ws os f.with_open f.fault _ c.self.view_is k c.requires in
     let kept = c.of-kept.ensures ∙ kept_at ws os f.kept.words.items f.kept.starts.items c.self.invariant.kept_are k there (outline Constants 0 0 0) in
     kept_some ws (get_or os k (outline Constants 0 0 0)) c.of-kept.result.now kept
 
@@ -40,11 +40,11 @@ returns g c =
     let os = f.outlines.items in
     let k = c.args.statement in
     let d = outline Constants 0 0 0 in
-    let there : k < length os = has_outline text ws os f.fault _ c.self.view_is k c.requires in
+    let there : k < length os = has_outline text ws os f.with_open f.fault _ c.self.view_is k c.requires in
     let kept = c.of-kept.ensures ∙ kept_at ws os f.kept.words.items f.kept.starts.items c.self.invariant.kept_are k there d in
     let last = kept_last ws (get_or os k d) c.of-kept.result.now kept (record { start = 0; end = 0 }) in
     subst (λ (n : Known). option_map last_place (slice_get n.statements k) ≡ Some (get_or c.of-kept.result.now (length c.of-kept.result.now - 1) (record { start = 0; end = 0 })).start) c.self.view_is
-    (last_is text ws os k d there (c.self.invariant.outlines k d there).0 ∙ ap (λ x. Some x.start) (sym last))
+    (last_is text ws f.with_open os k d there (c.self.invariant.outlines k d there).0 ∙ ap (λ x. Some x.start) (sym last))
 
 pub bounds-kept-kept : goal.bounds-kept-kept
 bounds-kept-kept g c =
@@ -52,7 +52,7 @@ bounds-kept-kept g c =
     let ws = words_of f.text.now in
     let os = f.outlines.items in
     let k = c.args.statement in
-    let there : k < length os = has_outline f.text.now ws os f.fault _ c.self.view_is k c.requires in
+    let there : k < length os = has_outline f.text.now ws os f.with_open f.fault _ c.self.view_is k c.requires in
     let kept = c.of-kept.ensures ∙ kept_at ws os f.kept.words.items f.kept.starts.items c.self.invariant.kept_are k there (outline Constants 0 0 0) in
     let some = kept_some ws (get_or os k (outline Constants 0 0 0)) c.of-kept.result.now kept in
     omega (arith, some)

@@ -6,15 +6,14 @@ use Rattle.mm_spec.specs.Scope.{statement_at}
 use Rattle.mm_spec.specs.Derivation.{pair}
 use Rattle.mm_spec.specs.Citation.{is_assertion}
 use Rattle.mm_spec.specs.Frame.{mandatory_hypotheses, mandatory_pairs}
-use Rattle.mm_outline.specs.Statements.{statements}
-use Rattle.mm_stmt.specs.Database.{Known}
+use Rattle.mm_stmt.specs.Database.{held, Known}
 use Rattle.mm_outline.proofs.StatementsLaw.{is_there, get_mapped}
 use Rattle.mm_stmt.proofs.database.Database.frame.Goals as goal
 
 pub returns : goal.returns
 returns g c =
     let f = c.self.inside in
-    let db = statements f.text.now (words_of f.text.now) f.outlines.items in
+    let db = held f.text.now (words_of f.text.now) f.outlines.items f.with_open in
     let k = c.args.assertion in
     let fs = f.frames.list.items in
     let ps = f.frames.places.items in

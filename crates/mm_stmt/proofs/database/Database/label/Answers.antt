@@ -15,7 +15,7 @@ of-requires g c =
     let ws = words_of f.text.now in
     let os = f.outlines.items in
     let k = c.args.statement in
-    let there : k < length os = has_outline f.text.now ws os f.fault _ c.self.view_is k c.requires in
+    let there : k < length os = has_outline f.text.now ws os f.with_open f.fault _ c.self.view_is k c.requires in
     let kept = c.self.invariant.kept_are in
     record {
       inside = (let n = kept_inside ws os f.kept.words.items f.kept.starts.items kept k there in let m = f.kept.starts.ok.0 in omega (arith, n, m));
@@ -31,14 +31,14 @@ returns-then-has_label g c =
     let os = f.outlines.items in
     let k = c.args.statement in
     let o = c.index-outline.result.now in
-    let there : k < length os = has_outline text ws os f.fault _ c.self.view_is k c.requires in
+    let there : k < length os = has_outline text ws os f.with_open f.fault _ c.self.view_is k c.requires in
     let same : get_or os k o ≡ o = sym c.index-outline.ensures in
     let label : is_labelled_kind (get_or os k o).kind ≡ true = ap (λ x. is_labelled_kind x.kind) same ∙ sym c.has_label.ensures ∙ c.if-has_label.true in
     let kept = c.of.ensures ∙ kept_at ws os f.kept.words.items f.kept.starts.items c.self.invariant.kept_are k there o in
     let first = kept_label ws (get_or os k o) c.of.result.now kept label (record { start = 0; end = 0 }) in
     let w = get_or c.of.result.now 0 (record { start = 0; end = 0 }) in
     subst (λ (n : Known). Some (take (w.end - w.start) (drop w.start text)) ≡ option_map (λ t. t.word) (option_and_then label_of (slice_get n.statements k))) c.self.view_is
-    (sym (label_is text ws os k o there ∙ ap (λ b. if b then Some (token_at text ws ((get_or os k o).keyword - 1)).word else None) label ∙ ap (λ x. Some (take (x.end - x.start) (drop x.start text))) (sym first)))
+    (sym (label_is text ws f.with_open os k o there ∙ ap (λ b. if b then Some (token_at text ws ((get_or os k o).keyword - 1)).word else None) label ∙ ap (λ x. Some (take (x.end - x.start) (drop x.start text))) (sym first)))
 
 pub returns-else-has_label : goal.returns-else-has_label
 returns-else-has_label g c =
@@ -48,11 +48,11 @@ returns-else-has_label g c =
     let os = f.outlines.items in
     let k = c.args.statement in
     let o = c.index-outline.result.now in
-    let there : k < length os = has_outline text ws os f.fault _ c.self.view_is k c.requires in
+    let there : k < length os = has_outline text ws os f.with_open f.fault _ c.self.view_is k c.requires in
     let same : get_or os k o ≡ o = sym c.index-outline.ensures in
     let label : is_labelled_kind o.kind ≡ false = sym c.has_label.ensures ∙ c.if-has_label.false in
     subst (λ (n : Known). None ≡ option_map (λ t. t.word) (option_and_then label_of (slice_get n.statements k))) c.self.view_is
-    (sym (label_is text ws os k o there ∙ ap (λ x. if is_labelled_kind x.kind then Some (token_at text ws (x.keyword - 1)).word else None) same ∙ ap (λ b. if b then Some (token_at text ws (o.keyword - 1)).word else None) label))
+    (sym (label_is text ws f.with_open os k o there ∙ ap (λ x. if is_labelled_kind x.kind then Some (token_at text ws (x.keyword - 1)).word else None) same ∙ ap (λ b. if b then Some (token_at text ws (o.keyword - 1)).word else None) label))
 
 pub bounds-of-0 : goal.bounds-of-0
 bounds-of-0 g c =
@@ -62,7 +62,7 @@ bounds-of-0 g c =
     let os = f.outlines.items in
     let k = c.args.statement in
     let o = c.index-outline.result.now in
-    let there : k < length os = has_outline text ws os f.fault _ c.self.view_is k c.requires in
+    let there : k < length os = has_outline text ws os f.with_open f.fault _ c.self.view_is k c.requires in
     let kept = c.of.ensures ∙ kept_at ws os f.kept.words.items f.kept.starts.items c.self.invariant.kept_are k there o in
     kept_some ws (get_or os k o) c.of.result.now kept
 
@@ -74,7 +74,7 @@ slice_bounds-result-count g c =
     let os = f.outlines.items in
     let k = c.args.statement in
     let o = c.index-outline.result.now in
-    let there : k < length os = has_outline text ws os f.fault _ c.self.view_is k c.requires in
+    let there : k < length os = has_outline text ws os f.with_open f.fault _ c.self.view_is k c.requires in
     let kept = c.of.ensures ∙ kept_at ws os f.kept.words.items f.kept.starts.items c.self.invariant.kept_are k there o in
     let label : is_labelled_kind (get_or os k o).kind ≡ true = ap (λ x. is_labelled_kind x.kind) (sym c.index-outline.ensures) ∙ sym c.has_label.ensures ∙ c.if-has_label.true in
     let first = kept_label ws (get_or os k o) c.of.result.now kept label (record { start = 0; end = 0 }) in
@@ -93,7 +93,7 @@ slice_bounds-result-start g c =
     let os = f.outlines.items in
     let k = c.args.statement in
     let o = c.index-outline.result.now in
-    let there : k < length os = has_outline text ws os f.fault _ c.self.view_is k c.requires in
+    let there : k < length os = has_outline text ws os f.with_open f.fault _ c.self.view_is k c.requires in
     let kept = c.of.ensures ∙ kept_at ws os f.kept.words.items f.kept.starts.items c.self.invariant.kept_are k there o in
     let label : is_labelled_kind (get_or os k o).kind ≡ true = ap (λ x. is_labelled_kind x.kind) (sym c.index-outline.ensures) ∙ sym c.has_label.ensures ∙ c.if-has_label.true in
     let first = kept_label ws (get_or os k o) c.of.result.now kept label (record { start = 0; end = 0 }) in
@@ -112,7 +112,7 @@ slice_bounds-result-end g c =
     let os = f.outlines.items in
     let k = c.args.statement in
     let o = c.index-outline.result.now in
-    let there : k < length os = has_outline text ws os f.fault _ c.self.view_is k c.requires in
+    let there : k < length os = has_outline text ws os f.with_open f.fault _ c.self.view_is k c.requires in
     let kept = c.of.ensures ∙ kept_at ws os f.kept.words.items f.kept.starts.items c.self.invariant.kept_are k there o in
     let label : is_labelled_kind (get_or os k o).kind ≡ true = ap (λ x. is_labelled_kind x.kind) (sym c.index-outline.ensures) ∙ sym c.has_label.ensures ∙ c.if-has_label.true in
     let first = kept_label ws (get_or os k o) c.of.result.now kept label (record { start = 0; end = 0 }) in
