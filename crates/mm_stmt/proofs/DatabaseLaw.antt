@@ -7,10 +7,11 @@ use Rattle.mm_spec.specs.Statement.{Statement, constants, variables, disjoint, f
 use Rattle.mm_spec.specs.Scope.{statement_at}
 use Rattle.mm_spec.specs.declared.Word.{Word}
 use Rattle.mm_outline.proofs.StatementsLaw.{statement_is}
-use Rattle.mm_outline.specs.Parts.{word_at, token_at, between, made, statement_of, HasEnd, IsOutline}
+use Rattle.mm_outline.specs.Parts.{AreWords, word_at, token_at, between, made, statement_of, HasEnd, IsOutline}
 use Rattle.mm_outline.specs.Statements.{statements}
 use Rattle.mm_spec.specs.declared.Fault.{Fault}
-use Rattle.mm_stmt.specs.Database.{kind_of, last_place, is_labelled_kind, Known, known, held}
+use Rattle.mm_stmt.specs.Database.{kind_of, last_place, Known, known, held}
+use Rattle.mm_stmt.specs.Kept.{is_labelled_kind}
 use Rattle.mm_stmt.specs.Kinds.{counted_as, is_theorem_kind, is_axiom_kind}
 use Rattle.mm_stmt.proofs.KindsLaw.{own_kind, still_theorem, open_made, proof_made}
 use Rattle.mm_spec.specs.Opened.{as_axiom, is_open}
@@ -94,6 +95,9 @@ module _ (text : List ℕ) (ws : List Word) where
       let is : kind_of (counted_as w (statement_of text ws o)) ≡ x = cc in
       ap (λ c. is_theorem_kind o.kind && is_axiom_kind c) (sym is) ∙ open_made text ws w o.kind o.keyword o.middle o.end
       ∙ ap (λ s. w && list_any is_open (elim s [ None ↦ [] | Some s ↦ s ∷ [] ])) (sym (statement_is text ws os k d h))
+
+  pub label_stands : (o : Outline) → IsOutline o × (o.end < length ws) → AreWords text ws → ((word_at ws (o.keyword - 1)).start ≤ (word_at ws (o.keyword - 1)).end) × ((word_at ws (o.keyword - 1)).end ≤ length text)
+  label_stands o h words = let a = h.0.2 in let b = h.0.3 in let e = h.1 in words (o.keyword - 1) (record { start = 0; end = 0 }) (omega (arith, a, b, e))
 
 -- a statement of the database has an outline
 pub has_outline : (text : List ℕ) (ws : List Word) (os : List Outline) (w : Bool) (fault : Option Fault) (n : Known) → known text (statements text ws os) w fault ≡ n → (k : ℕ) → k < length n.statements → k < length os

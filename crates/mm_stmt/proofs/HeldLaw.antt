@@ -70,12 +70,16 @@ module _ (w : Bool) (db : List Statement) where
     formula = λ k l. h.formula k (shorter k l) ∙ ap (λ (f : ℕ → Formula). f k) (sym (counted_formula w db));
   }
 
-  pub frames_held : (hyps : List (List ℕ)) (pairs : List (List Pair)) → AreFrames db hyps pairs → AreFrames held_db hyps pairs
-  frames_held hyps pairs h = record {
+  pub frames_held : (places : List ℕ) (hyps : List (List ℕ)) (pairs : List (List Pair)) → AreFrames db places hyps pairs → AreFrames held_db places hyps pairs
+  frames_held places hyps pairs h = record {
     count = rw (counted_length w db) h.count;
-    count_pairs = rw (counted_length w db) h.count_pairs;
-    hypotheses = λ k l e. h.hypotheses k (shorter k l) (sym (same k) ∙ e) ∙ ap (λ (f : ℕ → List ℕ). f k) (sym (counted_hypotheses w db));
-    disjoint = λ k l e. h.disjoint k (shorter k l) (sym (same k) ∙ e) ∙ ap (λ (f : ℕ → List Pair). f k) (sym (counted_pairs w db));
+    few = rw (counted_length w db) h.few;
+    count_pairs = h.count_pairs;
+    there = λ k l e. h.there k (shorter k l) (sym (same k) ∙ e);
+    each = λ k l. record {
+      hypotheses = λ e. (h.each k (shorter k l)).hypotheses (sym (same k) ∙ e) ∙ ap (λ (f : ℕ → List ℕ). f k) (sym (counted_hypotheses w db));
+      disjoint = λ e. (h.each k (shorter k l)).disjoint (sym (same k) ∙ e) ∙ ap (λ (f : ℕ → List Pair). f k) (sym (counted_pairs w db));
+    };
   }
     where
       same : (k : ℕ) → list_any is_assertion (statement_at held_db k) ≡ list_any is_assertion (statement_at db k)

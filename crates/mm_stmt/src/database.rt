@@ -14,11 +14,12 @@ ghost use Rattle.mm_spec.specs.Complete.{AreComplete};
 ghost use Rattle.mm_spec.specs.Output.{IsRead, lexed_of, theorems, columns, label_at};
 ghost use Rattle.mm_outline.specs.Parts.{tokens_of, AreWords};
 ghost use Rattle.mm_outline.specs.Statements.{active_kind};
-ghost use Rattle.mm_stmt.specs.Database.{kind_of, last_place, typecode_of, is_labelled_kind};
+ghost use Rattle.mm_stmt.specs.Database.{kind_of, last_place, typecode_of};
 ghost use Rattle.mm_stmt.specs.Kinds.{is_axiom_kind, is_theorem_kind};
 
+use crate::kept::{Kept, has_label};
 use crate::spaced::SpacedLabels;
-use mm_frame::frames::Frame;
+use mm_frame::frames::{Frame, Frames};
 use mm_frame::members::{Members, are_together};
 use mm_outline::blocks::Blocks;
 use mm_outline::parts::{Kind, Outline};
@@ -32,7 +33,7 @@ use std::marker::Model;
 #[derive(Drop)]
 pub struct Database<'a, A: Allocator> {
     pub(crate) text: &'a [u8],
-    pub(crate) words: Vec<Word, A>,
+    pub(crate) kept: Kept<A>,
     pub(crate) outlines: Vec<Outline, A>,
     pub(crate) with_open: bool,
     pub(crate) fault: Option<Fault>,
@@ -42,7 +43,7 @@ pub struct Database<'a, A: Allocator> {
     pub(crate) variables: Vec<bool, A>,
     pub(crate) numbers: Vec<Sym, A>,
     pub(crate) places: Vec<u32, A>,
-    pub(crate) frames: Vec<Frame<A>, A>,
+    pub(crate) frames: Frames<A>,
     pub(crate) members: Members<A>,
     pub(crate) kinds: Vec<Kind, A>,
     pub(crate) theorems: Vec<u32, A>,
@@ -53,6 +54,7 @@ pub struct Database<'a, A: Allocator> {
 impl<'a, A: Allocator> Model for Database<'a, A> {
     ghost use Rattle.std.specs.Prelude.{map};
     ghost use Rattle.mm_spec.specs.Derivation.{pair};
+    ghost use Rattle.mm_spec.specs.Lexed.{tokens_of as words_of};
     ghost use Rattle.mm_scope.specs.Names.{find, names_of};
     ghost use Rattle.mm_outline.specs.Blocks.{lists};
     ghost use Rattle.mm_outline.specs.Statements.{statements};
@@ -60,9 +62,9 @@ impl<'a, A: Allocator> Model for Database<'a, A> {
 
     ghost Value = { Known };
 
-    ghost view = { λ d. known d.text.now (statements d.text.now d.words.items d.outlines.items) d.with_open d.fault };
+    ghost view = { λ d. known d.text.now (statements d.text.now (words_of d.text.now) d.outlines.items) d.with_open d.fault };
 
-    ghost invariant = { λ d. IsDatabase d.text.now d.words.items d.outlines.items d.with_open d.fault (fields (lists d.blocks.of.items d.blocks.ends.items d.blocks.open.items) (find d.labels) (names_of d.symbols) d.variables.items d.numbers.items d.places.items (map (λ f. f.hyps.items) d.frames.items) (map (λ f. map (λ p. pair p.0 p.1) f.pairs.items) d.frames.items) d.members.pairs.items d.members.skips.items d.kinds.items d.theorems.items d.axioms.items d.spaced.bytes.items d.spaced.starts.items) };
+    ghost invariant = { λ d. IsDatabase d.text.now (words_of d.text.now) d.outlines.items d.with_open d.fault (fields d.kept.words.items d.kept.starts.items (lists d.blocks.of.items d.blocks.ends.items d.blocks.open.items) (find d.labels) (names_of d.symbols) d.variables.items d.numbers.items d.places.items d.frames.places.items (map (λ f. f.hyps.items) d.frames.list.items) (map (λ f. map (λ p. pair p.0 p.1) f.pairs.items) d.frames.list.items) d.members.pairs.items d.members.skips.items d.kinds.items d.theorems.items d.axioms.items d.spaced.bytes.items d.spaced.starts.items) };
 }
 
 impl<'a, A: Allocator> Database<'a, A> {
@@ -115,8 +117,8 @@ impl<'a, A: Allocator> Database<'a, A> {
         requires { statement < length self.now.statements }
         ensures { option_map last_place (slice_get self.now.statements statement) ≡ Some result }
     {
-        let outline = self.outlines[statement as usize];
-        self.words[outline.end as usize].start
+        let kept = self.kept.of(statement);
+        kept[kept.len() - 1].start
     }
 
     /// The label of a statement that has one.
@@ -126,7 +128,7 @@ impl<'a, A: Allocator> Database<'a, A> {
     {
         let outline = self.outlines[statement as usize];
         if has_label(outline.kind) {
-            let word = self.words[outline.keyword as usize - 1];
+            let word = self.kept.of(statement)[0];
             Some(&self.text[word.start as usize..word.end as usize])
         } else {
             None
@@ -208,7 +210,8 @@ impl<'a, A: Allocator> Database<'a, A> {
         ensures hypotheses { result.now.hyps.items ≡ mandatory_hypotheses self.now.statements assertion }
         ensures pairs { map (λ p. pair p.0 p.1) result.now.pairs.items ≡ mandatory_pairs self.now.statements assertion }
     {
-        &self.frames[assertion as usize]
+        let place = self.frames.places[assertion as usize];
+        &self.frames.list[place as usize]
     }
 
     /// Whether a `$d` that is active at the statement, or at the end, has both variables; never a variable and itself.
@@ -227,7 +230,10 @@ impl<'a, A: Allocator> Database<'a, A> {
     {
         let outline = self.outlines[statement as usize];
         match self.kind(statement) {
-            Kind::Theorem => &self.words[outline.middle as usize + 1..outline.end as usize],
+            Kind::Theorem => {
+                let kept = self.kept.of(statement);
+                &kept[1..kept.len() - 1]
+            }
             _ => &[],
         }
     }
@@ -269,16 +275,6 @@ fn counts_otherwise(is: Kind, counts_as: Kind) -> bool
             Kind::Axiom => true,
             _ => false,
         },
-        _ => false,
-    }
-}
-
-/// Whether a statement of that kind has a label, and so a typecode.
-fn has_label(kind: Kind) -> bool
-    ensures { result ≡ is_labelled_kind kind }
-{
-    match kind {
-        Kind::Floating | Kind::Essential | Kind::Axiom | Kind::Theorem => true,
         _ => false,
     }
 }

@@ -5,6 +5,7 @@
 #![tactic(auto)]
 
 mod database;
+mod kept;
 mod kinds;
 mod reader;
 mod spaced;

@@ -6,6 +6,7 @@ ghost use Rattle.mm_spec.specs.Opened.{counted};
 ghost use Rattle.mm_spec.specs.Output.{IsRead, lexed_of};
 
 use crate::database::Database;
+use crate::kept::keep_all;
 use crate::kinds::{axioms_of, kinds_of, theorems_of};
 use crate::spaced::spaced_labels_of;
 use mm_frame::frames::gather;
@@ -32,33 +33,36 @@ pub fn read<'a, A: Allocator + Copy>(
 {
     let words = lexed.tokens;
     let read = outline(alloc, text, &words, lexed.fault)?;
-    let variables = read.scope.names.variables(alloc)?;
+    let names = read.scope.names;
+    let blocks = read.scope.blocks;
+    let variables = names.variables(alloc)?;
     let beside = gather(
         alloc,
         &Tables::new(
             text,
             &words,
             &read.outlines,
-            &read.scope.blocks,
+            &blocks,
             &read.formulas.numbers,
             &read.formulas.places,
             &variables,
         ),
-        &read.scope.blocks,
+        &blocks,
     )?;
     let kinds = kinds_of(alloc, text, &words, &read.outlines, with_open)?;
     let theorems = theorems_of(alloc, &kinds)?;
     let axioms = axioms_of(alloc, &kinds)?;
     let spaced = spaced_labels_of(alloc, text, &words, &read.outlines, &theorems)?;
+    let kept = keep_all(alloc, &words, &read.outlines)?;
     Ok(Database {
         text,
-        words,
+        kept,
         outlines: read.outlines,
         with_open,
         fault: read.fault,
-        blocks: read.scope.blocks,
-        labels: read.scope.names.labels,
-        symbols: read.scope.names.symbols,
+        blocks,
+        labels: names.labels,
+        symbols: names.symbols,
         variables,
         numbers: read.formulas.numbers,
         places: read.formulas.places,

@@ -1,6 +1,7 @@
 use Rattle.std.proofs.Common.{◌≡◌, ◌∙◌, ℕ, Bool, ◌<◌, ◌≤◌, ◌&&◌, length, get_or, sym, ap, ap₂, subst, nat_lt, nat_le}
 use Rattle.std.proofs.lemmas.Bool.{lt-ltb}
 use Rattle.std.proofs.lemmas.List.{length-map}
+use Rattle.mm_spec.specs.Lexed.{tokens_of as words_of}
 use Rattle.mm_spec.specs.Scope.{is_active}
 use Rattle.mm_outline.specs.Blocks.{lists, end_of}
 use Rattle.mm_outline.specs.Parts.{statement_of}
@@ -15,7 +16,7 @@ pub returns-then-statement-at : goal.returns-then-statement-at
 returns-then-statement-at g c =
     let f = c.self.inside in
     let text = f.text.now in
-    let ws = f.words.items in
+    let ws = words_of f.text.now in
     let os = f.outlines.items in
     let j = c.args.statement in
     let k = c.args.at in

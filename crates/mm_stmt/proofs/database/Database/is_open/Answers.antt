@@ -1,6 +1,7 @@
 use Rattle.std.proofs.Common.{◌≡◌, ◌∙◌, ◌<◌, ◌&&◌, Some, length, get_or, sym, ap, subst, arith, slice_get}
 use Rattle.std.specs.Option.{option_map}
 use Rattle.std.specs.List.{list_any}
+use Rattle.mm_spec.specs.Lexed.{tokens_of as words_of}
 use Rattle.mm_spec.specs.Opened.{is_open}
 use Rattle.mm_spec.proofs.OpenedLemmas.{counted_length}
 use Rattle.mm_spec.specs.Scope.{statement_at}
@@ -21,7 +22,7 @@ pub returns : goal.returns
 returns g c =
     let f = c.self.inside in
     let text = f.text.now in
-    let ws = f.words.items in
+    let ws = words_of f.text.now in
     let os = f.outlines.items in
     let k = c.args.statement in
     let o = c.index-outline.result.now in
