@@ -23,5 +23,5 @@ written text request d axioms bytes h sound is report =
       d.read,
       sound,
       subst (λ o. IsReportOf request.choice (counted request.with_open d.read) o request bytes) (told d request.with_open request.only axioms h is)
-      (subst (λ db. IsReportOf request.choice db (open_theorems request.with_open d axioms) request bytes) h.statements report),
+          (subst (λ db. IsReportOf request.choice db (open_theorems request.with_open d axioms) request bytes) h.statements report),
     )

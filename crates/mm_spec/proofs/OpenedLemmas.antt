@@ -125,7 +125,7 @@ module _ (db : List Statement) where
   hypotheses_kept : mandatory_hypotheses as_axioms ≡ mandatory_hypotheses db
   hypotheses_kept = fun_ext (λ k.
       ap₂ (λ (e f : ℕ → Bool). those (λ j. e j || (f j && list_any (is_member (mandatory_variables as_axioms k)) (formula_at as_axioms j))) (active as_axioms k))
-          (fun_ext (any_at is_essential (λ l k xs e ps d. refl) db)) (fun_ext (any_at is_floating (λ l k xs e ps d. refl) db))
+      (fun_ext (any_at is_essential (λ l k xs e ps d. refl) db)) (fun_ext (any_at is_floating (λ l k xs e ps d. refl) db))
       ∙ ap₂ (λ (m : ℕ → List ℕ) (f : ℕ → Formula). those (λ j. list_any is_essential (statement_at db j) || (list_any is_floating (statement_at db j) && list_any (is_member (m k)) (f j))) (active as_axioms k)) mandatory_kept formula_kept
       ∙ ap (λ (a : ℕ → List ℕ). those (λ j. list_any is_essential (statement_at db j) || (list_any is_floating (statement_at db j) && list_any (is_member (mandatory_variables db k)) (formula_at db j))) (a k)) active_kept)
 
@@ -145,6 +145,7 @@ module _ (db : List Statement) where
   frame_kept = fun_ext (λ k.
       ap₂ (λ (f : ℕ → Formula) (h : ℕ → List ℕ). frame (map f (h k)) (mandatory_pairs as_axioms k) (f k)) formula_kept hypotheses_kept
       ∙ ap (λ (p : ℕ → List Pair). frame (map (formula_at db) (mandatory_hypotheses db k)) (p k) (formula_at db k)) pairs_kept)
+
   -- ---- what a proof is made over
 
   rule_same : (j : ℕ) (s : Statement) → rule_of as_axioms j s ≡ rule_of db j s
@@ -182,6 +183,7 @@ module _ (db : List Statement) where
   context_kept : context_at as_axioms ≡ context_at db
   context_kept = fun_ext (λ k.
       ap₂ (λ (v : ℕ → Bool) (r : ℕ → ℕ → Option Rule). context v (disjoint_at as_axioms k) (r k)) variable_kept rule_kept ∙ ap (λ (d : ℕ → ℕ → ℕ → Bool). context (is_variable db) (d k) (rule_at db k)) disjoint_kept)
+
 -- ---- the statements as they count, with the flag or without
 
 either : {X : Type 0} (F : List Statement → X) → ((db : List Statement) → F (axioms_of db) ≡ F db) → (w : Bool) (db : List Statement) → F (counted w db) ≡ F db

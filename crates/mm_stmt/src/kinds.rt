@@ -43,7 +43,13 @@ fn counted_kind(text: &[u8], tokens: &[Word], outline: Outline, with_open: bool)
     requires within { outline.end < length tokens.now }
     ensures { result ≡ kind_of (counted_as with_open (statement_of text.now tokens.now outline)) }
 {
-    if with_open && is_theorem(outline.kind) && is_open_proof(text, &tokens[outline.middle as usize + 1..outline.end as usize]) {
+    if with_open
+        && is_theorem(outline.kind)
+        && is_open_proof(
+            text,
+            &tokens[outline.middle as usize + 1..outline.end as usize],
+        )
+    {
         Kind::Axiom
     } else {
         outline.kind

@@ -38,7 +38,7 @@ fn is_cited<R: Threads + Sync>(
     }
     let cuts = Cuts::equal(alloc, text.len(), 1)?;
     let lexed = lex(rt, alloc, text, &cuts)?;
-    let database = read(alloc, text, lexed)?;
+    let database = read(alloc, text, lexed, false)?;
     let theorems = database.theorems();
     if theorems.is_empty() {
         return Ok(false);

@@ -19,7 +19,7 @@ fn stops<R: Threads + Sync>(
     }
     let cuts = Cuts::equal(alloc, text.len(), 1)?;
     let lexed = lex(rt, alloc, text, &cuts)?;
-    let database = read(alloc, text, lexed)?;
+    let database = read(alloc, text, lexed, false)?;
     let fault = match database.fault() {
         Some(fault) => Some((fault.at, fault.code.number())),
         None => None,
@@ -54,7 +54,7 @@ fn labels_between<R: Threads + Sync>(
 {
     let cuts = Cuts::equal(alloc, text.len(), 1)?;
     let lexed = lex(rt, alloc, text, &cuts)?;
-    let database = read(alloc, text, lexed)?;
+    let database = read(alloc, text, lexed, false)?;
     if from <= to && to as usize <= database.theorems().len() {
         database.spaced_labels(from, to).to_vec(alloc)
     } else {

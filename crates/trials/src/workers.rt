@@ -56,7 +56,7 @@ fn judged<R: Threads + Wait + Sync, G: Gate>(
     }
     let cuts = Cuts::equal(alloc, text.len(), 1)?;
     let lexed = lex(rt, alloc, text, &cuts)?;
-    let database = read(alloc, text, lexed)?;
+    let database = read(alloc, text, lexed, false)?;
     check_all(rt, alloc, &database, workers, essential, gate)
 }
 

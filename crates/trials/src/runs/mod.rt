@@ -4,6 +4,7 @@ mod checking;
 mod compressed;
 mod ends;
 mod faults;
+mod open_theorems;
 mod options;
 mod reports;
 
@@ -23,6 +24,7 @@ fn plan(cuts: Cutting<Global>) -> Plan<Global> {
         choice: Choice::All,
         form: Form::One,
         essential: false,
+        with_open: false,
     }
 }
 

@@ -140,7 +140,7 @@ fn waves_of<R: Threads + Wait + Sync>(
     }
     let cuts = Cuts::equal(alloc, text.len(), 1)?;
     let lexed = lex(rt, alloc, text, &cuts)?;
-    let database = read(alloc, text, lexed)?;
+    let database = read(alloc, text, lexed, false)?;
     match check_all(rt, alloc, &database, 1, false, &Open)? {
         Judged::Valid(citations) => waves(alloc, &citations),
         Judged::Faulty(_) => Ok(Vec::new(alloc)),

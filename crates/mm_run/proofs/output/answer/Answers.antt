@@ -20,8 +20,7 @@ pub report-requires-clause-sound : goal.report-requires-clause-sound
 report-requires-clause-sound g c κs lives =
     let database = c.in-Ok.database in
     let text = c.in-Ok.ensures.text in
-    let cited : AllCited database.statements c.args.plan.now.essential c.in-Valid.citations = subst (λ (j : Judged _). Judges database.statements c.args.plan.now.essential j) c.in-Valid.is c.in-Ok-check_all.ensures in
-    (
+    let cited : AllCited database.statements c.args.plan.now.essential c.in-Valid.citations = subst (λ (j : Judged _). Judges database.statements c.args.plan.now.essential j) c.in-Valid.is c.in-Ok-check_all.ensures in (
       subst (λ (t : List ℕ). IsRead (length t) (lexed_of t) database.read None) (sym text) (subst (IsRead (length c.args.text.now) (lexed_of c.args.text.now) database.read) (sym c.fault.ensures ∙ c.in-None.is) c.in-Ok.ensures.read),
       subst AllAreValid c.in-Ok.ensures.counted.statements cited.valid,
     )
