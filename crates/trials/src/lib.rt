@@ -4,6 +4,8 @@
 #![tactic(auto)]
 
 #[cfg(test)]
+mod citations;
+#[cfg(test)]
 mod examples;
 #[cfg(test)]
 mod lexing;

@@ -1,0 +1,100 @@
+//! What a proof cites: the assertions of all its nodes, or those of its essential nodes alone.
+
+use crate::texts::{BASE, CLOSE, CONSEQUENT, DETACHMENT, FIRST, joined, through_a_theorem};
+use mm_check::check;
+use mm_lex::{Cuts, lex};
+use mm_proof::read_proof;
+use mm_spec::TEXT_LIMIT;
+use mm_stmt::{Database, read};
+use std::alloc::{AllocError, Global};
+use std::thread::Threads;
+
+/// A rule with a hypothesis that is a formula itself, so that a step can stand for its `$f` and for its `$e`.
+const WEAK: &[u8] = b"${ e1 $e wff p $. ax-w $a wff p $. $}\n";
+
+/// Whether the statements are those of the labels.
+fn are_labelled(database: &Database<Global>, statements: &[u32], labels: &[&[u8]]) -> bool {
+    if statements.len() != labels.len() {
+        return false;
+    }
+    for (statement, label) in statements.iter().zip(labels) {
+        if database.find(label) != Some(*statement) {
+            return false;
+        }
+    }
+    true
+}
+
+/// Whether the proof of a text's last theorem is valid and cites the assertions of these labels alone.
+fn is_cited<R: Threads + Sync>(
+    rt: &R,
+    alloc: Global,
+    text: &[u8],
+    essential: bool,
+    labels: &[&[u8]],
+) -> Result<bool, AllocError> {
+    if text.len() > TEXT_LIMIT {
+        return Ok(false);
+    }
+    let cuts = Cuts::equal(alloc, text.len(), 1)?;
+    let lexed = lex(rt, alloc, text, &cuts)?;
+    let database = read(alloc, text, lexed)?;
+    let theorems = database.theorems();
+    if theorems.is_empty() {
+        return Ok(false);
+    }
+    let theorem = theorems[theorems.len() - 1];
+    let Ok(steps) = read_proof(alloc, &database, theorem) else {
+        return Ok(false);
+    };
+    match check(alloc, &database, theorem, &steps, essential) {
+        Ok(checked) => Ok(are_labelled(&database, checked.cites(), labels)),
+        Err(_) => Ok(false),
+    }
+}
+
+#[test]
+fn formulas_are_not_essential(rt: HostRuntime) -> Result<(), AllocError> {
+    let alloc = rt.alloc();
+    let proofs: [&[u8]; 3] = [
+        b"wp wq wp wi h wp wq ax-1 ax-mp",
+        b"( wi ax-1 ax-mp ) ABADCABEF",
+        b"( wi ax-1 ax-mp ) ABADZCABEF",
+    ];
+    for proof in proofs {
+        let text = joined(alloc, &[BASE, DETACHMENT, CONSEQUENT, proof, CLOSE])?;
+        assert!(&rt; is_cited(&rt, alloc, &text, false, &[b"wi", b"ax-1", b"ax-mp"])?);
+        assert!(&rt; is_cited(&rt, alloc, &text, true, &[b"ax-1", b"ax-mp"])?);
+    }
+    Ok(())
+}
+
+#[test]
+fn theorems_and_roots_are_essential(rt: HostRuntime) -> Result<(), AllocError> {
+    let alloc = rt.alloc();
+    let two = through_a_theorem(alloc)?;
+    assert!(&rt; is_cited(&rt, alloc, &two, false, &[b"wi", b"a1i"])?);
+    assert!(&rt; is_cited(&rt, alloc, &two, true, &[b"a1i"])?);
+    assert!(&rt; is_cited(&rt, alloc, FIRST, false, &[b"wi"])?);
+    assert!(&rt; is_cited(&rt, alloc, FIRST, true, &[b"wi"])?);
+    Ok(())
+}
+
+#[test]
+fn marked_steps_are_essential_by_any_use(rt: HostRuntime) -> Result<(), AllocError> {
+    let alloc = rt.alloc();
+    let proofs: [&[u8]; 4] = [
+        b"( wi ax-w ) ABCZED",
+        b"( wi ax-w ) ABCABCD",
+        b"( wi ax-w ) ABCZEDZFD",
+        b"( wi ax-w ) ABCABCZDEEDD",
+    ];
+    for proof in proofs {
+        let text = joined(
+            alloc,
+            &[BASE, WEAK, b"s $p wff ( p -> q ) $= ", proof, b" $.\n"],
+        )?;
+        assert!(&rt; is_cited(&rt, alloc, &text, true, &[b"wi", b"ax-w"])?);
+    }
+    Ok(())
+}
