@@ -11,9 +11,7 @@ use std::simd::prelude::*;
 const NUMBERS: [u8; 16] = [0, 8, 4, 12, 2, 10, 6, 14, 1, 9, 5, 13, 3, 11, 7, 15];
 
 /// The same numbers as hexadecimal digits.
-const DIGITS: [u8; 16] = [
-    b'0', b'8', b'4', b'c', b'2', b'a', b'6', b'e', b'1', b'9', b'5', b'd', b'3', b'b', b'7', b'f',
-];
+const DIGITS: [u8; 16] = *b"084c2a6e195d3b7f";
 
 /// The number of the four columns of digit k of a word.
 pub fn number(word: u64, k: usize) -> u8

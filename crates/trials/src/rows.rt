@@ -1,4 +1,14 @@
-use mm_rows::{ones, or_row};
+//! Rows of bits, and tables of marks as digits.
+
+use crate::texts::seventy;
+use mm_lex::{Cuts, lex};
+use mm_rows::{Columns, Matrix, matrix, ones, or_row};
+use mm_spec::TEXT_LIMIT;
+use mm_stmt::read;
+use mm_work::{Judged, Open, check_all};
+use std::alloc::{AllocError, Global};
+use std::sync::Wait;
+use std::thread::Threads;
 
 /// Words with some bits set, no two alike.
 fn words() -> [u64; 33] {
@@ -36,4 +46,59 @@ fn ones_by_lanes_are_the_plain_sum(rt: HostRuntime) {
         }
     }
     assert_eq!(rt; ones(&[u64::MAX; 5]), 320);
+}
+
+/// The table of a text without a fault, with all axioms as columns.
+fn table_of<R: Threads + Wait + Sync>(
+    rt: &R,
+    alloc: Global,
+    text: &[u8],
+) -> Result<Matrix<Global>, AllocError> {
+    if text.len() > TEXT_LIMIT {
+        return Err(AllocError);
+    }
+    let cuts = Cuts::equal(alloc, text.len(), 1)?;
+    let lexed = lex(rt, alloc, text, &cuts)?;
+    let database = read(alloc, text, lexed)?;
+    let columns = Columns::new(alloc, &database, None)?;
+    match check_all(rt, alloc, &database, 1, false, &Open)? {
+        Judged::Valid(citations) => matrix(rt, alloc, &citations, &columns),
+        Judged::Faulty(_) => Err(AllocError),
+    }
+}
+
+/// Whether a row of 70 columns has these digits, one by one.
+fn has_digits(table: &Matrix<Global>, row: u32, digits: &[u8; 18]) -> bool {
+    if table.rows() <= row || table.columns() != 70 {
+        return false;
+    }
+    for i in 0..18u32 {
+        if table.digit(row, i) != digits[i as usize] {
+            return false;
+        }
+    }
+    true
+}
+
+/// Whether the two words of such a row are written as these digits.
+fn writes_digits(table: &Matrix<Global>, row: u32, digits: &[u8; 32]) -> bool {
+    if table.rows() <= row || table.columns() != 70 {
+        return false;
+    }
+    let mut written = [0u8; 32];
+    table.write_digits(row, 0, &mut written);
+    written == *digits
+}
+
+#[test]
+fn digits_of_more_than_a_word(rt: HostRuntime) -> Result<(), AllocError> {
+    let text = seventy(rt.alloc())?;
+    let table = table_of(&rt, rt.alloc(), &text)?;
+    let t = [8, 0, 0, 0, 0, 0, 0, 0, 0, 0, 0, 0, 0, 0, 0, 1, 8, 4];
+    assert!(&rt; has_digits(&table, 0, &t));
+    assert!(&rt; writes_digits(&table, 0, b"80000000000000018400000000000000"));
+    let u = [12, 0, 0, 0, 0, 0, 0, 0, 0, 0, 0, 0, 0, 0, 0, 1, 8, 4];
+    assert!(&rt; has_digits(&table, 1, &u));
+    assert!(&rt; writes_digits(&table, 1, b"c0000000000000018400000000000000"));
+    Ok(())
 }

@@ -66,3 +66,28 @@ pub(crate) fn through_a_theorem(alloc: Global) -> Result<Vec<u8>, AllocError> {
     text.extend_from_slice(THROUGH)?;
     Ok(text)
 }
+
+/// Adds the decimal digits of a number below a thousand.
+pub(crate) fn add_number(text: &mut Vec<u8>, number: u32) -> Result<(), AllocError> {
+    let digits = b"0123456789";
+    if number >= 100 {
+        text.push(digits[number as usize / 100 % 10])?;
+    }
+    if number >= 10 {
+        text.push(digits[number as usize / 10 % 10])?;
+    }
+    text.push(digits[number as usize % 10])?;
+    Ok(())
+}
+
+/// Seventy axioms, and two theorems that rest on some of them.
+pub(crate) fn seventy(alloc: Global) -> Result<Vec<u8>, AllocError> {
+    let mut text = joined(alloc, &[b"$c wff $.\n$v p $.\nwp $f wff p $.\n"])?;
+    for k in 0..70 {
+        text.push(b'a')?;
+        add_number(&mut text, k)?;
+        text.extend_from_slice(b" $a wff p $.\n")?;
+    }
+    text.extend_from_slice(b"t $p wff p $= wp a0 a63 a64 a69 $.\nu $p wff p $= wp t a1 $.\n")?;
+    Ok(text)
+}

@@ -1,7 +1,6 @@
 //! What the options of a report change: citations by essential nodes, the second form of the matrix, and direct citations.
 
 use super::plan;
-use super::reports::seventy;
 use crate::texts::{
     BASE, CLOSE, CONSEQUENT, DETACHMENT, FIRST, FIRST_REPORT, consequent, joined, through_a_theorem,
 };

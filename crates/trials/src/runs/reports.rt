@@ -1,7 +1,7 @@
 //! What reports show: the sections and columns that are chosen, and rows of more than one word.
 
 use super::plan;
-use crate::texts::{BASE, consequent, joined, through_a_theorem};
+use crate::texts::{BASE, add_number, consequent, joined, seventy, through_a_theorem};
 use mm_lex::{Cuts, lex};
 use mm_plan::Cutting;
 use mm_rows::waves;
@@ -51,32 +51,7 @@ fn columns_of_a_typecode_alone(rt: HostRuntime) -> Result<(), AllocError> {
     Ok(())
 }
 
-/// Adds the decimal digits of a number below a thousand.
-fn add_number(text: &mut Vec<u8>, number: u32) -> Result<(), AllocError> {
-    let digits = b"0123456789";
-    if number >= 100 {
-        text.push(digits[number as usize / 100 % 10])?;
-    }
-    if number >= 10 {
-        text.push(digits[number as usize / 10 % 10])?;
-    }
-    text.push(digits[number as usize % 10])?;
-    Ok(())
-}
-
-/// Seventy axioms, and two theorems that rest on some of them.
-pub(super) fn seventy(alloc: Global) -> Result<Vec<u8>, AllocError> {
-    let mut text = joined(alloc, &[b"$c wff $.\n$v p $.\nwp $f wff p $.\n"])?;
-    for k in 0..70 {
-        text.push(b'a')?;
-        add_number(&mut text, k)?;
-        text.extend_from_slice(b" $a wff p $.\n")?;
-    }
-    text.extend_from_slice(b"t $p wff p $= wp a0 a63 a64 a69 $.\nu $p wff p $= wp t a1 $.\n")?;
-    Ok(text)
-}
-
-/// The report on these: a row of marks for each, and the axioms that they rest on with their users.
+/// The report on seventy axioms and two theorems: a row of marks for each, and the axioms that they rest on with their users.
 fn seventy_report(alloc: Global) -> Result<Vec<u8>, AllocError> {
     let mut text = joined(alloc, &[b"mmdepend 1\naxioms 70\ntheorems 2\nmatrix\n"])?;
     for (label, others) in [(b't', [0, 63, 64, 69, 0]), (b'u', [0, 1, 63, 64, 69])] {
