@@ -72,7 +72,7 @@ run() {
     # The repository's script builds the program here, where it isn't built.
     "$program" --help >/dev/null || fail "$program can't be run"
     status=0
-    "$program" ${only:+"--only=$only"} --report "$4" "$2" >"$3" 2>"$room/told" || status=$?
+    "$program" ${only:+"--only=$only"} ${essential:+--essential} --report "$4" "$2" >"$3" 2>"$room/told" || status=$?
     case $status in
         0) ;;
         1) refused "$1" "$3" ;;
@@ -111,6 +111,7 @@ section() {
         inside {
             lines++
             if (ENVIRON["section"] == "usage" && NF != 3) damaged = 1
+            if (ENVIRON["section"] == "citations" && (NF != 3 || split($3, words, " ") != $2 + 0)) damaged = 1
             if (ENVIRON["section"] == "counts" && NF != 2) damaged = 1
             if (ENVIRON["section"] == "matrix" && (NF != 2 || length($2) != axioms)) damaged = 1
             if (ENVIRON["section"] != "usage" || index($1, ENVIRON["begin"]) == 1) print
@@ -138,7 +139,7 @@ section() {
 }
 
 # take FILE NAME SECTION...: makes $room/NAME.SECTION of each section named. FILE is a database, over which the program
-# is run, or a report that it wrote.
+# is run, or a report that it wrote. The section `citations` is never in one report with the others.
 take() {
     from=$1
     name=$2
@@ -146,7 +147,7 @@ take() {
     file_of "$from" "$name"
     if is_report "$file"; then
         kind=report
-        [ -z "$chosen" ] || fail "$from: a report has the columns with which it was made, so $chosen wants a database"
+        [ -z "$chosen" ] || fail "$from: a report is as it was made, so $chosen wants a database"
         if [ "$(opening "$file" | cut -c 1-7)" = refused ]; then refused "$from" "$file"; fi
         report=$file
     else
@@ -184,6 +185,26 @@ axiom() {
     has "$2.usage" "$3" || fail "$1: has no axiom '$3'$(of_typecode)"
 }
 
+# take_citations FILE: makes $room/db.citations, of all that theorems cite.
+take_citations() {
+    only=
+    take "$1" db citations
+}
+
+# cited FILE LABEL: ends the recipe unless a theorem cites the label, or it is one of a theorem.
+cited() {
+    label=$2 awk -F: '
+        $1 "" == ENVIRON["label"] || index(" " $3 " ", " " ENVIRON["label"] " ") { found = 1; exit }
+        END { exit !found }
+    ' "$room/db.citations" || fail "$1: has no theorem '$2', and none that cites it"
+}
+
+# cited_axiom FILE LABEL: ends the recipe unless a theorem cites the label, and it is none of a theorem.
+cited_axiom() {
+    cited "$1" "$2"
+    if has db.citations "$2"; then fail "$1: '$2' is a theorem, where an axiom is wanted"; fi
+}
+
 # theorem FILE NAME.SECTION LABEL: ends the recipe unless the label is one of a theorem.
 theorem() {
     has "$2" "$3" || fail "$1: has no theorem '$3'"
@@ -202,9 +223,10 @@ all_in() {
     [ ! -s "$room/unknown" ] || fail "$1: '$(cat "$room/unknown")' is no $4 of $2"
 }
 
-# The options. Each is taken by the recipes whose usage line names it. $chosen is the last one that is about columns.
+# The options. Each is taken by the recipes whose usage line names it. $chosen is the last one that says what is reported.
 only='|-'
 begin=
+essential=
 chosen=
 while [ "$#" -gt 0 ]; do
     option=$1
@@ -213,7 +235,7 @@ while [ "$#" -gt 0 ]; do
             printf 'usage: %s\n' "$usage"
             exit 0
             ;;
-        --all | --only | --begin)
+        --all | --only | --begin | --essential)
             case $usage in *"$option"*) ;; *) bad_usage ;; esac
             ;;
         --)
@@ -226,6 +248,11 @@ while [ "$#" -gt 0 ]; do
     shift
     if [ "$option" = --all ]; then
         only=
+        chosen=$option
+        continue
+    fi
+    if [ "$option" = --essential ]; then
+        essential=$option
         chosen=$option
         continue
     fi
