@@ -1,15 +1,19 @@
 //! The calls whose arguments say what is asked for, each in one place.
 
+ghost use Rattle.std.specs.Prelude.{◌≡◌, ◌≤◌, [], IfOk, IsTrue};
+ghost use Rattle.mm_spec.specs.Citation.{steps_at, reading_faults_at};
+ghost use Rattle.mm_spec.specs.Output.{is_theorem_at};
+ghost use Rattle.mm_proof.specs.Read.{read};
+ghost use Rattle.mm_check.specs.Checker.{IsMadeFor};
 
-
-
+use mm_check::{CheckRefused, Checked, Checker, check};
 use mm_plan::{Cutting, Plan};
-
+use mm_proof::Steps;
 use mm_run::{RunEnd, run};
-use mm_spec::{Choice};
-
-
-use std::alloc::Allocator;
+use mm_spec::Choice;
+use mm_stmt::Database;
+use mm_work::{Judged, Open, check_all};
+use std::alloc::{AllocError, Allocator};
 use std::io::{Read, Write};
 use std::sync::Wait;
 use std::thread::Threads;
@@ -42,4 +46,47 @@ pub(crate) fn ended<
     } else {
         None
     }
+}
+
+/// What a theorem cites, or why its proof wasn't found valid.
+pub(crate) fn checked<A: Allocator + Copy>(
+    alloc: A,
+    database: &Database<'_, A>,
+    theorem: u32,
+    steps: &Steps<A>,
+) -> Result<Checked<A>, CheckRefused>
+    requires theorem { IsTrue (is_theorem_at database.now.statements theorem) }
+    requires steps { steps.now ≡ read theorem (steps_at database.now.statements theorem) }
+    requires sound { reading_faults_at database.now.statements theorem ≡ [] }
+{
+    check(alloc, database, theorem, steps)
+}
+
+/// The same by a checker.
+pub(crate) fn checked_by<A: Allocator + Copy>(
+    checker: &mut Checker<A>,
+    alloc: A,
+    database: &Database<'_, A>,
+    theorem: u32,
+    steps: &Steps<A>,
+) -> Result<Checked<A>, CheckRefused>
+    requires made_for { IsMadeFor database.now.statements checker.old }
+    requires theorem { IsTrue (is_theorem_at database.now.statements theorem) }
+    requires steps { steps.now ≡ read theorem (steps_at database.now.statements theorem) }
+    requires sound { reading_faults_at database.now.statements theorem ≡ [] }
+    ensures made_for { IsMadeFor database.now.statements checker.new }
+{
+    checker.check(alloc, database, theorem, steps)
+}
+
+/// What all theorems cite, or the fault of the first proof that has one, by so many workers.
+pub(crate) fn all_checked<R: Threads + Wait + Sync, A: Allocator + Copy + Send + Sync>(
+    rt: &R,
+    alloc: A,
+    database: &Database<'_, A>,
+    workers: u32,
+) -> Result<Judged<A>, AllocError>
+    requires { (1 ≤ workers) × (workers ≤ 64) }
+{
+    check_all(rt, alloc, database, workers, &Open)
 }

@@ -8,7 +8,13 @@ mod calls;
 #[cfg(test)]
 mod ends;
 #[cfg(test)]
+mod failing;
+#[cfg(test)]
 mod growth;
 pub mod heap;
+#[cfg(test)]
+mod malicious;
+#[cfg(test)]
+mod random;
 #[cfg(test)]
 mod texts;

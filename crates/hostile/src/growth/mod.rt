@@ -1,6 +1,9 @@
 //! Each growth of memory refused in turn: in runs, and in each call by itself that takes memory.
 
+mod proofs;
+mod rows;
 mod runs;
+mod words;
 
 use crate::heap::Refusing;
 use std::alloc::Global;

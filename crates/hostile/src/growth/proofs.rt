@@ -1,0 +1,203 @@
+//! The calls by which proofs are read and checked, on the first theorem of a database with two.
+
+ghost use Rattle.std.specs.Prelude.{IfSome, IsTrue};
+ghost use Rattle.mm_spec.specs.Output.{is_theorem_at};
+
+use super::{MOST, met};
+use crate::calls::{all_checked, checked, checked_by};
+use crate::heap::Refusing;
+use crate::texts::THROUGH;
+use mm_board::{Board, BoardFault, Seat};
+use mm_check::{CheckRefused, Checked, Checker};
+use mm_lex::{Cuts, lex};
+use mm_proof::{ProofRefused, Step, Steps, read_proof};
+use mm_stmt::{Database, read};
+use mm_work::{Citations, Judged};
+use std::alloc::{AllocError, Allocator, Global};
+use std::process::Abort;
+use std::thread::Threads;
+
+/// The database.
+pub(crate) fn database_of<R: Threads + Sync, A: Allocator + Copy + Send + Sync>(
+    rt: &R,
+    alloc: A,
+) -> Result<Database<'static, A>, AllocError> {
+    let cuts = Cuts::equal(alloc, THROUGH.len(), 1)?;
+    let lexed = lex(rt, alloc, THROUGH, &cuts)?;
+    read(alloc, THROUGH, lexed)
+}
+
+/// The first theorem, if there is one.
+fn first_theorem<A: Allocator>(database: &Database<'_, A>) -> Option<u32>
+    ensures { IfSome result (λ k. IsTrue (is_theorem_at database.now.statements k)) }
+{
+    let theorems = database.theorems();
+    if 0 < theorems.len() {
+        Some(theorems[0])
+    } else {
+        None
+    }
+}
+
+/// Whether these are the steps of its proof.
+fn are_steps<A: Allocator>(answer: Result<Steps<A>, ProofRefused>) -> Option<bool> {
+    match answer {
+        Ok(steps) => Some(
+            steps.theorem() == 13
+                && steps.len() == 9
+                && steps.step(4) == Step::Label(12)
+                && steps.step(8) == Step::Label(9),
+        ),
+        Err(ProofRefused::Fault(_)) => Some(false),
+        Err(ProofRefused::Memory) => None,
+    }
+}
+
+#[test]
+fn a_proof_read_without_memory(rt: HostRuntime) -> Result<(), AllocError> {
+    let heap = Refusing::new(rt.alloc());
+    let database = database_of(&rt, &heap)?;
+    let Some(theorem) = first_theorem(&database) else {
+        return Err(AllocError);
+    };
+    for number in 1..MOST {
+        heap.refuse(number);
+        let first = are_steps(read_proof(&heap, &database, theorem));
+        let refused = met(&rt, &heap, first);
+        assert!(&rt; are_steps(read_proof(&heap, &database, theorem)) == Some(true));
+        if !refused {
+            assert!(&rt; number > 1);
+            return Ok(());
+        }
+    }
+    Err(AllocError)
+}
+
+/// Whether this is what it cites.
+fn is_checked<A: Allocator>(answer: Result<Checked<A>, CheckRefused>) -> Option<bool> {
+    match answer {
+        Ok(checked) => Some(checked.theorem() == 13 && checked.cites() == [4u32, 5, 9].as_slice()),
+        Err(CheckRefused::Fault(_)) => Some(false),
+        Err(CheckRefused::Memory) => None,
+    }
+}
+
+/// Refuses each growth of a check in turn.
+fn check_with<R: Abort + Threads + Sync>(
+    rt: &R,
+    heap: &Refusing<Global>,
+) -> Result<(), AllocError> {
+    let database = database_of(rt, heap)?;
+    let Some(theorem) = first_theorem(&database) else {
+        return Err(AllocError);
+    };
+    let Ok(steps) = read_proof(heap, &database, theorem) else {
+        return Err(AllocError);
+    };
+    for number in 1..MOST {
+        heap.refuse(number);
+        let first = is_checked(checked(heap, &database, theorem, &steps));
+        let refused = met(rt, heap, first);
+        assert!(rt; is_checked(checked(heap, &database, theorem, &steps)) == Some(true));
+        if !refused {
+            assert!(rt; number > 10);
+            return Ok(());
+        }
+    }
+    Err(AllocError)
+}
+
+#[test]
+fn a_proof_checked_without_memory(rt: HostRuntime) -> Result<(), AllocError> {
+    let heap = Refusing::new(rt.alloc());
+    check_with(&rt, &heap)
+}
+
+/// Refuses each growth of a checker's first check in turn, and uses the checker again.
+fn checker_with<R: Abort + Threads + Sync>(
+    rt: &R,
+    heap: &Refusing<Global>,
+) -> Result<(), AllocError> {
+    let database = database_of(rt, heap)?;
+    let Some(theorem) = first_theorem(&database) else {
+        return Err(AllocError);
+    };
+    let Ok(steps) = read_proof(heap, &database, theorem) else {
+        return Err(AllocError);
+    };
+    for number in 1..MOST {
+        let mut checker = Checker::new(heap, &database)?;
+        heap.refuse(number);
+        let first = is_checked(checked_by(&mut checker, heap, &database, theorem, &steps));
+        let refused = met(rt, heap, first);
+        let again = is_checked(checked_by(&mut checker, heap, &database, theorem, &steps));
+        assert!(rt; again == Some(true));
+        if !refused {
+            assert!(rt; number > 5);
+            return Ok(());
+        }
+    }
+    Err(AllocError)
+}
+
+#[test]
+fn a_checker_is_used_again_after_a_refusal(rt: HostRuntime) -> Result<(), AllocError> {
+    let heap = Refusing::new(rt.alloc());
+    checker_with(&rt, &heap)
+}
+
+/// Whether this is a board with its first seat.
+fn is_board<A: Allocator>(answer: Result<(Board<A>, Seat), BoardFault>) -> Option<bool> {
+    match answer {
+        Ok((_board, seat)) => Some(seat.share() == 64 && seat.held().is_none() && seat.seen() == 3),
+        Err(BoardFault::Memory) => None,
+        Err(_) => Some(false),
+    }
+}
+
+#[test]
+fn a_board_without_memory(rt: HostRuntime) {
+    let heap = Refusing::new(rt.alloc());
+    for number in 1..MOST {
+        heap.refuse(number);
+        let refused = met(&rt, &heap, is_board(Board::new(&heap, 3)));
+        assert!(&rt; is_board(Board::new(&heap, 3)) == Some(true));
+        if !refused {
+            assert!(&rt; number > 1);
+            return;
+        }
+    }
+    assert!(&rt; false);
+}
+
+/// Whether this is what both theorems cite.
+fn are_cited<A: Allocator>(citations: &Citations<A>) -> bool {
+    citations.theorems() == [13u32, 17].as_slice()
+        && citations.of(0) == [4u32, 5, 9].as_slice()
+        && citations.of(1) == [4u32, 13].as_slice()
+}
+
+/// Whether both proofs were found valid, with what they cite.
+fn is_judged<A: Allocator>(answer: Result<Judged<A>, AllocError>) -> Option<bool> {
+    match answer {
+        Ok(Judged::Valid(citations)) => Some(citations.rows() == 2 && are_cited(&citations)),
+        Ok(Judged::Faulty(_)) => Some(false),
+        Err(_) => None,
+    }
+}
+
+#[test]
+fn all_proofs_checked_without_memory(rt: HostRuntime) -> Result<(), AllocError> {
+    let heap = Refusing::new(rt.alloc());
+    let database = database_of(&rt, &heap)?;
+    for number in 1..MOST {
+        heap.refuse(number);
+        let refused = met(&rt, &heap, is_judged(all_checked(&rt, &heap, &database, 2)));
+        assert!(&rt; is_judged(all_checked(&rt, &heap, &database, 2)) == Some(true));
+        if !refused {
+            assert!(&rt; number > 10);
+            return Ok(());
+        }
+    }
+    Err(AllocError)
+}
