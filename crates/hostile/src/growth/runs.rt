@@ -5,13 +5,13 @@ use crate::calls::{ended, plan_of};
 use crate::ends::Noting;
 use crate::heap::Refusing;
 use crate::texts::{
-    DISJOINT, DISJOINT_REPORT, FIRST, FIRST_REPORT, NOT_DISJOINT, NOT_DISJOINT_REFUSAL, THROUGH,
+    BASE, DISJOINT, DISJOINT_REPORT, FIRST, FIRST_REPORT, NOT_DISJOINT, NOT_DISJOINT_REFUSAL, THROUGH,
     THROUGH_REPORT, TWO_FAULTS, TWO_FAULTS_REFUSAL,
 };
 use mm_plan::Cutting;
 use mm_run::RunEnd;
 use mm_spec::Choice;
-use std::alloc::Global;
+use std::alloc::{AllocError, Global};
 use std::process::Abort;
 use std::sync::Wait;
 use std::thread::Threads;
@@ -60,17 +60,18 @@ fn refused_at<R: Abort + Threads + Wait + Sync>(
     refused
 }
 
-/// Refuses each growth of a run in turn, until a run meets no refusal.
+/// Refuses a growth of a run, until a run meets no refusal: the first one, and then each that comes so many behind it.
 fn refused_in_turn<R: Abort + Threads + Wait + Sync>(
     rt: &R,
     alloc: Global,
     text: &[u8],
     output: &[u8],
+    step: u64,
 ) {
     let heap = Refusing::new(alloc);
-    for number in 1..MOST {
-        if !refused_at(rt, &heap, alloc, text, output, number) {
-            assert!(rt; number > 20);
+    for turn in 0..MOST {
+        if !refused_at(rt, &heap, alloc, text, output, turn.wrapping_mul(step).wrapping_add(1)) {
+            assert!(rt; turn > 20);
             return;
         }
     }
@@ -87,6 +88,37 @@ fn a_run_without_memory_writes_nothing(rt: HostRuntime) {
         (TWO_FAULTS, TWO_FAULTS_REFUSAL),
     ];
     for (text, output) in rows {
-        refused_in_turn(&rt, rt.alloc(), text, output);
+        refused_in_turn(&rt, rt.alloc(), text, output, 1);
     }
+}
+
+/// A database of so many theorems. Its report is written in several pieces, and its rows are made by several threads.
+fn many(alloc: Global, count: u32) -> Result<Vec<u8>, AllocError> {
+    let mut text = BASE.to_vec(alloc)?;
+    for number in 0..count {
+        text.push(b't')?;
+        for unit in [1000, 100, 10, 1] {
+            text.push(b'0' + (number / unit % 10) as u8)?;
+        }
+        text.extend_from_slice(b" $p wff ( p -> ( q -> p ) ) $= wp wq wp wi wi $.\n")?;
+    }
+    Ok(text)
+}
+
+/// What a run writes of the text.
+fn output_of<R: Threads + Wait + Sync>(rt: &R, alloc: Global, mut text: &[u8]) -> Vec<u8> {
+    let plan = plan_of(Cutting::Count(1), 1, Choice::All);
+    let mut written = Vec::new(alloc);
+    let _ = ended(rt, alloc, &plan, &mut text, &mut written);
+    written
+}
+
+#[test]
+fn a_long_report_takes_no_memory_while_it_is_written(rt: HostRuntime) -> Result<(), AllocError> {
+    let alloc = rt.alloc();
+    let text = many(alloc, 1500)?;
+    let output = output_of(&rt, alloc, &text);
+    assert!(&rt; output.len() > 30_000);
+    refused_in_turn(&rt, alloc, &text, &output, 61);
+    Ok(())
 }
