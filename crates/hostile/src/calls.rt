@@ -29,12 +29,7 @@ pub(crate) fn plan_of<A: Allocator>(cuts: Cutting<A>, workers: u32, choice: Choi
 }
 
 /// How a run ends; `None` where the plan isn't lawful.
-pub(crate) fn ended<
-    R: Threads + Wait + Sync,
-    A: Allocator + Copy + Send + Sync,
-    I: Read,
-    O: Write,
->(
+pub(crate) fn ended<R: Threads + Wait + Sync, A: Allocator + Copy + Send + Sync, I: Read, O: Write>(
     rt: &R,
     alloc: A,
     plan: &Plan<A>,

@@ -44,7 +44,11 @@ fn reads<R: Threads + Wait + Sync>(
 // would show.
 #[test]
 fn a_read_that_fails_is_not_tried_again(rt: HostRuntime) {
-    for kind in [ErrorKind::Other, ErrorKind::Interrupted, ErrorKind::WouldBlock] {
+    for kind in [
+        ErrorKind::Other,
+        ErrorKind::Interrupted,
+        ErrorKind::WouldBlock,
+    ] {
         for fails_at in 1..READS + 1 {
             let want = (RunEnd::ReadFailed, b"".as_slice(), fails_at);
             assert!(&rt; reads(&rt, rt.alloc(), fails_at, kind, want));

@@ -195,7 +195,14 @@ fn a_message_that_cannot_be_written_leaves_the_status(rt: HostRuntime) {
 fn both_outputs_closed(rt: HostRuntime) {
     for words in [["mmdepend"].as_slice(), &["mmdepend", "--help"]] {
         let mut text = FIRST;
-        let found = status(&rt, rt.alloc(), words, &mut text, &mut closed(), &mut closed());
+        let found = status(
+            &rt,
+            rt.alloc(),
+            words,
+            &mut text,
+            &mut closed(),
+            &mut closed(),
+        );
         assert_eq!(rt; found, 3);
     }
 }

@@ -61,7 +61,11 @@ fn columns_without_memory(rt: HostRuntime) -> Result<(), AllocError> {
     let only = Some(b"|-".as_slice());
     for number in 1..MOST {
         heap.refuse(number);
-        let refused = met(&rt, &heap, are_columns(Columns::new(&heap, &database, only)));
+        let refused = met(
+            &rt,
+            &heap,
+            are_columns(Columns::new(&heap, &database, only)),
+        );
         assert!(&rt; are_columns(Columns::new(&heap, &database, only)) == Some(true));
         if !refused {
             assert!(&rt; number > 1);
@@ -94,7 +98,11 @@ fn rows_without_memory(rt: HostRuntime) -> Result<(), AllocError> {
     let columns = Columns::new(&heap, &database, None)?;
     for number in 1..MOST {
         heap.refuse(number);
-        let refused = met(&rt, &heap, is_full(matrix(&rt, &heap, &citations, &columns)));
+        let refused = met(
+            &rt,
+            &heap,
+            is_full(matrix(&rt, &heap, &citations, &columns)),
+        );
         assert!(&rt; is_full(matrix(&rt, &heap, &citations, &columns)) == Some(true));
         if !refused {
             assert!(&rt; number > 5);

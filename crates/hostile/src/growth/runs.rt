@@ -5,8 +5,8 @@ use crate::calls::{ended, plan_of};
 use crate::ends::Noting;
 use crate::heap::Refusing;
 use crate::texts::{
-    BASE, DISJOINT, DISJOINT_REPORT, FIRST, FIRST_REPORT, NOT_DISJOINT, NOT_DISJOINT_REFUSAL, THROUGH,
-    THROUGH_REPORT, TWO_FAULTS, TWO_FAULTS_REFUSAL,
+    BASE, COMPRESSED, COMPRESSED_REPORT, DISJOINT, DISJOINT_REPORT, FIRST, FIRST_REPORT,
+    NOT_DISJOINT, NOT_DISJOINT_REFUSAL, THROUGH, THROUGH_REPORT, TWO_FAULTS, TWO_FAULTS_REFUSAL,
 };
 use mm_plan::Cutting;
 use mm_run::RunEnd;
@@ -70,7 +70,14 @@ fn refused_in_turn<R: Abort + Threads + Wait + Sync>(
 ) {
     let heap = Refusing::new(alloc);
     for turn in 0..MOST {
-        if !refused_at(rt, &heap, alloc, text, output, turn.wrapping_mul(step).wrapping_add(1)) {
+        if !refused_at(
+            rt,
+            &heap,
+            alloc,
+            text,
+            output,
+            turn.wrapping_mul(step).wrapping_add(1),
+        ) {
             assert!(rt; turn > 20);
             return;
         }
@@ -83,6 +90,7 @@ fn a_run_without_memory_writes_nothing(rt: HostRuntime) {
     let rows = [
         (FIRST, FIRST_REPORT),
         (THROUGH, THROUGH_REPORT),
+        (COMPRESSED, COMPRESSED_REPORT),
         (NOT_DISJOINT, NOT_DISJOINT_REFUSAL),
         (DISJOINT, DISJOINT_REPORT),
         (TWO_FAULTS, TWO_FAULTS_REFUSAL),

@@ -61,11 +61,7 @@ fn a_piece_without_memory(rt: HostRuntime) {
     let heap = Refusing::new(rt.alloc());
     for number in 1..MOST {
         heap.refuse(number);
-        let refused = met(
-            &rt,
-            &heap,
-            is_beginning(lex_piece(&heap, FIRST, 0, PLACE)),
-        );
+        let refused = met(&rt, &heap, is_beginning(lex_piece(&heap, FIRST, 0, PLACE)));
         assert!(&rt; is_beginning(lex_piece(&heap, FIRST, 0, PLACE)) == Some(true));
         if !refused {
             assert!(&rt; number > 1);

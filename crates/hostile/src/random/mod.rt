@@ -46,7 +46,9 @@ fn cuts_by(alloc: Global, len: usize, chance: &mut Chance) -> Cutting<Global> {
     let mut places = Vec::new(alloc);
     let mut place = 0usize;
     for _ in 0..chance.below(6) {
-        place = place.saturating_add(chance.below(len.min(4096) / 2 + 2)).min(100_000);
+        place = place
+            .saturating_add(chance.below(len.min(4096) / 2 + 2))
+            .min(100_000);
         let _ = places.push(place as u32);
     }
     Cutting::Places(places)
@@ -198,11 +200,17 @@ fn texts_by_chance_have_one_answer(rt: HostRuntime) {
         let mut chance = Chance::new(seed as u64);
         let (text, is_unchanged) = text_by(rt.alloc(), &mut chance);
         let end = judged(&rt, rt.alloc(), &text, &mut chance);
-        assert!(&rt; !is_unchanged || end == Some(RunEnd::Accepted), "text {seed}");
+        assert!(&rt;
+            !is_unchanged || end == Some(RunEnd::Accepted),
+            "text {seed}"
+        );
         tally.count(end);
     }
     assert!(&rt; tally.accepted > TEXTS / 4);
     for code in CODES {
-        assert!(&rt; tally.faults[code as usize % 46] > 0, "no text has fault {code}");
+        assert!(&rt;
+            tally.faults[code as usize % 46] > 0,
+            "no text has fault {code}"
+        );
     }
 }

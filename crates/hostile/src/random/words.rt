@@ -32,7 +32,14 @@ impl Words {
 
 /// What may stand between two words.
 const BETWEEN: [Word; 8] = [
-    b" ", b" ", b" ", b"\n", b"\t", b"\r\n", b"\x0c ", b" $( a comment $) ",
+    b" ",
+    b" ",
+    b" ",
+    b"\n",
+    b"\t",
+    b"\r\n",
+    b"\x0c ",
+    b" $( a comment $) ",
 ];
 
 /// Whether a word is one letter of a compressed proof.
