@@ -1,4 +1,6 @@
-//! Each growth of memory refused in turn: in runs, and in each call by itself that takes memory.
+//! Each growth of memory refused in turn: in runs, and in each call by itself that takes an allocator. `line` of `mm_line`
+//! and `status` of the program take the process's memory alone, as clap does, so none of theirs can be refused here;
+//! `bench/failures` refuses those of the program.
 
 mod proofs;
 mod rows;

@@ -113,6 +113,30 @@ fn a_proof_checked_without_memory(rt: HostRuntime) -> Result<(), AllocError> {
     check_with(&rt, &heap)
 }
 
+/// Whether there is a checker.
+fn is_made<A: Allocator>(answer: Result<Checker<A>, AllocError>) -> Option<bool> {
+    match answer {
+        Ok(_) => Some(true),
+        Err(_) => None,
+    }
+}
+
+#[test]
+fn a_checker_made_without_memory(rt: HostRuntime) -> Result<(), AllocError> {
+    let heap = Refusing::new(rt.alloc());
+    let database = database_of(&rt, &heap)?;
+    for number in 1..MOST {
+        heap.refuse(number);
+        let refused = met(&rt, &heap, is_made(Checker::new(&heap, &database)));
+        assert!(&rt; is_made(Checker::new(&heap, &database)) == Some(true));
+        if !refused {
+            assert!(&rt; number > 3);
+            return Ok(());
+        }
+    }
+    Err(AllocError)
+}
+
 /// Refuses each growth of a checker's first check in turn, and uses the checker again.
 fn checker_with<R: Abort + Threads + Sync>(
     rt: &R,
