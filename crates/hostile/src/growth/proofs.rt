@@ -1,7 +1,9 @@
 //! The calls by which proofs are read and checked, on the first theorem of a database with two.
 
-ghost use Rattle.std.specs.Prelude.{IfSome, IsTrue};
+ghost use Rattle.std.specs.Prelude.{◌≡◌, [], IfSome, IsTrue};
+ghost use Rattle.mm_spec.specs.Citation.{steps_at, reading_faults_at};
 ghost use Rattle.mm_spec.specs.Output.{is_theorem_at};
+ghost use Rattle.mm_proof.specs.Read.{read};
 
 use super::{MOST, met};
 use crate::calls::{all_checked, checked, checked_by};
@@ -11,10 +13,11 @@ use mm_board::{Board, BoardFault, Seat};
 use mm_check::{CheckRefused, Checked, Checker};
 use mm_lex::{Cuts, lex};
 use mm_proof::{ProofRefused, Step, Steps, read_proof};
-use mm_stmt::{Database, read};
+use mm_stmt::{Database, read as read_statements};
 use mm_work::{Citations, Judged};
 use std::alloc::{AllocError, Allocator, Global};
 use std::process::Abort;
+use std::sync::Wait;
 use std::thread::Threads;
 
 /// The database.
@@ -24,7 +27,7 @@ pub(crate) fn database_of<R: Threads + Sync, A: Allocator + Copy + Send + Sync>(
 ) -> Result<Database<'static, A>, AllocError> {
     let cuts = Cuts::equal(alloc, THROUGH.len(), 1)?;
     let lexed = lex(rt, alloc, THROUGH, &cuts)?;
-    read(alloc, THROUGH, lexed)
+    read_statements(alloc, THROUGH, lexed)
 }
 
 /// The first theorem, if there is one.
@@ -53,24 +56,44 @@ fn are_steps<A: Allocator>(answer: Result<Steps<A>, ProofRefused>) -> Option<boo
     }
 }
 
+/// Refuses each growth of reading that proof in turn. Whether a reading met no refusal at last, and not at once.
+fn read_in_turn<'h, R: Abort>(
+    rt: &R,
+    heap: &'h Refusing<Global>,
+    database: &Database<'static, &'h Refusing<Global>>,
+    theorem: u32,
+) -> bool
+    requires { IsTrue (is_theorem_at database.now.statements theorem) }
+{
+    for number in 1..MOST {
+        heap.refuse(number);
+        let refused = met(rt, heap, are_steps(read_proof(heap, database, theorem)));
+        assert!(rt; are_steps(read_proof(heap, database, theorem)) == Some(true));
+        if !refused {
+            return number > 1;
+        }
+    }
+    false
+}
+
+/// The same on the first theorem.
+fn first_read<'h, R: Abort>(
+    rt: &R,
+    heap: &'h Refusing<Global>,
+    database: &Database<'static, &'h Refusing<Global>>,
+) -> bool {
+    match first_theorem(database) {
+        Some(theorem) => read_in_turn(rt, heap, database, theorem),
+        None => false,
+    }
+}
+
 #[test]
 fn a_proof_read_without_memory(rt: HostRuntime) -> Result<(), AllocError> {
     let heap = Refusing::new(rt.alloc());
     let database = database_of(&rt, &heap)?;
-    let Some(theorem) = first_theorem(&database) else {
-        return Err(AllocError);
-    };
-    for number in 1..MOST {
-        heap.refuse(number);
-        let first = are_steps(read_proof(&heap, &database, theorem));
-        let refused = met(&rt, &heap, first);
-        assert!(&rt; are_steps(read_proof(&heap, &database, theorem)) == Some(true));
-        if !refused {
-            assert!(&rt; number > 1);
-            return Ok(());
-        }
-    }
-    Err(AllocError)
+    assert!(&rt; first_read(&rt, &heap, &database));
+    Ok(())
 }
 
 /// Whether this is what it cites.
@@ -82,37 +105,6 @@ fn is_checked<A: Allocator>(answer: Result<Checked<A>, CheckRefused>) -> Option<
     }
 }
 
-/// Refuses each growth of a check in turn.
-fn check_with<R: Abort + Threads + Sync>(
-    rt: &R,
-    heap: &Refusing<Global>,
-) -> Result<(), AllocError> {
-    let database = database_of(rt, heap)?;
-    let Some(theorem) = first_theorem(&database) else {
-        return Err(AllocError);
-    };
-    let Ok(steps) = read_proof(heap, &database, theorem) else {
-        return Err(AllocError);
-    };
-    for number in 1..MOST {
-        heap.refuse(number);
-        let first = is_checked(checked(heap, &database, theorem, &steps));
-        let refused = met(rt, heap, first);
-        assert!(rt; is_checked(checked(heap, &database, theorem, &steps)) == Some(true));
-        if !refused {
-            assert!(rt; number > 10);
-            return Ok(());
-        }
-    }
-    Err(AllocError)
-}
-
-#[test]
-fn a_proof_checked_without_memory(rt: HostRuntime) -> Result<(), AllocError> {
-    let heap = Refusing::new(rt.alloc());
-    check_with(&rt, &heap)
-}
-
 /// Whether there is a checker.
 fn is_made<A: Allocator>(answer: Result<Checker<A>, AllocError>) -> Option<bool> {
     match answer {
@@ -121,53 +113,131 @@ fn is_made<A: Allocator>(answer: Result<Checker<A>, AllocError>) -> Option<bool>
     }
 }
 
+/// Refuses each growth of making a checker in turn.
+fn made_in_turn<'h, R: Abort>(
+    rt: &R,
+    heap: &'h Refusing<Global>,
+    database: &Database<'static, &'h Refusing<Global>>,
+) -> bool {
+    for number in 1..MOST {
+        heap.refuse(number);
+        let refused = met(rt, heap, is_made(Checker::new(heap, database)));
+        assert!(rt; is_made(Checker::new(heap, database)) == Some(true));
+        if !refused {
+            return number > 3;
+        }
+    }
+    false
+}
+
 #[test]
 fn a_checker_made_without_memory(rt: HostRuntime) -> Result<(), AllocError> {
     let heap = Refusing::new(rt.alloc());
     let database = database_of(&rt, &heap)?;
-    for number in 1..MOST {
-        heap.refuse(number);
-        let refused = met(&rt, &heap, is_made(Checker::new(&heap, &database)));
-        assert!(&rt; is_made(Checker::new(&heap, &database)) == Some(true));
-        if !refused {
-            assert!(&rt; number > 3);
-            return Ok(());
-        }
-    }
-    Err(AllocError)
+    assert!(&rt; made_in_turn(&rt, &heap, &database));
+    Ok(())
 }
 
-/// Refuses each growth of a checker's first check in turn, and uses the checker again.
-fn checker_with<R: Abort + Threads + Sync>(
+/// Refuses each growth of a check in turn.
+fn checked_in_turn<'h, R: Abort>(
     rt: &R,
-    heap: &Refusing<Global>,
-) -> Result<(), AllocError> {
-    let database = database_of(rt, heap)?;
-    let Some(theorem) = first_theorem(&database) else {
-        return Err(AllocError);
-    };
-    let Ok(steps) = read_proof(heap, &database, theorem) else {
-        return Err(AllocError);
-    };
+    heap: &'h Refusing<Global>,
+    database: &Database<'static, &'h Refusing<Global>>,
+    theorem: u32,
+    steps: &Steps<&'h Refusing<Global>>,
+) -> bool
+    requires theorem { IsTrue (is_theorem_at database.now.statements theorem) }
+    requires steps { steps.now ≡ read theorem (steps_at database.now.statements theorem) }
+    requires sound { reading_faults_at database.now.statements theorem ≡ [] }
+{
     for number in 1..MOST {
-        let mut checker = Checker::new(heap, &database)?;
         heap.refuse(number);
-        let first = is_checked(checked_by(&mut checker, heap, &database, theorem, &steps));
-        let refused = met(rt, heap, first);
-        let again = is_checked(checked_by(&mut checker, heap, &database, theorem, &steps));
-        assert!(rt; again == Some(true));
+        let refused = met(
+            rt,
+            heap,
+            is_checked(checked(heap, database, theorem, steps)),
+        );
+        assert!(rt; is_checked(checked(heap, database, theorem, steps)) == Some(true));
         if !refused {
-            assert!(rt; number > 5);
-            return Ok(());
+            return number > 10;
         }
     }
-    Err(AllocError)
+    false
+}
+
+/// Refuses a growth of a checker's first check, and uses the checker again. Whether the growth came; `None` where there is
+/// no checker.
+fn checker_refused<'h, R: Abort>(
+    rt: &R,
+    heap: &'h Refusing<Global>,
+    database: &Database<'static, &'h Refusing<Global>>,
+    theorem: u32,
+    steps: &Steps<&'h Refusing<Global>>,
+    number: u64,
+) -> Option<bool>
+    requires theorem { IsTrue (is_theorem_at database.now.statements theorem) }
+    requires steps { steps.now ≡ read theorem (steps_at database.now.statements theorem) }
+    requires sound { reading_faults_at database.now.statements theorem ≡ [] }
+{
+    let Ok(mut checker) = Checker::new(heap, database) else {
+        return None;
+    };
+    heap.refuse(number);
+    let first = is_checked(checked_by(&mut checker, heap, database, theorem, steps));
+    let refused = met(rt, heap, first);
+    let again = is_checked(checked_by(&mut checker, heap, database, theorem, steps));
+    assert!(rt; again == Some(true));
+    Some(refused)
+}
+
+/// Refuses each growth of a checker's first check in turn.
+fn checkers_in_turn<'h, R: Abort>(
+    rt: &R,
+    heap: &'h Refusing<Global>,
+    database: &Database<'static, &'h Refusing<Global>>,
+    theorem: u32,
+    steps: &Steps<&'h Refusing<Global>>,
+) -> bool
+    requires theorem { IsTrue (is_theorem_at database.now.statements theorem) }
+    requires steps { steps.now ≡ read theorem (steps_at database.now.statements theorem) }
+    requires sound { reading_faults_at database.now.statements theorem ≡ [] }
+{
+    for number in 1..MOST {
+        match checker_refused(rt, heap, database, theorem, steps, number) {
+            Some(true) => {}
+            Some(false) => return number > 5,
+            None => return false,
+        }
+    }
+    false
+}
+
+/// Both on the first theorem.
+fn first_checked<'h, R: Abort>(
+    rt: &R,
+    heap: &'h Refusing<Global>,
+    database: &Database<'static, &'h Refusing<Global>>,
+) -> bool {
+    let Some(theorem) = first_theorem(database) else {
+        return false;
+    };
+    match read_proof(heap, database, theorem) {
+        Ok(steps) => {
+            checked_in_turn(rt, heap, database, theorem, &steps)
+                && checkers_in_turn(rt, heap, database, theorem, &steps)
+        }
+        Err(_) => false,
+    }
 }
 
 #[test]
-fn a_checker_is_used_again_after_a_refusal(rt: HostRuntime) -> Result<(), AllocError> {
+fn a_proof_checked_without_memory_and_again_by_the_same_checker(
+    rt: HostRuntime,
+) -> Result<(), AllocError> {
     let heap = Refusing::new(rt.alloc());
-    checker_with(&rt, &heap)
+    let database = database_of(&rt, &heap)?;
+    assert!(&rt; first_checked(&rt, &heap, &database));
+    Ok(())
 }
 
 /// Whether this is a board with its first seat.
@@ -210,18 +280,27 @@ fn is_judged<A: Allocator>(answer: Result<Judged<A>, AllocError>) -> Option<bool
     }
 }
 
+/// Refuses each growth of checking all proofs by two workers in turn.
+fn judged_in_turn<'h, R: Abort + Threads + Wait + Sync>(
+    rt: &R,
+    heap: &'h Refusing<Global>,
+    database: &Database<'static, &'h Refusing<Global>>,
+) -> bool {
+    for number in 1..MOST {
+        heap.refuse(number);
+        let refused = met(rt, heap, is_judged(all_checked(rt, heap, database, 2)));
+        assert!(rt; is_judged(all_checked(rt, heap, database, 2)) == Some(true));
+        if !refused {
+            return number > 10;
+        }
+    }
+    false
+}
+
 #[test]
 fn all_proofs_checked_without_memory(rt: HostRuntime) -> Result<(), AllocError> {
     let heap = Refusing::new(rt.alloc());
     let database = database_of(&rt, &heap)?;
-    for number in 1..MOST {
-        heap.refuse(number);
-        let refused = met(&rt, &heap, is_judged(all_checked(&rt, &heap, &database, 2)));
-        assert!(&rt; is_judged(all_checked(&rt, &heap, &database, 2)) == Some(true));
-        if !refused {
-            assert!(&rt; number > 10);
-            return Ok(());
-        }
-    }
-    Err(AllocError)
+    assert!(&rt; judged_in_turn(&rt, &heap, &database));
+    Ok(())
 }

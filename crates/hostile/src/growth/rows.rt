@@ -5,8 +5,10 @@ use super::{MOST, met};
 use crate::calls::all_checked;
 use crate::heap::Refusing;
 use mm_rows::{Columns, Matrix, matrix, waves};
+use mm_stmt::Database;
 use mm_work::{Citations, Judged};
-use std::alloc::{AllocError, Allocator};
+use std::alloc::{AllocError, Allocator, Global};
+use std::process::Abort;
 use std::sync::Wait;
 use std::thread::Threads;
 
@@ -30,20 +32,29 @@ fn are_waves<A: Allocator>(answer: Result<Vec<u32, A>, AllocError>) -> Option<bo
     }
 }
 
+/// Refuses each growth in turn. Whether a call met no refusal at last, and not at once; so too below.
+fn waves_in_turn<'h, R: Abort>(
+    rt: &R,
+    heap: &'h Refusing<Global>,
+    citations: &Citations<&'h Refusing<Global>>,
+) -> bool {
+    for number in 1..MOST {
+        heap.refuse(number);
+        let refused = met(rt, heap, are_waves(waves(heap, citations)));
+        assert!(rt; are_waves(waves(heap, citations)) == Some(true));
+        if !refused {
+            return number > 1;
+        }
+    }
+    false
+}
+
 #[test]
 fn waves_without_memory(rt: HostRuntime) -> Result<(), AllocError> {
     let heap = Refusing::new(rt.alloc());
     let citations = citations_of(&rt, &heap)?;
-    for number in 1..MOST {
-        heap.refuse(number);
-        let refused = met(&rt, &heap, are_waves(waves(&heap, &citations)));
-        assert!(&rt; are_waves(waves(&heap, &citations)) == Some(true));
-        if !refused {
-            assert!(&rt; number > 1);
-            return Ok(());
-        }
-    }
-    Err(AllocError)
+    assert!(&rt; waves_in_turn(&rt, &heap, &citations));
+    Ok(())
 }
 
 /// Whether these are the columns of the axioms of one typecode.
@@ -54,25 +65,29 @@ fn are_columns<A: Allocator>(answer: Result<Columns<A>, AllocError>) -> Option<b
     }
 }
 
+fn columns_in_turn<R: Abort>(
+    rt: &R,
+    heap: &Refusing<Global>,
+    database: &Database<'static, Global>,
+) -> bool {
+    let only = Some(b"|-".as_slice());
+    for number in 1..MOST {
+        heap.refuse(number);
+        let refused = met(rt, heap, are_columns(Columns::new(heap, database, only)));
+        assert!(rt; are_columns(Columns::new(heap, database, only)) == Some(true));
+        if !refused {
+            return number > 1;
+        }
+    }
+    false
+}
+
 #[test]
 fn columns_without_memory(rt: HostRuntime) -> Result<(), AllocError> {
     let heap = Refusing::new(rt.alloc());
     let database = database_of(&rt, rt.alloc())?;
-    let only = Some(b"|-".as_slice());
-    for number in 1..MOST {
-        heap.refuse(number);
-        let refused = met(
-            &rt,
-            &heap,
-            are_columns(Columns::new(&heap, &database, only)),
-        );
-        assert!(&rt; are_columns(Columns::new(&heap, &database, only)) == Some(true));
-        if !refused {
-            assert!(&rt; number > 1);
-            return Ok(());
-        }
-    }
-    Err(AllocError)
+    assert!(&rt; columns_in_turn(&rt, &heap, &database));
+    Ok(())
 }
 
 /// Whether each of the two theorems rests on each of the three axioms.
@@ -90,24 +105,28 @@ fn is_full<A: Allocator>(answer: Result<Matrix<A>, AllocError>) -> Option<bool> 
     }
 }
 
+fn rows_in_turn<'h, R: Abort + Threads + Sync>(
+    rt: &R,
+    heap: &'h Refusing<Global>,
+    citations: &Citations<&'h Refusing<Global>>,
+    columns: &Columns<&'h Refusing<Global>>,
+) -> bool {
+    for number in 1..MOST {
+        heap.refuse(number);
+        let refused = met(rt, heap, is_full(matrix(rt, heap, citations, columns)));
+        assert!(rt; is_full(matrix(rt, heap, citations, columns)) == Some(true));
+        if !refused {
+            return number > 5;
+        }
+    }
+    false
+}
+
 #[test]
 fn rows_without_memory(rt: HostRuntime) -> Result<(), AllocError> {
     let heap = Refusing::new(rt.alloc());
-    let database = database_of(&rt, &heap)?;
     let citations = citations_of(&rt, &heap)?;
-    let columns = Columns::new(&heap, &database, None)?;
-    for number in 1..MOST {
-        heap.refuse(number);
-        let refused = met(
-            &rt,
-            &heap,
-            is_full(matrix(&rt, &heap, &citations, &columns)),
-        );
-        assert!(&rt; is_full(matrix(&rt, &heap, &citations, &columns)) == Some(true));
-        if !refused {
-            assert!(&rt; number > 5);
-            return Ok(());
-        }
-    }
-    Err(AllocError)
+    let columns = Columns::new(&heap, &database_of(&rt, &heap)?, None)?;
+    assert!(&rt; rows_in_turn(&rt, &heap, &citations, &columns));
+    Ok(())
 }
