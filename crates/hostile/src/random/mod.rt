@@ -28,7 +28,7 @@ const TEXTS: usize = 2000;
 
 /// Numbers of workers, and of pieces. Large ones are rare, since they cost many threads.
 const NUMBERS: [u32; 24] = [
-    1, 1, 1, 2, 2, 2, 2, 2, 2, 3, 3, 3, 3, 3, 4, 4, 4, 5, 5, 6, 7, 8, 13, 64,
+    1, 1, 1, 1, 1, 1, 1, 1, 2, 2, 2, 2, 2, 2, 2, 2, 3, 3, 3, 3, 4, 4, 7, 33,
 ];
 
 /// The numbers of the codes of faults, but for that of a text of more than 2,147,483,647 bytes (0) and that of a formula of
