@@ -26,13 +26,31 @@ impl Read for Failing {
     }
 }
 
-/// A writer that takes nothing.
+/// A writer that takes one byte a call, so many of them, and then none: its calls fail, or take nothing.
 #[derive(Drop)]
-struct Closed {}
+struct Closing {
+    left: usize,
+    fails: bool,
+}
 
-impl Write for Closed {
-    fn write(&mut self, _: &[u8]) -> io::Result<usize> {
-        Err(io::Error::from(ErrorKind::BrokenPipe))
+/// A writer that is closed from its first call on.
+fn closed() -> Closing {
+    Closing {
+        left: 0,
+        fails: true,
+    }
+}
+
+impl Write for Closing {
+    fn write(&mut self, bytes: &[u8]) -> io::Result<usize> {
+        if self.left > 0 && !bytes.is_empty() {
+            self.left -= 1;
+            return Ok(1);
+        }
+        if self.fails {
+            return Err(io::Error::from(ErrorKind::BrokenPipe));
+        }
+        Ok(0)
     }
 
     fn flush(&mut self) -> io::Result<()> {
@@ -133,15 +151,28 @@ fn a_file_is_read_in_place_of_the_input(rt: HostRuntime) -> Result<(), Fail> {
     Ok(())
 }
 
+/// Whether the program, on these words and the first text, tells that writing failed, with an output that takes so many
+/// bytes.
+fn stops<R: Threads + Wait + Files + Sync + AllocGlobal>(
+    rt: &R,
+    words: &[&str],
+    left: usize,
+    fails: bool,
+) -> bool {
+    let mut text = FIRST;
+    let mut output = Closing { left, fails };
+    let mut told = Vec::new(rt.alloc());
+    let found = status(rt, rt.alloc(), words, &mut text, &mut output, &mut told);
+    found == 3 && output.left == 0 && told.as_slice() == b"mmdepend: writing failed\n".as_slice()
+}
+
 #[test]
 fn an_output_that_is_closed(rt: HostRuntime) {
-    let alloc = rt.alloc();
-    for words in [["mmdepend"].as_slice(), &["mmdepend", "--help"]] {
-        let mut text = FIRST;
-        let mut told = Vec::new(alloc);
-        let found = status(&rt, alloc, words, &mut text, &mut Closed {}, &mut told);
-        assert_eq!(rt; found, 3);
-        assert_eq!(rt; told.as_slice(), b"mmdepend: writing failed\n".as_slice());
+    for fails in [true, false] {
+        for left in [0, 1, 42, 84] {
+            assert!(&rt; stops(&rt, &["mmdepend"], left, fails));
+            assert!(&rt; stops(&rt, &["mmdepend", "--help"], left, fails));
+        }
     }
 }
 
@@ -151,11 +182,29 @@ fn a_message_that_cannot_be_written_leaves_the_status(rt: HostRuntime) {
     for (words, number) in [
         (["mmdepend", "--pieces", "0"].as_slice(), 2u8),
         (&["mmdepend", "no/such/file.mm"], 3),
+        (&["mmdepend", "/"], 3),
     ] {
         let mut text = FIRST;
         let mut written = Vec::new(alloc);
-        let found = status(&rt, alloc, words, &mut text, &mut written, &mut Closed {});
+        let found = status(&rt, alloc, words, &mut text, &mut written, &mut closed());
         assert_eq!(rt; found, number);
         assert_eq!(rt; written.len(), 0);
+    }
+}
+
+// What fails first decides, and the status tells of it though nothing else can.
+#[test]
+fn both_outputs_closed(rt: HostRuntime) {
+    for words in [["mmdepend"].as_slice(), &["mmdepend", "--help"]] {
+        let mut text = FIRST;
+        let found = status(
+            &rt,
+            rt.alloc(),
+            words,
+            &mut text,
+            &mut closed(),
+            &mut closed(),
+        );
+        assert_eq!(rt; found, 3);
     }
 }

@@ -1,50 +1,11 @@
-//! How runs end, wherever the text is cut, and where reading or writing fails.
+//! How runs end, wherever the text is cut.
 
-use crate::runs::{plan, writes};
+use crate::runs::writes;
 use crate::texts::{FIRST, FIRST_REPORT, NOTHING_REPORT};
 use mm_plan::Cutting;
-use mm_run::{RunEnd, run};
+use mm_run::RunEnd;
 use mm_spec::{Code, Fault};
 use std::alloc::{AllocError, Global};
-use std::io;
-use std::io::{ErrorKind, Read, Write};
-
-/// A reader that fails at its first read.
-#[derive(Drop)]
-struct Failing {}
-
-impl Read for Failing {
-    fn read(&mut self, _: &mut [u8]) -> io::Result<usize> {
-        Err(io::Error::from(ErrorKind::Other))
-    }
-}
-
-/// A writer that takes ten bytes, one a call, and then fails.
-#[derive(Drop)]
-struct Short {
-    taken: [u8; 10],
-    len: usize,
-}
-
-impl Write for Short {
-    fn write(&mut self, bytes: &[u8]) -> io::Result<usize> {
-        if self.len >= 10 {
-            return Err(io::Error::from(ErrorKind::Other));
-        }
-        match bytes.first() {
-            Some(byte) => {
-                self.taken[self.len] = *byte;
-                self.len += 1;
-                Ok(1)
-            }
-            None => Ok(0),
-        }
-    }
-
-    fn flush(&mut self) -> io::Result<()> {
-        Ok(())
-    }
-}
 
 /// The places, as a list.
 fn places(alloc: Global, all: &[u32]) -> Result<Cutting<Global>, AllocError> {
@@ -180,33 +141,4 @@ fn proof_fault_comes_before_a_later_bad_byte(rt: HostRuntime) -> Result<(), Allo
         )
     );
     Ok(())
-}
-
-#[test]
-fn failing_reader_writes_nothing(rt: HostRuntime) {
-    let alloc = rt.alloc();
-    let plan = plan(Cutting::Count(4));
-    let mut written = Vec::new(alloc);
-    assert!(&rt; plan.is_lawful());
-    assert_eq!(rt;
-        run(&rt, alloc, &plan, &mut Failing {}, &mut written),
-        RunEnd::ReadFailed
-    );
-    assert_eq!(rt; written.len(), 0);
-}
-
-#[test]
-fn failing_writer_has_a_beginning(rt: HostRuntime) {
-    let plan = plan(Cutting::Count(4));
-    let mut text = FIRST;
-    let mut to = Short {
-        taken: [0; 10],
-        len: 0,
-    };
-    assert!(&rt; plan.is_lawful());
-    assert_eq!(rt;
-        run(&rt, rt.alloc(), &plan, &mut text, &mut to),
-        RunEnd::WriteFailed
-    );
-    assert_eq!(rt; to.taken.as_slice(), b"mmdepend 1".as_slice());
 }

@@ -1,0 +1,90 @@
+//! The calls whose arguments say what is asked for, each in one place.
+
+ghost use Rattle.std.specs.Prelude.{◌≡◌, ◌≤◌, [], IfOk, IsTrue};
+ghost use Rattle.mm_spec.specs.Citation.{steps_at, reading_faults_at};
+ghost use Rattle.mm_spec.specs.Output.{is_theorem_at};
+ghost use Rattle.mm_proof.specs.Read.{read};
+ghost use Rattle.mm_check.specs.Checker.{IsMadeFor};
+
+use mm_check::{CheckRefused, Checked, Checker, check};
+use mm_plan::{Cutting, Plan};
+use mm_proof::Steps;
+use mm_run::{RunEnd, run};
+use mm_spec::{Choice, Form};
+use mm_stmt::Database;
+use mm_work::{Judged, Open, check_all};
+use std::alloc::{AllocError, Allocator};
+use std::io::{Read, Write};
+use std::sync::Wait;
+use std::thread::Threads;
+
+/// What a run is asked to do: cut the text in this way, check proofs by so many workers, and write these sections.
+pub(crate) fn plan_of<A: Allocator>(cuts: Cutting<A>, workers: u32, choice: Choice) -> Plan<A> {
+    Plan {
+        cuts,
+        workers,
+        only: None,
+        choice,
+        form: Form::One,
+        essential: false,
+        with_open: false,
+    }
+}
+
+/// How a run ends; `None` where the plan isn't lawful.
+pub(crate) fn ended<R: Threads + Wait + Sync, A: Allocator + Copy + Send + Sync, I: Read, O: Write>(
+    rt: &R,
+    alloc: A,
+    plan: &Plan<A>,
+    from: &mut I,
+    to: &mut O,
+) -> Option<RunEnd> {
+    if plan.is_lawful() {
+        Some(run(rt, alloc, plan, from, to))
+    } else {
+        None
+    }
+}
+
+/// What a theorem cites, or why its proof wasn't found valid.
+pub(crate) fn checked<A: Allocator + Copy>(
+    alloc: A,
+    database: &Database<'_, A>,
+    theorem: u32,
+    steps: &Steps<A>,
+) -> Result<Checked<A>, CheckRefused>
+    requires theorem { IsTrue (is_theorem_at database.now.statements theorem) }
+    requires steps { steps.now ≡ read theorem (steps_at database.now.statements theorem) }
+    requires sound { reading_faults_at database.now.statements theorem ≡ [] }
+{
+    check(alloc, database, theorem, steps, false)
+}
+
+/// The same by a checker.
+pub(crate) fn checked_by<A: Allocator + Copy>(
+    checker: &mut Checker<A>,
+    alloc: A,
+    database: &Database<'_, A>,
+    theorem: u32,
+    steps: &Steps<A>,
+) -> Result<Checked<A>, CheckRefused>
+    requires made_for { IsMadeFor database.now.statements checker.old }
+    requires theorem { IsTrue (is_theorem_at database.now.statements theorem) }
+    requires steps { steps.now ≡ read theorem (steps_at database.now.statements theorem) }
+    requires sound { reading_faults_at database.now.statements theorem ≡ [] }
+    ensures made_for { IsMadeFor database.now.statements checker.new }
+{
+    checker.check(alloc, database, theorem, steps, false)
+}
+
+/// What all theorems cite, or the fault of the first proof that has one, by so many workers.
+pub(crate) fn all_checked<R: Threads + Wait + Sync, A: Allocator + Copy + Send + Sync>(
+    rt: &R,
+    alloc: A,
+    database: &Database<'_, A>,
+    workers: u32,
+) -> Result<Judged<A>, AllocError>
+    requires { (1 ≤ workers) × (workers ≤ 64) }
+{
+    check_all(rt, alloc, database, workers, false, &Open)
+}

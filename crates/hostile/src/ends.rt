@@ -1,0 +1,113 @@
+//! Readers and writers that fail, and a writer that notes growths of memory.
+
+use crate::heap::Refusing;
+use std::alloc::Global;
+use std::io::{self, ErrorKind, Read, Write};
+
+/// A reader that gives at most ten bytes a call. One of its calls fails; those after it give bytes again.
+#[derive(Drop)]
+pub(crate) struct Failing<'t> {
+    pub text: &'t [u8],
+    /// Which call fails, the first being 1; none where it is 0.
+    pub fails_at: usize,
+    pub kind: ErrorKind,
+    pub calls: usize,
+}
+
+impl Read for Failing<'_> {
+    fn read(&mut self, into: &mut [u8]) -> io::Result<usize> {
+        self.calls = self.calls.saturating_add(1);
+        if self.calls == self.fails_at {
+            return Err(io::Error::from(self.kind));
+        }
+        let count = self.text.len().min(into.len()).min(10);
+        into[..count].copy_from_slice(&self.text[..count]);
+        self.text = &self.text[count..];
+        Ok(count)
+    }
+}
+
+/// How a write ends that takes no byte.
+#[derive(Clone, Copy)]
+pub(crate) enum Stop {
+    Fails(ErrorKind),
+    TakesNothing,
+}
+
+/// A writer that takes one byte a call. After so many bytes one call takes none; those after it take bytes again.
+#[derive(Drop)]
+pub(crate) struct Stopping {
+    pub taken: Vec<u8>,
+    pub room: usize,
+    pub stop: Stop,
+    pub calls: usize,
+}
+
+impl Write for Stopping {
+    fn write(&mut self, bytes: &[u8]) -> io::Result<usize> {
+        let before = self.calls;
+        self.calls = self.calls.saturating_add(1);
+        if before == self.room {
+            return match self.stop {
+                Stop::Fails(kind) => Err(io::Error::from(kind)),
+                Stop::TakesNothing => Ok(0),
+            };
+        }
+        match bytes.first() {
+            Some(byte) => match self.taken.push(*byte) {
+                Ok(()) => Ok(1),
+                Err(_) => Err(io::Error::from(ErrorKind::OutOfMemory)),
+            },
+            None => Ok(0),
+        }
+    }
+
+    fn flush(&mut self) -> io::Result<()> {
+        Ok(())
+    }
+}
+
+/// A writer that keeps what it takes, and what an allocator had counted at its first call and at its last.
+#[derive(Drop)]
+pub(crate) struct Noting<'h> {
+    heap: &'h Refusing<Global>,
+    pub taken: Vec<u8>,
+    pub calls: usize,
+    first: u64,
+    last: u64,
+}
+
+impl<'h> Noting<'h> {
+    pub fn new(alloc: Global, heap: &'h Refusing<Global>) -> Noting<'h> {
+        Noting {
+            heap,
+            taken: Vec::new(alloc),
+            calls: 0,
+            first: 0,
+            last: 0,
+        }
+    }
+
+    /// Whether no memory was asked for between the first write and the last.
+    pub fn no_growth_between(&self) -> bool {
+        self.first == self.last
+    }
+}
+
+impl Write for Noting<'_> {
+    fn write(&mut self, bytes: &[u8]) -> io::Result<usize> {
+        self.last = self.heap.count();
+        if self.calls == 0 {
+            self.first = self.last;
+        }
+        self.calls = self.calls.saturating_add(1);
+        match self.taken.extend_from_slice(bytes) {
+            Ok(()) => Ok(bytes.len()),
+            Err(_) => Err(io::Error::from(ErrorKind::OutOfMemory)),
+        }
+    }
+
+    fn flush(&mut self) -> io::Result<()> {
+        Ok(())
+    }
+}

@@ -1,0 +1,107 @@
+//! Runs whose reader fails or gives little, and runs whose writer fails or takes little.
+
+use crate::calls::{ended, plan_of};
+use crate::ends::{Failing, Stop, Stopping};
+use crate::texts::{FIRST, FIRST_REPORT};
+use mm_plan::Cutting;
+use mm_run::RunEnd;
+use mm_spec::Choice;
+use std::alloc::Global;
+use std::io::ErrorKind;
+use std::sync::Wait;
+use std::thread::Threads;
+
+/// A text with a fault, and its refusal.
+const OPEN: &[u8] = b"$c a";
+
+const OPEN_REFUSAL: &[u8] = b"refused 1:5 E08\n";
+
+/// How many calls it takes to read the first text and to be told of its end.
+const READS: usize = 18;
+
+/// Whether a run on the first text, whose reader fails at that call, ends so and writes this, and the reader was called so
+/// often.
+fn reads<R: Threads + Wait + Sync>(
+    rt: &R,
+    alloc: Global,
+    fails_at: usize,
+    kind: ErrorKind,
+    want: (RunEnd, &[u8], usize),
+) -> bool {
+    let plan = plan_of(Cutting::Count(3), 2, Choice::All);
+    let mut written = Vec::new(alloc);
+    let mut from = Failing {
+        text: FIRST,
+        fails_at,
+        kind,
+        calls: 0,
+    };
+    let end = ended(rt, alloc, &plan, &mut from, &mut written);
+    end == Some(want.0) && written.as_slice() == want.1 && from.calls == want.2
+}
+
+// A read that is interrupted fails like any other. A reader gives bytes again after the call that failed, so a second try
+// would show.
+#[test]
+fn a_read_that_fails_is_not_tried_again(rt: HostRuntime) {
+    for kind in [
+        ErrorKind::Other,
+        ErrorKind::Interrupted,
+        ErrorKind::WouldBlock,
+    ] {
+        for fails_at in 1..READS + 1 {
+            let want = (RunEnd::ReadFailed, b"".as_slice(), fails_at);
+            assert!(&rt; reads(&rt, rt.alloc(), fails_at, kind, want));
+        }
+        let want = (RunEnd::Accepted, FIRST_REPORT, READS);
+        assert!(&rt; reads(&rt, rt.alloc(), READS + 1, kind, want));
+    }
+}
+
+/// Whether a run on the text, whose writer takes so many bytes before a call that takes none, ends so and writes this, and
+/// the writer was called so often.
+fn writes<R: Threads + Wait + Sync>(
+    rt: &R,
+    alloc: Global,
+    mut text: &[u8],
+    room: usize,
+    stop: Stop,
+    want: (RunEnd, &[u8], usize),
+) -> bool {
+    let plan = plan_of(Cutting::Count(3), 2, Choice::All);
+    let mut to = Stopping {
+        taken: Vec::new(alloc),
+        room,
+        stop,
+        calls: 0,
+    };
+    let end = ended(rt, alloc, &plan, &mut text, &mut to);
+    end == Some(want.0) && to.taken.as_slice() == want.1 && to.calls == want.2
+}
+
+// A writer takes bytes again after the call that took none, so a second try would show.
+#[test]
+fn a_write_that_fails_is_not_tried_again(rt: HostRuntime) {
+    for stop in [
+        Stop::Fails(ErrorKind::Other),
+        Stop::Fails(ErrorKind::Interrupted),
+        Stop::TakesNothing,
+    ] {
+        for room in 0..FIRST_REPORT.len() {
+            let want = (RunEnd::WriteFailed, &FIRST_REPORT[..room], room + 1);
+            assert!(&rt; writes(&rt, rt.alloc(), FIRST, room, stop, want));
+        }
+        for room in 0..OPEN_REFUSAL.len() {
+            let want = (RunEnd::WriteFailed, &OPEN_REFUSAL[..room], room + 1);
+            assert!(&rt; writes(&rt, rt.alloc(), OPEN, room, stop, want));
+        }
+    }
+}
+
+#[test]
+fn a_writer_that_takes_one_byte_a_call_has_the_whole(rt: HostRuntime) {
+    let stop = Stop::TakesNothing;
+    let room = FIRST_REPORT.len();
+    let want = (RunEnd::Accepted, FIRST_REPORT, room);
+    assert!(&rt; writes(&rt, rt.alloc(), FIRST, room, stop, want));
+}

@@ -1,0 +1,306 @@
+//! The calls by which proofs are read and checked, on the first theorem of a database with two.
+
+ghost use Rattle.std.specs.Prelude.{◌≡◌, [], IfSome, IsTrue};
+ghost use Rattle.mm_spec.specs.Citation.{steps_at, reading_faults_at};
+ghost use Rattle.mm_spec.specs.Output.{is_theorem_at};
+ghost use Rattle.mm_proof.specs.Read.{read};
+
+use super::{MOST, met};
+use crate::calls::{all_checked, checked, checked_by};
+use crate::heap::Refusing;
+use crate::texts::THROUGH;
+use mm_board::{Board, BoardFault, Seat};
+use mm_check::{CheckRefused, Checked, Checker};
+use mm_lex::{Cuts, lex};
+use mm_proof::{ProofRefused, Step, Steps, read_proof};
+use mm_stmt::{Database, read as read_statements};
+use mm_work::{Citations, Judged};
+use std::alloc::{AllocError, Allocator, Global};
+use std::process::Abort;
+use std::sync::Wait;
+use std::thread::Threads;
+
+/// The database.
+pub(crate) fn database_of<R: Threads + Sync, A: Allocator + Copy + Send + Sync>(
+    rt: &R,
+    alloc: A,
+) -> Result<Database<'static, A>, AllocError> {
+    let cuts = Cuts::equal(alloc, THROUGH.len(), 1)?;
+    let lexed = lex(rt, alloc, THROUGH, &cuts)?;
+    read_statements(alloc, THROUGH, lexed, false)
+}
+
+/// The first theorem, if there is one.
+fn first_theorem<A: Allocator>(database: &Database<'_, A>) -> Option<u32>
+    ensures { IfSome result (λ k. IsTrue (is_theorem_at database.now.statements k)) }
+{
+    let theorems = database.theorems();
+    if 0 < theorems.len() {
+        Some(theorems[0])
+    } else {
+        None
+    }
+}
+
+/// Whether these are the steps of its proof.
+fn are_steps<A: Allocator>(answer: Result<Steps<A>, ProofRefused>) -> Option<bool> {
+    match answer {
+        Ok(steps) => Some(
+            steps.theorem() == 13
+                && steps.len() == 9
+                && steps.step(4) == Step::Label(12)
+                && steps.step(8) == Step::Label(9),
+        ),
+        Err(ProofRefused::Fault(_)) => Some(false),
+        Err(ProofRefused::Memory) => None,
+    }
+}
+
+/// Refuses each growth of reading that proof in turn. Whether a reading met no refusal at last, and not at once.
+fn read_in_turn<'h, R: Abort>(
+    rt: &R,
+    heap: &'h Refusing<Global>,
+    database: &Database<'static, &'h Refusing<Global>>,
+    theorem: u32,
+) -> bool
+    requires { IsTrue (is_theorem_at database.now.statements theorem) }
+{
+    for number in 1..MOST {
+        heap.refuse(number);
+        let refused = met(rt, heap, are_steps(read_proof(heap, database, theorem)));
+        assert!(rt; are_steps(read_proof(heap, database, theorem)) == Some(true));
+        if !refused {
+            return number > 1;
+        }
+    }
+    false
+}
+
+/// The same on the first theorem.
+fn first_read<'h, R: Abort>(
+    rt: &R,
+    heap: &'h Refusing<Global>,
+    database: &Database<'static, &'h Refusing<Global>>,
+) -> bool {
+    match first_theorem(database) {
+        Some(theorem) => read_in_turn(rt, heap, database, theorem),
+        None => false,
+    }
+}
+
+#[test]
+fn a_proof_read_without_memory(rt: HostRuntime) -> Result<(), AllocError> {
+    let heap = Refusing::new(rt.alloc());
+    let database = database_of(&rt, &heap)?;
+    assert!(&rt; first_read(&rt, &heap, &database));
+    Ok(())
+}
+
+/// Whether this is what it cites.
+fn is_checked<A: Allocator>(answer: Result<Checked<A>, CheckRefused>) -> Option<bool> {
+    match answer {
+        Ok(checked) => Some(checked.theorem() == 13 && checked.cites() == [4u32, 5, 9].as_slice()),
+        Err(CheckRefused::Fault(_)) => Some(false),
+        Err(CheckRefused::Memory) => None,
+    }
+}
+
+/// Whether there is a checker.
+fn is_made<A: Allocator>(answer: Result<Checker<A>, AllocError>) -> Option<bool> {
+    match answer {
+        Ok(_) => Some(true),
+        Err(_) => None,
+    }
+}
+
+/// Refuses each growth of making a checker in turn.
+fn made_in_turn<'h, R: Abort>(
+    rt: &R,
+    heap: &'h Refusing<Global>,
+    database: &Database<'static, &'h Refusing<Global>>,
+) -> bool {
+    for number in 1..MOST {
+        heap.refuse(number);
+        let refused = met(rt, heap, is_made(Checker::new(heap, database)));
+        assert!(rt; is_made(Checker::new(heap, database)) == Some(true));
+        if !refused {
+            return number > 3;
+        }
+    }
+    false
+}
+
+#[test]
+fn a_checker_made_without_memory(rt: HostRuntime) -> Result<(), AllocError> {
+    let heap = Refusing::new(rt.alloc());
+    let database = database_of(&rt, &heap)?;
+    assert!(&rt; made_in_turn(&rt, &heap, &database));
+    Ok(())
+}
+
+/// Refuses each growth of a check in turn.
+fn checked_in_turn<'h, R: Abort>(
+    rt: &R,
+    heap: &'h Refusing<Global>,
+    database: &Database<'static, &'h Refusing<Global>>,
+    theorem: u32,
+    steps: &Steps<&'h Refusing<Global>>,
+) -> bool
+    requires theorem { IsTrue (is_theorem_at database.now.statements theorem) }
+    requires steps { steps.now ≡ read theorem (steps_at database.now.statements theorem) }
+    requires sound { reading_faults_at database.now.statements theorem ≡ [] }
+{
+    for number in 1..MOST {
+        heap.refuse(number);
+        let refused = met(
+            rt,
+            heap,
+            is_checked(checked(heap, database, theorem, steps)),
+        );
+        assert!(rt; is_checked(checked(heap, database, theorem, steps)) == Some(true));
+        if !refused {
+            return number > 10;
+        }
+    }
+    false
+}
+
+/// Refuses a growth of a checker's first check, and uses the checker again. Whether the growth came; `None` where there is
+/// no checker.
+fn checker_refused<'h, R: Abort>(
+    rt: &R,
+    heap: &'h Refusing<Global>,
+    database: &Database<'static, &'h Refusing<Global>>,
+    theorem: u32,
+    steps: &Steps<&'h Refusing<Global>>,
+    number: u64,
+) -> Option<bool>
+    requires theorem { IsTrue (is_theorem_at database.now.statements theorem) }
+    requires steps { steps.now ≡ read theorem (steps_at database.now.statements theorem) }
+    requires sound { reading_faults_at database.now.statements theorem ≡ [] }
+{
+    let Ok(mut checker) = Checker::new(heap, database) else {
+        return None;
+    };
+    heap.refuse(number);
+    let first = is_checked(checked_by(&mut checker, heap, database, theorem, steps));
+    let refused = met(rt, heap, first);
+    let again = is_checked(checked_by(&mut checker, heap, database, theorem, steps));
+    assert!(rt; again == Some(true));
+    Some(refused)
+}
+
+/// Refuses each growth of a checker's first check in turn.
+fn checkers_in_turn<'h, R: Abort>(
+    rt: &R,
+    heap: &'h Refusing<Global>,
+    database: &Database<'static, &'h Refusing<Global>>,
+    theorem: u32,
+    steps: &Steps<&'h Refusing<Global>>,
+) -> bool
+    requires theorem { IsTrue (is_theorem_at database.now.statements theorem) }
+    requires steps { steps.now ≡ read theorem (steps_at database.now.statements theorem) }
+    requires sound { reading_faults_at database.now.statements theorem ≡ [] }
+{
+    for number in 1..MOST {
+        match checker_refused(rt, heap, database, theorem, steps, number) {
+            Some(true) => {}
+            Some(false) => return number > 5,
+            None => return false,
+        }
+    }
+    false
+}
+
+/// Both on the first theorem.
+fn first_checked<'h, R: Abort>(
+    rt: &R,
+    heap: &'h Refusing<Global>,
+    database: &Database<'static, &'h Refusing<Global>>,
+) -> bool {
+    let Some(theorem) = first_theorem(database) else {
+        return false;
+    };
+    match read_proof(heap, database, theorem) {
+        Ok(steps) => {
+            checked_in_turn(rt, heap, database, theorem, &steps)
+                && checkers_in_turn(rt, heap, database, theorem, &steps)
+        }
+        Err(_) => false,
+    }
+}
+
+#[test]
+fn a_proof_checked_without_memory_and_again_by_the_same_checker(
+    rt: HostRuntime,
+) -> Result<(), AllocError> {
+    let heap = Refusing::new(rt.alloc());
+    let database = database_of(&rt, &heap)?;
+    assert!(&rt; first_checked(&rt, &heap, &database));
+    Ok(())
+}
+
+/// Whether this is a board with its first seat.
+fn is_board<A: Allocator>(answer: Result<(Board<A>, Seat), BoardFault>) -> Option<bool> {
+    match answer {
+        Ok((_board, seat)) => Some(seat.share() == 64 && seat.held().is_none() && seat.seen() == 3),
+        Err(BoardFault::Memory) => None,
+        Err(_) => Some(false),
+    }
+}
+
+#[test]
+fn a_board_without_memory(rt: HostRuntime) {
+    let heap = Refusing::new(rt.alloc());
+    for number in 1..MOST {
+        heap.refuse(number);
+        let refused = met(&rt, &heap, is_board(Board::new(&heap, 3)));
+        assert!(&rt; is_board(Board::new(&heap, 3)) == Some(true));
+        if !refused {
+            assert!(&rt; number > 1);
+            return;
+        }
+    }
+    assert!(&rt; false);
+}
+
+/// Whether this is what both theorems cite.
+fn are_cited<A: Allocator>(citations: &Citations<A>) -> bool {
+    citations.theorems() == [13u32, 17].as_slice()
+        && citations.of(0) == [4u32, 5, 9].as_slice()
+        && citations.of(1) == [4u32, 13].as_slice()
+}
+
+/// Whether both proofs were found valid, with what they cite.
+fn is_judged<A: Allocator>(answer: Result<Judged<A>, AllocError>) -> Option<bool> {
+    match answer {
+        Ok(Judged::Valid(citations)) => Some(citations.rows() == 2 && are_cited(&citations)),
+        Ok(Judged::Faulty(_)) => Some(false),
+        Err(_) => None,
+    }
+}
+
+/// Refuses each growth of checking all proofs by two workers in turn.
+fn judged_in_turn<'h, R: Abort + Threads + Wait + Sync>(
+    rt: &R,
+    heap: &'h Refusing<Global>,
+    database: &Database<'static, &'h Refusing<Global>>,
+) -> bool {
+    for number in 1..MOST {
+        heap.refuse(number);
+        let refused = met(rt, heap, is_judged(all_checked(rt, heap, database, 2)));
+        assert!(rt; is_judged(all_checked(rt, heap, database, 2)) == Some(true));
+        if !refused {
+            return number > 10;
+        }
+    }
+    false
+}
+
+#[test]
+fn all_proofs_checked_without_memory(rt: HostRuntime) -> Result<(), AllocError> {
+    let heap = Refusing::new(rt.alloc());
+    let database = database_of(&rt, &heap)?;
+    assert!(&rt; judged_in_turn(&rt, &heap, &database));
+    Ok(())
+}

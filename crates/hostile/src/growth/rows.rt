@@ -1,0 +1,132 @@
+//! The calls by which rows are made, of the database with two theorems.
+
+use super::proofs::database_of;
+use super::{MOST, met};
+use crate::calls::all_checked;
+use crate::heap::Refusing;
+use mm_rows::{Columns, Matrix, matrix, waves};
+use mm_stmt::Database;
+use mm_work::{Citations, Judged};
+use std::alloc::{AllocError, Allocator, Global};
+use std::process::Abort;
+use std::sync::Wait;
+use std::thread::Threads;
+
+/// What the theorems of the database cite.
+fn citations_of<R: Threads + Wait + Sync, A: Allocator + Copy + Send + Sync>(
+    rt: &R,
+    alloc: A,
+) -> Result<Citations<A>, AllocError> {
+    let database = database_of(rt, alloc)?;
+    match all_checked(rt, alloc, &database, 1)? {
+        Judged::Valid(citations) => Ok(citations),
+        Judged::Faulty(_) => Err(AllocError),
+    }
+}
+
+/// Whether these are the waves of the two theorems.
+fn are_waves<A: Allocator>(answer: Result<Vec<u32, A>, AllocError>) -> Option<bool> {
+    match answer {
+        Ok(waves) => Some(waves.as_slice() == [0u32, 1].as_slice()),
+        Err(_) => None,
+    }
+}
+
+/// Refuses each growth in turn. Whether a call met no refusal at last, and not at once; so too below.
+fn waves_in_turn<'h, R: Abort>(
+    rt: &R,
+    heap: &'h Refusing<Global>,
+    citations: &Citations<&'h Refusing<Global>>,
+) -> bool {
+    for number in 1..MOST {
+        heap.refuse(number);
+        let refused = met(rt, heap, are_waves(waves(heap, citations)));
+        assert!(rt; are_waves(waves(heap, citations)) == Some(true));
+        if !refused {
+            return number > 1;
+        }
+    }
+    false
+}
+
+#[test]
+fn waves_without_memory(rt: HostRuntime) -> Result<(), AllocError> {
+    let heap = Refusing::new(rt.alloc());
+    let citations = citations_of(&rt, &heap)?;
+    assert!(&rt; waves_in_turn(&rt, &heap, &citations));
+    Ok(())
+}
+
+/// Whether these are the columns of the axioms of one typecode.
+fn are_columns<A: Allocator>(answer: Result<Columns<A>, AllocError>) -> Option<bool> {
+    match answer {
+        Ok(columns) => Some(columns.statements() == [5u32, 9].as_slice()),
+        Err(_) => None,
+    }
+}
+
+fn columns_in_turn<R: Abort>(
+    rt: &R,
+    heap: &Refusing<Global>,
+    database: &Database<'static, Global>,
+) -> bool {
+    let only = Some(b"|-".as_slice());
+    for number in 1..MOST {
+        heap.refuse(number);
+        let refused = met(rt, heap, are_columns(Columns::new(heap, database, only)));
+        assert!(rt; are_columns(Columns::new(heap, database, only)) == Some(true));
+        if !refused {
+            return number > 1;
+        }
+    }
+    false
+}
+
+#[test]
+fn columns_without_memory(rt: HostRuntime) -> Result<(), AllocError> {
+    let heap = Refusing::new(rt.alloc());
+    let database = database_of(&rt, rt.alloc())?;
+    assert!(&rt; columns_in_turn(&rt, &heap, &database));
+    Ok(())
+}
+
+/// Whether each of the two theorems rests on each of the three axioms.
+fn is_full<A: Allocator>(answer: Result<Matrix<A>, AllocError>) -> Option<bool> {
+    match answer {
+        Ok(table) => Some(
+            table.rows() == 2
+                && table.columns() == 3
+                && table.row_count(0) == 3
+                && table.row_count(1) == 3
+                && table.column_count(0) == 2
+                && table.next_user(2, Some(0)) == Some(1),
+        ),
+        Err(_) => None,
+    }
+}
+
+fn rows_in_turn<'h, R: Abort + Threads + Sync>(
+    rt: &R,
+    heap: &'h Refusing<Global>,
+    citations: &Citations<&'h Refusing<Global>>,
+    columns: &Columns<&'h Refusing<Global>>,
+) -> bool {
+    for number in 1..MOST {
+        heap.refuse(number);
+        let refused = met(rt, heap, is_full(matrix(rt, heap, citations, columns)));
+        assert!(rt; is_full(matrix(rt, heap, citations, columns)) == Some(true));
+        if !refused {
+            return number > 5;
+        }
+    }
+    false
+}
+
+#[test]
+fn rows_without_memory(rt: HostRuntime) -> Result<(), AllocError> {
+    let heap = Refusing::new(rt.alloc());
+    let citations = citations_of(&rt, &heap)?;
+    let columns = Columns::new(&heap, &database_of(&rt, &heap)?, None)?;
+    assert!(&rt; rows_in_turn(&rt, &heap, &citations, &columns));
+    Ok(())
+}

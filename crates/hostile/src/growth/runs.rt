@@ -1,0 +1,132 @@
+//! Runs with two workers and three pieces.
+
+use super::{MOST, met};
+use crate::calls::{ended, plan_of};
+use crate::ends::Noting;
+use crate::heap::Refusing;
+use crate::texts::{
+    BASE, COMPRESSED, COMPRESSED_REPORT, DISJOINT, DISJOINT_REPORT, FIRST, FIRST_REPORT,
+    NOT_DISJOINT, NOT_DISJOINT_REFUSAL, THROUGH, THROUGH_REPORT, TWO_FAULTS, TWO_FAULTS_REFUSAL,
+};
+use mm_plan::Cutting;
+use mm_run::RunEnd;
+use mm_spec::Choice;
+use std::alloc::{AllocError, Global};
+use std::process::Abort;
+use std::sync::Wait;
+use std::thread::Threads;
+
+/// Whether a run wrote this output whole, and took no memory while it wrote; `None` where it had no memory. Then it wrote
+/// nothing.
+fn answer<R: Threads + Wait + Sync>(
+    rt: &R,
+    alloc: Global,
+    heap: &Refusing<Global>,
+    mut text: &[u8],
+    output: &[u8],
+) -> Option<bool> {
+    let plan = plan_of(Cutting::Count(3), 2, Choice::All);
+    let mut to = Noting::new(alloc, heap);
+    let end = ended(rt, heap, &plan, &mut text, &mut to);
+    if end == Some(RunEnd::NoMemory) && to.calls == 0 {
+        return None;
+    }
+    Some(is_end(end) && to.taken.as_slice() == output && to.no_growth_between())
+}
+
+/// Whether a run came to an output's end.
+fn is_end(end: Option<RunEnd>) -> bool {
+    match end {
+        Some(RunEnd::Accepted | RunEnd::Refused(_)) => true,
+        _ => false,
+    }
+}
+
+/// Asserts that a run whose growth of that number is refused has no memory or writes this output, and that the run after
+/// it writes the output. Whether the growth came.
+fn refused_at<R: Abort + Threads + Wait + Sync>(
+    rt: &R,
+    heap: &Refusing<Global>,
+    alloc: Global,
+    text: &[u8],
+    output: &[u8],
+    number: u64,
+) -> bool {
+    heap.refuse(number);
+    let first = answer(rt, alloc, heap, text, output);
+    let refused = met(rt, heap, first);
+    let again = answer(rt, alloc, heap, text, output);
+    assert!(rt; again == Some(true));
+    refused
+}
+
+/// Refuses a growth of a run, until a run meets no refusal: the first one, and then each that comes so many behind it.
+fn refused_in_turn<R: Abort + Threads + Wait + Sync>(
+    rt: &R,
+    alloc: Global,
+    text: &[u8],
+    output: &[u8],
+    step: u64,
+) {
+    let heap = Refusing::new(alloc);
+    for turn in 0..MOST {
+        if !refused_at(
+            rt,
+            &heap,
+            alloc,
+            text,
+            output,
+            turn.wrapping_mul(step).wrapping_add(1),
+        ) {
+            assert!(rt; turn > 20);
+            return;
+        }
+    }
+    assert!(rt; false);
+}
+
+#[test]
+fn a_run_without_memory_writes_nothing(rt: HostRuntime) {
+    let rows = [
+        (FIRST, FIRST_REPORT),
+        (THROUGH, THROUGH_REPORT),
+        (COMPRESSED, COMPRESSED_REPORT),
+        (NOT_DISJOINT, NOT_DISJOINT_REFUSAL),
+        (DISJOINT, DISJOINT_REPORT),
+        (TWO_FAULTS, TWO_FAULTS_REFUSAL),
+    ];
+    for (text, output) in rows {
+        refused_in_turn(&rt, rt.alloc(), text, output, 1);
+    }
+}
+
+/// A database of so many theorems. Its report is written in several pieces, and its rows are made by several threads.
+fn many(alloc: Global, count: u32) -> Result<Vec<u8>, AllocError> {
+    let mut text = BASE.to_vec(alloc)?;
+    for number in 0..count {
+        text.push(b't')?;
+        for unit in [1000, 100, 10, 1] {
+            text.push(b'0' + (number / unit % 10) as u8)?;
+        }
+        text.extend_from_slice(b" $p wff ( p -> ( q -> p ) ) $= wp wq wp wi wi $.\n")?;
+    }
+    Ok(text)
+}
+
+/// What a run writes of the text.
+fn output_of<R: Threads + Wait + Sync>(rt: &R, alloc: Global, mut text: &[u8]) -> Vec<u8> {
+    let plan = plan_of(Cutting::Count(1), 1, Choice::All);
+    let mut written = Vec::new(alloc);
+    let _ = ended(rt, alloc, &plan, &mut text, &mut written);
+    written
+}
+
+#[test]
+fn a_long_report_takes_no_memory_while_it_is_written(rt: HostRuntime) -> Result<(), AllocError> {
+    let alloc = rt.alloc();
+    let text = many(alloc, 1500)?;
+    let output = output_of(&rt, alloc, &text);
+    assert!(&rt; output.len() > 30_000);
+    refused_in_turn(&rt, alloc, &text, &output, 61);
+    Ok(())
+}

@@ -1,0 +1,187 @@
+//! The calls by which a text becomes statements.
+
+use super::{MOST, met};
+use crate::heap::Refusing;
+use crate::texts::{FIRST, THROUGH};
+use mm_lex::{Cuts, Lexed, Piece, Word, join, lex, lex_piece};
+use mm_stmt::{Database, read};
+use std::alloc::{AllocError, Allocator, Global};
+use std::thread::Threads;
+
+/// The tokens of the first text.
+const TOKENS: usize = 62;
+
+/// Where that text is cut, in the middle of a word.
+const PLACE: usize = 58;
+
+fn word(start: u32, end: u32) -> Word {
+    Word { start, end }
+}
+
+/// Whether these are cuts of the first text into three equal pieces.
+fn is_cut<A: Allocator + Copy>(answer: Result<Cuts<A>, AllocError>) -> Option<bool> {
+    match answer {
+        Ok(cuts) => Some(cuts.places() == [56u32, 113].as_slice() && cuts.text_len() == 170),
+        Err(_) => None,
+    }
+}
+
+#[test]
+fn equal_cuts_without_memory(rt: HostRuntime) {
+    let heap = Refusing::new(rt.alloc());
+    for number in 1..MOST {
+        heap.refuse(number);
+        let refused = met(&rt, &heap, is_cut(Cuts::equal(&heap, 170, 3)));
+        assert!(&rt; is_cut(Cuts::equal(&heap, 170, 3)) == Some(true));
+        if !refused {
+            assert!(&rt; number > 1);
+            return;
+        }
+    }
+    assert!(&rt; false);
+}
+
+/// Whether this is the summary of the first text's beginning.
+fn is_beginning<A: Allocator>(answer: Result<Piece<A>, AllocError>) -> Option<bool> {
+    match answer {
+        Ok(piece) => Some(
+            piece.from() == 0
+                && piece.to() == PLACE as u32
+                && piece.head() == word(0, 0)
+                && piece.tail() == word(57, 58)
+                && piece.tokens(false).len() == 20
+                && piece.fault(false).is_none(),
+        ),
+        Err(_) => None,
+    }
+}
+
+#[test]
+fn a_piece_without_memory(rt: HostRuntime) {
+    let heap = Refusing::new(rt.alloc());
+    for number in 1..MOST {
+        heap.refuse(number);
+        let refused = met(&rt, &heap, is_beginning(lex_piece(&heap, FIRST, 0, PLACE)));
+        assert!(&rt; is_beginning(lex_piece(&heap, FIRST, 0, PLACE)) == Some(true));
+        if !refused {
+            assert!(&rt; number > 1);
+            return;
+        }
+    }
+    assert!(&rt; false);
+}
+
+/// Whether this is the summary of the first text.
+fn is_summary<A: Allocator>(answer: Result<Piece<A>, AllocError>) -> Option<bool> {
+    match answer {
+        Ok(piece) => Some(
+            piece.from() == 0
+                && piece.to() == 170
+                && piece.head() == word(0, 0)
+                && piece.tail() == word(170, 170)
+                && piece.tokens(false).len() == TOKENS
+                && piece.fault(false).is_none(),
+        ),
+        Err(_) => None,
+    }
+}
+
+/// The two parts of the first text, each read with memory, and joined, with a growth of that refused. Both parts are gone
+/// where it is.
+fn joined(
+    heap: &Refusing<Global>,
+    number: Option<u64>,
+) -> Result<Result<Piece<&Refusing<Global>>, AllocError>, AllocError> {
+    let first = lex_piece(heap, FIRST, 0, PLACE)?;
+    let second = lex_piece(heap, FIRST, PLACE, 170)?;
+    if let Some(number) = number {
+        heap.refuse(number);
+    }
+    Ok(join(heap, FIRST, first, second))
+}
+
+#[test]
+fn pieces_joined_without_memory(rt: HostRuntime) -> Result<(), AllocError> {
+    let heap = Refusing::new(rt.alloc());
+    for number in 1..MOST {
+        let refused = met(&rt, &heap, is_summary(joined(&heap, Some(number))?));
+        assert!(&rt; is_summary(joined(&heap, None)?) == Some(true));
+        if !refused {
+            assert!(&rt; number > 1);
+            return Ok(());
+        }
+    }
+    Err(AllocError)
+}
+
+/// Whether these are the tokens of the first text.
+fn is_lexed<A: Allocator>(answer: Result<Lexed<A>, AllocError>) -> Option<bool> {
+    match answer {
+        Ok(lexed) => Some(
+            lexed.tokens.len() == TOKENS
+                && lexed.tokens.first().copied() == Some(word(0, 2))
+                && lexed.tokens.last().copied() == Some(word(167, 169))
+                && lexed.fault.is_none(),
+        ),
+        Err(_) => None,
+    }
+}
+
+#[test]
+fn lexing_without_memory(rt: HostRuntime) -> Result<(), AllocError> {
+    let heap = Refusing::new(rt.alloc());
+    let cuts = Cuts::equal(&heap, FIRST.len(), 3)?;
+    for number in 1..MOST {
+        heap.refuse(number);
+        let refused = met(&rt, &heap, is_lexed(lex(&rt, &heap, FIRST, &cuts)));
+        assert!(&rt; is_lexed(lex(&rt, &heap, FIRST, &cuts)) == Some(true));
+        if !refused {
+            assert!(&rt; number > 1);
+            return Ok(());
+        }
+    }
+    Err(AllocError)
+}
+
+/// Whether this is the database of the text with two theorems.
+fn is_read<A: Allocator>(answer: Result<Database<'_, A>, AllocError>) -> Option<bool> {
+    match answer {
+        Ok(database) => Some(
+            database.text() == THROUGH
+                && database.len() == 19
+                && database.fault().is_none()
+                && database.theorems() == [13u32, 17].as_slice()
+                && database.axioms() == [4u32, 5, 9].as_slice(),
+        ),
+        Err(_) => None,
+    }
+}
+
+/// The statements of that text, its tokens read with memory, with a growth refused in reading the statements. The tokens
+/// are gone where it is.
+fn statements<'h, R: Threads + Sync>(
+    rt: &R,
+    heap: &'h Refusing<Global>,
+    number: Option<u64>,
+) -> Result<Result<Database<'static, &'h Refusing<Global>>, AllocError>, AllocError> {
+    let cuts = Cuts::equal(heap, THROUGH.len(), 1)?;
+    let lexed = lex(rt, heap, THROUGH, &cuts)?;
+    if let Some(number) = number {
+        heap.refuse(number);
+    }
+    Ok(read(heap, THROUGH, lexed, false))
+}
+
+#[test]
+fn statements_without_memory(rt: HostRuntime) -> Result<(), AllocError> {
+    let heap = Refusing::new(rt.alloc());
+    for number in 1..MOST {
+        let refused = met(&rt, &heap, is_read(statements(&rt, &heap, Some(number))?));
+        assert!(&rt; is_read(statements(&rt, &heap, None)?) == Some(true));
+        if !refused {
+            assert!(&rt; number > 10);
+            return Ok(());
+        }
+    }
+    Err(AllocError)
+}

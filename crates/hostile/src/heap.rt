@@ -1,0 +1,72 @@
+//! An allocator that refuses one growth of memory.
+
+use std::alloc::{AllocError, Allocator};
+use std::sync::atomic::{AtomicU64, Ordering};
+
+/// So many growths are left where none is to be refused: more than any test takes.
+const MANY: u64 = 0x4000_0000_0000_0000;
+
+/// It hands on what it is asked to another allocator, but for one growth of memory, which it refuses. A `&` to it is lent
+/// to a call, and so to the call's threads: a growth of any of them counts.
+pub struct Refusing<B: Allocator> {
+    inner: B,
+    /// How many growths there are up to the refused one. From there on it goes below 0, and so begins again at the top.
+    left: AtomicU64,
+}
+
+impl<B: Allocator> Refusing<B> {
+    /// An allocator that refuses no growth yet.
+    pub fn new(inner: B) -> Refusing<B> {
+        Refusing {
+            inner,
+            left: AtomicU64::new(MANY),
+        }
+    }
+
+    /// Refuses the growth of this number from here on, the next one being number 1, and no other.
+    pub fn refuse(&self, number: u64) {
+        self.left.store(number, Ordering::SeqCst);
+    }
+
+    /// Refuses no growth from here on.
+    pub fn refuse_none(&self) {
+        self.left.store(MANY, Ordering::SeqCst);
+    }
+
+    /// A number that each growth changes, and nothing else.
+    pub fn count(&self) -> u64 {
+        self.left.load(Ordering::SeqCst)
+    }
+
+    /// Whether the growth that was to be refused came, and was refused.
+    pub fn has_refused(&self) -> bool {
+        let left = self.count();
+        left == 0 || left > MANY
+    }
+}
+
+impl<B: Allocator> Drop for Refusing<B> {
+    fn drop(self) {
+        let Self { inner: _, left: _ } = self;
+    }
+}
+
+/// Counts a growth, and says whether it is the one that is refused.
+fn tick(left: &AtomicU64) -> bool {
+    left.fetch_sub(1, Ordering::SeqCst) == 1
+}
+
+unsafe impl<B: Allocator> Allocator for Refusing<B> {
+    ghost dealloc_token = { λ heap ty ptr. B.dealloc_token heap.inner ty ptr };
+
+    fn allocate(&self, size: usize, align: usize) -> Result<*mut u8, AllocError> {
+        if tick(&self.left) {
+            return Err(AllocError);
+        }
+        self.inner.allocate(size, align)
+    }
+
+    unsafe fn deallocate(&self, ptr: *mut u8, size: usize, align: usize) {
+        self.inner.deallocate(ptr, size, align);
+    }
+}

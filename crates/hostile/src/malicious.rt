@@ -1,0 +1,158 @@
+//! Texts that are cut short, and texts that are made to do harm.
+
+use crate::calls::{ended, plan_of};
+use crate::texts::{BASE, FIRST, FIRST_REPORT};
+use mm_plan::Cutting;
+use mm_run::RunEnd;
+use mm_spec::{Choice, Code, Fault};
+use std::alloc::{AllocError, Global};
+use std::fmt::Write;
+use std::sync::Wait;
+use std::thread::Threads;
+
+/// The beginnings of the first text that are accepted, by their lengths.
+const ACCEPTED: [usize; 15] = [
+    0, 19, 20, 29, 30, 44, 45, 59, 60, 83, 84, 117, 118, 169, 170,
+];
+
+/// How a run on the text ends, and what it writes.
+fn run_on<R: Threads + Wait + Sync>(
+    rt: &R,
+    alloc: Global,
+    cuts: Cutting<Global>,
+    mut text: &[u8],
+) -> (Option<RunEnd>, Vec<u8>) {
+    let plan = plan_of(cuts, 2, Choice::All);
+    let mut written = Vec::new(alloc);
+    let end = ended(rt, alloc, &plan, &mut text, &mut written);
+    (end, written)
+}
+
+fn refused(at: usize, code: Code) -> RunEnd {
+    RunEnd::Refused(Fault {
+        at: at.min(1000) as u32,
+        code,
+    })
+}
+
+/// How a run has to end on a beginning of the first text.
+fn end_of(beginning: &[u8]) -> RunEnd {
+    let len = beginning.len();
+    if ACCEPTED.contains(&len) {
+        return RunEnd::Accepted;
+    }
+    match beginning.last() {
+        Some(b'$') => refused(len.saturating_sub(1), Code::StrayDollar),
+        _ => refused(len, Code::OpenStatement),
+    }
+}
+
+#[test]
+fn a_text_that_is_cut_short(rt: HostRuntime) {
+    for len in 0..FIRST.len() + 1 {
+        let text = &FIRST[..len];
+        let (end, _) = run_on(&rt, rt.alloc(), Cutting::Count(3), text);
+        assert!(&rt; end == Some(end_of(text)));
+    }
+}
+
+#[test]
+fn refusals_of_texts_that_are_cut_short(rt: HostRuntime) {
+    let rows: [(usize, &[u8]); 6] = [
+        (1, b"refused 1:1 E04\n"),
+        (2, b"refused 1:3 E08\n"),
+        (17, b"refused 1:18 E08\n"),
+        (18, b"refused 1:18 E04\n"),
+        (168, b"refused 7:50 E04\n"),
+        (170, FIRST_REPORT),
+    ];
+    for (len, output) in rows {
+        let (_, written) = run_on(&rt, rt.alloc(), Cutting::Count(3), &FIRST[..len]);
+        assert_eq!(rt; written.as_slice(), output);
+    }
+}
+
+/// These bytes, so many spaces, and a byte that stands in no text.
+fn spaced(alloc: Global, front: &[u8], spaces: u32) -> Result<Vec<u8>, AllocError> {
+    let mut text = front.to_vec(alloc)?;
+    for _ in 0..spaces {
+        text.push(b' ')?;
+    }
+    text.push(0x80)?;
+    Ok(text)
+}
+
+/// Asserts that a byte behind so many spaces is refused at that place, with cuts before and behind it.
+fn bad_byte_at<R: Threads + Wait + Sync>(
+    rt: &R,
+    alloc: Global,
+    front: &[u8],
+    spaces: u32,
+    place: u32,
+) -> Result<bool, AllocError> {
+    let text = spaced(alloc, front, spaces)?;
+    let cuts = vec![in alloc; place, place.saturating_add(1)]?;
+    let (end, written) = run_on(rt, alloc, Cutting::Places(cuts), &text);
+    let line = format!(in alloc; "refused 1:{} E01\n", place.saturating_add(1))?;
+    let fault = Fault {
+        at: place,
+        code: Code::BadByte,
+    };
+    Ok(end == Some(RunEnd::Refused(fault)) && written.as_slice() == line.as_bytes())
+}
+
+#[test]
+fn a_bad_byte_behind_spaces(rt: HostRuntime) -> Result<(), AllocError> {
+    for spaces in 0..130u32 {
+        assert!(&rt; bad_byte_at(&rt, rt.alloc(), b"", spaces, spaces)?);
+        assert!(&rt; bad_byte_at(&rt, rt.alloc(), b"$( ", spaces, spaces + 3)?);
+    }
+    Ok(())
+}
+
+/// A theorem with a hypothesis, in line 8, up to the letters of its proof.
+const LETTERS: &[u8] =
+    b"${ min $e |- p $. maj $e |- ( p -> q ) $. ax-mp $a |- q $. $}\n${ h $e |- p $. a1i $p |- ( q -> p ) $= ( wi ax-1 ax-mp ) ";
+
+/// That theorem with a thousand letters `U` in its proof, and these behind them.
+fn thousand_letters(alloc: Global, end: &[u8]) -> Result<Vec<u8>, AllocError> {
+    let mut text = BASE.to_vec(alloc)?;
+    text.extend_from_slice(LETTERS)?;
+    for _ in 0..1000 {
+        text.push(b'U')?;
+    }
+    text.extend_from_slice(end)?;
+    Ok(text)
+}
+
+#[test]
+fn a_number_of_a_thousand_letters(rt: HostRuntime) -> Result<(), AllocError> {
+    let rows: [(&[u8], &[u8]); 2] = [
+        (b"A $. $}\n", b"refused 8:59 E45\n"),
+        (b" $. $}\n", b"refused 8:1060 E43\n"),
+    ];
+    for (end, output) in rows {
+        let text = thousand_letters(rt.alloc(), end)?;
+        let (_, written) = run_on(&rt, rt.alloc(), Cutting::Count(3), &text);
+        assert_eq!(rt; written.as_slice(), output);
+    }
+    Ok(())
+}
+
+/// A proof in which each formula is twice as long as the one before it.
+const DOUBLING: &[u8] =
+    b"big $p wff p $= ( wi ) AABZCBZDBZEBZFBZGBZHBZIBZJBZKBZLBZMBZNBZOBZPBZQBZRBZSBZ";
+
+#[test]
+fn formulas_that_would_double_a_hundred_times(rt: HostRuntime) -> Result<(), AllocError> {
+    let alloc = rt.alloc();
+    let mut text = BASE.to_vec(alloc)?;
+    text.extend_from_slice(DOUBLING)?;
+    for _ in 0..100 {
+        text.extend_from_slice(b"TBZ")?;
+    }
+    text.extend_from_slice(b" $.\n")?;
+    let (_, written) = run_on(&rt, alloc, Cutting::Count(3), &text);
+    assert_eq!(rt; written.as_slice(), b"refused 7:80 E39\n".as_slice());
+    Ok(())
+}

@@ -1,0 +1,94 @@
+//! Proofs in compressed form.
+
+use super::chance::Chance;
+use super::formulas::FLOATING;
+use super::words::{Word, Words};
+use std::alloc::Global;
+
+/// The letters that end a number, and those before them.
+const LAST: [Word; 20] = [
+    b"A", b"B", b"C", b"D", b"E", b"F", b"G", b"H", b"I", b"J", b"K", b"L", b"M", b"N", b"O", b"P",
+    b"Q", b"R", b"S", b"T",
+];
+
+const EARLIER: [Word; 5] = [b"U", b"V", b"W", b"X", b"Y"];
+
+/// The place of a word among words, if it stands there.
+fn place_of(words: &[Word], word: Word) -> Option<usize> {
+    words.iter().position(|other| *other == word)
+}
+
+/// The letters of the number that is one more than this, which is below 120.
+fn add_number(into: &mut Words, below: usize) {
+    if 20 <= below {
+        into.add(EARLIER[(below / 20 - 1) % 5]);
+    }
+    into.add(LAST[below % 20]);
+}
+
+/// The mandatory hypotheses of a theorem whose proof has these labels, and then the other labels, each once.
+fn numbered(alloc: Global, proof: &[Word], hypothesis: Word) -> (Words, Words) {
+    let mut hypotheses = Words::new(alloc);
+    let mut others = Words::new(alloc);
+    for label in [FLOATING[0], FLOATING[1], FLOATING[2], hypothesis] {
+        if place_of(proof, label).is_some() {
+            hypotheses.add(label);
+        }
+    }
+    for label in proof {
+        let is_known = place_of(&hypotheses.list, label).is_some();
+        if !is_known && place_of(&others.list, label).is_none() {
+            others.add(label);
+        }
+    }
+    (hypotheses, others)
+}
+
+/// The proof with these labels as a compressed one. Some of its steps are marked, and hypotheses that were marked are
+/// taken up again.
+pub(crate) fn compressed(
+    alloc: Global,
+    proof: &[Word],
+    hypothesis: Word,
+    chance: &mut Chance,
+) -> Words {
+    let (hypotheses, others) = numbered(alloc, proof, hypothesis);
+    let mut numbers = Words::new(alloc);
+    numbers.add_all(&hypotheses.list);
+    numbers.add_all(&others.list);
+    let labels = numbers.list.len();
+    let mut written = Words::new(alloc);
+    written.add(b"(");
+    written.add_all(&others.list);
+    written.add(b")");
+    for label in proof {
+        add_step(&mut written, &mut numbers, label, labels, chance);
+        if chance.once_in(4) {
+            written.add(b"Z");
+            let is_hypothesis = place_of(&hypotheses.list, label).is_some();
+            numbers.add(if is_hypothesis { label } else { b"" });
+        }
+    }
+    written
+}
+
+/// A step for the label: its number, or that of a mark at a step with the same label.
+fn add_step(
+    written: &mut Words,
+    numbers: &mut Words,
+    label: Word,
+    labels: usize,
+    chance: &mut Chance,
+) {
+    let marks = &numbers.list[labels.min(numbers.list.len())..];
+    match place_of(marks, label) {
+        Some(mark) if mark < 60 && labels < 60 && chance.once_in(2) => {
+            add_number(written, labels + mark);
+        }
+        _ => {
+            if let Some(number) = place_of(&numbers.list, label) {
+                add_number(written, number % 120);
+            }
+        }
+    }
+}

@@ -1,0 +1,174 @@
+//! Databases by chance whose proofs are valid.
+
+use super::chance::Chance;
+use super::compressed::compressed;
+use super::formulas::{ALL, Choice, Formula, conditional, formula_by};
+use super::words::{Word, Words};
+use std::alloc::Global;
+
+/// Symbols, axioms and a theorem that others cite. Each line is a word, but for the last one's proof.
+const HEAD: [Word; 10] = [
+    b"$c wff |- ( -> ) $.",
+    b"$v p q r $.",
+    b"wp $f wff p $. wq $f wff q $. wr $f wff r $.",
+    b"wi $a wff ( p -> q ) $.",
+    b"ax-1 $a |- ( p -> ( q -> p ) ) $.",
+    b"${ min $e |- p $. maj $e |- ( p -> q ) $. ax-mp $a |- q $. $}",
+    b"${ $d p q $. ax-d $a |- ( p -> q ) $. $}",
+    b"${ a1i.1 $e |- p $. a1i $p |- ( q -> p ) $=",
+    b"wp wq wp wi a1i.1 wp wq ax-1 ax-mp",
+    b"$. $}",
+];
+
+/// The labels of theorems and of their hypotheses.
+const LABELS: [Word; 6] = [b"t0", b"t1", b"t2", b"t3", b"t4", b"t5"];
+
+const HYPOTHESES: [Word; 6] = [b"h0", b"h1", b"h2", b"h3", b"h4", b"h5"];
+
+/// A theorem: its formula, its hypothesis if it has one, whether `p` and `q` have to be disjoint, and the labels of its
+/// proof in postfix order.
+#[derive(Drop)]
+struct Theorem {
+    typecode: Word,
+    formula: Formula,
+    hypothesis: Option<Formula>,
+    is_apart: bool,
+    proof: Words,
+}
+
+/// A formula, with the proof that it is one.
+fn syntax(alloc: Global, chance: &mut Chance) -> Theorem {
+    let formula = formula_by(alloc, ALL, chance);
+    let mut proof = Words::new(alloc);
+    proof.add_all(&formula.proof.list);
+    Theorem {
+        typecode: b"wff",
+        formula,
+        hypothesis: None,
+        is_apart: false,
+        proof,
+    }
+}
+
+/// An instance of the first axiom.
+fn instance(alloc: Global, chance: &mut Chance) -> Theorem {
+    let first = formula_by(alloc, ALL, chance);
+    let second = formula_by(alloc, ALL, chance);
+    let mut proof = Words::new(alloc);
+    proof.add_all(&first.proof.list);
+    proof.add_all(&second.proof.list);
+    proof.add(b"ax-1");
+    Theorem {
+        typecode: b"|-",
+        formula: conditional(alloc, &first, &conditional(alloc, &second, &first)),
+        hypothesis: None,
+        is_apart: false,
+        proof,
+    }
+}
+
+/// A conditional whose second part is the hypothesis: by the theorem, or by detachment as the theorem itself.
+fn consequent(alloc: Global, label: Word, chance: &mut Chance) -> Theorem {
+    let first = formula_by(alloc, ALL, chance);
+    let second = formula_by(alloc, ALL, chance);
+    let formula = conditional(alloc, &second, &first);
+    let mut proof = Words::new(alloc);
+    proof.add_all(&first.proof.list);
+    if chance.once_in(2) {
+        proof.add_all(&second.proof.list);
+        proof.add_all(&[label, b"a1i"]);
+    } else {
+        proof.add_all(&formula.proof.list);
+        proof.add(label);
+        proof.add_all(&first.proof.list);
+        proof.add_all(&second.proof.list);
+        proof.add_all(&[b"ax-1", b"ax-mp"]);
+    }
+    Theorem {
+        typecode: b"|-",
+        formula,
+        hypothesis: Some(first),
+        is_apart: false,
+        proof,
+    }
+}
+
+/// A conditional of formulas without a common variable.
+fn apart(alloc: Global, chance: &mut Chance) -> Theorem {
+    let first = formula_by(alloc, Choice { first: 0, count: 1 }, chance);
+    let second = formula_by(alloc, Choice { first: 1, count: 1 }, chance);
+    let mut proof = Words::new(alloc);
+    proof.add_all(&first.proof.list);
+    proof.add_all(&second.proof.list);
+    proof.add(b"ax-d");
+    Theorem {
+        typecode: b"|-",
+        formula: conditional(alloc, &first, &second),
+        hypothesis: None,
+        is_apart: true,
+        proof,
+    }
+}
+
+/// The theorem's statement, with its proof in one of the two forms.
+fn add_statement(
+    alloc: Global,
+    words: &mut Words,
+    theorem: &Theorem,
+    labels: (Word, Word),
+    chance: &mut Chance,
+) {
+    words.add_all(&[labels.0, b"$p", theorem.typecode]);
+    words.add_all(&theorem.formula.symbols.list);
+    words.add(b"$=");
+    if chance.once_in(2) {
+        words.add_all(&theorem.proof.list);
+    } else {
+        let proof = compressed(alloc, &theorem.proof.list, labels.1, chance);
+        words.add_all(&proof.list);
+    }
+    words.add(b"$.");
+}
+
+/// The theorem in a block of its own, with what it asks for.
+fn add_theorem(
+    alloc: Global,
+    words: &mut Words,
+    theorem: &Theorem,
+    labels: (Word, Word),
+    chance: &mut Chance,
+) {
+    words.add(b"${");
+    if theorem.is_apart {
+        words.add_all(&[b"$d", b"p", b"q", b"$."]);
+    }
+    if let Some(hypothesis) = &theorem.hypothesis {
+        words.add_all(&[labels.1, b"$e", b"|-"]);
+        words.add_all(&hypothesis.symbols.list);
+        words.add(b"$.");
+    }
+    add_statement(alloc, words, theorem, labels, chance);
+    words.add(b"$}");
+}
+
+/// A theorem by chance.
+fn theorem_by(alloc: Global, hypothesis: Word, chance: &mut Chance) -> Theorem {
+    match chance.below(5) {
+        0 => syntax(alloc, chance),
+        1 => instance(alloc, chance),
+        2 => apart(alloc, chance),
+        _ => consequent(alloc, hypothesis, chance),
+    }
+}
+
+/// A database with up to six theorems more than its head has.
+pub(crate) fn database_by(alloc: Global, chance: &mut Chance) -> Words {
+    let mut words = Words::new(alloc);
+    words.add_all(&HEAD);
+    for number in 0..chance.below(7) {
+        let labels = (LABELS[number % 6], HYPOTHESES[number % 6]);
+        let theorem = theorem_by(alloc, labels.1, chance);
+        add_theorem(alloc, &mut words, &theorem, labels, chance);
+    }
+    words
+}

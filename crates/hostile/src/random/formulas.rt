@@ -1,0 +1,82 @@
+//! Formulas by chance, with the proofs that they are formulas.
+
+use super::chance::Chance;
+use super::words::{Word, Words};
+use std::alloc::Global;
+
+/// The variables, and the labels of their `$f`.
+const VARIABLES: [Word; 3] = [b"p", b"q", b"r"];
+
+pub(crate) const FLOATING: [Word; 3] = [b"wp", b"wq", b"wr"];
+
+/// A formula: its symbols, and the labels of a proof that it is one, in postfix order.
+#[derive(Drop)]
+pub(crate) struct Formula {
+    pub symbols: Words,
+    pub proof: Words,
+}
+
+/// Which variables a formula may have: those with the numbers from the first on, so many.
+#[derive(Clone, Copy)]
+pub(crate) struct Choice {
+    pub first: usize,
+    pub count: usize,
+}
+
+/// All variables.
+pub(crate) const ALL: Choice = Choice { first: 0, count: 3 };
+
+fn add_variable(formula: &mut Formula, choice: Choice, chance: &mut Chance) {
+    let number = choice.first.min(2) + chance.below(choice.count.max(1).min(3));
+    formula.symbols.add(VARIABLES[number % 3]);
+    formula.proof.add(FLOATING[number % 3]);
+}
+
+/// A variable, or a conditional of two.
+fn add_small(formula: &mut Formula, choice: Choice, chance: &mut Chance) {
+    if chance.once_in(2) {
+        return add_variable(formula, choice, chance);
+    }
+    formula.symbols.add(b"(");
+    add_variable(formula, choice, chance);
+    formula.symbols.add(b"->");
+    add_variable(formula, choice, chance);
+    formula.symbols.add(b")");
+    formula.proof.add(b"wi");
+}
+
+/// A formula of up to four variables, of these.
+pub(crate) fn formula_by(alloc: Global, choice: Choice, chance: &mut Chance) -> Formula {
+    let mut formula = Formula {
+        symbols: Words::new(alloc),
+        proof: Words::new(alloc),
+    };
+    if chance.once_in(2) {
+        add_small(&mut formula, choice, chance);
+    } else {
+        formula.symbols.add(b"(");
+        add_small(&mut formula, choice, chance);
+        formula.symbols.add(b"->");
+        add_small(&mut formula, choice, chance);
+        formula.symbols.add(b")");
+        formula.proof.add(b"wi");
+    }
+    formula
+}
+
+/// The conditional of two formulas.
+pub(crate) fn conditional(alloc: Global, first: &Formula, second: &Formula) -> Formula {
+    let mut formula = Formula {
+        symbols: Words::new(alloc),
+        proof: Words::new(alloc),
+    };
+    formula.symbols.add(b"(");
+    formula.symbols.add_all(&first.symbols.list);
+    formula.symbols.add(b"->");
+    formula.symbols.add_all(&second.symbols.list);
+    formula.symbols.add(b")");
+    formula.proof.add_all(&first.proof.list);
+    formula.proof.add_all(&second.proof.list);
+    formula.proof.add(b"wi");
+    formula
+}

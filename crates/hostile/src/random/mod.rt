@@ -1,0 +1,216 @@
+//! Texts by chance: databases whose proofs are valid, and such databases with changes. Each is run with other cuts, other
+//! numbers of workers and other sections, and what is written has to be the same.
+
+ghost use Rattle.std.specs.Prelude.{◌≤◌, length};
+
+mod chance;
+mod changes;
+mod compressed;
+mod database;
+mod formulas;
+mod words;
+
+use crate::calls::{ended, plan_of};
+use chance::Chance;
+use changes::change_some;
+use database::database_by;
+use mm_plan::Cutting;
+use mm_run::RunEnd;
+use mm_spec::Choice;
+use std::alloc::Global;
+use std::process::Abort;
+use std::sync::Wait;
+use std::thread::Threads;
+use words::text_of;
+
+/// How many texts there are.
+const TEXTS: usize = 2000;
+
+/// Numbers of workers, and of pieces. Large ones are rare, since they cost many threads.
+const NUMBERS: [u32; 24] = [
+    1, 1, 1, 1, 1, 1, 1, 1, 2, 2, 2, 2, 2, 2, 2, 2, 3, 3, 3, 3, 4, 4, 7, 33,
+];
+
+/// The numbers of the codes of faults, but for that of a text of more than 2,147,483,647 bytes (0) and that of a formula of
+/// more than 1,048,576 symbols (39).
+const CODES: [u8; 37] = [
+    1, 2, 3, 4, 5, 6, 7, 8, 9, 10, 11, 12, 13, 14, 15, 17, 18, 19, 20, 21, 22, 23, 24, 25, 31, 32,
+    33, 34, 35, 36, 37, 38, 41, 42, 43, 44, 45,
+];
+
+/// Cuts by chance: so many equal pieces, or some places, of which the last may be past the end.
+fn cuts_by(alloc: Global, len: usize, chance: &mut Chance) -> Cutting<Global> {
+    if chance.once_in(2) {
+        return Cutting::Count(NUMBERS[chance.below(24)]);
+    }
+    let mut places = Vec::new(alloc);
+    let mut place = 0usize;
+    for _ in 0..chance.below(6) {
+        place = place
+            .saturating_add(chance.below(len.min(4096) / 2 + 2))
+            .min(100_000);
+        let _ = places.push(place as u32);
+    }
+    Cutting::Places(places)
+}
+
+/// How a run ends and what it writes, with cuts and workers by chance.
+fn run_by<R: Threads + Wait + Sync>(
+    rt: &R,
+    alloc: Global,
+    mut text: &[u8],
+    choice: Choice,
+    chance: &mut Chance,
+) -> (Option<RunEnd>, Vec<u8>) {
+    let cuts = cuts_by(alloc, text.len(), chance);
+    let plan = plan_of(cuts, NUMBERS[chance.below(24)], choice);
+    let mut written = Vec::new(alloc);
+    let end = ended(rt, alloc, &plan, &mut text, &mut written);
+    (end, written)
+}
+
+/// The same in one piece and by one worker, with all sections.
+fn run_plainly<R: Threads + Wait + Sync>(
+    rt: &R,
+    alloc: Global,
+    mut text: &[u8],
+) -> (Option<RunEnd>, Vec<u8>) {
+    let plan = plan_of(Cutting::Count(1), 1, Choice::All);
+    let mut written = Vec::new(alloc);
+    let end = ended(rt, alloc, &plan, &mut text, &mut written);
+    (end, written)
+}
+
+/// The bytes of the first three lines, which stand before the sections.
+fn head_of(report: &[u8]) -> usize
+    ensures { result ≤ length report.now }
+{
+    let mut lines = 0u32;
+    for (at, byte) in report.iter().enumerate() {
+        if *byte == b'\n' {
+            lines = lines.saturating_add(1);
+            if lines == 3 {
+                return at + 1;
+            }
+        }
+    }
+    report.len()
+}
+
+/// A section of a report that has it alone.
+fn section_of(report: &[u8]) -> &[u8] {
+    let end = report.len().saturating_sub(b"end\n".len());
+    let head = head_of(report).min(end);
+    &report[head..end]
+}
+
+/// Whether a report has these sections, in this order, between its first lines and its end.
+fn has_sections(report: &[u8], sections: [&[u8]; 3]) -> bool {
+    let mut rest = &report[head_of(report)..];
+    for section in sections {
+        match rest.strip_prefix(section) {
+            Some(behind) => rest = behind,
+            None => return false,
+        }
+    }
+    rest == b"end\n".as_slice()
+}
+
+/// Asserts that a report's sections are those of reports that have one of them, with the same first lines.
+fn same_sections<R: Abort + Threads + Wait + Sync>(
+    rt: &R,
+    alloc: Global,
+    text: &[u8],
+    report: &[u8],
+    chance: &mut Chance,
+) {
+    let (_, rows) = run_by(rt, alloc, text, Choice::Matrix, chance);
+    let (_, counts) = run_by(rt, alloc, text, Choice::Counts, chance);
+    let (_, users) = run_by(rt, alloc, text, Choice::Usage, chance);
+    let sections = [section_of(&rows), section_of(&counts), section_of(&users)];
+    assert!(rt; has_sections(report, sections));
+    for other in [&rows, &counts, &users] {
+        assert!(rt; other[..head_of(other)] == report[..head_of(report)]);
+    }
+}
+
+/// Runs a text in several ways, asserts that all write the same, and tells how they end.
+fn judged<R: Abort + Threads + Wait + Sync>(
+    rt: &R,
+    alloc: Global,
+    text: &[u8],
+    chance: &mut Chance,
+) -> Option<RunEnd> {
+    let (end, written) = run_plainly(rt, alloc, text);
+    let (other_end, other) = run_by(rt, alloc, text, Choice::All, chance);
+    assert!(rt; other_end == end && other.as_slice() == written.as_slice());
+    if end == Some(RunEnd::Accepted) {
+        same_sections(rt, alloc, text, &written, chance);
+    } else {
+        let (_, counts) = run_by(rt, alloc, text, Choice::Counts, chance);
+        assert!(rt; counts.as_slice() == written.as_slice());
+    }
+    end
+}
+
+/// A text by chance, and whether it was left unchanged.
+fn text_by(alloc: Global, chance: &mut Chance) -> (Vec<u8>, bool) {
+    let mut words = database_by(alloc, chance);
+    let is_unchanged = chance.once_in(4);
+    if !is_unchanged {
+        change_some(&mut words, chance);
+    }
+    let mut text = text_of(alloc, &words, chance);
+    if !is_unchanged && chance.once_in(8) {
+        let len = chance.below(text.len() + 1);
+        text.truncate(len);
+    }
+    (text, is_unchanged)
+}
+
+/// How often texts were accepted, and each fault that they had.
+#[derive(Drop)]
+struct Tally {
+    accepted: usize,
+    faults: [usize; 46],
+}
+
+impl Tally {
+    fn count(&mut self, end: Option<RunEnd>) {
+        match end {
+            Some(RunEnd::Accepted) => self.accepted = self.accepted.saturating_add(1),
+            Some(RunEnd::Refused(fault)) => {
+                let number = fault.code.number() as usize % 46;
+                self.faults[number] = self.faults[number].saturating_add(1);
+            }
+            _ => {}
+        }
+    }
+}
+
+// The same texts each time. An unchanged database is valid, so it has to be accepted; the changed ones have each fault
+// that a short text can have.
+#[test]
+fn texts_by_chance_have_one_answer(rt: HostRuntime) {
+    let mut tally = Tally {
+        accepted: 0,
+        faults: [0; 46],
+    };
+    for seed in 0..TEXTS {
+        let mut chance = Chance::new(seed as u64);
+        let (text, is_unchanged) = text_by(rt.alloc(), &mut chance);
+        let end = judged(&rt, rt.alloc(), &text, &mut chance);
+        assert!(&rt;
+            !is_unchanged || end == Some(RunEnd::Accepted),
+            "text {seed}"
+        );
+        tally.count(end);
+    }
+    assert!(&rt; tally.accepted > TEXTS / 4);
+    for code in CODES {
+        assert!(&rt;
+            tally.faults[code as usize % 46] > 0,
+            "no text has fault {code}"
+        );
+    }
+}

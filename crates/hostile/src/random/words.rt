@@ -1,0 +1,66 @@
+//! Texts as lists of words.
+
+use super::chance::Chance;
+use std::alloc::Global;
+
+/// A word of a text. What is put into a text at once is one too.
+pub(crate) type Word = &'static [u8];
+
+/// Words, one behind the other. Words for which there is no memory are left out.
+#[derive(Drop)]
+pub(crate) struct Words {
+    pub list: Vec<Word>,
+}
+
+impl Words {
+    pub fn new(alloc: Global) -> Words {
+        Words {
+            list: Vec::new(alloc),
+        }
+    }
+
+    pub fn add(&mut self, word: Word) {
+        let _ = self.list.push(word);
+    }
+
+    pub fn add_all(&mut self, words: &[Word]) {
+        for word in words {
+            self.add(word);
+        }
+    }
+}
+
+/// What may stand between two words.
+const BETWEEN: [Word; 8] = [
+    b" ",
+    b" ",
+    b" ",
+    b"\n",
+    b"\t",
+    b"\r\n",
+    b"\x0c ",
+    b" $( a comment $) ",
+];
+
+/// Whether a word is one letter of a compressed proof.
+fn is_letter(word: Word) -> bool {
+    match word {
+        [letter] => b'A' <= *letter && *letter <= b'Z',
+        _ => false,
+    }
+}
+
+/// The text of the words. Letters of proofs mostly stand side by side.
+pub(crate) fn text_of(alloc: Global, words: &Words, chance: &mut Chance) -> Vec<u8> {
+    let mut text = Vec::new(alloc);
+    let mut before: Word = b"";
+    for word in &words.list {
+        if !is_letter(before) || !is_letter(word) || chance.once_in(4) {
+            let _ = text.extend_from_slice(BETWEEN[chance.below(8)]);
+        }
+        let _ = text.extend_from_slice(word);
+        before = word;
+    }
+    let _ = text.push(b'\n');
+    text
+}

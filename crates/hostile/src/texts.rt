@@ -1,0 +1,45 @@
+//! Texts that several tests read, and what a run writes of them.
+
+/// Symbols and formulas of a conditional, its first axiom, and a theorem that rests on one of the two axioms.
+pub(crate) const FIRST: &[u8] =
+    b"$c wff |- ( -> ) $.\n$v p q $.\nwp $f wff p $.\nwq $f wff q $.\nwi $a wff ( p -> q ) $.\nax-1 $a |- ( p -> ( q -> p ) ) $.\nwi2 $p wff ( p -> ( q -> p ) ) $= wp wq wp wi wi $.\n";
+
+pub(crate) const FIRST_REPORT: &[u8] =
+    b"mmdepend 1\naxioms 2\ntheorems 1\nmatrix\nwi2:10\ncounts\nwi2:1\nusage\nwi:1:wi2\nax-1:0:\nend\n";
+
+/// Its beginning, up to the first axiom: 118 bytes.
+pub(crate) const BASE: &[u8] =
+    b"$c wff |- ( -> ) $.\n$v p q $.\nwp $f wff p $.\nwq $f wff q $.\nwi $a wff ( p -> q ) $.\nax-1 $a |- ( p -> ( q -> p ) ) $.\n";
+
+/// Two theorems with a hypothesis, of which the second cites the first, twice.
+pub(crate) const THROUGH: &[u8] =
+    b"$c wff |- ( -> ) $.\n$v p q $.\nwp $f wff p $.\nwq $f wff q $.\nwi $a wff ( p -> q ) $.\nax-1 $a |- ( p -> ( q -> p ) ) $.\n${ min $e |- p $. maj $e |- ( p -> q ) $. ax-mp $a |- q $. $}\n${ h $e |- p $. a1i $p |- ( q -> p ) $= wp wq wp wi h wp wq ax-1 ax-mp $. $}\n${ g $e |- p $. a2 $p |- ( q -> ( q -> p ) ) $= wq wp wi wq wp wq g a1i a1i $. $}\n";
+
+pub(crate) const THROUGH_REPORT: &[u8] =
+    b"mmdepend 1\naxioms 3\ntheorems 2\nmatrix\na1i:111\na2:111\ncounts\na1i:3\na2:3\nusage\nwi:2:a1i a2\nax-1:2:a1i a2\nax-mp:2:a1i a2\nend\n";
+
+/// The first of these theorems alone, its proof in compressed form with a step that is marked and taken up again.
+pub(crate) const COMPRESSED: &[u8] =
+    b"$c wff |- ( -> ) $.\n$v p q $.\nwp $f wff p $.\nwq $f wff q $.\nwi $a wff ( p -> q ) $.\nax-1 $a |- ( p -> ( q -> p ) ) $.\n${ min $e |- p $. maj $e |- ( p -> q ) $. ax-mp $a |- q $. $}\n${ h $e |- p $. a1i $p |- ( q -> p ) $= ( wi ax-1 ax-mp ) AZBADCGBEF $. $}\n";
+
+pub(crate) const COMPRESSED_REPORT: &[u8] =
+    b"mmdepend 1\naxioms 3\ntheorems 1\nmatrix\na1i:111\ncounts\na1i:3\nusage\nwi:1:a1i\nax-1:1:a1i\nax-mp:1:a1i\nend\n";
+
+/// A theorem whose proof puts variables that aren't disjoint for two that have to be: E36 at column 31 of line 8.
+pub(crate) const NOT_DISJOINT: &[u8] =
+    b"$c wff |- ( -> ) $.\n$v p q $.\nwp $f wff p $.\nwq $f wff q $.\nwi $a wff ( p -> q ) $.\nax-1 $a |- ( p -> ( q -> p ) ) $.\n${ $d p q $. ax-d $a |- ( p -> q ) $. $}\nbad $p |- ( p -> q ) $= wp wq ax-d $.\n";
+
+pub(crate) const NOT_DISJOINT_REFUSAL: &[u8] = b"refused 8:31 E36\n";
+
+/// The same with a `$d` for them.
+pub(crate) const DISJOINT: &[u8] =
+    b"$c wff |- ( -> ) $.\n$v p q $.\nwp $f wff p $.\nwq $f wff q $.\nwi $a wff ( p -> q ) $.\nax-1 $a |- ( p -> ( q -> p ) ) $.\n${ $d p q $. ax-d $a |- ( p -> q ) $. $}\n${ $d p q $. good $p |- ( p -> q ) $= wp wq ax-d $. $}\n";
+
+pub(crate) const DISJOINT_REPORT: &[u8] =
+    b"mmdepend 1\naxioms 3\ntheorems 1\nmatrix\ngood:001\ncounts\ngood:1\nusage\nwi:0:\nax-1:0:\nax-d:1:good\nend\n";
+
+/// Two theorems whose proofs aren't valid; the first takes longer to check.
+pub(crate) const TWO_FAULTS: &[u8] =
+    b"$c wff |- ( -> ) $.\n$v p q $.\nwp $f wff p $.\nwq $f wff q $.\nwi $a wff ( p -> q ) $.\nax-1 $a |- ( p -> ( q -> p ) ) $.\nlong $p wff p $= wp wq wp wi wp wi wp wi wp wi $.\nshort $p wff p $= wq $.\n";
+
+pub(crate) const TWO_FAULTS_REFUSAL: &[u8] = b"refused 7:48 E37\n";
