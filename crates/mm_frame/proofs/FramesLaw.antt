@@ -1,47 +1,21 @@
 -- One statement more in the walk that makes the frames.
-use Rattle.std.proofs.Common.{◌≡◌, ◌≢◌, ℕ, suc, ◌+◌, ◌<◌, ◌≤◌, Bool, true, false, List, [], ◌∷◌, ◌++◌, length, get_or, set, None, Some, refl, sym, ap, ◌∙◌, subst, arith, ◌⊎◌, inl, inr, length-append, append-nil}
+use Rattle.std.proofs.Common.{◌≡◌, ◌≢◌, ℕ, suc, ◌+◌, ◌<◌, ◌≤◌, Bool, true, false, List, [], ◌∷◌, ◌++◌, length, get_or, set, None, Some, refl, sym, ap, ◌∙◌, subst, arith, true≢false, ◌⊎◌, inl, inr, length-append, append-nil}
 use Rattle.std.proofs.lemmas.Bool.{cases_lt, cases_eq}
 use Rattle.std.proofs.lemmas.List.{get_or-set_same, get_or-set_other, length-set, get_or_append_left}
 use Rattle.std.proofs.Math.Seq.{get_or-append_seam}
-use Rattle.std.specs.List.{range_with_len}
+use Rattle.std.specs.List.{list_any, range_with_len}
 use Rattle.mm_spec.specs.Statement.{Statement}
-use Rattle.mm_spec.specs.Scope.{those}
+use Rattle.mm_spec.specs.Scope.{statement_at, those}
+use Rattle.mm_spec.specs.Citation.{is_assertion}
 use Rattle.mm_spec.specs.Derivation.{Pair}
 use Rattle.mm_spec.specs.Frame.{symbol_names}
 use Rattle.mm_spec.proofs.Activity.{stays, range_more}
 use Rattle.mm_outline.specs.Blocks.{never}
-use Rattle.mm_frame.specs.Frames.{AreFrames}
 use Rattle.mm_frame.specs.Frames.{IsFrame, AreFramesUpTo}
 use Rattle.mm_frame.specs.Tables.{IsSound, typed_at}
 use Rattle.mm_frame.specs.Walk.{AreTyped}
 use Rattle.mm_frame.proofs.Nested.{stays_earlier}
 use Rattle.mm_frame.proofs.FloatLaw.{typed_float, typed_once, variable_below}
-
--- ---- the numbers that pass a test
-
-those_append : (p : ℕ → Bool) (xs : List ℕ) (y : ℕ) (b : Bool) → p y ≡ b → those p (xs ++ y ∷ []) ≡ those p xs ++ (elim b [ true ↦ y ∷ [] | false ↦ [] ])
-those_append p [] y b e = ap (λ b. elim b [ true ↦ y ∷ [] | false ↦ [] ]) e ∙ by b
-  where
-    by : (b : Bool) → ◌≡◌ {A = List ℕ} (elim b [ true ↦ y ∷ [] | false ↦ [] ]) ([] ++ (elim b [ true ↦ y ∷ [] | false ↦ [] ]))
-    by true = refl
-    by false = refl
-those_append p (x ∷ xs) y b e = by (p x) (those_append p xs y b e)
-  where
-    by : (c : Bool) → those p (xs ++ y ∷ []) ≡ those p xs ++ (elim b [ true ↦ y ∷ [] | false ↦ [] ]) → ◌≡◌ {A = List ℕ} (elim c [ true ↦ x ∷ those p (xs ++ y ∷ []) | false ↦ those p (xs ++ y ∷ []) ]) ((elim c [ true ↦ x ∷ those p xs | false ↦ those p xs ]) ++ (elim b [ true ↦ y ∷ [] | false ↦ [] ]))
-    by true r = ap (λ zs. x ∷ zs) r
-    by false r = r
-
-those_more : (p : ℕ → Bool) (k : ℕ) (b : Bool) → p k ≡ b → those p (range_with_len 0 (k + 1)) ≡ those p (range_with_len 0 k) ++ (elim b [ true ↦ k ∷ [] | false ↦ [] ])
-those_more p k b e =
-    let s : k + 1 ≡ suc k = omega arith in
-    let z : 0 + k ≡ k = omega arith in
-    ap (λ n. those p (range_with_len 0 n)) s ∙ ap (those p) (range_more 0 k) ∙ ap (λ i. those p (range_with_len 0 k ++ i ∷ [])) z ∙ those_append p (range_with_len 0 k) k b e
-
-pub those_push : (p : ℕ → Bool) (k : ℕ) (xs ys : List ℕ) → xs ≡ those p (range_with_len 0 k) → p k ≡ true → ys ≡ xs ++ k ∷ [] → ys ≡ those p (range_with_len 0 (k + 1))
-those_push p k xs ys h e is = is ∙ ap (λ zs. zs ++ k ∷ []) h ∙ sym (those_more p k true e)
-
-pub those_skip : (p : ℕ → Bool) (k : ℕ) (xs : List ℕ) → xs ≡ those p (range_with_len 0 k) → p k ≡ false → xs ≡ those p (range_with_len 0 (k + 1))
-those_skip p k xs h e = h ∙ sym (append-nil (those p (range_with_len 0 k))) ∙ sym (those_more p k false e)
 
 -- ---- the types of variables
 
@@ -98,31 +72,79 @@ typed_some db sound k v ts few t e = record {
 
 -- ---- the frames
 
-pub frames_start : (db : List Statement) (hs : List (List ℕ)) (ps : List (List Pair)) → hs ≡ [] → ps ≡ [] → AreFramesUpTo db 0 hs ps
-frames_start db hs ps e f = record { count = ap length e; count_pairs = ap length f; each = λ i h. absurd (omega arith) }
+module _ (db : List Statement) where
+  abbrev IsAssertion : ℕ → Type 0
+  IsAssertion k = list_any is_assertion (statement_at db k) ≡ true
 
-pub frames_more : (db : List Statement) (k : ℕ) (hs : List (List ℕ)) (ps : List (List Pair)) (h : List ℕ) (p : List Pair) → AreFramesUpTo db k hs ps → IsFrame db k h p → AreFramesUpTo db (k + 1) (hs ++ h ∷ []) (ps ++ p ∷ [])
-frames_more db k hs ps h p x f = record {
-  count = length-append hs (h ∷ []) ∙ ap (λ n. n + 1) x.count;
-  count_pairs = length-append ps (p ∷ []) ∙ ap (λ n. n + 1) x.count_pairs;
-  each = λ i l. by i l (cases_lt i k);
-}
-  where
-    by : (i : ℕ) → i < k + 1 → (i < k) ⊎ (k ≤ i) → IsFrame db i (get_or (hs ++ h ∷ []) i []) (get_or (ps ++ p ∷ []) i [])
-    by i l (inl m) =
-        let c = x.count in
-        let d = x.count_pairs in
-        subst (λ a. IsFrame db i a (get_or (ps ++ p ∷ []) i [])) (sym (get_or_append_left hs (h ∷ []) [] i (omega (arith, c, m)))) (subst (λ b. IsFrame db i (get_or hs i []) b) (sym (get_or_append_left ps (p ∷ []) [] i (omega (arith, d, m)))) (x.each i m))
-    by i l (inr m) =
-        let same : k ≡ i = omega arith in
-        let a = ap (λ n. get_or (hs ++ h ∷ []) n []) (sym x.count) ∙ get_or-append_seam hs h [] [] in
-        let b = ap (λ n. get_or (ps ++ p ∷ []) n []) (sym x.count_pairs) ∙ get_or-append_seam ps p [] [] in
-        subst (λ n. IsFrame db n (get_or (hs ++ h ∷ []) n []) (get_or (ps ++ p ∷ []) n [])) same (subst (λ y. IsFrame db k y (get_or (ps ++ p ∷ []) k [])) (sym a) (subst (λ y. IsFrame db k h y) (sym b) f))
+  pub frames_start : (ps : List ℕ) (hs : List (List ℕ)) (ds : List (List Pair)) → ps ≡ [] → hs ≡ [] → ds ≡ [] → AreFramesUpTo db 0 ps hs ds
+  frames_start ps hs ds e f g = record {
+    count = ap length e;
+    few = (let n = ap length f in omega (arith, n));
+    count_pairs = ap length g ∙ sym (ap length f);
+    there = λ i h. absurd (omega arith);
+    each = λ i h. absurd (omega arith);
+  }
 
-pub frames_all : (db : List Statement) (k : ℕ) (hs : List (List ℕ)) (ps : List (List Pair)) → k ≡ length db → AreFramesUpTo db k hs ps → AreFrames db hs ps
-frames_all db k hs ps e x = record {
-  count = x.count ∙ e;
-  count_pairs = x.count_pairs ∙ e;
-  hypotheses = λ i h. (x.each i (omega (arith, e, h))).hypotheses;
-  disjoint = λ i h. (x.each i (omega (arith, e, h))).disjoint;
-}
+  module _ (k : ℕ) (ps : List ℕ) (hs : List (List ℕ)) (ds : List (List Pair)) (x : AreFramesUpTo db k ps hs ds) where
+    -- the places with one more
+    before : (i : ℕ) → i < k → get_or (ps ++ length hs ∷ []) i 0 ≡ get_or ps i 0
+    before i m = let c = x.count in get_or_append_left ps (length hs ∷ []) 0 i (omega (arith, c, m))
+
+    last : get_or (ps ++ length hs ∷ []) k 0 ≡ length hs
+    last = ap (λ n. get_or (ps ++ length hs ∷ []) n 0) (sym x.count) ∙ get_or-append_seam ps (length hs) [] 0
+
+    counted : length (ps ++ length hs ∷ []) ≡ k + 1
+    counted = length-append ps (length hs ∷ []) ∙ ap (λ n. n + 1) x.count
+
+    -- a statement that is no assertion
+    pub frames_pass : list_any is_assertion (statement_at db k) ≡ false → AreFramesUpTo db (k + 1) (ps ++ length hs ∷ []) hs ds
+    frames_pass none = record {
+      count = counted;
+      few = (let f = x.few in omega (arith, f));
+      count_pairs = x.count_pairs;
+      there = λ i l is. there i l is (cases_lt i k);
+      each = λ i l. each i l (cases_lt i k);
+    }
+      where
+        not_here : (i : ℕ) → i < k + 1 → IsAssertion i → k ≤ i → ⊥
+        not_here i l is m = let same : k ≡ i = omega arith in true≢false (sym is ∙ ap (λ j. list_any is_assertion (statement_at db j)) (sym same) ∙ none)
+
+        there : (i : ℕ) → i < k + 1 → IsAssertion i → (i < k) ⊎ (k ≤ i) → get_or (ps ++ length hs ∷ []) i 0 < length hs
+        there i l is (inl m) = subst (λ n. n < length hs) (sym (before i m)) (x.there i m is)
+        there i l is (inr m) = absurd (not_here i l is m)
+
+        each : (i : ℕ) → i < k + 1 → (i < k) ⊎ (k ≤ i) → IsFrame db i (get_or hs (get_or (ps ++ length hs ∷ []) i 0) []) (get_or ds (get_or (ps ++ length hs ∷ []) i 0) [])
+        each i l (inl m) = subst (λ n. IsFrame db i (get_or hs n []) (get_or ds n [])) (sym (before i m)) (x.each i m)
+        each i l (inr m) = record { hypotheses = λ is. absurd (not_here i l is m); disjoint = λ is. absurd (not_here i l is m) }
+
+    -- an assertion with its frame
+    pub frames_more : (h : List ℕ) (d : List Pair) → IsFrame db k h d → AreFramesUpTo db (k + 1) (ps ++ length hs ∷ []) (hs ++ h ∷ []) (ds ++ d ∷ [])
+    frames_more h d f = record {
+      count = counted;
+      few = (let f = x.few in omega (arith, f, longer));
+      count_pairs = length-append ds (d ∷ []) ∙ ap (λ n. n + 1) x.count_pairs ∙ sym longer;
+      there = λ i l is. there i l is (cases_lt i k);
+      each = λ i l. each i l (cases_lt i k);
+    }
+      where
+        longer : length (hs ++ h ∷ []) ≡ length hs + 1
+        longer = length-append hs (h ∷ [])
+
+        there : (i : ℕ) → i < k + 1 → IsAssertion i → (i < k) ⊎ (k ≤ i) → get_or (ps ++ length hs ∷ []) i 0 < length (hs ++ h ∷ [])
+        there i l is (inl m) = let b = before i m in let t = x.there i m is in omega (arith, b, t, longer)
+        there i l is (inr m) = let same : k ≡ i = omega arith in let b = ap (λ n. get_or (ps ++ length hs ∷ []) n 0) (sym same) ∙ last in omega (arith, b, longer)
+
+        each : (i : ℕ) → i < k + 1 → (i < k) ⊎ (k ≤ i) → IsFrame db i (get_or (hs ++ h ∷ []) (get_or (ps ++ length hs ∷ []) i 0) []) (get_or (ds ++ d ∷ []) (get_or (ps ++ length hs ∷ []) i 0) [])
+        each i l (inl m) =
+            let p = get_or ps i 0 in
+            let c = x.count_pairs in
+            record {
+              hypotheses = λ is. let t = x.there i m is in ap (λ n. get_or (hs ++ h ∷ []) n []) (before i m) ∙ get_or_append_left hs (h ∷ []) [] p t ∙ (x.each i m).hypotheses is;
+              disjoint = λ is. let t = x.there i m is in ap (λ n. get_or (ds ++ d ∷ []) n []) (before i m) ∙ get_or_append_left ds (d ∷ []) [] p (omega (arith, c, t)) ∙ (x.each i m).disjoint is;
+            }
+        each i l (inr m) =
+            let same : k ≡ i = omega arith in
+            let a = ap (λ n. get_or (hs ++ h ∷ []) n []) last ∙ get_or-append_seam hs h [] [] in
+            let b = ap (λ n. get_or (ds ++ d ∷ []) n []) (last ∙ sym x.count_pairs) ∙ get_or-append_seam ds d [] [] in
+            subst (λ n. IsFrame db n (get_or (hs ++ h ∷ []) (get_or (ps ++ length hs ∷ []) n 0) []) (get_or (ds ++ d ∷ []) (get_or (ps ++ length hs ∷ []) n 0) [])) same
+            (subst (λ y. IsFrame db k y (get_or (ds ++ d ∷ []) (get_or (ps ++ length hs ∷ []) k 0) [])) (sym a) (subst (λ y. IsFrame db k h y) (sym b) f))

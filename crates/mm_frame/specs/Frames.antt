@@ -1,5 +1,5 @@
--- The frames of the first statements.
-use Rattle.std.specs.Prelude.{◌≡◌, ℕ, ◌<◌, true, List, [], length, get_or}
+-- The frames of the assertions.
+use Rattle.std.specs.Prelude.{◌≡◌, ℕ, ◌<◌, ◌≤◌, true, List, [], length, get_or, slice_index}
 use Rattle.std.specs.List.{list_any}
 use Rattle.mm_spec.specs.Statement.{Statement}
 use Rattle.mm_spec.specs.Scope.{statement_at}
@@ -12,14 +12,14 @@ pub record IsFrame (db : List Statement) (k : ℕ) (hyps : List ℕ) (pairs : Li
   pub hypotheses : list_any is_assertion (statement_at db k) ≡ true → hyps ≡ mandatory_hypotheses db k
   pub disjoint : list_any is_assertion (statement_at db k) ≡ true → pairs ≡ mandatory_pairs db k
 
-pub record AreFramesUpTo (db : List Statement) (k : ℕ) (hyps : List (List ℕ)) (pairs : List (List Pair)) : Type 0 where
-  pub count : length hyps ≡ k
-  pub count_pairs : length pairs ≡ k
-  pub each : (i : ℕ) → i < k → IsFrame db i (get_or hyps i []) (get_or pairs i [])
+-- the frames of the assertions among the first k statements: for each statement the place of its own, where it is one
+pub record AreFramesUpTo (db : List Statement) (k : ℕ) (places : List ℕ) (hyps : List (List ℕ)) (pairs : List (List Pair)) : Type 0 where
+  pub count : length places ≡ k
+  pub few : length hyps ≤ k
+  pub count_pairs : length pairs ≡ length hyps
+  pub there : (i : ℕ) → i < k → list_any is_assertion (statement_at db i) ≡ true → slice_index places i < length hyps
+  pub each : (i : ℕ) → i < k → IsFrame db i (get_or hyps (slice_index places i) []) (get_or pairs (slice_index places i) [])
 
 -- the mandatory hypotheses and pairs of the assertions
-pub record AreFrames (db : List Statement) (hyps : List (List ℕ)) (pairs : List (List Pair)) : Type 0 where
-  pub count : length hyps ≡ length db
-  pub count_pairs : length pairs ≡ length db
-  pub hypotheses : (k : ℕ) → k < length db → list_any is_assertion (statement_at db k) ≡ true → get_or hyps k [] ≡ mandatory_hypotheses db k
-  pub disjoint : (k : ℕ) → k < length db → list_any is_assertion (statement_at db k) ≡ true → get_or pairs k [] ≡ mandatory_pairs db k
+abbrev pub AreFrames : List Statement → List ℕ → List (List ℕ) → List (List Pair) → Type 0
+AreFrames db places hyps pairs = AreFramesUpTo db (length db) places hyps pairs

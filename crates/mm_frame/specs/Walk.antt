@@ -13,6 +13,11 @@ pub record AreMarks (n stamp : ℕ) (seen found : List ℕ) : Type 0 where
   pub within : (x : ℕ) → x < n → slice_index seen x ≤ stamp
   pub marked : (x : ℕ) → x < n → nat_eq (slice_index seen x) stamp ≡ is_member found x
 
+-- no symbol has a later stamp
+pub record IsFresh (n stamp : ℕ) (seen : List ℕ) : Type 0 where
+  pub count : length seen ≡ n
+  pub within : (x : ℕ) → x < n → slice_index seen x ≤ stamp
+
 -- for each variable its last `$f` before k, the only one that may be active
 pub record AreTyped (db : List Statement) (k : ℕ) (typed : List ℕ) : Type 0 where
   pub count : length typed ≡ length (symbol_names db)

@@ -72,7 +72,7 @@ fn symbols_of<A: Allocator + Copy>(
 ) -> Result<Vec<(Sym, Sym), A>, AllocError>
     ensures { IfOk result (λ v. map (λ p. pair p.0 p.1) v.items ≡ map (λ p. pair p.0 p.1) pairs.now) }
 {
-    let mut symbols = Vec::new(alloc);
+    let mut symbols = Vec::with_capacity(alloc, pairs.len())?;
     for (low, high) in pairs {
         symbols.push((Sym::new(*low), Sym::new(*high)))?;
     }
@@ -80,7 +80,7 @@ fn symbols_of<A: Allocator + Copy>(
 }
 
 /// The mandatory pairs of an assertion, by its mandatory variables. This costs a step for each active `$d` of each of
-/// them, and one for each pair in each of these.
+/// them, and one for each pair in each of these. The two lists are taken for these, and what they had is let go.
 pub(crate) fn pairs_of<A: Allocator + Copy>(
     alloc: A,
     tables: &Tables<A>,
@@ -88,6 +88,8 @@ pub(crate) fn pairs_of<A: Allocator + Copy>(
     members: &Members<A>,
     found: &[Sym],
     assertion: u32,
+    had: &mut Vec<(u32, u32), A>,
+    together: &mut Vec<(u32, u32), A>,
 ) -> Result<Vec<(Sym, Sym), A>, AllocError>
     requires assertion { assertion < length tables.now }
     requires blocks { IsBlocks tables.now (lists blocks.now.of.items blocks.now.ends.items blocks.now.open.items) }
@@ -96,11 +98,11 @@ pub(crate) fn pairs_of<A: Allocator + Copy>(
     ensures { IfOk result (λ v. map (λ p. pair p.0 p.1) v.items ≡ mandatory_pairs tables.now assertion) }
 {
     let _ = tables;
-    let mut had = Vec::new(alloc);
-    add_all_active(blocks, members, found, assertion, &mut had)?;
-    tidy(&mut had);
-    let mut pairs = Vec::new(alloc);
-    add_together(&had, &mut pairs)?;
-    tidy(&mut pairs);
-    symbols_of(alloc, &pairs)
+    had.clear();
+    add_all_active(blocks, members, found, assertion, had)?;
+    tidy(had);
+    together.clear();
+    add_together(had, together)?;
+    tidy(together);
+    symbols_of(alloc, together)
 }

@@ -1,16 +1,14 @@
-//! The frames of the assertions, and the lists of the theorems and of the axioms.
+//! The frames of the assertions.
 
-ghost use Rattle.std.specs.Prelude.{◌≡◌, ◌<◌, ◌≤◌, ◌+◌, ℕ, IfOk, OnOk, None, length, map, slice_index};
+ghost use Rattle.std.specs.Prelude.{◌≡◌, ◌<◌, ◌≤◌, ◌+◌, ℕ, IfOk, OnOk, length, map, slice_index};
 ghost use Rattle.mm_spec.specs.Derivation.{pair};
 ghost use Rattle.mm_spec.specs.Frame.{symbol_names, is_essential};
-ghost use Rattle.mm_spec.specs.Output.{theorems, columns};
 ghost use Rattle.mm_outline.specs.Blocks.{IsBlocks, lists};
-ghost use Rattle.mm_frame.specs.Frames.{AreFrames};
-ghost use Rattle.mm_frame.specs.Frames.{IsFrame};
+ghost use Rattle.mm_frame.specs.Frames.{AreFrames, AreFramesUpTo, IsFrame};
 ghost use Rattle.mm_frame.specs.Latest.{AreLatest};
 ghost use Rattle.mm_frame.specs.Members.{AreMembers};
 ghost use Rattle.mm_frame.specs.Tables.{IsSound};
-ghost use Rattle.mm_frame.specs.Walk.{AreTyped};
+ghost use Rattle.mm_frame.specs.Walk.{AreTyped, IsFresh};
 
 use crate::active::latest_essentials;
 use crate::disjoint::pairs_of;
@@ -54,7 +52,35 @@ fn give_type<A: Allocator>(tables: &Tables<A>, statement: u32, typed: &mut Vec<u
     }
 }
 
-/// The frame of an assertion; an empty one where the statement is none.
+/// The frames of assertions, one behind the other, and for each statement how many stand before it: that is the place of
+/// its own, where it is an assertion.
+#[derive(Drop)]
+pub struct Frames<A: Allocator> {
+    pub list: Vec<Frame<A>, A>,
+    pub places: Vec<u32, A>,
+}
+
+/// Lists that one assertion uses after another: the marks of the symbols, the variables, the hypotheses, and the active
+/// `$d` of the variables.
+#[derive(Drop)]
+struct Scratch<A: Allocator> {
+    seen: Vec<u32, A>,
+    found: Vec<Sym, A>,
+    hyps: Vec<u32, A>,
+    had: Vec<(u32, u32), A>,
+    together: Vec<(u32, u32), A>,
+}
+
+/// The numbers, in a list that has room for no more.
+fn copied<A: Allocator + Copy>(alloc: A, numbers: &[u32]) -> Result<Vec<u32, A>, AllocError>
+    ensures { IfOk result (λ v. v.items ≡ numbers.now) }
+{
+    let mut own = Vec::with_capacity(alloc, numbers.len())?;
+    own.extend_from_slice(numbers)?;
+    Ok(own)
+}
+
+/// The frame of an assertion.
 fn frame_of<A: Allocator + Copy>(
     alloc: A,
     tables: &Tables<A>,
@@ -62,51 +88,101 @@ fn frame_of<A: Allocator + Copy>(
     essentials: &[u32],
     members: &Members<A>,
     typed: &[u32],
-    statement: u32,
-    seen: &mut Vec<u32, A>,
-    found: &mut Vec<Sym, A>,
+    assertion: u32,
+    scratch: &mut Scratch<A>,
 ) -> Result<Frame<A>, AllocError>
+    requires sound { IsSound tables.now }
+    requires assertion { assertion < length tables.now }
+    requires essentials { AreLatest is_essential tables.now essentials.now }
+    requires blocks { IsBlocks tables.now (lists blocks.now.of.items blocks.now.ends.items blocks.now.open.items) }
+    requires members { AreMembers tables.now (lists blocks.now.of.items blocks.now.ends.items blocks.now.open.items) members.now.pairs.items members.now.skips.items }
+    requires typed { AreTyped tables.now assertion typed.now }
+    requires seen { IsFresh (length (symbol_names tables.now)) assertion scratch.old.seen.items }
+    ensures seen { OnOk result (IsFresh (length (symbol_names tables.now)) (assertion + 1) scratch.new.seen.items) }
+    ensures frame { IfOk result (λ f. IsFrame tables.now assertion f.hyps.items (map (λ p. pair p.0 p.1) f.pairs.items)) }
+{
+    hypotheses(
+        tables,
+        essentials,
+        typed,
+        assertion,
+        &mut scratch.seen,
+        &mut scratch.found,
+        &mut scratch.hyps,
+    )?;
+    let hyps = copied(alloc, &scratch.hyps)?;
+    let pairs = pairs_of(
+        alloc,
+        tables,
+        blocks,
+        members,
+        &scratch.found,
+        assertion,
+        &mut scratch.had,
+        &mut scratch.together,
+    )?;
+    Ok(Frame { hyps, pairs })
+}
+
+/// Adds the frame of a statement, where it is an assertion.
+fn add_frame<A: Allocator + Copy>(
+    alloc: A,
+    tables: &Tables<A>,
+    blocks: &Blocks<A>,
+    essentials: &[u32],
+    members: &Members<A>,
+    typed: &[u32],
+    statement: u32,
+    scratch: &mut Scratch<A>,
+    frames: &mut Frames<A>,
+) -> Result<(), AllocError>
     requires sound { IsSound tables.now }
     requires statement { statement < length tables.now }
     requires essentials { AreLatest is_essential tables.now essentials.now }
     requires blocks { IsBlocks tables.now (lists blocks.now.of.items blocks.now.ends.items blocks.now.open.items) }
     requires members { AreMembers tables.now (lists blocks.now.of.items blocks.now.ends.items blocks.now.open.items) members.now.pairs.items members.now.skips.items }
     requires typed { AreTyped tables.now statement typed.now }
-    requires count { length seen.old.items ≡ length (symbol_names tables.now) }
-    requires seen { (x : ℕ) → x < length (symbol_names tables.now) → slice_index seen.old.items x ≤ statement }
-    ensures count { OnOk result (length seen.new.items ≡ length (symbol_names tables.now)) }
-    ensures seen { OnOk result ((x : ℕ) → x < length (symbol_names tables.now) → slice_index seen.new.items x ≤ statement + 1) }
-    ensures frame { IfOk result (λ f. IsFrame tables.now statement f.hyps.items (map (λ p. pair p.0 p.1) f.pairs.items)) }
+    requires seen { IsFresh (length (symbol_names tables.now)) statement scratch.old.seen.items }
+    requires frames { AreFramesUpTo tables.now statement frames.old.places.items (map (λ f. f.hyps.items) frames.old.list.items) (map (λ f. map (λ p. pair p.0 p.1) f.pairs.items) frames.old.list.items) }
+    ensures seen { OnOk result (IsFresh (length (symbol_names tables.now)) (statement + 1) scratch.new.seen.items) }
+    ensures frames { OnOk result (AreFramesUpTo tables.now (statement + 1) frames.new.places.items (map (λ f. f.hyps.items) frames.new.list.items) (map (λ f. map (λ p. pair p.0 p.1) f.pairs.items) frames.new.list.items)) }
 {
-    let mut hyps = Vec::new(alloc);
+    frames.places.push(frames.list.len() as u32)?;
     if tables.is_assertion(statement) {
-        hypotheses(tables, essentials, typed, statement, seen, found, &mut hyps)?;
-        let pairs = pairs_of(alloc, tables, blocks, members, found, statement)?;
-        Ok(Frame { hyps, pairs })
-    } else {
-        let pairs = Vec::new(alloc);
-        Ok(Frame { hyps, pairs })
+        let frame = frame_of(
+            alloc, tables, blocks, essentials, members, typed, statement, scratch,
+        )?;
+        frames.list.push(frame)?;
     }
+    Ok(())
 }
 
-/// The frames of the statements: those of the assertions, and empty ones for the others.
+/// The frames of the assertions.
 pub(crate) fn frames_of<A: Allocator + Copy>(
     alloc: A,
     tables: &Tables<A>,
     blocks: &Blocks<A>,
     members: &Members<A>,
-) -> Result<Vec<Frame<A>, A>, AllocError>
+) -> Result<Frames<A>, AllocError>
     requires blocks { IsBlocks tables.now (lists blocks.now.of.items blocks.now.ends.items blocks.now.open.items) }
     requires members { AreMembers tables.now (lists blocks.now.of.items blocks.now.ends.items blocks.now.open.items) members.now.pairs.items members.now.skips.items }
-    ensures { IfOk result (λ v. AreFrames tables.now (map (λ f. f.hyps.items) v.items) (map (λ f. map (λ p. pair p.0 p.1) f.pairs.items) v.items)) }
+    ensures { IfOk result (λ v. AreFrames tables.now v.places.items (map (λ f. f.hyps.items) v.list.items) (map (λ f. map (λ p. pair p.0 p.1) f.pairs.items) v.list.items)) }
 {
     let essentials = latest_essentials(alloc, tables)?;
     let mut typed = filled(alloc, NEVER, tables.symbol_count())?;
-    let mut seen = filled(alloc, 0, tables.symbol_count())?;
-    let mut found = Vec::new(alloc);
-    let mut frames = Vec::new(alloc);
+    let mut scratch = Scratch {
+        seen: filled(alloc, 0, tables.symbol_count())?,
+        found: Vec::new(alloc),
+        hyps: Vec::new(alloc),
+        had: Vec::new(alloc),
+        together: Vec::new(alloc),
+    };
+    let mut frames = Frames {
+        list: Vec::new(alloc),
+        places: Vec::new(alloc),
+    };
     for k in 0..tables.len() {
-        let frame = frame_of(
+        add_frame(
             alloc,
             tables,
             blocks,
@@ -114,54 +190,19 @@ pub(crate) fn frames_of<A: Allocator + Copy>(
             members,
             &typed,
             k,
-            &mut seen,
-            &mut found,
+            &mut scratch,
+            &mut frames,
         )?;
-        frames.push(frame)?;
         give_type(tables, k, &mut typed);
     }
     Ok(frames)
 }
 
-/// The `$p` statements, in file order.
-pub(crate) fn theorems_of<A: Allocator + Copy>(
-    alloc: A,
-    tables: &Tables<A>,
-) -> Result<Vec<u32, A>, AllocError>
-    ensures { IfOk result (λ v. v.items ≡ theorems tables.now) }
-{
-    let mut all = Vec::new(alloc);
-    for k in 0..tables.len() {
-        if tables.is_theorem(k) {
-            all.push(k)?;
-        }
-    }
-    Ok(all)
-}
-
-/// The `$a` statements, in file order.
-pub(crate) fn axioms_of<A: Allocator + Copy>(
-    alloc: A,
-    tables: &Tables<A>,
-) -> Result<Vec<u32, A>, AllocError>
-    ensures { IfOk result (λ v. v.items ≡ columns tables.now None) }
-{
-    let mut all = Vec::new(alloc);
-    for k in 0..tables.len() {
-        if tables.is_axiom(k) {
-            all.push(k)?;
-        }
-    }
-    Ok(all)
-}
-
-/// What is kept beside the statements: the `$d` by their variables, the frames, and the lists of the theorems and axioms.
+/// What is kept beside the statements: the `$d` by their variables, and the frames.
 #[derive(Drop)]
 pub struct Beside<A: Allocator> {
     pub members: Members<A>,
-    pub frames: Vec<Frame<A>, A>,
-    pub theorems: Vec<u32, A>,
-    pub axioms: Vec<u32, A>,
+    pub frames: Frames<A>,
 }
 
 /// All that is kept beside lawful statements.
@@ -172,18 +213,9 @@ pub fn gather<A: Allocator + Copy>(
 ) -> Result<Beside<A>, AllocError>
     requires { IsBlocks tables.now (lists blocks.now.of.items blocks.now.ends.items blocks.now.open.items) }
     ensures members { IfOk result (λ b. AreMembers tables.now (lists blocks.now.of.items blocks.now.ends.items blocks.now.open.items) b.members.pairs.items b.members.skips.items) }
-    ensures frames { IfOk result (λ b. AreFrames tables.now (map (λ f. f.hyps.items) b.frames.items) (map (λ f. map (λ p. pair p.0 p.1) f.pairs.items) b.frames.items)) }
-    ensures theorems { IfOk result (λ b. b.theorems.items ≡ theorems tables.now) }
-    ensures axioms { IfOk result (λ b. b.axioms.items ≡ columns tables.now None) }
+    ensures frames { IfOk result (λ b. AreFrames tables.now b.frames.places.items (map (λ f. f.hyps.items) b.frames.list.items) (map (λ f. map (λ p. pair p.0 p.1) f.pairs.items) b.frames.list.items)) }
 {
     let members = members_of(alloc, tables, blocks)?;
     let frames = frames_of(alloc, tables, blocks, &members)?;
-    let theorems = theorems_of(alloc, tables)?;
-    let axioms = axioms_of(alloc, tables)?;
-    Ok(Beside {
-        members,
-        frames,
-        theorems,
-        axioms,
-    })
+    Ok(Beside { members, frames })
 }

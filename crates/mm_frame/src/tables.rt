@@ -1,11 +1,10 @@
 //! The statements of a text with their blocks and the numbers of their symbols: what a walk over them asks.
 
-ghost use Rattle.std.specs.Prelude.{All, ◌≡◌, ◌<◌, ◌≤◌, ◌^◌, ℕ, List, length, None};
+ghost use Rattle.std.specs.Prelude.{All, ◌≡◌, ◌<◌, ◌≤◌, ◌^◌, ℕ, List, length};
 ghost use Rattle.std.specs.List.{list_any};
 ghost use Rattle.mm_spec.specs.Scope.{statement_at};
 ghost use Rattle.mm_spec.specs.Frame.{symbol_names, is_variable, is_disjoint, is_essential, is_floating, formula_at};
-ghost use Rattle.mm_spec.specs.Citation.{is_assertion, is_theorem};
-ghost use Rattle.mm_spec.specs.Output.{is_column};
+ghost use Rattle.mm_spec.specs.Citation.{is_assertion};
 ghost use Rattle.mm_spec.proofs.Activity.{stays};
 ghost use Rattle.mm_outline.specs.Blocks.{IsBlocks, lists};
 ghost use Rattle.mm_outline.specs.Statements.{statements};
@@ -119,28 +118,6 @@ impl<'s, A: Allocator> Tables<'s, A> {
     {
         match self.outlines[statement as usize].kind {
             Kind::Floating => true,
-            _ => false,
-        }
-    }
-
-    /// Whether a statement is an `$a`.
-    pub(crate) fn is_axiom(&self, statement: u32) -> bool
-        requires { statement < length self.now }
-        ensures { result ≡ list_any (is_column None) (statement_at self.now statement) }
-    {
-        match self.outlines[statement as usize].kind {
-            Kind::Axiom => true,
-            _ => false,
-        }
-    }
-
-    /// Whether a statement is a `$p`.
-    pub(crate) fn is_theorem(&self, statement: u32) -> bool
-        requires { statement < length self.now }
-        ensures { result ≡ list_any is_theorem (statement_at self.now statement) }
-    {
-        match self.outlines[statement as usize].kind {
-            Kind::Theorem => true,
             _ => false,
         }
     }

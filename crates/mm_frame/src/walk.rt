@@ -7,7 +7,7 @@ ghost use Rattle.mm_spec.specs.Derivation.{is_member};
 ghost use Rattle.mm_spec.specs.Frame.{symbol_names, is_variable, is_essential, active_of, mandatory_variables, mandatory_hypotheses};
 ghost use Rattle.mm_frame.specs.Latest.{AreLatest};
 ghost use Rattle.mm_frame.specs.Tables.{IsSound};
-ghost use Rattle.mm_frame.specs.Walk.{AreMarks, AreTyped, is_float_of};
+ghost use Rattle.mm_frame.specs.Walk.{AreMarks, AreTyped, IsFresh, is_float_of};
 
 use crate::active::active_essentials;
 use crate::tables::Tables;
@@ -139,8 +139,7 @@ pub(crate) fn hypotheses<A: Allocator>(
     requires assertion { assertion < length tables.now }
     requires essentials { AreLatest is_essential tables.now essentials.now }
     requires typed { AreTyped tables.now assertion typed.now }
-    requires count { length seen.old.items ≡ length (symbol_names tables.now) }
-    requires seen { (x : ℕ) → x < length (symbol_names tables.now) → slice_index seen.old.items x ≤ assertion }
+    requires seen { IsFresh (length (symbol_names tables.now)) assertion seen.old.items }
     ensures marks { OnOk result (AreMarks (length (symbol_names tables.now)) (assertion + 1) seen.new.items found.new.items) }
     ensures found { OnOk result ((x : ℕ) → is_member found.new.items x ≡ is_member (mandatory_variables tables.now assertion) x) }
     ensures hyps { OnOk result (hyps.new.items ≡ mandatory_hypotheses tables.now assertion) }

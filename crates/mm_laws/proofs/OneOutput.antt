@@ -22,11 +22,13 @@ use Rattle.mm_spec.specs.Derivation.{is_member}
 use Rattle.mm_laws.proofs.RisingLists.{same_list}
 use Rattle.mm_spec.specs.Request.{Request}
 use Rattle.mm_spec.specs.declared.Code.{Code}
-use Rattle.mm_spec.specs.Output.{Lexed, lexed_of, TextFault, Stops, IsRead, ProofFault, end_of, is_theorem_at, AreValid, FirstProofFault, FirstFault, HasNoFault, theorems, columns, label_at, IsRowOf, AreCited, IsCitingRowOf, IsReportOf, IsOutput}
+use Rattle.mm_spec.specs.Output.{Lexed, lexed_of, TextFault, Stops, IsRead, ProofFault, end_of, is_theorem_at, AreValid, AllAreValid, FirstProofFault, FirstFault, HasNoFault, theorems, columns, open_columns, label_at, IsRowOf, AreCited, IsCitingRowOf, IsReportOf, IsOutput}
 use Rattle.mm_spec.proofs.Machine.{IsGood}
 use Rattle.mm_laws.proofs.Exact.{stops}
 use Rattle.mm_spec.specs.Complete.{IsFine, AreComplete}
+use Rattle.mm_spec.specs.Opened.{counted}
 use Rattle.mm_spec.proofs.CompleteLaw.{reads_complete}
+use Rattle.mm_spec.proofs.OpenedLemmas.{counted_complete}
 use Rattle.mm_spec.proofs.Checked.{same_row, plain_unique}
 use Rattle.mm_laws.proofs.Excluded.{excludes}
 use Rattle.mm_laws.proofs.Judged.{stopped, no_step_fault, no_end_fault, no_both_faults}
@@ -262,30 +264,37 @@ inside [] (suc k) h = let no : false ≡ true = h in cc
 inside (s ∷ db) zero h = omega arith
 inside (s ∷ db) (suc k) h = let l = inside db k h in omega (arith, l)
 
-module _ (len : ℕ) (x : Lexed) where
+module _ (len : ℕ) (x : Lexed) (with_open : Bool) where
   Cause : List Statement → Option Fault → Fault → Type 0
-  Cause db o f = ((k : ℕ) × FirstProofFault db k f) ⊎ (AreValid db (length db) × (o ≡ Some f))
+  Cause db o f = ((k : ℕ) × FirstProofFault (counted with_open db) k f) ⊎ (AllAreValid (counted with_open db) × (o ≡ Some f))
 
-  first_fault_unique : (f g : Fault) → FirstFault len x f → FirstFault len x g → f ≡ g
+  complete : (db : List Statement) (o : Option Fault) → IsRead len x db o → AreComplete (counted with_open db)
+  complete db o r = counted_complete with_open db (reads_complete len x db o r)
+
+  -- a proof with a fault is not valid
+  not_both : (db : List Statement) (o : Option Fault) → IsRead len x db o → (k : ℕ) (f : Fault) → FirstProofFault (counted with_open db) k f → AllAreValid (counted with_open db) → ⊥
+  not_both db o r k f a v = let counts = counted with_open db in valid_no_fault counts (complete db o r) k (end_of (slice_get counts k)) f (v k (inside counts k a.0) a.0) a.2
+
+  first_fault_unique : (f g : Fault) → FirstFault len x with_open f → FirstFault len x with_open g → f ≡ g
   unfolding Cause
   first_fault_unique f g h k =
       let same = read_unique len x h.0 k.0 h.1 k.1 h.2 k.2 in
       go (subst (λ d. Cause d k.1 f) same.0 (subst (λ o. Cause h.0 o f) same.1 h.3)) k.3
     where
       go : Cause k.0 k.1 f → Cause k.0 k.1 g → f ≡ g
-      go (inl a) (inl b) = first_proof_unique k.0 (reads_complete len x k.0 k.1 k.2) a.0 b.0 f g a.1 b.1
-      go (inl a) (inr b) = absurd (valid_no_fault k.0 (reads_complete len x k.0 k.1 k.2) a.0 (end_of (slice_get k.0 a.0)) f (b.0 a.0 (inside k.0 a.0 a.1.0) a.1.0) a.1.2)
-      go (inr a) (inl b) = absurd (valid_no_fault k.0 (reads_complete len x k.0 k.1 k.2) b.0 (end_of (slice_get k.0 b.0)) g (a.0 b.0 (inside k.0 b.0 b.1.0) b.1.0) b.1.2)
+      go (inl a) (inl b) = first_proof_unique (counted with_open k.0) (complete k.0 k.1 k.2) a.0 b.0 f g a.1 b.1
+      go (inl a) (inr b) = absurd (not_both k.0 k.1 k.2 a.0 f a.1 b.0)
+      go (inr a) (inl b) = absurd (not_both k.0 k.1 k.2 b.0 g b.1 a.0)
       go (inr a) (inr b) = let e : Some f ≡ Some g = sym a.1 ∙ b.1 in cc
 
-  no_both : (f : Fault) (db : List Statement) → FirstFault len x f → HasNoFault len x db → ⊥
+  no_both : (f : Fault) (db : List Statement) → FirstFault len x with_open f → HasNoFault len x with_open db → ⊥
   unfolding Cause
   no_both f db h k =
       let same = read_unique len x h.0 db h.1 None h.2 k.0 in
       go (subst (λ d. Cause d None f) same.0 (subst (λ o. Cause h.0 o f) same.1 h.3))
     where
       go : Cause db None f → ⊥
-      go (inl a) = valid_no_fault db (reads_complete len x db None k.0) a.0 (end_of (slice_get db a.0)) f (k.1 a.0 (inside db a.0 a.1.0) a.1.0) a.1.2
+      go (inl a) = not_both db None k.0 a.0 f a.1 k.1
       go (inr a) = let e : None ≡ Some f = a.1 in cc
 
 -- ---- rows of citations
@@ -306,18 +315,18 @@ all_citing_unique db request (n ∷ ts) (x ∷ a) [] h k = absurd k
 all_citing_unique db request (n ∷ ts) (x ∷ a) (y ∷ b) h k = ap₂ (λ p q. p ∷ q) (citing_unique db request n x y h.0 k.0) (all_citing_unique db request ts a b h.1 k.1)
 
 -- a database has one report
-report_unique : (db : List Statement) (request : Request) (choice : Choice) (a b : List ℕ) → IsReportOf choice db request a → IsReportOf choice db request b → a ≡ b
-report_unique db request Citations a b h k = h.2 ∙ ap (citation_report request.form None (length (columns db request.only))) (all_citing_unique db request (theorems db) h.0 k.0 h.1 k.1) ∙ sym k.2
-report_unique db request All a b h k = h.2 ∙ ap (λ r. report request.form None (map (label_at db) (columns db request.only)) r All) (rows_unique db request (theorems db) h.0 k.0 h.1 k.1) ∙ sym k.2
-report_unique db request Matrix a b h k = h.2 ∙ ap (λ r. report request.form None (map (label_at db) (columns db request.only)) r Matrix) (rows_unique db request (theorems db) h.0 k.0 h.1 k.1) ∙ sym k.2
-report_unique db request Counts a b h k = h.2 ∙ ap (λ r. report request.form None (map (label_at db) (columns db request.only)) r Counts) (rows_unique db request (theorems db) h.0 k.0 h.1 k.1) ∙ sym k.2
-report_unique db request Usage a b h k = h.2 ∙ ap (λ r. report request.form None (map (label_at db) (columns db request.only)) r Usage) (rows_unique db request (theorems db) h.0 k.0 h.1 k.1) ∙ sym k.2
+report_unique : (db : List Statement) (opened : Option ℕ) (request : Request) (choice : Choice) (a b : List ℕ) → IsReportOf choice db opened request a → IsReportOf choice db opened request b → a ≡ b
+report_unique db opened request Citations a b h k = h.2 ∙ ap (citation_report request.form opened (length (columns db request.only))) (all_citing_unique db request (theorems db) h.0 k.0 h.1 k.1) ∙ sym k.2
+report_unique db opened request All a b h k = h.2 ∙ ap (λ r. report request.form opened (map (label_at db) (columns db request.only)) r All) (rows_unique db request (theorems db) h.0 k.0 h.1 k.1) ∙ sym k.2
+report_unique db opened request Matrix a b h k = h.2 ∙ ap (λ r. report request.form opened (map (label_at db) (columns db request.only)) r Matrix) (rows_unique db request (theorems db) h.0 k.0 h.1 k.1) ∙ sym k.2
+report_unique db opened request Counts a b h k = h.2 ∙ ap (λ r. report request.form opened (map (label_at db) (columns db request.only)) r Counts) (rows_unique db request (theorems db) h.0 k.0 h.1 k.1) ∙ sym k.2
+report_unique db opened request Usage a b h k = h.2 ∙ ap (λ r. report request.form opened (map (label_at db) (columns db request.only)) r Usage) (rows_unique db request (theorems db) h.0 k.0 h.1 k.1) ∙ sym k.2
 
 -- there is one output
 pub output_unique : (text : List ℕ) (request : Request) (a b : List ℕ) → IsOutput text request a → IsOutput text request b → a ≡ b
-output_unique text request a b (inl h) (inl k) = h.2 ∙ ap (refusal text) (first_fault_unique (length text) (lexed_of text) h.0 k.0 h.1 k.1) ∙ sym k.2
-output_unique text request a b (inl h) (inr k) = absurd (no_both (length text) (lexed_of text) h.0 k.0 h.1 k.1)
-output_unique text request a b (inr h) (inl k) = absurd (no_both (length text) (lexed_of text) k.0 h.0 k.1 h.1)
+output_unique text request a b (inl h) (inl k) = h.2 ∙ ap (refusal text) (first_fault_unique (length text) (lexed_of text) request.with_open h.0 k.0 h.1 k.1) ∙ sym k.2
+output_unique text request a b (inl h) (inr k) = absurd (no_both (length text) (lexed_of text) request.with_open h.0 k.0 h.1 k.1)
+output_unique text request a b (inr h) (inl k) = absurd (no_both (length text) (lexed_of text) request.with_open k.0 h.0 k.1 h.1)
 output_unique text request a b (inr h) (inr k) =
     let db : h.0 ≡ k.0 = (read_unique (length text) (lexed_of text) h.0 k.0 None None h.1.0 k.1.0).0 in
-    report_unique k.0 request request.choice a b (subst (λ d. IsReportOf request.choice d request a) db h.2) k.2
+    report_unique (counted request.with_open k.0) (open_columns k.0 request) request request.choice a b (subst (λ d. IsReportOf request.choice (counted request.with_open d) (open_columns d request) request a) db h.2) k.2

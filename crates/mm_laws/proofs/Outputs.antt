@@ -16,7 +16,7 @@ use Rattle.mm_spec.proofs.Stops.{no_text_fault}
 
 -- the whole report, by all nodes
 abbrev whole : Request
-whole = record { only = None; choice = All; form = One; essential = false }
+whole = record { only = None; choice = All; form = One; essential = false; with_open = false }
 
 -- ---- a `$c` in a block
 

@@ -6,9 +6,11 @@ use Rattle.mm_spec.specs.declared.Fault.{Fault}
 use Rattle.mm_spec.specs.Statement.{Statement}
 use Rattle.mm_spec.specs.Citation.{IsValid}
 use Rattle.mm_spec.specs.Complete.{AreComplete}
-use Rattle.mm_spec.specs.Output.{Lexed, IsRead, ProofFault, end_of, is_theorem_at, AreValid, FirstProofFault}
+use Rattle.mm_spec.specs.Output.{Lexed, IsRead, ProofFault, end_of, is_theorem_at, AreValid, AllAreValid, FirstProofFault}
 use Rattle.mm_laws.specs.Laws.{IsSoundOrFaulty}
+use Rattle.mm_spec.specs.Opened.{counted}
 use Rattle.mm_spec.proofs.CompleteLaw.{reads_complete}
+use Rattle.mm_spec.proofs.OpenedLemmas.{counted_complete}
 use Rattle.mm_laws.proofs.TheoremLaw.{valid_or_faulty}
 use Rattle.mm_laws.proofs.SomeReading.{is_readable}
 
@@ -38,10 +40,12 @@ module _ (db : List Statement) (fine : AreComplete db) where
       go (inr f) = inr f
 
 -- a text has a first fault, or none at all
-pub sound_or_faulty : (len : ℕ) (x : Lexed) → IsSoundOrFaulty len x
-sound_or_faulty len x = let r = is_readable len x in by r.0 r.1 r.2 (valid_or_first r.0 (reads_complete len x r.0 r.1 r.2) (length r.0))
+pub sound_or_faulty : (len : ℕ) (x : Lexed) (with_open : Bool) → IsSoundOrFaulty len x with_open
+sound_or_faulty len x with_open =
+    let r = is_readable len x in
+    by r.0 r.1 r.2 (valid_or_first (counted with_open r.0) (counted_complete with_open r.0 (reads_complete len x r.0 r.1 r.2)) (length (counted with_open r.0)))
   where
-    by : (db : List Statement) (o : Option Fault) → IsRead len x db o → AreValid db (length db) ⊎ ((k : ℕ) × (f : Fault) × FirstProofFault db k f) → IsSoundOrFaulty len x
+    by : (db : List Statement) (o : Option Fault) → IsRead len x db o → AllAreValid (counted with_open db) ⊎ ((k : ℕ) × (f : Fault) × FirstProofFault (counted with_open db) k f) → IsSoundOrFaulty len x with_open
     by db o r (inr h) = inl (h.1, (db, o, r, inl (h.0, h.2)))
     by db (Some f) r (inl v) = inl (f, (db, Some f, r, inr (v, refl)))
     by db None r (inl v) = inr (db, (r, v))

@@ -11,7 +11,9 @@ use Rattle.mm_spec.specs.Complete.{AreComplete}
 use Rattle.mm_spec.specs.Output.{Lexed, AreValid}
 use Rattle.mm_laws.specs.Laws.{IsDecided, HaveWaves}
 use Rattle.mm_spec.proofs.Chains.{wave_unique}
+use Rattle.mm_spec.specs.Opened.{counted}
 use Rattle.mm_spec.proofs.CompleteLaw.{reads_complete}
+use Rattle.mm_spec.proofs.OpenedLemmas.{counted_complete}
 use Rattle.mm_spec.proofs.Cited.{cites_earlier}
 use Rattle.mm_laws.proofs.Rests.{cites_decided}
 
@@ -67,5 +69,8 @@ module _ (db : List Statement) (by_essential : Bool) (fine : AreComplete db) (va
   wave_of t = wave_below (suc t) t (omega arith)
 
 -- in a sound text each theorem has one wave
-pub have_waves : (len : ℕ) (x : Lexed) → HaveWaves len x
-have_waves len x db h by_essential t = let w = wave_of db by_essential (reads_complete len x db None h.0) h.1 t in (w.0, w.1, λ m k. wave_unique (Cites db by_essential) (IsTheorem db) t m w.0 k w.1)
+pub have_waves : (len : ℕ) (x : Lexed) (with_open : Bool) → HaveWaves len x with_open
+have_waves len x with_open db h by_essential t =
+    let counts = counted with_open db in
+    let w = wave_of counts by_essential (counted_complete with_open db (reads_complete len x db None h.0)) h.1 t in
+    (w.0, w.1, λ m k. wave_unique (Cites counts by_essential) (IsTheorem counts) t m w.0 k w.1)

@@ -4,6 +4,7 @@ use Rattle.std.specs.List.{AllZip, AllByRecursion, list_any}
 use Rattle.mm_spec.specs.Text.{Token}
 use Rattle.mm_spec.specs.declared.Fault.{Fault}
 use Rattle.mm_spec.specs.Statement.{Statement}
+use Rattle.mm_spec.specs.Opened.{counted}
 use Rattle.mm_spec.specs.Scope.{statement_at}
 use Rattle.mm_spec.specs.Derivation.{Trees, AreDerivations, postfix, is_member}
 use Rattle.mm_spec.specs.Frame.{mandatory_hypotheses}
@@ -48,16 +49,16 @@ abbrev pub IsReadable : ℕ → Lexed → Type 0
 IsReadable len x = (db : List Statement) × (fault : Option Fault) × IsRead len x db fault
 
 -- there is a first fault, or none at all
-abbrev pub IsSoundOrFaulty : ℕ → Lexed → Type 0
-IsSoundOrFaulty len x = ((f : Fault) × FirstFault len x f) ⊎ ((db : List Statement) × HasNoFault len x db)
+abbrev pub IsSoundOrFaulty : ℕ → Lexed → (with_open : Bool) → Type 0
+IsSoundOrFaulty len x with_open = ((f : Fault) × FirstFault len x with_open f) ⊎ ((db : List Statement) × HasNoFault len x with_open db)
 
 -- one of the two truth values tells whether it holds
 abbrev pub IsDecided : Type 0 → Type 0
 IsDecided P = (mark : Bool) × Decides mark P
 
 -- where there is no fault, each cell is marked or not
-abbrev pub AreDecided : ℕ → Lexed → Type 0
-AreDecided len x = (db : List Statement) → HasNoFault len x db → (by_essential : Bool) (t a : ℕ) → IsDecided (RestsOn db by_essential t a)
+abbrev pub AreDecided : ℕ → Lexed → (with_open : Bool) → Type 0
+AreDecided len x with_open = (db : List Statement) → HasNoFault len x with_open db → (by_essential : Bool) (t a : ℕ) → IsDecided (RestsOn (counted with_open db) by_essential t a)
 
 -- something is written for each text
 abbrev pub OutputExists : Type 0
@@ -103,8 +104,9 @@ StepsAreLabels db k = (end : ℕ) (t : Token) (ts : List Token) → reading_faul
     → AllZip (λ u s. (j : ℕ) × (s ≡ label j) × IsUsable db k u.word j) (t ∷ ts) (bare_steps db k (t ∷ ts))
 
 -- where there is no fault, each theorem has a wave, and no other
-abbrev pub HaveWaves : ℕ → Lexed → Type 0
-HaveWaves len x = (db : List Statement) → HasNoFault len x db → (by_essential : Bool) (t : ℕ) → (n : ℕ) × IsWave db by_essential t n × ((m : ℕ) → IsWave db by_essential t m → m ≡ n)
+abbrev pub HaveWaves : ℕ → Lexed → (with_open : Bool) → Type 0
+HaveWaves len x with_open = (db : List Statement) → HasNoFault len x with_open db → (by_essential : Bool) (t : ℕ)
+    → (n : ℕ) × IsWave (counted with_open db) by_essential t n × ((m : ℕ) → IsWave (counted with_open db) by_essential t m → m ≡ n)
 
 -- what a theorem cites by the essential nodes of its proof, it cites
 abbrev pub EssentialIsCited : Type 0

@@ -8,7 +8,7 @@
 //! `Outputs`).
 #![tactic(auto)]
 
-ghost use Rattle.std.specs.Prelude.{◌≡◌, ◌↔◌, ℕ, List, None};
+ghost use Rattle.std.specs.Prelude.{◌≡◌, ◌↔◌, ℕ, Bool, List, None};
 ghost use Rattle.mm_spec.specs.Words.{words_of, AreWords};
 ghost use Rattle.mm_spec.specs.Readings.{reading};
 ghost use Rattle.mm_spec.specs.Lexed.{lexical_fault, tokens_of};
@@ -81,14 +81,14 @@ pub fn every_text_is_read()
     ensures { (len : ℕ) (x : Lexed) → IsReadable len x }
 {}
 
-/// Each text has a first fault, or it has none and all its proofs are valid.
+/// Each text has a first fault, or it has none and all its proofs are valid; so too where open theorems count as axioms.
 pub fn texts_are_sound_or_faulty()
-    ensures { (len : ℕ) (x : Lexed) → IsSoundOrFaulty len x }
+    ensures { (len : ℕ) (x : Lexed) (with_open : Bool) → IsSoundOrFaulty len x with_open }
 {}
 
 /// In a text without faults it is decided whether a theorem rests on a statement.
 pub fn cells_are_decided()
-    ensures { (len : ℕ) (x : Lexed) → AreDecided len x }
+    ensures { (len : ℕ) (x : Lexed) (with_open : Bool) → AreDecided len x with_open }
 {}
 
 /// There is an output of each text, for each choice of columns and sections.
@@ -121,7 +121,7 @@ pub fn essential_citations_are_citations()
 
 /// In a text without faults each theorem has one wave.
 pub fn theorems_have_one_wave()
-    ensures { (len : ℕ) (x : Lexed) → HaveWaves len x }
+    ensures { (len : ℕ) (x : Lexed) (with_open : Bool) → HaveWaves len x with_open }
 {}
 
 /// Reading finds no fault in exactly the proofs that are well formed.

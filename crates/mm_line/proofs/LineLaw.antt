@@ -172,7 +172,7 @@ one_place rs d id k one j lt h = by (or_cases (j == k) false (subst (λ (l : Lis
 
 module _ (names forms : Bor (List (Bor Text))) where
   abbrev the_rules : List Rule
-  the_rules = number_rule (codes "workers") ∷ number_rule (codes "pieces") ∷ only_rule ∷ report_rule names ∷ form_rule forms ∷ flag_rule (codes "essential") ∷ file_rule ∷ []
+  the_rules = number_rule (codes "workers") ∷ number_rule (codes "pieces") ∷ only_rule ∷ report_rule names ∷ form_rule forms ∷ flag_rule (codes "essential") ∷ flag_rule (codes "open") ∷ file_rule ∷ []
 
   module _ (c : Command) (is : app_of c ≡ command_of (report_rule names) (form_rule forms)) where
     rules : map rule_of (args_of c) ≡ the_rules
@@ -293,8 +293,9 @@ pub says : (words : List Text) (m : ArgMatches) → Finds words m → (line : Li
     → only_of line.plan ≡ first_value (found_of m) (codes "only") → first_value (found_of m) (codes "report") ≡ Some (report_word line.plan.choice)
     → first_value (found_of m) (codes "form") ≡ Some (form_word line.plan.form)
     → IsFlag (one_text (found_of m) (codes "essential")) line.plan.essential
+    → IsFlag (one_text (found_of m) (codes "open")) line.plan.with_open
     → option_map string_bytes line.file ≡ first_value (found_of m) (codes "FILE") → Says words line
-says words m f line n cuts pieces least most workers few many only choice form essential file =
+says words m f line n cuts pieces least most workers few many only choice form essential with_open file =
     let rows = matches_of f.app words in
     let first = first_is (found_of m) rows f.rows in
     let one = one_is (found_of m) rows f.rows in (
@@ -308,6 +309,7 @@ says words m f line n cuts pieces least most workers few many only choice form e
         choice = sym (first (codes "report")) ∙ choice;
         form = sym (first (codes "form")) ∙ form;
         essential = subst (λ entry. IsFlag entry line.plan.essential) (one (codes "essential")) essential;
+        with_open = subst (λ entry. IsFlag entry line.plan.with_open) (one (codes "open")) with_open;
         file = sym (first (codes "FILE")) ∙ sym file;
         lawful = (subst IsLawfulCutting (sym cuts) (least, most), few, many);
       },

@@ -90,10 +90,10 @@ flag_rule id = record (new_rule id) { long = Some id; action = Some SetTrue }
 abbrev pub named : App
 named = let app = new_app (codes "mmdepend") in record app { top = record app.top { has_version = true } }
 
--- mmdepend [--workers N] [--pieces N] [--only T] [--report PART] [--form N] [--essential] [FILE]
+-- mmdepend [--workers N] [--pieces N] [--only T] [--report PART] [--form N] [--essential] [--open] [FILE]
 unfoldable pub command_of : Rule → Rule → App
 command_of report form =
-    with_rule (with_rule (with_rule (with_rule (with_rule (with_rule (with_rule named (number_rule (codes "workers"))) (number_rule (codes "pieces"))) only_rule) report) form) (flag_rule (codes "essential"))) file_rule
+    with_rule (with_rule (with_rule (with_rule (with_rule (with_rule (with_rule (with_rule named (number_rule (codes "workers"))) (number_rule (codes "pieces"))) only_rule) report) form) (flag_rule (codes "essential"))) (flag_rule (codes "open"))) file_rule
 
 pub record IsCommand (app : App) : Type 0 where
   pub report : Rule
@@ -118,6 +118,7 @@ pub record IsLine (rows : List Row) (line : Line) : Type 0 where
   pub choice : first_of (codes "report") rows ≡ Some (report_word line.plan.choice)
   pub form : first_of (codes "form") rows ≡ Some (form_word line.plan.form)
   pub essential : IsFlag (one_of (codes "essential") rows) line.plan.essential
+  pub with_open : IsFlag (one_of (codes "open") rows) line.plan.with_open
   pub file : first_of (codes "FILE") rows ≡ option_map string_bytes line.file
   pub lawful : IsLawful line.plan
 

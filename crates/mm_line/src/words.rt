@@ -88,6 +88,16 @@ fn essential<'a>(alloc: Global) -> Arg<'a>
         .help("Count what the logical part of a proof cites, and not what builds its formulas")
 }
 
+/// The flag that counts theorems without a proof as axioms.
+fn open_theorems<'a>(alloc: Global) -> Arg<'a>
+    ensures { rule_of result ≡ flag_rule (codes "open") }
+{
+    Arg::new(alloc, "open")
+        .long("open")
+        .action(ArgAction::SetTrue)
+        .help("Count a theorem whose proof is ? as an axiom")
+}
+
 /// The argument that names the database.
 fn file<'a>(alloc: Global) -> Arg<'a>
     ensures { rule_of result ≡ file_rule }
@@ -113,6 +123,7 @@ fn command<'a>(alloc: Global) -> Result<Command<'a>, AllocError>
         .arg(report(alloc))?
         .arg(form(alloc))?
         .arg(essential(alloc))?
+        .arg(open_theorems(alloc))?
         .arg(file(alloc))
 }
 
@@ -205,6 +216,7 @@ pub fn line<S: AsStr>(alloc: Global, words: &[S]) -> Result<Line, LineRefused>
         choice: choice_in(&matches),
         form: form_in(&matches),
         essential: matches.get_flag("essential"),
+        with_open: matches.get_flag("open"),
     };
     let file = text_in(alloc, &matches, "FILE")?;
     Ok(Line { plan, file })

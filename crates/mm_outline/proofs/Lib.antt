@@ -3,6 +3,7 @@ pub mod Among
 pub mod BlocksLaw
 pub mod Faultless
 pub mod Leads
+pub mod Passed
 pub mod Results
 pub mod StatementsLaw
 pub mod TokensLaw

@@ -1,19 +1,20 @@
 -- The tokens of a text lie in it, rise, and are few; a text that is too long has none, and its lexical fault.
-use Rattle.std.proofs.Common.{◌≡◌, ℕ, suc, ◌-◌, ◌^◌, ◌<◌, ◌≤◌, Bool, List, [], ◌∷◌, length, map, Option, None, Some, is_some, ◌⊎◌, inl, inr, refl, sym, ap, ◌∙◌, subst, arith}
+use Rattle.std.proofs.Common.{◌≡◌, ℕ, suc, ◌-◌, ◌^◌, ◌<◌, ◌≤◌, ◌==◌, ◌||◌, ◌&&◌, Bool, true, false, not, List, [], ◌∷◌, length, map, drop, get_or, slice_index, codes, Option, None, Some, is_some, if◌then◌else◌, ◌⊎◌, inl, inr, refl, sym, ap, ◌∙◌, subst, arith}
 use Rattle.std.proofs.lemmas.Bool.{cases_lt}
-use Rattle.std.proofs.lemmas.List.{length-map}
+use Rattle.std.proofs.lemmas.List.{length-map, length-drop, length-take-le}
 use Rattle.std.proofs.lemmas.List.FromFn.{length-range_with_len}
 use Rattle.std.proofs.lemmas.List.Elements.{All-nil, All-cons, All-head, All-tail, All-weaker}
 use Rattle.std.proofs.lemmas.List.Sums.{length-filter, count_by-le-length}
 use Rattle.std.proofs.lemmas.List.Kept.{AllPairs-cons}
-use Rattle.std.specs.List.{All, AllPairs, filter, range_with_len}
+use Rattle.std.specs.List.{All, AllPairs, filter, list_any, range_with_len}
 use Rattle.mm_spec.specs.declared.Word.{Word}
 use Rattle.mm_spec.specs.declared.Fault.{Fault}
 use Rattle.mm_spec.specs.declared.Role.{Role}
 use Rattle.mm_spec.specs.declared.Role.TheVariants.{Token, Opening, Closing, Comment, Faulty}
 use Rattle.mm_spec.specs.declared.Code.TheVariants.{TextTooLong}
 use Rattle.mm_spec.specs.declared.TheConstants.{TEXT_LIMIT}
-use Rattle.mm_spec.specs.Roles.{role_of}
+use Rattle.mm_spec.specs.Roles.{role_of, is_clean, is_token, is_keyword, is_dollar_and, opens_comment, closes_comment, is_comment_word}
+use Rattle.mm_spec.specs.Text.{has_dollar}
 use Rattle.mm_spec.specs.Words.{IsWord, begins_word, word_at, words_between, words_of}
 use Rattle.mm_spec.specs.Readings.{reading, bytes_of}
 use Rattle.mm_spec.specs.Lexed.{tokens_of, lexical_fault}
@@ -22,6 +23,7 @@ use Rattle.mm_spec.proofs.WordsLaw.{words_of-AreWords}
 use Rattle.mm_spec.proofs.ReadingsLemmas.{reading-opening, reading-closing, reading-comment, reading-faulty, reading-end, reading-one}
 use Rattle.mm_spec.proofs.LexedLemmas.{tokens_of-long, lexical_fault-long, tokens_of-read}
 use Rattle.mm_outline.specs.Parts.{AreWords}
+use Rattle.mm_outline.specs.Tokens.{AreTokens}
 use Rattle.mm_outline.specs.Statements.{lexed, end_fault_of}
 use Rattle.mm_outline.specs.declared.parts.Part.{Part}
 
@@ -96,6 +98,89 @@ tokens_rising text = by_limit (AllPairs Later) text (λ i j d l k. absurd (omega
 -- the tokens stand in the text
 pub tokens_stand : (text : List ℕ) → AreWords text (tokens_of text)
 tokens_stand text = All-weaker (IsWord text) (λ w. (w.start ≤ w.end) × (w.end ≤ length text)) (λ w x. (let n = x.nonempty in omega (arith, n), x.within)) (tokens_of text) (tokens_are_words text)
+
+-- ---- a token with a `$` begins with it
+
+-- a word that is read as a token is one
+token_role : (b : Bool) (w : List ℕ) → role_of b w ≡ Token → is_token w ≡ true
+unfolding role_of
+token_role false w e = by (is_token w) (opens_comment w) e
+  where
+    by : (t o : Bool) → (if t then Token else (if o then Opening else Faulty)) ≡ Token → t ≡ true
+    by true o e = refl
+    by false true e = absurd (cc)
+    by false false e = absurd (cc)
+token_role true w e = absurd (by (closes_comment w) (is_comment_word w) e)
+  where
+    by : (c o : Bool) → (if c then Closing else (if o then Comment else Faulty)) ≡ Token → ⊥
+    by true o e = cc
+    by false true e = cc
+    by false false e = cc
+
+and_first : (a b c : Bool) → (a && b && c) ≡ true → b ≡ true
+and_first true true c e = refl
+and_first true false c e = absurd (cc)
+and_first false b c e = absurd (cc)
+
+dollar_first : (b : ℕ) (w : List ℕ) → is_dollar_and b w ≡ true → (slice_index w 0 == 0x24) ≡ true
+unfolding is_dollar_and
+dollar_first b w e = and_first (length w == 2) (slice_index w 0 == 0x24) (slice_index w 1 == b) e
+
+any_first : (w bs : List ℕ) → list_any (λ b. is_dollar_and b w) bs ≡ true → (slice_index w 0 == 0x24) ≡ true
+any_first w [] e = absurd (cc)
+any_first w (b ∷ bs) e = by (is_dollar_and b w) refl (λ h. any_first w bs h) e
+  where
+    by : (x : Bool) → is_dollar_and b w ≡ x → (list_any (λ b. is_dollar_and b w) bs ≡ true → (slice_index w 0 == 0x24) ≡ true) → (x || list_any (λ b. is_dollar_and b w) bs) ≡ true → (slice_index w 0 == 0x24) ≡ true
+    by true h rest e = dollar_first b w h
+    by false h rest e = rest e
+
+keyword_first : (w : List ℕ) → is_keyword w ≡ true → (slice_index w 0 == 0x24) ≡ true
+unfolding is_keyword
+keyword_first w e = any_first w (codes "cvfedap=.{}[]") e
+
+no_dollar_first : (w : List ℕ) → 0 < length w → has_dollar w ≡ false → (slice_index w 0 == 0x24) ≡ false
+no_dollar_first [] h e = absurd (omega arith)
+no_dollar_first (x ∷ w) h e = by (x == 0x24) e
+  where
+    by : (b : Bool) → (b || has_dollar w) ≡ false → b ≡ false
+    by true e = absurd (cc)
+    by false e = refl
+
+token_tells : (w : List ℕ) → 0 < length w → is_token w ≡ true → has_dollar w ≡ (slice_index w 0 == 0x24)
+unfolding is_token
+token_tells w h e = by (has_dollar w) refl (is_clean w) e
+  where
+    by : (d : Bool) → has_dollar w ≡ d → (c : Bool) → (c && (not d || is_keyword w)) ≡ true → d ≡ (slice_index w 0 == 0x24)
+    by false n c e = sym (no_dollar_first w h n)
+    by true n true e = sym (keyword_first w e)
+    by true n false e = absurd (cc)
+
+-- each token that is read is one
+tokens_tokens : (text : List ℕ) (c : Option ℕ) (ws : List Word) → All (λ w. is_token (bytes_of text w) ≡ true) (reading text c ws).tokens
+tokens_tokens text c [] = subst (λ r. All (λ w. is_token (bytes_of text w) ≡ true) r.tokens) (sym (reading-end text c)) (All-nil (λ w. is_token (bytes_of text w) ≡ true))
+tokens_tokens text c (w ∷ ws) = by (role_of (is_some c) (bytes_of text w)) refl (λ d. tokens_tokens text d ws)
+  where
+    P : Word → Type 0
+    P w = is_token (bytes_of text w) ≡ true
+
+    by : (r : Role) → role_of (is_some c) (bytes_of text w) ≡ r → ((d : Option ℕ) → All P (reading text d ws).tokens) → All P (reading text c (w ∷ ws)).tokens
+    by Token e rest = subst (λ r. All P r.tokens) (sym (reading-one text c w ws e)) (All-cons P w (reading text c ws).tokens (token_role (is_some c) (bytes_of text w) e) (rest c))
+    by Opening e rest = subst (λ r. All P r.tokens) (sym (reading-opening text c w ws e)) (rest (Some w.start))
+    by Closing e rest = subst (λ r. All P r.tokens) (sym (reading-closing text c w ws e)) (rest None)
+    by Comment e rest = subst (λ r. All P r.tokens) (sym (reading-comment text c w ws e)) (rest c)
+    by Faulty e rest = subst (λ r. All P r.tokens) (sym (reading-faulty text c w ws e)) (All-nil P)
+
+-- the first byte of each token tells whether it has a `$`
+pub tokens_tell : (text : List ℕ) → AreTokens text (tokens_of text)
+tokens_tell text = λ i d h.
+    let words = tokens_are_words text i d h in
+    let n = words.nonempty in
+    let b = words.within in
+    let w = get_or (tokens_of text) i d in
+    let rest = length-drop w.start text in
+    let size : length (bytes_of text w) ≡ w.end - w.start = length-take-le (w.end - w.start) (drop w.start text) (omega (arith, rest, b)) in
+    let long : 0 < length (bytes_of text w) = omega (arith, n, size) in
+    (omega (arith, n), b, (long, token_tells (bytes_of text w) long (by_limit (All (λ w. is_token (bytes_of text w) ≡ true)) text (All-nil (λ w. is_token (bytes_of text w) ≡ true)) (tokens_tokens text None (words_of text)) i d h)))
 
 -- there are no more tokens than bytes, and fewer than the limit
 pub tokens_few : (text : List ℕ) → length (tokens_of text) ≤ length text

@@ -3,4 +3,5 @@ pub mod Found
 pub mod Numbered
 pub mod Parts
 pub mod Statements
+pub mod Tokens
 pub mod Typed

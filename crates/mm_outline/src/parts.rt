@@ -1,13 +1,14 @@
 //! A statement, token by token.
 
-ghost use Rattle.std.specs.Prelude.{◌≡◌, ◌<◌, ◌≤◌, ◌^◌, length, slice_range, All};
-ghost use Rattle.mm_spec.specs.Text.{fault, is_label as spec_is_label};
+ghost use Rattle.std.specs.Prelude.{◌≡◌, ◌<◌, ◌≤◌, ◌^◌, ℕ, [], length, slice_range, All, false};
+ghost use Rattle.mm_spec.specs.Text.{fault, has_dollar, is_label as spec_is_label};
 ghost use Rattle.mm_spec.specs.Statement.{shape_code};
-ghost use Rattle.mm_outline.specs.Found.{IsFound, is_start as spec_is_start};
+ghost use Rattle.mm_outline.specs.Found.{IsFound, Leads, behind, is_start as spec_is_start};
 ghost use Rattle.mm_spec.specs.Table.{class, turn as spec_turn};
 ghost use Rattle.mm_outline.specs.Parts.{IsPart, Holds, AreWords, reading, token_at, turn_of, step_of, single_of, AtStart};
+ghost use Rattle.mm_outline.specs.Tokens.{AreTokens};
 
-use crate::words::{Class, classify, is_label};
+use crate::words::{Class, classify, has_dollar, is_label};
 use mm_spec::{Code, Fault, Word};
 
 /// What a statement is.
@@ -136,7 +137,7 @@ fn is_label_at(part: Part, word: &[u8]) -> bool
 
 /// What the token at `at` does.
 fn take_turn(text: &[u8], tokens: &[Word], deep: u32, part: Part, at: u32) -> Turn
-    requires words { AreWords text.now tokens.now }
+    requires tokens { AreTokens text.now tokens.now }
     requires inside { at < length tokens.now }
     requires part { IsPart part at }
     ensures same { turn_of text.now tokens.now deep at result ≡ spec_turn (reading text.now tokens.now deep part at) (class (token_at text.now tokens.now at).word) (token_at text.now tokens.now at) }
@@ -182,7 +183,7 @@ fn is_start(part: Part) -> bool
 
 /// The fault of the token that is not expected at `at`.
 fn unexpected(text: &[u8], tokens: &[Word], part: Part, at: u32) -> Fault
-    requires words { AreWords text.now tokens.now }
+    requires tokens { AreTokens text.now tokens.now }
     requires inside { at < length tokens.now }
     ensures { result ≡ fault (token_at text.now tokens.now at).at (shape_code (spec_is_start part) (token_at text.now tokens.now at).word) }
 {
@@ -194,18 +195,57 @@ fn unexpected(text: &[u8], tokens: &[Word], part: Part, at: u32) -> Fault
     }
 }
 
+/// The first token from `from` on that has a `$`, or the end where none has.
+fn next_keyword(text: &[u8], tokens: &[Word], from: u32) -> u32
+    requires tokens { AreTokens text.now tokens.now }
+    requires limit { length tokens.now < 2 ^ 31 }
+    requires inside { from ≤ length tokens.now }
+    ensures later { from ≤ result }
+    ensures within { result ≤ length tokens.now }
+    ensures plain { (i : ℕ) → from ≤ i → i < result → has_dollar (token_at text.now tokens.now i).word ≡ false }
+{
+    for at in from..tokens.len() as u32 {
+        let token = tokens[at as usize];
+        if has_dollar(&text[token.start as usize..token.end as usize]) {
+            return at;
+        }
+    }
+    tokens.len() as u32
+}
+
+/// Where reading goes on: words behind a keyword are passed over, up to the next keyword.
+fn pass_words(text: &[u8], tokens: &[Word], part: Part, at: u32) -> u32
+    requires tokens { AreTokens text.now tokens.now }
+    requires limit { length tokens.now < 2 ^ 31 }
+    requires inside { at ≤ length tokens.now }
+    requires part { IsPart part at }
+    ensures later { at ≤ result }
+    ensures within { result ≤ length tokens.now }
+    ensures part { IsPart part result }
+    ensures leads { (d : ℕ) → Leads (reading text.now tokens.now d part at) (behind text.now tokens.now at) [] (reading text.now tokens.now d part result) (behind text.now tokens.now result) }
+{
+    match part {
+        Part::Start | Part::Labelled(_) => at,
+        _ => next_keyword(text, tokens, at),
+    }
+}
+
 /// What stands from the token `from` on.
 pub fn find(text: &[u8], tokens: &[Word], deep: u32, from: u32) -> Found
-    requires words { AreWords text.now tokens.now }
+    requires tokens { AreTokens text.now tokens.now }
     requires limit { length tokens.now < 2 ^ 31 }
     requires inside { from ≤ length tokens.now }
     ensures { IsFound text.now tokens.now deep from result }
 {
     let mut part = Part::Start;
-    for at in from..tokens.len() as u32 {
+    let mut at = from;
+    while at < tokens.len() as u32 {
         match take_turn(text, tokens, deep, part, at) {
             Turn::Stop => return Found::Stopped(unexpected(text, tokens, part, at)),
-            Turn::Go(next) => part = next,
+            Turn::Go(next) => {
+                part = next;
+                at = pass_words(text, tokens, next, at + 1);
+            }
             Turn::Done(outline) => return Found::Whole(outline),
         }
     }

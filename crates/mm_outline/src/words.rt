@@ -4,6 +4,7 @@ ghost use Rattle.std.specs.Prelude.{◌≡◌, codes};
 ghost use Rattle.mm_spec.specs.Text.{has_dollar, is_label as spec_is_label, is_label_byte as spec_is_label_byte};
 ghost use Rattle.mm_spec.specs.Table.{class};
 ghost use Rattle.mm_outline.specs.Parts.{class_of};
+ghost use Rattle.mm_outline.specs.Tokens.{TellsByFirst};
 
 /// What a word may be in a statement.
 #[derive(Clone, Copy, Debug, PartialEq, Eq)]
@@ -23,11 +24,21 @@ pub enum Class {
     Other,
 }
 
-/// What the word is.
+/// Whether the token has a `$`: its first byte tells.
+#[inline(always)]
+pub fn has_dollar(token: &[u8]) -> bool
+    requires { TellsByFirst token.now }
+    ensures { result ≡ has_dollar token.now }
+{
+    token[0] == b'$'
+}
+
+/// What the token is.
 pub fn classify(word: &[u8]) -> Class
+    requires { TellsByFirst word.now }
     ensures { class_of result ≡ class word.now }
 {
-    if !word.contains(&b'$') {
+    if !has_dollar(word) {
         Class::Plain
     } else if word == b"$c".as_slice() {
         Class::Constant

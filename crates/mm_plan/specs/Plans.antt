@@ -26,4 +26,4 @@ module _ {A : Type 0} where
 
   -- what a plan asks of the report
   abbrev pub request_of : Plan A → Request
-  request_of p = record { only = only_of p; choice = p.choice; form = p.form; essential = p.essential }
+  request_of p = record { only = only_of p; choice = p.choice; form = p.form; essential = p.essential; with_open = p.with_open }

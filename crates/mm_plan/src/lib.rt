@@ -30,6 +30,7 @@ pub struct Plan<A: Allocator> {
     pub choice: Choice,
     pub form: Form,
     pub essential: bool,
+    pub with_open: bool,
 }
 
 /// Whether no place is less than the one before it.

@@ -1,5 +1,5 @@
 -- The words of a proof rise, since those of the text do.
-use Rattle.std.proofs.Common.{◌≡◌, ◌∙◌, ℕ, zero, suc, ◌+◌, ◌-◌, ◌≤◌, List, [], ◌∷◌, ◌++◌, length, map, flat_map, get_or, Option, Some, slice_get, codes, sym, ap, subst, arith, append_assoc, length-append, drop}
+use Rattle.std.proofs.Common.{◌≡◌, ◌∙◌, ℕ, zero, suc, ◌+◌, ◌-◌, ◌≤◌, Bool, List, [], ◌∷◌, ◌++◌, length, map, flat_map, get_or, Option, Some, slice_get, codes, sym, ap, subst, arith, append_assoc, length-append, drop}
 use Rattle.std.specs.List.{AllPairs, All}
 use Rattle.std.proofs.lemmas.List.{get_or_append_left, append-nil, length-take-le, length-drop}
 use Rattle.std.proofs.lemmas.List.Elements.{All-nil, All-cons, All-head, All-tail}
@@ -11,7 +11,9 @@ use Rattle.mm_spec.specs.Words.{IsWord}
 use Rattle.mm_spec.specs.Readings.{bytes_of}
 use Rattle.mm_spec.specs.Lexed as lexed
 use Rattle.mm_spec.specs.Statement.{Statement, provable, spelled}
+use Rattle.mm_spec.specs.Opened.{counted}
 use Rattle.mm_spec.specs.Output.{IsRead, lexed_of}
+use Rattle.mm_spec.proofs.OpenedLemmas.{theorem_read}
 use Rattle.mm_outline.proofs.TokensLaw.{tokens_rising, tokens_are_words}
 use Rattle.mm_proof.specs.Letters.{InOrder}
 use Rattle.mm_proof.proofs.LeastLaw.{Earlier, pairs_head, pairs_tail, pairs_back}
@@ -84,9 +86,13 @@ proof_follows text db fault r k l p xs e ps d is =
       is = ap (λ z. l ∷ token p (codes "$p") ∷ z) (ap (λ z. xs ++ token e (codes "$=") ∷ z) (sym (append-nil (ps ++ token d (codes "$.") ∷ []))) ∙ sym (append_assoc xs (token e (codes "$=") ∷ []) ((ps ++ token d (codes "$.") ∷ []) ++ [])));
     }
 
-pub proof_rising : (text : List ℕ) (db : List Statement) (fault : Option Fault) → IsRead (length text) (lexed_of text) db fault → (k : ℕ) (l : Token) (p : ℕ) (xs : List Token) (e : ℕ) (ps : List Token) (d : ℕ) → slice_get db k ≡ Some (provable l p xs e ps d) → AllPairs Earlier ps
-proof_rising text db fault r k l p xs e ps d is =
-    λ i j x less here. let f = pairs_front Follows ps (token d (codes "$.") ∷ []) (proof_follows text db fault r k l p xs e ps d is) i j x less here in let a = f.0 in let b = f.1 in omega (arith, a, b)
+-- what counts as a theorem was read as it is
+was_read : (db : List Statement) (w : Bool) (counts : List Statement) → counts ≡ counted w db → (k : ℕ) (l : Token) (p : ℕ) (xs : List Token) (e : ℕ) (ps : List Token) (d : ℕ) → slice_get counts k ≡ Some (provable l p xs e ps d) → slice_get db k ≡ Some (provable l p xs e ps d)
+was_read db w counts are k l p xs e ps d is = theorem_read w db k l p xs e ps d (subst (λ c. slice_get c k ≡ Some (provable l p xs e ps d)) are is)
+
+pub proof_rising : (text : List ℕ) (db : List Statement) (w : Bool) (fault : Option Fault) → IsRead (length text) (lexed_of text) db fault → (counts : List Statement) → counts ≡ counted w db → (k : ℕ) (l : Token) (p : ℕ) (xs : List Token) (e : ℕ) (ps : List Token) (d : ℕ) → slice_get counts k ≡ Some (provable l p xs e ps d) → AllPairs Earlier ps
+proof_rising text db w fault r counts are k l p xs e ps d is =
+    λ i j x less here. let f = pairs_front Follows ps (token d (codes "$.") ∷ []) (proof_follows text db fault r k l p xs e ps d (was_read db w counts are k l p xs e ps d is)) i j x less here in let a = f.0 in let b = f.1 in omega (arith, a, b)
 
 in_order : (from : ℕ) (ts : List Token) (d : Token) → AllPairs Follows (ts ++ d ∷ []) → All (λ t. from ≤ t.at) (ts ++ d ∷ []) → InOrder from ts d.at
 in_order from [] d p a = All-head (λ (t : Token). from ≤ t.at) d [] a
@@ -98,5 +104,5 @@ in_order from (t ∷ ts) d p a =
     long [] h = All-head (Follows t) d [] h
     long (u ∷ us) h = All-head (Follows t) u (us ++ d ∷ []) h
 
-pub proof_in_order : (text : List ℕ) (db : List Statement) (fault : Option Fault) → IsRead (length text) (lexed_of text) db fault → (k : ℕ) (l : Token) (p : ℕ) (xs : List Token) (e : ℕ) (ps : List Token) (d : ℕ) → slice_get db k ≡ Some (provable l p xs e ps d) → InOrder 0 ps d
-proof_in_order text db fault r k l p xs e ps d is = in_order 0 ps (token d (codes "$.")) (proof_follows text db fault r k l p xs e ps d is) (λ i x here. omega arith)
+pub proof_in_order : (text : List ℕ) (db : List Statement) (w : Bool) (fault : Option Fault) → IsRead (length text) (lexed_of text) db fault → (counts : List Statement) → counts ≡ counted w db → (k : ℕ) (l : Token) (p : ℕ) (xs : List Token) (e : ℕ) (ps : List Token) (d : ℕ) → slice_get counts k ≡ Some (provable l p xs e ps d) → InOrder 0 ps d
+proof_in_order text db w fault r counts are k l p xs e ps d is = in_order 0 ps (token d (codes "$.")) (proof_follows text db fault r k l p xs e ps d (was_read db w counts are k l p xs e ps d is)) (λ i x here. omega arith)

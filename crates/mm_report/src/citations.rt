@@ -9,9 +9,10 @@ ghost use Rattle.mm_spec.specs.Scope.{statement_at};
 ghost use Rattle.mm_spec.specs.Citation.{is_assertion};
 ghost use Rattle.mm_spec.specs.Output.{columns, label_at};
 ghost use Rattle.mm_spec.specs.Report.{citation_line, citation_report, joined, list_line};
-ghost use Rattle.mm_report.specs.Rows.{AreCitationsOf, citation_report_of, citing_rows, listed, next_label};
+ghost use Rattle.mm_report.specs.Rows.{AreCitationsOf, citation_report_of, citing_rows, listed, next_label, open_theorems};
 ghost use Rattle.mm_report.specs.Sent.{Sent};
 
+use crate::counted::open_theorems;
 use crate::labels::{TheoremLabels, label_of};
 use crate::sink::{Sink, WriteFailed};
 use crate::text::{send_head, send_line};
@@ -115,13 +116,21 @@ fn send_citations<W: Write, D: Allocator, C: Allocator>(
     labels: &TheoremLabels<'_, '_, D>,
     citations: &Citations<C>,
     axioms: u32,
+    open_theorems: Option<u64>,
     form: Form,
 )
     requires labels { length labels.now ≡ length citations.now.theorems }
     requires cited { AreCitationsOf database.now.statements citations.now }
-    ensures { Sent (W.contents to.old) (W.contents to.new) sink.old sink.new (citation_report form None axioms (citing_rows database.now.statements (option_map (λ w. w.now) only.entry) citations.now labels.now)) }
+    ensures { Sent (W.contents to.old) (W.contents to.new) sink.old sink.new (citation_report form open_theorems axioms (citing_rows database.now.statements (option_map (λ w. w.now) only.entry) citations.now labels.now)) }
 {
-    send_head(sink, to, form, axioms as u64, None, citations.rows() as u64);
+    send_head(
+        sink,
+        to,
+        form,
+        axioms as u64,
+        open_theorems,
+        citations.rows() as u64,
+    );
     send_line(sink, to, b"citations");
     send_citation_lines(sink, to, database, only, labels, citations);
     send_line(sink, to, b"end");
@@ -129,7 +138,7 @@ fn send_citations<W: Write, D: Allocator, C: Allocator>(
 
 /// Writes the report of what each theorem of a database cites in its own proof, in file order; where a typecode is chosen,
 /// of what has that typecode, axioms and theorems alike. The columns are those of this typecode, and the citations those of
-/// this database. It takes no memory. `WriteFailed` comes where a write failed, or took nothing of a piece that was not
+/// this database. With the flag it tells how many columns are open theorems. It takes no memory. `WriteFailed` comes where a write failed, or took nothing of a piece that was not
 /// empty; then a beginning of the report has been written.
 pub fn write_citations<'a, W: Write, A: Allocator, C: Allocator, D: Allocator>(
     to: &mut W,
@@ -137,17 +146,19 @@ pub fn write_citations<'a, W: Write, A: Allocator, C: Allocator, D: Allocator>(
     chosen: &Columns<A>,
     citations: &Citations<C>,
     only: Option<&[u8]>,
+    with_open: bool,
     form: Form,
 ) -> Result<(), WriteFailed>
     requires { AreCitationsOf database.now.statements citations.now }
-    ensures ok { OnOk result (Appends (W.contents to.old) (W.contents to.new) (citation_report_of database.now.statements form (option_map (λ w. w.now) only.entry) chosen.now citations.now)) }
-    ensures err { OnErr result ((k : ℕ) × Appends (W.contents to.old) (W.contents to.new) (take k (citation_report_of database.now.statements form (option_map (λ w. w.now) only.entry) chosen.now citations.now))) }
+    ensures ok { OnOk result (Appends (W.contents to.old) (W.contents to.new) (citation_report_of database.now.statements (open_theorems with_open database.now chosen.now) form (option_map (λ w. w.now) only.entry) chosen.now citations.now)) }
+    ensures err { OnErr result ((k : ℕ) × Appends (W.contents to.old) (W.contents to.new) (take k (citation_report_of database.now.statements (open_theorems with_open database.now chosen.now) form (option_map (λ w. w.now) only.entry) chosen.now citations.now))) }
 {
     let mut sink = Sink::new();
     let labels = TheoremLabels::new(database);
     let axioms = chosen.len();
+    let opened = open_theorems(database, chosen, with_open);
     send_citations(
-        &mut sink, to, database, only, &labels, citations, axioms, form,
+        &mut sink, to, database, only, &labels, citations, axioms, opened, form,
     );
     sink.finish(to)
 }

@@ -1,5 +1,5 @@
 -- The report of citations that is written is that of the definitions.
-use Rattle.std.proofs.Common.{◌≡◌, ℕ, zero, suc, ◌<◌, Bool, true, false, cond, List, [], ◌∷◌, length, map, get_or, All, None, refl, sym, ap, ◌∙◌, subst, arith, eq-eqb, inr}
+use Rattle.std.proofs.Common.{◌≡◌, ℕ, zero, suc, ◌<◌, Bool, true, false, cond, List, [], ◌∷◌, length, map, get_or, All, refl, sym, ap, ◌∙◌, subst, arith, eq-eqb}
 use Rattle.std.specs.Prelude.{IsTrue, Option}
 use Rattle.std.specs.List.{AllZip, filter, list_any}
 use Rattle.std.specs.List.Sorted.{IsStrictlyIncreasing}
@@ -15,7 +15,7 @@ use Rattle.mm_spec.specs.Report.{CitingRow, citation_report}
 use Rattle.mm_spec.specs.Request.{Request}
 use Rattle.mm_spec.specs.declared.Choice.{Choice}
 use Rattle.mm_spec.specs.declared.Choice.TheVariants.{Citations}
-use Rattle.mm_spec.specs.Output.{AreCited, IsCitingRowOf, theorems, columns, has_typecode, label_at, lexed_of, HasNoFault, IsReportOf, IsOutput}
+use Rattle.mm_spec.specs.Output.{AreCited, IsCitingRowOf, theorems, columns, has_typecode, label_at, IsReportOf}
 use Rattle.mm_spec.proofs.Finds.{member-those, those-member}
 use Rattle.mm_work.specs.Citing.{Citing, theorem_at, list_at}
 use Rattle.mm_work.specs.Judged.{AllCited}
@@ -79,11 +79,7 @@ module _ (db : List Statement) (request : Request) (c : Citing) (cited : AllCite
       mapped (t ∷ ts) (suc i) l = mapped ts i (omega arith)
 
   -- what is written of a database without a fault
-  pub is-citation-output : (text : List ℕ) (axioms : List ℕ) → HasNoFault (length text) (lexed_of text) db → axioms ≡ columns db request.only → request.choice ≡ Citations → IsOutput text request (citation_report_of db request.form request.only axioms c)
-  is-citation-output text axioms sound is choice =
-      inr (
-        db,
-        sound,
-        subst (λ (o : Choice). IsReportOf o db request (citation_report_of db request.form request.only axioms c)) (sym choice)
-        (citing_rows db request.only c (map (label_at db) (theorems db)), citing-rows-are, ap (λ (l : List ℕ). citation_report request.form None (length l) (citing_rows db request.only c (map (label_at db) (theorems db)))) is),
-      )
+  pub is-citation-report : (opened : Option ℕ) (axioms : List ℕ) → axioms ≡ columns db request.only → request.choice ≡ Citations → IsReportOf request.choice db opened request (citation_report_of db opened request.form request.only axioms c)
+  is-citation-report opened axioms is choice =
+      subst (λ (o : Choice). IsReportOf o db opened request (citation_report_of db opened request.form request.only axioms c)) (sym choice)
+      (citing_rows db request.only c (map (label_at db) (theorems db)), citing-rows-are, ap (λ (l : List ℕ). citation_report request.form opened (length l) (citing_rows db request.only c (map (label_at db) (theorems db)))) is)

@@ -1,3 +1,4 @@
+pub mod CountedLaw
 pub mod RowsLaw
 pub mod EndsLaw
 pub mod CitationsLaw

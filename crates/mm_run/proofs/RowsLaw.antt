@@ -1,5 +1,5 @@
 -- The report that is written is that of the definitions: a mark stands for a chain of citations.
-use Rattle.std.proofs.Common.{◌≡◌, ℕ, zero, suc, ◌<◌, Bool, false, List, [], ◌∷◌, length, map, get_or, None, refl, sym, ap, subst, arith, ◌↔◌, inr}
+use Rattle.std.proofs.Common.{◌≡◌, ℕ, zero, suc, ◌<◌, Bool, false, List, [], ◌∷◌, length, map, get_or, Option, refl, sym, ap, subst, arith, ◌↔◌}
 use Rattle.std.specs.Prelude.{Decides}
 use Rattle.std.specs.List.{AllZip}
 use Rattle.std.proofs.lemmas.List.FromFn.{get_or-map-range_with_len, length-map-range_with_len}
@@ -9,7 +9,7 @@ use Rattle.mm_spec.specs.Report.{Row, report}
 use Rattle.mm_spec.specs.Request.{Request}
 use Rattle.mm_spec.specs.declared.Choice.{Choice}
 use Rattle.mm_spec.specs.declared.Choice.TheVariants.{All, Matrix, Counts, Usage, Citations}
-use Rattle.mm_spec.specs.Output.{IsRowOf, theorems, columns, label_at, lexed_of, HasNoFault, IsReportOf, IsOutput}
+use Rattle.mm_spec.specs.Output.{IsRowOf, theorems, columns, label_at, IsReportOf}
 use Rattle.mm_spec.proofs.Chains.{chains_alike}
 use Rattle.mm_work.specs.Citing.{Citing, Cites, theorem_at}
 use Rattle.mm_rows.specs.Marks.{Marks, mark, IsMatrix}
@@ -56,18 +56,18 @@ module _ (db : List Statement) (request : Request) (c : Citing) (m : Marks) (sam
       mapped (t ∷ ts) (suc i) l = mapped ts i (omega arith)
 
 -- the report of rows is that of a choice other than the citations
-reports : (db : List Statement) (request : Request) (choice : Choice) (rows : List Row) → (choice ≡ Citations → ⊥) → AllZip (IsRowOf db request) (theorems db) rows → IsReportOf choice db request (report request.form None (map (label_at db) (columns db request.only)) rows choice)
-reports db request All rows other h = (rows, h, refl)
-reports db request Matrix rows other h = (rows, h, refl)
-reports db request Counts rows other h = (rows, h, refl)
-reports db request Usage rows other h = (rows, h, refl)
-reports db request Citations rows other h = absurd (other refl)
+reports : (db : List Statement) (opened : Option ℕ) (request : Request) (choice : Choice) (rows : List Row) → (choice ≡ Citations → ⊥) → AllZip (IsRowOf db request) (theorems db) rows → IsReportOf choice db opened request (report request.form opened (map (label_at db) (columns db request.only)) rows choice)
+reports db opened request All rows other h = (rows, h, refl)
+reports db opened request Matrix rows other h = (rows, h, refl)
+reports db opened request Counts rows other h = (rows, h, refl)
+reports db opened request Usage rows other h = (rows, h, refl)
+reports db opened request Citations rows other h = absurd (other refl)
 
 -- what is written of a database without a fault
-pub is-output : (text : List ℕ) (request : Request) (db : List Statement) (c : Citing) (axioms : List ℕ) (m : Marks)
-    → HasNoFault (length text) (lexed_of text) db → AllCited db request.essential c → axioms ≡ columns db request.only → IsMatrix c axioms m → (request.choice ≡ Citations → ⊥) → IsOutput text request (report_of db request.form axioms m request.choice)
-is-output text request db c axioms m sound cited is h other =
+pub is-report : (request : Request) (db : List Statement) (opened : Option ℕ) (c : Citing) (axioms : List ℕ) (m : Marks)
+    → AllCited db request.essential c → axioms ≡ columns db request.only → IsMatrix c axioms m → (request.choice ≡ Citations → ⊥) → IsReportOf request.choice db opened request (report_of db opened request.form axioms m request.choice)
+is-report request db opened c axioms m cited is h other =
     let h' = subst (λ (l : List ℕ). IsMatrix c l m) is h in
     let rows = rows_of m (map (label_at db) (theorems db)) in
-    let here = reports db request request.choice rows other (rows-are db request c m cited.theorems_are cited.shows h') in
-    inr (db, sound, subst (λ (l : List ℕ). IsReportOf request.choice db request (report request.form None (map (label_at db) l) rows request.choice)) (sym is) here)
+    let here = reports db opened request request.choice rows other (rows-are db request c m cited.theorems_are cited.shows h') in
+    subst (λ (l : List ℕ). IsReportOf request.choice db opened request (report request.form opened (map (label_at db) l) rows request.choice)) (sym is) here

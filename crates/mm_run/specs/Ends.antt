@@ -1,9 +1,11 @@
 -- How a run ends: what was read and written, by what it answers.
-use Rattle.std.specs.Prelude.{◌≡◌, ℕ, List, length, take, Option, ◌⊎◌}
+use Rattle.std.specs.Prelude.{◌≡◌, ℕ, Bool, List, length, take, Option, ◌⊎◌}
 use Rattle.std.specs.Io.KnownBytes.{Consumes, Appends, Keeps, IsAtEnd}
 use Rattle.mm_spec.specs.Report.{refusal}
 use Rattle.mm_spec.specs.Request.{Request}
 use Rattle.mm_spec.specs.Statement.{Statement}
+use Rattle.mm_spec.specs.Opened.{counted}
+use Rattle.mm_stmt.specs.Database.{Known}
 use Rattle.mm_spec.specs.Output.{lexed_of, IsOutput, FirstFault, HasNoFault}
 use Rattle.mm_run.specs.declared.RunEnd.{RunEnd}
 use Rattle.mm_run.specs.declared.RunEnd.TheVariants.{Accepted, Refused, ReadFailed, WriteFailed, NoMemory}
@@ -16,14 +18,19 @@ reading_limit = 2_147_483_648
 abbrev pub Gave : Option (List ℕ) → Option (List ℕ) → List ℕ → Type 0
 Gave before after text = Consumes before after text × (IsAtEnd after ⊎ (length text ≡ reading_limit))
 
+-- a database whose open theorems count as axioms, with the flag, or as theorems
+pub record IsCounted (with_open : Bool) (d : Known) : Type 0 where
+  pub flag : d.with_open ≡ with_open
+  pub statements : d.statements ≡ counted with_open d.read
+
 -- What is written for a text. It has no fault where it is accepted, and its output is written; else the first fault is
 -- the one that is answered, and its refusal is written. Where a write failed, a beginning of the output is written.
 -- Of a text that was read, none answers that reading failed.
 abbrev pub Answers : RunEnd → List ℕ → Request → (held holds : Option (List ℕ)) → Type 0
 Answers Accepted text request held holds =
-    ((db : List Statement) × HasNoFault (length text) (lexed_of text) db) × ((bytes : List ℕ) × IsOutput text request bytes × Appends held holds bytes)
+    ((db : List Statement) × HasNoFault (length text) (lexed_of text) request.with_open db) × ((bytes : List ℕ) × IsOutput text request bytes × Appends held holds bytes)
 Answers (Refused f) text request held holds =
-    FirstFault (length text) (lexed_of text) f × IsOutput text request (refusal text f) × Appends held holds (refusal text f)
+    FirstFault (length text) (lexed_of text) request.with_open f × IsOutput text request (refusal text f) × Appends held holds (refusal text f)
 Answers WriteFailed text request held holds = (bytes : List ℕ) × (k : ℕ) × IsOutput text request bytes × Appends held holds (take k bytes)
 Answers ReadFailed text request held holds = ⊥
 Answers NoMemory text request held holds = Keeps held holds

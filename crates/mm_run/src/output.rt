@@ -5,7 +5,7 @@ ghost use Rattle.mm_spec.specs.declared.Choice.TheVariants as choices;
 ghost use Rattle.mm_spec.specs.Lexed.{lexical_fault, tokens_of};
 ghost use Rattle.mm_spec.specs.Statement.{Statement};
 ghost use Rattle.mm_spec.specs.Output.{lexed_of, FirstFault, HasNoFault, IsRead};
-ghost use Rattle.mm_run.specs.Ends.{Answers, reading_limit};
+ghost use Rattle.mm_run.specs.Ends.{Answers, IsCounted, reading_limit};
 ghost use Rattle.mm_work.specs.Judged.{AllCited, IsFirstFault};
 ghost use Rattle.mm_plan.specs.Plans.{IsLawful, request_of};
 
@@ -25,7 +25,7 @@ use std::thread::Threads;
 
 /// Writes the refusal of the text for its first fault.
 fn refuse<A: Allocator, W: Write>(text: &[u8], fault: Fault, plan: &Plan<A>, to: &mut W) -> RunEnd
-    requires { FirstFault (length text.now) (lexed_of text.now) fault }
+    requires { FirstFault (length text.now) (lexed_of text.now) plan.now.with_open fault }
     ensures { Answers result text.now (request_of plan.now) (W.contents to.old) (W.contents to.new) }
 {
     let _ = plan.workers;
@@ -43,7 +43,8 @@ fn report_citations<'a, A: Allocator + Copy, W: Write>(
     plan: &Plan<A>,
     to: &mut W,
 ) -> RunEnd
-    requires sound { HasNoFault (length database.now.text) (lexed_of database.now.text) database.now.statements }
+    requires sound { HasNoFault (length database.now.text) (lexed_of database.now.text) plan.now.with_open database.now.read }
+    requires counted { IsCounted plan.now.with_open database.now }
     requires cited { AllCited database.now.statements plan.now.essential citations.now }
     requires choice { plan.now.choice ≡ choices.Citations }
     ensures { Answers result database.now.text (request_of plan.now) (W.contents to.old) (W.contents to.new) }
@@ -57,6 +58,7 @@ fn report_citations<'a, A: Allocator + Copy, W: Write>(
         &columns,
         citations,
         plan.typecode(),
+        plan.with_open,
         plan.form,
     ) {
         Ok(()) => RunEnd::Accepted,
@@ -73,7 +75,8 @@ fn report_rests<'a, R: Threads + Sync, A: Allocator + Copy + Send + Sync, W: Wri
     plan: &Plan<A>,
     to: &mut W,
 ) -> RunEnd
-    requires sound { HasNoFault (length database.now.text) (lexed_of database.now.text) database.now.statements }
+    requires sound { HasNoFault (length database.now.text) (lexed_of database.now.text) plan.now.with_open database.now.read }
+    requires counted { IsCounted plan.now.with_open database.now }
     requires cited { AllCited database.now.statements plan.now.essential citations.now }
     requires choice { plan.now.choice ≡ choices.Citations → ⊥ }
     ensures { Answers result database.now.text (request_of plan.now) (W.contents to.old) (W.contents to.new) }
@@ -84,7 +87,15 @@ fn report_rests<'a, R: Threads + Sync, A: Allocator + Copy + Send + Sync, W: Wri
     let Ok(table) = matrix(rt, alloc, citations, &columns) else {
         return RunEnd::NoMemory;
     };
-    match write_report(to, database, &columns, &table, plan.form, plan.choice) {
+    match write_report(
+        to,
+        database,
+        &columns,
+        &table,
+        plan.with_open,
+        plan.form,
+        plan.choice,
+    ) {
         Ok(()) => RunEnd::Accepted,
         Err(_) => RunEnd::WriteFailed,
     }
@@ -99,7 +110,8 @@ fn report<'a, R: Threads + Sync, A: Allocator + Copy + Send + Sync, W: Write>(
     plan: &Plan<A>,
     to: &mut W,
 ) -> RunEnd
-    requires sound { HasNoFault (length database.now.text) (lexed_of database.now.text) database.now.statements }
+    requires sound { HasNoFault (length database.now.text) (lexed_of database.now.text) plan.now.with_open database.now.read }
+    requires counted { IsCounted plan.now.with_open database.now }
     requires cited { AllCited database.now.statements plan.now.essential citations.now }
     ensures { Answers result database.now.text (request_of plan.now) (W.contents to.old) (W.contents to.new) }
 {
@@ -120,11 +132,12 @@ fn database_of<'a, R: Threads + Sync, A: Allocator + Copy + Send + Sync>(
     requires few { length text.now ≤ reading_limit }
     requires lawful { IsLawful plan.now }
     ensures text { IfOk result (λ database. database.text ≡ text.now) }
-    ensures read { IfOk result (λ database. IsRead (length text.now) (lexed_of text.now) database.statements database.fault) }
+    ensures counted { IfOk result (IsCounted plan.now.with_open) }
+    ensures read { IfOk result (λ database. IsRead (length text.now) (lexed_of text.now) database.read database.fault) }
 {
     let cuts = cuts_of(&plan.cuts, alloc, text.len())?;
     let lexed = lex(rt, alloc, text, &cuts)?;
-    read(alloc, text, lexed)
+    read(alloc, text, lexed, plan.with_open)
 }
 
 /// Writes what the text and the choice of report define: the refusal of the first fault, or the report.

@@ -1,6 +1,6 @@
 -- How many symbols there are: the symbols of lawful statements are declared, and there are no more than tokens.
-use Rattle.std.proofs.Common.{◌≡◌, ℕ, zero, suc, ◌<◌, ◌≤◌, Bool, true, false, ◌||◌, List, [], ◌∷◌, ◌++◌, flat_map, take, drop, length, All, Option, Some, slice_get, get_or, refl, sym, ap, ◌∙◌, subst, arith, bytes_eq, length-append, codes}
-use Rattle.std.proofs.lemmas.List.{length-map, take-append-drop}
+use Rattle.std.proofs.Common.{◌≡◌, ℕ, zero, suc, ◌<◌, ◌≤◌, Bool, true, false, ◌||◌, List, [], ◌∷◌, ◌++◌, flat_map, length, All, Some, slice_get, get_or, refl, sym, ap, ◌∙◌, subst, arith, bytes_eq, length-append, codes}
+use Rattle.std.proofs.lemmas.List.{length-map}
 use Rattle.std.proofs.lemmas.Option.{slice_get_within}
 use Rattle.std.proofs.lemmas.Grind.{flat_map-append}
 use Rattle.mm_spec.specs.Text.{Word, Token, token, words, is_in}
@@ -8,8 +8,6 @@ use Rattle.mm_spec.specs.Statement.{Statement, constants, variables, disjoint, f
 use Rattle.mm_spec.specs.Scope.{constants_of, variables_of}
 use Rattle.mm_spec.specs.Lawful.{IsLawful}
 use Rattle.mm_spec.specs.Frame.{symbol_names, place_of, first_occurrences, formula_at, formula_of}
-use Rattle.mm_spec.specs.declared.Fault.{Fault}
-use Rattle.mm_spec.specs.Output.{Lexed, IsRead}
 use Rattle.mm_spec.proofs.Finds.{formula_at-is}
 use Rattle.mm_spec.proofs.SymbolLaw.{declared-here}
 use Rattle.mm_scope.proofs.SymbolsLaw.{itself, in-first, place-in}

@@ -1,5 +1,5 @@
 -- The least of faults, and the codes of symbols.
-use Rattle.std.proofs.Common.{◌≡◌, ◌≢◌, ℕ, suc, ◌+◌, ◌-◌, ◌<◌, ◌≤◌, Bool, true, false, ◌&&◌, ◌||◌, not, List, [], ◌∷◌, ◌++◌, length, Option, None, Some, refl, sym, ap, ap₂, ◌∙◌, arith, append-nil, append_assoc, nat_lt, nat_le, ◌==◌, bytes_eq, map, if◌then◌else◌, is_some, take, drop, drop-cons, add-one, length-drop, nat_eq, Result, Ok, Err, IfOk}
+use Rattle.std.proofs.Common.{◌≡◌, ◌≢◌, ℕ, suc, ◌+◌, ◌-◌, ◌<◌, ◌≤◌, Bool, true, false, ◌&&◌, ◌||◌, not, List, [], ◌∷◌, ◌++◌, length, Option, None, Some, refl, sym, ap, ap₂, ◌∙◌, arith, append-nil, append_assoc, nat_lt, nat_le, ◌==◌, bytes_eq, map, if◌then◌else◌, is_some, take, drop, drop-cons, add-one, length-drop, nat_eq}
 use Rattle.std.proofs.lemmas.List.{length-take-le, length-map}
 use Rattle.std.proofs.lemmas.Slice.Eq.{bytes_eq-Decides}
 use Rattle.std.proofs.lemmas.Bool.Decides.{nat_tests}
@@ -12,7 +12,7 @@ use Rattle.mm_spec.specs.declared.Word as place
 use Rattle.mm_scope.specs.declared.names.Symbol.{Symbol}
 use Rattle.mm_outline.proofs.Faultless.{pick, lesser_is}
 use Rattle.mm_outline.specs.Parts.{between, token_at, token_of, word_at}
-use Rattle.mm_scope.specs.Judge.{merge, fault_at, is_active, is_typed_here, is_constant, is_variable, symbol_code, code_of_variable, first_code, declared_code, declared_codes, typecode_code, floating_code, typing_code, typing_fault, list_fault, Knows}
+use Rattle.mm_scope.specs.Judge.{merge, fault_at, is_active, is_typed_here, is_constant, is_variable, symbol_code, code_of_variable, first_code, declared_code, declared_codes, typecode_code, floating_code, typing_code, typing_fault, list_fault, before_next, Knows}
 use Rattle.mm_outline.specs.declared.parts.Kind.{Kind}
 use Rattle.mm_outline.specs.declared.parts.Kind.TheVariants.{Constants, Variables}
 use Rattle.mm_outline.proofs.Turns.{between-more, between-none}
@@ -48,11 +48,6 @@ merge-assoc (Some f) (Some g) (Some h) = three f g h
 pub least-append : (xs ys : List Fault) → least (xs ++ ys) ≡ merge (least xs) (least ys)
 least-append [] ys = refl
 least-append (f ∷ xs) ys = ap (lesser f) (least-append xs ys) ∙ sym (merge-assoc (Some f) (least xs) (least ys))
-
--- the words before the next, the last one first
-abbrev pub before_next : List Word → List Token → List Word
-before_next e [] = e
-before_next e (t ∷ ts) = before_next (t.word ∷ e) ts
 
 pub at_each-snoc : (codes : List Word → Word → List Code) (e : List Word) (xs : List Token) (t : Token) → at_each codes e (xs ++ t ∷ []) ≡ at_each codes e xs ++ at t.at (codes (before_next e xs) t.word)
 at_each-snoc codes e [] t = append-nil (at t.at (codes e t.word))
@@ -136,6 +131,11 @@ seen_more text ws from i h l old new u e w =
     by : (b : Bool) → bytes_eq (token_at text ws i).word w ≡ b → is_some (if b then Some 0 else old w) ≡ is_in w ((token_at text ws i).word ∷ before_next [] (between text ws from i))
     by true b = ap (λ c. c || is_in w (before_next [] (between text ws from i))) (sym (bytes_eq-sym w (token_at text ws i).word ∙ b))
     by false b = e w ∙ ap (λ c. c || is_in w (before_next [] (between text ws from i))) (sym (bytes_eq-sym w (token_at text ws i).word ∙ b))
+
+-- one word more that was passed
+pub among_more : (text : List ℕ) (ws : List place.Word) (from i : ℕ) → from ≤ i → i < length ws → (w : List ℕ)
+    → (bytes_eq w (token_at text ws i).word || is_in w (before_next [] (between text ws from i))) ≡ is_in w (before_next [] (between text ws from (i + 1)))
+among_more text ws from i h l w = ap (is_in w) (sym (before_next-snoc [] (between text ws from i) (token_at text ws i))) ∙ ap (λ ys. is_in w (before_next [] ys)) (sym (between-more text ws from i h l))
 
 pub between-first : (text : List ℕ) (ws : List place.Word) (i j : ℕ) → i < j → j ≤ length ws → between text ws i j ≡ token_at text ws i ∷ between text ws (i + 1) j
 between-first text ws i j h l =

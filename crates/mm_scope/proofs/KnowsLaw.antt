@@ -1,12 +1,12 @@
 -- What is kept of each word is what the judge asks for.
-use Rattle.std.proofs.Common.{◌≡◌, ◌≢◌, ℕ, zero, suc, ◌<◌, ◌≤◌, Bool, true, false, ◌&&◌, ◌||◌, not, List, [], ◌∷◌, length, flat_map, map, bytes_eq, nat_eq, Option, None, Some, refl, sym, ap, ap₂, ◌∙◌, arith, ◌⊎◌, inl, inr, le_refl, take_all, true≢false}
+use Rattle.std.proofs.Common.{◌≡◌, ◌≢◌, ℕ, zero, suc, ◌<◌, ◌≤◌, Bool, true, false, ◌&&◌, ◌||◌, not, List, [], ◌∷◌, length, flat_map, bytes_eq, nat_eq, Option, None, Some, refl, sym, ap, ◌∙◌, arith, ◌⊎◌, inl, inr, le_refl, take_all, true≢false}
 use Rattle.std.proofs.lemmas.List.Folds.{list_any-append}
 use Rattle.std.proofs.lemmas.Option.{slice_get_past}
 use Rattle.std.proofs.lemmas.Bool.{cases_eq}
 use Rattle.std.specs.List.{list_any}
 use Rattle.mm_spec.specs.Text.{Word, is_in}
 use Rattle.mm_spec.specs.Statement.{Statement}
-use Rattle.mm_spec.specs.Scope.{Typing, names_before, active_statements, is_active, variables_of, constants_of, label_words, typings_of}
+use Rattle.mm_spec.specs.Scope.{names_before, active_statements, is_active, variables_of, constants_of, label_words, typings_of}
 use Rattle.mm_outline.specs.Blocks.{Lists, IsBlocks, never}
 use Rattle.mm_scope.specs.Judge as judge
 use Rattle.mm_scope.specs.Judge.{Knows, is_open_in, is_never, end_in, is_constant, is_variable, has_other_typecode, is_typed_here, entry_of}

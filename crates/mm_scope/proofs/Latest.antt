@@ -1,11 +1,9 @@
 -- A variable is active exactly where its last declaration is.
-use Rattle.std.proofs.Common.{◌≡◌, ℕ, zero, suc, ◌+◌, ◌<◌, ◌≤◌, Bool, true, false, ◌&&◌, ◌||◌, List, [], ◌∷◌, ◌++◌, length, flat_map, slice_get, nat_le, refl, sym, ap, ap₂, ◌∙◌, arith, true≢false, ◌⊎◌, inl, inr, eq-or-lt_of_le, length-append, nat_lt, Option, None, Some}
-use Rattle.std.proofs.lemmas.List.Folds.{list_any-append}
-use Rattle.std.proofs.lemmas.Grind.{flat_map-append}
+use Rattle.std.proofs.Common.{◌≡◌, ℕ, ◌+◌, ◌<◌, ◌≤◌, Bool, true, false, ◌&&◌, ◌||◌, List, [], ◌∷◌, ◌++◌, length, flat_map, slice_get, nat_le, refl, sym, ap, ap₂, ◌∙◌, arith, true≢false, ◌⊎◌, inl, inr, length-append, nat_lt, Option, None, Some}
 use Rattle.std.specs.List.{list_any, range_with_len}
 use Rattle.mm_spec.specs.Text.{Word, is_in}
 use Rattle.mm_spec.specs.Statement.{Statement}
-use Rattle.mm_spec.specs.Scope.{is_active, is_active_some, is_global, is_local, active_statements, statement_at, those, depth}
+use Rattle.mm_spec.specs.Scope.{is_active, is_active_some, is_global, is_local, active_statements, depth}
 use Rattle.mm_spec.proofs.Activity.{stays}
 use Rattle.mm_spec.proofs.Local.{get-front, get-seam}
 use Rattle.std.proofs.lemmas.Bool.{lt-ltb, cases_lt}

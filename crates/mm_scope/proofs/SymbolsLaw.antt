@@ -1,27 +1,12 @@
 -- Symbols in the order of their first declarations.
-use Rattle.std.proofs.Common.{nat_lt, ◌≡◌, ℕ, zero, suc, ◌+◌, ◌<◌, ◌≤◌, Bool, true, false, ◌||◌, not, List, [], ◌∷◌, ◌++◌, length, get_or, slice_get, Some, None, bytes_eq, refl, sym, ap, ap₂, ◌∙◌, subst, arith, true≢false, append-nil, if◌then◌else◌, map, Bor, cond, ◌⊎◌, ◌≢◌, inl, inr, length-append, append_assoc, flat_map, take}
-use Rattle.std.proofs.Math.ListN.{set, length-set}
+use Rattle.std.proofs.Common.{nat_lt, ◌≡◌, ℕ, zero, suc, ◌+◌, Bool, true, false, ◌||◌, ◌&&◌, not, List, [], ◌∷◌, ◌++◌, length, slice_get, Some, None, bytes_eq, refl, sym, ap, ap₂, ◌∙◌, arith, true≢false, if◌then◌else◌, map, Bor, cond}
 use Rattle.std.proofs.lemmas.List.Recursion.{is_position_or_len}
 use Rattle.std.proofs.lemmas.List.Folds.{list_any-append}
-use Rattle.std.proofs.lemmas.List.{map-append, take_more, get_or_append_left, get_or_push, get_or-set_same, get_or-set_other}
-use Rattle.std.proofs.lemmas.Option.{slice_get_within, slice_get-get_or}
-use Rattle.std.proofs.lemmas.Bool.{cases_lt, cases_eq}
-use Rattle.mm_spec.proofs.Local.{get-front, get-seam}
 use Rattle.std.specs.List.{list_any, position_or_len, position}
 use Rattle.std.proofs.lemmas.Slice.Eq.{bytes_eq-Decides}
-use Rattle.mm_spec.specs.Text.{Word, Token, is_in, words}
-use Rattle.mm_spec.specs.declared.Word as place
-use Rattle.mm_spec.specs.Statement.{Statement}
-use Rattle.mm_spec.specs.Scope.{constants_of, variables_of}
-use Rattle.mm_outline.specs.Parts.{between, token_at, statement_of, made}
-use Rattle.mm_outline.specs.Statements.{statements}
-use Rattle.mm_outline.specs.Numbered.{AreSymbols}
-use Rattle.mm_outline.specs.declared.parts.Kind.{Kind}
-use Rattle.mm_outline.specs.declared.parts.Kind.TheVariants as kind
-use Rattle.mm_outline.specs.declared.parts.Outline.{Outline}
-use Rattle.std.proofs.lemmas.Grind.{flat_map-append}
-use Rattle.mm_outline.proofs.Turns.{between-more, between-none}
+use Rattle.mm_spec.specs.Text.{Word, is_in}
 use Rattle.mm_spec.specs.Frame.{first_occurrences, place_of}
+use Rattle.mm_scope.specs.Names.{are_distinct, with_name}
 
 same_word : (v w : Word) → bytes_eq v w ≡ true → v ≡ w
 same_word v w h = (bytes_eq-Decides v w).0 h
@@ -162,3 +147,60 @@ missing-place w (n ∷ ns) h = by (bytes_eq w n) refl (missing-place w ns)
     by : (b : Bool) → bytes_eq w n ≡ b → (is_in w ns ≡ false → length ns ≡ place_of w ns) → suc (length ns) ≡ place_of w (n ∷ ns)
     by true k r = absurd (true≢false (sym (ap (λ b. b || is_in w ns) k) ∙ h))
     by false k r = ap suc (r (sym (ap (λ b. b || is_in w ns) k) ∙ h)) ∙ sym (ap (λ b. elim b [ true ↦ 0 | false ↦ suc (place_of w ns) ]) k)
+
+-- ---- names of which none stands twice
+
+list_head : {X : Type 0} {a b : X} → Some a ≡ Some b → a ≡ b
+list_head e = cc
+
+got-in : (ns : List Word) (i : ℕ) (w : Word) → slice_get ns i ≡ Some w → is_in w ns ≡ true
+got-in [] zero w e = absurd (let q : None ≡ Some w = e in cc)
+got-in [] (suc i) w e = absurd (let q : None ≡ Some w = e in cc)
+got-in (n ∷ ns) zero w e = ap (λ b. b || is_in w ns) (ap (bytes_eq w) (list_head e) ∙ itself w)
+got-in (n ∷ ns) (suc i) w e = ap (λ b. bytes_eq w n || b) (got-in ns i w e) ∙ or_true (bytes_eq w n)
+
+not_there : (a b : Bool) → (not a && b) ≡ true → a ≡ false
+not_there true b e = sym e
+not_there false b e = refl
+
+others_too : (a b : Bool) → (not a && b) ≡ true → b ≡ true
+others_too true b e = absurd (true≢false (sym e))
+others_too false b e = e
+
+-- the place of a name is where it stands
+pub place-distinct : (ns : List Word) → are_distinct ns ≡ true → (i : ℕ) (w : Word) → slice_get ns i ≡ Some w → i ≡ place_of w ns
+place-distinct [] d zero w e = absurd (let q : None ≡ Some w = e in cc)
+place-distinct [] d (suc i) w e = absurd (let q : None ≡ Some w = e in cc)
+place-distinct (n ∷ ns) d zero w e = sym (ap (λ b. elim b [ true ↦ 0 | false ↦ suc (place_of w ns) ]) (ap (bytes_eq w) (list_head e) ∙ itself w))
+place-distinct (n ∷ ns) d (suc i) w e = by (bytes_eq w n) refl (place-distinct ns (others_too (is_in n ns) (are_distinct ns) d) i w e)
+  where
+    by : (b : Bool) → bytes_eq w n ≡ b → i ≡ place_of w ns → suc i ≡ elim b [ true ↦ 0 | false ↦ suc (place_of w ns) ]
+    by true s r = absurd (true≢false (sym (got-in ns i w e) ∙ ap (λ x. is_in x ns) (same_word w n s) ∙ not_there (is_in n ns) (are_distinct ns) d))
+    by false s r = ap suc r
+
+or_left-false : (a b : Bool) → (a || b) ≡ false → a ≡ false
+or_left-false true b e = e
+or_left-false false b e = refl
+
+or_right-false : (a b : Bool) → (a || b) ≡ false → b ≡ false
+or_right-false true b e = absurd (true≢false e)
+or_right-false false b e = e
+
+distinct-push : (ns : List Word) (w : Word) → are_distinct ns ≡ true → is_in w ns ≡ false → are_distinct (ns ++ w ∷ []) ≡ true
+distinct-push [] w d h = refl
+distinct-push (n ∷ ns) w d h =
+    ap₂ (λ a b. not a && b)
+    (list_any-append (bytes_eq n) ns (w ∷ []) ∙ ap₂ (λ a b. a || (b || false)) (not_there (is_in n ns) (are_distinct ns) d) (differ (bytes_eq n w) refl))
+    (distinct-push ns w (others_too (is_in n ns) (are_distinct ns) d) (or_right-false (bytes_eq w n) (is_in w ns) h))
+  where
+    differ : (b : Bool) → bytes_eq n w ≡ b → b ≡ false
+    differ true s = sym (ap (λ x. bytes_eq x n) (sym (same_word n w s)) ∙ itself n) ∙ or_left-false (bytes_eq w n) (is_in w ns) h
+    differ false s = refl
+
+-- a name more, where it is new
+pub distinct-with : (w : Word) (ns : List Word) → are_distinct ns ≡ true → are_distinct (with_name w ns) ≡ true
+distinct-with w ns d = by (is_in w ns) refl
+  where
+    by : (b : Bool) → is_in w ns ≡ b → are_distinct (if b then ns else (ns ++ w ∷ [])) ≡ true
+    by true h = d
+    by false h = distinct-push ns w d h

@@ -1,5 +1,5 @@
 -- The symbols of statements by their numbers, one statement's after another's.
-use Rattle.std.specs.Prelude.{◌≡◌, ℕ, ◌+◌, ◌≤◌, List, [], ◌∷◌, length, map, flat_map, take, get_or}
+use Rattle.std.specs.Prelude.{◌≡◌, ℕ, ◌+◌, ◌≤◌, List, [], length, map, flat_map, take, get_or}
 use Rattle.mm_spec.specs.Text.{Word, Token, words}
 use Rattle.mm_spec.specs.Statement.{Statement, constants, variables, disjoint, floating, essential, axiomatic, provable}
 use Rattle.mm_spec.specs.Frame.{place_of, formula_of}

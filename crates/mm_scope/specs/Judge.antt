@@ -1,6 +1,6 @@
 -- The faults of a statement, by what the code knows of symbols.
-use Rattle.std.specs.Prelude.{◌≡◌, ℕ, Bool, true, false, ◌&&◌, ◌||◌, not, List, Option, None, Some, bytes_eq, is_some, slice_get, nat_eq, nat_lt, if◌then◌else◌}
-use Rattle.mm_spec.specs.Text.{is_in, fault}
+use Rattle.std.specs.Prelude.{◌≡◌, ℕ, Bool, true, false, ◌&&◌, ◌||◌, not, List, [], ◌∷◌, Option, None, Some, bytes_eq, is_some, slice_get, nat_eq, nat_lt, if◌then◌else◌}
+use Rattle.mm_spec.specs.Text.{Token, is_in, fault}
 use Rattle.mm_spec.specs.declared.Fault.{Fault}
 use Rattle.mm_spec.specs.Scope.{Names}
 use Rattle.mm_spec.specs.Lawful.{lesser, is_typed, is_typed_otherwise, constant_codes, variable_codes, disjoint_codes}
@@ -100,6 +100,11 @@ abbrev pub declared_codes : Names → Kind → List (List ℕ) → List ℕ → 
 declared_codes n Constants = constant_codes n
 declared_codes n Variables = variable_codes n
 declared_codes n _ = disjoint_codes n
+
+-- the words before the next: those of the tokens, the last one first, and those before them
+abbrev pub before_next : List (List ℕ) → List Token → List (List ℕ)
+before_next e [] = e
+before_next e (t ∷ ts) = before_next (t.word ∷ e) ts
 
 -- the fault of a `$c`, `$v` or `$d` as a whole, with its depth, its keyword, its end and how many symbols it has
 abbrev pub list_fault : Kind → ℕ → ℕ → ℕ → ℕ → Option Fault

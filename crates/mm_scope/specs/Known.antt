@@ -1,9 +1,9 @@
 -- What is known of each word behind some statements.
-use Rattle.std.specs.Prelude.{◌≡◌, ◌≢◌, ℕ, ◌<◌, Bool, true, false, ◌&&◌, not, List, [], ◌∷◌, length, map, flat_map, nat_eq, bytes_eq, Option, None, Some, if◌then◌else◌}
+use Rattle.std.specs.Prelude.{◌≡◌, ◌≢◌, ℕ, ◌<◌, Bool, true, false, ◌&&◌, not, List, [], ◌∷◌, length, flat_map, nat_eq, bytes_eq, Option, None, Some, if◌then◌else◌}
 use Rattle.std.specs.List.{list_any}
 use Rattle.mm_spec.specs.Text.{Word, Token, is_in, words}
 use Rattle.mm_spec.specs.Statement.{Statement, constants, variables, floating}
-use Rattle.mm_spec.specs.Scope.{Typing, is_active, statement_at, constants_of, variables_of, typings_of}
+use Rattle.mm_spec.specs.Scope.{Typing, is_active, constants_of, variables_of, typings_of}
 use Rattle.mm_outline.specs.Blocks.{never}
 use Rattle.mm_scope.specs.Judge.{Entry, declared_entry, typed_entry}
 use Rattle.mm_outline.specs.Typed.{has, typed_words}

@@ -1,5 +1,5 @@
 -- The names that the code knows.
-use Rattle.std.specs.Prelude.{ℕ, Bool, false, not, List, Option, None, Some, bytes_eq, map, [], ◌∷◌, ◌++◌, if◌then◌else◌}
+use Rattle.std.specs.Prelude.{ℕ, Bool, true, false, ◌&&◌, not, List, Option, None, Some, bytes_eq, map, [], ◌∷◌, ◌++◌, if◌then◌else◌}
 use denote.Ref.{Bor}
 use Rattle.indexmap.specs.IndexMap.{IndexMap, get_by, keys}
 use Rattle.mm_spec.specs.Text.{is_in}
@@ -26,3 +26,8 @@ module _ {V S : Type 0} where
 -- the names with one more, where it is new
 abbrev pub with_name : List ℕ → List (List ℕ) → List (List ℕ)
 with_name w ns = if is_in w ns then ns else (ns ++ w ∷ [])
+
+-- no name stands twice
+abbrev pub are_distinct : List (List ℕ) → Bool
+are_distinct [] = true
+are_distinct (n ∷ ns) = not (is_in n ns) && are_distinct ns

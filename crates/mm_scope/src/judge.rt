@@ -1,16 +1,16 @@
 //! The faults of a statement that comes next.
 
 ghost use Rattle.std.specs.Prelude.{◌≡◌, ◌<◌, ◌≤◌, ◌++◌, [], length, OnOk, IfOk};
-ghost use Rattle.std.specs.Prelude.{◌+◌, ◌-◌, ℕ, List, is_some, Some, if◌then◌else◌, bytes_eq};
+ghost use Rattle.std.specs.Prelude.{◌+◌, ◌-◌, ℕ, List, is_some, Some, if◌then◌else◌, bytes_eq, false};
 ghost use Rattle.std.specs.Prelude.{◌^◌, map};
-ghost use Rattle.mm_spec.specs.Text.{words};
+ghost use Rattle.mm_spec.specs.Text.{is_in, words};
 ghost use Rattle.mm_spec.specs.Frame.{place_of};
 ghost use Rattle.mm_scope.specs.Names.{find, names_of};
 ghost use Rattle.mm_scope.specs.Formulas.{judged};
 ghost use Rattle.mm_spec.specs.Lawful.{least, at_each, symbol_codes, formula_faults, floating_faults, label_faults, scope_faults};
 ghost use Rattle.mm_spec.specs.Scope.{Names as Known};
 ghost use Rattle.mm_outline.specs.Parts.{AreWords, IsOutline, between, word_at, token_at, statement_of};
-ghost use Rattle.mm_scope.specs.Judge.{merge as spec_merge, fault_at, is_open_in, declared_codes, list_fault, Knows};
+ghost use Rattle.mm_scope.specs.Judge.{merge as spec_merge, fault_at, is_open_in, declared_codes, list_fault, before_next, Knows};
 
 use crate::names::{Map, Scope};
 use indexmap::IndexMap;
@@ -63,12 +63,13 @@ impl<'a, A: Allocator + Copy> Scope<'a, A> {
         requires within { to < length tokens.now }
         ensures { IfOk result (λ r. (n : Known) → Knows n (find self.now.names.symbols) (find self.now.names.labels) (is_open_in self.now.blocks.of.items self.now.blocks.ends.items) → r ≡ least (at_each (declared_codes n kind) [] (between text.now tokens.now from to))) }
     {
+        let is_short = to - from <= FEW;
         let mut seen = IndexMap::new(alloc);
         let mut best = None;
         for at in from..to {
+            let repeated = is_repeated(&mut seen, is_short, text, tokens, from, at)?;
             let token = tokens[at as usize];
             let word = &text[token.start as usize..token.end as usize];
-            let repeated = see(&mut seen, word)?;
             best = note(best, token.start, self.declared_code(kind, word, repeated));
         }
         Ok(best)
@@ -286,6 +287,51 @@ fn merge(best: Option<Fault>, fault: Option<Fault>) -> Option<Fault>
     match fault {
         Some(fault) => note(best, fault.at, Some(fault.code)),
         None => best,
+    }
+}
+
+/// In a list of at most so many words each is compared with those before it; those of a longer one are kept in a map.
+const FEW: u32 = 16;
+
+/// Whether the word at `at` stands among those from `from` on before it.
+fn is_among(text: &[u8], tokens: &[Word], from: u32, at: u32) -> bool
+    requires words { AreWords text.now tokens.now }
+    requires order { from ≤ at }
+    requires within { at < length tokens.now }
+    ensures { result ≡ is_in (token_at text.now tokens.now at).word (before_next [] (between text.now tokens.now from at)) }
+{
+    let token = tokens[at as usize];
+    let word = &text[token.start as usize..token.end as usize];
+    let mut found = false;
+    for earlier in from..at {
+        let other = tokens[earlier as usize];
+        found = word == &text[other.start as usize..other.end as usize] || found;
+    }
+    found
+}
+
+/// Whether the word at `at` of a list that begins at `from` stands twice so far. The words of a list that isn't short are
+/// seen, one after the other.
+fn is_repeated<'a, A: Allocator + Copy>(
+    seen: &mut Map<'a, u32, A>,
+    is_short: bool,
+    text: &'a [u8],
+    tokens: &[Word],
+    from: u32,
+    at: u32,
+) -> Result<bool, AllocError>
+    requires words { AreWords text.now tokens.now }
+    requires order { from ≤ at }
+    requires within { at < length tokens.now }
+    requires seen { is_short ≡ false → (w : List ℕ) → is_some (find seen.old w) ≡ is_in w (before_next [] (between text.now tokens.now from at)) }
+    ensures repeated { IfOk result (λ b. b ≡ is_in (token_at text.now tokens.now at).word (before_next [] (between text.now tokens.now from at))) }
+    ensures seen { OnOk result (is_short ≡ false → (w : List ℕ) → is_some (find seen.new w) ≡ is_in w (before_next [] (between text.now tokens.now from (at + 1)))) }
+{
+    if is_short {
+        Ok(is_among(text, tokens, from, at))
+    } else {
+        let token = tokens[at as usize];
+        see(seen, &text[token.start as usize..token.end as usize])
     }
 }
 

@@ -1,10 +1,10 @@
 //! The names before a statement.
 
-ghost use Rattle.std.specs.Prelude.{◌≡◌, OnOk};
-ghost use Rattle.std.specs.Prelude.{ℕ, List, is_some, Some, if◌then◌else◌, bytes_eq};
+ghost use Rattle.std.specs.Prelude.{◌≡◌, OnOk, IfOk, IfSome, true};
+ghost use Rattle.std.specs.Prelude.{ℕ, List, [], is_some, Some, None, if◌then◌else◌, bytes_eq};
 ghost use Rattle.mm_spec.specs.Frame.{place_of};
 ghost use Rattle.mm_spec.specs.Text.{is_in};
-ghost use Rattle.mm_scope.specs.Names.{find, names_of, with_name};
+ghost use Rattle.mm_scope.specs.Names.{find, names_of, with_name, are_distinct};
 ghost use Rattle.mm_scope.specs.Judge.{is_open_in, is_active_symbol, is_typed_symbol, symbol_code, label_code, typecode_code, floating_code, declared_code, typing_code};
 
 use indexmap::IndexMap;
@@ -25,24 +25,95 @@ pub struct Symbol<'a> {
 
 pub type Map<'a, V, A> = IndexMap<&'a [u8], V, BuildHasherDefault<FoldHasher>, A>;
 
+/// How many guesses there are.
+const GUESSES: usize = 2048;
+
+/// A guess that wasn't made.
+const NO_GUESS: usize = 18_446_744_073_709_551_615;
+
 /// The symbols and the labels.
 #[derive(Drop)]
 pub struct Names<'a, A: Allocator> {
     pub symbols: Map<'a, Symbol<'a>, A>,
     pub labels: Map<'a, u32, A>,
+    /// The numbers of symbols, by the first byte, the last byte and the length of their names. A guess is looked at before
+    /// it is believed; so the usual symbol is found by comparing it with one name.
+    guesses: Vec<usize, A>,
+    ghost distinct: { are_distinct (names_of symbols) ≡ true },
+}
+
+/// Which guess is made for a word.
+fn guess_of(word: &[u8]) -> usize {
+    match (word.first(), word.last()) {
+        (Some(first), Some(last)) => {
+            (37 * *first as usize + 5 * *last as usize + 64 * (word.len() % 32)) % GUESSES
+        }
+        _ => 0,
+    }
+}
+
+/// The guess for words as this one is the symbol's number, unless there is one for them.
+fn note_guess<A: Allocator>(guesses: &mut Vec<usize, A>, word: &[u8], number: usize) {
+    if let Some(guess) = guesses.get_mut(guess_of(word)) {
+        if *guess == NO_GUESS {
+            *guess = number;
+        }
+    }
+}
+
+/// No names yet.
+pub(crate) fn no_names<'a, A: Allocator + Copy>(alloc: A) -> Result<Names<'a, A>, AllocError>
+    ensures symbols { IfOk result (λ n. (w : List ℕ) → find n.symbols w ≡ None) }
+    ensures labels { IfOk result (λ n. (w : List ℕ) → find n.labels w ≡ None) }
+    ensures names { IfOk result (λ n. names_of n.symbols ≡ []) }
+{
+    let guesses = vec![in alloc; NO_GUESS; GUESSES]?;
+    Ok(Names {
+        symbols: IndexMap::new(alloc),
+        labels: IndexMap::new(alloc),
+        guesses,
+    })
 }
 
 impl<'a, A: Allocator + Copy> Names<'a, A> {
+    /// The symbol that is guessed, and its number, where the guess is right.
+    #[inline(always)]
+    fn guessed(&self, word: &[u8]) -> Option<(usize, Symbol<'a>)>
+        ensures number { IfSome result (λ p. p.0 ≡ place_of word.now (names_of self.now.symbols)) }
+        ensures symbol { IfSome result (λ p. Some p.1 ≡ find self.now.symbols word.now) }
+    {
+        let guess = *self.guesses.get(guess_of(word))?;
+        let (name, symbol) = self.symbols.get_index(guess)?;
+        if *name == word {
+            Some((guess, *symbol))
+        } else {
+            None
+        }
+    }
+
     /// What is known of the symbol.
     pub(crate) fn symbol(&self, word: &[u8]) -> Option<Symbol<'a>>
         ensures { result ≡ find self.now.symbols word.now }
     {
-        self.symbols.get(word).copied()
+        let (_, known) = self.numbered(word);
+        known
     }
 
     /// The symbol's number, in the order of first declarations, and what is known of it. Where it is none, the number is
     /// how many symbols there are.
+    #[inline(always)]
     pub(crate) fn numbered(&self, word: &[u8]) -> (usize, Option<Symbol<'a>>)
+        ensures number { result.0 ≡ place_of word.now (names_of self.now.symbols) }
+        ensures symbol { result.1 ≡ find self.now.symbols word.now }
+    {
+        match self.guessed(word) {
+            Some((number, symbol)) => (number, Some(symbol)),
+            None => self.looked_up(word),
+        }
+    }
+
+    /// The same, by the word's hash.
+    fn looked_up(&self, word: &[u8]) -> (usize, Option<Symbol<'a>>)
         ensures number { result.0 ≡ place_of word.now (names_of self.now.symbols) }
         ensures symbol { result.1 ≡ find self.now.symbols word.now }
     {
@@ -69,7 +140,8 @@ impl<'a, A: Allocator + Copy> Names<'a, A> {
         ensures labels { OnOk result ((w : List ℕ) → find self.new.labels w ≡ find self.old.labels w) }
         ensures names { OnOk result (names_of self.new.symbols ≡ with_name word.now (names_of self.old.symbols)) }
     {
-        self.symbols.insert(word, symbol)?;
+        let (number, _) = self.symbols.insert_full(word, symbol)?;
+        note_guess(&mut self.guesses, word, number);
         Ok(())
     }
 

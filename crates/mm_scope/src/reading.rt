@@ -11,6 +11,7 @@ ghost use Rattle.std.specs.Prelude.{◌+◌, ◌-◌, ℕ, Some, if◌then◌els
 ghost use Rattle.mm_spec.specs.Text.{is_in, words};
 ghost use Rattle.mm_scope.specs.Judge.{declared_entry, entry_of, typed_entry};
 ghost use Rattle.mm_outline.specs.Parts.{AreWords, between, token_at, IsOutline, depth_behind, statement_of};
+ghost use Rattle.mm_outline.specs.Tokens.{AreTokens};
 ghost use Rattle.mm_scope.specs.Known.{entry_after, label_after};
 ghost use Rattle.mm_outline.specs.Statements.{active_kind, end_fault_of, lexed, statements};
 ghost use Rattle.mm_scope.specs.Keeps.{Keeps, IsKept, MayTake, kept_by};
@@ -20,8 +21,7 @@ ghost use Rattle.mm_spec.specs.Scope.{constants_of, variables_of};
 ghost use Rattle.std.specs.Prelude.{◌≢◌};
 
 use crate::formulas::{Formulas, no_formulas};
-use crate::names::{Names, Scope, Symbol};
-use indexmap::IndexMap;
+use crate::names::{Names, Scope, Symbol, no_names};
 use mm_outline::blocks::{NEVER, no_blocks};
 use mm_outline::parts::{Found, Kind, Outline, Part, find};
 use mm_spec::{Code, Fault, Word};
@@ -55,10 +55,7 @@ fn no_scope<'a, A: Allocator + Copy>(alloc: A) -> Result<Scope<'a, A>, AllocErro
     ensures names { IfOk result (λ s. names_of s.names.symbols ≡ []) }
 {
     let blocks = no_blocks(alloc)?;
-    let names = Names {
-        symbols: IndexMap::new(alloc),
-        labels: IndexMap::new(alloc),
-    };
+    let names = no_names(alloc)?;
     Ok(Scope { names, blocks })
 }
 
@@ -155,6 +152,7 @@ pub fn outline<'a, A: Allocator + Copy>(
     lexical: Option<Fault>,
 ) -> Result<Outlined<'a, A>, AllocError>
     requires words { AreWords text.now tokens.now }
+    requires tokens { AreTokens text.now tokens.now }
     requires few { length tokens.now < 2 ^ 31 }
     requires short { lexical ≡ None → length text.now < 2 ^ 31 }
     ensures few { IfOk result (λ d. length d.outlines.items < 2 ^ 31) }

@@ -21,3 +21,4 @@ pub mod GoodSteps
 pub mod Cited
 pub mod SymbolLaw
 pub mod NodesLemmas
+pub mod OpenedLemmas

@@ -6,6 +6,7 @@ pub mod Roles
 pub mod Readings
 pub mod Lexed
 pub mod Statement
+pub mod Opened
 pub mod Table
 pub mod Scope
 pub mod Lawful

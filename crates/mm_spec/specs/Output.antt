@@ -1,10 +1,11 @@
 -- The first fault of a text, and what is written (this project's own).
-use Rattle.std.specs.Prelude.{◌≢◌, ◌++◌, ◌≡◌, ℕ, ◌<◌, Bool, true, false, List, [], ◌∷◌, length, map, Option, Some, None, slice_get, flat_map, ◌⊎◌, IsTrue, Decides, bytes_eq}
+use Rattle.std.specs.Prelude.{◌≢◌, ◌++◌, ◌≡◌, ℕ, ◌<◌, Bool, true, false, List, [], ◌∷◌, length, map, Option, Some, None, slice_get, flat_map, ◌⊎◌, IsTrue, Decides, bytes_eq, count_by, if◌then◌else◌}
 use Rattle.std.specs.List.{list_any, range_with_len, AllZip}
 use Rattle.mm_spec.specs.Text.{Word, Token, token, Fault}
 use Rattle.mm_spec.specs.Readings.{bytes_of}
 use Rattle.mm_spec.specs.Lexed.{tokens_of, lexical_fault}
 use Rattle.mm_spec.specs.Statement.{Statement, axiomatic, provable, IsLongestRow, ShapeFault, EndFault, symbols_of}
+use Rattle.mm_spec.specs.Opened.{is_open, counted}
 use Rattle.mm_spec.specs.Scope.{those, statement_at, label_words}
 use Rattle.mm_spec.specs.Lawful.{least, scope_fault}
 use Rattle.mm_spec.specs.Frame.{formula_at}
@@ -61,18 +62,23 @@ is_theorem_at db k = list_any is_theorem (statement_at db k)
 abbrev pub AreValid : List Statement → ℕ → Type 0
 AreValid db k = (j : ℕ) → j < k → IsTrue (is_theorem_at db j) → IsValid db j
 
+-- all theorems are valid
+abbrev pub AllAreValid : List Statement → Type 0
+AllAreValid db = AreValid db (length db)
+
 -- the first theorem whose proof has a fault, and that fault
 abbrev pub FirstProofFault : List Statement → ℕ → Fault → Type 0
 FirstProofFault db k f = IsTrue (is_theorem_at db k) × AreValid db k × ProofFault db k (end_of (slice_get db k)) f
 
--- The first faulty statement decides: a theorem that was read, or else what stopped the reading.
-abbrev pub FirstFault : ℕ → Lexed → Fault → Type 0
-FirstFault len x f = (db : List Statement) × (fault : Option Fault) × IsRead len x db fault
-    × (((k : ℕ) × FirstProofFault db k f) ⊎ (AreValid db (length db) × (fault ≡ Some f)))
+-- The first faulty statement decides: a theorem that was read, or else what stopped the reading. With the flag open theorems
+-- count as axioms, so they have no proof that could be faulty.
+abbrev pub FirstFault : ℕ → Lexed → (with_open : Bool) → Fault → Type 0
+FirstFault len x with_open f = (db : List Statement) × (fault : Option Fault) × IsRead len x db fault
+    × (((k : ℕ) × FirstProofFault (counted with_open db) k f) ⊎ (AllAreValid (counted with_open db) × (fault ≡ Some f)))
 
 -- what is sound from its first byte to its last
-abbrev pub HasNoFault : ℕ → Lexed → List Statement → Type 0
-HasNoFault len x db = IsRead len x db None × AreValid db (length db)
+abbrev pub HasNoFault : ℕ → Lexed → (with_open : Bool) → List Statement → Type 0
+HasNoFault len x with_open db = IsRead len x db None × AllAreValid (counted with_open db)
 
 -- the numbers of the theorems, and of the axioms with a typecode, if one is chosen
 abbrev pub theorems : List Statement → List ℕ
@@ -105,10 +111,14 @@ pub record AreCited (db : List Statement) (request : Request) (t : ℕ) (list : 
 abbrev pub IsCitingRowOf : List Statement → Request → ℕ → CitingRow → Type 0
 IsCitingRowOf db request t r = (r.label ≡ label_at db t) × ((list : List ℕ) × AreCited db request t list × (r.cited ≡ map (label_at db) list))
 
--- the report of a database: of what its theorems cite, or of what they rest on
-abbrev pub IsReportOf : Choice → List Statement → Request → List ℕ → Type 0
-IsReportOf Citations db request bytes = (rows : List CitingRow) × AllZip (IsCitingRowOf db request) (theorems db) rows × (bytes ≡ citation_report request.form None (length (columns db request.only)) rows)
-IsReportOf choice db request bytes = (rows : List Row) × AllZip (IsRowOf db request) (theorems db) rows × (bytes ≡ report request.form None (map (label_at db) (columns db request.only)) rows choice)
+-- how many columns are open theorems, if these count as axioms
+abbrev pub open_columns : List Statement → Request → Option ℕ
+open_columns db request = if request.with_open then Some (count_by (λ a. list_any is_open (statement_at db a)) (columns (counted true db) request.only)) else None
+
+-- the report of a database in which so many columns are open theorems: of what its theorems cite, or of what they rest on
+abbrev pub IsReportOf : Choice → List Statement → (open_theorems : Option ℕ) → Request → List ℕ → Type 0
+IsReportOf Citations db open_theorems request bytes = (rows : List CitingRow) × AllZip (IsCitingRowOf db request) (theorems db) rows × (bytes ≡ citation_report request.form open_theorems (length (columns db request.only)) rows)
+IsReportOf choice db open_theorems request bytes = (rows : List Row) × AllZip (IsRowOf db request) (theorems db) rows × (bytes ≡ report request.form open_theorems (map (label_at db) (columns db request.only)) rows choice)
 
 -- the words of a text up to its first faulty one, with that fault
 abbrev pub lexed_of : List ℕ → Lexed
@@ -117,5 +127,5 @@ lexed_of text = record { tokens = map (λ w. token w.start (bytes_of text w)) (t
 -- what is written for a text
 abbrev pub IsOutput : List ℕ → Request → List ℕ → Type 0
 IsOutput text request bytes =
-    ((f : Fault) × FirstFault (length text) (lexed_of text) f × (bytes ≡ refusal text f))
-    ⊎ ((db : List Statement) × HasNoFault (length text) (lexed_of text) db × IsReportOf request.choice db request bytes)
+    ((f : Fault) × FirstFault (length text) (lexed_of text) request.with_open f × (bytes ≡ refusal text f))
+    ⊎ ((db : List Statement) × HasNoFault (length text) (lexed_of text) request.with_open db × IsReportOf request.choice (counted request.with_open db) (open_columns db request) request bytes)

@@ -13,3 +13,5 @@ pub record Request : Type 0 where
   pub form : Form
   -- whether a theorem cites by the essential nodes of its proof alone
   pub essential : Bool
+  -- whether open theorems count as axioms
+  pub with_open : Bool

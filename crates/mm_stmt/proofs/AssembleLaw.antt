@@ -1,13 +1,12 @@
 -- What the reading of a text gives is a database.
-use Rattle.std.proofs.Common.{◌≡◌, ℕ, ◌<◌, ◌^◌, Bool, List, length, take, flat_map, Option, ap, ap₂, subst, arith}
-use Rattle.std.proofs.lemmas.List.{length-map, take-map}
+use Rattle.std.proofs.Common.{◌≡◌, ℕ, ◌<◌, ◌^◌, List, length, Option, ap, ap₂, subst, arith}
+use Rattle.std.proofs.lemmas.List.{length-map}
 use Rattle.mm_spec.specs.declared.Word.{Word}
 use Rattle.mm_spec.specs.declared.Fault.{Fault}
-use Rattle.mm_spec.specs.Frame.{symbol_names, formula_of}
+use Rattle.mm_spec.specs.Frame.{symbol_names}
 use Rattle.mm_spec.specs.Lexed as spec
 use Rattle.mm_spec.specs.Output.{IsRead, lexed_of}
 use Rattle.mm_outline.specs.Blocks.{Lists}
-use Rattle.mm_outline.specs.Numbered.{AreSymbols}
 use Rattle.mm_outline.specs.Parts.{statement_of, token_of}
 use Rattle.mm_outline.specs.Statements.{lexed, statements}
 use Rattle.mm_scope.specs.Keeps.{Keeps}

@@ -23,11 +23,11 @@ use Rattle.mm_stmt.specs.Spaced.{AreSpaced, spaced}
 
 -- ---- a slice of what the elements give
 
-module _ {X : Type 0} (f : X → List ℕ) (xs : List X) (i j : ℕ) (order : i ≤ j) where
-  abbrev ahead : List ℕ
+module _ {X Y : Type 0} (f : X → List Y) (xs : List X) (i j : ℕ) (order : i ≤ j) where
+  abbrev ahead : List Y
   ahead = flat_map f (take i xs)
 
-  abbrev here : List ℕ
+  abbrev here : List Y
   here = flat_map f (slice_range xs i j)
 
   -- what the first j give is what the first i give, and then what those between give
@@ -51,7 +51,7 @@ module _ {X : Type 0} (f : X → List ℕ) (xs : List X) (i j : ℕ) (order : i 
   pub prefixes-rise : length (flat_map f (take i xs)) ≤ length (flat_map f (take j xs))
   prefixes-rise = let e = ap length upto ∙ length-append ahead here in omega (arith, e)
 
-pub prefix-within : {X : Type 0} (f : X → List ℕ) (xs : List X) (i : ℕ) → length (flat_map f (take i xs)) ≤ length (flat_map f xs)
+pub prefix-within : {X Y : Type 0} (f : X → List Y) (xs : List X) (i : ℕ) → length (flat_map f (take i xs)) ≤ length (flat_map f xs)
 prefix-within f xs i =
     let e = ap length (ap (flat_map f) (sym (take-append-drop i xs)) ∙ flat_map-append f (take i xs) (drop i xs)) ∙ length-append (flat_map f (take i xs)) (flat_map f (drop i xs)) in
     omega (arith, e)

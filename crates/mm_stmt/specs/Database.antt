@@ -1,13 +1,13 @@
 -- What a database of statements is to those who read it, and what its fields keep.
-use Rattle.std.specs.Prelude.{◌≡◌, ℕ, ◌+◌, ◌<◌, ◌≤◌, ◌^◌, Bool, true, false, List, [], length, map, slice_range, slice_index, slice_get, get_or, if◌then◌else◌, All, Option, None}
+use Rattle.std.specs.Prelude.{◌≡◌, ℕ, ◌<◌, ◌^◌, Bool, List, length, map, slice_get, if◌then◌else◌, All, Option, None}
 use Rattle.std.specs.List.{list_any}
 use Rattle.mm_spec.specs.declared.Fault.{Fault}
 use Rattle.mm_spec.specs.Statement.{Statement, constants, variables, disjoint, floating, essential, axiomatic, provable, opening, closing}
+use Rattle.mm_spec.specs.Opened.{counted}
 use Rattle.mm_spec.specs.Scope.{statement_at}
 use Rattle.mm_spec.specs.Derivation.{Pair}
-use Rattle.mm_spec.specs.Frame.{symbol_names, is_variable, formula_at, mandatory_hypotheses, mandatory_pairs}
+use Rattle.mm_spec.specs.Frame.{symbol_names, formula_at}
 use Rattle.mm_scope.specs.Labels.{AreLabels}
-use Rattle.mm_spec.specs.Citation.{is_assertion}
 use Rattle.mm_spec.specs.Output.{IsRead, lexed_of, theorems, columns, label_at}
 use Rattle.mm_spec.specs.declared.Word.{Word}
 use Rattle.mm_outline.specs.Numbered.{AreNumbered, AreSymbols}
@@ -17,18 +17,23 @@ use Rattle.mm_outline.specs.Statements.{statements}
 use Rattle.mm_outline.specs.Blocks.{Lists, IsBlocks}
 use Rattle.mm_frame.specs.Members.{AreMembers}
 use Rattle.mm_stmt.specs.Spaced.{AreSpaced}
+use Rattle.mm_stmt.specs.Kept.{AreKept}
+pub use Rattle.mm_stmt.specs.Kept.{is_labelled_kind}
 use Rattle.mm_outline.specs.declared.parts.Kind.{Kind}
 use Rattle.mm_outline.specs.declared.parts.Kind.TheVariants as kind
 use Rattle.mm_outline.specs.declared.parts.Outline.{Outline}
 
--- a text, its statements before the first that is no whole and lawful one, and what is wrong there
+-- A text, its statements before the first that is no whole and lawful one, as they were read and as they count, and what is
+-- wrong there. With the flag open theorems count as axioms.
 pub record Known : Type 0 where
   pub text : List ℕ
+  pub read : List Statement
+  pub with_open : Bool
   pub statements : List Statement
   pub fault : Option Fault
 
-abbrev pub known : List ℕ → List Statement → Option Fault → Known
-known text db fault = record { text = text; statements = db; fault = fault }
+abbrev pub known : List ℕ → List Statement → Bool → Option Fault → Known
+known text db with_open fault = record { text = text; read = db; with_open = with_open; statements = counted with_open db; fault = fault }
 
 -- which of the nine shapes a statement has
 abbrev pub kind_of : Statement → Kind
@@ -54,51 +59,53 @@ last_place (provable l k xs e ps d) = d
 last_place (opening k) = k
 last_place (closing k) = k
 
--- the kinds of statements that have a label, and so a typecode
-abbrev pub is_labelled_kind : Kind → Bool
-is_labelled_kind kind.Floating = true
-is_labelled_kind kind.Essential = true
-is_labelled_kind kind.Axiom = true
-is_labelled_kind kind.Theorem = true
-is_labelled_kind _ = false
-
 abbrev pub typecode_of : List Statement → ℕ → Option ℕ
 typecode_of db k = if list_any (λ s. is_labelled_kind (kind_of s)) (statement_at db k) then slice_get (formula_at db k) 0 else None
 
 -- what is kept beside the statements
 pub record Fields : Type 0 where
+  pub kept : List Word
+  pub kept_starts : List ℕ
   pub blocks : Lists
   pub find : List ℕ → Option ℕ
   pub names : List (List ℕ)
   pub variables : List Bool
   pub numbers : List ℕ
   pub places : List ℕ
+  pub frame_places : List ℕ
   pub hyps : List (List ℕ)
   pub pairs : List (List Pair)
   pub members : List (ℕ × ℕ)
   pub skips : List ℕ
+  pub kinds : List Kind
   pub theorems : List ℕ
   pub axioms : List ℕ
   pub label_bytes : List ℕ
   pub label_starts : List ℕ
 
-abbrev pub fields : Lists → (List ℕ → Option ℕ) → List (List ℕ) → List Bool → List ℕ → List ℕ → List (List ℕ) → List (List Pair) → List (ℕ × ℕ) → List ℕ → List ℕ → List ℕ → List ℕ → List ℕ → Fields
-fields b f ns vs xs ps hs ds ms ks ts cs bs ss = record { blocks = b; find = f; names = ns; variables = vs; numbers = xs; places = ps; hyps = hs; pairs = ds; members = ms; skips = ks; theorems = ts; axioms = cs; label_bytes = bs; label_starts = ss }
+abbrev pub fields : List Word → List ℕ → Lists → (List ℕ → Option ℕ) → List (List ℕ) → List Bool → List ℕ → List ℕ → List ℕ → List (List ℕ) → List (List Pair) → List (ℕ × ℕ) → List ℕ → List Kind → List ℕ → List ℕ → List ℕ → List ℕ → Fields
+fields kept starts b f ns vs xs ps fs hs ds ms ks os ts cs bs ss = record { kept = kept; kept_starts = starts; blocks = b; find = f; names = ns; variables = vs; numbers = xs; places = ps; frame_places = fs; hyps = hs; pairs = ds; members = ms; skips = ks; kinds = os; theorems = ts; axioms = cs; label_bytes = bs; label_starts = ss }
+
+-- the statements of outlines, as they count
+abbrev pub held : List ℕ → List Word → List Outline → Bool → List Statement
+held text ws os with_open = counted with_open (statements text ws os)
 
 -- the fields are those of the statements, and these are the reading of the text
-pub record IsDatabase (text : List ℕ) (ws : List Word) (os : List Outline) (fault : Option Fault) (f : Fields) : Type 0 where
+pub record IsDatabase (text : List ℕ) (ws : List Word) (os : List Outline) (with_open : Bool) (fault : Option Fault) (f : Fields) : Type 0 where
   pub words : AreWords text ws
   pub few : length os < 2 ^ 31
   pub outlines : All (λ o. IsOutline o × (o.end < length ws)) os
+  pub kept_are : AreKept ws os f.kept f.kept_starts
   pub blocks : IsBlocks (statements text ws os) f.blocks
-  pub labels : AreLabels (statements text ws os) f.find
-  pub symbols : AreSymbols (statements text ws os) f.names f.variables
-  pub below : (k : ℕ) → k < length os → All (λ s. s < length (symbol_names (statements text ws os))) (formula_at (statements text ws os) k)
-  pub numbered : AreNumbered (statements text ws os) f.numbers f.places
-  pub frames : AreFrames (statements text ws os) f.hyps f.pairs
-  pub members_are : AreMembers (statements text ws os) f.blocks f.members f.skips
-  pub theorems_are : f.theorems ≡ theorems (statements text ws os)
-  pub axioms_are : f.axioms ≡ columns (statements text ws os) None
-  pub spaced : AreSpaced (map (label_at (statements text ws os)) (theorems (statements text ws os))) f.label_bytes f.label_starts
+  pub labels : AreLabels (held text ws os with_open) f.find
+  pub symbols : AreSymbols (held text ws os with_open) f.names f.variables
+  pub below : (k : ℕ) → k < length os → All (λ s. s < length (symbol_names (held text ws os with_open))) (formula_at (held text ws os with_open) k)
+  pub numbered : AreNumbered (held text ws os with_open) f.numbers f.places
+  pub frames : AreFrames (held text ws os with_open) f.frame_places f.hyps f.pairs
+  pub members_are : AreMembers (held text ws os with_open) f.blocks f.members f.skips
+  pub kinds_are : f.kinds ≡ map kind_of (held text ws os with_open)
+  pub theorems_are : f.theorems ≡ theorems (held text ws os with_open)
+  pub axioms_are : f.axioms ≡ columns (held text ws os with_open) None
+  pub spaced : AreSpaced (map (label_at (held text ws os with_open)) (theorems (held text ws os with_open))) f.label_bytes f.label_starts
   pub few_symbols : length f.names < 2 ^ 31
   pub read : IsRead (length text) (lexed_of text) (statements text ws os) fault

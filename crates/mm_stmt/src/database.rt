@@ -4,18 +4,22 @@ ghost use Rattle.std.specs.Prelude.{◌≡◌, ◌<◌, ◌≤◌, ◌^◌, ◌+
 ghost use Rattle.std.specs.Option.{option_map, option_copied, option_and_then};
 ghost use Rattle.std.specs.List.{list_any};
 ghost use Rattle.mm_spec.specs.Statement.{label_of, proof_of};
+ghost use Rattle.mm_spec.specs.Opened.{counted, is_open};
 ghost use Rattle.mm_spec.specs.Scope.{is_active, statement_at};
 ghost use Rattle.mm_spec.specs.Derivation.{pair, is_member};
 ghost use Rattle.mm_spec.specs.Frame.{symbol_names, is_variable, formula_at, mandatory_hypotheses, mandatory_pairs, disjoint_at, is_disjoint};
 ghost use Rattle.mm_spec.specs.NormalProof.{is_labelled};
 ghost use Rattle.mm_spec.specs.Citation.{is_assertion};
+ghost use Rattle.mm_spec.specs.Complete.{AreComplete};
 ghost use Rattle.mm_spec.specs.Output.{IsRead, lexed_of, theorems, columns, label_at};
 ghost use Rattle.mm_outline.specs.Parts.{tokens_of, AreWords};
 ghost use Rattle.mm_outline.specs.Statements.{active_kind};
-ghost use Rattle.mm_stmt.specs.Database.{kind_of, last_place, typecode_of, is_labelled_kind};
+ghost use Rattle.mm_stmt.specs.Database.{kind_of, last_place, typecode_of};
+ghost use Rattle.mm_stmt.specs.Kinds.{is_axiom_kind, is_theorem_kind};
 
+use crate::kept::{Kept, has_label};
 use crate::spaced::SpacedLabels;
-use mm_frame::frames::Frame;
+use mm_frame::frames::{Frame, Frames};
 use mm_frame::members::{Members, are_together};
 use mm_outline::blocks::Blocks;
 use mm_outline::parts::{Kind, Outline};
@@ -29,8 +33,9 @@ use std::marker::Model;
 #[derive(Drop)]
 pub struct Database<'a, A: Allocator> {
     pub(crate) text: &'a [u8],
-    pub(crate) words: Vec<Word, A>,
+    pub(crate) kept: Kept<A>,
     pub(crate) outlines: Vec<Outline, A>,
+    pub(crate) with_open: bool,
     pub(crate) fault: Option<Fault>,
     pub(crate) blocks: Blocks<A>,
     pub(crate) labels: Map<'a, u32, A>,
@@ -38,8 +43,9 @@ pub struct Database<'a, A: Allocator> {
     pub(crate) variables: Vec<bool, A>,
     pub(crate) numbers: Vec<Sym, A>,
     pub(crate) places: Vec<u32, A>,
-    pub(crate) frames: Vec<Frame<A>, A>,
+    pub(crate) frames: Frames<A>,
     pub(crate) members: Members<A>,
+    pub(crate) kinds: Vec<Kind, A>,
     pub(crate) theorems: Vec<u32, A>,
     pub(crate) axioms: Vec<u32, A>,
     pub(crate) spaced: SpacedLabels<A>,
@@ -48,6 +54,7 @@ pub struct Database<'a, A: Allocator> {
 impl<'a, A: Allocator> Model for Database<'a, A> {
     ghost use Rattle.std.specs.Prelude.{map};
     ghost use Rattle.mm_spec.specs.Derivation.{pair};
+    ghost use Rattle.mm_spec.specs.Lexed.{tokens_of as words_of};
     ghost use Rattle.mm_scope.specs.Names.{find, names_of};
     ghost use Rattle.mm_outline.specs.Blocks.{lists};
     ghost use Rattle.mm_outline.specs.Statements.{statements};
@@ -55,9 +62,9 @@ impl<'a, A: Allocator> Model for Database<'a, A> {
 
     ghost Value = { Known };
 
-    ghost view = { λ d. known d.text.now (statements d.text.now d.words.items d.outlines.items) d.fault };
+    ghost view = { λ d. known d.text.now (statements d.text.now (words_of d.text.now) d.outlines.items) d.with_open d.fault };
 
-    ghost invariant = { λ d. IsDatabase d.text.now d.words.items d.outlines.items d.fault (fields (lists d.blocks.of.items d.blocks.ends.items d.blocks.open.items) (find d.labels) (names_of d.symbols) d.variables.items d.numbers.items d.places.items (map (λ f. f.hyps.items) d.frames.items) (map (λ f. map (λ p. pair p.0 p.1) f.pairs.items) d.frames.items) d.members.pairs.items d.members.skips.items d.theorems.items d.axioms.items d.spaced.bytes.items d.spaced.starts.items) };
+    ghost invariant = { λ d. IsDatabase d.text.now (words_of d.text.now) d.outlines.items d.with_open d.fault (fields d.kept.words.items d.kept.starts.items (lists d.blocks.of.items d.blocks.ends.items d.blocks.open.items) (find d.labels) (names_of d.symbols) d.variables.items d.numbers.items d.places.items d.frames.places.items (map (λ f. f.hyps.items) d.frames.list.items) (map (λ f. map (λ p. pair p.0 p.1) f.pairs.items) d.frames.list.items) d.members.pairs.items d.members.skips.items d.kinds.items d.theorems.items d.axioms.items d.spaced.bytes.items d.spaced.starts.items) };
 }
 
 impl<'a, A: Allocator> Database<'a, A> {
@@ -79,17 +86,30 @@ impl<'a, A: Allocator> Database<'a, A> {
     pub fn len(&self) -> u32
         ensures len { result ≡ length self.now.statements }
         ensures small { result < 2 ^ 31 }
-        ensures read { IsRead (length self.now.text) (lexed_of self.now.text) self.now.statements self.now.fault }
+        ensures read { IsRead (length self.now.text) (lexed_of self.now.text) self.now.read self.now.fault }
+        ensures counted { self.now.statements ≡ counted self.now.with_open self.now.read }
+        ensures complete { AreComplete self.now.statements }
     {
         self.outlines.len() as u32
     }
 
-    /// Which of the nine shapes a statement has.
+    /// Which of the nine shapes a statement has; where open theorems count as axioms, theirs is an axiom's.
     pub fn kind(&self, statement: u32) -> Kind
         requires { statement < length self.now.statements }
         ensures { option_map kind_of (slice_get self.now.statements statement) ≡ Some result }
     {
-        self.outlines[statement as usize].kind
+        self.kinds[statement as usize]
+    }
+
+    /// Whether there is such a statement and it is an open theorem that counts as an axiom.
+    pub fn is_open(&self, statement: u32) -> bool
+        ensures { result ≡ (self.now.with_open && list_any is_open (statement_at self.now.read statement)) }
+    {
+        if statement >= self.len() {
+            return false;
+        }
+        let outline = self.outlines[statement as usize];
+        counts_otherwise(outline.kind, self.kind(statement))
     }
 
     /// The place of a statement's last token, a byte offset from 0.
@@ -97,8 +117,8 @@ impl<'a, A: Allocator> Database<'a, A> {
         requires { statement < length self.now.statements }
         ensures { option_map last_place (slice_get self.now.statements statement) ≡ Some result }
     {
-        let outline = self.outlines[statement as usize];
-        self.words[outline.end as usize].start
+        let kept = self.kept.of(statement);
+        kept[kept.len() - 1].start
     }
 
     /// The label of a statement that has one.
@@ -108,7 +128,7 @@ impl<'a, A: Allocator> Database<'a, A> {
     {
         let outline = self.outlines[statement as usize];
         if has_label(outline.kind) {
-            let word = self.words[outline.keyword as usize - 1];
+            let word = self.kept.of(statement)[0];
             Some(&self.text[word.start as usize..word.end as usize])
         } else {
             None
@@ -190,7 +210,8 @@ impl<'a, A: Allocator> Database<'a, A> {
         ensures hypotheses { result.now.hyps.items ≡ mandatory_hypotheses self.now.statements assertion }
         ensures pairs { map (λ p. pair p.0 p.1) result.now.pairs.items ≡ mandatory_pairs self.now.statements assertion }
     {
-        &self.frames[assertion as usize]
+        let place = self.frames.places[assertion as usize];
+        &self.frames.list[place as usize]
     }
 
     /// Whether a `$d` that is active at the statement, or at the end, has both variables; never a variable and itself.
@@ -201,20 +222,23 @@ impl<'a, A: Allocator> Database<'a, A> {
         x.number() != y.number() && are_together(&self.blocks, &self.members, x, y, statement)
     }
 
-    /// The words of a theorem's proof, those behind its `$=`; none where the statement is no `$p`.
+    /// The words of a theorem's proof, those behind its `$=`; none where the statement is no theorem.
     pub fn proof_words(&self, statement: u32) -> &[Word]
         requires { statement < length self.now.statements }
         ensures words { option_map proof_of (slice_get self.now.statements statement) ≡ Some (tokens_of self.now.text result.now) }
         ensures within { AreWords self.now.text result.now }
     {
         let outline = self.outlines[statement as usize];
-        match outline.kind {
-            Kind::Theorem => &self.words[outline.middle as usize + 1..outline.end as usize],
+        match self.kind(statement) {
+            Kind::Theorem => {
+                let kept = self.kept.of(statement);
+                &kept[1..kept.len() - 1]
+            }
             _ => &[],
         }
     }
 
-    /// The `$p` statements, in file order.
+    /// The theorems, in file order: the `$p` statements, but for open theorems where these count as axioms.
     pub fn theorems(&self) -> &[u32]
         ensures theorems { result.now ≡ theorems self.now.statements }
         ensures few { length self.now.statements < 2 ^ 31 }
@@ -222,7 +246,7 @@ impl<'a, A: Allocator> Database<'a, A> {
         self.theorems.as_slice()
     }
 
-    /// The `$a` statements, in file order.
+    /// The axioms, in file order: the `$a` statements, and open theorems where these count as axioms.
     pub fn axioms(&self) -> &[u32]
         ensures axioms { result.now ≡ columns self.now.statements None }
         ensures few { length self.now.statements < 2 ^ 31 }
@@ -242,12 +266,15 @@ impl<'a, A: Allocator> Database<'a, A> {
     }
 }
 
-/// Whether a statement of that kind has a label, and so a typecode.
-fn has_label(kind: Kind) -> bool
-    ensures { result ≡ is_labelled_kind kind }
+/// Whether a statement counts as an axiom and is none.
+fn counts_otherwise(is: Kind, counts_as: Kind) -> bool
+    ensures { result ≡ (is_theorem_kind is && is_axiom_kind counts_as) }
 {
-    match kind {
-        Kind::Floating | Kind::Essential | Kind::Axiom | Kind::Theorem => true,
+    match is {
+        Kind::Theorem => match counts_as {
+            Kind::Axiom => true,
+            _ => false,
+        },
         _ => false,
     }
 }

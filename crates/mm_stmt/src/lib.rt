@@ -5,6 +5,8 @@
 #![tactic(auto)]
 
 mod database;
+mod kept;
+mod kinds;
 mod reader;
 mod spaced;
 

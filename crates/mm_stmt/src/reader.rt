@@ -2,9 +2,12 @@
 
 ghost use Rattle.std.specs.Prelude.{◌≡◌, IfOk, length};
 ghost use Rattle.mm_spec.specs.Lexed.{tokens_of, lexical_fault};
+ghost use Rattle.mm_spec.specs.Opened.{counted};
 ghost use Rattle.mm_spec.specs.Output.{IsRead, lexed_of};
 
 use crate::database::Database;
+use crate::kept::keep_all;
+use crate::kinds::{axioms_of, kinds_of, theorems_of};
 use crate::spaced::spaced_labels_of;
 use mm_frame::frames::gather;
 use mm_frame::tables::Tables;
@@ -13,49 +16,61 @@ use mm_spec::Lexed;
 use std::alloc::{AllocError, Allocator};
 
 /// The statements of a text before its first fault of words, shape, symbols, labels or scope, and that fault (sections
-/// 4.1 and 4.2 of the Metamath book). The tokens and the fault are those of this text; it is refused for memory alone.
+/// 4.1 and 4.2 of the Metamath book). With the flag open theorems, those whose proof is `?` or `( ) ?`, count as axioms.
+/// The tokens and the fault are those of this text; it is refused for memory alone.
 pub fn read<'a, A: Allocator + Copy>(
     alloc: A,
     text: &'a [u8],
     lexed: Lexed<A>,
+    with_open: bool,
 ) -> Result<Database<'a, A>, AllocError>
     requires tokens { lexed.tokens.items ≡ tokens_of text.now }
     requires fault { lexed.fault ≡ lexical_fault text.now }
     ensures text { IfOk result (λ database. database.text ≡ text.now) }
-    ensures read { IfOk result (λ database. IsRead (length text.now) (lexed_of text.now) database.statements database.fault) }
+    ensures flag { IfOk result (λ database. database.with_open ≡ with_open) }
+    ensures read { IfOk result (λ database. IsRead (length text.now) (lexed_of text.now) database.read database.fault) }
+    ensures counted { IfOk result (λ database. database.statements ≡ counted with_open database.read) }
 {
     let words = lexed.tokens;
     let read = outline(alloc, text, &words, lexed.fault)?;
-    let variables = read.scope.names.variables(alloc)?;
+    let names = read.scope.names;
+    let blocks = read.scope.blocks;
+    let variables = names.variables(alloc)?;
     let beside = gather(
         alloc,
         &Tables::new(
             text,
             &words,
             &read.outlines,
-            &read.scope.blocks,
+            &blocks,
             &read.formulas.numbers,
             &read.formulas.places,
             &variables,
         ),
-        &read.scope.blocks,
+        &blocks,
     )?;
-    let spaced = spaced_labels_of(alloc, text, &words, &read.outlines, &beside.theorems)?;
+    let kinds = kinds_of(alloc, text, &words, &read.outlines, with_open)?;
+    let theorems = theorems_of(alloc, &kinds)?;
+    let axioms = axioms_of(alloc, &kinds)?;
+    let spaced = spaced_labels_of(alloc, text, &words, &read.outlines, &theorems)?;
+    let kept = keep_all(alloc, &words, &read.outlines)?;
     Ok(Database {
         text,
-        words,
+        kept,
         outlines: read.outlines,
+        with_open,
         fault: read.fault,
-        blocks: read.scope.blocks,
-        labels: read.scope.names.labels,
-        symbols: read.scope.names.symbols,
+        blocks,
+        labels: names.labels,
+        symbols: names.symbols,
         variables,
         numbers: read.formulas.numbers,
         places: read.formulas.places,
         frames: beside.frames,
         members: beside.members,
-        theorems: beside.theorems,
-        axioms: beside.axioms,
+        kinds,
+        theorems,
+        axioms,
         spaced,
     })
 }

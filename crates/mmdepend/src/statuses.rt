@@ -68,6 +68,7 @@ fn ends<R: Threads + Wait + Files + Sync + AllocGlobal, I: Read + Drop>(
 fn a_report_and_a_refusal(rt: HostRuntime) {
     let words = ["mmdepend"];
     assert!(&rt; ends(&rt, &words, FIRST, 0, FIRST_REPORT, b""));
+    assert!(&rt; ends(&rt, &["mmdepend", "-"], FIRST, 0, FIRST_REPORT, b""));
     let unended = b"$c".as_slice();
     assert!(&rt; ends(&rt, &words, unended, 1, b"refused 1:3 E08\n", b""));
 }
@@ -94,6 +95,7 @@ fn words_that_are_no_line(rt: HostRuntime) {
     for (words, number) in [
         (["mmdepend", "--pieces", "65", "x.mm"].as_slice(), 2u8),
         (&["mmdepend", "--help"], 0),
+        (&["mmdepend", "--version"], 0),
     ] {
         match refusal(rt.alloc(), words) {
             Some((true, help)) => {

@@ -2,12 +2,12 @@
 
 use mm_line::{Line, LineRefused, line};
 use mm_plan::Cutting;
-use mm_spec::Choice;
+use mm_spec::{Choice, Form};
 use std::alloc::Global;
 
 /// What `--help` prints.
 const HELP: &str =
-    "Verifies a Metamath database and reports on which axioms each theorem rests\n\nUsage: mmdepend [OPTIONS] [FILE]\n\nArguments:\n  [FILE]  The database; without it the standard input is read\n\nOptions:\n      --workers <N>    Check the proofs by N threads, 1 to 64 [default: 4]\n      --pieces <N>     Read the text in N pieces, 1 to 64 [default: 4]\n      --only <T>       Report on the axioms of typecode T alone, such as '|-'\n      --report <PART>  Write this part of the report [default: all] [possible values: all, matrix, counts, usage]\n  -h, --help           Print help\n";
+    "Verifies a Metamath database and reports on which axioms each theorem rests\n\nUsage: mmdepend [OPTIONS] [FILE]\n\nArguments:\n  [FILE]  The database; without it, or where it is -, the standard input is read\n\nOptions:\n      --workers <N>    Check the proofs by N threads, 1 to 64 [default: 4]\n      --pieces <N>     Read the text in N pieces, 1 to 64 [default: 4]\n      --only <T>       Report on the axioms of typecode T alone, such as '|-'\n      --report <PART>  Write this part of the report [default: all] [possible values: all, matrix, counts, usage, citations]\n      --form <N>       Write the matrix as a digit for each column, or for each four [default: 1] [possible values: 1, 2]\n      --essential      Count what the logical part of a proof cites, and not what builds its formulas\n  -h, --help           Print help\n  -V, --version        Print version\n\nThe standard output gets the report, or one line with the first fault and its place.\nStatus: 0 accepted, 1 refused, 2 invalid command line, 3 reading or writing failed,\n4 out of memory. For 2 to 4 the standard error says why.\n";
 
 /// What the words are refused for: the text, and whether it is help.
 fn refusal(alloc: Global, words: &[&str]) -> Option<(bool, String)> {
@@ -94,6 +94,7 @@ fn options_stand_before_and_behind_the_file(rt: HostRuntime) {
         ("matrix", Choice::Matrix),
         ("counts", Choice::Counts),
         ("usage", Choice::Usage),
+        ("citations", Choice::Citations),
     ] {
         assert!(&rt;
             says(
@@ -109,6 +110,43 @@ fn options_stand_before_and_behind_the_file(rt: HostRuntime) {
     }
     let behind = ["mmdepend", "--", "--help"];
     assert!(&rt; says(alloc, &behind, 4, 4, None, Choice::All, Some("--help")));
+}
+
+#[test]
+fn options_of_the_report(rt: HostRuntime) {
+    let alloc = rt.alloc();
+    let rows: [(&[&str], Form, bool); 4] = [
+        (&["mmdepend"], Form::One, false),
+        (&["mmdepend", "--essential"], Form::One, true),
+        (&["mmdepend", "--form", "2"], Form::Two, false),
+        (
+            &["mmdepend", "--form=1", "--essential", "-"],
+            Form::One,
+            true,
+        ),
+    ];
+    for (words, form, essential) in rows {
+        match line(alloc, words) {
+            Ok(line) => {
+                assert_eq!(rt; line.plan.form, form);
+                assert_eq!(rt; line.plan.essential, essential);
+            }
+            Err(_) => assert!(&rt; false),
+        }
+    }
+}
+
+#[test]
+fn the_version_is_told(rt: HostRuntime) {
+    for word in ["--version", "-V"] {
+        match line(rt.alloc(), &["mmdepend", word]) {
+            Err(LineRefused::Help(text)) => {
+                assert!(&rt; text.starts_with("mmdepend 0.1.0, proved with "));
+                assert!(&rt; text.ends_with("\n"));
+            }
+            _ => assert!(&rt; false),
+        }
+    }
 }
 
 #[test]
@@ -133,7 +171,7 @@ fn faults_are_told_by_their_texts(rt: HostRuntime) {
         ),
         (
             &["mmdepend", "--report", "none"],
-            "error: invalid value 'none' for '--report <PART>'\n  [possible values: all, matrix, counts, usage]\n\nFor more information, try '--help'.\n",
+            "error: invalid value 'none' for '--report <PART>'\n  [possible values: all, matrix, counts, usage, citations]\n\nFor more information, try '--help'.\n",
         ),
         (
             &["mmdepend", "a.mm", "b.mm"],

@@ -46,6 +46,7 @@ fn judged<R: Threads + Wait + Sync, G: Gate>(
     alloc: Global,
     text: &[u8],
     workers: u32,
+    essential: bool,
     gate: &G,
 ) -> Result<Judged<Global>, AllocError>
     requires { (1 ≤ workers) × (workers ≤ 64) }
@@ -56,7 +57,7 @@ fn judged<R: Threads + Wait + Sync, G: Gate>(
     let cuts = Cuts::equal(alloc, text.len(), 1)?;
     let lexed = lex(rt, alloc, text, &cuts)?;
     let database = read(alloc, text, lexed)?;
-    check_all(rt, alloc, &database, workers, gate)
+    check_all(rt, alloc, &database, workers, essential, gate)
 }
 
 /// Whether the first fault is this one.
@@ -90,7 +91,7 @@ fn many_cite_one<R: Abort>(rt: &R, citations: &Citations<Global>) {
 fn what_theorems_cite(rt: HostRuntime) -> Result<(), AllocError> {
     let text = through_a_theorem(rt.alloc())?;
     for workers in [1, 2, 64] {
-        match judged(&rt, rt.alloc(), &text, workers, &Open)? {
+        match judged(&rt, rt.alloc(), &text, workers, false, &Open)? {
             Judged::Valid(citations) => cites_through_a_theorem(&rt, &citations),
             Judged::Faulty(fault) => panic!(&rt; "a fault at {}", fault.at),
         }
@@ -102,7 +103,7 @@ fn what_theorems_cite(rt: HostRuntime) -> Result<(), AllocError> {
 fn the_first_of_two_faults(rt: HostRuntime) -> Result<(), AllocError> {
     let text = joined(rt.alloc(), &[BASE, LONG, SHORT])?;
     for workers in [1, 2, 64] {
-        let found = judged(&rt, rt.alloc(), &text, workers, &Open)?;
+        let found = judged(&rt, rt.alloc(), &text, workers, false, &Open)?;
         assert!(&rt; is_refused(&found, BASE.len() as u32 + 47, Code::NotOneEntry));
     }
     Ok(())
@@ -112,7 +113,7 @@ fn the_first_of_two_faults(rt: HostRuntime) -> Result<(), AllocError> {
 fn many_theorems(rt: HostRuntime) -> Result<(), AllocError> {
     let text = many(rt.alloc(), &[])?;
     for workers in [1, 2, 64] {
-        match judged(&rt, rt.alloc(), &text, workers, &Open)? {
+        match judged(&rt, rt.alloc(), &text, workers, false, &Open)? {
             Judged::Valid(citations) => many_cite_one(&rt, &citations),
             Judged::Faulty(fault) => panic!(&rt; "a fault at {}", fault.at),
         }
@@ -124,7 +125,7 @@ fn many_theorems(rt: HostRuntime) -> Result<(), AllocError> {
 fn the_first_fault_of_many_theorems(rt: HostRuntime) -> Result<(), AllocError> {
     let text = many(rt.alloc(), &[2000, 2900])?;
     for workers in [1, 2, 64] {
-        let found = judged(&rt, rt.alloc(), &text, workers, &Open)?;
+        let found = judged(&rt, rt.alloc(), &text, workers, false, &Open)?;
         assert!(&rt;
             is_refused(
                 &found,
@@ -191,7 +192,7 @@ impl Gate for Meeting {
 fn two_at_the_gate(rt: HostRuntime) -> Result<(), AllocError> {
     let text = through_a_theorem(rt.alloc())?;
     let gate = Meeting::of(0b11);
-    match judged(&rt, rt.alloc(), &text, 2, &gate)? {
+    match judged(&rt, rt.alloc(), &text, 2, false, &gate)? {
         Judged::Valid(citations) => cites_through_a_theorem(&rt, &citations),
         Judged::Faulty(fault) => panic!(&rt; "a fault at {}", fault.at),
     }
@@ -203,7 +204,7 @@ fn two_at_the_gate(rt: HostRuntime) -> Result<(), AllocError> {
 fn four_at_the_gate(rt: HostRuntime) -> Result<(), AllocError> {
     let text = many(rt.alloc(), &[])?;
     let gate = Meeting::of(0b1111);
-    match judged(&rt, rt.alloc(), &text, 4, &gate)? {
+    match judged(&rt, rt.alloc(), &text, 4, false, &gate)? {
         Judged::Valid(citations) => many_cite_one(&rt, &citations),
         Judged::Faulty(fault) => panic!(&rt; "a fault at {}", fault.at),
     }

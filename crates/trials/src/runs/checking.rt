@@ -1,8 +1,9 @@
 //! Tests of verification: which proofs are valid, and the faults of those that aren't.
 
-use mm_plan::{Cutting, Plan};
+use super::plan;
+use mm_plan::Cutting;
 use mm_run::{RunEnd, run};
-use mm_spec::{Choice, Code};
+use mm_spec::Code;
 use std::alloc::{AllocError, Global};
 use std::sync::Wait;
 use std::thread::Threads;
@@ -22,12 +23,8 @@ fn judged<R: Threads + Wait + Sync>(
     statements: &[u8],
     proof: &[u8],
 ) -> Result<(usize, RunEnd), AllocError> {
-    let plan = Plan {
-        cuts: Cutting::Count(1),
-        workers: 1,
-        only: None,
-        choice: Choice::All,
-    };
+    let mut plan = plan(Cutting::Count(1));
+    plan.workers = 1;
     let mut text = HEAD.to_vec(alloc)?;
     text.extend_from_slice(statements)?;
     text.extend_from_slice(b" $= ")?;

@@ -4,11 +4,12 @@ mod checking;
 mod compressed;
 mod ends;
 mod faults;
+mod options;
 mod reports;
 
 use mm_plan::{Cutting, Plan};
 use mm_run::{RunEnd, run};
-use mm_spec::Choice;
+use mm_spec::{Choice, Form};
 use std::alloc::Global;
 use std::sync::Wait;
 use std::thread::Threads;
@@ -20,6 +21,8 @@ fn plan(cuts: Cutting<Global>) -> Plan<Global> {
         workers: 4,
         only: None,
         choice: Choice::All,
+        form: Form::One,
+        essential: false,
     }
 }
 

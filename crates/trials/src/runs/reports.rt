@@ -1,8 +1,9 @@
 //! What reports show: the sections and columns that are chosen, and rows of more than one word.
 
+use super::plan;
 use crate::texts::{BASE, add_number, consequent, joined, seventy, through_a_theorem};
 use mm_lex::{Cuts, lex};
-use mm_plan::{Cutting, Plan};
+use mm_plan::Cutting;
 use mm_rows::waves;
 use mm_run::{RunEnd, run};
 use mm_spec::{Choice, TEXT_LIMIT};
@@ -25,12 +26,9 @@ fn shows<R: Threads + Wait + Sync>(
         Some(typecode) => Some(typecode.to_string(alloc)?),
         None => None,
     };
-    let plan = Plan {
-        cuts: Cutting::Count(4),
-        workers: 4,
-        only,
-        choice,
-    };
+    let mut plan = plan(Cutting::Count(4));
+    plan.only = only;
+    plan.choice = choice;
     let mut written = Vec::new(alloc);
     Ok(
         plan.is_lawful()
@@ -118,7 +116,7 @@ fn waves_of<R: Threads + Wait + Sync>(
     let cuts = Cuts::equal(alloc, text.len(), 1)?;
     let lexed = lex(rt, alloc, text, &cuts)?;
     let database = read(alloc, text, lexed)?;
-    match check_all(rt, alloc, &database, 1, &Open)? {
+    match check_all(rt, alloc, &database, 1, false, &Open)? {
         Judged::Valid(citations) => waves(alloc, &citations),
         Judged::Faulty(_) => Ok(Vec::new(alloc)),
     }

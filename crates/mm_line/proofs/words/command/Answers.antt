@@ -19,4 +19,5 @@ returns c =
     let formed : (rule_of c.form.result).is_simple ≡ true = ap (λ (r : Rule). r.is_simple) c.form.ensures.2 in
     let fifth = one_more _ _ _ _ _ c.in_ok-arg-5.ensures fourth refl formed in
     let sixth = one_more _ _ _ _ _ c.in_ok-arg-6.ensures fifth c.essential.ensures refl in
-    IfOk-weaker c.arg-7.result _ _ (λ m h. is_command m _ _ c.report.ensures c.form.ensures (one_more _ _ _ _ _ h sixth c.file.ensures refl)) c.arg-7.ensures
+    let seventh = one_more _ _ _ _ _ c.in_ok-arg-7.ensures sixth c.open_theorems.ensures refl in
+    IfOk-weaker c.arg-8.result _ _ (λ m h. is_command m _ _ c.report.ensures c.form.ensures (one_more _ _ _ _ _ h seventh c.file.ensures refl)) c.arg-8.ensures

@@ -2,19 +2,28 @@ use Rattle.std.proofs.Common.{◌≡◌, sym, subst, arith, length, ◌+◌, ◌
 use Rattle.mm_spec.specs.Table.{start}
 use Rattle.mm_outline.specs.Parts.{reading, statement_of, depth_behind}
 use Rattle.mm_outline.specs.Found.{behind, Leads}
-use Rattle.mm_outline.proofs.Leads.{leads-none, goes-go, goes-done, goes-stop, goes-end}
+use Rattle.mm_outline.proofs.Leads.{leads-none, leads-then, goes-go, goes-done, goes-stop, goes-end}
 use Rattle.mm_outline.proofs.parts.find.Goals as goal
 
 pub loop-at-init : goal.loop-at-init
-loop-at-init c = record { part = tt; later = omega arith; leads = leads-none (start c.args.deep) (behind c.args.text.now c.args.tokens.now c.args.from) }
+loop-at-init c = record { part = tt; later = omega arith; within = c.requires.inside; leads = leads-none (start c.args.deep) (behind c.args.text.now c.args.tokens.now c.args.from) }
 
 pub loop-at-preserved : goal.loop-at-preserved
 loop-at-preserved c =
-    let e = c.in-Go.ensures in record {
-      part = e.holds;
+    let e = c.in-Go.ensures in
+    let next = c.in-Go.next in
+    let passed = c.pass_words-at.ensures in
+    let text = c.args.text.now in
+    let ws = c.args.tokens.now in
+    record {
+      part = passed.part;
       later = omega arith;
-      leads = goes-go c.args.text.now c.args.tokens.now c.args.deep c.args.from c.loop-at.at c.loop-at.part c.loop-at.invariant.leads c.loop-at-test.true (reading c.args.text.now c.args.tokens.now c.args.deep c.in-Go.next (c.loop-at.at + 1)) e.same;
+      within = passed.within;
+      leads = leads-then (goes-go text ws c.args.deep c.args.from c.loop-at.at c.loop-at.part c.loop-at.invariant.leads c.loop-at-test.true (reading text ws c.args.deep next (c.loop-at.at + 1)) e.same) (passed.leads c.args.deep);
     }
+
+pub loop-at-smaller : goal.loop-at-smaller
+loop-at-smaller c = let later = c.pass_words-at.ensures.later in let inside = c.loop-at-test.true in omega (arith, later, inside)
 
 pub returns-in-Stop : goal.returns-in-Stop
 returns-in-Stop c =

@@ -1,4 +1,4 @@
-use Rattle.std.proofs.Common.{◌≤◌, []}
+use Rattle.std.proofs.Common.{◌≤◌, ◌-◌, [], length}
 use Rattle.mm_spec.specs.Table.{start}
 use Rattle.mm_outline.specs.Parts.{IsPart, reading}
 use Rattle.mm_outline.specs.Found.{Leads, behind}
@@ -8,5 +8,9 @@ abbrev pub invariant-loop-at : goal.invariant-loop-at
 invariant-loop-at l = record {
   part : IsPart l.part l.at;
   later : l.from ≤ l.at;
+  within : l.at ≤ length l.tokens;
   leads : Leads (start l.deep) (behind l.text l.tokens l.from) [] (reading l.text l.tokens l.deep l.part l.at) (behind l.text l.tokens l.at);
 }
+
+abbrev pub decreases-loop-at : goal.decreases-loop-at
+decreases-loop-at l = length l.tokens - l.at

@@ -18,7 +18,7 @@ pub read_words-requires-clause-rising : goal.read_words-requires-clause-rising
 read_words-requires-clause-rising g c =
     let db = c.args.database.now.statements in
     let t = theorem_is db c.args.theorem _ c.requires c.proof_words-words.ensures.words in
-    proof_rising c.args.database.now.text db _ c.len.ensures.read c.args.theorem t.label t.keyword t.symbols t.equals _ t.dot t.is
+    proof_rising c.args.database.now.text c.args.database.now.read c.args.database.now.with_open _ c.len.ensures.read db c.len.ensures.counted c.args.theorem t.label t.keyword t.symbols t.equals _ t.dot t.is
 
 pub read_compressed-requires-clause-in_order : goal.read_compressed-requires-clause-in_order
 read_compressed-requires-clause-in_order g c =
@@ -26,7 +26,7 @@ read_compressed-requires-clause-in_order g c =
     let text = c.args.database.now.text in
     let t = theorem_is db c.args.theorem _ c.requires c.proof_words-words.ensures.words in
     let e = end_is db c.args.theorem c.end_at-end.result _ t c.end_at-end.ensures in
-    let whole = subst (λ ws. InOrder 0 (tokens_of text ws) t.dot) c.in-Some.ensures.cases.0 (proof_in_order text db _ c.len.ensures.read c.args.theorem t.label t.keyword t.symbols t.equals _ t.dot t.is) in
+    let whole = subst (λ ws. InOrder 0 (tokens_of text ws) t.dot) c.in-Some.ensures.cases.0 (proof_in_order text c.args.database.now.read c.args.database.now.with_open _ c.len.ensures.read db c.len.ensures.counted c.args.theorem t.label t.keyword t.symbols t.equals _ t.dot t.is) in
     subst (InOrder 0 (tokens_of text c.in-Some.rest.now)) e (order_rest text c.in-Some.first.now c.in-Some.rest.now 0 t.dot whole)
 
 pub returns-then-eq-clause-fault : goal.returns-then-eq-clause-fault
@@ -37,7 +37,7 @@ returns-then-eq-clause-fault g c =
     let rest = tokens_of text c.in-Some.rest.now in
     let t = theorem_is db c.args.theorem _ c.requires c.proof_words-words.ensures.words in
     let e = end_is db c.args.theorem c.end_at-end.result _ t c.end_at-end.ensures in
-    let whole = subst (λ ws. InOrder 0 (tokens_of text ws) t.dot) c.in-Some.ensures.cases.0 (proof_in_order text db _ c.len.ensures.read c.args.theorem t.label t.keyword t.symbols t.equals _ t.dot t.is) in
+    let whole = subst (λ ws. InOrder 0 (tokens_of text ws) t.dot) c.in-Some.ensures.cases.0 (proof_in_order text c.args.database.now.read c.args.database.now.with_open _ c.len.ensures.read db c.len.ensures.counted c.args.theorem t.label t.keyword t.symbols t.equals _ t.dot t.is) in
     let order = subst (InOrder 0 rest) e (order_rest text first c.in-Some.rest.now 0 t.dot whole) in
     let label = c.bytes.ensures ∙ ap (λ t. slice_range t first.start first.end) c.text.ensures in
     let test : bytes_eq (slice_range text first.start first.end) (codes "(") ≡ true = ap₂ bytes_eq (sym label) (sym c.as_slice.ensures) ∙ sym c.eq.ensures ∙ c.if-eq.true in

@@ -1,13 +1,11 @@
-use Rattle.std.proofs.Common.{◌≡◌, ◌≢◌, ℕ, ◌<◌, ◌≤◌, ◌+◌, ◌^◌, ◌∙◌, sym, ap, ap₂, subst, List, All, None, arith, length, is_some, true, false, ◌++◌, ◌∷◌, [], append_assoc}
+use Rattle.std.proofs.Common.{◌≡◌, ◌<◌, ◌+◌, ◌∙◌, sym, ap, subst, List, All, None, arith, length, is_some, true, ◌++◌, ◌∷◌, [], append_assoc}
 use Rattle.std.proofs.lemmas.List.{map-append, length-map}
 use Rattle.std.proofs.lemmas.List.Elements.{All-push}
-use Rattle.mm_spec.specs.Statement.{Statement}
 use Rattle.mm_spec.specs.Scope.{names_before}
 use Rattle.mm_spec.specs.Lawful.{least, scope_faults}
-use Rattle.mm_spec.specs.Frame.{symbol_names, formula_of}
 use Rattle.mm_spec.specs.Table.{start, statements_from, statements_of}
 use Rattle.mm_spec.proofs.RowLaw.{is_longest}
-use Rattle.mm_outline.specs.Blocks.{lists, never}
+use Rattle.mm_outline.specs.Blocks.{lists}
 use Rattle.mm_outline.specs.Parts.{statement_of, token_of, tokens_of, depth_behind, IsOutline}
 use Rattle.mm_outline.specs.declared.parts.Outline.{Outline}
 use Rattle.mm_outline.specs.Found.{behind}

@@ -3,7 +3,6 @@ use Rattle.std.specs.List.{list_any}
 use Rattle.mm_spec.specs.Citation.{is_theorem}
 use Rattle.mm_spec.specs.Output.{theorems}
 use Rattle.mm_spec.specs.Scope.{statement_at}
-use Rattle.mm_spec.proofs.CompleteLaw.{reads_complete}
 use Rattle.mm_work.specs.Workers.{AreFound, IsFoundValid, IsFoundFaulty}
 use Rattle.mm_work.specs.declared.worker.Found.{Found}
 use Rattle.mm_cites.proofs.RisingLaw.{those-rising}
@@ -37,7 +36,7 @@ returns-then-first-count g c =
     let all : c.in_ok-gathered.gathered.seat.view.share ≡ 64 = let s = c.share.ensures.share in let r = c.share.ensures.range.1 in let f = c.if-share-lt-WHOLE.false in omega (arith, s, r, f) in
     let same = ap (λ (ts : List ℕ). length ts) c.theorems-count.ensures.theorems in
     let l = c.if-first-count.true in
-    first-fault db c.theorems-count.ensures.few (reads_complete _ _ db _ c.len.ensures.read) c.close-first.result.0 c.fault_of.result
+    first-fault db c.theorems-count.ensures.few c.len.ensures.complete c.close-first.result.0 c.fault_of.result
     (valid-below c.in-Ok.board db c.args.essential c.in_ok-gathered.gathered.seat c.in_ok-gathered.gathered.found.items h c.close-first.result.0 (c.close-first.ensures.finished all h.over h.closed))
     (omega (arith, same, l)) c.fault_of.ensures
 

@@ -1,6 +1,5 @@
 use Rattle.std.proofs.Common.{ℕ, List, length, get_or, sym, ap, ◌∙◌, subst, arith, IsTrue}
 use Rattle.mm_spec.specs.Output.{theorems, is_theorem_at}
-use Rattle.mm_spec.proofs.CompleteLaw.{reads_complete}
 use Rattle.mm_proof.proofs.TheoremsLaw.{theorems_are}
 use Rattle.mm_work.specs.Judged.{HasFault, Faults, IsCited, IsFirstFault}
 use Rattle.mm_spec.specs.declared.Fault.{Fault}
@@ -21,7 +20,7 @@ returns-in-Err-Fault g c =
     let i = c.loop-theorem.theorem-index in
     let within = c.loop-theorem-test.true in
     let same = ap (λ (ts : List ℕ). length ts) c.theorems-theorems.ensures.theorems in
-    subst (λ (f : Fault). IsFirstFault db f) (sym c.in-Err-Fault.fault-is) (first-fault db c.theorems-theorems.ensures.few (reads_complete _ _ db _ c.len.ensures.read) i c.in-Err-Fault.fault (cited-before db c.theorems-theorems.ensures.few (reads_complete _ _ db _ c.len.ensures.read) c.args.essential i c.loop-theorem.lists c.loop-theorem.invariant.cited) (omega (arith, within, same))
+    subst (λ (f : Fault). IsFirstFault db f) (sym c.in-Err-Fault.fault-is) (first-fault db c.theorems-theorems.ensures.few c.len.ensures.complete i c.in-Err-Fault.fault (cited-before db c.theorems-theorems.ensures.few c.len.ensures.complete c.args.essential i c.loop-theorem.lists c.loop-theorem.invariant.cited) (omega (arith, within, same))
     (subst (λ (ts : List ℕ). HasFault db (get_or ts i 0) c.in-Err-Fault.fault) c.theorems-theorems.ensures.theorems (subst (λ (e : VerifyRefused). Faults db (get_or c.theorems-theorems.result.now i 0) e) c.in-Err-Fault.field-0-is c.in-Err-Fault.ensures.refused)))
 
 pub loop-theorem-preserved : goal.loop-theorem-preserved

@@ -1,4 +1,4 @@
-use Rattle.std.proofs.Common.{◌≡◌, ◌∙◌, ◌≤◌, ◌++◌, ◌∷◌, [], length, sym, ap, ap₂, arith, append_assoc, append-nil}
+use Rattle.std.proofs.Common.{◌∙◌, ◌++◌, ◌∷◌, [], sym, ap, ap₂, arith, append_assoc, append-nil}
 use Rattle.mm_spec.specs.Frame.{place_of}
 use Rattle.mm_outline.specs.Parts.{between, token_at}
 use Rattle.mm_scope.specs.Formulas.{numbers_in}

@@ -2,7 +2,7 @@ use Rattle.std.proofs.Common.{ap, ◌<◌, ◌≤◌, arith, length, ◌∙◌, 
 use Rattle.mm_spec.specs.Text.{words}
 use Rattle.mm_spec.specs.Frame.{first_occurrences}
 use Rattle.mm_outline.specs.Parts.{token_at, between}
-use Rattle.mm_scope.proofs.NumberedLaw.{names-more, names-none}
+use Rattle.mm_scope.proofs.NumberedLaw.{names-more}
 use Rattle.mm_scope.specs.Names.{find, with_name}
 use Rattle.mm_scope.proofs.Declared.{declared_step}
 use Rattle.mm_scope.proofs.names.Scope.declare.Goals as goal

@@ -2,7 +2,7 @@ use Rattle.std.proofs.Common.{◌<◌, ◌≤◌, ◌∙◌, ap, arith, length}
 use Rattle.mm_scope.specs.Names.{find}
 use Rattle.mm_outline.specs.Parts.{token_at}
 use Rattle.mm_scope.specs.Judge.{merge, fault_at, is_open_in}
-use Rattle.mm_scope.proofs.JudgeLaw.{declared_more, seen_more}
+use Rattle.mm_scope.proofs.JudgeLaw.{declared_more}
 use Rattle.mm_scope.proofs.names.Scope.declared_fault.Goals as goal
 
 pub loop-at-preserved : goal.loop-at-preserved
@@ -13,8 +13,8 @@ loop-at-preserved g c =
     let inside : c.loop-at.at < length c.args.tokens.now = omega (arith, test, within) in
     let later : c.args.from ≤ c.loop-at.at = omega arith in
     record {
-      seen = seen_more c.args.text.now c.args.tokens.now c.args.from c.loop-at.at later inside (find c.loop-at.seen) (find c.see.new.seen) c.in_ok-repeated.ensures.now c.loop-at.invariant.seen;
+      seen = c.in_ok-repeated.ensures.seen;
       least = λ n k.
           c.note-best.ensures ∙ ap (λ o. merge c.loop-at.best (fault_at (token_at c.args.text.now c.args.tokens.now c.loop-at.at).at o)) c.declared_code.ensures
-          ∙ declared_more n (find s.names.symbols) (find s.names.labels) (is_open_in s.blocks.of.items s.blocks.ends.items) k c.args.kind c.args.text.now c.args.tokens.now c.args.from c.loop-at.at later inside c.in_ok-repeated.repeated (c.in_ok-repeated.ensures.was ∙ c.loop-at.invariant.seen (token_at c.args.text.now c.args.tokens.now c.loop-at.at).word) c.loop-at.best (c.loop-at.invariant.least n k);
+          ∙ declared_more n (find s.names.symbols) (find s.names.labels) (is_open_in s.blocks.of.items s.blocks.ends.items) k c.args.kind c.args.text.now c.args.tokens.now c.args.from c.loop-at.at later inside c.in_ok-repeated.repeated c.in_ok-repeated.ensures.repeated c.loop-at.best (c.loop-at.invariant.least n k);
     }

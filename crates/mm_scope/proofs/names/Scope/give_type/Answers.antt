@@ -1,4 +1,4 @@
-use Rattle.std.proofs.Common.{◌≡◌, ◌∙◌, ◌+◌, sym, is_some, ap, refl, true}
+use Rattle.std.proofs.Common.{◌∙◌, ◌+◌, sym, is_some, ap}
 use Rattle.mm_outline.specs.Parts.{token_at}
 use Rattle.mm_scope.specs.Names.{names_of}
 use Rattle.mm_scope.proofs.NumberedLaw.{on_then, with-known, found-known}

@@ -1,11 +1,11 @@
-use Rattle.std.proofs.Common.{◌<◌, ◌≤◌, ◌≡◌, ◌∙◌, ◌++◌, ◌∷◌, [], ap, ap₂, sym, arith, length, append_assoc, append-nil}
+use Rattle.std.proofs.Common.{◌<◌, ◌≤◌, ◌∙◌, ◌++◌, ◌∷◌, [], ap, ap₂, sym, arith, length, append_assoc}
 use Rattle.mm_spec.specs.Frame.{place_of}
 use Rattle.mm_scope.specs.Formulas.{numbers_in}
 use Rattle.mm_outline.specs.Parts.{token_at, between}
 use Rattle.mm_scope.specs.Judge.{merge, fault_at, is_open_in, symbol_code}
 use Rattle.mm_scope.specs.Names.{find, names_of}
 use Rattle.mm_scope.proofs.JudgeLaw.{symbols_more}
-use Rattle.mm_scope.proofs.NumberedLaw.{numbers-more, place-le, numbers-none}
+use Rattle.mm_scope.proofs.NumberedLaw.{numbers-more, place-le}
 use Rattle.mm_scope.proofs.names.Scope.symbols_fault.Goals as goal
 
 pub overflow_cast-number : goal.overflow_cast-number

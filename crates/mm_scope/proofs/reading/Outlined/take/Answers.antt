@@ -1,13 +1,11 @@
-use Rattle.std.proofs.Common.{◌≡◌, ℕ, ◌^◌, ◌<◌, ◌≤◌, ◌++◌, ◌∷◌, [], List, None, length, sym, ap, ap₂, ◌∙◌, subst, arith, append_assoc}
+use Rattle.std.proofs.Common.{◌≡◌, ℕ, ◌<◌, ◌++◌, ◌∷◌, [], List, length, sym, ap, ◌∙◌, subst, arith}
 use Rattle.std.proofs.lemmas.List.{length-map}
-use Rattle.mm_spec.specs.Statement.{Statement}
-use Rattle.mm_spec.specs.Scope.{names_before, depth}
+use Rattle.mm_spec.specs.Scope.{names_before}
 use Rattle.mm_spec.specs.Lawful.{least, scope_faults}
-use Rattle.mm_spec.specs.Frame.{symbol_names, formula_of}
 use Rattle.mm_outline.specs.Blocks.{lists, never}
 use Rattle.mm_outline.specs.Parts.{statement_of}
 use Rattle.mm_outline.specs.Statements.{statements}
-use Rattle.mm_scope.specs.Formulas.{AreFormulas, judged, unjudged}
+use Rattle.mm_scope.specs.Formulas.{AreFormulas}
 use Rattle.mm_scope.specs.Names.{find, names_of}
 use Rattle.mm_scope.proofs.KnowsLaw.{knows_is}
 use Rattle.mm_scope.proofs.NumberedLaw.{declared, names-shorter, names-next, taken-numbers, formulas-more}

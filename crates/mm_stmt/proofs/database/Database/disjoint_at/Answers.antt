@@ -1,18 +1,20 @@
 use Rattle.std.proofs.Common.{◌≡◌, ◌∙◌, ◌≤◌, ◌&&◌, not, length, sym, ap, subst, nat_eq, false}
 use Rattle.std.proofs.lemmas.Bool.{ne_eqb}
 use Rattle.std.specs.List.{list_any}
+use Rattle.mm_spec.specs.Lexed.{tokens_of as words_of}
 use Rattle.mm_spec.specs.Derivation.{is_member}
 use Rattle.mm_spec.specs.Frame.{disjoint_at, is_disjoint, active_of, formula_at}
 use Rattle.mm_outline.specs.Blocks.{lists}
 use Rattle.mm_outline.specs.Statements.{statements}
-use Rattle.mm_stmt.specs.Database.{Known}
+use Rattle.mm_stmt.specs.Database.{held, Known}
 use Rattle.mm_frame.proofs.DisjointLaw.{together_is}
+use Rattle.mm_stmt.proofs.HeldLaw.{blocks_held}
 use Rattle.mm_stmt.proofs.database.Database.disjoint_at.Goals as goal
 
 pub returns-then-number : goal.returns-then-number
 returns-then-number g c =
     let f = c.self.inside in
-    let db = statements f.text.now f.words.items f.outlines.items in
+    let db = held f.text.now (words_of f.text.now) f.outlines.items f.with_open in
     let b = lists f.blocks.of.items f.blocks.ends.items f.blocks.open.items in
     let k = c.args.statement in
     let x = c.args.x in
@@ -20,5 +22,5 @@ returns-then-number g c =
     let within : k ≤ length db = subst (λ (n : Known). k ≤ length n.statements) (sym c.self.view_is) c.requires in
     let apart : nat_eq x y ≡ false = ne_eqb x y (λ e. c.if-number.true (c.number.ensures ∙ e ∙ sym c.number-2.ensures)) in
     subst (λ (n : Known). c.are_together.result ≡ disjoint_at n.statements k x y) c.self.view_is
-    (together_is db b c.self.invariant.blocks k within f.members.pairs.items c.self.invariant.members_are.are c.are_together.result x y c.are_together.ensures.found c.are_together.ensures.none
+    (together_is db b (blocks_held f.with_open (statements f.text.now (words_of f.text.now) f.outlines.items) b c.self.invariant.blocks) k within f.members.pairs.items c.self.invariant.members_are.are c.are_together.result x y c.are_together.ensures.found c.are_together.ensures.none
     ∙ sym (ap (λ t. not t && list_any (λ j. is_member (formula_at db j) x && is_member (formula_at db j) y) (active_of is_disjoint db k)) apart))

@@ -1,24 +1,58 @@
-use Rattle.std.proofs.Common.{◌≡◌, ◌∙◌, ◌<◌, length, get_or, Some, sym, ap, subst, slice_get}
+use Rattle.std.proofs.Common.{◌≡◌, ◌∙◌, ◌<◌, ◌-◌, length, get_or, Some, sym, ap, subst, slice_get, arith}
 use Rattle.std.specs.Option.{option_map}
-use Rattle.std.proofs.lemmas.List.{get_or_default}
-use Rattle.mm_outline.specs.Parts.{word_at}
+use Rattle.mm_spec.specs.Lexed.{tokens_of as words_of}
+use Rattle.mm_outline.specs.Parts.{outline}
+use Rattle.mm_outline.specs.declared.parts.Kind.TheVariants.{Constants}
 use Rattle.mm_stmt.specs.Database.{Known, last_place}
 use Rattle.mm_stmt.proofs.DatabaseLaw.{has_outline, last_is}
+use Rattle.mm_stmt.proofs.KeptLaw.{kept_inside, kept_order, kept_within, kept_at, kept_some, kept_last}
 use Rattle.mm_stmt.proofs.database.Database.end_at.Goals as goal
+
+pub of-kept-requires : goal.of-kept-requires
+of-kept-requires g c =
+    let f = c.self.inside in
+    let ws = words_of f.text.now in
+    let os = f.outlines.items in
+    let k = c.args.statement in
+    let there : k < length os = has_outline f.text.now ws os f.with_open f.fault _ c.self.view_is k c.requires in
+    let kept = c.self.invariant.kept_are in
+    record {
+      inside = (let n = kept_inside ws os f.kept.words.items f.kept.starts.items kept k there in let m = f.kept.starts.ok.0 in omega (arith, n, m));
+      order = kept_order ws os f.kept.words.items f.kept.starts.items kept k there;
+      within = (let n = kept_within ws os f.kept.words.items f.kept.starts.items kept k there in let m = f.kept.words.ok.0 in omega (arith, n, m));
+    }
+
+pub overflow_sub-result : goal.overflow_sub-result
+overflow_sub-result g c =
+    let f = c.self.inside in
+    let ws = words_of f.text.now in
+    let os = f.outlines.items in
+    let k = c.args.statement in
+    let there : k < length os = has_outline f.text.now ws os f.with_open f.fault _ c.self.view_is k c.requires in
+    let kept = c.of-kept.ensures ∙ kept_at ws os f.kept.words.items f.kept.starts.items c.self.invariant.kept_are k there (outline Constants 0 0 0) in
+    kept_some ws (get_or os k (outline Constants 0 0 0)) c.of-kept.result.now kept
 
 pub returns : goal.returns
 returns g c =
     let f = c.self.inside in
     let text = f.text.now in
-    let ws = f.words.items in
+    let ws = words_of text in
     let os = f.outlines.items in
     let k = c.args.statement in
-    let o = c.index-outline.result.now in
-    let w = c.index.result.now in
-    let there : k < length os = has_outline text ws os f.fault _ c.self.view_is k c.requires in
-    let same : get_or os k o ≡ o = sym c.index-outline.ensures in
-    let kept = c.self.invariant.outlines k o there in
-    let within : o.end < length ws = subst (λ x. x.end < length ws) same kept.1 in
-    let word : word_at ws o.end ≡ w = get_or_default ws o.end (record { start = 0; end = 0 }) w within ∙ sym c.index.ensures in
-    subst (λ (n : Known). option_map last_place (slice_get n.statements k) ≡ Some w.start) c.self.view_is
-    (last_is text ws os k o there kept.0 ∙ ap (λ x. Some (word_at ws x.end).start) same ∙ ap (λ x. Some x.start) word)
+    let d = outline Constants 0 0 0 in
+    let there : k < length os = has_outline text ws os f.with_open f.fault _ c.self.view_is k c.requires in
+    let kept = c.of-kept.ensures ∙ kept_at ws os f.kept.words.items f.kept.starts.items c.self.invariant.kept_are k there d in
+    let last = kept_last ws (get_or os k d) c.of-kept.result.now kept (record { start = 0; end = 0 }) in
+    subst (λ (n : Known). option_map last_place (slice_get n.statements k) ≡ Some (get_or c.of-kept.result.now (length c.of-kept.result.now - 1) (record { start = 0; end = 0 })).start) c.self.view_is
+    (last_is text ws f.with_open os k d there (c.self.invariant.outlines k d there).0 ∙ ap (λ x. Some x.start) (sym last))
+
+pub bounds-kept-kept : goal.bounds-kept-kept
+bounds-kept-kept g c =
+    let f = c.self.inside in
+    let ws = words_of f.text.now in
+    let os = f.outlines.items in
+    let k = c.args.statement in
+    let there : k < length os = has_outline f.text.now ws os f.with_open f.fault _ c.self.view_is k c.requires in
+    let kept = c.of-kept.ensures ∙ kept_at ws os f.kept.words.items f.kept.starts.items c.self.invariant.kept_are k there (outline Constants 0 0 0) in
+    let some = kept_some ws (get_or os k (outline Constants 0 0 0)) c.of-kept.result.now kept in
+    omega (arith, some)

@@ -1,25 +1,27 @@
 use Rattle.std.proofs.Common.{◌≡◌, ◌∙◌, ℕ, ◌+◌, ◌-◌, ◌<◌, List, length, get_or, take, drop, All, sym, ap, ap₂, subst, arith}
 use Rattle.std.proofs.lemmas.Grind.{get_or_default_zero}
+use Rattle.mm_spec.specs.Lexed.{tokens_of as words_of}
 use Rattle.mm_spec.specs.Frame.{symbol_names, formula_at}
 use Rattle.mm_outline.specs.Statements.{statements}
+use Rattle.mm_spec.proofs.OpenedLemmas.{counted_length}
 use Rattle.mm_outline.specs.Parts.{statement_of}
 use Rattle.std.proofs.lemmas.List.{length-map}
-use Rattle.mm_stmt.specs.Database.{Known}
+use Rattle.mm_stmt.specs.Database.{held, Known}
 use Rattle.mm_stmt.proofs.DatabaseLaw.{has_outline}
 use Rattle.mm_stmt.proofs.database.Database.formula.Goals as goal
 
 pub returns-clause-known : goal.returns-clause-known
 returns-clause-known g c =
     let f = c.self.inside in
-    let db = statements f.text.now f.words.items f.outlines.items in
+    let db = held f.text.now (words_of f.text.now) f.outlines.items f.with_open in
     let xs = f.numbers.items in
     let ps = f.places.items in
     let k = c.args.statement in
     let a = c.index.result.now in
     let b = c.index-2.result.now in
     let n = c.self.invariant.numbered in
-    let there : k < length f.outlines.items = has_outline f.text.now f.words.items f.outlines.items f.fault _ c.self.view_is k c.requires in
-    let count : length db ≡ length f.outlines.items = length-map f.outlines.items (statement_of f.text.now f.words.items) in
+    let there : k < length f.outlines.items = has_outline f.text.now (words_of f.text.now) f.outlines.items f.with_open f.fault _ c.self.view_is k c.requires in
+    let count : length db ≡ length f.outlines.items = counted_length f.with_open (statements f.text.now (words_of f.text.now) f.outlines.items) ∙ length-map f.outlines.items (statement_of f.text.now (words_of f.text.now)) in
     let inside : k < length db = omega (arith, there, count) in
     let m = n.count in
     let first : get_or ps k 0 ≡ a = sym (c.index.ensures ∙ get_or_default_zero ps k a (omega (arith, m, inside))) in

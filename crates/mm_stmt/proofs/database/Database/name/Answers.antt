@@ -1,4 +1,4 @@
-use Rattle.std.proofs.Common.{◌≡◌, ◌∙◌, Some, sym, ap, slice_get}
+use Rattle.std.proofs.Common.{◌∙◌, sym, ap, slice_get}
 use Rattle.mm_spec.specs.Frame.{symbol_names}
 use Rattle.mm_scope.specs.Names.{names_of}
 use Rattle.mm_scope.proofs.NumberedLaw.{got-name}

@@ -1,7 +1,8 @@
 use Rattle.std.proofs.Common.{◌≡◌, ◌∙◌, ◌≤◌, length, slice_range, flat_map, ◌∷◌, sym, ap, subst}
+use Rattle.mm_spec.specs.Lexed.{tokens_of as words_of}
 use Rattle.mm_spec.specs.Output.{theorems, label_at}
 use Rattle.mm_outline.specs.Statements.{statements}
-use Rattle.mm_stmt.specs.Database.{Known}
+use Rattle.mm_stmt.specs.Database.{held, Known}
 use Rattle.mm_stmt.proofs.SpacedLaw.{theorems_between}
 use Rattle.mm_stmt.proofs.database.Database.spaced_labels.Goals as goal
 
@@ -9,7 +10,7 @@ pub slice_bounds-result-count : goal.slice_bounds-result-count
 slice_bounds-result-count g c =
     let f = c.self.inside in
     let within = subst (λ (n : Known). c.args.to ≤ length (theorems n.statements)) (sym c.self.view_is) c.requires.within in
-    (theorems_between (statements f.text.now f.words.items f.outlines.items) f.spaced.bytes.items f.spaced.starts.items c.self.invariant.spaced c.args.from c.args.to _ _ c.requires.order within c.index-begin.ensures c.index-end.ensures).order
+    (theorems_between (held f.text.now (words_of f.text.now) f.outlines.items f.with_open) f.spaced.bytes.items f.spaced.starts.items c.self.invariant.spaced c.args.from c.args.to _ _ c.requires.order within c.index-begin.ensures c.index-end.ensures).order
 
 pub slice_bounds-result-start : goal.slice_bounds-result-start
 slice_bounds-result-start g c = slice_bounds-result-count g c
@@ -18,13 +19,13 @@ pub slice_bounds-result-end : goal.slice_bounds-result-end
 slice_bounds-result-end g c =
     let f = c.self.inside in
     let within = subst (λ (n : Known). c.args.to ≤ length (theorems n.statements)) (sym c.self.view_is) c.requires.within in
-    let are = theorems_between (statements f.text.now f.words.items f.outlines.items) f.spaced.bytes.items f.spaced.starts.items c.self.invariant.spaced c.args.from c.args.to _ _ c.requires.order within c.index-begin.ensures c.index-end.ensures in
+    let are = theorems_between (held f.text.now (words_of f.text.now) f.outlines.items f.with_open) f.spaced.bytes.items f.spaced.starts.items c.self.invariant.spaced c.args.from c.args.to _ _ c.requires.order within c.index-begin.ensures c.index-end.ensures in
     subst (λ l. c.index-end.result.now ≤ length l) (sym c.deref.ensures.value) are.within
 
 pub returns : goal.returns
 returns g c =
     let f = c.self.inside in
     let within = subst (λ (n : Known). c.args.to ≤ length (theorems n.statements)) (sym c.self.view_is) c.requires.within in
-    let are = theorems_between (statements f.text.now f.words.items f.outlines.items) f.spaced.bytes.items f.spaced.starts.items c.self.invariant.spaced c.args.from c.args.to _ _ c.requires.order within c.index-begin.ensures c.index-end.ensures in
+    let are = theorems_between (held f.text.now (words_of f.text.now) f.outlines.items f.with_open) f.spaced.bytes.items f.spaced.starts.items c.self.invariant.spaced c.args.from c.args.to _ _ c.requires.order within c.index-begin.ensures c.index-end.ensures in
     subst (λ (n : Known). slice_range c.deref.result.now c.index-begin.result.now c.index-end.result.now ≡ flat_map (λ k. 32 ∷ label_at n.statements k) (slice_range (theorems n.statements) c.args.from c.args.to)) c.self.view_is
     (ap (λ l. slice_range l c.index-begin.result.now c.index-end.result.now) c.deref.ensures.value ∙ are.labels)

@@ -1,12 +1,10 @@
-use Rattle.std.proofs.Common.{◌≡◌, ◌∙◌, sym, ap, map, is_some, false, bytes_eq}
-use Rattle.std.proofs.lemmas.List.{length-map}
+use Rattle.std.proofs.Common.{◌∙◌, sym, ap, is_some, bytes_eq}
 use Rattle.indexmap.specs.IndexMap.{keys}
-use Rattle.mm_spec.specs.Text.{is_in}
 use Rattle.mm_scope.specs.Names.{names_of}
 use Rattle.mm_scope.proofs.SymbolsLaw.{found-place, missing-place, keys-in}
 use Rattle.std.proofs.lemmas.Map.Made.{is_some-lookup}
 use Rattle.mm_scope.proofs.NumberedLaw.{map-len}
-use Rattle.mm_scope.proofs.names.Names.numbered.Goals as goal
+use Rattle.mm_scope.proofs.names.Names.looked_up.Goals as goal
 
 pub returns-in-Some-clause-number : goal.returns-in-Some-clause-number
 returns-in-Some-clause-number g c = found-place c.args.word.now (keys c.args.self.now.symbols) c.in-Some.number (sym c.in-Some.ensures.index)

@@ -1,0 +1,23 @@
+use Rattle.std.proofs.Common.{◌≡◌, refl}
+use Rattle.mm_outline.specs.declared.parts.Part.{Part}
+use Rattle.mm_outline.specs.declared.parts.Part.TheVariants.{Start, Labelled, Words, Formula, Proof}
+use Rattle.mm_outline.proofs.Passed.{TakesWords, passed-upto, part-later}
+use Rattle.mm_outline.proofs.parts.pass_words.Goals as goal
+
+pub returns-in_default : goal.returns-in_default
+returns-in_default c =
+    let found = c.next_keyword.ensures in
+    let takes = by c.args.part refl in
+    record {
+      later = found.later;
+      within = found.within;
+      part = part-later c.args.part c.args.at c.next_keyword.result takes found.later c.requires.part;
+      leads = λ d. passed-upto c.args.text.now c.args.tokens.now d c.args.part c.args.at c.next_keyword.result takes c.requires.part found.later found.within found.plain;
+    }
+  where
+    by : (p : Part) → c.args.part ≡ p → TakesWords p
+    by Start e = c.in_default.not-Start e
+    by (Labelled l) e = c.in_default.not-Labelled l e
+    by (Words k w) e = tt
+    by (Formula w) e = tt
+    by (Proof w q) e = tt

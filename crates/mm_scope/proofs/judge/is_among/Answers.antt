@@ -1,0 +1,22 @@
+use Rattle.std.proofs.Common.{◌∙◌, ◌||◌, ap, sym, arith, []}
+use Rattle.mm_spec.specs.Text.{is_in}
+use Rattle.mm_outline.specs.Parts.{between, token_at}
+use Rattle.mm_scope.specs.Judge.{before_next}
+use Rattle.mm_scope.proofs.JudgeLaw.{among_more}
+use Rattle.mm_scope.proofs.judge.is_among.Goals.{then-eq, else-eq}
+use Rattle.mm_scope.proofs.judge.is_among.Goals as goal
+
+pub loop-earlier-preserved : goal.loop-earlier-preserved
+loop-earlier-preserved c =
+    let text = c.args.text.now in
+    let ws = c.args.tokens.now in
+    let word = (token_at text ws c.args.at).word in
+    let i = c.loop-earlier.earlier in
+    let test = c.loop-earlier-test.true in
+    let within = c.requires.within in
+    let more = among_more text ws c.args.from i (omega arith) (omega (arith, test, within)) word in
+    let before = before_next [] (between text ws c.args.from i) in
+    elim c.if-eq.branch [
+      | then-eq w ↦ w.found-is ∙ w.if-eq.true ∙ ap (λ b. b || is_in word before) (sym w.if-eq.true ∙ c.eq.ensures) ∙ more
+      | else-eq w ↦ w.found-is ∙ c.loop-earlier.invariant ∙ ap (λ b. b || is_in word before) (sym w.if-eq.false ∙ c.eq.ensures) ∙ more
+    ]

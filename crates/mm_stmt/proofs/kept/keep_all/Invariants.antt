@@ -1,0 +1,6 @@
+use Rattle.std.proofs.Common.{◌++◌, ◌∷◌, [], length, take}
+use Rattle.mm_stmt.specs.Kept.{AreKept}
+use Rattle.mm_stmt.proofs.kept.keep_all.Given as goal
+
+abbrev pub invariant-loop-outline : goal.invariant-loop-outline
+invariant-loop-outline g l = AreKept l.tokens (take l.outline-index l.outlines) l.words.items (l.starts.items ++ length l.words.items ∷ [])

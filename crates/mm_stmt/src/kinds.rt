@@ -1,0 +1,122 @@
+//! What each statement counts as: what it is, but an axiom where it is an open theorem and these count as axioms.
+
+ghost use Rattle.std.specs.Prelude.{◌≡◌, ◌<◌, ◌≤◌, ◌^◌, All, IfOk, bytes_eq, length, map};
+ghost use Rattle.mm_spec.specs.Opened.{counted, is_open_proof as spec_is_open_proof};
+ghost use Rattle.mm_outline.specs.Parts.{AreWords, IsOutline, statement_of, token_of, tokens_of};
+ghost use Rattle.mm_outline.specs.Statements.{statements};
+ghost use Rattle.mm_stmt.specs.Database.{kind_of};
+ghost use Rattle.mm_stmt.specs.Kinds.{counted_as, is_axiom_kind, is_theorem_kind, numbers_of};
+
+use mm_outline::parts::{Kind, Outline};
+use mm_spec::Word;
+use std::alloc::{AllocError, Allocator};
+
+/// Whether the word is this one.
+fn is_word(text: &[u8], word: Word, name: &[u8]) -> bool
+    requires order { word.start ≤ word.end }
+    requires within { word.end ≤ length text.now }
+    ensures { result ≡ bytes_eq (token_of text.now word).word name.now }
+{
+    &text[word.start as usize..word.end as usize] == name
+}
+
+/// Whether these are the words of a proof of which nothing is known: `?`, or `(` `)` `?`.
+fn is_open_proof(text: &[u8], words: &[Word]) -> bool
+    requires { AreWords text.now words.now }
+    ensures { result ≡ spec_is_open_proof (tokens_of text.now words.now) }
+{
+    if words.len() == 1 {
+        is_word(text, words[0], b"?".as_slice())
+    } else if words.len() == 3 {
+        is_word(text, words[0], b"(".as_slice())
+            && is_word(text, words[1], b")".as_slice())
+            && is_word(text, words[2], b"?".as_slice())
+    } else {
+        false
+    }
+}
+
+/// What the statement of an outline counts as.
+fn counted_kind(text: &[u8], tokens: &[Word], outline: Outline, with_open: bool) -> Kind
+    requires words { AreWords text.now tokens.now }
+    requires outline { IsOutline outline }
+    requires within { outline.end < length tokens.now }
+    ensures { result ≡ kind_of (counted_as with_open (statement_of text.now tokens.now outline)) }
+{
+    if with_open && is_theorem(outline.kind) && is_open_proof(text, &tokens[outline.middle as usize + 1..outline.end as usize]) {
+        Kind::Axiom
+    } else {
+        outline.kind
+    }
+}
+
+/// What each statement counts as.
+pub(crate) fn kinds_of<A: Allocator + Copy>(
+    alloc: A,
+    text: &[u8],
+    tokens: &[Word],
+    outlines: &[Outline],
+    with_open: bool,
+) -> Result<Vec<Kind, A>, AllocError>
+    requires words { AreWords text.now tokens.now }
+    requires outlines { All (λ o. IsOutline o × (o.end < length tokens.now)) outlines.now }
+    ensures { IfOk result (λ kinds. kinds.items ≡ map kind_of (counted with_open (statements text.now tokens.now outlines.now))) }
+{
+    let mut kinds = Vec::with_capacity(alloc, outlines.len())?;
+    for outline in outlines {
+        kinds.push(counted_kind(text, tokens, *outline, with_open))?;
+    }
+    Ok(kinds)
+}
+
+fn is_theorem(kind: Kind) -> bool
+    ensures { result ≡ is_theorem_kind kind }
+{
+    match kind {
+        Kind::Theorem => true,
+        _ => false,
+    }
+}
+
+fn is_axiom(kind: Kind) -> bool
+    ensures { result ≡ is_axiom_kind kind }
+{
+    match kind {
+        Kind::Axiom => true,
+        _ => false,
+    }
+}
+
+/// The theorems, in file order.
+pub(crate) fn theorems_of<A: Allocator + Copy>(
+    alloc: A,
+    kinds: &[Kind],
+) -> Result<Vec<u32, A>, AllocError>
+    requires { length kinds.now < 2 ^ 31 }
+    ensures { IfOk result (λ v. v.items ≡ numbers_of is_theorem_kind kinds.now) }
+{
+    let mut all = Vec::new(alloc);
+    for k in 0..kinds.len() as u32 {
+        if is_theorem(kinds[k as usize]) {
+            all.push(k)?;
+        }
+    }
+    Ok(all)
+}
+
+/// The axioms, in file order.
+pub(crate) fn axioms_of<A: Allocator + Copy>(
+    alloc: A,
+    kinds: &[Kind],
+) -> Result<Vec<u32, A>, AllocError>
+    requires { length kinds.now < 2 ^ 31 }
+    ensures { IfOk result (λ v. v.items ≡ numbers_of is_axiom_kind kinds.now) }
+{
+    let mut all = Vec::new(alloc);
+    for k in 0..kinds.len() as u32 {
+        if is_axiom(kinds[k as usize]) {
+            all.push(k)?;
+        }
+    }
+    Ok(all)
+}
