@@ -1,11 +1,11 @@
 -- Four columns as one digit.
 use Rattle.std.proofs.Common.{◌≡◌, ℕ, Bool, true, false, zero, suc, List, [], ◌∷◌, ◌⊎◌, inl, inr, ◌<◌, ◌≤◌, ◌+◌, ◌-◌, ◌*◌, ◌/◌, ◌%◌, ◌^◌, min, length, map, take, drop, get_or, bit_and, eqb, subst, sym, ap, ap₂, refl, arith, ◌∙◌, eqb-true, w8}
 use Rattle.std.proofs.lemmas.Bool.{cases_lt, cases_eq, agree_below_at}
-use Rattle.std.proofs.lemmas.Nat.{and_le_r}
+use Rattle.std.proofs.lemmas.Nat.{and_le_r, and_mask}
 use Rattle.std.proofs.lemmas.Nat.Bits.{bit_at_and, bit_at_ones, bit_at-lt}
 use Rattle.std.proofs.lemmas.List.{ext_get_or, length-map, get_or_past, get_or-take, get_or-drop}
 use Rattle.std.proofs.lemmas.List.FromFn.{get_or-map-range_with_len, length-range_with_len}
-use Rattle.std.proofs.lemmas.Simd.{get_or-put_chunk_below, get_or-put_chunk_at, swz_l, get_or-swz_l_below}
+use Rattle.std.proofs.lemmas.Simd.{get_or-put_chunk_below, get_or-put_chunk_at, swz_l, get_or-swz_l_below, get_or_narrower}
 use Rattle.std.specs.Int.{bit_at}
 use Rattle.std.specs.List.{range_with_len}
 use Rattle.mm_spec.specs.Report.{bit_of, mark_at, digit_at, hex_digit}
@@ -16,7 +16,7 @@ use Rattle.mm_rows.specs.declared.digits.TheConstants.{NUMBERS, DIGITS}
 use Rattle.mm_rows.proofs.BlockFacts.{shifted}
 use Rattle.mm_rows.proofs.TurnFacts.{row_bit, row_length}
 use Rattle.mm_rows.proofs.TableFacts.{mark-bit}
-use lib.Lanes.{put_chunk}
+use lib.Lanes.{put_chunk, number_l, digits_l}
 
 -- the four lowest bits of a word behind a place
 low_bit : (n s b : ℕ) → b < 4 → bit_at (bit_and (n / 2 ^ s) 15) b ≡ bit_at n (s + b)
@@ -63,6 +63,48 @@ lane_is word k lt =
     let first : 16 * ((0 + k) / 16) + get_or (fours word) k 0 ≡ four word k = omega (arith, is, lt) in
     get_or-swz_l_below w8 16 DIGITS 0 (fours word) k lt (omega (arith, is, small))
     ∙ ap (λ n. get_or DIGITS n 0) first ∙ digit_of (four word k) small ∙ ap hex_digit (sym (four_low word k))
+
+-- the bytes of a word that stands twice in sixteen lanes
+abbrev pub byte : ℕ → ℕ → ℕ
+byte word j = get_or (digits_l 256 16 (number_l (2 ^ 64) (word ∷ word ∷ []))) j 0
+
+byte_at : (word j : ℕ) → word < 2 ^ 64 → j < 8 → byte word j ≡ word / 256 ^ j % 256
+byte_at word j fits lt =
+    let here : 8 * 0 + j ≡ j = omega arith in
+    sym (ap (byte word) here) ∙ get_or_narrower (2 ^ 64) 8 256 16 (word ∷ word ∷ []) 0 j refl (fits, (fits, tt)) lt (omega arith)
+
+low_same : (y : ℕ) → bit_and (y % 256) 15 ≡ bit_and y 15
+low_same y = and_mask (y % 256) 4 ∙ omega arith ∙ sym (and_mask y 4)
+
+high_same : (y z : ℕ) → z ≡ y / 16 → y % 256 / 2 ^ 4 ≡ bit_and z 15
+high_same y z e = omega (arith, e) ∙ sym (and_mask z 4)
+
+-- the lower half of each byte before the higher one
+abbrev pub halves : ℕ → List ℕ
+halves word = bit_and (byte word 0) 15 ∷ byte word 0 / 2 ^ 4 ∷ bit_and (byte word 1) 15 ∷ byte word 1 / 2 ^ 4 ∷ bit_and (byte word 2) 15 ∷ byte word 2 / 2 ^ 4 ∷ bit_and (byte word 3) 15 ∷ byte word 3 / 2 ^ 4 ∷ bit_and (byte word 4) 15 ∷ byte word 4 / 2 ^ 4 ∷ bit_and (byte word 5) 15 ∷ byte word 5 / 2 ^ 4 ∷ bit_and (byte word 6) 15 ∷ byte word 6 / 2 ^ 4 ∷ bit_and (byte word 7) 15 ∷ byte word 7 / 2 ^ 4 ∷ []
+
+pub halves_are : (word : ℕ) → word < 2 ^ 64 → halves word ≡ fours word
+halves_are word fits =
+    let l0 = ap (λ x. bit_and x 15) (byte_at word 0 fits (omega arith)) ∙ low_same (word / 256 ^ 0) in
+    let h0 = ap (λ x. x / 2 ^ 4) (byte_at word 0 fits (omega arith)) ∙ high_same (word / 256 ^ 0) (word / 2 ^ 4) (omega arith) in
+    let l1 = ap (λ x. bit_and x 15) (byte_at word 1 fits (omega arith)) ∙ low_same (word / 256 ^ 1) in
+    let h1 = ap (λ x. x / 2 ^ 4) (byte_at word 1 fits (omega arith)) ∙ high_same (word / 256 ^ 1) (word / 2 ^ 12) (omega arith) in
+    let l2 = ap (λ x. bit_and x 15) (byte_at word 2 fits (omega arith)) ∙ low_same (word / 256 ^ 2) in
+    let h2 = ap (λ x. x / 2 ^ 4) (byte_at word 2 fits (omega arith)) ∙ high_same (word / 256 ^ 2) (word / 2 ^ 20) (omega arith) in
+    let l3 = ap (λ x. bit_and x 15) (byte_at word 3 fits (omega arith)) ∙ low_same (word / 256 ^ 3) in
+    let h3 = ap (λ x. x / 2 ^ 4) (byte_at word 3 fits (omega arith)) ∙ high_same (word / 256 ^ 3) (word / 2 ^ 28) (omega arith) in
+    let l4 = ap (λ x. bit_and x 15) (byte_at word 4 fits (omega arith)) ∙ low_same (word / 256 ^ 4) in
+    let h4 = ap (λ x. x / 2 ^ 4) (byte_at word 4 fits (omega arith)) ∙ high_same (word / 256 ^ 4) (word / 2 ^ 36) (omega arith) in
+    let l5 = ap (λ x. bit_and x 15) (byte_at word 5 fits (omega arith)) ∙ low_same (word / 256 ^ 5) in
+    let h5 = ap (λ x. x / 2 ^ 4) (byte_at word 5 fits (omega arith)) ∙ high_same (word / 256 ^ 5) (word / 2 ^ 44) (omega arith) in
+    let l6 = ap (λ x. bit_and x 15) (byte_at word 6 fits (omega arith)) ∙ low_same (word / 256 ^ 6) in
+    let h6 = ap (λ x. x / 2 ^ 4) (byte_at word 6 fits (omega arith)) ∙ high_same (word / 256 ^ 6) (word / 2 ^ 52) (omega arith) in
+    let l7 = ap (λ x. bit_and x 15) (byte_at word 7 fits (omega arith)) ∙ low_same (word / 256 ^ 7) in
+    let h7 = ap (λ x. x / 2 ^ 4) (byte_at word 7 fits (omega arith)) ∙ high_same (word / 256 ^ 7) (word / 2 ^ 60) (omega arith) in
+    (λ i. l0 i ∷ h0 i ∷ l1 i ∷ h1 i ∷ l2 i ∷ h2 i ∷ l3 i ∷ h3 i ∷ l4 i ∷ h4 i ∷ l5 i ∷ h5 i ∷ l6 i ∷ h6 i ∷ l7 i ∷ h7 i ∷ [])
+
+pub half_is : (word k : ℕ) → word < 2 ^ 64 → k < 16 → get_or (swz_l w8 16 DIGITS 0 (halves word)) k 0 ≡ hex_digit (four_at word k)
+half_is word k fits lt = ap (λ js. get_or (swz_l w8 16 DIGITS 0 js) k 0) (halves_are word fits) ∙ lane_is word k lt
 
 -- the digits of the first w words are written
 abbrev pub AreDigits : List ℕ → List ℕ → ℕ → Type 0

@@ -21,15 +21,20 @@ pub fn number(word: u64, k: usize) -> u8
     NUMBERS[((word >> (4 * k)) & 15) as usize]
 }
 
-/// The digits of a word.
+/// The digits of a word. A byte has two of them, its lower half the first.
 #[inline(always)]
 fn word_digits(word: u64) -> u8x16
     ensures length { length result ≡ 16 }
     ensures each { (k : ℕ) → k < 16 → slice_index result k ≡ hex_digit (four_at word k) }
 {
-    let places = u64x16::from_array([0, 4, 8, 12, 16, 20, 24, 28, 32, 36, 40, 44, 48, 52, 56, 60]);
-    let fours = (u64x16::splat(word) >> places) & u64x16::splat(15);
-    u8x16::from_array(DIGITS).swizzle_dyn(fours.cast::<u8>())
+    let bytes = u64x2::splat(word).to_le_bytes();
+    let first = bytes & u8x16::splat(15);
+    let second = bytes >> u8x16::splat(4);
+    let fours = first.shuffle(
+        second,
+        [0, 16, 1, 17, 2, 18, 3, 19, 4, 20, 5, 21, 6, 22, 7, 23],
+    );
+    u8x16::from_array(DIGITS).swizzle_dyn(fours)
 }
 
 /// Writes the digits of words.

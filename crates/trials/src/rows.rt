@@ -59,7 +59,7 @@ fn table_of<R: Threads + Wait + Sync>(
     }
     let cuts = Cuts::equal(alloc, text.len(), 1)?;
     let lexed = lex(rt, alloc, text, &cuts)?;
-    let database = read(alloc, text, lexed)?;
+    let database = read(alloc, text, lexed, false)?;
     let columns = Columns::new(alloc, &database, None)?;
     match check_all(rt, alloc, &database, 1, false, &Open)? {
         Judged::Valid(citations) => matrix(rt, alloc, &citations, &columns),

@@ -2,7 +2,8 @@
 
 use super::plan;
 use crate::texts::{
-    BASE, CLOSE, CONSEQUENT, DETACHMENT, FIRST, FIRST_REPORT, consequent, joined, through_a_theorem,
+    BASE, CLOSE, CONSEQUENT, DETACHMENT, FIRST, FIRST_REPORT, consequent, joined, seventy,
+    through_a_theorem,
 };
 use mm_plan::{Cutting, Plan};
 use mm_run::{RunEnd, run};
