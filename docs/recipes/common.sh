@@ -72,7 +72,7 @@ run() {
     # The repository's script builds the program here, where it isn't built.
     "$program" --help >/dev/null || fail "$program can't be run"
     status=0
-    "$program" ${only:+"--only=$only"} ${essential:+--essential} --report "$4" "$2" >"$3" 2>"$room/told" || status=$?
+    "$program" ${only:+"--only=$only"} ${essential:+--essential} ${with_open:+--open} --report "$4" "$2" >"$3" 2>"$room/told" || status=$?
     case $status in
         0) ;;
         1) refused "$1" "$3" ;;
@@ -105,8 +105,9 @@ section() {
     status=0
     section=$3 begin=$begin awk -F: '
         NR == 2 && /^axioms [0-9]+$/ { axioms = substr($0, 8) + 0; next }
-        NR == 3 && /^theorems [0-9]+$/ { theorems = substr($0, 10) + 0; next }
-        NR < 4 { if (NR > 1) damaged = 1; next }
+        NR == 3 && /^open [0-9]+$/ { more = 1; next }
+        NR == 3 + more && /^theorems [0-9]+$/ { theorems = substr($0, 10) + 0; next }
+        NR < 4 + more { if (NR > 1) damaged = 1; next }
         !/:/ { inside = $0 "" == ENVIRON["section"]; found += inside; next }
         inside {
             lines++
@@ -227,6 +228,8 @@ all_in() {
 only='|-'
 begin=
 essential=
+# Set by a recipe that counts theorems without a proof as axioms.
+with_open=
 chosen=
 while [ "$#" -gt 0 ]; do
     option=$1
