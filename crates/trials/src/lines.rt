@@ -153,13 +153,14 @@ fn the_flag_of_open_theorems(rt: HostRuntime) {
 
 #[test]
 fn the_version_is_told(rt: HostRuntime) {
-    for word in ["--version", "-V"] {
-        match line(rt.alloc(), &["mmdepend", word]) {
-            Err(LineRefused::Help(text)) => {
-                assert!(&rt; text.starts_with("mmdepend 0.1.0, proved with "));
-                assert!(&rt; text.ends_with("\n"));
+    for words in [["mmdepend", "--version"], ["mmdepend", "-V"]] {
+        match refusal(rt.alloc(), &words) {
+            Some((help, told)) => {
+                assert!(&rt; help);
+                assert!(&rt; told.as_str().starts_with("mmdepend 0.1.0, proved with "));
+                assert!(&rt; told.as_str().ends_with("\n"));
             }
-            _ => assert!(&rt; false),
+            None => assert!(&rt; false),
         }
     }
 }
