@@ -18,7 +18,8 @@ use std::io::{Read, Write};
 use std::sync::Wait;
 use std::thread::Threads;
 
-/// What a run is asked to do: cut the text in this way, check proofs by so many workers, and write these sections.
+/// What a run is asked to do: cut the text in this way, check proofs by so many workers, and write
+/// these sections.
 pub(crate) fn plan_of<A: Allocator>(cuts: Cutting<A>, workers: u32, choice: Choice) -> Plan<A> {
     Plan {
         cuts,

@@ -4,7 +4,8 @@ use crate::heap::Refusing;
 use std::alloc::Global;
 use std::io::{self, ErrorKind, Read, Write};
 
-/// A reader that gives at most ten bytes a call. One of its calls fails; those after it give bytes again.
+/// A reader that gives at most ten bytes a call. One of its calls fails; those after it give bytes
+/// again.
 #[derive(Drop)]
 pub(crate) struct Failing<'t> {
     pub text: &'t [u8],
@@ -34,7 +35,8 @@ pub(crate) enum Stop {
     TakesNothing,
 }
 
-/// A writer that takes one byte a call. After so many bytes one call takes none; those after it take bytes again.
+/// A writer that takes one byte a call. After so many bytes one call takes none; those after it
+/// take bytes again.
 #[derive(Drop)]
 pub(crate) struct Stopping {
     pub taken: Vec<u8>,
@@ -67,7 +69,8 @@ impl Write for Stopping {
     }
 }
 
-/// A writer that keeps what it takes, and what an allocator had counted at its first call and at its last.
+/// A writer that keeps what it takes, and what an allocator had counted at its first call and at
+/// its last.
 #[derive(Drop)]
 pub(crate) struct Noting<'h> {
     heap: &'h Refusing<Global>,

@@ -19,8 +19,8 @@ const OPEN_REFUSAL: &[u8] = b"refused 1:5 E08\n";
 /// How many calls it takes to read the first text and to be told of its end.
 const READS: usize = 18;
 
-/// Whether a run on the first text, whose reader fails at that call, ends so and writes this, and the reader was called so
-/// often.
+/// Whether a run on the first text, whose reader fails at that call, ends so and writes this, and
+/// the reader was called so often.
 fn reads<R: Threads + Wait + Sync>(
     rt: &R,
     alloc: Global,
@@ -40,8 +40,8 @@ fn reads<R: Threads + Wait + Sync>(
     end == Some(want.0) && written.as_slice() == want.1 && from.calls == want.2
 }
 
-// A read that is interrupted fails like any other. A reader gives bytes again after the call that failed, so a second try
-// would show.
+// A read that is interrupted fails like any other. A reader gives bytes again after the call that
+// failed, so a second try would show.
 #[test]
 fn a_read_that_fails_is_not_tried_again(rt: HostRuntime) {
     for kind in [
@@ -58,8 +58,8 @@ fn a_read_that_fails_is_not_tried_again(rt: HostRuntime) {
     }
 }
 
-/// Whether a run on the text, whose writer takes so many bytes before a call that takes none, ends so and writes this, and
-/// the writer was called so often.
+/// Whether a run on the text, whose writer takes so many bytes before a call that takes none, ends
+/// so and writes this, and the writer was called so often.
 fn writes<R: Threads + Wait + Sync>(
     rt: &R,
     alloc: Global,

@@ -6,11 +6,13 @@ use std::sync::atomic::{AtomicU64, Ordering};
 /// So many growths are left where none is to be refused: more than any test takes.
 const MANY: u64 = 0x4000_0000_0000_0000;
 
-/// It hands on what it is asked to another allocator, but for one growth of memory, which it refuses. A `&` to it is lent
-/// to a call, and so to the call's threads: a growth of any of them counts.
+/// It hands on what it is asked to another allocator, but for one growth of memory, which it
+/// refuses. A `&` to it is lent to a call, and so to the call's threads: a growth of any of them
+/// counts.
 pub struct Refusing<B: Allocator> {
     inner: B,
-    /// How many growths there are up to the refused one. From there on it goes below 0, and so begins again at the top.
+    /// How many growths there are up to the refused one. From there on it goes below 0, and so
+    /// begins again at the top.
     left: AtomicU64,
 }
 

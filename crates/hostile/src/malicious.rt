@@ -82,7 +82,8 @@ fn spaced(alloc: Global, front: &[u8], spaces: u32) -> Result<Vec<u8>, AllocErro
     Ok(text)
 }
 
-/// Asserts that a byte behind so many spaces is refused at that place, with cuts before and behind it.
+/// Asserts that a byte after so many spaces is refused at that place, with cuts before and after
+/// it.
 fn bad_byte_at<R: Threads + Wait + Sync>(
     rt: &R,
     alloc: Global,
@@ -114,7 +115,7 @@ fn a_bad_byte_behind_spaces(rt: HostRuntime) -> Result<(), AllocError> {
 const LETTERS: &[u8] =
     b"${ min $e |- p $. maj $e |- ( p -> q ) $. ax-mp $a |- q $. $}\n${ h $e |- p $. a1i $p |- ( q -> p ) $= ( wi ax-1 ax-mp ) ";
 
-/// That theorem with a thousand letters `U` in its proof, and these behind them.
+/// That theorem with a thousand letters `U` in its proof, and these after them.
 fn thousand_letters(alloc: Global, end: &[u8]) -> Result<Vec<u8>, AllocError> {
     let mut text = BASE.to_vec(alloc)?;
     text.extend_from_slice(LETTERS)?;

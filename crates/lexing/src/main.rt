@@ -1,6 +1,7 @@
-//! How fast a text is read as tokens: `lexing FILE PIECES` writes the bytes, the tokens, and the nanoseconds of a plain
-//! loop over the bytes that keeps each word, and of `lex` in so many equal pieces (0: `lex` isn't called). Without words
-//! it does nothing. `bench/lexing` runs it; it is no part of the program, and promises nothing.
+//! How fast a text is read as tokens: `lexing FILE PIECES` writes the bytes, the tokens, and the
+//! nanoseconds of a plain loop over the bytes that keeps each word, and of `lex` in so many equal
+//! pieces (0: `lex` isn't called). Without words it does nothing. `bench/lexing` runs it; it is no
+//! part of the program, and promises nothing.
 #![tactic(auto)]
 
 use anyhow::Result;

@@ -1,19 +1,27 @@
--- The events of a board: what each step found in its word, what it answers, and the view that it leaves the seat with.
-use Rattle.std.specs.Prelude.{ℕ, ◌+◌, ◌-◌, ◌||◌, min, nat_lt, true, false, Option, None, Some, List, [], ◌∷◌, ◌++◌, if◌then◌else◌}
+-- The events of a board: what each step found in its word, what it answers, and the view that it
+-- leaves the seat with.
+use Rattle.std.specs.Prelude.{ℕ, ◌+◌, ◌-◌, ◌||◌, min, nat_lt, true, false, Option, None, Some, List}
+use Rattle.std.specs.Prelude.{[], ◌∷◌, ◌++◌, if◌then◌else◌}
 use Rattle.mm_board.specs.declared.views.View.{View}
 use Rattle.mm_board.specs.Rule.{BoardRule, IsAmong}
 
 -- x is the claim word of some state that meets the rule, in which a seat has the view v
 abbrev pub IsClaimWord : View → ℕ → Type 0
-IsClaimWord v x = (floor settled : ℕ) × (views : List View) × BoardRule v.count x floor settled views × IsAmong views v
+IsClaimWord v x =
+    (floor settled : ℕ) × (views : List View) × BoardRule v.count x floor settled views
+    × IsAmong views v
 
 -- the same of the floor word
 abbrev pub IsFloorWord : View → ℕ → Type 0
-IsFloorWord v x = (claim settled : ℕ) × (views : List View) × BoardRule v.count claim x settled views × IsAmong views v
+IsFloorWord v x =
+    (claim settled : ℕ) × (views : List View) × BoardRule v.count claim x settled views
+    × IsAmong views v
 
 -- the same of the settled word
 abbrev pub IsSettledWord : View → ℕ → Type 0
-IsSettledWord v x = (claim floor : ℕ) × (views : List View) × BoardRule v.count claim floor x views × IsAmong views v
+IsSettledWord v x =
+    (claim floor : ℕ) × (views : List View) × BoardRule v.count claim floor x views
+    × IsAmong views v
 
 -- what a claim answers that found c at a board of n numbers
 abbrev pub claim_answer : ℕ → ℕ → Option ℕ
@@ -21,7 +29,8 @@ claim_answer n c = if nat_lt c n then Some c else None
 
 -- a claim that found c: c is open where it is below n, and else the seat is over
 abbrev pub after_claim : View → ℕ → View
-after_claim v c = if nat_lt c v.count then record v { open_number = Some c } else record v { over = true }
+after_claim v c =
+    if nat_lt c v.count then record v { open_number = Some c } else record v { over = true }
 
 -- the open number after a look that found f: an open number above f is closed
 abbrev pub open_after_look : Option ℕ → ℕ → Option ℕ
@@ -69,10 +78,11 @@ after_split v = record v { share = v.share - 1 }
 
 -- the new seat of a split: share 1, nothing open, an empty record, and the same `seen` and `over`
 abbrev pub new_seat_view : View → View
-new_seat_view v = record v { share = 1; open_number = None; settled = []; reported = []; skipped = [] }
+new_seat_view v =
+    record v { share = 1; open_number = None; settled = []; reported = []; skipped = [] }
 
--- a join: records and shares are added, the lesser `seen` is kept, and the seat is over where either was. The second seat has
--- nothing open
+-- a join: records and shares are added, the lesser `seen` is kept, and the seat is over where
+-- either was. The second seat has nothing open
 abbrev pub after_join : View → View → View
 after_join v w = record {
   count = v.count;
@@ -87,4 +97,14 @@ after_join v w = record {
 
 -- what a join leaves of the second seat: nothing
 abbrev pub spent_view : View
-spent_view = record { count = 0; share = 0; open_number = None; settled = []; reported = []; skipped = []; seen = 0; over = false }
+spent_view =
+    record {
+      count = 0;
+      share = 0;
+      open_number = None;
+      settled = [];
+      reported = [];
+      skipped = [];
+      seen = 0;
+      over = false;
+    }

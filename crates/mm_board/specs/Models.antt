@@ -25,7 +25,8 @@ pub record KeepsTable (table : TableId) (key count : ℕ) : Type 0 where
   pub small : count ≤ 2147483648
 
 -- what runs of a seat agrees with its view, and its token has no slot
-pub record ShowsView (view : View) (slots : List (ℕ × Unit {0})) (share : ℕ) (open_number : Option ℕ) (seen : ℕ) (over : Bool) : Type 0 where
+pub record ShowsView (view : View) (slots : List (ℕ × Unit {0})) (share : ℕ)
+    (open_number : Option ℕ) (seen : ℕ) (over : Bool) : Type 0 where
   pub share_is : share ≡ view.share
   pub open_is : open_number ≡ view.open_number
   pub seen_is : seen ≡ view.seen

@@ -1,10 +1,22 @@
--- What a seat's view says, and the record in it: the open number, and the settled, reported and skipped numbers.
-use Rattle.std.specs.Prelude.{◌≡◌, ℕ, ◌+◌, ◌==◌, false, Option, None, Some, List, [], ◌∷◌, length, if◌then◌else◌}
+-- What a seat's view says, and the record in it: the open number, and the settled, reported and
+-- skipped numbers.
+use Rattle.std.specs.Prelude.{◌≡◌, ℕ, ◌+◌, ◌==◌, false, Option, None, Some, List, [], ◌∷◌, length}
+use Rattle.std.specs.Prelude.{if◌then◌else◌}
 use Rattle.mm_board.specs.declared.views.View.{View}
 
 -- the first seat of a board of n numbers: it stands for all 64 seats, and its record is empty
 abbrev pub first_view : ℕ → View
-first_view n = record { count = n; share = 64; open_number = None; settled = []; reported = []; skipped = []; seen = n; over = false }
+first_view n =
+    record {
+      count = n;
+      share = 64;
+      open_number = None;
+      settled = [];
+      reported = [];
+      skipped = [];
+      seen = n;
+      over = false;
+    }
 
 -- how often x stands in the list
 abbrev pub times_in : ℕ → List ℕ → ℕ
@@ -18,7 +30,8 @@ times_open x (Some i) = if i == x then 1 else 0
 
 -- how often x stands in the seat's record
 abbrev pub times_recorded : ℕ → View → ℕ
-times_recorded x v = times_open x v.open_number + times_in x v.settled + times_in x v.reported + times_in x v.skipped
+times_recorded x v =
+    times_open x v.open_number + times_in x v.settled + times_in x v.reported + times_in x v.skipped
 
 -- 1 where a number is open, and else 0
 abbrev pub open_count : Option ℕ → ℕ

@@ -1,6 +1,8 @@
--- The rule of a board of n numbers. It holds between any two steps, of three words and of the views of all seats: the seats in
--- use, those that were dropped, and those that were joined to another, which are spent: share 0 and an empty record.
-use Rattle.std.specs.Prelude.{◌≡◌, ℕ, ◌+◌, ◌≤◌, ◌<◌, ◌⊎◌, min, nat_lt, true, List, [], ◌∷◌, length, if◌then◌else◌}
+-- The rule of a board of n numbers. It holds between any two steps, of three words and of the views
+-- of all seats: the seats in use, those that were dropped, and those that were joined to another,
+-- which are spent: share 0 and an empty record.
+use Rattle.std.specs.Prelude.{◌≡◌, ℕ, ◌+◌, ◌≤◌, ◌<◌, ◌⊎◌, min, nat_lt, true, List, [], ◌∷◌, length}
+use Rattle.std.specs.Prelude.{if◌then◌else◌}
 use mathlib.Core.Option.{some}
 use lib.ListN.{get_elem?}
 use Rattle.mm_board.specs.declared.views.View.{View}
@@ -46,7 +48,8 @@ abbrev pub IsAmong : List View → View → Type 0
 IsAmong views v = (seat : ℕ) × (get_elem? views seat ≡ some v)
 
 -- what the rule asks of one seat, at the claim word and the floor word
-pub record SeatRule (n : ℕ) (views : List View) (claim_word floor_word : ℕ) (v : View) : Type 0 where
+pub record SeatRule (n : ℕ) (views : List View) (claim_word floor_word : ℕ)
+    (v : View) : Type 0 where
   pub count : 0 < v.share → v.count ≡ n
   -- what it has seen is at least the floor, and is n or reported
   pub floor : 0 < v.share → floor_word ≤ v.seen
@@ -57,7 +60,8 @@ pub record SeatRule (n : ℕ) (views : List View) (claim_word floor_word : ℕ) 
 
 -- the rule, of the claim word, the floor word, the settled word and the views of all seats
 pub record BoardRule (n claim_word floor_word settled_word : ℕ) (views : List View) : Type 0 where
-  -- each number below both the claim word and n stands in one record, once, and no other number in any
+  -- each number below both the claim word and n stands in one record, once, and no other number in
+  -- any
   pub once : (x : ℕ) → total (times_recorded x) views ≡ once_below x (min claim_word n)
   -- so all records have that many numbers (it follows from `once`, and spares a count of them)
   pub lengths : total record_length views ≡ min claim_word n
@@ -67,7 +71,9 @@ pub record BoardRule (n claim_word floor_word settled_word : ℕ) (views : List 
   pub settled : settled_word ≡ settled_count views
   -- each skipped number is above the floor
   pub skipped : (x : ℕ) → 0 < times_skipped views x → floor_word < x
-  pub seats : (seat : ℕ) (v : View) → get_elem? views seat ≡ some v → SeatRule n views claim_word floor_word v
-  -- the shares add up to 64, and the claim word is at most n plus the shares of the seats that are over: no word wraps
+  pub seats : (seat : ℕ) (v : View) → get_elem? views seat ≡ some v
+      → SeatRule n views claim_word floor_word v
+  -- the shares add up to 64, and the claim word is at most n plus the shares of the seats that are
+  -- over: no word wraps
   pub shares : total (λ v. v.share) views ≡ 64
   pub bound : claim_word ≤ n + total over_share views

@@ -1,5 +1,7 @@
 -- A mask that is computed lane by lane is held to a predicate at each of the 256 bytes.
-use Rattle.std.proofs.Common.{◌≡◌, ℕ, zero, suc, ◌%◌, ◌^◌, ◌<◌, ◌≤◌, ltb, Bool, true, false, cond, eqb, ◌&&◌, T, List, [], ◌∷◌, map, length, refl, sym, ap, ap₂, ◌∙◌, arith, subst, ◌⊎◌, inl, inr, not-suc-le-zero, w8, Fits}
+use Rattle.std.proofs.Common.{◌≡◌, ℕ, zero, suc, ◌%◌, ◌^◌, ◌<◌, ◌≤◌, ltb, Bool, true, false, cond}
+use Rattle.std.proofs.Common.{eqb, ◌&&◌, T, List, [], ◌∷◌, map, length, refl, sym, ap, ap₂, ◌∙◌}
+use Rattle.std.proofs.Common.{arith, subst, ◌⊎◌, inl, inr, not-suc-le-zero, w8, Fits}
 use Rattle.std.proofs.lemmas.Simd.{mask_l-mod, mask_l-lt, zip2_of_maps}
 use Rattle.std.proofs.Math.Pow.{pow_mono}
 use Rattle.std.proofs.lemmas.List.{length-map}
@@ -41,22 +43,31 @@ same_is false false h = refl
 same_is true false h = absurd h
 same_is false true h = absurd h
 
-each_byte : (f : ℕ → ℕ) (p : ℕ → Bool) → T (upto (λ x. same (top 7 (f x)) (p x)) 256) → (v : List ℕ) → Each1 (Fits w8) v → map (top 7) (map f v) ≡ map p v
+each_byte : (f : ℕ → ℕ) (p : ℕ → Bool) → T (upto (λ x. same (top 7 (f x)) (p x)) 256) → (v : List ℕ)
+    → Each1 (Fits w8) v → map (top 7) (map f v) ≡ map p v
 each_byte f p all [] fits = refl
-each_byte f p all (x ∷ xs) fits = ap₂ (λ a b. a ∷ b) (same_is _ _ (upto_sound (λ y. same (top 7 (f y)) (p y)) 256 all x fits.0.fits)) (each_byte f p all xs fits.1)
+each_byte f p all (x ∷ xs) fits =
+    ap₂ (λ a b. a ∷ b)
+    (same_is _ _ (upto_sound (λ y. same (top 7 (f y)) (p y)) 256 all x fits.0.fits))
+    (each_byte f p all xs fits.1)
 
--- The mask of a vector that is f of each lane, where the top bit of f x is p x at each of the 256 bytes.
-pub masked : (f : ℕ → ℕ) (p : ℕ → Bool) (v z : List ℕ) → length v ≤ 64 → Each1 (Fits w8) v → z ≡ map f v → T (upto (λ x. same (top 7 (f x)) (p x)) 256)
+-- The mask of a vector that is f of each lane, where the top bit of f x is p x at each of the 256
+-- bytes.
+pub masked : (f : ℕ → ℕ) (p : ℕ → Bool) (v z : List ℕ) → length v ≤ 64 → Each1 (Fits w8) v
+    → z ≡ map f v → T (upto (λ x. same (top 7 (f x)) (p x)) 256)
     → mask_l (map (top 7) z) % 2 ^ 64 ≡ mask_l (map p v)
 masked f p v z short fits e all =
-    ap (λ l. mask_l l % 2 ^ 64) (ap (map (top 7)) e ∙ each_byte f p all v fits) ∙ mask_l-mod (map p v) 64 (omega (arith, length-map v p))
+    ap (λ l. mask_l l % 2 ^ 64) (ap (map (top 7)) e ∙ each_byte f p all v fits)
+    ∙ mask_l-mod (map p v) 64 (omega (arith, length-map v p))
 
 -- Two vectors that were computed lane by lane, by `|`.
-pub either : (f g : ℕ → ℕ) (v : List ℕ) {a b : List ℕ} → a ≡ map f v → b ≡ map g v → zip2 bit_or a b ≡ map (λ x. bit_or (f x) (g x)) v
+pub either : (f g : ℕ → ℕ) (v : List ℕ) {a b : List ℕ} → a ≡ map f v → b ≡ map g v
+    → zip2 bit_or a b ≡ map (λ x. bit_or (f x) (g x)) v
 either f g v p q = zip2_of_maps bit_or f g v p q
 
 -- The same, by `^`.
-pub one_of : (f g : ℕ → ℕ) (v : List ℕ) {a b : List ℕ} → a ≡ map f v → b ≡ map g v → zip2 bit_xor a b ≡ map (λ x. bit_xor (f x) (g x)) v
+pub one_of : (f g : ℕ → ℕ) (v : List ℕ) {a b : List ℕ} → a ≡ map f v → b ≡ map g v
+    → zip2 bit_xor a b ≡ map (λ x. bit_xor (f x) (g x)) v
 one_of f g v p q = zip2_of_maps bit_xor f g v p q
 
 -- A mask of fewer than 64 bytes has room for one more.

@@ -28,7 +28,7 @@ pub fn class_block(bytes: &[u8; 64]) -> Classes
     }
 }
 
-/// The classes of at most 63 bytes; the bits behind the last byte are 0.
+/// The classes of at most 63 bytes; the bits after the last byte are 0.
 pub fn class_tail(bytes: &[u8]) -> Classes
     requires { length bytes.now < 64 }
     ensures white { result.white ≡ mask is_white bytes.now }
@@ -51,7 +51,7 @@ pub fn dollars_block(bytes: &[u8; 64]) -> u64
     dollar_mask(u8x64::from_array(*bytes))
 }
 
-/// The dollar signs among at most 63 bytes; the bits behind the last byte are 0.
+/// The dollar signs among at most 63 bytes; the bits after the last byte are 0.
 pub fn dollars_tail(bytes: &[u8]) -> u64
     requires { length bytes.now < 64 }
     ensures { result ≡ mask (λ b. b == 0x24) bytes.now }

@@ -1,6 +1,7 @@
-//! The classes of bytes, and counts of them, 64 at a time by lanes. This layer knows bytes and no text. It promises that
-//! masks, the first bad byte and the number of line feeds are their plain definitions (`Rattle.mm_bytes.specs.Masks`)
-//! for every length. Nothing here takes memory or refuses anything.
+//! The classes of bytes, and counts of them, 64 at a time by lanes. This layer knows bytes and no
+//! text. It promises that masks, the first bad byte and the number of line feeds are their plain
+//! definitions (`Rattle.mm_bytes.specs.Masks`) for every length. Nothing here takes memory or
+//! refuses anything.
 #![tactic(auto)]
 
 mod classes;

@@ -4,15 +4,23 @@ use Rattle.std.specs.Prelude.{Decides}
 use Rattle.std.proofs.lemmas.Bool.{and_parts, and_from}
 use Rattle.mm_spec.specs.Statement.{Statement}
 use Rattle.mm_spec.specs.Derivation.{Trees, postfix, is_member}
-use Rattle.mm_spec.specs.Complete.{AreComplete}
+use Rattle.mm_spec.specs.Laws.Complete.{AreComplete}
 use Rattle.mm_spec.specs.Citation.{IsProof, Cites}
 use Rattle.mm_spec.proofs.Cited.{proof_unique}
 use Rattle.mm_spec.proofs.NodesLemmas.{all_labels}
 use Rattle.mm_check.specs.Contract.{is_assertion_at}
 
 -- the assertions among the labels of the proof are what the theorem cites
-pub all_cited : (db : List Statement) (t : ℕ) (d : Trees) (cites : List ℕ) → AreComplete db → IsProof db t d → ((a : ℕ) → is_member cites a ≡ (is_member (postfix d) a && is_assertion_at db a)) → (a : ℕ) → Decides (is_member cites a) (Cites db false t a)
+pub all_cited : (db : List Statement) (t : ℕ) (d : Trees) (cites : List ℕ) → AreComplete db
+    → IsProof db t d
+    → ((a : ℕ) → is_member cites a ≡ (is_member (postfix d) a && is_assertion_at db a)) → (a : ℕ)
+    → Decides (is_member cites a) (Cites db false t a)
 all_cited db t d cites complete p exact a = (
-  λ e. let both = and_parts (is_member (postfix d) a) (is_assertion_at db a) (sym (exact a) ∙ e) in (both.1, d, p, (all_labels db d a).1 both.0),
-  λ c. exact a ∙ and_from (is_member (postfix d) a) (is_assertion_at db a) (subst (λ e. is_member (postfix e) a ≡ true) (proof_unique db complete t c.1 d c.2 p) ((all_labels db c.1 a).0 c.3)) c.0,
+  λ e. let both =
+      and_parts (is_member (postfix d) a) (is_assertion_at db a) (sym (exact a) ∙ e) in
+      (both.1, d, p, (all_labels db d a).1 both.0),
+  λ c. exact a
+      ∙ and_from (is_member (postfix d) a) (is_assertion_at db a)
+      (subst (λ e. is_member (postfix e) a ≡ true) (proof_unique db complete t c.1 d c.2 p)
+      ((all_labels db c.1 a).0 c.3)) c.0,
 )

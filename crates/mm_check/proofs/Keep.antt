@@ -5,10 +5,14 @@ use Rattle.mm_spec.specs.Derivation.{Formula}
 use Rattle.mm_check.specs.declared.arena.Entry.{Entry}
 use Rattle.mm_check.specs.Arena.{arena, text_of}
 use Rattle.mm_check.specs.State.{texts, IsStack, IsKept, IsMachine, Moves}
-use Rattle.mm_check.proofs.Grow.{all_stay, stay_texts, kept_more, kept_all_in, kept_all_more, texts-push}
+use Rattle.mm_check.proofs.Grow.{all_stay, stay_texts, kept_more, kept_all_in, kept_all_more}
+use Rattle.mm_check.proofs.Grow.{texts-push}
 use Rattle.mm_check.proofs.Marks.{rising_more}
 
-pub moved_machine : (own kept : List ℕ) (es : List Entry) (marks : List ℕ) (marked : List Entry) (width : ℕ) (own' kept' : List ℕ) (es' : List Entry) → IsMachine own kept es marks marked width → Moves own kept own' kept' → IsStack own' kept' es' → IsMachine own' kept' es' marks marked width
+pub moved_machine : (own kept : List ℕ) (es : List Entry) (marks : List ℕ) (marked : List Entry)
+    → (width : ℕ) (own' kept' : List ℕ) (es' : List Entry)
+    → IsMachine own kept es marks marked width → Moves own kept own' kept' → IsStack own' kept' es'
+    → IsMachine own' kept' es' marks marked width
 moved_machine own kept es marks marked width own' kept' es' m v s =
     let k = v.known width m.known_own in
     record {
@@ -20,7 +24,10 @@ moved_machine own kept es marks marked width own' kept' es' m v s =
       count = m.count;
     }
 
-pub marked_more : (own kept : List ℕ) (es : List Entry) (marks : List ℕ) (marked : List Entry) (width : ℕ) (e : Entry) → IsMachine own kept es marks marked width → IsKept kept e → IsMachine own kept es marks (marked ++ e ∷ []) width
+pub marked_more : (own kept : List ℕ) (es : List Entry) (marks : List ℕ) (marked : List Entry)
+    → (width : ℕ) (e : Entry)
+    → IsMachine own kept es marks marked width → IsKept kept e
+    → IsMachine own kept es marks (marked ++ e ∷ []) width
 marked_more own kept es marks marked width e m k = record {
   known_own = m.known_own;
   known_kept = m.known_kept;
@@ -30,7 +37,10 @@ marked_more own kept es marks marked width e m k = record {
   count = omega (arith, m.count, length-append marked (e ∷ []));
 }
 
-pub both_more : (own kept : List ℕ) (es : List Entry) (marks : List ℕ) (marked : List Entry) (width : ℕ) (e : Entry) (step : ℕ) → IsMachine own kept es marks marked width → IsKept kept e → All (λ j. j < step) marks → IsMachine own kept es (marks ++ step ∷ []) (marked ++ e ∷ []) width
+pub both_more : (own kept : List ℕ) (es : List Entry) (marks : List ℕ) (marked : List Entry)
+    → (width : ℕ) (e : Entry) (step : ℕ)
+    → IsMachine own kept es marks marked width → IsKept kept e → All (λ j. j < step) marks
+    → IsMachine own kept es (marks ++ step ∷ []) (marked ++ e ∷ []) width
 both_more own kept es marks marked width e step m k later = record {
   known_own = m.known_own;
   known_kept = m.known_kept;
@@ -41,7 +51,13 @@ both_more own kept es marks marked width e step m k later = record {
 }
 
 -- the formulas of the marked steps, and one more
-pub marked_texts : (own kept own' kept' : List ℕ) (marked : List Entry) (e : Entry) (f : Formula) → Moves own kept own' kept' → All (IsKept kept) marked → text_of (arena [] kept') e ≡ f → texts (arena [] kept') (marked ++ e ∷ []) ≡ texts (arena [] kept) marked ++ f ∷ []
+pub marked_texts : (own kept own' kept' : List ℕ) (marked : List Entry) (e : Entry) (f : Formula)
+    → Moves own kept own' kept' → All (IsKept kept) marked → text_of (arena [] kept') e ≡ f
+    → texts (arena [] kept') (marked ++ e ∷ []) ≡ texts (arena [] kept) marked ++ f ∷ []
 marked_texts own kept own' kept' marked e f v h t =
-    let old : texts (arena [] kept') marked ≡ texts (arena [] kept) marked = rw v.kept_is (stay_texts (arena [] kept) (arena [] (kept ++ v.more)) marked (all_stay (arena [] kept) (arena [] (kept ++ v.more)) marked (kept_more [] kept v.more) (kept_all_in [] kept marked h))) in
+    let old : texts (arena [] kept') marked ≡ texts (arena [] kept) marked =
+    rw v.kept_is
+    (stay_texts (arena [] kept) (arena [] (kept ++ v.more)) marked
+    (all_stay (arena [] kept) (arena [] (kept ++ v.more)) marked (kept_more [] kept v.more)
+    (kept_all_in [] kept marked h))) in
     texts-push (arena [] kept') marked e ∙ ap₂ (λ us u. us ++ u ∷ []) old t

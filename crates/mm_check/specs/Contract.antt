@@ -9,7 +9,7 @@ use Rattle.mm_spec.specs.Steps.{Step, label, marked, PlacedStep}
 use Rattle.mm_spec.specs.Valid.{StepFault}
 use Rattle.mm_spec.specs.Citation.{IsProof, Cites, is_assertion, context_at}
 use Rattle.mm_spec.specs.Output.{ProofFault, end_of}
-use Rattle.mm_spec.proofs.Machine.{IsGood}
+use Rattle.mm_spec.specs.Laws.Stack.{IsGood}
 use Rattle.mm_check.specs.declared.checker.CheckRefused.{CheckRefused}
 use Rattle.mm_check.specs.declared.checker.CheckRefused.TheVariants.{Fault as Faulty, Memory}
 
@@ -26,7 +26,8 @@ abbrev pub is_assertion_at : List Statement → ℕ → Bool
 is_assertion_at db a = list_any is_assertion (statement_at db a)
 
 -- the theorem has a proof, and these are the assertions that it cites, rising, each once
-pub record IsChecked (db : List Statement) (by_essential : Bool) (t : ℕ) (cites : List ℕ) : Type 0 where
+pub record IsChecked (db : List Statement) (by_essential : Bool) (t : ℕ)
+    (cites : List ℕ) : Type 0 where
   pub derivation : Trees
   pub proof : IsProof db t derivation
   pub rising : IsStrictlyIncreasing cites

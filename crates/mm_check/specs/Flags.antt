@@ -1,4 +1,5 @@
--- The flags of entries and of steps, while the steps of a proof are gone through from the last to the first.
+-- The flags of entries and of steps, while the steps of a proof are gone through from the last to
+-- the first.
 use Rattle.std.specs.Prelude.{ℕ, Bool, true, ◌&&◌, List, [], map, slice_set, if◌then◌else◌}
 use Rattle.std.specs.List.{list_any}
 use Rattle.mm_spec.specs.Statement.{Statement}
@@ -7,9 +8,11 @@ use Rattle.mm_spec.specs.Frame.{is_essential, mandatory_hypotheses}
 use Rattle.mm_spec.specs.Steps.{Step, label, marked}
 use Rattle.mm_check.specs.Contract.{is_assertion_at}
 
--- for each mandatory hypothesis of an assertion, whether its entry is essential, by whether the assertion's node is
+-- for each mandatory hypothesis of an assertion, whether its entry is essential, by whether the
+-- assertion's node is
 abbrev pub child_flags : List Statement → Bool → ℕ → List Bool
-child_flags db b l = map (λ h. b && list_any is_essential (statement_at db h)) (mandatory_hypotheses db l)
+child_flags db b l =
+    map (λ h. b && list_any is_essential (statement_at db h)) (mandatory_hypotheses db l)
 
 -- the flags of the entries that a step takes from the stack, by whether what it puts is essential
 abbrev pub taken_flags : List Statement → Bool → Step → List Bool

@@ -1,25 +1,31 @@
--- What holds behind the steps so far.
-use Rattle.std.specs.Prelude.{ℕ, ◌≡◌, ◌<◌, true, ◌&&◌, List, [], ◌++◌, map, take, length, All, Some, slice_get}
+-- What holds after the steps so far.
+use Rattle.std.specs.Prelude.{ℕ, ◌≡◌, ◌<◌, true, ◌&&◌, List, [], ◌++◌, map, take, length, All, Some}
+use Rattle.std.specs.Prelude.{slice_get}
 use Rattle.std.specs.List.{AllByRecursion, AllZip, Contains}
 use Rattle.mm_spec.specs.Derivation.{Formula, Trees, formulas, postfix, AreDerivations, is_member}
 use Rattle.mm_spec.specs.Steps.{Step, PlacedStep}
 use Rattle.mm_spec.specs.Valid.{Plain}
-use Rattle.mm_spec.proofs.Steps.{Behind}
+use Rattle.mm_spec.specs.Laws.Stack.{Behind}
 use Rattle.mm_spec.specs.Statement.{Statement}
 use Rattle.mm_spec.specs.Citation.{context_at}
 use Rattle.mm_proof.specs.Read.{is_marked}
 use Rattle.mm_check.specs.State.{State}
 use Rattle.mm_check.specs.Contract.{is_assertion_at}
 
--- A row of derivations stands behind the steps: its formulas are the entries, the ends are the last formulas of the earlier rows, and its assertions were noted.
-pub record Reached (k : List Statement) (t : ℕ) (done : List Step) (entries ends : List Formula) (noted : List ℕ) : Type 0 where
+-- A row of derivations stands after the steps: its formulas are the entries, the ends are the last
+-- formulas of the earlier rows, and its assertions were noted.
+pub record Reached (k : List Statement) (t : ℕ) (done : List Step) (entries ends : List Formula)
+    (noted : List ℕ) : Type 0 where
   pub row : Trees
   pub derivations : AreDerivations (context_at k t) row
   pub entries_are : formulas row ≡ entries
   pub lists : List (List ℕ)
   pub behind : AllZip (Behind (context_at k t)) lists ends
-  pub plain : (rest : List Step) (all : List ℕ) → Plain (context_at k t) lists (postfix row) rest all → Plain (context_at k t) [] [] (done ++ rest) all
-  pub within : AllByRecursion (λ l. (a : ℕ) → is_member l a ≡ true → is_member (postfix row) a ≡ true) lists
+  pub plain : (rest : List Step) (all : List ℕ)
+      → Plain (context_at k t) lists (postfix row) rest all
+      → Plain (context_at k t) [] [] (done ++ rest) all
+  pub within : AllByRecursion
+      (λ l. (a : ℕ) → is_member l a ≡ true → is_member (postfix row) a ≡ true) lists
   pub noted_are : (a : ℕ) → is_member noted a ≡ (is_member (postfix row) a && is_assertion_at k a)
 
 -- the steps without their places
@@ -30,8 +36,10 @@ steps_of steps = map (λ s. s.step) steps
 abbrev pub Agree : List Formula → List ℕ → List Formula → Type 0
 Agree ends marks formulas = AllZip (λ j f. slice_get ends j ≡ Some f) marks formulas
 
--- The state behind the first steps: their entries, and each of them that is marked with its formula.
-pub record Ran (k : List Statement) (t : ℕ) (steps : List PlacedStep) (i : ℕ) (s : State) (noted : List ℕ) : Type 0 where
+-- The state after the first steps: their entries, and each of them that is marked with its
+-- formula.
+pub record Ran (k : List Statement) (t : ℕ) (steps : List PlacedStep) (i : ℕ) (s : State)
+    (noted : List ℕ) : Type 0 where
   pub ends : List Formula
   pub count : length ends ≡ i
   pub reached : Reached k t (steps_of (take i steps)) s.entries ends noted

@@ -1,10 +1,11 @@
 -- What an assertion asks and gives, by the places of its hypotheses.
-use Rattle.std.specs.Prelude.{◌≡◌, ℕ, suc, ◌<◌, ◌≤◌, true, List, [], ◌∷◌, map, flat_map, length, get_or, slice_range, All, if◌then◌else◌}
+use Rattle.std.specs.Prelude.{◌≡◌, ℕ, suc, ◌<◌, ◌≤◌, true, List, [], ◌∷◌, map, flat_map, length}
+use Rattle.std.specs.Prelude.{get_or, slice_range, All, if◌then◌else◌}
 use Rattle.mm_spec.specs.Statement.{Statement}
 use Rattle.mm_spec.specs.Derivation.{Formula}
-use Rattle.mm_spec.specs.Complete.{binds, IsBound, IsComplete}
+use Rattle.mm_spec.specs.Laws.Complete.{binds, IsBound, IsComplete}
 use Rattle.mm_spec.specs.Citation.{context_at}
-use Rattle.mm_spec.specs.Frame.{is_variable, symbol_names, frame_at}
+use Rattle.mm_spec.specs.Frame.{is_variable_number, symbol_names, frame_at}
 use Rattle.mm_check.specs.declared.arena.Entry.{Entry}
 use Rattle.mm_check.specs.declared.rule.Part.{Part}
 use Rattle.mm_check.specs.declared.rule.Part.TheVariants.{Constant, Variable}
@@ -20,7 +21,7 @@ first k (h ∷ hs) x = if binds (context_at k 0) x h then 0 else suc (first k hs
 
 -- a constant, or a variable by the place of its `$f`
 abbrev pub part_of : List Statement → List Formula → ℕ → Part
-part_of k hs s = if is_variable k s then Variable (first k hs s) else Constant s
+part_of k hs s = if is_variable_number k s then Variable (first k hs s) else Constant s
 
 abbrev pub parts_of : List Statement → List Formula → Formula → List Part
 parts_of k hs f = map (part_of k hs) f
@@ -70,9 +71,16 @@ pub record IsCompiled (k : List Statement) (c : Compiled) : Type 0 where
   pub pairs_in : All (λ (p : ℕ × ℕ). (p.0 < length c.asked) × (p.1 < length c.asked)) c.pairs
   pub formula_in : All (IsBelow (length c.asked)) c.formula
   pub formula_known : All (IsKnown (length (symbol_names k))) c.formula
-  pub asked_is : all_parts c.parts 0 c.asked ≡ map (parts_of k (frame_at k c.assertion).hypotheses) (frame_at k c.assertion).hypotheses
-  pub pairs_are : c.pairs ≡ map (λ p. (first k (frame_at k c.assertion).hypotheses p.low, first k (frame_at k c.assertion).hypotheses p.high)) (frame_at k c.assertion).pairs
-  pub formula_is : c.formula ≡ parts_of k (frame_at k c.assertion).hypotheses (frame_at k c.assertion).formula
+  pub asked_is : all_parts c.parts 0 c.asked
+      ≡ map (parts_of k (frame_at k c.assertion).hypotheses) (frame_at k c.assertion).hypotheses
+  pub pairs_are : c.pairs
+      ≡ map (λ p. (
+        first k (frame_at k c.assertion).hypotheses p.low,
+        first k
+            (frame_at k c.assertion).hypotheses p.high,
+      )) (frame_at k c.assertion).pairs
+  pub formula_is : c.formula
+      ≡ parts_of k (frame_at k c.assertion).hypotheses (frame_at k c.assertion).formula
 
 -- what stands for the variable of a hypothesis, by the entries of the hypotheses
 abbrev pub stands : Arena → List Entry → ℕ → List ℕ
@@ -92,11 +100,12 @@ ArePlaced k hs places = (x : ℕ) → IsBound (context_at k 0) hs x → get_or p
 
 -- each variable of the formula has a `$f`
 abbrev pub AreCovered : List Statement → List Formula → Formula → Type 0
-AreCovered k hs f = All (λ x. is_variable k x ≡ true → IsBound (context_at k 0) hs x) f
+AreCovered k hs f = All (λ x. is_variable_number k x ≡ true → IsBound (context_at k 0) hs x) f
 
 -- each variable of the pairs has a `$f`
 abbrev pub ArePairs : List Statement → List Formula → List (ℕ × ℕ) → Type 0
-ArePairs k hs ps = All (λ (p : ℕ × ℕ). IsBound (context_at k 0) hs p.0 × IsBound (context_at k 0) hs p.1) ps
+ArePairs k hs ps =
+    All (λ (p : ℕ × ℕ). IsBound (context_at k 0) hs p.0 × IsBound (context_at k 0) hs p.1) ps
 
 -- the rules that were made, and how many symbols there are
 pub record Store : Type 0 where

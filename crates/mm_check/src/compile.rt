@@ -1,12 +1,16 @@
 //! How the rule of an assertion is made.
 
-ghost use Rattle.std.specs.Prelude.{◌≡◌, ◌<◌, ◌^◌, ◌++◌, ◌∷◌, [], ℕ, All, length, map, drop, nat_eq, get_or, slice_set, true, false, IfSome, IfNone, OnOk, IfOk, vec_len};
+ghost use Rattle.std.specs.Prelude.{◌≡◌, ◌<◌, ◌^◌, ◌++◌, ◌∷◌, [], ℕ, All, length, map, drop};
+ghost use Rattle.std.specs.Prelude.{nat_eq, get_or, slice_set, true, false, IfSome, IfNone, OnOk};
+ghost use Rattle.std.specs.Prelude.{IfOk, vec_len};
 ghost use Rattle.mm_spec.specs.Derivation.{Pair};
-ghost use Rattle.mm_spec.specs.Frame.{symbol_names, is_variable, formula_at, frame_at, mandatory_hypotheses};
+ghost use Rattle.mm_spec.specs.Frame.{symbol_names, is_variable_number, formula_at, frame_at};
+ghost use Rattle.mm_spec.specs.Frame.{mandatory_hypotheses};
 ghost use Rattle.mm_spec.specs.Citation.{context_at};
-ghost use Rattle.mm_spec.specs.Complete.{binds, IsBound, IsComplete};
+ghost use Rattle.mm_spec.specs.Laws.Complete.{binds, IsBound, IsComplete};
 ghost use Rattle.mm_check.specs.Contract.{is_assertion_at};
-ghost use Rattle.mm_check.specs.Rule.{first, part_of, parts_of, all_parts, compiled, IsAsked, IsBelow, IsCompiled, AreCovered, ArePlaced, ArePairs};
+ghost use Rattle.mm_check.specs.Rule.{first, part_of, parts_of, all_parts, compiled, IsAsked};
+ghost use Rattle.mm_check.specs.Rule.{IsBelow, IsCompiled, AreCovered, ArePlaced, ArePairs};
 ghost use Rattle.mm_check.specs.declared.rule.Part.TheVariants.{Constant, Variable};
 
 use crate::frames;
@@ -17,8 +21,14 @@ use std::alloc::{AllocError, Allocator};
 /// The variable of a hypothesis `$f`.
 fn variable_of<A: Allocator>(db: &Database<A>, h: u32) -> Option<Sym>
     requires { h < length db.now.statements }
-    ensures some { IfSome result (λ y. (y < length (symbol_names db.now.statements)) × ((x : ℕ) → binds (context_at db.now.statements 0) x (formula_at db.now.statements h) ≡ nat_eq x y)) }
-    ensures none { IfNone result ((x : ℕ) → binds (context_at db.now.statements 0) x (formula_at db.now.statements h) ≡ false) }
+    ensures some { IfSome result
+        (λ y. (y < length (symbol_names db.now.statements))
+        × ((x : ℕ)
+        → binds (context_at db.now.statements 0) x (formula_at db.now.statements h)
+        ≡ nat_eq x y)) }
+    ensures none { IfNone result
+        ((x : ℕ)
+        → binds (context_at db.now.statements 0) x (formula_at db.now.statements h) ≡ false) }
 {
     let wanted = db.formula(h);
     if wanted.len() == 2 && !db.is_variable(wanted[0]) && db.is_variable(wanted[1]) {
@@ -64,9 +74,12 @@ fn place<A: Allocator>(db: &Database<A>, hyps: &[u32], places: &mut [u32])
 /// The part of a symbol.
 fn part<A: Allocator>(db: &Database<A>, _hyps: &[u32], places: &[u32], s: Sym) -> Part
     requires width { length places.now ≡ length (symbol_names db.now.statements) }
-    requires placed { ArePlaced db.now.statements (map (formula_at db.now.statements) _hyps.now) places.now }
+    requires placed { ArePlaced db.now.statements
+        (map (formula_at db.now.statements) _hyps.now) places.now }
     requires known { s < length (symbol_names db.now.statements) }
-    requires bound { is_variable db.now.statements s ≡ true → IsBound (context_at db.now.statements 0) (map (formula_at db.now.statements) _hyps.now) s }
+    requires bound { is_variable_number db.now.statements s ≡ true
+        → IsBound (context_at db.now.statements 0)
+        (map (formula_at db.now.statements) _hyps.now) s }
     ensures { result ≡ part_of db.now.statements (map (formula_at db.now.statements) _hyps.now) s }
 {
     if db.is_variable(s) {
@@ -76,7 +89,7 @@ fn part<A: Allocator>(db: &Database<A>, _hyps: &[u32], places: &[u32], s: Sym) -
     }
 }
 
-/// Puts the parts of a formula behind the others of a list.
+/// Puts the parts of a formula after the others of a list.
 fn write<A: Allocator>(
     db: &Database<A>,
     hyps: &[u32],
@@ -85,10 +98,15 @@ fn write<A: Allocator>(
     parts: &mut Vec<Part, A>,
 ) -> Result<(), AllocError>
     requires width { length places.now ≡ length (symbol_names db.now.statements) }
-    requires placed { ArePlaced db.now.statements (map (formula_at db.now.statements) hyps.now) places.now }
+    requires placed { ArePlaced db.now.statements
+        (map (formula_at db.now.statements) hyps.now) places.now }
     requires known { All (λ s. s < length (symbol_names db.now.statements)) formula.now }
-    requires bound { AreCovered db.now.statements (map (formula_at db.now.statements) hyps.now) formula.now }
-    ensures { OnOk result (parts.new.items ≡ parts.old.items ++ parts_of db.now.statements (map (formula_at db.now.statements) hyps.now) formula.now) }
+    requires bound { AreCovered db.now.statements
+        (map (formula_at db.now.statements) hyps.now) formula.now }
+    ensures { OnOk result
+        (parts.new.items
+        ≡ parts.old.items
+        ++ parts_of db.now.statements (map (formula_at db.now.statements) hyps.now) formula.now) }
 {
     for s in formula {
         parts.push(part(db, hyps, places, *s))?;
@@ -105,10 +123,15 @@ fn is_first<A: Allocator>(
     formula: &[Sym],
 ) -> bool
     requires width { length places.now ≡ length (symbol_names db.now.statements) }
-    requires placed { ArePlaced db.now.statements (map (formula_at db.now.statements) _hyps.now) places.now }
+    requires placed { ArePlaced db.now.statements
+        (map (formula_at db.now.statements) _hyps.now) places.now }
     requires known { All (λ s. s < length (symbol_names db.now.statements)) formula.now }
-    requires bound { AreCovered db.now.statements (map (formula_at db.now.statements) _hyps.now) formula.now }
-    ensures { result ≡ true → (0 < length formula.now) × (parts_of db.now.statements (map (formula_at db.now.statements) _hyps.now) formula.now ≡ Constant (get_or formula.now 0 0) ∷ Variable j ∷ []) }
+    requires bound { AreCovered db.now.statements
+        (map (formula_at db.now.statements) _hyps.now) formula.now }
+    ensures { result ≡ true
+        → (0 < length formula.now)
+        × (parts_of db.now.statements (map (formula_at db.now.statements) _hyps.now) formula.now
+        ≡ Constant (get_or formula.now 0 0) ∷ Variable j ∷ []) }
 {
     formula.len() == 2
         && !db.is_variable(formula[0])
@@ -125,12 +148,18 @@ fn ask<A: Allocator>(
     parts: &mut Vec<Part, A>,
 ) -> Result<(), AllocError>
     requires width { length places.now ≡ length (symbol_names db.now.statements) }
-    requires placed { ArePlaced db.now.statements (map (formula_at db.now.statements) hyps.now) places.now }
+    requires placed { ArePlaced db.now.statements
+        (map (formula_at db.now.statements) hyps.now) places.now }
     requires hyps { All (λ h. h < length db.now.statements) hyps.now }
-    requires bound { All (λ h. AreCovered db.now.statements (map (formula_at db.now.statements) hyps.now) (formula_at db.now.statements h)) hyps.now }
+    requires bound { All
+        (λ h. AreCovered db.now.statements (map (formula_at db.now.statements) hyps.now)
+        (formula_at db.now.statements h)) hyps.now }
     requires asked { asked.old.items ≡ [] }
     requires parts { parts.old.items ≡ [] }
-    ensures asked { OnOk result (all_parts parts.new.items 0 asked.new.items ≡ map (parts_of db.now.statements (map (formula_at db.now.statements) hyps.now)) (map (formula_at db.now.statements) hyps.now)) }
+    ensures asked { OnOk result
+        (all_parts parts.new.items 0 asked.new.items
+        ≡ map (parts_of db.now.statements (map (formula_at db.now.statements) hyps.now))
+        (map (formula_at db.now.statements) hyps.now)) }
     ensures count { OnOk result (length asked.new.items ≡ length hyps.now) }
     ensures within { OnOk result (All (IsAsked (length parts.new.items)) asked.new.items) }
     ensures parts { OnOk result (All (IsBelow (length hyps.now)) parts.new.items) }
@@ -161,11 +190,22 @@ fn pair<A: Allocator>(
     pairs: &mut Vec<(u32, u32), A>,
 ) -> Result<(), AllocError>
     requires width { length places.now ≡ length (symbol_names _db.now.statements) }
-    requires placed { ArePlaced _db.now.statements (map (formula_at _db.now.statements) _hyps.now) places.now }
-    requires known { All (λ (p : ℕ × ℕ). (p.0 < length (symbol_names _db.now.statements)) × (p.1 < length (symbol_names _db.now.statements))) from.now }
-    requires bound { ArePairs _db.now.statements (map (formula_at _db.now.statements) _hyps.now) from.now }
+    requires placed { ArePlaced _db.now.statements
+        (map (formula_at _db.now.statements) _hyps.now) places.now }
+    requires known { All
+        (λ (p : ℕ × ℕ). (p.0 < length (symbol_names _db.now.statements))
+        × (p.1 < length (symbol_names _db.now.statements))) from.now }
+    requires bound { ArePairs _db.now.statements
+        (map (formula_at _db.now.statements) _hyps.now) from.now }
     requires pairs { pairs.old.items ≡ [] }
-    ensures { OnOk result (pairs.new.items ≡ map (λ (p : ℕ × ℕ). (first _db.now.statements (map (formula_at _db.now.statements) _hyps.now) p.0, first _db.now.statements (map (formula_at _db.now.statements) _hyps.now) p.1)) from.now) }
+    ensures { OnOk result
+        (pairs.new.items
+        ≡ map (λ (p : ℕ × ℕ). (
+          first _db.now.statements
+              (map (formula_at _db.now.statements) _hyps.now) p.0,
+          first _db.now.statements
+              (map (formula_at _db.now.statements) _hyps.now) p.1,
+        )) from.now) }
 {
     for p in from {
         let low = place_of(places, p.0);

@@ -1,13 +1,14 @@
 //! The assertions that essential nodes of a proof have as their labels.
 
-ghost use Rattle.std.specs.Prelude.{◌≡◌, ◌<◌, ◌++◌, ◌∷◌, ◌||◌, ◌&&◌, [], ℕ, length, replicate, true, false, Decides, OnOk};
+ghost use Rattle.std.specs.Prelude.{◌≡◌, ◌<◌, ◌++◌, ◌∷◌, ◌||◌, ◌&&◌, [], ℕ, length, replicate};
+ghost use Rattle.std.specs.Prelude.{true, false, Decides, OnOk};
 ghost use Rattle.std.specs.List.{list_any};
 ghost use Rattle.mm_spec.specs.Scope.{statement_at};
 ghost use Rattle.mm_spec.specs.Frame.{is_essential as is_essential_statement};
 ghost use Rattle.mm_spec.specs.Derivation.{Trees, is_member};
 ghost use Rattle.mm_spec.specs.Citation.{context_at, steps_at, IsProof, Cites};
-ghost use Rattle.mm_spec.specs.Complete.{AreComplete};
-ghost use Rattle.mm_spec.proofs.Steps.{AreGoodSteps};
+ghost use Rattle.mm_spec.specs.Laws.Complete.{AreComplete};
+ghost use Rattle.mm_spec.specs.Laws.Stack.{AreGoodSteps};
 ghost use Rattle.mm_proof.specs.Read.{step_of, IsEarlier};
 ghost use Rattle.mm_check.specs.Contract.{is_assertion_at, is_labelled_step, labels};
 ghost use Rattle.mm_check.specs.Flags.{child_flags, taken_flags, wanted_flags};
@@ -20,11 +21,12 @@ use mm_proof::{Step, Steps};
 use mm_stmt::Database;
 use std::alloc::{AllocError, Allocator};
 
-/// Which entries and which steps are essential, while the steps of a proof are gone through from the last to the first.
-/// It is kept from proof to proof for its memory.
+/// Which entries and which steps are essential, while the steps of a proof are gone through from
+/// the last to the first. It is kept from proof to proof for its memory.
 #[derive(Drop)]
 pub struct Flags<A: Allocator> {
-    /// Of each entry that stands on the stack behind a step, from the lowest to the top: whether it is essential.
+    /// Of each entry that stands on the stack after a step, from the lowest to the top: whether it
+    /// is essential.
     waiting: Vec<bool, A>,
     /// Of each step: whether an essential later one takes up the subproof that it ended.
     wanted: Vec<bool, A>,
@@ -42,7 +44,8 @@ impl<A: Allocator> Flags<A> {
         }
     }
 
-    /// Leaves those of the noted assertions that are cited: all, or the labels of essential nodes alone.
+    /// Leaves those of the noted assertions that are cited: all, or the labels of essential nodes
+    /// alone.
     pub fn choose(
         &mut self,
         db: &Database<A>,
@@ -54,10 +57,15 @@ impl<A: Allocator> Flags<A> {
     ) -> Result<(), AllocError>
         requires complete { AreComplete db.now.statements }
         requires steps { steps.now.steps ≡ steps_at db.now.statements theorem }
-        requires usable { AreGoodSteps (context_at db.now.statements theorem) 0 (steps_of steps.now.steps) }
+        requires usable { AreGoodSteps (context_at db.now.statements theorem) 0
+            (steps_of steps.now.steps) }
         requires valid { (d : Trees) × IsProof db.now.statements theorem d }
-        requires noted { (a : ℕ) → Decides (is_member noted.old.items a) (Cites db.now.statements false theorem a) }
-        ensures { OnOk result ((a : ℕ) → Decides (is_member noted.new.items a) (Cites db.now.statements essential theorem a)) }
+        requires noted { (a : ℕ)
+            → Decides (is_member noted.old.items a) (Cites db.now.statements false theorem a) }
+        ensures { OnOk result
+            ((a : ℕ)
+            → Decides (is_member noted.new.items a)
+            (Cites db.now.statements essential theorem a)) }
     {
         if essential {
             walk_back(
@@ -104,12 +112,14 @@ fn pop_flag<A: Allocator>(waiting: &mut Vec<bool, A>) -> bool
 /// Whether the child for a hypothesis is essential: its parent is, and the hypothesis is a `$e`.
 fn flag_for<A: Allocator>(db: &Database<A>, h: u32, is_essential: bool) -> bool
     requires { h < length db.now.statements }
-    ensures { result ≡ (is_essential && list_any is_essential_statement (statement_at db.now.statements h)) }
+    ensures { result
+        ≡ (is_essential && list_any is_essential_statement (statement_at db.now.statements h)) }
 {
     is_essential && is_essential_hypothesis(db, h)
 }
 
-/// Puts a flag on top for each child of a node with an assertion's label, by whether the node is essential.
+/// Puts a flag on top for each child of a node with an assertion's label, by whether the node is
+/// essential.
 fn push_flags<A: Allocator>(
     db: &Database<A>,
     k: u32,
@@ -117,7 +127,8 @@ fn push_flags<A: Allocator>(
     waiting: &mut Vec<bool, A>,
 ) -> Result<(), AllocError>
     requires { is_assertion_at db.now.statements k ≡ true }
-    ensures { OnOk result (waiting.new.items ≡ waiting.old.items ++ child_flags db.now.statements is_essential k) }
+    ensures { OnOk result
+        (waiting.new.items ≡ waiting.old.items ++ child_flags db.now.statements is_essential k) }
 {
     for h in hyps(db, k) {
         waiting.push(flag_for(db, *h, is_essential))?;
@@ -125,8 +136,8 @@ fn push_flags<A: Allocator>(
     Ok(())
 }
 
-/// Undoes a step, whose own flag was taken: puts the flags of the entries that it took. Where the step is essential, its
-/// assertion is noted, or the step whose subproof it takes up is wanted.
+/// Undoes a step, whose own flag was taken: puts the flags of the entries that it took. Where the
+/// step is essential, its assertion is noted, or the step whose subproof it takes up is wanted.
 fn undo<A: Allocator>(
     db: &Database<A>,
     step: Step,
@@ -138,9 +149,17 @@ fn undo<A: Allocator>(
 ) -> Result<(), AllocError>
     requires known { labels (step_of step) (length db.now.statements) }
     requires earlier { IsEarlier (step_of step) (length wanted.old) }
-    ensures noted { OnOk result ((a : ℕ) → is_member noted.new.items a ≡ (is_member noted.old.items a || (is_essential && (is_labelled_step (step_of step) a && is_assertion_at db.now.statements a)))) }
-    ensures waiting { OnOk result (waiting.new.items ≡ waiting.old.items ++ taken_flags db.now.statements is_essential (step_of step)) }
-    ensures wanted { OnOk result (wanted.new ≡ wanted_flags is_essential (step_of step) wanted.old) }
+    ensures noted { OnOk result
+        ((a : ℕ)
+        → is_member noted.new.items a
+        ≡ (is_member noted.old.items a
+        || (is_essential
+        && (is_labelled_step (step_of step) a && is_assertion_at db.now.statements a)))) }
+    ensures waiting { OnOk result
+        (waiting.new.items
+        ≡ waiting.old.items ++ taken_flags db.now.statements is_essential (step_of step)) }
+    ensures wanted { OnOk result
+        (wanted.new ≡ wanted_flags is_essential (step_of step) wanted.old) }
 {
     if is_essential {
         cite(db, step, noted, places)?;
@@ -160,8 +179,9 @@ fn undo<A: Allocator>(
     Ok(())
 }
 
-/// Notes the assertions of essential nodes, in one pass back over the steps: so at each step it is known whether the entry
-/// that it put is essential, and whether an essential later step takes its subproof up.
+/// Notes the assertions of essential nodes, in one pass back over the steps: so at each step it is
+/// known whether the entry that it put is essential, and whether an essential later step takes its
+/// subproof up.
 fn walk_back<A: Allocator>(
     db: &Database<A>,
     theorem: u32,
@@ -173,9 +193,12 @@ fn walk_back<A: Allocator>(
 ) -> Result<(), AllocError>
     requires complete { AreComplete db.now.statements }
     requires steps { steps.now.steps ≡ steps_at db.now.statements theorem }
-    requires usable { AreGoodSteps (context_at db.now.statements theorem) 0 (steps_of steps.now.steps) }
+    requires usable { AreGoodSteps (context_at db.now.statements theorem) 0
+        (steps_of steps.now.steps) }
     requires valid { (d : Trees) × IsProof db.now.statements theorem d }
-    ensures { OnOk result ((a : ℕ) → Decides (is_member noted.new.items a) (Cites db.now.statements true theorem a)) }
+    ensures { OnOk result
+        ((a : ℕ)
+        → Decides (is_member noted.new.items a) (Cites db.now.statements true theorem a)) }
 {
     noted.clear();
     restart(steps.len(), waiting, wanted)?;

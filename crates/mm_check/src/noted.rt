@@ -12,7 +12,8 @@ use mm_proof::Step;
 use mm_stmt::Database;
 use std::alloc::{AllocError, Allocator};
 
-/// Whether a number stands among the noted ones where it is said to. Of one that doesn't, nothing is known.
+/// Whether a number stands among the noted ones where it is said to. Of one that doesn't, nothing
+/// is known.
 fn is_noted(places: &[u32], noted: &[u32], k: u32) -> bool
     ensures { result ≡ true → is_member noted.now k ≡ true }
 {
@@ -32,7 +33,11 @@ pub fn cite<A: Allocator>(
     places: &mut [u32],
 ) -> Result<(), AllocError>
     requires known { labels (step_of step) (length db.now.statements) }
-    ensures { OnOk result ((a : ℕ) → is_member noted.new.items a ≡ (is_member noted.old.items a || (is_labelled_step (step_of step) a && is_assertion_at db.now.statements a))) }
+    ensures { OnOk result
+        ((a : ℕ)
+        → is_member noted.new.items a
+        ≡ (is_member noted.old.items a
+        || (is_labelled_step (step_of step) a && is_assertion_at db.now.statements a))) }
 {
     if let Step::Label(k) = step {
         let is_cited = is_assertion(db, k);

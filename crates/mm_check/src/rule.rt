@@ -51,7 +51,8 @@ impl<A: Allocator> Model for Rule<A> {
 
     ghost Value = { Compiled };
 
-    ghost view = { λ r. compiled r.assertion r.asked.items r.pairs.items r.parts.items r.formula.items };
+    ghost view = { λ r. compiled r.assertion r.asked.items r.pairs.items r.parts.items
+        r.formula.items };
 }
 
 impl<A: Allocator> Rule<A> {

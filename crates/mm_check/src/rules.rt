@@ -3,7 +3,7 @@
 ghost use Rattle.std.specs.Prelude.{◌≡◌, ◌<◌, [], length, get_or, true, IfOk, IfSome};
 ghost use Rattle.mm_spec.specs.Frame.{symbol_names, frame_at};
 ghost use Rattle.mm_spec.specs.Citation.{context_at};
-ghost use Rattle.mm_spec.specs.Complete.{IsComplete};
+ghost use Rattle.mm_spec.specs.Laws.Complete.{IsComplete};
 ghost use Rattle.mm_check.specs.Contract.{is_assertion_at};
 ghost use Rattle.mm_check.specs.Rule.{Store, store, AreRules, no_rule};
 
@@ -13,8 +13,8 @@ use mm_stmt::Database;
 use std::alloc::{AllocError, Allocator};
 use std::marker::Model;
 
-/// How many hypotheses, pairs and symbols rules may have together before all are let go: so frames that are much longer
-/// than the text aren't all held.
+/// How many hypotheses, pairs and symbols rules may have together before all are let go: so frames
+/// that are much longer than the text aren't all held.
 const HELD: usize = 8_388_608;
 
 /// The rules of the assertions that were applied so far, each made once.
@@ -73,7 +73,9 @@ impl<A: Allocator> Rules<A> {
 
     /// The number of an assertion's rule, if it was made.
     fn find(&self, k: u32) -> Option<usize>
-        ensures { IfSome result (λ n. (n < length self.now.rules) × ((get_or self.now.rules n no_rule).assertion ≡ k)) }
+        ensures { IfSome result
+            (λ n. (n < length self.now.rules)
+            × ((get_or self.now.rules n no_rule).assertion ≡ k)) }
     {
         let i = k as usize;
         if i >= self.numbers.len() {
@@ -103,10 +105,13 @@ impl<A: Allocator> Rules<A> {
     where
         A: Copy,
         requires assertion { is_assertion_at db.now.statements k ≡ true }
-        requires complete { IsComplete (context_at db.now.statements 0) (frame_at db.now.statements k) }
+        requires complete { IsComplete (context_at db.now.statements 0)
+            (frame_at db.now.statements k) }
         requires rules { AreRules db.now.statements self.old }
         ensures rules { AreRules db.now.statements self.new }
-        ensures number { IfOk result (λ n. (n < length self.new.rules) × ((get_or self.new.rules n no_rule).assertion ≡ k)) }
+        ensures number { IfOk result
+            (λ n. (n < length self.new.rules)
+            × ((get_or self.new.rules n no_rule).assertion ≡ k)) }
     {
         self.make_room(db);
         let rule = compile(alloc, db, k, &mut self.places)?;
@@ -123,10 +128,13 @@ impl<A: Allocator> Rules<A> {
     where
         A: Copy,
         requires assertion { is_assertion_at db.now.statements k ≡ true }
-        requires complete { IsComplete (context_at db.now.statements 0) (frame_at db.now.statements k) }
+        requires complete { IsComplete (context_at db.now.statements 0)
+            (frame_at db.now.statements k) }
         requires rules { AreRules db.now.statements self.old }
         ensures rules { AreRules db.now.statements self.new }
-        ensures number { IfOk result (λ n. (n < length self.new.rules) × ((get_or self.new.rules n no_rule).assertion ≡ k)) }
+        ensures number { IfOk result
+            (λ n. (n < length self.new.rules)
+            × ((get_or self.new.rules n no_rule).assertion ≡ k)) }
     {
         match self.find(k) {
             Some(n) => Ok(n),

@@ -1,19 +1,23 @@
--- Lists one behind the other.
-use Rattle.std.proofs.Common.{◌≡◌, ℕ, zero, suc, ◌+◌, ◌-◌, ◌<◌, ◌≤◌, List, [], ◌∷◌, ◌++◌, length, take, drop, get_or, refl, sym, ap, ap₂, ◌∙◌, subst, arith}
+-- Lists one after the other.
+use Rattle.std.proofs.Common.{◌≡◌, ℕ, zero, suc, ◌+◌, ◌-◌, ◌<◌, ◌≤◌, List, [], ◌∷◌, ◌++◌, length}
+use Rattle.std.proofs.Common.{take, drop, get_or, refl, sym, ap, ap₂, ◌∙◌, subst, arith}
 use Rattle.std.specs.List.{slice_range}
 use Rattle.std.proofs.lemmas.List.{take-append-le}
 use Rattle.mm_cites.specs.Lists.{cut_at, AreEnds, start_of}
 
-pub length-cut_at : (from : ℕ) (ends numbers : List ℕ) → length (cut_at from ends numbers) ≡ length ends
+pub length-cut_at : (from : ℕ) (ends numbers : List ℕ)
+    → length (cut_at from ends numbers) ≡ length ends
 length-cut_at from [] numbers = refl
 length-cut_at from (e ∷ ends) numbers = ap suc (length-cut_at e ends numbers)
 
 -- the places are within the one list
 pub first-within : (from : ℕ) (ends : List ℕ) (len : ℕ) → AreEnds from ends len → from ≤ len
 first-within from [] len h = omega (arith, h)
-first-within from (e ∷ ends) len h = let l = h.0 in let r = first-within e ends len h.1 in omega (arith, l, r)
+first-within from (e ∷ ends) len h =
+    let l = h.0 in let r = first-within e ends len h.1 in omega (arith, l, r)
 
-pub end-within : (from : ℕ) (ends : List ℕ) (len i : ℕ) → AreEnds from ends len → i < length ends → get_or ends i 0 ≤ len
+pub end-within : (from : ℕ) (ends : List ℕ) (len i : ℕ) → AreEnds from ends len → i < length ends
+    → get_or ends i 0 ≤ len
 end-within from [] len i h l = absurd (omega arith)
 end-within from (e ∷ ends) len zero h l = first-within e ends len h.1
 end-within from (e ∷ ends) len (suc i) h l = end-within e ends len i h.1 (omega arith)
@@ -24,7 +28,8 @@ begins from ends zero = from
 begins from [] (suc i) = from
 begins from (e ∷ ends) (suc i) = begins e ends i
 
-begins-suc : (from : ℕ) (ends : List ℕ) (i : ℕ) → i < length ends → begins from ends (suc i) ≡ get_or ends i 0
+begins-suc : (from : ℕ) (ends : List ℕ) (i : ℕ) → i < length ends
+    → begins from ends (suc i) ≡ get_or ends i 0
 begins-suc from [] i l = absurd (omega arith)
 begins-suc from (e ∷ ends) zero l = refl
 begins-suc from (e ∷ ends) (suc i) l = begins-suc e ends i (omega arith)
@@ -33,31 +38,47 @@ begins-start : (ends : List ℕ) (i : ℕ) → i < length ends → begins 0 ends
 begins-start ends zero l = refl
 begins-start ends (suc i) l = begins-suc 0 ends i (omega arith)
 
-begins-rise : (from : ℕ) (ends : List ℕ) (len i : ℕ) → AreEnds from ends len → i < length ends → begins from ends i ≤ get_or ends i 0
+begins-rise : (from : ℕ) (ends : List ℕ) (len i : ℕ) → AreEnds from ends len → i < length ends
+    → begins from ends i ≤ get_or ends i 0
 begins-rise from [] len i h l = absurd (omega arith)
 begins-rise from (e ∷ ends) len zero h l = h.0
 begins-rise from (e ∷ ends) len (suc i) h l = begins-rise e ends len i h.1 (omega arith)
 
-begins-cut : (from : ℕ) (ends numbers : List ℕ) (i : ℕ) → i < length ends → get_or (cut_at from ends numbers) i [] ≡ slice_range numbers (begins from ends i) (get_or ends i 0)
+begins-cut : (from : ℕ) (ends numbers : List ℕ) (i : ℕ) → i < length ends
+    → get_or (cut_at from ends numbers) i []
+    ≡ slice_range numbers (begins from ends i) (get_or ends i 0)
 begins-cut from [] numbers i l = absurd (omega arith)
 begins-cut from (e ∷ ends) numbers zero l = refl
 begins-cut from (e ∷ ends) numbers (suc i) l = begins-cut e ends numbers i (omega arith)
 
-pub starts-rise : (ends : List ℕ) (len i : ℕ) → AreEnds 0 ends len → i < length ends → start_of ends i ≤ get_or ends i 0
-starts-rise ends len i h l = subst (λ (b : ℕ). b ≤ get_or ends i 0) (begins-start ends i l) (begins-rise 0 ends len i h l)
+pub starts-rise : (ends : List ℕ) (len i : ℕ) → AreEnds 0 ends len → i < length ends
+    → start_of ends i ≤ get_or ends i 0
+starts-rise ends len i h l =
+    subst (λ (b : ℕ). b ≤ get_or ends i 0) (begins-start ends i l) (begins-rise 0 ends len i h l)
 
-pub cut_at-index : (ends numbers : List ℕ) (i : ℕ) → i < length ends → get_or (cut_at 0 ends numbers) i [] ≡ slice_range numbers (start_of ends i) (get_or ends i 0)
-cut_at-index ends numbers i l = begins-cut 0 ends numbers i l ∙ ap (λ (b : ℕ). slice_range numbers b (get_or ends i 0)) (begins-start ends i l)
+pub cut_at-index : (ends numbers : List ℕ) (i : ℕ) → i < length ends
+    → get_or (cut_at 0 ends numbers) i [] ≡ slice_range numbers (start_of ends i) (get_or ends i 0)
+cut_at-index ends numbers i l =
+    begins-cut 0 ends numbers i l
+    ∙ ap (λ (b : ℕ). slice_range numbers b (get_or ends i 0)) (begins-start ends i l)
 
 -- one list more
-range-left : (xs ys : List ℕ) (a b : ℕ) → a ≤ b → b ≤ length xs → slice_range (xs ++ ys) a b ≡ slice_range xs a b
-range-left xs ys zero b l m = let e : b - 0 ≡ b = omega arith in ap (λ n. take n (xs ++ ys)) e ∙ take-append-le b xs ys m ∙ sym (ap (λ n. take n xs) e)
+range-left : (xs ys : List ℕ) (a b : ℕ) → a ≤ b → b ≤ length xs
+    → slice_range (xs ++ ys) a b ≡ slice_range xs a b
+range-left xs ys zero b l m =
+    let e : b - 0 ≡ b = omega arith in
+    ap (λ n. take n (xs ++ ys)) e ∙ take-append-le b xs ys m ∙ sym (ap (λ n. take n xs) e)
 range-left [] ys (suc a) b l m = absurd (omega arith)
 range-left (x ∷ xs) ys (suc a) zero l m = absurd (omega arith)
-range-left (x ∷ xs) ys (suc a) (suc b) l m = let e : suc b - suc a ≡ b - a = omega arith in ap (λ n. take n (drop a (xs ++ ys))) e ∙ range-left xs ys a b (omega arith) (omega arith) ∙ sym (ap (λ n. take n (drop a xs)) e)
+range-left (x ∷ xs) ys (suc a) (suc b) l m =
+    let e : suc b - suc a ≡ b - a = omega arith in
+    ap (λ n. take n (drop a (xs ++ ys))) e ∙ range-left xs ys a b (omega arith) (omega arith)
+    ∙ sym (ap (λ n. take n (drop a xs)) e)
 
 range-last : (xs ys : List ℕ) → slice_range (xs ++ ys) (length xs) (length xs + length ys) ≡ ys
-range-last xs ys = let e : length xs + length ys - length xs ≡ length ys = omega arith in ap₂ (λ n (zs : List ℕ). take n zs) e (dropped xs) ∙ whole ys
+range-last xs ys =
+    let e : length xs + length ys - length xs ≡ length ys = omega arith in
+    ap₂ (λ n (zs : List ℕ). take n zs) e (dropped xs) ∙ whole ys
   where
     dropped : (xs : List ℕ) → drop (length xs) (xs ++ ys) ≡ ys
     dropped [] = refl
@@ -67,13 +88,22 @@ range-last xs ys = let e : length xs + length ys - length xs ≡ length ys = ome
     whole [] = refl
     whole (y ∷ ys) = ap (λ zs. y ∷ zs) (whole ys)
 
-pub cut_at-more : (from : ℕ) (ends xs ys : List ℕ) → AreEnds from ends (length xs) → cut_at from (ends ++ (length xs + length ys) ∷ []) (xs ++ ys) ≡ cut_at from ends xs ++ ys ∷ []
-cut_at-more from [] xs ys h = ap (λ (l : List ℕ). l ∷ []) (ap (λ (a : ℕ). slice_range (xs ++ ys) a (length xs + length ys)) h ∙ range-last xs ys)
-cut_at-more from (e ∷ ends) xs ys h = ap₂ (λ (l : List ℕ) (ls : List (List ℕ)). l ∷ ls) (range-left xs ys from e h.0 (first-within e ends (length xs) h.1)) (cut_at-more e ends xs ys h.1)
+pub cut_at-more : (from : ℕ) (ends xs ys : List ℕ) → AreEnds from ends (length xs)
+    → cut_at from (ends ++ (length xs + length ys) ∷ []) (xs ++ ys) ≡ cut_at from ends xs ++ ys ∷ []
+cut_at-more from [] xs ys h =
+    ap (λ (l : List ℕ). l ∷ [])
+    (ap (λ (a : ℕ). slice_range (xs ++ ys) a (length xs + length ys)) h ∙ range-last xs ys)
+cut_at-more from (e ∷ ends) xs ys h =
+    ap₂ (λ (l : List ℕ) (ls : List (List ℕ)). l ∷ ls)
+    (range-left xs ys from e h.0 (first-within e ends (length xs) h.1))
+    (cut_at-more e ends xs ys h.1)
 
-pub ends-more : (from : ℕ) (ends : List ℕ) (len more : ℕ) → AreEnds from ends len → AreEnds from (ends ++ (len + more) ∷ []) (len + more)
+pub ends-more : (from : ℕ) (ends : List ℕ) (len more : ℕ) → AreEnds from ends len
+    → AreEnds from (ends ++ (len + more) ∷ []) (len + more)
 ends-more from [] len more h = (omega (arith, h), refl)
 ends-more from (e ∷ ends) len more h = (h.0, ends-more e ends len more h.1)
 
-pub index-within : (ends numbers : List ℕ) (lists : List (List ℕ)) (i : ℕ) → cut_at 0 ends numbers ≡ lists → i < length lists → i < length ends
-index-within ends numbers lists i e l = let n = length-cut_at 0 ends numbers in let m = ap length e in omega (arith, n, m, l)
+pub index-within : (ends numbers : List ℕ) (lists : List (List ℕ)) (i : ℕ)
+    → cut_at 0 ends numbers ≡ lists → i < length lists → i < length ends
+index-within ends numbers lists i e l =
+    let n = length-cut_at 0 ends numbers in let m = ap length e in omega (arith, n, m, l)

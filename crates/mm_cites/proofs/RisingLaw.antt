@@ -1,50 +1,83 @@
 -- Selections of numbers in order.
-use Rattle.std.proofs.Common.{◌≡◌, ℕ, zero, suc, ◌+◌, ◌<◌, ◌≤◌, ◌^◌, Bool, true, false, List, [], ◌∷◌, length, get_or, refl, arith}
-use Rattle.std.specs.List.{range_with_len}
-use Rattle.mm_spec.specs.Scope.{those}
+use Rattle.std.proofs.Common.{cond, ◌≡◌, ℕ, zero, suc, ◌+◌, ◌<◌, ◌≤◌, ◌^◌, Bool, true, false, List}
+use Rattle.std.proofs.Common.{[], ◌∷◌, length, get_or, refl, arith}
+use Rattle.std.specs.List.{range_with_len, filter}
 use Rattle.mm_cites.specs.Citing.{IsRising}
 
 -- an element of a selection passes
-pub those-at : (p : ℕ → Bool) (xs : List ℕ) (i d : ℕ) → i < length (those p xs) → p (get_or (those p xs) i d) ≡ true
-those-at p [] i d h = absurd (omega arith)
-those-at p (x ∷ xs) i d h = by (p x) refl (those-at p xs) i h
+pub filter-at : (p : ℕ → Bool) (xs : List ℕ) (i d : ℕ) → i < length (filter p xs)
+    → p (get_or (filter p xs) i d) ≡ true
+filter-at p [] i d h = absurd (omega arith)
+filter-at p (x ∷ xs) i d h = by (p x) refl (filter-at p xs) i h
   where
-    by : (a : Bool) → p x ≡ a → ((i d : ℕ) → i < length (those p xs) → p (get_or (those p xs) i d) ≡ true) → (i : ℕ) → i < length {A = ℕ} (elim a [ true ↦ x ∷ those p xs | false ↦ those p xs ]) → p (get_or (elim a [ true ↦ x ∷ those p xs | false ↦ those p xs ]) i d) ≡ true
+    by : (a : Bool) → p x ≡ a
+        → ((i d : ℕ) → i < length (filter p xs) → p (get_or (filter p xs) i d) ≡ true) → (i : ℕ)
+        → i < length {A = ℕ} (cond a (x ∷ filter p xs) (filter p xs))
+        → p (get_or (cond a (x ∷ filter p xs) (filter p xs)) i d) ≡ true
     by true e r zero h = e
     by true e r (suc i) h = r i d (omega arith)
     by false e r i h = r i d h
 
 -- a selection of numbers in order rises
-pub those-rising : (p : ℕ → Bool) (n : ℕ) → n < 2 ^ 31 → IsRising (those p (range_with_len 0 n))
-those-rising p n few = record { few = let l = shorter p n 0 in omega (arith, l, few); rises = λ i j l h. rises p n 0 i j l h }
+pub filter-rising : (p : ℕ → Bool) (n : ℕ) → n < 2 ^ 31 → IsRising (filter p (range_with_len 0 n))
+filter-rising p n few =
+    record {
+      few = let l = shorter p n 0 in
+          omega (arith, l, few);
+      rises = λ i j l h. rises p n 0 i j l h;
+    }
   where
-    shorter : (p : ℕ → Bool) (n a : ℕ) → length (those p (range_with_len a n)) ≤ n
+    shorter : (p : ℕ → Bool) (n a : ℕ) → length (filter p (range_with_len a n)) ≤ n
     shorter p zero a = omega arith
     shorter p (suc n) a = by (p a) (shorter p n (a + 1))
       where
-        by : (b : Bool) → length (those p (range_with_len (a + 1) n)) ≤ n → length {A = ℕ} (elim b [ true ↦ a ∷ those p (range_with_len (a + 1) n) | false ↦ those p (range_with_len (a + 1) n) ]) ≤ suc n
+        by : (b : Bool) → length (filter p (range_with_len (a + 1) n)) ≤ n
+            → length {A = ℕ}
+            (cond b (a ∷ filter p (range_with_len (a + 1) n)) (filter p (range_with_len (a + 1) n)))
+            ≤ suc n
         by true h = omega (arith, h)
         by false h = omega (arith, h)
 
-    least : (p : ℕ → Bool) (n a i : ℕ) → i < length (those p (range_with_len a n)) → a ≤ get_or (those p (range_with_len a n)) i 0
+    least : (p : ℕ → Bool) (n a i : ℕ) → i < length (filter p (range_with_len a n))
+        → a ≤ get_or (filter p (range_with_len a n)) i 0
     least p zero a i h = absurd (omega arith)
     least p (suc n) a i h = by (p a) (least p n (a + 1)) i h
       where
-        by : (b : Bool) → ((i : ℕ) → i < length (those p (range_with_len (a + 1) n)) → a + 1 ≤ get_or (those p (range_with_len (a + 1) n)) i 0)
-            → (i : ℕ) → i < length {A = ℕ} (elim b [ true ↦ a ∷ those p (range_with_len (a + 1) n) | false ↦ those p (range_with_len (a + 1) n) ])
-            → a ≤ get_or {A = ℕ} (elim b [ true ↦ a ∷ those p (range_with_len (a + 1) n) | false ↦ those p (range_with_len (a + 1) n) ]) i 0
+        by : (b : Bool)
+            → ((i : ℕ) → i < length (filter p (range_with_len (a + 1) n))
+            → a + 1 ≤ get_or (filter p (range_with_len (a + 1) n)) i 0)
+            → (i : ℕ)
+            → i < length {A = ℕ}
+            (cond b (a ∷ filter p (range_with_len (a + 1) n))
+            (filter p (range_with_len (a + 1) n)))
+            → a ≤ get_or {A = ℕ}
+            (cond b (a ∷ filter p (range_with_len (a + 1) n))
+            (filter p (range_with_len (a + 1) n))) i 0
         by true r zero h = omega arith
         by true r (suc i) h = let k = r i (omega arith) in omega (arith, k)
         by false r i h = let k = r i h in omega (arith, k)
 
-    rises : (p : ℕ → Bool) (n a i j : ℕ) → i < j → j < length (those p (range_with_len a n)) → get_or (those p (range_with_len a n)) i 0 < get_or (those p (range_with_len a n)) j 0
+    rises : (p : ℕ → Bool) (n a i j : ℕ) → i < j → j < length (filter p (range_with_len a n))
+        → get_or (filter p (range_with_len a n)) i 0 < get_or (filter p (range_with_len a n)) j 0
     rises p zero a i j l h = absurd (omega arith)
     rises p (suc n) a i j l h = by (p a) (rises p n (a + 1)) (least p n (a + 1)) i j l h
       where
-        by : (b : Bool) → ((i j : ℕ) → i < j → j < length (those p (range_with_len (a + 1) n)) → get_or (those p (range_with_len (a + 1) n)) i 0 < get_or (those p (range_with_len (a + 1) n)) j 0)
-            → ((i : ℕ) → i < length (those p (range_with_len (a + 1) n)) → a + 1 ≤ get_or (those p (range_with_len (a + 1) n)) i 0)
-            → (i j : ℕ) → i < j → j < length {A = ℕ} (elim b [ true ↦ a ∷ those p (range_with_len (a + 1) n) | false ↦ those p (range_with_len (a + 1) n) ])
-            → get_or {A = ℕ} (elim b [ true ↦ a ∷ those p (range_with_len (a + 1) n) | false ↦ those p (range_with_len (a + 1) n) ]) i 0 < get_or {A = ℕ} (elim b [ true ↦ a ∷ those p (range_with_len (a + 1) n) | false ↦ those p (range_with_len (a + 1) n) ]) j 0
+        by : (b : Bool)
+            → ((i j : ℕ) → i < j → j < length (filter p (range_with_len (a + 1) n))
+            → get_or (filter p (range_with_len (a + 1) n)) i 0
+            < get_or (filter p (range_with_len (a + 1) n)) j 0)
+            → ((i : ℕ) → i < length (filter p (range_with_len (a + 1) n))
+            → a + 1 ≤ get_or (filter p (range_with_len (a + 1) n)) i 0)
+            → (i j : ℕ) → i < j
+            → j < length {A = ℕ}
+            (cond b (a ∷ filter p (range_with_len (a + 1) n))
+            (filter p (range_with_len (a + 1) n)))
+            → get_or {A = ℕ}
+            (cond b (a ∷ filter p (range_with_len (a + 1) n))
+            (filter p (range_with_len (a + 1) n))) i 0
+            < get_or {A = ℕ}
+            (cond b (a ∷ filter p (range_with_len (a + 1) n))
+            (filter p (range_with_len (a + 1) n))) j 0
         by true r m zero zero l h = absurd (omega arith)
         by true r m zero (suc j) l h = let k = m j (omega arith) in omega (arith, k)
         by true r m (suc i) zero l h = absurd (omega arith)

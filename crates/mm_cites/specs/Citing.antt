@@ -24,7 +24,8 @@ pub record IsRising (xs : List ℕ) : Type 0 where
 pub record IsFileOrder (c : Citing) : Type 0 where
   pub rising : IsRising c.theorems
   pub each : length c.cites ≡ length c.theorems
-  pub earlier : (i k : ℕ) → i < length c.theorems → k < length (list_at c i) → slice_index (list_at c i) k < theorem_at c i
+  pub earlier : (i k : ℕ) → i < length c.theorems → k < length (list_at c i)
+      → slice_index (list_at c i) k < theorem_at c i
 
 -- theorem t cites a
 pub record Cites (c : Citing) (t a : ℕ) : Type 0 where

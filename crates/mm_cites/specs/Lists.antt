@@ -1,4 +1,4 @@
--- How lists of numbers stand one behind the other in one list.
+-- How lists of numbers stand one after the other in one list.
 use Rattle.std.specs.Prelude.{◌≡◌, ℕ, zero, suc, ◌≤◌, List, [], ◌∷◌, slice_range, slice_index}
 
 -- the lists, from the place where the first begins, by the places where they end

@@ -1,14 +1,15 @@
-//! Lists of numbers, one behind the other.
+//! Lists of numbers, one after the other.
 
-ghost use Rattle.std.specs.Prelude.{◌≡◌, ◌<◌, ◌++◌, ◌∷◌, [], OnOk, OnErr, length, slice_index_or, slice_range, ◌≤◌};
+ghost use Rattle.std.specs.Prelude.{◌≡◌, ◌<◌, ◌++◌, ◌∷◌, [], OnOk, OnErr, length, slice_index_or};
+ghost use Rattle.std.specs.Prelude.{slice_range, ◌≤◌};
 ghost use Rattle.mm_cites.specs.Lists.{start_of};
 
 use std::alloc::{AllocError, Allocator};
 use std::marker::Model;
 
-/// A growing row of lists of numbers, as the layer that checks proofs keeps them: what each theorem cites, in the order in
-/// which the theorems were found valid. They stand one behind the other in one list, with the place at which each ends, so
-/// a short list costs no memory of its own.
+/// A growing row of lists of numbers, as the layer that checks proofs keeps them: what each theorem
+/// cites, in the order in which the theorems were found valid. They stand one after the other in
+/// one list, with the place at which each ends, so a short list costs no memory of its own.
 #[derive(Drop)]
 pub struct Lists<A: Allocator> {
     numbers: Vec<u32, A>,
@@ -59,7 +60,7 @@ impl<A: Allocator> Lists<A> {
         }
     }
 
-    /// Puts a list behind the others. It is refused only where memory is, and changes nothing then.
+    /// Puts a list after the others. It is refused only where memory is, and changes nothing then.
     pub fn push(&mut self, list: &[u32]) -> Result<(), AllocError>
         ensures ok { OnOk result (self.new ≡ self.old ++ list.now ∷ []) }
         ensures err { OnErr result (self.new ≡ self.old) }

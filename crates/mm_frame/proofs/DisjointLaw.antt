@@ -1,31 +1,41 @@
--- The pairs that are collected are the mandatory ones, and whether two variables are disjoint is asked of the same lists.
-use Rattle.std.proofs.Common.{◌≡◌, ◌≢◌, ℕ, suc, ◌+◌, ◌<◌, ◌≤◌, Bool, true, false, ◌&&◌, ◌||◌, not, List, [], ◌∷◌, ◌++◌, length, get_or, map, nat_eq, nat_lt, nat_le, refl, sym, ap, ap₂, ◌∙◌, arith, true≢false, ◌⊎◌, inl, inr}
-use Rattle.std.proofs.lemmas.Bool.{cases_lt, cases_eq, cases_order, lt-ltb, ltb-true, le-ltb, eq-eqb, eqb-true, ne_eqb}
+-- The pairs that are collected are the mandatory ones, and whether two variables are disjoint is
+-- asked of the same lists.
+use Rattle.std.proofs.Common.{◌≡◌, ◌≢◌, ℕ, suc, ◌+◌, ◌<◌, ◌≤◌, Bool, true, false, ◌&&◌, ◌||◌, not}
+use Rattle.std.proofs.Common.{List, [], ◌∷◌, ◌++◌, length, get_or, map, nat_eq, nat_lt, nat_le}
+use Rattle.std.proofs.Common.{refl, sym, ap, ap₂, ◌∙◌, arith, true≢false, ◌⊎◌, inl, inr}
+use Rattle.std.proofs.lemmas.Bool.{cases_lt, cases_eq, cases_order, lt-ltb, ltb-true, le-ltb}
+use Rattle.std.proofs.lemmas.Bool.{eq-eqb, eqb-true, ne_eqb}
 use Rattle.std.proofs.lemmas.List.Folds.{list_any_at, list_any-append}
-use Rattle.std.specs.List.{list_any, range_with_len}
+use Rattle.std.specs.List.{list_any, range_with_len, filter}
 use Rattle.mm_spec.specs.Statement.{Statement}
-use Rattle.mm_spec.specs.Scope.{those, statement_at}
+use Rattle.mm_spec.specs.Scope.{statement_at}
 use Rattle.mm_spec.specs.Derivation.{Pair, pair, is_member}
-use Rattle.mm_spec.specs.Frame.{symbol_names, is_disjoint, active_of, formula_at, mandatory_variables, mandatory_pairs, disjoint_at, pairs_of}
+use Rattle.mm_spec.specs.Frame.{symbol_names, is_disjoint_statement, active_of, formula_at}
+use Rattle.mm_spec.specs.Frame.{mandatory_variables, mandatory_pairs, disjoint_at, pairs_of}
 use Rattle.mm_outline.specs.Blocks.{Lists, IsBlocks, end_of}
 use Rattle.mm_frame.specs.Latest.{is_on}
 use Rattle.mm_frame.specs.Members.{has_symbol, is_live}
 use Rattle.mm_frame.specs.Pairs.{has_pair, IsBefore, AreRising}
 use Rattle.mm_frame.proofs.Nested.{same_tests}
-use Rattle.mm_frame.proofs.LatestLaw.{and_left, and_right, or_true, or_false, member_range, active_member, disjoint_local}
+use Rattle.mm_frame.proofs.LatestLaw.{and_left, and_right, or_true, or_false, member_range}
+use Rattle.mm_frame.proofs.LatestLaw.{active_member, disjoint_local}
 use Rattle.mm_frame.proofs.MembersLaw.{has_at, at_has, rising_at}
 use Rattle.mm_frame.proofs.WalkLaw.{any_witness, any_of, mandatory_named}
-use Rattle.mm_frame.proofs.PairsLaw.{has_map, sorted_map, unique, has_those, has_rows, sorted_those, sorted_pairs}
+use Rattle.mm_frame.proofs.PairsLaw.{has_map, sorted_map, unique, has_filter, has_rows}
+use Rattle.mm_frame.proofs.PairsLaw.{sorted_filter, sorted_pairs}
 
-any_pair : (f : ℕ × ℕ → Bool) (ps : List (ℕ × ℕ)) → list_any f ps ≡ true → (p : ℕ) × (p < length ps) × (f (get_or ps p (0, 0)) ≡ true)
+any_pair : (f : ℕ × ℕ → Bool) (ps : List (ℕ × ℕ)) → list_any f ps ≡ true
+    → (p : ℕ) × (p < length ps) × (f (get_or ps p (0, 0)) ≡ true)
 any_pair f [] h = absurd (true≢false (sym h))
 any_pair f (q ∷ qs) h = by (f q) refl h (λ k. any_pair f qs k)
   where
-    by : (c : Bool) → f q ≡ c → (c || list_any f qs) ≡ true → (list_any f qs ≡ true → (p : ℕ) × (p < length qs) × (f (get_or qs p (0, 0)) ≡ true)) → (p : ℕ) × (p < length (q ∷ qs)) × (f (get_or (q ∷ qs) p (0, 0)) ≡ true)
+    by : (c : Bool) → f q ≡ c → (c || list_any f qs) ≡ true
+        → (list_any f qs ≡ true → (p : ℕ) × (p < length qs) × (f (get_or qs p (0, 0)) ≡ true))
+        → (p : ℕ) × (p < length (q ∷ qs)) × (f (get_or (q ∷ qs) p (0, 0)) ≡ true)
     by true e h r = (0, omega arith, e)
     by false e h r = let w = r h in let l = w.1 in (suc w.0, omega (arith, l), w.2)
 
--- ---- the variables behind one, in the same statement
+-- ---- the variables after one, in the same statement
 
 -- those up to `at` have been looked at
 pub record Behind (had : List (ℕ × ℕ)) (place at : ℕ) (old now : List (ℕ × ℕ)) : Type 0 where
@@ -33,10 +43,15 @@ pub record Behind (had : List (ℕ × ℕ)) (place at : ℕ) (old now : List (�
   pub within : at ≤ length had
   pub same : (p : ℕ) → place < p → p < at → (get_or had p (0, 0)).0 ≡ (get_or had place (0, 0)).0
   pub kept : (x y : ℕ) → has_pair old x y ≡ true → has_pair now x y ≡ true
-  pub only : (x y : ℕ) → has_pair now x y ≡ true → (has_pair old x y ≡ true) ⊎ ((x ≡ (get_or had place (0, 0)).1) × (p : ℕ) × (place < p) × (p < at) × ((get_or had p (0, 0)).1 ≡ y))
-  pub all : (p : ℕ) → place < p → p < at → has_pair now (get_or had place (0, 0)).1 (get_or had p (0, 0)).1 ≡ true
+  pub only : (x y : ℕ) → has_pair now x y ≡ true
+      → (has_pair old x y ≡ true)
+      ⊎ ((x ≡ (get_or had place (0, 0)).1) × (p : ℕ) × (place < p) × (p < at)
+      × ((get_or had p (0, 0)).1 ≡ y))
+  pub all : (p : ℕ) → place < p → p < at
+      → has_pair now (get_or had place (0, 0)).1 (get_or had p (0, 0)).1 ≡ true
 
-module _ (had : List (ℕ × ℕ)) (rising : AreRising had) (place : ℕ) (inside : place < length had) where
+module _ (had : List (ℕ × ℕ)) (rising : AreRising had) (place : ℕ)
+    (inside : place < length had) where
   abbrev j : ℕ
   j = (get_or had place (0, 0)).0
 
@@ -44,15 +59,28 @@ module _ (had : List (ℕ × ℕ)) (rising : AreRising had) (place : ℕ) (insid
   low = (get_or had place (0, 0)).1
 
   pub behind_start : (old : List (ℕ × ℕ)) → Behind had place (place + 1) old old
-  behind_start old = record { further = omega arith; within = omega (arith, inside); same = λ p l m. absurd (omega (arith, l, m)); kept = λ x y e. e; only = λ x y e. inl e; all = λ p l m. absurd (omega (arith, l, m)) }
+  behind_start old =
+      record {
+        further = omega arith;
+        within = omega (arith, inside);
+        same = λ p l m. absurd
+            (omega (arith, l, m));
+        kept = λ x y e. e;
+        only = λ x y e. inl e;
+        all = λ p l m. absurd (omega (arith, l, m));
+      }
 
-  pub behind_next : (at : ℕ) (old now : List (ℕ × ℕ)) → Behind had place at old now → at < length had → (get_or had at (0, 0)).0 ≡ j → Behind had place (at + 1) old (now ++ (low, (get_or had at (0, 0)).1) ∷ [])
+  pub behind_next : (at : ℕ) (old now : List (ℕ × ℕ)) → Behind had place at old now
+      → at < length had → (get_or had at (0, 0)).0 ≡ j
+      → Behind had place (at + 1) old (now ++ (low, (get_or had at (0, 0)).1) ∷ [])
   behind_next at old now b l s = record {
     further = let f = b.further in omega (arith, f);
     within = omega (arith, l);
     same = λ p h m. same p h m (cases_eq p at);
     kept = λ x y e. longer x y (b.kept x y e);
-    only = λ x y e. only x y (has_pair now x y) refl (sym (list_any-append (λ p. nat_eq x p.0 && nat_eq y p.1) now ((low, high) ∷ [])) ∙ e);
+    only =
+        λ x y e. only x y (has_pair now x y) refl
+        (sym (list_any-append (λ p. nat_eq x p.0 && nat_eq y p.1) now ((low, high) ∷ [])) ∙ e);
     all = λ p h m. all p h m (cases_eq p at);
   }
     where
@@ -60,49 +88,84 @@ module _ (had : List (ℕ × ℕ)) (rising : AreRising had) (place : ℕ) (insid
       high = (get_or had at (0, 0)).1
 
       longer : (x y : ℕ) → has_pair now x y ≡ true → has_pair (now ++ (low, high) ∷ []) x y ≡ true
-      longer x y e = list_any-append (λ p. nat_eq x p.0 && nat_eq y p.1) now ((low, high) ∷ []) ∙ ap (λ c. c || has_pair ((low, high) ∷ []) x y) e
+      longer x y e =
+          list_any-append (λ p. nat_eq x p.0 && nat_eq y p.1) now ((low, high) ∷ [])
+          ∙ ap (λ c. c || has_pair ((low, high) ∷ []) x y) e
 
       same : (p : ℕ) → place < p → p < at + 1 → (p ≡ at) ⊎ (p ≢ at) → (get_or had p (0, 0)).0 ≡ j
       same p h m (inl e) = ap (λ i. (get_or had i (0, 0)).0) e ∙ s
       same p h m (inr n) = b.same p h (omega (arith, m, n))
 
-      only : (x y : ℕ) (c : Bool) → has_pair now x y ≡ c → (c || ((nat_eq x low && nat_eq y high) || false)) ≡ true → (has_pair old x y ≡ true) ⊎ ((x ≡ low) × (p : ℕ) × (place < p) × (p < at + 1) × ((get_or had p (0, 0)).1 ≡ y))
+      only : (x y : ℕ) (c : Bool) → has_pair now x y ≡ c
+          → (c || ((nat_eq x low && nat_eq y high) || false)) ≡ true
+          → (has_pair old x y ≡ true)
+          ⊎ ((x ≡ low) × (p : ℕ) × (place < p) × (p < at + 1) × ((get_or had p (0, 0)).1 ≡ y))
       only x y true e h = longer_one (b.only x y e)
         where
-          longer_one : (has_pair old x y ≡ true) ⊎ ((x ≡ low) × (p : ℕ) × (place < p) × (p < at) × ((get_or had p (0, 0)).1 ≡ y)) → (has_pair old x y ≡ true) ⊎ ((x ≡ low) × (p : ℕ) × (place < p) × (p < at + 1) × ((get_or had p (0, 0)).1 ≡ y))
+          longer_one : (has_pair old x y ≡ true)
+              ⊎ ((x ≡ low) × (p : ℕ) × (place < p) × (p < at) × ((get_or had p (0, 0)).1 ≡ y))
+              → (has_pair old x y ≡ true)
+              ⊎ ((x ≡ low) × (p : ℕ) × (place < p) × (p < at + 1) × ((get_or had p (0, 0)).1 ≡ y))
           longer_one (inl t) = inl t
           longer_one (inr (t, p, u, v, w)) = inr (t, p, u, omega (arith, v), w)
       only x y false e h =
           let t = sym (or_false (nat_eq x low && nat_eq y high)) ∙ h in
           let f = b.further in
-          inr (eqb-true x low (and_left (nat_eq x low) (nat_eq y high) t), at, f, omega arith, sym (eqb-true y high (and_right (nat_eq x low) (nat_eq y high) t)))
+          inr (
+            eqb-true x low (and_left (nat_eq x low) (nat_eq y high) t),
+            at,
+            f,
+            omega arith,
+            sym
+                (eqb-true y high (and_right (nat_eq x low) (nat_eq y high) t)),
+          )
 
-      all : (p : ℕ) → place < p → p < at + 1 → (p ≡ at) ⊎ (p ≢ at) → has_pair (now ++ (low, high) ∷ []) low (get_or had p (0, 0)).1 ≡ true
+      all : (p : ℕ) → place < p → p < at + 1 → (p ≡ at) ⊎ (p ≢ at)
+          → has_pair (now ++ (low, high) ∷ []) low (get_or had p (0, 0)).1 ≡ true
       all p h m (inl e) =
-          list_any-append (λ q. nat_eq low q.0 && nat_eq (get_or had p (0, 0)).1 q.1) now ((low, high) ∷ [])
-          ∙ ap (λ c. has_pair now low (get_or had p (0, 0)).1 || (c || false)) (ap₂ (λ u v. u && v) (eq-eqb low low refl) (eq-eqb (get_or had p (0, 0)).1 high (ap (λ i. (get_or had i (0, 0)).1) e)))
+          list_any-append (λ q. nat_eq low q.0 && nat_eq (get_or had p (0, 0)).1 q.1) now
+          ((low, high) ∷ [])
+          ∙ ap (λ c. has_pair now low (get_or had p (0, 0)).1 || (c || false))
+          (ap₂ (λ u v. u && v) (eq-eqb low low refl)
+          (eq-eqb (get_or had p (0, 0)).1 high (ap (λ i. (get_or had i (0, 0)).1) e)))
           ∙ or_true (has_pair now low (get_or had p (0, 0)).1)
       all p h m (inr n) = longer low (get_or had p (0, 0)).1 (b.all p h (omega (arith, m, n)))
 
-  pub behind_end : (at : ℕ) (old now : List (ℕ × ℕ)) → Behind had place at old now → (at < length had → (get_or had at (0, 0)).0 ≢ j)
-      → (x y : ℕ) → has_pair now x y ≡ (has_pair old x y || (nat_eq x low && (has_pair had j y && nat_lt x y)))
-  behind_end at old now b stop x y = same_tests (has_pair now x y) (has_pair old x y || (nat_eq x low && (has_pair had j y && nat_lt x y))) (λ e. forth (b.only x y e)) (λ e. back (has_pair old x y) refl e)
+  pub behind_end : (at : ℕ) (old now : List (ℕ × ℕ)) → Behind had place at old now
+      → (at < length had → (get_or had at (0, 0)).0 ≢ j)
+      → (x y : ℕ)
+      → has_pair now x y
+      ≡ (has_pair old x y || (nat_eq x low && (has_pair had j y && nat_lt x y)))
+  behind_end at old now b stop x y =
+      same_tests (has_pair now x y)
+      (has_pair old x y || (nat_eq x low && (has_pair had j y && nat_lt x y)))
+      (λ e. forth (b.only x y e)) (λ e. back (has_pair old x y) refl e)
     where
       above : (p : ℕ) → place < p → p < at → low < (get_or had p (0, 0)).1
-      above p h m = less (rising_at had rising place p (0, 0) h (let w = b.within in omega (arith, m, w)))
+      above p h m =
+          less (rising_at had rising place p (0, 0) h (let w = b.within in omega (arith, m, w)))
         where
-          less : IsBefore j low (get_or had p (0, 0)).0 (get_or had p (0, 0)).1 → low < (get_or had p (0, 0)).1
+          less : IsBefore j low (get_or had p (0, 0)).0 (get_or had p (0, 0)).1
+              → low < (get_or had p (0, 0)).1
           less (inl l) = absurd (let s = b.same p h m in omega (arith, l, s))
           less (inr (s, l)) = l
 
-      forth : (has_pair old x y ≡ true) ⊎ ((x ≡ low) × (p : ℕ) × (place < p) × (p < at) × ((get_or had p (0, 0)).1 ≡ y)) → (has_pair old x y || (nat_eq x low && (has_pair had j y && nat_lt x y))) ≡ true
+      forth : (has_pair old x y ≡ true)
+          ⊎ ((x ≡ low) × (p : ℕ) × (place < p) × (p < at) × ((get_or had p (0, 0)).1 ≡ y))
+          → (has_pair old x y || (nat_eq x low && (has_pair had j y && nat_lt x y))) ≡ true
       forth (inl e) = ap (λ c. c || (nat_eq x low && (has_pair had j y && nat_lt x y))) e
       forth (inr (e, p, h, m, s)) =
-          let there = ap₂ (has_pair had) (sym (b.same p h m)) (sym s) ∙ at_has had p (0, 0) (let w = b.within in omega (arith, m, w)) in
+          let there =
+          ap₂ (has_pair had) (sym (b.same p h m)) (sym s)
+          ∙ at_has had p (0, 0) (let w = b.within in omega (arith, m, w)) in
           let l = above p h m in
-          ap (λ c. has_pair old x y || c) (ap₂ (λ u v. u && v) (eq-eqb x low e) (ap₂ (λ u v. u && v) there (lt-ltb x y (omega (arith, e, l, s))))) ∙ or_true (has_pair old x y)
+          ap (λ c. has_pair old x y || c)
+          (ap₂ (λ u v. u && v) (eq-eqb x low e)
+          (ap₂ (λ u v. u && v) there (lt-ltb x y (omega (arith, e, l, s)))))
+          ∙ or_true (has_pair old x y)
 
-      from : (p : ℕ) → p < length had → (get_or had p (0, 0)).0 ≡ j → low < (get_or had p (0, 0)).1 → (place < p) × (p < at)
+      from : (p : ℕ) → p < length had → (get_or had p (0, 0)).0 ≡ j → low < (get_or had p (0, 0)).1
+          → (place < p) × (p < at)
       from p l s m = (first (cases_order place p), last (cases_lt p at))
         where
           down : IsBefore (get_or had p (0, 0)).0 (get_or had p (0, 0)).1 j low → ⊥
@@ -110,15 +173,19 @@ module _ (had : List (ℕ × ℕ)) (rising : AreRising had) (place : ℕ) (insid
           down (inr (e, u)) = omega (arith, u, m)
 
           first : (place ≡ p) ⊎ ((place < p) ⊎ (p < place)) → place < p
-          first (inl e) = absurd (let t = ap (λ i. (get_or had i (0, 0)).1) e in omega (arith, t, m))
+          first (inl e) =
+              absurd (let t = ap (λ i. (get_or had i (0, 0)).1) e in omega (arith, t, m))
           first (inr (inl u)) = u
           first (inr (inr u)) = absurd (down (rising_at had rising p place (0, 0) u inside))
 
-          up : at < length had → at ≤ p → IsBefore j low (get_or had at (0, 0)).0 (get_or had at (0, 0)).1 → ⊥
+          up : at < length had → at ≤ p
+              → IsBefore j low (get_or had at (0, 0)).0 (get_or had at (0, 0)).1 → ⊥
           up u v (inr (e, w)) = stop u (sym e)
           up u v (inl w) = again (cases_eq at p)
             where
-              over : IsBefore (get_or had at (0, 0)).0 (get_or had at (0, 0)).1 (get_or had p (0, 0)).0 (get_or had p (0, 0)).1 → ⊥
+              over : IsBefore (get_or had at (0, 0)).0 (get_or had at (0, 0)).1
+                  (get_or had p (0, 0)).0 (get_or had p (0, 0)).1
+                  → ⊥
               over (inl z) = omega (arith, z, w, s)
               over (inr (e, z)) = omega (arith, e, w, s)
 
@@ -128,9 +195,13 @@ module _ (had : List (ℕ × ℕ)) (rising : AreRising had) (place : ℕ) (insid
 
           last : (p < at) ⊎ (at ≤ p) → p < at
           last (inl u) = u
-          last (inr u) = absurd (up (omega (arith, u, l)) u (rising_at had rising place at (0, 0) b.further (omega (arith, u, l))))
+          last (inr u) =
+              absurd (up (omega (arith, u, l)) u
+              (rising_at had rising place at (0, 0) b.further (omega (arith, u, l))))
 
-      back : (c : Bool) → has_pair old x y ≡ c → (c || (nat_eq x low && (has_pair had j y && nat_lt x y))) ≡ true → has_pair now x y ≡ true
+      back : (c : Bool) → has_pair old x y ≡ c
+          → (c || (nat_eq x low && (has_pair had j y && nat_lt x y))) ≡ true
+          → has_pair now x y ≡ true
       back true e h = b.kept x y e
       back false e h =
           let s = eqb-true x low (and_left (nat_eq x low) (has_pair had j y && nat_lt x y) h) in
@@ -143,7 +214,8 @@ module _ (had : List (ℕ × ℕ)) (rising : AreRising had) (place : ℕ) (insid
 
 -- ---- one symbol more
 
-pub one_more : (o m q r l : Bool) (y s : ℕ) → (y ≡ s → q ≡ r) → ((o || (m && (r && l))) || (nat_eq y s && (q && l))) ≡ (o || ((m || nat_eq y s) && (r && l)))
+pub one_more : (o m q r l : Bool) (y s : ℕ) → (y ≡ s → q ≡ r)
+    → ((o || (m && (r && l))) || (nat_eq y s && (q && l))) ≡ (o || ((m || nat_eq y s) && (r && l)))
 one_more true m q r l y s e = refl
 one_more false m q r l y s e = by (cases_eq y s)
   where
@@ -152,52 +224,94 @@ one_more false m q r l y s e = by (cases_eq y s)
     flip true false = refl
     flip false r = refl
 
-    by : (y ≡ s) ⊎ (y ≢ s) → ((m && (r && l)) || (nat_eq y s && (q && l))) ≡ ((m || nat_eq y s) && (r && l))
-    by (inl t) = ap₂ (λ c d. (m && (r && l)) || (c && (d && l))) (eq-eqb y s t) (e t) ∙ flip m (r && l) ∙ sym (ap (λ c. (m || c) && (r && l)) (eq-eqb y s t))
-    by (inr n) = ap (λ c. (m && (r && l)) || (c && (q && l))) (ne_eqb y s n) ∙ or_false (m && (r && l)) ∙ sym (ap (λ c. (m || c) && (r && l)) (ne_eqb y s n) ∙ ap (λ c. c && (r && l)) (or_false m))
+    by : (y ≡ s) ⊎ (y ≢ s)
+        → ((m && (r && l)) || (nat_eq y s && (q && l))) ≡ ((m || nat_eq y s) && (r && l))
+    by (inl t) =
+        ap₂ (λ c d. (m && (r && l)) || (c && (d && l))) (eq-eqb y s t) (e t) ∙ flip m (r && l)
+        ∙ sym (ap (λ c. (m || c) && (r && l)) (eq-eqb y s t))
+    by (inr n) =
+        ap (λ c. (m && (r && l)) || (c && (q && l))) (ne_eqb y s n) ∙ or_false (m && (r && l))
+        ∙ sym (ap (λ c. (m || c) && (r && l)) (ne_eqb y s n) ∙ ap (λ c. c && (r && l)) (or_false m))
 
 -- ---- active ones
 
-module _ (db : List Statement) (b : Lists) (blocks : IsBlocks db b) (k : ℕ) (h : k ≤ length db) where
-  pub live_is : (j : ℕ) → list_any is_disjoint (statement_at db j) ≡ true → is_live b j k ≡ is_member (active_of is_disjoint db k) j
-  live_is j t = by (cases_lt j k) ∙ sym (active_member is_disjoint db disjoint_local k j)
+module _ (db : List Statement) (b : Lists) (blocks : IsBlocks db b) (k : ℕ)
+    (h : k ≤ length db) where
+  pub live_is : (j : ℕ) → list_any is_disjoint_statement (statement_at db j) ≡ true
+      → is_live b j k ≡ is_member (active_of is_disjoint_statement db k) j
+  live_is j t = by (cases_lt j k) ∙ sym (active_member is_disjoint_statement db disjoint_local k j)
     where
-      by : (j < k) ⊎ (k ≤ j) → is_live b j k ≡ (nat_lt j k && is_on is_disjoint db j k)
+      by : (j < k) ⊎ (k ≤ j) → is_live b j k ≡ (nat_lt j k && is_on is_disjoint_statement db j k)
       by (inl l) = ap (λ c. nat_lt j k && c) (sym (ap₂ (λ p q. p && q) t (blocks.ended j k l h)))
-      by (inr g) = ap (λ c. c && nat_le k (end_of b j)) (le-ltb j k g) ∙ sym (ap (λ c. c && is_on is_disjoint db j k) (le-ltb j k g))
+      by (inr g) =
+          ap (λ c. c && nat_le k (end_of b j)) (le-ltb j k g)
+          ∙ sym (ap (λ c. c && is_on is_disjoint_statement db j k) (le-ltb j k g))
 
-  kind_of_active : (j : ℕ) → is_member (active_of is_disjoint db k) j ≡ true → list_any is_disjoint (statement_at db j) ≡ true
-  kind_of_active j e = and_left (list_any is_disjoint (statement_at db j)) _ (and_right (nat_lt j k) (is_on is_disjoint db j k) (sym (active_member is_disjoint db disjoint_local k j) ∙ e))
+  kind_of_active : (j : ℕ) → is_member (active_of is_disjoint_statement db k) j ≡ true
+      → list_any is_disjoint_statement (statement_at db j) ≡ true
+  kind_of_active j e =
+      and_left (list_any is_disjoint_statement (statement_at db j)) _
+      (and_right (nat_lt j k) (is_on is_disjoint_statement db j k)
+      (sym (active_member is_disjoint_statement db disjoint_local k j) ∙ e))
 
   module _ (ps : List (ℕ × ℕ)) (are : (x j : ℕ) → has_pair ps x j ≡ has_symbol db x j) where
     -- the answer to whether an active `$d` has both
-    pub together_is : (r : Bool) (x y : ℕ) → (r ≡ true → (j : ℕ) × (has_pair ps x j ≡ true) × (has_pair ps y j ≡ true) × (is_live b j k ≡ true))
-        → (r ≡ false → (j : ℕ) → has_pair ps x j ≡ true → has_pair ps y j ≡ true → is_live b j k ≡ false)
-        → r ≡ list_any (λ j. is_member (formula_at db j) x && is_member (formula_at db j) y) (active_of is_disjoint db k)
-    together_is r x y found none = same_tests r (list_any (λ j. is_member (formula_at db j) x && is_member (formula_at db j) y) (active_of is_disjoint db k)) forth (λ e. back r refl e)
+    pub together_is : (r : Bool) (x y : ℕ)
+        → (r ≡ true
+        → (j : ℕ) × (has_pair ps x j ≡ true) × (has_pair ps y j ≡ true) × (is_live b j k ≡ true))
+        → (r ≡ false → (j : ℕ) → has_pair ps x j ≡ true → has_pair ps y j ≡ true
+        → is_live b j k ≡ false)
+        → r ≡ list_any (λ j. is_member (formula_at db j) x && is_member (formula_at db j) y)
+        (active_of is_disjoint_statement db k)
+    together_is r x y found none =
+        same_tests r
+        (list_any (λ j. is_member (formula_at db j) x && is_member (formula_at db j) y)
+        (active_of is_disjoint_statement db k)) forth (λ e. back r refl e)
       where
-        forth : r ≡ true → list_any (λ j. is_member (formula_at db j) x && is_member (formula_at db j) y) (active_of is_disjoint db k) ≡ true
+        forth : r ≡ true
+            → list_any (λ j. is_member (formula_at db j) x && is_member (formula_at db j) y)
+            (active_of is_disjoint_statement db k)
+            ≡ true
         forth e =
             let w = found e in
             let j = w.0 in
             let ex = sym (are x j) ∙ w.1 in
             let ey = sym (are y j) ∙ w.2 in
-            let t = and_left (list_any is_disjoint (statement_at db j)) (is_member (formula_at db j) x) ex in
-            any_of (λ i. is_member (formula_at db i) x && is_member (formula_at db i) y) (active_of is_disjoint db k) j (sym (live_is j t) ∙ w.3)
-            (ap₂ (λ p q. p && q) (and_right (list_any is_disjoint (statement_at db j)) (is_member (formula_at db j) x) ex) (and_right (list_any is_disjoint (statement_at db j)) (is_member (formula_at db j) y) ey))
+            let t =
+            and_left (list_any is_disjoint_statement (statement_at db j))
+            (is_member (formula_at db j) x) ex in
+            any_of (λ i. is_member (formula_at db i) x && is_member (formula_at db i) y)
+            (active_of is_disjoint_statement db k) j (sym (live_is j t) ∙ w.3)
+            (ap₂ (λ p q. p && q)
+            (and_right (list_any is_disjoint_statement (statement_at db j))
+            (is_member (formula_at db j) x) ex)
+            (and_right (list_any is_disjoint_statement (statement_at db j))
+            (is_member (formula_at db j) y) ey))
 
-        back : (c : Bool) → r ≡ c → list_any (λ j. is_member (formula_at db j) x && is_member (formula_at db j) y) (active_of is_disjoint db k) ≡ true → r ≡ true
+        back : (c : Bool) → r ≡ c
+            → list_any (λ j. is_member (formula_at db j) x && is_member (formula_at db j) y)
+            (active_of is_disjoint_statement db k)
+            ≡ true
+            → r ≡ true
         back true e t = e
         back false e t =
-            let w = any_witness (λ j. is_member (formula_at db j) x && is_member (formula_at db j) y) (active_of is_disjoint db k) t in
+            let w =
+            any_witness (λ j. is_member (formula_at db j) x && is_member (formula_at db j) y)
+            (active_of is_disjoint_statement db k) t in
             let j = w.0 in
             let d = kind_of_active j w.1 in
-            let ex = are x j ∙ ap₂ (λ p q. p && q) d (and_left (is_member (formula_at db j) x) (is_member (formula_at db j) y) w.2) in
-            let ey = are y j ∙ ap₂ (λ p q. p && q) d (and_right (is_member (formula_at db j) x) (is_member (formula_at db j) y) w.2) in
+            let ex =
+            are x j ∙ ap₂ (λ p q. p && q) d
+            (and_left (is_member (formula_at db j) x) (is_member (formula_at db j) y) w.2) in
+            let ey =
+            are y j ∙ ap₂ (λ p q. p && q) d
+            (and_right (is_member (formula_at db j) x) (is_member (formula_at db j) y) w.2) in
             absurd (true≢false (sym (live_is j d ∙ w.1) ∙ none e j ex ey))
 
-    module _ (found : List ℕ) (had : List (ℕ × ℕ)) (found_is : (x : ℕ) → is_member found x ≡ is_member (mandatory_variables db k) x)
-        (had_is : (j y : ℕ) → has_pair had j y ≡ (is_member found y && (has_pair ps y j && is_live b j k))) where
+    module _ (found : List ℕ) (had : List (ℕ × ℕ))
+        (found_is : (x : ℕ) → is_member found x ≡ is_member (mandatory_variables db k) x)
+        (had_is : (j y : ℕ)
+        → has_pair had j y ≡ (is_member found y && (has_pair ps y j && is_live b j k))) where
       abbrev vs : List ℕ
       vs = mandatory_variables db k
 
@@ -205,64 +319,115 @@ module _ (db : List Statement) (b : Lists) (blocks : IsBlocks db b) (k : ℕ) (h
       count = length (symbol_names db)
 
       abbrev wanted : Pair → Bool
-      wanted p = nat_lt p.low p.high && is_member vs p.low && is_member vs p.high && disjoint_at db k p.low p.high
+      wanted p =
+          nat_lt p.low p.high && is_member vs p.low && is_member vs p.high
+          && disjoint_at db k p.low p.high
 
       -- both stand in one statement
       abbrev pub together : ℕ → ℕ → Bool
       together x y = list_any (λ p. nat_eq x p.1 && (has_pair had p.0 y && nat_lt x y)) had
 
       in_range : (x : ℕ) → is_member vs x ≡ true → is_member (range_with_len 0 count) x ≡ true
-      in_range x e = let l = mandatory_named db k x e in member_range count 0 x (omega arith) ∙ lt-ltb x (0 + count) (omega (arith, l))
+      in_range x e =
+          let l = mandatory_named db k x e in
+          member_range count 0 x (omega arith) ∙ lt-ltb x (0 + count) (omega (arith, l))
 
-      had_then : (j y : ℕ) → has_pair had j y ≡ true → (is_member vs y ≡ true) × (is_member (formula_at db j) y ≡ true) × (is_member (active_of is_disjoint db k) j ≡ true)
+      had_then : (j y : ℕ) → has_pair had j y ≡ true
+          → (is_member vs y ≡ true) × (is_member (formula_at db j) y ≡ true)
+          × (is_member (active_of is_disjoint_statement db k) j ≡ true)
       had_then j y e =
           let f = sym (had_is j y) ∙ e in
           let r = and_right (is_member found y) (has_pair ps y j && is_live b j k) f in
           let s = sym (are y j) ∙ and_left (has_pair ps y j) (is_live b j k) r in
-          let d = and_left (list_any is_disjoint (statement_at db j)) (is_member (formula_at db j) y) s in (
+          let d =
+          and_left (list_any is_disjoint_statement (statement_at db j))
+          (is_member (formula_at db j) y) s in (
             sym (found_is y) ∙ and_left (is_member found y) (has_pair ps y j && is_live b j k) f,
-            and_right (list_any is_disjoint (statement_at db j)) (is_member (formula_at db j) y) s,
+            and_right (list_any is_disjoint_statement (statement_at db j))
+                (is_member (formula_at db j) y) s,
             sym (live_is j d) ∙ and_right (has_pair ps y j) (is_live b j k) r,
           )
 
-      had_if : (j y : ℕ) → is_member vs y ≡ true → is_member (formula_at db j) y ≡ true → is_member (active_of is_disjoint db k) j ≡ true → has_pair had j y ≡ true
+      had_if : (j y : ℕ) → is_member vs y ≡ true → is_member (formula_at db j) y ≡ true
+          → is_member (active_of is_disjoint_statement db k) j ≡ true → has_pair had j y ≡ true
       had_if j y m f a =
           let d = kind_of_active j a in
-          had_is j y ∙ ap₂ (λ p q. p && q) (found_is y ∙ m) (ap₂ (λ p q. p && q) (are y j ∙ ap₂ (λ p q. p && q) d f) (live_is j d ∙ a))
+          had_is j y
+          ∙ ap₂ (λ p q. p && q) (found_is y ∙ m)
+          (ap₂ (λ p q. p && q) (are y j ∙ ap₂ (λ p q. p && q) d f) (live_is j d ∙ a))
 
-      forth : (x y : ℕ) → together x y ≡ true → (wanted (pair x y) && (is_member (range_with_len 0 count) x && is_member (range_with_len 0 count) y)) ≡ true
+      forth : (x y : ℕ) → together x y ≡ true
+          → (wanted (pair x y)
+          && (is_member (range_with_len 0 count) x && is_member (range_with_len 0 count) y))
+          ≡ true
       forth x y e =
           let w = any_pair (λ p. nat_eq x p.1 && (has_pair had p.0 y && nat_lt x y)) had e in
           let j = (get_or had w.0 (0, 0)).0 in
-          let s = eqb-true x (get_or had w.0 (0, 0)).1 (and_left (nat_eq x (get_or had w.0 (0, 0)).1) (has_pair had j y && nat_lt x y) w.2) in
-          let r = and_right (nat_eq x (get_or had w.0 (0, 0)).1) (has_pair had j y && nat_lt x y) w.2 in
+          let s =
+          eqb-true x (get_or had w.0 (0, 0)).1
+          (and_left (nat_eq x (get_or had w.0 (0, 0)).1) (has_pair had j y && nat_lt x y) w.2) in
+          let r =
+          and_right (nat_eq x (get_or had w.0 (0, 0)).1) (has_pair had j y && nat_lt x y) w.2 in
           let less = and_right (has_pair had j y) (nat_lt x y) r in
           let l = ltb-true x y less in
           let one = had_then j x (ap (has_pair had j) s ∙ at_has had w.0 (0, 0) w.1) in
           let other = had_then j y (and_left (has_pair had j y) (nat_lt x y) r) in
-          let apart = any_of (λ i. is_member (formula_at db i) x && is_member (formula_at db i) y) (active_of is_disjoint db k) j one.2 (ap₂ (λ a b. a && b) one.1 other.1) in
-          let dis : disjoint_at db k x y ≡ true = ap₂ (λ a b. not a && b) (ne_eqb x y (λ q. absurd (omega (arith, q, l)))) apart in
-          ap₂ (λ a b. a && b) (ap₂ (λ a b. a && b) (ap₂ (λ a b. a && b) (ap₂ (λ a b. a && b) less one.0) other.0) dis) (ap₂ (λ a b. a && b) (in_range x one.0) (in_range y other.0))
+          let apart =
+          any_of (λ i. is_member (formula_at db i) x && is_member (formula_at db i) y)
+          (active_of is_disjoint_statement db k) j one.2 (ap₂ (λ a b. a && b) one.1 other.1) in
+          let dis : disjoint_at db k x y ≡ true =
+          ap₂ (λ a b. not a && b) (ne_eqb x y (λ q. absurd (omega (arith, q, l)))) apart in
+          ap₂ (λ a b. a && b)
+          (ap₂ (λ a b. a && b)
+          (ap₂ (λ a b. a && b) (ap₂ (λ a b. a && b) less one.0) other.0) dis)
+          (ap₂ (λ a b. a && b) (in_range x one.0) (in_range y other.0))
 
-      back : (x y : ℕ) → (wanted (pair x y) && (is_member (range_with_len 0 count) x && is_member (range_with_len 0 count) y)) ≡ true → together x y ≡ true
+      back : (x y : ℕ)
+          → (wanted (pair x y)
+          && (is_member (range_with_len 0 count) x && is_member (range_with_len 0 count) y))
+          ≡ true
+          → together x y ≡ true
       back x y e =
-          let t = and_left (wanted (pair x y)) (is_member (range_with_len 0 count) x && is_member (range_with_len 0 count) y) e in
-          let abc = and_left (nat_lt x y && is_member vs x && is_member vs y) (disjoint_at db k x y) t in
-          let dis = and_right (nat_lt x y && is_member vs x && is_member vs y) (disjoint_at db k x y) t in
+          let t =
+          and_left (wanted (pair x y))
+          (is_member (range_with_len 0 count) x && is_member (range_with_len 0 count) y) e in
+          let abc =
+          and_left (nat_lt x y && is_member vs x && is_member vs y) (disjoint_at db k x y) t in
+          let dis =
+          and_right (nat_lt x y && is_member vs x && is_member vs y) (disjoint_at db k x y) t in
           let ab = and_left (nat_lt x y && is_member vs x) (is_member vs y) abc in
           let my = and_right (nat_lt x y && is_member vs x) (is_member vs y) abc in
           let less = and_left (nat_lt x y) (is_member vs x) ab in
           let mx = and_right (nat_lt x y) (is_member vs x) ab in
-          let w = any_witness (λ i. is_member (formula_at db i) x && is_member (formula_at db i) y) (active_of is_disjoint db k) (and_right (not (nat_eq x y)) (list_any (λ i. is_member (formula_at db i) x && is_member (formula_at db i) y) (active_of is_disjoint db k)) dis) in
+          let w =
+          any_witness (λ i. is_member (formula_at db i) x && is_member (formula_at db i) y)
+          (active_of is_disjoint_statement db k)
+          (and_right (not (nat_eq x y))
+          (list_any (λ i. is_member (formula_at db i) x && is_member (formula_at db i) y)
+          (active_of is_disjoint_statement db k)) dis) in
           let j = w.0 in
-          let hx = had_if j x mx (and_left (is_member (formula_at db j) x) (is_member (formula_at db j) y) w.2) w.1 in
-          let hy = had_if j y my (and_right (is_member (formula_at db j) x) (is_member (formula_at db j) y) w.2) w.1 in
+          let hx =
+          had_if j x mx
+          (and_left (is_member (formula_at db j) x) (is_member (formula_at db j) y) w.2) w.1 in
+          let hy =
+          had_if j y my
+          (and_right (is_member (formula_at db j) x) (is_member (formula_at db j) y) w.2) w.1 in
           let v = has_at had j x hx in
           list_any_at (λ p. nat_eq x p.1 && (has_pair had p.0 y && nat_lt x y)) had v.0 (0, 0) v.1
-          (ap₂ (λ a b. a && b) (eq-eqb x (get_or had v.0 (0, 0)).1 (sym v.3)) (ap₂ (λ a b. a && b) (ap (λ i. has_pair had i y) v.2 ∙ hy) less))
+          (ap₂ (λ a b. a && b) (eq-eqb x (get_or had v.0 (0, 0)).1 (sym v.3))
+          (ap₂ (λ a b. a && b) (ap (λ i. has_pair had i y) v.2 ∙ hy) less))
 
-      pub pairs_are : (qs : List (ℕ × ℕ)) → AreRising qs → ((x y : ℕ) → has_pair qs x y ≡ together x y) → map (λ p. pair p.0 p.1) qs ≡ mandatory_pairs db k
+      pub pairs_are : (qs : List (ℕ × ℕ)) → AreRising qs
+          → ((x y : ℕ) → has_pair qs x y ≡ together x y)
+          → map (λ p. pair p.0 p.1) qs ≡ mandatory_pairs db k
       pairs_are qs rising is =
-          unique (map (λ p. pair p.0 p.1) qs) (those wanted (pairs_of count)) (sorted_map qs rising) (sorted_those wanted (pairs_of count) (sorted_pairs count))
-          (λ x y. has_map qs x y ∙ is x y ∙ same_tests (together x y) (wanted (pair x y) && (is_member (range_with_len 0 count) x && is_member (range_with_len 0 count) y)) (forth x y) (back x y)
-          ∙ sym (has_those wanted (pairs_of count) x y ∙ ap (λ b. wanted (pair x y) && b) (has_rows (range_with_len 0 count) (range_with_len 0 count) x y)))
+          unique (map (λ p. pair p.0 p.1) qs) (filter wanted (pairs_of count))
+          (sorted_map qs rising) (sorted_filter wanted (pairs_of count) (sorted_pairs count))
+          (λ x y. has_map qs x y ∙ is x y
+          ∙ same_tests (together x y)
+          (wanted (pair x y)
+          && (is_member (range_with_len 0 count) x && is_member (range_with_len 0 count) y))
+          (forth x y) (back x y)
+          ∙ sym (has_filter wanted (pairs_of count) x y
+          ∙ ap (λ b. wanted (pair x y) && b)
+          (has_rows (range_with_len 0 count) (range_with_len 0 count) x y)))

@@ -1,33 +1,39 @@
 -- What a lawful `$f` says of its two symbols.
-use Rattle.std.proofs.Common.{◌≡◌, ℕ, suc, ◌<◌, Bool, true, false, ◌&&◌, ◌||◌, List, [], ◌∷◌, ◌++◌, length, take, drop, bytes_eq, flat_map, slice_get, get_or, Option, None, Some, refl, sym, ap, ap₂, ◌∙◌, subst, arith, true≢false, if◌then◌else◌}
+use Rattle.std.proofs.Common.{◌≡◌, ℕ, suc, ◌<◌, Bool, true, false, ◌&&◌, ◌||◌, List, [], ◌∷◌, ◌++◌}
+use Rattle.std.proofs.Common.{length, take, drop, bytes_eq, flat_map, slice_get, get_or, Option}
+use Rattle.std.proofs.Common.{None, Some, refl, sym, ap, ap₂, ◌∙◌, subst, arith, true≢false}
+use Rattle.std.proofs.Common.{if◌then◌else◌}
 use Rattle.std.proofs.lemmas.Bool.{lt-ltb}
 use Rattle.std.proofs.lemmas.List.{take-append-drop}
 use Rattle.std.proofs.lemmas.List.Folds.{list_any-append}
 use Rattle.std.proofs.lemmas.Grind.{flat_map-append}
 use Rattle.std.proofs.lemmas.Slice.Eq.{bytes_eq-Decides}
 use Rattle.std.specs.List.{list_any}
-use Rattle.mm_spec.specs.Text.{Word, Token, is_in}
-use Rattle.mm_spec.specs.Statement.{Statement, constants, variables, disjoint, floating, essential, axiomatic, provable, opening, closing}
-use Rattle.mm_spec.specs.Scope.{Names, names_before, active_statements, is_active, is_active_some, depth, constants_of, variables_of}
-use Rattle.mm_spec.specs.Lawful.{scope_faults, least, is_typed, floating_faults, label_faults, at, when, is_typed_otherwise}
-use Rattle.mm_spec.specs.Text.{fault}
+use Rattle.mm_spec.specs.Text.{Bytes, Token, is_in, fault}
+use Rattle.mm_spec.specs.Statement.{Statement, constants, variables, disjoint, floating, essential}
+use Rattle.mm_spec.specs.Statement.{axiomatic, provable, opening, closing}
+use Rattle.mm_spec.specs.Scope.{Names, names_before, active_statements, is_active, is_active_some}
+use Rattle.mm_spec.specs.Scope.{depth, constants_of, variables_of, stays}
+use Rattle.mm_spec.specs.Lawful.{scope_faults, least, is_typed, floating_faults, label_faults, at}
+use Rattle.mm_spec.specs.Lawful.{when, is_typed_otherwise}
 use Rattle.mm_spec.specs.declared.Fault.{Fault}
 use Rattle.mm_spec.specs.declared.Code.TheVariants.{BadFloating, TypedBefore, OtherTypecode}
-use Rattle.mm_spec.specs.Frame.{symbol_names, place_of, is_variable, is_floating, formula_at, formula_of}
-use Rattle.mm_spec.proofs.Activity.{stays}
+use Rattle.mm_spec.specs.Frame.{symbol_names, place_of, is_variable_number, is_floating, formula_at}
+use Rattle.mm_spec.specs.Frame.{formula_of}
 use Rattle.mm_outline.specs.Typed.{has, typed_words}
 use Rattle.mm_frame.specs.Tables.{IsSound, typed_at}
-use Rattle.mm_outline.proofs.Faultless.{append_none, floating_new}
-use Rattle.mm_outline.proofs.Faultless.{none_least}
-use Rattle.mm_outline.proofs.Among.{typed_in}
-use Rattle.mm_outline.proofs.Among.{any_true, among_active}
+use Rattle.mm_outline.proofs.Faultless.{append_none, floating_new, none_least}
+use Rattle.mm_outline.proofs.Among.{typed_in, any_true, among_active}
 
 -- a word that has a place is there
-pub place_get : (w : Word) (ws : List Word) → place_of w ws < length ws → slice_get ws (place_of w ws) ≡ Some w
+pub place_get : (w : Bytes) (ws : List Bytes) → place_of w ws < length ws
+    → slice_get ws (place_of w ws) ≡ Some w
 place_get w [] h = absurd (omega arith)
 place_get w (v ∷ vs) h = by (bytes_eq w v) refl h (place_get w vs)
   where
-    by : (b : Bool) → bytes_eq w v ≡ b → (elim b [ true ↦ 0 | false ↦ suc (place_of w vs) ]) < length (v ∷ vs) → (place_of w vs < length vs → slice_get vs (place_of w vs) ≡ Some w)
+    by : (b : Bool) → bytes_eq w v ≡ b
+        → (elim b [ true ↦ 0 | false ↦ suc (place_of w vs) ]) < length (v ∷ vs)
+        → (place_of w vs < length vs → slice_get vs (place_of w vs) ≡ Some w)
         → slice_get (v ∷ vs) (elim b [ true ↦ 0 | false ↦ suc (place_of w vs) ]) ≡ Some w
     by true e h r = ap Some (sym ((bytes_eq-Decides w v).0 e))
     by false e h r = r (omega arith)
@@ -36,7 +42,9 @@ abbrev pub list_at : Option Statement → List Statement
 list_at o = elim o [ None ↦ [] | Some s ↦ s ∷ [] ]
 
 abbrev typed_of : List Statement → Option Statement → Option ℕ
-typed_of db o = if list_any is_floating (elim o [ None ↦ [] | Some s ↦ s ∷ [] ]) then slice_get (flat_map (formula_of db) (elim o [ None ↦ [] | Some s ↦ s ∷ [] ])) 1 else None
+typed_of db o =
+    if list_any is_floating (elim o [ None ↦ [] | Some s ↦ s ∷ [] ]) then slice_get
+    (flat_map (formula_of db) (elim o [ None ↦ [] | Some s ↦ s ∷ [] ])) 1 else None
 
 pub record IsFloat (db : List Statement) (k v : ℕ) : Type 0 where
   pub label : Token
@@ -50,21 +58,38 @@ pub record IsFloat (db : List Statement) (k v : ℕ) : Type 0 where
   pub constant : is_in typecode.word (flat_map constants_of (take k db)) ≡ true
 
 module _ (db : List Statement) (sound : IsSound db) where
-  law : (k : ℕ) → k < length db → (s : Statement) → slice_get db k ≡ Some s → scope_faults (names_before db k) (depth db k) s ≡ []
-  law k h s e = none_least (scope_faults (names_before db k) (depth db k) s) (sym (ap (λ o. elim o [ None ↦ None | Some s ↦ least (scope_faults (names_before db k) (depth db k) s) ]) e) ∙ sound.lawful k h)
+  law : (k : ℕ) → k < length db → (s : Statement) → slice_get db k ≡ Some s
+      → scope_faults (names_before db k) (depth db k) s ≡ []
+  law k h s e =
+      none_least (scope_faults (names_before db k) (depth db k) s)
+      (sym (ap
+      (λ o. elim o
+      [ None ↦ None | Some s ↦ least (scope_faults (names_before db k) (depth db k) s) ]) e)
+      ∙ sound.lawful k h)
 
-  constant_there : (n : Names) (keyword : ℕ) (c v : Token) → floating_faults n keyword (c ∷ v ∷ []) ≡ [] → is_in c.word n.constants ≡ true
+  constant_there : (n : Names) (keyword : ℕ) (c v : Token)
+      → floating_faults n keyword (c ∷ v ∷ []) ≡ [] → is_in c.word n.constants ≡ true
   constant_there n keyword c v h = by (is_in c.word n.constants) refl h
     where
       codes : Bool → List Fault
-      codes = λ b. elim b [ true ↦ at v.at (when (is_typed n v.word) TypedBefore ++ when (is_typed_otherwise n c.word v.word) OtherTypecode) | false ↦ fault keyword BadFloating ∷ [] ]
+      codes =
+          λ b. elim b [
+            | true ↦ at v.at
+                (when (is_typed n v.word) TypedBefore
+                ++ when (is_typed_otherwise n c.word v.word) OtherTypecode)
+            | false ↦ fault keyword BadFloating ∷ []
+          ]
 
-      by : (a : Bool) → is_in c.word n.constants ≡ a → codes (a && is_in v.word n.active_variables) ≡ [] → is_in c.word n.constants ≡ true
+      by : (a : Bool) → is_in c.word n.constants ≡ a
+          → codes (a && is_in v.word n.active_variables) ≡ [] → is_in c.word n.constants ≡ true
       by true e h = e
       by false e h = absurd (cc)
 
   -- a `$f` by its statement
-  float_of : (k v : ℕ) → k < length db → (o : Option Statement) → slice_get db k ≡ o → list_any is_floating (elim o [ None ↦ [] | Some s ↦ s ∷ [] ]) ≡ true → (slice_get (flat_map (formula_of db) (elim o [ None ↦ [] | Some s ↦ s ∷ [] ])) 1 ≡ Some v) → IsFloat db k v
+  float_of : (k v : ℕ) → k < length db → (o : Option Statement) → slice_get db k ≡ o
+      → list_any is_floating (elim o [ None ↦ [] | Some s ↦ s ∷ [] ]) ≡ true
+      → (slice_get (flat_map (formula_of db) (elim o [ None ↦ [] | Some s ↦ s ∷ [] ])) 1 ≡ Some v)
+      → IsFloat db k v
   float_of k v h None e t f = absurd (true≢false (sym t))
   float_of k v h (Some (constants a xs d)) e t f = absurd (true≢false (sym t))
   float_of k v h (Some (variables a xs d)) e t f = absurd (true≢false (sym t))
@@ -76,9 +101,16 @@ module _ (db : List Statement) (sound : IsSound db) where
   float_of k v h (Some (closing a)) e t f = absurd (true≢false (sym t))
   float_of k v h (Some (floating l a [] d)) e t f = absurd (cc)
   float_of k v h (Some (floating l a (c ∷ []) d)) e t f = absurd (cc)
-  float_of k v h (Some (floating l a (c ∷ x ∷ y ∷ ys) d)) e t f = absurd (let n = (append_none (label_faults (names_before db k) l) (floating_faults (names_before db k) a (c ∷ x ∷ y ∷ ys)) (law k h (floating l a (c ∷ x ∷ y ∷ ys) d) e)).1 in cc)
+  float_of k v h (Some (floating l a (c ∷ x ∷ y ∷ ys) d)) e t f =
+      absurd (let n = (append_none (label_faults (names_before db k) l)
+      (floating_faults (names_before db k) a (c ∷ x ∷ y ∷ ys))
+      (law k h (floating l a (c ∷ x ∷ y ∷ ys) d) e)).1 in
+      cc)
   float_of k v h (Some (floating l a (c ∷ x ∷ []) d)) e t f =
-      let n = (append_none (label_faults (names_before db k) l) (floating_faults (names_before db k) a (c ∷ x ∷ [])) (law k h (floating l a (c ∷ x ∷ []) d) e)).1 in
+      let n =
+      (append_none (label_faults (names_before db k) l)
+      (floating_faults (names_before db k) a (c ∷ x ∷ []))
+      (law k h (floating l a (c ∷ x ∷ []) d) e)).1 in
       record {
         label = l;
         keyword = a;
@@ -100,15 +132,22 @@ module _ (db : List Statement) (sound : IsSound db) where
       by : (o : Option Statement) → slice_get db k ≡ o → typed_of db o ≡ Some v → IsFloat db k v
       by o s t = go (list_any is_floating (elim o [ None ↦ [] | Some s ↦ s ∷ [] ])) refl t
         where
-          go : (b : Bool) → list_any is_floating (elim o [ None ↦ [] | Some s ↦ s ∷ [] ]) ≡ b → (if b then slice_get (flat_map (formula_of db) (elim o [ None ↦ [] | Some s ↦ s ∷ [] ])) 1 else None) ≡ Some v → IsFloat db k v
+          go : (b : Bool) → list_any is_floating (elim o [ None ↦ [] | Some s ↦ s ∷ [] ]) ≡ b
+              → (if b then slice_get
+              (flat_map (formula_of db) (elim o [ None ↦ [] | Some s ↦ s ∷ [] ])) 1 else None)
+              ≡ Some v
+              → IsFloat db k v
           go true p q = float_of k v h o s p q
           go false p q = absurd (cc)
 
   -- a `$f` has a variable
-  pub floating_typed : (k : ℕ) → k < length db → list_any is_floating (list_at (slice_get db k)) ≡ true → (v : ℕ) × (typed_at db k ≡ Some v) × IsFloat db k v
+  pub floating_typed : (k : ℕ) → k < length db
+      → list_any is_floating (list_at (slice_get db k)) ≡ true
+      → (v : ℕ) × (typed_at db k ≡ Some v) × IsFloat db k v
   floating_typed k h t = by (slice_get db k) refl t
     where
-      by : (o : Option Statement) → slice_get db k ≡ o → list_any is_floating (list_at o) ≡ true → (v : ℕ) × (typed_at db k ≡ Some v) × IsFloat db k v
+      by : (o : Option Statement) → slice_get db k ≡ o → list_any is_floating (list_at o) ≡ true
+          → (v : ℕ) × (typed_at db k ≡ Some v) × IsFloat db k v
       by None e t = absurd (true≢false (sym t))
       by (Some (constants a xs d)) e t = absurd (true≢false (sym t))
       by (Some (variables a xs d)) e t = absurd (true≢false (sym t))
@@ -118,42 +157,78 @@ module _ (db : List Statement) (sound : IsSound db) where
       by (Some (provable l a xs q ps d)) e t = absurd (true≢false (sym t))
       by (Some (opening a)) e t = absurd (true≢false (sym t))
       by (Some (closing a)) e t = absurd (true≢false (sym t))
-      by (Some (floating l a [] d)) e t = absurd (let n = (append_none (label_faults (names_before db k) l) (floating_faults (names_before db k) a []) (law k h (floating l a [] d) e)).1 in cc)
-      by (Some (floating l a (c ∷ []) d)) e t = absurd (let n = (append_none (label_faults (names_before db k) l) (floating_faults (names_before db k) a (c ∷ [])) (law k h (floating l a (c ∷ []) d) e)).1 in cc)
-      by (Some (floating l a (c ∷ x ∷ xs) d)) e t = let v = place_of x.word (symbol_names db) in let is = ap (typed_of db) e in (v, is, typed_float k v h is)
+      by (Some (floating l a [] d)) e t =
+          absurd (let n = (append_none (label_faults (names_before db k) l)
+          (floating_faults (names_before db k) a []) (law k h (floating l a [] d) e)).1 in
+          cc)
+      by (Some (floating l a (c ∷ []) d)) e t =
+          absurd (let n = (append_none (label_faults (names_before db k) l)
+          (floating_faults (names_before db k) a (c ∷ []))
+          (law k h (floating l a (c ∷ []) d) e)).1 in
+          cc)
+      by (Some (floating l a (c ∷ x ∷ xs) d)) e t =
+          let v = place_of x.word (symbol_names db) in let is = ap (typed_of db) e in
+          (v, is, typed_float k v h is)
 
   module _ (k v : ℕ) (h : k < length db) (f : IsFloat db k v) where
     pub formula_is : formula_at db k ≡ place_of f.typecode.word (symbol_names db) ∷ v ∷ []
-    formula_is = ap (λ o. flat_map (formula_of db) (list_at o)) f.is ∙ ap (λ x. place_of f.typecode.word (symbol_names db) ∷ x ∷ []) f.number
+    formula_is =
+        ap (λ o. flat_map (formula_of db) (list_at o)) f.is
+        ∙ ap (λ x. place_of f.typecode.word (symbol_names db) ∷ x ∷ []) f.number
 
     pub floating_is : list_any is_floating (list_at (slice_get db k)) ≡ true
     floating_is = ap (λ o. list_any is_floating (list_at o)) f.is
 
     typecode_below : place_of f.typecode.word (symbol_names db) < length (symbol_names db)
-    typecode_below = subst (λ (xs : List ℕ). get_or xs 0 0 < length (symbol_names db)) formula_is (sound.below k h 0 0 (subst (λ (xs : List ℕ). 0 < length xs) (sym formula_is) (omega arith)))
+    typecode_below =
+        subst (λ (xs : List ℕ). get_or xs 0 0 < length (symbol_names db)) formula_is
+        (sound.below k h 0 0
+        (subst (λ (xs : List ℕ). 0 < length xs) (sym formula_is) (omega arith)))
 
     pub variable_below : v < length (symbol_names db)
-    variable_below = subst (λ (xs : List ℕ). get_or xs 1 0 < length (symbol_names db)) formula_is (sound.below k h 1 0 (subst (λ (xs : List ℕ). 1 < length xs) (sym formula_is) (omega arith)))
+    variable_below =
+        subst (λ (xs : List ℕ). get_or xs 1 0 < length (symbol_names db)) formula_is
+        (sound.below k h 1 0
+        (subst (λ (xs : List ℕ). 1 < length xs) (sym formula_is) (omega arith)))
 
     -- its typecode is no variable
-    pub typecode_constant : is_variable db (place_of f.typecode.word (symbol_names db)) ≡ false
+    pub typecode_constant : is_variable_number db (place_of f.typecode.word (symbol_names db))
+        ≡ false
     typecode_constant =
-        ap (λ o. elim o [ None ↦ false | Some w ↦ is_in w (flat_map variables_of db) ]) (place_get f.typecode.word (symbol_names db) typecode_below)
-        ∙ sound.apart f.typecode.word (sym (ap (λ xs. is_in f.typecode.word (flat_map constants_of xs)) (take-append-drop k db)) ∙ ap (is_in f.typecode.word) (flat_map-append constants_of (take k db) (drop k db)) ∙ list_any-append (bytes_eq f.typecode.word) (flat_map constants_of (take k db)) (flat_map constants_of (drop k db)) ∙ ap (λ b. b || is_in f.typecode.word (flat_map constants_of (drop k db))) f.constant)
+        ap (λ o. elim o [ None ↦ false | Some w ↦ is_in w (flat_map variables_of db) ])
+        (place_get f.typecode.word (symbol_names db) typecode_below)
+        ∙ sound.apart f.typecode.word
+        (sym (ap (λ xs. is_in f.typecode.word (flat_map constants_of xs))
+        (take-append-drop k db))
+        ∙ ap (is_in f.typecode.word) (flat_map-append constants_of (take k db) (drop k db))
+        ∙ list_any-append (bytes_eq f.typecode.word) (flat_map constants_of (take k db))
+        (flat_map constants_of (drop k db))
+        ∙ ap (λ b. b || is_in f.typecode.word (flat_map constants_of (drop k db))) f.constant)
 
     pub float_active : (l : ℕ) → k < l → is_active db k l ≡ stays db k l
     float_active l m = ap₂ (λ t o. t && is_active_some o (stays db k l)) (lt-ltb k l m) f.is
 
   -- a variable has one active `$f`
-  pub typed_once : (j k v : ℕ) → j < k → k < length db → IsFloat db j v → IsFloat db k v → stays db j k ≡ true → ⊥
+  pub typed_once : (j k v : ℕ) → j < k → k < length db → IsFloat db j v → IsFloat db k v
+      → stays db j k ≡ true → ⊥
   typed_once j k v l h f g e =
       let i : j < length db = omega arith in
       let bj = subst (λ n. n < length (symbol_names db)) (sym f.number) (variable_below j v i f) in
       let bk = subst (λ n. n < length (symbol_names db)) (sym g.number) (variable_below k v h g) in
-      let same = some_same (sym (place_get f.variable.word (symbol_names db) bj) ∙ ap (slice_get (symbol_names db)) (f.number ∙ sym g.number) ∙ place_get g.variable.word (symbol_names db) bk) in
+      let same =
+      some_same
+      (sym (place_get f.variable.word (symbol_names db) bj)
+      ∙ ap (slice_get (symbol_names db)) (f.number ∙ sym g.number)
+      ∙ place_get g.variable.word (symbol_names db) bk) in
       let w = g.variable.word in
-      let there = ap (λ o. is_in w (flat_map typed_words (list_at o))) f.is ∙ ap (λ b. b || false) ((bytes_eq-Decides w f.variable.word).1 (sym same)) in
-      true≢false (sym (any_true (λ i. is_active db i k && has db typed_words w i) k 0 j (omega arith) (omega arith) (ap₂ (λ a b. a && b) (float_active j v i f k l ∙ e) there)) ∙ sym (among_active db typed_words w (λ i. is_active db i k) k 0) ∙ sym (typed_in w (active_statements db k)) ∙ g.untyped)
+      let there =
+      ap (λ o. is_in w (flat_map typed_words (list_at o))) f.is
+      ∙ ap (λ b. b || false) ((bytes_eq-Decides w f.variable.word).1 (sym same)) in
+      true≢false
+      (sym (any_true (λ i. is_active db i k && has db typed_words w i) k 0 j (omega arith)
+      (omega arith) (ap₂ (λ a b. a && b) (float_active j v i f k l ∙ e) there))
+      ∙ sym (among_active db typed_words w (λ i. is_active db i k) k 0)
+      ∙ sym (typed_in w (active_statements db k)) ∙ g.untyped)
     where
-      some_same : {p q : Word} → Some p ≡ Some q → p ≡ q
+      some_same : {p q : Bytes} → Some p ≡ Some q → p ≡ q
       some_same s = cc

@@ -1,15 +1,19 @@
 -- How the last active statement of a kind is found, and the others from it.
-use Rattle.std.proofs.Common.{◌≡◌, ◌≢◌, ℕ, zero, suc, ◌+◌, ◌<◌, ◌≤◌, Bool, true, false, ◌&&◌, ◌||◌, cond, List, [], ◌∷◌, ◌++◌, length, nat_eq, slice_get, nat_lt, Option, None, Some, refl, sym, ap, ap₂, ◌∙◌, subst, arith, ◌⊎◌, inl, inr, true≢false, eqb-true, get_or, length-append}
+use Rattle.std.proofs.Common.{◌≡◌, ◌≢◌, ℕ, zero, suc, ◌+◌, ◌<◌, ◌≤◌, Bool, true, false, ◌&&◌, ◌||◌}
+use Rattle.std.proofs.Common.{cond, List, [], ◌∷◌, ◌++◌, length, nat_eq, slice_get, nat_lt, Option}
+use Rattle.std.proofs.Common.{None, Some, refl, sym, ap, ap₂, ◌∙◌, subst, arith, ◌⊎◌, inl, inr}
+use Rattle.std.proofs.Common.{true≢false, eqb-true, get_or, length-append}
 use Rattle.std.proofs.lemmas.Bool.{cases_lt, cases_eq, cases_order, lt-ltb, le-ltb, eq-eqb, ne_eqb}
 use Rattle.std.proofs.lemmas.List.Folds.{list_any-append}
 use Rattle.std.proofs.lemmas.List.{get_or_append_left}
 use Rattle.std.proofs.Math.Seq.{get_or-append_seam}
-use Rattle.std.specs.List.{list_any, range_with_len}
-use Rattle.mm_spec.specs.Statement.{Statement, constants, variables, disjoint, floating, essential, axiomatic, provable, opening, closing}
-use Rattle.mm_spec.specs.Scope.{statement_at, is_active, is_active_some, is_active_kind, those, active}
+use Rattle.std.specs.List.{list_any, range_with_len, filter}
+use Rattle.mm_spec.specs.Statement.{Statement, constants, variables, disjoint, floating, essential}
+use Rattle.mm_spec.specs.Statement.{axiomatic, provable, opening, closing}
+use Rattle.mm_spec.specs.Scope.{statement_at, is_active, is_active_some, is_active_kind, active}
+use Rattle.mm_spec.specs.Scope.{stays}
 use Rattle.mm_spec.specs.Derivation.{is_member}
-use Rattle.mm_spec.specs.Frame.{active_of, is_essential, is_disjoint}
-use Rattle.mm_spec.proofs.Activity.{stays}
+use Rattle.mm_spec.specs.Frame.{active_of, is_essential, is_disjoint_statement}
 use Rattle.mm_outline.specs.Blocks.{never}
 use Rattle.mm_frame.specs.Latest.{is_on, IsCandidate, IsLatest, IsWalked}
 use Rattle.mm_frame.proofs.Nested.{same_tests, stays_earlier, stays_nested}
@@ -40,26 +44,44 @@ and_false false = refl
 
 -- ---- members
 
-pub member_push : (xs : List ℕ) (y i : ℕ) → is_member (xs ++ y ∷ []) i ≡ (is_member xs i || nat_eq i y)
-member_push xs y i = list_any-append (nat_eq i) xs (y ∷ []) ∙ ap (λ b. is_member xs i || b) (or_false (nat_eq i y))
+pub member_push : (xs : List ℕ) (y i : ℕ)
+    → is_member (xs ++ y ∷ []) i ≡ (is_member xs i || nat_eq i y)
+member_push xs y i =
+    list_any-append (nat_eq i) xs (y ∷ []) ∙ ap (λ b. is_member xs i || b) (or_false (nat_eq i y))
 
-pub member_those : (p : ℕ → Bool) (xs : List ℕ) (i : ℕ) → is_member (those p xs) i ≡ (p i && is_member xs i)
-member_those p [] i = sym (and_false (p i))
-member_those p (x ∷ xs) i = by (p x) refl (cases_eq i x) (member_those p xs i)
+pub member_filter : (p : ℕ → Bool) (xs : List ℕ) (i : ℕ)
+    → is_member (filter p xs) i ≡ (p i && is_member xs i)
+member_filter p [] i = sym (and_false (p i))
+member_filter p (x ∷ xs) i = by (p x) refl (cases_eq i x) (member_filter p xs i)
   where
-    by : (b : Bool) → p x ≡ b → (i ≡ x) ⊎ (i ≢ x) → is_member (those p xs) i ≡ (p i && is_member xs i) → is_member (elim b [ true ↦ x ∷ those p xs | false ↦ those p xs ]) i ≡ (p i && (nat_eq i x || is_member xs i))
-    by true e (inl s) r = ap (λ b. b || is_member (those p xs) i) (eq-eqb i x s) ∙ sym (ap₂ (λ a b. a && (b || is_member xs i)) (ap p s ∙ e) (eq-eqb i x s))
-    by true e (inr n) r = ap (λ b. b || is_member (those p xs) i) (ne_eqb i x n) ∙ r ∙ ap (λ b. p i && (b || is_member xs i)) (sym (ne_eqb i x n))
-    by false e (inl s) r = r ∙ ap (λ b. b && is_member xs i) (ap p s ∙ e) ∙ sym (ap (λ a. a && (nat_eq i x || is_member xs i)) (ap p s ∙ e))
+    by : (b : Bool) → p x ≡ b → (i ≡ x) ⊎ (i ≢ x)
+        → is_member (filter p xs) i ≡ (p i && is_member xs i)
+        → is_member (cond b (x ∷ filter p xs) (filter p xs)) i
+        ≡ (p i && (nat_eq i x || is_member xs i))
+    by true e (inl s) r =
+        ap (λ b. b || is_member (filter p xs) i) (eq-eqb i x s)
+        ∙ sym (ap₂ (λ a b. a && (b || is_member xs i)) (ap p s ∙ e) (eq-eqb i x s))
+    by true e (inr n) r =
+        ap (λ b. b || is_member (filter p xs) i) (ne_eqb i x n) ∙ r
+        ∙ ap (λ b. p i && (b || is_member xs i)) (sym (ne_eqb i x n))
+    by false e (inl s) r =
+        r ∙ ap (λ b. b && is_member xs i) (ap p s ∙ e)
+        ∙ sym (ap (λ a. a && (nat_eq i x || is_member xs i)) (ap p s ∙ e))
     by false e (inr n) r = r ∙ ap (λ b. p i && (b || is_member xs i)) (sym (ne_eqb i x n))
 
 pub member_range : (n a i : ℕ) → a ≤ i → is_member (range_with_len a n) i ≡ nat_lt i (a + n)
 member_range zero a i h = sym (le-ltb i (a + 0) (omega arith))
 member_range (suc n) a i h = by (cases_eq i a) (λ l. member_range n (a + 1) i l)
   where
-    by : (i ≡ a) ⊎ (i ≢ a) → (a + 1 ≤ i → is_member (range_with_len (a + 1) n) i ≡ nat_lt i (a + 1 + n)) → (nat_eq i a || is_member (range_with_len (a + 1) n) i) ≡ nat_lt i (a + suc n)
-    by (inl e) r = ap (λ b. b || is_member (range_with_len (a + 1) n) i) (eq-eqb i a e) ∙ sym (lt-ltb i (a + suc n) (omega arith))
-    by (inr e) r = ap (λ b. b || is_member (range_with_len (a + 1) n) i) (ne_eqb i a e) ∙ r (omega arith) ∙ (let s : a + 1 + n ≡ a + suc n = omega arith in ap (nat_lt i) s)
+    by : (i ≡ a) ⊎ (i ≢ a)
+        → (a + 1 ≤ i → is_member (range_with_len (a + 1) n) i ≡ nat_lt i (a + 1 + n))
+        → (nat_eq i a || is_member (range_with_len (a + 1) n) i) ≡ nat_lt i (a + suc n)
+    by (inl e) r =
+        ap (λ b. b || is_member (range_with_len (a + 1) n) i) (eq-eqb i a e)
+        ∙ sym (lt-ltb i (a + suc n) (omega arith))
+    by (inr e) r =
+        ap (λ b. b || is_member (range_with_len (a + 1) n) i) (ne_eqb i a e) ∙ r (omega arith)
+        ∙ (let s : a + 1 + n ≡ a + suc n = omega arith in ap (nat_lt i) s)
 
 -- how far the search still has to go
 abbrev pub height : ℕ → ℕ
@@ -67,31 +89,53 @@ height last = cond (nat_eq last never) 0 (last + 1)
 
 module _ (test : Statement → Bool) (db : List Statement) where
   pub on_earlier : (i j k : ℕ) → i ≤ j → j ≤ k → is_on test db i k ≡ true → is_on test db i j ≡ true
-  on_earlier i j k h l e = ap₂ (λ a b. a && b) (and_left (list_any test (statement_at db i)) (stays db i k) e) (stays_earlier db i j k h l (and_right (list_any test (statement_at db i)) (stays db i k) e))
+  on_earlier i j k h l e =
+      ap₂ (λ a b. a && b) (and_left (list_any test (statement_at db i)) (stays db i k) e)
+      (stays_earlier db i j k h l (and_right (list_any test (statement_at db i)) (stays db i k) e))
 
-  pub on_nested : (i j k : ℕ) → i < j → j ≤ k → is_on test db j k ≡ true → is_on test db i k ≡ is_on test db i j
-  on_nested i j k h l e = ap (λ b. list_any test (statement_at db i) && b) (stays_nested db i j k h l (and_right (list_any test (statement_at db j)) (stays db j k) e))
+  pub on_nested : (i j k : ℕ) → i < j → j ≤ k → is_on test db j k ≡ true
+      → is_on test db i k ≡ is_on test db i j
+  on_nested i j k h l e =
+      ap (λ b. list_any test (statement_at db i) && b)
+      (stays_nested db i j k h l (and_right (list_any test (statement_at db j)) (stays db j k) e))
 
   -- a candidate that is not open gives way to the last one active at it
-  pub candidate_next : (k last next : ℕ) → IsCandidate test db k last → last ≢ never → stays db last k ≡ false → IsLatest test db last next → IsCandidate test db k next
+  pub candidate_next : (k last next : ℕ) → IsCandidate test db k last → last ≢ never
+      → stays db last k ≡ false → IsLatest test db last next → IsCandidate test db k next
   candidate_next k last next c ne out x = record {
-    found = λ n. let f = x.found n in let g = c.found ne in ((let a = f.0 in let b = g.0 in omega (arith, a, b)), and_left (list_any test (statement_at db next)) (stays db next last) f.1);
+    found =
+        λ n. let f = x.found n in let g = c.found ne in (
+          (let a = f.0 in let b = g.0 in omega (arith, a, b)),
+          and_left
+              (list_any test (statement_at db next)) (stays db next last) f.1,
+        );
     behind = λ i h o. by i h o (cases_order i last);
   }
     where
-      by : (i : ℕ) → i < k → (next < i) ⊎ (next ≡ never) → (i ≡ last) ⊎ ((i < last) ⊎ (last < i)) → is_on test db i k ≡ false
-      by i h o (inr (inl l)) = not_true (is_on test db i k) (λ t. true≢false (sym (on_earlier i last k (omega arith) (let g = (c.found ne).0 in omega (arith, g)) t) ∙ x.behind i l o))
-      by i h o (inl e) = subst (λ i. is_on test db i k ≡ false) (sym e) (not_true (is_on test db last k) (λ t. true≢false (sym (and_right (list_any test (statement_at db last)) (stays db last k) t) ∙ out)))
+      by : (i : ℕ) → i < k → (next < i) ⊎ (next ≡ never) → (i ≡ last) ⊎ ((i < last) ⊎ (last < i))
+          → is_on test db i k ≡ false
+      by i h o (inr (inl l)) =
+          not_true (is_on test db i k)
+          (λ t. true≢false
+          (sym (on_earlier i last k (omega arith) (let g = (c.found ne).0 in omega (arith, g)) t)
+          ∙ x.behind i l o))
+      by i h o (inl e) =
+          subst (λ i. is_on test db i k ≡ false) (sym e)
+          (not_true (is_on test db last k)
+          (λ t. true≢false
+          (sym (and_right (list_any test (statement_at db last)) (stays db last k) t) ∙ out)))
       by i h o (inr (inr g)) = c.behind i h (inl g)
 
-  pub candidate_open : (k last : ℕ) → IsCandidate test db k last → (last ≢ never → stays db last k ≡ true) → IsLatest test db k last
+  pub candidate_open : (k last : ℕ) → IsCandidate test db k last
+      → (last ≢ never → stays db last k ≡ true) → IsLatest test db k last
   candidate_open k last c o = record {
     found = λ n. let f = c.found n in (f.0, ap₂ (λ a b. a && b) f.1 (o n));
     behind = c.behind;
   }
 
   -- the statement itself, or the last one at it
-  pub candidate_self : (k : ℕ) → k < never → list_any test (statement_at db k) ≡ true → IsCandidate test db (k + 1) k
+  pub candidate_self : (k : ℕ) → k < never → list_any test (statement_at db k) ≡ true
+      → IsCandidate test db (k + 1) k
   candidate_self k few e = record {
     found = λ n. ((omega arith), e);
     behind = λ i h o. absurd (by i h o);
@@ -101,28 +145,45 @@ module _ (test : Statement → Bool) (db : List Statement) where
       by i h (inl l) = omega arith
       by i h (inr l) = omega arith
 
-  pub candidate_other : (k last : ℕ) → list_any test (statement_at db k) ≡ false → IsLatest test db k last → IsCandidate test db (k + 1) last
+  pub candidate_other : (k last : ℕ) → list_any test (statement_at db k) ≡ false
+      → IsLatest test db k last → IsCandidate test db (k + 1) last
   candidate_other k last e x = record {
-    found = λ n. let f = x.found n in ((let l = f.0 in omega (arith, l)), and_left (list_any test (statement_at db last)) (stays db last k) f.1);
+    found =
+        λ n. let f = x.found n in (
+          (let l = f.0 in omega (arith, l)),
+          and_left (list_any test (statement_at db last))
+              (stays db last k) f.1,
+        );
     behind = λ i h o. by i h o (cases_lt i k);
   }
     where
-      by : (i : ℕ) → i < k + 1 → (last < i) ⊎ (last ≡ never) → (i < k) ⊎ (k ≤ i) → is_on test db i (k + 1) ≡ false
-      by i h o (inl l) = not_true (is_on test db i (k + 1)) (λ t. true≢false (sym (on_earlier i k (k + 1) (omega arith) (omega arith) t) ∙ x.behind i l o))
-      by i h o (inr g) = let same : i ≡ k = omega arith in ap (λ b. b && stays db i (k + 1)) (ap (λ i. list_any test (statement_at db i)) same ∙ e)
+      by : (i : ℕ) → i < k + 1 → (last < i) ⊎ (last ≡ never) → (i < k) ⊎ (k ≤ i)
+          → is_on test db i (k + 1) ≡ false
+      by i h o (inl l) =
+          not_true (is_on test db i (k + 1))
+          (λ t. true≢false
+          (sym (on_earlier i k (k + 1) (omega arith) (omega arith) t) ∙ x.behind i l o))
+      by i h o (inr g) =
+          let same : i ≡ k = omega arith in
+          ap (λ b. b && stays db i (k + 1)) (ap (λ i. list_any test (statement_at db i)) same ∙ e)
 
   pub latest_start : (last : ℕ) → last ≡ never → IsLatest test db 0 last
   latest_start last e = record { found = λ n. absurd (n e); behind = λ i h o. absurd (omega arith) }
 
-  pub height_less : (k last next : ℕ) → last ≢ never → IsLatest test db last next → height next < height last
+  pub height_less : (k last next : ℕ) → last ≢ never → IsLatest test db last next
+      → height next < height last
   height_less k last next ne x = by (cases_eq next never)
     where
       full : height last ≡ last + 1
       full = ap (λ b. cond b 0 (last + 1)) (ne_eqb last never ne)
 
       by : (next ≡ never) ⊎ (next ≢ never) → height next < height last
-      by (inl e) = let z : height next ≡ 0 = ap (λ b. cond b 0 (next + 1)) (eq-eqb next never e) in omega (arith, z, full)
-      by (inr n) = let z : height next ≡ next + 1 = ap (λ b. cond b 0 (next + 1)) (ne_eqb next never n) in let f = (x.found n).0 in omega (arith, z, full, f)
+      by (inl e) =
+          let z : height next ≡ 0 = ap (λ b. cond b 0 (next + 1)) (eq-eqb next never e) in
+          omega (arith, z, full)
+      by (inr n) =
+          let z : height next ≡ next + 1 = ap (λ b. cond b 0 (next + 1)) (ne_eqb next never n) in
+          let f = (x.found n).0 in omega (arith, z, full, f)
 
   -- ---- the walk
 
@@ -133,14 +194,22 @@ module _ (test : Statement → Bool) (db : List Statement) where
     all = λ i h e. inr (by i h e (cases_eq last never) (cases_lt last i));
   }
     where
-      by : (i : ℕ) → i < k → is_on test db i k ≡ true → (last ≡ never) ⊎ (last ≢ never) → (last < i) ⊎ (i ≤ last) → (last ≢ never) × (i ≤ last)
+      by : (i : ℕ) → i < k → is_on test db i k ≡ true → (last ≡ never) ⊎ (last ≢ never)
+          → (last < i) ⊎ (i ≤ last) → (last ≢ never) × (i ≤ last)
       by i h e (inl n) b = absurd (true≢false (sym e ∙ x.behind i h (inr n)))
       by i h e (inr n) (inl l) = absurd (true≢false (sym e ∙ x.behind i h (inl l)))
       by i h e (inr n) (inr l) = (n, l)
 
-  pub walked_next : (k : ℕ) (xs : List ℕ) (last next : ℕ) → k ≤ length db → IsWalked test db k xs last → last ≢ never → IsLatest test db last next → IsWalked test db k (xs ++ last ∷ []) next
+  pub walked_next : (k : ℕ) (xs : List ℕ) (last next : ℕ) → k ≤ length db
+      → IsWalked test db k xs last → last ≢ never → IsLatest test db last next
+      → IsWalked test db k (xs ++ last ∷ []) next
   walked_next k xs last next few w ne x = record {
-    found = λ n. let f = x.found n in let l = here.0 in ((let a = f.0 in omega (arith, a, l)), on_nested next last k f.0 (omega (arith, l)) here.1 ∙ f.1);
+    found =
+        λ n. let f = x.found n in let l = here.0 in (
+          (let a = f.0 in omega (arith, a, l)),
+          on_nested next last k f.0 (omega (arith, l)) here.1
+              ∙ f.1,
+        );
     only = λ i e. only i e;
     all = λ i h e. all i h e (w.all i h e);
   }
@@ -151,35 +220,57 @@ module _ (test : Statement → Bool) (db : List Statement) where
       only : (i : ℕ) → is_member (xs ++ last ∷ []) i ≡ true → (i < k) × (is_on test db i k ≡ true)
       only i e = by (is_member xs i) (nat_eq i last) refl refl (sym (member_push xs last i) ∙ e)
         where
-          by : (a b : Bool) → is_member xs i ≡ a → nat_eq i last ≡ b → (a || b) ≡ true → (i < k) × (is_on test db i k ≡ true)
+          by : (a b : Bool) → is_member xs i ≡ a → nat_eq i last ≡ b → (a || b) ≡ true
+              → (i < k) × (is_on test db i k ≡ true)
           by true b p q t = w.only i p
-          by false true p q t = subst (λ i. (i < k) × (is_on test db i k ≡ true)) (sym (eqb-true i last q)) here
+          by false true p q t =
+              subst (λ i. (i < k) × (is_on test db i k ≡ true)) (sym (eqb-true i last q)) here
           by false false p q t = absurd (true≢false (sym t))
 
-      all : (i : ℕ) → i < k → is_on test db i k ≡ true → (is_member xs i ≡ true) ⊎ ((last ≢ never) × (i ≤ last)) → (is_member (xs ++ last ∷ []) i ≡ true) ⊎ ((next ≢ never) × (i ≤ next))
+      all : (i : ℕ) → i < k → is_on test db i k ≡ true
+          → (is_member xs i ≡ true) ⊎ ((last ≢ never) × (i ≤ last))
+          → (is_member (xs ++ last ∷ []) i ≡ true) ⊎ ((next ≢ never) × (i ≤ next))
       all i h e (inl m) = inl (member_push xs last i ∙ ap (λ b. b || nat_eq i last) m)
       all i h e (inr (n, l)) = by (cases_lt i last)
         where
-          go : i < last → (next ≡ never) ⊎ (next ≢ never) → (next < i) ⊎ (i ≤ next) → (next ≢ never) × (i ≤ next)
-          go m (inl n) b = absurd (true≢false (sym (on_earlier i last k (omega arith) (let l = here.0 in omega (arith, l)) e) ∙ x.behind i m (inr n)))
-          go m (inr n) (inl l) = absurd (true≢false (sym (on_earlier i last k (omega arith) (let l = here.0 in omega (arith, l)) e) ∙ x.behind i m (inl l)))
+          go : i < last → (next ≡ never) ⊎ (next ≢ never) → (next < i) ⊎ (i ≤ next)
+              → (next ≢ never) × (i ≤ next)
+          go m (inl n) b =
+              absurd (true≢false
+              (sym (on_earlier i last k (omega arith) (let l = here.0 in omega (arith, l)) e)
+              ∙ x.behind i m (inr n)))
+          go m (inr n) (inl l) =
+              absurd (true≢false
+              (sym (on_earlier i last k (omega arith) (let l = here.0 in omega (arith, l)) e)
+              ∙ x.behind i m (inl l)))
           go m (inr n) (inr l) = (n, l)
 
-          by : (i < last) ⊎ (last ≤ i) → (is_member (xs ++ last ∷ []) i ≡ true) ⊎ ((next ≢ never) × (i ≤ next))
+          by : (i < last) ⊎ (last ≤ i)
+              → (is_member (xs ++ last ∷ []) i ≡ true) ⊎ ((next ≢ never) × (i ≤ next))
           by (inl m) = inr (go m (cases_eq next never) (cases_lt next i))
-          by (inr m) = let same : i ≡ last = omega arith in inl (member_push xs last i ∙ ap (λ b. is_member xs i || b) (eq-eqb i last same) ∙ or_true (is_member xs i))
+          by (inr m) =
+              let same : i ≡ last = omega arith in
+              inl (member_push xs last i ∙ ap (λ b. is_member xs i || b) (eq-eqb i last same)
+              ∙ or_true (is_member xs i))
 
   -- the kinds that are active to the end of their block
   abbrev pub IsLocalTest : Type 0
   IsLocalTest = (s : Statement) (b : Bool) → test s ≡ true → is_active_kind s b ≡ b
 
-  pub active_member : IsLocalTest → (k i : ℕ) → is_member (active_of test db k) i ≡ (nat_lt i k && is_on test db i k)
+  pub active_member : IsLocalTest → (k i : ℕ)
+      → is_member (active_of test db k) i ≡ (nat_lt i k && is_on test db i k)
   active_member local k i =
-      member_those (λ j. list_any test (statement_at db j)) (active db k) i
-      ∙ ap (λ b. list_any test (statement_at db i) && b) (member_those (λ j. is_active db j k) (range_with_len 0 k) i ∙ ap (λ b. is_active db i k && b) (member_range k 0 i (omega arith) ∙ (let z : 0 + k ≡ k = omega arith in ap (nat_lt i) z)))
+      member_filter (λ j. list_any test (statement_at db j)) (active db k) i
+      ∙ ap (λ b. list_any test (statement_at db i) && b)
+      (member_filter (λ j. is_active db j k) (range_with_len 0 k) i
+      ∙ ap (λ b. is_active db i k && b)
+      (member_range k 0 i (omega arith) ∙ (let z : 0 + k ≡ k = omega arith in ap (nat_lt i) z)))
       ∙ by (slice_get db i) (nat_lt i k) (stays db i k)
     where
-      by : (o : Option Statement) (l b : Bool) → (list_any test (elim o [ None ↦ [] | Some s ↦ s ∷ [] ]) && ((l && is_active_some o b) && l)) ≡ (l && (list_any test (elim o [ None ↦ [] | Some s ↦ s ∷ [] ]) && b))
+      by : (o : Option Statement) (l b : Bool)
+          → (list_any test (elim o [ None ↦ [] | Some s ↦ s ∷ [] ])
+          && ((l && is_active_some o b) && l))
+          ≡ (l && (list_any test (elim o [ None ↦ [] | Some s ↦ s ∷ [] ]) && b))
       by None true b = refl
       by None false b = refl
       by (Some s) false b = and_false (test s || false)
@@ -189,16 +280,22 @@ module _ (test : Statement → Bool) (db : List Statement) where
           and_true true = refl
           and_true false = refl
 
-          go : (t : Bool) → test s ≡ t → ((t || false) && (is_active_kind s b && true)) ≡ ((t || false) && b)
+          go : (t : Bool) → test s ≡ t
+              → ((t || false) && (is_active_kind s b && true)) ≡ ((t || false) && b)
           go false e = refl
           go true e = and_true (is_active_kind s b) ∙ local s b e
 
-  pub walked_end : IsLocalTest → (k : ℕ) (xs : List ℕ) (last : ℕ) → IsWalked test db k xs last → last ≡ never → (i : ℕ) → is_member xs i ≡ is_member (active_of test db k) i
+  pub walked_end : IsLocalTest → (k : ℕ) (xs : List ℕ) (last : ℕ) → IsWalked test db k xs last
+      → last ≡ never → (i : ℕ) → is_member xs i ≡ is_member (active_of test db k) i
   walked_end local k xs last w e i =
-      same_tests (is_member xs i) (nat_lt i k && is_on test db i k) (λ m. let f = w.only i m in ap₂ (λ a b. a && b) (lt-ltb i k f.0) f.1) (λ t. by t (cases_lt i k)) ∙ sym (active_member local k i)
+      same_tests (is_member xs i) (nat_lt i k && is_on test db i k)
+      (λ m. let f = w.only i m in ap₂ (λ a b. a && b) (lt-ltb i k f.0) f.1)
+      (λ t. by t (cases_lt i k))
+      ∙ sym (active_member local k i)
     where
       by : (nat_lt i k && is_on test db i k) ≡ true → (i < k) ⊎ (k ≤ i) → is_member xs i ≡ true
-      by t (inr l) = absurd (true≢false (sym (and_left (nat_lt i k) (is_on test db i k) t) ∙ le-ltb i k l))
+      by t (inr l) =
+          absurd (true≢false (sym (and_left (nat_lt i k) (is_on test db i k) t) ∙ le-ltb i k l))
       by t (inl l) = go (w.all i l (and_right (nat_lt i k) (is_on test db i k) t))
         where
           go : (is_member xs i ≡ true) ⊎ ((last ≢ never) × (i ≤ last)) → is_member xs i ≡ true
@@ -206,19 +303,29 @@ module _ (test : Statement → Bool) (db : List Statement) where
           go (inr (n, l)) = absurd (n e)
 
 -- one more at the end of the list
-pub each_pushed : (test : Statement → Bool) (db : List Statement) (xs ys : List ℕ) (last k : ℕ) → length xs ≡ k + 1 → ys ≡ xs ++ last ∷ [] → ((i : ℕ) → i ≤ k → IsLatest test db i (get_or xs i 0)) → IsLatest test db (k + 1) last
-    → record { count : length ys ≡ k + 1 + 1; each : (i : ℕ) → i ≤ k + 1 → IsLatest test db i (get_or ys i 0) }
+pub each_pushed : (test : Statement → Bool) (db : List Statement) (xs ys : List ℕ) (last k : ℕ)
+    → length xs ≡ k + 1 → ys ≡ xs ++ last ∷ []
+    → ((i : ℕ) → i ≤ k → IsLatest test db i (get_or xs i 0)) → IsLatest test db (k + 1) last
+    → record {
+      count : length ys ≡ k + 1 + 1;
+      each : (i : ℕ) → i ≤ k + 1 → IsLatest test db i (get_or ys i 0);
+    }
 each_pushed test db xs ys last k n e old new = record {
   count = ap length e ∙ length-append xs (last ∷ []) ∙ ap (λ m. m + 1) n;
   each = λ i h. by i h (cases_lt i (k + 1));
 }
   where
     by : (i : ℕ) → i ≤ k + 1 → (i < k + 1) ⊎ (k + 1 ≤ i) → IsLatest test db i (get_or ys i 0)
-    by i h (inl l) = subst (IsLatest test db i) (sym (ap (λ zs. get_or zs i 0) e ∙ get_or_append_left xs (last ∷ []) 0 i (omega (arith, n, l)))) (old i (omega arith))
+    by i h (inl l) =
+        subst (IsLatest test db i)
+        (sym (ap (λ zs. get_or zs i 0) e
+        ∙ get_or_append_left xs (last ∷ []) 0 i (omega (arith, n, l)))) (old i (omega arith))
     by i h (inr l) =
         let same : i ≡ length xs = omega (arith, n, h, l) in
         let j : i ≡ k + 1 = omega arith in
-        subst (IsLatest test db i) (sym (ap (λ zs. get_or zs i 0) e ∙ ap (λ q. get_or (xs ++ last ∷ []) q 0) same ∙ get_or-append_seam xs last [] 0)) (subst (λ q. IsLatest test db q last) (sym j) new)
+        subst (IsLatest test db i)
+        (sym (ap (λ zs. get_or zs i 0) e ∙ ap (λ q. get_or (xs ++ last ∷ []) q 0) same
+        ∙ get_or-append_seam xs last [] 0)) (subst (λ q. IsLatest test db q last) (sym j) new)
 
 pub essential_local : (s : Statement) (b : Bool) → is_essential s ≡ true → is_active_kind s b ≡ b
 essential_local (essential l k xs d) b h = refl
@@ -231,7 +338,8 @@ essential_local (provable l k xs e ps d) b h = absurd (true≢false (sym h))
 essential_local (opening k) b h = absurd (true≢false (sym h))
 essential_local (closing k) b h = absurd (true≢false (sym h))
 
-pub disjoint_local : (s : Statement) (b : Bool) → is_disjoint s ≡ true → is_active_kind s b ≡ b
+pub disjoint_local : (s : Statement) (b : Bool) → is_disjoint_statement s ≡ true
+    → is_active_kind s b ≡ b
 disjoint_local (disjoint k xs d) b h = refl
 disjoint_local (constants k xs d) b h = absurd (true≢false (sym h))
 disjoint_local (variables k xs d) b h = absurd (true≢false (sym h))

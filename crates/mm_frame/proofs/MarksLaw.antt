@@ -1,5 +1,7 @@
 -- How symbols are marked and listed, each once.
-use Rattle.std.proofs.Common.{◌≡◌, ◌≢◌, ℕ, ◌+◌, ◌<◌, ◌≤◌, Bool, true, false, ◌&&◌, ◌||◌, List, [], ◌∷◌, ◌++◌, length, get_or, set, nat_eq, refl, sym, ap, ◌∙◌, subst, arith, ◌⊎◌, inl, inr, le_refl}
+use Rattle.std.proofs.Common.{◌≡◌, ◌≢◌, ℕ, ◌+◌, ◌<◌, ◌≤◌, Bool, true, false, ◌&&◌, ◌||◌, List, []}
+use Rattle.std.proofs.Common.{◌∷◌, ◌++◌, length, get_or, set, nat_eq, refl, sym, ap, ◌∙◌, subst}
+use Rattle.std.proofs.Common.{arith, ◌⊎◌, inl, inr, le_refl}
 use Rattle.std.proofs.lemmas.Bool.{cases_eq, eq-eqb, ne_eqb}
 use Rattle.std.proofs.lemmas.List.{get_or-set_same, get_or-set_other, length-set}
 use Rattle.mm_spec.specs.Derivation.{is_member}
@@ -7,7 +9,8 @@ use Rattle.mm_frame.specs.Walk.{AreMarks}
 use Rattle.mm_frame.proofs.LatestLaw.{member_push}
 
 -- one symbol more
-pub mark_more : (n stamp : ℕ) (seen found : List ℕ) (s : ℕ) → AreMarks n stamp seen found → s < n → AreMarks n stamp (set seen s stamp) (found ++ s ∷ [])
+pub mark_more : (n stamp : ℕ) (seen found : List ℕ) (s : ℕ) → AreMarks n stamp seen found → s < n
+    → AreMarks n stamp (set seen s stamp) (found ++ s ∷ [])
 mark_more n stamp seen found s m h = record {
   count = length-set seen s stamp ∙ m.count;
   within = λ x l. within x l (cases_eq x s);
@@ -18,8 +21,11 @@ mark_more n stamp seen found s m h = record {
     here = get_or-set_same seen s stamp 0 (let c = m.count in omega (arith, c, h))
 
     within : (x : ℕ) → x < n → (x ≡ s) ⊎ (x ≢ s) → get_or (set seen s stamp) x 0 ≤ stamp
-    within x l (inl e) = subst (λ x. get_or (set seen s stamp) x 0 ≤ stamp) (sym e) (subst (λ v. v ≤ stamp) (sym here) (le_refl stamp))
-    within x l (inr e) = subst (λ v. v ≤ stamp) (sym (get_or-set_other seen s x stamp 0 e)) (m.within x l)
+    within x l (inl e) =
+        subst (λ x. get_or (set seen s stamp) x 0 ≤ stamp) (sym e)
+        (subst (λ v. v ≤ stamp) (sym here) (le_refl stamp))
+    within x l (inr e) =
+        subst (λ v. v ≤ stamp) (sym (get_or-set_other seen s x stamp 0 e)) (m.within x l)
 
     or_true : (b : Bool) → (b || true) ≡ true
     or_true true = refl
@@ -29,25 +35,38 @@ mark_more n stamp seen found s m h = record {
     or_false true = refl
     or_false false = refl
 
-    marked : (x : ℕ) → x < n → (x ≡ s) ⊎ (x ≢ s) → nat_eq (get_or (set seen s stamp) x 0) stamp ≡ (is_member found x || nat_eq x s)
-    marked x l (inl e) = ap (λ x. nat_eq (get_or (set seen s stamp) x 0) stamp) e ∙ eq-eqb (get_or (set seen s stamp) s 0) stamp here ∙ sym (ap (λ b. is_member found x || b) (eq-eqb x s e) ∙ or_true (is_member found x))
-    marked x l (inr e) = ap (λ v. nat_eq v stamp) (get_or-set_other seen s x stamp 0 e) ∙ m.marked x l ∙ sym (ap (λ b. is_member found x || b) (ne_eqb x s e) ∙ or_false (is_member found x))
+    marked : (x : ℕ) → x < n → (x ≡ s) ⊎ (x ≢ s)
+        → nat_eq (get_or (set seen s stamp) x 0) stamp ≡ (is_member found x || nat_eq x s)
+    marked x l (inl e) =
+        ap (λ x. nat_eq (get_or (set seen s stamp) x 0) stamp) e
+        ∙ eq-eqb (get_or (set seen s stamp) s 0) stamp here
+        ∙ sym (ap (λ b. is_member found x || b) (eq-eqb x s e) ∙ or_true (is_member found x))
+    marked x l (inr e) =
+        ap (λ v. nat_eq v stamp) (get_or-set_other seen s x stamp 0 e) ∙ m.marked x l
+        ∙ sym (ap (λ b. is_member found x || b) (ne_eqb x s e) ∙ or_false (is_member found x))
 
 -- with a new stamp none is marked
-pub marks_fresh : (n k : ℕ) (seen found : List ℕ) → length seen ≡ n → ((x : ℕ) → x < n → get_or seen x 0 ≤ k) → found ≡ [] → AreMarks n (k + 1) seen found
+pub marks_fresh : (n k : ℕ) (seen found : List ℕ) → length seen ≡ n
+    → ((x : ℕ) → x < n → get_or seen x 0 ≤ k) → found ≡ [] → AreMarks n (k + 1) seen found
 marks_fresh n k seen found c w e = record {
   count = c;
   within = λ x l. let h = w x l in omega (arith, h);
-  marked = λ x l. let h = w x l in ne_eqb (get_or seen x 0) (k + 1) (λ s. absurd (omega (arith, s, h))) ∙ sym (ap (λ f. is_member f x) e);
+  marked =
+      λ x l. let h = w x l in
+      ne_eqb (get_or seen x 0) (k + 1) (λ s. absurd (omega (arith, s, h)))
+      ∙ sym (ap (λ f. is_member f x) e);
 }
 
 -- a symbol that has been noted already, one that is new, and one that is no variable
-pub noted_new : (v : ℕ → Bool) (s x : ℕ) (b : Bool) → v s ≡ true → (b || nat_eq x s) ≡ (b || (v x && nat_eq x s))
+pub noted_new : (v : ℕ → Bool) (s x : ℕ) (b : Bool) → v s ≡ true
+    → (b || nat_eq x s) ≡ (b || (v x && nat_eq x s))
 noted_new v s x b e = by (cases_eq x s)
   where
     by : (x ≡ s) ⊎ (x ≢ s) → (b || nat_eq x s) ≡ (b || (v x && nat_eq x s))
     by (inl q) = ap (λ a. b || (a && nat_eq x s)) (sym (ap v q ∙ e))
-    by (inr q) = ap (λ a. b || a) (ne_eqb x s q) ∙ sym (ap (λ a. b || a) (ap (λ a. v x && a) (ne_eqb x s q) ∙ and_false (v x)))
+    by (inr q) =
+        ap (λ a. b || a) (ne_eqb x s q)
+        ∙ sym (ap (λ a. b || a) (ap (λ a. v x && a) (ne_eqb x s q) ∙ and_false (v x)))
       where
         and_false : (b : Bool) → (b && false) ≡ false
         and_false true = refl

@@ -1,9 +1,11 @@
 -- Of two blocks that are open, the one that was opened first stays open for as long as the other.
-use Rattle.std.proofs.Common.{◌≡◌, ℕ, ◌<◌, ◌≤◌, Bool, true, false, List, refl, sym, arith, ◌⊎◌, inl, inr}
+use Rattle.std.proofs.Common.{◌≡◌, ℕ, ◌<◌, ◌≤◌, Bool, true, false, List, refl, sym, arith, ◌⊎◌, inl}
+use Rattle.std.proofs.Common.{inr}
 use Rattle.std.proofs.lemmas.Bool.{cases_lt}
 use Rattle.mm_spec.specs.Statement.{Statement}
-use Rattle.mm_spec.specs.Scope.{depth, InBlock}
-use Rattle.mm_spec.proofs.Activity.{stays, stays_exact}
+use Rattle.mm_spec.specs.Scope.{depth, stays}
+use Rattle.mm_spec.specs.Laws.Blocks.{InBlock}
+use Rattle.mm_spec.proofs.Activity.{stays_exact}
 
 pub same_tests : (a b : Bool) → (a ≡ true → b ≡ true) → (b ≡ true → a ≡ true) → a ≡ b
 same_tests true b f g = sym (f refl)
@@ -19,7 +21,10 @@ module _ (db : List Statement) where
 
   -- to the end of the inner one is to where it began
   pub stays_nested : (i j k : ℕ) → i < j → j ≤ k → stays db j k ≡ true → stays db i k ≡ stays db i j
-  stays_nested i j k h l e = same_tests (stays db i k) (stays db i j) (stays_earlier i j k (omega arith) l) (λ f. (stays_exact db i k (omega arith)).1 (outer ((stays_exact db i j (omega arith)).0 f) ((stays_exact db j k l).0 e)))
+  stays_nested i j k h l e =
+      same_tests (stays db i k) (stays db i j) (stays_earlier i j k (omega arith) l)
+      (λ f. (stays_exact db i k (omega arith)).1
+      (outer ((stays_exact db i j (omega arith)).0 f) ((stays_exact db j k l).0 e)))
     where
       outer : InBlock db i j → InBlock db j k → InBlock db i k
       outer f g m a b = by (cases_lt j m)

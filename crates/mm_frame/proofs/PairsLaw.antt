@@ -1,17 +1,21 @@
 -- A list of pairs in order is known by its members.
-use Rattle.std.proofs.Common.{◌≡◌, ℕ, zero, suc, ◌+◌, ◌<◌, ◌≤◌, Bool, true, false, ◌&&◌, ◌||◌, cond, List, [], ◌∷◌, ◌++◌, get_or, map, flat_map, nat_eq, refl, sym, ap, ap₂, ◌∙◌, subst, arith, eqb-true, eq-eqb, true≢false, ◌⊎◌, inl, inr, nat_cmp}
+use Rattle.std.proofs.Common.{◌≡◌, ℕ, zero, suc, ◌+◌, ◌<◌, ◌≤◌, Bool, true, false, ◌&&◌, ◌||◌, cond}
+use Rattle.std.proofs.Common.{List, [], ◌∷◌, ◌++◌, get_or, map, flat_map, nat_eq, refl, sym, ap}
+use Rattle.std.proofs.Common.{ap₂, ◌∙◌, subst, arith, eqb-true, eq-eqb, true≢false, ◌⊎◌, inl, inr}
+use Rattle.std.proofs.Common.{nat_cmp}
 use Rattle.std.specs.declared.cmp.Ordering.{Ordering}
 use Rattle.std.specs.declared.cmp.Ordering.TheVariants.{Less, Equal, Greater}
 use Rattle.std.proofs.lemmas.Bool.{cases_order, lt-ltb, le-ltb, ne_eqb}
-use Rattle.std.specs.List.{Contains, dedup, list_any, range_with_len, AllByRecursion}
+use Rattle.std.specs.List.{Contains, dedup, list_any, range_with_len, AllByRecursion, filter}
 use Rattle.std.specs.List.Sorted.{IsPermutation, IsSorted, IsStrictlySortedBy}
 use Rattle.std.specs.Ordering.{ordering_then, is_eq}
 use Rattle.std.specs.Cmp.{tied_then}
-use Rattle.std.proofs.lemmas.Cmp.{then_total, on_total, nat_cmp_total, and_equiv, on_equiv, nat_eq_equiv}
+use Rattle.std.proofs.lemmas.Cmp.{then_total, on_total, nat_cmp_total, and_equiv, on_equiv}
+use Rattle.std.proofs.lemmas.Cmp.{nat_eq_equiv}
 use Rattle.std.proofs.lemmas.List.Folds.{Any-from_list_any, list_any_at, list_any-append}
-use Rattle.std.proofs.lemmas.List.Kept.{IsStrictlySortedBy-dedup, Contains-dedup, Contains-from_dedup}
+use Rattle.std.proofs.lemmas.List.Kept.{IsStrictlySortedBy-dedup, Contains-dedup}
+use Rattle.std.proofs.lemmas.List.Kept.{Contains-from_dedup}
 use Rattle.std.proofs.lemmas.List.Sorted.{Contains-permutation, IsPermutation-sym}
-use Rattle.mm_spec.specs.Scope.{those}
 use Rattle.mm_spec.specs.Derivation.{Pair, pair, is_member}
 use Rattle.mm_spec.specs.Frame.{pairs_of}
 use Rattle.mm_frame.specs.Pairs.{has_pair, IsBefore, AreRising}
@@ -22,10 +26,13 @@ cmp_less : (a b : ℕ) → a < b → nat_cmp a b ≡ Less
 cmp_less a b h = ap (λ t. cond t Less (cond (nat_eq a b) Equal Greater)) (lt-ltb a b h)
 
 cmp_equal : (a b : ℕ) → a ≡ b → nat_cmp a b ≡ Equal
-cmp_equal a b h = ap₂ (λ t u. cond t Less (cond u Equal Greater)) (le-ltb a b (omega arith)) (eq-eqb a b h)
+cmp_equal a b h =
+    ap₂ (λ t u. cond t Less (cond u Equal Greater)) (le-ltb a b (omega arith)) (eq-eqb a b h)
 
 cmp_greater : (a b : ℕ) → b < a → nat_cmp a b ≡ Greater
-cmp_greater a b h = ap₂ (λ t u. cond t Less (cond u Equal Greater)) (le-ltb a b (omega arith)) (ne_eqb a b (λ e. absurd (omega (arith, e, h))))
+cmp_greater a b h =
+    ap₂ (λ t u. cond t Less (cond u Equal Greater)) (le-ltb a b (omega arith))
+    (ne_eqb a b (λ e. absurd (omega (arith, e, h))))
 
 less_before : (a b c d : ℕ) → ordering_then (nat_cmp a c) (nat_cmp b d) ≡ Less → IsBefore a b c d
 less_before a b c d e = by (cases_order a c) (cases_order b d)
@@ -33,17 +40,22 @@ less_before a b c d e = by (cases_order a c) (cases_order b d)
     by : (a ≡ c) ⊎ ((a < c) ⊎ (c < a)) → (b ≡ d) ⊎ ((b < d) ⊎ (d < b)) → IsBefore a b c d
     by (inr (inl l)) q = inl l
     by (inl s) (inr (inl l)) = inr (s, l)
-    by (inl s) (inl t) = absurd (let z = sym (ap₂ ordering_then (cmp_equal a c s) (cmp_equal b d t)) ∙ e in cc)
-    by (inl s) (inr (inr g)) = absurd (let z = sym (ap₂ ordering_then (cmp_equal a c s) (cmp_greater b d g)) ∙ e in cc)
-    by (inr (inr g)) q = absurd (let z = sym (ap (λ o. ordering_then o (nat_cmp b d)) (cmp_greater a c g)) ∙ e in cc)
+    by (inl s) (inl t) =
+        absurd (let z = sym (ap₂ ordering_then (cmp_equal a c s) (cmp_equal b d t)) ∙ e in cc)
+    by (inl s) (inr (inr g)) =
+        absurd (let z = sym (ap₂ ordering_then (cmp_equal a c s) (cmp_greater b d g)) ∙ e in cc)
+    by (inr (inr g)) q =
+        absurd (let z = sym (ap (λ o. ordering_then o (nat_cmp b d)) (cmp_greater a c g)) ∙ e in cc)
 
 eq_cmp : (a b : ℕ) → nat_eq a b ≡ is_eq (nat_cmp a b)
 eq_cmp a b = by (cases_order a b)
   where
     by : (a ≡ b) ⊎ ((a < b) ⊎ (b < a)) → nat_eq a b ≡ is_eq (nat_cmp a b)
     by (inl s) = eq-eqb a b s ∙ sym (ap is_eq (cmp_equal a b s))
-    by (inr (inl l)) = ne_eqb a b (λ e. absurd (omega (arith, e, l))) ∙ sym (ap is_eq (cmp_less a b l))
-    by (inr (inr g)) = ne_eqb a b (λ e. absurd (omega (arith, e, g))) ∙ sym (ap is_eq (cmp_greater a b g))
+    by (inr (inl l)) =
+        ne_eqb a b (λ e. absurd (omega (arith, e, l))) ∙ sym (ap is_eq (cmp_less a b l))
+    by (inr (inr g)) =
+        ne_eqb a b (λ e. absurd (omega (arith, e, g))) ∙ sym (ap is_eq (cmp_greater a b g))
 
 abbrev order : ℕ × ℕ → ℕ × ℕ → Ordering
 order x y = ordering_then (nat_cmp x.0 y.0) (nat_cmp x.1 y.1)
@@ -56,19 +68,29 @@ unfolding IsStrictlySortedBy
 to_rising [] h = tt
 to_rising (p ∷ ps) h = (λ x y e. before ps h.0 x y e, to_rising ps h.1)
   where
-    before : (qs : List (ℕ × ℕ)) → AllByRecursion (λ q. order p q ≡ Less) qs → (x y : ℕ) → has_pair qs x y ≡ true → IsBefore p.0 p.1 x y
+    before : (qs : List (ℕ × ℕ)) → AllByRecursion (λ q. order p q ≡ Less) qs → (x y : ℕ)
+        → has_pair qs x y ≡ true → IsBefore p.0 p.1 x y
     before [] a x y e = absurd (true≢false (sym e))
     before (q ∷ qs) a x y e = by (nat_eq x q.0 && nat_eq y q.1) refl e (before qs a.1 x y)
       where
-        by : (b : Bool) → (nat_eq x q.0 && nat_eq y q.1) ≡ b → (b || has_pair qs x y) ≡ true → (has_pair qs x y ≡ true → IsBefore p.0 p.1 x y) → IsBefore p.0 p.1 x y
+        by : (b : Bool) → (nat_eq x q.0 && nat_eq y q.1) ≡ b → (b || has_pair qs x y) ≡ true
+            → (has_pair qs x y ≡ true → IsBefore p.0 p.1 x y) → IsBefore p.0 p.1 x y
         by true s e r =
             let u = eqb-true x q.0 (and_left (nat_eq x q.0) (nat_eq y q.1) s) in
             let v = eqb-true y q.1 (and_right (nat_eq x q.0) (nat_eq y q.1) s) in
-            less_before p.0 p.1 x y (ap₂ (λ i j. ordering_then (nat_cmp p.0 i) (nat_cmp p.1 j)) u v ∙ a.0)
+            less_before p.0 p.1 x y
+            (ap₂ (λ i j. ordering_then (nat_cmp p.0 i) (nat_cmp p.1 j)) u v ∙ a.0)
         by false s e r = r e
 
-pub strict_rising : (xs ys : List (ℕ × ℕ)) → IsSorted order xs → ys ≡ dedup same_pair xs → AreRising ys
-strict_rising xs ys s e = subst AreRising (sym e) (to_rising (dedup same_pair xs) (IsStrictlySortedBy-dedup (then_total (on_total (λ p. p.0) nat_cmp_total) (on_total (λ p. p.1) nat_cmp_total)) (λ x y. ap₂ (λ a b. a && b) (eq_cmp x.0 y.0) (eq_cmp x.1 y.1) ∙ tied_then (nat_cmp x.0 y.0) (nat_cmp x.1 y.1)) xs s))
+pub strict_rising : (xs ys : List (ℕ × ℕ)) → IsSorted order xs → ys ≡ dedup same_pair xs
+    → AreRising ys
+strict_rising xs ys s e =
+    subst AreRising (sym e)
+    (to_rising (dedup same_pair xs)
+    (IsStrictlySortedBy-dedup
+    (then_total (on_total (λ p. p.0) nat_cmp_total) (on_total (λ p. p.1) nat_cmp_total))
+    (λ x y. ap₂ (λ a b. a && b) (eq_cmp x.0 y.0) (eq_cmp x.1 y.1)
+    ∙ tied_then (nat_cmp x.0 y.0) (nat_cmp x.1 y.1)) xs s))
 
 contains : (ps : List (ℕ × ℕ)) (x y : ℕ) → has_pair ps x y ≡ true → Contains ps (x, y)
 contains ps x y h =
@@ -80,15 +102,28 @@ contains ps x y h =
     (n.0, n.2, subst (λ (z : ℕ × ℕ). get_or ps n.0 z ≡ z) e n.3)
 
 member : (ps : List (ℕ × ℕ)) (x y : ℕ) → Contains ps (x, y) → has_pair ps x y ≡ true
-member ps x y h = list_any_at (λ p. nat_eq x p.0 && nat_eq y p.1) ps h.0 (x, y) h.1 (ap₂ (λ a b. a && b) (eq-eqb x (get_or ps h.0 (x, y)).0 (sym (ap (λ p. p.0) h.2))) (eq-eqb y (get_or ps h.0 (x, y)).1 (sym (ap (λ p. p.1) h.2))))
+member ps x y h =
+    list_any_at (λ p. nat_eq x p.0 && nat_eq y p.1) ps h.0 (x, y) h.1
+    (ap₂ (λ a b. a && b) (eq-eqb x (get_or ps h.0 (x, y)).0 (sym (ap (λ p. p.0) h.2)))
+    (eq-eqb y (get_or ps h.0 (x, y)).1 (sym (ap (λ p. p.1) h.2))))
 
 same_equal : (p q : ℕ × ℕ) → same_pair p q ≡ true → p ≡ q
-same_equal p q h = ap₂ (λ (i j : ℕ). (i, j)) (eqb-true p.0 q.0 (and_left (nat_eq p.0 q.0) (nat_eq p.1 q.1) h)) (eqb-true p.1 q.1 (and_right (nat_eq p.0 q.0) (nat_eq p.1 q.1) h))
+same_equal p q h =
+    ap₂ (λ (i j : ℕ). (i, j)) (eqb-true p.0 q.0 (and_left (nat_eq p.0 q.0) (nat_eq p.1 q.1) h))
+    (eqb-true p.1 q.1 (and_right (nat_eq p.0 q.0) (nat_eq p.1 q.1) h))
 
-pub tidy_same : (xs ys zs : List (ℕ × ℕ)) → IsPermutation xs ys → zs ≡ dedup same_pair ys → (x y : ℕ) → has_pair zs x y ≡ has_pair xs x y
+pub tidy_same : (xs ys zs : List (ℕ × ℕ)) → IsPermutation xs ys → zs ≡ dedup same_pair ys
+    → (x y : ℕ) → has_pair zs x y ≡ has_pair xs x y
 tidy_same xs ys zs p e x y =
     ap (λ z. has_pair z x y) e
-    ∙ same_tests _ _ (λ h. member xs x y (Contains-permutation ys xs (x, y) (IsPermutation-sym xs ys p) (Contains-from_dedup same_pair ys (x, y) (contains (dedup same_pair ys) x y h)))) (λ h. member (dedup same_pair ys) x y (Contains-dedup (and_equiv (on_equiv (λ p. p.0) nat_eq_equiv) (on_equiv (λ p. p.1) nat_eq_equiv)) same_equal ys (x, y) (Contains-permutation xs ys (x, y) p (contains xs x y h))))
+    ∙ same_tests _ _
+    (λ h. member xs x y
+    (Contains-permutation ys xs (x, y) (IsPermutation-sym xs ys p)
+    (Contains-from_dedup same_pair ys (x, y) (contains (dedup same_pair ys) x y h))))
+    (λ h. member (dedup same_pair ys) x y
+    (Contains-dedup
+    (and_equiv (on_equiv (λ p. p.0) nat_eq_equiv) (on_equiv (λ p. p.1) nat_eq_equiv)) same_equal
+    ys (x, y) (Contains-permutation xs ys (x, y) p (contains xs x y h))))
 
 -- ---- the pairs of the definitions
 
@@ -108,7 +143,9 @@ sorted_map [] h = tt
 sorted_map (p ∷ ps) h = (λ x y e. h.0 x y (sym (has_map ps x y) ∙ e), sorted_map ps h.1)
 
 self : (p : Pair) (ps : List Pair) → has (p ∷ ps) p.low p.high ≡ true
-self p ps = ap₂ (λ a b. (a && b) || has ps p.low p.high) (eq-eqb p.low p.low refl) (eq-eqb p.high p.high refl)
+self p ps =
+    ap₂ (λ a b. (a && b) || has ps p.low p.high) (eq-eqb p.low p.low refl)
+    (eq-eqb p.high p.high refl)
 
 not_before : (a b : ℕ) → IsBefore a b a b → ⊥
 not_before a b (inl l) = omega arith
@@ -120,86 +157,130 @@ not_both a b c d (inl l) (inr (e, m)) = omega arith
 not_both a b c d (inr (e, l)) (inl m) = omega arith
 not_both a b c d (inr (e, l)) (inr (f, m)) = omega arith
 
--- the front of a list, or one of those behind
-split : (p : Pair) (ps : List Pair) (x y : ℕ) → has (p ∷ ps) x y ≡ true → ((x ≡ p.low) × (y ≡ p.high)) ⊎ (has ps x y ≡ true)
+-- the front of a list, or one of those after
+split : (p : Pair) (ps : List Pair) (x y : ℕ) → has (p ∷ ps) x y ≡ true
+    → ((x ≡ p.low) × (y ≡ p.high)) ⊎ (has ps x y ≡ true)
 split p ps x y e = by (nat_eq x p.low && nat_eq y p.high) refl e
   where
-    by : (b : Bool) → (nat_eq x p.low && nat_eq y p.high) ≡ b → (b || has ps x y) ≡ true → ((x ≡ p.low) × (y ≡ p.high)) ⊎ (has ps x y ≡ true)
-    by true s e = inl (eqb-true x p.low (and_left (nat_eq x p.low) (nat_eq y p.high) s), eqb-true y p.high (and_right (nat_eq x p.low) (nat_eq y p.high) s))
+    by : (b : Bool) → (nat_eq x p.low && nat_eq y p.high) ≡ b → (b || has ps x y) ≡ true
+        → ((x ≡ p.low) × (y ≡ p.high)) ⊎ (has ps x y ≡ true)
+    by true s e =
+        inl (
+          eqb-true x p.low (and_left (nat_eq x p.low) (nat_eq y p.high) s),
+          eqb-true y p.high
+              (and_right (nat_eq x p.low) (nat_eq y p.high) s),
+        )
     by false s e = inr e
 
 behind : (p : Pair) (ps : List Pair) (x y : ℕ) → has ps x y ≡ true → has (p ∷ ps) x y ≡ true
-behind p ps x y e = ap (λ b. (nat_eq x p.low && nat_eq y p.high) || b) e ∙ or_true (nat_eq x p.low && nat_eq y p.high)
+behind p ps x y e =
+    ap (λ b. (nat_eq x p.low && nat_eq y p.high) || b) e
+    ∙ or_true (nat_eq x p.low && nat_eq y p.high)
 
 -- two lists in order with the same members are one
-pub unique : (ps qs : List Pair) → Sorted ps → Sorted qs → ((x y : ℕ) → has ps x y ≡ has qs x y) → ps ≡ qs
+pub unique : (ps qs : List Pair) → Sorted ps → Sorted qs → ((x y : ℕ) → has ps x y ≡ has qs x y)
+    → ps ≡ qs
 unique [] [] s t h = refl
 unique [] (q ∷ qs) s t h = absurd (true≢false (sym (self q qs) ∙ sym (h q.low q.high)))
 unique (p ∷ ps) [] s t h = absurd (true≢false (sym (self p ps) ∙ h p.low p.high))
 unique (p ∷ ps) (q ∷ qs) s t h = ap₂ (λ a b. a ∷ b) first (unique ps qs s.1 t.1 tails)
   where
-    both : ((p.low ≡ q.low) × (p.high ≡ q.high)) ⊎ (has qs p.low p.high ≡ true) → ((q.low ≡ p.low) × (q.high ≡ p.high)) ⊎ (has ps q.low q.high ≡ true) → (p.low ≡ q.low) × (p.high ≡ q.high)
+    both : ((p.low ≡ q.low) × (p.high ≡ q.high)) ⊎ (has qs p.low p.high ≡ true)
+        → ((q.low ≡ p.low) × (q.high ≡ p.high)) ⊎ (has ps q.low q.high ≡ true)
+        → (p.low ≡ q.low) × (p.high ≡ q.high)
     both (inl e) b = e
     both (inr e) (inl f) = (sym f.0, sym f.1)
-    both (inr e) (inr f) = absurd (not_both p.low p.high q.low q.high (s.0 q.low q.high f) (t.0 p.low p.high e))
+    both (inr e) (inr f) =
+        absurd (not_both p.low p.high q.low q.high (s.0 q.low q.high f) (t.0 p.low p.high e))
 
     parts : (p.low ≡ q.low) × (p.high ≡ q.high)
-    parts = both (split q qs p.low p.high (sym (h p.low p.high) ∙ self p ps)) (split p ps q.low q.high (h q.low q.high ∙ self q qs))
+    parts =
+        both (split q qs p.low p.high (sym (h p.low p.high) ∙ self p ps))
+        (split p ps q.low q.high (h q.low q.high ∙ self q qs))
 
     first : p ≡ q
     first = ap₂ pair parts.0 parts.1
 
     tails : (x y : ℕ) → has ps x y ≡ has qs x y
-    tails x y = same_tests (has ps x y) (has qs x y) (λ e. forth e (split q qs x y (sym (h x y) ∙ behind p ps x y e))) (λ e. back e (split p ps x y (h x y ∙ behind q qs x y e)))
+    tails x y =
+        same_tests (has ps x y) (has qs x y)
+        (λ e. forth e (split q qs x y (sym (h x y) ∙ behind p ps x y e)))
+        (λ e. back e (split p ps x y (h x y ∙ behind q qs x y e)))
       where
-        forth : has ps x y ≡ true → ((x ≡ q.low) × (y ≡ q.high)) ⊎ (has qs x y ≡ true) → has qs x y ≡ true
+        forth : has ps x y ≡ true → ((x ≡ q.low) × (y ≡ q.high)) ⊎ (has qs x y ≡ true)
+            → has qs x y ≡ true
         forth e (inr f) = f
-        forth e (inl f) = absurd (not_before p.low p.high (subst (λ a. IsBefore p.low p.high a p.high) (f.0 ∙ sym parts.0) (subst (λ b. IsBefore p.low p.high x b) (f.1 ∙ sym parts.1) (s.0 x y e))))
+        forth e (inl f) =
+            absurd (not_before p.low p.high
+            (subst (λ a. IsBefore p.low p.high a p.high) (f.0 ∙ sym parts.0)
+            (subst (λ b. IsBefore p.low p.high x b) (f.1 ∙ sym parts.1) (s.0 x y e))))
 
-        back : has qs x y ≡ true → ((x ≡ p.low) × (y ≡ p.high)) ⊎ (has ps x y ≡ true) → has ps x y ≡ true
+        back : has qs x y ≡ true → ((x ≡ p.low) × (y ≡ p.high)) ⊎ (has ps x y ≡ true)
+            → has ps x y ≡ true
         back e (inr f) = f
-        back e (inl f) = absurd (not_before q.low q.high (subst (λ a. IsBefore q.low q.high a q.high) (f.0 ∙ parts.0) (subst (λ b. IsBefore q.low q.high x b) (f.1 ∙ parts.1) (t.0 x y e))))
+        back e (inl f) =
+            absurd (not_before q.low q.high
+            (subst (λ a. IsBefore q.low q.high a q.high) (f.0 ∙ parts.0)
+            (subst (λ b. IsBefore q.low q.high x b) (f.1 ∙ parts.1) (t.0 x y e))))
 
-pub has_those : (t : Pair → Bool) (ps : List Pair) (x y : ℕ) → has (those t ps) x y ≡ (t (pair x y) && has ps x y)
-has_those t [] x y = sym (and_false (t (pair x y)))
+pub has_filter : (t : Pair → Bool) (ps : List Pair) (x y : ℕ)
+    → has (filter t ps) x y ≡ (t (pair x y) && has ps x y)
+has_filter t [] x y = sym (and_false (t (pair x y)))
   where
     and_false : (b : Bool) → (b && false) ≡ false
     and_false true = refl
     and_false false = refl
-has_those t (p ∷ ps) x y = by (t p) refl (nat_eq x p.low && nat_eq y p.high) refl (has_those t ps x y)
+has_filter t (p ∷ ps) x y =
+    by (t p) refl (nat_eq x p.low && nat_eq y p.high) refl (has_filter t ps x y)
   where
     at : (nat_eq x p.low && nat_eq y p.high) ≡ true → t (pair x y) ≡ t p
-    at s = ap t (ap₂ pair (eqb-true x p.low (and_left (nat_eq x p.low) (nat_eq y p.high) s)) (eqb-true y p.high (and_right (nat_eq x p.low) (nat_eq y p.high) s)))
+    at s =
+        ap t (ap₂ pair (eqb-true x p.low (and_left (nat_eq x p.low) (nat_eq y p.high) s))
+        (eqb-true y p.high (and_right (nat_eq x p.low) (nat_eq y p.high) s)))
 
-    by : (b : Bool) → t p ≡ b → (c : Bool) → (nat_eq x p.low && nat_eq y p.high) ≡ c → has (those t ps) x y ≡ (t (pair x y) && has ps x y) → has (elim b [ true ↦ p ∷ those t ps | false ↦ those t ps ]) x y ≡ (t (pair x y) && (c || has ps x y))
-    by true e true s r = ap (λ b. b || has (those t ps) x y) s ∙ sym (ap (λ b. b && true) (at s ∙ e))
-    by true e false s r = ap (λ b. b || has (those t ps) x y) s ∙ r
-    by false e true s r = r ∙ ap (λ b. b && has ps x y) (at s ∙ e) ∙ sym (ap (λ b. b && true) (at s ∙ e))
+    by : (b : Bool) → t p ≡ b → (c : Bool) → (nat_eq x p.low && nat_eq y p.high) ≡ c
+        → has (filter t ps) x y ≡ (t (pair x y) && has ps x y)
+        → has (cond b (p ∷ filter t ps) (filter t ps)) x y ≡ (t (pair x y) && (c || has ps x y))
+    by true e true s r =
+        ap (λ b. b || has (filter t ps) x y) s ∙ sym (ap (λ b. b && true) (at s ∙ e))
+    by true e false s r = ap (λ b. b || has (filter t ps) x y) s ∙ r
+    by false e true s r =
+        r ∙ ap (λ b. b && has ps x y) (at s ∙ e) ∙ sym (ap (λ b. b && true) (at s ∙ e))
     by false e false s r = r
 
-pub sorted_those : (t : Pair → Bool) (ps : List Pair) → Sorted ps → Sorted (those t ps)
-sorted_those t [] s = tt
-sorted_those t (p ∷ ps) s = by (t p) (sorted_those t ps s.1)
+pub sorted_filter : (t : Pair → Bool) (ps : List Pair) → Sorted ps → Sorted (filter t ps)
+sorted_filter t [] s = tt
+sorted_filter t (p ∷ ps) s = by (t p) (sorted_filter t ps s.1)
   where
-    by : (b : Bool) → Sorted (those t ps) → Sorted (elim b [ true ↦ p ∷ those t ps | false ↦ those t ps ])
-    by true r = (λ x y e. s.0 x y (and_right (t (pair x y)) (has ps x y) (sym (has_those t ps x y) ∙ e)), r)
+    by : (b : Bool) → Sorted (filter t ps) → Sorted (cond b (p ∷ filter t ps) (filter t ps))
+    by true r = (
+      λ x y e. s.0 x y
+          (and_right (t (pair x y)) (has ps x y) (sym (has_filter t ps x y) ∙ e)),
+      r,
+    )
     by false r = r
 
-has_row : (c : ℕ) (xs : List ℕ) (x y : ℕ) → has (map (pair c) xs) x y ≡ (nat_eq x c && is_member xs y)
+has_row : (c : ℕ) (xs : List ℕ) (x y : ℕ)
+    → has (map (pair c) xs) x y ≡ (nat_eq x c && is_member xs y)
 has_row c [] x y = sym (and_false (nat_eq x c))
   where
     and_false : (b : Bool) → (b && false) ≡ false
     and_false true = refl
     and_false false = refl
-has_row c (z ∷ xs) x y = ap (λ b. (nat_eq x c && nat_eq y z) || b) (has_row c xs x y) ∙ by (nat_eq x c)
+has_row c (z ∷ xs) x y =
+    ap (λ b. (nat_eq x c && nat_eq y z) || b) (has_row c xs x y) ∙ by (nat_eq x c)
   where
-    by : (b : Bool) → ((b && nat_eq y z) || (b && is_member xs y)) ≡ (b && (nat_eq y z || is_member xs y))
+    by : (b : Bool)
+        → ((b && nat_eq y z) || (b && is_member xs y)) ≡ (b && (nat_eq y z || is_member xs y))
     by true = refl
     by false = refl
 
-pub has_rows : (ys xs : List ℕ) (x y : ℕ) → has (flat_map (λ c. map (pair c) ys) xs) x y ≡ (is_member xs x && is_member ys y)
+pub has_rows : (ys xs : List ℕ) (x y : ℕ)
+    → has (flat_map (λ c. map (pair c) ys) xs) x y ≡ (is_member xs x && is_member ys y)
 has_rows ys [] x y = refl
-has_rows ys (c ∷ xs) x y = list_any-append _ (map (pair c) ys) (flat_map (λ c. map (pair c) ys) xs) ∙ ap₂ (λ a b. a || b) (has_row c ys x y) (has_rows ys xs x y) ∙ by (nat_eq x c) (is_member ys y)
+has_rows ys (c ∷ xs) x y =
+    list_any-append _ (map (pair c) ys) (flat_map (λ c. map (pair c) ys) xs)
+    ∙ ap₂ (λ a b. a || b) (has_row c ys x y) (has_rows ys xs x y) ∙ by (nat_eq x c) (is_member ys y)
   where
     by : (a b : Bool) → ((a && b) || (is_member xs x && b)) ≡ ((a || is_member xs x) && b)
     by true true = refl
@@ -214,27 +295,52 @@ range_low : (n a x : ℕ) → is_member (range_with_len a n) x ≡ true → a �
 range_low zero a x e = absurd (true≢false (sym e))
 range_low (suc n) a x e = by (nat_eq x a) refl e (range_low n (a + 1) x)
   where
-    by : (b : Bool) → nat_eq x a ≡ b → (b || is_member (range_with_len (a + 1) n) x) ≡ true → (is_member (range_with_len (a + 1) n) x ≡ true → a + 1 ≤ x) → a ≤ x
+    by : (b : Bool) → nat_eq x a ≡ b → (b || is_member (range_with_len (a + 1) n) x) ≡ true
+        → (is_member (range_with_len (a + 1) n) x ≡ true → a + 1 ≤ x) → a ≤ x
     by true s e r = let q = eqb-true x a s in omega (arith, q)
     by false s e r = let q = r e in omega (arith, q)
 
-sorted_append : (ps qs : List Pair) → Sorted ps → Sorted qs → ((a b x y : ℕ) → has ps a b ≡ true → has qs x y ≡ true → IsBefore a b x y) → Sorted (ps ++ qs)
+sorted_append : (ps qs : List Pair) → Sorted ps → Sorted qs
+    → ((a b x y : ℕ) → has ps a b ≡ true → has qs x y ≡ true → IsBefore a b x y) → Sorted (ps ++ qs)
 sorted_append [] qs s t h = t
-sorted_append (p ∷ ps) qs s t h = (λ x y e. by x y (has ps x y) refl (sym (list_any-append _ ps qs) ∙ e), sorted_append ps qs s.1 t (λ a b x y e f. h a b x y (behind p ps a b e) f))
+sorted_append (p ∷ ps) qs s t h = (
+  λ x y e. by x y (has ps x y) refl
+      (sym (list_any-append _ ps qs) ∙ e),
+  sorted_append ps qs s.1 t
+      (λ a b x y e f. h a b x y (behind p ps a b e) f),
+)
   where
-    by : (x y : ℕ) → (c : Bool) → has ps x y ≡ c → (c || has qs x y) ≡ true → IsBefore p.low p.high x y
+    by : (x y : ℕ) → (c : Bool) → has ps x y ≡ c → (c || has qs x y) ≡ true
+        → IsBefore p.low p.high x y
     by x y true e f = s.0 x y e
     by x y false e f = h p.low p.high x y (self p ps) f
 
 sorted_row : (c n a : ℕ) → Sorted (map (pair c) (range_with_len a n))
 sorted_row c zero a = tt
-sorted_row c (suc n) a = (λ x y e. let h = sym (has_row c (range_with_len (a + 1) n) x y) ∙ e in let q = eqb-true x c (and_left (nat_eq x c) (is_member (range_with_len (a + 1) n) y) h) in let l = range_low n (a + 1) y (and_right (nat_eq x c) (is_member (range_with_len (a + 1) n) y) h) in inr (sym q, omega (arith, l)), sorted_row c n (a + 1))
+sorted_row c (suc n) a = (
+  λ x y e. let h = sym (has_row c (range_with_len (a + 1) n) x y) ∙ e in
+      let q = eqb-true x c (and_left (nat_eq x c) (is_member (range_with_len (a + 1) n) y) h) in
+      let l = range_low n (a + 1) y
+      (and_right (nat_eq x c) (is_member (range_with_len (a + 1) n) y) h) in
+      inr (sym q, omega (arith, l)),
+  sorted_row c n (a + 1),
+)
 
-sorted_rows : (m n a : ℕ) → Sorted (flat_map (λ c. map (pair c) (range_with_len 0 m)) (range_with_len a n))
+sorted_rows : (m n a : ℕ)
+    → Sorted (flat_map (λ c. map (pair c) (range_with_len 0 m)) (range_with_len a n))
 sorted_rows m zero a = tt
-sorted_rows m (suc n) a = sorted_append (map (pair a) (range_with_len 0 m)) (flat_map (λ c. map (pair c) (range_with_len 0 m)) (range_with_len (a + 1) n)) (sorted_row a m 0) (sorted_rows m n (a + 1)) (λ p q x y e f.
-    let u = eqb-true p a (and_left (nat_eq p a) (is_member (range_with_len 0 m) q) (sym (has_row a (range_with_len 0 m) p q) ∙ e)) in
-    let l = range_low n (a + 1) x (and_left (is_member (range_with_len (a + 1) n) x) (is_member (range_with_len 0 m) y) (sym (has_rows (range_with_len 0 m) (range_with_len (a + 1) n) x y) ∙ f)) in
+sorted_rows m (suc n) a =
+    sorted_append (map (pair a) (range_with_len 0 m))
+    (flat_map (λ c. map (pair c) (range_with_len 0 m)) (range_with_len (a + 1) n))
+    (sorted_row a m 0) (sorted_rows m n (a + 1)) (λ p q x y e f.
+    let u =
+    eqb-true p a
+    (and_left (nat_eq p a) (is_member (range_with_len 0 m) q)
+    (sym (has_row a (range_with_len 0 m) p q) ∙ e)) in
+    let l =
+    range_low n (a + 1) x
+    (and_left (is_member (range_with_len (a + 1) n) x) (is_member (range_with_len 0 m) y)
+    (sym (has_rows (range_with_len 0 m) (range_with_len (a + 1) n) x y) ∙ f)) in
     inl (omega (arith, u, l)))
 
 -- all pairs are in order

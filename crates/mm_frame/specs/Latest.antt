@@ -1,10 +1,10 @@
 -- The last statement of a kind that is active at a place.
-use Rattle.std.specs.Prelude.{◌≡◌, ◌≢◌, ℕ, ◌+◌, ◌<◌, ◌≤◌, Bool, true, false, ◌&&◌, List, length, slice_index, ◌⊎◌}
+use Rattle.std.specs.Prelude.{◌≡◌, ◌≢◌, ℕ, ◌+◌, ◌<◌, ◌≤◌, Bool, true, false, ◌&&◌, List, length}
+use Rattle.std.specs.Prelude.{slice_index, ◌⊎◌}
 use Rattle.std.specs.List.{list_any}
 use Rattle.mm_spec.specs.Statement.{Statement}
-use Rattle.mm_spec.specs.Scope.{statement_at}
+use Rattle.mm_spec.specs.Scope.{statement_at, stays}
 use Rattle.mm_spec.specs.Derivation.{is_member}
-use Rattle.mm_spec.proofs.Activity.{stays}
 use Rattle.mm_outline.specs.Blocks.{never}
 
 module _ (test : Statement → Bool) (db : List Statement) where
@@ -27,8 +27,9 @@ module _ (test : Statement → Bool) (db : List Statement) where
     pub count : length lasts ≡ length db + 1
     pub each : (k : ℕ) → k ≤ length db → IsLatest k (slice_index lasts k)
 
-  -- those that are active at k and behind the last one are listed
+  -- those that are active at k and after the last one are listed
   pub record IsWalked (k : ℕ) (xs : List ℕ) (last : ℕ) : Type 0 where
     pub found : last ≢ never → (last < k) × (is_on last k ≡ true)
     pub only : (i : ℕ) → is_member xs i ≡ true → (i < k) × (is_on i k ≡ true)
-    pub all : (i : ℕ) → i < k → is_on i k ≡ true → (is_member xs i ≡ true) ⊎ ((last ≢ never) × (i ≤ last))
+    pub all : (i : ℕ) → i < k → is_on i k ≡ true
+        → (is_member xs i ≡ true) ⊎ ((last ≢ never) × (i ≤ last))

@@ -1,5 +1,6 @@
 -- Pairs of symbols in lexicographic order, each once.
-use Rattle.std.specs.Prelude.{◌≡◌, ℕ, ◌<◌, Bool, true, ◌&&◌, ◌||◌, List, [], ◌∷◌, nat_eq, nat_lt, ◌⊎◌}
+use Rattle.std.specs.Prelude.{◌≡◌, ℕ, ◌<◌, Bool, true, ◌&&◌, ◌||◌, List, [], ◌∷◌, nat_eq, nat_lt}
+use Rattle.std.specs.Prelude.{◌⊎◌}
 use Rattle.std.specs.List.{list_any}
 
 -- whether the pair is among them
@@ -14,7 +15,7 @@ IsBefore a b x y = (a < x) ⊎ ((a ≡ x) × (b < y))
 abbrev pub is_before : ℕ × ℕ → ℕ → ℕ → Bool
 is_before p x y = nat_lt p.0 x || (nat_eq p.0 x && nat_lt p.1 y)
 
--- each stands before those behind it
+-- each stands before those after it
 abbrev pub AreRising : List (ℕ × ℕ) → Type 0
 AreRising [] = Unit {0}
 AreRising (p ∷ ps) = ((x y : ℕ) → has_pair ps x y ≡ true → IsBefore p.0 p.1 x y) × AreRising ps

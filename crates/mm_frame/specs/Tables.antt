@@ -1,11 +1,12 @@
 -- What a walk over the statements knows of them.
-use Rattle.std.specs.Prelude.{◌≡◌, ℕ, ◌<◌, ◌^◌, Bool, true, false, List, length, get_or, slice_get, All, flat_map, Option, None, if◌then◌else◌}
+use Rattle.std.specs.Prelude.{◌≡◌, ℕ, ◌<◌, ◌^◌, Bool, true, false, List, length, get_or, slice_get}
+use Rattle.std.specs.Prelude.{All, flat_map, Option, None, if◌then◌else◌}
 use Rattle.std.specs.List.{list_any}
-use Rattle.mm_spec.specs.Text.{Word, is_in}
+use Rattle.mm_spec.specs.Text.{Bytes, is_in}
 use Rattle.mm_spec.specs.Statement.{Statement}
 use Rattle.mm_spec.specs.Scope.{statement_at, constants_of, variables_of}
 use Rattle.mm_spec.specs.Lawful.{scope_fault}
-use Rattle.mm_spec.specs.Frame.{symbol_names, is_variable, is_floating, formula_at}
+use Rattle.mm_spec.specs.Frame.{symbol_names, is_variable_number, is_floating, formula_at}
 use Rattle.mm_outline.specs.Blocks.{Lists, IsBlocks}
 use Rattle.mm_outline.specs.Numbered.{AreNumbered}
 
@@ -13,18 +14,22 @@ use Rattle.mm_outline.specs.Numbered.{AreNumbered}
 pub record IsSound (db : List Statement) : Type 0 where
   pub few : length db < 2 ^ 31
   pub lawful : (k : ℕ) → k < length db → scope_fault db k ≡ None
-  pub apart : (w : Word) → is_in w (flat_map constants_of db) ≡ true → is_in w (flat_map variables_of db) ≡ false
+  pub apart : (w : Bytes) → is_in w (flat_map constants_of db) ≡ true
+      → is_in w (flat_map variables_of db) ≡ false
   pub below : (k : ℕ) → k < length db → All (λ s. s < length (symbol_names db)) (formula_at db k)
 
 -- the tables are those of the statements
-pub record AreTables (db : List Statement) (b : Lists) (numbers places : List ℕ) (marks : List Bool) : Type 0 where
+pub record AreTables (db : List Statement) (b : Lists) (numbers places : List ℕ)
+    (marks : List Bool) : Type 0 where
   pub sound : IsSound db
   pub blocks : IsBlocks db b
   pub numbered : AreNumbered db numbers places
   pub few_symbols : length marks < 2 ^ 31
   pub count : length marks ≡ length (symbol_names db)
-  pub variable : (s : ℕ) → s < length (symbol_names db) → get_or marks s false ≡ is_variable db s
+  pub variable : (s : ℕ) → s < length (symbol_names db)
+      → get_or marks s false ≡ is_variable_number db s
 
 -- the variable of a `$f`
 abbrev pub typed_at : List Statement → ℕ → Option ℕ
-typed_at db k = if list_any is_floating (statement_at db k) then slice_get (formula_at db k) 1 else None
+typed_at db k =
+    if list_any is_floating (statement_at db k) then slice_get (formula_at db k) 1 else None

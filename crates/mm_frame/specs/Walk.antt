@@ -1,9 +1,10 @@
 -- What a walk over the statements keeps of symbols.
-use Rattle.std.specs.Prelude.{◌≡◌, ◌≢◌, ℕ, ◌<◌, ◌≤◌, Bool, true, ◌&&◌, not, List, length, slice_index, nat_eq, Some}
+use Rattle.std.specs.Prelude.{◌≡◌, ◌≢◌, ℕ, ◌<◌, ◌≤◌, Bool, true, ◌&&◌, not, List, length}
+use Rattle.std.specs.Prelude.{slice_index, nat_eq, Some}
 use Rattle.mm_spec.specs.Statement.{Statement}
 use Rattle.mm_spec.specs.Frame.{symbol_names}
 use Rattle.mm_spec.specs.Derivation.{is_member}
-use Rattle.mm_spec.proofs.Activity.{stays}
+use Rattle.mm_spec.specs.Scope.{stays}
 use Rattle.mm_outline.specs.Blocks.{never}
 use Rattle.mm_frame.specs.Tables.{typed_at}
 
@@ -21,9 +22,13 @@ pub record IsFresh (n stamp : ℕ) (seen : List ℕ) : Type 0 where
 -- for each variable its last `$f` before k, the only one that may be active
 pub record AreTyped (db : List Statement) (k : ℕ) (typed : List ℕ) : Type 0 where
   pub count : length typed ≡ length (symbol_names db)
-  pub some : (v : ℕ) → v < length (symbol_names db) → slice_index typed v ≢ never → (slice_index typed v < k) × (typed_at db (slice_index typed v) ≡ Some v)
-  pub alone : (j v : ℕ) → j < k → v < length (symbol_names db) → typed_at db j ≡ Some v → stays db j k ≡ true → slice_index typed v ≡ j
+  pub some : (v : ℕ) → v < length (symbol_names db) → slice_index typed v ≢ never
+      → (slice_index typed v < k) × (typed_at db (slice_index typed v) ≡ Some v)
+  pub alone : (j v : ℕ) → j < k → v < length (symbol_names db) → typed_at db j ≡ Some v
+      → stays db j k ≡ true → slice_index typed v ≡ j
 
 -- statement j is the last `$f` of the variable, and active
 abbrev pub is_float_of : List Statement → ℕ → List ℕ → ℕ → ℕ → Bool
-is_float_of db k typed j v = nat_eq j (slice_index typed v) && (not (nat_eq (slice_index typed v) never) && stays db (slice_index typed v) k)
+is_float_of db k typed j v =
+    nat_eq j (slice_index typed v)
+    && (not (nat_eq (slice_index typed v) never) && stays db (slice_index typed v) k)

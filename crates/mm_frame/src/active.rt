@@ -13,7 +13,8 @@ use std::alloc::{AllocError, Allocator};
 fn last_open<A: Allocator>(tables: &Tables<A>, latest: &[u32], first: u32, at: u32) -> u32
     requires at { at ≤ length tables.now }
     requires long { at ≤ length latest.now }
-    requires latest { (k : ℕ) → k < at → IsLatest is_essential tables.now k (slice_index latest.now k) }
+    requires latest { (k : ℕ) → k < at
+        → IsLatest is_essential tables.now k (slice_index latest.now k) }
     requires first { IsCandidate is_essential tables.now at first }
     ensures { IsLatest is_essential tables.now at result }
 {
@@ -54,7 +55,9 @@ pub(crate) fn active_essentials<A: Allocator>(
 ) -> Result<(), AllocError>
     requires at { at ≤ length tables.now }
     requires latest { AreLatest is_essential tables.now latest.now }
-    ensures { OnOk result ((i : ℕ) → is_member into.new.items i ≡ is_member (active_of is_essential tables.now at) i) }
+    ensures { OnOk result
+        ((i : ℕ)
+        → is_member into.new.items i ≡ is_member (active_of is_essential tables.now at) i) }
 {
     into.clear();
     let mut last = latest[at as usize];

@@ -1,6 +1,7 @@
 //! The mandatory pairs of disjoint variables of assertions.
 
-ghost use Rattle.std.specs.Prelude.{◌≡◌, ◌<◌, ◌≤◌, ◌^◌, ◌&&◌, ◌||◌, ℕ, OnOk, IfOk, length, get_or, nat_eq, nat_lt, map};
+ghost use Rattle.std.specs.Prelude.{◌≡◌, ◌<◌, ◌≤◌, ◌^◌, ◌&&◌, ◌||◌, ℕ, OnOk, IfOk, length, get_or};
+ghost use Rattle.std.specs.Prelude.{nat_eq, nat_lt, map};
 ghost use Rattle.std.specs.List.{list_any};
 ghost use Rattle.mm_spec.specs.Derivation.{is_member, pair};
 ghost use Rattle.mm_spec.specs.Frame.{mandatory_variables, mandatory_pairs};
@@ -14,7 +15,7 @@ use mm_outline::blocks::Blocks;
 use mm_outline::symbol::Sym;
 use std::alloc::{AllocError, Allocator};
 
-/// Adds the pairs of the variable at a place and those behind it that stand in the same statement.
+/// Adds the pairs of the variable at a place and those after it that stand in the same statement.
 fn add_behind<A: Allocator>(
     had: &[(u32, u32)],
     place: usize,
@@ -22,7 +23,12 @@ fn add_behind<A: Allocator>(
 ) -> Result<(), AllocError>
     requires rising { AreRising had.now }
     requires place { place < length had.now }
-    ensures { OnOk result ((x y : ℕ) → has_pair pairs.new.items x y ≡ (has_pair pairs.old.items x y || (nat_eq x (get_or had.now place (0, 0)).1 && (has_pair had.now (get_or had.now place (0, 0)).0 y && nat_lt x y)))) }
+    ensures { OnOk result
+        ((x y : ℕ)
+        → has_pair pairs.new.items x y
+        ≡ (has_pair pairs.old.items x y
+        || (nat_eq x (get_or had.now place (0, 0)).1
+        && (has_pair had.now (get_or had.now place (0, 0)).0 y && nat_lt x y)))) }
 {
     let mut at = place + 1;
     while at < had.len() && had[at].0 == had[place].0 {
@@ -38,7 +44,11 @@ fn add_together<A: Allocator>(
     pairs: &mut Vec<(u32, u32), A>,
 ) -> Result<(), AllocError>
     requires rising { AreRising had.now }
-    ensures { OnOk result ((x y : ℕ) → has_pair pairs.new.items x y ≡ (has_pair pairs.old.items x y || list_any (λ p. nat_eq x p.1 && (has_pair had.now p.0 y && nat_lt x y)) had.now)) }
+    ensures { OnOk result
+        ((x y : ℕ)
+        → has_pair pairs.new.items x y
+        ≡ (has_pair pairs.old.items x y
+        || list_any (λ p. nat_eq x p.1 && (has_pair had.now p.0 y && nat_lt x y)) had.now)) }
 {
     for place in 0..had.len() {
         add_behind(had, place, pairs)?;
@@ -55,9 +65,20 @@ fn add_all_active<A: Allocator>(
     into: &mut Vec<(u32, u32), A>,
 ) -> Result<(), AllocError>
     requires rising { AreRising members.now.pairs.items }
-    requires known { AreKnown (lists blocks.now.of.items blocks.now.ends.items blocks.now.open.items) members.now.pairs.items }
-    requires skips { AreSkips (lists blocks.now.of.items blocks.now.ends.items blocks.now.open.items) members.now.pairs.items members.now.skips.items }
-    ensures { OnOk result ((j y : ℕ) → has_pair into.new.items j y ≡ (has_pair into.old.items j y || (is_member symbols.now y && (has_pair members.now.pairs.items y j && is_live (lists blocks.now.of.items blocks.now.ends.items blocks.now.open.items) j at)))) }
+    requires known { AreKnown
+        (lists blocks.now.of.items blocks.now.ends.items blocks.now.open.items)
+        members.now.pairs.items }
+    requires skips { AreSkips
+        (lists blocks.now.of.items blocks.now.ends.items blocks.now.open.items)
+        members.now.pairs.items members.now.skips.items }
+    ensures { OnOk result
+        ((j y : ℕ)
+        → has_pair into.new.items j y
+        ≡ (has_pair into.old.items j y
+        || (is_member symbols.now y
+        && (has_pair members.now.pairs.items y j
+        && is_live
+        (lists blocks.now.of.items blocks.now.ends.items blocks.now.open.items) j at)))) }
 {
     for symbol in symbols {
         add_active(blocks, members, *symbol, at, into)?;
@@ -70,7 +91,8 @@ fn symbols_of<A: Allocator + Copy>(
     alloc: A,
     pairs: &[(u32, u32)],
 ) -> Result<Vec<(Sym, Sym), A>, AllocError>
-    ensures { IfOk result (λ v. map (λ p. pair p.0 p.1) v.items ≡ map (λ p. pair p.0 p.1) pairs.now) }
+    ensures { IfOk result
+        (λ v. map (λ p. pair p.0 p.1) v.items ≡ map (λ p. pair p.0 p.1) pairs.now) }
 {
     let mut symbols = Vec::with_capacity(alloc, pairs.len())?;
     for (low, high) in pairs {
@@ -79,8 +101,9 @@ fn symbols_of<A: Allocator + Copy>(
     Ok(symbols)
 }
 
-/// The mandatory pairs of an assertion, by its mandatory variables. This costs a step for each active `$d` of each of
-/// them, and one for each pair in each of these. The two lists are taken for these, and what they had is let go.
+/// The mandatory pairs of an assertion, by its mandatory variables. This costs a step for each
+/// active `$d` of each of them, and one for each pair in each of these. The two lists are taken for
+/// these, and what they had is let go.
 pub(crate) fn pairs_of<A: Allocator + Copy>(
     alloc: A,
     tables: &Tables<A>,
@@ -92,10 +115,15 @@ pub(crate) fn pairs_of<A: Allocator + Copy>(
     together: &mut Vec<(u32, u32), A>,
 ) -> Result<Vec<(Sym, Sym), A>, AllocError>
     requires assertion { assertion < length tables.now }
-    requires blocks { IsBlocks tables.now (lists blocks.now.of.items blocks.now.ends.items blocks.now.open.items) }
-    requires members { AreMembers tables.now (lists blocks.now.of.items blocks.now.ends.items blocks.now.open.items) members.now.pairs.items members.now.skips.items }
-    requires found { (x : ℕ) → is_member found.now x ≡ is_member (mandatory_variables tables.now assertion) x }
-    ensures { IfOk result (λ v. map (λ p. pair p.0 p.1) v.items ≡ mandatory_pairs tables.now assertion) }
+    requires blocks { IsBlocks tables.now
+        (lists blocks.now.of.items blocks.now.ends.items blocks.now.open.items) }
+    requires members { AreMembers tables.now
+        (lists blocks.now.of.items blocks.now.ends.items blocks.now.open.items)
+        members.now.pairs.items members.now.skips.items }
+    requires found { (x : ℕ)
+        → is_member found.now x ≡ is_member (mandatory_variables tables.now assertion) x }
+    ensures { IfOk result
+        (λ v. map (λ p. pair p.0 p.1) v.items ≡ mandatory_pairs tables.now assertion) }
 {
     let _ = tables;
     had.clear();

@@ -52,16 +52,16 @@ fn give_type<A: Allocator>(tables: &Tables<A>, statement: u32, typed: &mut Vec<u
     }
 }
 
-/// The frames of assertions, one behind the other, and for each statement how many stand before it: that is the place of
-/// its own, where it is an assertion.
+/// The frames of assertions, one after the other, and for each statement how many stand before it:
+/// that is the place of its own, where it is an assertion.
 #[derive(Drop)]
 pub struct Frames<A: Allocator> {
     pub list: Vec<Frame<A>, A>,
     pub places: Vec<u32, A>,
 }
 
-/// Lists that one assertion uses after another: the marks of the symbols, the variables, the hypotheses, and the active
-/// `$d` of the variables.
+/// Lists that one assertion uses after another: the marks of the symbols, the variables, the
+/// hypotheses, and the active `$d` of the variables.
 #[derive(Drop)]
 struct Scratch<A: Allocator> {
     seen: Vec<u32, A>,
@@ -94,12 +94,17 @@ fn frame_of<A: Allocator + Copy>(
     requires sound { IsSound tables.now }
     requires assertion { assertion < length tables.now }
     requires essentials { AreLatest is_essential tables.now essentials.now }
-    requires blocks { IsBlocks tables.now (lists blocks.now.of.items blocks.now.ends.items blocks.now.open.items) }
-    requires members { AreMembers tables.now (lists blocks.now.of.items blocks.now.ends.items blocks.now.open.items) members.now.pairs.items members.now.skips.items }
+    requires blocks { IsBlocks tables.now
+        (lists blocks.now.of.items blocks.now.ends.items blocks.now.open.items) }
+    requires members { AreMembers tables.now
+        (lists blocks.now.of.items blocks.now.ends.items blocks.now.open.items)
+        members.now.pairs.items members.now.skips.items }
     requires typed { AreTyped tables.now assertion typed.now }
     requires seen { IsFresh (length (symbol_names tables.now)) assertion scratch.old.seen.items }
-    ensures seen { OnOk result (IsFresh (length (symbol_names tables.now)) (assertion + 1) scratch.new.seen.items) }
-    ensures frame { IfOk result (λ f. IsFrame tables.now assertion f.hyps.items (map (λ p. pair p.0 p.1) f.pairs.items)) }
+    ensures seen { OnOk result
+        (IsFresh (length (symbol_names tables.now)) (assertion + 1) scratch.new.seen.items) }
+    ensures frame { IfOk result
+        (λ f. IsFrame tables.now assertion f.hyps.items (map (λ p. pair p.0 p.1) f.pairs.items)) }
 {
     hypotheses(
         tables,
@@ -139,13 +144,22 @@ fn add_frame<A: Allocator + Copy>(
     requires sound { IsSound tables.now }
     requires statement { statement < length tables.now }
     requires essentials { AreLatest is_essential tables.now essentials.now }
-    requires blocks { IsBlocks tables.now (lists blocks.now.of.items blocks.now.ends.items blocks.now.open.items) }
-    requires members { AreMembers tables.now (lists blocks.now.of.items blocks.now.ends.items blocks.now.open.items) members.now.pairs.items members.now.skips.items }
+    requires blocks { IsBlocks tables.now
+        (lists blocks.now.of.items blocks.now.ends.items blocks.now.open.items) }
+    requires members { AreMembers tables.now
+        (lists blocks.now.of.items blocks.now.ends.items blocks.now.open.items)
+        members.now.pairs.items members.now.skips.items }
     requires typed { AreTyped tables.now statement typed.now }
     requires seen { IsFresh (length (symbol_names tables.now)) statement scratch.old.seen.items }
-    requires frames { AreFramesUpTo tables.now statement frames.old.places.items (map (λ f. f.hyps.items) frames.old.list.items) (map (λ f. map (λ p. pair p.0 p.1) f.pairs.items) frames.old.list.items) }
-    ensures seen { OnOk result (IsFresh (length (symbol_names tables.now)) (statement + 1) scratch.new.seen.items) }
-    ensures frames { OnOk result (AreFramesUpTo tables.now (statement + 1) frames.new.places.items (map (λ f. f.hyps.items) frames.new.list.items) (map (λ f. map (λ p. pair p.0 p.1) f.pairs.items) frames.new.list.items)) }
+    requires frames { AreFramesUpTo tables.now statement frames.old.places.items
+        (map (λ f. f.hyps.items) frames.old.list.items)
+        (map (λ f. map (λ p. pair p.0 p.1) f.pairs.items) frames.old.list.items) }
+    ensures seen { OnOk result
+        (IsFresh (length (symbol_names tables.now)) (statement + 1) scratch.new.seen.items) }
+    ensures frames { OnOk result
+        (AreFramesUpTo tables.now (statement + 1) frames.new.places.items
+        (map (λ f. f.hyps.items) frames.new.list.items)
+        (map (λ f. map (λ p. pair p.0 p.1) f.pairs.items) frames.new.list.items)) }
 {
     frames.places.push(frames.list.len() as u32)?;
     if tables.is_assertion(statement) {
@@ -164,9 +178,14 @@ pub(crate) fn frames_of<A: Allocator + Copy>(
     blocks: &Blocks<A>,
     members: &Members<A>,
 ) -> Result<Frames<A>, AllocError>
-    requires blocks { IsBlocks tables.now (lists blocks.now.of.items blocks.now.ends.items blocks.now.open.items) }
-    requires members { AreMembers tables.now (lists blocks.now.of.items blocks.now.ends.items blocks.now.open.items) members.now.pairs.items members.now.skips.items }
-    ensures { IfOk result (λ v. AreFrames tables.now v.places.items (map (λ f. f.hyps.items) v.list.items) (map (λ f. map (λ p. pair p.0 p.1) f.pairs.items) v.list.items)) }
+    requires blocks { IsBlocks tables.now
+        (lists blocks.now.of.items blocks.now.ends.items blocks.now.open.items) }
+    requires members { AreMembers tables.now
+        (lists blocks.now.of.items blocks.now.ends.items blocks.now.open.items)
+        members.now.pairs.items members.now.skips.items }
+    ensures { IfOk result
+        (λ v. AreFrames tables.now v.places.items (map (λ f. f.hyps.items) v.list.items)
+        (map (λ f. map (λ p. pair p.0 p.1) f.pairs.items) v.list.items)) }
 {
     let essentials = latest_essentials(alloc, tables)?;
     let mut typed = filled(alloc, NEVER, tables.symbol_count())?;
@@ -211,9 +230,16 @@ pub fn gather<A: Allocator + Copy>(
     tables: &Tables<A>,
     blocks: &Blocks<A>,
 ) -> Result<Beside<A>, AllocError>
-    requires { IsBlocks tables.now (lists blocks.now.of.items blocks.now.ends.items blocks.now.open.items) }
-    ensures members { IfOk result (λ b. AreMembers tables.now (lists blocks.now.of.items blocks.now.ends.items blocks.now.open.items) b.members.pairs.items b.members.skips.items) }
-    ensures frames { IfOk result (λ b. AreFrames tables.now b.frames.places.items (map (λ f. f.hyps.items) b.frames.list.items) (map (λ f. map (λ p. pair p.0 p.1) f.pairs.items) b.frames.list.items)) }
+    requires { IsBlocks tables.now
+        (lists blocks.now.of.items blocks.now.ends.items blocks.now.open.items) }
+    ensures members { IfOk result
+        (λ b. AreMembers tables.now
+        (lists blocks.now.of.items blocks.now.ends.items blocks.now.open.items)
+        b.members.pairs.items b.members.skips.items) }
+    ensures frames { IfOk result
+        (λ b. AreFrames tables.now b.frames.places.items
+        (map (λ f. f.hyps.items) b.frames.list.items)
+        (map (λ f. map (λ p. pair p.0 p.1) f.pairs.items) b.frames.list.items)) }
 {
     let members = members_of(alloc, tables, blocks)?;
     let frames = frames_of(alloc, tables, blocks, &members)?;

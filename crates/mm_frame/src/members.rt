@@ -1,10 +1,12 @@
-//! The `$d` statements by their variables: what a question costs depends on the `$d` of the variables that it names, not
-//! on all that are active.
+//! The `$d` statements by their variables: what a question costs depends on the `$d` of the
+//! variables that it names, not on all that are active.
 
-ghost use Rattle.std.specs.Prelude.{◌≡◌, ◌≢◌, ◌<◌, ◌≤◌, ◌+◌, ◌-◌, ◌&&◌, ◌||◌, ℕ, IfOk, OnOk, length, get_or, nat_eq, nat_lt, nat_le, true, false};
+ghost use Rattle.std.specs.Prelude.{◌≡◌, ◌≢◌, ◌<◌, ◌≤◌, ◌+◌, ◌-◌, ◌&&◌, ◌||◌, ℕ, IfOk, OnOk};
+ghost use Rattle.std.specs.Prelude.{length, get_or, nat_eq, nat_lt, nat_le, true, false};
 ghost use Rattle.mm_spec.specs.Derivation.{is_member};
 ghost use Rattle.mm_outline.specs.Blocks.{IsBlocks, lists, end_of};
-ghost use Rattle.mm_frame.specs.Members.{has_symbol, is_live, AreKnown, AreSkips, AreMembers, Covers};
+ghost use Rattle.mm_frame.specs.Members.{has_symbol, is_live, AreKnown, AreSkips, AreMembers};
+ghost use Rattle.mm_frame.specs.Members.{Covers};
 ghost use Rattle.mm_frame.specs.Pairs.{has_pair, AreRising, is_before};
 
 use crate::tables::Tables;
@@ -17,8 +19,9 @@ use std::alloc::{AllocError, Allocator};
 pub struct Members<A: Allocator> {
     /// Each variable with each `$d` that has it, rising.
     pub pairs: Vec<(u32, u32), A>,
-    /// For each of these an earlier one, or itself: from there up to it all are of its variable, and of blocks that end no
-    /// later than its own. So where its block is closed, all these are passed over at once.
+    /// For each of these an earlier one, or itself: from there up to it all are of its variable,
+    /// and of blocks that end no later than its own. So where its block is closed, all these are
+    /// passed over at once.
     pub skips: Vec<usize, A>,
 }
 
@@ -37,7 +40,10 @@ fn add_symbols<A: Allocator>(
     statement: u32,
     pairs: &mut Vec<(u32, u32), A>,
 ) -> Result<(), AllocError>
-    ensures { OnOk result ((x j : ℕ) → has_pair pairs.new.items x j ≡ (has_pair pairs.old.items x j || (is_member symbols.now x && nat_eq j statement))) }
+    ensures { OnOk result
+        ((x j : ℕ)
+        → has_pair pairs.new.items x j
+        ≡ (has_pair pairs.old.items x j || (is_member symbols.now x && nat_eq j statement))) }
 {
     for symbol in symbols {
         pairs.push((symbol.number(), statement))?;
@@ -65,9 +71,15 @@ fn pairs_by_symbol<A: Allocator + Copy>(
 
 /// Whether a pair has the symbol of another, and a block that ends no later.
 fn is_covered<A: Allocator>(blocks: &Blocks<A>, pair: (u32, u32), by: (u32, u32)) -> bool
-    requires pair { (pair.1 < length blocks.now.of.items) × (get_or blocks.now.of.items pair.1 0 < length blocks.now.ends.items) }
-    requires by { (by.1 < length blocks.now.of.items) × (get_or blocks.now.of.items by.1 0 < length blocks.now.ends.items) }
-    ensures { result ≡ (nat_eq pair.0 by.0 && nat_le (end_of (lists blocks.now.of.items blocks.now.ends.items blocks.now.open.items) pair.1) (end_of (lists blocks.now.of.items blocks.now.ends.items blocks.now.open.items) by.1)) }
+    requires pair { (pair.1 < length blocks.now.of.items)
+        × (get_or blocks.now.of.items pair.1 0 < length blocks.now.ends.items) }
+    requires by { (by.1 < length blocks.now.of.items)
+        × (get_or blocks.now.of.items by.1 0 < length blocks.now.ends.items) }
+    ensures { result
+        ≡ (nat_eq pair.0 by.0
+        && nat_le
+        (end_of (lists blocks.now.of.items blocks.now.ends.items blocks.now.open.items) pair.1)
+        (end_of (lists blocks.now.of.items blocks.now.ends.items blocks.now.open.items) by.1)) }
 {
     pair.0 == by.0 && blocks.end_of(pair.1) <= blocks.end_of(by.1)
 }
@@ -78,8 +90,12 @@ fn skips_of<A: Allocator + Copy>(
     blocks: &Blocks<A>,
     pairs: &[(u32, u32)],
 ) -> Result<Vec<usize, A>, AllocError>
-    requires known { AreKnown (lists blocks.now.of.items blocks.now.ends.items blocks.now.open.items) pairs.now }
-    ensures { IfOk result (λ v. AreSkips (lists blocks.now.of.items blocks.now.ends.items blocks.now.open.items) pairs.now v.items) }
+    requires known { AreKnown
+        (lists blocks.now.of.items blocks.now.ends.items blocks.now.open.items) pairs.now }
+    ensures { IfOk result
+        (λ v. AreSkips
+        (lists blocks.now.of.items blocks.now.ends.items blocks.now.open.items) pairs.now
+        v.items) }
 {
     let mut skips = Vec::new(alloc);
     for at in 0..pairs.len() {
@@ -98,8 +114,12 @@ pub(crate) fn members_of<A: Allocator + Copy>(
     tables: &Tables<A>,
     blocks: &Blocks<A>,
 ) -> Result<Members<A>, AllocError>
-    requires { IsBlocks tables.now (lists blocks.now.of.items blocks.now.ends.items blocks.now.open.items) }
-    ensures { IfOk result (λ m. AreMembers tables.now (lists blocks.now.of.items blocks.now.ends.items blocks.now.open.items) m.pairs.items m.skips.items) }
+    requires { IsBlocks tables.now
+        (lists blocks.now.of.items blocks.now.ends.items blocks.now.open.items) }
+    ensures { IfOk result
+        (λ m. AreMembers tables.now
+        (lists blocks.now.of.items blocks.now.ends.items blocks.now.open.items) m.pairs.items
+        m.skips.items) }
 {
     let pairs = pairs_by_symbol(alloc, tables)?;
     let skips = skips_of(alloc, blocks, &pairs)?;
@@ -111,7 +131,8 @@ fn count_before(pairs: &[(u32, u32)], symbol: u32, at: u32) -> usize
     requires { AreRising pairs.now }
     ensures within { result ≤ length pairs.now }
     ensures before { (p : ℕ) → p < result → is_before (get_or pairs.now p (0, 0)) symbol at ≡ true }
-    ensures behind { (p : ℕ) → result ≤ p → p < length pairs.now → is_before (get_or pairs.now p (0, 0)) symbol at ≡ false }
+    ensures behind { (p : ℕ) → result ≤ p → p < length pairs.now
+        → is_before (get_or pairs.now p (0, 0)) symbol at ≡ false }
 {
     pairs.partition_point(
         |pair: &(u32, u32)| -> bool
@@ -129,15 +150,23 @@ fn ends_with(pairs: &[(u32, u32)], left: usize, symbol: u32) -> bool
     left > 0 && pairs[left - 1].0 == symbol
 }
 
-/// How many pairs are left behind the last of so many: it is passed over, and with it what it covers where its block is
-/// closed.
+/// How many pairs are left behind the last of so many: it is passed over, and with it what it
+/// covers where its block is closed.
 fn back<A: Allocator>(blocks: &Blocks<A>, members: &Members<A>, left: usize, at: u32) -> usize
     requires some { 0 < left }
     requires within { left ≤ length members.now.pairs.items }
-    requires known { AreKnown (lists blocks.now.of.items blocks.now.ends.items blocks.now.open.items) members.now.pairs.items }
-    requires skips { AreSkips (lists blocks.now.of.items blocks.now.ends.items blocks.now.open.items) members.now.pairs.items members.now.skips.items }
+    requires known { AreKnown
+        (lists blocks.now.of.items blocks.now.ends.items blocks.now.open.items)
+        members.now.pairs.items }
+    requires skips { AreSkips
+        (lists blocks.now.of.items blocks.now.ends.items blocks.now.open.items)
+        members.now.pairs.items members.now.skips.items }
     ensures less { result < left }
-    ensures passed { (p : ℕ) → result ≤ p → p + 1 < left → nat_le at (end_of (lists blocks.now.of.items blocks.now.ends.items blocks.now.open.items) (get_or members.now.pairs.items p (0, 0)).1) ≡ false }
+    ensures passed { (p : ℕ) → result ≤ p → p + 1 < left
+        → nat_le at
+        (end_of (lists blocks.now.of.items blocks.now.ends.items blocks.now.open.items)
+        (get_or members.now.pairs.items p (0, 0)).1)
+        ≡ false }
 {
     if blocks.is_open_at(members.pairs[left - 1].1, at) {
         left - 1
@@ -155,9 +184,20 @@ pub(crate) fn add_active<A: Allocator>(
     into: &mut Vec<(u32, u32), A>,
 ) -> Result<(), AllocError>
     requires rising { AreRising members.now.pairs.items }
-    requires known { AreKnown (lists blocks.now.of.items blocks.now.ends.items blocks.now.open.items) members.now.pairs.items }
-    requires skips { AreSkips (lists blocks.now.of.items blocks.now.ends.items blocks.now.open.items) members.now.pairs.items members.now.skips.items }
-    ensures { OnOk result ((j y : ℕ) → has_pair into.new.items j y ≡ (has_pair into.old.items j y || (nat_eq y symbol && (has_pair members.now.pairs.items symbol j && is_live (lists blocks.now.of.items blocks.now.ends.items blocks.now.open.items) j at)))) }
+    requires known { AreKnown
+        (lists blocks.now.of.items blocks.now.ends.items blocks.now.open.items)
+        members.now.pairs.items }
+    requires skips { AreSkips
+        (lists blocks.now.of.items blocks.now.ends.items blocks.now.open.items)
+        members.now.pairs.items members.now.skips.items }
+    ensures { OnOk result
+        ((j y : ℕ)
+        → has_pair into.new.items j y
+        ≡ (has_pair into.old.items j y
+        || (nat_eq y symbol
+        && (has_pair members.now.pairs.items symbol j
+        && is_live
+        (lists blocks.now.of.items blocks.now.ends.items blocks.now.open.items) j at)))) }
 {
     let pairs = members.pairs.as_slice();
     let mut left = count_before(pairs, symbol.number(), at);
@@ -180,10 +220,21 @@ pub fn are_together<A: Allocator>(
     at: u32,
 ) -> bool
     requires rising { AreRising members.now.pairs.items }
-    requires known { AreKnown (lists blocks.now.of.items blocks.now.ends.items blocks.now.open.items) members.now.pairs.items }
-    requires skips { AreSkips (lists blocks.now.of.items blocks.now.ends.items blocks.now.open.items) members.now.pairs.items members.now.skips.items }
-    ensures found { result ≡ true → (j : ℕ) × (has_pair members.now.pairs.items x j ≡ true) × (has_pair members.now.pairs.items y j ≡ true) × (is_live (lists blocks.now.of.items blocks.now.ends.items blocks.now.open.items) j at ≡ true) }
-    ensures none { result ≡ false → (j : ℕ) → has_pair members.now.pairs.items x j ≡ true → has_pair members.now.pairs.items y j ≡ true → is_live (lists blocks.now.of.items blocks.now.ends.items blocks.now.open.items) j at ≡ false }
+    requires known { AreKnown
+        (lists blocks.now.of.items blocks.now.ends.items blocks.now.open.items)
+        members.now.pairs.items }
+    requires skips { AreSkips
+        (lists blocks.now.of.items blocks.now.ends.items blocks.now.open.items)
+        members.now.pairs.items members.now.skips.items }
+    ensures found { result ≡ true
+        → (j : ℕ) × (has_pair members.now.pairs.items x j ≡ true)
+        × (has_pair members.now.pairs.items y j ≡ true)
+        × (is_live (lists blocks.now.of.items blocks.now.ends.items blocks.now.open.items) j at
+        ≡ true) }
+    ensures none { result ≡ false → (j : ℕ) → has_pair members.now.pairs.items x j ≡ true
+        → has_pair members.now.pairs.items y j ≡ true
+        → is_live (lists blocks.now.of.items blocks.now.ends.items blocks.now.open.items) j at
+        ≡ false }
 {
     let pairs = members.pairs.as_slice();
     let mut left = count_before(pairs, x.number(), at);

@@ -1,11 +1,12 @@
-//! The statements of a text with their blocks and the numbers of their symbols: what a walk over them asks.
+//! The statements of a text with their blocks and the numbers of their symbols: what a walk over
+//! them asks.
 
 ghost use Rattle.std.specs.Prelude.{All, ◌≡◌, ◌<◌, ◌≤◌, ◌^◌, ℕ, List, length};
 ghost use Rattle.std.specs.List.{list_any};
-ghost use Rattle.mm_spec.specs.Scope.{statement_at};
-ghost use Rattle.mm_spec.specs.Frame.{symbol_names, is_variable, is_disjoint, is_essential, is_floating, formula_at};
+ghost use Rattle.mm_spec.specs.Scope.{statement_at, stays};
+ghost use Rattle.mm_spec.specs.Frame.{symbol_names, is_variable_number, is_disjoint_statement};
+ghost use Rattle.mm_spec.specs.Frame.{is_essential, is_floating, formula_at};
 ghost use Rattle.mm_spec.specs.Citation.{is_assertion};
-ghost use Rattle.mm_spec.proofs.Activity.{stays};
 ghost use Rattle.mm_outline.specs.Blocks.{IsBlocks, lists};
 ghost use Rattle.mm_outline.specs.Statements.{statements};
 ghost use Rattle.mm_outline.specs.Numbered.{AreNumbered, AreSymbols};
@@ -41,7 +42,9 @@ impl<'s, A: Allocator> Model for Tables<'s, A> {
 
     ghost view = { λ t. statements t.text.now t.tokens.now t.outlines.now };
 
-    ghost invariant = { λ t. AreTables (statements t.text.now t.tokens.now t.outlines.now) (lists t.blocks.now.of.items t.blocks.now.ends.items t.blocks.now.open.items) t.numbers.now t.places.now t.variables.now };
+    ghost invariant = { λ t. AreTables (statements t.text.now t.tokens.now t.outlines.now)
+        (lists t.blocks.now.of.items t.blocks.now.ends.items t.blocks.now.open.items)
+        t.numbers.now t.places.now t.variables.now };
 }
 
 impl<'s, A: Allocator> Tables<'s, A> {
@@ -56,9 +59,12 @@ impl<'s, A: Allocator> Tables<'s, A> {
         variables: &'s [bool],
     ) -> Tables<'s, A>
         requires sound { IsSound (statements text.now tokens.now outlines.now) }
-        requires blocks { IsBlocks (statements text.now tokens.now outlines.now) (lists blocks.now.of.items blocks.now.ends.items blocks.now.open.items) }
-        requires numbered { AreNumbered (statements text.now tokens.now outlines.now) numbers.now places.now }
-        requires symbols { (names : List (List ℕ)) × AreSymbols (statements text.now tokens.now outlines.now) names variables.now }
+        requires blocks { IsBlocks (statements text.now tokens.now outlines.now)
+            (lists blocks.now.of.items blocks.now.ends.items blocks.now.open.items) }
+        requires numbered { AreNumbered
+            (statements text.now tokens.now outlines.now) numbers.now places.now }
+        requires symbols { (names : List (List ℕ))
+            × AreSymbols (statements text.now tokens.now outlines.now) names variables.now }
         requires few_symbols { length variables.now < 2 ^ 31 }
         ensures { result ≡ statements text.now tokens.now outlines.now }
     {
@@ -103,7 +109,7 @@ impl<'s, A: Allocator> Tables<'s, A> {
     /// Whether a statement is a `$d`.
     pub(crate) fn is_disjoint(&self, statement: u32) -> bool
         requires { statement < length self.now }
-        ensures { result ≡ list_any is_disjoint (statement_at self.now statement) }
+        ensures { result ≡ list_any is_disjoint_statement (statement_at self.now statement) }
     {
         match self.outlines[statement as usize].kind {
             Kind::Disjoint => true,
@@ -159,7 +165,7 @@ impl<'s, A: Allocator> Tables<'s, A> {
     /// Whether a symbol is a variable.
     pub(crate) fn is_variable(&self, symbol: Sym) -> bool
         requires { symbol < length (symbol_names self.now) }
-        ensures { result ≡ is_variable self.now symbol }
+        ensures { result ≡ is_variable_number self.now symbol }
     {
         self.variables[symbol.number() as usize]
     }

@@ -1,10 +1,12 @@
 //! The mandatory variables and hypotheses of assertions.
 
-ghost use Rattle.std.specs.Prelude.{◌≡◌, ◌<◌, ◌≤◌, ◌+◌, ◌^◌, ◌&&◌, ◌||◌, ℕ, All, OnOk, length, nat_eq, slice_index};
+ghost use Rattle.std.specs.Prelude.{◌≡◌, ◌<◌, ◌≤◌, ◌+◌, ◌^◌, ◌&&◌, ◌||◌, ℕ, All, OnOk, length};
+ghost use Rattle.std.specs.Prelude.{nat_eq, slice_index};
 ghost use Rattle.std.specs.List.{list_any};
 ghost use Rattle.std.specs.List.Sorted.{IsStrictlyIncreasing};
 ghost use Rattle.mm_spec.specs.Derivation.{is_member};
-ghost use Rattle.mm_spec.specs.Frame.{symbol_names, is_variable, is_essential, active_of, mandatory_variables, mandatory_hypotheses};
+ghost use Rattle.mm_spec.specs.Frame.{symbol_names, is_variable_number, is_essential, active_of};
+ghost use Rattle.mm_spec.specs.Frame.{mandatory_variables, mandatory_hypotheses};
 ghost use Rattle.mm_frame.specs.Latest.{AreLatest};
 ghost use Rattle.mm_frame.specs.Tables.{IsSound};
 ghost use Rattle.mm_frame.specs.Walk.{AreMarks, AreTyped, IsFresh, is_float_of};
@@ -24,9 +26,14 @@ fn mark<A: Allocator>(
     found: &mut Vec<Sym, A>,
 ) -> Result<(), AllocError>
     requires symbol { symbol < length (symbol_names tables.now) }
-    requires marks { AreMarks (length (symbol_names tables.now)) stamp seen.old.items found.old.items }
-    ensures marks { OnOk result (AreMarks (length (symbol_names tables.now)) stamp seen.new.items found.new.items) }
-    ensures found { OnOk result ((x : ℕ) → is_member found.new.items x ≡ (is_member found.old.items x || (is_variable tables.now x && nat_eq x symbol))) }
+    requires marks { AreMarks
+        (length (symbol_names tables.now)) stamp seen.old.items found.old.items }
+    ensures marks { OnOk result
+        (AreMarks (length (symbol_names tables.now)) stamp seen.new.items found.new.items) }
+    ensures found { OnOk result
+        ((x : ℕ)
+        → is_member found.new.items x
+        ≡ (is_member found.old.items x || (is_variable_number tables.now x && nat_eq x symbol))) }
 {
     if tables.is_variable(symbol) {
         let place = symbol.number() as usize;
@@ -47,9 +54,15 @@ fn note<A: Allocator>(
     found: &mut Vec<Sym, A>,
 ) -> Result<(), AllocError>
     requires symbols { All (λ s. s < length (symbol_names tables.now)) symbols.now }
-    requires marks { AreMarks (length (symbol_names tables.now)) stamp seen.old.items found.old.items }
-    ensures marks { OnOk result (AreMarks (length (symbol_names tables.now)) stamp seen.new.items found.new.items) }
-    ensures found { OnOk result ((x : ℕ) → is_member found.new.items x ≡ (is_member found.old.items x || (is_variable tables.now x && is_member symbols.now x))) }
+    requires marks { AreMarks
+        (length (symbol_names tables.now)) stamp seen.old.items found.old.items }
+    ensures marks { OnOk result
+        (AreMarks (length (symbol_names tables.now)) stamp seen.new.items found.new.items) }
+    ensures found { OnOk result
+        ((x : ℕ)
+        → is_member found.new.items x
+        ≡ (is_member found.old.items x
+        || (is_variable_number tables.now x && is_member symbols.now x))) }
 {
     for symbol in symbols {
         mark(tables, *symbol, stamp, seen, found)?;
@@ -67,11 +80,18 @@ fn mandatory<A: Allocator>(
 ) -> Result<(), AllocError>
     requires few { length tables.now < 2 ^ 31 }
     requires assertion { assertion < length tables.now }
-    requires essentials { (i : ℕ) → is_member essentials.now i ≡ is_member (active_of is_essential tables.now assertion) i }
-    requires marks { AreMarks (length (symbol_names tables.now)) (assertion + 1) seen.old.items found.old.items }
+    requires essentials { (i : ℕ)
+        → is_member essentials.now i
+        ≡ is_member (active_of is_essential tables.now assertion) i }
+    requires marks { AreMarks (length (symbol_names tables.now))
+        (assertion + 1) seen.old.items found.old.items }
     requires none { length found.old.items ≡ 0 }
-    ensures marks { OnOk result (AreMarks (length (symbol_names tables.now)) (assertion + 1) seen.new.items found.new.items) }
-    ensures found { OnOk result ((x : ℕ) → is_member found.new.items x ≡ is_member (mandatory_variables tables.now assertion) x) }
+    ensures marks { OnOk result
+        (AreMarks (length (symbol_names tables.now))
+        (assertion + 1) seen.new.items found.new.items) }
+    ensures found { OnOk result
+        ((x : ℕ)
+        → is_member found.new.items x ≡ is_member (mandatory_variables tables.now assertion) x) }
 {
     note(
         tables,
@@ -103,7 +123,11 @@ fn add_floats<A: Allocator>(
     requires at { at ≤ length tables.now }
     requires typed { AreTyped tables.now at typed.now }
     requires found { All (λ s. s < length (symbol_names tables.now)) found.now }
-    ensures { OnOk result ((j : ℕ) → is_member hyps.new.items j ≡ (is_member hyps.old.items j || list_any (is_float_of tables.now at typed.now j) found.now)) }
+    ensures { OnOk result
+        ((j : ℕ)
+        → is_member hyps.new.items j
+        ≡ (is_member hyps.old.items j
+        || list_any (is_float_of tables.now at typed.now j) found.now)) }
 {
     for symbol in found {
         let floating = typed[symbol.number() as usize];
@@ -140,8 +164,12 @@ pub(crate) fn hypotheses<A: Allocator>(
     requires essentials { AreLatest is_essential tables.now essentials.now }
     requires typed { AreTyped tables.now assertion typed.now }
     requires seen { IsFresh (length (symbol_names tables.now)) assertion seen.old.items }
-    ensures marks { OnOk result (AreMarks (length (symbol_names tables.now)) (assertion + 1) seen.new.items found.new.items) }
-    ensures found { OnOk result ((x : ℕ) → is_member found.new.items x ≡ is_member (mandatory_variables tables.now assertion) x) }
+    ensures marks { OnOk result
+        (AreMarks (length (symbol_names tables.now))
+        (assertion + 1) seen.new.items found.new.items) }
+    ensures found { OnOk result
+        ((x : ℕ)
+        → is_member found.new.items x ≡ is_member (mandatory_variables tables.now assertion) x) }
     ensures hyps { OnOk result (hyps.new.items ≡ mandatory_hypotheses tables.now assertion) }
 {
     found.clear();

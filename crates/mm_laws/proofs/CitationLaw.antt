@@ -4,7 +4,12 @@ use Rattle.mm_laws.specs.Laws.{EssentialIsCited, EachLabelIsCited}
 use Rattle.mm_spec.proofs.NodesLemmas.{label_member, all_labels}
 
 pub essential_is_cited : EssentialIsCited
-essential_is_cited db t a c = (c.0, c.1, c.2, (all_labels db c.1 a).1 (label_member db true c.1 a c.3))
+essential_is_cited db t a c =
+    (c.0, c.1, c.2, (all_labels db c.1 a).1 (label_member db true c.1 a c.3))
 
 pub each_label_is_cited : EachLabelIsCited
-each_label_is_cited db t a = (λ c. (c.0, c.1, c.2, (all_labels db c.1 a).0 c.3), λ c. (c.0, c.1, c.2, (all_labels db c.1 a).1 c.3))
+each_label_is_cited db t a = (
+  λ c. (c.0, c.1, c.2, (all_labels db c.1 a).0 c.3),
+  λ c.
+      (c.0, c.1, c.2, (all_labels db c.1 a).1 c.3),
+)

@@ -1,5 +1,7 @@
 -- What a reading of words stands for: the grammar of tokens and comments.
-use Rattle.std.proofs.Common.{◌≡◌, ℕ, ◌==◌, ◌&&◌, Bool, true, false, List, [], ◌∷◌, ◌++◌, length, get_or, Option, Some, None, is_some, refl, sym, ap, subst, ◌∙◌, arith, append_assoc, append-nil, eqb-true, true≢false}
+use Rattle.std.proofs.Common.{◌≡◌, ℕ, ◌==◌, ◌&&◌, Bool, true, false, List, [], ◌∷◌, ◌++◌, length}
+use Rattle.std.proofs.Common.{get_or, Option, Some, None, is_some, refl, sym, ap, subst, ◌∙◌, arith}
+use Rattle.std.proofs.Common.{append_assoc, append-nil, eqb-true, true≢false}
 use Rattle.std.specs.List.{flat_map, AllByRecursion}
 use Rattle.std.proofs.lemmas.Bool.{and_parts}
 use Rattle.std.specs.Option.{option_map}
@@ -8,14 +10,19 @@ use Rattle.mm_spec.specs.declared.Fault.{Fault}
 use Rattle.mm_spec.specs.declared.Role.{Role}
 use Rattle.mm_spec.specs.declared.Role.TheVariants as roles
 use Rattle.mm_spec.specs.Bytes.{is_printable}
-use Rattle.mm_spec.specs.Roles.{role_of, fault_of, is_clean, is_dollar_and, is_keyword, is_mark, has_mark, is_token, opens_comment, closes_comment, is_comment_word}
-use Rattle.mm_spec.specs.Readings.{Reading, reading, with_tokens, bytes_of, go_on}
-use Rattle.mm_laws.specs.Grammar.{Item, Single, Comment, Rest, IsItem, IsRest, AreCommentWords, words_in, words_open, tokens_in, IsWellBegun, IsFaulty, IsReading}
-use Rattle.mm_spec.proofs.ReadingsLemmas.{reading-opening, reading-closing, reading-comment, reading-faulty, reading-end, reading-one, reading-append}
+use Rattle.mm_spec.specs.Roles.{role_of, fault_of, is_clean, is_dollar_and, is_keyword, is_mark}
+use Rattle.mm_spec.specs.Roles.{has_mark, is_token, opens_comment, closes_comment, is_comment_word}
+use Rattle.mm_spec.specs.Readings.{Reading, reading, with_tokens, bytes_of}
+use Rattle.mm_spec.specs.Laws.Readings.{go_on}
+use Rattle.mm_laws.specs.Grammar.{Item, Single, Comment, Rest, IsItem, IsRest, AreCommentWords}
+use Rattle.mm_laws.specs.Grammar.{words_in, words_open, tokens_in, IsWellBegun, IsFaulty, IsReading}
+use Rattle.mm_spec.proofs.ReadingsLemmas.{reading-opening, reading-closing, reading-comment}
+use Rattle.mm_spec.proofs.ReadingsLemmas.{reading-faulty, reading-end, reading-one, reading-append}
 
 -- ---- the classes of words exclude each other
 
-two : (word : List ℕ) (b : ℕ) → length word ≡ 2 → get_or word 0 0 ≡ 0x24 → get_or word 1 0 ≡ b → word ≡ 0x24 ∷ b ∷ []
+two : (word : List ℕ) (b : ℕ) → length word ≡ 2 → get_or word 0 0 ≡ 0x24 → get_or word 1 0 ≡ b
+    → word ≡ 0x24 ∷ b ∷ []
 two [] b long x y = absurd (omega arith)
 two (a ∷ []) b long x y = absurd (omega arith)
 two (a ∷ c ∷ []) b long x y = cc
@@ -26,17 +33,20 @@ unfolding is_dollar_and
 two_bytes b word h =
     let p = and_parts (length word == 2 && get_or word 0 0 == 0x24) (get_or word 1 0 == b) h in
     let q = and_parts (length word == 2) (get_or word 0 0 == 0x24) p.0 in
-    two word b (eqb-true (length word) 2 q.0) (eqb-true (get_or word 0 0) 0x24 q.1) (eqb-true (get_or word 1 0) b p.1)
+    two word b (eqb-true (length word) 2 q.0) (eqb-true (get_or word 0 0) 0x24 q.1)
+    (eqb-true (get_or word 1 0) b p.1)
 
 opening_is_no_token : (word : List ℕ) → opens_comment word ≡ true → is_token word ≡ false
 unfolding is_token is_clean is_keyword is_printable is_dollar_and
 opening_is_no_token word h = rw (two_bytes 0x28 word h) refl
 
-closing_is_no_comment_word : (word : List ℕ) → closes_comment word ≡ true → is_comment_word word ≡ false
+closing_is_no_comment_word : (word : List ℕ) → closes_comment word ≡ true
+    → is_comment_word word ≡ false
 unfolding is_comment_word is_clean has_mark is_mark is_printable
 closing_is_no_comment_word word h = rw (two_bytes 0x29 word h) refl
 
-comment_word_is_no_closing : (word : List ℕ) → is_comment_word word ≡ true → closes_comment word ≡ false
+comment_word_is_no_closing : (word : List ℕ) → is_comment_word word ≡ true
+    → closes_comment word ≡ false
 comment_word_is_no_closing word h = by (closes_comment word) refl
   where
     by : (b : Bool) → closes_comment word ≡ b → closes_comment word ≡ false
@@ -91,14 +101,20 @@ inside word = by (closes_comment word) (is_comment_word word) refl refl
 
 -- ---- a well-begun row is read as its tokens and its open comment
 
-reading-comment_words : (text : List ℕ) (p : ℕ) (ws us : List Word) → AreCommentWords text ws → reading text (Some p) (ws ++ us) ≡ reading text (Some p) us
+reading-comment_words : (text : List ℕ) (p : ℕ) (ws us : List Word) → AreCommentWords text ws
+    → reading text (Some p) (ws ++ us) ≡ reading text (Some p) us
 reading-comment_words text p [] us all = refl
-reading-comment_words text p (w ∷ ws) us (h, all) = reading-comment text (Some p) w (ws ++ us) (role-comment _ h) ∙ reading-comment_words text p ws us all
+reading-comment_words text p (w ∷ ws) us (h, all) =
+    reading-comment text (Some p) w (ws ++ us) (role-comment _ h)
+    ∙ reading-comment_words text p ws us all
 
 reading-items : (text : List ℕ) (items : List Item) → AllByRecursion (IsItem text) items →
-    reading text None (flat_map words_in items) ≡ record { tokens = flat_map tokens_in items; fault = None; comment = None }
+    reading text None (flat_map words_in items)
+    ≡ record { tokens = flat_map tokens_in items; fault = None; comment = None }
 reading-items text [] all = reading-end text None
-reading-items text (Single w ∷ items) (h, all) = reading-one text None w _ (role-token _ h) ∙ ap (with_tokens (w ∷ [])) (reading-items text items all)
+reading-items text (Single w ∷ items) (h, all) =
+    reading-one text None w _ (role-token _ h)
+    ∙ ap (with_tokens (w ∷ [])) (reading-items text items all)
 reading-items text (Comment o ws c ∷ items) (h, all) =
     reading-opening text None o _ (role-opening _ h.0)
     ∙ ap (reading text (Some o.start)) (append_assoc ws (c ∷ []) (flat_map words_in items))
@@ -106,7 +122,9 @@ reading-items text (Comment o ws c ∷ items) (h, all) =
     ∙ reading-closing text (Some o.start) c _ (role-closing _ h.2)
     ∙ reading-items text items all
 
-reading-rest : (text : List ℕ) (rest : Rest) → IsRest text rest → reading text None (words_open rest) ≡ record { tokens = []; fault = None; comment = option_map (λ p. p.0.start) rest }
+reading-rest : (text : List ℕ) (rest : Rest) → IsRest text rest
+    → reading text None (words_open rest)
+    ≡ record { tokens = []; fault = None; comment = option_map (λ p. p.0.start) rest }
 reading-rest text None all = reading-end text None
 reading-rest text (Some (o, ws)) all =
     reading-opening text None o ws (role-opening _ all.0)
@@ -114,27 +132,35 @@ reading-rest text (Some (o, ws)) all =
     ∙ reading-comment_words text o.start ws [] all.1
     ∙ reading-end text (Some o.start)
 
-pub IsWellBegun-reading : (text : List ℕ) (ws ts : List Word) (c : Option ℕ) → IsWellBegun text ws ts c → reading text None ws ≡ record { tokens = ts; fault = None; comment = c }
+pub IsWellBegun-reading : (text : List ℕ) (ws ts : List Word) (c : Option ℕ)
+    → IsWellBegun text ws ts c
+    → reading text None ws ≡ record { tokens = ts; fault = None; comment = c }
 IsWellBegun-reading text ws ts c begun =
     ap (reading text None) begun.words
     ∙ reading-append text None (flat_map words_in begun.items) (words_open begun.rest)
-    ∙ ap (λ (r : Reading). go_on text r (words_open begun.rest)) (reading-items text begun.items begun.are_items)
+    ∙ ap (λ (r : Reading). go_on text r (words_open begun.rest))
+    (reading-items text begun.items begun.are_items)
     ∙ ap (with_tokens (flat_map tokens_in begun.items)) (reading-rest text begun.rest begun.is_rest)
     ∙ rw (append-nil, begun.same_tokens, begun.same_comment) refl
 
 -- ---- a reading without a fault is of a well-begun row
 
-AreCommentWords-push : (text : List ℕ) (ws : List Word) (w : Word) → AreCommentWords text ws → is_comment_word (bytes_of text w) ≡ true → AreCommentWords text (ws ++ w ∷ [])
+AreCommentWords-push : (text : List ℕ) (ws : List Word) (w : Word) → AreCommentWords text ws
+    → is_comment_word (bytes_of text w) ≡ true → AreCommentWords text (ws ++ w ∷ [])
 AreCommentWords-push text [] w all h = (h, tt)
 AreCommentWords-push text (v ∷ ws) w (first, all) h = (first, AreCommentWords-push text ws w all h)
 
-IsWellBegun-cons : (text : List ℕ) (item : Item) (ws ts : List Word) (c : Option ℕ) → IsItem text item → IsWellBegun text ws ts c → IsWellBegun text (words_in item ++ ws) (tokens_in item ++ ts) c
+IsWellBegun-cons : (text : List ℕ) (item : Item) (ws ts : List Word) (c : Option ℕ)
+    → IsItem text item → IsWellBegun text ws ts c
+    → IsWellBegun text (words_in item ++ ws) (tokens_in item ++ ts) c
 IsWellBegun-cons text item ws ts c is begun = record {
   items = item ∷ begun.items;
   rest = begun.rest;
   are_items = (is, begun.are_items);
   is_rest = begun.is_rest;
-  words = ap (λ (us : List Word). words_in item ++ us) begun.words ∙ sym (append_assoc (words_in item) (flat_map words_in begun.items) (words_open begun.rest));
+  words =
+      ap (λ (us : List Word). words_in item ++ us) begun.words
+      ∙ sym (append_assoc (words_in item) (flat_map words_in begun.items) (words_open begun.rest));
   same_tokens = ap (λ (us : List Word). tokens_in item ++ us) begun.same_tokens;
   same_comment = begun.same_comment;
 }
@@ -145,38 +171,73 @@ Begun text ws r = r.fault ≡ None → IsWellBegun text ws r.tokens r.comment
 -- outside a comment; and inside one that these words opened
 record Both (text : List ℕ) (ws : List Word) : Type 0 where
   out : Begun text ws (reading text None ws)
-  within : (o : Word) (us : List Word) → opens_comment (bytes_of text o) ≡ true → AreCommentWords text us → Begun text (o ∷ (us ++ ws)) (reading text (Some o.start) ws)
+  within : (o : Word) (us : List Word) → opens_comment (bytes_of text o) ≡ true
+      → AreCommentWords text us → Begun text (o ∷ (us ++ ws)) (reading text (Some o.start) ws)
 
 both : (text : List ℕ) (ws : List Word) → Both text ws
 both text [] = record {
   out = subst (Begun text []) (sym (reading-end text None))
-      (λ _. record { items = []; rest = None; are_items = tt; is_rest = tt; words = refl; same_tokens = refl; same_comment = refl });
+      (λ _. record {
+        items = [];
+        rest = None;
+        are_items = tt;
+        is_rest = tt;
+        words = refl;
+        same_tokens = refl;
+        same_comment = refl;
+      });
   within = λ o us h all. subst (Begun text (o ∷ (us ++ []))) (sym (reading-end text (Some o.start)))
-      (λ _. record { items = []; rest = Some (o, us); are_items = tt; is_rest = (h, all); words = ap (λ (vs : List Word). o ∷ vs) (append-nil us); same_tokens = refl; same_comment = refl });
+      (λ _. record {
+        items = [];
+        rest = Some (o, us);
+        are_items = tt;
+        is_rest = (h, all);
+        words = ap (λ (vs : List Word). o ∷ vs)
+            (append-nil us);
+        same_tokens = refl;
+        same_comment = refl;
+      });
 }
 both text (w ∷ ws) = record {
   out = by_out (outside (bytes_of text w)) (both text ws);
   within = λ o us h all. by_within o us h all (inside (bytes_of text w)) (both text ws);
 }
   where
-    by_out : Outside (bytes_of text w) → Both text ws → Begun text (w ∷ ws) (reading text None (w ∷ ws))
-    by_out (token h role) ih = subst (Begun text (w ∷ ws)) (sym (reading-one text None w ws role)) (λ e. IsWellBegun-cons text (Single w) ws _ _ h (ih.out e))
-    by_out (opening h role) ih = subst (Begun text (w ∷ ws)) (sym (reading-opening text None w ws role)) (ih.within w [] h tt)
-    by_out (Outside.neither role) ih = subst (Begun text (w ∷ ws)) (sym (reading-faulty text None w ws role)) (λ e. absurd cc)
+    by_out : Outside (bytes_of text w) → Both text ws
+        → Begun text (w ∷ ws) (reading text None (w ∷ ws))
+    by_out (token h role) ih =
+        subst (Begun text (w ∷ ws)) (sym (reading-one text None w ws role))
+        (λ e. IsWellBegun-cons text (Single w) ws _ _ h (ih.out e))
+    by_out (opening h role) ih =
+        subst (Begun text (w ∷ ws)) (sym (reading-opening text None w ws role))
+        (ih.within w [] h tt)
+    by_out (Outside.neither role) ih =
+        subst (Begun text (w ∷ ws)) (sym (reading-faulty text None w ws role)) (λ e. absurd cc)
 
-    by_within : (o : Word) (us : List Word) → opens_comment (bytes_of text o) ≡ true → AreCommentWords text us → Inside (bytes_of text w) → Both text ws →
+    by_within : (o : Word) (us : List Word) → opens_comment (bytes_of text o) ≡ true
+        → AreCommentWords text us → Inside (bytes_of text w) → Both text ws →
         Begun text (o ∷ (us ++ w ∷ ws)) (reading text (Some o.start) (w ∷ ws))
-    by_within o us h all (closing end role) ih = subst (Begun text (o ∷ (us ++ w ∷ ws))) (sym (reading-closing text (Some o.start) w ws role))
-        (λ e. subst (λ (vs : List Word). IsWellBegun text (o ∷ vs) (reading text None ws).tokens (reading text None ws).comment) (append_assoc us (w ∷ []) ws)
+    by_within o us h all (closing end role) ih =
+        subst (Begun text (o ∷ (us ++ w ∷ ws)))
+        (sym (reading-closing text (Some o.start) w ws role))
+        (λ e. subst
+        (λ (vs : List Word). IsWellBegun text (o ∷ vs) (reading text None ws).tokens
+        (reading text None ws).comment) (append_assoc us (w ∷ []) ws)
         (IsWellBegun-cons text (Comment o us w) ws _ _ (h, all, end) (ih.out e)))
-    by_within o us h all (comment in_it role) ih = subst (Begun text (o ∷ (us ++ w ∷ ws))) (sym (reading-comment text (Some o.start) w ws role))
-        (subst (λ (vs : List Word). Begun text (o ∷ vs) (reading text (Some o.start) ws)) (append_assoc us (w ∷ []) ws)
+    by_within o us h all (comment in_it role) ih =
+        subst (Begun text (o ∷ (us ++ w ∷ ws)))
+        (sym (reading-comment text (Some o.start) w ws role))
+        (subst (λ (vs : List Word). Begun text (o ∷ vs) (reading text (Some o.start) ws))
+        (append_assoc us (w ∷ []) ws)
         (ih.within o (us ++ w ∷ []) h (AreCommentWords-push text us w all in_it)))
-    by_within o us h all (Inside.neither role) ih = subst (Begun text (o ∷ (us ++ w ∷ ws))) (sym (reading-faulty text (Some o.start) w ws role)) (λ e. absurd cc)
+    by_within o us h all (Inside.neither role) ih =
+        subst (Begun text (o ∷ (us ++ w ∷ ws))) (sym (reading-faulty text (Some o.start) w ws role))
+        (λ e. absurd cc)
 
 -- ---- a fault is that of the first faulty word
 
-record Split (text : List ℕ) (c : Option ℕ) (ws : List Word) (f : Fault) (r : Reading) : Type 0 where
+record Split (text : List ℕ) (c : Option ℕ) (ws : List Word) (f : Fault)
+    (r : Reading) : Type 0 where
   before : List Word
   w : Word
   behind : List Word
@@ -189,8 +250,10 @@ abbrev SplitIf : List ℕ → Option ℕ → List Word → Fault → Reading →
 SplitIf text c ws f r = r.fault ≡ Some f → Split text c ws f r
 
 -- one word further in front, which leads from the comment c to d
-split-cons : (text : List ℕ) (c d : Option ℕ) (x : Word) (xs : List Word) (f : Fault) (r : Reading) →
-    ((us : List Word) → reading text c (x ∷ us) ≡ reading text d us) → Split text d xs f r → Split text c (x ∷ xs) f r
+split-cons : (text : List ℕ) (c d : Option ℕ) (x : Word) (xs : List Word) (f : Fault) (r : Reading)
+    →
+    ((us : List Word) → reading text c (x ∷ us) ≡ reading text d us) → Split text d xs f r
+    → Split text c (x ∷ xs) f r
 split-cons text c d x xs f r step s = record {
   before = x ∷ s.before;
   w = s.w;
@@ -201,11 +264,15 @@ split-cons text c d x xs f r step s = record {
   same = s.same;
 }
 
-split_at : (text : List ℕ) (c : Option ℕ) (ws : List Word) (f : Fault) → SplitIf text c ws f (reading text c ws)
+split_at : (text : List ℕ) (c : Option ℕ) (ws : List Word) (f : Fault)
+    → SplitIf text c ws f (reading text c ws)
 split_at text c [] f = subst (SplitIf text c [] f) (sym (reading-end text c)) (λ e. absurd cc)
-split_at text c (x ∷ xs) f = by (role_of (is_some c) (bytes_of text x)) refl (λ d. split_at text d xs f)
+split_at text c (x ∷ xs) f =
+    by (role_of (is_some c) (bytes_of text x)) refl (λ d. split_at text d xs f)
   where
-    by : (r : Role) → role_of (is_some c) (bytes_of text x) ≡ r → ((d : Option ℕ) → SplitIf text d xs f (reading text d xs)) → SplitIf text c (x ∷ xs) f (reading text c (x ∷ xs))
+    by : (r : Role) → role_of (is_some c) (bytes_of text x) ≡ r
+        → ((d : Option ℕ) → SplitIf text d xs f (reading text d xs))
+        → SplitIf text c (x ∷ xs) f (reading text c (x ∷ xs))
     by roles.Token h ih = subst (SplitIf text c (x ∷ xs) f) (sym (reading-one text c x xs h)) (λ e.
         let s = ih c e in record {
           before = x ∷ s.before;
@@ -216,14 +283,31 @@ split_at text c (x ∷ xs) f = by (role_of (is_some c) (bytes_of text x)) refl (
           role = s.role;
           same = s.same;
         })
-    by roles.Opening h ih = subst (SplitIf text c (x ∷ xs) f) (sym (reading-opening text c x xs h)) (λ e. split-cons text c (Some x.start) x xs f _ (λ us. reading-opening text c x us h) (ih (Some x.start) e))
-    by roles.Closing h ih = subst (SplitIf text c (x ∷ xs) f) (sym (reading-closing text c x xs h)) (λ e. split-cons text c None x xs f _ (λ us. reading-closing text c x us h) (ih None e))
-    by roles.Comment h ih = subst (SplitIf text c (x ∷ xs) f) (sym (reading-comment text c x xs h)) (λ e. split-cons text c c x xs f _ (λ us. reading-comment text c x us h) (ih c e))
-    by roles.Faulty h ih = subst (SplitIf text c (x ∷ xs) f) (sym (reading-faulty text c x xs h)) (λ e.
-        record { before = []; w = x; behind = xs; split = refl; begun = reading-end text c; role = h; same = cc })
+    by roles.Opening h ih =
+        subst (SplitIf text c (x ∷ xs) f) (sym (reading-opening text c x xs h))
+        (λ e. split-cons text c (Some x.start) x xs f _ (λ us. reading-opening text c x us h)
+        (ih (Some x.start) e))
+    by roles.Closing h ih =
+        subst (SplitIf text c (x ∷ xs) f) (sym (reading-closing text c x xs h))
+        (λ e. split-cons text c None x xs f _ (λ us. reading-closing text c x us h) (ih None e))
+    by roles.Comment h ih =
+        subst (SplitIf text c (x ∷ xs) f) (sym (reading-comment text c x xs h))
+        (λ e. split-cons text c c x xs f _ (λ us. reading-comment text c x us h) (ih c e))
+    by roles.Faulty h ih =
+        subst (SplitIf text c (x ∷ xs) f) (sym (reading-faulty text c x xs h)) (λ e.
+        record {
+          before = [];
+          w = x;
+          behind = xs;
+          split = refl;
+          begun = reading-end text c;
+          role = h;
+          same = cc;
+        })
 
 faulty_word : (text : List ℕ) (ws : List Word) (f : Fault) (r : Reading) → Split text None ws f r →
-    (w : Word) × IsFaulty text ws w r.tokens r.comment × (f ≡ fault_of (is_some r.comment) w.start (bytes_of text w))
+    (w : Word) × IsFaulty text ws w r.tokens r.comment
+    × (f ≡ fault_of (is_some r.comment) w.start (bytes_of text w))
 faulty_word text ws f r s = (
   s.w,
   record {
@@ -232,10 +316,17 @@ faulty_word text ws f r s = (
     split = s.split;
     begun = subst (Begun text s.before) s.begun ((both text s.before).out) refl;
     faulty = λ ts c begun.
-        let whole : reading text None (s.before ++ s.w ∷ []) ≡ record { tokens = ts; fault = None; comment = c } = IsWellBegun-reading text _ ts c begun in
-        let on : reading text None (s.before ++ s.w ∷ []) ≡ with_tokens r.tokens (reading text r.comment (s.w ∷ [])) =
-        reading-append text None s.before (s.w ∷ []) ∙ ap (λ (q : Reading). go_on text q (s.w ∷ [])) s.begun in
-        let fault = ap (λ (q : Reading). q.fault) (sym whole ∙ on ∙ ap (with_tokens r.tokens) (reading-faulty text r.comment s.w [] s.role)) in
+        let whole : reading text None (s.before ++ s.w ∷ [])
+        ≡ record { tokens = ts; fault = None; comment = c } = IsWellBegun-reading text _ ts c
+        begun in
+        let on : reading text None (s.before ++ s.w ∷ [])
+        ≡ with_tokens r.tokens (reading text r.comment (s.w ∷ [])) =
+        reading-append text None s.before (s.w ∷ [])
+        ∙ ap (λ (q : Reading). go_on text q (s.w ∷ [])) s.begun in
+        let fault =
+        ap (λ (q : Reading). q.fault)
+        (sym whole ∙ on
+        ∙ ap (with_tokens r.tokens) (reading-faulty text r.comment s.w [] s.role)) in
         cc fault;
   },
   s.same,

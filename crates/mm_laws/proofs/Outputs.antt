@@ -1,5 +1,6 @@
 -- What is written for two small texts, a faulty one and a sound one.
-use Rattle.std.proofs.Common.{◌≡◌, ℕ, zero, suc, ◌<◌, false, List, [], ◌∷◌, flat_map, Some, None, codes, refl, sym, inl, inr, true≢false, arith}
+use Rattle.std.proofs.Common.{◌≡◌, ℕ, zero, suc, ◌<◌, false, List, [], ◌∷◌, flat_map, Some, None}
+use Rattle.std.proofs.Common.{codes, refl, sym, inl, inr, true≢false, arith}
 use Rattle.std.specs.Fmt.{digits}
 use Rattle.mm_spec.specs.Text.{token, fault}
 use Rattle.mm_spec.specs.Statement.{Statement, constants, axiomatic, opening, closing}
@@ -50,7 +51,12 @@ front_read = record {
 
 refused : IsOutput faulty whole (line (codes "refused 1:12 E11"))
 unfolding digits
-refused = inl (fault 11 ConstantInBlock, (front, Some (fault 11 ConstantInBlock), front_read, inr (front_valid, refl)), refl)
+refused =
+    inl (
+      fault 11 ConstantInBlock,
+      (front, Some (fault 11 ConstantInBlock), front_read, inr (front_valid, refl)),
+      refl,
+    )
 
 -- ---- a text without faults
 
@@ -58,7 +64,9 @@ abbrev sound : List ℕ
 sound = codes "$c a $. ax $a a $."
 
 abbrev db : List Statement
-db = constants 0 (token 3 (codes "a") ∷ []) 5 ∷ axiomatic (token 8 (codes "ax")) 11 (token 14 (codes "a") ∷ []) 16 ∷ []
+db =
+    constants 0 (token 3 (codes "a") ∷ []) 5
+    ∷ axiomatic (token 8 (codes "ax")) 11 (token 14 (codes "a") ∷ []) 16 ∷ []
 
 db_lawful : (k : ℕ) → k < 2 → scope_fault db k ≡ None
 db_lawful zero h = refl
@@ -81,6 +89,9 @@ db_read = record {
   stops = no_text_fault 18 (lexed_of sound) refl;
 }
 
-reported : IsOutput sound whole (flat_map line (codes "mmdepend 1" ∷ codes "axioms 1" ∷ codes "theorems 0" ∷ codes "matrix" ∷ codes "counts" ∷ codes "usage" ∷ codes "ax:0:" ∷ codes "end" ∷ []))
+reported : IsOutput sound whole
+    (flat_map line
+    (codes "mmdepend 1" ∷ codes "axioms 1" ∷ codes "theorems 0" ∷ codes "matrix" ∷ codes "counts"
+    ∷ codes "usage" ∷ codes "ax:0:" ∷ codes "end" ∷ []))
 unfolding digits
 reported = inr (db, (db_read, db_valid), ([], tt, refl))

@@ -1,13 +1,15 @@
 -- A theorem of what was read is valid or faulty, and has one proof and one fault at most.
-use Rattle.std.proofs.Common.{◌≡◌, ℕ, Bool, true, false, List, [], ◌∷◌, Option, Some, None, ◌⊎◌, inl, inr, refl, ap, ◌∙◌}
+use Rattle.std.proofs.Common.{◌≡◌, ℕ, Bool, true, false, List, [], ◌∷◌, Option, Some, None, ◌⊎◌}
+use Rattle.std.proofs.Common.{inl, inr, refl, ap, ◌∙◌}
 use Rattle.mm_spec.specs.declared.Fault.{Fault}
 use Rattle.mm_spec.specs.Statement.{Statement}
 use Rattle.mm_spec.specs.Lawful.{least, lesser, is_before}
 use Rattle.mm_spec.specs.Frame.{formula_at}
 use Rattle.mm_spec.specs.Citation.{context_at, steps_at, reading_faults_at, IsValid}
-use Rattle.mm_spec.specs.Complete.{AreComplete}
+use Rattle.mm_spec.specs.Laws.Complete.{AreComplete}
 use Rattle.mm_spec.specs.Output.{ProofFault}
-use Rattle.mm_laws.specs.Laws.{WhereRead, LabelsDetermine, ProofIsUnique, IsValidOrFaulty, IsNeverBoth, FaultIsUnique}
+use Rattle.mm_laws.specs.Laws.{WhereRead, LabelsDetermine, ProofIsUnique, IsValidOrFaulty}
+use Rattle.mm_laws.specs.Laws.{IsNeverBoth, FaultIsUnique}
 use Rattle.mm_spec.proofs.Checked.{same_row}
 use Rattle.mm_spec.proofs.Cited.{proof_unique}
 use Rattle.mm_spec.proofs.CompleteLaw.{reads_complete}
@@ -19,7 +21,8 @@ use Rattle.mm_laws.proofs.OneOutput.{proof_fault_unique, valid_no_fault}
 least_some : (f : Fault) (fs : List Fault) → (g : Fault) × (least (f ∷ fs) ≡ Some g)
 least_some f fs = by (least fs)
   where
-    two : (g : Fault) (b : Bool) → (h : Fault) × ◌≡◌ {A = Option Fault} (elim b [ true ↦ Some f | false ↦ Some g ]) (Some h)
+    two : (g : Fault) (b : Bool)
+        → (h : Fault) × ◌≡◌ {A = Option Fault} (elim b [ true ↦ Some f | false ↦ Some g ]) (Some h)
     two g true = (f, refl)
     two g false = (g, refl)
 
@@ -31,13 +34,18 @@ module _ (db : List Statement) (fine : AreComplete db) (k : ℕ) where
   pub valid_or_faulty : (end : ℕ) → IsValid db k ⊎ ((f : Fault) × ProofFault db k end f)
   valid_or_faulty end = by (reading_faults_at db k) refl
     where
-      of : reading_faults_at db k ≡ [] → Judged (context_at db k) (fine k) (steps_at db k) (formula_at db k) end → IsValid db k ⊎ ((f : Fault) × ProofFault db k end f)
+      of : reading_faults_at db k ≡ []
+          → Judged (context_at db k) (fine k) (steps_at db k) (formula_at db k) end
+          → IsValid db k ⊎ ((f : Fault) × ProofFault db k end f)
       of e (valid d h) = inl (e, d, h)
       of e (step_fault f h) = inr (f, inr (e, inl h))
       of e (end_fault f h) = inr (f, inr (e, inr h))
 
-      by : (fs : List Fault) → reading_faults_at db k ≡ fs → IsValid db k ⊎ ((f : Fault) × ProofFault db k end f)
-      by [] e = of e (judged (context_at db k) (fine k) (steps_at db k) (formula_at db k) end (good_steps db k (fine k) e))
+      by : (fs : List Fault) → reading_faults_at db k ≡ fs
+          → IsValid db k ⊎ ((f : Fault) × ProofFault db k end f)
+      by [] e =
+          of e (judged (context_at db k) (fine k) (steps_at db k) (formula_at db k) end
+          (good_steps db k (fine k) e))
       by (f ∷ fs) e = let g = least_some f fs in inr (g.0, inl (ap least e ∙ g.1))
 
 pub labels_determine : WhereRead LabelsDetermine

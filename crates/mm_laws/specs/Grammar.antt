@@ -1,4 +1,5 @@
--- Rows of tokens and comments, as a grammar: what a reading of words stands for (Metamath book, sections 4.1.1 and 4.1.2).
+-- Rows of tokens and comments, as a grammar: what a reading of words stands for (Metamath book,
+-- sections 4.1.1 and 4.1.2).
 use Rattle.std.specs.Prelude.{◌≡◌, ℕ, List, [], ◌∷◌, ◌++◌, Option, Some, None, IsTrue, ⊤, is_some}
 use Rattle.std.specs.List.{flat_map, AllByRecursion}
 use Rattle.std.specs.Option.{option_map}
@@ -21,7 +22,9 @@ AreCommentWords text ws = AllByRecursion (λ w. IsTrue (is_comment_word (bytes_o
 
 abbrev pub IsItem : List ℕ → Item → Type 0
 IsItem text (Single w) = IsTrue (is_token (bytes_of text w))
-IsItem text (Comment o ws c) = IsTrue (opens_comment (bytes_of text o)) × AreCommentWords text ws × IsTrue (closes_comment (bytes_of text c))
+IsItem text (Comment o ws c) =
+    IsTrue (opens_comment (bytes_of text o)) × AreCommentWords text ws
+    × IsTrue (closes_comment (bytes_of text c))
 
 abbrev pub IsRest : List ℕ → Rest → Type 0
 IsRest text None = ⊤
@@ -39,9 +42,10 @@ abbrev pub tokens_in : Item → List Word
 tokens_in (Single w) = w ∷ []
 tokens_in (Comment o ws c) = []
 
--- The words are a row of tokens and comments, at whose end a comment may be open; these are the tokens, and
--- there that comment begins.
-pub record IsWellBegun (text : List ℕ) (ws : List Word) (tokens : List Word) (comment : Option ℕ) : Type 0 where
+-- The words are a row of tokens and comments, at whose end a comment may be open; these are the
+-- tokens, and there that comment begins.
+pub record IsWellBegun (text : List ℕ) (ws : List Word) (tokens : List Word)
+    (comment : Option ℕ) : Type 0 where
   pub items : List Item
   pub rest : Rest
   pub are_items : AllByRecursion (IsItem text) items
@@ -50,9 +54,10 @@ pub record IsWellBegun (text : List ℕ) (ws : List Word) (tokens : List Word) (
   pub same_tokens : tokens ≡ flat_map tokens_in items
   pub same_comment : comment ≡ option_map (λ p. p.0.start) rest
 
--- w is the first word such that the words up to it aren't well begun: those before it are, with these tokens and that
--- open comment, and with it they aren't.
-pub record IsFaulty (text : List ℕ) (ws : List Word) (w : Word) (tokens : List Word) (comment : Option ℕ) : Type 0 where
+-- w is the first word such that the words up to it aren't well begun: those before it are, with
+-- these tokens and that open comment, and with it they aren't.
+pub record IsFaulty (text : List ℕ) (ws : List Word) (w : Word) (tokens : List Word)
+    (comment : Option ℕ) : Type 0 where
   pub before : List Word
   pub behind : List Word
   pub split : ws ≡ before ++ w ∷ behind
@@ -63,6 +68,9 @@ pub record IsFaulty (text : List ℕ) (ws : List Word) (w : Word) (tokens : List
 pub record IsReading (text : List ℕ) (ws : List Word) (r : Reading) : Type 0 where
   -- without a fault the words are well begun, and in one way
   pub whole : r.fault ≡ None → IsWellBegun text ws r.tokens r.comment
-  pub only : (ts : List Word) (c : Option ℕ) → IsWellBegun text ws ts c → r ≡ record { tokens = ts; fault = None; comment = c }
+  pub only : (ts : List Word) (c : Option ℕ) → IsWellBegun text ws ts c
+      → r ≡ record { tokens = ts; fault = None; comment = c }
   -- a fault is that of the first faulty word, and the tokens are those before it
-  pub faulty : (f : Fault) → r.fault ≡ Some f → (w : Word) × IsFaulty text ws w r.tokens r.comment × (f ≡ fault_of (is_some r.comment) w.start (bytes_of text w))
+  pub faulty : (f : Fault) → r.fault ≡ Some f
+      → (w : Word) × IsFaulty text ws w r.tokens r.comment
+      × (f ≡ fault_of (is_some r.comment) w.start (bytes_of text w))

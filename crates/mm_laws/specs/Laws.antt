@@ -1,5 +1,6 @@
 -- The statements of laws over the definitions (this project's own).
-use Rattle.std.specs.Prelude.{◌≡◌, ◌≢◌, ◌↔◌, ◌≤◌, ℕ, Bool, true, false, List, [], ◌∷◌, map, Option, ◌⊎◌, Decides, IsTrue, slice_get, codes}
+use Rattle.std.specs.Prelude.{◌≡◌, ◌≢◌, ◌↔◌, ◌≤◌, ℕ, Bool, true, false, List, [], ◌∷◌, map, Option}
+use Rattle.std.specs.Prelude.{◌⊎◌, Decides, IsTrue, slice_get, codes}
 use Rattle.std.specs.List.{AllZip, AllByRecursion, list_any}
 use Rattle.mm_spec.specs.Text.{Token}
 use Rattle.mm_spec.specs.declared.Fault.{Fault}
@@ -10,18 +11,25 @@ use Rattle.mm_spec.specs.Derivation.{Trees, AreDerivations, postfix, is_member}
 use Rattle.mm_spec.specs.Frame.{mandatory_hypotheses}
 use Rattle.mm_spec.specs.Steps.{Step, label}
 use Rattle.mm_spec.specs.Proof.{steps, reading_faults}
-use Rattle.mm_laws.specs.Spelling.{Item, IsNumber, IsCompressed, letters_in, Spells, IsUsable, IsWellSpelled, AreSteps}
-use Rattle.mm_spec.specs.Citation.{context_at, is_assertion, IsProof, IsValid, Cites, RestsOn, IsWave}
+use Rattle.mm_laws.specs.Spelling.{Item, IsNumber, IsCompressed, letters_in, Spells, IsUsable}
+use Rattle.mm_laws.specs.Spelling.{IsWellSpelled, AreSteps}
+use Rattle.mm_spec.specs.Citation.{context_at, is_assertion, IsProof, IsValid, Cites, RestsOn}
+use Rattle.mm_spec.specs.Laws.Waves.{IsWave}
 use Rattle.mm_spec.specs.Request.{Request}
-use Rattle.mm_spec.specs.Output.{Lexed, IsRead, ProofFault, end_of, is_theorem_at, FirstFault, HasNoFault, IsOutput}
+use Rattle.mm_spec.specs.Output.{LexedText, IsRead, ProofFault, end_of, is_theorem_at, FirstFault}
+use Rattle.mm_spec.specs.Output.{HasNoFault, IsOutput}
 
 -- what holds at each place of the statements that are read of any text
 abbrev pub WhereRead : (List Statement → ℕ → Type 0) → Type 0
-WhereRead P = (len : ℕ) (x : Lexed) (db : List Statement) (fault : Option Fault) → IsRead len x db fault → (k : ℕ) → P db k
+WhereRead P =
+    (len : ℕ) (x : LexedText) (db : List Statement) (fault : Option Fault) → IsRead len x db fault
+    → (k : ℕ) → P db k
 
 -- the same labels, the same row of derivations
 abbrev pub LabelsDetermine : List Statement → ℕ → Type 0
-LabelsDetermine db k = (r s : Trees) → AreDerivations (context_at db k) r → AreDerivations (context_at db k) s → postfix r ≡ postfix s → r ≡ s
+LabelsDetermine db k =
+    (r s : Trees) → AreDerivations (context_at db k) r → AreDerivations (context_at db k) s
+    → postfix r ≡ postfix s → r ≡ s
 
 -- a theorem has one derivation at most
 abbrev pub ProofIsUnique : List Statement → ℕ → Type 0
@@ -42,23 +50,29 @@ FaultIsUnique db k = (f g : Fault) → IsFaultOf db k f → IsFaultOf db k g →
 
 -- what is written for a text is one
 abbrev pub OutputIsUnique : Type 0
-OutputIsUnique = (text : List ℕ) (request : Request) (a b : List ℕ) → IsOutput text request a → IsOutput text request b → a ≡ b
+OutputIsUnique =
+    (text : List ℕ) (request : Request) (a b : List ℕ) → IsOutput text request a
+    → IsOutput text request b → a ≡ b
 
 -- reading gives something
-abbrev pub IsReadable : ℕ → Lexed → Type 0
+abbrev pub IsReadable : ℕ → LexedText → Type 0
 IsReadable len x = (db : List Statement) × (fault : Option Fault) × IsRead len x db fault
 
 -- there is a first fault, or none at all
-abbrev pub IsSoundOrFaulty : ℕ → Lexed → (with_open : Bool) → Type 0
-IsSoundOrFaulty len x with_open = ((f : Fault) × FirstFault len x with_open f) ⊎ ((db : List Statement) × HasNoFault len x with_open db)
+abbrev pub IsSoundOrFaulty : ℕ → LexedText → (with_open : Bool) → Type 0
+IsSoundOrFaulty len x with_open =
+    ((f : Fault) × FirstFault len x with_open f)
+    ⊎ ((db : List Statement) × HasNoFault len x with_open db)
 
 -- one of the two truth values tells whether it holds
 abbrev pub IsDecided : Type 0 → Type 0
 IsDecided P = (mark : Bool) × Decides mark P
 
 -- where there is no fault, each cell is marked or not
-abbrev pub AreDecided : ℕ → Lexed → (with_open : Bool) → Type 0
-AreDecided len x with_open = (db : List Statement) → HasNoFault len x with_open db → (by_essential : Bool) (t a : ℕ) → IsDecided (RestsOn (counted with_open db) by_essential t a)
+abbrev pub AreDecided : ℕ → LexedText → (with_open : Bool) → Type 0
+AreDecided len x with_open =
+    (db : List Statement) → HasNoFault len x with_open db → (by_essential : Bool) (t a : ℕ)
+    → IsDecided (RestsOn (counted with_open db) by_essential t a)
 
 -- something is written for each text
 abbrev pub OutputExists : Type 0
@@ -66,11 +80,15 @@ OutputExists = (text : List ℕ) (request : Request) → (bytes : List ℕ) × I
 
 -- the words of a compressed proof part in one way
 abbrev pub PartsAreUnique : Type 0
-PartsAreUnique = (ts labels letters others more : List Token) → IsCompressed ts labels letters → IsCompressed ts others more → (labels ≡ others) × (letters ≡ more)
+PartsAreUnique =
+    (ts labels letters others more : List Token) → IsCompressed ts labels letters
+    → IsCompressed ts others more → (labels ≡ others) × (letters ≡ more)
 
 -- letters spell one row of items at most
 abbrev pub SpellingIsUnique : Type 0
-SpellingIsUnique = (letters : List ℕ) (items others : List Item) → Spells letters items → Spells letters others → items ≡ others
+SpellingIsUnique =
+    (letters : List ℕ) (items others : List Item) → Spells letters items → Spells letters others
+    → items ≡ others
 
 -- the letters of a proof spell some items
 pub record IsSpelledOut (ts : List Token) : Type 0 where
@@ -83,7 +101,9 @@ pub record IsSpelledOut (ts : List Token) : Type 0 where
 
 -- where reading finds no fault in a proof that begins with `(`, its letters spell some items
 abbrev pub ProofsAreSpelled : Type 0
-ProofsAreSpelled = (db : List Statement) (k end : ℕ) (t : Token) (ts : List Token) → t.word ≡ codes "(" → reading_faults db k end (t ∷ ts) ≡ [] → IsSpelledOut (t ∷ ts)
+ProofsAreSpelled =
+    (db : List Statement) (k end : ℕ) (t : Token) (ts : List Token) → t.word ≡ codes "("
+    → reading_faults db k end (t ∷ ts) ≡ [] → IsSpelledOut (t ∷ ts)
 
 -- the steps of a proof without their places
 abbrev pub bare_steps : List Statement → ℕ → List Token → List Step
@@ -91,22 +111,32 @@ bare_steps db k ts = map (λ s. s.step) (steps db k ts)
 
 -- the steps of a compressed proof are what the items say that its letters spell
 abbrev pub StepsAreNamed : List Statement → ℕ → Type 0
-StepsAreNamed db k = (end : ℕ) (ts labels letters : List Token) (items : List Item) → reading_faults db k end ts ≡ [] → IsCompressed ts labels letters → Spells (letters_in letters) items
-    → (js : List ℕ) × AllZip (λ t j. IsUsable db k t.word j) labels js × AreSteps (mandatory_hypotheses db k) js items (bare_steps db k ts)
+StepsAreNamed db k =
+    (end : ℕ) (ts labels letters : List Token) (items : List Item) → reading_faults db k end ts ≡ []
+    → IsCompressed ts labels letters → Spells (letters_in letters) items
+    → (js : List ℕ) × AllZip (λ t j. IsUsable db k t.word j) labels js
+    × AreSteps (mandatory_hypotheses db k) js items (bare_steps db k ts)
 
 -- items and labels say one row of steps at most
 abbrev pub NamedStepsAreUnique : Type 0
-NamedStepsAreUnique = (hypotheses labels : List ℕ) (items : List Item) (ss others : List Step) → AreSteps hypotheses labels items ss → AreSteps hypotheses labels items others → ss ≡ others
+NamedStepsAreUnique =
+    (hypotheses labels : List ℕ) (items : List Item) (ss others : List Step)
+    → AreSteps hypotheses labels items ss → AreSteps hypotheses labels items others → ss ≡ others
 
 -- the steps of a normal proof are its labels
 abbrev pub StepsAreLabels : List Statement → ℕ → Type 0
-StepsAreLabels db k = (end : ℕ) (t : Token) (ts : List Token) → reading_faults db k end (t ∷ ts) ≡ [] → t.word ≢ codes "("
-    → AllZip (λ u s. (j : ℕ) × (s ≡ label j) × IsUsable db k u.word j) (t ∷ ts) (bare_steps db k (t ∷ ts))
+StepsAreLabels db k =
+    (end : ℕ) (t : Token) (ts : List Token) → reading_faults db k end (t ∷ ts) ≡ []
+    → t.word ≢ codes "("
+    → AllZip (λ u s. (j : ℕ) × (s ≡ label j) × IsUsable db k u.word j) (t ∷ ts)
+    (bare_steps db k (t ∷ ts))
 
 -- where there is no fault, each theorem has a wave, and no other
-abbrev pub HaveWaves : ℕ → Lexed → (with_open : Bool) → Type 0
-HaveWaves len x with_open = (db : List Statement) → HasNoFault len x with_open db → (by_essential : Bool) (t : ℕ)
-    → (n : ℕ) × IsWave (counted with_open db) by_essential t n × ((m : ℕ) → IsWave (counted with_open db) by_essential t m → m ≡ n)
+abbrev pub HaveWaves : ℕ → LexedText → (with_open : Bool) → Type 0
+HaveWaves len x with_open =
+    (db : List Statement) → HasNoFault len x with_open db → (by_essential : Bool) (t : ℕ)
+    → (n : ℕ) × IsWave (counted with_open db) by_essential t n
+    × ((m : ℕ) → IsWave (counted with_open db) by_essential t m → m ≡ n)
 
 -- what a theorem cites by the essential nodes of its proof, it cites
 abbrev pub EssentialIsCited : Type 0
@@ -114,21 +144,35 @@ EssentialIsCited = (db : List Statement) (t a : ℕ) → Cites db true t a → C
 
 -- without the flag each label of an assertion is cited
 abbrev pub EachLabelIsCited : Type 0
-EachLabelIsCited = (db : List Statement) (t a : ℕ) → Cites db false t a ↔ (IsTrue (list_any is_assertion (statement_at db a)) × (d : Trees) × IsProof db t d × IsTrue (is_member (postfix d) a))
+EachLabelIsCited =
+    (db : List Statement) (t a : ℕ)
+    → Cites db false t a
+    ↔ (IsTrue (list_any is_assertion (statement_at db a)) × (d : Trees) × IsProof db t d
+    × IsTrue (is_member (postfix d) a))
 
 -- reading finds no fault in a compressed proof that is well formed, and in no other
 abbrev pub CompressedIsExact : List Statement → ℕ → Type 0
-CompressedIsExact db k = (end : ℕ) (t : Token) (ts : List Token) → t.word ≡ codes "(" → (reading_faults db k end (t ∷ ts) ≡ []) ↔ IsWellSpelled db k (t ∷ ts)
+CompressedIsExact db k =
+    (end : ℕ) (t : Token) (ts : List Token) → t.word ≡ codes "("
+    → (reading_faults db k end (t ∷ ts) ≡ []) ↔ IsWellSpelled db k (t ∷ ts)
 
--- reading finds no fault in a normal proof of which each word is a label that can be used, and in no other
+-- reading finds no fault in a normal proof of which each word is a label that can be used, and in
+-- no other
 abbrev pub NormalIsExact : List Statement → ℕ → Type 0
 NormalIsExact db k = (end : ℕ) (t : Token) (ts : List Token) → t.word ≢ codes "("
-    → (reading_faults db k end (t ∷ ts) ≡ []) ↔ AllByRecursion (λ u. (u.word ≢ codes "?") × ((j : ℕ) × IsUsable db k u.word j)) (t ∷ ts)
+    → (reading_faults db k end (t ∷ ts) ≡ [])
+    ↔ AllByRecursion (λ u. (u.word ≢ codes "?") × ((j : ℕ) × IsUsable db k u.word j)) (t ∷ ts)
 
 -- each number from 1 on is spelled by one row of letters
 abbrev pub NumbersHaveOneSpelling : Type 0
-NumbersHaveOneSpelling = (n : ℕ) → 1 ≤ n → (letters : List ℕ) × IsNumber letters n × ((others : List ℕ) → IsNumber others n → others ≡ letters)
+NumbersHaveOneSpelling =
+    (n : ℕ) → 1 ≤ n
+    → (letters : List ℕ) × IsNumber letters n
+    × ((others : List ℕ) → IsNumber others n → others ≡ letters)
 
 -- where the letters of a number become more
 abbrev pub BookNumbers : Type 0
-BookNumbers = IsNumber (codes "A") 1 × IsNumber (codes "T") 20 × IsNumber (codes "UA") 21 × IsNumber (codes "YT") 120 × IsNumber (codes "UUA") 121 × IsNumber (codes "YYT") 620 × IsNumber (codes "UUUA") 621
+BookNumbers =
+    IsNumber (codes "A") 1 × IsNumber (codes "T") 20 × IsNumber (codes "UA") 21
+    × IsNumber (codes "YT") 120 × IsNumber (codes "UUA") 121 × IsNumber (codes "YYT") 620
+    × IsNumber (codes "UUUA") 621

@@ -1,8 +1,9 @@
--- What the letters of a compressed proof spell, and which steps its numbers name, as the book tells it: no reading from
--- left to right, only what stands where (Metamath book, Appendix B).
-use Rattle.std.specs.Prelude.{◌≡◌, ◌≢◌, ℕ, ◌+◌, ◌*◌, ◌^◌, ◌≤◌, Bool, true, false, List, [], ◌∷◌, ◌++◌, length, Some, slice_get, flat_map, count_by, ◌⊎◌, codes, IsTrue}
+-- What the letters of a compressed proof spell, and which steps its numbers name, as the book tells
+-- it: no reading from left to right, only what stands where (Metamath book, Appendix B).
+use Rattle.std.specs.Prelude.{◌≡◌, ◌≢◌, ℕ, ◌+◌, ◌*◌, ◌^◌, ◌≤◌, Bool, true, false, List, [], ◌∷◌}
+use Rattle.std.specs.Prelude.{◌++◌, length, Some, slice_get, flat_map, count_by, ◌⊎◌, codes, IsTrue}
 use Rattle.std.specs.List.{list_any, AllByRecursion}
-use Rattle.mm_spec.specs.Text.{Word, Token}
+use Rattle.mm_spec.specs.Text.{Bytes, Token}
 use Rattle.mm_spec.specs.Statement.{Statement}
 use Rattle.mm_spec.specs.Scope.{is_active, statement_at}
 use Rattle.mm_spec.specs.Frame.{mandatory_hypotheses}
@@ -28,13 +29,16 @@ pub record IsLastDigit (letter digit : ℕ) : Type 0 where
   pub most : digit ≤ 20
   pub code : letter ≡ 64 + digit
 
--- earlier digits in base 5: each is worth itself times 5 to the power of how many letters stand behind it
+-- earlier digits in base 5: each is worth itself times 5 to the power of how many letters stand
+-- after it
 abbrev pub AreEarlyDigits : List ℕ → ℕ → Type 0
 AreEarlyDigits [] n = n ≡ 0
 AreEarlyDigits (letter ∷ letters) n =
-    (digit : ℕ) × (rest : ℕ) × IsEarlyDigit letter digit × AreEarlyDigits letters rest × (n ≡ digit * 5 ^ length letters + rest)
+    (digit : ℕ) × (rest : ℕ) × IsEarlyDigit letter digit × AreEarlyDigits letters rest
+    × (n ≡ digit * 5 ^ length letters + rest)
 
--- the letters of a number: any earlier digits, and a last one; the value is that of the earlier times 20, plus the last
+-- the letters of a number: any earlier digits, and a last one; the value is that of the earlier
+-- times 20, plus the last
 pub record IsNumber (letters : List ℕ) (n : ℕ) : Type 0 where
   pub early : List ℕ
   pub last : ℕ
@@ -50,10 +54,12 @@ abbrev pub IsSpelled : List ℕ → Item → Type 0
 IsSpelled letters (number n) = IsNumber letters n
 IsSpelled letters mark = letters ≡ 90 ∷ []
 
--- the letters are those of the items, one item behind the other
+-- the letters are those of the items, one item after the other
 abbrev pub Spells : List ℕ → List Item → Type 0
 Spells letters [] = letters ≡ []
-Spells letters (item ∷ items) = (first : List ℕ) × (rest : List ℕ) × (letters ≡ first ++ rest) × IsSpelled first item × Spells rest items
+Spells letters (item ∷ items) =
+    (first : List ℕ) × (rest : List ℕ) × (letters ≡ first ++ rest) × IsSpelled first item
+    × Spells rest items
 
 -- the letters in words, whatever white space is between these
 abbrev pub letters_in : List Token → List ℕ
@@ -78,7 +84,7 @@ abbrev pub is_mark : Item → Bool
 is_mark (number n) = false
 is_mark mark = true
 
--- Mark k stands just behind step i, both from 0 on: k marks are before it, and the steps 0 to i.
+-- Mark k stands just after step i, both from 0 on: k marks are before it, and the steps 0 to i.
 pub record IsMark (items : List Item) (k i : ℕ) : Type 0 where
   pub before : List Item
   pub after : List Item
@@ -86,33 +92,43 @@ pub record IsMark (items : List Item) (k i : ℕ) : Type 0 where
   pub marks : count_by is_mark before ≡ k
   pub steps : count_by is_number before ≡ i + 1
 
--- What a number names, by the items before it: 1 to m the m mandatory hypotheses, m + 1 to m + n the n labels in brackets,
--- and m + n + 1 onwards the subproofs of the steps that are marked.
+-- What a number names, by the items before it: 1 to m the m mandatory hypotheses, m + 1 to m + n
+-- the n labels in brackets, and m + n + 1 onwards the subproofs of the steps that are marked.
 abbrev pub Names : List ℕ → List ℕ → List Item → ℕ → Step → Type 0
 Names hypotheses labels before n (label j) =
-    ((i : ℕ) × (n ≡ i + 1) × (slice_get hypotheses i ≡ Some j)) ⊎ ((i : ℕ) × (n ≡ length hypotheses + (i + 1)) × (slice_get labels i ≡ Some j))
-Names hypotheses labels before n (marked i) = (k : ℕ) × (n ≡ length hypotheses + length labels + (k + 1)) × IsMark before k i
+    ((i : ℕ) × (n ≡ i + 1) × (slice_get hypotheses i ≡ Some j))
+    ⊎ ((i : ℕ) × (n ≡ length hypotheses + (i + 1)) × (slice_get labels i ≡ Some j))
+Names hypotheses labels before n (marked i) =
+    (k : ℕ) × (n ≡ length hypotheses + length labels + (k + 1)) × IsMark before k i
 
--- There are as many steps as numbers. A number with i numbers before it is step i, from 0 on: what it names.
-pub record AreSteps (hypotheses labels : List ℕ) (items : List Item) (steps : List Step) : Type 0 where
+-- There are as many steps as numbers. A number with i numbers before it is step i, from 0 on: what
+-- it names.
+pub record AreSteps (hypotheses labels : List ℕ) (items : List Item)
+    (steps : List Step) : Type 0 where
   pub count : length steps ≡ count_by is_number items
-  pub each : (before after : List Item) (n : ℕ) → items ≡ before ++ number n ∷ after → (s : Step) × (slice_get steps (count_by is_number before) ≡ Some s) × Names hypotheses labels before n s
+  pub each : (before after : List Item) (n : ℕ) → items ≡ before ++ number n ∷ after
+      → (s : Step) × (slice_get steps (count_by is_number before) ≡ Some s)
+      × Names hypotheses labels before n s
 
 -- the one statement that is active at k and has the label
-pub record IsUsable (db : List Statement) (k : ℕ) (w : Word) (j : ℕ) : Type 0 where
+pub record IsUsable (db : List Statement) (k : ℕ) (w : Bytes) (j : ℕ) : Type 0 where
   pub active : IsTrue (is_active db j k)
   pub labelled : IsTrue (list_any (is_labelled w) (statement_at db j))
-  pub only : (i : ℕ) → IsTrue (is_active db i k) → IsTrue (list_any (is_labelled w) (statement_at db i)) → i ≡ j
+  pub only : (i : ℕ) → IsTrue (is_active db i k)
+      → IsTrue (list_any (is_labelled w) (statement_at db i)) → i ≡ j
 
 -- ---- what is well formed
 
 -- a number is at most the hypotheses, the labels and the marks before it
 abbrev pub NumbersName : ℕ → List Item → Type 0
-NumbersName many items = (before after : List Item) (n : ℕ) → items ≡ before ++ number n ∷ after → n ≤ many + count_by is_mark before
+NumbersName many items =
+    (before after : List Item) (n : ℕ) → items ≡ before ++ number n ∷ after
+    → n ≤ many + count_by is_mark before
 
--- a mark stands behind a number
+-- a mark stands after a number
 abbrev pub MarksFollow : List Item → Type 0
-MarksFollow items = (before after : List Item) → items ≡ before ++ mark ∷ after → 1 ≤ count_by is_number before
+MarksFollow items =
+    (before after : List Item) → items ≡ before ++ mark ∷ after → 1 ≤ count_by is_number before
 
 -- a compressed proof as it should be
 pub record IsWellSpelled (db : List Statement) (k : ℕ) (ts : List Token) : Type 0 where

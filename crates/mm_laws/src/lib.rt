@@ -1,41 +1,46 @@
-//! What the definitions of `mm_spec` mean, as laws over them. Nothing runs here: each function has an empty body, and its
-//! contract is a law, in the subject's own words. The words of the laws that no definition needs are in `specs/`: the
-//! grammar of tokens and comments, what the letters of a proof spell, and the statements of the laws. No other crate stands
-//! on this one, so that nothing waits for the laws, and a program is built without them.
+//! What the definitions of `mm_spec` mean, as laws over them. Nothing runs here: each function has
+//! an empty body, and its contract is a law, in the subject's own words. The words of the laws that
+//! no definition needs are in `specs/`: the grammar of tokens and comments, what the letters of a
+//! proof spell, and the statements of the laws. No other crate stands on this one, so that nothing
+//! waits for the laws, and a program is built without them.
 //!
-//! No wrong body can be made of an empty one, so there is no folder `must-fail` here: a law is refused only where a
-//! definition is turned. Small texts for which the definitions are worked out stand in `proofs/` (`Examples`, `Vectors`,
-//! `Outputs`).
+//! No wrong body can be made of an empty one, so there is no folder `must-fail` here: a law is
+//! refused only where a definition is turned. Small texts for which the definitions are worked out
+//! stand in `proofs/` (`Examples`, `Vectors`, `Outputs`).
 #![tactic(auto)]
 
 ghost use Rattle.std.specs.Prelude.{◌≡◌, ◌↔◌, ℕ, Bool, List, None};
-ghost use Rattle.mm_spec.specs.Words.{words_of, AreWords};
+ghost use Rattle.mm_spec.specs.Words.{words_of};
+ghost use Rattle.mm_spec.specs.Laws.Words.{AreWords};
 ghost use Rattle.mm_spec.specs.Readings.{reading};
 ghost use Rattle.mm_spec.specs.Lexed.{lexical_fault, tokens_of};
 ghost use Rattle.mm_spec.specs.declared.Word.{Word};
 ghost use Rattle.mm_spec.specs.Text.{Token};
 ghost use Rattle.mm_spec.specs.Statement.{Statement, IsLongestRow};
-ghost use Rattle.mm_spec.specs.Table.{statements_of};
-ghost use Rattle.mm_spec.specs.Output.{Lexed};
-ghost use Rattle.mm_spec.specs.Complete.{ReadsComplete};
+ghost use Rattle.mm_spec.specs.Laws.Table.{statements_of};
+ghost use Rattle.mm_spec.specs.Output.{LexedText};
+ghost use Rattle.mm_spec.specs.Laws.Complete.{ReadsComplete};
 ghost use Rattle.mm_laws.specs.Grammar.{IsReading};
 ghost use Rattle.mm_laws.specs.Lexing.{IsLexed};
-ghost use Rattle.mm_laws.specs.Laws.{WhereRead, LabelsDetermine, ProofIsUnique};
+ghost use Rattle.mm_laws.specs.Laws.{WhereRead, LabelsDetermine, ProofIsUnique, CompressedIsExact};
+ghost use Rattle.mm_laws.specs.Laws.{NormalIsExact};
 ghost use Rattle.mm_laws.specs.Laws.{IsValidOrFaulty, IsNeverBoth, FaultIsUnique};
 ghost use Rattle.mm_laws.specs.Laws.{IsReadable, IsSoundOrFaulty, AreDecided, HaveWaves};
-ghost use Rattle.mm_laws.specs.Laws.{OutputExists, OutputIsUnique, EachLabelIsCited, EssentialIsCited};
+ghost use Rattle.mm_laws.specs.Laws.{OutputExists, OutputIsUnique, EachLabelIsCited};
+ghost use Rattle.mm_laws.specs.Laws.{EssentialIsCited};
 ghost use Rattle.mm_laws.specs.Laws.{PartsAreUnique, SpellingIsUnique, ProofsAreSpelled};
 ghost use Rattle.mm_laws.specs.Laws.{StepsAreNamed, NamedStepsAreUnique, StepsAreLabels};
-ghost use Rattle.mm_laws.specs.Laws.{CompressedIsExact, NormalIsExact};
 ghost use Rattle.mm_laws.specs.Laws.{NumbersHaveOneSpelling, BookNumbers};
 
-/// The words of a text are its longest runs of bytes that aren't white, in order, and no other list is.
+/// The words of a text are its longest runs of bytes that aren't white, in order, and no other list
+/// is.
 pub fn words_are_the_longest_runs()
     ensures are { (text : List ℕ) → AreWords text (words_of text) }
     ensures only { (text : List ℕ) (ws : List Word) → AreWords text ws → ws ≡ words_of text }
 {}
 
-/// A reading follows the grammar of tokens and comments, up to the first word with which the words don't.
+/// A reading follows the grammar of tokens and comments, up to the first word with which the words
+/// don't.
 pub fn a_reading_follows_the_grammar()
     ensures { (text : List ℕ) (ws : List Word) → IsReading text ws (reading text None ws) }
 {}
@@ -45,17 +50,18 @@ pub fn tokens_are_those_of_the_grammar()
     ensures { (text : List ℕ) → IsLexed text (tokens_of text) (lexical_fault text) }
 {}
 
-/// The statements of a text are the longest row of whole statements, with no `$}` too many, at the beginning of its
-/// tokens, and no other row is.
+/// The statements of a text are the longest row of whole statements, with no `$}` too many, at the
+/// beginning of its tokens, and no other row is.
 pub fn statements_are_the_longest_row()
     ensures are { (tokens : List Token) → IsLongestRow tokens (statements_of tokens) }
-    ensures only { (tokens : List Token) (row : List Statement) → IsLongestRow tokens row → row ≡ statements_of tokens }
+    ensures only { (tokens : List Token) (row : List Statement) → IsLongestRow tokens row
+        → row ≡ statements_of tokens }
 {}
 
-/// Each variable of a frame of what is read has a `$f` among the frame's mandatory hypotheses: lawful statements have an
-/// active `$f` for each variable of their formulas.
+/// Each variable of a frame of what is read has a `$f` among the frame's mandatory hypotheses:
+/// lawful statements have an active `$f` for each variable of their formulas.
 pub fn lawful_statements_have_complete_frames()
-    ensures { (len : ℕ) (x : Lexed) → ReadsComplete len x }
+    ensures { (len : ℕ) (x : LexedText) → ReadsComplete len x }
 {}
 
 /// A derivation is known by its labels in postfix order, and a theorem has one proof at most.
@@ -76,19 +82,20 @@ pub fn output_is_unique()
     ensures { OutputIsUnique }
 {}
 
-/// Each text is read: there are lawful statements, and what stops behind them, if anything does.
+/// Each text is read: there are lawful statements, and what stops after them, if anything does.
 pub fn every_text_is_read()
-    ensures { (len : ℕ) (x : Lexed) → IsReadable len x }
+    ensures { (len : ℕ) (x : LexedText) → IsReadable len x }
 {}
 
-/// Each text has a first fault, or it has none and all its proofs are valid; so too where open theorems count as axioms.
+/// Each text has a first fault, or it has none and all its proofs are valid; so too where open
+/// theorems count as axioms.
 pub fn texts_are_sound_or_faulty()
-    ensures { (len : ℕ) (x : Lexed) (with_open : Bool) → IsSoundOrFaulty len x with_open }
+    ensures { (len : ℕ) (x : LexedText) (with_open : Bool) → IsSoundOrFaulty len x with_open }
 {}
 
 /// In a text without faults it is decided whether a theorem rests on a statement.
 pub fn cells_are_decided()
-    ensures { (len : ℕ) (x : Lexed) (with_open : Bool) → AreDecided len x with_open }
+    ensures { (len : ℕ) (x : LexedText) (with_open : Bool) → AreDecided len x with_open }
 {}
 
 /// There is an output of each text, for each choice of columns and sections.
@@ -96,24 +103,25 @@ pub fn output_exists()
     ensures { OutputExists }
 {}
 
-/// The words of a compressed proof part in one way into labels and letters. Letters spell one row of numbers and marks at
-/// most, and where reading finds no fault in a compressed proof, its letters spell one.
+/// The words of a compressed proof part in one way into labels and letters. Letters spell one row
+/// of numbers and marks at most, and where reading finds no fault in a compressed proof, its
+/// letters spell one.
 pub fn letters_spell_one_row()
     ensures parts { PartsAreUnique }
     ensures one { SpellingIsUnique }
     ensures some { ProofsAreSpelled }
 {}
 
-/// The steps of a compressed proof are what its numbers name: hypotheses, labels in brackets, and marked steps. Those of a
-/// normal proof are its labels.
+/// The steps of a compressed proof are what its numbers name: hypotheses, labels in brackets, and
+/// marked steps. Those of a normal proof are its labels.
 pub fn steps_are_what_is_named()
     ensures compressed { WhereRead StepsAreNamed }
     ensures one { NamedStepsAreUnique }
     ensures normal { WhereRead StepsAreLabels }
 {}
 
-/// A theorem cites, by all nodes of its proof, each assertion that is the label of one; and by the essential nodes nothing
-/// that it doesn't cite by all.
+/// A theorem cites, by all nodes of its proof, each assertion that is the label of one; and by the
+/// essential nodes nothing that it doesn't cite by all.
 pub fn essential_citations_are_citations()
     ensures all { EachLabelIsCited }
     ensures some { EssentialIsCited }
@@ -121,7 +129,7 @@ pub fn essential_citations_are_citations()
 
 /// In a text without faults each theorem has one wave.
 pub fn theorems_have_one_wave()
-    ensures { (len : ℕ) (x : Lexed) (with_open : Bool) → HaveWaves len x with_open }
+    ensures { (len : ℕ) (x : LexedText) (with_open : Bool) → HaveWaves len x with_open }
 {}
 
 /// Reading finds no fault in exactly the proofs that are well formed.
@@ -130,7 +138,8 @@ pub fn well_formed_proofs_are_read()
     ensures normal { WhereRead NormalIsExact }
 {}
 
-/// Each number from 1 on is spelled by one row of letters: 1 by `A`, 20 by `T`, 21 by `UA`, as in the book.
+/// Each number from 1 on is spelled by one row of letters: 1 by `A`, 20 by `T`, 21 by `UA`, as in
+/// the book.
 pub fn numbers_have_one_spelling()
     ensures one { NumbersHaveOneSpelling }
     ensures book { BookNumbers }

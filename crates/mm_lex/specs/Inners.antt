@@ -9,9 +9,15 @@ abbrev pub side : {A : Type 0} → Row A → Side
 side row = record { tokens = row.tokens.items; fault = row.fault; comment = row.comment }
 
 abbrev pub between : {A : Type 0} → Inner A → Between
-between inner = record { head = inner.head; tail = inner.tail; outside = side inner.outside; inside = side inner.inside }
+between inner =
+    record {
+      head = inner.head;
+      tail = inner.tail;
+      outside = side inner.outside;
+      inside = side inner.inside;
+    }
 
--- the comment that is open behind a second row of words, where this one was open behind the first
+-- the comment that is open after a second row of words, where this one was open after the first
 abbrev pub carried : Opened → Opened → Opened
 carried first Nowhere = Nowhere
 carried first Before = first

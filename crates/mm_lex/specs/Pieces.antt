@@ -1,5 +1,6 @@
 -- What a stretch of a text tells by itself, in both comment modes.
-use Rattle.std.specs.Prelude.{◌≡◌, ℕ, Bool, List, [], Option, Some, None, MatchOption, if◌then◌else◌}
+use Rattle.std.specs.Prelude.{◌≡◌, ℕ, Bool, List, [], Option, Some, None, MatchOption}
+use Rattle.std.specs.Prelude.{if◌then◌else◌}
 use Rattle.mm_spec.specs.Words.{words_between}
 use Rattle.mm_spec.specs.Readings.{Reading, reading}
 use Rattle.mm_spec.specs.declared.Word.{Word}
@@ -8,14 +9,16 @@ use Rattle.mm_lex.specs.Stretches.{IsUnbroken, IsBroken}
 use Rattle.mm_lex.specs.declared.rows.Opened.{Opened}
 use Rattle.mm_lex.specs.declared.rows.Opened.TheVariants.{Nowhere, Before, At}
 
--- A row of words read in one comment mode: its tokens before the faulty word, the fault of that, and the comment that is
--- open there, which began nowhere, before the words, or at a place among them.
+-- A row of words read in one comment mode: its tokens before the faulty word, the fault of that,
+-- and the comment that is open there, which began nowhere, before the words, or at a place among
+-- them.
 pub record Side : Type 0 where
   pub tokens : List Word
   pub fault : Option Fault
   pub comment : Opened
 
--- what lies between the place at which a head ends and that at which a tail begins, read outside a comment and inside one
+-- what lies between the place at which a head ends and that at which a tail begins, read outside a
+-- comment and inside one
 pub record Between : Type 0 where
   pub head : ℕ
   pub tail : ℕ
@@ -43,7 +46,8 @@ resolved p (At q) = Some q
 abbrev pub seen : ℕ → Side → Reading
 seen p s = record { tokens = s.tokens; fault = s.fault; comment = resolved p s.comment }
 
--- The two sides are the readings of the words, outside a comment, and inside one that began anywhere before.
+-- The two sides are the readings of the words, outside a comment, and inside one that began
+-- anywhere before.
 pub record AreReadings (text : List ℕ) (ws : List Word) (outside inside : Side) : Type 0 where
   pub out : (p : ℕ) → reading text None ws ≡ seen p outside
   pub within : (p : ℕ) → reading text (Some p) ws ≡ seen p inside
@@ -66,7 +70,9 @@ abbrev pub tail_of : Stretch → Word
 tail_of s = record { start = elim s.between [ None ↦ s.to | Some b ↦ b.tail ]; end = s.to }
 
 abbrev pub tokens_in_mode : Bool → Stretch → List Word
-tokens_in_mode inside s = elim s.between [ None ↦ [] | Some b ↦ (if inside then b.inside else b.outside).tokens ]
+tokens_in_mode inside s =
+    elim s.between [ None ↦ [] | Some b ↦ (if inside then b.inside else b.outside).tokens ]
 
 abbrev pub fault_in_mode : Bool → Stretch → Option Fault
-fault_in_mode inside s = elim s.between [ None ↦ None | Some b ↦ (if inside then b.inside else b.outside).fault ]
+fault_in_mode inside s =
+    elim s.between [ None ↦ None | Some b ↦ (if inside then b.inside else b.outside).fault ]

@@ -24,5 +24,7 @@ pub record IsCutText (c : CutText) : Type 0 where
 
 -- why places are refused
 abbrev pub IsRefused : CutsFault → CutText → Type 0
-IsRefused NotRising c = (i : ℕ) × (i + 1 < length c.places) × (slice_index c.places (i + 1) < slice_index c.places i)
-IsRefused PastEnd c = Rises c.places × ((i : ℕ) × (i < length c.places) × (c.len < slice_index c.places i))
+IsRefused NotRising c =
+    (i : ℕ) × (i + 1 < length c.places) × (slice_index c.places (i + 1) < slice_index c.places i)
+IsRefused PastEnd c =
+    Rises c.places × ((i : ℕ) × (i < length c.places) × (c.len < slice_index c.places i))

@@ -1,5 +1,6 @@
 -- What is known of the words of a text from a stretch of it alone, and how two neighbours join.
-use Rattle.std.specs.Prelude.{◌≡◌, ℕ, ◌+◌, ◌<◌, ◌≤◌, true, false, List, [], ◌∷◌, length, nat_lt, if◌then◌else◌}
+use Rattle.std.specs.Prelude.{◌≡◌, ℕ, ◌+◌, ◌<◌, ◌≤◌, true, false, List, [], ◌∷◌, length, nat_lt}
+use Rattle.std.specs.Prelude.{if◌then◌else◌}
 use Rattle.mm_spec.specs.Words.{white_at}
 use Rattle.mm_spec.specs.declared.Word.{Word}
 
@@ -7,15 +8,17 @@ use Rattle.mm_spec.specs.declared.Word.{Word}
 abbrev pub NoWhite : List ℕ → ℕ → ℕ → Type 0
 NoWhite text from to = (i : ℕ) → from ≤ i → i < to → white_at text i ≡ false
 
--- A stretch without a white byte, neither of whose ends is the text's: a part of a word, or nothing.
+-- A stretch without a white byte, neither of whose ends is the text's: a part of a word, or
+-- nothing.
 pub record IsUnbroken (text : List ℕ) (from to : ℕ) : Type 0 where
   pub first : 0 < from
   pub order : from ≤ to
   pub last : to < length text
   pub no_white : NoWhite text from to
 
--- Any other stretch. Its head goes from its beginning up to `head`, the first white byte, or there is none at the
--- text's beginning. Its tail goes from `tail`, behind the last white byte, to its end, or there is none at the text's end.
+-- Any other stretch. Its head goes from its beginning up to `head`, the first white byte, or there
+-- is none at the text's beginning. Its tail goes from `tail`, after the last white byte, to its
+-- end, or there is none at the text's end.
 pub record IsBroken (text : List ℕ) (from to head tail : ℕ) : Type 0 where
   pub from_head : from ≤ head
   pub order : head ≤ tail

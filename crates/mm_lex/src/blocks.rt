@@ -1,11 +1,14 @@
 //! The words of a text, found from the classes of its blocks of 64 bytes.
 
-ghost use Rattle.std.specs.Prelude.{◌≡◌, ◌<◌, ◌≤◌, ◌+◌, ◌-◌, ◌||◌, ◌==◌, ℕ, true, false, [], ◌∷◌, length, take, drop, min, IfNone, IfSome, MatchOption, if◌then◌else◌};
+ghost use Rattle.std.specs.Prelude.{◌≡◌, ◌<◌, ◌≤◌, ◌+◌, ◌-◌, ◌||◌, ◌==◌, ℕ, true, false, [], ◌∷◌};
+ghost use Rattle.std.specs.Prelude.{length, take, drop, min, IfNone, IfSome, MatchOption};
+ghost use Rattle.std.specs.Prelude.{if◌then◌else◌};
 ghost use Rattle.std.specs.Int.{bit_at};
 ghost use Rattle.mm_bytes.specs.Masks.{is_bad, mask};
 ghost use Rattle.mm_spec.specs.Bytes.{is_white};
 ghost use Rattle.mm_spec.specs.Readings.{bytes_of};
-ghost use Rattle.mm_spec.specs.Words.{begins_word, white_at, words_between, IsWord};
+ghost use Rattle.mm_spec.specs.Words.{begins_word, white_at, words_between};
+ghost use Rattle.mm_spec.specs.Laws.Words.{IsWord};
 ghost use Rattle.mm_lex.specs.Plain.{plain_at, IsPlain};
 
 use crate::bytes::is_white;
@@ -47,8 +50,10 @@ struct Marks {
 #[inline(always)]
 fn marks_of(bytes: &[u8]) -> Marks
     ensures white { result.white ≡ mask is_white (take 64 bytes.now) }
-    ensures plain { (i : ℕ) → i < 64 → i < length bytes.now → bit_at result.stops i ≡ 0 → plain_at bytes.now i ≡ true }
-    ensures ink { (i : ℕ) → i < 64 → i < length bytes.now → bit_at result.stops i ≡ 0 → white_at bytes.now i ≡ false }
+    ensures plain { (i : ℕ) → i < 64 → i < length bytes.now → bit_at result.stops i ≡ 0
+        → plain_at bytes.now i ≡ true }
+    ensures ink { (i : ℕ) → i < 64 → i < length bytes.now → bit_at result.stops i ≡ 0
+        → white_at bytes.now i ≡ false }
 {
     let classes = classes_of(bytes);
     let dollars = dollars_of(bytes);
@@ -58,11 +63,12 @@ fn marks_of(bytes: &[u8]) -> Marks
     }
 }
 
-/// The zeros of a mask that stand behind a one, the first one where `first` says so.
+/// The zeros of a mask that stand after a one, the first one where `first` says so.
 #[inline(always)]
 fn starts_of(white: u64, first: bool) -> u64
     ensures first { bit_at result 0 ≡ (if first then 1 - bit_at white 0 else 0) }
-    ensures next { (i : ℕ) → i + 1 < 64 → bit_at result (i + 1) ≡ min (1 - bit_at white (i + 1)) (bit_at white i) }
+    ensures next { (i : ℕ) → i + 1 < 64
+        → bit_at result (i + 1) ≡ min (1 - bit_at white (i + 1)) (bit_at white i) }
 {
     !white & (white << 1 | u64::from(first))
 }
@@ -86,17 +92,21 @@ pub struct Blocks<'a> {
     base: usize,
     white: u64,
     stops: u64,
-    /// Where words begin, from `from` on. Bits behind the text's end tell nothing.
+    /// Where words begin, from `from` on. Bits after the text's end tell nothing.
     starts: u64,
     ghost within: { base ≤ length text.now },
     ghost low: { base ≤ from },
     ghost high: { from ≤ base + 64 },
     ghost white_is: { white ≡ mask is_white (take 64 (drop base text.now)) },
-    ghost plain: { (i : ℕ) → i < 64 → base + i < length text.now → bit_at stops i ≡ 0 → plain_at text.now (base + i) ≡ true },
-    ghost ink: { (i : ℕ) → i < 64 → base + i < length text.now → bit_at stops i ≡ 0 → white_at text.now (base + i) ≡ false },
-    ghost begins: { (i : ℕ) → i < 64 → base + i < length text.now → bit_at starts i ≡ 1 → begins_word text.now (base + i) ≡ true },
+    ghost plain: { (i : ℕ) → i < 64 → base + i < length text.now → bit_at stops i ≡ 0
+        → plain_at text.now (base + i) ≡ true },
+    ghost ink: { (i : ℕ) → i < 64 → base + i < length text.now → bit_at stops i ≡ 0
+        → white_at text.now (base + i) ≡ false },
+    ghost begins: { (i : ℕ) → i < 64 → base + i < length text.now → bit_at starts i ≡ 1
+        → begins_word text.now (base + i) ≡ true },
     ghost further: { (i : ℕ) → i < 64 → bit_at starts i ≡ 1 → from ≤ base + i },
-    ghost none: { (i : ℕ) → i < 64 → base + i < length text.now → from ≤ base + i → bit_at starts i ≡ 0 → begins_word text.now (base + i) ≡ false },
+    ghost none: { (i : ℕ) → i < 64 → base + i < length text.now → from ≤ base + i
+        → bit_at starts i ≡ 0 → begins_word text.now (base + i) ≡ false },
 }
 
 /// A word. Where it is `plain`, it is known to have printable bytes alone, and no `$`.
@@ -154,8 +164,8 @@ impl<'a> Blocks<'a> {
         *self = Blocks::at(self.text, self.base + 64);
     }
 
-    /// The word that begins at `start` in the block at hand, the last one whose beginning was taken; and the blocks from
-    /// its end on.
+    /// The word that begins at `start` in the block at hand, the last one whose beginning was
+    /// taken; and the blocks from its end on.
     fn word_from(self, start: usize) -> (Blocks<'a>, Found)
         requires from { self.from ≡ start + 1 }
         requires low { self.base ≤ start }
@@ -164,13 +174,17 @@ impl<'a> Blocks<'a> {
         requires ink { white_at self.text.now start ≡ false }
         ensures text { result.0.text.now ≡ self.entry.text.now }
         ensures behind { start < result.0.from }
-        ensures none { (i : ℕ) → start < i → i < result.0.from → begins_word self.entry.text.now i ≡ false }
+        ensures none { (i : ℕ) → start < i → i < result.0.from
+            → begins_word self.entry.text.now i ≡ false }
         ensures start { result.1.word.start ≡ start }
         ensures order { start ≤ result.1.word.end }
         ensures within { result.1.word.end ≤ length self.entry.text.now }
-        ensures solid { (i : ℕ) → start ≤ i → i < result.1.word.end → white_at self.entry.text.now i ≡ false }
-        ensures white { result.1.word.end < length self.entry.text.now → white_at self.entry.text.now result.1.word.end ≡ true }
-        ensures plain { result.1.plain ≡ true → (i : ℕ) → start ≤ i → i < result.1.word.end → plain_at self.entry.text.now i ≡ true }
+        ensures solid { (i : ℕ) → start ≤ i → i < result.1.word.end
+            → white_at self.entry.text.now i ≡ false }
+        ensures white { result.1.word.end < length self.entry.text.now
+            → white_at self.entry.text.now result.1.word.end ≡ true }
+        ensures plain { result.1.plain ≡ true → (i : ℕ) → start ≤ i → i < result.1.word.end
+            → plain_at self.entry.text.now i ≡ true }
     {
         let len = self.text.len();
         let mut blocks = self;
@@ -195,7 +209,10 @@ impl<'a> Blocks<'a> {
         requires within { to ≤ length self.old.text.now }
         requires short { length self.old.text.now ≤ TEXT_LIMIT }
         ensures text { self.new.text.now ≡ self.old.text.now }
-        ensures before { MatchOption result (words_between self.old.text.now self.old.from to ≡ []) (λ start. (i : ℕ) → self.old.from ≤ i → i < start → begins_word self.old.text.now i ≡ false) }
+        ensures before { MatchOption result
+            (words_between self.old.text.now self.old.from to ≡ [])
+            (λ start. (i : ℕ) → self.old.from ≤ i → i < start
+            → begins_word self.old.text.now i ≡ false) }
         ensures done { IfNone result (words_between self.old.text.now self.new.from to ≡ []) }
         ensures begins { IfSome result (λ start. begins_word self.old.text.now start ≡ true) }
         ensures low { IfSome result (λ start. self.old.from ≤ start) }
@@ -225,10 +242,14 @@ impl<'a> Blocks<'a> {
         requires within { to ≤ length self.old.text.now }
         requires short { length self.old.text.now ≤ TEXT_LIMIT }
         ensures text { self.new.text.now ≡ self.old.text.now }
-        ensures words { MatchOption result (words_between self.old.text.now self.old.from to ≡ []) (λ found. words_between self.old.text.now self.old.from to ≡ found.word ∷ words_between self.old.text.now self.new.from to) }
+        ensures words { MatchOption result
+            (words_between self.old.text.now self.old.from to ≡ [])
+            (λ found. words_between self.old.text.now self.old.from to
+            ≡ found.word ∷ words_between self.old.text.now self.new.from to) }
         ensures done { IfNone result (words_between self.old.text.now self.new.from to ≡ []) }
         ensures each { IfSome result (λ found. IsWord self.old.text.now found.word) }
-        ensures plain { IfSome result (λ found. found.plain ≡ true → IsPlain (bytes_of self.old.text.now found.word)) }
+        ensures plain { IfSome result
+            (λ found. found.plain ≡ true → IsPlain (bytes_of self.old.text.now found.word)) }
         ensures onward { IfSome result (λ found. self.old.from < self.new.from) }
     {
         let start = self.next_start(to)?;

@@ -1,6 +1,7 @@
 //! Where a text is cut into pieces.
 
-ghost use Rattle.std.specs.Prelude.{◌≡◌, ◌<◌, ◌≤◌, ◌+◌, ◌-◌, ◌*◌, ◌/◌, ◌^◌, ℕ, length, map, IfOk, IfErr, vec_len};
+ghost use Rattle.std.specs.Prelude.{◌≡◌, ◌<◌, ◌≤◌, ◌+◌, ◌-◌, ◌*◌, ◌/◌, ◌^◌, ℕ, length, map, IfOk};
+ghost use Rattle.std.specs.Prelude.{IfErr, vec_len};
 ghost use Rattle.std.specs.List.{range_with_len};
 ghost use Rattle.mm_lex.specs.Places.{CutText, cut_text, IsCutText, Rises, IsWithin, IsRefused};
 
@@ -19,8 +20,8 @@ pub enum CutsFault {
     PastEnd,
 }
 
-/// The places at which a text of a given length is cut, byte offsets from 0: rising, and none above the length. Between
-/// two equal places there is an empty piece.
+/// The places at which a text of a given length is cut, byte offsets from 0: rising, and none above
+/// the length. Between two equal places there is an empty piece.
 #[derive(Drop)]
 pub struct Cuts<A: Allocator> {
     places: Vec<u32, A>,
@@ -36,13 +37,15 @@ impl<A: Allocator> Model for Cuts<A> {
 }
 
 impl<A: Allocator + Copy> Cuts<A> {
-    /// Cuts a text of `len` bytes, at most 2,147,483,648, into `count` pieces, 1 to 65,536, whose lengths differ by at
-    /// most one byte. Refused only where memory is.
+    /// Cuts a text of `len` bytes, at most 2,147,483,648, into `count` pieces, 1 to 65,536, whose
+    /// lengths differ by at most one byte. Refused only where memory is.
     pub fn equal(alloc: A, len: usize, count: u32) -> Result<Cuts<A>, AllocError>
         requires len { len ≤ 2 ^ 31 }
         requires some { 0 < count }
         requires count { count ≤ 65536 }
-        ensures { IfOk result (λ c. c ≡ cut_text (map (λ i. len * (i + 1) / count) (range_with_len 0 (count - 1))) len) }
+        ensures { IfOk result
+            (λ c. c ≡ cut_text
+            (map (λ i. len * (i + 1) / count) (range_with_len 0 (count - 1))) len) }
     {
         let mut places = Vec::new(alloc);
         for i in 0..count - 1 {
@@ -51,8 +54,9 @@ impl<A: Allocator + Copy> Cuts<A> {
         Ok(Cuts { places, len })
     }
 
-    /// Cuts a text of `len` bytes at these places. It takes no memory, and a refusal drops the list: `NotRising` where a
-    /// place is less than the one before it, else `PastEnd` where one is above `len`.
+    /// Cuts a text of `len` bytes at these places. It takes no memory, and a refusal drops the
+    /// list: `NotRising` where a place is less than the one before it, else `PastEnd` where one is
+    /// above `len`.
     pub fn from_places(places: Vec<u32, A>, len: usize) -> Result<Cuts<A>, CutsFault>
         ensures ok { IfOk result (λ c. c ≡ cut_text places.items len) }
         ensures err { IfErr result (λ e. IsRefused e (cut_text places.items len)) }

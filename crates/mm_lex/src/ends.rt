@@ -1,4 +1,5 @@
-//! Where the head of a stretch ends and its tail begins. Of a long word, blocks of 64 bytes are passed over.
+//! Where the head of a stretch ends and its tail begins. Of a long word, blocks of 64 bytes are
+//! passed over.
 
 ghost use Rattle.std.specs.Prelude.{◌≡◌, ◌<◌, ◌≤◌, ◌+◌, true, ℕ, length, MatchOption};
 ghost use Rattle.mm_lex.specs.Stretches.{NoWhite, IsBroken, IsUnbroken};
@@ -27,7 +28,7 @@ fn first_white(text: &[u8], from: usize, to: usize) -> usize
     place
 }
 
-/// The place behind the last white byte before `to`, or `from`.
+/// The place after the last white byte before `to`, or `from`.
 #[tactic(auto, unfolding(mm_spec::specs::Words::white_at))]
 fn behind_white(text: &[u8], from: usize, to: usize) -> usize
     requires order { from ≤ to }
@@ -47,11 +48,13 @@ fn behind_white(text: &[u8], from: usize, to: usize) -> usize
     place
 }
 
-/// The places between which the words of a stretch are known to lie; none for a stretch inside a word.
+/// The places between which the words of a stretch are known to lie; none for a stretch inside a
+/// word.
 pub fn bounds(text: &[u8], from: usize, to: usize) -> Option<(usize, usize)>
     requires order { from ≤ to }
     requires within { to ≤ length text.now }
-    ensures { MatchOption result (IsUnbroken text.now from to) (λ b. IsBroken text.now from to b.0 b.1) }
+    ensures { MatchOption result (IsUnbroken text.now from to)
+        (λ b. IsBroken text.now from to b.0 b.1) }
 {
     let head = if from == 0 {
         0

@@ -1,6 +1,6 @@
-//! The words, tokens and comments of a Metamath text. This layer knows bytes and where a text is cut. It promises the
-//! tokens before the first lexical fault, as places in the text, and that fault (`Rattle.mm_spec.specs.Lexed`), the same
-//! for every way of cutting.
+//! The words, tokens and comments of a Metamath text. This layer knows bytes and where a text is
+//! cut. It promises the tokens before the first lexical fault, as places in the text, and that
+//! fault (`Rattle.mm_spec.specs.Lexed`), the same for every way of cutting.
 #![tactic(auto)]
 
 ghost use Rattle.std.specs.Prelude.{◌≡◌, ◌<◌, ◌≤◌, ◌+◌, length, IfOk, is_some};
@@ -24,8 +24,9 @@ pub use pieces::{Piece, join, lex_piece};
 use std::alloc::{AllocError, Allocator};
 use std::thread::Threads;
 
-/// The tokens and the first lexical fault of a text (sections 4.1.1 and 4.1.2 of the Metamath book). The cuts, which are made for
-/// the text's length where that is within the limit, don't change what it answers; it is refused for memory alone.
+/// The tokens and the first lexical fault of a text (sections 4.1.1 and 4.1.2 of the Metamath
+/// book). The cuts, which are made for the text's length where that is within the limit, don't
+/// change what it answers; it is refused for memory alone.
 pub fn lex<R: Threads + Sync, A: Allocator + Copy + Send + Sync>(
     rt: &R,
     alloc: A,

@@ -1,8 +1,10 @@
 //! Stretches of a text, each read for both comment modes, and how neighbours join.
 
-ghost use Rattle.std.specs.Prelude.{◌≡◌, ◌<◌, ◌≤◌, ◌+◌, ℕ, List, ◌++◌, length, IfOk, not, is_some, if◌then◌else◌};
+ghost use Rattle.std.specs.Prelude.{◌≡◌, ◌<◌, ◌≤◌, ◌+◌, ℕ, List, ◌++◌, length, IfOk, not, is_some};
+ghost use Rattle.std.specs.Prelude.{if◌then◌else◌};
 ghost use Rattle.std.specs.Option.{option_map};
-ghost use Rattle.mm_lex.specs.Pieces.{fault_in_mode, head_of, resolved, stretch, tail_of, tokens_in_mode, AreReadings, IsSummary, Stretch};
+ghost use Rattle.mm_lex.specs.Pieces.{fault_in_mode, head_of, resolved, stretch, tail_of};
+ghost use Rattle.mm_lex.specs.Pieces.{tokens_in_mode, AreReadings, IsSummary, Stretch};
 ghost use Rattle.mm_lex.specs.Inners.{between, side};
 ghost use Rattle.mm_lex.specs.Stretches.{joined_word};
 ghost use Rattle.mm_spec.specs.Lexed.{fault_in, lexical_fault, tokens_of};
@@ -24,10 +26,11 @@ pub struct Inner<A: Allocator> {
     pub inside: Row<A>,
 }
 
-/// What a stretch of a text tells by itself. Its head goes up to its first white byte, its tail begins behind its last
-/// one: parts of words, or words, of which the stretch doesn't know. The words between them were read twice, as those of
-/// a text and as those of a comment. A stretch without a white byte that touches neither end of the text is unbroken: a
-/// part of a word, or nothing.
+/// What a stretch of a text tells by itself. Its head goes up to its first white byte, its tail
+/// begins after its last one: parts of words, or words, of which the stretch doesn't know. The
+/// words between them were read twice, as those of a text and as those of a comment. A stretch
+/// without a white byte that touches neither end of the text is unbroken: a part of a word, or
+/// nothing.
 #[derive(Drop)]
 pub struct Piece<A: Allocator> {
     from: u32,
@@ -49,7 +52,7 @@ impl<A: Allocator> Piece<A> {
         self.from
     }
 
-    /// The place behind its last byte.
+    /// The place after its last byte.
     pub fn to(&self) -> u32
         ensures { result ≡ self.now.to }
     {
@@ -63,8 +66,8 @@ impl<A: Allocator> Piece<A> {
         self.inner.is_none()
     }
 
-    /// Its bytes before the first white one, which may end a word of the stretch before it; empty, at `from`, where there
-    /// are none or where it is unbroken or begins the text.
+    /// Its bytes before the first white one, which may end a word of the stretch before it; empty,
+    /// at `from`, where there are none or where it is unbroken or begins the text.
     pub fn head(&self) -> Word
         ensures { result ≡ head_of self.now }
     {
@@ -74,8 +77,8 @@ impl<A: Allocator> Piece<A> {
         }
     }
 
-    /// Its bytes behind the last white one, which may begin a word of the stretch behind it; empty, at `to`, where there
-    /// are none or where it is unbroken or ends the text.
+    /// Its bytes after the last white one, which may begin a word of the stretch after it; empty,
+    /// at `to`, where there are none or where it is unbroken or ends the text.
     pub fn tail(&self) -> Word
         ensures { result ≡ tail_of self.now }
     {
@@ -85,8 +88,8 @@ impl<A: Allocator> Piece<A> {
         }
     }
 
-    /// The tokens between head and tail up to the first faulty word, as they are where a comment is open behind the head
-    /// (`inside`), or where none is.
+    /// The tokens between head and tail up to the first faulty word, as they are where a comment is
+    /// open after the head (`inside`), or where none is.
     pub fn tokens(&self, inside: bool) -> &[Word]
         ensures { result.now ≡ tokens_in_mode inside self.now }
     {
@@ -96,7 +99,8 @@ impl<A: Allocator> Piece<A> {
         }
     }
 
-    /// The fault of the first faulty word between head and tail in the same mode. That a comment stays open is none.
+    /// The fault of the first faulty word between head and tail in the same mode. That a comment
+    /// stays open is none.
     pub fn fault(&self, inside: bool) -> Option<Fault>
         ensures { result ≡ fault_in_mode inside self.now }
     {
@@ -146,7 +150,9 @@ fn lex_inner<A: Allocator + Copy>(
     requires short { length text.now ≤ TEXT_LIMIT }
     ensures head { IfOk result (λ inner. inner.head ≡ head) }
     ensures tail { IfOk result (λ inner. inner.tail ≡ tail) }
-    ensures readings { IfOk result (λ inner. AreReadings text.now (words_between text.now head tail) (side inner.outside) (side inner.inside)) }
+    ensures readings { IfOk result
+        (λ inner. AreReadings text.now (words_between text.now head tail) (side inner.outside)
+        (side inner.inside)) }
 {
     let mut outside = Row::new(alloc, Opened::Nowhere);
     let mut inside = Row::new(alloc, Opened::Before);
@@ -157,7 +163,7 @@ fn lex_inner<A: Allocator + Copy>(
         outside.read_word(text, found.word, found.plain)?;
         inside.read_word(text, found.word, found.plain)?;
     }
-    // Behind its fault the reading inside a comment stays as it is.
+    // After its fault the reading inside a comment stays as it is.
     while let Some(found) = blocks.next_word(tail) {
         outside.read_word(text, found.word, found.plain)?;
     }
@@ -169,8 +175,8 @@ fn lex_inner<A: Allocator + Copy>(
     })
 }
 
-/// The summary of the stretch of a text from the one place up to the other, read for both comment modes that may hold
-/// behind its head. Refused only where memory is.
+/// The summary of the stretch of a text from the one place up to the other, read for both comment
+/// modes that may hold after its head. Refused only where memory is.
 pub fn lex_piece<A: Allocator + Copy>(
     alloc: A,
     text: &[u8],
@@ -206,8 +212,10 @@ fn join_inner<A: Allocator + Copy>(
     ensures head { IfOk result (λ inner. inner.head ≡ before.head) }
     ensures tail { IfOk result (λ inner. inner.tail ≡ behind.tail) }
     ensures readings { IfOk result (λ inner. (ws us : List Word) →
-        AreReadings text.now ws (side before.outside) (side before.inside) → AreReadings text.now us (side behind.outside) (side behind.inside) →
-        AreReadings text.now (ws ++ (joined_word before.tail behind.head ++ us)) (side inner.outside) (side inner.inside)) }
+        AreReadings text.now ws (side before.outside) (side before.inside)
+        → AreReadings text.now us (side behind.outside) (side behind.inside) →
+        AreReadings text.now (ws ++ (joined_word before.tail behind.head ++ us))
+        (side inner.outside) (side inner.inside)) }
 {
     let mut outside = before.outside;
     let mut inside = before.inside;
@@ -229,8 +237,8 @@ fn join_inner<A: Allocator + Copy>(
     })
 }
 
-/// The summary of two neighbouring stretches of one text together. The second one's tokens are appended to those of the
-/// first. Refused only where memory is; both are dropped then.
+/// The summary of two neighbouring stretches of one text together. The second one's tokens are
+/// appended to those of the first. Refused only where memory is; both are dropped then.
 pub fn join<A: Allocator + Copy>(
     _alloc: A,
     text: &[u8],

@@ -3,7 +3,8 @@
 ghost use Rattle.std.specs.Prelude.{◌≡◌, ◌+◌, ◌<◌, ◌^◌, length, not, true, false, IfSome};
 ghost use Rattle.std.specs.List.{position};
 ghost use Rattle.mm_spec.specs.Bytes.{is_printable};
-ghost use Rattle.mm_spec.specs.Roles.{fault_of, has_mark, is_clean, is_comment_word, is_dollar_and, is_keyword, is_mark, is_token, role_of};
+ghost use Rattle.mm_spec.specs.Roles.{fault_of, has_mark, is_clean, is_comment_word, is_dollar_and};
+ghost use Rattle.mm_spec.specs.Roles.{is_keyword, is_mark, is_token, role_of};
 ghost use Rattle.mm_spec.specs.Text.{has_dollar};
 ghost use Rattle.mm_lex.specs.Plain.{IsPlain};
 

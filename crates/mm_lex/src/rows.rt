@@ -1,7 +1,9 @@
 //! Rows of words, each read in one comment mode.
 
-ghost use Rattle.std.specs.Prelude.{◌≡◌, ◌<◌, ◌≤◌, ◌+◌, ℕ, List, [], ◌∷◌, ◌++◌, length, OnOk, is_some, true};
-ghost use Rattle.mm_spec.specs.Readings.{bytes_of, go_on, start};
+ghost use Rattle.std.specs.Prelude.{◌≡◌, ◌<◌, ◌≤◌, ◌+◌, ℕ, List, [], ◌∷◌, ◌++◌, length, OnOk};
+ghost use Rattle.std.specs.Prelude.{is_some, true};
+ghost use Rattle.mm_spec.specs.Readings.{bytes_of};
+ghost use Rattle.mm_spec.specs.Laws.Readings.{go_on, start};
 ghost use Rattle.mm_lex.specs.Pieces.{resolved, seen, AreReadings};
 ghost use Rattle.mm_lex.specs.Inners.{carried, side};
 ghost use Rattle.mm_lex.specs.Plain.{IsPlain};
@@ -11,7 +13,7 @@ use crate::{Fault, TEXT_LIMIT, Word};
 use mm_spec::Role;
 use std::alloc::{AllocError, Allocator};
 
-/// The comment that is open behind a row of words: one that began before them, or in them.
+/// The comment that is open after a row of words: one that began before them, or in them.
 #[derive(Clone, Copy, Debug, PartialEq, Eq)]
 pub enum Opened {
     Nowhere,
@@ -26,7 +28,7 @@ impl Opened {
         !matches!(self, Opened::Nowhere)
     }
 
-    /// The comment that is open behind these words and the ones before them.
+    /// The comment that is open after these words and the ones before them.
     fn after(self, before: Opened) -> Opened
         ensures { result ≡ carried before self }
     {
@@ -63,7 +65,9 @@ impl<A: Allocator + Copy> Row<A> {
         requires within { word.end ≤ length text.now }
         requires short { length text.now ≤ TEXT_LIMIT }
         requires plain { plain ≡ true → IsPlain (bytes_of text.now word) }
-        ensures { OnOk result ((p : ℕ) → seen p (side self.new) ≡ go_on text.now (seen p (side self.old)) (word ∷ [])) }
+        ensures { OnOk result
+            ((p : ℕ)
+            → seen p (side self.new) ≡ go_on text.now (seen p (side self.old)) (word ∷ [])) }
     {
         if self.fault.is_some() {
             return Ok(());
@@ -82,7 +86,9 @@ impl<A: Allocator + Copy> Row<A> {
 
     /// Reads further words, whose readings in both modes are known.
     pub fn read_all(&mut self, outside: &Row<A>, inside: &Row<A>) -> Result<(), AllocError>
-        ensures { OnOk result ((text : List ℕ) (ws : List Word) → AreReadings text ws (side outside.now) (side inside.now) →
+        ensures { OnOk result
+            ((text : List ℕ) (ws : List Word)
+            → AreReadings text ws (side outside.now) (side inside.now) →
             (p : ℕ) → seen p (side self.new) ≡ go_on text (seen p (side self.old)) ws) }
     {
         if self.fault.is_some() {

@@ -1,6 +1,7 @@
 //! A text read in runs of neighbouring pieces, each run on a thread.
 
-ghost use Rattle.std.specs.Prelude.{◌≡◌, ◌<◌, ◌≤◌, ◌+◌, ℕ, length, vec_len, slice_index_or, IfOk, Result};
+ghost use Rattle.std.specs.Prelude.{◌≡◌, ◌<◌, ◌≤◌, ◌+◌, ℕ, length, vec_len, slice_index_or, IfOk};
+ghost use Rattle.std.specs.Prelude.{Result};
 ghost use Rattle.mm_lex.specs.Cuts.{cut_at, run_start, IsRun};
 ghost use Rattle.mm_lex.specs.Pieces.{IsSummary, Stretch};
 ghost use Rattle.mm_lex.specs.Places.{cut_text, IsCutText};
@@ -25,7 +26,8 @@ fn cut_at(text: &[u8], places: &[u32], index: usize) -> usize
     }
 }
 
-/// The first piece of run `index`, where `count` pieces are taken in so many runs, the longer ones first.
+/// The first piece of run `index`, where `count` pieces are taken in so many runs, the longer ones
+/// first.
 fn run_start(count: usize, runs: usize, index: usize) -> usize
     requires some { 0 < runs }
     requires index { index ≤ runs }
@@ -34,7 +36,7 @@ fn run_start(count: usize, runs: usize, index: usize) -> usize
     index * (count / runs) + index.min(count % runs)
 }
 
-/// The summaries of the pieces from `first` up to `behind`, read one by one and joined.
+/// The summaries of the pieces from `first` up to `after`, read one by one and joined.
 fn read_run<A: Allocator + Copy>(
     alloc: A,
     text: &[u8],
@@ -74,7 +76,9 @@ fn run_at<A: Allocator + Copy>(
     requires cuts { IsCutText (cut_text places.now (length text.now)) }
     requires few { runs ≤ length places.now + 1 }
     requires index { index < runs }
-    ensures { IfOk result (IsRun text.now places.now (run_start (length places.now + 1) runs index) (run_start (length places.now + 1) runs (index + 1))) }
+    ensures { IfOk result
+        (IsRun text.now places.now (run_start (length places.now + 1) runs index)
+        (run_start (length places.now + 1) runs (index + 1))) }
 {
     let count = places.len() + 1;
     let first = run_start(count, runs, index);
@@ -97,7 +101,8 @@ fn read_runs<R: Threads + Sync, A: Allocator + Copy + Send + Sync>(
     ensures len { IfOk result (λ pieces. vec_len pieces ≡ runs) }
     ensures each { IfOk result (λ pieces. (i : ℕ) (d : Result Stretch AllocError) → i < runs →
         IfOk (slice_index_or pieces.items i d)
-        (IsRun text.now places.now (run_start (length places.now + 1) runs i) (run_start (length places.now + 1) runs (i + 1)))) }
+        (IsRun text.now places.now (run_start (length places.now + 1) runs i)
+        (run_start (length places.now + 1) runs (i + 1)))) }
 {
     thread::map_indices(
         rt,

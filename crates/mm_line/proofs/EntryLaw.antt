@@ -1,5 +1,8 @@
 -- The entry of an argument with a default has a text that passed the argument's parser.
-use Rattle.std.proofs.Common.{◌≡◌, ◌∙◌, ◌⊎◌, ◌<◌, ◌≤◌, inl, inr, ℕ, zero, suc, Bool, true, false, true≢false, ◌&&◌, refl, sym, ap, subst, arith, List, [], ◌∷◌, map, length, slice_index_or, Option, Some, None, option_map, slice_get, eqb-true}
+use Rattle.std.proofs.Common.{◌≡◌, ◌∙◌, ◌⊎◌, ◌<◌, ◌≤◌, inl, inr, ℕ, zero, suc, Bool, true, false}
+use Rattle.std.proofs.Common.{true≢false, ◌&&◌, refl, sym, ap, subst, arith, List, [], ◌∷◌, map}
+use Rattle.std.proofs.Common.{length, slice_index_or, Option, Some, None, option_map, slice_get}
+use Rattle.std.proofs.Common.{eqb-true}
 use Rattle.std.proofs.lemmas.List.{get_or-map}
 use Rattle.std.proofs.lemmas.List.Elements.{All-get_or}
 use Rattle.std.proofs.lemmas.Slice.Eq.{bytes_eq-Decides}
@@ -11,7 +14,8 @@ use Rattle.clap.specs.Texts.{items_of}
 use Rattle.clap.specs.Values.{Accepts, read_as, reading_of}
 use Rattle.clap.specs.Walk.{Rule, Text, is_empty, is_simple_arg, rule_of}
 use Rattle.clap.specs.Matches.{first_value, found_of, matched_of, one_text}
-use Rattle.clap.specs.Facts.{Entry, EntryPasses, HasId, HasIn, PassesArg, WantsDefault, args_of, groups_of, least_values, parser_of, parser_of_value}
+use Rattle.clap.specs.Facts.{Entry, EntryPasses, HasId, HasIn, PassesArg, WantsDefault, args_of}
+use Rattle.clap.specs.Facts.{groups_of, least_values, parser_of, parser_of_value}
 use Rattle.clap.specs.Built.{IsAuto, IsParsedFrom, SameRules}
 use Rattle.clap.specs.declared.builder.action.ArgAction.TheVariants.{Set, Count}
 use Rattle.clap.specs.declared.builder.arg.Arg.{Arg}
@@ -36,7 +40,9 @@ no_option : {X : Type 0} (o : Option X) → not (is_some o) ≡ true → o ≡ N
 no_option None h = refl
 no_option (Some x) h = absurd (true≢false (sym h))
 
-parts : (a b c d e f g h i j : Bool) → (a && (b && (c && (d && (e && (f && (g && (h && (i && j))))))))) ≡ true → (b ≡ true) × (c ≡ true) × (d ≡ true) × (j ≡ true)
+parts : (a b c d e f g h i j : Bool)
+    → (a && (b && (c && (d && (e && (f && (g && (h && (i && j))))))))) ≡ true
+    → (b ≡ true) × (c ≡ true) × (d ≡ true) × (j ≡ true)
 parts true true true true true true true true true true p = (refl, refl, refl, refl)
 parts false b c d e f g h i j p = absurd (true≢false (sym p))
 parts true false c d e f g h i j p = absurd (true≢false (sym p))
@@ -58,16 +64,28 @@ pub record LeavesOut (a : Arg) : Type 0 where
 
 pub simple_parts : (a : Arg) → is_simple_arg a ≡ true → LeavesOut a
 simple_parts a h =
-    let p = parts (is_empty a.overrides.items) (is_empty a.default_vals_ifs.items) (is_empty a.groups.items) (not (is_some a.val_delim)) (not (is_some a.terminator)) (not a.allow_hyphen_values) (not a.allow_negative_numbers)
+    let p =
+    parts (is_empty a.overrides.items) (is_empty a.default_vals_ifs.items) (is_empty a.groups.items)
+    (not (is_some a.val_delim)) (not (is_some a.terminator)) (not a.allow_hyphen_values)
+    (not a.allow_negative_numbers)
     (not a.require_equals) (not a.last) (not a.global) h in
-    record { ifs = nothing_in a.default_vals_ifs.items p.0; groups = nothing_in a.groups.items p.1; val_delim = no_option a.val_delim p.2; global = not_not a.global p.3 }
+    record {
+      ifs = nothing_in a.default_vals_ifs.items p.0;
+      groups = nothing_in a.groups.items p.1;
+      val_delim = no_option a.val_delim p.2;
+      global = not_not a.global p.3;
+    }
 
 -- the argument at a place, and its rule
-pub rule_at : (xs : List Arg) (rules : List Rule) (k : ℕ) (d : Arg) (r : Rule) → map rule_of xs ≡ rules → k < length xs → rule_of (slice_index_or xs k d) ≡ slice_index_or rules k r
-rule_at xs rules k d r e lt = sym (get_or-map rule_of xs k d r lt) ∙ ap (λ (l : List Rule). slice_index_or l k r) e
+pub rule_at : (xs : List Arg) (rules : List Rule) (k : ℕ) (d : Arg) (r : Rule)
+    → map rule_of xs ≡ rules → k < length xs
+    → rule_of (slice_index_or xs k d) ≡ slice_index_or rules k r
+rule_at xs rules k d r e lt =
+    sym (get_or-map rule_of xs k d r lt) ∙ ap (λ (l : List Rule). slice_index_or l k r) e
 
 -- an entry is found by its id
-found : (xs : List Entry) (id : Text) → HasIn xs id → is_some (find (λ e. bytes_eq e.0.now id) xs) ≡ true
+found : (xs : List Entry) (id : Text) → HasIn xs id
+    → is_some (find (λ e. bytes_eq e.0.now id) xs) ≡ true
 found [] id h = let l = h.1 in absurd (omega arith)
 found (x ∷ xs) id h = by (bytes_eq x.0.now id) refl h (found xs id)
   where
@@ -75,18 +93,27 @@ found (x ∷ xs) id h = by (bytes_eq x.0.now id) refl h (found xs id)
     rest (zero, l, e) other = absurd (true≢false (sym (e x) ∙ other))
     rest (suc i, l, e) other = (i, omega arith, e)
 
-    by : (b : Bool) → bytes_eq x.0.now id ≡ b → HasIn (x ∷ xs) id → (HasIn xs id → is_some (find (λ e. bytes_eq e.0.now id) xs) ≡ true) → is_some (find (λ e. bytes_eq e.0.now id) (x ∷ xs)) ≡ true
+    by : (b : Bool) → bytes_eq x.0.now id ≡ b → HasIn (x ∷ xs) id
+        → (HasIn xs id → is_some (find (λ e. bytes_eq e.0.now id) xs) ≡ true)
+        → is_some (find (λ e. bytes_eq e.0.now id) (x ∷ xs)) ≡ true
     by true t h more = rw t refl
     by false t h more = rw t (more (rest h t))
 
-one_at : (f : Found) (id : Text) (x : MatchedArg) (how : Reading) (t : Text) → matched_of f id ≡ Some x → x.reading ≡ how → option_map (λ s. read_as how s.now) (slice_get x.vals.items 0) ≡ Some t → one_text f id ≡ Some t
+one_at : (f : Found) (id : Text) (x : MatchedArg) (how : Reading) (t : Text)
+    → matched_of f id ≡ Some x → x.reading ≡ how
+    → option_map (λ s. read_as how s.now) (slice_get x.vals.items 0) ≡ Some t
+    → one_text f id ≡ Some t
 one_at f id x how t is reading v = rw (is, reading) v
 
-first_at : (f : Found) (id : Text) (x : MatchedArg) (t : Text) → matched_of f id ≡ Some x → option_map (λ s. s.now) (slice_get x.vals.items 0) ≡ Some t → first_value f id ≡ Some t
+first_at : (f : Found) (id : Text) (x : MatchedArg) (t : Text) → matched_of f id ≡ Some x
+    → option_map (λ s. s.now) (slice_get x.vals.items 0) ≡ Some t → first_value f id ≡ Some t
 first_at f id x t is v = rw is v
 
-first_of_some : (P : Bor Text → Type 0) (how : Reading) (vs : List (Bor Text)) → All P vs → 0 < length vs
-    → (v : Bor Text) × (option_map (λ s. read_as how s.now) (slice_get vs 0) ≡ Some (read_as how v.now)) × (option_map (λ s. s.now) (slice_get vs 0) ≡ Some v.now) × P v
+first_of_some : (P : Bor Text → Type 0) (how : Reading) (vs : List (Bor Text)) → All P vs
+    → 0 < length vs
+    → (v : Bor Text)
+    × (option_map (λ s. read_as how s.now) (slice_get vs 0) ≡ Some (read_as how v.now))
+    × (option_map (λ s. s.now) (slice_get vs 0) ≡ Some v.now) × P v
 first_of_some P how [] all lt = absurd (omega arith)
 first_of_some P how (v ∷ vs) all lt = (v, refl, refl, All-get_or P (v ∷ vs) 0 v (omega arith) all)
 
@@ -100,11 +127,13 @@ pub record Defaulted (c : Command) (k : ℕ) (a : Arg) (id : Text) (q : ValuePar
   pub range : a.num_vals ≡ None
   pub default : 0 < length (items_of a.default_vals)
   pub parser : a.value_parser ≡ Some q
-  pub unique : (j : ℕ) (e : Arg) → j < length (args_of c) → bytes_eq (slice_index_or (args_of c) j e).id.now id ≡ true → j ≡ k
+  pub unique : (j : ℕ) (e : Arg) → j < length (args_of c)
+      → bytes_eq (slice_index_or (args_of c) j e).id.now id ≡ true → j ≡ k
   pub named : id ≡ [] → ⊥
   pub own : IsAuto a → ⊥
 
-module _ (c : Command) (m : ArgMatches) (p : IsParsedFrom c m) (globals : (out-Command c).has_globals ≡ false) (no_groups : groups_of p.built ≡ []) where
+module _ (c : Command) (m : ArgMatches) (p : IsParsedFrom c m)
+    (globals : (out-Command c).has_globals ≡ false) (no_groups : groups_of p.built ≡ []) where
   -- what the parser takes, and how it is read
   pub record Reads (id : Text) (q : ValueParser) (ignore_case : Bool) : Type 0 where
     pub text : Text
@@ -116,10 +145,13 @@ module _ (c : Command) (m : ArgMatches) (p : IsParsedFrom c m) (globals : (out-C
     at_id : (slice_index_or (args_of c) k a).id.now ≡ id
     at_id = ap (λ (y : Arg). y.id.now) d.at ∙ d.id_is
 
-    same : (j : ℕ) (x : Arg) → j < length (args_of p.built) → slice_index_or (args_of p.built) j x ≡ x → bytes_eq x.id.now id ≡ true → SameRules a x
+    same : (j : ℕ) (x : Arg) → j < length (args_of p.built)
+        → slice_index_or (args_of p.built) j x ≡ x → bytes_eq x.id.now id ≡ true → SameRules a x
     same j x lt at e =
         subst (λ (y : Arg). SameRules y x) d.at (same_rules_by_id c m p k a d.inside
-        (λ i y l h. d.unique i y l (subst (λ (w : Text). bytes_eq (slice_index_or (args_of c) i y).id.now w ≡ true) at_id h))
+        (λ i y l h. d.unique i y l
+        (subst (λ (w : Text). bytes_eq (slice_index_or (args_of c) i y).id.now w ≡ true) at_id
+        h))
         (λ auto. d.own (subst IsAuto d.at auto))
         j x lt at (subst (λ (w : Text). bytes_eq x.id.now w ≡ true) (sym at_id) e))
 
@@ -162,7 +194,8 @@ module _ (c : Command) (m : ArgMatches) (p : IsParsedFrom c m) (globals : (out-C
                   let one = s.least d.action one_at_least in
                   absurd (omega arith)
               | inr has ↦
-                  let bad : false ≡ true = rw (s.val_delim, (simple_parts a d.simple).val_delim) at has in
+                  let bad : false ≡ true =
+                  rw (s.val_delim, (simple_parts a d.simple).val_delim) at has in
                   cc
             ]
       ]
@@ -176,11 +209,14 @@ module _ (c : Command) (m : ArgMatches) (p : IsParsedFrom c m) (globals : (out-C
       accepts : (t : Text) → PassesArg p.built e.0.now t → Accepts a.ignore_case q t
       accepts t h =
           let s = same h.0 h.1 h.2 h.3 (here h.1 h.4.0) in
-          subst (λ (b : Bool). Accepts b q t) s.ignore_case (subst (λ (w : ValueParser). Accepts h.1.ignore_case w t) (parser_is h.1 s) h.4.1)
+          subst (λ (b : Bool). Accepts b q t) s.ignore_case
+          (subst (λ (w : ValueParser). Accepts h.1.ignore_case w t) (parser_is h.1 s) h.4.1)
 
       reads : matched_of (found_of m) id ≡ Some e.1 → Reads id q a.ignore_case
       reads is =
-          let got = first_of_some (λ v. PassesArg p.built e.0.now v.now) (reading_of q) e.1.vals.items values nonempty in
+          let got =
+          first_of_some (λ v. PassesArg p.built e.0.now v.now)
+          (reading_of q) e.1.vals.items values nonempty in
           record {
             text = got.0.now;
             one = one_at (found_of m) id e.1 (reading_of q) _ is reading got.1;
@@ -190,13 +226,21 @@ module _ (c : Command) (m : ArgMatches) (p : IsParsedFrom c m) (globals : (out-C
 
     pub default_reads : Reads id q a.ignore_case
     default_reads =
-        let wants : WantsDefault (slice_index_or (args_of c) k a) = subst WantsDefault (sym d.at) ((simple_parts a d.simple).ifs, d.default) in
-        let has : HasId (found_of m) id = subst (HasId (found_of m)) at_id (default_present c m p globals k a d.inside wants) in
-        go (find (λ e. bytes_eq e.0.now id) (found_of m).entries.items) refl (found (found_of m).entries.items id has)
+        let wants : WantsDefault (slice_index_or (args_of c) k a) =
+        subst WantsDefault (sym d.at) ((simple_parts a d.simple).ifs, d.default) in
+        let has : HasId (found_of m) id =
+        subst (HasId (found_of m)) at_id (default_present c m p globals k a d.inside wants) in
+        go (find (λ e. bytes_eq e.0.now id) (found_of m).entries.items) refl
+        (found (found_of m).entries.items id has)
       where
-        go : (o : Option Entry) → find (λ e. bytes_eq e.0.now id) (found_of m).entries.items ≡ o → is_some o ≡ true → Reads id q a.ignore_case
+        go : (o : Option Entry) → find (λ e. bytes_eq e.0.now id) (found_of m).entries.items ≡ o
+            → is_some o ≡ true → Reads id q a.ignore_case
         go None e h = absurd (true≢false (sym h))
         go (Some x) e h =
-            let is : matched_of (found_of m) id ≡ Some x.1 = ap (option_map (λ (y : Entry). y.1)) e in
-            let got = entry_by_id (EntryPasses p.built) (found_of m).entries.items id x.1 (p.parsed (p.from.globals ∙ globals)).values is in
-            reads got.0 ((bytes_eq-Decides got.0.0.now id).0 got.2) got.3 (is ∙ ap (λ (y : MatchedArg). Some y) (sym got.1))
+            let is : matched_of (found_of m) id ≡ Some x.1 =
+            ap (option_map (λ (y : Entry). y.1)) e in
+            let got =
+            entry_by_id (EntryPasses p.built) (found_of m).entries.items id x.1
+            (p.parsed (p.from.globals ∙ globals)).values is in
+            reads got.0 ((bytes_eq-Decides got.0.0.now id).0 got.2) got.3
+            (is ∙ ap (λ (y : MatchedArg). Some y) (sym got.1))

@@ -17,11 +17,13 @@ use Rattle.mm_line.specs.Lines.{IsCommand, IsAsking, report_word, form_word}
 
 -- the entry is read as a number from 1 to 64
 abbrev pub HasNumber : ArgMatches → Text → Type 0
-HasNumber m id = (t : Text) × (one_text (found_of m) id ≡ Some (without_minus t)) × IsSignedIn (pos 1) (pos 64) t
+HasNumber m id =
+    (t : Text) × (one_text (found_of m) id ≡ Some (without_minus t)) × IsSignedIn (pos 1) (pos 64) t
 
 -- the entry of `--report` is one of its words
 abbrev pub HasReport : ArgMatches → Type 0
-HasReport m = (choice : Choice) × (first_value (found_of m) (codes "report") ≡ Some (report_word choice))
+HasReport m =
+    (choice : Choice) × (first_value (found_of m) (codes "report") ≡ Some (report_word choice))
 
 -- the entry of `--form` is one of its words
 abbrev pub HasForm : ArgMatches → Type 0

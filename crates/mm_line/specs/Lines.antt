@@ -1,6 +1,8 @@
--- The command line: which words the command takes, and what a line says. Both are as `clap` states them: `matches_of` is
--- what it finds in the words, `fault_of` the kinds of error that the words may have.
-use Rattle.std.specs.Prelude.{◌≡◌, ℕ, Bool, true, false, ◌⊎◌, List, [], ◌∷◌, map, Option, Some, None, codes, pos, ⊤}
+-- The command line: which words the command takes, and what a line says. Both are as `clap` states
+-- them: `matches_of` is what it finds in the words, `fault_of` the kinds of error that the words
+-- may have.
+use Rattle.std.specs.Prelude.{◌≡◌, ℕ, Bool, true, false, ◌⊎◌, List, [], ◌∷◌, map, Option, Some}
+use Rattle.std.specs.Prelude.{None, codes, pos, ⊤}
 use Rattle.std.specs.Option.{option_map}
 use Rattle.std.specs.String.{string_bytes}
 use Rattle.std.specs.Borrow.{Bor}
@@ -54,7 +56,12 @@ number_rule id = record (new_rule id) {
 }
 
 abbrev pub only_rule : Rule
-only_rule = record (new_rule (codes "only")) { long = Some (codes "only"); action = Some Set; value_names = 1 }
+only_rule =
+    record (new_rule (codes "only")) {
+      long = Some (codes "only");
+      action = Some Set;
+      value_names = 1;
+    }
 
 -- an option with one of these words, or with the first one where it isn't given
 abbrev pub word_rule : Text → Text → Bor (List (Bor Text)) → Rule
@@ -74,10 +81,14 @@ form_rule names = word_rule (codes "form") (codes "1") names
 
 -- the rules of `--report` and `--form`, wherever their words lie
 abbrev pub IsReportRule : Rule → Type 0
-IsReportRule rule = (names : Bor (List (Bor Text))) × (map (λ n. n.now) names.now ≡ report_words) × (rule ≡ report_rule names)
+IsReportRule rule =
+    (names : Bor (List (Bor Text))) × (map (λ n. n.now) names.now ≡ report_words)
+    × (rule ≡ report_rule names)
 
 abbrev pub IsFormRule : Rule → Type 0
-IsFormRule rule = (names : Bor (List (Bor Text))) × (map (λ n. n.now) names.now ≡ form_words) × (rule ≡ form_rule names)
+IsFormRule rule =
+    (names : Bor (List (Bor Text))) × (map (λ n. n.now) names.now ≡ form_words)
+    × (rule ≡ form_rule names)
 
 abbrev pub file_rule : Rule
 file_rule = record (new_rule (codes "FILE")) { action = Some Set }
@@ -88,12 +99,23 @@ flag_rule id = record (new_rule id) { long = Some id; action = Some SetTrue }
 
 -- the program's name, and that it has a version
 abbrev pub named : App
-named = let app = new_app (codes "mmdepend") in record app { top = record app.top { has_version = true } }
+named =
+    let app = new_app (codes "mmdepend") in
+    record app { top = record app.top { has_version = true } }
 
--- mmdepend [--workers N] [--pieces N] [--only T] [--report PART] [--form N] [--essential] [--open] [FILE]
+-- mmdepend [--workers N] [--pieces N] [--only T] [--report PART] [--form N] [--essential] [--open]
+-- [FILE]
 unfoldable pub command_of : Rule → Rule → App
 command_of report form =
-    with_rule (with_rule (with_rule (with_rule (with_rule (with_rule (with_rule (with_rule named (number_rule (codes "workers"))) (number_rule (codes "pieces"))) only_rule) report) form) (flag_rule (codes "essential"))) (flag_rule (codes "open"))) file_rule
+    with_rule
+    (with_rule
+    (with_rule
+    (with_rule
+    (with_rule
+    (with_rule
+    (with_rule (with_rule named (number_rule (codes "workers"))) (number_rule (codes "pieces")))
+    only_rule) report) form) (flag_rule (codes "essential"))) (flag_rule (codes "open")))
+    file_rule
 
 pub record IsCommand (app : App) : Type 0 where
   pub report : Rule
@@ -106,9 +128,12 @@ pub record IsCommand (app : App) : Type 0 where
 abbrev pub number_of : Text → List Row → Option ℕ
 number_of id rows = option_map (λ t. digits_value 10 (without_leading_plus t)) (one_of id rows)
 
--- a flag is set where its entry is the word for that, and isn't where it is the other word, or where there is none
+-- a flag is set where its entry is the word for that, and isn't where it is the other word, or
+-- where there is none
 abbrev pub IsFlag : Option Text → Bool → Type 0
-IsFlag entry set = (entry ≡ None → set ≡ false) × (entry ≡ Some (codes "true") → set ≡ true) × (entry ≡ Some (codes "false") → set ≡ false)
+IsFlag entry set =
+    (entry ≡ None → set ≡ false) × (entry ≡ Some (codes "true") → set ≡ true)
+    × (entry ≡ Some (codes "false") → set ≡ false)
 
 -- the plan is lawful, and each field is its entry
 pub record IsLine (rows : List Row) (line : Line) : Type 0 where
@@ -124,17 +149,20 @@ pub record IsLine (rows : List Row) (line : Line) : Type 0 where
 
 -- the command finds no fault in the words, and the line is what they say
 abbrev pub Says : List Text → Line → Type 0
-Says words line = (app : App) × IsCommand app × (fault_of app words ≡ []) × IsLine (matches_of app words) line
+Says words line =
+    (app : App) × IsCommand app × (fault_of app words ≡ []) × IsLine (matches_of app words) line
 
 -- the command doesn't take the words, for a fault of which this holds
 abbrev pub Faults : List Text → (ErrorKind → Type 0) → Type 0
-Faults words P = (app : App) × IsCommand app × (takes app words ≡ false) × (kind : ErrorKind) × IsAmong kind (fault_of app words) × P kind
+Faults words P =
+    (app : App) × IsCommand app × (takes app words ≡ false) × (kind : ErrorKind)
+    × IsAmong kind (fault_of app words) × P kind
 
 -- a text is asked for, that of help or of the version
 abbrev pub IsAsking : ErrorKind → Type 0
 IsAsking kind = (kind ≡ DisplayHelp) ⊎ (kind ≡ DisplayVersion)
 
--- A text is asked for, or the words have another fault. Nothing is said where memory was refused.
+-- A text is asked for, or the words have another fault. Nothing is said where memory ran out.
 abbrev pub Refuses : List Text → LineRefused → Type 0
 Refuses words (Help text) = Faults words IsAsking
 Refuses words (Bad text) = Faults words (λ kind. ¬ IsAsking kind)

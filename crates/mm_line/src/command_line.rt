@@ -3,8 +3,8 @@
 use mm_plan::Plan;
 use std::alloc::{AllocError, Global};
 
-/// What the words of a command line say: what the run is asked to do, and the file that it reads, the standard input
-/// where it is `None`.
+/// What the words of a command line say: what the run is asked to do, and the file that it reads,
+/// the standard input where it is `None`.
 #[derive(Drop)]
 pub struct Line {
     pub plan: Plan<Global>,

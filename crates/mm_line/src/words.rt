@@ -5,7 +5,9 @@ ghost use Rattle.std.specs.String.{string_bytes};
 ghost use Rattle.std.specs.Str.Parse.{digits_value, without_leading_plus};
 ghost use Rattle.clap.specs.Words.{app_of, first_value, found_of, kind_of, one_text, rule_of};
 ghost use Rattle.mm_line.specs.Found.{Finds, HasForm, HasNumber, HasReport, IsFor};
-ghost use Rattle.mm_line.specs.Lines.{IsCommand, IsFormRule, IsReportRule, Refuses, Says, file_rule, flag_rule, form_word, number_rule, only_rule, report_word};
+ghost use Rattle.mm_line.specs.Lines.{IsCommand, IsFormRule, IsReportRule, Refuses, Says};
+ghost use Rattle.mm_line.specs.Lines.{file_rule, flag_rule, form_word, number_rule, only_rule};
+ghost use Rattle.mm_line.specs.Lines.{report_word};
 
 use crate::command_line::{Line, LineRefused};
 use clap::error::ErrorKind;
@@ -153,7 +155,9 @@ fn parsed<'a, S: AsStr>(alloc: Global, words: &'a [S]) -> Result<ArgMatches<'a>,
 /// The number that an option has.
 fn number_in(matches: &ArgMatches<'_>, option: &str) -> u32
     requires { HasNumber matches.now option.now }
-    ensures number { option_map (λ t. digits_value 10 (without_leading_plus t)) (one_text (found_of matches.now) option.now) ≡ Some result }
+    ensures number { option_map (λ t. digits_value 10 (without_leading_plus t))
+        (one_text (found_of matches.now) option.now)
+        ≡ Some result }
     ensures least { 1 ≤ result }
     ensures most { result ≤ 64 }
 {
@@ -194,7 +198,8 @@ fn text_in(
     matches: &ArgMatches<'_>,
     argument: &str,
 ) -> Result<Option<String>, AllocError>
-    ensures { IfOk result (λ r. option_map string_bytes r ≡ first_value (found_of matches.now) argument.now) }
+    ensures { IfOk result
+        (λ r. option_map string_bytes r ≡ first_value (found_of matches.now) argument.now) }
 {
     match matches.get_str(argument) {
         Some(text) => Ok(Some(String::from_str(alloc, text)?)),
@@ -202,8 +207,8 @@ fn text_in(
     }
 }
 
-/// Reads the words of a command line, of which the first is the program's name. `Help` and `Bad` come only where the
-/// command doesn't take the words.
+/// Reads the words of a command line, of which the first is the program's name. `Help` and `Bad`
+/// come only where the command doesn't take the words.
 pub fn line<S: AsStr>(alloc: Global, words: &[S]) -> Result<Line, LineRefused>
     ensures says { IfOk result (λ l. Says (map S.text words.now) l) }
     ensures refuses { IfErr result (λ e. Refuses (map S.text words.now) e) }

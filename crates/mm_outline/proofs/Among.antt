@@ -1,47 +1,71 @@
 -- Which words the active statements have.
-use Rattle.std.proofs.Common.{◌≡◌, ℕ, zero, suc, ◌+◌, ◌<◌, ◌≤◌, Bool, true, false, ◌&&◌, ◌||◌, List, [], ◌∷◌, flat_map, map, bytes_eq, refl, sym, ap, ap₂, ◌∙◌, arith, ◌⊎◌, inl, inr, eq-or-lt_of_le}
+use Rattle.std.proofs.Common.{cond, ◌≡◌, ℕ, zero, suc, ◌+◌, ◌<◌, ◌≤◌, Bool, true, false, ◌&&◌, ◌||◌}
+use Rattle.std.proofs.Common.{List, [], ◌∷◌, flat_map, map, bytes_eq, refl, sym, ap, ap₂, ◌∙◌}
+use Rattle.std.proofs.Common.{arith, ◌⊎◌, inl, inr, eq-or-lt_of_le}
 use Rattle.std.proofs.lemmas.List.Folds.{list_any-append}
 use Rattle.std.proofs.lemmas.Grind.{flat_map-append}
-use Rattle.std.specs.List.{list_any, range_with_len}
-use Rattle.mm_spec.specs.Text.{Word, is_in}
+use Rattle.std.specs.List.{list_any, range_with_len, filter}
+use Rattle.mm_spec.specs.Text.{Bytes, is_in}
 use Rattle.mm_spec.specs.Statement.{Statement}
-use Rattle.mm_spec.specs.Scope.{Typing, statement_at, those, typings_of}
+use Rattle.mm_spec.specs.Scope.{Typing, statement_at, typings_of}
 use Rattle.mm_outline.specs.Typed.{has, typed_words}
 
-pub any_true : (q : ℕ → Bool) (n a j : ℕ) → a ≤ j → j < a + n → q j ≡ true → list_any q (range_with_len a n) ≡ true
+pub any_true : (q : ℕ → Bool) (n a j : ℕ) → a ≤ j → j < a + n → q j ≡ true
+    → list_any q (range_with_len a n) ≡ true
 any_true q zero a j h l e = absurd (omega arith)
-any_true q (suc n) a j h l e = by (eq-or-lt_of_le h) (λ s. any_true q n (a + 1) j (omega arith) (omega arith) e)
+any_true q (suc n) a j h l e =
+    by (eq-or-lt_of_le h) (λ s. any_true q n (a + 1) j (omega arith) (omega arith) e)
   where
     or_right : (b : Bool) → (b || true) ≡ true
     or_right true = refl
     or_right false = refl
 
-    by : (a ≡ j) ⊎ (a < j) → (a < j → list_any q (range_with_len (a + 1) n) ≡ true) → (q a || list_any q (range_with_len (a + 1) n)) ≡ true
+    by : (a ≡ j) ⊎ (a < j) → (a < j → list_any q (range_with_len (a + 1) n) ≡ true)
+        → (q a || list_any q (range_with_len (a + 1) n)) ≡ true
     by (inl s) r = ap (λ b. b || list_any q (range_with_len (a + 1) n)) (ap q s ∙ e)
     by (inr s) r = ap (λ b. q a || b) (r s) ∙ or_right (q a)
 
-pub any_false : (q : ℕ → Bool) (n a : ℕ) → ((j : ℕ) → j < a + n → q j ≡ false) → list_any q (range_with_len a n) ≡ false
+pub any_false : (q : ℕ → Bool) (n a : ℕ) → ((j : ℕ) → j < a + n → q j ≡ false)
+    → list_any q (range_with_len a n) ≡ false
 any_false q zero a h = refl
-any_false q (suc n) a h = ap₂ (λ x y. x || y) (h a (omega arith)) (any_false q n (a + 1) (λ j l. h j (omega arith)))
+any_false q (suc n) a h =
+    ap₂ (λ x y. x || y) (h a (omega arith)) (any_false q n (a + 1) (λ j l. h j (omega arith)))
 
-module _ (db : List Statement) (f : Statement → List Word) (w : Word) where
-  pub among_active : (p : ℕ → Bool) (n a : ℕ) → is_in w (flat_map f (flat_map (statement_at db) (those p (range_with_len a n)))) ≡ list_any (λ j. p j && has db f w j) (range_with_len a n)
+module _ (db : List Statement) (f : Statement → List Bytes) (w : Bytes) where
+  pub among_active : (p : ℕ → Bool) (n a : ℕ)
+      → is_in w (flat_map f (flat_map (statement_at db) (filter p (range_with_len a n))))
+      ≡ list_any (λ j. p j && has db f w j) (range_with_len a n)
   among_active p zero a = refl
   among_active p (suc n) a = by (p a) (among_active p n (a + 1))
     where
-      by : (b : Bool) → is_in w (flat_map f (flat_map (statement_at db) (those p (range_with_len (a + 1) n)))) ≡ list_any (λ j. p j && has db f w j) (range_with_len (a + 1) n) → is_in w (flat_map f (flat_map (statement_at db) (elim b [ true ↦ a ∷ those p (range_with_len (a + 1) n) | false ↦ those p (range_with_len (a + 1) n) ]))) ≡ ((b && has db f w a) || list_any (λ j. p j && has db f w j) (range_with_len (a + 1) n))
+      by : (b : Bool)
+          → is_in w (flat_map f (flat_map (statement_at db) (filter p (range_with_len (a + 1) n))))
+          ≡ list_any (λ j. p j && has db f w j) (range_with_len (a + 1) n)
+          → is_in w
+          (flat_map f
+          (flat_map (statement_at db)
+          (cond b (a ∷ filter p (range_with_len (a + 1) n)) (filter p (range_with_len (a + 1) n)))))
+          ≡ ((b && has db f w a) || list_any (λ j. p j && has db f w j) (range_with_len (a + 1) n))
       by true r =
-          ap (is_in w) (flat_map-append f (statement_at db a) (flat_map (statement_at db) (those p (range_with_len (a + 1) n)))) ∙ list_any-append _ (flat_map f (statement_at db a)) (flat_map f (flat_map (statement_at db) (those p (range_with_len (a + 1) n))))
+          ap (is_in w)
+          (flat_map-append f (statement_at db a)
+          (flat_map (statement_at db) (filter p (range_with_len (a + 1) n))))
+          ∙ list_any-append _ (flat_map f (statement_at db a))
+          (flat_map f (flat_map (statement_at db) (filter p (range_with_len (a + 1) n))))
           ∙ ap (λ b. has db f w a || b) r
       by false r = r
 
-any_map : (w : Word) (ts : List Typing) → list_any (λ t. bytes_eq w t.variable) ts ≡ is_in w (map (λ t. t.variable) ts)
+any_map : (w : Bytes) (ts : List Typing)
+    → list_any (λ t. bytes_eq w t.variable) ts ≡ is_in w (map (λ t. t.variable) ts)
 any_map w [] = refl
 any_map w (t ∷ ts) = ap (λ b. bytes_eq w t.variable || b) (any_map w ts)
 
 -- whether a statement types a word
-pub typed_in : (w : Word) (xs : List Statement) → list_any (λ t. bytes_eq w t.variable) (flat_map typings_of xs) ≡ is_in w (flat_map typed_words xs)
+pub typed_in : (w : Bytes) (xs : List Statement)
+    → list_any (λ t. bytes_eq w t.variable) (flat_map typings_of xs)
+    ≡ is_in w (flat_map typed_words xs)
 typed_in w [] = refl
 typed_in w (s ∷ xs) =
-    list_any-append (λ t. bytes_eq w t.variable) (typings_of s) (flat_map typings_of xs) ∙ ap₂ (λ a b. a || b) (any_map w (typings_of s)) (typed_in w xs)
+    list_any-append (λ t. bytes_eq w t.variable) (typings_of s) (flat_map typings_of xs)
+    ∙ ap₂ (λ a b. a || b) (any_map w (typings_of s)) (typed_in w xs)
     ∙ sym (list_any-append (bytes_eq w) (typed_words s) (flat_map typed_words xs))

@@ -1,16 +1,20 @@
 -- The ends of blocks say where statements are active.
-use Rattle.std.proofs.Common.{◌≡◌, ◌≢◌, ℕ, zero, suc, ◌+◌, ◌-◌, ◌≤◌, ◌<◌, Bool, true, false, ◌&&◌, cond, List, [], ◌∷◌, ◌++◌, length, take, get_or, set, count_by, nat_le, ◌⊎◌, inl, inr, refl, sym, ap, ap₂, ◌∙◌, subst, arith, take_all, le_refl, length-append, le-leb}
+use Rattle.std.proofs.Common.{◌≡◌, ◌≢◌, ℕ, zero, suc, ◌+◌, ◌-◌, ◌≤◌, ◌<◌, Bool, true, false, ◌&&◌}
+use Rattle.std.proofs.Common.{cond, List, [], ◌∷◌, ◌++◌, length, take, get_or, set, count_by}
+use Rattle.std.proofs.Common.{nat_le, ◌⊎◌, inl, inr, refl, sym, ap, ap₂, ◌∙◌, subst, arith}
+use Rattle.std.proofs.Common.{take_all, le_refl, length-append, le-leb}
 use Rattle.std.proofs.lemmas.Bool.{lt-leb, cases_lt, cases_eq}
-use Rattle.std.proofs.lemmas.List.{take-append-le, get_or_append_left, get_or-set_same, get_or-set_other, length-set, get_or-take, length-take-le}
+use Rattle.std.proofs.lemmas.List.{take-append-le, get_or_append_left, get_or-set_same}
+use Rattle.std.proofs.lemmas.List.{get_or-set_other, length-set, get_or-take, length-take-le}
 use Rattle.std.proofs.Math.Seq.{get_or-append_seam}
 use Rattle.std.specs.List.{list_all, range_with_len}
 use Rattle.mm_spec.specs.Statement.{Statement, is_opening, is_closing}
-use Rattle.mm_spec.specs.Scope.{depth}
-use Rattle.mm_spec.proofs.Activity.{stays, stays_more}
+use Rattle.mm_spec.specs.Scope.{depth, stays}
+use Rattle.mm_spec.proofs.Activity.{stays_more}
 use Rattle.mm_spec.proofs.Shape.{count_end}
 use Rattle.mm_outline.specs.Blocks.{Lists, lists, never, top, no_blocks, end_of, IsBlocks}
 
--- ---- what stays the same behind one statement more
+-- ---- what stays the same after one statement more
 
 module _ (db : List Statement) (s : Statement) where
   abbrev more : List Statement
@@ -20,38 +24,63 @@ module _ (db : List Statement) (s : Statement) where
   length-more = length-append db (s ∷ [])
 
   pub depth-front : (i : ℕ) → i ≤ length db → depth more i ≡ depth db i
-  depth-front i h = ap₂ (λ a b. a - b) (ap (count_by is_opening) (take-append-le i db (s ∷ []) h)) (ap (count_by is_closing) (take-append-le i db (s ∷ []) h))
+  depth-front i h =
+      ap₂ (λ a b. a - b) (ap (count_by is_opening) (take-append-le i db (s ∷ []) h))
+      (ap (count_by is_closing) (take-append-le i db (s ∷ []) h))
 
   pub depth-end : depth db (length db) ≡ count_by is_opening db - count_by is_closing db
-  depth-end = ap₂ (λ a b. a - b) (ap (count_by is_opening) (take_all (length db) db (le_refl (length db)))) (ap (count_by is_closing) (take_all (length db) db (le_refl (length db))))
+  depth-end =
+      ap₂ (λ a b. a - b) (ap (count_by is_opening) (take_all (length db) db (le_refl (length db))))
+      (ap (count_by is_closing) (take_all (length db) db (le_refl (length db))))
 
-  pub depth-last : depth more (length db + 1) ≡ (count_by is_opening db + cond (is_opening s) 1 0) - (count_by is_closing db + cond (is_closing s) 1 0)
+  pub depth-last : depth more (length db + 1)
+      ≡ (count_by is_opening db + cond (is_opening s) 1 0) -
+      (count_by is_closing db + cond (is_closing s) 1 0)
   depth-last =
       let l : length more ≤ length db + 1 = omega (arith, length-more) in
-      ap₂ (λ a b. a - b) (ap (count_by is_opening) (take_all (length db + 1) more l) ∙ count_end is_opening db s) (ap (count_by is_closing) (take_all (length db + 1) more l) ∙ count_end is_closing db s)
+      ap₂ (λ a b. a - b)
+      (ap (count_by is_opening) (take_all (length db + 1) more l) ∙ count_end is_opening db s)
+      (ap (count_by is_closing) (take_all (length db + 1) more l) ∙ count_end is_closing db s)
 
-  same_all : (d e : ℕ) (f g : ℕ → ℕ) (n a : ℕ) → d ≡ e → ((i : ℕ) → i < a + n → f i ≡ g i) → list_all (λ i. nat_le d (f i)) (range_with_len a n) ≡ list_all (λ i. nat_le e (g i)) (range_with_len a n)
+  same_all : (d e : ℕ) (f g : ℕ → ℕ) (n a : ℕ) → d ≡ e → ((i : ℕ) → i < a + n → f i ≡ g i)
+      → list_all (λ i. nat_le d (f i)) (range_with_len a n)
+      ≡ list_all (λ i. nat_le e (g i)) (range_with_len a n)
   same_all d e f g zero a h k = refl
-  same_all d e f g (suc n) a h k = ap₂ (λ x y. x && y) (ap₂ nat_le h (k a (omega arith))) (same_all d e f g n (a + 1) h (λ i l. k i (omega arith)))
+  same_all d e f g (suc n) a h k =
+      ap₂ (λ x y. x && y) (ap₂ nat_le h (k a (omega arith)))
+      (same_all d e f g n (a + 1) h (λ i l. k i (omega arith)))
 
   pub stays-front : (j k : ℕ) → j < k → k ≤ length db → stays more j k ≡ stays db j k
-  stays-front j k h l = same_all (depth more j) (depth db j) (depth more) (depth db) (k - j) (j + 1) (depth-front j (omega arith)) (λ i m. depth-front i (omega arith))
+  stays-front j k h l =
+      same_all (depth more j) (depth db j) (depth more) (depth db) (k - j) (j + 1)
+      (depth-front j (omega arith)) (λ i m. depth-front i (omega arith))
 
   stays-here : (j : ℕ) → stays more j j ≡ true
-  stays-here j = let n : j - j ≡ 0 = omega arith in ap (λ m. list_all (λ i. nat_le (depth more j) (depth more i)) (range_with_len (j + 1) m)) n
+  stays-here j =
+      let n : j - j ≡ 0 = omega arith in
+      ap (λ m. list_all (λ i. nat_le (depth more j) (depth more i)) (range_with_len (j + 1) m)) n
 
   -- one place more
-  pub stays-last : (j : ℕ) → j < length db → stays more j (length db + 1) ≡ (stays db j (length db) && nat_le (depth db j) (depth more (length db + 1)))
+  pub stays-last : (j : ℕ) → j < length db
+      → stays more j (length db + 1)
+      ≡ (stays db j (length db) && nat_le (depth db j) (depth more (length db + 1)))
   stays-last j h =
       let e : suc (length db) ≡ length db + 1 = omega arith in
-      subst (λ n. stays more j n ≡ (stays more j (length db) && nat_le (depth more j) (depth more n))) e (stays_more more j (length db) (omega arith))
-      ∙ ap₂ (λ a b. a && nat_le b (depth more (length db + 1))) (stays-front j (length db) h (le_refl (length db))) (depth-front j (omega arith))
+      subst (λ n. stays more j n
+      ≡ (stays more j (length db) && nat_le (depth more j) (depth more n))) e
+      (stays_more more j (length db) (omega arith))
+      ∙ ap₂ (λ a b. a && nat_le b (depth more (length db + 1)))
+      (stays-front j (length db) h (le_refl (length db))) (depth-front j (omega arith))
 
-  pub stays-new : stays more (length db) (length db + 1) ≡ nat_le (depth db (length db)) (depth more (length db + 1))
+  pub stays-new : stays more (length db) (length db + 1)
+      ≡ nat_le (depth db (length db)) (depth more (length db + 1))
   stays-new =
       let e : suc (length db) ≡ length db + 1 = omega arith in
-      subst (λ n. stays more (length db) n ≡ (stays more (length db) (length db) && nat_le (depth more (length db)) (depth more n))) e (stays_more more (length db) (length db) (le_refl (length db)))
-      ∙ ap₂ (λ a b. a && nat_le b (depth more (length db + 1))) (stays-here (length db)) (depth-front (length db) (le_refl (length db)))
+      subst (λ n. stays more (length db) n
+      ≡ (stays more (length db) (length db) && nat_le (depth more (length db)) (depth more n)))
+      e (stays_more more (length db) (length db) (le_refl (length db)))
+      ∙ ap₂ (λ a b. a && nat_le b (depth more (length db + 1))) (stays-here (length db))
+      (depth-front (length db) (le_refl (length db)))
 
 pub blocks_none : IsBlocks [] no_blocks
 blocks_none = record {
@@ -60,15 +89,19 @@ blocks_none = record {
   nested = omega arith;
   stack = refl;
   known = λ j h. absurd (omega arith);
-  opened = λ l h. let e : 0 ≡ l = omega arith in subst (λ l. get_or (0 ∷ []) l 0 < 1) e (omega arith);
-  still = λ l h. let e : 0 ≡ l = omega arith in subst (λ l. get_or (never ∷ []) (get_or (0 ∷ []) l 0) 0 ≡ never) e refl;
+  opened =
+      λ l h. let e : 0 ≡ l = omega arith in subst (λ l. get_or (0 ∷ []) l 0 < 1) e (omega arith);
+  still =
+      λ l h. let e : 0 ≡ l = omega arith in
+      subst (λ l. get_or (never ∷ []) (get_or (0 ∷ []) l 0) 0 ≡ never) e refl;
   rising = λ l m h k. absurd (omega arith);
   at = λ j h. absurd (omega arith);
   ended = λ j k h l. absurd (omega arith);
   bounds = λ j h. absurd (omega arith);
 }
 
-module _ (db : List Statement) (s : Statement) (b : Lists) (x : IsBlocks db b) (few : length db < never) where
+module _ (db : List Statement) (s : Statement) (b : Lists) (x : IsBlocks db b)
+    (few : length db < never) where
   t : ℕ
   t = top b.open_blocks
 
@@ -76,13 +109,17 @@ module _ (db : List Statement) (s : Statement) (b : Lists) (x : IsBlocks db b) (
   of-more = b.of ++ top b.open_blocks ∷ []
 
   of-front : (j : ℕ) → j < length db → get_or of-more j 0 ≡ get_or b.of j 0
-  of-front j h = get_or_append_left b.of (top b.open_blocks ∷ []) 0 j (let c = x.count in omega (arith, c, h))
+  of-front j h =
+      get_or_append_left b.of (top b.open_blocks ∷ []) 0 j (let c = x.count in omega (arith, c, h))
 
   of-last : get_or of-more (length db) 0 ≡ top b.open_blocks
-  of-last = subst (λ n. get_or of-more n 0 ≡ top b.open_blocks) x.count (get_or-append_seam b.of (top b.open_blocks) [] 0)
+  of-last =
+      subst (λ n. get_or of-more n 0 ≡ top b.open_blocks) x.count
+      (get_or-append_seam b.of (top b.open_blocks) [] 0)
 
   -- where a statement is: an old one or the new one
-  either : {P : ℕ → Type 0} (j : ℕ) → j < length (more db s) → ((i : ℕ) → i < length db → P i) → P (length db) → P j
+  either : {P : ℕ → Type 0} (j : ℕ) → j < length (more db s) → ((i : ℕ) → i < length db → P i)
+      → P (length db) → P j
   either {P = P} j h old new = by (cases_lt j (length db))
     where
       by : (j < length db) ⊎ (length db ≤ j) → P j
@@ -96,18 +133,27 @@ module _ (db : List Statement) (s : Statement) (b : Lists) (x : IsBlocks db b) (
   top-still = let k = x.stack in x.still (length b.open_blocks - 1) (omega (arith, k))
 
   top-at : top b.open_blocks ≡ get_or b.open_blocks (depth db (length db)) 0
-  top-at = let k = x.stack in let e : length b.open_blocks - 1 ≡ depth db (length db) = omega (arith, k) in ap (λ n. get_or b.open_blocks n 0) e
+  top-at =
+      let k = x.stack in
+      let e : length b.open_blocks - 1 ≡ depth db (length db) = omega (arith, k) in
+      ap (λ n. get_or b.open_blocks n 0) e
 
   -- what becomes of a statement's block
   module _ (ends opens : List ℕ) where
     abbrev IsOpen : ℕ → ℕ → Type 0
-    IsOpen block deep = (get_or ends block 0 ≡ never) × (deep ≤ depth (more db s) (length db + 1)) × (get_or opens deep 0 ≡ block)
+    IsOpen block deep =
+        (get_or ends block 0 ≡ never) × (deep ≤ depth (more db s) (length db + 1))
+        × (get_or opens deep 0 ≡ block)
 
     abbrev IsClosed : ℕ → ℕ → Type 0
-    IsClosed block deep = (get_or ends block 0 ≡ length db) × (depth (more db s) (length db + 1) < deep)
+    IsClosed block deep =
+        (get_or ends block 0 ≡ length db) × (depth (more db s) (length db + 1) < deep)
 
     abbrev Becomes : ℕ → Type 0
-    Becomes j = ((end_of b j ≡ never) × (IsOpen (get_or b.of j 0) (depth db j) ⊎ IsClosed (get_or b.of j 0) (depth db j))) ⊎ ((end_of b j < length db) × (get_or ends (get_or b.of j 0) 0 ≡ end_of b j))
+    Becomes j =
+        ((end_of b j ≡ never)
+        × (IsOpen (get_or b.of j 0) (depth db j) ⊎ IsClosed (get_or b.of j 0) (depth db j)))
+        ⊎ ((end_of b j < length db) × (get_or ends (get_or b.of j 0) 0 ≡ end_of b j))
 
     record Grows : Type 0 where
       nested : count_by is_closing (more db s) ≤ count_by is_opening (more db s)
@@ -118,89 +164,196 @@ module _ (db : List Statement) (s : Statement) (b : Lists) (x : IsBlocks db b) (
       still : (l : ℕ) → l < length opens → get_or ends (get_or opens l 0) 0 ≡ never
       rising : (l m : ℕ) → l < m → m < length opens → get_or opens l 0 < get_or opens m 0
       becomes : (j : ℕ) → j < length db → Becomes j
-      new : IsOpen (top b.open_blocks) (depth db (length db)) ⊎ IsClosed (top b.open_blocks) (depth db (length db))
+      new : IsOpen (top b.open_blocks) (depth db (length db))
+          ⊎ IsClosed (top b.open_blocks) (depth db (length db))
 
     grown : Grows → IsBlocks (more db s) (lists of-more ends opens)
     grown g = record {
-      count = let c = x.count in omega (arith, c, length-more db s, length-append b.of (top b.open_blocks ∷ []));
+      count =
+          let c = x.count in
+          omega (arith, c, length-more db s, length-append b.of (top b.open_blocks ∷ []));
       few = let m = g.few-more in omega (arith, m, length-more db s);
       nested = g.nested;
       stack = rw (length-more db s) g.stack;
-      known = λ j h. either {P = λ j. get_or of-more j 0 < length ends} j h (λ i l. rw (of-front i l) (let k = x.known i l in let m = g.longer in omega (arith, k, m))) (rw of-last (let k = top-opened in let m = g.longer in omega (arith, k, m)));
+      known =
+          λ j h. either {P = λ j. get_or of-more j 0 < length ends} j h
+          (λ i l. rw (of-front i l)
+          (let k = x.known i l in let m = g.longer in omega (arith, k, m)))
+          (rw of-last (let k = top-opened in let m = g.longer in omega (arith, k, m)));
       opened = g.opened;
       still = g.still;
       rising = g.rising;
-      at = λ j h e. either {P = λ j. get_or ends (get_or of-more j 0) 0 ≡ never → (depth (more db s) j ≤ depth (more db s) (length (more db s))) × (get_or opens (depth (more db s) j) 0 ≡ get_or of-more j 0)} j h at-old (at-new g.new) e;
+      at =
+          λ j h e. either {P = λ j. get_or ends (get_or of-more j 0) 0 ≡ never
+          → (depth (more db s) j ≤ depth (more db s) (length (more db s)))
+          × (get_or opens (depth (more db s) j) 0 ≡ get_or of-more j 0)} j h at-old
+          (at-new g.new) e;
       ended = ended;
-      bounds = λ j h. either {P = λ j. (get_or ends (get_or of-more j 0) 0 ≡ never) ⊎ (get_or ends (get_or of-more j 0) 0 < length (more db s))} j h bounds-old (bounds-new g.new);
+      bounds =
+          λ j h. either {P = λ j. (get_or ends (get_or of-more j 0) 0 ≡ never)
+          ⊎ (get_or ends (get_or of-more j 0) 0 < length (more db s))} j h bounds-old
+          (bounds-new g.new);
     }
       where
         n : ℕ
         n = length db
 
-        at-new : IsOpen (top b.open_blocks) (depth db (length db)) ⊎ IsClosed (top b.open_blocks) (depth db (length db)) → get_or ends (get_or of-more (length db) 0) 0 ≡ never → (depth (more db s) (length db) ≤ depth (more db s) (length (more db s))) × (get_or opens (depth (more db s) (length db)) 0 ≡ get_or of-more (length db) 0)
-        at-new (inl o) e = rw (length-more db s, depth-front db s (length db) (le_refl (length db)), of-last) (o.1, o.2)
-        at-new (inr c) e = absurd (let f : get_or ends (top b.open_blocks) 0 ≡ never = ap (λ k. get_or ends k 0) (sym of-last) ∙ e in omega (arith, f, c.0, few))
+        at-new : IsOpen (top b.open_blocks) (depth db (length db))
+            ⊎ IsClosed (top b.open_blocks) (depth db (length db))
+            → get_or ends (get_or of-more (length db) 0) 0 ≡ never
+            → (depth (more db s) (length db) ≤ depth (more db s) (length (more db s)))
+            × (get_or opens (depth (more db s) (length db)) 0 ≡ get_or of-more (length db) 0)
+        at-new (inl o) e =
+            rw (length-more db s, depth-front db s (length db) (le_refl (length db)), of-last)
+            (o.1, o.2)
+        at-new (inr c) e =
+            absurd (let f : get_or ends (top b.open_blocks) 0
+            ≡ never = ap (λ k. get_or ends k 0) (sym of-last) ∙ e in omega (arith, f, c.0, few))
 
-        at-old : (j : ℕ) → j < length db → get_or ends (get_or of-more j 0) 0 ≡ never → (depth (more db s) j ≤ depth (more db s) (length (more db s))) × (get_or opens (depth (more db s) j) 0 ≡ get_or of-more j 0)
+        at-old : (j : ℕ) → j < length db → get_or ends (get_or of-more j 0) 0 ≡ never
+            → (depth (more db s) j ≤ depth (more db s) (length (more db s)))
+            × (get_or opens (depth (more db s) j) 0 ≡ get_or of-more j 0)
         at-old j h e = by (g.becomes j h) (ap (λ k. get_or ends k 0) (sym (of-front j h)) ∙ e)
           where
-            by : Becomes j → get_or ends (get_or b.of j 0) 0 ≡ never → (depth (more db s) j ≤ depth (more db s) (length (more db s))) × (get_or opens (depth (more db s) j) 0 ≡ get_or of-more j 0)
-            by (inl (f, inl o)) e = rw (length-more db s, depth-front db s j (omega (arith, h)), of-front j h) (o.1, o.2)
+            by : Becomes j → get_or ends (get_or b.of j 0) 0 ≡ never
+                → (depth (more db s) j ≤ depth (more db s) (length (more db s)))
+                × (get_or opens (depth (more db s) j) 0 ≡ get_or of-more j 0)
+            by (inl (f, inl o)) e =
+                rw (length-more db s, depth-front db s j (omega (arith, h)), of-front j h)
+                (o.1, o.2)
             by (inl (f, inr c)) e = absurd (omega (arith, c.0, few, e))
             by (inr p) e = absurd (omega (arith, p.0, p.1, few, e))
 
-        bounds-new : IsOpen (top b.open_blocks) (depth db (length db)) ⊎ IsClosed (top b.open_blocks) (depth db (length db)) → (get_or ends (get_or of-more (length db) 0) 0 ≡ never) ⊎ (get_or ends (get_or of-more (length db) 0) 0 < length (more db s))
+        bounds-new : IsOpen (top b.open_blocks) (depth db (length db))
+            ⊎ IsClosed (top b.open_blocks) (depth db (length db))
+            → (get_or ends (get_or of-more (length db) 0) 0 ≡ never)
+            ⊎ (get_or ends (get_or of-more (length db) 0) 0 < length (more db s))
         bounds-new (inl o) = inl (ap (λ k. get_or ends k 0) of-last ∙ o.0)
         bounds-new (inr c) = inr (rw of-last (omega (arith, c.0, length-more db s)))
 
-        bounds-old : (j : ℕ) → j < length db → (get_or ends (get_or of-more j 0) 0 ≡ never) ⊎ (get_or ends (get_or of-more j 0) 0 < length (more db s))
+        bounds-old : (j : ℕ) → j < length db
+            → (get_or ends (get_or of-more j 0) 0 ≡ never)
+            ⊎ (get_or ends (get_or of-more j 0) 0 < length (more db s))
         bounds-old j h = by (g.becomes j h)
           where
-            by : Becomes j → (get_or ends (get_or of-more j 0) 0 ≡ never) ⊎ (get_or ends (get_or of-more j 0) 0 < length (more db s))
+            by : Becomes j
+                → (get_or ends (get_or of-more j 0) 0 ≡ never)
+                ⊎ (get_or ends (get_or of-more j 0) 0 < length (more db s))
             by (inl (f, inl o)) = inl (ap (λ k. get_or ends k 0) (of-front j h) ∙ o.0)
             by (inl (f, inr c)) = inr (rw (of-front j h) (omega (arith, c.0, length-more db s)))
             by (inr p) = inr (rw (of-front j h) (omega (arith, p.0, p.1, length-more db s)))
 
-        ended : (j k : ℕ) → j < k → k ≤ length (more db s) → stays (more db s) j k ≡ nat_le k (end_of (lists of-more ends opens) j)
+        ended : (j k : ℕ) → j < k → k ≤ length (more db s)
+            → stays (more db s) j k ≡ nat_le k (end_of (lists of-more ends opens) j)
         ended j k h l = by (cases_lt (length db) k)
           where
-            old : j < length db → k ≤ length db → Becomes j → nat_le k (end_of b j) ≡ nat_le k (get_or ends (get_or b.of j 0) 0)
+            old : j < length db → k ≤ length db → Becomes j
+                → nat_le k (end_of b j) ≡ nat_le k (get_or ends (get_or b.of j 0) 0)
             old i m (inl (f, inl o)) = ap (nat_le k) (f ∙ sym o.0)
-            old i m (inl (f, inr c)) = le-leb k (end_of b j) (omega (arith, f, few)) ∙ sym (le-leb k (get_or ends (get_or b.of j 0) 0) (omega (arith, c.0)))
+            old i m (inl (f, inr c)) =
+                le-leb k (end_of b j) (omega (arith, f, few))
+                ∙ sym (le-leb k (get_or ends (get_or b.of j 0) 0) (omega (arith, c.0)))
             old i m (inr p) = ap (nat_le k) (sym p.1)
 
-            last : (i : j < length db) → Becomes j → (stays db j (length db) && nat_le (depth db j) (depth (more db s) (length db + 1))) ≡ nat_le (length db + 1) (get_or ends (get_or b.of j 0) 0)
-            last i (inl (f, inl o)) = ap₂ (λ a b. a && b) (x.ended j (length db) i (le_refl (length db)) ∙ le-leb (length db) (end_of b j) (omega (arith, f, few))) (le-leb (depth db j) (depth (more db s) (length db + 1)) o.1) ∙ sym (le-leb (length db + 1) (get_or ends (get_or b.of j 0) 0) (omega (arith, o.0, few)))
-            last i (inl (f, inr c)) = ap₂ (λ a b. a && b) (x.ended j (length db) i (le_refl (length db)) ∙ le-leb (length db) (end_of b j) (omega (arith, f, few))) (lt-leb (depth db j) (depth (more db s) (length db + 1)) c.1) ∙ sym (lt-leb (length db + 1) (get_or ends (get_or b.of j 0) 0) (omega (arith, c.0)))
-            last i (inr p) = ap (λ a. a && nat_le (depth db j) (depth (more db s) (length db + 1))) (x.ended j (length db) i (le_refl (length db)) ∙ lt-leb (length db) (end_of b j) p.0) ∙ sym (lt-leb (length db + 1) (get_or ends (get_or b.of j 0) 0) (omega (arith, p.0, p.1)))
+            last : (i : j < length db) → Becomes j
+                → (stays db j (length db)
+                && nat_le (depth db j) (depth (more db s) (length db + 1)))
+                ≡ nat_le (length db + 1) (get_or ends (get_or b.of j 0) 0)
+            last i (inl (f, inl o)) =
+                ap₂ (λ a b. a && b)
+                (x.ended j (length db) i (le_refl (length db))
+                ∙ le-leb (length db) (end_of b j) (omega (arith, f, few)))
+                (le-leb (depth db j) (depth (more db s) (length db + 1)) o.1)
+                ∙ sym (le-leb (length db + 1) (get_or ends (get_or b.of j 0) 0)
+                (omega (arith, o.0, few)))
+            last i (inl (f, inr c)) =
+                ap₂ (λ a b. a && b)
+                (x.ended j (length db) i (le_refl (length db))
+                ∙ le-leb (length db) (end_of b j) (omega (arith, f, few)))
+                (lt-leb (depth db j) (depth (more db s) (length db + 1)) c.1)
+                ∙ sym (lt-leb (length db + 1) (get_or ends (get_or b.of j 0) 0)
+                (omega (arith, c.0)))
+            last i (inr p) =
+                ap (λ a. a && nat_le (depth db j) (depth (more db s) (length db + 1)))
+                (x.ended j (length db) i (le_refl (length db))
+                ∙ lt-leb (length db) (end_of b j) p.0)
+                ∙ sym (lt-leb (length db + 1) (get_or ends (get_or b.of j 0) 0)
+                (omega (arith, p.0, p.1)))
 
-            fresh : IsOpen (top b.open_blocks) (depth db (length db)) ⊎ IsClosed (top b.open_blocks) (depth db (length db)) → nat_le (depth db (length db)) (depth (more db s) (length db + 1)) ≡ nat_le (length db + 1) (get_or ends (top b.open_blocks) 0)
-            fresh (inl o) = le-leb (depth db (length db)) (depth (more db s) (length db + 1)) o.1 ∙ sym (le-leb (length db + 1) (get_or ends (top b.open_blocks) 0) (omega (arith, o.0, few)))
-            fresh (inr c) = lt-leb (depth db (length db)) (depth (more db s) (length db + 1)) c.1 ∙ sym (lt-leb (length db + 1) (get_or ends (top b.open_blocks) 0) (omega (arith, c.0)))
+            fresh : IsOpen (top b.open_blocks) (depth db (length db))
+                ⊎ IsClosed (top b.open_blocks) (depth db (length db))
+                → nat_le (depth db (length db)) (depth (more db s) (length db + 1))
+                ≡ nat_le (length db + 1) (get_or ends (top b.open_blocks) 0)
+            fresh (inl o) =
+                le-leb (depth db (length db)) (depth (more db s) (length db + 1)) o.1
+                ∙ sym (le-leb (length db + 1) (get_or ends (top b.open_blocks) 0)
+                (omega (arith, o.0, few)))
+            fresh (inr c) =
+                lt-leb (depth db (length db)) (depth (more db s) (length db + 1)) c.1
+                ∙ sym (lt-leb (length db + 1) (get_or ends (top b.open_blocks) 0)
+                (omega (arith, c.0)))
 
-            at-last : (j < length db) ⊎ (length db ≤ j) → k ≡ length db + 1 → stays (more db s) j (length db + 1) ≡ nat_le (length db + 1) (end_of (lists of-more ends opens) j)
-            at-last (inl i) e = stays-last db s j i ∙ last i (g.becomes j i) ∙ ap (λ q. nat_le (length db + 1) (get_or ends q 0)) (sym (of-front j i))
-            at-last (inr i) e = let same : length db ≡ j = omega (arith, h, e, i) in subst (λ j. stays (more db s) j (length db + 1) ≡ nat_le (length db + 1) (end_of (lists of-more ends opens) j)) same (stays-new db s ∙ fresh g.new ∙ ap (λ q. nat_le (length db + 1) (get_or ends q 0)) (sym of-last))
+            at-last : (j < length db) ⊎ (length db ≤ j) → k ≡ length db + 1
+                → stays (more db s) j (length db + 1)
+                ≡ nat_le (length db + 1) (end_of (lists of-more ends opens) j)
+            at-last (inl i) e =
+                stays-last db s j i ∙ last i (g.becomes j i)
+                ∙ ap (λ q. nat_le (length db + 1) (get_or ends q 0)) (sym (of-front j i))
+            at-last (inr i) e =
+                let same : length db ≡ j = omega (arith, h, e, i) in
+                subst (λ j. stays (more db s) j (length db + 1)
+                ≡ nat_le (length db + 1) (end_of (lists of-more ends opens) j)) same
+                (stays-new db s ∙ fresh g.new
+                ∙ ap (λ q. nat_le (length db + 1) (get_or ends q 0)) (sym of-last))
 
-            by : (length db < k) ⊎ (k ≤ length db) → stays (more db s) j k ≡ nat_le k (end_of (lists of-more ends opens) j)
-            by (inl m) = let e : k ≡ length db + 1 = omega (arith, l, m, length-more db s) in subst (λ k. stays (more db s) j k ≡ nat_le k (end_of (lists of-more ends opens) j)) (sym e) (at-last (cases_lt j (length db)) e)
-            by (inr m) = let i : j < length db = omega arith in stays-front db s j k h m ∙ x.ended j k h m ∙ old i m (g.becomes j i) ∙ ap (λ q. nat_le k (get_or ends q 0)) (sym (of-front j i))
+            by : (length db < k) ⊎ (k ≤ length db)
+                → stays (more db s) j k ≡ nat_le k (end_of (lists of-more ends opens) j)
+            by (inl m) =
+                let e : k ≡ length db + 1 = omega (arith, l, m, length-more db s) in
+                subst (λ k. stays (more db s) j k ≡ nat_le k (end_of (lists of-more ends opens) j))
+                (sym e) (at-last (cases_lt j (length db)) e)
+            by (inr m) =
+                let i : j < length db = omega arith in
+                stays-front db s j k h m ∙ x.ended j k h m ∙ old i m (g.becomes j i)
+                ∙ ap (λ q. nat_le k (get_or ends q 0)) (sym (of-front j i))
 
-  -- the count of blocks behind the statement
-  pub depth-plain : is_opening s ≡ false → is_closing s ≡ false → depth (more db s) (length db + 1) ≡ depth db (length db)
-  depth-plain o c = depth-last db s ∙ ap₂ (λ p q. (count_by is_opening db + cond p 1 0) - (count_by is_closing db + cond q 1 0)) o c ∙ (let e = depth-end db s in omega (arith, e))
+  -- the count of blocks after the statement
+  pub depth-plain : is_opening s ≡ false → is_closing s ≡ false
+      → depth (more db s) (length db + 1) ≡ depth db (length db)
+  depth-plain o c =
+      depth-last db s
+      ∙ ap₂ (λ p q. (count_by is_opening db + cond p 1 0) - (count_by is_closing db + cond q 1 0)) o
+      c
+      ∙ (let e = depth-end db s in omega (arith, e))
 
-  pub depth-opening : is_opening s ≡ true → is_closing s ≡ false → depth (more db s) (length db + 1) ≡ depth db (length db) + 1
-  depth-opening o c = depth-last db s ∙ ap₂ (λ p q. (count_by is_opening db + cond p 1 0) - (count_by is_closing db + cond q 1 0)) o c ∙ (let e = depth-end db s in let n = x.nested in omega (arith, e, n))
+  pub depth-opening : is_opening s ≡ true → is_closing s ≡ false
+      → depth (more db s) (length db + 1) ≡ depth db (length db) + 1
+  depth-opening o c =
+      depth-last db s
+      ∙ ap₂ (λ p q. (count_by is_opening db + cond p 1 0) - (count_by is_closing db + cond q 1 0)) o
+      c
+      ∙ (let e = depth-end db s in let n = x.nested in omega (arith, e, n))
 
-  pub depth-closing : is_opening s ≡ false → is_closing s ≡ true → depth (more db s) (length db + 1) ≡ depth db (length db) - 1
-  depth-closing o c = depth-last db s ∙ ap₂ (λ p q. (count_by is_opening db + cond p 1 0) - (count_by is_closing db + cond q 1 0)) o c ∙ (let e = depth-end db s in let n = x.nested in omega (arith, e, n))
+  pub depth-closing : is_opening s ≡ false → is_closing s ≡ true
+      → depth (more db s) (length db + 1) ≡ depth db (length db) - 1
+  depth-closing o c =
+      depth-last db s
+      ∙ ap₂ (λ p q. (count_by is_opening db + cond p 1 0) - (count_by is_closing db + cond q 1 0)) o
+      c
+      ∙ (let e = depth-end db s in let n = x.nested in omega (arith, e, n))
 
-  counted : (p q : Bool) → is_opening s ≡ p → is_closing s ≡ q → (count_by is_opening (more db s) ≡ count_by is_opening db + cond p 1 0) × (count_by is_closing (more db s) ≡ count_by is_closing db + cond q 1 0)
-  counted p q o c = (count_end is_opening db s ∙ ap (λ r. count_by is_opening db + cond r 1 0) o, count_end is_closing db s ∙ ap (λ r. count_by is_closing db + cond r 1 0) c)
+  counted : (p q : Bool) → is_opening s ≡ p → is_closing s ≡ q
+      → (count_by is_opening (more db s) ≡ count_by is_opening db + cond p 1 0)
+      × (count_by is_closing (more db s) ≡ count_by is_closing db + cond q 1 0)
+  counted p q o c = (
+    count_end is_opening db s
+        ∙ ap (λ r. count_by is_opening db + cond r 1 0) o,
+    count_end is_closing db s
+        ∙ ap (λ r. count_by is_closing db + cond r 1 0) c,
+  )
 
-  pub blocks_plain : is_opening s ≡ false → is_closing s ≡ false → IsBlocks (db ++ s ∷ []) (lists (b.of ++ top b.open_blocks ∷ []) b.ends b.open_blocks)
+  pub blocks_plain : is_opening s ≡ false → is_closing s ≡ false
+      → IsBlocks (db ++ s ∷ []) (lists (b.of ++ top b.open_blocks ∷ []) b.ends b.open_blocks)
   blocks_plain o c =
       let d = depth-plain o c in
       let m = counted false false o c in
@@ -216,24 +369,45 @@ module _ (db : List Statement) (s : Statement) (b : Lists) (x : IsBlocks db b) (
         new = inl (top-still, omega (arith, d), sym top-at);
       })
     where
-      by : (j : ℕ) → j < length db → (end_of b j ≡ never) ⊎ (end_of b j < length db) → Becomes b.ends b.open_blocks j
-      by j h (inl e) = let y = x.at j h e in inl (e, inl (e, let l = y.0 in let d = depth-plain o c in omega (arith, d, l), y.1))
+      by : (j : ℕ) → j < length db → (end_of b j ≡ never) ⊎ (end_of b j < length db)
+          → Becomes b.ends b.open_blocks j
+      by j h (inl e) =
+          let y = x.at j h e in
+          inl (e, inl (e, let l = y.0 in let d = depth-plain o c in omega (arith, d, l), y.1))
       by j h (inr l) = inr (l, refl)
 
-  pub blocks_opening : is_opening s ≡ true → is_closing s ≡ false → IsBlocks (db ++ s ∷ []) (lists (b.of ++ top b.open_blocks ∷ []) (b.ends ++ never ∷ []) (b.open_blocks ++ length b.ends ∷ []))
+  pub blocks_opening : is_opening s ≡ true → is_closing s ≡ false
+      → IsBlocks (db ++ s ∷ [])
+      (lists (b.of ++ top b.open_blocks ∷ []) (b.ends ++ never ∷ [])
+      (b.open_blocks ++ length b.ends ∷ []))
   blocks_opening o c =
       let d = depth-opening o c in
       let m = counted true false o c in
       grown ends opens (record {
         nested = let n = x.nested in omega (arith, m.0, m.1, n);
-        stack = length-append b.open_blocks (length b.ends ∷ []) ∙ (let k = x.stack in omega (arith, k, d));
+        stack =
+            length-append b.open_blocks (length b.ends ∷ [])
+            ∙ (let k = x.stack in omega (arith, k, d));
         longer = omega (arith, longer);
         few-more = let m = x.few in omega (arith, m, longer);
-        opened = λ l h. one_of (λ k. k < length ends) l h (λ i. let k = x.opened l i in omega (arith, k, longer)) (omega (arith, longer));
-        still = λ l h. one_of (λ k. get_or ends k 0 ≡ never) l h (λ i. ends-front (get_or b.open_blocks l 0) (x.opened l i) ∙ x.still l i) (get_or-append_seam b.ends never [] 0);
+        opened =
+            λ l h. one_of (λ k. k < length ends) l h
+            (λ i. let k = x.opened l i in omega (arith, k, longer)) (omega (arith, longer));
+        still =
+            λ l h. one_of (λ k. get_or ends k 0 ≡ never) l h
+            (λ i. ends-front (get_or b.open_blocks l 0) (x.opened l i) ∙ x.still l i)
+            (get_or-append_seam b.ends never [] 0);
         rising = rising;
         becomes = λ j h. by j h (x.bounds j h);
-        new = inl (ends-front (top b.open_blocks) top-opened ∙ top-still, omega (arith, d), opens-front (depth db (length db)) (let k = x.stack in omega (arith, k)) ∙ sym top-at);
+        new =
+            inl (
+              ends-front (top b.open_blocks) top-opened
+                  ∙ top-still,
+              omega (arith, d),
+              opens-front (depth db (length db))
+                  (let k = x.stack in omega (arith, k))
+                  ∙ sym top-at,
+            );
       })
     where
       ends : List ℕ
@@ -245,36 +419,60 @@ module _ (db : List Statement) (s : Statement) (b : Lists) (x : IsBlocks db b) (
       longer : length (b.ends ++ never ∷ []) ≡ length b.ends + 1
       longer = length-append b.ends (never ∷ [])
 
-      ends-front : (k : ℕ) → k < length b.ends → get_or (b.ends ++ never ∷ []) k 0 ≡ get_or b.ends k 0
+      ends-front : (k : ℕ) → k < length b.ends
+          → get_or (b.ends ++ never ∷ []) k 0 ≡ get_or b.ends k 0
       ends-front k h = get_or_append_left b.ends (never ∷ []) 0 k h
 
-      opens-front : (k : ℕ) → k < length b.open_blocks → get_or (b.open_blocks ++ length b.ends ∷ []) k 0 ≡ get_or b.open_blocks k 0
+      opens-front : (k : ℕ) → k < length b.open_blocks
+          → get_or (b.open_blocks ++ length b.ends ∷ []) k 0 ≡ get_or b.open_blocks k 0
       opens-front k h = get_or_append_left b.open_blocks (length b.ends ∷ []) 0 k h
 
-      one_of : (P : ℕ → Type 0) (l : ℕ) → l < length (b.open_blocks ++ length b.ends ∷ []) → (l < length b.open_blocks → P (get_or b.open_blocks l 0)) → P (length b.ends) → P (get_or (b.open_blocks ++ length b.ends ∷ []) l 0)
+      one_of : (P : ℕ → Type 0) (l : ℕ) → l < length (b.open_blocks ++ length b.ends ∷ [])
+          → (l < length b.open_blocks → P (get_or b.open_blocks l 0)) → P (length b.ends)
+          → P (get_or (b.open_blocks ++ length b.ends ∷ []) l 0)
       one_of P l h old new = go (cases_lt l (length b.open_blocks))
         where
-          go : (l < length b.open_blocks) ⊎ (length b.open_blocks ≤ l) → P (get_or (b.open_blocks ++ length b.ends ∷ []) l 0)
+          go : (l < length b.open_blocks) ⊎ (length b.open_blocks ≤ l)
+              → P (get_or (b.open_blocks ++ length b.ends ∷ []) l 0)
           go (inl i) = subst P (sym (opens-front l i)) (old i)
           go (inr i) =
-              let e : length b.open_blocks ≡ l = omega (arith, h, length-append b.open_blocks (length b.ends ∷ [])) in
-              subst P (sym (subst (λ k. get_or (b.open_blocks ++ length b.ends ∷ []) k 0 ≡ length b.ends) e (get_or-append_seam b.open_blocks (length b.ends) [] 0))) new
+              let e : length b.open_blocks ≡ l =
+              omega (arith, h, length-append b.open_blocks (length b.ends ∷ [])) in
+              subst P (sym
+              (subst (λ k. get_or (b.open_blocks ++ length b.ends ∷ []) k 0 ≡ length b.ends) e
+              (get_or-append_seam b.open_blocks (length b.ends) [] 0))) new
 
-      rising : (l m : ℕ) → l < m → m < length (b.open_blocks ++ length b.ends ∷ []) → get_or (b.open_blocks ++ length b.ends ∷ []) l 0 < get_or (b.open_blocks ++ length b.ends ∷ []) m 0
+      rising : (l m : ℕ) → l < m → m < length (b.open_blocks ++ length b.ends ∷ [])
+          → get_or (b.open_blocks ++ length b.ends ∷ []) l 0
+          < get_or (b.open_blocks ++ length b.ends ∷ []) m 0
       rising l m h k =
-          let i : l < length b.open_blocks = omega (arith, h, k, length-append b.open_blocks (length b.ends ∷ [])) in
-          one_of (λ q. get_or (b.open_blocks ++ length b.ends ∷ []) l 0 < q) m k (λ j. rw (opens-front l i) (x.rising l m h j)) (rw (opens-front l i) (x.opened l i))
+          let i : l < length b.open_blocks =
+          omega (arith, h, k, length-append b.open_blocks (length b.ends ∷ [])) in
+          one_of (λ q. get_or (b.open_blocks ++ length b.ends ∷ []) l 0 < q) m k
+          (λ j. rw (opens-front l i) (x.rising l m h j)) (rw (opens-front l i) (x.opened l i))
 
-      by : (j : ℕ) → j < length db → (end_of b j ≡ never) ⊎ (end_of b j < length db) → Becomes ends opens j
+      by : (j : ℕ) → j < length db → (end_of b j ≡ never) ⊎ (end_of b j < length db)
+          → Becomes ends opens j
       by j h (inl e) =
           let y = x.at j h e in
           let d = depth-opening o c in
           let k = x.stack in
           let l = y.0 in
-          inl (e, inl (ends-front (get_or b.of j 0) (x.known j h) ∙ e, omega (arith, d, l), opens-front (depth db j) (omega (arith, k, l)) ∙ y.1))
+          inl (
+            e,
+            inl (
+              ends-front (get_or b.of j 0) (x.known j h)
+                  ∙ e,
+              omega (arith, d, l),
+              opens-front (depth db j) (omega (arith, k, l)) ∙ y.1,
+            ),
+          )
       by j h (inr l) = inr (l, ends-front (get_or b.of j 0) (x.known j h))
 
-  pub blocks_closing : is_opening s ≡ false → is_closing s ≡ true → 0 < depth db (length db) → IsBlocks (db ++ s ∷ []) (lists (b.of ++ top b.open_blocks ∷ []) (set b.ends (top b.open_blocks) (length b.of)) (take (length b.open_blocks - 1) b.open_blocks))
+  pub blocks_closing : is_opening s ≡ false → is_closing s ≡ true → 0 < depth db (length db)
+      → IsBlocks (db ++ s ∷ [])
+      (lists (b.of ++ top b.open_blocks ∷ []) (set b.ends (top b.open_blocks) (length b.of))
+      (take (length b.open_blocks - 1) b.open_blocks))
   blocks_closing o c deep =
       let d = depth-closing o c in
       let m = counted false true o c in
@@ -283,12 +481,29 @@ module _ (db : List Statement) (s : Statement) (b : Lists) (x : IsBlocks db b) (
         nested = let e = depth-end db s in omega (arith, m.0, m.1, e, deep);
         stack = omega (arith, k, d, shorter, deep);
         longer = omega (arith, length-set b.ends (top b.open_blocks) (length b.of));
-        few-more = let m = x.few in omega (arith, m, length-set b.ends (top b.open_blocks) (length b.of));
-        opened = λ l h. let i : l < length b.open_blocks = omega (arith, h, shorter) in rw (opens-front l h) (let z = x.opened l i in omega (arith, z, length-set b.ends (top b.open_blocks) (length b.of)));
-        still = λ l h. let i : l < length b.open_blocks = omega (arith, h, shorter) in ap (λ q. get_or ends q 0) (opens-front l h) ∙ get_or-set_other b.ends (top b.open_blocks) (get_or b.open_blocks l 0) (length b.of) 0 (other l h) ∙ x.still l i;
-        rising = λ l q h i. let j : l < length opens = omega (arith, h, i) in rw (opens-front l j, opens-front q i) (x.rising l q h (omega (arith, i, shorter)));
+        few-more =
+            let m = x.few in omega (arith, m, length-set b.ends (top b.open_blocks) (length b.of));
+        opened =
+            λ l h. let i : l < length b.open_blocks = omega (arith, h, shorter) in
+            rw (opens-front l h)
+            (let z = x.opened l i in
+            omega (arith, z, length-set b.ends (top b.open_blocks) (length b.of)));
+        still =
+            λ l h. let i : l < length b.open_blocks = omega (arith, h, shorter) in
+            ap (λ q. get_or ends q 0) (opens-front l h)
+            ∙ get_or-set_other b.ends (top b.open_blocks) (get_or b.open_blocks l 0) (length b.of) 0
+            (other l h)
+            ∙ x.still l i;
+        rising =
+            λ l q h i. let j : l < length opens = omega (arith, h, i) in
+            rw (opens-front l j, opens-front q i) (x.rising l q h (omega (arith, i, shorter)));
         becomes = λ j h. by j h (x.bounds j h);
-        new = inr (get_or-set_same b.ends (top b.open_blocks) (length b.of) 0 top-opened ∙ x.count, omega (arith, d, deep));
+        new =
+            inr (
+              get_or-set_same b.ends (top b.open_blocks) (length b.of) 0 top-opened
+                  ∙ x.count,
+              omega (arith, d, deep),
+            );
       })
     where
       ends : List ℕ
@@ -300,26 +515,65 @@ module _ (db : List Statement) (s : Statement) (b : Lists) (x : IsBlocks db b) (
       shorter : length (take (length b.open_blocks - 1) b.open_blocks) ≡ length b.open_blocks - 1
       shorter = length-take-le (length b.open_blocks - 1) b.open_blocks (omega arith)
 
-      opens-front : (l : ℕ) → l < length (take (length b.open_blocks - 1) b.open_blocks) → get_or (take (length b.open_blocks - 1) b.open_blocks) l 0 ≡ get_or b.open_blocks l 0
-      opens-front l h = get_or-take (length b.open_blocks - 1) b.open_blocks l 0 (omega (arith, h, shorter))
+      opens-front : (l : ℕ) → l < length (take (length b.open_blocks - 1) b.open_blocks)
+          → get_or (take (length b.open_blocks - 1) b.open_blocks) l 0 ≡ get_or b.open_blocks l 0
+      opens-front l h =
+          get_or-take (length b.open_blocks - 1) b.open_blocks l 0 (omega (arith, h, shorter))
 
-      other : (l : ℕ) → l < length (take (length b.open_blocks - 1) b.open_blocks) → get_or b.open_blocks l 0 ≢ top b.open_blocks
-      other l h e = let r = x.rising l (length b.open_blocks - 1) (omega (arith, h, shorter)) (let k = x.stack in omega (arith, k)) in omega (arith, r, e)
+      other : (l : ℕ) → l < length (take (length b.open_blocks - 1) b.open_blocks)
+          → get_or b.open_blocks l 0 ≢ top b.open_blocks
+      other l h e =
+          let r = x.rising l (length b.open_blocks - 1) (omega (arith, h, shorter))
+          (let k = x.stack in omega (arith, k)) in
+          omega (arith, r, e)
 
-      by : (j : ℕ) → j < length db → (end_of b j ≡ never) ⊎ (end_of b j < length db) → Becomes ends opens j
+      by : (j : ℕ) → j < length db → (end_of b j ≡ never) ⊎ (end_of b j < length db)
+          → Becomes ends opens j
       by j h (inl e) = go (cases_eq (get_or b.of j 0) (top b.open_blocks)) (x.at j h e)
         where
-          go : (get_or b.of j 0 ≡ top b.open_blocks) ⊎ (get_or b.of j 0 ≢ top b.open_blocks) → (depth db j ≤ depth db (length db)) × (get_or b.open_blocks (depth db j) 0 ≡ get_or b.of j 0) → Becomes ends opens j
-          go (inl q) y = inl (e, inr (ap (λ k. get_or ends k 0) q ∙ get_or-set_same b.ends (top b.open_blocks) (length b.of) 0 top-opened ∙ x.count, last (cases_lt (depth db j) (depth db (length db)))))
+          go : (get_or b.of j 0 ≡ top b.open_blocks) ⊎ (get_or b.of j 0 ≢ top b.open_blocks)
+              → (depth db j ≤ depth db (length db))
+              × (get_or b.open_blocks (depth db j) 0 ≡ get_or b.of j 0) → Becomes ends opens j
+          go (inl q) y =
+              inl (
+                e,
+                inr (
+                  ap (λ k. get_or ends k 0) q
+                      ∙ get_or-set_same b.ends (top b.open_blocks) (length b.of) 0 top-opened
+                      ∙ x.count,
+                  last (cases_lt (depth db j) (depth db (length db))),
+                ),
+              )
             where
-              last : (depth db j < depth db (length db)) ⊎ (depth db (length db) ≤ depth db j) → depth (more db s) (length db + 1) < depth db j
-              last (inl l) = absurd (let k = x.stack in let r = x.rising (depth db j) (depth db (length db)) l (omega (arith, k)) in omega (arith, r, y.1, q, top-at))
+              last : (depth db j < depth db (length db)) ⊎ (depth db (length db) ≤ depth db j)
+                  → depth (more db s) (length db + 1) < depth db j
+              last (inl l) =
+                  absurd (let k = x.stack in
+                  let r = x.rising (depth db j) (depth db (length db)) l (omega (arith, k)) in
+                  omega (arith, r, y.1, q, top-at))
               last (inr l) = let d = depth-closing o c in omega (arith, d, deep, l)
           go (inr q) y =
               let k = x.stack in
               let d = depth-closing o c in
-              let ne : depth db j ≢ depth db (length db) = λ z. q (sym y.1 ∙ ap (λ i. get_or b.open_blocks i 0) z ∙ sym top-at) in
+              let ne : depth db j ≢ depth db (length db) =
+              λ z. q (sym y.1 ∙ ap (λ i. get_or b.open_blocks i 0) z ∙ sym top-at) in
               let l = y.0 in
               let below : depth db j < depth db (length db) = omega (arith, l, ne) in
-              inl (e, inl (get_or-set_other b.ends (top b.open_blocks) (get_or b.of j 0) (length b.of) 0 q ∙ e, omega (arith, d, below), opens-front (depth db j) (omega (arith, below, k, shorter)) ∙ y.1))
-      by j h (inr l) = inr (l, get_or-set_other b.ends (top b.open_blocks) (get_or b.of j 0) (length b.of) 0 (λ q. let e : end_of b j ≡ never = ap (λ k. get_or b.ends k 0) q ∙ top-still in omega (arith, e, l, few)))
+              inl (
+                e,
+                inl (
+                  get_or-set_other b.ends (top b.open_blocks) (get_or b.of j 0) (length b.of) 0 q
+                      ∙ e,
+                  omega (arith, d, below),
+                  opens-front (depth db j)
+                      (omega (arith, below, k, shorter))
+                      ∙ y.1,
+                ),
+              )
+      by j h (inr l) =
+          inr (
+            l,
+            get_or-set_other b.ends (top b.open_blocks) (get_or b.of j 0) (length b.of) 0
+                (λ q. let e : end_of b j ≡ never = ap (λ k. get_or b.ends k 0) q ∙ top-still in
+                omega (arith, e, l, few)),
+          )

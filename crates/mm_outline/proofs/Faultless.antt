@@ -1,12 +1,15 @@
 -- What a statement with no fault says of its words.
-use Rattle.std.proofs.Common.{◌≡◌, ℕ, Bool, true, false, Option, None, Some, ◌&&◌, ◌||◌, List, [], ◌∷◌, ◌++◌, bytes_eq, refl, sym, ap, ◌∙◌, true≢false}
+use Rattle.std.proofs.Common.{◌≡◌, ℕ, Bool, true, false, Option, None, Some, ◌&&◌, ◌||◌, List, []}
+use Rattle.std.proofs.Common.{◌∷◌, ◌++◌, bytes_eq, refl, sym, ap, ◌∙◌, true≢false}
 use Rattle.std.proofs.lemmas.Slice.Eq.{bytes_eq-Decides}
-use Rattle.mm_spec.specs.Text.{Word, Token, is_in, words, fault}
+use Rattle.mm_spec.specs.Text.{Bytes, Token, is_in, words, fault}
 use Rattle.mm_spec.specs.declared.Fault.{Fault}
 use Rattle.mm_spec.specs.Scope.{Names}
-use Rattle.mm_spec.specs.Lawful.{at, at_each, when, lesser, least, is_before, constant_codes, variable_codes, floating_faults, is_typed, is_typed_otherwise}
+use Rattle.mm_spec.specs.Lawful.{at, at_each, when, lesser, least, is_before, constant_codes}
+use Rattle.mm_spec.specs.Lawful.{variable_codes, floating_faults, is_typed, is_typed_otherwise}
 use Rattle.mm_spec.specs.declared.Code.{Code}
-use Rattle.mm_spec.specs.declared.Code.TheVariants.{DeclaredBefore, BadFloating, TypedBefore, OtherTypecode, LabelIsSymbol}
+use Rattle.mm_spec.specs.declared.Code.TheVariants.{DeclaredBefore, BadFloating, TypedBefore}
+use Rattle.mm_spec.specs.declared.Code.TheVariants.{OtherTypecode, LabelIsSymbol}
 
 pub append_none : {X : Type 0} (xs ys : List X) → xs ++ ys ≡ [] → (xs ≡ []) × (ys ≡ [])
 append_none [] ys e = (refl, e)
@@ -26,42 +29,81 @@ or_none false true c e = absurd (true≢false e)
 or_none true b c e = absurd (true≢false e)
 
 -- a symbol with no fault has no code
-each_none : (codes : List Word → Word → List Code) (e : List Word) (ts : List Token) → at_each codes e ts ≡ [] → (w : Word) → is_in w (words ts) ≡ true → (earlier : List Word) × (codes earlier w ≡ [])
+each_none : (codes : List Bytes → Bytes → List Code) (e : List Bytes) (ts : List Token)
+    → at_each codes e ts ≡ [] → (w : Bytes) → is_in w (words ts) ≡ true
+    → (earlier : List Bytes) × (codes earlier w ≡ [])
 each_none codes e [] h w i = absurd (true≢false (sym i))
 each_none codes e (t ∷ ts) h w i =
     let parts = append_none (at t.at (codes e t.word)) (at_each codes (t.word ∷ e) ts) h in
-    by (at_none t.at (codes e t.word) parts.0) (bytes_eq w t.word) refl i (each_none codes (t.word ∷ e) ts parts.1 w)
+    by (at_none t.at (codes e t.word) parts.0) (bytes_eq w t.word) refl i
+    (each_none codes (t.word ∷ e) ts parts.1 w)
   where
-    by : codes e t.word ≡ [] → (b : Bool) → bytes_eq w t.word ≡ b → (b || is_in w (words ts)) ≡ true → (is_in w (words ts) ≡ true → (earlier : List Word) × (codes earlier w ≡ [])) → (earlier : List Word) × (codes earlier w ≡ [])
+    by : codes e t.word ≡ [] → (b : Bool) → bytes_eq w t.word ≡ b → (b || is_in w (words ts)) ≡ true
+        → (is_in w (words ts) ≡ true → (earlier : List Bytes) × (codes earlier w ≡ []))
+        → (earlier : List Bytes) × (codes earlier w ≡ [])
     by none true s i r = (e, ap (codes e) ((bytes_eq-Decides w t.word).0 s) ∙ none)
     by none false s i r = r i
 
 module _ (n : Names) where
   -- a word of a `$c` is new
-  pub constant_new : (ts : List Token) → at_each (constant_codes n) [] ts ≡ [] → (w : Word) → is_in w (words ts) ≡ true → (is_in w n.constants ≡ false) × (is_in w n.all_variables ≡ false)
+  pub constant_new : (ts : List Token) → at_each (constant_codes n) [] ts ≡ [] → (w : Bytes)
+      → is_in w (words ts) ≡ true
+      → (is_in w n.constants ≡ false) × (is_in w n.all_variables ≡ false)
   constant_new ts h w i =
       let none = each_none (constant_codes n) [] ts h w i in
-      or_none (is_in w n.constants) (is_in w n.all_variables) (is_in w none.0) (when_none (is_in w n.constants || is_in w n.all_variables || is_in w none.0) DeclaredBefore (append_none (when (is_in w n.constants || is_in w n.all_variables || is_in w none.0) DeclaredBefore) (when (is_in w n.labels) LabelIsSymbol) none.1).0)
+      or_none (is_in w n.constants) (is_in w n.all_variables) (is_in w none.0)
+      (when_none
+      (is_in w n.constants || is_in w n.all_variables || is_in w none.0) DeclaredBefore
+      (append_none
+      (when (is_in w n.constants || is_in w n.all_variables || is_in w none.0) DeclaredBefore)
+      (when (is_in w n.labels) LabelIsSymbol) none.1).0)
 
   -- a word of a `$v` is no constant and no active variable
-  pub variable_new : (ts : List Token) → at_each (variable_codes n) [] ts ≡ [] → (w : Word) → is_in w (words ts) ≡ true → (is_in w n.constants ≡ false) × (is_in w n.active_variables ≡ false)
+  pub variable_new : (ts : List Token) → at_each (variable_codes n) [] ts ≡ [] → (w : Bytes)
+      → is_in w (words ts) ≡ true
+      → (is_in w n.constants ≡ false) × (is_in w n.active_variables ≡ false)
   variable_new ts h w i =
       let none = each_none (variable_codes n) [] ts h w i in
-      or_none (is_in w n.constants) (is_in w n.active_variables) (is_in w none.0) (when_none (is_in w n.constants || is_in w n.active_variables || is_in w none.0) DeclaredBefore (append_none (when (is_in w n.constants || is_in w n.active_variables || is_in w none.0) DeclaredBefore) (when (is_in w n.labels) LabelIsSymbol) none.1).0)
+      or_none (is_in w n.constants) (is_in w n.active_variables) (is_in w none.0)
+      (when_none
+      (is_in w n.constants || is_in w n.active_variables || is_in w none.0) DeclaredBefore
+      (append_none
+      (when (is_in w n.constants || is_in w n.active_variables || is_in w none.0)
+      DeclaredBefore) (when (is_in w n.labels) LabelIsSymbol) none.1).0)
 
   -- a `$f` types an active variable that has no active `$f` and no other typecode
-  pub floating_new : (keyword : ℕ) (c v : Token) → floating_faults n keyword (c ∷ v ∷ []) ≡ [] → (is_in v.word n.active_variables ≡ true) × (is_typed n v.word ≡ false) × (is_typed_otherwise n c.word v.word ≡ false)
-  floating_new keyword c v h = by (is_in c.word n.constants) (is_in v.word n.active_variables) refl h
+  pub floating_new : (keyword : ℕ) (c v : Token) → floating_faults n keyword (c ∷ v ∷ []) ≡ []
+      → (is_in v.word n.active_variables ≡ true) × (is_typed n v.word ≡ false)
+      × (is_typed_otherwise n c.word v.word ≡ false)
+  floating_new keyword c v h =
+      by (is_in c.word n.constants) (is_in v.word n.active_variables) refl h
     where
       codes : Bool → Bool → List Fault
-      codes = λ a b. elim (a && b) [ true ↦ at v.at (when (is_typed n v.word) TypedBefore ++ when (is_typed_otherwise n c.word v.word) OtherTypecode) | false ↦ fault keyword BadFloating ∷ [] ]
+      codes =
+          λ a b. elim (a && b) [
+            | true ↦ at v.at
+                (when (is_typed n v.word) TypedBefore
+                ++ when (is_typed_otherwise n c.word v.word) OtherTypecode)
+            | false ↦ fault keyword BadFloating ∷ []
+          ]
 
-      by : (a b : Bool) → is_in v.word n.active_variables ≡ b → codes a b ≡ [] → (is_in v.word n.active_variables ≡ true) × (is_typed n v.word ≡ false) × (is_typed_otherwise n c.word v.word ≡ false)
+      by : (a b : Bool) → is_in v.word n.active_variables ≡ b → codes a b ≡ []
+          → (is_in v.word n.active_variables ≡ true) × (is_typed n v.word ≡ false)
+          × (is_typed_otherwise n c.word v.word ≡ false)
       by false b e h = absurd (cc)
       by true false e h = absurd (cc)
       by true true e h =
-          let none = append_none (when (is_typed n v.word) TypedBefore) (when (is_typed_otherwise n c.word v.word) OtherTypecode) (at_none v.at (when (is_typed n v.word) TypedBefore ++ when (is_typed_otherwise n c.word v.word) OtherTypecode) h) in
-          (e, when_none (is_typed n v.word) TypedBefore none.0, when_none (is_typed_otherwise n c.word v.word) OtherTypecode none.1)
+          let none =
+          append_none (when (is_typed n v.word) TypedBefore)
+          (when (is_typed_otherwise n c.word v.word) OtherTypecode)
+          (at_none v.at
+          (when (is_typed n v.word) TypedBefore
+          ++ when (is_typed_otherwise n c.word v.word) OtherTypecode) h) in (
+            e,
+            when_none (is_typed n v.word) TypedBefore none.0,
+            when_none
+                (is_typed_otherwise n c.word v.word) OtherTypecode none.1,
+          )
 
 -- the lesser of two faults
 abbrev pub pick : Bool → Fault → Fault → Fault

@@ -1,52 +1,68 @@
--- Reading goes on by one token.
-use Rattle.std.proofs.Common.{◌≡◌, ℕ, ◌+◌, ◌<◌, List, [], ◌∷◌, ◌++◌, length, drop, None, Some, refl, sym, ap, ◌∙◌, subst, add-one, drop-cons, append_assoc}
+-- Progress goes on by one token.
+use Rattle.std.proofs.Common.{◌≡◌, ℕ, ◌+◌, ◌<◌, List, [], ◌∷◌, ◌++◌, length, drop, None, Some, refl}
+use Rattle.std.proofs.Common.{sym, ap, ◌∙◌, subst, add-one, drop-cons, append_assoc}
 use Rattle.mm_spec.specs.Text.{Token, fault}
 use Rattle.mm_spec.specs.declared.Fault.{Fault}
 use Rattle.mm_spec.specs.Statement.{Statement, shape_code}
-use Rattle.mm_spec.specs.Table as table
-use Rattle.mm_spec.specs.Table.{Reading, start, statements_from, stop_from, rest_from, begins, class, Turn, after, stop_after, rest_after}
+use Rattle.mm_spec.specs.Laws.Table as table
+use Rattle.mm_spec.specs.Laws.Table.{Progress, start, statements_from, stop_from, rest_from, begins}
+use Rattle.mm_spec.specs.Laws.Table.{class, Turn, after, stop_after, rest_after}
 use Rattle.mm_spec.specs.declared.Word.{Word}
-use Rattle.mm_outline.specs.Parts.{tokens_of, token_at, word_at, reading}
+use Rattle.mm_outline.specs.Parts.{as_tokens, token_at, nth_word, reading}
 use Rattle.mm_outline.specs.Found.{Leads, behind, is_start}
 use Rattle.mm_outline.specs.declared.parts.Part.{Part}
 use Rattle.mm_outline.specs.declared.parts.Part.TheVariants.{Start, Labelled, Words, Formula, Proof}
 
-pub leads-none : (r : Reading) (us : List Token) → Leads r us [] r us
+pub leads-none : (r : Progress) (us : List Token) → Leads r us [] r us
 leads-none r us = record { statements = refl; stop = refl; rest = refl }
 
-pub leads-then : {r q p : Reading} {us vs ws : List Token} {row more : List Statement} → Leads r us row q vs → Leads q vs more p ws → Leads r us (row ++ more) p ws
+pub leads-then : {r q p : Progress} {us vs ws : List Token} {row more : List Statement}
+    → Leads r us row q vs → Leads q vs more p ws → Leads r us (row ++ more) p ws
 leads-then {row = row} {more = more} a b = record {
   statements = a.statements ∙ ap (λ x. row ++ x) b.statements ∙ sym (append_assoc row more _);
   stop = a.stop ∙ b.stop;
   rest = a.rest ∙ b.rest;
 }
 
-pub behind-one : (text : List ℕ) (ws : List Word) (i : ℕ) → i < length ws → behind text ws i ≡ token_at text ws i ∷ behind text ws (i + 1)
+pub behind-one : (text : List ℕ) (ws : List Word) (i : ℕ) → i < length ws
+    → behind text ws i ≡ token_at text ws i ∷ behind text ws (i + 1)
 behind-one text ws i h =
-    let e : drop i ws ≡ word_at ws i ∷ drop (i + 1) ws = rw (add-one, drop-cons ws i (record { start = 0; end = 0 })) refl in
-    ap (tokens_of text) e
+    let e : drop i ws ≡ nth_word ws i ∷ drop (i + 1) ws =
+    rw (add-one, drop-cons ws i (record { start = 0; end = 0 })) refl in
+    ap (as_tokens text) e
 
-pub leads-go : {r : Reading} {t : Token} {us : List Token} {q : Reading} → table.go q ≡ table.turn r (class t.word) t → Leads r (t ∷ us) [] q us
+pub leads-go : {r : Progress} {t : Token} {us : List Token} {q : Progress}
+    → table.go q ≡ table.turn r (class t.word) t → Leads r (t ∷ us) [] q us
 leads-go {r = r} {t = t} {us = us} e = record {
   statements = ap (λ o. after o (λ q. statements_from q us)) (sym e);
-  stop = ap (λ o. stop_after o (Some (fault t.at (shape_code (begins r) t.word))) (λ q. stop_from q us)) (sym e);
+  stop =
+      ap (λ o. stop_after o (Some (fault t.at (shape_code (begins r) t.word)))
+      (λ q. stop_from q us)) (sym e);
   rest = ap (λ o. rest_after o (λ q. rest_from q us) r) (sym e);
 }
 
-pub leads-done : {r : Reading} {t : Token} {us : List Token} {d : ℕ} {s : Statement} → table.done d s ≡ table.turn r (class t.word) t → Leads r (t ∷ us) (s ∷ []) (start d) us
+pub leads-done : {r : Progress} {t : Token} {us : List Token} {d : ℕ} {s : Statement}
+    → table.done d s ≡ table.turn r (class t.word) t → Leads r (t ∷ us) (s ∷ []) (start d) us
 leads-done {r = r} {t = t} {us = us} e = record {
   statements = ap (λ o. after o (λ q. statements_from q us)) (sym e);
-  stop = ap (λ o. stop_after o (Some (fault t.at (shape_code (begins r) t.word))) (λ q. stop_from q us)) (sym e);
+  stop =
+      ap (λ o. stop_after o (Some (fault t.at (shape_code (begins r) t.word)))
+      (λ q. stop_from q us)) (sym e);
   rest = ap (λ o. rest_after o (λ q. rest_from q us) r) (sym e);
 }
 
-pub leads-stop : (r : Reading) (t : Token) (us : List Token) → table.stop ≡ table.turn r (class t.word) t → (statements_from r (t ∷ us) ≡ []) × (stop_from r (t ∷ us) ≡ Some (fault t.at (shape_code (begins r) t.word)))
+pub leads-stop : (r : Progress) (t : Token) (us : List Token)
+    → table.stop ≡ table.turn r (class t.word) t
+    → (statements_from r (t ∷ us) ≡ [])
+    × (stop_from r (t ∷ us) ≡ Some (fault t.at (shape_code (begins r) t.word)))
 leads-stop r t us e = (
   ap (λ o. after o (λ q. statements_from q us)) (sym e),
-  ap (λ o. stop_after o (Some (fault t.at (shape_code (begins r) t.word))) (λ q. stop_from q us)) (sym e),
+  ap (λ o. stop_after o (Some (fault t.at (shape_code (begins r) t.word))) (λ q. stop_from q us))
+      (sym e),
 )
 
-pub is_start-begins : (text : List ℕ) (ws : List Word) (d i : ℕ) (part : Part) → is_start part ≡ begins (reading text ws d part i)
+pub is_start-begins : (text : List ℕ) (ws : List Word) (d i : ℕ) (part : Part)
+    → is_start part ≡ begins (reading text ws d part i)
 is_start-begins text ws d i Start = refl
 is_start-begins text ws d i (Labelled l) = refl
 is_start-begins text ws d i (Words k w) = refl
@@ -55,30 +71,53 @@ is_start-begins text ws d i (Proof w e) = refl
 
 -- what has been read of a statement from a token on
 abbrev pub Goes : List ℕ → List Word → ℕ → ℕ → Part → ℕ → Type 0
-Goes text ws d from part i = Leads (start d) (behind text ws from) [] (reading text ws d part i) (behind text ws i)
+Goes text ws d from part i =
+    Leads (start d) (behind text ws from) [] (reading text ws d part i) (behind text ws i)
 
 module _ (text : List ℕ) (ws : List Word) (d from i : ℕ) (part : Part) where
   abbrev pub Turned : Turn → Type 0
-  Turned o = o ≡ table.turn (reading text ws d part i) (class (token_at text ws i).word) (token_at text ws i)
+  Turned o =
+      o ≡ table.turn (reading text ws d part i) (class (token_at text ws i).word)
+      (token_at text ws i)
 
-  pub goes-go : Goes text ws d from part i → i < length ws → (q : Reading) → Turned (table.go q) → Leads (start d) (behind text ws from) [] q (behind text ws (i + 1))
-  goes-go g h q e = leads-then g (subst (λ us. Leads (reading text ws d part i) us [] q (behind text ws (i + 1))) (sym (behind-one text ws i h)) (leads-go e))
+  pub goes-go : Goes text ws d from part i → i < length ws → (q : Progress) → Turned (table.go q)
+      → Leads (start d) (behind text ws from) [] q (behind text ws (i + 1))
+  goes-go g h q e =
+      leads-then g
+      (subst (λ us. Leads (reading text ws d part i) us [] q (behind text ws (i + 1)))
+      (sym (behind-one text ws i h)) (leads-go e))
 
-  pub goes-done : Goes text ws d from part i → i < length ws → (s : Statement) (n : ℕ) → Turned (table.done n s) → Leads (start d) (behind text ws from) (s ∷ []) (start n) (behind text ws (i + 1))
-  goes-done g h s n e = leads-then g (subst (λ us. Leads (reading text ws d part i) us (s ∷ []) (start n) (behind text ws (i + 1))) (sym (behind-one text ws i h)) (leads-done e))
+  pub goes-done : Goes text ws d from part i → i < length ws → (s : Statement) (n : ℕ)
+      → Turned (table.done n s)
+      → Leads (start d) (behind text ws from) (s ∷ []) (start n) (behind text ws (i + 1))
+  goes-done g h s n e =
+      leads-then g
+      (subst (λ us. Leads (reading text ws d part i) us (s ∷ []) (start n) (behind text ws (i + 1)))
+      (sym (behind-one text ws i h)) (leads-done e))
 
-  pub goes-stop : Goes text ws d from part i → i < length ws → Turned table.stop → (f : Fault) → f ≡ fault (token_at text ws i).at (shape_code (is_start part) (token_at text ws i).word)
-      → (statements_from (start d) (behind text ws from) ≡ []) × (stop_from (start d) (behind text ws from) ≡ Some f)
+  pub goes-stop : Goes text ws d from part i → i < length ws → Turned table.stop → (f : Fault)
+      → f ≡ fault (token_at text ws i).at (shape_code (is_start part) (token_at text ws i).word)
+      → (statements_from (start d) (behind text ws from) ≡ [])
+      × (stop_from (start d) (behind text ws from) ≡ Some f)
   goes-stop g h e f is =
-      let x = leads-stop (reading text ws d part i) (token_at text ws i) (behind text ws (i + 1)) e in (
-        g.statements ∙ ap (statements_from (reading text ws d part i)) (behind-one text ws i h) ∙ x.0,
-        g.stop ∙ ap (stop_from (reading text ws d part i)) (behind-one text ws i h) ∙ x.1 ∙ ap (λ b. Some (fault (token_at text ws i).at (shape_code b (token_at text ws i).word))) (sym (is_start-begins text ws d i part)) ∙ ap Some (sym is),
+      let x =
+      leads-stop (reading text ws d part i) (token_at text ws i) (behind text ws (i + 1)) e in (
+        g.statements ∙ ap (statements_from (reading text ws d part i)) (behind-one text ws i h)
+            ∙ x.0,
+        g.stop ∙ ap (stop_from (reading text ws d part i)) (behind-one text ws i h) ∙ x.1
+            ∙ ap (λ b. Some
+            (fault (token_at text ws i).at (shape_code b (token_at text ws i).word)))
+            (sym (is_start-begins text ws d i part))
+            ∙ ap Some (sym is),
       )
 
   pub goes-end : Goes text ws d from part i → i ≡ length ws
-      → (statements_from (start d) (behind text ws from) ≡ []) × (stop_from (start d) (behind text ws from) ≡ None) × (rest_from (start d) (behind text ws from) ≡ reading text ws d part (length ws))
+      → (statements_from (start d) (behind text ws from) ≡ [])
+      × (stop_from (start d) (behind text ws from) ≡ None)
+      × (rest_from (start d) (behind text ws from) ≡ reading text ws d part (length ws))
   goes-end g e =
-      let none : behind text ws i ≡ [] = ap (tokens_of text) (ap (λ k. drop k ws) e ∙ drop-all ws) in (
+      let none : behind text ws i ≡ [] =
+      ap (as_tokens text) (ap (λ k. drop k ws) e ∙ drop-all ws) in (
         g.statements ∙ ap (statements_from (reading text ws d part i)) none,
         g.stop ∙ ap (stop_from (reading text ws d part i)) none,
         g.rest ∙ ap (rest_from (reading text ws d part i)) none ∙ ap (reading text ws d part) e,

@@ -1,6 +1,7 @@
 -- What is known of a result that is Ok.
 use Rattle.std.proofs.Common.{Result, Ok, Err, IfOk}
 
-pub ok_then : {A E : Type 0} {P Q : A → Type 0} (r : Result A E) → IfOk r P → ((a : A) → P a → Q a) → IfOk r Q
+pub ok_then : {A E : Type 0} {P Q : A → Type 0} (r : Result A E) → IfOk r P → ((a : A) → P a → Q a)
+    → IfOk r Q
 ok_then (Ok a) h f = f a h
 ok_then (Err e) h f = tt

@@ -1,8 +1,8 @@
 -- The blocks in which statements stand.
-use Rattle.std.specs.Prelude.{◌≡◌, ℕ, ◌+◌, ◌-◌, ◌<◌, ◌≤◌, List, [], ◌∷◌, ◌++◌, length, take, slice_set, slice_index, get_or, nat_le, count_by, ◌⊎◌}
+use Rattle.std.specs.Prelude.{◌≡◌, ℕ, ◌+◌, ◌-◌, ◌<◌, ◌≤◌, List, [], ◌∷◌, ◌++◌, length, take}
+use Rattle.std.specs.Prelude.{slice_set, slice_index, get_or, nat_le, count_by, ◌⊎◌}
 use Rattle.mm_spec.specs.Statement.{Statement, is_opening, is_closing}
-use Rattle.mm_spec.specs.Scope.{depth}
-use Rattle.mm_spec.proofs.Activity.{stays}
+use Rattle.mm_spec.specs.Scope.{depth, stays}
 use Rattle.mm_outline.specs.declared.parts.Kind.{Kind}
 use Rattle.mm_outline.specs.declared.parts.Kind.TheVariants.{Open, Close}
 
@@ -25,8 +25,12 @@ abbrev pub top : List ℕ → ℕ
 top opens = slice_index opens (length opens - 1)
 
 abbrev pub pushed : Kind → Lists → Lists
-pushed Open b = lists (b.of ++ top b.open_blocks ∷ []) (b.ends ++ never ∷ []) (b.open_blocks ++ length b.ends ∷ [])
-pushed Close b = lists (b.of ++ top b.open_blocks ∷ []) (slice_set b.ends (top b.open_blocks) (length b.of)) (take (length b.open_blocks - 1) b.open_blocks)
+pushed Open b =
+    lists (b.of ++ top b.open_blocks ∷ []) (b.ends ++ never ∷ [])
+    (b.open_blocks ++ length b.ends ∷ [])
+pushed Close b =
+    lists (b.of ++ top b.open_blocks ∷ []) (slice_set b.ends (top b.open_blocks) (length b.of))
+    (take (length b.open_blocks - 1) b.open_blocks)
 pushed _ b = lists (b.of ++ top b.open_blocks ∷ []) b.ends b.open_blocks
 
 abbrev pub end_of : Lists → ℕ → ℕ
@@ -39,8 +43,12 @@ pub record IsBlocks (db : List Statement) (b : Lists) : Type 0 where
   pub stack : length b.open_blocks ≡ depth db (length db) + 1
   pub known : (j : ℕ) → j < length db → get_or b.of j 0 < length b.ends
   pub opened : (l : ℕ) → l < length b.open_blocks → get_or b.open_blocks l 0 < length b.ends
-  pub still : (l : ℕ) → l < length b.open_blocks → get_or b.ends (get_or b.open_blocks l 0) 0 ≡ never
-  pub rising : (l m : ℕ) → l < m → m < length b.open_blocks → get_or b.open_blocks l 0 < get_or b.open_blocks m 0
-  pub at : (j : ℕ) → j < length db → end_of b j ≡ never → (depth db j ≤ depth db (length db)) × (get_or b.open_blocks (depth db j) 0 ≡ get_or b.of j 0)
+  pub still : (l : ℕ) → l < length b.open_blocks
+      → get_or b.ends (get_or b.open_blocks l 0) 0 ≡ never
+  pub rising : (l m : ℕ) → l < m → m < length b.open_blocks
+      → get_or b.open_blocks l 0 < get_or b.open_blocks m 0
+  pub at : (j : ℕ) → j < length db → end_of b j ≡ never
+      → (depth db j ≤ depth db (length db))
+      × (get_or b.open_blocks (depth db j) 0 ≡ get_or b.of j 0)
   pub ended : (j k : ℕ) → j < k → k ≤ length db → stays db j k ≡ nat_le k (end_of b j)
   pub bounds : (j : ℕ) → j < length db → (end_of b j ≡ never) ⊎ (end_of b j < length db)

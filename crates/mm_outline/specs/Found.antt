@@ -1,35 +1,44 @@
 -- How reading goes on, and what is found where a statement begins.
-use Rattle.std.specs.Prelude.{◌≡◌, ℕ, ◌+◌, ◌<◌, ◌≤◌, Bool, true, false, List, [], ◌∷◌, ◌++◌, length, drop, None, Some}
+use Rattle.std.specs.Prelude.{◌≡◌, ℕ, ◌+◌, ◌<◌, ◌≤◌, Bool, true, false, List, [], ◌∷◌, ◌++◌, length}
+use Rattle.std.specs.Prelude.{drop, None, Some}
 use Rattle.mm_spec.specs.Text.{Token}
 use Rattle.mm_spec.specs.Statement.{Statement}
-use Rattle.mm_spec.specs.Table.{Reading, start, statements_from, stop_from, rest_from}
+use Rattle.mm_spec.specs.Laws.Table.{Progress, start, statements_from, stop_from, rest_from}
 use Rattle.mm_spec.specs.declared.Word.{Word}
-use Rattle.mm_outline.specs.Parts.{tokens_of, statement_of, reading, depth_behind, IsOutline}
+use Rattle.mm_outline.specs.Parts.{as_tokens, statement_of, reading, depth_behind, IsOutline}
 use Rattle.mm_outline.specs.declared.parts.Part.{Part}
 use Rattle.mm_outline.specs.declared.parts.Part.TheVariants.{Start}
 use Rattle.mm_outline.specs.declared.parts.Found.{Found}
 use Rattle.mm_outline.specs.declared.parts.Found.TheVariants.{Whole, Stopped, Ended}
 
 -- From r on, us give these statements and then what vs give from q on.
-pub record Leads (r : Reading) (us : List Token) (row : List Statement) (q : Reading) (vs : List Token) : Type 0 where
+pub record Leads (r : Progress) (us : List Token) (row : List Statement) (q : Progress)
+    (vs : List Token) : Type 0 where
   pub statements : statements_from r us ≡ row ++ statements_from q vs
   pub stop : stop_from r us ≡ stop_from q vs
   pub rest : rest_from r us ≡ rest_from q vs
 
 -- the tokens from a place on
 abbrev pub behind : List ℕ → List Word → ℕ → List Token
-behind text ws i = tokens_of text (drop i ws)
+behind text ws i = as_tokens text (drop i ws)
 
-pub record IsWhole (text : List ℕ) (ws : List Word) (d from kind_depth : ℕ) (s : Statement) (end : ℕ) : Type 0 where
+pub record IsWhole (text : List ℕ) (ws : List Word) (d from kind_depth : ℕ) (s : Statement)
+    (end : ℕ) : Type 0 where
   pub later : from ≤ end
   pub within : end < length ws
-  pub leads : Leads (start d) (behind text ws from) (s ∷ []) (start kind_depth) (behind text ws (end + 1))
+  pub leads : Leads (start d) (behind text ws from) (s ∷ []) (start kind_depth)
+      (behind text ws (end + 1))
 
 abbrev pub IsFound : List ℕ → List Word → ℕ → ℕ → Found → Type 0
-IsFound text ws d from (Whole o) = IsOutline o × IsWhole text ws d from (depth_behind o.kind d) (statement_of text ws o) o.end
-IsFound text ws d from (Stopped f) = (statements_from (start d) (behind text ws from) ≡ []) × (stop_from (start d) (behind text ws from) ≡ Some f)
+IsFound text ws d from (Whole o) =
+    IsOutline o × IsWhole text ws d from (depth_behind o.kind d) (statement_of text ws o) o.end
+IsFound text ws d from (Stopped f) =
+    (statements_from (start d) (behind text ws from) ≡ [])
+    × (stop_from (start d) (behind text ws from) ≡ Some f)
 IsFound text ws d from (Ended part) =
-    (statements_from (start d) (behind text ws from) ≡ []) × (stop_from (start d) (behind text ws from) ≡ None) × (rest_from (start d) (behind text ws from) ≡ reading text ws d part (length ws))
+    (statements_from (start d) (behind text ws from) ≡ [])
+    × (stop_from (start d) (behind text ws from) ≡ None)
+    × (rest_from (start d) (behind text ws from) ≡ reading text ws d part (length ws))
 
 -- whether nothing has been read
 abbrev pub is_start : Part → Bool

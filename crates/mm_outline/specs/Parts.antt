@@ -1,12 +1,16 @@
 -- What the code's types stand for.
-use Rattle.std.specs.Prelude.{◌≡◌, ℕ, suc, ◌+◌, ◌-◌, ◌<◌, ◌≤◌, zero, Bool, true, false, List, [], map, length, slice_range, get_or, All}
+use Rattle.std.specs.Prelude.{◌≡◌, ℕ, suc, ◌+◌, ◌-◌, ◌<◌, ◌≤◌, zero, Bool, true, false, List, []}
+use Rattle.std.specs.Prelude.{map, length, slice_range, get_or, All}
 use Rattle.mm_spec.specs.Text.{Token, token}
 use Rattle.mm_spec.specs.Statement as statement
 use Rattle.mm_spec.specs.Statement.{Statement}
-use Rattle.mm_spec.specs.Table as table
+use Rattle.mm_spec.specs.Laws.Table as table
 use Rattle.mm_spec.specs.declared.Word.{Word}
 use Rattle.mm_outline.specs.declared.words.Class.{Class}
-use Rattle.mm_outline.specs.declared.words.Class.TheVariants.{Constant, Variable, Disjoint, Floating, Essential, Axiom, Theorem, Equals, Dot, Open, Close, Plain, Other}
+use Rattle.mm_outline.specs.declared.words.Class.TheVariants.{Constant, Variable, Disjoint}
+use Rattle.mm_outline.specs.declared.words.Class.TheVariants.{Floating, Essential, Axiom, Theorem}
+use Rattle.mm_outline.specs.declared.words.Class.TheVariants.{Equals, Dot, Open, Close, Plain}
+use Rattle.mm_outline.specs.declared.words.Class.TheVariants.{Other}
 use Rattle.mm_outline.specs.declared.parts.Kind.{Kind}
 use Rattle.mm_outline.specs.declared.parts.Kind.TheVariants as kind
 use Rattle.mm_outline.specs.declared.parts.Outline.{Outline}
@@ -22,7 +26,7 @@ class_of Disjoint = table.disjoint_of
 class_of Floating = table.type_of
 class_of Essential = table.logical
 class_of Axiom = table.axiom_of
-class_of Theorem = table.proof_of
+class_of Theorem = table.theorem_of
 class_of Equals = table.equals
 class_of Dot = table.dot
 class_of Open = table.open_block
@@ -31,29 +35,30 @@ class_of Plain = table.plain
 class_of Other = table.other
 
 -- the words stand in the text
-abbrev pub AreWords : List ℕ → List Word → Type 0
-AreWords text ws = All (λ w. (w.start ≤ w.end) × (w.end ≤ length text)) ws
+abbrev pub AreWithin : List ℕ → List Word → Type 0
+AreWithin text ws = All (λ w. (w.start ≤ w.end) × (w.end ≤ length text)) ws
 
 -- words as tokens
 abbrev pub token_of : List ℕ → Word → Token
 token_of text w = token w.start (slice_range text w.start w.end)
 
-abbrev pub tokens_of : List ℕ → List Word → List Token
-tokens_of text ws = map (token_of text) ws
+abbrev pub as_tokens : List ℕ → List Word → List Token
+as_tokens text ws = map (token_of text) ws
 
-abbrev pub word_at : List Word → ℕ → Word
-word_at ws i = get_or ws i (record { start = 0; end = 0 })
+abbrev pub nth_word : List Word → ℕ → Word
+nth_word ws i = get_or ws i (record { start = 0; end = 0 })
 
 abbrev pub token_at : List ℕ → List Word → ℕ → Token
-token_at text ws i = token_of text (word_at ws i)
+token_at text ws i = token_of text (nth_word ws i)
 
 -- the tokens from i up to j
 abbrev pub between : List ℕ → List Word → ℕ → ℕ → List Token
-between text ws i j = tokens_of text (slice_range ws i j)
+between text ws i j = as_tokens text (slice_range ws i j)
 
 -- what the turns of the code are
 abbrev pub outline : Kind → ℕ → ℕ → ℕ → Outline
-outline kind keyword middle end = record { kind = kind; keyword = keyword; middle = middle; end = end }
+outline kind keyword middle end =
+    record { kind = kind; keyword = keyword; middle = middle; end = end }
 
 abbrev pub single_of : Kind → ℕ → Turn
 single_of kind at = Done (outline kind at at at)
@@ -85,7 +90,7 @@ abbrev pub less_one : ℕ → ℕ
 less_one zero = zero
 less_one (suc d) = d
 
--- how deep it is behind a statement
+-- how deep it is after a statement
 abbrev pub depth_behind : Kind → ℕ → ℕ
 depth_behind kind.Open d = suc d
 depth_behind kind.Close d = less_one d
@@ -97,7 +102,7 @@ module _ (text : List ℕ) (ws : List Word) where
   label_before keyword = token_at text ws (keyword - 1)
 
   abbrev pub place : ℕ → ℕ
-  place i = (word_at ws i).start
+  place i = (nth_word ws i).start
 
   -- the statement with these words and this end
   abbrev pub make : Kind → ℕ → List Token → ℕ → Statement
@@ -112,7 +117,8 @@ module _ (text : List ℕ) (ws : List Word) where
   make kind.Close k xs d = statement.closing (place k)
 
   abbrev pub make_proved : ℕ → ℕ → List Token → ℕ → Statement
-  make_proved k e ps d = statement.provable (label_before k) (place k) (between text ws (k + 1) e) (place e) ps d
+  make_proved k e ps d =
+      statement.provable (label_before k) (place k) (between text ws (k + 1) e) (place e) ps d
 
   abbrev pub made : Kind → ℕ → ℕ → ℕ → Statement
   made kind.Theorem k e d = make_proved k e (between text ws (e + 1) d) (place d)
@@ -123,7 +129,7 @@ module _ (text : List ℕ) (ws : List Word) where
   statement_of o = made o.kind o.keyword o.middle o.end
 
   -- what has been read before token i
-  abbrev pub reading : ℕ → Part → ℕ → table.Reading
+  abbrev pub reading : ℕ → Part → ℕ → table.Progress
   reading d Start i = table.start d
   reading d (Labelled l) i = table.labelled d (token_at text ws l)
   reading d (Words kind k) i = table.words d (make kind k) (between text ws (k + 1) i)
@@ -162,13 +168,14 @@ IsPart (Words kind k) i = HasWords kind × HasLabel kind k × (k < i)
 IsPart (Formula k) i = (0 < k) × (k < i)
 IsPart (Proof k e) i = (0 < k) × (k < e) × (e < i)
 
--- a statement of words has its last token behind its keyword
+-- a statement of words has its last token after its keyword
 abbrev pub IsRising : Kind → ℕ → ℕ → Type 0
 IsRising kind.Open k m = Unit {0}
 IsRising kind.Close k m = Unit {0}
 IsRising _ k m = k < m
 
--- a `$p` has its `$=` before its last token, `${` and `$}` have one token, and the others have no `$=`
+-- a `$p` has its `$=` before its last token, `${` and `$}` have one token, and the others have no
+-- `$=`
 abbrev pub HasEnd : Kind → ℕ → ℕ → ℕ → Type 0
 HasEnd kind.Theorem k m e = m < e
 HasEnd kind.Open k m e = (k ≡ m) × (m ≡ e)
@@ -176,7 +183,9 @@ HasEnd kind.Close k m e = (k ≡ m) × (m ≡ e)
 HasEnd _ k m e = m ≡ e
 
 abbrev pub IsOutline : Outline → Type 0
-IsOutline o = HasLabel o.kind o.keyword × IsRising o.kind o.keyword o.middle × (o.keyword ≤ o.middle) × (o.middle ≤ o.end) × HasEnd o.kind o.keyword o.middle o.end
+IsOutline o =
+    HasLabel o.kind o.keyword × IsRising o.kind o.keyword o.middle × (o.keyword ≤ o.middle)
+    × (o.middle ≤ o.end) × HasEnd o.kind o.keyword o.middle o.end
 
 -- what a turn at token i leaves
 abbrev pub Holds : ℕ → Turn → Type 0

@@ -1,10 +1,10 @@
 -- The statements of a text by their outlines, and what stands at its end.
 use Rattle.std.specs.Prelude.{ℕ, zero, suc, Bool, true, false, List, map, Option, None, Some}
 use Rattle.mm_spec.specs.Statement.{Statement}
-use Rattle.mm_spec.specs.Output.{Lexed}
+use Rattle.mm_spec.specs.Output.{LexedText}
 use Rattle.mm_spec.specs.declared.Word.{Word}
 use Rattle.mm_spec.specs.declared.Fault.{Fault}
-use Rattle.mm_outline.specs.Parts.{tokens_of, statement_of}
+use Rattle.mm_outline.specs.Parts.{as_tokens, statement_of}
 use Rattle.mm_outline.specs.declared.parts.Kind.{Kind}
 use Rattle.mm_outline.specs.declared.parts.Kind.TheVariants as kind
 use Rattle.mm_outline.specs.declared.parts.Outline.{Outline}
@@ -13,8 +13,8 @@ use Rattle.mm_outline.specs.declared.parts.Part.{Part}
 use Rattle.mm_outline.specs.declared.parts.Part.TheVariants.{Start}
 use Rattle.mm_spec.specs.declared.Code.TheVariants.{OpenStatement, OpenBlock}
 
-abbrev pub lexed : List ℕ → List Word → Option Fault → Lexed
-lexed text ws fault = record { tokens = tokens_of text ws; fault = fault }
+abbrev pub lexed : List ℕ → List Word → Option Fault → LexedText
+lexed text ws fault = record { tokens = as_tokens text ws; fault = fault }
 
 abbrev pub statements : List ℕ → List Word → List Outline → List Statement
 statements text ws os = map (statement_of text ws) os

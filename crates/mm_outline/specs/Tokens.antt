@@ -9,4 +9,6 @@ TellsByFirst word = (0 < length word) × (has_dollar word ≡ (slice_index word 
 
 -- the words stand in the text, and the first byte of each tells
 abbrev pub AreTokens : List ℕ → List Word → Type 0
-AreTokens text ws = All (λ w. (w.start ≤ w.end) × (w.end ≤ length text) × TellsByFirst (slice_range text w.start w.end)) ws
+AreTokens text ws =
+    All (λ w. (w.start ≤ w.end) × (w.end ≤ length text)
+    × TellsByFirst (slice_range text w.start w.end)) ws

@@ -1,14 +1,14 @@
 -- Which words statements have and type.
 use Rattle.std.specs.Prelude.{ℕ, Bool, List, map, flat_map}
-use Rattle.mm_spec.specs.Text.{Word, is_in}
+use Rattle.mm_spec.specs.Text.{Bytes, is_in}
 use Rattle.mm_spec.specs.Statement.{Statement}
 use Rattle.mm_spec.specs.Scope.{statement_at, typings_of}
 
 -- the variables that a statement types
-abbrev pub typed_words : Statement → List Word
+abbrev pub typed_words : Statement → List Bytes
 typed_words s = map (λ t. t.variable) (typings_of s)
 
-module _ (db : List Statement) (f : Statement → List Word) (w : Word) where
+module _ (db : List Statement) (f : Statement → List Bytes) (w : Bytes) where
   -- whether statement j has the word
   abbrev pub has : ℕ → Bool
   has j = is_in w (flat_map f (statement_at db j))

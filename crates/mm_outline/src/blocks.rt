@@ -1,6 +1,7 @@
 //! The blocks in which statements stand.
 
-ghost use Rattle.std.specs.Prelude.{◌≡◌, ◌<◌, ◌≤◌, ◌^◌, ◌++◌, ◌∷◌, [], ◌-◌, length, OnOk, IfOk, All, vec_len, nat_le, slice_index, get_or};
+ghost use Rattle.std.specs.Prelude.{◌≡◌, ◌<◌, ◌≤◌, ◌^◌, ◌++◌, ◌∷◌, [], ◌-◌, length, OnOk, IfOk};
+ghost use Rattle.std.specs.Prelude.{All, vec_len, nat_le, slice_index, get_or};
 ghost use Rattle.mm_outline.specs.Blocks.{Lists, lists, pushed, no_blocks};
 
 use crate::parts::Kind;
@@ -9,7 +10,8 @@ use std::alloc::{AllocError, Allocator};
 /// The end of a block that is still open.
 pub const NEVER: u32 = 4_294_967_295;
 
-/// The block of each statement, the end of each block, and the blocks that are open, the outermost first.
+/// The block of each statement, the end of each block, and the blocks that are open, the outermost
+/// first.
 #[derive(Drop)]
 pub struct Blocks<A: Allocator> {
     pub of: Vec<u32, A>,
@@ -36,7 +38,9 @@ impl<A: Allocator> Blocks<A> {
         requires known { All (λ b. b < vec_len self.old.ends) self.old.open.items }
         requires few { vec_len self.old.of < 2 ^ 31 }
         requires few_blocks { vec_len self.old.ends < 2 ^ 32 }
-        ensures { OnOk result (lists self.new.of.items self.new.ends.items self.new.open.items ≡ pushed kind (lists self.old.of.items self.old.ends.items self.old.open.items)) }
+        ensures { OnOk result
+            (lists self.new.of.items self.new.ends.items self.new.open.items
+            ≡ pushed kind (lists self.old.of.items self.old.ends.items self.old.open.items)) }
     {
         let top = self.open[self.open.len() - 1];
         let number = self.of.len() as u32;
@@ -60,7 +64,8 @@ impl<A: Allocator> Blocks<A> {
     pub fn end_of(&self, statement: u32) -> u32
         requires inside { statement < vec_len self.now.of }
         requires known { slice_index self.now.of.items statement < vec_len self.now.ends }
-        ensures { result ≡ slice_index self.now.ends.items (slice_index self.now.of.items statement) }
+        ensures { result
+            ≡ slice_index self.now.ends.items (slice_index self.now.of.items statement) }
     {
         self.ends[self.of[statement as usize] as usize]
     }
@@ -69,7 +74,9 @@ impl<A: Allocator> Blocks<A> {
     pub fn is_open_at(&self, statement: u32, at: u32) -> bool
         requires inside { statement < vec_len self.now.of }
         requires known { slice_index self.now.of.items statement < vec_len self.now.ends }
-        ensures { result ≡ nat_le at (slice_index self.now.ends.items (slice_index self.now.of.items statement)) }
+        ensures { result
+            ≡ nat_le at
+            (slice_index self.now.ends.items (slice_index self.now.of.items statement)) }
     {
         at <= self.end_of(statement)
     }

@@ -4,8 +4,9 @@ ghost use Rattle.std.specs.Prelude.{◌≡◌, ◌<◌, ◌≤◌, ◌^◌, ℕ,
 ghost use Rattle.mm_spec.specs.Text.{fault, has_dollar, is_label as spec_is_label};
 ghost use Rattle.mm_spec.specs.Statement.{shape_code};
 ghost use Rattle.mm_outline.specs.Found.{IsFound, Leads, behind, is_start as spec_is_start};
-ghost use Rattle.mm_spec.specs.Table.{class, turn as spec_turn};
-ghost use Rattle.mm_outline.specs.Parts.{IsPart, Holds, AreWords, reading, token_at, turn_of, step_of, single_of, AtStart};
+ghost use Rattle.mm_spec.specs.Laws.Table.{class, turn as spec_turn};
+ghost use Rattle.mm_outline.specs.Parts.{IsPart, Holds, AreWithin, reading, token_at, turn_of};
+ghost use Rattle.mm_outline.specs.Parts.{step_of, single_of, AtStart};
 ghost use Rattle.mm_outline.specs.Tokens.{AreTokens};
 
 use crate::words::{Class, classify, has_dollar, is_label};
@@ -25,7 +26,8 @@ pub enum Kind {
     Close,
 }
 
-/// Where a statement stands among the tokens: its keyword, its `$=` (where it has none, its last token), and its last token.
+/// Where a statement stands among the tokens: its keyword, its `$=` (where it has none, its last
+/// token), and its last token.
 #[derive(Clone, Copy, Debug, PartialEq, Eq)]
 pub struct Outline {
     pub kind: Kind,
@@ -34,7 +36,8 @@ pub struct Outline {
     pub end: u32,
 }
 
-/// What of a statement has been read: nothing, the label, words behind the keyword, those of a `$p`, those behind its `$=`.
+/// What of a statement has been read: nothing, the label, words after the keyword, those of a
+/// `$p`, those after its `$=`.
 #[derive(Clone, Copy, Debug, PartialEq, Eq)]
 pub enum Part {
     Start,
@@ -140,7 +143,9 @@ fn take_turn(text: &[u8], tokens: &[Word], deep: u32, part: Part, at: u32) -> Tu
     requires tokens { AreTokens text.now tokens.now }
     requires inside { at < length tokens.now }
     requires part { IsPart part at }
-    ensures same { turn_of text.now tokens.now deep at result ≡ spec_turn (reading text.now tokens.now deep part at) (class (token_at text.now tokens.now at).word) (token_at text.now tokens.now at) }
+    ensures same { turn_of text.now tokens.now deep at result
+        ≡ spec_turn (reading text.now tokens.now deep part at)
+        (class (token_at text.now tokens.now at).word) (token_at text.now tokens.now at) }
     ensures holds { Holds at result }
 {
     let token = tokens[at as usize];
@@ -149,7 +154,8 @@ fn take_turn(text: &[u8], tokens: &[Word], deep: u32, part: Part, at: u32) -> Tu
     step(part, class, is_label_at(part, word), deep > 0, at)
 }
 
-/// What stands where a statement should begin: a whole one, a token that is not expected, or the end, behind part of one.
+/// What stands where a statement should begin: a whole one, a token that is not expected, or the
+/// end, after part of one.
 #[derive(Clone, Copy, Debug, PartialEq, Eq)]
 pub enum Found {
     Whole(Outline),
@@ -185,7 +191,9 @@ fn is_start(part: Part) -> bool
 fn unexpected(text: &[u8], tokens: &[Word], part: Part, at: u32) -> Fault
     requires tokens { AreTokens text.now tokens.now }
     requires inside { at < length tokens.now }
-    ensures { result ≡ fault (token_at text.now tokens.now at).at (shape_code (spec_is_start part) (token_at text.now tokens.now at).word) }
+    ensures { result
+        ≡ fault (token_at text.now tokens.now at).at
+        (shape_code (spec_is_start part) (token_at text.now tokens.now at).word) }
 {
     let token = tokens[at as usize];
     let word = &text[token.start as usize..token.end as usize];
@@ -202,7 +210,8 @@ fn next_keyword(text: &[u8], tokens: &[Word], from: u32) -> u32
     requires inside { from ≤ length tokens.now }
     ensures later { from ≤ result }
     ensures within { result ≤ length tokens.now }
-    ensures plain { (i : ℕ) → from ≤ i → i < result → has_dollar (token_at text.now tokens.now i).word ≡ false }
+    ensures plain { (i : ℕ) → from ≤ i → i < result
+        → has_dollar (token_at text.now tokens.now i).word ≡ false }
 {
     for at in from..tokens.len() as u32 {
         let token = tokens[at as usize];
@@ -213,7 +222,7 @@ fn next_keyword(text: &[u8], tokens: &[Word], from: u32) -> u32
     tokens.len() as u32
 }
 
-/// Where reading goes on: words behind a keyword are passed over, up to the next keyword.
+/// Where reading goes on: words after a keyword are passed over, up to the next keyword.
 fn pass_words(text: &[u8], tokens: &[Word], part: Part, at: u32) -> u32
     requires tokens { AreTokens text.now tokens.now }
     requires limit { length tokens.now < 2 ^ 31 }
@@ -222,7 +231,9 @@ fn pass_words(text: &[u8], tokens: &[Word], part: Part, at: u32) -> u32
     ensures later { at ≤ result }
     ensures within { result ≤ length tokens.now }
     ensures part { IsPart part result }
-    ensures leads { (d : ℕ) → Leads (reading text.now tokens.now d part at) (behind text.now tokens.now at) [] (reading text.now tokens.now d part result) (behind text.now tokens.now result) }
+    ensures leads { (d : ℕ)
+        → Leads (reading text.now tokens.now d part at) (behind text.now tokens.now at) []
+        (reading text.now tokens.now d part result) (behind text.now tokens.now result) }
 {
     match part {
         Part::Start | Part::Labelled(_) => at,

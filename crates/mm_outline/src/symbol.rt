@@ -4,7 +4,8 @@ ghost use Rattle.std.specs.Prelude.{◌≡◌, ℕ};
 
 use std::marker::Model;
 
-/// A symbol of a database, by its number: symbols are numbered from 0 in the order of their first declarations.
+/// A symbol of a database, by its number: symbols are numbered from 0 in the order of their first
+/// declarations.
 #[derive(Clone, Copy, Debug, PartialEq, Eq, PartialOrd, Ord)]
 pub struct Sym(u32);
 

@@ -1,8 +1,9 @@
 //! What a word is, by its bytes.
 
 ghost use Rattle.std.specs.Prelude.{◌≡◌, codes};
-ghost use Rattle.mm_spec.specs.Text.{has_dollar, is_label as spec_is_label, is_label_byte as spec_is_label_byte};
-ghost use Rattle.mm_spec.specs.Table.{class};
+ghost use Rattle.mm_spec.specs.Text.{has_dollar, is_label as spec_is_label};
+ghost use Rattle.mm_spec.specs.Text.{is_label_byte as spec_is_label_byte};
+ghost use Rattle.mm_spec.specs.Laws.Table.{class};
 ghost use Rattle.mm_outline.specs.Parts.{class_of};
 ghost use Rattle.mm_outline.specs.Tokens.{TellsByFirst};
 

@@ -2,7 +2,7 @@
 use Rattle.std.specs.Prelude.{ℕ, ◌+◌, ◌<◌, ◌≤◌, List, length, slice_index, Option}
 use Rattle.std.specs.Option.{option_map}
 use Rattle.std.specs.String.{string_bytes}
-use Rattle.mm_spec.specs.Text.{Word}
+use Rattle.mm_spec.specs.Text.{Bytes}
 use Rattle.mm_spec.specs.Request.{Request}
 use Rattle.mm_plan.specs.declared.Plan.{Plan}
 use Rattle.mm_plan.specs.declared.Cutting.{Cutting}
@@ -21,9 +21,16 @@ module _ {A : Type 0} where
   IsLawful p = IsLawfulCutting p.cuts × (1 ≤ p.workers) × (p.workers ≤ 64)
 
   -- the typecode of the columns, if one is chosen
-  abbrev pub only_of : Plan A → Option Word
+  abbrev pub only_of : Plan A → Option Bytes
   only_of p = option_map string_bytes p.only
 
   -- what a plan asks of the report
   abbrev pub request_of : Plan A → Request
-  request_of p = record { only = only_of p; choice = p.choice; form = p.form; essential = p.essential; with_open = p.with_open }
+  request_of p =
+      record {
+        only = only_of p;
+        choice = p.choice;
+        form = p.form;
+        essential = p.essential;
+        with_open = p.with_open;
+      }

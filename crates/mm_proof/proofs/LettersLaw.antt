@@ -1,42 +1,57 @@
--- How the steps and the faults of a compressed proof go on behind the last letter of a number.
-use Rattle.std.proofs.Common.{◌≡◌, ◌∙◌, ℕ, zero, suc, ◌+◌, ◌-◌, ◌*◌, ◌<◌, ◌≤◌, ◌==◌, Bool, true, false, List, [], ◌∷◌, ◌++◌, map, length, Option, Some, None, slice_get, nat_le, nat_lt, refl, sym, ap, subst, arith, append_assoc, length-append, leb-true, eqb-true, Result, Ok, Err, IfErr, slice_range, get_or, take, drop, true≢false, is_some}
+-- How the steps and the faults of a compressed proof go on after the last letter of a number.
+use Rattle.std.proofs.Common.{◌≡◌, ◌∙◌, ℕ, zero, suc, ◌+◌, ◌-◌, ◌*◌, ◌<◌, ◌≤◌, ◌==◌, Bool, true}
+use Rattle.std.proofs.Common.{false, List, [], ◌∷◌, ◌++◌, map, length, Option, Some, None}
+use Rattle.std.proofs.Common.{slice_get, nat_le, nat_lt, refl, sym, ap, subst, arith, append_assoc}
+use Rattle.std.proofs.Common.{length-append, leb-true, eqb-true, Result, Ok, Err, IfErr}
+use Rattle.std.proofs.Common.{slice_range, get_or, take, drop, true≢false, is_some}
 use Rattle.std.specs.Result.{IsErrAnd}
 use Rattle.std.proofs.lemmas.List.{drop_more, append-nil}
 use Rattle.std.proofs.lemmas.Bool.{and_parts, le-ltb, lt-ltb}
 use Rattle.mm_spec.specs.declared.Fault.{Fault}
-use Rattle.mm_spec.specs.Text.{Word, Token, fault}
+use Rattle.mm_spec.specs.Text.{Bytes, Token, fault}
 use Rattle.mm_spec.specs.Lawful.{when, at}
 use Rattle.mm_spec.specs.Steps as spec
 use Rattle.mm_spec.specs.Steps.{PlacedStep, placed, label, marked}
-use Rattle.mm_spec.specs.CompressedProof.{Letter, letters_from, letters_of, letter_faults, Group, is_early, is_last, groups, value, starts_at, step_of, group_steps, group_faults}
-use Rattle.mm_spec.specs.declared.Code.TheVariants.{OpenNumber, MarkBeforeStep, NumberTooLarge, IncompleteProof, BadLetter}
+use Rattle.mm_spec.specs.CompressedProof.{Letter, letters_from, letters_of, letter_faults, Group}
+use Rattle.mm_spec.specs.CompressedProof.{is_early, is_last, groups, value, starts_at, step_of}
+use Rattle.mm_spec.specs.CompressedProof.{group_steps, group_faults}
+use Rattle.mm_spec.specs.declared.Code.TheVariants.{OpenNumber, MarkBeforeStep, NumberTooLarge}
+use Rattle.mm_spec.specs.declared.Code.TheVariants.{IncompleteProof, BadLetter}
 use Rattle.mm_spec.specs.declared.Word.{Word as Place}
-use Rattle.mm_stmt.specs.Parts.{tokens_of, token_of}
+use Rattle.mm_stmt.specs.Parts.{as_tokens, token_of}
 use Rattle.mm_proof.specs.Number.{told}
-use Rattle.mm_proof.specs.Letters.{State, state, letter, Begins, Continues, Reads, begun_at, StandsAt, InOrder}
+use Rattle.mm_proof.specs.Letters.{State, state, letter, Begins, Continues, Reads, begun_at}
+use Rattle.mm_proof.specs.Letters.{StandsAt, InOrder}
 use Rattle.mm_proof.specs.Refused.{StartsWith}
 use Rattle.mm_proof.specs.declared.refused.ProofRefused.{ProofRefused}
 use Rattle.mm_proof.specs.declared.refused.ProofRefused.TheVariants.{Fault as Faulty, Memory}
 use Rattle.mm_proof.specs.declared.letters.Begun.{Begun}
 
-pub err_then : {T E : Type 0} (r : Result T E) {P Q : E → Type 0} → IfErr r P → ((e : E) → P e → Q e) → IfErr r Q
+pub err_then : {T E : Type 0} (r : Result T E) {P Q : E → Type 0} → IfErr r P
+    → ((e : E) → P e → Q e) → IfErr r Q
 err_then (Ok x) h f = tt
 err_then (Err e) h f = f e h
 
 -- an error that is passed on
-pub err_same : {T E : Type 0} (r : Result T E) (e : E) (P : E → Type 0) → IsErrAnd r (λ x. x ≡ e) → P e → IfErr r P
+pub err_same : {T E : Type 0} (r : Result T E) (e : E) (P : E → Type 0) → IsErrAnd r (λ x. x ≡ e)
+    → P e → IfErr r P
 err_same (Ok x) e P h p = tt
 err_same (Err x) e P h p = subst P (sym h) p
 
 -- the letters from a place up to the end of their word
-pub letters_more : (text : List ℕ) (i end : ℕ) → i < end → end ≤ length text → letters_from i (slice_range text i end) ≡ letter i (get_or text i 0) ∷ letters_from (i + 1) (slice_range text (i + 1) end)
+pub letters_more : (text : List ℕ) (i end : ℕ) → i < end → end ≤ length text
+    → letters_from i (slice_range text i end)
+    ≡ letter i (get_or text i 0) ∷ letters_from (i + 1) (slice_range text (i + 1) end)
 letters_more text i end l within =
     let one : end - i ≡ suc (end - (i + 1)) = omega arith in
     let here : i < length text = omega arith in
-    ap (λ xs. letters_from i (take (end - i) xs)) (drop_more text i 0 here) ∙ ap (λ n. letters_from i (take n (get_or text i 0 ∷ drop (i + 1) text))) one
+    ap (λ xs. letters_from i (take (end - i) xs)) (drop_more text i 0 here)
+    ∙ ap (λ n. letters_from i (take n (get_or text i 0 ∷ drop (i + 1) text))) one
 
-pub letters_end : (text : List ℕ) (i end : ℕ) → end ≤ i → letters_from i (slice_range text i end) ≡ []
-letters_end text i end l = ap (λ n. letters_from i (take n (drop i text))) (let none : end - i ≡ 0 = omega arith in none)
+pub letters_end : (text : List ℕ) (i end : ℕ) → end ≤ i
+    → letters_from i (slice_range text i end) ≡ []
+letters_end text i end l =
+    ap (λ n. letters_from i (take n (drop i text))) (let none : end - i ≡ 0 = omega arith in none)
 
 -- what was read stands before the words that are left
 abbrev pub StandsBefore : State → List Token → ℕ → Type 0
@@ -45,18 +60,22 @@ StandsBefore s ts end = (from : ℕ) × StandsAt s from × InOrder from ts end
 abbrev group : List Letter → ℕ → ℕ → Group
 group early at byte = record { early = early; last = letter at byte }
 
-starts : (number : Option Begun) (early : List Letter) (at byte : ℕ) → Begins number early → starts_at (group early at byte) ≡ (begun_at number at).at
+starts : (number : Option Begun) (early : List Letter) (at byte : ℕ) → Begins number early
+    → starts_at (group early at byte) ≡ (begun_at number at).at
 starts None early at byte b = ap (λ es. starts_at (group es at byte)) b
 starts (Some n) early at byte b = ap (λ es. starts_at (group es at byte)) b.2 ∙ sym b.3
 
-told_value : (number : Option Begun) (early : List Letter) (at byte : ℕ) → Begins number early → told (20 * (begun_at number at).value + (byte - 64)) ≡ told (value (group early at byte))
+told_value : (number : Option Begun) (early : List Letter) (at byte : ℕ) → Begins number early
+    → told (20 * (begun_at number at).value + (byte - 64)) ≡ told (value (group early at byte))
 told_value None early at byte b = sym (ap (λ es. told (value (group es at byte))) b ∙ (omega arith))
 told_value (Some n) early at byte b = let e = b.4 in omega (arith, e)
 
 -- what is named has a number that isn't too large
-named_within : (labels marks : List ℕ) (n : ℕ) (s : spec.Step) → step_of labels marks n ≡ s ∷ [] → n ≤ length labels + length marks
+named_within : (labels marks : List ℕ) (n : ℕ) (s : spec.Step) → step_of labels marks n ≡ s ∷ []
+    → n ≤ length labels + length marks
 named_within labels marks zero s e = omega arith
-named_within labels marks (suc n) s e = by (slice_get labels n) refl (slice_get marks (n - length labels)) refl e
+named_within labels marks (suc n) s e =
+    by (slice_get labels n) refl (slice_get marks (n - length labels)) refl e
   where
     some : {X : Type 0} (xs : List X) (n : ℕ) (x : X) → slice_get xs n ≡ Some x → n < length xs
     some [] zero x e = absurd (cc)
@@ -64,8 +83,15 @@ named_within labels marks (suc n) s e = by (slice_get labels n) refl (slice_get 
     some (y ∷ xs) zero x e = omega arith
     some (y ∷ xs) (suc n) x e = let h = some xs n x e in omega (arith, h)
 
-    by : (a : Option ℕ) → slice_get labels n ≡ a → (b : Option ℕ) → slice_get marks (n - length labels) ≡ b
-        → ◌≡◌ {A = List spec.Step} (elim a [ Some j ↦ label j ∷ [] | None ↦ elim b [ Some i ↦ marked i ∷ [] | None ↦ [] ] ]) (s ∷ []) → suc n ≤ length labels + length marks
+    by : (a : Option ℕ) → slice_get labels n ≡ a → (b : Option ℕ)
+        → slice_get marks (n - length labels) ≡ b
+        → ◌≡◌ {A = List spec.Step}
+        (elim a [
+          | Some j ↦ label j ∷ []
+          | None ↦ elim b [ Some i ↦ marked i ∷ [] | None ↦ [] ]
+        ]) (s
+        ∷ [])
+        → suc n ≤ length labels + length marks
     by (Some j) p b q e = let h = some labels n j p in omega (arith, h)
     by None p (Some i) q e = let h = some marks (n - length labels) i q in omega (arith, h)
     by None p None q e = absurd (cc)
@@ -74,18 +100,35 @@ no_mark : (byte : ℕ) → is_last byte ≡ true → (byte == 90) ≡ false
 no_mark byte l = by (byte == 90) refl
   where
     by : (b : Bool) → (byte == 90) ≡ b → b ≡ false
-    by true e = let low = leb-true byte 84 (and_parts (nat_le 65 byte) (nat_le byte 84) l).1 in let same = eqb-true byte 90 e in absurd (omega arith)
+    by true e =
+        let low = leb-true byte 84 (and_parts (nat_le 65 byte) (nat_le byte 84) l).1 in
+        let same = eqb-true byte 90 e in absurd (omega arith)
     by false e = refl
 
-pub last_reads : (t : ℕ) (labels marks : List ℕ) (number : Option Begun) (steps : List PlacedStep) (place byte : ℕ) (s : spec.Step) → is_early byte ≡ false → is_last byte ≡ true
-    → ((n : ℕ) → told (20 * (begun_at number place).value + (byte - 64)) ≡ told n → step_of labels marks n ≡ s ∷ [])
-    → Reads (state t labels marks number steps) (letter place byte ∷ []) (state t labels marks None (steps ++ placed (begun_at number place).at s ∷ []))
+pub last_reads : (t : ℕ) (labels marks : List ℕ) (number : Option Begun) (steps : List PlacedStep)
+    → (place byte : ℕ) (s : spec.Step)
+    → is_early byte ≡ false → is_last byte ≡ true
+    → ((n : ℕ) → told (20 * (begun_at number place).value + (byte - 64)) ≡ told n
+    → step_of labels marks n ≡ s ∷ [])
+    → Reads (state t labels marks number steps) (letter place byte ∷ [])
+    (state t labels marks None (steps ++ placed (begun_at number place).at s ∷ []))
 last_reads t labels marks number steps place byte s e l named all left h =
     record {
       early = [];
       begins = refl;
-      steps = h.steps ∙ ap (λ r. steps ++ group_steps labels marks (length steps) r.0) split ∙ ap (λ z. steps ++ z) (ap (stepped gs) l ∙ ap (λ ss. map (placed (starts_at g)) ss ++ group_steps labels marks (length steps + 1) gs) is) ∙ more;
-      faults = h.faults ∙ ap (λ r. group_faults (length labels) (length marks) (length steps) r.0) split ∙ ap (λ b. both b (byte == 90)) l ∙ ap (both true) (no_mark byte l) ∙ ap (λ b. at (starts_at g) (when b NumberTooLarge) ++ group_faults (length labels) (length marks) (length steps + 1) gs) within ∙ ap (λ n. group_faults (length labels) (length marks) n gs) (sym longer);
+      steps =
+          h.steps ∙ ap (λ r. steps ++ group_steps labels marks (length steps) r.0) split
+          ∙ ap (λ z. steps ++ z)
+          (ap (stepped gs) l
+          ∙ ap (λ ss. map (placed (starts_at g)) ss
+          ++ group_steps labels marks (length steps + 1) gs) is)
+          ∙ more;
+      faults =
+          h.faults ∙ ap (λ r. group_faults (length labels) (length marks) (length steps) r.0) split
+          ∙ ap (λ b. both b (byte == 90)) l ∙ ap (both true) (no_mark byte l)
+          ∙ ap (λ b. at (starts_at g) (when b NumberTooLarge)
+          ++ group_faults (length labels) (length marks) (length steps + 1) gs) within
+          ∙ ap (λ n. group_faults (length labels) (length marks) n gs) (sym longer);
       run = h.run ∙ ap (λ r. r.1) split;
     }
   where
@@ -99,26 +142,40 @@ last_reads t labels marks number steps place byte s e l named all left h =
     is = named (value g) (told_value number h.early place byte h.begins)
 
     split : groups h.early (letter place byte ∷ left) ≡ (g ∷ gs, (groups [] left).1)
-    split = ap (λ b. elim b [ true ↦ groups (h.early ++ letter place byte ∷ []) left | false ↦ let r = groups [] left in (record { early = h.early; last = letter place byte } ∷ r.0, r.1) ]) e
+    split =
+        ap (λ b. elim b [
+          | true ↦ groups (h.early ++ letter place byte ∷ []) left
+          | false ↦ let r = groups [] left in
+              (record { early = h.early; last = letter place byte } ∷ r.0, r.1)
+        ]) e
 
     stepped : List Group → Bool → List PlacedStep
     stepped gs b = elim b [
-      | true ↦ map (placed (starts_at g)) (step_of labels marks (value g)) ++ group_steps labels marks (length steps + 1) gs
+      | true ↦ map (placed (starts_at g)) (step_of labels marks (value g))
+          ++ group_steps labels marks (length steps + 1) gs
       | false ↦ group_steps labels (marks ++ (length steps - 1) ∷ []) (length steps) gs
     ]
 
     both : Bool → Bool → List Fault
     both a b =
         elim a [
-          | true ↦ at (starts_at g) (when (nat_lt (length labels + length marks) (value g)) NumberTooLarge)
+          | true ↦ at (starts_at g)
+              (when (nat_lt (length labels + length marks) (value g)) NumberTooLarge)
           | false ↦ elim b [
-            | true ↦ at place (when (nat_lt 0 (length h.early)) OpenNumber ++ when (length steps == 0) MarkBeforeStep)
-            | false ↦ at place (elim (byte == 63) [ true ↦ IncompleteProof ∷ [] | false ↦ BadLetter ∷ [] ])
+            | true ↦ at place
+                (when (nat_lt 0 (length h.early)) OpenNumber
+                ++ when (length steps == 0) MarkBeforeStep)
+            | false ↦ at place
+                (elim (byte == 63) [ true ↦ IncompleteProof ∷ [] | false ↦ BadLetter ∷ [] ])
           ]
-        ] ++ elim b [ true ↦ group_faults (length labels) (length marks + 1) (length steps) gs | false ↦ group_faults (length labels) (length marks) (length steps + 1) gs ]
+        ] ++ elim b [
+          | true ↦ group_faults (length labels) (length marks + 1) (length steps) gs
+          | false ↦ group_faults (length labels) (length marks) (length steps + 1) gs
+        ]
 
     within : nat_lt (length labels + length marks) (value g) ≡ false
-    within = le-ltb (length labels + length marks) (value g) (named_within labels marks (value g) s is)
+    within =
+        le-ltb (length labels + length marks) (value g) (named_within labels marks (value g) s is)
 
     first : PlacedStep
     first = placed (begun_at number place).at s
@@ -126,42 +183,61 @@ last_reads t labels marks number steps place byte s e l named all left h =
     longer : length (steps ++ first ∷ []) ≡ length steps + 1
     longer = length-append steps (first ∷ [])
 
-    more : steps ++ (placed (starts_at g) s ∷ group_steps labels marks (length steps + 1) gs) ≡ (steps ++ first ∷ []) ++ group_steps labels marks (length (steps ++ first ∷ [])) gs
+    more : steps ++ (placed (starts_at g) s ∷ group_steps labels marks (length steps + 1) gs)
+        ≡ (steps ++ first ∷ []) ++ group_steps labels marks (length (steps ++ first ∷ [])) gs
     more =
-        ap (λ p. steps ++ (placed p s ∷ group_steps labels marks (length steps + 1) gs)) (starts number h.early place byte h.begins) ∙ sym (append_assoc steps (first ∷ []) (group_steps labels marks (length steps + 1) gs))
+        ap (λ p. steps ++ (placed p s ∷ group_steps labels marks (length steps + 1) gs))
+        (starts number h.early place byte h.begins)
+        ∙ sym (append_assoc steps (first ∷ []) (group_steps labels marks (length steps + 1) gs))
         ∙ ap (λ n. (steps ++ first ∷ []) ++ group_steps labels marks n gs) (sym longer)
 
 -- ---- all letters
 
 -- before the first letter
-pub whole : (t : ℕ) (labels : List ℕ) (all : List Letter) → Continues (state t labels [] None []) all all
+pub whole : (t : ℕ) (labels : List ℕ) (all : List Letter)
+    → Continues (state t labels [] None []) all all
 whole t labels all = record { early = []; begins = refl; steps = refl; faults = refl; run = refl }
 
 -- a fault of the letters is one of the proof
-pub fault_first : (n end : ℕ) (all : List Letter) (e : ProofRefused) → StartsWith (group_faults n 0 0 (groups [] all).0) e → StartsWith (letter_faults n end all) e
+pub fault_first : (n end : ℕ) (all : List Letter) (e : ProofRefused)
+    → StartsWith (group_faults n 0 0 (groups [] all).0) e → StartsWith (letter_faults n end all) e
 fault_first n end all Memory h = tt
 fault_first n end [] (Faulty f) h = absurd (let e = h.1 in cc)
-fault_first n end (x ∷ xs) (Faulty f) h = let last = at end (when (nat_lt 0 (length (groups [] (x ∷ xs)).1)) OpenNumber) in (h.0 ++ last, ap (λ fs. fs ++ last) h.1)
+fault_first n end (x ∷ xs) (Faulty f) h =
+    let last = at end (when (nat_lt 0 (length (groups [] (x ∷ xs)).1)) OpenNumber) in
+    (h.0 ++ last, ap (λ fs. fs ++ last) h.1)
 
--- behind the last letter, where a number is open and where none is
-is_run : (o : Option Begun) (early : List Letter) → Begins o early → nat_lt 0 (length early) ≡ is_some o
+-- after the last letter, where a number is open and where none is
+is_run : (o : Option Begun) (early : List Letter) → Begins o early
+    → nat_lt 0 (length early) ≡ is_some o
 is_run None early b = ap (λ es. nat_lt 0 (length es)) b
-is_run (Some n) early b = ap (λ es. nat_lt 0 (length es)) b.2 ∙ lt-ltb 0 (suc (length b.1)) (omega arith)
+is_run (Some n) early b =
+    ap (λ es. nat_lt 0 (length es)) b.2 ∙ lt-ltb 0 (suc (length b.1)) (omega arith)
 
-end_faults : (s : State) (end : ℕ) (x : Letter) (xs : List Letter) → Continues s (x ∷ xs) [] → letter_faults (length s.labels) end (x ∷ xs) ≡ at end (when (is_some s.number) OpenNumber)
-end_faults s end x xs h = ap (λ fs. fs ++ at end (when (nat_lt 0 (length (groups [] (x ∷ xs)).1)) OpenNumber)) h.faults ∙ ap (λ es. at end (when (nat_lt 0 (length es)) OpenNumber)) h.run ∙ ap (λ b. at end (when b OpenNumber)) (is_run s.number h.early h.begins)
+end_faults : (s : State) (end : ℕ) (x : Letter) (xs : List Letter) → Continues s (x ∷ xs) []
+    → letter_faults (length s.labels) end (x ∷ xs) ≡ at end (when (is_some s.number) OpenNumber)
+end_faults s end x xs h =
+    ap (λ fs. fs ++ at end (when (nat_lt 0 (length (groups [] (x ∷ xs)).1)) OpenNumber)) h.faults
+    ∙ ap (λ es. at end (when (nat_lt 0 (length es)) OpenNumber)) h.run
+    ∙ ap (λ b. at end (when b OpenNumber)) (is_run s.number h.early h.begins)
 
-pub open_fault : (s : State) (end : ℕ) (all : List Letter) → is_some s.number ≡ true → ¬ (all ≡ []) → Continues s all [] → StartsWith (letter_faults (length s.labels) end all) (Faulty (fault end OpenNumber))
+pub open_fault : (s : State) (end : ℕ) (all : List Letter) → is_some s.number ≡ true → ¬ (all ≡ [])
+    → Continues s all []
+    → StartsWith (letter_faults (length s.labels) end all) (Faulty (fault end OpenNumber))
 open_fault s end [] n some h = absurd (some refl)
-open_fault s end (x ∷ xs) n some h = ([], end_faults s end x xs h ∙ ap (λ b. at end (when b OpenNumber)) n)
+open_fault s end (x ∷ xs) n some h =
+    ([], end_faults s end x xs h ∙ ap (λ b. at end (when b OpenNumber)) n)
 
-pub no_fault : (s : State) (end : ℕ) (all : List Letter) → is_some s.number ≡ false → ¬ (all ≡ []) → Continues s all [] → letter_faults (length s.labels) end all ≡ []
+pub no_fault : (s : State) (end : ℕ) (all : List Letter) → is_some s.number ≡ false → ¬ (all ≡ [])
+    → Continues s all [] → letter_faults (length s.labels) end all ≡ []
 no_fault s end [] n some h = absurd (some refl)
 no_fault s end (x ∷ xs) n some h = end_faults s end x xs h ∙ ap (λ b. at end (when b OpenNumber)) n
 
--- all letters are behind the last word
-pub all_read : (s : State) (text : List ℕ) (ws : List Place) (n : ℕ) (all : List Letter) → length ws ≤ n → Continues s all (letters_of (tokens_of text (drop n ws))) → Continues s all []
-all_read s text ws n all l h = subst (λ vs. Continues s all (letters_of (tokens_of text vs))) (none n ws l) h
+-- all letters are after the last word
+pub all_read : (s : State) (text : List ℕ) (ws : List Place) (n : ℕ) (all : List Letter)
+    → length ws ≤ n → Continues s all (letters_of (as_tokens text (drop n ws))) → Continues s all []
+all_read s text ws n all l h =
+    subst (λ vs. Continues s all (letters_of (as_tokens text vs))) (none n ws l) h
   where
     none : (n : ℕ) (ws : List Place) → length ws ≤ n → drop n ws ≡ []
     none zero [] l = refl
@@ -169,14 +245,18 @@ all_read s text ws n all l h = subst (λ vs. Continues s all (letters_of (tokens
     none (suc n) [] l = refl
     none (suc n) (w ∷ ws) l = none n ws (omega arith)
 
-pub all_steps : (s : State) (all : List Letter) → Continues s all [] → s.steps ≡ group_steps s.labels [] 0 (groups [] all).0
+pub all_steps : (s : State) (all : List Letter) → Continues s all []
+    → s.steps ≡ group_steps s.labels [] 0 (groups [] all).0
 all_steps s all h = sym (h.steps ∙ append-nil s.steps)
 
 -- words in order have letters
-pub some_letters : (from end : ℕ) (text : List ℕ) (ws : List Place) → InOrder from (tokens_of text ws) end → (length ws == 0) ≡ false → ¬ (letters_of (tokens_of text ws) ≡ [])
+pub some_letters : (from end : ℕ) (text : List ℕ) (ws : List Place)
+    → InOrder from (as_tokens text ws) end → (length ws == 0) ≡ false
+    → ¬ (letters_of (as_tokens text ws) ≡ [])
 some_letters from end text [] o l e = absurd (true≢false l)
 some_letters from end text (v ∷ ws) o l e = by (token_of text v).word o.1 e
   where
-    by : (w : Word) → 1 ≤ length w → ¬ (letters_from v.start w ++ letters_of (tokens_of text ws) ≡ [])
+    by : (w : Bytes) → 1 ≤ length w
+        → ¬ (letters_from v.start w ++ letters_of (as_tokens text ws) ≡ [])
     by [] l e = absurd (omega arith)
     by (b ∷ bs) l e = cc

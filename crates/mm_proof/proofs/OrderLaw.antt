@@ -1,17 +1,25 @@
 -- The reading faults of a compressed proof stand in the order of their places.
-use Rattle.std.proofs.Common.{◌≡◌, ◌∙◌, ℕ, suc, ◌+◌, ◌<◌, ◌≤◌, ◌==◌, Bool, true, false, ◌||◌, ◌&&◌, List, [], ◌∷◌, ◌++◌, length, flat_map, Option, None, Some, bytes_eq, codes, nat_le, nat_lt, refl, sym, ap, subst, arith, append_assoc, eq-eqb}
+use Rattle.std.proofs.Common.{◌≡◌, ◌∙◌, ℕ, suc, ◌+◌, ◌<◌, ◌≤◌, ◌==◌, Bool, true, false, ◌||◌, ◌&&◌}
+use Rattle.std.proofs.Common.{List, [], ◌∷◌, ◌++◌, length, flat_map, Option, None, Some, bytes_eq}
+use Rattle.std.proofs.Common.{codes, nat_le, nat_lt, refl, sym, ap, subst, arith, append_assoc}
+use Rattle.std.proofs.Common.{eq-eqb}
 use Rattle.std.specs.List.{AllByRecursion}
 use Rattle.std.proofs.lemmas.Bool.{lt-ltb}
-use Rattle.mm_spec.specs.Text.{Token, Word, fault}
+use Rattle.mm_spec.specs.Text.{Token, Bytes, fault}
 use Rattle.mm_spec.specs.Codes.{code_number}
 use Rattle.mm_spec.specs.declared.Fault.{Fault}
 use Rattle.mm_spec.specs.declared.Code.{Code}
-use Rattle.mm_spec.specs.declared.Code.TheVariants.{UnusableLabel, EmptyProof, OpenBrackets, OpenNumber, MarkBeforeStep, NumberTooLarge, IncompleteProof, BadLetter}
+use Rattle.mm_spec.specs.declared.Code.TheVariants.{UnusableLabel, EmptyProof, OpenBrackets}
+use Rattle.mm_spec.specs.declared.Code.TheVariants.{OpenNumber, MarkBeforeStep, NumberTooLarge}
+use Rattle.mm_spec.specs.declared.Code.TheVariants.{IncompleteProof, BadLetter}
 use Rattle.mm_spec.specs.Statement.{Statement}
 use Rattle.mm_spec.specs.Lawful.{when, at, least, lesser, is_before}
 use Rattle.mm_spec.specs.Frame.{mandatory_hypotheses}
-use Rattle.mm_spec.specs.NormalProof.{usable, label_faults}
-use Rattle.mm_spec.specs.CompressedProof.{Compressed, bracketed, with_label, Letter, letters_from, letters_of, Group, is_early, is_last, groups, value, starts_at, group_fault, group_faults, letter_faults, compressed_faults}
+use Rattle.mm_spec.specs.NormalProof.{usable, proof_label_faults}
+use Rattle.mm_spec.specs.CompressedProof.{Compressed, bracketed, with_label, Letter, letters_from}
+use Rattle.mm_spec.specs.CompressedProof.{letters_of, Group, is_early, is_last, groups, value}
+use Rattle.mm_spec.specs.CompressedProof.{starts_at, group_fault, group_faults, letter_faults}
+use Rattle.mm_spec.specs.CompressedProof.{compressed_faults}
 use Rattle.mm_proof.specs.Letters.{InOrder}
 use Rattle.mm_proof.specs.Refused.{Refuses, StartsWith}
 use Rattle.mm_proof.specs.declared.refused.ProofRefused.{ProofRefused}
@@ -29,40 +37,63 @@ record Run (from to : ℕ) (fs : List Fault) : Type 0 where
   high : AllByRecursion (λ (f : Fault). f.at < to) fs
   sorted : Sorted fs
 
-each_append : (P : Fault → Type 0) (xs ys : List Fault) → AllByRecursion P xs → AllByRecursion P ys → AllByRecursion P (xs ++ ys)
+each_append : (P : Fault → Type 0) (xs ys : List Fault) → AllByRecursion P xs → AllByRecursion P ys
+    → AllByRecursion P (xs ++ ys)
 each_append P [] ys h k = k
 each_append P (x ∷ xs) ys h k = (h.0, each_append P xs ys h.1 k)
 
-each_map : (P Q : Fault → Type 0) (xs : List Fault) → ((x : Fault) → P x → Q x) → AllByRecursion P xs → AllByRecursion Q xs
+each_map : (P Q : Fault → Type 0) (xs : List Fault) → ((x : Fault) → P x → Q x)
+    → AllByRecursion P xs → AllByRecursion Q xs
 each_map P Q [] f h = tt
 each_map P Q (x ∷ xs) f h = (f x h.0, each_map P Q xs f h.1)
 
 earlier : (f g : Fault) → f.at < g.at → is_before f g ≡ true
-earlier f g l = ap (λ b. b || ((f.at == g.at) && nat_le (code_number f.code) (code_number g.code))) (lt-ltb f.at g.at l)
+earlier f g l =
+    ap (λ b. b || ((f.at == g.at) && nat_le (code_number f.code) (code_number g.code)))
+    (lt-ltb f.at g.at l)
 
-join_runs : (from mid to : ℕ) (xs ys : List Fault) → from ≤ mid → mid ≤ to → Run from mid xs → Run mid to ys → Run from to (xs ++ ys)
+join_runs : (from mid to : ℕ) (xs ys : List Fault) → from ≤ mid → mid ≤ to → Run from mid xs
+    → Run mid to ys → Run from to (xs ++ ys)
 join_runs from mid to xs ys a b h k = record {
-  low = each_append (λ f. from ≤ f.at) xs ys h.low (each_map (λ f. mid ≤ f.at) (λ f. from ≤ f.at) ys (λ f l. omega (arith, a, l)) k.low);
-  high = each_append (λ f. f.at < to) xs ys (each_map (λ f. f.at < mid) (λ f. f.at < to) xs (λ f l. omega (arith, b, l)) h.high) k.high;
+  low =
+      each_append (λ f. from ≤ f.at) xs ys h.low
+      (each_map (λ f. mid ≤ f.at) (λ f. from ≤ f.at) ys (λ f l. omega (arith, a, l)) k.low);
+  high =
+      each_append (λ f. f.at < to) xs ys
+      (each_map (λ f. f.at < mid) (λ f. f.at < to) xs (λ f l. omega (arith, b, l)) h.high) k.high;
   sorted = by xs h.high h.sorted;
 }
   where
-    by : (xs : List Fault) → AllByRecursion (λ (f : Fault). f.at < mid) xs → Sorted xs → Sorted (xs ++ ys)
+    by : (xs : List Fault) → AllByRecursion (λ (f : Fault). f.at < mid) xs → Sorted xs
+        → Sorted (xs ++ ys)
     by [] l s = k.sorted
-    by (x ∷ xs) l s = (each_append (λ g. is_before x g ≡ true) xs ys s.0 (each_map (λ f. mid ≤ f.at) (λ g. is_before x g ≡ true) ys (λ g m. earlier x g (let n = l.0 in omega (arith, n, m))) k.low), by xs l.1 s.1)
+    by (x ∷ xs) l s = (
+      each_append (λ g. is_before x g ≡ true) xs ys s.0
+          (each_map (λ f. mid ≤ f.at) (λ g. is_before x g ≡ true) ys
+          (λ g m. earlier x g (let n = l.0 in omega (arith, n, m))) k.low),
+      by xs l.1 s.1,
+    )
 
 no_run : (from to : ℕ) → Run from to []
 no_run from to = record { low = tt; high = tt; sorted = tt }
 
-one_run : (from to place : ℕ) (c : Code) → from ≤ place → place < to → Run from to (fault place c ∷ [])
+one_run : (from to place : ℕ) (c : Code) → from ≤ place → place < to
+    → Run from to (fault place c ∷ [])
 one_run from to place c l h = record { low = (l, tt); high = (h, tt); sorted = (tt, tt) }
 
-when_run : (from to place : ℕ) (b : Bool) (c : Code) → from ≤ place → place < to → Run from to (at place (when b c))
+when_run : (from to place : ℕ) (b : Bool) (c : Code) → from ≤ place → place < to
+    → Run from to (at place (when b c))
 when_run from to place true c l h = one_run from to place c l h
 when_run from to place false c l h = no_run from to
 
 from_run : (from low to : ℕ) (fs : List Fault) → from ≤ low → Run low to fs → Run from to fs
-from_run from low to fs l h = record { low = each_map (λ f. low ≤ f.at) (λ f. from ≤ f.at) fs (λ f m. omega (arith, l, m)) h.low; high = h.high; sorted = h.sorted }
+from_run from low to fs l h =
+    record {
+      low = each_map (λ f. low ≤ f.at) (λ f. from ≤ f.at) fs
+          (λ f m. omega (arith, l, m)) h.low;
+      high = h.high;
+      sorted = h.sorted;
+    }
 
 -- the first of faults in order is the least
 least_sorted : (f : Fault) (fs : List Fault) → Sorted (f ∷ fs) → least (f ∷ fs) ≡ Some f
@@ -72,11 +103,13 @@ least_sorted f fs s = by (least fs) (kept fs s.0)
     Before None = Unit {0}
     Before (Some g) = is_before f g ≡ true
 
-    two : (g h : Fault) (b : Bool) → is_before f g ≡ true → is_before f h ≡ true → Before (elim b [ true ↦ Some g | false ↦ Some h ])
+    two : (g h : Fault) (b : Bool) → is_before f g ≡ true → is_before f h ≡ true
+        → Before (elim b [ true ↦ Some g | false ↦ Some h ])
     two g h true p q = p
     two g h false p q = q
 
-    kept : (fs : List Fault) → AllByRecursion (λ (g : Fault). is_before f g ≡ true) fs → Before (least fs)
+    kept : (fs : List Fault) → AllByRecursion (λ (g : Fault). is_before f g ≡ true) fs
+        → Before (least fs)
     kept [] a = tt
     kept (g ∷ gs) a = more (least gs) (kept gs a.1)
       where
@@ -103,39 +136,62 @@ rise_from : (from to end : ℕ) (xs : List Letter) → from ≤ to → Rise to x
 rise_from from to end [] l r = omega (arith, l, r)
 rise_from from to end (x ∷ xs) l r = (let h = r.0 in omega (arith, l, h), r.1)
 
-rise_word : (place end : ℕ) (w : Word) (rest : List Letter) → Rise (place + length w) rest end → Rise place (letters_from place w ++ rest) end
+rise_word : (place end : ℕ) (w : Bytes) (rest : List Letter) → Rise (place + length w) rest end
+    → Rise place (letters_from place w ++ rest) end
 rise_word place end [] rest r = rise_from place (place + 0) end rest (omega arith) r
-rise_word place end (b ∷ bs) rest r = (omega arith, rise_word (place + 1) end bs rest (rise_from (place + 1 + length bs) (place + suc (length bs)) end rest (omega arith) r))
+rise_word place end (b ∷ bs) rest r = (
+  omega arith,
+  rise_word (place + 1) end bs rest
+      (rise_from (place + 1 + length bs) (place + suc (length bs)) end rest (omega arith) r),
+)
 
-letters_rise : (from end : ℕ) (ts : List Token) → InOrder from ts end → Rise from (letters_of ts) end
+letters_rise : (from end : ℕ) (ts : List Token) → InOrder from ts end
+    → Rise from (letters_of ts) end
 letters_rise from end [] o = o
-letters_rise from end (t ∷ ts) o = rise_from from t.at end (letters_from t.at t.word ++ letters_of ts) o.0 (rise_word t.at end t.word (letters_of ts) (letters_rise (t.at + length t.word) end ts o.2))
+letters_rise from end (t ∷ ts) o =
+    rise_from from t.at end (letters_from t.at t.word ++ letters_of ts) o.0
+    (rise_word t.at end t.word (letters_of ts) (letters_rise (t.at + length t.word) end ts o.2))
 
 or_true : (b : Bool) → (b || true) ≡ true
 or_true true = refl
 or_true false = refl
 
-mark_run : (from place : ℕ) (a b : Bool) → from ≤ place → Run from (place + 1) (at place (when a OpenNumber ++ when b MarkBeforeStep))
+mark_run : (from place : ℕ) (a b : Bool) → from ≤ place
+    → Run from (place + 1) (at place (when a OpenNumber ++ when b MarkBeforeStep))
 mark_run from place true true l = record {
   low = (l, (l, tt));
   high = (omega arith, (omega arith, tt));
-  sorted = ((ap (λ c. nat_lt place place || (c && true)) (eq-eqb place place refl) ∙ or_true (nat_lt place place), tt), (tt, tt));
+  sorted = (
+    (
+      ap (λ c. nat_lt place place || (c && true)) (eq-eqb place place refl)
+          ∙ or_true (nat_lt place place),
+      tt,
+    ),
+    (tt, tt),
+  );
 }
 mark_run from place true false l = one_run from (place + 1) place OpenNumber l (omega arith)
 mark_run from place false b l = when_run from (place + 1) place b MarkBeforeStep l (omega arith)
 
 module _ (labels end : ℕ) where
-  group_run : (from now place byte : ℕ) (early : List Letter) (marks count : ℕ) → IsOpenAt from early now → now ≤ place → Run from (place + 1) (group_fault labels marks count (record { early = early; last = record { at = place; byte = byte } }))
+  group_run : (from now place byte : ℕ) (early : List Letter) (marks count : ℕ)
+      → IsOpenAt from early now → now ≤ place
+      → Run from (place + 1)
+      (group_fault labels marks count
+      (record { early = early; last = record { at = place; byte = byte } }))
   group_run from now place byte early marks count o l = by (is_last byte) (byte == 90) (byte == 63)
     where
       g : Group
       g = record { early = early; last = record { at = place; byte = byte } }
 
-      low : (early : List Letter) → IsOpenAt from early now → from ≤ starts_at (record { early = early; last = record { at = place; byte = byte } })
+      low : (early : List Letter) → IsOpenAt from early now
+          → from ≤ starts_at (record { early = early; last = record { at = place; byte = byte } })
       low [] o = omega (arith, o, l)
       low (x ∷ xs) o = o.0
 
-      high : (early : List Letter) → IsOpenAt from early now → starts_at (record { early = early; last = record { at = place; byte = byte } }) < place + 1
+      high : (early : List Letter) → IsOpenAt from early now
+          → starts_at (record { early = early; last = record { at = place; byte = byte } })
+          < place + 1
       high [] o = omega arith
       high (x ∷ xs) o = let h = o.1 in omega (arith, h, l)
 
@@ -146,18 +202,24 @@ module _ (labels end : ℕ) where
       by : (a b c : Bool) → Run from (place + 1) (elim a [
         | true ↦ at (starts_at g) (when (nat_lt (labels + marks) (value g)) NumberTooLarge)
         | false ↦ elim b [
-          | true ↦ at place (when (nat_lt 0 (length early)) OpenNumber ++ when (count == 0) MarkBeforeStep)
+          | true ↦ at place
+              (when (nat_lt 0 (length early)) OpenNumber ++ when (count == 0) MarkBeforeStep)
           | false ↦ at place (elim c [ true ↦ IncompleteProof ∷ [] | false ↦ BadLetter ∷ [] ])
         ]
       ])
-      by true b c = when_run from (place + 1) (starts_at g) (nat_lt (labels + marks) (value g)) NumberTooLarge (low early o) (high early o)
+      by true b c =
+          when_run from (place + 1) (starts_at g) (nat_lt (labels + marks) (value g)) NumberTooLarge
+          (low early o) (high early o)
       by false true c = mark_run from place (nat_lt 0 (length early)) (count == 0) (within early o)
-      by false false true = one_run from (place + 1) place IncompleteProof (within early o) (omega arith)
+      by false false true =
+          one_run from (place + 1) place IncompleteProof (within early o) (omega arith)
       by false false false = one_run from (place + 1) place BadLetter (within early o) (omega arith)
 
   -- the faults of the letters from an open run on
   abbrev left_faults : List Letter → ℕ → ℕ → List Letter → List Fault
-  left_faults early marks count xs = group_faults labels marks count (groups early xs).0 ++ at end (when (nat_lt 0 (length (groups early xs).1)) OpenNumber)
+  left_faults early marks count xs =
+      group_faults labels marks count (groups early xs).0
+      ++ at end (when (nat_lt 0 (length (groups early xs).1)) OpenNumber)
 
   end_low : (from now : ℕ) (early : List Letter) → IsOpenAt from early now → now ≤ end → from ≤ end
   end_low from now [] o l = omega (arith, o, l)
@@ -165,15 +227,23 @@ module _ (labels end : ℕ) where
 
   rise_low : (from : ℕ) (xs : List Letter) → Rise from xs end → from ≤ end
   rise_low from [] r = r
-  rise_low from (x ∷ xs) r = let h = r.0 in let k = rise_low (x.at + 1) xs r.1 in omega (arith, h, k)
+  rise_low from (x ∷ xs) r =
+      let h = r.0 in let k = rise_low (x.at + 1) xs r.1 in omega (arith, h, k)
 
-  left_run : (xs early : List Letter) (from now marks count : ℕ) → IsOpenAt from early now → Rise now xs end → Run from (end + 1) (left_faults early marks count xs)
-  left_run [] early from now marks count o r = when_run from (end + 1) end (nat_lt 0 (length early)) OpenNumber (end_low from now early o r) (omega arith)
+  left_run : (xs early : List Letter) (from now marks count : ℕ) → IsOpenAt from early now
+      → Rise now xs end → Run from (end + 1) (left_faults early marks count xs)
+  left_run [] early from now marks count o r =
+      when_run from (end + 1) end (nat_lt 0 (length early)) OpenNumber (end_low from now early o r)
+      (omega arith)
   left_run (x ∷ xs) early from now marks count o r =
-      by (is_early x.byte) (left_run xs (early ++ x ∷ []) from (x.at + 1) marks count (opens early o) r.1)
-      (ends (x.byte == 90) (left_run xs [] (x.at + 1) (x.at + 1) (marks + 1) count (omega arith) r.1) (left_run xs [] (x.at + 1) (x.at + 1) marks (count + 1) (omega arith) r.1))
+      by (is_early x.byte)
+      (left_run xs (early ++ x ∷ []) from (x.at + 1) marks count (opens early o) r.1)
+      (ends (x.byte == 90)
+      (left_run xs [] (x.at + 1) (x.at + 1) (marks + 1) count (omega arith) r.1)
+      (left_run xs [] (x.at + 1) (x.at + 1) marks (count + 1) (omega arith) r.1))
     where
-      opens : (early : List Letter) → IsOpenAt from early now → IsOpenAt from (early ++ x ∷ []) (x.at + 1)
+      opens : (early : List Letter) → IsOpenAt from early now
+          → IsOpenAt from (early ++ x ∷ []) (x.at + 1)
       opens [] o = (let h = r.0 in omega (arith, o, h), omega arith)
       opens (e ∷ es) o = (o.0, let h = r.0 in let k = o.1 in omega (arith, h, k))
 
@@ -200,62 +270,108 @@ module _ (labels end : ℕ) where
       before = let low = rise_low (x.at + 1) xs r.1 in omega (arith, low)
 
       ended : Bool → List Fault
-      ended b = (group_fault labels marks count g ++ elim b [ true ↦ group_faults labels (marks + 1) count rest | false ↦ group_faults labels marks (count + 1) rest ]) ++ tail
+      ended b =
+          (group_fault labels marks count g
+          ++ elim b [
+            | true ↦ group_faults labels (marks + 1) count rest
+            | false ↦ group_faults labels marks (count + 1) rest
+          ])
+          ++ tail
 
-      ends : (b : Bool) → Run (x.at + 1) (end + 1) (left_faults [] (marks + 1) count xs) → Run (x.at + 1) (end + 1) (left_faults [] marks (count + 1) xs) → Run from (end + 1) (ended b)
-      ends true k l = subst (Run from (end + 1)) (sym (append_assoc (group_fault labels marks count g) (group_faults labels (marks + 1) count rest) tail)) (join_runs from (x.at + 1) (end + 1) _ _ start before first k)
-      ends false k l = subst (Run from (end + 1)) (sym (append_assoc (group_fault labels marks count g) (group_faults labels marks (count + 1) rest) tail)) (join_runs from (x.at + 1) (end + 1) _ _ start before first l)
+      ends : (b : Bool) → Run (x.at + 1) (end + 1) (left_faults [] (marks + 1) count xs)
+          → Run (x.at + 1) (end + 1) (left_faults [] marks (count + 1) xs)
+          → Run from (end + 1) (ended b)
+      ends true k l =
+          subst (Run from (end + 1))
+          (sym (append_assoc (group_fault labels marks count g)
+          (group_faults labels (marks + 1) count rest) tail)) (join_runs from (x.at
+          + 1) (end + 1) _ _ start before first k)
+      ends false k l =
+          subst (Run from (end + 1))
+          (sym (append_assoc (group_fault labels marks count g)
+          (group_faults labels marks (count + 1) rest) tail)) (join_runs from (x.at
+          + 1) (end + 1) _ _ start before first l)
 
       grouped : Bool → List Group × List Letter
-      grouped a = elim a [ true ↦ groups (early ++ x ∷ []) xs | false ↦ let q = groups [] xs in (record { early = early; last = x } ∷ q.0, q.1) ]
+      grouped a =
+          elim a [
+            | true ↦ groups (early ++ x ∷ []) xs
+            | false ↦ let q = groups [] xs in (record { early = early; last = x } ∷ q.0, q.1)
+          ]
 
       all : Bool → List Fault
       all a =
           let r = grouped a in
           group_faults labels marks count r.0 ++ at end (when (nat_lt 0 (length r.1)) OpenNumber)
 
-      by : (a : Bool) → Run from (end + 1) (left_faults (early ++ x ∷ []) marks count xs) → Run from (end + 1) (ended (x.byte == 90)) → Run from (end + 1) (all a)
+      by : (a : Bool) → Run from (end + 1) (left_faults (early ++ x ∷ []) marks count xs)
+          → Run from (end + 1) (ended (x.byte == 90)) → Run from (end + 1) (all a)
       by true h k = h
       by false h k = k
 
-  letters_run : (from : ℕ) (xs : List Letter) → Rise from xs end → Run from (end + 1) (letter_faults labels end xs)
+  letters_run : (from : ℕ) (xs : List Letter) → Rise from xs end
+      → Run from (end + 1) (letter_faults labels end xs)
   letters_run from [] r = one_run from (end + 1) end EmptyProof r (omega arith)
   letters_run from (x ∷ xs) r = left_run (x ∷ xs) [] from from 0 0 (omega arith) r
 
 -- ---- brackets
 
-label_run : (db : List Statement) (k : ℕ) (t : Token) → Run t.at (t.at + 1) (label_faults db k t)
+label_run : (db : List Statement) (k : ℕ) (t : Token)
+    → Run t.at (t.at + 1) (proof_label_faults db k t)
 label_run db k t = by (usable db k t.word)
   where
-    by : (js : List ℕ) → Run t.at (t.at + 1) (elim js [ [] ↦ fault t.at UnusableLabel ∷ [] | j ∷ js ↦ [] ])
+    by : (js : List ℕ)
+        → Run t.at (t.at + 1) (elim js [ [] ↦ fault t.at UnusableLabel ∷ [] | j ∷ js ↦ [] ])
     by [] = one_run t.at (t.at + 1) t.at UnusableLabel (omega arith) (omega arith)
     by (j ∷ js) = no_run t.at (t.at + 1)
 
 order_low : (from end : ℕ) (ts : List Token) → InOrder from ts end → from ≤ end
 order_low from end [] o = o
-order_low from end (t ∷ ts) o = let h = o.0 in let k = order_low (t.at + length t.word) end ts o.2 in omega (arith, h, k)
+order_low from end (t ∷ ts) o =
+    let h = o.0 in let k = order_low (t.at + length t.word) end ts o.2 in omega (arith, h, k)
 
 module _ (db : List Statement) (k end : ℕ) where
   abbrev faults_of : ℕ → Compressed → List Fault
-  faults_of n p = flat_map (label_faults db k) p.labels ++ elim p.letters [ None ↦ fault end OpenBrackets ∷ [] | Some us ↦ letter_faults n end (letters_of us) ]
+  faults_of n p =
+      flat_map (proof_label_faults db k) p.labels
+      ++ elim p.letters
+      [ None ↦ fault end OpenBrackets ∷ [] | Some us ↦ letter_faults n end (letters_of us) ]
 
-  brackets_run : (n from : ℕ) (ts : List Token) → InOrder from ts end → Run from (end + 1) (faults_of n (bracketed ts))
+  brackets_run : (n from : ℕ) (ts : List Token) → InOrder from ts end
+      → Run from (end + 1) (faults_of n (bracketed ts))
   brackets_run n from [] o = one_run from (end + 1) end OpenBrackets o (omega arith)
-  brackets_run n from (t ∷ ts) o = by (bytes_eq t.word (codes ")")) (brackets_run n (t.at + length t.word) ts o.2)
+  brackets_run n from (t ∷ ts) o =
+      by (bytes_eq t.word (codes ")")) (brackets_run n (t.at + length t.word) ts o.2)
     where
       before : t.at + length t.word ≤ end
       before = order_low (t.at + length t.word) end ts o.2
 
-      by : (b : Bool) → Run (t.at + length t.word) (end + 1) (faults_of n (bracketed ts)) → Run from (end + 1) (faults_of n (elim b [ true ↦ record { labels = []; letters = Some ts } | false ↦ with_label t (bracketed ts) ]))
-      by true h = let low = o.0 in letters_run n end from (letters_of ts) (rise_from from (t.at + length t.word) end (letters_of ts) (omega (arith, low)) (letters_rise (t.at + length t.word) end ts o.2))
+      by : (b : Bool) → Run (t.at + length t.word) (end + 1) (faults_of n (bracketed ts))
+          → Run from (end + 1)
+          (faults_of n
+          (elim b [
+            | true ↦ record { labels = []; letters = Some ts }
+            | false ↦ with_label t (bracketed ts)
+          ]))
+      by true h =
+          let low = o.0 in
+          letters_run n end from (letters_of ts)
+          (rise_from from (t.at + length t.word) end (letters_of ts) (omega (arith, low))
+          (letters_rise (t.at + length t.word) end ts o.2))
       by false h =
           let low = o.0 in
           let long = o.1 in
-          subst (Run from (end + 1)) (sym (append_assoc (label_faults db k t) (flat_map (label_faults db k) (bracketed ts).labels) _))
-          (join_runs from (t.at + 1) (end + 1) _ _ (omega (arith, low)) (omega (arith, before)) (from_run from t.at (t.at + 1) _ low (label_run db k t)) (from_run (t.at + 1) (t.at + length t.word) (end + 1) _ (omega (arith, long)) h))
+          subst (Run from (end + 1))
+          (sym (append_assoc (proof_label_faults db k t)
+          (flat_map (proof_label_faults db k) (bracketed ts).labels) _))
+          (join_runs from (t.at + 1) (end + 1) _ _ (omega (arith, low)) (omega (arith, before))
+          (from_run from t.at (t.at + 1) _ low (label_run db k t))
+          (from_run (t.at + 1) (t.at + length t.word) (end + 1) _ (omega (arith, long)) h))
 
   -- the first fault that is found is the first
-  pub first_fault : (from : ℕ) (ts : List Token) (e : ProofRefused) → InOrder from ts end → StartsWith (compressed_faults db k end (bracketed ts)) e → Refuses (compressed_faults db k end (bracketed ts)) e
+  pub first_fault : (from : ℕ) (ts : List Token) (e : ProofRefused) → InOrder from ts end
+      → StartsWith (compressed_faults db k end (bracketed ts)) e
+      → Refuses (compressed_faults db k end (bracketed ts)) e
   first_fault from ts Memory o s = tt
   first_fault from ts (Faulty f) o s =
       let many = length (mandatory_hypotheses db k) + length (bracketed ts).labels in

@@ -1,5 +1,7 @@
 -- The words of a proof rise, since those of the text do.
-use Rattle.std.proofs.Common.{◌≡◌, ◌∙◌, ℕ, zero, suc, ◌+◌, ◌-◌, ◌≤◌, Bool, List, [], ◌∷◌, ◌++◌, length, map, flat_map, get_or, Option, Some, slice_get, codes, sym, ap, subst, arith, append_assoc, length-append, drop}
+use Rattle.std.proofs.Common.{◌≡◌, ◌∙◌, ℕ, zero, suc, ◌+◌, ◌-◌, ◌≤◌, Bool, List, [], ◌∷◌, ◌++◌}
+use Rattle.std.proofs.Common.{length, map, flat_map, get_or, Option, Some, slice_get, codes, sym}
+use Rattle.std.proofs.Common.{ap, subst, arith, append_assoc, length-append, drop}
 use Rattle.std.specs.List.{AllPairs, All}
 use Rattle.std.proofs.lemmas.List.{get_or_append_left, append-nil, length-take-le, length-drop}
 use Rattle.std.proofs.lemmas.List.Elements.{All-nil, All-cons, All-head, All-tail}
@@ -7,7 +9,7 @@ use Rattle.std.proofs.lemmas.List.Kept.{AllPairs-cons}
 use Rattle.mm_spec.specs.Text.{Token, token}
 use Rattle.mm_spec.specs.declared.Fault.{Fault}
 use Rattle.mm_spec.specs.declared.Word.{Word}
-use Rattle.mm_spec.specs.Words.{IsWord}
+use Rattle.mm_spec.specs.Laws.Words.{IsWord}
 use Rattle.mm_spec.specs.Readings.{bytes_of}
 use Rattle.mm_spec.specs.Lexed as lexed
 use Rattle.mm_spec.specs.Statement.{Statement, provable, spelled}
@@ -22,30 +24,44 @@ use Rattle.mm_proof.proofs.LeastLaw.{Earlier, pairs_head, pairs_tail, pairs_back
 abbrev Follows : Token → Token → Type 0
 Follows t u = (1 ≤ length t.word) × (t.at + length t.word ≤ u.at)
 
--- each word of rising words begins behind the ones before it
-begins_behind : (text : List ℕ) (ws : List Word) → All (IsWord text) ws → AllPairs (λ (v w : Word). v.end ≤ w.start) ws → AllPairs Follows (map (λ w. token w.start (bytes_of text w)) ws)
+-- each word of rising words begins after the ones before it
+begins_behind : (text : List ℕ) (ws : List Word) → All (IsWord text) ws
+    → AllPairs (λ (v w : Word). v.end ≤ w.start) ws
+    → AllPairs Follows (map (λ w. token w.start (bytes_of text w)) ws)
 begins_behind text [] a p = λ i j d l h. absurd (omega arith)
 begins_behind text (w ∷ ws) a p =
-    AllPairs-cons Follows (token w.start (bytes_of text w)) (map (λ w. token w.start (bytes_of text w)) ws)
+    AllPairs-cons Follows (token w.start (bytes_of text w))
+    (map (λ w. token w.start (bytes_of text w)) ws)
     (behind ws (pairs_head (λ (v w : Word). v.end ≤ w.start) w ws p))
-    (begins_behind text ws (All-tail (IsWord text) w ws a) (pairs_tail (λ (v w : Word). v.end ≤ w.start) w ws p))
+    (begins_behind text ws (All-tail (IsWord text) w ws a)
+    (pairs_tail (λ (v w : Word). v.end ≤ w.start) w ws p))
   where
     is : IsWord text w
     is = All-head (IsWord text) w ws a
 
     many : length (bytes_of text w) ≡ w.end - w.start
-    many = length-take-le (w.end - w.start) (drop w.start text) (let l = is.within in omega (arith, l, length-drop w.start text))
+    many =
+        length-take-le (w.end - w.start) (drop w.start text)
+        (let l = is.within in omega (arith, l, length-drop w.start text))
 
-    behind : (vs : List Word) → All (λ (v : Word). w.end ≤ v.start) vs → All (Follows (token w.start (bytes_of text w))) (map (λ w. token w.start (bytes_of text w)) vs)
+    behind : (vs : List Word) → All (λ (v : Word). w.end ≤ v.start) vs
+        → All (Follows (token w.start (bytes_of text w)))
+        (map (λ w. token w.start (bytes_of text w)) vs)
     behind [] h = All-nil (Follows (token w.start (bytes_of text w)))
     behind (v ∷ vs) h =
         let e = All-head (λ (v : Word). w.end ≤ v.start) v vs h in
         let long = is.nonempty in
-        All-cons (Follows (token w.start (bytes_of text w))) (token v.start (bytes_of text v)) (map (λ w. token w.start (bytes_of text w)) vs) (omega (arith, many, long), omega (arith, many, e, long)) (behind vs (All-tail (λ (v : Word). w.end ≤ v.start) v vs h))
+        All-cons (Follows (token w.start (bytes_of text w))) (token v.start (bytes_of text v))
+        (map (λ w. token w.start (bytes_of text w)) vs)
+        (omega (arith, many, long), omega (arith, many, e, long))
+        (behind vs (All-tail (λ (v : Word). w.end ≤ v.start) v vs h))
 
-pairs_front : {X : Type 0} (R : X → X → Type 0) (xs ys : List X) → AllPairs R (xs ++ ys) → AllPairs R xs
+pairs_front : {X : Type 0} (R : X → X → Type 0) (xs ys : List X) → AllPairs R (xs ++ ys)
+    → AllPairs R xs
 pairs_front R xs ys p = λ i j d l h.
-    subst (λ b. R (get_or xs i d) b) (get_or_append_left xs ys d j h) (subst (λ a. R a (get_or (xs ++ ys) j d)) (get_or_append_left xs ys d i (omega arith)) (p i j d l (omega (arith, length-append xs ys))))
+    subst (λ b. R (get_or xs i d) b) (get_or_append_left xs ys d j h)
+    (subst (λ a. R a (get_or (xs ++ ys) j d)) (get_or_append_left xs ys d i (omega arith))
+    (p i j d l (omega (arith, length-append xs ys))))
 
 -- a list that stands within another
 pub record StandsIn (xs ys : List Token) : Type 0 where
@@ -54,55 +70,115 @@ pub record StandsIn (xs ys : List Token) : Type 0 where
   pub is : ys ≡ before ++ (xs ++ behind)
 
 pairs_in : (xs ys : List Token) → StandsIn xs ys → AllPairs Follows ys → AllPairs Follows xs
-pairs_in xs ys s p = pairs_front Follows xs s.behind (pairs_back Follows s.before (xs ++ s.behind) (subst (AllPairs Follows) s.is p))
+pairs_in xs ys s p =
+    pairs_front Follows xs s.behind
+    (pairs_back Follows s.before (xs ++ s.behind) (subst (AllPairs Follows) s.is p))
 
-spelled_in : (db : List Statement) (k : ℕ) (s : Statement) → slice_get db k ≡ Some s → StandsIn (spelled s) (flat_map spelled db)
+spelled_in : (db : List Statement) (k : ℕ) (s : Statement) → slice_get db k ≡ Some s
+    → StandsIn (spelled s) (flat_map spelled db)
 spelled_in [] zero s e = absurd (cc)
 spelled_in [] (suc k) s e = absurd (cc)
-spelled_in (x ∷ db) zero s e = let same : x ≡ s = cc in record { before = []; behind = flat_map spelled db; is = ap (λ z. spelled z ++ flat_map spelled db) same }
-spelled_in (x ∷ db) (suc k) s e = let r = spelled_in db k s e in record { before = spelled x ++ r.before; behind = r.behind; is = ap (λ z. spelled x ++ z) r.is ∙ sym (append_assoc (spelled x) r.before (spelled s ++ r.behind)) }
+spelled_in (x ∷ db) zero s e =
+    let same : x ≡ s = cc in
+    record {
+      before = [];
+      behind = flat_map spelled db;
+      is = ap (λ z. spelled z ++ flat_map spelled db) same;
+    }
+spelled_in (x ∷ db) (suc k) s e =
+    let r = spelled_in db k s e in
+    record {
+      before = spelled x ++ r.before;
+      behind = r.behind;
+      is = ap (λ z. spelled x ++ z) r.is
+          ∙ sym (append_assoc (spelled x) r.before (spelled s ++ r.behind));
+    }
 
-get_front : (db rest : List Statement) (k : ℕ) (s : Statement) → slice_get db k ≡ Some s → slice_get (db ++ rest) k ≡ Some s
+get_front : (db rest : List Statement) (k : ℕ) (s : Statement) → slice_get db k ≡ Some s
+    → slice_get (db ++ rest) k ≡ Some s
 get_front [] rest zero s e = absurd (cc)
 get_front [] rest (suc k) s e = absurd (cc)
 get_front (x ∷ db) rest zero s e = e
 get_front (x ∷ db) rest (suc k) s e = get_front db rest k s e
 
--- the words of a proof and the `$.` behind them
-proof_follows : (text : List ℕ) (db : List Statement) (fault : Option Fault) → IsRead (length text) (lexed_of text) db fault → (k : ℕ) (l : Token) (p : ℕ) (xs : List Token) (e : ℕ) (ps : List Token) (d : ℕ) → slice_get db k ≡ Some (provable l p xs e ps d) → AllPairs Follows (ps ++ token d (codes "$.") ∷ [])
+-- the words of a proof and the `$.` after them
+proof_follows : (text : List ℕ) (db : List Statement) (fault : Option Fault)
+    → IsRead (length text) (lexed_of text) db fault
+    → (k : ℕ) (l : Token) (p : ℕ) (xs : List Token) (e : ℕ) (ps : List Token) (d : ℕ)
+    → slice_get db k ≡ Some (provable l p xs e ps d)
+    → AllPairs Follows (ps ++ token d (codes "$.") ∷ [])
 proof_follows text db fault r k l p xs e ps d is =
     let s = provable l p xs e ps d in
-    let a = spelled_in r.row k s (subst (λ z. slice_get z k ≡ Some s) (sym r.splits) (get_front db r.rest k s is)) in
+    let a =
+    spelled_in r.row k s
+    (subst (λ z. slice_get z k ≡ Some s) (sym r.splits) (get_front db r.rest k s is)) in
     let ts = map (λ w. token w.start (bytes_of text w)) (lexed.tokens_of text) in
     let whole : ts ≡ a.before ++ (spelled s ++ (a.behind ++ r.is_row.rest)) =
-    r.is_row.splits ∙ ap (λ z. z ++ r.is_row.rest) a.is ∙ append_assoc a.before (spelled s ++ a.behind) r.is_row.rest ∙ ap (λ z. a.before ++ z) (append_assoc (spelled s) a.behind r.is_row.rest) in
-    let all : AllPairs Follows ts = begins_behind text (lexed.tokens_of text) (tokens_are_words text) (tokens_rising text) in
-    pairs_in (ps ++ token d (codes "$.") ∷ []) (spelled s) inner (pairs_in (spelled s) ts (record { before = a.before; behind = a.behind ++ r.is_row.rest; is = whole }) all)
+    r.is_row.splits ∙ ap (λ z. z ++ r.is_row.rest) a.is
+    ∙ append_assoc a.before (spelled s ++ a.behind) r.is_row.rest
+    ∙ ap (λ z. a.before ++ z) (append_assoc (spelled s) a.behind r.is_row.rest) in
+    let all : AllPairs Follows ts =
+    begins_behind text (lexed.tokens_of text) (tokens_are_words text) (tokens_rising text) in
+    pairs_in (ps ++ token d (codes "$.") ∷ []) (spelled s) inner
+    (pairs_in (spelled s) ts
+    (record { before = a.before; behind = a.behind ++ r.is_row.rest; is = whole }) all)
   where
     inner : StandsIn (ps ++ token d (codes "$.") ∷ []) (spelled (provable l p xs e ps d))
     inner = record {
       before = l ∷ token p (codes "$p") ∷ (xs ++ token e (codes "$=") ∷ []);
       behind = [];
-      is = ap (λ z. l ∷ token p (codes "$p") ∷ z) (ap (λ z. xs ++ token e (codes "$=") ∷ z) (sym (append-nil (ps ++ token d (codes "$.") ∷ []))) ∙ sym (append_assoc xs (token e (codes "$=") ∷ []) ((ps ++ token d (codes "$.") ∷ []) ++ [])));
+      is =
+          ap (λ z. l ∷ token p (codes "$p") ∷ z)
+          (ap (λ z. xs ++ token e (codes "$=") ∷ z)
+          (sym (append-nil (ps ++ token d (codes "$.") ∷ [])))
+          ∙ sym (append_assoc xs (token e (codes "$=") ∷ [])
+          ((ps ++ token d (codes "$.") ∷ []) ++ [])));
     }
 
 -- what counts as a theorem was read as it is
-was_read : (db : List Statement) (w : Bool) (counts : List Statement) → counts ≡ counted w db → (k : ℕ) (l : Token) (p : ℕ) (xs : List Token) (e : ℕ) (ps : List Token) (d : ℕ) → slice_get counts k ≡ Some (provable l p xs e ps d) → slice_get db k ≡ Some (provable l p xs e ps d)
-was_read db w counts are k l p xs e ps d is = theorem_read w db k l p xs e ps d (subst (λ c. slice_get c k ≡ Some (provable l p xs e ps d)) are is)
+was_read : (db : List Statement) (w : Bool) (counts : List Statement) → counts ≡ counted w db
+    → (k : ℕ) (l : Token) (p : ℕ) (xs : List Token) (e : ℕ) (ps : List Token) (d : ℕ)
+    → slice_get counts k ≡ Some (provable l p xs e ps d)
+    → slice_get db k ≡ Some (provable l p xs e ps d)
+was_read db w counts are k l p xs e ps d is =
+    theorem_read w db k l p xs e ps d
+    (subst (λ c. slice_get c k ≡ Some (provable l p xs e ps d)) are is)
 
-pub proof_rising : (text : List ℕ) (db : List Statement) (w : Bool) (fault : Option Fault) → IsRead (length text) (lexed_of text) db fault → (counts : List Statement) → counts ≡ counted w db → (k : ℕ) (l : Token) (p : ℕ) (xs : List Token) (e : ℕ) (ps : List Token) (d : ℕ) → slice_get counts k ≡ Some (provable l p xs e ps d) → AllPairs Earlier ps
+pub proof_rising : (text : List ℕ) (db : List Statement) (w : Bool) (fault : Option Fault)
+    → IsRead (length text) (lexed_of text) db fault → (counts : List Statement)
+    → counts ≡ counted w db
+    → (k : ℕ) (l : Token) (p : ℕ) (xs : List Token) (e : ℕ) (ps : List Token) (d : ℕ)
+    → slice_get counts k ≡ Some (provable l p xs e ps d) → AllPairs Earlier ps
 proof_rising text db w fault r counts are k l p xs e ps d is =
-    λ i j x less here. let f = pairs_front Follows ps (token d (codes "$.") ∷ []) (proof_follows text db fault r k l p xs e ps d (was_read db w counts are k l p xs e ps d is)) i j x less here in let a = f.0 in let b = f.1 in omega (arith, a, b)
+    λ i j x less here. let f =
+    pairs_front Follows ps (token d (codes "$.") ∷ [])
+    (proof_follows text db fault r k l p xs e ps d
+    (was_read db w counts are k l p xs e ps d is)) i j x less here in
+    let a = f.0 in let b = f.1 in omega (arith, a, b)
 
-in_order : (from : ℕ) (ts : List Token) (d : Token) → AllPairs Follows (ts ++ d ∷ []) → All (λ t. from ≤ t.at) (ts ++ d ∷ []) → InOrder from ts d.at
+in_order : (from : ℕ) (ts : List Token) (d : Token) → AllPairs Follows (ts ++ d ∷ [])
+    → All (λ t. from ≤ t.at) (ts ++ d ∷ []) → InOrder from ts d.at
 in_order from [] d p a = All-head (λ (t : Token). from ≤ t.at) d [] a
 in_order from (t ∷ ts) d p a =
-    let behind = pairs_head Follows t (ts ++ d ∷ []) p in
-    (All-head (λ (t : Token). from ≤ t.at) t (ts ++ d ∷ []) a, (long ts behind).0, in_order (t.at + length t.word) ts d (pairs_tail Follows t (ts ++ d ∷ []) p) (λ i x here. (behind i x here).1))
+    let behind = pairs_head Follows t (ts ++ d ∷ []) p in (
+      All-head (λ (t : Token). from ≤ t.at) t (ts ++ d ∷ []) a,
+      (long ts behind).0,
+      in_order
+          (t.at + length t.word) ts d (pairs_tail Follows t (ts ++ d ∷ []) p)
+          (λ i x here. (behind i x here).1),
+    )
   where
-    long : (ts : List Token) → All (Follows t) (ts ++ d ∷ []) → Follows t (get_or (ts ++ d ∷ []) 0 d)
+    long : (ts : List Token) → All (Follows t) (ts ++ d ∷ [])
+        → Follows t (get_or (ts ++ d ∷ []) 0 d)
     long [] h = All-head (Follows t) d [] h
     long (u ∷ us) h = All-head (Follows t) u (us ++ d ∷ []) h
 
-pub proof_in_order : (text : List ℕ) (db : List Statement) (w : Bool) (fault : Option Fault) → IsRead (length text) (lexed_of text) db fault → (counts : List Statement) → counts ≡ counted w db → (k : ℕ) (l : Token) (p : ℕ) (xs : List Token) (e : ℕ) (ps : List Token) (d : ℕ) → slice_get counts k ≡ Some (provable l p xs e ps d) → InOrder 0 ps d
-proof_in_order text db w fault r counts are k l p xs e ps d is = in_order 0 ps (token d (codes "$.")) (proof_follows text db fault r k l p xs e ps d (was_read db w counts are k l p xs e ps d is)) (λ i x here. omega arith)
+pub proof_in_order : (text : List ℕ) (db : List Statement) (w : Bool) (fault : Option Fault)
+    → IsRead (length text) (lexed_of text) db fault → (counts : List Statement)
+    → counts ≡ counted w db
+    → (k : ℕ) (l : Token) (p : ℕ) (xs : List Token) (e : ℕ) (ps : List Token) (d : ℕ)
+    → slice_get counts k ≡ Some (provable l p xs e ps d) → InOrder 0 ps d
+proof_in_order text db w fault r counts are k l p xs e ps d is =
+    in_order 0 ps (token d (codes "$."))
+    (proof_follows text db fault r k l p xs e ps d (was_read db w counts are k l p xs e ps d is))
+    (λ i x here. omega arith)

@@ -4,10 +4,11 @@ use Rattle.std.specs.List.{range_with_len}
 use Rattle.std.proofs.lemmas.List.Elements.{All-from_recursion}
 use Rattle.mm_spec.specs.Statement.{Statement}
 use Rattle.mm_spec.specs.Output.{is_theorem_at, theorems}
-use Rattle.mm_spec.proofs.Finds.{each_those, each_any}
+use Rattle.mm_spec.proofs.Finds.{each_filter, each_any}
 
 pub theorems_are : (db : List Statement) → All (λ t. IsTrue (is_theorem_at db t)) (theorems db)
 theorems_are db =
     let places = range_with_len 0 (length db) in
     All-from_recursion (λ t. IsTrue (is_theorem_at db t)) (theorems db)
-    (each_those (λ t. is_theorem_at db t ≡ true) (is_theorem_at db) places (each_any (λ t. is_theorem_at db t ≡ true → is_theorem_at db t ≡ true) places (λ t e. e)))
+    (each_filter (λ t. is_theorem_at db t ≡ true) (is_theorem_at db) places
+    (each_any (λ t. is_theorem_at db t ≡ true → is_theorem_at db t ≡ true) places (λ t e. e)))

@@ -1,18 +1,19 @@
 -- The statement of a usable label, by what is found.
-use Rattle.std.proofs.Common.{◌≡◌, ◌∙◌, ◌&&◌, ◌||◌, ℕ, ◌+◌, ◌<◌, Bool, true, false, List, [], ◌∷◌, nat_eq, refl, sym, ap, ap₂, arith, true≢false, eqb-true, eq-eqb}
+use Rattle.std.proofs.Common.{◌≡◌, ◌∙◌, ◌&&◌, ◌||◌, ℕ, ◌+◌, ◌<◌, Bool, true, false, List, [], ◌∷◌}
+use Rattle.std.proofs.Common.{nat_eq, refl, sym, ap, ap₂, arith, true≢false, eqb-true, eq-eqb}
 use Rattle.std.specs.List.{list_any}
-use Rattle.mm_spec.specs.Text.{Word}
+use Rattle.mm_spec.specs.Text.{Bytes}
 use Rattle.mm_spec.specs.Statement.{Statement}
 use Rattle.mm_spec.specs.Scope.{is_active, statement_at}
 use Rattle.mm_spec.specs.NormalProof.{is_labelled, usable}
 use Rattle.mm_spec.proofs.Finds.{is_before, lone}
-use Rattle.mm_frame.proofs.Rising.{those_is}
+use Rattle.mm_frame.proofs.Rising.{filter_is}
 
 and_no : (b : Bool) → (b && false) ≡ false
 and_no true = refl
 and_no false = refl
 
-module _ (db : List Statement) (k : ℕ) (w : Word) where
+module _ (db : List Statement) (k : ℕ) (w : Bytes) where
   abbrev labelled : ℕ → Bool
   labelled j = list_any (is_labelled w) (statement_at db j)
 
@@ -20,23 +21,30 @@ module _ (db : List Statement) (k : ℕ) (w : Word) where
   passes j = is_active db j k && labelled j
 
   none_passes : ((j : ℕ) → passes j ≡ false) → usable db k w ≡ []
-  none_passes h = those_is passes k 0 [] tt (λ j e. absurd (true≢false (sym e))) (λ j l u. h j)
+  none_passes h = filter_is passes k 0 [] tt (λ j e. absurd (true≢false (sym e))) (λ j l u. h j)
 
   pub none_usable : ((j : ℕ) → labelled j ≡ false) → usable db k w ≡ []
-  none_usable h = none_passes (λ j. ap (λ b. is_active db j k && b) (h j) ∙ and_no (is_active db j k))
+  none_usable h =
+      none_passes (λ j. ap (λ b. is_active db j k && b) (h j) ∙ and_no (is_active db j k))
 
-  pub inactive_usable : (j : ℕ) → ((i : ℕ) → labelled i ≡ true → i ≡ j) → is_active db j k ≡ false → usable db k w ≡ []
+  pub inactive_usable : (j : ℕ) → ((i : ℕ) → labelled i ≡ true → i ≡ j) → is_active db j k ≡ false
+      → usable db k w ≡ []
   inactive_usable j only a = none_passes (λ i. by i (labelled i) refl)
     where
       by : (i : ℕ) (b : Bool) → labelled i ≡ b → passes i ≡ false
-      by i true e = ap (λ x. is_active db x k && labelled i) (only i e) ∙ ap (λ b. b && labelled i) a
+      by i true e =
+          ap (λ x. is_active db x k && labelled i) (only i e) ∙ ap (λ b. b && labelled i) a
       by i false e = ap (λ b. is_active db i k && b) e ∙ and_no (is_active db i k)
 
-  pub active_usable : (j : ℕ) → ((i : ℕ) → labelled i ≡ true → i ≡ j) → labelled j ≡ true → is_active db j k ≡ true → usable db k w ≡ j ∷ []
-  active_usable j only l a = those_is passes k 0 (j ∷ []) ((omega arith), tt) before (λ i low up. by i (nat_eq i j) refl)
+  pub active_usable : (j : ℕ) → ((i : ℕ) → labelled i ≡ true → i ≡ j) → labelled j ≡ true
+      → is_active db j k ≡ true → usable db k w ≡ j ∷ []
+  active_usable j only l a =
+      filter_is passes k 0 (j ∷ []) ((omega arith), tt) before (λ i low up. by i (nat_eq i j) refl)
     where
       before : (i : ℕ) → (nat_eq i j || false) ≡ true → i < 0 + k
-      before i e = let same : i ≡ j = eqb-true i j (lone (nat_eq i j) e) in let h = is_before db j k a in omega (arith, same, h)
+      before i e =
+          let same : i ≡ j = eqb-true i j (lone (nat_eq i j) e) in let h = is_before db j k a in
+          omega (arith, same, h)
 
       other : (i : ℕ) → nat_eq i j ≡ false → (c : Bool) → labelled i ≡ c → passes i ≡ false
       other i e true l = absurd (true≢false (sym (eq-eqb i j (only i l)) ∙ e))

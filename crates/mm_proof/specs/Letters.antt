@@ -1,5 +1,6 @@
 -- What has been read of the letters of a compressed proof.
-use Rattle.std.specs.Prelude.{◌≡◌, ℕ, ◌+◌, ◌-◌, ◌*◌, ◌<◌, ◌≤◌, All, List, [], ◌∷◌, ◌++◌, length, Option, Some, None, fold}
+use Rattle.std.specs.Prelude.{◌≡◌, ℕ, ◌+◌, ◌-◌, ◌*◌, ◌<◌, ◌≤◌, All, List, [], ◌∷◌, ◌++◌, length}
+use Rattle.std.specs.Prelude.{Option, Some, None, fold}
 use Rattle.mm_spec.specs.Text.{Token}
 use Rattle.mm_spec.specs.Steps as spec
 use Rattle.mm_spec.specs.Steps.{PlacedStep}
@@ -11,7 +12,8 @@ use Rattle.mm_proof.specs.declared.letters.Begun.{Begun}
 use Rattle.mm_proof.specs.declared.placed.Step.{Step}
 use Rattle.mm_proof.specs.declared.refused.ProofRefused.{ProofRefused}
 
--- the labels that have numbers, the steps that were marked, the number whose last letter is missing, and the steps
+-- the labels that have numbers, the steps that were marked, the number whose last letter is
+-- missing, and the steps
 pub record State : Type 0 where
   pub theorem : ℕ
   pub labels : List ℕ
@@ -20,7 +22,8 @@ pub record State : Type 0 where
   pub steps : List PlacedStep
 
 abbrev pub state : ℕ → List ℕ → List ℕ → Option Begun → List PlacedStep → State
-state t labels marks number steps = record { theorem = t; labels = labels; marks = marks; number = number; steps = steps }
+state t labels marks number steps =
+    record { theorem = t; labels = labels; marks = marks; number = number; steps = steps }
 
 abbrev pub letter : ℕ → ℕ → Letter
 letter at byte = record { at = at; byte = byte }
@@ -32,15 +35,19 @@ early_value early = fold (λ n x. 5 * n + (x.byte - 84)) 0 early
 -- the number that has begun has these early letters: their first place and their value
 abbrev pub Begins : Option Begun → List Letter → Type 0
 Begins None early = early ≡ []
-Begins (Some b) early = (first : Letter) × (more : List Letter) × (early ≡ first ∷ more) × (b.at ≡ first.at) × (b.value ≡ told (early_value early))
+Begins (Some b) early =
+    (first : Letter) × (more : List Letter) × (early ≡ first ∷ more) × (b.at ≡ first.at)
+    × (b.value ≡ told (early_value early))
 
--- Of all letters these are left to be read: the steps of all are those so far and those of what is left, and the faults of
--- all are faults of what is left.
+-- Of all letters these are left to be read: the steps of all are those so far and those of what is
+-- left, and the faults of all are faults of what is left.
 pub record Continues (s : State) (all left : List Letter) : Type 0 where
   pub early : List Letter
   pub begins : Begins s.number early
-  pub steps : group_steps s.labels [] 0 (groups [] all).0 ≡ s.steps ++ group_steps s.labels s.marks (length s.steps) (groups early left).0
-  pub faults : group_faults (length s.labels) 0 0 (groups [] all).0 ≡ group_faults (length s.labels) (length s.marks) (length s.steps) (groups early left).0
+  pub steps : group_steps s.labels [] 0 (groups [] all).0
+      ≡ s.steps ++ group_steps s.labels s.marks (length s.steps) (groups early left).0
+  pub faults : group_faults (length s.labels) 0 0 (groups [] all).0
+      ≡ group_faults (length s.labels) (length s.marks) (length s.steps) (groups early left).0
   pub run : (groups [] all).1 ≡ (groups early left).1
 
 -- each mark is of a step so far, and there are no more steps than bytes before the place
@@ -50,11 +57,14 @@ pub record StandsAt (s : State) (at : ℕ) : Type 0 where
 
 -- these letters lead from one state to the other
 abbrev pub Reads : State → List Letter → State → Type 0
-Reads old xs new = (all left : List Letter) → Continues old all (xs ++ left) → Continues new all left
+Reads old xs new =
+    (all left : List Letter) → Continues old all (xs ++ left) → Continues new all left
 
 -- these letters have a fault, and it is the first
 abbrev pub Stops : State → List Letter → ProofRefused → Type 0
-Stops old xs e = (all left : List Letter) → Continues old all (xs ++ left) → StartsWith (group_faults (length old.labels) 0 0 (groups [] all).0) e
+Stops old xs e =
+    (all left : List Letter) → Continues old all (xs ++ left)
+    → StartsWith (group_faults (length old.labels) 0 0 (groups [] all).0) e
 
 -- the number to which a letter at the place belongs
 abbrev pub begun_at : Option Begun → ℕ → Begun
@@ -66,11 +76,12 @@ abbrev pub named : Option Step → List spec.Step
 named None = []
 named (Some s) = step_of s ∷ []
 
--- each token is a word behind the one before it, from the place on, and none goes past the end
+-- each token is a word after the one before it, from the place on, and none goes past the end
 abbrev pub InOrder : ℕ → List Token → ℕ → Type 0
 InOrder from [] end = from ≤ end
-InOrder from (t ∷ ts) end = (from ≤ t.at) × (1 ≤ length t.word) × InOrder (t.at + length t.word) ts end
+InOrder from (t ∷ ts) end =
+    (from ≤ t.at) × (1 ≤ length t.word) × InOrder (t.at + length t.word) ts end
 
--- brackets that are closed, and the letters behind them
+-- brackets that are closed, and the letters after them
 abbrev pub closed : List Token → List Token → Compressed
 closed labels letters = record { labels = labels; letters = Some letters }

@@ -1,10 +1,11 @@
 -- What the answers of the reader mean.
-use Rattle.std.specs.Prelude.{◌≡◌, ℕ, true, false, List, [], ◌∷◌, Option, Some, None, bytes_eq, codes}
+use Rattle.std.specs.Prelude.{◌≡◌, ℕ, true, false, List, [], ◌∷◌, Option, Some, None, bytes_eq}
+use Rattle.std.specs.Prelude.{codes}
 use Rattle.mm_spec.specs.Text.{Token, fault}
 use Rattle.mm_spec.specs.declared.Fault.{Fault}
 use Rattle.mm_spec.specs.Statement.{Statement}
 use Rattle.mm_spec.specs.Lawful.{least}
-use Rattle.mm_spec.specs.NormalProof.{label_faults}
+use Rattle.mm_spec.specs.NormalProof.{proof_label_faults}
 use Rattle.mm_spec.specs.declared.Code.TheVariants.{IncompleteProof}
 use Rattle.mm_proof.specs.declared.refused.ProofRefused.{ProofRefused}
 use Rattle.mm_proof.specs.declared.refused.ProofRefused.TheVariants.{Fault as Faulty, Memory}
@@ -26,4 +27,6 @@ found (Some j) = j ∷ []
 
 -- the fault of a word of a normal proof
 abbrev pub word_faults : List Statement → ℕ → Token → List Fault
-word_faults db k u = elim (bytes_eq u.word (codes "?")) [ true ↦ fault u.at IncompleteProof ∷ [] | false ↦ label_faults db k u ]
+word_faults db k u =
+    elim (bytes_eq u.word (codes "?"))
+    [ true ↦ fault u.at IncompleteProof ∷ [] | false ↦ proof_label_faults db k u ]

@@ -1,10 +1,11 @@
 //! The reader of compressed proofs.
 
-ghost use Rattle.std.specs.Prelude.{◌≡◌, ◌<◌, ◌+◌, ◌++◌, [], length, take, drop, flat_map, IfOk, IfErr, IsTrue};
-ghost use Rattle.mm_spec.specs.NormalProof.{usable, label_faults};
+ghost use Rattle.std.specs.Prelude.{◌≡◌, ◌<◌, ◌+◌, ◌++◌, [], length, take, drop, flat_map, IfOk};
+ghost use Rattle.std.specs.Prelude.{IfErr, IsTrue};
+ghost use Rattle.mm_spec.specs.NormalProof.{usable, proof_label_faults};
 ghost use Rattle.mm_spec.specs.CompressedProof.{bracketed, compressed_faults, compressed_steps};
 ghost use Rattle.mm_spec.specs.Output.{is_theorem_at};
-ghost use Rattle.mm_stmt.specs.Parts.{tokens_of, AreWords};
+ghost use Rattle.mm_stmt.specs.Parts.{as_tokens, AreWithin};
 ghost use Rattle.mm_proof.specs.Read.{read};
 ghost use Rattle.mm_proof.specs.Letters.{InOrder, closed};
 ghost use Rattle.mm_proof.specs.Refused.{StartsWith};
@@ -25,13 +26,26 @@ fn read_labels<A: Allocator>(
     labels: &mut Vec<u32, A>,
 ) -> Result<usize, ProofRefused>
     requires theorem { theorem < length database.now.statements }
-    requires within { AreWords database.now.text words.now }
+    requires within { AreWithin database.now.text words.now }
     ensures some { IfOk result (λ n. n < length words.now) }
-    ensures closed { IfOk result (λ n. bracketed (tokens_of database.now.text words.now) ≡ closed (tokens_of database.now.text (take n words.now)) (tokens_of database.now.text (drop (n + 1) words.now))) }
-    ensures labels { IfOk result (λ n. labels.new.items ≡ labels.old.items ++ flat_map (λ t. usable database.now.statements theorem t.word) (tokens_of database.now.text (take n words.now))) }
+    ensures closed { IfOk result
+        (λ n. bracketed (as_tokens database.now.text words.now)
+        ≡ closed (as_tokens database.now.text (take n words.now))
+        (as_tokens database.now.text (drop (n + 1) words.now))) }
+    ensures labels { IfOk result
+        (λ n. labels.new.items
+        ≡ labels.old.items
+        ++ flat_map (λ t. usable database.now.statements theorem t.word)
+        (as_tokens database.now.text (take n words.now))) }
     ensures many { IfOk result (λ n. length labels.new.items ≡ length labels.old.items + n) }
-    ensures sound { IfOk result (λ n. flat_map (label_faults database.now.statements theorem) (tokens_of database.now.text (take n words.now)) ≡ []) }
-    ensures fault { IfErr result (λ e. StartsWith (compressed_faults database.now.statements theorem end (bracketed (tokens_of database.now.text words.now))) e) }
+    ensures sound { IfOk result
+        (λ n. flat_map (proof_label_faults database.now.statements theorem)
+        (as_tokens database.now.text (take n words.now))
+        ≡ []) }
+    ensures fault { IfErr result
+        (λ e. StartsWith
+        (compressed_faults database.now.statements theorem end
+        (bracketed (as_tokens database.now.text words.now))) e) }
 {
     let text = database.text();
     for n in 0..words.len() {
@@ -48,7 +62,7 @@ fn read_labels<A: Allocator>(
     Err(refused(end, Code::OpenBrackets))
 }
 
-/// Reads the words of a compressed proof behind its `(`. The proof ends at that place.
+/// Reads the words of a compressed proof after its `(`. The proof ends at that place.
 pub(crate) fn read_compressed<A: Allocator + Copy>(
     alloc: A,
     database: &Database<A>,
@@ -57,11 +71,20 @@ pub(crate) fn read_compressed<A: Allocator + Copy>(
     end: u32,
 ) -> Result<Steps<A>, ProofRefused>
     requires theorem { IsTrue (is_theorem_at database.now.statements theorem) }
-    requires within { AreWords database.now.text words.now }
-    requires in_order { InOrder 0 (tokens_of database.now.text words.now) end }
-    ensures steps { IfOk result (λ s. s ≡ read theorem (compressed_steps database.now.statements theorem (bracketed (tokens_of database.now.text words.now)))) }
-    ensures sound { IfOk result (λ s. compressed_faults database.now.statements theorem end (bracketed (tokens_of database.now.text words.now)) ≡ []) }
-    ensures fault { IfErr result (λ e. StartsWith (compressed_faults database.now.statements theorem end (bracketed (tokens_of database.now.text words.now))) e) }
+    requires within { AreWithin database.now.text words.now }
+    requires in_order { InOrder 0 (as_tokens database.now.text words.now) end }
+    ensures steps { IfOk result
+        (λ s. s ≡ read theorem
+        (compressed_steps database.now.statements theorem
+        (bracketed (as_tokens database.now.text words.now)))) }
+    ensures sound { IfOk result
+        (λ s. compressed_faults database.now.statements theorem end
+        (bracketed (as_tokens database.now.text words.now))
+        ≡ []) }
+    ensures fault { IfErr result
+        (λ e. StartsWith
+        (compressed_faults database.now.statements theorem end
+        (bracketed (as_tokens database.now.text words.now))) e) }
 {
     let mut labels = with_room(alloc);
     labels.extend_from_slice(database.frame(theorem).hyps.as_slice())?;

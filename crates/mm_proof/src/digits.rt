@@ -3,7 +3,7 @@
 ghost use Rattle.std.specs.Prelude.{◌≡◌, ◌+◌, ◌*◌, ◌<◌, ◌≤◌, ℕ, IfSome, IfNone};
 ghost use Rattle.mm_proof.specs.Number.{IsNumber, IsLetter, told};
 
-/// What a byte behind the brackets of a compressed proof is (Metamath book, Appendix B).
+/// What a byte after the brackets of a compressed proof is (Metamath book, Appendix B).
 #[derive(Clone, Copy, Debug, PartialEq, Eq)]
 pub(crate) enum LetterKind {
     /// `U` to `Y`: a digit 1 to 5 of a number that goes on.
@@ -41,8 +41,8 @@ pub(crate) fn with_digit(number: u64, base: u64, digit: u8) -> u64
     number.saturating_mul(base).saturating_add(digit as u64)
 }
 
-/// The value of a number in letters: any number of `U` to `Y`, and behind them one of `A` to `T`. It is `None` for any
-/// other word, and for a value above 4,294,967,295.
+/// The value of a number in letters: any number of `U` to `Y`, and after them one of `A` to `T`.
+/// It is `None` for any other word, and for a value above 4,294,967,295.
 pub fn number(letters: &[u8]) -> Option<u32>
     ensures some { IfSome result (λ n. IsNumber letters.now n) }
     ensures none { IfNone result ((n : ℕ) → IsNumber letters.now n → 4294967295 < n) }

@@ -7,8 +7,8 @@ ghost use Rattle.mm_proof.specs.Refused.{found};
 use mm_stmt::{Database, Word};
 use std::alloc::Allocator;
 
-/// The statement of a label that is usable in the proof of a theorem: that of an active hypothesis or of an earlier
-/// assertion.
+/// The statement of a label that is usable in the proof of a theorem: that of an active hypothesis
+/// or of an earlier assertion.
 pub(crate) fn usable_label<A: Allocator>(
     database: &Database<A>,
     theorem: u32,

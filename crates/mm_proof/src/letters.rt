@@ -1,14 +1,17 @@
 //! The letters of a compressed proof.
 
-ghost use Rattle.std.specs.Prelude.{All, IfSome, ◌≡◌, ◌<◌, ◌≤◌, ◌+◌, ◌∷◌, ◌++◌, [], ℕ, None, length, slice_range, IfErr, IfNone, OnOk};
+ghost use Rattle.std.specs.Prelude.{All, IfSome, ◌≡◌, ◌<◌, ◌≤◌, ◌+◌, ◌∷◌, ◌++◌, [], ℕ, None};
+ghost use Rattle.std.specs.Prelude.{length, slice_range, IfErr, IfNone, OnOk};
 ghost use Rattle.mm_spec.specs.Steps.{placed};
-ghost use Rattle.mm_spec.specs.CompressedProof.{letters_from, letters_of, letter_faults, groups, group_steps};
+ghost use Rattle.mm_spec.specs.CompressedProof.{letters_from, letters_of, letter_faults, groups};
+ghost use Rattle.mm_spec.specs.CompressedProof.{group_steps};
 ghost use Rattle.mm_spec.specs.CompressedProof as compressed;
-ghost use Rattle.mm_stmt.specs.Parts.{tokens_of, AreWords};
+ghost use Rattle.mm_stmt.specs.Parts.{as_tokens, AreWithin};
 ghost use Rattle.mm_proof.specs.Read.{read, step_of, IsEarlier};
 ghost use Rattle.mm_proof.specs.Number.{IsLetter, told};
 ghost use Rattle.mm_proof.specs.declared.digits.LetterKind.TheVariants.{Early, Last};
-ghost use Rattle.mm_proof.specs.Letters.{State, state, letter, StandsAt, Reads, Stops, begun_at, named, InOrder};
+ghost use Rattle.mm_proof.specs.Letters.{State, state, letter, StandsAt, Reads, Stops, begun_at};
+ghost use Rattle.mm_proof.specs.Letters.{named, InOrder};
 ghost use Rattle.mm_proof.specs.Refused.{StartsWith};
 
 use crate::digits::{LetterKind, letter_of, with_digit};
@@ -30,7 +33,8 @@ pub(crate) struct Begun {
 /// What the letters so far stand for.
 #[derive(Drop)]
 pub(crate) struct Progress<A: Allocator> {
-    /// The statements whose labels have numbers: the theorem's mandatory hypotheses, and those in brackets.
+    /// The statements whose labels have numbers: the theorem's mandatory hypotheses, and those in
+    /// brackets.
     labels: Vec<u32, A>,
     /// The steps that were marked, one for each `Z`.
     marks: Vec<u32, A>,
@@ -78,12 +82,16 @@ impl<A: Allocator> Progress<A> {
         }
     }
 
-    /// The step that a number names, by its value, or by the greatest of 64 bits where it is above that.
+    /// The step that a number names, by its value, or by the greatest of 64 bits where it is above
+    /// that.
     fn named(&self, value: u64) -> Option<Step>
         requires { 0 < value }
-        ensures step { (n : ℕ) → value ≡ told n → compressed.step_of self.now.labels self.now.marks n ≡ named result }
-        ensures large { IfNone result ((n : ℕ) → value ≡ told n → length self.now.labels + length self.now.marks < n) }
-        ensures earlier { IfSome result (λ s. (n : ℕ) → All (λ j. j < n) self.now.marks → IsEarlier (step_of s) n) }
+        ensures step { (n : ℕ) → value ≡ told n
+            → compressed.step_of self.now.labels self.now.marks n ≡ named result }
+        ensures large { IfNone result
+            ((n : ℕ) → value ≡ told n → length self.now.labels + length self.now.marks < n) }
+        ensures earlier { IfSome result
+            (λ s. (n : ℕ) → All (λ j. j < n) self.now.marks → IsEarlier (step_of s) n) }
     {
         let labels = self.labels.as_slice();
         let marks = self.marks.as_slice();
@@ -105,7 +113,8 @@ impl<A: Allocator> Progress<A> {
         ensures labels { self.new.labels ≡ self.old.labels }
         ensures steps { self.new.steps ≡ self.old.steps }
         ensures marks { self.new.marks ≡ self.old.marks }
-        ensures reads { (byte : ℕ) → IsLetter byte (Early digit) → Reads self.old (letter at byte ∷ []) self.new }
+        ensures reads { (byte : ℕ) → IsLetter byte (Early digit)
+            → Reads self.old (letter at byte ∷ []) self.new }
     {
         let begun = self.begun(at);
         self.number = Some(Begun {
@@ -117,7 +126,10 @@ impl<A: Allocator> Progress<A> {
     /// Adds the step of a number that ends, which is a label or an earlier step.
     fn add_step(&mut self, at: u32, step: Step) -> Result<(), AllocError>
         requires earlier { IsEarlier (step_of step) (length self.old.steps) }
-        ensures { OnOk result (self.new ≡ state self.old.theorem self.old.labels self.old.marks None (self.old.steps ++ placed at (step_of step) ∷ [])) }
+        ensures { OnOk result
+            (self.new
+            ≡ state self.old.theorem self.old.labels self.old.marks None
+            (self.old.steps ++ placed at (step_of step) ∷ [])) }
     {
         self.steps.push(at, step)?;
         self.number = None;
@@ -131,8 +143,12 @@ impl<A: Allocator> Progress<A> {
         ensures theorem { OnOk result (self.new.theorem ≡ self.old.theorem) }
         ensures labels { OnOk result (self.new.labels ≡ self.old.labels) }
         ensures stands { OnOk result (StandsAt self.new (at + 1)) }
-        ensures reads { OnOk result ((byte : ℕ) → IsLetter byte (Last digit) → Reads self.old (letter at byte ∷ []) self.new) }
-        ensures stops { IfErr result (λ e. (byte : ℕ) → IsLetter byte (Last digit) → Stops self.old (letter at byte ∷ []) e) }
+        ensures reads { OnOk result
+            ((byte : ℕ) → IsLetter byte (Last digit)
+            → Reads self.old (letter at byte ∷ []) self.new) }
+        ensures stops { IfErr result
+            (λ e. (byte : ℕ) → IsLetter byte (Last digit)
+            → Stops self.old (letter at byte ∷ []) e) }
     {
         let begun = self.begun(at);
         let Some(step) = self.named(with_digit(begun.value, 20, digit)) else {
@@ -190,8 +206,12 @@ impl<A: Allocator> Progress<A> {
         ensures theorem { OnOk result (self.new.theorem ≡ self.old.theorem) }
         ensures labels { OnOk result (self.new.labels ≡ self.old.labels) }
         ensures stands { OnOk result (StandsAt self.new word.end) }
-        ensures reads { OnOk result (Reads self.old (letters_from word.start (slice_range text.now word.start word.end)) self.new) }
-        ensures stops { IfErr result (λ e. Stops self.old (letters_from word.start (slice_range text.now word.start word.end)) e) }
+        ensures reads { OnOk result
+            (Reads self.old
+            (letters_from word.start (slice_range text.now word.start word.end)) self.new) }
+        ensures stops { IfErr result
+            (λ e. Stops self.old
+            (letters_from word.start (slice_range text.now word.start word.end)) e) }
     {
         for at in word.start..word.end {
             self.read(at, text[at as usize])?;
@@ -206,13 +226,22 @@ impl<A: Allocator> Progress<A> {
         words: &[Word],
         end: u32,
     ) -> Result<(), ProofRefused>
-        requires within { AreWords text.now words.now }
-        requires in_order { InOrder 0 (tokens_of text.now words.now) end }
+        requires within { AreWithin text.now words.now }
+        requires in_order { InOrder 0 (as_tokens text.now words.now) end }
         requires none { self.old ≡ state self.old.theorem self.old.labels [] None [] }
         ensures theorem { OnOk result (self.new.theorem ≡ self.old.theorem) }
-        ensures steps { OnOk result (self.new.steps ≡ group_steps self.old.labels [] 0 (groups [] (letters_of (tokens_of text.now words.now))).0) }
-        ensures sound { OnOk result (letter_faults (length self.old.labels) end (letters_of (tokens_of text.now words.now)) ≡ []) }
-        ensures fault { IfErr result (λ e. StartsWith (letter_faults (length self.old.labels) end (letters_of (tokens_of text.now words.now))) e) }
+        ensures steps { OnOk result
+            (self.new.steps
+            ≡ group_steps self.old.labels [] 0
+            (groups [] (letters_of (as_tokens text.now words.now))).0) }
+        ensures sound { OnOk result
+            (letter_faults (length self.old.labels) end
+            (letters_of (as_tokens text.now words.now))
+            ≡ []) }
+        ensures fault { IfErr result
+            (λ e. StartsWith
+            (letter_faults (length self.old.labels) end
+            (letters_of (as_tokens text.now words.now))) e) }
     {
         if words.is_empty() {
             return Err(refused(end, Code::EmptyProof));

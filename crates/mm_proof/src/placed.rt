@@ -2,7 +2,8 @@
 
 ghost use Rattle.std.specs.Prelude.{◌≡◌, ◌<◌, ◌++◌, ◌∷◌, [], length, OnOk, OnErr};
 ghost use Rattle.mm_spec.specs.Steps.{placed};
-ghost use Rattle.mm_proof.specs.Read.{Read, read, step_of, step_at, is_marked as marked_in, IsEarlier};
+ghost use Rattle.mm_proof.specs.Read.{Read, read, step_of, step_at, is_marked as marked_in};
+ghost use Rattle.mm_proof.specs.Read.{IsEarlier};
 
 use std::alloc::{AllocError, Allocator};
 use std::marker::Model;
@@ -23,7 +24,8 @@ enum Kind {
     Marked,
 }
 
-/// A step with its place, and whether it is marked. (With a `Step` within it would take a third more memory.)
+/// A step with its place, and whether it is marked. (With a `Step` within it would take a third
+/// more memory.)
 #[derive(Clone, Copy, Drop)]
 struct Placed {
     at: u32,
@@ -32,7 +34,8 @@ struct Placed {
     is_marked: bool,
 }
 
-/// For how many elements a list has room at first, where memory isn't refused: so those of a common proof don't grow.
+/// For how many elements a list has room at first, where memory isn't refused: so those of a common
+/// proof don't grow.
 const ROOM: usize = 64;
 
 /// No numbers yet.
@@ -81,7 +84,8 @@ impl<A: Allocator> Steps<A> {
     /// One step more, which takes up the subproof of an earlier one if it is a marked one.
     pub(crate) fn push(&mut self, at: u32, step: Step) -> Result<(), AllocError>
         requires { IsEarlier (step_of step) (length self.old.steps) }
-        ensures ok { OnOk result (self.new ≡ read self.old.theorem (self.old.steps ++ placed at (step_of step) ∷ [])) }
+        ensures ok { OnOk result
+            (self.new ≡ read self.old.theorem (self.old.steps ++ placed at (step_of step) ∷ [])) }
     {
         match step {
             Step::Label(number) => self.steps.push(Placed {
@@ -137,7 +141,8 @@ impl<A: Allocator> Steps<A> {
         self.steps[i].is_marked
     }
 
-    /// The place of a step, a byte offset from 0: that of its label, or in a compressed proof of its number's first letter.
+    /// The place of a step, a byte offset from 0: that of its label, or in a compressed proof of
+    /// its number's first letter.
     pub fn place(&self, i: usize) -> u32
         requires { i < length self.now.steps }
         ensures { result ≡ (step_at self.now.steps i).at }

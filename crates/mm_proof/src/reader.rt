@@ -1,11 +1,12 @@
 //! The reader of proofs.
 
-ghost use Rattle.std.specs.Prelude.{◌≡◌, ◌<◌, ◌≤◌, [], length, slice_range, flat_map, OnOk, IfOk, IfErr, IsTrue, true};
+ghost use Rattle.std.specs.Prelude.{◌≡◌, ◌<◌, ◌≤◌, [], length, slice_range, flat_map, OnOk, IfOk};
+ghost use Rattle.std.specs.Prelude.{IfErr, IsTrue, true};
 ghost use Rattle.std.specs.List.{AllPairs};
 ghost use Rattle.mm_spec.specs.NormalProof.{usable, normal_steps};
 ghost use Rattle.mm_spec.specs.Citation.{steps_at, reading_faults_at};
 ghost use Rattle.mm_spec.specs.Output.{is_theorem_at};
-ghost use Rattle.mm_stmt.specs.Parts.{tokens_of, AreWords};
+ghost use Rattle.mm_stmt.specs.Parts.{as_tokens, AreWithin};
 ghost use Rattle.mm_proof.specs.Read.{Read, read};
 ghost use Rattle.mm_proof.specs.Refused.{Refuses, word_faults};
 
@@ -24,12 +25,21 @@ fn read_words<A: Allocator>(
     steps: &mut Steps<A>,
 ) -> Result<(), ProofRefused>
     requires theorem { theorem < length database.now.statements }
-    requires within { AreWords database.now.text words.now }
-    requires rising { AllPairs (λ t u. t.at < u.at) (tokens_of database.now.text words.now) }
+    requires within { AreWithin database.now.text words.now }
+    requires rising { AllPairs (λ t u. t.at < u.at) (as_tokens database.now.text words.now) }
     requires none { steps.old ≡ read theorem [] }
-    ensures ok { OnOk result (flat_map (word_faults database.now.statements theorem) (tokens_of database.now.text words.now) ≡ []) }
-    ensures steps { OnOk result (steps.new ≡ read theorem (normal_steps database.now.statements theorem (tokens_of database.now.text words.now))) }
-    ensures fault { IfErr result (λ e. Refuses (flat_map (word_faults database.now.statements theorem) (tokens_of database.now.text words.now)) e) }
+    ensures ok { OnOk result
+        (flat_map (word_faults database.now.statements theorem)
+        (as_tokens database.now.text words.now)
+        ≡ []) }
+    ensures steps { OnOk result
+        (steps.new
+        ≡ read theorem
+        (normal_steps database.now.statements theorem (as_tokens database.now.text words.now))) }
+    ensures fault { IfErr result
+        (λ e. Refuses
+        (flat_map (word_faults database.now.statements theorem)
+        (as_tokens database.now.text words.now)) e) }
 {
     let text = database.text();
     for word in words {
@@ -45,8 +55,9 @@ fn read_words<A: Allocator>(
     Ok(())
 }
 
-/// Reads the proof of a theorem, which is the number of a `$p`. It is refused with its first reading fault (E31 to E33, E41
-/// to E45), whose place is a byte offset from 0, or where memory is refused.
+/// Reads the proof of a theorem, which is the number of a `$p`. It is refused with its first
+/// reading fault (E31 to E33, E41 to E45), whose place is a byte offset from 0, or where memory is
+/// refused.
 pub fn read_proof<A: Allocator + Copy>(
     alloc: A,
     database: &Database<A>,
@@ -55,7 +66,8 @@ pub fn read_proof<A: Allocator + Copy>(
     requires { IsTrue (is_theorem_at database.now.statements theorem) }
     ensures steps { IfOk result (λ s. s ≡ read theorem (steps_at database.now.statements theorem)) }
     ensures sound { IfOk result (λ s. reading_faults_at database.now.statements theorem ≡ []) }
-    ensures fault { IfErr result (λ e. Refuses (reading_faults_at database.now.statements theorem) e) }
+    ensures fault { IfErr result
+        (λ e. Refuses (reading_faults_at database.now.statements theorem) e) }
 {
     let _ = database.len();
     let words = database.proof_words(theorem);

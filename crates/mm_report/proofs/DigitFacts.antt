@@ -12,8 +12,9 @@ use Rattle.mm_report.proofs.SentFacts.{range-append}
 abbrev pub digit_text : Marks → ℕ → ℕ → ℕ
 digit_text m i k = hex_digit (digit_at k (row_marks m i))
 
--- some digits, and those behind them
-pub digits-append : (f : ℕ → ℕ) (from n both : ℕ) → from + n ≡ both → map f (range_with_len 0 from) ++ map f (range_with_len from n) ≡ map f (range_with_len 0 both)
+-- some digits, and those after them
+pub digits-append : (f : ℕ → ℕ) (from n both : ℕ) → from + n ≡ both
+    → map f (range_with_len 0 from) ++ map f (range_with_len from n) ≡ map f (range_with_len 0 both)
 digits-append f from n both e =
     let start : 0 + from ≡ from = omega arith in
     ap (λ k. map f (range_with_len 0 from) ++ map f (range_with_len k n)) (sym start)
@@ -22,4 +23,5 @@ digits-append f from n both e =
     ∙ ap (λ k. map f (range_with_len 0 k)) e
 
 pub row_long : (m : Marks) (i : ℕ) → length (marks_of m i) ≡ m.columns
-row_long m i = length-map (range_with_len 0 m.columns) (mark m i) ∙ length-range_with_len 0 m.columns
+row_long m i =
+    length-map (range_with_len 0 m.columns) (mark m i) ∙ length-range_with_len 0 m.columns

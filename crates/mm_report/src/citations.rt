@@ -1,15 +1,17 @@
 //! The report of direct citations.
 
-ghost use Rattle.std.specs.Prelude.{◌≡◌, ◌<◌, ◌≤◌, ℕ, Option, None, List, All, length, take, map, flat_map, true, OnOk, OnErr};
+ghost use Rattle.std.specs.Prelude.{◌≡◌, ◌<◌, ◌≤◌, ℕ, Option, None, List, All, length, take, map};
+ghost use Rattle.std.specs.Prelude.{flat_map, true, OnOk, OnErr};
 ghost use Rattle.std.specs.Option.{option_map};
 ghost use Rattle.std.specs.List.{list_any};
 ghost use Rattle.std.specs.Io.KnownBytes.{Appends};
-ghost use Rattle.mm_spec.specs.Text.{Word};
+ghost use Rattle.mm_spec.specs.Text.{Bytes};
 ghost use Rattle.mm_spec.specs.Scope.{statement_at};
 ghost use Rattle.mm_spec.specs.Citation.{is_assertion};
 ghost use Rattle.mm_spec.specs.Output.{columns, label_at};
 ghost use Rattle.mm_spec.specs.Report.{citation_line, citation_report, joined, list_line};
-ghost use Rattle.mm_report.specs.Rows.{AreCitationsOf, citation_report_of, citing_rows, listed, next_label, open_theorems};
+ghost use Rattle.mm_report.specs.Rows.{AreCitationsOf, citation_report_of, citing_rows, listed};
+ghost use Rattle.mm_report.specs.Rows.{next_label, open_theorems};
 ghost use Rattle.mm_report.specs.Sent.{Sent};
 
 use crate::counted::open_theorems;
@@ -25,8 +27,11 @@ use std::io::Write;
 
 /// How many of the cited assertions are listed.
 fn listed_count<D: Allocator>(database: &Database<'_, D>, only: Option<&[u8]>, cited: &[u32]) -> u64
-    requires { All (λ a. list_any is_assertion (statement_at database.now.statements a) ≡ true) cited.now }
-    ensures { result ≡ length (listed database.now.statements (option_map (λ w. w.now) only.entry) cited.now) }
+    requires { All
+        (λ a. list_any is_assertion (statement_at database.now.statements a) ≡ true) cited.now }
+    ensures { result
+        ≡ length
+        (listed database.now.statements (option_map (λ w. w.now) only.entry) cited.now) }
 {
     let mut count = 0u64;
     for statement in cited {
@@ -37,9 +42,10 @@ fn listed_count<D: Allocator>(database: &Database<'_, D>, only: Option<&[u8]>, c
     count
 }
 
-/// Sends a label behind those before it, if there are any.
+/// Sends a label after those before it, if there are any.
 fn send_next<W: Write>(sink: &mut Sink, to: &mut W, label: &[u8], is_first: bool)
-    ensures { Sent (W.contents to.old) (W.contents to.new) sink.old sink.new (next_label is_first label.now) }
+    ensures { Sent (W.contents to.old) (W.contents to.new) sink.old sink.new
+        (next_label is_first label.now) }
 {
     if is_first {
         sink.send(to, label);
@@ -57,8 +63,11 @@ fn send_cited<W: Write, D: Allocator>(
     only: Option<&[u8]>,
     cited: &[u32],
 )
-    requires { All (λ a. list_any is_assertion (statement_at database.now.statements a) ≡ true) cited.now }
-    ensures { Sent (W.contents to.old) (W.contents to.new) sink.old sink.new (joined (map (label_at database.now.statements) (listed database.now.statements (option_map (λ w. w.now) only.entry) cited.now))) }
+    requires { All
+        (λ a. list_any is_assertion (statement_at database.now.statements a) ≡ true) cited.now }
+    ensures { Sent (W.contents to.old) (W.contents to.new) sink.old sink.new
+        (joined (map (label_at database.now.statements)
+        (listed database.now.statements (option_map (λ w. w.now) only.entry) cited.now))) }
 {
     let mut is_first = true;
     for statement in cited {
@@ -78,8 +87,12 @@ fn send_citation_line<W: Write, D: Allocator>(
     label: &[u8],
     cited: &[u32],
 )
-    requires { All (λ a. list_any is_assertion (statement_at database.now.statements a) ≡ true) cited.now }
-    ensures { Sent (W.contents to.old) (W.contents to.new) sink.old sink.new (list_line label.now (map (label_at database.now.statements) (listed database.now.statements (option_map (λ w. w.now) only.entry) cited.now))) }
+    requires { All
+        (λ a. list_any is_assertion (statement_at database.now.statements a) ≡ true) cited.now }
+    ensures { Sent (W.contents to.old) (W.contents to.new) sink.old sink.new
+        (list_line label.now
+        (map (label_at database.now.statements)
+        (listed database.now.statements (option_map (λ w. w.now) only.entry) cited.now))) }
 {
     sink.send(to, label);
     sink.send_byte(to, b':');
@@ -100,7 +113,10 @@ fn send_citation_lines<W: Write, D: Allocator, C: Allocator>(
 )
     requires labels { length labels.now ≡ length citations.now.theorems }
     requires cited { AreCitationsOf database.now.statements citations.now }
-    ensures { Sent (W.contents to.old) (W.contents to.new) sink.old sink.new (flat_map citation_line (citing_rows database.now.statements (option_map (λ w. w.now) only.entry) citations.now labels.now)) }
+    ensures { Sent (W.contents to.old) (W.contents to.new) sink.old sink.new
+        (flat_map citation_line
+        (citing_rows database.now.statements
+        (option_map (λ w. w.now) only.entry) citations.now labels.now)) }
 {
     for i in 0..citations.rows() {
         send_citation_line(sink, to, database, only, labels.label(i), citations.of(i));
@@ -121,7 +137,10 @@ fn send_citations<W: Write, D: Allocator, C: Allocator>(
 )
     requires labels { length labels.now ≡ length citations.now.theorems }
     requires cited { AreCitationsOf database.now.statements citations.now }
-    ensures { Sent (W.contents to.old) (W.contents to.new) sink.old sink.new (citation_report form open_theorems axioms (citing_rows database.now.statements (option_map (λ w. w.now) only.entry) citations.now labels.now)) }
+    ensures { Sent (W.contents to.old) (W.contents to.new) sink.old sink.new
+        (citation_report form open_theorems axioms
+        (citing_rows database.now.statements
+        (option_map (λ w. w.now) only.entry) citations.now labels.now)) }
 {
     send_head(
         sink,
@@ -136,10 +155,11 @@ fn send_citations<W: Write, D: Allocator, C: Allocator>(
     send_line(sink, to, b"end");
 }
 
-/// Writes the report of what each theorem of a database cites in its own proof, in file order; where a typecode is chosen,
-/// of what has that typecode, axioms and theorems alike. The columns are those of this typecode, and the citations those of
-/// this database. With the flag it tells how many columns are open theorems. It takes no memory. `WriteFailed` comes where a write failed, or took nothing of a piece that was not
-/// empty; then a beginning of the report has been written.
+/// Writes the report of what each theorem of a database cites in its own proof, in file order;
+/// where a typecode is chosen, of what has that typecode, axioms and theorems alike. The columns
+/// are those of this typecode, and the citations those of this database. With the flag it tells how
+/// many columns are open theorems. It takes no memory. `WriteFailed` comes where a write failed, or
+/// took nothing of a piece that was not empty; then a beginning of the report has been written.
 pub fn write_citations<'a, W: Write, A: Allocator, C: Allocator, D: Allocator>(
     to: &mut W,
     database: &Database<'a, D>,
@@ -150,8 +170,17 @@ pub fn write_citations<'a, W: Write, A: Allocator, C: Allocator, D: Allocator>(
     form: Form,
 ) -> Result<(), WriteFailed>
     requires { AreCitationsOf database.now.statements citations.now }
-    ensures ok { OnOk result (Appends (W.contents to.old) (W.contents to.new) (citation_report_of database.now.statements (open_theorems with_open database.now chosen.now) form (option_map (λ w. w.now) only.entry) chosen.now citations.now)) }
-    ensures err { OnErr result ((k : ℕ) × Appends (W.contents to.old) (W.contents to.new) (take k (citation_report_of database.now.statements (open_theorems with_open database.now chosen.now) form (option_map (λ w. w.now) only.entry) chosen.now citations.now))) }
+    ensures ok { OnOk result
+        (Appends (W.contents to.old) (W.contents to.new)
+        (citation_report_of database.now.statements
+        (open_theorems with_open database.now chosen.now) form
+        (option_map (λ w. w.now) only.entry) chosen.now citations.now)) }
+    ensures err { OnErr result
+        ((k : ℕ)
+        × Appends (W.contents to.old) (W.contents to.new)
+        (take k (citation_report_of database.now.statements
+        (open_theorems with_open database.now chosen.now) form
+        (option_map (λ w. w.now) only.entry) chosen.now citations.now))) }
 {
     let mut sink = Sink::new();
     let labels = TheoremLabels::new(database);

@@ -26,7 +26,10 @@ pub(crate) fn open_theorems<A: Allocator, D: Allocator>(
 }
 
 fn open_count<A: Allocator, D: Allocator>(database: &Database<'_, D>, chosen: &Columns<A>) -> u64
-    ensures { result ≡ count_by (λ a. database.now.with_open && list_any is_open (statement_at database.now.read a)) chosen.now }
+    ensures { result
+        ≡ count_by
+        (λ a. database.now.with_open && list_any is_open (statement_at database.now.read a))
+        chosen.now }
 {
     let mut count = 0u64;
     for statement in chosen.statements() {

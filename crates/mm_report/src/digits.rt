@@ -25,7 +25,8 @@ pub(crate) fn send_digits<W: Write, A: Allocator>(
     i: u32,
 )
     requires { i < matrix.now.rows }
-    ensures { Sent (W.contents to.old) (W.contents to.new) sink.old sink.new (cells Two (marks_of matrix.now i)) }
+    ensures { Sent (W.contents to.old) (W.contents to.new) sink.old sink.new
+        (cells Two (marks_of matrix.now i)) }
 {
     let mut digits = [b'0'; DIGITS];
     let words = matrix.columns().div_ceil(64);

@@ -1,7 +1,8 @@
 //! The labels of theorems and of columns.
 
-ghost use Rattle.std.specs.Prelude.{◌≡◌, ◌<◌, ◌≤◌, ◌∷◌, ℕ, Option, List, [], All, length, slice_index_or, slice_range, map, flat_map};
-ghost use Rattle.mm_spec.specs.Text.{Word};
+ghost use Rattle.std.specs.Prelude.{◌≡◌, ◌<◌, ◌≤◌, ◌∷◌, ℕ, Option, List, [], All, length};
+ghost use Rattle.std.specs.Prelude.{slice_index_or, slice_range, map, flat_map};
+ghost use Rattle.mm_spec.specs.Text.{Bytes};
 ghost use Rattle.mm_spec.specs.Output.{label_at, theorems, columns};
 
 use mm_rows::Columns;
@@ -21,12 +22,15 @@ impl<'d, 'a, D: Allocator> Model for TheoremLabels<'d, 'a, D> {
 
     ghost Value = { List (List ℕ) };
 
-    ghost view = { λ l. map (label_at l.database.now.statements) (theorems l.database.now.statements) };
+    ghost view = { λ l. map (label_at l.database.now.statements)
+        (theorems l.database.now.statements) };
 }
 
 impl<'d, 'a, D: Allocator> TheoremLabels<'d, 'a, D> {
     pub fn new(database: &'d Database<'a, D>) -> TheoremLabels<'d, 'a, D>
-        ensures { result ≡ map (label_at database.entry.now.statements) (theorems database.entry.now.statements) }
+        ensures { result
+            ≡ map (label_at database.entry.now.statements)
+            (theorems database.entry.now.statements) }
     {
         TheoremLabels { database }
     }
@@ -46,7 +50,7 @@ impl<'d, 'a, D: Allocator> TheoremLabels<'d, 'a, D> {
         label_of(self.database, self.database.theorems()[index as usize])
     }
 
-    /// The labels from the one number up to the other, each behind a space.
+    /// The labels from the one number up to the other, each after a space.
     pub fn spaced(&self, from: u32, to: u32) -> &'d [u8]
         requires order { from ≤ to }
         requires within { to ≤ length self.now }
@@ -80,7 +84,7 @@ impl<'d, 'a, D: Allocator> ColumnLabels<'d, 'a, D> {
         database: &'d Database<'a, D>,
         chosen: &'d Columns<A>,
     ) -> ColumnLabels<'d, 'a, D>
-        requires { (only : Option Word) × (chosen.now ≡ columns database.now.statements only) }
+        requires { (only : Option Bytes) × (chosen.now ≡ columns database.now.statements only) }
         ensures { result ≡ map (label_at database.entry.now.statements) chosen.entry.now }
     {
         ColumnLabels {

@@ -1,5 +1,6 @@
 -- What rows of bits say of chains of citations.
-use Rattle.std.specs.Prelude.{◌≡◌, ℕ, ◌+◌, ◌*◌, slice_range, ◌<◌, ◌≤◌, Bool, false, List, map, length, slice_index, Decides}
+use Rattle.std.specs.Prelude.{◌≡◌, ℕ, ◌+◌, ◌*◌, slice_range, ◌<◌, ◌≤◌, Bool, false, List, map}
+use Rattle.std.specs.Prelude.{length, slice_index, Decides}
 use Rattle.std.specs.List.{range_with_len}
 use Rattle.mm_spec.specs.Chains.{RestsOn}
 use Rattle.mm_cites.specs.Citing.{Citing, Cites, theorem_at, list_at}
@@ -9,7 +10,8 @@ use Rattle.mm_rows.specs.Marks.{Marks}
 -- the bits of statement t: on which columns it rests, and nothing past the last column
 pub record IsBitRow (c : Citing) (columns : List ℕ) (t : ℕ) (row : List ℕ) : Type 0 where
   pub words : length row ≡ words_for (length columns)
-  pub marks : (j : ℕ) → j < length columns → Decides (is_bit row j) (RestsOn (Cites c) t (slice_index columns j))
+  pub marks : (j : ℕ) → j < length columns
+      → Decides (is_bit row j) (RestsOn (Cites c) t (slice_index columns j))
   pub past : (j : ℕ) → length columns ≤ j → is_bit row j ≡ false
 
 -- the words of row r, of so many words a row
@@ -19,17 +21,26 @@ row_at bits width r = slice_range bits (r * width) (r * width + width)
 -- among all words, those of the theorems that theorem i cites are known
 abbrev pub IsReady : Citing → List ℕ → List ℕ → ℕ → Type 0
 IsReady c columns bits i =
-    (r k : ℕ) → r < length c.theorems → k < length (list_at c i) → theorem_at c r ≡ slice_index (list_at c i) k → IsBitRow c columns (theorem_at c r) (row_at bits (words_for (length columns)) r)
+    (r k : ℕ) → r < length c.theorems → k < length (list_at c i)
+    → theorem_at c r ≡ slice_index (list_at c i) k
+    → IsBitRow c columns (theorem_at c r) (row_at bits (words_for (length columns)) r)
 
 -- the words of the first n theorems, row by row
 pub record AreBitRows (c : Citing) (columns : List ℕ) (n : ℕ) (bits : List ℕ) : Type 0 where
   pub size : length bits ≡ n * words_for (length columns)
-  pub each : (r : ℕ) → r < n → IsBitRow c columns (theorem_at c r) (row_at bits (words_for (length columns)) r)
+  pub each : (r : ℕ) → r < n
+      → IsBitRow c columns (theorem_at c r) (row_at bits (words_for (length columns)) r)
 
 -- the cells of row i of a table of bits
 abbrev pub cells_of : ℕ → List ℕ → ℕ → List Bool
-cells_of columns bits i = map (λ j. is_bit bits (spot (words_for columns) i j)) (range_with_len 0 columns)
+cells_of columns bits i =
+    map (λ j. is_bit bits (spot (words_for columns) i j)) (range_with_len 0 columns)
 
 -- the marks of a table of bits
 abbrev pub marks : ℕ → ℕ → List ℕ → Marks
-marks rows columns bits = record { rows = rows; columns = columns; cells = map (cells_of columns bits) (range_with_len 0 rows) }
+marks rows columns bits =
+    record {
+      rows = rows;
+      columns = columns;
+      cells = map (cells_of columns bits) (range_with_len 0 rows);
+    }

@@ -1,5 +1,6 @@
 -- A table of bits as blocks of 64 rows; block w has the rows from 64 * w on.
-use Rattle.std.specs.Prelude.{ℕ, ◌+◌, ◌*◌, ◌<◌, ◌≤◌, ◌≡◌, ◌==◌, ◌&&◌, Bool, List, length, slice_index, nat_lt}
+use Rattle.std.specs.Prelude.{ℕ, ◌+◌, ◌*◌, ◌<◌, ◌≤◌, ◌≡◌, ◌==◌, ◌&&◌, Bool, List, length}
+use Rattle.std.specs.Prelude.{slice_index, nat_lt}
 use Rattle.std.specs.Int.{bit_at}
 use Rattle.mm_rows.specs.Bits.{is_bit, spot, words_for}
 
@@ -9,16 +10,23 @@ in_row rows across bits i j = nat_lt i rows && is_bit bits (spot across i j)
 
 -- the word of column j that block w makes: bit k is that of row k of the block
 abbrev pub IsColumnWord : ℕ → ℕ → List ℕ → ℕ → ℕ → ℕ → Type 0
-IsColumnWord rows across bits w j word = (k : ℕ) → k < 64 → (bit_at word k == 1) ≡ in_row rows across bits (64 * w + k) j
+IsColumnWord rows across bits w j word =
+    (k : ℕ) → k < 64 → (bit_at word k == 1) ≡ in_row rows across bits (64 * w + k) j
 
 -- a byte of each row of block w: the one with the bits of 8 columns, the ones from 8 * at on
 abbrev pub AreRowBytes : ℕ → ℕ → List ℕ → ℕ → ℕ → List ℕ → Type 0
-AreRowBytes rows across bits w at bytes = (k b : ℕ) → k < 64 → b < 8 → (bit_at (slice_index bytes k) b == 1) ≡ in_row rows across bits (64 * w + k) (8 * at + b)
+AreRowBytes rows across bits w at bytes =
+    (k b : ℕ) → k < 64 → b < 8
+    → (bit_at (slice_index bytes k) b == 1) ≡ in_row rows across bits (64 * w + k) (8 * at + b)
 
 -- columns that are being written: the blocks below w are, and block w in the columns below from
 pub record Written (rows columns : ℕ) (bits turned : List ℕ) (w from : ℕ) : Type 0 where
   pub size : length turned ≡ columns * words_for rows
-  pub before : (j v : ℕ) → j < columns → v < w → v < words_for rows → IsColumnWord rows (words_for columns) bits v j (slice_index turned (j * words_for rows + v))
-  pub done : (j : ℕ) → j < columns → j < from → IsColumnWord rows (words_for columns) bits w j (slice_index turned (j * words_for rows + w))
-  pub left : (j : ℕ) → j < columns → from ≤ j → w < words_for rows → slice_index turned (j * words_for rows + w) ≡ 0
-  pub after : (j v : ℕ) → j < columns → w < v → v < words_for rows → slice_index turned (j * words_for rows + v) ≡ 0
+  pub before : (j v : ℕ) → j < columns → v < w → v < words_for rows
+      → IsColumnWord rows (words_for columns) bits v j (slice_index turned (j * words_for rows + v))
+  pub done : (j : ℕ) → j < columns → j < from
+      → IsColumnWord rows (words_for columns) bits w j (slice_index turned (j * words_for rows + w))
+  pub left : (j : ℕ) → j < columns → from ≤ j → w < words_for rows
+      → slice_index turned (j * words_for rows + w) ≡ 0
+  pub after : (j v : ℕ) → j < columns → w < v → v < words_for rows
+      → slice_index turned (j * words_for rows + v) ≡ 0

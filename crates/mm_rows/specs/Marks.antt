@@ -1,5 +1,6 @@
 -- A table of marks, and what it says of chains of citations.
-use Rattle.std.specs.Prelude.{Option, Some, None, ◌≡◌, ℕ, ◌+◌, ◌<◌, Bool, false, List, [], length, map, slice_index, slice_index_or, Decides}
+use Rattle.std.specs.Prelude.{Option, Some, None, ◌≡◌, ℕ, ◌+◌, ◌<◌, Bool, false, List, [], length}
+use Rattle.std.specs.Prelude.{map, slice_index, slice_index_or, Decides}
 use Rattle.std.specs.List.{range_with_len}
 use Rattle.mm_spec.specs.Chains.{RestsOn}
 use Rattle.mm_cites.specs.Citing.{Citing, Cites, theorem_at}
@@ -28,8 +29,10 @@ abbrev pub start_of : Option ℕ → ℕ
 start_of None = 0
 start_of (Some i) = i + 1
 
--- a table of the theorems and the columns, with a mark where a chain of citations leads from the one to the other
+-- a table of the theorems and the columns, with a mark where a chain of citations leads from the
+-- one to the other
 pub record IsMatrix (c : Citing) (columns : List ℕ) (m : Marks) : Type 0 where
   pub rows : m.rows ≡ length c.theorems
   pub columns_are : m.columns ≡ length columns
-  pub marked : (i j : ℕ) → i < length c.theorems → j < length columns → Decides (mark m i j) (RestsOn (Cites c) (theorem_at c i) (slice_index columns j))
+  pub marked : (i j : ℕ) → i < length c.theorems → j < length columns
+      → Decides (mark m i j) (RestsOn (Cites c) (theorem_at c i) (slice_index columns j))

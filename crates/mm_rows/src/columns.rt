@@ -1,6 +1,7 @@
 //! The axioms that are columns.
 
-ghost use Rattle.std.specs.Prelude.{◌≡◌, ◌<◌, ◌&&◌, ℕ, List, Option, Some, None, IfOk, length, slice_index, true};
+ghost use Rattle.std.specs.Prelude.{◌≡◌, ◌<◌, ◌&&◌, ℕ, List, Option, Some, None, IfOk, length};
+ghost use Rattle.std.specs.Prelude.{slice_index, true};
 ghost use Rattle.std.specs.Option.{option_map};
 ghost use Rattle.std.specs.List.{list_any};
 ghost use Rattle.mm_spec.specs.Scope.{statement_at};
@@ -33,7 +34,9 @@ pub fn is_chosen<'a, D: Allocator>(
     statement: u32,
 ) -> bool
     requires { list_any is_assertion (statement_at database.now.statements statement) ≡ true }
-    ensures { result ≡ list_any (has_typecode (option_map (λ w. w.now) only.entry)) (statement_at database.now.statements statement) }
+    ensures { result
+        ≡ list_any (has_typecode (option_map (λ w. w.now) only.entry))
+        (statement_at database.now.statements statement) }
 {
     match only {
         None => true,
@@ -45,14 +48,15 @@ pub fn is_chosen<'a, D: Allocator>(
 }
 
 impl<A: Allocator + Copy> Columns<A> {
-    /// The axioms of the database whose typecode is `only`, or all of them; a typecode that nothing has gives no columns.
-    /// Refused only where memory is.
+    /// The axioms of the database whose typecode is `only`, or all of them; a typecode that nothing
+    /// has gives no columns. Refused only where memory is.
     pub fn new<'a, D: Allocator>(
         alloc: A,
         database: &Database<'a, D>,
         only: Option<&[u8]>,
     ) -> Result<Columns<A>, AllocError>
-        ensures { IfOk result (λ c. c ≡ columns database.now.statements (option_map (λ w. w.now) only.entry)) }
+        ensures { IfOk result
+            (λ c. c ≡ columns database.now.statements (option_map (λ w. w.now) only.entry)) }
     {
         let mut statements = Vec::new(alloc);
         let axioms = database.axioms();

@@ -1,5 +1,5 @@
-//! Rows of marks as hexadecimal digits: a digit has four columns, the first of them as its highest bit. A word has 16 digits,
-//! which are made side by side.
+//! Rows of marks as hexadecimal digits: a digit has four columns, the first of them as its highest
+//! bit. A word has 16 digits, which are made side by side.
 
 ghost use Rattle.std.specs.Prelude.{◌≡◌, ◌<◌, ◌*◌, ◌/◌, ◌%◌, ℕ, length, slice_index};
 ghost use Rattle.mm_spec.specs.Report.{hex_digit};
@@ -7,7 +7,8 @@ ghost use Rattle.mm_rows.specs.Bits.{four_at};
 
 use std::simd::prelude::*;
 
-/// The number of four columns, by what they are as the lowest bits of a word: there the first column is the lowest bit.
+/// The number of four columns, by what they are as the lowest bits of a word: there the first
+/// column is the lowest bit.
 const NUMBERS: [u8; 16] = [0, 8, 4, 12, 2, 10, 6, 14, 1, 9, 5, 13, 3, 11, 7, 15];
 
 /// The same numbers as hexadecimal digits.
@@ -41,7 +42,9 @@ fn word_digits(word: u64) -> u8x16
 pub fn write_digits(into: &mut [u8], words: &[u64])
     requires { length into.old ≡ 16 * length words.now }
     ensures length { length into.new ≡ length into.old }
-    ensures each { (i : ℕ) → i < length into.old → slice_index into.new i ≡ hex_digit (four_at (slice_index words.now (i / 16)) (i % 16)) }
+    ensures each { (i : ℕ) → i < length into.old
+        → slice_index into.new i
+        ≡ hex_digit (four_at (slice_index words.now (i / 16)) (i % 16)) }
 {
     for (w, word) in words.iter().enumerate() {
         word_digits(*word).copy_to_slice(&mut into[16 * w..]);

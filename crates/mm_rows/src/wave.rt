@@ -1,10 +1,12 @@
-//! The rows, wave by wave: a theorem's row needs those of the theorems that it cites, which are of lower waves.
+//! The rows, wave by wave: a theorem's row needs those of the theorems that it cites, which are of
+//! lower waves.
 
-ghost use Rattle.std.specs.Prelude.{◌≡◌, ◌<◌, ◌≤◌, ◌+◌, ◌*◌, ℕ, List, length, slice_index, slice_index_or, IfOk, OnOk, All};
+ghost use Rattle.std.specs.Prelude.{◌≡◌, ◌<◌, ◌≤◌, ◌+◌, ◌*◌, ℕ, List, length, slice_index};
+ghost use Rattle.std.specs.Prelude.{slice_index_or, IfOk, OnOk, All};
 ghost use Rattle.std.specs.List.{AllZip, range_with_len};
 ghost use Rattle.mm_rows.specs.Bits.{words_for};
 ghost use Rattle.mm_cites.specs.Citing.{Cites, IsRising, theorem_at};
-ghost use Rattle.mm_spec.specs.Chains.{IsWave};
+ghost use Rattle.mm_spec.specs.Laws.Chains.{IsWave};
 ghost use Rattle.mm_rows.specs.BitRows.{IsBitRow, IsReady, AreBitRows, row_at};
 ghost use Rattle.mm_rows.specs.Marks.{IsMatrix};
 ghost use Rattle.mm_rows.specs.Waves.{IsTheorem, AreWaves, IsByWave, AreMade};
@@ -21,7 +23,8 @@ use std::thread::Threads;
 fn next_wave<A: Allocator>(citations: &Citations<A>, waves: &[u32], i: u32) -> u32
     requires within { i < length citations.now.theorems }
     requires waves { AreWaves citations.now i waves.now }
-    ensures wave { IsWave (Cites citations.now) (IsTheorem citations.now) (theorem_at citations.now i) result }
+    ensures wave { IsWave (Cites citations.now) (IsTheorem citations.now)
+        (theorem_at citations.now i) result }
     ensures small { result ≤ i }
 {
     let mut wave = 0u32;
@@ -75,7 +78,9 @@ fn wave_end(waves: &[u32], rows: &[u32], from: usize) -> usize
     requires from { from < length rows.now }
     ensures further { from < result }
     ensures within { result ≤ length rows.now }
-    ensures same { (p : ℕ) → from ≤ p → p < result → slice_index waves.now (slice_index rows.now p) ≡ slice_index waves.now (slice_index rows.now from) }
+    ensures same { (p : ℕ) → from ≤ p → p < result
+        → slice_index waves.now (slice_index rows.now p)
+        ≡ slice_index waves.now (slice_index rows.now from) }
 {
     let mut to = from + 1;
     while to < rows.len() && waves[rows[to] as usize] == waves[rows[from] as usize] {
@@ -105,8 +110,15 @@ fn bit_rows<R: Threads + Sync, A: Allocator + Copy + Send + Sync>(
     rows: &[u32],
 ) -> Result<Vec<Result<Vec<u64, A>, AllocError>, A>, AllocError>
     requires rising { IsRising columns.now }
-    requires ready { All (λ i. (i < length citations.now.theorems) × IsReady citations.now columns.now bits.now i) rows.now }
-    ensures { IfOk result (λ v. AllZip (λ k r. IfOk r (λ w. IsBitRow citations.now columns.now (theorem_at citations.now (slice_index rows.now k)) w.items)) (range_with_len 0 (length rows.now)) v.items) }
+    requires ready { All
+        (λ i. (i < length citations.now.theorems)
+        × IsReady citations.now columns.now bits.now i) rows.now }
+    ensures { IfOk result
+        (λ v. AllZip
+        (λ k r. IfOk r
+        (λ w. IsBitRow citations.now columns.now
+        (theorem_at citations.now (slice_index rows.now k)) w.items))
+        (range_with_len 0 (length rows.now)) v.items) }
 {
     (0..rows.len())
         .into_par_iter()
@@ -114,8 +126,12 @@ fn bit_rows<R: Threads + Sync, A: Allocator + Copy + Send + Sync>(
             |k: usize| -> Result<Vec<u64, A>, AllocError>
                 requires within { k < length rows.now }
                 requires rising { IsRising columns.now }
-                requires ready { All (λ i. (i < length citations.now.theorems) × IsReady citations.now columns.now bits.now i) rows.now }
-                ensures { IfOk result (λ w. IsBitRow citations.entry.now columns.entry.now (theorem_at citations.entry.now (slice_index rows.entry.now k)) w.items) }
+                requires ready { All
+                    (λ i. (i < length citations.now.theorems)
+                    × IsReady citations.now columns.now bits.now i) rows.now }
+                ensures { IfOk result
+                    (λ w. IsBitRow citations.entry.now columns.entry.now
+                    (theorem_at citations.entry.now (slice_index rows.entry.now k)) w.items) }
             { bit_row(alloc, citations, columns, bits, rows[k]) },
         )
         .with_min_len(1)
@@ -132,9 +148,13 @@ fn fill_side_by_side<R: Threads + Sync, A: Allocator + Copy + Send + Sync>(
     bits: &mut [u64],
 ) -> Result<(), AllocError>
     requires rising { IsRising columns.now }
-    requires size { length bits.old ≡ length citations.now.theorems * words_for (length columns.now) }
-    requires ready { All (λ i. (i < length citations.now.theorems) × IsReady citations.now columns.now bits.old i) rows.now }
-    ensures { OnOk result (AreMade citations.now columns.now rows.now (length rows.now) bits.old bits.new) }
+    requires size { length bits.old
+        ≡ length citations.now.theorems * words_for (length columns.now) }
+    requires ready { All
+        (λ i. (i < length citations.now.theorems)
+        × IsReady citations.now columns.now bits.old i) rows.now }
+    ensures { OnOk result
+        (AreMade citations.now columns.now rows.now (length rows.now) bits.old bits.new) }
 {
     let width = columns.len().div_ceil(64);
     let made = bit_rows(rt, alloc, citations, columns, bits, rows)?;
@@ -156,9 +176,13 @@ fn fill_in_turn<A: Allocator + Copy>(
     bits: &mut [u64],
 ) -> Result<(), AllocError>
     requires rising { IsRising columns.now }
-    requires size { length bits.old ≡ length citations.now.theorems * words_for (length columns.now) }
-    requires ready { All (λ i. (i < length citations.now.theorems) × IsReady citations.now columns.now bits.old i) rows.now }
-    ensures { OnOk result (AreMade citations.now columns.now rows.now (length rows.now) bits.old bits.new) }
+    requires size { length bits.old
+        ≡ length citations.now.theorems * words_for (length columns.now) }
+    requires ready { All
+        (λ i. (i < length citations.now.theorems)
+        × IsReady citations.now columns.now bits.old i) rows.now }
+    ensures { OnOk result
+        (AreMade citations.now columns.now rows.now (length rows.now) bits.old bits.new) }
 {
     let width = columns.len().div_ceil(64);
     for k in 0..rows.len() {
@@ -181,9 +205,13 @@ fn fill_wave<R: Threads + Sync, A: Allocator + Copy + Send + Sync>(
     bits: &mut [u64],
 ) -> Result<(), AllocError>
     requires rising { IsRising columns.now }
-    requires size { length bits.old ≡ length citations.now.theorems * words_for (length columns.now) }
-    requires ready { All (λ i. (i < length citations.now.theorems) × IsReady citations.now columns.now bits.old i) rows.now }
-    ensures { OnOk result (AreMade citations.now columns.now rows.now (length rows.now) bits.old bits.new) }
+    requires size { length bits.old
+        ≡ length citations.now.theorems * words_for (length columns.now) }
+    requires ready { All
+        (λ i. (i < length citations.now.theorems)
+        × IsReady citations.now columns.now bits.old i) rows.now }
+    ensures { OnOk result
+        (AreMade citations.now columns.now rows.now (length rows.now) bits.old bits.new) }
 {
     if rows.len() < FEWEST_FOR_THREADS {
         fill_in_turn(alloc, citations, columns, rows, bits)
@@ -204,8 +232,10 @@ fn fill_waves<R: Threads + Sync, A: Allocator + Copy + Send + Sync>(
     requires rising { IsRising columns.now }
     requires small { length waves.now < 2147483648 }
     requires waves { AreWaves citations.now (length citations.now.theorems) waves.now }
-    requires size { length bits.old ≡ length citations.now.theorems * words_for (length columns.now) }
-    ensures { OnOk result (AreBitRows citations.now columns.now (length citations.now.theorems) bits.new) }
+    requires size { length bits.old
+        ≡ length citations.now.theorems * words_for (length columns.now) }
+    ensures { OnOk result
+        (AreBitRows citations.now columns.now (length citations.now.theorems) bits.new) }
 {
     let rows = by_wave(alloc, waves)?;
     let mut from = 0;
@@ -225,7 +255,8 @@ fn all_rows<R: Threads + Sync, A: Allocator + Copy + Send + Sync>(
     columns: &[u32],
 ) -> Result<Vec<u64, A>, AllocError>
     requires { IsRising columns.now }
-    ensures { IfOk result (λ v. AreBitRows citations.now columns.now (length citations.now.theorems) v.items) }
+    ensures { IfOk result
+        (λ v. AreBitRows citations.now columns.now (length citations.now.theorems) v.items) }
 {
     let waves = waves(alloc, citations)?;
     let mut bits = Vec::new(alloc);
@@ -234,8 +265,8 @@ fn all_rows<R: Threads + Sync, A: Allocator + Copy + Send + Sync>(
     Ok(bits)
 }
 
-/// On which columns each theorem rests. The rows are made wave by wave, those of a wave by several threads where they are
-/// many.
+/// On which columns each theorem rests. The rows are made wave by wave, those of a wave by several
+/// threads where they are many.
 pub fn matrix<R: Threads + Sync, A: Allocator + Copy + Send + Sync>(
     rt: &R,
     alloc: A,

@@ -1,85 +1,101 @@
 -- The report of citations that is written is that of the definitions.
-use Rattle.std.proofs.Common.{◌≡◌, ℕ, zero, suc, ◌<◌, Bool, true, false, cond, List, [], ◌∷◌, length, map, get_or, All, refl, sym, ap, ◌∙◌, subst, arith, eq-eqb}
+use Rattle.std.proofs.Common.{◌≡◌, ℕ, zero, suc, ◌<◌, Bool, true, false, cond, List, [], ◌∷◌}
+use Rattle.std.proofs.Common.{length, map, get_or, All, refl, sym, ap, ◌∙◌, subst, arith, eq-eqb}
 use Rattle.std.specs.Prelude.{IsTrue, Option}
 use Rattle.std.specs.List.{AllZip, filter, list_any}
 use Rattle.std.specs.List.Sorted.{IsStrictlyIncreasing}
 use Rattle.std.proofs.lemmas.Bool.{or_left, or_right}
 use Rattle.std.proofs.lemmas.List.Kept.{IsStrictlyIncreasing-filter}
 use Rattle.std.proofs.lemmas.List.FromFn.{get_or-map-range_with_len, length-map-range_with_len}
-use Rattle.mm_spec.specs.Text.{Word}
+use Rattle.mm_spec.specs.Text.{Bytes}
 use Rattle.mm_spec.specs.Statement.{Statement}
-use Rattle.mm_spec.specs.Scope.{those, statement_at}
+use Rattle.mm_spec.specs.Scope.{statement_at}
 use Rattle.mm_spec.specs.Derivation.{is_member}
 use Rattle.mm_spec.specs.Citation.{is_assertion}
 use Rattle.mm_spec.specs.Report.{CitingRow, citation_report}
 use Rattle.mm_spec.specs.Request.{Request}
 use Rattle.mm_spec.specs.declared.Choice.{Choice}
 use Rattle.mm_spec.specs.declared.Choice.TheVariants.{Citations}
-use Rattle.mm_spec.specs.Output.{AreCited, IsCitingRowOf, theorems, columns, has_typecode, label_at, IsReportOf}
-use Rattle.mm_spec.proofs.Finds.{member-those, those-member}
+use Rattle.mm_spec.specs.Output.{AreCited, IsCitingRowOf, theorems, columns, has_typecode, label_at}
+use Rattle.mm_spec.specs.Output.{IsReportOf}
+use Rattle.mm_spec.proofs.Finds.{member-filter, filter-member}
 use Rattle.mm_work.specs.Citing.{Citing, theorem_at, list_at}
 use Rattle.mm_work.specs.Judged.{AllCited}
-use Rattle.mm_report.specs.Rows.{listed, citing_row, citing_rows, citation_report_of, AreCitationsOf}
+use Rattle.mm_report.specs.Rows.{listed, citing_row, citing_rows, citation_report_of}
+use Rattle.mm_report.specs.Rows.{AreCitationsOf}
 use Rattle.mm_run.proofs.RowsLaw.{zip-at}
-
--- ---- a selection keeps the order
-
-those_filtered : (p : ℕ → Bool) (xs : List ℕ) → filter p xs ≡ those p xs
-those_filtered p [] = refl
-those_filtered p (x ∷ xs) = by (p x) (those_filtered p xs)
-  where
-    by : (b : Bool) → filter p xs ≡ those p xs → cond b (x ∷ filter p xs) (filter p xs) ≡ elim b [ true ↦ x ∷ those p xs | false ↦ those p xs ]
-    by true e = ap (λ l. x ∷ l) e
-    by false e = e
-
-those_rising : (p : ℕ → Bool) (xs : List ℕ) → IsStrictlyIncreasing xs → IsStrictlyIncreasing (those p xs)
-those_rising p xs h = subst IsStrictlyIncreasing (those_filtered p xs) (IsStrictlyIncreasing-filter p xs h)
 
 at_member : (xs : List ℕ) (i d : ℕ) → i < length xs → is_member xs (get_or xs i d) ≡ true
 at_member [] i d h = absurd (omega arith)
 at_member (y ∷ xs) zero d h = or_left _ (is_member xs y) (eq-eqb y y refl)
-at_member (y ∷ xs) (suc i) d h = or_right _ (is_member xs (get_or xs i d)) (at_member xs i d (omega arith))
+at_member (y ∷ xs) (suc i) d h =
+    or_right _ (is_member xs (get_or xs i d)) (at_member xs i d (omega arith))
 
-module _ (db : List Statement) (request : Request) (c : Citing) (cited : AllCited db request.essential c) where
+module _ (db : List Statement) (request : Request) (c : Citing)
+    (cited : AllCited db request.essential c) where
   -- the lists are those of the database
   pub citations-of : AreCitationsOf db c
   citations-of = record {
     theorems_are = cited.theorems_are;
-    assertions = λ i l k d m. ((cited.exact i l (get_or (list_at c i) k d)).0 (at_member (list_at c i) k d m)).0;
+    assertions =
+        λ i l k d m.
+        ((cited.exact i l (get_or (list_at c i) k d)).0 (at_member (list_at c i) k d m)).0;
   }
 
   -- what is listed of a theorem is what it cites
-  are-cited : (i : ℕ) → i < length c.theorems → AreCited db request (theorem_at c i) (listed db request.only (list_at c i))
+  are-cited : (i : ℕ) → i < length c.theorems
+      → AreCited db request (theorem_at c i) (listed db request.only (list_at c i))
   are-cited i l = record {
-    rising = those_rising is_chosen (list_at c i) (cited.rising i l);
+    rising = IsStrictlyIncreasing-filter is_chosen (list_at c i) (cited.rising i l);
     cited = λ a. (
-      λ e. let p = member-those is_chosen (list_at c i) a e in ((cited.exact i l a).0 p.1, p.0),
-      λ h. those-member is_chosen (list_at c i) a h.1 ((cited.exact i l a).1 h.0),
+      λ e. let p = member-filter is_chosen (list_at c i) a e in ((cited.exact i l a).0 p.1, p.0),
+      λ h. filter-member is_chosen (list_at c i) a h.1 ((cited.exact i l a).1 h.0),
     );
   }
     where
       is_chosen : ℕ → Bool
       is_chosen a = list_any (has_typecode request.only) (statement_at db a)
 
-  citing-rows-are : AllZip (IsCitingRowOf db request) (theorems db) (citing_rows db request.only c (map (label_at db) (theorems db)))
+  citing-rows-are : AllZip (IsCitingRowOf db request) (theorems db)
+      (citing_rows db request.only c (map (label_at db) (theorems db)))
   citing-rows-are =
       let names = map (label_at db) (theorems db) in
       let f = λ (i : ℕ). citing_row db request.only c (get_or names i []) i in
       let s = ap (λ (ts : List ℕ). length ts) cited.theorems_are in
       let n = length-map-range_with_len f 0 (length c.theorems) in
-      zip-at (IsCitingRowOf db request) (theorems db) (citing_rows db request.only c names) 0 (f 0) (omega (arith, n, s))
+      zip-at (IsCitingRowOf db request) (theorems db) (citing_rows db request.only c names) 0 (f 0)
+      (omega (arith, n, s))
       (λ i l.
       let inside : i < length c.theorems = omega (arith, s, l) in
-      subst (λ (x : CitingRow). IsCitingRowOf db request (get_or (theorems db) i 0) x) (sym (get_or-map-range_with_len f 0 (length c.theorems) i i (f 0) inside (omega arith)))
-      (mapped (theorems db) i l, (listed db request.only (list_at c i), subst (λ t. AreCited db request t (listed db request.only (list_at c i))) (ap (λ ts. get_or ts i 0) cited.theorems_are) (are-cited i inside), refl)))
+      subst (λ (x : CitingRow). IsCitingRowOf db request (get_or (theorems db) i 0) x)
+      (sym (get_or-map-range_with_len f 0 (length c.theorems) i i (f 0) inside (omega arith))) (
+        mapped (theorems db) i l,
+        (
+          listed db request.only (list_at c i),
+          subst
+              (λ t. AreCited db request t (listed db request.only (list_at c i)))
+              (ap (λ ts. get_or ts i 0) cited.theorems_are) (are-cited i inside),
+          refl,
+        ),
+      ))
     where
-      mapped : (ts : List ℕ) (i : ℕ) → i < length ts → get_or (map (label_at db) ts) i [] ≡ label_at db (get_or ts i 0)
+      mapped : (ts : List ℕ) (i : ℕ) → i < length ts
+          → get_or (map (label_at db) ts) i [] ≡ label_at db (get_or ts i 0)
       mapped [] i l = absurd (omega arith)
       mapped (t ∷ ts) zero l = refl
       mapped (t ∷ ts) (suc i) l = mapped ts i (omega arith)
 
   -- what is written of a database without a fault
-  pub is-citation-report : (opened : Option ℕ) (axioms : List ℕ) → axioms ≡ columns db request.only → request.choice ≡ Citations → IsReportOf request.choice db opened request (citation_report_of db opened request.form request.only axioms c)
+  pub is-citation-report : (opened : Option ℕ) (axioms : List ℕ) → axioms ≡ columns db request.only
+      → request.choice ≡ Citations
+      → IsReportOf request.choice db opened request
+      (citation_report_of db opened request.form request.only axioms c)
   is-citation-report opened axioms is choice =
-      subst (λ (o : Choice). IsReportOf o db opened request (citation_report_of db opened request.form request.only axioms c)) (sym choice)
-      (citing_rows db request.only c (map (label_at db) (theorems db)), citing-rows-are, ap (λ (l : List ℕ). citation_report request.form opened (length l) (citing_rows db request.only c (map (label_at db) (theorems db)))) is)
+      subst (λ (o : Choice). IsReportOf o db opened request
+      (citation_report_of db opened request.form request.only axioms c)) (sym choice) (
+        citing_rows db request.only c (map (label_at db) (theorems db)),
+        citing-rows-are,
+        ap
+            (λ (l : List ℕ). citation_report request.form opened (length l)
+            (citing_rows db request.only c (map (label_at db) (theorems db)))) is,
+      )

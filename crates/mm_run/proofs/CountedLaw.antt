@@ -1,27 +1,42 @@
 -- A report of the statements as they count, with what it tells of open theorems, is the output.
-use Rattle.std.proofs.Common.{◌≡◌, ◌∙◌, ℕ, Bool, true, false, ◌&&◌, List, length, Option, Some, None, refl, ap, ap₂, subst, inr, if◌then◌else◌}
+use Rattle.std.proofs.Common.{◌≡◌, ◌∙◌, ℕ, Bool, true, false, ◌&&◌, List, length, Option, Some}
+use Rattle.std.proofs.Common.{None, refl, ap, ap₂, subst, inr, if◌then◌else◌}
 use Rattle.std.specs.Prelude.{count_by}
 use Rattle.std.specs.List.{list_any}
-use Rattle.mm_spec.specs.Text.{Word}
+use Rattle.mm_spec.specs.Text.{Bytes}
 use Rattle.mm_spec.specs.Opened.{is_open, counted}
 use Rattle.mm_spec.specs.Scope.{statement_at}
 use Rattle.mm_spec.specs.Request.{Request}
 use Rattle.mm_spec.specs.Output.{columns, open_columns, lexed_of, HasNoFault, IsReportOf, IsOutput}
 use Rattle.mm_stmt.specs.Database.{Known}
 use Rattle.mm_report.specs.Rows.{open_theorems}
-use Rattle.mm_run.specs.Ends.{IsCounted}
+use Rattle.mm_run.specs.Counted.{IsCounted}
 
-told : (d : Known) (w : Bool) (only : Option Word) (axioms : List ℕ) → IsCounted w d → axioms ≡ columns d.statements only
-    → open_theorems w d axioms ≡ (if w then Some (count_by (λ a. list_any is_open (statement_at d.read a)) (columns (counted true d.read) only)) else None)
-told d true only axioms h is = ap₂ (λ (b : Bool) (xs : List ℕ). Some (count_by (λ a. b && list_any is_open (statement_at d.read a)) xs)) h.flag (is ∙ ap (λ db. columns db only) h.statements)
+told : (d : Known) (w : Bool) (only : Option Bytes) (axioms : List ℕ) → IsCounted w d
+    → axioms ≡ columns d.statements only
+    → open_theorems w d axioms
+    ≡ (if w then Some
+    (count_by (λ a. list_any is_open (statement_at d.read a))
+    (columns (counted true d.read) only)) else None)
+told d true only axioms h is =
+    ap₂ (λ (b : Bool) (xs : List ℕ). Some
+    (count_by (λ a. b && list_any is_open (statement_at d.read a)) xs)) h.flag (is
+    ∙ ap (λ db. columns db only) h.statements)
 told d false only axioms h is = refl
 
-pub written : (text : List ℕ) (request : Request) (d : Known) (axioms bytes : List ℕ) → IsCounted request.with_open d → HasNoFault (length text) (lexed_of text) request.with_open d.read → axioms ≡ columns d.statements request.only
-    → IsReportOf request.choice d.statements (open_theorems request.with_open d axioms) request bytes → IsOutput text request bytes
+pub written : (text : List ℕ) (request : Request) (d : Known) (axioms bytes : List ℕ)
+    → IsCounted request.with_open d
+    → HasNoFault (length text) (lexed_of text) request.with_open d.read
+    → axioms ≡ columns d.statements request.only
+    → IsReportOf request.choice d.statements
+    (open_theorems request.with_open d axioms) request bytes
+    → IsOutput text request bytes
 written text request d axioms bytes h sound is report =
     inr (
       d.read,
       sound,
-      subst (λ o. IsReportOf request.choice (counted request.with_open d.read) o request bytes) (told d request.with_open request.only axioms h is)
-          (subst (λ db. IsReportOf request.choice db (open_theorems request.with_open d axioms) request bytes) h.statements report),
+      subst (λ o. IsReportOf request.choice (counted request.with_open d.read) o request bytes)
+          (told d request.with_open request.only axioms h is)
+          (subst (λ db. IsReportOf request.choice db
+          (open_theorems request.with_open d axioms) request bytes) h.statements report),
     )

@@ -1,11 +1,15 @@
 -- The end of a run is that of the text that was read.
 use Rattle.std.proofs.Common.{ℕ, List, Option}
 use Rattle.mm_spec.specs.Request.{Request}
-use Rattle.mm_run.specs.Ends.{Gave, Answers, Ends}
-use Rattle.mm_run.specs.declared.RunEnd.{RunEnd}
-use Rattle.mm_run.specs.declared.RunEnd.TheVariants.{Accepted, Refused, ReadFailed, WriteFailed, NoMemory}
+use Rattle.mm_spec.specs.Ends.{Gave, Answers, Ends}
+use Rattle.mm_spec.specs.declared.RunEnd.{RunEnd}
+use Rattle.mm_spec.specs.declared.RunEnd.TheVariants.{Accepted, Refused, ReadFailed, WriteFailed}
+use Rattle.mm_spec.specs.declared.RunEnd.TheVariants.{NoMemory}
 
-pub ends-so : (end : RunEnd) (text : List ℕ) (request : Request) (before after held holds : Option (List ℕ)) → Gave before after text → Answers end text request held holds → Ends end request before after held holds
+pub ends-so : (end : RunEnd) (text : List ℕ) (request : Request)
+    → (before after held holds : Option (List ℕ))
+    → Gave before after text → Answers end text request held holds
+    → Ends end request before after held holds
 ends-so Accepted text request before after held holds g a = (text, g, a)
 ends-so (Refused f) text request before after held holds g a = (text, g, a)
 ends-so ReadFailed text request before after held holds g a = absurd a

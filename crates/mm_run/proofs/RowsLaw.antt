@@ -1,5 +1,6 @@
 -- The report that is written is that of the definitions: a mark stands for a chain of citations.
-use Rattle.std.proofs.Common.{◌≡◌, ℕ, zero, suc, ◌<◌, Bool, false, List, [], ◌∷◌, length, map, get_or, Option, refl, sym, ap, subst, arith, ◌↔◌}
+use Rattle.std.proofs.Common.{◌≡◌, ℕ, zero, suc, ◌<◌, Bool, false, List, [], ◌∷◌, length, map}
+use Rattle.std.proofs.Common.{get_or, Option, refl, sym, ap, subst, arith, ◌↔◌}
 use Rattle.std.specs.Prelude.{Decides}
 use Rattle.std.specs.List.{AllZip}
 use Rattle.std.proofs.lemmas.List.FromFn.{get_or-map-range_with_len, length-map-range_with_len}
@@ -17,28 +18,46 @@ use Rattle.mm_report.specs.Rows.{row_of, rows_of, marks_of, report_of}
 use Rattle.mm_work.specs.Judged.{AllCited, Shows}
 
 -- two lists agree at each place
-pub zip-at : {A B : Type 0} (R : A → B → Type 0) (xs : List A) (ys : List B) (d : A) (e : B) → length xs ≡ length ys → ((i : ℕ) → i < length xs → R (get_or xs i d) (get_or ys i e)) → AllZip R xs ys
+pub zip-at : {A B : Type 0} (R : A → B → Type 0) (xs : List A) (ys : List B) (d : A) (e : B)
+    → length xs ≡ length ys → ((i : ℕ) → i < length xs → R (get_or xs i d) (get_or ys i e))
+    → AllZip R xs ys
 zip-at R [] [] d e n h = tt
 zip-at R [] (y ∷ ys) d e n h = absurd (omega (arith, n))
 zip-at R (x ∷ xs) [] d e n h = absurd (omega (arith, n))
-zip-at R (x ∷ xs) (y ∷ ys) d e n h = (h 0 (omega arith), zip-at R xs ys d e (omega (arith, n)) (λ i l. h (suc i) (omega arith)))
+zip-at R (x ∷ xs) (y ∷ ys) d e n h =
+    (h 0 (omega arith), zip-at R xs ys d e (omega (arith, n)) (λ i l. h (suc i) (omega arith)))
 
 decides : {P Q : Type 0} (b : Bool) → Decides b P → P ↔ Q → Decides b Q
 decides b h e = ((λ t. e.0 (h.0 t)), (λ q. h.1 (e.1 q)))
 
-module _ (db : List Statement) (request : Request) (c : Citing) (m : Marks) (same : c.theorems ≡ theorems db) (shows : Shows db request.essential c) (h : IsMatrix c (columns db request.only) m) where
-  marks-zip : (i : ℕ) → i < length (theorems db) → AllZip (λ a b. Decides b (proof.RestsOn db request.essential (get_or (theorems db) i 0) a)) (columns db request.only) (marks_of m i)
+module _ (db : List Statement) (request : Request) (c : Citing) (m : Marks)
+    (same : c.theorems ≡ theorems db) (shows : Shows db request.essential c)
+    (h : IsMatrix c (columns db request.only) m) where
+  marks-zip : (i : ℕ) → i < length (theorems db)
+      → AllZip (λ a b. Decides b (proof.RestsOn db request.essential (get_or (theorems db) i 0) a))
+      (columns db request.only) (marks_of m i)
   marks-zip i l =
       let n = length-map-range_with_len (mark m i) 0 m.columns in
       let w = h.columns_are in
-      zip-at (λ a b. Decides b (proof.RestsOn db request.essential (get_or (theorems db) i 0) a)) (columns db request.only) (marks_of m i) 0 false (omega (arith, n, w))
+      zip-at (λ a b. Decides b (proof.RestsOn db request.essential (get_or (theorems db) i 0) a))
+      (columns db request.only) (marks_of m i) 0 false (omega (arith, n, w))
       (λ j k.
       let inside : i < length c.theorems = subst (λ (ts : List ℕ). i < length ts) (sym same) l in
-      let d = decides (mark m i j) (h.marked i j inside k) (chains_alike (Cites c) (proof.Cites db request.essential) shows.same (theorem_at c i) (get_or (columns db request.only) j 0)) in
-      subst (λ b. Decides b (proof.RestsOn db request.essential (get_or (theorems db) i 0) (get_or (columns db request.only) j 0))) (sym (get_or-map-range_with_len (mark m i) 0 m.columns j j false (omega (arith, k, w)) (omega arith)))
-      (subst (λ t. Decides (mark m i j) (proof.RestsOn db request.essential t (get_or (columns db request.only) j 0))) (ap (λ ts. get_or ts i 0) same) d))
+      let d =
+      decides (mark m i j) (h.marked i j inside k)
+      (chains_alike (Cites c) (proof.Cites db request.essential) shows.same (theorem_at c i)
+      (get_or (columns db request.only) j 0)) in
+      subst (λ b. Decides b
+      (proof.RestsOn db request.essential (get_or (theorems db) i 0)
+      (get_or (columns db request.only) j 0)))
+      (sym (get_or-map-range_with_len (mark m i) 0 m.columns j j false (omega (arith, k, w))
+      (omega arith)))
+      (subst (λ t. Decides (mark m i j)
+      (proof.RestsOn db request.essential t (get_or (columns db request.only) j 0)))
+      (ap (λ ts. get_or ts i 0) same) d))
 
-  pub rows-are : AllZip (IsRowOf db request) (theorems db) (rows_of m (map (label_at db) (theorems db)))
+  pub rows-are : AllZip (IsRowOf db request) (theorems db)
+      (rows_of m (map (label_at db) (theorems db)))
   rows-are =
       let names = map (label_at db) (theorems db) in
       let f = λ (i : ℕ). row_of m (get_or names i []) i in
@@ -47,16 +66,23 @@ module _ (db : List Statement) (request : Request) (c : Citing) (m : Marks) (sam
       let n = length-map-range_with_len f 0 m.rows in
       zip-at (IsRowOf db request) (theorems db) (rows_of m names) 0 (f 0) (omega (arith, n, r, s))
       (λ i l.
-      subst (λ (x : Row). IsRowOf db request (get_or (theorems db) i 0) x) (sym (get_or-map-range_with_len f 0 m.rows i i (f 0) (omega (arith, r, s, l)) (omega arith)))
+      subst (λ (x : Row). IsRowOf db request (get_or (theorems db) i 0) x)
+      (sym (get_or-map-range_with_len f 0 m.rows i i (f 0) (omega (arith, r, s, l))
+      (omega arith)))
       (mapped (theorems db) i l, marks-zip i l))
     where
-      mapped : (ts : List ℕ) (i : ℕ) → i < length ts → get_or (map (label_at db) ts) i [] ≡ label_at db (get_or ts i 0)
+      mapped : (ts : List ℕ) (i : ℕ) → i < length ts
+          → get_or (map (label_at db) ts) i [] ≡ label_at db (get_or ts i 0)
       mapped [] i l = absurd (omega arith)
       mapped (t ∷ ts) zero l = refl
       mapped (t ∷ ts) (suc i) l = mapped ts i (omega arith)
 
 -- the report of rows is that of a choice other than the citations
-reports : (db : List Statement) (opened : Option ℕ) (request : Request) (choice : Choice) (rows : List Row) → (choice ≡ Citations → ⊥) → AllZip (IsRowOf db request) (theorems db) rows → IsReportOf choice db opened request (report request.form opened (map (label_at db) (columns db request.only)) rows choice)
+reports : (db : List Statement) (opened : Option ℕ) (request : Request) (choice : Choice)
+    → (rows : List Row)
+    → (choice ≡ Citations → ⊥) → AllZip (IsRowOf db request) (theorems db) rows
+    → IsReportOf choice db opened request
+    (report request.form opened (map (label_at db) (columns db request.only)) rows choice)
 reports db opened request All rows other h = (rows, h, refl)
 reports db opened request Matrix rows other h = (rows, h, refl)
 reports db opened request Counts rows other h = (rows, h, refl)
@@ -64,10 +90,17 @@ reports db opened request Usage rows other h = (rows, h, refl)
 reports db opened request Citations rows other h = absurd (other refl)
 
 -- what is written of a database without a fault
-pub is-report : (request : Request) (db : List Statement) (opened : Option ℕ) (c : Citing) (axioms : List ℕ) (m : Marks)
-    → AllCited db request.essential c → axioms ≡ columns db request.only → IsMatrix c axioms m → (request.choice ≡ Citations → ⊥) → IsReportOf request.choice db opened request (report_of db opened request.form axioms m request.choice)
+pub is-report : (request : Request) (db : List Statement) (opened : Option ℕ) (c : Citing)
+    → (axioms : List ℕ) (m : Marks)
+    → AllCited db request.essential c → axioms ≡ columns db request.only → IsMatrix c axioms m
+    → (request.choice ≡ Citations → ⊥)
+    → IsReportOf request.choice db opened request
+    (report_of db opened request.form axioms m request.choice)
 is-report request db opened c axioms m cited is h other =
     let h' = subst (λ (l : List ℕ). IsMatrix c l m) is h in
     let rows = rows_of m (map (label_at db) (theorems db)) in
-    let here = reports db opened request request.choice rows other (rows-are db request c m cited.theorems_are cited.shows h') in
-    subst (λ (l : List ℕ). IsReportOf request.choice db opened request (report request.form opened (map (label_at db) l) rows request.choice)) (sym is) here
+    let here =
+    reports db opened request request.choice rows other
+    (rows-are db request c m cited.theorems_are cited.shows h') in
+    subst (λ (l : List ℕ). IsReportOf request.choice db opened request
+    (report request.form opened (map (label_at db) l) rows request.choice)) (sym is) here

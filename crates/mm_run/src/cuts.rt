@@ -20,8 +20,8 @@ fn within(places: &[u32], len: usize) -> usize
     places.len()
 }
 
-/// The cuts of a text of this length, at most 2,147,483,648 bytes; places past its end are dropped. Refused only where
-/// memory is.
+/// The cuts of a text of this length, at most 2,147,483,648 bytes; places past its end are dropped.
+/// Refused only where memory is.
 pub fn cuts_of<A: Allocator + Copy>(
     cutting: &Cutting<A>,
     alloc: A,

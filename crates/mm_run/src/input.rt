@@ -1,12 +1,13 @@
 //! Reading a text.
 
 ghost use Rattle.std.specs.Prelude.{◌≡◌, ◌≤◌, ◌<◌, OnOk, vec_len, length};
-ghost use Rattle.mm_run.specs.Ends.{Gave, reading_limit};
+ghost use Rattle.mm_spec.specs.Ends.{Gave, reading_limit};
 
 use std::alloc::{AllocError, Allocator};
 use std::io::Read;
 
-/// The most bytes that are read: one more than a text may have, so that a longer text is seen to be too long.
+/// The most bytes that are read: one more than a text may have, so that a longer text is seen to be
+/// too long.
 pub const READING_LIMIT: usize = 2_147_483_648;
 
 /// How many bytes are asked for at a time.
@@ -30,7 +31,8 @@ impl From<AllocError> for ReadRefused {
     }
 }
 
-/// Reads to the end, or to the limit. A read that answers an error of any kind is a failure and is not tried again.
+/// Reads to the end, or to the limit. A read that answers an error of any kind is a failure and is
+/// not tried again.
 pub fn read_all<R: Read, A: Allocator>(
     from: &mut R,
     text: &mut Vec<u8, A>,

@@ -5,7 +5,8 @@ ghost use Rattle.mm_spec.specs.declared.Choice.TheVariants as choices;
 ghost use Rattle.mm_spec.specs.Lexed.{lexical_fault, tokens_of};
 ghost use Rattle.mm_spec.specs.Statement.{Statement};
 ghost use Rattle.mm_spec.specs.Output.{lexed_of, FirstFault, HasNoFault, IsRead};
-ghost use Rattle.mm_run.specs.Ends.{Answers, IsCounted, reading_limit};
+ghost use Rattle.mm_spec.specs.Ends.{Answers, reading_limit};
+ghost use Rattle.mm_run.specs.Counted.{IsCounted};
 ghost use Rattle.mm_work.specs.Judged.{AllCited, IsFirstFault};
 ghost use Rattle.mm_plan.specs.Plans.{IsLawful, request_of};
 
@@ -26,7 +27,8 @@ use std::thread::Threads;
 /// Writes the refusal of the text for its first fault.
 fn refuse<A: Allocator, W: Write>(text: &[u8], fault: Fault, plan: &Plan<A>, to: &mut W) -> RunEnd
     requires { FirstFault (length text.now) (lexed_of text.now) plan.now.with_open fault }
-    ensures { Answers result text.now (request_of plan.now) (W.contents to.old) (W.contents to.new) }
+    ensures { Answers result text.now (request_of plan.now) (W.contents to.old)
+        (W.contents to.new) }
 {
     let _ = plan.workers;
     match write_refusal(to, text, &fault) {
@@ -35,7 +37,8 @@ fn refuse<A: Allocator, W: Write>(text: &[u8], fault: Fault, plan: &Plan<A>, to:
     }
 }
 
-/// Writes the report of what each theorem of a database without a fault cites. No table is made for it.
+/// Writes the report of what each theorem of a database without a fault cites. No table is made for
+/// it.
 fn report_citations<'a, A: Allocator + Copy, W: Write>(
     alloc: A,
     database: &Database<'a, A>,
@@ -43,11 +46,13 @@ fn report_citations<'a, A: Allocator + Copy, W: Write>(
     plan: &Plan<A>,
     to: &mut W,
 ) -> RunEnd
-    requires sound { HasNoFault (length database.now.text) (lexed_of database.now.text) plan.now.with_open database.now.read }
+    requires sound { HasNoFault (length database.now.text)
+        (lexed_of database.now.text) plan.now.with_open database.now.read }
     requires counted { IsCounted plan.now.with_open database.now }
     requires cited { AllCited database.now.statements plan.now.essential citations.now }
     requires choice { plan.now.choice ≡ choices.Citations }
-    ensures { Answers result database.now.text (request_of plan.now) (W.contents to.old) (W.contents to.new) }
+    ensures { Answers result database.now.text (request_of plan.now) (W.contents to.old)
+        (W.contents to.new) }
 {
     let Ok(columns) = Columns::new(alloc, database, plan.typecode()) else {
         return RunEnd::NoMemory;
@@ -75,11 +80,13 @@ fn report_rests<'a, R: Threads + Sync, A: Allocator + Copy + Send + Sync, W: Wri
     plan: &Plan<A>,
     to: &mut W,
 ) -> RunEnd
-    requires sound { HasNoFault (length database.now.text) (lexed_of database.now.text) plan.now.with_open database.now.read }
+    requires sound { HasNoFault (length database.now.text)
+        (lexed_of database.now.text) plan.now.with_open database.now.read }
     requires counted { IsCounted plan.now.with_open database.now }
     requires cited { AllCited database.now.statements plan.now.essential citations.now }
     requires choice { plan.now.choice ≡ choices.Citations → ⊥ }
-    ensures { Answers result database.now.text (request_of plan.now) (W.contents to.old) (W.contents to.new) }
+    ensures { Answers result database.now.text (request_of plan.now) (W.contents to.old)
+        (W.contents to.new) }
 {
     let Ok(columns) = Columns::new(alloc, database, plan.typecode()) else {
         return RunEnd::NoMemory;
@@ -110,10 +117,12 @@ fn report<'a, R: Threads + Sync, A: Allocator + Copy + Send + Sync, W: Write>(
     plan: &Plan<A>,
     to: &mut W,
 ) -> RunEnd
-    requires sound { HasNoFault (length database.now.text) (lexed_of database.now.text) plan.now.with_open database.now.read }
+    requires sound { HasNoFault (length database.now.text)
+        (lexed_of database.now.text) plan.now.with_open database.now.read }
     requires counted { IsCounted plan.now.with_open database.now }
     requires cited { AllCited database.now.statements plan.now.essential citations.now }
-    ensures { Answers result database.now.text (request_of plan.now) (W.contents to.old) (W.contents to.new) }
+    ensures { Answers result database.now.text (request_of plan.now) (W.contents to.old)
+        (W.contents to.new) }
 {
     if plan.choice == Choice::Citations {
         report_citations(alloc, database, citations, plan, to)
@@ -133,14 +142,16 @@ fn database_of<'a, R: Threads + Sync, A: Allocator + Copy + Send + Sync>(
     requires lawful { IsLawful plan.now }
     ensures text { IfOk result (λ database. database.text ≡ text.now) }
     ensures counted { IfOk result (IsCounted plan.now.with_open) }
-    ensures read { IfOk result (λ database. IsRead (length text.now) (lexed_of text.now) database.read database.fault) }
+    ensures read { IfOk result
+        (λ database. IsRead (length text.now) (lexed_of text.now) database.read database.fault) }
 {
     let cuts = cuts_of(&plan.cuts, alloc, text.len())?;
     let lexed = lex(rt, alloc, text, &cuts)?;
     read(alloc, text, lexed, plan.with_open)
 }
 
-/// Writes what the text and the choice of report define: the refusal of the first fault, or the report.
+/// Writes what the text and the choice of report define: the refusal of the first fault, or the
+/// report.
 pub fn answer<R: Threads + Wait + Sync, A: Allocator + Copy + Send + Sync, W: Write>(
     rt: &R,
     alloc: A,
@@ -150,7 +161,8 @@ pub fn answer<R: Threads + Wait + Sync, A: Allocator + Copy + Send + Sync, W: Wr
 ) -> RunEnd
     requires few { length text.now ≤ reading_limit }
     requires lawful { IsLawful plan.now }
-    ensures { Answers result text.now (request_of plan.now) (W.contents to.old) (W.contents to.new) }
+    ensures { Answers result text.now (request_of plan.now) (W.contents to.old)
+        (W.contents to.new) }
 {
     let Ok(database) = database_of(rt, alloc, text, plan) else {
         return RunEnd::NoMemory;

@@ -1,17 +1,24 @@
--- What is kept behind one lawful statement more.
-use Rattle.std.proofs.Common.{Result, Ok, Err, OnOk, ◌≡◌, ℕ, ◌<◌, Bool, true, false, ◌||◌, not, List, [], ◌∷◌, ◌++◌, length, take, flat_map, bytes_eq, Option, None, Some, is_some, refl, sym, ap, ◌∙◌, subst, le_refl, take_all, append-nil, true≢false, if◌then◌else◌}
+-- What is kept after one lawful statement more.
+use Rattle.std.proofs.Common.{Result, Ok, Err, OnOk, ◌≡◌, ℕ, ◌<◌, Bool, true, false, ◌||◌, not}
+use Rattle.std.proofs.Common.{List, [], ◌∷◌, ◌++◌, length, take, flat_map, bytes_eq, Option, None}
+use Rattle.std.proofs.Common.{Some, is_some, refl, sym, ap, ◌∙◌, subst, le_refl, take_all}
+use Rattle.std.proofs.Common.{append-nil, true≢false, if◌then◌else◌}
 use Rattle.std.proofs.lemmas.Slice.Eq.{bytes_eq-Decides}
 use Rattle.std.specs.List.{list_any}
-use Rattle.mm_spec.specs.Text.{Word, Token, is_in, words}
-use Rattle.mm_spec.specs.Statement.{Statement, constants, variables, disjoint, floating, essential, axiomatic, provable, opening, closing, is_closing, label_of}
-use Rattle.mm_spec.specs.Scope.{Names, names_before, depth, active_statements, variables_of, constants_of, label_words, typings_of}
-use Rattle.mm_spec.specs.Lawful.{least, scope_faults, at, at_each, when, is_empty, constant_codes, variable_codes, label_faults, floating_faults}
+use Rattle.mm_spec.specs.Text.{Bytes, Token, is_in, words}
+use Rattle.mm_spec.specs.Statement.{Statement, constants, variables, disjoint, floating, essential}
+use Rattle.mm_spec.specs.Statement.{axiomatic, provable, opening, closing, is_closing, label_of}
+use Rattle.mm_spec.specs.Scope.{Names, names_before, depth, active_statements, variables_of}
+use Rattle.mm_spec.specs.Scope.{constants_of, label_words, typings_of}
+use Rattle.mm_spec.specs.Lawful.{least, scope_faults, at, at_each, when, is_empty, constant_codes}
+use Rattle.mm_spec.specs.Lawful.{variable_codes, label_faults, floating_faults}
 use Rattle.mm_spec.specs.declared.Word as place
 use Rattle.mm_spec.specs.declared.Code.TheVariants.{ConstantInBlock, EmptyDeclaration}
 use Rattle.std.specs.Prelude.{nat_lt}
 use Rattle.mm_outline.specs.Blocks.{Lists, IsBlocks, never, pushed}
 use Rattle.mm_scope.specs.Judge.{Entry, entry_of, declared_entry, typed_entry}
-use Rattle.mm_scope.specs.Known.{IsKnown, is_other, is_constant_entry, is_variable_entry, entry_after, label_after}
+use Rattle.mm_scope.specs.Known.{IsKnown, is_other, is_constant_entry, is_variable_entry}
+use Rattle.mm_scope.specs.Known.{entry_after, label_after}
 use Rattle.mm_outline.specs.Parts.{made}
 use Rattle.mm_scope.specs.Keeps.{Keeps}
 use Rattle.mm_scope.specs.declared.names.Symbol.{Symbol}
@@ -19,14 +26,15 @@ use Rattle.mm_outline.specs.declared.parts.Kind.{Kind}
 use Rattle.mm_outline.specs.declared.parts.Kind.TheVariants as kind
 use Rattle.mm_outline.proofs.BlocksLaw.{blocks_plain, blocks_opening, blocks_closing}
 use Rattle.mm_scope.proofs.JudgeLaw.{bytes_eq-sym}
-use Rattle.mm_outline.proofs.Faultless.{none_least}
+use Rattle.mm_outline.proofs.Faultless.{none_least, append_none, constant_new, variable_new}
+use Rattle.mm_outline.proofs.Faultless.{floating_new}
 use Rattle.mm_scope.proofs.KnowsLaw.{none_active}
 use Rattle.mm_outline.proofs.Among.{typed_in}
 use Rattle.mm_scope.proofs.LabelsLaw.{labels_after, label_unused}
-use Rattle.mm_scope.proofs.KnownLaw.{known_same, known_constant, known_variable, known_typed, in_more}
-use Rattle.mm_outline.proofs.Faultless.{append_none, constant_new, variable_new, floating_new}
+use Rattle.mm_scope.proofs.KnownLaw.{known_same, known_constant, known_variable, known_typed}
+use Rattle.mm_scope.proofs.KnownLaw.{in_more}
 
-module _ (db : List Statement) (few : length db < never) (w : Word) where
+module _ (db : List Statement) (few : length db < never) (w : Bytes) where
   abbrev n : Names
   n = names_before db (length db)
 
@@ -34,71 +42,120 @@ module _ (db : List Statement) (few : length db < never) (w : Word) where
   all = take_all (length db) db (le_refl (length db))
 
   -- with no entry, or that of a variable
-  no_constant : (x : Option Entry) → IsKnown db w x → is_in w n.constants ≡ false → is_constant_entry x ≡ false
+  no_constant : (x : Option Entry) → IsKnown db w x → is_in w n.constants ≡ false
+      → is_constant_entry x ≡ false
   no_constant x k e = sym k.constant ∙ sym (ap (λ xs. is_in w (flat_map constants_of xs)) all) ∙ e
 
-  no_variable : (x : Option Entry) → IsKnown db w x → is_in w n.all_variables ≡ false → is_variable_entry x ≡ false
+  no_variable : (x : Option Entry) → IsKnown db w x → is_in w n.all_variables ≡ false
+      → is_variable_entry x ≡ false
   no_variable x k e = sym k.variable ∙ sym (ap (λ xs. is_in w (flat_map variables_of xs)) all) ∙ e
 
-  in_nil : (xs : List Word) (b : Bool) → is_in w xs ≡ b → is_in w (xs ++ []) ≡ b
+  in_nil : (xs : List Bytes) (b : Bool) → is_in w xs ≡ b → is_in w (xs ++ []) ≡ b
   in_nil xs b e = ap (is_in w) (append-nil xs) ∙ e
 
-  constant_after : (k : ℕ) (xs : List Token) (e : ℕ) (x : Option Entry) → IsKnown db w x → at_each (constant_codes n) [] xs ≡ [] → IsKnown (db ++ constants k xs e ∷ []) w (entry_after (length db) (constants k xs e) w x)
+  constant_after : (k : ℕ) (xs : List Token) (e : ℕ) (x : Option Entry) → IsKnown db w x
+      → at_each (constant_codes n) [] xs ≡ []
+      → IsKnown (db ++ constants k xs e ∷ []) w (entry_after (length db) (constants k xs e) w x)
   constant_after k xs e x kn law = by (is_in w (words xs)) refl
     where
-      fresh : (x : Option Entry) → IsKnown db w x → is_constant_entry x ≡ false → is_variable_entry x ≡ false → is_in w (words xs) ≡ true → IsKnown (db ++ constants k xs e ∷ []) w (declared_entry false (length db) w x)
-      fresh None kn c v h = known_constant db (constants k xs e) w kn (in_nil (words xs) true h) refl refl (length db)
+      fresh : (x : Option Entry) → IsKnown db w x → is_constant_entry x ≡ false
+          → is_variable_entry x ≡ false → is_in w (words xs) ≡ true
+          → IsKnown (db ++ constants k xs e ∷ []) w (declared_entry false (length db) w x)
+      fresh None kn c v h =
+          known_constant db (constants k xs e) w kn (in_nil (words xs) true h) refl refl (length db)
       fresh (Some o) kn c v h = absurd (true≢false (sym (ap not v) ∙ c))
 
-      by : (b : Bool) → is_in w (words xs) ≡ b → IsKnown (db ++ constants k xs e ∷ []) w (if b then declared_entry false (length db) w x else x)
+      by : (b : Bool) → is_in w (words xs) ≡ b
+          → IsKnown (db ++ constants k xs e ∷ []) w
+          (if b then declared_entry false (length db) w x else x)
       by false h = known_same db (constants k xs e) w x kn (in_nil (words xs) false h) refl refl
-      by true h = let new = constant_new n xs law w h in fresh x kn (no_constant x kn new.0) (no_variable x kn new.1) h
+      by true h =
+          let new = constant_new n xs law w h in
+          fresh x kn (no_constant x kn new.0) (no_variable x kn new.1) h
 
-  variable_after : (k : ℕ) (xs : List Token) (e : ℕ) (x : Option Entry) → IsKnown db w x → at_each (variable_codes n) [] xs ≡ [] → IsKnown (db ++ variables k xs e ∷ []) w (entry_after (length db) (variables k xs e) w x)
+  variable_after : (k : ℕ) (xs : List Token) (e : ℕ) (x : Option Entry) → IsKnown db w x
+      → at_each (variable_codes n) [] xs ≡ []
+      → IsKnown (db ++ variables k xs e ∷ []) w (entry_after (length db) (variables k xs e) w x)
   variable_after k xs e x kn law = by (is_in w (words xs)) refl
     where
-      by : (b : Bool) → is_in w (words xs) ≡ b → IsKnown (db ++ variables k xs e ∷ []) w (if b then declared_entry true (length db) w x else x)
+      by : (b : Bool) → is_in w (words xs) ≡ b
+          → IsKnown (db ++ variables k xs e ∷ []) w
+          (if b then declared_entry true (length db) w x else x)
       by false h = known_same db (variables k xs e) w x kn refl (in_nil (words xs) false h) refl
-      by true h = let new = variable_new n xs law w h in known_variable db (variables k xs e) w x kn (no_constant x kn new.0) new.1 refl (in_nil (words xs) true h) refl
+      by true h =
+          let new = variable_new n xs law w h in
+          known_variable db (variables k xs e) w x kn (no_constant x kn new.0) new.1 refl
+          (in_nil (words xs) true h) refl
 
-  floating_after : (l : Token) (k : ℕ) (c v : Token) (e : ℕ) (x : Option Entry) → IsKnown db w x → floating_faults n k (c ∷ v ∷ []) ≡ []
-      → IsKnown (db ++ floating l k (c ∷ v ∷ []) e ∷ []) w (entry_after (length db) (floating l k (c ∷ v ∷ []) e) w x)
+  floating_after : (l : Token) (k : ℕ) (c v : Token) (e : ℕ) (x : Option Entry) → IsKnown db w x
+      → floating_faults n k (c ∷ v ∷ []) ≡ []
+      → IsKnown (db ++ floating l k (c ∷ v ∷ []) e ∷ []) w
+      (entry_after (length db) (floating l k (c ∷ v ∷ []) e) w x)
   floating_after l k c v e x kn law = by (bytes_eq v.word w) refl
     where
-      typed : (x : Option Entry) → IsKnown db w x → v.word ≡ w → IsKnown (db ++ floating l k (c ∷ v ∷ []) e ∷ []) w (typed_entry (length db) c.word x)
+      typed : (x : Option Entry) → IsKnown db w x → v.word ≡ w
+          → IsKnown (db ++ floating l k (c ∷ v ∷ []) e ∷ []) w (typed_entry (length db) c.word x)
       typed None kn same =
           let new = floating_new n k c v law in
-          absurd (true≢false (sym (ap (λ u. is_in u n.active_variables) (sym same) ∙ new.0) ∙ none_active db variables_of w kn.variable))
+          absurd (true≢false
+          (sym (ap (λ u. is_in u n.active_variables) (sym same) ∙ new.0)
+          ∙ none_active db variables_of w kn.variable))
       typed (Some o) kn same =
           let new = floating_new n k c v law in
           known_typed db (floating l k (c ∷ v ∷ []) e) w o kn few c.word
-          (sym (typed_in w (active_statements db (length db))) ∙ ap (λ u. list_any (λ t. bytes_eq u t.variable) n.active_typings) (sym same) ∙ new.1)
-          (sym (ap (λ xs. list_any (is_other c.word w) (flat_map typings_of xs)) all) ∙ ap (λ u. list_any (is_other c.word u) n.all_typings) (sym same) ∙ new.2)
+          (sym (typed_in w (active_statements db (length db)))
+          ∙ ap (λ u. list_any (λ t. bytes_eq u t.variable) n.active_typings) (sym same) ∙ new.1)
+          (sym (ap (λ xs. list_any (is_other c.word w) (flat_map typings_of xs)) all)
+          ∙ ap (λ u. list_any (is_other c.word u) n.all_typings) (sym same) ∙ new.2)
           refl refl (ap (λ u. record { typecode = c.word; variable = u } ∷ []) same)
 
-      by : (b : Bool) → bytes_eq v.word w ≡ b → IsKnown (db ++ floating l k (c ∷ v ∷ []) e ∷ []) w (if b then typed_entry (length db) c.word x else x)
-      by false h = known_same db (floating l k (c ∷ v ∷ []) e) w x kn refl refl (ap (λ b. b || false) (bytes_eq-sym w v.word ∙ h))
+      by : (b : Bool) → bytes_eq v.word w ≡ b
+          → IsKnown (db ++ floating l k (c ∷ v ∷ []) e ∷ []) w
+          (if b then typed_entry (length db) c.word x else x)
+      by false h =
+          known_same db (floating l k (c ∷ v ∷ []) e) w x kn refl refl
+          (ap (λ b. b || false) (bytes_eq-sym w v.word ∙ h))
       by true h = typed x kn ((bytes_eq-Decides v.word w).0 h)
 
-  -- what is known of the word behind a lawful statement
-  pub known_after : (s : Statement) (d : ℕ) (x : Option Entry) → IsKnown db w x → scope_faults n d s ≡ [] → IsKnown (db ++ s ∷ []) w (entry_after (length db) s w x)
+  -- what is known of the word after a lawful statement
+  pub known_after : (s : Statement) (d : ℕ) (x : Option Entry) → IsKnown db w x
+      → scope_faults n d s ≡ [] → IsKnown (db ++ s ∷ []) w (entry_after (length db) s w x)
   known_after (constants k xs e) d x kn law =
-      constant_after k xs e x kn (append_none (at k (when (nat_lt 0 d) ConstantInBlock) ++ at e (when (is_empty n xs) EmptyDeclaration)) (at_each (constant_codes n) [] xs) law).1
-  known_after (variables k xs e) d x kn law = variable_after k xs e x kn (append_none (at e (when (is_empty n xs) EmptyDeclaration)) (at_each (variable_codes n) [] xs) law).1
-  known_after (floating l k [] e) d x kn law = absurd (let h = (append_none (label_faults n l) (floating_faults n k []) law).1 in cc)
-  known_after (floating l k (c ∷ []) e) d x kn law = absurd (let h = (append_none (label_faults n l) (floating_faults n k (c ∷ [])) law).1 in cc)
-  known_after (floating l k (c ∷ v ∷ []) e) d x kn law = floating_after l k c v e x kn (append_none (label_faults n l) (floating_faults n k (c ∷ v ∷ [])) law).1
-  known_after (floating l k (c ∷ v ∷ t ∷ ts) e) d x kn law = absurd (let h = (append_none (label_faults n l) (floating_faults n k (c ∷ v ∷ t ∷ ts)) law).1 in cc)
+      constant_after k xs e x kn
+      (append_none
+      (at k (when (nat_lt 0 d) ConstantInBlock) ++ at e (when (is_empty n xs) EmptyDeclaration))
+      (at_each (constant_codes n) [] xs) law).1
+  known_after (variables k xs e) d x kn law =
+      variable_after k xs e x kn
+      (append_none (at e (when (is_empty n xs) EmptyDeclaration))
+      (at_each (variable_codes n) [] xs) law).1
+  known_after (floating l k [] e) d x kn law =
+      absurd (let h = (append_none (label_faults n l) (floating_faults n k []) law).1 in cc)
+  known_after (floating l k (c ∷ []) e) d x kn law =
+      absurd (let h = (append_none (label_faults n l) (floating_faults n k (c ∷ [])) law).1 in cc)
+  known_after (floating l k (c ∷ v ∷ []) e) d x kn law =
+      floating_after l k c v e x kn
+      (append_none (label_faults n l) (floating_faults n k (c ∷ v ∷ [])) law).1
+  known_after (floating l k (c ∷ v ∷ t ∷ ts) e) d x kn law =
+      absurd (let h = (append_none (label_faults n l)
+      (floating_faults n k (c ∷ v ∷ t ∷ ts)) law).1 in
+      cc)
   known_after (disjoint k xs e) d x kn law = known_same db (disjoint k xs e) w x kn refl refl refl
-  known_after (essential l k xs e) d x kn law = known_same db (essential l k xs e) w x kn refl refl refl
-  known_after (axiomatic l k xs e) d x kn law = known_same db (axiomatic l k xs e) w x kn refl refl refl
-  known_after (provable l k xs q ps e) d x kn law = known_same db (provable l k xs q ps e) w x kn refl refl refl
+  known_after (essential l k xs e) d x kn law =
+      known_same db (essential l k xs e) w x kn refl refl refl
+  known_after (axiomatic l k xs e) d x kn law =
+      known_same db (axiomatic l k xs e) w x kn refl refl refl
+  known_after (provable l k xs q ps e) d x kn law =
+      known_same db (provable l k xs q ps e) w x kn refl refl refl
   known_after (opening k) d x kn law = known_same db (opening k) w x kn refl refl refl
   known_after (closing k) d x kn law = known_same db (closing k) w x kn refl refl refl
 
-  -- whether it is a label behind the statement
-  pub labelled_after : (s : Statement) (m : ℕ) (o : Option ℕ) → is_in w (flat_map label_words db) ≡ is_some o → is_in w (flat_map label_words (db ++ s ∷ [])) ≡ is_some (label_after m (label_of s) w o)
-  labelled_after s m o e = in_more db s w label_words ∙ ap (λ b. b || is_in w (label_words s ++ [])) e ∙ by (label_of s)
+  -- whether it is a label after the statement
+  pub labelled_after : (s : Statement) (m : ℕ) (o : Option ℕ)
+      → is_in w (flat_map label_words db) ≡ is_some o
+      → is_in w (flat_map label_words (db ++ s ∷ [])) ≡ is_some (label_after m (label_of s) w o)
+  labelled_after s m o e =
+      in_more db s w label_words ∙ ap (λ b. b || is_in w (label_words s ++ [])) e ∙ by (label_of s)
     where
       or_false : (b : Bool) → (b || false) ≡ b
       or_false true = refl
@@ -108,43 +165,87 @@ module _ (db : List Statement) (few : length db < never) (w : Word) where
       or_true true = refl
       or_true false = refl
 
-      one : (l : Token) (b : Bool) → bytes_eq w l.word ≡ b → (is_some o || (b || false)) ≡ is_some (if b then Some m else o)
+      one : (l : Token) (b : Bool) → bytes_eq w l.word ≡ b
+          → (is_some o || (b || false)) ≡ is_some (if b then Some m else o)
       one l true h = or_true (is_some o)
       one l false h = or_false (is_some o)
 
-      by : (q : Option Token) → (is_some o || is_in w (elim q [ None ↦ [] | Some l ↦ l.word ∷ [] ] ++ [])) ≡ is_some (label_after m q w o)
+      by : (q : Option Token)
+          → (is_some o || is_in w (elim q [ None ↦ [] | Some l ↦ l.word ∷ [] ] ++ []))
+          ≡ is_some (label_after m q w o)
       by None = or_false (is_some o)
-      by (Some l) = one l (bytes_eq w l.word) refl ∙ ap (λ b. is_some (if b then Some m else o)) (bytes_eq-sym w l.word)
+      by (Some l) =
+          one l (bytes_eq w l.word) refl
+          ∙ ap (λ b. is_some (if b then Some m else o)) (bytes_eq-sym w l.word)
 
-module _ (text : List ℕ) (ws : List place.Word) (db : List Statement) (b : Lists) (x : IsBlocks db b) (few : length db < never) where
-  -- the blocks behind a statement
-  blocks_after : (k : Kind) (p m e : ℕ) → (is_closing (made text ws k p m e) ≡ true → 0 < depth db (length db)) → IsBlocks (db ++ made text ws k p m e ∷ []) (pushed k b)
-  blocks_after kind.Open p m e deep = blocks_opening db (made text ws kind.Open p m e) b x few refl refl
-  blocks_after kind.Close p m e deep = blocks_closing db (made text ws kind.Close p m e) b x few refl refl (deep refl)
-  blocks_after kind.Constants p m e deep = blocks_plain db (made text ws kind.Constants p m e) b x few refl refl
-  blocks_after kind.Variables p m e deep = blocks_plain db (made text ws kind.Variables p m e) b x few refl refl
-  blocks_after kind.Disjoint p m e deep = blocks_plain db (made text ws kind.Disjoint p m e) b x few refl refl
-  blocks_after kind.Floating p m e deep = blocks_plain db (made text ws kind.Floating p m e) b x few refl refl
-  blocks_after kind.Essential p m e deep = blocks_plain db (made text ws kind.Essential p m e) b x few refl refl
-  blocks_after kind.Axiom p m e deep = blocks_plain db (made text ws kind.Axiom p m e) b x few refl refl
-  blocks_after kind.Theorem p m e deep = blocks_plain db (made text ws kind.Theorem p m e) b x few refl refl
+module _ (text : List ℕ) (ws : List place.Word) (db : List Statement) (b : Lists)
+    (x : IsBlocks db b) (few : length db < never) where
+  -- the blocks after a statement
+  blocks_after : (k : Kind) (p m e : ℕ)
+      → (is_closing (made text ws k p m e) ≡ true → 0 < depth db (length db))
+      → IsBlocks (db ++ made text ws k p m e ∷ []) (pushed k b)
+  blocks_after kind.Open p m e deep =
+      blocks_opening db (made text ws kind.Open p m e) b x few refl refl
+  blocks_after kind.Close p m e deep =
+      blocks_closing db (made text ws kind.Close p m e) b x few refl refl (deep refl)
+  blocks_after kind.Constants p m e deep =
+      blocks_plain db (made text ws kind.Constants p m e) b x few refl refl
+  blocks_after kind.Variables p m e deep =
+      blocks_plain db (made text ws kind.Variables p m e) b x few refl refl
+  blocks_after kind.Disjoint p m e deep =
+      blocks_plain db (made text ws kind.Disjoint p m e) b x few refl refl
+  blocks_after kind.Floating p m e deep =
+      blocks_plain db (made text ws kind.Floating p m e) b x few refl refl
+  blocks_after kind.Essential p m e deep =
+      blocks_plain db (made text ws kind.Essential p m e) b x few refl refl
+  blocks_after kind.Axiom p m e deep =
+      blocks_plain db (made text ws kind.Axiom p m e) b x few refl refl
+  blocks_after kind.Theorem p m e deep =
+      blocks_plain db (made text ws kind.Theorem p m e) b x few refl refl
 
--- what is kept behind one lawful statement more
-pub keeps_after : (text : List ℕ) (ws : List place.Word) (db : List Statement) (look : List ℕ → Option Symbol) (labels : List ℕ → Option ℕ) (b : Lists) → Keeps db look labels b → length db < never → (k : Kind) (p m e : ℕ)
-    → least (scope_faults (names_before db (length db)) (depth db (length db)) (made text ws k p m e)) ≡ None → (is_closing (made text ws k p m e) ≡ true → 0 < depth db (length db)) → (c : Lists) → c ≡ pushed k b → (number : ℕ) → number ≡ length b.of
-    → (new : List ℕ → Option Symbol) → ((w : List ℕ) → entry_of (new w) ≡ entry_after number (made text ws k p m e) w (entry_of (look w)))
-    → (names : List ℕ → Option ℕ) → ((w : List ℕ) → names w ≡ label_after number (label_of (made text ws k p m e)) w (labels w)) → Keeps (db ++ made text ws k p m e ∷ []) new names c
+-- what is kept after one lawful statement more
+pub keeps_after : (text : List ℕ) (ws : List place.Word) (db : List Statement)
+    → (look : List ℕ → Option Symbol) (labels : List ℕ → Option ℕ) (b : Lists)
+    → Keeps db look labels b → length db < never → (k : Kind) (p m e : ℕ)
+    → least (scope_faults (names_before db (length db)) (depth db (length db))
+    (made text ws k p m e))
+    ≡ None
+    → (is_closing (made text ws k p m e) ≡ true → 0 < depth db (length db)) → (c : Lists)
+    → c ≡ pushed k b → (number : ℕ) → number ≡ length b.of
+    → (new : List ℕ → Option Symbol)
+    → ((w : List ℕ)
+    → entry_of (new w) ≡ entry_after number (made text ws k p m e) w (entry_of (look w)))
+    → (names : List ℕ → Option ℕ)
+    → ((w : List ℕ)
+    → names w ≡ label_after number (label_of (made text ws k p m e)) w (labels w))
+    → Keeps (db ++ made text ws k p m e ∷ []) new names c
 keeps_after text ws db look labels b x few k p m e law deep c same number is new after names known =
     let s = made text ws k p m e in
     let n : number ≡ length db = is ∙ x.blocks.count in
     record {
-      blocks = subst (IsBlocks (db ++ made text ws k p m e ∷ [])) (sym same) (blocks_after text ws db b x.blocks few k p m e deep);
-      symbols = λ w. subst (IsKnown (db ++ made text ws k p m e ∷ []) w) (sym (after w ∙ ap (λ i. entry_after i (made text ws k p m e) w (entry_of (look w))) n)) (known_after db few w (made text ws k p m e) (depth db (length db)) (entry_of (look w)) (x.symbols w) (none_least (scope_faults (names_before db (length db)) (depth db (length db)) (made text ws k p m e)) law));
-      labels_known = λ w. labelled_after db few w (made text ws k p m e) number (labels w) (x.labels_known w) ∙ ap is_some (sym (known w));
-      labels_are = labels_after db s labels names x.labels_are (λ w. known w ∙ ap (λ i. label_after i (label_of s) w (labels w)) n) (label_unused db labels x.labels_known (depth db (length db)) s (none_least (scope_faults (names_before db (length db)) (depth db (length db)) s) law));
+      blocks =
+          subst (IsBlocks (db ++ made text ws k p m e ∷ [])) (sym same)
+          (blocks_after text ws db b x.blocks few k p m e deep);
+      symbols =
+          λ w. subst (IsKnown (db ++ made text ws k p m e ∷ []) w)
+          (sym (after w ∙ ap (λ i. entry_after i (made text ws k p m e) w (entry_of (look w))) n))
+          (known_after db few w (made text ws k p m e) (depth db (length db)) (entry_of (look w))
+          (x.symbols w)
+          (none_least
+          (scope_faults (names_before db (length db)) (depth db (length db)) (made text ws k p m e))
+          law));
+      labels_known =
+          λ w. labelled_after db few w (made text ws k p m e) number (labels w) (x.labels_known w)
+          ∙ ap is_some (sym (known w));
+      labels_are =
+          labels_after db s labels names x.labels_are
+          (λ w. known w ∙ ap (λ i. label_after i (label_of s) w (labels w)) n)
+          (label_unused db labels x.labels_known (depth db (length db)) s
+          (none_least (scope_faults (names_before db (length db)) (depth db (length db)) s) law));
     }
 
 -- two clauses of one result
-pub on_both : {T E : Type 0} {P Q R : Type 0} (r : Result T E) → OnOk r P → OnOk r Q → (P → Q → R) → OnOk r R
+pub on_both : {T E : Type 0} {P Q R : Type 0} (r : Result T E) → OnOk r P → OnOk r Q → (P → Q → R)
+    → OnOk r R
 on_both (Ok a) p q f = f p q
 on_both (Err e) p q f = tt

@@ -1,10 +1,14 @@
--- How many symbols there are: the symbols of lawful statements are declared, and there are no more than tokens.
-use Rattle.std.proofs.Common.{◌≡◌, ℕ, zero, suc, ◌<◌, ◌≤◌, Bool, true, false, ◌||◌, List, [], ◌∷◌, ◌++◌, flat_map, length, All, Some, slice_get, get_or, refl, sym, ap, ◌∙◌, subst, arith, bytes_eq, length-append, codes}
+-- How many symbols there are: the symbols of lawful statements are declared, and there are no more
+-- than tokens.
+use Rattle.std.proofs.Common.{◌≡◌, ℕ, zero, suc, ◌<◌, ◌≤◌, Bool, true, false, ◌||◌, List, [], ◌∷◌}
+use Rattle.std.proofs.Common.{◌++◌, flat_map, length, All, Some, slice_get, get_or, refl, sym, ap}
+use Rattle.std.proofs.Common.{◌∙◌, subst, arith, bytes_eq, length-append, codes}
 use Rattle.std.proofs.lemmas.List.{length-map}
 use Rattle.std.proofs.lemmas.Option.{slice_get_within}
 use Rattle.std.proofs.lemmas.Grind.{flat_map-append}
-use Rattle.mm_spec.specs.Text.{Word, Token, token, words, is_in}
-use Rattle.mm_spec.specs.Statement.{Statement, constants, variables, disjoint, floating, essential, axiomatic, provable, opening, closing, symbols_of, spelled}
+use Rattle.mm_spec.specs.Text.{Bytes, Token, token, words, is_in}
+use Rattle.mm_spec.specs.Statement.{Statement, constants, variables, disjoint, floating, essential}
+use Rattle.mm_spec.specs.Statement.{axiomatic, provable, opening, closing, symbols_of, spelled}
 use Rattle.mm_spec.specs.Scope.{constants_of, variables_of}
 use Rattle.mm_spec.specs.Lawful.{IsLawful}
 use Rattle.mm_spec.specs.Frame.{symbol_names, place_of, first_occurrences, formula_at, formula_of}
@@ -15,29 +19,43 @@ use Rattle.mm_outline.proofs.StatementsLaw.{get_mapped}
 
 -- ---- symbols are declared
 
-in-get : (ws : List Word) (i : ℕ) (d : Word) → i < length ws → is_in (get_or ws i d) ws ≡ true
+in-get : (ws : List Bytes) (i : ℕ) (d : Bytes) → i < length ws → is_in (get_or ws i d) ws ≡ true
 in-get [] i d h = absurd (omega arith)
 in-get (w ∷ ws) zero d h = ap (λ b. b || is_in w ws) (itself w)
-in-get (w ∷ ws) (suc i) d h = ap (λ b. bytes_eq (get_or ws i d) w || b) (in-get ws i d (omega arith)) ∙ or-true (bytes_eq (get_or ws i d) w)
+in-get (w ∷ ws) (suc i) d h =
+    ap (λ b. bytes_eq (get_or ws i d) w || b) (in-get ws i d (omega arith))
+    ∙ or-true (bytes_eq (get_or ws i d) w)
   where
     or-true : (b : Bool) → (b || true) ≡ true
     or-true true = refl
     or-true false = refl
 
 -- each symbol of a lawful statement has a name
-pub symbol-known : (db : List Statement) → ((k : ℕ) → k < length db → IsLawful db k) → (k : ℕ) → k < length db → (s : Statement) → slice_get db k ≡ Some s → (w : Word) → is_in w (words (symbols_of s)) ≡ true → is_in w (symbol_names db) ≡ true
-symbol-known db law k l s e w h = in-first (flat_map (λ s. constants_of s ++ variables_of s) db) [] w refl ∙ declared-here db k s e (law k l) w h
+pub symbol-known : (db : List Statement) → ((k : ℕ) → k < length db → IsLawful db k) → (k : ℕ)
+    → k < length db → (s : Statement) → slice_get db k ≡ Some s → (w : Bytes)
+    → is_in w (words (symbols_of s)) ≡ true → is_in w (symbol_names db) ≡ true
+symbol-known db law k l s e w h =
+    in-first (flat_map (λ s. constants_of s ++ variables_of s) db) [] w refl
+    ∙ declared-here db k s e (law k l) w h
 
-pub symbols-known : (db : List Statement) → ((k : ℕ) → k < length db → IsLawful db k) → (k : ℕ) → k < length db → (s : Statement) → slice_get db k ≡ Some s → All (λ x. x < length (symbol_names db)) (formula_at db k)
+pub symbols-known : (db : List Statement) → ((k : ℕ) → k < length db → IsLawful db k) → (k : ℕ)
+    → k < length db → (s : Statement) → slice_get db k ≡ Some s
+    → All (λ x. x < length (symbol_names db)) (formula_at db k)
 symbols-known db law k l s e =
-    subst (λ (xs : List ℕ). All (λ x. x < length (symbol_names db)) xs) (sym (formula_at-is db k s e))
+    subst (λ (xs : List ℕ). All (λ x. x < length (symbol_names db)) xs)
+    (sym (formula_at-is db k s e))
     (λ i d h.
     let ws = words (symbols_of s) in
-    let inside : i < length ws = omega (arith, h, length-map ws (λ w. place_of w (symbol_names db))) in
+    let inside : i < length ws =
+    omega (arith, h, length-map ws (λ w. place_of w (symbol_names db))) in
     let w = get_or ws i [] in
-    let known : is_in w (symbol_names db) ≡ true = symbol-known db law k l s e w (in-get ws i [] inside) in
-    let place = slice_get_within (symbol_names db) (place_of w (symbol_names db)) w (place-in (symbol_names db) w known) in
-    subst (λ x. x < length (symbol_names db)) (sym (get_mapped (λ w. place_of w (symbol_names db)) ws i [] d inside)) place)
+    let known : is_in w (symbol_names db) ≡ true =
+    symbol-known db law k l s e w (in-get ws i [] inside) in
+    let place =
+    slice_get_within (symbol_names db) (place_of w (symbol_names db)) w
+    (place-in (symbol_names db) w known) in
+    subst (λ x. x < length (symbol_names db))
+    (sym (get_mapped (λ w. place_of w (symbol_names db)) ws i [] d inside)) place)
 
 -- ---- there are few
 
@@ -52,10 +70,14 @@ symbols-spelled : (s : Statement) → length (symbols_of s) ≤ length (spelled 
 symbols-spelled (constants k xs d) = within (token k (codes "$c")) (token d (codes "$.")) xs
 symbols-spelled (variables k xs d) = within (token k (codes "$v")) (token d (codes "$.")) xs
 symbols-spelled (disjoint k xs d) = within (token k (codes "$d")) (token d (codes "$.")) xs
-symbols-spelled (floating l k xs d) = labelled-within l (token k (codes "$f")) (token d (codes "$.")) xs
-symbols-spelled (essential l k xs d) = labelled-within l (token k (codes "$e")) (token d (codes "$.")) xs
-symbols-spelled (axiomatic l k xs d) = labelled-within l (token k (codes "$a")) (token d (codes "$.")) xs
-symbols-spelled (provable l k xs e ps d) = behind l (token k (codes "$p")) (token e (codes "$=")) xs (ps ++ token d (codes "$.") ∷ [])
+symbols-spelled (floating l k xs d) =
+    labelled-within l (token k (codes "$f")) (token d (codes "$.")) xs
+symbols-spelled (essential l k xs d) =
+    labelled-within l (token k (codes "$e")) (token d (codes "$.")) xs
+symbols-spelled (axiomatic l k xs d) =
+    labelled-within l (token k (codes "$a")) (token d (codes "$.")) xs
+symbols-spelled (provable l k xs e ps d) =
+    behind l (token k (codes "$p")) (token e (codes "$=")) xs (ps ++ token d (codes "$.") ∷ [])
   where
     behind : (l t u : Token) (xs ys : List Token) → length xs ≤ length (l ∷ t ∷ (xs ++ u ∷ ys))
     behind l t u xs ys = omega (arith, length-append xs (u ∷ ys))
@@ -63,8 +85,12 @@ symbols-spelled (opening k) = omega arith
 symbols-spelled (closing k) = omega arith
 
 declared-spelled : (s : Statement) → length (constants_of s ++ variables_of s) ≤ length (spelled s)
-declared-spelled (constants k xs d) = let a = length-append (words xs) [] in let b = length-map xs (λ t. t.word) in let w = symbols-spelled (constants k xs d) in omega (arith, a, b, w)
-declared-spelled (variables k xs d) = let b = length-map xs (λ t. t.word) in let w = symbols-spelled (variables k xs d) in omega (arith, b, w)
+declared-spelled (constants k xs d) =
+    let a = length-append (words xs) [] in let b = length-map xs (λ t. t.word) in
+    let w = symbols-spelled (constants k xs d) in omega (arith, a, b, w)
+declared-spelled (variables k xs d) =
+    let b = length-map xs (λ t. t.word) in let w = symbols-spelled (variables k xs d) in
+    omega (arith, b, w)
 declared-spelled (disjoint k xs d) = omega arith
 declared-spelled (floating l k xs d) = omega arith
 declared-spelled (essential l k xs d) = omega arith
@@ -73,29 +99,42 @@ declared-spelled (provable l k xs e ps d) = omega arith
 declared-spelled (opening k) = omega arith
 declared-spelled (closing k) = omega arith
 
-shorter : {X Y : Type 0} (f : Statement → List X) (g : Statement → List Y) → ((s : Statement) → length (f s) ≤ length (g s)) → (xs : List Statement) → length (flat_map f xs) ≤ length (flat_map g xs)
+shorter : {X Y : Type 0} (f : Statement → List X) (g : Statement → List Y)
+    → ((s : Statement) → length (f s) ≤ length (g s)) → (xs : List Statement)
+    → length (flat_map f xs) ≤ length (flat_map g xs)
 shorter f g h [] = omega arith
-shorter f g h (x ∷ xs) = let a = length-append (f x) (flat_map f xs) in let b = length-append (g x) (flat_map g xs) in let p = h x in let r = shorter f g h xs in omega (arith, a, b, p, r)
+shorter f g h (x ∷ xs) =
+    let a = length-append (f x) (flat_map f xs) in let b = length-append (g x) (flat_map g xs) in
+    let p = h x in let r = shorter f g h xs in omega (arith, a, b, p, r)
 
-front : {X : Type 0} (f : Statement → List X) (xs ys : List Statement) → length (flat_map f xs) ≤ length (flat_map f (xs ++ ys))
-front f xs ys = let a = ap length (flat_map-append f xs ys) in let b = length-append (flat_map f xs) (flat_map f ys) in omega (arith, a, b)
+front : {X : Type 0} (f : Statement → List X) (xs ys : List Statement)
+    → length (flat_map f xs) ≤ length (flat_map f (xs ++ ys))
+front f xs ys =
+    let a = ap length (flat_map-append f xs ys) in
+    let b = length-append (flat_map f xs) (flat_map f ys) in omega (arith, a, b)
 
-first-shorter : (e ws : List Word) → length (first_occurrences e ws) ≤ length ws
+first-shorter : (e ws : List Bytes) → length (first_occurrences e ws) ≤ length ws
 first-shorter e [] = omega arith
 first-shorter e (w ∷ ws) = by (is_in w e) (first-shorter e ws) (first-shorter (w ∷ e) ws)
   where
-    by : (b : Bool) → length (first_occurrences e ws) ≤ length ws → length (first_occurrences (w ∷ e) ws) ≤ length ws → length {A = Word} (elim b [ true ↦ first_occurrences e ws | false ↦ w ∷ first_occurrences (w ∷ e) ws ]) ≤ suc (length ws)
+    by : (b : Bool) → length (first_occurrences e ws) ≤ length ws
+        → length (first_occurrences (w ∷ e) ws) ≤ length ws
+        → length {A = Bytes}
+        (elim b [ true ↦ first_occurrences e ws | false ↦ w ∷ first_occurrences (w ∷ e) ws ])
+        ≤ suc (length ws)
     by true p q = omega (arith, p)
     by false p q = omega (arith, q)
 
 -- statements that stand in front of a row of statements, which are the first of the tokens
-module _ (ts rest : List Token) (row : List Statement) (splits : ts ≡ flat_map spelled row ++ rest) (db more : List Statement) (is : row ≡ db ++ more) where
+module _ (ts rest : List Token) (row : List Statement) (splits : ts ≡ flat_map spelled row ++ rest)
+    (db more : List Statement) (is : row ≡ db ++ more) where
   spelled-few : length (flat_map spelled db) ≤ length ts
   spelled-few =
       let a = ap length splits in
       let b = length-append (flat_map spelled row) rest in
       let c = front spelled db more in
-      let d : length (flat_map spelled (db ++ more)) ≡ length (flat_map spelled row) = ap (λ l. length (flat_map spelled l)) (sym is) in
+      let d : length (flat_map spelled (db ++ more)) ≡ length (flat_map spelled row) =
+      ap (λ l. length (flat_map spelled l)) (sym is) in
       omega (arith, a, b, c, d)
 
   -- the symbols are no more than the tokens
@@ -109,6 +148,10 @@ module _ (ts rest : List Token) (row : List Statement) (splits : ts ≡ flat_map
   -- the symbols of the statements are no more than the tokens
   pub few-numbers : (all : List Statement) → length (flat_map (formula_of all) db) ≤ length ts
   few-numbers all =
-      let a = shorter (formula_of all) spelled (λ s. subst (λ n. n ≤ length (spelled s)) (sym (length-map (words (symbols_of s)) (λ w. place_of w (symbol_names all)) ∙ length-map (symbols_of s) (λ t. t.word))) (symbols-spelled s)) db in
+      let a =
+      shorter (formula_of all) spelled
+      (λ s. subst (λ n. n ≤ length (spelled s))
+      (sym (length-map (words (symbols_of s)) (λ w. place_of w (symbol_names all))
+      ∙ length-map (symbols_of s) (λ t. t.word))) (symbols-spelled s)) db in
       let c = spelled-few in
       omega (arith, a, c)

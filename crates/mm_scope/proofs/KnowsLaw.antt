@@ -1,16 +1,22 @@
 -- What is kept of each word is what the judge asks for.
-use Rattle.std.proofs.Common.{◌≡◌, ◌≢◌, ℕ, zero, suc, ◌<◌, ◌≤◌, Bool, true, false, ◌&&◌, ◌||◌, not, List, [], ◌∷◌, length, flat_map, bytes_eq, nat_eq, Option, None, Some, refl, sym, ap, ◌∙◌, arith, ◌⊎◌, inl, inr, le_refl, take_all, true≢false}
+use Rattle.std.proofs.Common.{◌≡◌, ◌≢◌, ℕ, zero, suc, ◌<◌, ◌≤◌, Bool, true, false, ◌&&◌, ◌||◌, not}
+use Rattle.std.proofs.Common.{List, [], ◌∷◌, length, flat_map, bytes_eq, nat_eq, Option, None, Some}
+use Rattle.std.proofs.Common.{refl, sym, ap, ◌∙◌, arith, ◌⊎◌, inl, inr, le_refl, take_all}
+use Rattle.std.proofs.Common.{true≢false}
 use Rattle.std.proofs.lemmas.List.Folds.{list_any-append}
 use Rattle.std.proofs.lemmas.Option.{slice_get_past}
 use Rattle.std.proofs.lemmas.Bool.{cases_eq}
 use Rattle.std.specs.List.{list_any}
-use Rattle.mm_spec.specs.Text.{Word, is_in}
+use Rattle.mm_spec.specs.Text.{Bytes, is_in}
 use Rattle.mm_spec.specs.Statement.{Statement}
-use Rattle.mm_spec.specs.Scope.{names_before, active_statements, is_active, variables_of, constants_of, label_words, typings_of}
+use Rattle.mm_spec.specs.Scope.{names_before, active_statements, is_active, variables_of}
+use Rattle.mm_spec.specs.Scope.{constants_of, label_words, typings_of}
 use Rattle.mm_outline.specs.Blocks.{Lists, IsBlocks, never}
 use Rattle.mm_scope.specs.Judge as judge
-use Rattle.mm_scope.specs.Judge.{Knows, is_open_in, is_never, end_in, is_constant, is_variable, has_other_typecode, is_typed_here, entry_of}
-use Rattle.mm_scope.specs.Known.{IsKnown, typed_by, typecode_by, is_other, is_constant_entry, is_variable_entry}
+use Rattle.mm_scope.specs.Judge.{Knows, is_open_in, is_never, end_in, is_constant}
+use Rattle.mm_scope.specs.Judge.{is_variable_symbol, has_other_typecode, is_typed_here, entry_of}
+use Rattle.mm_scope.specs.Known.{IsKnown, typed_by, typecode_by, is_other, is_constant_entry}
+use Rattle.mm_scope.specs.Known.{is_variable_entry}
 use Rattle.mm_outline.specs.Typed.{has, typed_words}
 use Rattle.mm_scope.specs.Keeps.{Keeps}
 use Rattle.mm_scope.specs.declared.names.Symbol.{Symbol}
@@ -31,62 +37,99 @@ and_false true = refl
 and_false false = refl
 
 -- a word that no statement has
-has_none : (db : List Statement) (f : Statement → List Word) (w : Word) → is_in w (flat_map f db) ≡ false → (j : ℕ) → has db f w j ≡ false
+has_none : (db : List Statement) (f : Statement → List Bytes) (w : Bytes)
+    → is_in w (flat_map f db) ≡ false → (j : ℕ) → has db f w j ≡ false
 has_none [] f w e j = refl
 has_none (s ∷ db) f w e zero =
     let h = sym (list_any-append (bytes_eq w) (f s) (flat_map f db)) ∙ e in
-    list_any-append (bytes_eq w) (f s) [] ∙ ap (λ b. b || false) (or_left (is_in w (f s)) (is_in w (flat_map f db)) h)
+    list_any-append (bytes_eq w) (f s) []
+    ∙ ap (λ b. b || false) (or_left (is_in w (f s)) (is_in w (flat_map f db)) h)
 has_none (s ∷ db) f w e (suc j) =
     let h = sym (list_any-append (bytes_eq w) (f s) (flat_map f db)) ∙ e in
     has_none db f w (or_right (is_in w (f s)) (is_in w (flat_map f db)) h) j
 
 -- no active statement has it either
-pub none_active : (db : List Statement) (f : Statement → List Word) (w : Word) → is_in w (flat_map f db) ≡ false → is_in w (flat_map f (active_statements db (length db))) ≡ false
+pub none_active : (db : List Statement) (f : Statement → List Bytes) (w : Bytes)
+    → is_in w (flat_map f db) ≡ false
+    → is_in w (flat_map f (active_statements db (length db))) ≡ false
 none_active db f w e =
     among_active db f w (λ j. is_active db j (length db)) (length db) 0
-    ∙ any_false (λ j. is_active db j (length db) && has db f w j) (length db) 0 (λ j l. ap (λ b. is_active db j (length db) && b) (has_none db f w e j) ∙ and_false (is_active db j (length db)))
+    ∙ any_false (λ j. is_active db j (length db) && has db f w j) (length db) 0
+    (λ j l. ap (λ b. is_active db j (length db) && b) (has_none db f w e j)
+    ∙ and_false (is_active db j (length db)))
 
 never_open : (b : Lists) → length b.of ≤ never → is_open_in b.of b.ends never ≡ false
 never_open b h = ap (λ o. is_never (end_in b.ends o)) (slice_get_past b.of never h)
 
-module _ (db : List Statement) (b : Lists) (x : IsBlocks db b) (few : length db < never) (w : Word) where
-  variable_active : (o : Option Symbol) → IsKnown db w (entry_of o) → is_in w (flat_map variables_of (active_statements db (length db))) ≡ judge.is_active (is_open_in b.of b.ends) o
+module _ (db : List Statement) (b : Lists) (x : IsBlocks db b) (few : length db < never)
+    (w : Bytes) where
+  variable_active : (o : Option Symbol) → IsKnown db w (entry_of o)
+      → is_in w (flat_map variables_of (active_statements db (length db)))
+      ≡ judge.is_active (is_open_in b.of b.ends) o
   variable_active None k = none_active db variables_of w k.variable
   variable_active (Some s) k = by s.is_variable refl
     where
-      by : (v : Bool) → s.is_variable ≡ v → is_in w (flat_map variables_of (active_statements db (length db))) ≡ (v && is_open_in b.of b.ends s.declared)
-      by true e = let l = k.declared e in latest_is db variables_of w s.declared l ∙ latest_open db b x few variables_of w (declares_local w) s.declared l
+      by : (v : Bool) → s.is_variable ≡ v
+          → is_in w (flat_map variables_of (active_statements db (length db)))
+          ≡ (v && is_open_in b.of b.ends s.declared)
+      by true e =
+          let l = k.declared e in
+          latest_is db variables_of w s.declared l
+          ∙ latest_open db b x few variables_of w (declares_local w) s.declared l
       by false e = none_active db variables_of w (k.variable ∙ e)
 
-  typed_active : (o : Option Symbol) → IsKnown db w (entry_of o) → is_in w (flat_map typed_words (active_statements db (length db))) ≡ is_typed_here (is_open_in b.of b.ends) o
+  typed_active : (o : Option Symbol) → IsKnown db w (entry_of o)
+      → is_in w (flat_map typed_words (active_statements db (length db)))
+      ≡ is_typed_here (is_open_in b.of b.ends) o
   typed_active None k = none_active db typed_words w (k.untyped refl)
   typed_active (Some s) k = by (cases_eq s.typed never)
     where
-      by : (s.typed ≡ never) ⊎ (s.typed ≢ never) → is_in w (flat_map typed_words (active_statements db (length db))) ≡ is_open_in b.of b.ends s.typed
-      by (inl e) = none_active db typed_words w (k.untyped e) ∙ sym (ap (is_open_in b.of b.ends) e ∙ never_open b (let c = x.count in omega (arith, c, few)))
-      by (inr n) = let l = k.typed n in latest_is db typed_words w s.typed l ∙ latest_open db b x few typed_words w (types_local w) s.typed l
+      by : (s.typed ≡ never) ⊎ (s.typed ≢ never)
+          → is_in w (flat_map typed_words (active_statements db (length db)))
+          ≡ is_open_in b.of b.ends s.typed
+      by (inl e) =
+          none_active db typed_words w (k.untyped e)
+          ∙ sym (ap (is_open_in b.of b.ends) e
+          ∙ never_open b (let c = x.count in omega (arith, c, few)))
+      by (inr n) =
+          let l = k.typed n in
+          latest_is db typed_words w s.typed l
+          ∙ latest_open db b x few typed_words w (types_local w) s.typed l
 
 constant_is : (o : Option Symbol) → is_constant_entry (entry_of o) ≡ is_constant o
 constant_is None = refl
 constant_is (Some s) = refl
 
-variable_is : (o : Option Symbol) → is_variable_entry (entry_of o) ≡ is_variable o
+variable_is : (o : Option Symbol) → is_variable_entry (entry_of o) ≡ is_variable_symbol o
 variable_is None = refl
 variable_is (Some s) = refl
 
-other_is : (c : Word) (o : Option Symbol) → (not (nat_eq (typed_by (entry_of o)) never) && not (bytes_eq c (typecode_by (entry_of o)))) ≡ has_other_typecode c o
+other_is : (c : Bytes) (o : Option Symbol)
+    → (not (nat_eq (typed_by (entry_of o)) never) && not (bytes_eq c (typecode_by (entry_of o))))
+    ≡ has_other_typecode c o
 other_is c None = refl
 other_is c (Some s) = refl
 
 -- the names before the next statement are those that are known
-pub knows_is : (db : List Statement) (look : List ℕ → Option Symbol) (labels : List ℕ → Option ℕ) (b : Lists) → Keeps db look labels b → length db < never → Knows (names_before db (length db)) look labels (is_open_in b.of b.ends)
+pub knows_is : (db : List Statement) (look : List ℕ → Option Symbol) (labels : List ℕ → Option ℕ)
+    → (b : Lists)
+    → Keeps db look labels b → length db < never
+    → Knows (names_before db (length db)) look labels (is_open_in b.of b.ends)
 knows_is db look labels b k few =
     let all = take_all (length db) db (le_refl (length db)) in
     record {
-      constants = λ w. ap (λ xs. is_in w (flat_map constants_of xs)) all ∙ (k.symbols w).constant ∙ constant_is (look w);
-      all_variables = λ w. ap (λ xs. is_in w (flat_map variables_of xs)) all ∙ (k.symbols w).variable ∙ variable_is (look w);
+      constants =
+          λ w. ap (λ xs. is_in w (flat_map constants_of xs)) all ∙ (k.symbols w).constant
+          ∙ constant_is (look w);
+      all_variables =
+          λ w. ap (λ xs. is_in w (flat_map variables_of xs)) all ∙ (k.symbols w).variable
+          ∙ variable_is (look w);
       active_variables = λ w. variable_active db b k.blocks few w (look w) (k.symbols w);
       labels_known = λ w. ap (λ xs. is_in w (flat_map label_words xs)) all ∙ k.labels_known w;
-      typed = λ w h. typed_in w (active_statements db (length db)) ∙ typed_active db b k.blocks few w (look w) (k.symbols w);
-      otherwise = λ c w h. ap (λ xs. list_any (is_other c w) (flat_map typings_of xs)) all ∙ (k.symbols w).otherwise c ∙ other_is c (look w);
+      typed =
+          λ w h. typed_in w (active_statements db (length db))
+          ∙ typed_active db b k.blocks few w (look w) (k.symbols w);
+      otherwise =
+          λ c w h. ap (λ xs. list_any (is_other c w) (flat_map typings_of xs)) all
+          ∙ (k.symbols w).otherwise c ∙ other_is c (look w);
     }

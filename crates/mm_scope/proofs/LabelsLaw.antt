@@ -1,11 +1,15 @@
--- What the labels stand for behind one lawful statement more.
-use Rattle.std.proofs.Common.{◌≡◌, ℕ, ◌<◌, ◌≤◌, Bool, true, false, ◌||◌, List, [], ◌∷◌, ◌++◌, length, take, flat_map, bytes_eq, Option, None, Some, is_some, if◌then◌else◌, IsTrue, refl, sym, ap, ◌∙◌, subst, arith, ◌⊎◌, inl, inr, length-append, true≢false, le_refl, take_all}
+-- What the labels stand for after one lawful statement more.
+use Rattle.std.proofs.Common.{◌≡◌, ℕ, ◌<◌, ◌≤◌, Bool, true, false, ◌||◌, List, [], ◌∷◌, ◌++◌}
+use Rattle.std.proofs.Common.{length, take, flat_map, bytes_eq, Option, None, Some, is_some}
+use Rattle.std.proofs.Common.{if◌then◌else◌, IsTrue, refl, sym, ap, ◌∙◌, subst, arith, ◌⊎◌, inl}
+use Rattle.std.proofs.Common.{inr, length-append, true≢false, le_refl, take_all}
 use Rattle.std.proofs.lemmas.Bool.{cases_lt, cases_order}
 use Rattle.std.proofs.lemmas.Option.{slice_get_past}
 use Rattle.std.proofs.lemmas.Slice.Eq.{bytes_eq-Decides}
 use Rattle.std.specs.List.{list_any}
-use Rattle.mm_spec.specs.Text.{Word, Token, is_in}
-use Rattle.mm_spec.specs.Statement.{Statement, constants, variables, disjoint, floating, essential, axiomatic, provable, opening, closing, label_of}
+use Rattle.mm_spec.specs.Text.{Bytes, Token, is_in}
+use Rattle.mm_spec.specs.Statement.{Statement, constants, variables, disjoint, floating, essential}
+use Rattle.mm_spec.specs.Statement.{axiomatic, provable, opening, closing, label_of}
 use Rattle.mm_spec.specs.Scope.{Names, names_before, statement_at, label_words}
 use Rattle.mm_spec.specs.NormalProof.{is_labelled}
 use Rattle.mm_spec.specs.Lawful.{scope_faults, label_faults, formula_faults, floating_faults, when}
@@ -18,22 +22,37 @@ use Rattle.mm_outline.proofs.Faultless.{append_none, at_none, when_none}
 
 -- a label that has no fault is new
 label_new : (n : Names) (l : Token) → label_faults n l ≡ [] → is_in l.word n.labels ≡ false
-label_new n l h = when_none (is_in l.word n.labels) LabelUsedBefore (append_none (when (is_in l.word n.constants || is_in l.word n.all_variables) LabelIsSymbol) (when (is_in l.word n.labels) LabelUsedBefore) (at_none l.at (when (is_in l.word n.constants || is_in l.word n.all_variables) LabelIsSymbol ++ when (is_in l.word n.labels) LabelUsedBefore) h)).1
+label_new n l h =
+    when_none (is_in l.word n.labels) LabelUsedBefore
+    (append_none (when (is_in l.word n.constants || is_in l.word n.all_variables) LabelIsSymbol)
+    (when (is_in l.word n.labels) LabelUsedBefore)
+    (at_none l.at
+    (when (is_in l.word n.constants || is_in l.word n.all_variables) LabelIsSymbol
+    ++ when (is_in l.word n.labels) LabelUsedBefore) h)).1
 
-pub label_fresh : (n : Names) (d : ℕ) (s : Statement) → scope_faults n d s ≡ [] → (l : Token) → label_of s ≡ Some l → is_in l.word n.labels ≡ false
-label_fresh n d (floating m k xs e) h l q = subst (λ (t : Token). is_in t.word n.labels ≡ false) (same q) (label_new n m (append_none (label_faults n m) (floating_faults n k xs) h).0)
+pub label_fresh : (n : Names) (d : ℕ) (s : Statement) → scope_faults n d s ≡ [] → (l : Token)
+    → label_of s ≡ Some l → is_in l.word n.labels ≡ false
+label_fresh n d (floating m k xs e) h l q =
+    subst (λ (t : Token). is_in t.word n.labels ≡ false) (same q)
+    (label_new n m (append_none (label_faults n m) (floating_faults n k xs) h).0)
   where
     same : {a b : Token} → Some a ≡ Some b → a ≡ b
     same s = cc
-label_fresh n d (essential m k xs e) h l q = subst (λ (t : Token). is_in t.word n.labels ≡ false) (same q) (label_new n m (append_none (label_faults n m) (formula_faults n xs e) h).0)
+label_fresh n d (essential m k xs e) h l q =
+    subst (λ (t : Token). is_in t.word n.labels ≡ false) (same q)
+    (label_new n m (append_none (label_faults n m) (formula_faults n xs e) h).0)
   where
     same : {a b : Token} → Some a ≡ Some b → a ≡ b
     same s = cc
-label_fresh n d (axiomatic m k xs e) h l q = subst (λ (t : Token). is_in t.word n.labels ≡ false) (same q) (label_new n m (append_none (label_faults n m) (formula_faults n xs e) h).0)
+label_fresh n d (axiomatic m k xs e) h l q =
+    subst (λ (t : Token). is_in t.word n.labels ≡ false) (same q)
+    (label_new n m (append_none (label_faults n m) (formula_faults n xs e) h).0)
   where
     same : {a b : Token} → Some a ≡ Some b → a ≡ b
     same s = cc
-label_fresh n d (provable m k xs p ps e) h l q = subst (λ (t : Token). is_in t.word n.labels ≡ false) (same q) (label_new n m (append_none (label_faults n m) (formula_faults n xs p) h).0)
+label_fresh n d (provable m k xs p ps e) h l q =
+    subst (λ (t : Token). is_in t.word n.labels ≡ false) (same q)
+    (label_new n m (append_none (label_faults n m) (formula_faults n xs p) h).0)
   where
     same : {a b : Token} → Some a ≡ Some b → a ≡ b
     same s = cc
@@ -43,30 +62,45 @@ label_fresh n d (disjoint k xs e) h l q = absurd (cc)
 label_fresh n d (opening k) h l q = absurd (cc)
 label_fresh n d (closing k) h l q = absurd (cc)
 
-module _ (db : List Statement) (s : Statement) (find new : List ℕ → Option ℕ) (x : AreLabels db find) where
-  abbrev at_label : ℕ → Option Token → Word → Bool
+module _ (db : List Statement) (s : Statement) (find new : List ℕ → Option ℕ)
+    (x : AreLabels db find) where
+  abbrev at_label : ℕ → Option Token → Bytes → Bool
   at_label k o w = elim o [ None ↦ false | Some l ↦ bytes_eq l.word w ]
 
-  front : (w : Word) (k : ℕ) → k < length db → list_any (is_labelled w) (statement_at (db ++ s ∷ []) k) ≡ list_any (is_labelled w) (statement_at db k)
-  front w k h = ap (λ o. list_any (is_labelled w) (elim o [ None ↦ [] | Some t ↦ t ∷ [] ])) (get-front db (s ∷ []) k h)
+  front : (w : Bytes) (k : ℕ) → k < length db
+      → list_any (is_labelled w) (statement_at (db ++ s ∷ []) k)
+      ≡ list_any (is_labelled w) (statement_at db k)
+  front w k h =
+      ap (λ o. list_any (is_labelled w) (elim o [ None ↦ [] | Some t ↦ t ∷ [] ]))
+      (get-front db (s ∷ []) k h)
 
-  last : (w : Word) → list_any (is_labelled w) (statement_at (db ++ s ∷ []) (length db)) ≡ is_labelled w s
-  last w = ap (λ o. list_any (is_labelled w) (elim o [ None ↦ [] | Some t ↦ t ∷ [] ])) (get-seam db s []) ∙ or_false (is_labelled w s)
+  last : (w : Bytes)
+      → list_any (is_labelled w) (statement_at (db ++ s ∷ []) (length db)) ≡ is_labelled w s
+  last w =
+      ap (λ o. list_any (is_labelled w) (elim o [ None ↦ [] | Some t ↦ t ∷ [] ])) (get-seam db s [])
+      ∙ or_false (is_labelled w s)
     where
       or_false : (b : Bool) → (b || false) ≡ b
       or_false true = refl
       or_false false = refl
 
   -- the statement has the label, or the map is the old one there
-  here : (w : Word) (o : Option Token) → label_of s ≡ o → new w ≡ label_after (length db) o w (find w) → ((is_labelled w s ≡ true) × (new w ≡ Some (length db))) ⊎ ((is_labelled w s ≡ false) × (new w ≡ find w))
+  here : (w : Bytes) (o : Option Token) → label_of s ≡ o
+      → new w ≡ label_after (length db) o w (find w)
+      → ((is_labelled w s ≡ true) × (new w ≡ Some (length db)))
+      ⊎ ((is_labelled w s ≡ false) × (new w ≡ find w))
   here w None e h = inr (ap (λ o. elim o [ None ↦ false | Some l ↦ bytes_eq l.word w ]) e, h)
-  here w (Some l) e h = by (bytes_eq l.word w) (ap (λ o. elim o [ None ↦ false | Some l ↦ bytes_eq l.word w ]) e) h
+  here w (Some l) e h =
+      by (bytes_eq l.word w) (ap (λ o. elim o [ None ↦ false | Some l ↦ bytes_eq l.word w ]) e) h
     where
-      by : (b : Bool) → is_labelled w s ≡ b → new w ≡ (if b then Some (length db) else find w) → ((is_labelled w s ≡ true) × (new w ≡ Some (length db))) ⊎ ((is_labelled w s ≡ false) × (new w ≡ find w))
+      by : (b : Bool) → is_labelled w s ≡ b → new w ≡ (if b then Some (length db) else find w)
+          → ((is_labelled w s ≡ true) × (new w ≡ Some (length db)))
+          ⊎ ((is_labelled w s ≡ false) × (new w ≡ find w))
       by true p q = inl (p, q)
       by false p q = inr (p, q)
 
-  pub labels_after : ((w : Word) → new w ≡ label_after (length db) (label_of s) w (find w)) → ((w : Word) → is_labelled w s ≡ true → find w ≡ None) → AreLabels (db ++ s ∷ []) new
+  pub labels_after : ((w : Bytes) → new w ≡ label_after (length db) (label_of s) w (find w))
+      → ((w : Bytes) → is_labelled w s ≡ true → find w ≡ None) → AreLabels (db ++ s ∷ []) new
   labels_after is fresh = record {
     found = λ w k e. found w k e (here w (label_of s) refl (is w));
     missing = λ w e k. missing w k e (here w (label_of s) refl (is w)) (cases_order k (length db));
@@ -76,29 +110,50 @@ module _ (db : List Statement) (s : Statement) (find new : List ℕ → Option �
       some_same : {p q : ℕ} → Some p ≡ Some q → p ≡ q
       some_same q = cc
 
-      found : (w : Word) (k : ℕ) → new w ≡ Some k → ((is_labelled w s ≡ true) × (new w ≡ Some (length db))) ⊎ ((is_labelled w s ≡ false) × (new w ≡ find w)) → (k < length (db ++ s ∷ [])) × IsTrue (list_any (is_labelled w) (statement_at (db ++ s ∷ []) k))
+      found : (w : Bytes) (k : ℕ) → new w ≡ Some k
+          → ((is_labelled w s ≡ true) × (new w ≡ Some (length db)))
+          ⊎ ((is_labelled w s ≡ false) × (new w ≡ find w))
+          → (k < length (db ++ s ∷ []))
+          × IsTrue (list_any (is_labelled w) (statement_at (db ++ s ∷ []) k))
       found w k e (inl (p, q)) =
-          let same = some_same (sym q ∙ e) in
-          (omega (arith, same, length-append db (s ∷ [])), (ap (λ i. list_any (is_labelled w) (statement_at (db ++ s ∷ []) i)) (sym same) ∙ last w ∙ p))
+          let same = some_same (sym q ∙ e) in (
+            omega (arith, same, length-append db (s ∷ [])),
+            (ap (λ i. list_any (is_labelled w) (statement_at (db ++ s ∷ []) i)) (sym same)
+                ∙ last w ∙ p),
+          )
       found w k e (inr (p, q)) =
           let f = x.found w k (sym q ∙ e) in
           ((let l = f.0 in omega (arith, l, length-append db (s ∷ []))), front w k f.0 ∙ f.1)
 
-      missing : (w : Word) (k : ℕ) → new w ≡ None → ((is_labelled w s ≡ true) × (new w ≡ Some (length db))) ⊎ ((is_labelled w s ≡ false) × (new w ≡ find w)) → (k ≡ length db) ⊎ ((k < length db) ⊎ (length db < k)) → list_any (is_labelled w) (statement_at (db ++ s ∷ []) k) ≡ false
+      missing : (w : Bytes) (k : ℕ) → new w ≡ None
+          → ((is_labelled w s ≡ true) × (new w ≡ Some (length db)))
+          ⊎ ((is_labelled w s ≡ false) × (new w ≡ find w))
+          → (k ≡ length db) ⊎ ((k < length db) ⊎ (length db < k))
+          → list_any (is_labelled w) (statement_at (db ++ s ∷ []) k) ≡ false
       missing w k e (inl (p, q)) c = absurd (let z = sym q ∙ e in cc)
-      missing w k e (inr (p, q)) (inl m) = ap (λ i. list_any (is_labelled w) (statement_at (db ++ s ∷ []) i)) m ∙ last w ∙ p
+      missing w k e (inr (p, q)) (inl m) =
+          ap (λ i. list_any (is_labelled w) (statement_at (db ++ s ∷ []) i)) m ∙ last w ∙ p
       missing w k e (inr (p, q)) (inr (inl m)) = front w k m ∙ x.missing w (sym q ∙ e) k
-      missing w k e (inr (p, q)) (inr (inr m)) = ap (λ o. list_any (is_labelled w) (elim o [ None ↦ [] | Some t ↦ t ∷ [] ])) (slice_get_past (db ++ s ∷ []) k (omega (arith, m, length-append db (s ∷ []))))
+      missing w k e (inr (p, q)) (inr (inr m)) =
+          ap (λ o. list_any (is_labelled w) (elim o [ None ↦ [] | Some t ↦ t ∷ [] ]))
+          (slice_get_past (db ++ s ∷ []) k (omega (arith, m, length-append db (s ∷ []))))
 
       -- a label of the new statement is none before
-      apart : (w : Word) (j k : ℕ) → list_any (is_labelled w) (statement_at (db ++ s ∷ []) j) ≡ true → list_any (is_labelled w) (statement_at (db ++ s ∷ []) k) ≡ true → j < length db → length db ≤ k → ⊥
+      apart : (w : Bytes) (j k : ℕ)
+          → list_any (is_labelled w) (statement_at (db ++ s ∷ []) j) ≡ true
+          → list_any (is_labelled w) (statement_at (db ++ s ∷ []) k) ≡ true → j < length db
+          → length db ≤ k → ⊥
       apart w j k e f l m =
           let b = is_there (is_labelled w) (db ++ s ∷ []) k f in
           let same : k ≡ length db = omega (arith, b, m, length-append db (s ∷ [])) in
-          let new : is_labelled w s ≡ true = sym (last w) ∙ sym (ap (λ i. list_any (is_labelled w) (statement_at (db ++ s ∷ []) i)) same) ∙ f in
+          let new : is_labelled w s ≡ true =
+          sym (last w)
+          ∙ sym (ap (λ i. list_any (is_labelled w) (statement_at (db ++ s ∷ []) i)) same) ∙ f in
           true≢false (sym e ∙ front w j l ∙ x.missing w (fresh w new) j)
 
-      only : (w : Word) (j k : ℕ) → list_any (is_labelled w) (statement_at (db ++ s ∷ []) j) ≡ true → list_any (is_labelled w) (statement_at (db ++ s ∷ []) k) ≡ true → (j < length db) ⊎ (length db ≤ j) → (k < length db) ⊎ (length db ≤ k) → j ≡ k
+      only : (w : Bytes) (j k : ℕ) → list_any (is_labelled w) (statement_at (db ++ s ∷ []) j) ≡ true
+          → list_any (is_labelled w) (statement_at (db ++ s ∷ []) k) ≡ true
+          → (j < length db) ⊎ (length db ≤ j) → (k < length db) ⊎ (length db ≤ k) → j ≡ k
       only w j k e f (inl l) (inl m) = x.only w j k (sym (front w j l) ∙ e) (sym (front w k m) ∙ f)
       only w j k e f (inl l) (inr m) = absurd (apart w j k e f l m)
       only w j k e f (inr l) (inl m) = absurd (apart w k j f e m l)
@@ -108,15 +163,24 @@ module _ (db : List Statement) (s : Statement) (find new : List ℕ → Option �
           omega (arith, a, b, l, m, length-append db (s ∷ []))
 
 -- a label of a lawful statement stands for nothing yet
-pub label_unused : (db : List Statement) (find : List ℕ → Option ℕ) → ((w : Word) → is_in w (flat_map label_words db) ≡ is_some (find w)) → (d : ℕ) (s : Statement) → scope_faults (names_before db (length db)) d s ≡ [] → (w : Word) → is_labelled w s ≡ true → find w ≡ None
+pub label_unused : (db : List Statement) (find : List ℕ → Option ℕ)
+    → ((w : Bytes) → is_in w (flat_map label_words db) ≡ is_some (find w)) → (d : ℕ) (s : Statement)
+    → scope_faults (names_before db (length db)) d s ≡ [] → (w : Bytes) → is_labelled w s ≡ true
+    → find w ≡ None
 label_unused db find known d s law w e = by (label_of s) refl e
   where
     none_of : (o : Option ℕ) → is_some o ≡ false → o ≡ None
     none_of None q = refl
     none_of (Some k) q = absurd (true≢false q)
 
-    by : (o : Option Token) → label_of s ≡ o → (elim o [ None ↦ false | Some l ↦ bytes_eq l.word w ]) ≡ true → find w ≡ None
+    by : (o : Option Token) → label_of s ≡ o
+        → (elim o [ None ↦ false | Some l ↦ bytes_eq l.word w ]) ≡ true → find w ≡ None
     by None q f = absurd (true≢false (sym f))
     by (Some l) q f =
         let same = (bytes_eq-Decides l.word w).0 f in
-        none_of (find w) (sym (known w) ∙ sym (ap (λ xs. is_in w (flat_map label_words xs)) (take_all (length db) db (le_refl (length db)))) ∙ subst (λ (u : Word). is_in u (flat_map label_words (take (length db) db)) ≡ false) same (label_fresh (names_before db (length db)) d s law l q))
+        none_of (find w)
+        (sym (known w)
+        ∙ sym (ap (λ xs. is_in w (flat_map label_words xs))
+        (take_all (length db) db (le_refl (length db))))
+        ∙ subst (λ (u : Bytes). is_in u (flat_map label_words (take (length db) db)) ≡ false)
+        same (label_fresh (names_before db (length db)) d s law l q))

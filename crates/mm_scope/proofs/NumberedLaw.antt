@@ -1,17 +1,23 @@
 -- Symbols keep their numbers when statements are added.
-use Rattle.std.proofs.Common.{Result, Ok, Err, OnOk, is_some, ◌≡◌, ℕ, zero, suc, ◌+◌, ◌-◌, ◌<◌, ◌≤◌, Bool, true, false, ◌||◌, List, [], ◌∷◌, ◌++◌, length, map, flat_map, take, drop, get_or, slice_get, slice_range, Option, None, Some, bytes_eq, Bor, if◌then◌else◌, refl, sym, ap, ap₂, ◌∙◌, subst, arith, true≢false, ◌⊎◌, inl, inr, append_assoc, append-nil, length-append, take_all, le_refl}
-use Rattle.std.proofs.lemmas.List.{map-append, length-map, take_more, get_or_push, get_or_append_left, take-append-drop}
+use Rattle.std.proofs.Common.{Result, Ok, Err, OnOk, is_some, ◌≡◌, ℕ, zero, suc, ◌+◌, ◌-◌, ◌<◌, ◌≤◌}
+use Rattle.std.proofs.Common.{Bool, true, false, ◌||◌, List, [], ◌∷◌, ◌++◌, length, map, flat_map}
+use Rattle.std.proofs.Common.{take, drop, get_or, slice_get, slice_range, Option, None, Some}
+use Rattle.std.proofs.Common.{bytes_eq, Bor, if◌then◌else◌, refl, sym, ap, ap₂, ◌∙◌, subst, arith}
+use Rattle.std.proofs.Common.{true≢false, ◌⊎◌, inl, inr, append_assoc, append-nil, length-append}
+use Rattle.std.proofs.Common.{take_all, le_refl}
+use Rattle.std.proofs.lemmas.List.{map-append, length-map, take_more, get_or_push}
+use Rattle.std.proofs.lemmas.List.{get_or_append_left, take-append-drop}
 use Rattle.std.proofs.lemmas.Grind.{flat_map-append}
 use Rattle.std.proofs.lemmas.Bool.{cases_lt}
 use Rattle.std.proofs.lemmas.Option.{slice_get_within, slice_get-get_or}
 use Rattle.std.proofs.Math.Seq.{drop-append_seam, take-append_seam}
 use Rattle.std.specs.Option.{option_map}
-use Rattle.std.specs.Map.{keys_of}
+use Rattle.std.specs.Map.{keys_of, lookup}
 use Rattle.indexmap.specs.IndexMap.{insert_entry}
-use Rattle.mm_spec.specs.Text.{Word, Token, is_in, words}
+use Rattle.mm_spec.specs.Text.{Bytes, Token, is_in, words}
 use Rattle.std.proofs.lemmas.Map.Made.{is_some-lookup}
-use Rattle.std.specs.Map.{lookup}
-use Rattle.mm_spec.specs.Statement.{Statement, symbols_of, constants, variables, disjoint, floating, essential, axiomatic, provable, opening, closing}
+use Rattle.mm_spec.specs.Statement.{Statement, symbols_of, constants, variables, disjoint, floating}
+use Rattle.mm_spec.specs.Statement.{essential, axiomatic, provable, opening, closing}
 use Rattle.mm_spec.specs.Scope.{constants_of, variables_of}
 use Rattle.mm_spec.specs.Lawful.{scope_fault}
 use Rattle.mm_spec.specs.Frame.{first_occurrences, symbol_names, place_of, formula_of}
@@ -28,105 +34,161 @@ use Rattle.mm_scope.proofs.BoundsLaw.{symbol-known}
 -- ---- one name more
 
 -- the keys of a map with one entry more
-pub names-inserted : {V : Type 0} (es : List (Bor Word × V)) (k : Bor Word) (v : V)
-    → map (λ x. x.now) (keys_of (insert_entry (λ (a b : Bor Word). bytes_eq a.now b.now) es k v)) ≡ with_name k.now (map (λ x. x.now) (keys_of es))
+pub names-inserted : {V : Type 0} (es : List (Bor Bytes × V)) (k : Bor Bytes) (v : V)
+    → map (λ x. x.now) (keys_of (insert_entry (λ (a b : Bor Bytes). bytes_eq a.now b.now) es k v))
+    ≡ with_name k.now (map (λ x. x.now) (keys_of es))
 names-inserted [] k v = refl
 names-inserted (e ∷ es) k v = by (bytes_eq k.now e.0.now) (names-inserted es k v)
   where
-    ns : List Word
+    ns : List Bytes
     ns = map (λ x. x.now) (keys_of es)
 
-    behind : (b : Bool) → map (λ x. x.now) (keys_of (insert_entry (λ (a b : Bor Word). bytes_eq a.now b.now) es k v)) ≡ (if b then ns else (ns ++ k.now ∷ []))
-        → e.0.now ∷ map (λ x. x.now) (keys_of (insert_entry (λ (a b : Bor Word). bytes_eq a.now b.now) es k v)) ≡ (if b then (e.0.now ∷ ns) else ((e.0.now ∷ ns) ++ k.now ∷ []))
+    behind : (b : Bool)
+        → map (λ x. x.now)
+        (keys_of (insert_entry (λ (a b : Bor Bytes). bytes_eq a.now b.now) es k v))
+        ≡ (if b then ns else (ns ++ k.now ∷ []))
+        → e.0.now
+        ∷ map (λ x. x.now)
+        (keys_of (insert_entry (λ (a b : Bor Bytes). bytes_eq a.now b.now) es k v))
+        ≡ (if b then (e.0.now ∷ ns) else ((e.0.now ∷ ns) ++ k.now ∷ []))
     behind true h = ap (λ l. e.0.now ∷ l) h
     behind false h = ap (λ l. e.0.now ∷ l) h
 
-    by : (b : Bool) → map (λ x. x.now) (keys_of (insert_entry (λ (a b : Bor Word). bytes_eq a.now b.now) es k v)) ≡ with_name k.now ns
-        → map (λ x. x.now) (keys_of (if b then ((e.0, v) ∷ es) else (e ∷ insert_entry (λ (a b : Bor Word). bytes_eq a.now b.now) es k v))) ≡ (if b || is_in k.now ns then (e.0.now ∷ ns) else ((e.0.now ∷ ns) ++ k.now ∷ []))
+    by : (b : Bool)
+        → map (λ x. x.now)
+        (keys_of (insert_entry (λ (a b : Bor Bytes). bytes_eq a.now b.now) es k v))
+        ≡ with_name k.now ns
+        → map (λ x. x.now)
+        (keys_of
+        (if b then ((e.0, v) ∷ es) else
+        (e ∷ insert_entry (λ (a b : Bor Bytes). bytes_eq a.now b.now) es k v)))
+        ≡ (if b || is_in k.now ns then (e.0.now ∷ ns) else ((e.0.now ∷ ns) ++ k.now ∷ []))
     by true h = refl
     by false h = behind (is_in k.now ns) h
 
 -- the names of what is declared, with one word more
-pub names-declared : (d : List Word) (w : Word) → with_name w (first_occurrences [] d) ≡ first_occurrences [] (d ++ w ∷ [])
+pub names-declared : (d : List Bytes) (w : Bytes)
+    → with_name w (first_occurrences [] d) ≡ first_occurrences [] (d ++ w ∷ [])
 names-declared d w = by (is_in w (first_occurrences [] d)) ∙ sym (first-added d w)
   where
-    by : (b : Bool) → (if b then first_occurrences [] d else (first_occurrences [] d ++ w ∷ [])) ≡ first_occurrences [] d ++ if_new b w
+    by : (b : Bool)
+        → (if b then first_occurrences [] d else (first_occurrences [] d ++ w ∷ []))
+        ≡ first_occurrences [] d ++ if_new b w
     by true = sym (append-nil (first_occurrences [] d))
     by false = refl
 
 -- a name that is there stays the list as it was
-pub with-known : (w : Word) (ns : List Word) → is_in w ns ≡ true → with_name w ns ≡ ns
+pub with-known : (w : Bytes) (ns : List Bytes) → is_in w ns ≡ true → with_name w ns ≡ ns
 with-known w ns h = ap (λ b. if b then ns else (ns ++ w ∷ [])) h
 
--- ---- more names behind
+-- ---- more names after
 
-pub place-front : (w : Word) (ns more : List Word) → is_in w ns ≡ true → place_of w (ns ++ more) ≡ place_of w ns
+pub place-front : (w : Bytes) (ns more : List Bytes) → is_in w ns ≡ true
+    → place_of w (ns ++ more) ≡ place_of w ns
 place-front w [] more h = absurd (true≢false (sym h))
 place-front w (n ∷ ns) more h = by (bytes_eq w n) refl (place-front w ns more)
   where
-    by : (b : Bool) → bytes_eq w n ≡ b → (is_in w ns ≡ true → place_of w (ns ++ more) ≡ place_of w ns) → ◌≡◌ {A = ℕ} (elim b [ true ↦ 0 | false ↦ suc (place_of w (ns ++ more)) ]) (elim b [ true ↦ 0 | false ↦ suc (place_of w ns) ])
+    by : (b : Bool) → bytes_eq w n ≡ b
+        → (is_in w ns ≡ true → place_of w (ns ++ more) ≡ place_of w ns)
+        → ◌≡◌ {A = ℕ} (elim b [ true ↦ 0 | false ↦ suc (place_of w (ns ++ more)) ])
+        (elim b [ true ↦ 0 | false ↦ suc (place_of w ns) ])
     by true e r = refl
     by false e r = ap suc (r (sym (ap (λ b. b || is_in w ns) e) ∙ h))
 
 -- what more words add
-more-names : (d ws : List Word) → (more : List Word) × (first_occurrences [] (d ++ ws) ≡ first_occurrences [] d ++ more)
-more-names d [] = ([], ap (first_occurrences []) (append-nil d) ∙ sym (append-nil (first_occurrences [] d)))
+more-names : (d ws : List Bytes)
+    → (more : List Bytes) × (first_occurrences [] (d ++ ws) ≡ first_occurrences [] d ++ more)
+more-names d [] =
+    ([], ap (first_occurrences []) (append-nil d) ∙ sym (append-nil (first_occurrences [] d)))
 more-names d (w ∷ ws) =
     let r = more-names (d ++ w ∷ []) ws in
-    let b = is_in w (first_occurrences [] d) in
-    (if_new b w ++ r.0, ap (first_occurrences []) (sym (append_assoc d (w ∷ []) ws)) ∙ r.1 ∙ ap (λ l. l ++ r.0) (first-added d w) ∙ append_assoc (first_occurrences [] d) (if_new b w) r.0)
+    let b = is_in w (first_occurrences [] d) in (
+      if_new b w ++ r.0,
+      ap (first_occurrences []) (sym (append_assoc d (w ∷ []) ws)) ∙ r.1
+          ∙ ap (λ l. l ++ r.0) (first-added d w)
+          ∙ append_assoc (first_occurrences [] d) (if_new b w) r.0,
+    )
 
-abbrev pub declared : List Statement → List Word
+abbrev pub declared : List Statement → List Bytes
 declared db = flat_map (λ s. constants_of s ++ variables_of s) db
 
-declared-next : (db : List Statement) (s : Statement) → declared (db ++ s ∷ []) ≡ declared db ++ (constants_of s ++ variables_of s)
-declared-next db s = flat_map-append (λ s. constants_of s ++ variables_of s) db (s ∷ []) ∙ ap (λ l. declared db ++ l) (append-nil (constants_of s ++ variables_of s))
+declared-next : (db : List Statement) (s : Statement)
+    → declared (db ++ s ∷ []) ≡ declared db ++ (constants_of s ++ variables_of s)
+declared-next db s =
+    flat_map-append (λ s. constants_of s ++ variables_of s) db (s ∷ [])
+    ∙ ap (λ l. declared db ++ l) (append-nil (constants_of s ++ variables_of s))
 
--- the names behind a statement, by what it declares
-pub names-next : (db : List Statement) (s : Statement) (ns : List Word) → ns ≡ first_occurrences [] (declared db ++ (constants_of s ++ variables_of s)) → ns ≡ symbol_names (db ++ s ∷ [])
+-- the names after a statement, by what it declares
+pub names-next : (db : List Statement) (s : Statement) (ns : List Bytes)
+    → ns ≡ first_occurrences [] (declared db ++ (constants_of s ++ variables_of s))
+    → ns ≡ symbol_names (db ++ s ∷ [])
 names-next db s ns h = h ∙ ap (first_occurrences []) (sym (declared-next db s))
 
-names-grow : (db : List Statement) (s : Statement) → (more : List Word) × (symbol_names (db ++ s ∷ []) ≡ symbol_names db ++ more)
-names-grow db s = let r = more-names (declared db) (constants_of s ++ variables_of s) in (r.0, ap (first_occurrences []) (declared-next db s) ∙ r.1)
+names-grow : (db : List Statement) (s : Statement)
+    → (more : List Bytes) × (symbol_names (db ++ s ∷ []) ≡ symbol_names db ++ more)
+names-grow db s =
+    let r = more-names (declared db) (constants_of s ++ variables_of s) in
+    (r.0, ap (first_occurrences []) (declared-next db s) ∙ r.1)
 
-pub names-stay : (db : List Statement) (s : Statement) → constants_of s ++ variables_of s ≡ [] → symbol_names (db ++ s ∷ []) ≡ symbol_names db
-names-stay db s h = ap (first_occurrences []) (declared-next db s ∙ ap (λ l. declared db ++ l) h ∙ append-nil (declared db))
+pub names-stay : (db : List Statement) (s : Statement) → constants_of s ++ variables_of s ≡ []
+    → symbol_names (db ++ s ∷ []) ≡ symbol_names db
+names-stay db s h =
+    ap (first_occurrences [])
+    (declared-next db s ∙ ap (λ l. declared db ++ l) h ∙ append-nil (declared db))
 
 -- ---- formulas keep their numbers
 
-same-places : (ns ms : List Word) (ws : List Word) → ((w : Word) → is_in w ws ≡ true → place_of w ns ≡ place_of w ms) → map (λ w. place_of w ns) ws ≡ map (λ w. place_of w ms) ws
+same-places : (ns ms : List Bytes) (ws : List Bytes)
+    → ((w : Bytes) → is_in w ws ≡ true → place_of w ns ≡ place_of w ms)
+    → map (λ w. place_of w ns) ws ≡ map (λ w. place_of w ms) ws
 same-places ns ms [] h = refl
 same-places ns ms (w ∷ ws) h =
-    ap₂ (λ n l. n ∷ l) (h w (ap (λ b. b || is_in w ws) (itself w))) (same-places ns ms ws (λ v e. h v (ap (λ b. bytes_eq v w || b) e ∙ or-true (bytes_eq v w))))
+    ap₂ (λ n l. n ∷ l) (h w (ap (λ b. b || is_in w ws) (itself w)))
+    (same-places ns ms ws (λ v e. h v (ap (λ b. bytes_eq v w || b) e ∙ or-true (bytes_eq v w))))
   where
     or-true : (b : Bool) → (b || true) ≡ true
     or-true true = refl
     or-true false = refl
 
-same-maps : (f g : Statement → List ℕ) (xs : List Statement) → ((k : ℕ) (t : Statement) → slice_get xs k ≡ Some t → f t ≡ g t) → flat_map f xs ≡ flat_map g xs
+same-maps : (f g : Statement → List ℕ) (xs : List Statement)
+    → ((k : ℕ) (t : Statement) → slice_get xs k ≡ Some t → f t ≡ g t)
+    → flat_map f xs ≡ flat_map g xs
 same-maps f g [] h = refl
-same-maps f g (x ∷ xs) h = ap₂ (λ a b. a ++ b) (h 0 x refl) (same-maps f g xs (λ k t e. h (suc k) t e))
+same-maps f g (x ∷ xs) h =
+    ap₂ (λ a b. a ++ b) (h 0 x refl) (same-maps f g xs (λ k t e. h (suc k) t e))
 
-module _ (db : List Statement) (lawful : (k : ℕ) → k < length db → scope_fault db k ≡ None) (s : Statement) where
+module _ (db : List Statement) (lawful : (k : ℕ) → k < length db → scope_fault db k ≡ None)
+    (s : Statement) where
   abbrev all : List Statement
   all = db ++ s ∷ []
 
-  formula-kept : (k : ℕ) (t : Statement) → slice_get db k ≡ Some t → formula_of all t ≡ formula_of db t
+  formula-kept : (k : ℕ) (t : Statement) → slice_get db k ≡ Some t
+      → formula_of all t ≡ formula_of db t
   formula-kept k t e =
       let g = names-grow db s in
       same-places (symbol_names all) (symbol_names db) (words (symbols_of t))
-      (λ w h. ap (place_of w) g.1 ∙ place-front w (symbol_names db) g.0 (symbol-known db lawful k (slice_get_within db k t e) t e w h))
+      (λ w h. ap (place_of w) g.1
+      ∙ place-front w (symbol_names db) g.0
+      (symbol-known db lawful k (slice_get_within db k t e) t e w h))
 
-  front-kept : (j : ℕ) → flat_map (formula_of all) (take j db) ≡ flat_map (formula_of db) (take j db)
+  front-kept : (j : ℕ)
+      → flat_map (formula_of all) (take j db) ≡ flat_map (formula_of db) (take j db)
   front-kept j =
       same-maps (formula_of all) (formula_of db) (take j db)
-      (λ k t e. formula-kept k t (ap (λ l. slice_get l k) (sym (take-append-drop j db)) ∙ get-front (take j db) (drop j db) k (slice_get_within (take j db) k t e) ∙ e))
+      (λ k t e. formula-kept k t
+      (ap (λ l. slice_get l k) (sym (take-append-drop j db))
+      ∙ get-front (take j db) (drop j db) k (slice_get_within (take j db) k t e) ∙ e))
 
   all-kept : flat_map (formula_of all) db ≡ flat_map (formula_of db) db
-  all-kept = let e : take (length db) db ≡ db = take_all (length db) db (le_refl (length db)) in subst (λ l. flat_map (formula_of all) l ≡ flat_map (formula_of db) l) e (front-kept (length db))
+  all-kept =
+      let e : take (length db) db ≡ db = take_all (length db) db (le_refl (length db)) in
+      subst (λ l. flat_map (formula_of all) l ≡ flat_map (formula_of db) l) e
+      (front-kept (length db))
 
   numbers-next : flat_map (formula_of all) all ≡ flat_map (formula_of db) db ++ formula_of all s
-  numbers-next = flat_map-append (formula_of all) db (s ∷ []) ∙ ap₂ (λ a b. a ++ b) all-kept (append-nil (formula_of all s))
+  numbers-next =
+      flat_map-append (formula_of all) db (s ∷ [])
+      ∙ ap₂ (λ a b. a ++ b) all-kept (append-nil (formula_of all s))
 
   take-front : (j : ℕ) → j ≤ length db → take j all ≡ take j db
   take-front j h = front db j h
@@ -137,7 +199,9 @@ module _ (db : List Statement) (lawful : (k : ℕ) → k < length db → scope_f
       front (x ∷ xs) (suc j) h = ap (λ l. x ∷ l) (front xs j (omega arith))
 
   -- one statement more
-  pub formulas-more : (numbers places : List ℕ) → AreFormulas db numbers places → (more : List ℕ) → more ≡ numbers ++ formula_of all s → (at : ℕ) → at ≡ length more → AreFormulas all more (places ++ at ∷ [])
+  pub formulas-more : (numbers places : List ℕ) → AreFormulas db numbers places → (more : List ℕ)
+      → more ≡ numbers ++ formula_of all s → (at : ℕ) → at ≡ length more
+      → AreFormulas all more (places ++ at ∷ [])
   formulas-more numbers places f more e at a = record {
     numbers_are = whole;
     count = length-append places (at ∷ []) ∙ ap (λ n. n + 1) f.count ∙ ap (λ n. n + 1) (sym long);
@@ -150,13 +214,19 @@ module _ (db : List Statement) (lawful : (k : ℕ) → k < length db → scope_f
       whole : more ≡ flat_map (formula_of all) all
       whole = e ∙ ap (λ l. l ++ formula_of all s) f.numbers_are ∙ sym numbers-next
 
-      by : (k : ℕ) → (k < length db + 1) ⊎ (length db + 1 ≤ k) → k ≤ length all → get_or (places ++ at ∷ []) k 0 ≡ length (flat_map (formula_of all) (take k all))
+      by : (k : ℕ) → (k < length db + 1) ⊎ (length db + 1 ≤ k) → k ≤ length all
+          → get_or (places ++ at ∷ []) k 0 ≡ length (flat_map (formula_of all) (take k all))
       by k (inl l) h =
-          get_or_append_left places (at ∷ []) 0 k (let c = f.count in omega (arith, c, l)) ∙ f.place k (omega (arith, l))
-          ∙ ap length (sym (front-kept k)) ∙ ap (λ l. length (flat_map (formula_of all) l)) (sym (take-front k (omega (arith, l))))
+          get_or_append_left places (at ∷ []) 0 k (let c = f.count in omega (arith, c, l))
+          ∙ f.place k (omega (arith, l))
+          ∙ ap length (sym (front-kept k))
+          ∙ ap (λ l. length (flat_map (formula_of all) l))
+          (sym (take-front k (omega (arith, l))))
       by k (inr l) h =
           let is : k ≡ length db + 1 = omega (arith, l, h, long) in
-          get_or_push places at 0 k (f.count ∙ sym is) ∙ a ∙ ap length whole ∙ ap (λ l. length (flat_map (formula_of all) l)) (sym (take_all k all (let n : length all ≤ k = omega (arith, is, long) in n)))
+          get_or_push places at 0 k (f.count ∙ sym is) ∙ a ∙ ap length whole
+          ∙ ap (λ l. length (flat_map (formula_of all) l))
+          (sym (take_all k all (let n : length all ≤ k = omega (arith, is, long) in n)))
 
 -- ---- the formula of each statement stands between its places
 
@@ -164,12 +234,17 @@ module _ (db : List Statement) (numbers places : List ℕ) (f : AreFormulas db n
   abbrev upto : ℕ → List ℕ
   upto k = flat_map (formula_of db) (take k db)
 
-  upto-more : (k : ℕ) → k < length db → upto (k + 1) ≡ upto k ++ formula_of db (get_or db k (opening 0))
+  upto-more : (k : ℕ) → k < length db
+      → upto (k + 1) ≡ upto k ++ formula_of db (get_or db k (opening 0))
   upto-more k h =
-      ap (flat_map (formula_of db)) (take_more db k (opening 0) h) ∙ flat_map-append (formula_of db) (take k db) (get_or db k (opening 0) ∷ []) ∙ ap (λ l. upto k ++ l) (append-nil (formula_of db (get_or db k (opening 0))))
+      ap (flat_map (formula_of db)) (take_more db k (opening 0) h)
+      ∙ flat_map-append (formula_of db) (take k db) (get_or db k (opening 0) ∷ [])
+      ∙ ap (λ l. upto k ++ l) (append-nil (formula_of db (get_or db k (opening 0))))
 
   rest-of : (k : ℕ) → numbers ≡ upto k ++ flat_map (formula_of db) (drop k db)
-  rest-of k = f.numbers_are ∙ ap (flat_map (formula_of db)) (sym (take-append-drop k db)) ∙ flat_map-append (formula_of db) (take k db) (drop k db)
+  rest-of k =
+      f.numbers_are ∙ ap (flat_map (formula_of db)) (sym (take-append-drop k db))
+      ∙ flat_map-append (formula_of db) (take k db) (drop k db)
 
   pub formulas-numbered : AreNumbered db numbers places
   formulas-numbered = record {
@@ -177,105 +252,157 @@ module _ (db : List Statement) (numbers places : List ℕ) (f : AreFormulas db n
     order = λ k l.
         let p = f.place k (omega (arith, l)) in
         let q = f.place (k + 1) (omega (arith, l)) in
-        let n = ap length (upto-more k l) ∙ length-append (upto k) (formula_of db (get_or db k (opening 0))) in
+        let n =
+        ap length (upto-more k l)
+        ∙ length-append (upto k) (formula_of db (get_or db k (opening 0))) in
         omega (arith, p, q, n);
     within = λ k l.
         let q = f.place (k + 1) (omega (arith, l)) in
-        let n = ap length (rest-of (k + 1)) ∙ length-append (upto (k + 1)) (flat_map (formula_of db) (drop (k + 1) db)) in
+        let n =
+        ap length (rest-of (k + 1))
+        ∙ length-append (upto (k + 1)) (flat_map (formula_of db) (drop (k + 1) db)) in
         omega (arith, q, n);
     formula = λ k l.
         let xs = upto k in
         let ys = formula_of db (get_or db k (opening 0)) in
         let zs = flat_map (formula_of db) (drop (k + 1) db) in
-        let split : numbers ≡ (xs ++ ys) ++ zs = rest-of (k + 1) ∙ ap (λ l. l ++ zs) (upto-more k l) in
+        let split : numbers ≡ (xs ++ ys) ++ zs =
+        rest-of (k + 1) ∙ ap (λ l. l ++ zs) (upto-more k l) in
         let p = f.place k (omega (arith, l)) in
         let q = f.place (k + 1) (omega (arith, l)) ∙ ap length (upto-more k l) in
-        ap₂ (slice_range numbers) p q ∙ ap (λ l. slice_range l (length xs) (length (xs ++ ys))) split ∙ middle xs ys zs
-        ∙ sym (ap (λ o. flat_map (formula_of db) (elim o [ None ↦ [] | Some s ↦ s ∷ [] ])) (slice_get-get_or db k (opening 0) l) ∙ append-nil ys);
+        ap₂ (slice_range numbers) p q
+        ∙ ap (λ l. slice_range l (length xs) (length (xs ++ ys))) split ∙ middle xs ys zs
+        ∙ sym (ap (λ o. flat_map (formula_of db) (elim o [ None ↦ [] | Some s ↦ s ∷ [] ]))
+        (slice_get-get_or db k (opening 0) l)
+        ∙ append-nil ys);
   }
     where
-      middle : (xs ys zs : List ℕ) → slice_range ((xs ++ ys) ++ zs) (length xs) (length (xs ++ ys)) ≡ ys
+      middle : (xs ys zs : List ℕ)
+          → slice_range ((xs ++ ys) ++ zs) (length xs) (length (xs ++ ys)) ≡ ys
       middle xs ys zs =
           let n : length (xs ++ ys) - length xs ≡ length ys = omega (arith, length-append xs ys) in
-          ap₂ (λ n l. take n l) n (ap (drop (length xs)) (append_assoc xs ys zs) ∙ drop-append_seam xs (ys ++ zs)) ∙ take-append_seam ys zs
+          ap₂ (λ n l. take n l) n
+          (ap (drop (length xs)) (append_assoc xs ys zs) ∙ drop-append_seam xs (ys ++ zs))
+          ∙ take-append_seam ys zs
 
 -- ---- what a map says of a name
 
-pub map-len : {V : Type 0} (es : List (Bor Word × V)) → length es ≡ length (map (λ x. x.now) (keys_of es))
+pub map-len : {V : Type 0} (es : List (Bor Bytes × V))
+    → length es ≡ length (map (λ x. x.now) (keys_of es))
 map-len es = sym (length-map (keys_of es) (λ x. x.now) ∙ length-map es (λ e. e.0))
 
 -- ---- words numbered one by one
 
-pub numbers-more : (text : List ℕ) (ws : List place.Word) (ns : List Word) (from i : ℕ) → from ≤ i → i < length ws
-    → numbers_in ns (between text ws from (i + 1)) ≡ numbers_in ns (between text ws from i) ++ place_of (token_at text ws i).word ns ∷ []
+pub numbers-more : (text : List ℕ) (ws : List place.Word) (ns : List Bytes) (from i : ℕ) → from ≤ i
+    → i < length ws
+    → numbers_in ns (between text ws from (i + 1))
+    ≡ numbers_in ns (between text ws from i) ++ place_of (token_at text ws i).word ns ∷ []
 numbers-more text ws ns from i l h =
     ap (numbers_in ns) (between-more text ws from i l h)
-    ∙ ap (map (λ w. place_of w ns)) (map-append (λ (t : Token). t.word) (between text ws from i) (token_at text ws i ∷ []))
-    ∙ map-append (λ (w : Word). place_of w ns) (words (between text ws from i)) ((token_at text ws i).word ∷ [])
+    ∙ ap (map (λ w. place_of w ns))
+    (map-append (λ (t : Token). t.word) (between text ws from i) (token_at text ws i ∷ []))
+    ∙ map-append (λ (w : Bytes). place_of w ns) (words (between text ws from i))
+    ((token_at text ws i).word ∷ [])
 
-pub numbers-none : (text : List ℕ) (ws : List place.Word) (ns : List Word) (from : ℕ) → [] ≡ numbers_in ns (between text ws from from)
+pub numbers-none : (text : List ℕ) (ws : List place.Word) (ns : List Bytes) (from : ℕ)
+    → [] ≡ numbers_in ns (between text ws from from)
 numbers-none text ws ns from = ap (numbers_in ns) (between-none text ws from)
 
 -- a name's place
-pub place-le : (w : Word) (ns : List Word) → place_of w ns ≤ length ns
+pub place-le : (w : Bytes) (ns : List Bytes) → place_of w ns ≤ length ns
 place-le w [] = omega arith
 place-le w (n ∷ ns) = by (bytes_eq w n) (place-le w ns)
   where
-    by : (b : Bool) → place_of w ns ≤ length ns → elim b [ true ↦ 0 | false ↦ suc (place_of w ns) ] ≤ suc (length ns)
+    by : (b : Bool) → place_of w ns ≤ length ns
+        → elim b [ true ↦ 0 | false ↦ suc (place_of w ns) ] ≤ suc (length ns)
     by true h = omega arith
     by false h = omega (arith, h)
 
-pub words-more : (text : List ℕ) (ws : List place.Word) (from i : ℕ) → from ≤ i → i < length ws → words (between text ws from i) ++ (token_at text ws i).word ∷ [] ≡ words (between text ws from (i + 1))
-words-more text ws from i l h = sym (ap words (between-more text ws from i l h) ∙ map-append (λ (t : Token). t.word) (between text ws from i) (token_at text ws i ∷ []))
+pub words-more : (text : List ℕ) (ws : List place.Word) (from i : ℕ) → from ≤ i → i < length ws
+    → words (between text ws from i) ++ (token_at text ws i).word ∷ []
+    ≡ words (between text ws from (i + 1))
+words-more text ws from i l h =
+    sym (ap words (between-more text ws from i l h)
+    ∙ map-append (λ (t : Token). t.word) (between text ws from i) (token_at text ws i ∷ []))
 
--- the names behind words that are declared one by one
-pub names-none : (text : List ℕ) (ws : List place.Word) (from : ℕ) (d : List Word) → first_occurrences [] d ≡ first_occurrences [] (d ++ words (between text ws from from))
-names-none text ws from d = ap (first_occurrences []) (sym (append-nil d) ∙ ap (λ l. d ++ words l) (between-none text ws from))
+-- the names after words that are declared one by one
+pub names-none : (text : List ℕ) (ws : List place.Word) (from : ℕ) (d : List Bytes)
+    → first_occurrences [] d ≡ first_occurrences [] (d ++ words (between text ws from from))
+names-none text ws from d =
+    ap (first_occurrences [])
+    (sym (append-nil d) ∙ ap (λ l. d ++ words l) (between-none text ws from))
 
-pub names-more : (text : List ℕ) (ws : List place.Word) (from i : ℕ) → from ≤ i → i < length ws → (d : List Word) → with_name (token_at text ws i).word (first_occurrences [] (d ++ words (between text ws from i))) ≡ first_occurrences [] (d ++ words (between text ws from (i + 1)))
+pub names-more : (text : List ℕ) (ws : List place.Word) (from i : ℕ) → from ≤ i → i < length ws
+    → (d : List Bytes)
+    → with_name (token_at text ws i).word
+    (first_occurrences [] (d ++ words (between text ws from i)))
+    ≡ first_occurrences [] (d ++ words (between text ws from (i + 1)))
 names-more text ws from i l h d =
     let xs = words (between text ws from i) in
     let w = (token_at text ws i).word in
-    names-declared (d ++ xs) w ∙ ap (first_occurrences []) (append_assoc d xs (w ∷ []) ∙ ap (λ l. d ++ l) (words-more text ws from i l h))
+    names-declared (d ++ xs) w
+    ∙ ap (first_occurrences [])
+    (append_assoc d xs (w ∷ []) ∙ ap (λ l. d ++ l) (words-more text ws from i l h))
 
 pub on_then : {A E : Type 0} {P Q : Type 0} (r : Result A E) → OnOk r P → (P → Q) → OnOk r Q
 on_then (Ok a) h f = f h
 on_then (Err e) h f = tt
 
 -- a name that the map has
-pub found-known : {V : Type 0} (w : Word) (es : List (Bor Word × V)) (o : Option V) → lookup (λ (k : Bor Word). bytes_eq w k.now) es ≡ o → is_some o ≡ true → is_in w (map (λ x. x.now) (keys_of es)) ≡ true
-found-known w es o h k = sym (keys-in w (keys_of es)) ∙ sym (is_some-lookup (λ (k : Bor Word). bytes_eq w k.now) es) ∙ ap is_some h ∙ k
+pub found-known : {V : Type 0} (w : Bytes) (es : List (Bor Bytes × V)) (o : Option V)
+    → lookup (λ (k : Bor Bytes). bytes_eq w k.now) es ≡ o → is_some o ≡ true
+    → is_in w (map (λ x. x.now) (keys_of es)) ≡ true
+found-known w es o h k =
+    sym (keys-in w (keys_of es)) ∙ sym (is_some-lookup (λ (k : Bor Bytes). bytes_eq w k.now) es)
+    ∙ ap is_some h ∙ k
 
 -- ---- a statement's symbols, those of a formula as they are judged, the others once they are declared
 
-pub formula-split : (db : List Statement) (s : Statement) → judged (symbol_names db) s ++ unjudged (symbol_names (db ++ s ∷ [])) s ≡ formula_of (db ++ s ∷ []) s
+pub formula-split : (db : List Statement) (s : Statement)
+    → judged (symbol_names db) s ++ unjudged (symbol_names (db ++ s ∷ [])) s
+    ≡ formula_of (db ++ s ∷ []) s
 formula-split db (constants k xs d) = refl
 formula-split db (variables k xs d) = refl
 formula-split db (disjoint k xs d) = refl
 formula-split db (floating l k xs d) = refl
-formula-split db (essential l k xs d) = append-nil _ ∙ ap (λ ns. numbers_in ns xs) (sym (names-stay db (essential l k xs d) refl))
-formula-split db (axiomatic l k xs d) = append-nil _ ∙ ap (λ ns. numbers_in ns xs) (sym (names-stay db (axiomatic l k xs d) refl))
-formula-split db (provable l k xs e ps d) = append-nil _ ∙ ap (λ ns. numbers_in ns xs) (sym (names-stay db (provable l k xs e ps d) refl))
+formula-split db (essential l k xs d) =
+    append-nil _ ∙ ap (λ ns. numbers_in ns xs) (sym (names-stay db (essential l k xs d) refl))
+formula-split db (axiomatic l k xs d) =
+    append-nil _ ∙ ap (λ ns. numbers_in ns xs) (sym (names-stay db (axiomatic l k xs d) refl))
+formula-split db (provable l k xs e ps d) =
+    append-nil _ ∙ ap (λ ns. numbers_in ns xs) (sym (names-stay db (provable l k xs e ps d) refl))
 formula-split db (opening k) = refl
 formula-split db (closing k) = refl
 
-pub names-shorter : (db : List Statement) (s : Statement) → length (symbol_names db) ≤ length (symbol_names (db ++ s ∷ []))
-names-shorter db s = let g = names-grow db s in let n = ap length g.1 in let m = length-append (symbol_names db) g.0 in omega (arith, n, m)
+pub names-shorter : (db : List Statement) (s : Statement)
+    → length (symbol_names db) ≤ length (symbol_names (db ++ s ∷ []))
+names-shorter db s =
+    let g = names-grow db s in let n = ap length g.1 in
+    let m = length-append (symbol_names db) g.0 in omega (arith, n, m)
 
-pub taken-numbers : (db : List Statement) (s : Statement) (numbers mid more : List ℕ) (before after : List Word) → before ≡ symbol_names db → after ≡ symbol_names (db ++ s ∷ [])
-    → mid ≡ numbers ++ judged before s → more ≡ mid ++ unjudged after s → more ≡ numbers ++ formula_of (db ++ s ∷ []) s
+pub taken-numbers : (db : List Statement) (s : Statement) (numbers mid more : List ℕ)
+    → (before after : List Bytes)
+    → before ≡ symbol_names db → after ≡ symbol_names (db ++ s ∷ [])
+    → mid ≡ numbers ++ judged before s → more ≡ mid ++ unjudged after s
+    → more ≡ numbers ++ formula_of (db ++ s ∷ []) s
 taken-numbers db s numbers mid more before after b a m n =
-    n ∙ ap (λ l. l ++ unjudged after s) m ∙ append_assoc numbers (judged before s) (unjudged after s)
+    n ∙ ap (λ l. l ++ unjudged after s) m
+    ∙ append_assoc numbers (judged before s) (unjudged after s)
     ∙ ap (λ l. numbers ++ l) (ap₂ (λ x y. judged x s ++ unjudged y s) b a ∙ formula-split db s)
 
 -- the name of an entry
-pub name-at : {V : Type 0} (es : List (Bor Word × V)) (i : ℕ) (k : Bor Word) (v : V) (w : Word) → slice_get es i ≡ Some (k, v) → slice_get (map (λ x. x.now) (keys_of es)) i ≡ Some w → k.now ≡ w
+pub name-at : {V : Type 0} (es : List (Bor Bytes × V)) (i : ℕ) (k : Bor Bytes) (v : V) (w : Bytes)
+    → slice_get es i ≡ Some (k, v) → slice_get (map (λ x. x.now) (keys_of es)) i ≡ Some w
+    → k.now ≡ w
 name-at [] zero k v w h e = absurd (let q : None ≡ Some w = e in cc)
 name-at [] (suc i) k v w h e = absurd (let q : None ≡ Some w = e in cc)
-name-at (x ∷ es) zero k v w h e = let p : Some x ≡ Some (k, v) = h in let q : Some x.0.now ≡ Some w = e in let r : x ≡ (k, v) = cc in let s : x.0.now ≡ w = cc in ap (λ y. y.0.now) (sym r) ∙ s
+name-at (x ∷ es) zero k v w h e =
+    let p : Some x ≡ Some (k, v) = h in let q : Some x.0.now ≡ Some w = e in
+    let r : x ≡ (k, v) = cc in let s : x.0.now ≡ w = cc in ap (λ y. y.0.now) (sym r) ∙ s
 name-at (x ∷ es) (suc i) k v w h e = name-at es i k v w h e
 
-pub got-name : {V : Type 0} (es : List (Bor Word × V)) (i : ℕ) (k : Bor Word) (v : V) → slice_get es i ≡ Some (k, v) → slice_get (map (λ x. x.now) (keys_of es)) i ≡ Some k.now
+pub got-name : {V : Type 0} (es : List (Bor Bytes × V)) (i : ℕ) (k : Bor Bytes) (v : V)
+    → slice_get es i ≡ Some (k, v) → slice_get (map (λ x. x.now) (keys_of es)) i ≡ Some k.now
 got-name [] zero k v h = absurd (let q : None ≡ Some (k, v) = h in cc)
 got-name [] (suc i) k v h = absurd (let q : None ≡ Some (k, v) = h in cc)
 got-name (x ∷ es) zero k v h = ap (option_map (λ y. y.0.now)) h

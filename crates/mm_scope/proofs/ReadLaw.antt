@@ -1,17 +1,23 @@
 -- Statements read one by one are those that the definition reads.
-use Rattle.std.proofs.Common.{◌≡◌, ◌≢◌, ◌≤◌, ◌<◌, ◌-◌, ◌+◌, ℕ, zero, suc, true, false, cond, List, [], ◌∷◌, ◌++◌, length, Option, None, Some, refl, sym, ap, ap₂, ◌∙◌, subst, arith, length-append, ◌⊎◌, inl, inr, take, count_by, ◌^◌, is_some, true≢false}
+use Rattle.std.proofs.Common.{◌≡◌, ◌≢◌, ◌≤◌, ◌<◌, ◌-◌, ◌+◌, ℕ, zero, suc, true, false, cond, List}
+use Rattle.std.proofs.Common.{[], ◌∷◌, ◌++◌, length, Option, None, Some, refl, sym, ap, ap₂, ◌∙◌}
+use Rattle.std.proofs.Common.{subst, arith, length-append, ◌⊎◌, inl, inr, take, count_by, ◌^◌}
+use Rattle.std.proofs.Common.{is_some, true≢false}
 use Rattle.std.proofs.lemmas.Bool.{cases_lt}
-use Rattle.mm_spec.specs.Statement.{Statement, is_opening, is_closing, constants, variables, disjoint, floating, essential, axiomatic, provable, opening, closing}
+use Rattle.mm_spec.specs.Statement.{Statement, is_opening, is_closing, constants, variables}
+use Rattle.mm_spec.specs.Statement.{disjoint, floating, essential, axiomatic, provable, opening}
+use Rattle.mm_spec.specs.Statement.{closing}
 use Rattle.mm_spec.specs.Scope.{depth, names_before}
 use Rattle.mm_spec.specs.Lawful.{scope_fault, scope_faults, least}
-use Rattle.mm_spec.specs.Output.{IsRead, Lexed, Stops}
-use Rattle.mm_spec.specs.Table.{start, statements_from, statements_of, stop_from, rest_from, end_code}
+use Rattle.mm_spec.specs.Output.{IsRead, LexedText, Stops}
+use Rattle.mm_spec.specs.Laws.Table.{start, statements_from, statements_of, stop_from, rest_from}
+use Rattle.mm_spec.specs.Laws.Table.{fault_at_end}
 use Rattle.mm_spec.specs.declared.Word.{Word}
 use Rattle.mm_spec.specs.declared.Fault.{Fault}
 use Rattle.mm_spec.proofs.Local.{scope_fault-front, scope_fault-next}
 use Rattle.mm_spec.proofs.RowLaw.{is_longest}
 use Rattle.mm_spec.proofs.Stops.{text_fault, text_fault_is, no_text_fault, first_of}
-use Rattle.mm_outline.specs.Parts.{tokens_of, reading, made, depth_behind, less_one}
+use Rattle.mm_outline.specs.Parts.{as_tokens, reading, made, depth_behind, less_one}
 use Rattle.mm_outline.specs.Blocks.{Lists, IsBlocks, never}
 use Rattle.mm_outline.proofs.BlocksLaw.{depth-end, depth-plain, depth-opening, depth-closing}
 use Rattle.mm_outline.specs.declared.parts.Kind.{Kind}
@@ -23,57 +29,80 @@ use Rattle.mm_outline.specs.declared.parts.Part.TheVariants.{Start, Labelled, Wo
 use Rattle.mm_outline.proofs.Leads.{leads-then}
 use Rattle.mm_spec.proofs.Shape.{count_end}
 
-pub record IsReading (text : List ℕ) (ws : List Word) (db : List Statement) (deep at : ℕ) : Type 0 where
-  pub leads : Leads (start 0) (tokens_of text ws) db (start deep) (behind text ws at)
+pub record IsReading (text : List ℕ) (ws : List Word) (db : List Statement)
+    (deep at : ℕ) : Type 0 where
+  pub leads : Leads (start 0) (as_tokens text ws) db (start deep) (behind text ws at)
   pub within : at ≤ length ws
   pub few : length db ≤ at
   pub shallow : deep ≤ at
   pub deep_is : deep ≡ depth db (length db)
   pub lawful : (k : ℕ) → k < length db → scope_fault db k ≡ None
 
-module _ (text : List ℕ) (ws : List Word) (len : ℕ) (lexical : Option Fault) (db : List Statement) (deep at : ℕ) (r : IsReading text ws db deep at) where
-  abbrev x : Lexed
+module _ (text : List ℕ) (ws : List Word) (len : ℕ) (lexical : Option Fault) (db : List Statement)
+    (deep at : ℕ) (r : IsReading text ws db deep at) where
+  abbrev x : LexedText
   x = lexed text ws lexical
 
   -- an unlawful statement
-  pub read-unlawful : (s : Statement) (d : ℕ) (us : List _) → Leads (start deep) (behind text ws at) (s ∷ []) (start d) us → (f : Option Fault) → f ≢ None → f ≡ least (scope_faults (names_before db (length db)) deep s) → IsRead len (lexed text ws lexical) db f
+  pub read-unlawful : (s : Statement) (d : ℕ) (us : List _)
+      → Leads (start deep) (behind text ws at) (s ∷ []) (start d) us → (f : Option Fault) → f ≢ None
+      → f ≡ least (scope_faults (names_before db (length db)) deep s)
+      → IsRead len (lexed text ws lexical) db f
   read-unlawful s d us l f ne e =
       let more = statements_from (start d) us in
-      let row : statements_of (tokens_of text ws) ≡ db ++ s ∷ more = r.leads.statements ∙ ap (λ y. db ++ y) l.statements in
+      let row : statements_of (as_tokens text ws) ≡ db ++ s ∷ more =
+      r.leads.statements ∙ ap (λ y. db ++ y) l.statements in
       record {
-        row = statements_of (tokens_of text ws);
-        is_row = is_longest (tokens_of text ws);
+        row = statements_of (as_tokens text ws);
+        is_row = is_longest (as_tokens text ws);
         rest = s ∷ more;
         splits = row;
-        lawful = λ k h. ap (λ y. scope_fault y k) row ∙ scope_fault-front db (s ∷ more) k h ∙ r.lawful k h;
-        stops = (ne, ap (λ y. scope_fault y (length db)) row ∙ scope_fault-next db s more ∙ ap (λ d. least (scope_faults (names_before db (length db)) d s)) (sym r.deep_is) ∙ sym e);
+        lawful =
+            λ k h. ap (λ y. scope_fault y k) row ∙ scope_fault-front db (s ∷ more) k h
+            ∙ r.lawful k h;
+        stops = (
+          ne,
+          ap (λ y. scope_fault y (length db)) row ∙ scope_fault-next db s more
+              ∙ ap (λ d. least (scope_faults (names_before db (length db)) d s)) (sym r.deep_is)
+              ∙ sym e,
+        );
       }
 
   -- the text stops
-  stops_with : (f : Option Fault) → text_fault len (lexed text ws lexical) ≡ f → Stops len (lexed text ws lexical) (statements_of (tokens_of text ws)) db [] f
+  stops_with : (f : Option Fault) → text_fault len (lexed text ws lexical) ≡ f
+      → Stops len (lexed text ws lexical) (statements_of (as_tokens text ws)) db [] f
   stops_with None e = no_text_fault len (lexed text ws lexical) e
   stops_with (Some f) e = text_fault_is len (lexed text ws lexical) f e
 
-  pub read-end : statements_from (start deep) (behind text ws at) ≡ [] → (f : Option Fault) → text_fault len (lexed text ws lexical) ≡ f → IsRead len (lexed text ws lexical) db f
+  pub read-end : statements_from (start deep) (behind text ws at) ≡ [] → (f : Option Fault)
+      → text_fault len (lexed text ws lexical) ≡ f → IsRead len (lexed text ws lexical) db f
   read-end n f e =
-      let row : statements_of (tokens_of text ws) ≡ db ++ [] = r.leads.statements ∙ ap (λ y. db ++ y) n in
+      let row : statements_of (as_tokens text ws) ≡ db ++ [] =
+      r.leads.statements ∙ ap (λ y. db ++ y) n in
       record {
-        row = statements_of (tokens_of text ws);
-        is_row = is_longest (tokens_of text ws);
+        row = statements_of (as_tokens text ws);
+        is_row = is_longest (as_tokens text ws);
         rest = [];
         splits = row;
         lawful = λ k h. ap (λ y. scope_fault y k) row ∙ scope_fault-front db [] k h ∙ r.lawful k h;
         stops = stops_with f e;
       }
 
-  pub read-stopped : (f : Fault) → statements_from (start deep) (behind text ws at) ≡ [] → stop_from (start deep) (behind text ws at) ≡ Some f → IsRead len (lexed text ws lexical) db (Some f)
-  read-stopped f n e = read-end n (Some f) (ap (λ o. first_of o (first_of lexical (end_code len (rest_from (start 0) (tokens_of text ws))))) (r.leads.stop ∙ e))
+  pub read-stopped : (f : Fault) → statements_from (start deep) (behind text ws at) ≡ []
+      → stop_from (start deep) (behind text ws at) ≡ Some f
+      → IsRead len (lexed text ws lexical) db (Some f)
+  read-stopped f n e =
+      read-end n (Some f)
+      (ap (λ o. first_of o
+      (first_of lexical (fault_at_end len (rest_from (start 0) (as_tokens text ws))))) (r.leads.stop
+      ∙ e))
 
-  end_is : (part : Part) (i : ℕ) (o : Option Fault) → first_of o (end_code len (reading text ws deep part i)) ≡ end_fault_of o len part deep
+  end_is : (part : Part) (i : ℕ) (o : Option Fault)
+      → first_of o (fault_at_end len (reading text ws deep part i)) ≡ end_fault_of o len part deep
   end_is part i (Some f) = refl
   end_is Start i None = by deep
     where
-      by : (d : ℕ) → end_code len (start d) ≡ end_fault_of None len Start d
+      by : (d : ℕ) → fault_at_end len (start d) ≡ end_fault_of None len Start d
       by zero = refl
       by (suc d) = refl
   end_is (Labelled l) i None = refl
@@ -81,25 +110,44 @@ module _ (text : List ℕ) (ws : List Word) (len : ℕ) (lexical : Option Fault)
   end_is (Formula w) i None = refl
   end_is (Proof w e) i None = refl
 
-  pub read-ended : (part : Part) → statements_from (start deep) (behind text ws at) ≡ [] → stop_from (start deep) (behind text ws at) ≡ None → rest_from (start deep) (behind text ws at) ≡ reading text ws deep part (length ws) → (f : Option Fault) → f ≡ end_fault_of lexical len part deep → IsRead len (lexed text ws lexical) db f
+  pub read-ended : (part : Part) → statements_from (start deep) (behind text ws at) ≡ []
+      → stop_from (start deep) (behind text ws at) ≡ None
+      → rest_from (start deep) (behind text ws at) ≡ reading text ws deep part (length ws)
+      → (f : Option Fault) → f ≡ end_fault_of lexical len part deep
+      → IsRead len (lexed text ws lexical) db f
   read-ended part n s e f is =
-      read-end n f (ap₂ (λ o q. first_of o (first_of lexical (end_code len q))) (r.leads.stop ∙ s) (r.leads.rest ∙ e) ∙ end_is part (length ws) lexical ∙ sym is)
+      read-end n f
+      (ap₂ (λ o q. first_of o (first_of lexical (fault_at_end len q))) (r.leads.stop ∙ s)
+      (r.leads.rest ∙ e)
+      ∙ end_is part (length ws) lexical ∙ sym is)
 
 -- a statement that closes a block stands in one
-pub inside_block : (text : List ℕ) (ws : List Word) (db : List Statement) (deep at : ℕ) → IsReading text ws db deep at → (s : Statement) (d : ℕ) (us : List _) → Leads (start deep) (behind text ws at) (s ∷ []) (start d) us → is_closing s ≡ true → 0 < depth db (length db)
+pub inside_block : (text : List ℕ) (ws : List Word) (db : List Statement) (deep at : ℕ)
+    → IsReading text ws db deep at → (s : Statement) (d : ℕ) (us : List _)
+    → Leads (start deep) (behind text ws at) (s ∷ []) (start d) us → is_closing s ≡ true
+    → 0 < depth db (length db)
 inside_block text ws db deep at r s d us l e =
     let more = statements_from (start d) us in
-    let row : statements_of (tokens_of text ws) ≡ db ++ s ∷ more = r.leads.statements ∙ ap (λ y. db ++ y) l.statements in
+    let row : statements_of (as_tokens text ws) ≡ db ++ s ∷ more =
+    r.leads.statements ∙ ap (λ y. db ++ y) l.statements in
     let front : take (length db + 1) (db ++ s ∷ more) ≡ db ++ s ∷ [] = take_one db s more in
-    let n : count_by is_closing (db ++ s ∷ []) ≤ count_by is_opening (db ++ s ∷ []) = subst (λ y. count_by is_closing y ≤ count_by is_opening y) (ap (take (length db + 1)) row ∙ front) ((is_longest (tokens_of text ws)).is_row.nested (length db + 1)) in
-    let c : count_by is_closing (db ++ s ∷ []) ≡ count_by is_closing db + 1 = count_end is_closing db s ∙ ap (λ b. count_by is_closing db + cond b 1 0) e in
-    let o : count_by is_opening (db ++ s ∷ []) ≡ count_by is_opening db + 0 = count_end is_opening db s ∙ ap (λ b. count_by is_opening db + cond b 1 0) (not_both s e) in
+    let n : count_by is_closing (db ++ s ∷ []) ≤ count_by is_opening (db ++ s ∷ []) =
+    subst (λ y. count_by is_closing y ≤ count_by is_opening y)
+    (ap (take (length db + 1)) row ∙ front)
+    ((is_longest (as_tokens text ws)).is_row.nested (length db + 1)) in
+    let c : count_by is_closing (db ++ s ∷ []) ≡ count_by is_closing db + 1 =
+    count_end is_closing db s ∙ ap (λ b. count_by is_closing db + cond b 1 0) e in
+    let o : count_by is_opening (db ++ s ∷ []) ≡ count_by is_opening db + 0 =
+    count_end is_opening db s ∙ ap (λ b. count_by is_opening db + cond b 1 0) (not_both s e) in
     let same = depth-end db s in
     omega (arith, n, c, o, same)
   where
-    take_one : (db : List Statement) (s : Statement) (more : List Statement) → take (length db + 1) (db ++ s ∷ more) ≡ db ++ s ∷ []
+    take_one : (db : List Statement) (s : Statement) (more : List Statement)
+        → take (length db + 1) (db ++ s ∷ more) ≡ db ++ s ∷ []
     take_one [] s more = refl
-    take_one (y ∷ db) s more = let e : suc (length db) + 1 ≡ suc (length db + 1) = omega arith in ap (λ m. take m (y ∷ (db ++ s ∷ more))) e ∙ ap (λ z. y ∷ z) (take_one db s more)
+    take_one (y ∷ db) s more =
+        let e : suc (length db) + 1 ≡ suc (length db + 1) = omega arith in
+        ap (λ m. take m (y ∷ (db ++ s ∷ more))) e ∙ ap (λ z. y ∷ z) (take_one db s more)
 
     not_both : (s : Statement) → is_closing s ≡ true → is_opening s ≡ false
     not_both (opening k) e = absurd (true≢false (sym e))
@@ -122,25 +170,47 @@ behind_le kind.Close zero at end h l = omega arith
 behind_le kind.Close (suc d) at end h l = omega arith
 behind_le _ d at end h l = omega arith
 
-depth_is : (text : List ℕ) (ws : List Word) (db : List Statement) (b : Lists) → IsBlocks db b → length db < never → (k : Kind) (w m e : ℕ) → depth_behind k (depth db (length db)) ≡ depth (db ++ made text ws k w m e ∷ []) (length db + 1)
-depth_is text ws db b x few kind.Open w m e = (let y = depth-opening db (made text ws kind.Open w m e) b x few refl refl in omega (arith, y))
-depth_is text ws db b x few kind.Close w m e = sym (depth-closing db (made text ws kind.Close w m e) b x few refl refl ∙ less_one-is (depth db (length db)))
-depth_is text ws db b x few kind.Constants w m e = sym (depth-plain db (made text ws kind.Constants w m e) b x few refl refl)
-depth_is text ws db b x few kind.Variables w m e = sym (depth-plain db (made text ws kind.Variables w m e) b x few refl refl)
-depth_is text ws db b x few kind.Disjoint w m e = sym (depth-plain db (made text ws kind.Disjoint w m e) b x few refl refl)
-depth_is text ws db b x few kind.Floating w m e = sym (depth-plain db (made text ws kind.Floating w m e) b x few refl refl)
-depth_is text ws db b x few kind.Essential w m e = sym (depth-plain db (made text ws kind.Essential w m e) b x few refl refl)
-depth_is text ws db b x few kind.Axiom w m e = sym (depth-plain db (made text ws kind.Axiom w m e) b x few refl refl)
-depth_is text ws db b x few kind.Theorem w m e = sym (depth-plain db (made text ws kind.Theorem w m e) b x few refl refl)
+depth_is : (text : List ℕ) (ws : List Word) (db : List Statement) (b : Lists) → IsBlocks db b
+    → length db < never → (k : Kind) (w m e : ℕ)
+    → depth_behind k (depth db (length db))
+    ≡ depth (db ++ made text ws k w m e ∷ []) (length db + 1)
+depth_is text ws db b x few kind.Open w m e =
+    (let y = depth-opening db (made text ws kind.Open w m e) b x few refl refl in omega (arith, y))
+depth_is text ws db b x few kind.Close w m e =
+    sym (depth-closing db (made text ws kind.Close w m e) b x few refl refl
+    ∙ less_one-is (depth db (length db)))
+depth_is text ws db b x few kind.Constants w m e =
+    sym (depth-plain db (made text ws kind.Constants w m e) b x few refl refl)
+depth_is text ws db b x few kind.Variables w m e =
+    sym (depth-plain db (made text ws kind.Variables w m e) b x few refl refl)
+depth_is text ws db b x few kind.Disjoint w m e =
+    sym (depth-plain db (made text ws kind.Disjoint w m e) b x few refl refl)
+depth_is text ws db b x few kind.Floating w m e =
+    sym (depth-plain db (made text ws kind.Floating w m e) b x few refl refl)
+depth_is text ws db b x few kind.Essential w m e =
+    sym (depth-plain db (made text ws kind.Essential w m e) b x few refl refl)
+depth_is text ws db b x few kind.Axiom w m e =
+    sym (depth-plain db (made text ws kind.Axiom w m e) b x few refl refl)
+depth_is text ws db b x few kind.Theorem w m e =
+    sym (depth-plain db (made text ws kind.Theorem w m e) b x few refl refl)
 
-pub reading-more : (text : List ℕ) (ws : List Word) (db : List Statement) (deep at : ℕ) → IsReading text ws db deep at → length ws < 2 ^ 31 → (b : Lists) → IsBlocks db b → (k : Kind) (w m e : ℕ) → at ≤ e → e < length ws
-    → Leads (start deep) (behind text ws at) (made text ws k w m e ∷ []) (start (depth_behind k deep)) (behind text ws (e + 1)) → None ≡ least (scope_faults (names_before db (length db)) deep (made text ws k w m e)) → IsReading text ws (db ++ made text ws k w m e ∷ []) (depth_behind k deep) (e + 1)
+pub reading-more : (text : List ℕ) (ws : List Word) (db : List Statement) (deep at : ℕ)
+    → IsReading text ws db deep at → length ws < 2 ^ 31 → (b : Lists) → IsBlocks db b
+    → (k : Kind) (w m e : ℕ) → at ≤ e → e < length ws
+    → Leads (start deep) (behind text ws at) (made text ws k w m e ∷ [])
+    (start (depth_behind k deep)) (behind text ws (e + 1))
+    → None ≡ least (scope_faults (names_before db (length db)) deep (made text ws k w m e))
+    → IsReading text ws (db ++ made text ws k w m e ∷ []) (depth_behind k deep) (e + 1)
 reading-more text ws db deep at r small b x k w m e later within l f = record {
   leads = leads-then r.leads l;
   within = omega (arith, within);
   few = let n = r.few in omega (arith, n, long, later);
   shallow = behind_le k deep at e r.shallow later;
-  deep_is = ap (depth_behind k) r.deep_is ∙ depth_is text ws db b x (let n = r.few in let i = r.within in omega (arith, n, i, small)) k w m e ∙ ap (depth (db ++ s ∷ [])) (sym long);
+  deep_is =
+      ap (depth_behind k) r.deep_is
+      ∙ depth_is text ws db b x
+      (let n = r.few in let i = r.within in omega (arith, n, i, small)) k w m e
+      ∙ ap (depth (db ++ s ∷ [])) (sym long);
   lawful = lawful;
 }
   where
@@ -150,14 +220,21 @@ reading-more text ws db deep at r small b x k w m e later within l f = record {
     long : length (db ++ made text ws k w m e ∷ []) ≡ length db + 1
     long = length-append db (made text ws k w m e ∷ [])
 
-    lawful : (j : ℕ) → j < length (db ++ made text ws k w m e ∷ []) → scope_fault (db ++ made text ws k w m e ∷ []) j ≡ None
+    lawful : (j : ℕ) → j < length (db ++ made text ws k w m e ∷ [])
+        → scope_fault (db ++ made text ws k w m e ∷ []) j ≡ None
     lawful j h = by (cases_lt j (length db))
       where
-        by : (j < length db) ⊎ (length db ≤ j) → scope_fault (db ++ made text ws k w m e ∷ []) j ≡ None
+        by : (j < length db) ⊎ (length db ≤ j)
+            → scope_fault (db ++ made text ws k w m e ∷ []) j ≡ None
         by (inl i) = scope_fault-front db (made text ws k w m e ∷ []) j i ∙ r.lawful j i
         by (inr i) =
             let same : length db ≡ j = omega (arith, h, i, long) in
-            subst (λ j. scope_fault (db ++ made text ws k w m e ∷ []) j ≡ None) same (scope_fault-next db (made text ws k w m e) [] ∙ ap (λ d. least (scope_faults (names_before db (length db)) d (made text ws k w m e))) (sym r.deep_is) ∙ sym f)
+            subst (λ j. scope_fault (db ++ made text ws k w m e ∷ []) j ≡ None) same
+            (scope_fault-next db (made text ws k w m e) []
+            ∙ ap (λ d. least
+            (scope_faults (names_before db (length db)) d (made text ws k w m e)))
+            (sym r.deep_is)
+            ∙ sym f)
 
 pub some-not : (f : Option Fault) → is_some f ≡ true → f ≢ None
 some-not None h e = absurd (true≢false (sym h))

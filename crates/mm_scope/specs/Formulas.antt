@@ -1,22 +1,23 @@
 -- The symbols of statements by their numbers, one statement's after another's.
 use Rattle.std.specs.Prelude.{◌≡◌, ℕ, ◌+◌, ◌≤◌, List, [], length, map, flat_map, take, get_or}
-use Rattle.mm_spec.specs.Text.{Word, Token, words}
-use Rattle.mm_spec.specs.Statement.{Statement, constants, variables, disjoint, floating, essential, axiomatic, provable}
+use Rattle.mm_spec.specs.Text.{Bytes, Token, words}
+use Rattle.mm_spec.specs.Statement.{Statement, constants, variables, disjoint, floating, essential}
+use Rattle.mm_spec.specs.Statement.{axiomatic, provable}
 use Rattle.mm_spec.specs.Frame.{place_of, formula_of}
 
 -- the numbers of words, by the names of the symbols
-abbrev pub numbers_in : List Word → List Token → List ℕ
+abbrev pub numbers_in : List Bytes → List Token → List ℕ
 numbers_in names ts = map (λ w. place_of w names) (words ts)
 
 -- the symbols of a formula, which are numbered as they are judged
-abbrev pub judged : List Word → Statement → List ℕ
+abbrev pub judged : List Bytes → Statement → List ℕ
 judged names (essential l k xs d) = numbers_in names xs
 judged names (axiomatic l k xs d) = numbers_in names xs
 judged names (provable l k xs e ps d) = numbers_in names xs
 judged names _ = []
 
 -- the symbols of the other statements, which are numbered once they are declared
-abbrev pub unjudged : List Word → Statement → List ℕ
+abbrev pub unjudged : List Bytes → Statement → List ℕ
 unjudged names (constants k xs d) = numbers_in names xs
 unjudged names (variables k xs d) = numbers_in names xs
 unjudged names (disjoint k xs d) = numbers_in names xs
@@ -27,4 +28,5 @@ unjudged names _ = []
 pub record AreFormulas (db : List Statement) (numbers places : List ℕ) : Type 0 where
   pub numbers_are : numbers ≡ flat_map (formula_of db) db
   pub count : length places ≡ length db + 1
-  pub place : (k : ℕ) → k ≤ length db → get_or places k 0 ≡ length (flat_map (formula_of db) (take k db))
+  pub place : (k : ℕ) → k ≤ length db
+      → get_or places k 0 ≡ length (flat_map (formula_of db) (take k db))

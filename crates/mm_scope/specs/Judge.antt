@@ -1,15 +1,23 @@
 -- The faults of a statement, by what the code knows of symbols.
-use Rattle.std.specs.Prelude.{◌≡◌, ℕ, Bool, true, false, ◌&&◌, ◌||◌, not, List, [], ◌∷◌, Option, None, Some, bytes_eq, is_some, slice_get, nat_eq, nat_lt, if◌then◌else◌}
+use Rattle.std.specs.Prelude.{◌≡◌, ℕ, Bool, true, false, ◌&&◌, ◌||◌, not, List, [], ◌∷◌, Option}
+use Rattle.std.specs.Prelude.{None, Some, bytes_eq, is_some, slice_get, nat_eq, nat_lt}
+use Rattle.std.specs.Prelude.{if◌then◌else◌}
 use Rattle.mm_spec.specs.Text.{Token, is_in, fault}
 use Rattle.mm_spec.specs.declared.Fault.{Fault}
 use Rattle.mm_spec.specs.Scope.{Names}
-use Rattle.mm_spec.specs.Lawful.{lesser, is_typed, is_typed_otherwise, constant_codes, variable_codes, disjoint_codes}
+use Rattle.mm_spec.specs.Lawful.{lesser, is_typed, is_typed_otherwise, constant_codes}
+use Rattle.mm_spec.specs.Lawful.{variable_codes, disjoint_codes}
 use Rattle.mm_outline.specs.Blocks.{never}
 use Rattle.mm_outline.specs.declared.parts.Kind.{Kind}
 use Rattle.mm_outline.specs.declared.parts.Kind.TheVariants.{Constants, Variables}
 use Rattle.mm_scope.specs.declared.names.Symbol.{Symbol}
 use Rattle.mm_spec.specs.declared.Code.{Code}
-use Rattle.mm_spec.specs.declared.Code.TheVariants.{ConstantInBlock, EmptyDeclaration, DeclaredBefore, LabelIsSymbol, LabelUsedBefore, BadTypecode, UndeclaredSymbol, BadFloating, TypedBefore, OtherTypecode, UntypedVariable, TooFewVariables, UndeclaredVariable, RepeatedVariable}
+use Rattle.mm_spec.specs.declared.Code.TheVariants.{ConstantInBlock, EmptyDeclaration}
+use Rattle.mm_spec.specs.declared.Code.TheVariants.{DeclaredBefore, LabelIsSymbol, LabelUsedBefore}
+use Rattle.mm_spec.specs.declared.Code.TheVariants.{BadTypecode, UndeclaredSymbol, BadFloating}
+use Rattle.mm_spec.specs.declared.Code.TheVariants.{TypedBefore, OtherTypecode, UntypedVariable}
+use Rattle.mm_spec.specs.declared.Code.TheVariants.{TooFewVariables, UndeclaredVariable}
+use Rattle.mm_spec.specs.declared.Code.TheVariants.{RepeatedVariable}
 
 -- the lesser of two faults, if any
 abbrev pub merge : Option Fault → Option Fault → Option Fault
@@ -54,47 +62,61 @@ module _ (is_open : ℕ → Bool) where
 
   abbrev pub symbol_code : Option Symbol → Option Code
   symbol_code None = Some UndeclaredSymbol
-  symbol_code (Some s) = if s.is_variable then code_of_variable (is_active_symbol s) (is_typed_symbol s) else None
+  symbol_code (Some s) =
+      if s.is_variable then code_of_variable (is_active_symbol s) (is_typed_symbol s) else None
 
 abbrev pub is_constant : Option Symbol → Bool
 is_constant None = false
 is_constant (Some s) = not s.is_variable
 
-abbrev pub is_variable : Option Symbol → Bool
-is_variable None = false
-is_variable (Some s) = s.is_variable
+abbrev pub is_variable_symbol : Option Symbol → Bool
+is_variable_symbol None = false
+is_variable_symbol (Some s) = s.is_variable
 
 abbrev pub has_other_typecode : List ℕ → Option Symbol → Bool
 has_other_typecode c None = false
 has_other_typecode c (Some s) = not (nat_eq s.typed never) && not (bytes_eq c s.typecode.now)
 
 -- the code knows these names
-pub record Knows (n : Names) (look : List ℕ → Option Symbol) (labels : List ℕ → Option ℕ) (is_open : ℕ → Bool) : Type 0 where
+pub record Knows (n : Names) (look : List ℕ → Option Symbol) (labels : List ℕ → Option ℕ)
+    (is_open : ℕ → Bool) : Type 0 where
   pub constants : (w : List ℕ) → is_in w n.constants ≡ is_constant (look w)
-  pub all_variables : (w : List ℕ) → is_in w n.all_variables ≡ is_variable (look w)
+  pub all_variables : (w : List ℕ) → is_in w n.all_variables ≡ is_variable_symbol (look w)
   pub active_variables : (w : List ℕ) → is_in w n.active_variables ≡ is_active is_open (look w)
   pub labels_known : (w : List ℕ) → is_in w n.labels ≡ is_some (labels w)
-  pub typed : (w : List ℕ) → is_active is_open (look w) ≡ true → is_typed n w ≡ is_typed_here is_open (look w)
-  pub otherwise : (c w : List ℕ) → is_active is_open (look w) ≡ true → is_typed_otherwise n c w ≡ has_other_typecode c (look w)
+  pub typed : (w : List ℕ) → is_active is_open (look w) ≡ true
+      → is_typed n w ≡ is_typed_here is_open (look w)
+  pub otherwise : (c w : List ℕ) → is_active is_open (look w) ≡ true
+      → is_typed_otherwise n c w ≡ has_other_typecode c (look w)
 
 abbrev pub first_code : Bool → Code → Option Code → Option Code
 first_code true code more = Some code
 first_code false code more = more
 
 abbrev pub label_code : Option Symbol → Bool → Option Code
-label_code o used = first_code (is_constant o || is_variable o) LabelIsSymbol (first_code used LabelUsedBefore None)
+label_code o used =
+    first_code (is_constant o || is_variable_symbol o) LabelIsSymbol
+    (first_code used LabelUsedBefore None)
 
 abbrev pub typecode_code : Option Symbol → Option Code
 typecode_code o = first_code (not (is_constant o)) BadTypecode None
 
 abbrev pub floating_code : (ℕ → Bool) → List ℕ → Option Symbol → Option Code
-floating_code is_open c o = first_code (is_typed_here is_open o) TypedBefore (first_code (has_other_typecode c o) OtherTypecode None)
+floating_code is_open c o =
+    first_code (is_typed_here is_open o) TypedBefore
+    (first_code (has_other_typecode c o) OtherTypecode None)
 
 -- a symbol of `$c`, of `$v` and of `$d`
 abbrev pub declared_code : (ℕ → Bool) → Kind → Option Symbol → Bool → Bool → Option Code
-declared_code is_open Constants o repeated label = first_code (is_constant o || is_variable o || repeated) DeclaredBefore (first_code label LabelIsSymbol None)
-declared_code is_open Variables o repeated label = first_code (is_constant o || is_active is_open o || repeated) DeclaredBefore (first_code label LabelIsSymbol None)
-declared_code is_open _ o repeated label = first_code (not (is_active is_open o)) UndeclaredVariable (first_code repeated RepeatedVariable None)
+declared_code is_open Constants o repeated label =
+    first_code (is_constant o || is_variable_symbol o || repeated) DeclaredBefore
+    (first_code label LabelIsSymbol None)
+declared_code is_open Variables o repeated label =
+    first_code (is_constant o || is_active is_open o || repeated) DeclaredBefore
+    (first_code label LabelIsSymbol None)
+declared_code is_open _ o repeated label =
+    first_code (not (is_active is_open o)) UndeclaredVariable
+    (first_code repeated RepeatedVariable None)
 
 abbrev pub declared_codes : Names → Kind → List (List ℕ) → List ℕ → List Code
 declared_codes n Constants = constant_codes n
@@ -106,14 +128,21 @@ abbrev pub before_next : List (List ℕ) → List Token → List (List ℕ)
 before_next e [] = e
 before_next e (t ∷ ts) = before_next (t.word ∷ e) ts
 
--- the fault of a `$c`, `$v` or `$d` as a whole, with its depth, its keyword, its end and how many symbols it has
+-- the fault of a `$c`, `$v` or `$d` as a whole, with its depth, its keyword, its end and how many
+-- symbols it has
 abbrev pub list_fault : Kind → ℕ → ℕ → ℕ → ℕ → Option Fault
-list_fault Constants deep keyword end count = merge (fault_at keyword (first_code (nat_lt 0 deep) ConstantInBlock None)) (fault_at end (first_code (nat_eq count 0) EmptyDeclaration None))
-list_fault Variables deep keyword end count = fault_at end (first_code (nat_eq count 0) EmptyDeclaration None)
-list_fault _ deep keyword end count = fault_at end (first_code (nat_lt count 2) TooFewVariables None)
+list_fault Constants deep keyword end count =
+    merge (fault_at keyword (first_code (nat_lt 0 deep) ConstantInBlock None))
+    (fault_at end (first_code (nat_eq count 0) EmptyDeclaration None))
+list_fault Variables deep keyword end count =
+    fault_at end (first_code (nat_eq count 0) EmptyDeclaration None)
+list_fault _ deep keyword end count =
+    fault_at end (first_code (nat_lt count 2) TooFewVariables None)
 
 abbrev pub typing_code : (ℕ → Bool) → List ℕ → Option Symbol → Option Symbol → Option (Option Code)
-typing_code is_open c typecode variable = if is_constant typecode && is_active is_open variable then Some (floating_code is_open c variable) else None
+typing_code is_open c typecode variable =
+    if is_constant typecode
+    && is_active is_open variable then Some (floating_code is_open c variable) else None
 
 abbrev pub typing_fault : ℕ → ℕ → Option (Option Code) → Option Fault
 typing_fault keyword place None = Some (fault keyword BadFloating)
@@ -133,12 +162,12 @@ abbrev pub entry_of : Option Symbol → Option Entry
 entry_of None = None
 entry_of (Some s) = Some (entry s.is_variable s.declared s.typed s.typecode.now)
 
--- behind its declaration by a statement
+-- after its declaration by a statement
 abbrev pub declared_entry : Bool → ℕ → List ℕ → Option Entry → Option Entry
 declared_entry v number w None = Some (entry v number never w)
 declared_entry v number w (Some e) = Some (entry v number e.typed e.typecode)
 
--- behind a `$f`
+-- after a `$f`
 abbrev pub typed_entry : ℕ → List ℕ → Option Entry → Option Entry
 typed_entry number c None = None
 typed_entry number c (Some e) = Some (entry e.is_variable e.declared number c)

@@ -1,30 +1,29 @@
--- What is known behind some statements.
-use Rattle.std.specs.Prelude.{◌≡◌, ℕ, ◌<◌, ◌^◌, List, [], ◌∷◌, ◌++◌, length, Option, None, flat_map, is_some, true}
-use Rattle.mm_spec.specs.Statement.{is_closing}
-use Rattle.mm_spec.specs.Scope.{depth}
+-- What is known after some statements.
+use Rattle.std.specs.Prelude.{◌≡◌, ℕ, ◌<◌, ◌^◌, List, [], ◌∷◌, ◌++◌, length, Option, None, flat_map}
+use Rattle.std.specs.Prelude.{is_some, true}
+use Rattle.mm_spec.specs.Statement.{is_closing, Statement}
+use Rattle.mm_spec.specs.Scope.{depth, label_words}
 use Rattle.mm_spec.specs.Lawful.{scope_fault}
 use Rattle.mm_spec.specs.Frame.{symbol_names, formula_of}
-use Rattle.mm_outline.specs.Blocks.{lists}
+use Rattle.mm_outline.specs.Blocks.{lists, Lists, IsBlocks}
 use Rattle.mm_scope.specs.Names.{find, names_of}
 use Rattle.mm_scope.specs.Formulas.{AreFormulas}
 use Rattle.mm_scope.specs.declared.reading.Outlined.{Outlined}
-use Rattle.mm_spec.specs.Statement.{Statement}
-use Rattle.mm_spec.specs.Scope.{label_words}
 use Rattle.mm_spec.specs.Text.{is_in}
-use Rattle.mm_outline.specs.Blocks.{Lists, IsBlocks}
 use Rattle.mm_scope.specs.Judge.{entry_of}
 use Rattle.mm_scope.specs.Known.{IsKnown}
 use Rattle.mm_scope.specs.Labels.{AreLabels}
 use Rattle.mm_scope.specs.declared.names.Symbol.{Symbol}
 
 -- the code knows what stands before the next statement
-pub record Keeps (db : List Statement) (look : List ℕ → Option Symbol) (labels : List ℕ → Option ℕ) (b : Lists) : Type 0 where
+pub record Keeps (db : List Statement) (look : List ℕ → Option Symbol) (labels : List ℕ → Option ℕ)
+    (b : Lists) : Type 0 where
   pub blocks : IsBlocks db b
   pub symbols : (w : List ℕ) → IsKnown db w (entry_of (look w))
   pub labels_known : (w : List ℕ) → is_in w (flat_map label_words db) ≡ is_some (labels w)
   pub labels_are : AreLabels db labels
 
--- all that is kept behind some statements: names, blocks, and the symbols by their numbers
+-- all that is kept after some statements: names, blocks, and the symbols by their numbers
 pub record Kept : Type 0 where
   pub look : List ℕ → Option Symbol
   pub labels : List ℕ → Option ℕ
@@ -49,7 +48,7 @@ module _ {A : Type 0} where
     places = r.formulas.places.items;
   }
 
--- a statement that may stand behind lawful ones
+-- a statement that may stand after lawful ones
 pub record MayTake (db : List Statement) (deep : ℕ) (s : Statement) : Type 0 where
   pub lawful : (k : ℕ) → k < length db → scope_fault db k ≡ None
   pub few : length db < 2 ^ 31

@@ -1,5 +1,6 @@
 -- The names that the code knows.
-use Rattle.std.specs.Prelude.{ℕ, Bool, true, false, ◌&&◌, not, List, Option, None, Some, bytes_eq, map, [], ◌∷◌, ◌++◌, if◌then◌else◌}
+use Rattle.std.specs.Prelude.{ℕ, Bool, true, false, ◌&&◌, not, List, Option, None, Some, bytes_eq}
+use Rattle.std.specs.Prelude.{map, [], ◌∷◌, ◌++◌, if◌then◌else◌}
 use denote.Ref.{Bor}
 use Rattle.indexmap.specs.IndexMap.{IndexMap, get_by, keys}
 use Rattle.mm_spec.specs.Text.{is_in}

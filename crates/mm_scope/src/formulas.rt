@@ -1,7 +1,8 @@
 //! The symbols of the statements by their numbers.
 
-ghost use Rattle.std.specs.Prelude.{◌≡◌, ◌<◌, ◌≤◌, ◌^◌, ◌+◌, ◌++◌, [], ℕ, List, Some, IfOk, OnOk, length, get_or, slice_get, false};
-ghost use Rattle.mm_outline.specs.Parts.{AreWords, IsOutline, between, statement_of};
+ghost use Rattle.std.specs.Prelude.{◌≡◌, ◌<◌, ◌≤◌, ◌^◌, ◌+◌, ◌++◌, [], ℕ, List, Some, IfOk, OnOk};
+ghost use Rattle.std.specs.Prelude.{length, get_or, slice_get, false};
+ghost use Rattle.mm_outline.specs.Parts.{AreWithin, IsOutline, between, statement_of};
 ghost use Rattle.mm_scope.specs.Formulas.{AreFormulas, numbers_in, unjudged};
 ghost use Rattle.mm_scope.specs.Names.{find, is_variable_in, names_of};
 
@@ -11,8 +12,8 @@ use mm_outline::symbol::Sym;
 use mm_spec::Word;
 use std::alloc::{AllocError, Allocator};
 
-/// The symbols of all statements, one statement's after another's: those of statement k from `places[k]` up to
-/// `places[k + 1]`.
+/// The symbols of all statements, one statement's after another's: those of statement k from
+/// `places[k]` up to `places[k + 1]`.
 #[derive(Drop)]
 pub struct Formulas<A: Allocator> {
     pub numbers: Vec<Sym, A>,
@@ -39,11 +40,14 @@ impl<'a, A: Allocator + Copy> Names<'a, A> {
         to: u32,
         numbers: &mut Vec<Sym, A>,
     ) -> Result<(), AllocError>
-        requires words { AreWords text.now tokens.now }
+        requires words { AreWithin text.now tokens.now }
         requires order { from ≤ to }
         requires within { to ≤ length tokens.now }
         requires few { length (names_of self.now.symbols) < 2 ^ 31 }
-        ensures { OnOk result (numbers.new.items ≡ numbers.old.items ++ numbers_in (names_of self.now.symbols) (between text.now tokens.now from to)) }
+        ensures { OnOk result
+            (numbers.new.items
+            ≡ numbers.old.items
+            ++ numbers_in (names_of self.now.symbols) (between text.now tokens.now from to)) }
     {
         for at in from..to {
             let word = tokens[at as usize];
@@ -56,7 +60,9 @@ impl<'a, A: Allocator + Copy> Names<'a, A> {
     /// For each symbol, by its number, whether it is a variable.
     pub fn variables(&self, alloc: A) -> Result<Vec<bool, A>, AllocError>
         ensures count { IfOk result (λ v. length v.items ≡ length (names_of self.now.symbols)) }
-        ensures each { IfOk result (λ v. (i : ℕ) (w : List ℕ) → slice_get (names_of self.now.symbols) i ≡ Some w → get_or v.items i false ≡ is_variable_in (find self.now.symbols w)) }
+        ensures each { IfOk result
+            (λ v. (i : ℕ) (w : List ℕ) → slice_get (names_of self.now.symbols) i ≡ Some w
+            → get_or v.items i false ≡ is_variable_in (find self.now.symbols w)) }
     {
         let mut variables = Vec::new(alloc);
         for i in 0..self.symbols.len() {
@@ -71,8 +77,8 @@ impl<'a, A: Allocator + Copy> Names<'a, A> {
 }
 
 impl<'a, A: Allocator + Copy> Scope<'a, A> {
-    /// Adds the numbers of the symbols of a `$c`, `$v`, `$d` or `$f` to the others; those of a formula are added as it is
-    /// judged.
+    /// Adds the numbers of the symbols of a `$c`, `$v`, `$d` or `$f` to the others; those of a
+    /// formula are added as it is judged.
     pub(crate) fn number_others(
         &self,
         text: &[u8],
@@ -80,12 +86,16 @@ impl<'a, A: Allocator + Copy> Scope<'a, A> {
         outline: Outline,
         numbers: &mut Vec<Sym, A>,
     ) -> Result<(), AllocError>
-        requires words { AreWords text.now tokens.now }
+        requires words { AreWithin text.now tokens.now }
         requires few_tokens { length tokens.now < 2 ^ 31 }
         requires outline { IsOutline outline }
         requires within { outline.end < length tokens.now }
         requires few { length (names_of self.now.names.symbols) < 2 ^ 31 }
-        ensures { OnOk result (numbers.new.items ≡ numbers.old.items ++ unjudged (names_of self.now.names.symbols) (statement_of text.now tokens.now outline)) }
+        ensures { OnOk result
+            (numbers.new.items
+            ≡ numbers.old.items
+            ++ unjudged (names_of self.now.names.symbols)
+            (statement_of text.now tokens.now outline)) }
     {
         let from = outline.keyword + 1;
         match outline.kind {

@@ -1,16 +1,19 @@
 //! The faults of a statement that comes next.
 
-ghost use Rattle.std.specs.Prelude.{◌≡◌, ◌<◌, ◌≤◌, ◌++◌, [], length, OnOk, IfOk};
-ghost use Rattle.std.specs.Prelude.{◌+◌, ◌-◌, ℕ, List, is_some, Some, if◌then◌else◌, bytes_eq, false};
-ghost use Rattle.std.specs.Prelude.{◌^◌, map};
+ghost use Rattle.std.specs.Prelude.{◌≡◌, ◌<◌, ◌≤◌, ◌++◌, [], length, OnOk, IfOk, ◌^◌, map};
+ghost use Rattle.std.specs.Prelude.{◌+◌, ◌-◌, ℕ, List, is_some, Some, if◌then◌else◌, bytes_eq};
+ghost use Rattle.std.specs.Prelude.{false};
 ghost use Rattle.mm_spec.specs.Text.{is_in, words};
 ghost use Rattle.mm_spec.specs.Frame.{place_of};
 ghost use Rattle.mm_scope.specs.Names.{find, names_of};
 ghost use Rattle.mm_scope.specs.Formulas.{judged};
-ghost use Rattle.mm_spec.specs.Lawful.{least, at_each, symbol_codes, formula_faults, floating_faults, label_faults, scope_faults};
+ghost use Rattle.mm_spec.specs.Lawful.{least, at_each, symbol_codes, formula_faults};
+ghost use Rattle.mm_spec.specs.Lawful.{floating_faults, label_faults, scope_faults};
 ghost use Rattle.mm_spec.specs.Scope.{Names as Known};
-ghost use Rattle.mm_outline.specs.Parts.{AreWords, IsOutline, between, word_at, token_at, statement_of};
-ghost use Rattle.mm_scope.specs.Judge.{merge as spec_merge, fault_at, is_open_in, declared_codes, list_fault, before_next, Knows};
+ghost use Rattle.mm_outline.specs.Parts.{AreWithin, IsOutline, between, nth_word, token_at};
+ghost use Rattle.mm_outline.specs.Parts.{statement_of};
+ghost use Rattle.mm_scope.specs.Judge.{merge as spec_merge, fault_at, is_open_in, declared_codes};
+ghost use Rattle.mm_scope.specs.Judge.{list_fault, before_next, Knows};
 
 use crate::names::{Map, Scope};
 use indexmap::IndexMap;
@@ -20,7 +23,8 @@ use mm_spec::{Code, Fault, Word};
 use std::alloc::{AllocError, Allocator};
 
 impl<'a, A: Allocator + Copy> Scope<'a, A> {
-    /// The first fault of the symbols of a formula behind its typecode, whose numbers are added to the others.
+    /// The first fault of the symbols of a formula after its typecode, whose numbers are added to
+    /// the others.
     fn symbols_fault(
         &self,
         text: &[u8],
@@ -29,12 +33,20 @@ impl<'a, A: Allocator + Copy> Scope<'a, A> {
         to: u32,
         numbers: &mut Vec<Sym, A>,
     ) -> Result<Option<Fault>, AllocError>
-        requires words { AreWords text.now tokens.now }
+        requires words { AreWithin text.now tokens.now }
         requires order { from ≤ to }
         requires within { to ≤ length tokens.now }
         requires few { length (names_of self.now.names.symbols) < 2 ^ 31 }
-        ensures fault { IfOk result (λ r. (n : Known) → Knows n (find self.now.names.symbols) (find self.now.names.labels) (is_open_in self.now.blocks.of.items self.now.blocks.ends.items) → r ≡ least (at_each (symbol_codes n) [] (between text.now tokens.now from to))) }
-        ensures numbers { OnOk result (numbers.new.items ≡ numbers.old.items ++ map (λ w. place_of w (names_of self.now.names.symbols)) (words (between text.now tokens.now from to))) }
+        ensures fault { IfOk result
+            (λ r. (n : Known)
+            → Knows n (find self.now.names.symbols) (find self.now.names.labels)
+            (is_open_in self.now.blocks.of.items self.now.blocks.ends.items)
+            → r ≡ least (at_each (symbol_codes n) [] (between text.now tokens.now from to))) }
+        ensures numbers { OnOk result
+            (numbers.new.items
+            ≡ numbers.old.items
+            ++ map (λ w. place_of w (names_of self.now.names.symbols))
+            (words (between text.now tokens.now from to))) }
     {
         let mut best = None;
         for at in from..to {
@@ -58,10 +70,15 @@ impl<'a, A: Allocator + Copy> Scope<'a, A> {
         from: u32,
         to: u32,
     ) -> Result<Option<Fault>, AllocError>
-        requires words { AreWords text.now tokens.now }
+        requires words { AreWithin text.now tokens.now }
         requires order { from ≤ to }
         requires within { to < length tokens.now }
-        ensures { IfOk result (λ r. (n : Known) → Knows n (find self.now.names.symbols) (find self.now.names.labels) (is_open_in self.now.blocks.of.items self.now.blocks.ends.items) → r ≡ least (at_each (declared_codes n kind) [] (between text.now tokens.now from to))) }
+        ensures { IfOk result
+            (λ r. (n : Known)
+            → Knows n (find self.now.names.symbols) (find self.now.names.labels)
+            (is_open_in self.now.blocks.of.items self.now.blocks.ends.items)
+            → r ≡ least
+            (at_each (declared_codes n kind) [] (between text.now tokens.now from to))) }
     {
         let is_short = to - from <= FEW;
         let mut seen = IndexMap::new(alloc);
@@ -75,7 +92,8 @@ impl<'a, A: Allocator + Copy> Scope<'a, A> {
         Ok(best)
     }
 
-    /// The first fault of a formula, which ends at the token `to`. The numbers of its symbols are added to the others.
+    /// The first fault of a formula, which ends at the token `to`. The numbers of its symbols are
+    /// added to the others.
     fn formula_fault(
         &self,
         text: &[u8],
@@ -84,12 +102,22 @@ impl<'a, A: Allocator + Copy> Scope<'a, A> {
         to: u32,
         numbers: &mut Vec<Sym, A>,
     ) -> Result<Option<Fault>, AllocError>
-        requires words { AreWords text.now tokens.now }
+        requires words { AreWithin text.now tokens.now }
         requires order { from ≤ to }
         requires within { to < length tokens.now }
         requires few { length (names_of self.now.names.symbols) < 2 ^ 31 }
-        ensures fault { IfOk result (λ r. (n : Known) → Knows n (find self.now.names.symbols) (find self.now.names.labels) (is_open_in self.now.blocks.of.items self.now.blocks.ends.items) → r ≡ least (formula_faults n (between text.now tokens.now from to) (word_at tokens.now to).start)) }
-        ensures numbers { OnOk result (numbers.new.items ≡ numbers.old.items ++ map (λ w. place_of w (names_of self.now.names.symbols)) (words (between text.now tokens.now from to))) }
+        ensures fault { IfOk result
+            (λ r. (n : Known)
+            → Knows n (find self.now.names.symbols) (find self.now.names.labels)
+            (is_open_in self.now.blocks.of.items self.now.blocks.ends.items)
+            → r ≡ least
+            (formula_faults n (between text.now tokens.now from to)
+            (nth_word tokens.now to).start)) }
+        ensures numbers { OnOk result
+            (numbers.new.items
+            ≡ numbers.old.items
+            ++ map (λ w. place_of w (names_of self.now.names.symbols))
+            (words (between text.now tokens.now from to))) }
     {
         if from == to {
             return Ok(note(None, tokens[to as usize].start, Some(Code::BadTypecode)));
@@ -106,9 +134,12 @@ impl<'a, A: Allocator + Copy> Scope<'a, A> {
 
     /// The fault of a label.
     fn label_fault(&self, text: &[u8], tokens: &[Word], at: u32) -> Option<Fault>
-        requires words { AreWords text.now tokens.now }
+        requires words { AreWithin text.now tokens.now }
         requires within { at < length tokens.now }
-        ensures { (n : Known) → Knows n (find self.now.names.symbols) (find self.now.names.labels) (is_open_in self.now.blocks.of.items self.now.blocks.ends.items) → result ≡ least (label_faults n (token_at text.now tokens.now at)) }
+        ensures { (n : Known)
+            → Knows n (find self.now.names.symbols) (find self.now.names.labels)
+            (is_open_in self.now.blocks.of.items self.now.blocks.ends.items)
+            → result ≡ least (label_faults n (token_at text.now tokens.now at)) }
     {
         let token = tokens[at as usize];
         note(
@@ -120,10 +151,15 @@ impl<'a, A: Allocator + Copy> Scope<'a, A> {
 
     /// The fault of the symbols of a `$f`.
     fn floating_fault(&self, text: &[u8], tokens: &[Word], keyword: u32, to: u32) -> Option<Fault>
-        requires words { AreWords text.now tokens.now }
+        requires words { AreWithin text.now tokens.now }
         requires order { keyword < to }
         requires within { to < length tokens.now }
-        ensures { (n : Known) → Knows n (find self.now.names.symbols) (find self.now.names.labels) (is_open_in self.now.blocks.of.items self.now.blocks.ends.items) → result ≡ least (floating_faults n (word_at tokens.now keyword).start (between text.now tokens.now (keyword + 1) to)) }
+        ensures { (n : Known)
+            → Knows n (find self.now.names.symbols) (find self.now.names.labels)
+            (is_open_in self.now.blocks.of.items self.now.blocks.ends.items)
+            → result
+            ≡ least (floating_faults n (nth_word tokens.now keyword).start
+            (between text.now tokens.now (keyword + 1) to)) }
     {
         if to - keyword != 3 {
             return note(
@@ -157,7 +193,9 @@ impl<'a, A: Allocator + Copy> Scope<'a, A> {
     ) -> Option<Fault>
         requires order { keyword < end }
         requires within { end < length tokens.now }
-        ensures { result ≡ list_fault kind deep (word_at tokens.now keyword).start (word_at tokens.now end).start (end - keyword - 1) }
+        ensures { result
+            ≡ list_fault kind deep (nth_word tokens.now keyword).start
+            (nth_word tokens.now end).start (end - keyword - 1) }
     {
         let place = tokens[end as usize].start;
         let count = end - keyword - 1;
@@ -200,8 +238,8 @@ impl<'a, A: Allocator + Copy> Scope<'a, A> {
         }
     }
 
-    /// The least fault of a statement that comes next. The numbers of the symbols of a `$e`, `$a` or `$p` are added to the
-    /// others.
+    /// The least fault of a statement that comes next. The numbers of the symbols of a `$e`, `$a`
+    /// or `$p` are added to the others.
     pub(crate) fn fault(
         &self,
         alloc: A,
@@ -211,12 +249,20 @@ impl<'a, A: Allocator + Copy> Scope<'a, A> {
         outline: Outline,
         numbers: &mut Vec<Sym, A>,
     ) -> Result<Option<Fault>, AllocError>
-        requires words { AreWords text.now tokens.now }
+        requires words { AreWithin text.now tokens.now }
         requires outline { IsOutline outline }
         requires within { outline.end < length tokens.now }
         requires few { length (names_of self.now.names.symbols) < 2 ^ 31 }
-        ensures numbers { OnOk result (numbers.new.items ≡ numbers.old.items ++ judged (names_of self.now.names.symbols) (statement_of text.now tokens.now outline)) }
-        ensures fault { IfOk result (λ r. (n : Known) → Knows n (find self.now.names.symbols) (find self.now.names.labels) (is_open_in self.now.blocks.of.items self.now.blocks.ends.items) → r ≡ least (scope_faults n deep (statement_of text.now tokens.now outline))) }
+        ensures numbers { OnOk result
+            (numbers.new.items
+            ≡ numbers.old.items
+            ++ judged (names_of self.now.names.symbols)
+            (statement_of text.now tokens.now outline)) }
+        ensures fault { IfOk result
+            (λ r. (n : Known)
+            → Knows n (find self.now.names.symbols) (find self.now.names.labels)
+            (is_open_in self.now.blocks.of.items self.now.blocks.ends.items)
+            → r ≡ least (scope_faults n deep (statement_of text.now tokens.now outline))) }
     {
         let kind = outline.kind;
         let keyword = outline.keyword;
@@ -237,7 +283,8 @@ impl<'a, A: Allocator + Copy> Scope<'a, A> {
         }
     }
 
-    /// The least fault of a label and a formula. The numbers of the formula's symbols are added to the others.
+    /// The least fault of a label and a formula. The numbers of the formula's symbols are added to
+    /// the others.
     fn labelled(
         &self,
         text: &[u8],
@@ -246,13 +293,24 @@ impl<'a, A: Allocator + Copy> Scope<'a, A> {
         to: u32,
         numbers: &mut Vec<Sym, A>,
     ) -> Result<Option<Fault>, AllocError>
-        requires words { AreWords text.now tokens.now }
+        requires words { AreWithin text.now tokens.now }
         requires label { 0 < keyword }
         requires order { keyword < to }
         requires within { to < length tokens.now }
         requires few { length (names_of self.now.names.symbols) < 2 ^ 31 }
-        ensures fault { IfOk result (λ r. (n : Known) → Knows n (find self.now.names.symbols) (find self.now.names.labels) (is_open_in self.now.blocks.of.items self.now.blocks.ends.items) → r ≡ least (label_faults n (token_at text.now tokens.now (keyword - 1)) ++ formula_faults n (between text.now tokens.now (keyword + 1) to) (word_at tokens.now to).start)) }
-        ensures numbers { OnOk result (numbers.new.items ≡ numbers.old.items ++ map (λ w. place_of w (names_of self.now.names.symbols)) (words (between text.now tokens.now (keyword + 1) to))) }
+        ensures fault { IfOk result
+            (λ r. (n : Known)
+            → Knows n (find self.now.names.symbols) (find self.now.names.labels)
+            (is_open_in self.now.blocks.of.items self.now.blocks.ends.items)
+            → r ≡ least
+            (label_faults n (token_at text.now tokens.now (keyword - 1))
+            ++ formula_faults n (between text.now tokens.now (keyword + 1) to)
+            (nth_word tokens.now to).start)) }
+        ensures numbers { OnOk result
+            (numbers.new.items
+            ≡ numbers.old.items
+            ++ map (λ w. place_of w (names_of self.now.names.symbols))
+            (words (between text.now tokens.now (keyword + 1) to))) }
     {
         let label = self.label_fault(text, tokens, keyword - 1);
         let formula = self.formula_fault(text, tokens, keyword + 1, to, numbers)?;
@@ -270,10 +328,18 @@ impl<'a, A: Allocator + Copy> Scope<'a, A> {
         keyword: u32,
         to: u32,
     ) -> Result<Option<Fault>, AllocError>
-        requires words { AreWords text.now tokens.now }
+        requires words { AreWithin text.now tokens.now }
         requires order { keyword < to }
         requires within { to < length tokens.now }
-        ensures { IfOk result (λ r. (n : Known) → Knows n (find self.now.names.symbols) (find self.now.names.labels) (is_open_in self.now.blocks.of.items self.now.blocks.ends.items) → r ≡ spec_merge (list_fault kind deep (word_at tokens.now keyword).start (word_at tokens.now to).start (to - keyword - 1)) (least (at_each (declared_codes n kind) [] (between text.now tokens.now (keyword + 1) to)))) }
+        ensures { IfOk result
+            (λ r. (n : Known)
+            → Knows n (find self.now.names.symbols) (find self.now.names.labels)
+            (is_open_in self.now.blocks.of.items self.now.blocks.ends.items)
+            → r ≡ spec_merge
+            (list_fault kind deep (nth_word tokens.now keyword).start
+            (nth_word tokens.now to).start (to - keyword - 1))
+            (least (at_each (declared_codes n kind) []
+            (between text.now tokens.now (keyword + 1) to)))) }
     {
         let rest = self.declared_fault(alloc, text, tokens, kind, keyword + 1, to)?;
         Ok(merge(self.list_fault(tokens, kind, deep, keyword, to), rest))
@@ -290,15 +356,18 @@ fn merge(best: Option<Fault>, fault: Option<Fault>) -> Option<Fault>
     }
 }
 
-/// In a list of at most so many words each is compared with those before it; those of a longer one are kept in a map.
+/// In a list of at most so many words each is compared with those before it; those of a longer one
+/// are kept in a map.
 const FEW: u32 = 16;
 
 /// Whether the word at `at` stands among those from `from` on before it.
 fn is_among(text: &[u8], tokens: &[Word], from: u32, at: u32) -> bool
-    requires words { AreWords text.now tokens.now }
+    requires words { AreWithin text.now tokens.now }
     requires order { from ≤ at }
     requires within { at < length tokens.now }
-    ensures { result ≡ is_in (token_at text.now tokens.now at).word (before_next [] (between text.now tokens.now from at)) }
+    ensures { result
+        ≡ is_in (token_at text.now tokens.now at).word
+        (before_next [] (between text.now tokens.now from at)) }
 {
     let token = tokens[at as usize];
     let word = &text[token.start as usize..token.end as usize];
@@ -310,8 +379,8 @@ fn is_among(text: &[u8], tokens: &[Word], from: u32, at: u32) -> bool
     found
 }
 
-/// Whether the word at `at` of a list that begins at `from` stands twice so far. The words of a list that isn't short are
-/// seen, one after the other.
+/// Whether the word at `at` of a list that begins at `from` stands twice so far. The words of a
+/// list that isn't short are seen, one after the other.
 fn is_repeated<'a, A: Allocator + Copy>(
     seen: &mut Map<'a, u32, A>,
     is_short: bool,
@@ -320,12 +389,19 @@ fn is_repeated<'a, A: Allocator + Copy>(
     from: u32,
     at: u32,
 ) -> Result<bool, AllocError>
-    requires words { AreWords text.now tokens.now }
+    requires words { AreWithin text.now tokens.now }
     requires order { from ≤ at }
     requires within { at < length tokens.now }
-    requires seen { is_short ≡ false → (w : List ℕ) → is_some (find seen.old w) ≡ is_in w (before_next [] (between text.now tokens.now from at)) }
-    ensures repeated { IfOk result (λ b. b ≡ is_in (token_at text.now tokens.now at).word (before_next [] (between text.now tokens.now from at))) }
-    ensures seen { OnOk result (is_short ≡ false → (w : List ℕ) → is_some (find seen.new w) ≡ is_in w (before_next [] (between text.now tokens.now from (at + 1)))) }
+    requires seen { is_short ≡ false → (w : List ℕ)
+        → is_some (find seen.old w)
+        ≡ is_in w (before_next [] (between text.now tokens.now from at)) }
+    ensures repeated { IfOk result
+        (λ b. b ≡ is_in (token_at text.now tokens.now at).word
+        (before_next [] (between text.now tokens.now from at))) }
+    ensures seen { OnOk result
+        (is_short ≡ false → (w : List ℕ)
+        → is_some (find seen.new w)
+        ≡ is_in w (before_next [] (between text.now tokens.now from (at + 1)))) }
 {
     if is_short {
         Ok(is_among(text, tokens, from, at))
@@ -341,7 +417,9 @@ fn see<'a, A: Allocator + Copy>(
     word: &'a [u8],
 ) -> Result<bool, AllocError>
     ensures was { IfOk result (λ b. b ≡ is_some (find seen.old word.now)) }
-    ensures now { OnOk result ((w : List ℕ) → find seen.new w ≡ (if bytes_eq word.now w then Some 0 else find seen.old w)) }
+    ensures now { OnOk result
+        ((w : List ℕ)
+        → find seen.new w ≡ (if bytes_eq word.now w then Some 0 else find seen.old w)) }
 {
     let old = seen.insert(word, 0)?;
     Ok(old.is_some())

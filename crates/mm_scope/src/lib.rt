@@ -1,7 +1,8 @@
-//! What is lawful. This layer knows labels, symbols and their scope: it goes over the tokens once, judges each statement by
-//! the names before it, and keeps the statements up to the first that isn't whole and lawful, with their blocks, their
-//! labels and their symbols by number. It promises that these are the statements that the definition of reading gives,
-//! with the fault behind them (`Rattle.mm_spec.specs.Output.IsRead`).
+//! What is lawful. This layer knows labels, symbols and their scope: it goes over the tokens once,
+//! judges each statement by the names before it, and keeps the statements up to the first that
+//! isn't whole and lawful, with their blocks, their labels and their symbols by number. It promises
+//! that these are the statements that the definition of reading gives, with the fault after them
+//! (`Rattle.mm_spec.specs.Output.IsRead`).
 #![tactic(auto)]
 
 pub mod formulas;

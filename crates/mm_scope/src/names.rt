@@ -5,7 +5,9 @@ ghost use Rattle.std.specs.Prelude.{ℕ, List, [], is_some, Some, None, if◌the
 ghost use Rattle.mm_spec.specs.Frame.{place_of};
 ghost use Rattle.mm_spec.specs.Text.{is_in};
 ghost use Rattle.mm_scope.specs.Names.{find, names_of, with_name, are_distinct};
-ghost use Rattle.mm_scope.specs.Judge.{is_open_in, is_active_symbol, is_typed_symbol, symbol_code, label_code, typecode_code, floating_code, declared_code, typing_code};
+ghost use Rattle.mm_scope.specs.Judge.{is_open_in, is_active_symbol, is_typed_symbol, symbol_code};
+ghost use Rattle.mm_scope.specs.Judge.{label_code, typecode_code, floating_code, declared_code};
+ghost use Rattle.mm_scope.specs.Judge.{typing_code};
 
 use indexmap::IndexMap;
 use mm_outline::blocks::{Blocks, NEVER};
@@ -14,7 +16,8 @@ use mm_spec::Code;
 use std::alloc::{AllocError, Allocator};
 use std::hash::{BuildHasherDefault, FoldHasher};
 
-/// What is known of a symbol: a constant, or a variable with its last declaration and its last `$f`, whose typecode is kept.
+/// What is known of a symbol: a constant, or a variable with its last declaration and its last
+/// `$f`, whose typecode is kept.
 #[derive(Clone, Copy, Drop)]
 pub struct Symbol<'a> {
     pub is_variable: bool,
@@ -36,8 +39,9 @@ const NO_GUESS: usize = 18_446_744_073_709_551_615;
 pub struct Names<'a, A: Allocator> {
     pub symbols: Map<'a, Symbol<'a>, A>,
     pub labels: Map<'a, u32, A>,
-    /// The numbers of symbols, by the first byte, the last byte and the length of their names. A guess is looked at before
-    /// it is believed; so the usual symbol is found by comparing it with one name.
+    /// The numbers of symbols, by the first byte, the last byte and the length of their names. A
+    /// guess is looked at before it is believed; so the usual symbol is found by comparing it with
+    /// one name.
     guesses: Vec<usize, A>,
     ghost distinct: { are_distinct (names_of symbols) ≡ true },
 }
@@ -99,8 +103,8 @@ impl<'a, A: Allocator + Copy> Names<'a, A> {
         known
     }
 
-    /// The symbol's number, in the order of first declarations, and what is known of it. Where it is none, the number is
-    /// how many symbols there are.
+    /// The symbol's number, in the order of first declarations, and what is known of it. Where it
+    /// is none, the number is how many symbols there are.
     #[inline(always)]
     pub(crate) fn numbered(&self, word: &[u8]) -> (usize, Option<Symbol<'a>>)
         ensures number { result.0 ≡ place_of word.now (names_of self.now.symbols) }
@@ -136,9 +140,14 @@ impl<'a, A: Allocator + Copy> Names<'a, A> {
         word: &'a [u8],
         symbol: Symbol<'a>,
     ) -> Result<(), AllocError>
-        ensures symbols { OnOk result ((w : List ℕ) → find self.new.symbols w ≡ (if bytes_eq word.now w then Some symbol.entry else find self.old.symbols w)) }
-        ensures labels { OnOk result ((w : List ℕ) → find self.new.labels w ≡ find self.old.labels w) }
-        ensures names { OnOk result (names_of self.new.symbols ≡ with_name word.now (names_of self.old.symbols)) }
+        ensures symbols { OnOk result
+            ((w : List ℕ)
+            → find self.new.symbols w
+            ≡ (if bytes_eq word.now w then Some symbol.entry else find self.old.symbols w)) }
+        ensures labels { OnOk result
+            ((w : List ℕ) → find self.new.labels w ≡ find self.old.labels w) }
+        ensures names { OnOk result
+            (names_of self.new.symbols ≡ with_name word.now (names_of self.old.symbols)) }
     {
         let (number, _) = self.symbols.insert_full(word, symbol)?;
         note_guess(&mut self.guesses, word, number);
@@ -147,7 +156,10 @@ impl<'a, A: Allocator + Copy> Names<'a, A> {
 
     /// The label with that statement from now on.
     pub(crate) fn set_label(&mut self, word: &'a [u8], statement: u32) -> Result<(), AllocError>
-        ensures labels { OnOk result ((w : List ℕ) → find self.new.labels w ≡ (if bytes_eq word.now w then Some statement else find self.old.labels w)) }
+        ensures labels { OnOk result
+            ((w : List ℕ)
+            → find self.new.labels w
+            ≡ (if bytes_eq word.now w then Some statement else find self.old.labels w)) }
         ensures symbols { OnOk result (self.new.symbols ≡ self.old.symbols) }
     {
         self.labels.insert(word, statement)?;
@@ -155,7 +167,7 @@ impl<'a, A: Allocator + Copy> Names<'a, A> {
     }
 }
 
-/// The names and the blocks behind the statements so far.
+/// The names and the blocks after the statements so far.
 #[derive(Drop)]
 pub struct Scope<'a, A: Allocator> {
     pub names: Names<'a, A>,
@@ -165,7 +177,8 @@ pub struct Scope<'a, A: Allocator> {
 impl<'a, A: Allocator + Copy> Scope<'a, A> {
     /// Whether the statement's block is open here.
     fn is_open(&self, statement: u32) -> bool
-        ensures { result ≡ is_open_in self.now.blocks.of.items self.now.blocks.ends.items statement }
+        ensures { result
+            ≡ is_open_in self.now.blocks.of.items self.now.blocks.ends.items statement }
     {
         match self.blocks.of.get(statement as usize) {
             Some(block) => match self.blocks.ends.get(*block as usize) {
@@ -178,21 +191,28 @@ impl<'a, A: Allocator + Copy> Scope<'a, A> {
 
     /// Whether it is an active variable.
     fn is_active(&self, symbol: Symbol<'a>) -> bool
-        ensures { result ≡ is_active_symbol (is_open_in self.now.blocks.of.items self.now.blocks.ends.items) symbol.entry }
+        ensures { result
+            ≡ is_active_symbol
+            (is_open_in self.now.blocks.of.items self.now.blocks.ends.items) symbol.entry }
     {
         symbol.is_variable && self.is_open(symbol.declared)
     }
 
     /// Whether it has an active `$f`.
     fn is_typed(&self, symbol: Symbol<'a>) -> bool
-        ensures { result ≡ is_typed_symbol (is_open_in self.now.blocks.of.items self.now.blocks.ends.items) symbol.entry }
+        ensures { result
+            ≡ is_typed_symbol
+            (is_open_in self.now.blocks.of.items self.now.blocks.ends.items) symbol.entry }
     {
         self.is_open(symbol.typed)
     }
 
-    /// What is wrong with a word of which that is known as a symbol of a formula behind its typecode.
+    /// What is wrong with a word of which that is known as a symbol of a formula after its
+    /// typecode.
     pub(crate) fn symbol_code(&self, known: Option<Symbol<'a>>) -> Option<Code>
-        ensures { result ≡ symbol_code (is_open_in self.now.blocks.of.items self.now.blocks.ends.items) known.entry }
+        ensures { result
+            ≡ symbol_code
+            (is_open_in self.now.blocks.of.items self.now.blocks.ends.items) known.entry }
     {
         match known {
             Some(symbol) => {
@@ -212,7 +232,9 @@ impl<'a, A: Allocator + Copy> Scope<'a, A> {
 
     /// What is wrong with the word as a label.
     pub(crate) fn label_code(&self, word: &[u8]) -> Option<Code>
-        ensures { result ≡ label_code (find self.now.names.symbols word.now) (is_some (find self.now.names.labels word.now)) }
+        ensures { result
+            ≡ label_code (find self.now.names.symbols word.now)
+            (is_some (find self.now.names.labels word.now)) }
     {
         if self.names.symbol(word).is_some() {
             Some(Code::LabelIsSymbol)
@@ -241,7 +263,10 @@ impl<'a, A: Allocator + Copy> Scope<'a, A> {
 
     /// What is wrong with the typecode for the variable of a `$f`.
     pub(crate) fn floating_code(&self, typecode: &[u8], symbol: Symbol<'a>) -> Option<Code>
-        ensures { result ≡ floating_code (is_open_in self.now.blocks.of.items self.now.blocks.ends.items) typecode.now (Some symbol.entry) }
+        ensures { result
+            ≡ floating_code
+            (is_open_in self.now.blocks.of.items self.now.blocks.ends.items) typecode.now
+            (Some symbol.entry) }
     {
         if self.is_typed(symbol) {
             Some(Code::TypedBefore)
@@ -254,7 +279,11 @@ impl<'a, A: Allocator + Copy> Scope<'a, A> {
 
     /// What is wrong with the word as a symbol of `$c`, `$v` or `$d`.
     pub(crate) fn declared_code(&self, kind: Kind, word: &[u8], repeated: bool) -> Option<Code>
-        ensures { result ≡ declared_code (is_open_in self.now.blocks.of.items self.now.blocks.ends.items) kind (find self.now.names.symbols word.now) repeated (is_some (find self.now.names.labels word.now)) }
+        ensures { result
+            ≡ declared_code
+            (is_open_in self.now.blocks.of.items self.now.blocks.ends.items) kind
+            (find self.now.names.symbols word.now) repeated
+            (is_some (find self.now.names.labels word.now)) }
     {
         let (is_known, is_active) = match self.names.symbol(word) {
             Some(symbol) => {
@@ -283,9 +312,14 @@ impl<'a, A: Allocator + Copy> Scope<'a, A> {
         }
     }
 
-    /// What is wrong with a constant as the type of an active variable; None where they are not these.
+    /// What is wrong with a constant as the type of an active variable; None where they are not
+    /// these.
     pub(crate) fn typing_code(&self, typecode: &[u8], variable: &[u8]) -> Option<Option<Code>>
-        ensures { result ≡ typing_code (is_open_in self.now.blocks.of.items self.now.blocks.ends.items) typecode.now (find self.now.names.symbols typecode.now) (find self.now.names.symbols variable.now) }
+        ensures { result
+            ≡ typing_code
+            (is_open_in self.now.blocks.of.items self.now.blocks.ends.items) typecode.now
+            (find self.now.names.symbols typecode.now)
+            (find self.now.names.symbols variable.now) }
     {
         match self.names.symbol(variable) {
             Some(symbol) => {

@@ -1,24 +1,23 @@
 //! The reading of statements, one after the other.
 
-ghost use Rattle.std.specs.Prelude.{◌≡◌, ◌<◌, ◌≤◌, ◌^◌, ◌++◌, ◌∷◌, [], List, None, All, length, OnOk, IfOk};
+ghost use Rattle.std.specs.Prelude.{◌≡◌, ◌<◌, ◌≤◌, ◌^◌, ◌++◌, ◌∷◌, [], List, None, All, length};
+ghost use Rattle.std.specs.Prelude.{OnOk, IfOk, ◌≢◌};
 ghost use Rattle.mm_spec.specs.Statement.{Statement, is_closing, label_of};
-ghost use Rattle.mm_spec.specs.Scope.{names_before, depth, is_active};
+ghost use Rattle.mm_spec.specs.Scope.{names_before, depth, is_active, constants_of, variables_of};
 ghost use Rattle.mm_spec.specs.Lawful.{least, scope_faults};
 ghost use Rattle.mm_spec.specs.Output.{IsRead};
-ghost use Rattle.mm_scope.specs.Names.{find as find_in};
+ghost use Rattle.mm_scope.specs.Names.{find as find_in, names_of};
 ghost use Rattle.mm_outline.specs.Blocks.{IsBlocks, lists};
 ghost use Rattle.std.specs.Prelude.{◌+◌, ◌-◌, ℕ, Some, if◌then◌else◌, bytes_eq, true};
 ghost use Rattle.mm_spec.specs.Text.{is_in, words};
 ghost use Rattle.mm_scope.specs.Judge.{declared_entry, entry_of, typed_entry};
-ghost use Rattle.mm_outline.specs.Parts.{AreWords, between, token_at, IsOutline, depth_behind, statement_of};
+ghost use Rattle.mm_outline.specs.Parts.{AreWithin, between, token_at, IsOutline, depth_behind};
+ghost use Rattle.mm_outline.specs.Parts.{statement_of};
 ghost use Rattle.mm_outline.specs.Tokens.{AreTokens};
 ghost use Rattle.mm_scope.specs.Known.{entry_after, label_after};
 ghost use Rattle.mm_outline.specs.Statements.{active_kind, end_fault_of, lexed, statements};
 ghost use Rattle.mm_scope.specs.Keeps.{Keeps, IsKept, MayTake, kept_by};
-ghost use Rattle.mm_scope.specs.Names.{names_of};
 ghost use Rattle.mm_spec.specs.Frame.{first_occurrences};
-ghost use Rattle.mm_spec.specs.Scope.{constants_of, variables_of};
-ghost use Rattle.std.specs.Prelude.{◌≢◌};
 
 use crate::formulas::{Formulas, no_formulas};
 use crate::names::{Names, Scope, Symbol, no_names};
@@ -27,8 +26,8 @@ use mm_outline::parts::{Found, Kind, Outline, Part, find};
 use mm_spec::{Code, Fault, Word};
 use std::alloc::{AllocError, Allocator};
 
-/// The lawful statements of a text by their outlines, the names and the symbols by number after them, and what stopped the
-/// reading.
+/// The lawful statements of a text by their outlines, the names and the symbols by number after
+/// them, and what stopped the reading.
 #[derive(Drop)]
 pub struct Outlined<'a, A: Allocator> {
     pub outlines: Vec<Outline, A>,
@@ -37,7 +36,7 @@ pub struct Outlined<'a, A: Allocator> {
     pub fault: Option<Fault>,
 }
 
-/// How many blocks are open behind a statement.
+/// How many blocks are open after a statement.
 fn depth_after(kind: Kind, deep: u32) -> u32
     requires { deep < 2 ^ 31 }
     ensures { result ≡ depth_behind kind deep }
@@ -51,7 +50,9 @@ fn depth_after(kind: Kind, deep: u32) -> u32
 
 /// No names yet.
 fn no_scope<'a, A: Allocator + Copy>(alloc: A) -> Result<Scope<'a, A>, AllocError>
-    ensures keeps { IfOk result (λ s. Keeps [] (find_in s.names.symbols) (find_in s.names.labels) (lists s.blocks.of.items s.blocks.ends.items s.blocks.open.items)) }
+    ensures keeps { IfOk result
+        (λ s. Keeps [] (find_in s.names.symbols) (find_in s.names.labels)
+        (lists s.blocks.of.items s.blocks.ends.items s.blocks.open.items)) }
     ensures names { IfOk result (λ s. names_of s.names.symbols ≡ []) }
 {
     let blocks = no_blocks(alloc)?;
@@ -87,7 +88,8 @@ fn end_fault(lexical: Option<Fault>, text: &[u8], part: Part, deep: u32) -> Opti
 
 /// Nothing read yet.
 fn nothing<'a, A: Allocator + Copy>(alloc: A) -> Result<Outlined<'a, A>, AllocError>
-    ensures { IfOk result (λ r. (r.outlines.items ≡ []) × (r.fault ≡ None) × IsKept [] (kept_by r)) }
+    ensures { IfOk result
+        (λ r. (r.outlines.items ≡ []) × (r.fault ≡ None) × IsKept [] (kept_by r)) }
 {
     let scope = no_scope(alloc)?;
     let formulas = no_formulas(alloc)?;
@@ -109,16 +111,31 @@ impl<'a, A: Allocator + Copy> Outlined<'a, A> {
         deep: u32,
         outline: Outline,
     ) -> Result<(), AllocError>
-        requires words { AreWords text.now tokens.now }
+        requires words { AreWithin text.now tokens.now }
         requires few { length tokens.now < 2 ^ 31 }
         requires outline { IsOutline outline }
         requires within { outline.end < length tokens.now }
         requires sound { self.old.fault ≡ None }
-        requires kept { IsKept (statements text.now tokens.now self.old.outlines.items) (kept_by self.old) }
-        requires next { MayTake (statements text.now tokens.now self.old.outlines.items) deep (statement_of text.now tokens.now outline) }
-        ensures fault { OnOk result (self.new.fault ≡ least (scope_faults (names_before (statements text.now tokens.now self.old.outlines.items) (length self.old.outlines.items)) deep (statement_of text.now tokens.now outline))) }
-        ensures taken { OnOk result (self.new.fault ≡ None → (self.new.outlines.items ≡ self.old.outlines.items ++ outline ∷ []) × IsKept (statements text.now tokens.now self.old.outlines.items ++ statement_of text.now tokens.now outline ∷ []) (kept_by self.new)) }
-        ensures stays { OnOk result (self.new.fault ≢ None → (self.new.outlines.items ≡ self.old.outlines.items) × IsKept (statements text.now tokens.now self.old.outlines.items) (kept_by self.new)) }
+        requires kept { IsKept (statements text.now tokens.now self.old.outlines.items)
+            (kept_by self.old) }
+        requires next { MayTake (statements text.now tokens.now self.old.outlines.items) deep
+            (statement_of text.now tokens.now outline) }
+        ensures fault { OnOk result
+            (self.new.fault
+            ≡ least (scope_faults
+            (names_before (statements text.now tokens.now self.old.outlines.items)
+            (length self.old.outlines.items)) deep (statement_of text.now tokens.now outline))) }
+        ensures taken { OnOk result
+            (self.new.fault ≡ None
+            → (self.new.outlines.items ≡ self.old.outlines.items ++ outline ∷ [])
+            × IsKept
+            (statements text.now tokens.now self.old.outlines.items
+            ++ statement_of text.now tokens.now outline ∷ []) (kept_by self.new)) }
+        ensures stays { OnOk result
+            (self.new.fault ≢ None
+            → (self.new.outlines.items ≡ self.old.outlines.items)
+            × IsKept (statements text.now tokens.now self.old.outlines.items)
+            (kept_by self.new)) }
     {
         let begin = self.formulas.numbers.len();
         self.fault = self.scope.fault(
@@ -151,14 +168,18 @@ pub fn outline<'a, A: Allocator + Copy>(
     tokens: &[Word],
     lexical: Option<Fault>,
 ) -> Result<Outlined<'a, A>, AllocError>
-    requires words { AreWords text.now tokens.now }
+    requires words { AreWithin text.now tokens.now }
     requires tokens { AreTokens text.now tokens.now }
     requires few { length tokens.now < 2 ^ 31 }
     requires short { lexical ≡ None → length text.now < 2 ^ 31 }
     ensures few { IfOk result (λ d. length d.outlines.items < 2 ^ 31) }
-    ensures outlines { IfOk result (λ d. All (λ o. IsOutline o × (o.end < length tokens.now)) d.outlines.items) }
-    ensures kept { IfOk result (λ d. IsKept (statements text.now tokens.now d.outlines.items) (kept_by d)) }
-    ensures read { IfOk result (λ d. IsRead (length text.now) (lexed text.now tokens.now lexical) (statements text.now tokens.now d.outlines.items) d.fault) }
+    ensures outlines { IfOk result
+        (λ d. All (λ o. IsOutline o × (o.end < length tokens.now)) d.outlines.items) }
+    ensures kept { IfOk result
+        (λ d. IsKept (statements text.now tokens.now d.outlines.items) (kept_by d)) }
+    ensures read { IfOk result
+        (λ d. IsRead (length text.now) (lexed text.now tokens.now lexical)
+        (statements text.now tokens.now d.outlines.items) d.fault) }
 {
     let mut read = nothing(alloc)?;
     let mut deep = 0;
@@ -186,9 +207,11 @@ pub fn outline<'a, A: Allocator + Copy>(
 }
 
 impl<'a, A: Allocator + Copy> Names<'a, A> {
-    /// What is known of the symbol behind a declaration.
+    /// What is known of the symbol after a declaration.
     fn declared(&self, is_variable: bool, number: u32, word: &'a [u8]) -> Symbol<'a>
-        ensures { entry_of (Some result) ≡ declared_entry is_variable number word.entry.now (entry_of (find_in self.now.symbols word.entry.now)) }
+        ensures { entry_of (Some result)
+            ≡ declared_entry is_variable number word.entry.now
+            (entry_of (find_in self.now.symbols word.entry.now)) }
     {
         match self.symbol(word) {
             Some(old) => Symbol {
@@ -208,20 +231,42 @@ impl<'a, A: Allocator + Copy> Names<'a, A> {
 }
 
 impl<'a, A: Allocator + Copy> Scope<'a, A> {
-    /// The names behind one lawful statement more.
+    /// The names after one lawful statement more.
     pub(crate) fn add(
         &mut self,
         text: &'a [u8],
         tokens: &[Word],
         outline: Outline,
     ) -> Result<(), AllocError>
-        requires words { AreWords text.now tokens.now }
+        requires words { AreWithin text.now tokens.now }
         requires outline { IsOutline outline }
         requires few { length tokens.now < 2 ^ 31 }
         requires within { outline.end < length tokens.now }
-        requires keeps { (db : List Statement) × Keeps db (find_in self.old.names.symbols) (find_in self.old.names.labels) (lists self.old.blocks.of.items self.old.blocks.ends.items self.old.blocks.open.items) × (length db < 2 ^ 31) }
-        ensures keeps { OnOk result ((db : List Statement) → Keeps db (find_in self.old.names.symbols) (find_in self.old.names.labels) (lists self.old.blocks.of.items self.old.blocks.ends.items self.old.blocks.open.items) → least (scope_faults (names_before db (length db)) (depth db (length db)) (statement_of text.now tokens.now outline)) ≡ None → (is_closing (statement_of text.now tokens.now outline) ≡ true → 0 < depth db (length db)) → Keeps (db ++ statement_of text.now tokens.now outline ∷ []) (find_in self.new.names.symbols) (find_in self.new.names.labels) (lists self.new.blocks.of.items self.new.blocks.ends.items self.new.blocks.open.items)) }
-        ensures names { OnOk result ((d : List (List ℕ)) → names_of self.old.names.symbols ≡ first_occurrences [] d → names_of self.new.names.symbols ≡ first_occurrences [] (d ++ (constants_of (statement_of text.now tokens.now outline) ++ variables_of (statement_of text.now tokens.now outline)))) }
+        requires keeps { (db : List Statement)
+            × Keeps db (find_in self.old.names.symbols) (find_in self.old.names.labels)
+            (lists self.old.blocks.of.items self.old.blocks.ends.items
+            self.old.blocks.open.items)
+            × (length db < 2 ^ 31) }
+        ensures keeps { OnOk result
+            ((db : List Statement)
+            → Keeps db (find_in self.old.names.symbols) (find_in self.old.names.labels)
+            (lists self.old.blocks.of.items self.old.blocks.ends.items
+            self.old.blocks.open.items)
+            → least (scope_faults (names_before db (length db)) (depth db (length db))
+            (statement_of text.now tokens.now outline))
+            ≡ None
+            → (is_closing (statement_of text.now tokens.now outline) ≡ true
+            → 0 < depth db (length db))
+            → Keeps (db ++ statement_of text.now tokens.now outline ∷ [])
+            (find_in self.new.names.symbols) (find_in self.new.names.labels)
+            (lists self.new.blocks.of.items self.new.blocks.ends.items
+            self.new.blocks.open.items)) }
+        ensures names { OnOk result
+            ((d : List (List ℕ)) → names_of self.old.names.symbols ≡ first_occurrences [] d
+            → names_of self.new.names.symbols
+            ≡ first_occurrences []
+            (d ++ (constants_of (statement_of text.now tokens.now outline)
+            ++ variables_of (statement_of text.now tokens.now outline)))) }
     {
         let number = self.blocks.of.len() as u32;
         self.blocks.push(outline.kind)?;
@@ -236,14 +281,27 @@ impl<'a, A: Allocator + Copy> Scope<'a, A> {
         outline: Outline,
         number: u32,
     ) -> Result<(), AllocError>
-        requires words { AreWords text.now tokens.now }
+        requires words { AreWithin text.now tokens.now }
         requires outline { IsOutline outline }
         requires few { length tokens.now < 2 ^ 31 }
         requires within { outline.end < length tokens.now }
-        ensures symbols { OnOk result ((w : List ℕ) → entry_of (find_in self.new.names.symbols w) ≡ entry_after number (statement_of text.now tokens.now outline) w (entry_of (find_in self.old.names.symbols w))) }
-        ensures labels { OnOk result ((w : List ℕ) → find_in self.new.names.labels w ≡ label_after number (label_of (statement_of text.now tokens.now outline)) w (find_in self.old.names.labels w)) }
+        ensures symbols { OnOk result
+            ((w : List ℕ)
+            → entry_of (find_in self.new.names.symbols w)
+            ≡ entry_after number (statement_of text.now tokens.now outline) w
+            (entry_of (find_in self.old.names.symbols w))) }
+        ensures labels { OnOk result
+            ((w : List ℕ)
+            → find_in self.new.names.labels w
+            ≡ label_after number (label_of (statement_of text.now tokens.now outline)) w
+            (find_in self.old.names.labels w)) }
         ensures blocks { self.new.blocks ≡ self.old.blocks }
-        ensures names { OnOk result ((d : List (List ℕ)) → names_of self.old.names.symbols ≡ first_occurrences [] d → names_of self.new.names.symbols ≡ first_occurrences [] (d ++ (constants_of (statement_of text.now tokens.now outline) ++ variables_of (statement_of text.now tokens.now outline)))) }
+        ensures names { OnOk result
+            ((d : List (List ℕ)) → names_of self.old.names.symbols ≡ first_occurrences [] d
+            → names_of self.new.names.symbols
+            ≡ first_occurrences []
+            (d ++ (constants_of (statement_of text.now tokens.now outline)
+            ++ variables_of (statement_of text.now tokens.now outline)))) }
     {
         let from = outline.keyword + 1;
         match outline.kind {
@@ -271,10 +329,15 @@ impl<'a, A: Allocator + Copy> Scope<'a, A> {
         keyword: u32,
         number: u32,
     ) -> Result<(), AllocError>
-        requires words { AreWords text.now tokens.now }
+        requires words { AreWithin text.now tokens.now }
         requires label { 0 < keyword }
         requires within { keyword < length tokens.now }
-        ensures labels { OnOk result ((w : List ℕ) → find_in self.new.names.labels w ≡ (if bytes_eq (token_at text.now tokens.now (keyword - 1)).word w then Some number else find_in self.old.names.labels w)) }
+        ensures labels { OnOk result
+            ((w : List ℕ)
+            → find_in self.new.names.labels w
+            ≡ (if bytes_eq
+            (token_at text.now tokens.now (keyword - 1)).word w then Some number else find_in
+            self.old.names.labels w)) }
         ensures symbols { OnOk result (self.new.names.symbols ≡ self.old.names.symbols) }
         ensures blocks { self.new.blocks ≡ self.old.blocks }
     {
@@ -283,7 +346,7 @@ impl<'a, A: Allocator + Copy> Scope<'a, A> {
             .set_label(&text[token.start as usize..token.end as usize], number)
     }
 
-    /// The variable behind the typecode at `from` has that type.
+    /// The variable after the typecode at `from` has that type.
     fn give_type(
         &mut self,
         text: &'a [u8],
@@ -291,12 +354,22 @@ impl<'a, A: Allocator + Copy> Scope<'a, A> {
         from: u32,
         number: u32,
     ) -> Result<(), AllocError>
-        requires words { AreWords text.now tokens.now }
+        requires words { AreWithin text.now tokens.now }
         requires within { from + 1 < length tokens.now }
-        ensures labels { OnOk result ((w : List ℕ) → find_in self.new.names.labels w ≡ find_in self.old.names.labels w) }
-        ensures symbols { OnOk result ((w : List ℕ) → entry_of (find_in self.new.names.symbols w) ≡ (if bytes_eq (token_at text.now tokens.now (from + 1)).word w then typed_entry number (token_at text.now tokens.now from).word (entry_of (find_in self.old.names.symbols (token_at text.now tokens.now (from + 1)).word)) else entry_of (find_in self.old.names.symbols w))) }
+        ensures labels { OnOk result
+            ((w : List ℕ) → find_in self.new.names.labels w ≡ find_in self.old.names.labels w) }
+        ensures symbols { OnOk result
+            ((w : List ℕ)
+            → entry_of (find_in self.new.names.symbols w)
+            ≡ (if bytes_eq
+            (token_at text.now tokens.now (from + 1)).word w then typed_entry number
+            (token_at text.now tokens.now from).word
+            (entry_of
+            (find_in self.old.names.symbols (token_at text.now tokens.now (from + 1)).word))
+            else entry_of (find_in self.old.names.symbols w))) }
         ensures blocks { self.new.blocks ≡ self.old.blocks }
-        ensures names { OnOk result (names_of self.new.names.symbols ≡ names_of self.old.names.symbols) }
+        ensures names { OnOk result
+            (names_of self.new.names.symbols ≡ names_of self.old.names.symbols) }
     {
         let first = tokens[from as usize];
         let second = tokens[from as usize + 1];
@@ -326,13 +399,23 @@ impl<'a, A: Allocator + Copy> Scope<'a, A> {
         to: u32,
         number: u32,
     ) -> Result<(), AllocError>
-        requires words { AreWords text.now tokens.now }
+        requires words { AreWithin text.now tokens.now }
         requires order { from ≤ to }
         requires within { to < length tokens.now }
-        ensures labels { OnOk result ((w : List ℕ) → find_in self.new.names.labels w ≡ find_in self.old.names.labels w) }
-        ensures symbols { OnOk result ((w : List ℕ) → entry_of (find_in self.new.names.symbols w) ≡ (if is_in w (words (between text.now tokens.now from to)) then declared_entry is_variable number w (entry_of (find_in self.old.names.symbols w)) else entry_of (find_in self.old.names.symbols w))) }
+        ensures labels { OnOk result
+            ((w : List ℕ) → find_in self.new.names.labels w ≡ find_in self.old.names.labels w) }
+        ensures symbols { OnOk result
+            ((w : List ℕ)
+            → entry_of (find_in self.new.names.symbols w)
+            ≡ (if is_in w
+            (words (between text.now tokens.now from to)) then declared_entry is_variable number
+            w (entry_of (find_in self.old.names.symbols w)) else entry_of
+            (find_in self.old.names.symbols w))) }
         ensures blocks { self.new.blocks ≡ self.old.blocks }
-        ensures names { OnOk result ((d : List (List ℕ)) → names_of self.old.names.symbols ≡ first_occurrences [] d → names_of self.new.names.symbols ≡ first_occurrences [] (d ++ words (between text.now tokens.now from to))) }
+        ensures names { OnOk result
+            ((d : List (List ℕ)) → names_of self.old.names.symbols ≡ first_occurrences [] d
+            → names_of self.new.names.symbols
+            ≡ first_occurrences [] (d ++ words (between text.now tokens.now from to))) }
     {
         for at in from..to {
             let token = tokens[at as usize];

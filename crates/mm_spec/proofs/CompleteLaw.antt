@@ -1,49 +1,78 @@
 -- The frames of lawful statements are complete.
-use Rattle.std.proofs.Common.{◌≡◌, ℕ, ◌==◌, ◌<◌, Bool, true, false, ◌&&◌, ◌||◌, not, ◌⊎◌, inl, inr, List, [], ◌∷◌, ◌++◌, map, length, flat_map, Option, Some, None, slice_get, nat_lt, refl, sym, ap, ap₂, ◌∙◌, subst, true≢false, bytes_eq, eqb-true, eq-eqb}
+use Rattle.std.proofs.Common.{◌≡◌, ℕ, ◌==◌, ◌<◌, Bool, true, false, ◌&&◌, ◌||◌, not, ◌⊎◌, inl, inr}
+use Rattle.std.proofs.Common.{List, [], ◌∷◌, ◌++◌, map, length, flat_map, Option, Some, None}
+use Rattle.std.proofs.Common.{slice_get, nat_lt, refl, sym, ap, ap₂, ◌∙◌, subst, true≢false}
+use Rattle.std.proofs.Common.{bytes_eq, eqb-true, eq-eqb}
 use Rattle.std.specs.List.{list_any, range_with_len}
 use Rattle.std.proofs.lemmas.Bool.{or_cases, or_left, or_right, and_parts, and_from, cases_order}
 use Rattle.std.proofs.lemmas.List.Folds.{list_any-append}
-use Rattle.mm_spec.specs.Text.{Word, Fault, fault, is_in, words}
-use Rattle.mm_spec.specs.Statement.{Statement, constants, variables, disjoint, floating, essential, axiomatic, provable, opening, closing, symbols_of}
-use Rattle.mm_spec.specs.Scope.{Typing, names_before, depth, is_active, active, active_statements, statement_at, constants_of, variables_of, typings_of}
+use Rattle.mm_spec.specs.Text.{Bytes, Fault, fault, is_in, words}
+use Rattle.mm_spec.specs.Statement.{Statement, constants, variables, disjoint, floating, essential}
+use Rattle.mm_spec.specs.Statement.{axiomatic, provable, opening, closing, symbols_of}
+use Rattle.mm_spec.specs.Scope.{Typing, names_before, depth, is_active, active, active_statements}
+use Rattle.mm_spec.specs.Scope.{statement_at, constants_of, variables_of, typings_of}
 use Rattle.mm_spec.specs.Lawful.{scope_faults, least, scope_fault, IsLawful}
-use Rattle.mm_spec.specs.Frame.{symbol_names, place_of, formula_of, formula_at, is_variable, is_floating, is_essential, active_of, mandatory_variables, mandatory_hypotheses, frame_at, pairs_of, disjoint_at}
+use Rattle.mm_spec.specs.Frame.{symbol_names, place_of, formula_of, formula_at, is_variable_number}
+use Rattle.mm_spec.specs.Frame.{is_floating, is_essential, active_of, mandatory_variables}
+use Rattle.mm_spec.specs.Frame.{mandatory_hypotheses, frame_at, pairs_of, disjoint_at}
 use Rattle.mm_spec.specs.Derivation.{Formula, Pair, is_member}
 use Rattle.mm_spec.specs.Citation.{context_at, rule_of}
-use Rattle.mm_spec.specs.Complete.{binds, IsBound, AreBound, IsComplete, IsFine, AreComplete, ReadsComplete}
-use Rattle.mm_spec.specs.Output.{Lexed}
+use Rattle.mm_spec.specs.Laws.Complete.{binds, IsBound, AreBound, IsComplete, IsFine, AreComplete}
+use Rattle.mm_spec.specs.Laws.Complete.{ReadsComplete}
+use Rattle.mm_spec.specs.Output.{LexedText}
 use Rattle.mm_spec.proofs.Local.{scope_fault-front}
-use Rattle.mm_spec.proofs.Finds.{lone, any-flat_map, any-map, any-those, member-those, those-member, each_member, each_map, each_any, each_those, inside_of, formula_at-is, found_at, at_found, found_active, active_found, same_word, declared, declares, declared_before}
-use Rattle.mm_spec.proofs.Faultless.{least_none, no_kind, new_constant, new_variable, has_formula, IsKnown, statement_known, floating_typing, typing_floats, variable_word, member_word, floating_local, essential_local, still}
+use Rattle.mm_spec.proofs.Finds.{lone, any-flat_map, any-map, any-filter, member-filter}
+use Rattle.mm_spec.proofs.Finds.{filter-member, each_member, each_map, each_any, each_filter}
+use Rattle.mm_spec.proofs.Finds.{inside_of, formula_at-is, found_at, at_found, found_active}
+use Rattle.mm_spec.proofs.Finds.{active_found, same_word, declared, declares, declared_before}
+use Rattle.mm_spec.proofs.Faultless.{least_none, no_kind, new_constant, new_variable, has_formula}
+use Rattle.mm_spec.proofs.Faultless.{IsKnown, statement_known, floating_typing, typing_floats}
+use Rattle.mm_spec.proofs.Faultless.{variable_word, member_word, floating_local, essential_local}
+use Rattle.mm_spec.proofs.Faultless.{still}
 
 -- ---- frames
 
 module _ (db : List Statement) (lawful : (k : ℕ) → k < length db → IsLawful db k) where
-  faultless : (k : ℕ) (s : Statement) → slice_get db k ≡ Some s → scope_faults (names_before db k) (depth db k) s ≡ []
-  faultless k s e = least_none (scope_faults (names_before db k) (depth db k) s) (sym (ap judged e) ∙ lawful k (inside_of db k s e))
+  faultless : (k : ℕ) (s : Statement) → slice_get db k ≡ Some s
+      → scope_faults (names_before db k) (depth db k) s ≡ []
+  faultless k s e =
+      least_none (scope_faults (names_before db k) (depth db k) s)
+      (sym (ap judged e) ∙ lawful k (inside_of db k s e))
     where
       judged : Option Statement → Option Fault
-      judged o = elim o [ None ↦ None | Some s ↦ least (scope_faults (names_before db k) (depth db k) s) ]
+      judged o =
+          elim o [ None ↦ None | Some s ↦ least (scope_faults (names_before db k) (depth db k) s) ]
 
   -- no constant is a variable
-  pub constant_apart : (w : Word) → is_in w (flat_map constants_of db) ≡ true → is_in w (flat_map variables_of db) ≡ true → ⊥
+  pub constant_apart : (w : Bytes) → is_in w (flat_map constants_of db) ≡ true
+      → is_in w (flat_map variables_of db) ≡ true → ⊥
   constant_apart w c v =
       let a = declared constants_of db w c in
       let b = declared variables_of db w v in
       by a.0 b.0 a.1 b.1 a.2 b.2 a.3 b.3 (cases_order a.0 b.0)
     where
-      by : (i j : ℕ) (s t : Statement) → slice_get db i ≡ Some s → slice_get db j ≡ Some t → is_in w (constants_of s) ≡ true → is_in w (variables_of t) ≡ true → (i ≡ j) ⊎ ((i < j) ⊎ (j < i)) → ⊥
-      by i j s t e f m n (inl h) = let same : s ≡ t = cc in no_kind t w (subst (λ x. is_in w (constants_of x) ≡ true) same m) n
+      by : (i j : ℕ) (s t : Statement) → slice_get db i ≡ Some s → slice_get db j ≡ Some t
+          → is_in w (constants_of s) ≡ true → is_in w (variables_of t) ≡ true
+          → (i ≡ j) ⊎ ((i < j) ⊎ (j < i)) → ⊥
+      by i j s t e f m n (inl h) =
+          let same : s ≡ t = cc in
+          no_kind t w (subst (λ x. is_in w (constants_of x) ≡ true) same m) n
       by i j s t e f m n (inr (inl h)) =
-          true≢false (sym (declares constants_of db j i s w e h m) ∙ new_variable (names_before db j) (depth db j) t w (faultless j t f) n)
+          true≢false
+          (sym (declares constants_of db j i s w e h m)
+          ∙ new_variable (names_before db j) (depth db j) t w (faultless j t f) n)
       by i j s t e f m n (inr (inr h)) =
-          true≢false (sym (declares variables_of db i j t w f h n) ∙ new_constant (names_before db i) (depth db i) s w (faultless i s e) m)
+          true≢false
+          (sym (declares variables_of db i j t w f h n)
+          ∙ new_constant (names_before db i) (depth db i) s w (faultless i s e) m)
 
-  constant_before : (k : ℕ) (w : Word) → is_in w (names_before db k).constants ≡ true → is_variable db (place_of w (symbol_names db)) ≡ false
-  constant_before k w c = by (is_variable db (place_of w (symbol_names db))) refl
+  constant_before : (k : ℕ) (w : Bytes) → is_in w (names_before db k).constants ≡ true
+      → is_variable_number db (place_of w (symbol_names db)) ≡ false
+  constant_before k w c = by (is_variable_number db (place_of w (symbol_names db))) refl
     where
-      by : (b : Bool) → is_variable db (place_of w (symbol_names db)) ≡ b → b ≡ false
-      by true e = absurd (constant_apart w (declared_before constants_of db k w c) (variable_word db w e))
+      by : (b : Bool) → is_variable_number db (place_of w (symbol_names db)) ≡ b → b ≡ false
+      by true e =
+          absurd (constant_apart w (declared_before constants_of db k w c) (variable_word db w e))
       by false e = refl
 
   -- statement i is the `$f` of x
@@ -53,10 +82,12 @@ module _ (db : List Statement) (lawful : (k : ℕ) → k < length db → IsLawfu
     pub floats : is_floating statement ≡ true
     pub typecode : ℕ
     pub is : formula_at db i ≡ typecode ∷ x ∷ []
-    pub constant : is_variable db typecode ≡ false
+    pub constant : is_variable_number db typecode ≡ false
 
   -- a `$f` is one of its variable
-  pub typing : (i : ℕ) (s : Statement) → slice_get db i ≡ Some s → is_floating s ≡ true → (w : Word) × Types i (place_of w (symbol_names db)) × ((v : Word) → list_any (λ t. bytes_eq v t.variable) (typings_of s) ≡ true → v ≡ w)
+  pub typing : (i : ℕ) (s : Statement) → slice_get db i ≡ Some s → is_floating s ≡ true
+      → (w : Bytes) × Types i (place_of w (symbol_names db))
+      × ((v : Bytes) → list_any (λ t. bytes_eq v t.variable) (typings_of s) ≡ true → v ≡ w)
   typing i s e f =
       let t = floating_typing (names_before db i) (depth db i) s f (faultless i s e) in (
         t.variable.word,
@@ -68,43 +99,74 @@ module _ (db : List Statement) (lawful : (k : ℕ) → k < length db → IsLawfu
           is = formula_at-is db i s e ∙ ap (formula_of db) t.is;
           constant = constant_before i t.typecode.word t.constant;
         },
-        λ v h. same_word v t.variable.word (lone (bytes_eq v t.variable.word) (subst (λ x. list_any (λ u. bytes_eq v u.variable) (typings_of x) ≡ true) t.is h)),
+        λ v h. same_word v t.variable.word
+            (lone (bytes_eq v t.variable.word)
+            (subst (λ x. list_any (λ u. bytes_eq v u.variable) (typings_of x) ≡ true) t.is h)),
       )
 
-  at_word : (i x : ℕ) (w v : Word) → Types i (place_of v (symbol_names db)) → w ≡ v → x ≡ place_of w (symbol_names db) → Types i x
-  at_word i x w v t e is = subst (Types i) (ap (λ u. place_of u (symbol_names db)) (sym e) ∙ sym is) t
+  at_word : (i x : ℕ) (w v : Bytes) → Types i (place_of v (symbol_names db)) → w ≡ v
+      → x ≡ place_of w (symbol_names db) → Types i x
+  at_word i x w v t e is =
+      subst (Types i) (ap (λ u. place_of u (symbol_names db)) (sym e) ∙ sym is) t
 
   -- each variable of a formula has an active `$f`
-  pub typed : (j x : ℕ) (s : Statement) → slice_get db j ≡ Some s → has_formula s ≡ true → is_member (formula_at db j) x ≡ true → is_variable db x ≡ true → (i : ℕ) × (is_active db i j ≡ true) × Types i x
+  pub typed : (j x : ℕ) (s : Statement) → slice_get db j ≡ Some s → has_formula s ≡ true
+      → is_member (formula_at db j) x ≡ true → is_variable_number db x ≡ true
+      → (i : ℕ) × (is_active db i j ≡ true) × Types i x
   typed j x s e f m v =
-      let w = member_word (symbol_names db) (words (symbols_of s)) x (ap (λ g. is_member g x) (sym (formula_at-is db j s e)) ∙ m) in
-      by w.0 w.2 (variable_word db w.0 (ap (is_variable db) (sym w.2) ∙ v)) (statement_known (names_before db j) (depth db j) s f (faultless j s e) w.0 w.1)
+      let w =
+      member_word (symbol_names db) (words (symbols_of s)) x
+      (ap (λ g. is_member g x) (sym (formula_at-is db j s e)) ∙ m) in
+      by w.0 w.2 (variable_word db w.0 (ap (is_variable_number db) (sym w.2) ∙ v))
+      (statement_known (names_before db j) (depth db j) s f (faultless j s e) w.0 w.1)
     where
-      by : (w : Word) → x ≡ place_of w (symbol_names db) → is_in w (flat_map variables_of db) ≡ true → IsKnown (names_before db j) w → (i : ℕ) × (is_active db i j ≡ true) × Types i x
+      by : (w : Bytes) → x ≡ place_of w (symbol_names db)
+          → is_in w (flat_map variables_of db) ≡ true → IsKnown (names_before db j) w
+          → (i : ℕ) × (is_active db i j ≡ true) × Types i x
       by w is v (inl c) = absurd (constant_apart w (declared_before constants_of db j w c) v)
       by w is v (inr t) =
           let q : Typing → Bool = λ (t : Typing). bytes_eq w t.variable in
-          let a = found_active db j (λ i. list_any (λ s. list_any q (typings_of s)) (statement_at db i)) (sym (any-flat_map q typings_of (active_statements db j) ∙ any-flat_map (λ s. list_any q (typings_of s)) (statement_at db) (active db j)) ∙ t) in
+          let a =
+          found_active db j (λ i. list_any (λ s. list_any q (typings_of s)) (statement_at db i))
+          (sym (any-flat_map q typings_of (active_statements db j)
+          ∙ any-flat_map (λ s. list_any q (typings_of s)) (statement_at db) (active db j))
+          ∙ t) in
           let s = found_at db (λ s. list_any q (typings_of s)) a.0 a.2 in
           let y = typing a.0 s.0 s.1 (typing_floats q s.0 s.2) in
           (a.0, a.1, at_word a.0 x w y.0 y.1 (y.2 w s.2) is)
 
   -- so has each mandatory variable, at the assertion
-  mandatory_typed : (k x : ℕ) (s : Statement) → slice_get db k ≡ Some s → has_formula s ≡ true → is_member (mandatory_variables db k) x ≡ true → (i : ℕ) × (is_active db i k ≡ true) × Types i x × (is_variable db x ≡ true)
+  mandatory_typed : (k x : ℕ) (s : Statement) → slice_get db k ≡ Some s → has_formula s ≡ true
+      → is_member (mandatory_variables db k) x ≡ true
+      → (i : ℕ) × (is_active db i k ≡ true) × Types i x × (is_variable_number db x ≡ true)
   mandatory_typed k x s e f m =
       let more = flat_map (formula_at db) (active_of is_essential db k) in
-      let p = member-those (is_variable db) (formula_at db k ++ more) x m in
-      by p.0 (or_cases (is_member (formula_at db k) x) (is_member more x) (sym (list_any-append (λ y. x == y) (formula_at db k) more) ∙ p.1))
+      let p = member-filter (is_variable_number db) (formula_at db k ++ more) x m in
+      by p.0 (or_cases (is_member (formula_at db k) x) (is_member more x)
+      (sym (list_any-append (λ y. x == y) (formula_at db k) more) ∙ p.1))
     where
-      by : is_variable db x ≡ true → (is_member (formula_at db k) x ≡ true) ⊎ (is_member (flat_map (formula_at db) (active_of is_essential db k)) x ≡ true) → (i : ℕ) × (is_active db i k ≡ true) × Types i x × (is_variable db x ≡ true)
+      by : is_variable_number db x ≡ true
+          → (is_member (formula_at db k) x ≡ true)
+          ⊎ (is_member (flat_map (formula_at db) (active_of is_essential db k)) x ≡ true)
+          → (i : ℕ) × (is_active db i k ≡ true) × Types i x × (is_variable_number db x ≡ true)
       by v (inl h) = let t = typed k x s e f h v in (t.0, t.1, t.2, v)
       by v (inr h) =
           let kind : ℕ → Bool = λ (j : ℕ). list_any is_essential (statement_at db j) in
-          let a = found_active db k (λ j. kind j && is_member (formula_at db j) x) (sym (any-flat_map (λ y. x == y) (formula_at db) (active_of is_essential db k) ∙ any-those kind (λ j. is_member (formula_at db j) x) (active db k)) ∙ h) in
+          let a =
+          found_active db k (λ j. kind j && is_member (formula_at db j) x)
+          (sym (any-flat_map (λ y. x == y) (formula_at db) (active_of is_essential db k)
+          ∙ any-filter kind (λ j. is_member (formula_at db j) x) (active db k))
+          ∙ h) in
           let p = and_parts (kind a.0) (is_member (formula_at db a.0) x) a.2 in
           let t = found_at db is_essential a.0 p.0 in
-          let y = typed a.0 x t.0 t.1 (essential_formula t.0 t.2) p.1 v in
-          (y.0, still db y.0 a.0 k y.2.statement t.0 y.2.stands (floating_local y.2.statement y.2.floats) t.1 (essential_local t.0 t.2) y.1 a.1, y.2, v)
+          let y = typed a.0 x t.0 t.1 (essential_formula t.0 t.2) p.1 v in (
+            y.0,
+            still db y.0 a.0 k y.2.statement t.0 y.2.stands
+                (floating_local y.2.statement y.2.floats) t.1
+                (essential_local t.0 t.2) y.1 a.1,
+            y.2,
+            v,
+          )
         where
           essential_formula : (s : Statement) → is_essential s ≡ true → has_formula s ≡ true
           essential_formula (essential l k xs d) e = refl
@@ -112,28 +174,41 @@ module _ (db : List Statement) (lawful : (k : ℕ) → k < length db → IsLawfu
 
   module _ (m k : ℕ) (s : Statement) (e : slice_get db k ≡ Some s) (f : has_formula s ≡ true) where
     abbrev is_mandatory : ℕ → Bool
-    is_mandatory j = list_any is_essential (statement_at db j) || (list_any is_floating (statement_at db j) && list_any (is_member (mandatory_variables db k)) (formula_at db j))
+    is_mandatory j =
+        list_any is_essential (statement_at db j)
+        || (list_any is_floating (statement_at db j)
+        && list_any (is_member (mandatory_variables db k)) (formula_at db j))
 
     abbrev is_essential_at : ℕ → Bool
     is_essential_at j = list_any is_essential (statement_at db j)
 
     abbrev in_order : Pair → Bool
-    in_order p = nat_lt p.low p.high && is_member (mandatory_variables db k) p.low && is_member (mandatory_variables db k) p.high && disjoint_at db k p.low p.high
+    in_order p =
+        nat_lt p.low p.high && is_member (mandatory_variables db k) p.low
+        && is_member (mandatory_variables db k) p.high && disjoint_at db k p.low p.high
 
     abbrev frame_hypotheses : List Formula
     frame_hypotheses = map (formula_at db) (mandatory_hypotheses db k)
 
     -- a mandatory hypothesis that binds
-    hypothesis_binds : (x j : ℕ) → is_active db j k ≡ true → is_mandatory j ≡ true → binds (context_at db m) x (formula_at db j) ≡ true → IsBound (context_at db m) frame_hypotheses x
+    hypothesis_binds : (x j : ℕ) → is_active db j k ≡ true → is_mandatory j ≡ true
+        → binds (context_at db m) x (formula_at db j) ≡ true
+        → IsBound (context_at db m) frame_hypotheses x
     hypothesis_binds x j a t b =
-        any-map (binds (context_at db m) x) (formula_at db) (mandatory_hypotheses db k) ∙ any-those is_mandatory (λ j. binds (context_at db m) x (formula_at db j)) (active db k)
-        ∙ active_found db k (λ j. is_mandatory j && binds (context_at db m) x (formula_at db j)) j a (and_from (is_mandatory j) (binds (context_at db m) x (formula_at db j)) t b)
+        any-map (binds (context_at db m) x) (formula_at db) (mandatory_hypotheses db k)
+        ∙ any-filter is_mandatory (λ j. binds (context_at db m) x (formula_at db j))
+        (active db k)
+        ∙ active_found db k (λ j. is_mandatory j && binds (context_at db m) x (formula_at db j)) j a
+        (and_from (is_mandatory j) (binds (context_at db m) x (formula_at db j)) t b)
 
-    types_binds : (i x : ℕ) → Types i x → is_variable db x ≡ true → binds (context_at db m) x (formula_at db i) ≡ true
+    types_binds : (i x : ℕ) → Types i x → is_variable_number db x ≡ true
+        → binds (context_at db m) x (formula_at db i) ≡ true
     types_binds i x t v =
-        ap (binds (context_at db m) x) t.is ∙ ap₂ (λ b c. not b && (c && (x == x))) t.constant v ∙ eq-eqb x x refl
+        ap (binds (context_at db m) x) t.is ∙ ap₂ (λ b c. not b && (c && (x == x))) t.constant v
+        ∙ eq-eqb x x refl
 
-    mandatory_bound : (x : ℕ) → is_member (mandatory_variables db k) x ≡ true → IsBound (context_at db m) frame_hypotheses x
+    mandatory_bound : (x : ℕ) → is_member (mandatory_variables db k) x ≡ true
+        → IsBound (context_at db m) frame_hypotheses x
     mandatory_bound x h =
         let t = mandatory_typed k x s e f h in
         hypothesis_binds x t.0 t.1 (floats t.0 t.2) (types_binds t.0 x t.2 t.3)
@@ -141,47 +216,98 @@ module _ (db : List Statement) (lawful : (k : ℕ) → k < length db → IsLawfu
         floats : (i : ℕ) → Types i x → is_mandatory i ≡ true
         floats i t =
             let has : list_any (is_member (mandatory_variables db k)) (formula_at db i) ≡ true =
-            ap (list_any (is_member (mandatory_variables db k))) t.is ∙ or_right (is_member (mandatory_variables db k) t.typecode) (is_member (mandatory_variables db k) x || false) (or_left (is_member (mandatory_variables db k) x) false h) in
-            or_right (list_any is_essential (statement_at db i)) (list_any is_floating (statement_at db i) && list_any (is_member (mandatory_variables db k)) (formula_at db i))
-            (and_from (list_any is_floating (statement_at db i)) (list_any (is_member (mandatory_variables db k)) (formula_at db i)) (at_found db is_floating i t.statement t.stands t.floats) has)
+            ap (list_any (is_member (mandatory_variables db k))) t.is
+            ∙ or_right (is_member (mandatory_variables db k) t.typecode)
+            (is_member (mandatory_variables db k) x || false)
+            (or_left (is_member (mandatory_variables db k) x) false h) in
+            or_right (list_any is_essential (statement_at db i))
+            (list_any is_floating (statement_at db i)
+            && list_any (is_member (mandatory_variables db k)) (formula_at db i))
+            (and_from (list_any is_floating (statement_at db i))
+            (list_any (is_member (mandatory_variables db k)) (formula_at db i))
+            (at_found db is_floating i t.statement t.stands t.floats) has)
 
     -- a variable of a mandatory hypothesis
-    of_hypothesis : (j : ℕ) → is_active db j k ≡ true → is_mandatory j ≡ true → (x : ℕ) → is_member (formula_at db j) x ≡ true → is_variable db x ≡ true → IsBound (context_at db m) frame_hypotheses x
+    of_hypothesis : (j : ℕ) → is_active db j k ≡ true → is_mandatory j ≡ true → (x : ℕ)
+        → is_member (formula_at db j) x ≡ true → is_variable_number db x ≡ true
+        → IsBound (context_at db m) frame_hypotheses x
     of_hypothesis j a t x h v =
-        by (or_cases (list_any is_essential (statement_at db j)) (list_any is_floating (statement_at db j) && list_any (is_member (mandatory_variables db k)) (formula_at db j)) t)
+        by (or_cases (list_any is_essential (statement_at db j))
+        (list_any is_floating (statement_at db j)
+        && list_any (is_member (mandatory_variables db k)) (formula_at db j)) t)
       where
-        among : list_any is_essential (statement_at db j) ≡ true → is_member (flat_map (formula_at db) (active_of is_essential db k)) x ≡ true
+        among : list_any is_essential (statement_at db j) ≡ true
+            → is_member (flat_map (formula_at db) (active_of is_essential db k)) x ≡ true
         among g =
-            any-flat_map (λ y. x == y) (formula_at db) (active_of is_essential db k) ∙ any-those is_essential_at (λ i. is_member (formula_at db i) x) (active db k)
-            ∙ active_found db k (λ i. is_essential_at i && is_member (formula_at db i) x) j a (and_from (is_essential_at j) (is_member (formula_at db j) x) g h)
+            any-flat_map (λ y. x == y) (formula_at db) (active_of is_essential db k)
+            ∙ any-filter is_essential_at (λ i. is_member (formula_at db i) x) (active db k)
+            ∙ active_found db k (λ i. is_essential_at i && is_member (formula_at db i) x) j a
+            (and_from (is_essential_at j) (is_member (formula_at db j) x) g h)
 
         alone : (i y : ℕ) → Types i y → is_member (formula_at db i) x ≡ true → x ≡ y
-        alone i y t h = one (or_cases (x == t.typecode) ((x == y) || false) (ap (λ g. is_member g x) (sym t.is) ∙ h))
+        alone i y t h =
+            one (or_cases (x == t.typecode) ((x == y) || false)
+            (ap (λ g. is_member g x) (sym t.is) ∙ h))
           where
             one : ((x == t.typecode) ≡ true) ⊎ (((x == y) || false) ≡ true) → x ≡ y
-            one (inl g) = absurd (true≢false (sym v ∙ ap (is_variable db) (eqb-true x t.typecode g) ∙ t.constant))
+            one (inl g) =
+                absurd (true≢false
+                (sym v ∙ ap (is_variable_number db) (eqb-true x t.typecode g) ∙ t.constant))
             one (inr g) = eqb-true x y (lone (x == y) g)
 
-        by : (list_any is_essential (statement_at db j) ≡ true) ⊎ ((list_any is_floating (statement_at db j) && list_any (is_member (mandatory_variables db k)) (formula_at db j)) ≡ true) → IsBound (context_at db m) frame_hypotheses x
+        by : (list_any is_essential (statement_at db j) ≡ true)
+            ⊎ ((list_any is_floating (statement_at db j)
+            && list_any (is_member (mandatory_variables db k)) (formula_at db j))
+            ≡ true)
+            → IsBound (context_at db m) frame_hypotheses x
         by (inl g) =
             let more = flat_map (formula_at db) (active_of is_essential db k) in
-            mandatory_bound x (those-member (is_variable db) (formula_at db k ++ more) x v (list_any-append (λ y. x == y) (formula_at db k) more ∙ or_right (is_member (formula_at db k) x) (is_member more x) (among g)))
+            mandatory_bound x
+            (filter-member (is_variable_number db) (formula_at db k ++ more) x v
+            (list_any-append (λ y. x == y) (formula_at db k) more
+            ∙ or_right (is_member (formula_at db k) x) (is_member more x) (among g)))
         by (inr g) =
-            let s = found_at db is_floating j (and_parts (list_any is_floating (statement_at db j)) (list_any (is_member (mandatory_variables db k)) (formula_at db j)) g).0 in
+            let s =
+            found_at db is_floating j
+            (and_parts (list_any is_floating (statement_at db j))
+            (list_any (is_member (mandatory_variables db k)) (formula_at db j)) g).0 in
             let y = typing j s.0 s.1 s.2 in
-            hypothesis_binds x j a t (types_binds j x (subst (Types j) (sym (alone j (place_of y.0 (symbol_names db)) y.1 h)) y.1) v)
+            hypothesis_binds x j a t
+            (types_binds j x
+            (subst (Types j) (sym (alone j (place_of y.0 (symbol_names db)) y.1 h)) y.1) v)
 
     pub complete : IsComplete (context_at db m) (frame_at db k)
     complete = record {
       hypotheses =
-          each_map (AreBound (context_at db m) frame_hypotheses) (formula_at db) (mandatory_hypotheses db k)
-          (each_those (λ j. AreBound (context_at db m) frame_hypotheses (formula_at db j)) is_mandatory (active db k)
-          (each_those (λ j. is_mandatory j ≡ true → AreBound (context_at db m) frame_hypotheses (formula_at db j)) (λ j. is_active db j k) (range_with_len 0 k)
-          (each_any (λ j. is_active db j k ≡ true → is_mandatory j ≡ true → AreBound (context_at db m) frame_hypotheses (formula_at db j)) (range_with_len 0 k)
-          (λ j a t. each_member (λ x. is_variable db x ≡ true → IsBound (context_at db m) frame_hypotheses x) (formula_at db j) (of_hypothesis j a t)))));
+          each_map (AreBound (context_at db m) frame_hypotheses) (formula_at db)
+          (mandatory_hypotheses db k)
+          (each_filter
+          (λ j. AreBound (context_at db m) frame_hypotheses (formula_at db j)) is_mandatory
+          (active db k)
+          (each_filter
+          (λ j. is_mandatory j ≡ true
+          → AreBound (context_at db m) frame_hypotheses (formula_at db j))
+          (λ j. is_active db j k) (range_with_len 0 k)
+          (each_any
+          (λ j. is_active db j k ≡ true → is_mandatory j ≡ true
+          → AreBound (context_at db m) frame_hypotheses (formula_at db j)) (range_with_len 0 k)
+          (λ j a t. each_member
+          (λ x. is_variable_number db x ≡ true → IsBound (context_at db m) frame_hypotheses x)
+          (formula_at db j) (of_hypothesis j a t)))));
       formula =
-          each_member (λ x. is_variable db x ≡ true → IsBound (context_at db m) frame_hypotheses x) (formula_at db k) of_formula;
-      pairs = each_those (λ p. IsBound (context_at db m) frame_hypotheses p.low × IsBound (context_at db m) frame_hypotheses p.high) in_order (pairs_of (length (symbol_names db))) (each_any (λ p. in_order p ≡ true → IsBound (context_at db m) frame_hypotheses p.low × IsBound (context_at db m) frame_hypotheses p.high) (pairs_of (length (symbol_names db))) of_pair);
+          each_member
+          (λ x. is_variable_number db x ≡ true → IsBound (context_at db m) frame_hypotheses x)
+          (formula_at db k) of_formula;
+      pairs =
+          each_filter
+          (λ p. IsBound (context_at db m) frame_hypotheses p.low
+          × IsBound (context_at db m) frame_hypotheses p.high) in_order
+          (pairs_of (length (symbol_names db)))
+          (each_any
+          (λ p. in_order p ≡ true
+          → IsBound (context_at db m) frame_hypotheses p.low
+          × IsBound (context_at db m) frame_hypotheses p.high)
+          (pairs_of (length (symbol_names db))) of_pair);
     }
       where
         parts : (a b c d : Bool) → (a && b && c && d) ≡ true → (b ≡ true) × (c ≡ true)
@@ -191,15 +317,23 @@ module _ (db : List Statement) (lawful : (k : ℕ) → k < length db → IsLawfu
         parts true false false d h = absurd (cc)
         parts false b c d h = absurd (cc)
 
-        of_pair : (p : Pair) → in_order p ≡ true → IsBound (context_at db m) frame_hypotheses p.low × IsBound (context_at db m) frame_hypotheses p.high
+        of_pair : (p : Pair) → in_order p ≡ true
+            → IsBound (context_at db m) frame_hypotheses p.low
+            × IsBound (context_at db m) frame_hypotheses p.high
         of_pair p h =
-            let q = parts (nat_lt p.low p.high) (is_member (mandatory_variables db k) p.low) (is_member (mandatory_variables db k) p.high) (disjoint_at db k p.low p.high) h in
+            let q =
+            parts (nat_lt p.low p.high) (is_member (mandatory_variables db k) p.low)
+            (is_member (mandatory_variables db k) p.high) (disjoint_at db k p.low p.high) h in
             (mandatory_bound p.low q.0, mandatory_bound p.high q.1)
 
-        of_formula : (x : ℕ) → is_member (formula_at db k) x ≡ true → is_variable db x ≡ true → IsBound (context_at db m) frame_hypotheses x
+        of_formula : (x : ℕ) → is_member (formula_at db k) x ≡ true → is_variable_number db x ≡ true
+            → IsBound (context_at db m) frame_hypotheses x
         of_formula x h v =
             let more = flat_map (formula_at db) (active_of is_essential db k) in
-            mandatory_bound x (those-member (is_variable db) (formula_at db k ++ more) x v (list_any-append (λ y. x == y) (formula_at db k) more ∙ or_left (is_member (formula_at db k) x) (is_member more x) h))
+            mandatory_bound x
+            (filter-member (is_variable_number db) (formula_at db k ++ more) x v
+            (list_any-append (λ y. x == y) (formula_at db k) more
+            ∙ or_left (is_member (formula_at db k) x) (is_member more x) h))
 
   -- what lawful statements stand for asks for no variable that its hypotheses don't have
   pub lawful_complete : AreComplete db
@@ -216,14 +350,23 @@ module _ (db : List Statement) (lawful : (k : ℕ) → k < length db → IsLawfu
       of (opening p) e = tt
       of (closing p) e = tt
 
-      at_k : (o : Option Statement) → slice_get db k ≡ o → IsFine (context_at db m) (elim o [ None ↦ None | Some s ↦ rule_of db k s ])
+      at_k : (o : Option Statement) → slice_get db k ≡ o
+          → IsFine (context_at db m) (elim o [ None ↦ None | Some s ↦ rule_of db k s ])
       at_k None e = tt
       at_k (Some s) e = of s e
 
-      by : (b : Bool) → IsFine (context_at db m) (elim b [ false ↦ None | true ↦ elim (slice_get db k) [ None ↦ None | Some s ↦ rule_of db k s ] ])
+      by : (b : Bool)
+          → IsFine (context_at db m)
+          (elim b [
+            | false ↦ None
+            | true ↦ elim (slice_get db k) [ None ↦ None | Some s ↦ rule_of db k s ]
+          ])
       by false = tt
       by true = at_k (slice_get db k) refl
 
 -- the frames of all that is read are complete
-pub reads_complete : (len : ℕ) (x : Lexed) → ReadsComplete len x
-reads_complete len x db fault r = lawful_complete db (λ k h. sym (scope_fault-front db r.rest k h) ∙ ap (λ row. scope_fault row k) (sym r.splits) ∙ r.lawful k h)
+pub reads_complete : (len : ℕ) (x : LexedText) → ReadsComplete len x
+reads_complete len x db fault r =
+    lawful_complete db
+    (λ k h. sym (scope_fault-front db r.rest k h) ∙ ap (λ row. scope_fault row k) (sym r.splits)
+    ∙ r.lawful k h)

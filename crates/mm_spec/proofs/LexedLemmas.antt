@@ -4,20 +4,23 @@ use Rattle.mm_spec.specs.Words.{words_of}
 use Rattle.mm_spec.specs.Readings.{Reading, reading}
 use Rattle.mm_spec.specs.Lexed.{tokens_of, lexical_fault, fault_in}
 use Rattle.mm_spec.specs.declared.Code.TheVariants.{TextTooLong}
-use Rattle.mm_spec.specs.declared.TheConstants.{TEXT_LIMIT}
+use Rattle.mm_spec.specs.Limits.{text_limit}
 
-pub tokens_of-long : (text : List ℕ) → TEXT_LIMIT < length text → tokens_of text ≡ []
+pub tokens_of-long : (text : List ℕ) → text_limit < length text → tokens_of text ≡ []
 unfolding tokens_of
-tokens_of-long text h = rw (lt-ltb TEXT_LIMIT (length text) h) refl
+tokens_of-long text h = rw (lt-ltb text_limit (length text) h) refl
 
-pub lexical_fault-long : (text : List ℕ) → TEXT_LIMIT < length text → lexical_fault text ≡ Some (record { at = 0; code = TextTooLong })
+pub lexical_fault-long : (text : List ℕ) → text_limit < length text
+    → lexical_fault text ≡ Some (record { at = 0; code = TextTooLong })
 unfolding lexical_fault
-lexical_fault-long text h = rw (lt-ltb TEXT_LIMIT (length text) h) refl
+lexical_fault-long text h = rw (lt-ltb text_limit (length text) h) refl
 
-pub tokens_of-read : (text : List ℕ) (r : Reading) → length text ≤ TEXT_LIMIT → reading text None (words_of text) ≡ r → tokens_of text ≡ r.tokens
+pub tokens_of-read : (text : List ℕ) (r : Reading) → length text ≤ text_limit
+    → reading text None (words_of text) ≡ r → tokens_of text ≡ r.tokens
 unfolding tokens_of
-tokens_of-read text r h e = rw (le-ltb TEXT_LIMIT (length text) h, e) refl
+tokens_of-read text r h e = rw (le-ltb text_limit (length text) h, e) refl
 
-pub lexical_fault-read : (text : List ℕ) (r : Reading) → length text ≤ TEXT_LIMIT → reading text None (words_of text) ≡ r → lexical_fault text ≡ fault_in r.fault r.comment
+pub lexical_fault-read : (text : List ℕ) (r : Reading) → length text ≤ text_limit
+    → reading text None (words_of text) ≡ r → lexical_fault text ≡ fault_in r.fault r.comment
 unfolding lexical_fault
-lexical_fault-read text r h e = rw (le-ltb TEXT_LIMIT (length text) h, e) refl
+lexical_fault-read text r h e = rw (le-ltb text_limit (length text) h, e) refl

@@ -1,30 +1,25 @@
--- Steps with marks: a stack of formulas, and the formula behind each step, are exact too.
-use Rattle.std.proofs.Common.{◌≡◌, ℕ, zero, suc, ◌<◌, List, [], ◌∷◌, ◌++◌, length, Option, Some, None, Result, Ok, Err, refl, sym, ap, ◌∙◌, subst, arith, length-append, slice_get}
+-- Steps with marks: a stack of formulas, and the formula after each step, are exact too.
+use Rattle.std.proofs.Common.{◌≡◌, ℕ, zero, suc, ◌<◌, List, [], ◌∷◌, ◌++◌, length, Option, Some}
+use Rattle.std.proofs.Common.{None, Result, Ok, Err, refl, sym, ap, ◌∙◌, subst, arith}
+use Rattle.std.proofs.Common.{length-append, slice_get}
 use Rattle.std.specs.List.{AllZip}
-use Rattle.mm_spec.specs.Derivation.{Formula, Rule, hypothesis, assertion, Context, Follows, Trees, none, more, formulas, postfix, AreDerivations}
+use Rattle.mm_spec.specs.Derivation.{Formula, Rule, hypothesis, assertion, Context, Follows, Trees}
+use Rattle.mm_spec.specs.Derivation.{none, more, formulas, postfix, AreDerivations}
 use Rattle.mm_spec.specs.Steps.{Step, label, marked}
 use Rattle.mm_spec.specs.Valid.{Reason, StepFails, Adds, Plain}
-use Rattle.mm_spec.specs.Complete.{IsFine}
-use Rattle.mm_spec.proofs.Machine.{Failed, proceed, step, IsGood, AreGood, Made, makes, grown}
-
--- the last entry
-abbrev pub top : List Formula → Formula
-top [] = []
-top (f ∷ []) = f
-top (f ∷ g ∷ fs) = top (g ∷ fs)
+use Rattle.mm_spec.specs.Laws.Complete.{IsFine}
+use Rattle.mm_spec.proofs.Machine.{Failed, proceed, AreGood, Made, makes, grown}
+use Rattle.mm_spec.specs.Laws.Stack.{IsGood, step, top, HasLast, Behind, step_entries, IsGoodStep}
+use Rattle.mm_spec.specs.Laws.Stack.{AreGoodSteps}
 
 pub top-append : (fs : List Formula) (f : Formula) → top (fs ++ f ∷ []) ≡ f
 top-append [] f = refl
 top-append (g ∷ []) f = refl
 top-append (g ∷ h ∷ fs) f = top-append (h ∷ fs) f
 
--- the formula of the last tree
-abbrev pub HasLast : Trees → Formula → Type 0
-HasLast none g = ⊥
-HasLast (more ts l f cs) g = f ≡ g
-
 module _ (c : Context) where
-  follows_good : (r : Option Rule) (ps : List Formula) (f : Formula) → IsFine c r → Follows c r ps f → IsGood c r
+  follows_good : (r : Option Rule) (ps : List Formula) (f : Formula) → IsFine c r → Follows c r ps f
+      → IsGood c r
   follows_good None ps f fine h = h
   follows_good (Some (hypothesis g)) ps f fine h = tt
   follows_good (Some (assertion a)) ps f fine h = fine
@@ -34,48 +29,42 @@ module _ (c : Context) where
   good_append (x ∷ xs) ys g h = (g.0, good_append xs ys g.1 h)
 
   -- in a row of derivations each label stands for something
-  pub row_good : ((l : ℕ) → IsFine c (c.rule l)) → (row : Trees) → AreDerivations c row → AreGood c (postfix row)
+  pub row_good : ((l : ℕ) → IsFine c (c.rule l)) → (row : Trees) → AreDerivations c row
+      → AreGood c (postfix row)
   row_good fine none d = tt
   row_good fine (more ts l f cs) d =
-      good_append (postfix ts) _ (row_good fine ts d.0) (good_append (postfix cs) _ (row_good fine cs d.1) (follows_good (c.rule l) (formulas cs) f (fine l) d.2, tt))
+      good_append (postfix ts) _ (row_good fine ts d.0)
+      (good_append (postfix cs) _ (row_good fine cs d.1)
+      (follows_good (c.rule l) (formulas cs) f (fine l) d.2, tt))
 
-  -- the formula behind each step so far is that of the last tree of what the steps up to it stand for
-  abbrev pub Behind : List ℕ → Formula → Type 0
-  Behind labels f = (row : Trees) × AreDerivations c row × (postfix row ≡ labels) × HasLast row f
-
-  behind_at : (lists : List (List ℕ)) (ends : List Formula) (j : ℕ) → AllZip Behind lists ends → j < length ends → (then : List ℕ) × (f : Formula) × (slice_get lists j ≡ Some then) × (slice_get ends j ≡ Some f) × Behind then f
+  behind_at : (lists : List (List ℕ)) (ends : List Formula) (j : ℕ) → AllZip (Behind c) lists ends
+      → j < length ends
+      → (then : List ℕ) × (f : Formula) × (slice_get lists j ≡ Some then)
+      × (slice_get ends j ≡ Some f) × Behind c then f
   behind_at [] [] j b h = absurd (omega arith)
   behind_at [] (f ∷ fs) j b h = absurd b
   behind_at (x ∷ xs) [] j b h = absurd b
   behind_at (x ∷ xs) (f ∷ fs) zero b h = (x, f, refl, refl, b.0)
   behind_at (x ∷ xs) (f ∷ fs) (suc j) b h = behind_at xs fs j b.1 (omega arith)
 
-  pub behind_more : (lists : List (List ℕ)) (ends : List Formula) (x : List ℕ) (f : Formula) → AllZip Behind lists ends → Behind x f → AllZip Behind (lists ++ x ∷ []) (ends ++ f ∷ [])
+  pub behind_more : (lists : List (List ℕ)) (ends : List Formula) (x : List ℕ) (f : Formula)
+      → AllZip (Behind c) lists ends → Behind c x f
+      → AllZip (Behind c) (lists ++ x ∷ []) (ends ++ f ∷ [])
   behind_more [] [] x f b h = (h, tt)
   behind_more [] (g ∷ gs) x f b h = absurd b
   behind_more (y ∷ ys) [] x f b h = absurd b
   behind_more (y ∷ ys) (g ∷ gs) x f b h = (b.0, behind_more ys gs x f b.1 h)
 
-  -- the run over steps; ends are the formulas behind the steps so far
-  abbrev pub step_entries : Step → List Formula → List Formula → Result (List Formula) Reason
-  step_entries (label l) ends es = step c (c.rule l) es
-  step_entries (marked j) ends es = elim (slice_get ends j) [ None ↦ Ok es | Some f ↦ Ok (es ++ f ∷ []) ]
-
+  -- the run over steps; ends are the formulas after the steps so far
   abbrev pub run_steps : List Formula → List Step → List Formula → Result (List Formula) Failed
   run_steps ends [] es = Ok es
-  run_steps ends (s ∷ steps) es = proceed (step_entries s ends es) (length ends) (λ out. run_steps (ends ++ top out ∷ []) steps out)
+  run_steps ends (s ∷ steps) es =
+      proceed (step_entries c s ends es) (length ends)
+      (λ out. run_steps (ends ++ top out ∷ []) steps out)
 
-  -- a label that stands for something, and an earlier step
-  abbrev pub IsGoodStep : ℕ → Step → Type 0
-  IsGoodStep n (label l) = IsGood c (c.rule l)
-  IsGoodStep n (marked j) = j < n
-
-  abbrev pub AreGoodSteps : ℕ → List Step → Type 0
-  AreGoodSteps n [] = Unit {0}
-  AreGoodSteps n (s ∷ steps) = IsGoodStep n s × AreGoodSteps (suc n) steps
-
-  -- a step that fails behind a row
-  pub record StoppedStep (lists : List (List ℕ)) (old : List ℕ) (steps : List Step) (reason : Reason) : Type 0 where
+  -- a step that fails after a row
+  pub record StoppedStep (lists : List (List ℕ)) (old : List ℕ) (steps : List Step)
+      (reason : Reason) : Type 0 where
     pub before : List Step
     pub first : Step
     pub after : List Step
@@ -88,20 +77,26 @@ module _ (c : Context) where
     pub fails : StepFails c first (formulas row) reason
 
   abbrev pub RanSteps : List (List ℕ) → List ℕ → List Step → Result (List Formula) Failed → Type 0
-  RanSteps lists old steps (Ok out) = (all : List ℕ) × Plain c lists old steps all × (row : Trees) × AreDerivations c row × (postfix row ≡ all) × (formulas row ≡ out)
+  RanSteps lists old steps (Ok out) =
+      (all : List ℕ) × Plain c lists old steps all × (row : Trees) × AreDerivations c row
+      × (postfix row ≡ all) × (formulas row ≡ out)
   RanSteps lists old steps (Err e) = StoppedStep lists old steps e.reason
 
-  -- a step behind a row is one more tree, or fails
+  -- a step after a row is one more tree, or fails
   abbrev pub Grown : List (List ℕ) → Trees → Step → Result (List Formula) Reason → Type 0
-  Grown lists row s (Ok out) = (next : Trees) × AreDerivations c next × Adds c lists (postfix row) s (postfix next) × (formulas next ≡ out) × HasLast next (top out)
+  Grown lists row s (Ok out) =
+      (next : Trees) × AreDerivations c next × Adds c lists (postfix row) s (postfix next)
+      × (formulas next ≡ out) × HasLast next (top out)
   Grown lists row s (Err reason) = StepFails c s (formulas row) reason
 
-  last_top : (row : Trees) (fs : List Formula) (f : Formula) → formulas row ≡ fs ++ f ∷ [] → HasLast row (top (formulas row))
+  last_top : (row : Trees) (fs : List Formula) (f : Formula) → formulas row ≡ fs ++ f ∷ []
+      → HasLast row (top (formulas row))
   last_top none [] f e = cc
   last_top none (g ∷ fs) f e = cc
   last_top (more ts l f cs) fs g e = sym (top-append (formulas ts) f)
 
-  grows_label : (lists : List (List ℕ)) (row : Trees) (l : ℕ) (r : Result (List Formula) Reason) → AreDerivations c row → Made c (c.rule l) (formulas row) r → Grown lists row (label l) r
+  grows_label : (lists : List (List ℕ)) (row : Trees) (l : ℕ) (r : Result (List Formula) Reason)
+      → AreDerivations c row → Made c (c.rule l) (formulas row) r → Grown lists row (label l) r
   grows_label lists row l (Err reason) d made = made
   grows_label lists row l (Ok out) d made =
       let g = grown c row l made.0 made.1 d made.2 made.3 in
@@ -109,16 +104,23 @@ module _ (c : Context) where
       (g.0, g.1, g.2, is, subst (λ x. HasLast g.0 (top x)) is (last_top g.0 _ made.1 g.3))
 
   -- a marked step adds a copy of the last tree of an earlier row
-  grows_marked : (lists : List (List ℕ)) (ends : List Formula) (row : Trees) (j : ℕ) → AreDerivations c row → AllZip Behind lists ends → j < length ends → Grown lists row (marked j) (step_entries (marked j) ends (formulas row))
+  grows_marked : (lists : List (List ℕ)) (ends : List Formula) (row : Trees) (j : ℕ)
+      → AreDerivations c row → AllZip (Behind c) lists ends → j < length ends
+      → Grown lists row (marked j) (step_entries c (marked j) ends (formulas row))
   grows_marked lists ends row j d b h =
       let at = behind_at lists ends j b h in
-      subst (λ o. Grown lists row (marked j) (elim o [ None ↦ Ok (formulas row) | Some f ↦ Ok (formulas row ++ f ∷ []) ])) (sym at.3) (copy at.4.0 at.4.1 at.4.2 at.4.3)
+      subst (λ o. Grown lists row (marked j)
+      (elim o [ None ↦ Ok (formulas row) | Some f ↦ Ok (formulas row ++ f ∷ []) ])) (sym at.3)
+      (copy at.4.0 at.4.1 at.4.2 at.4.3)
     where
-      copy : (then : Trees) → AreDerivations c then → postfix then ≡ (behind_at lists ends j b h).0 → HasLast then (behind_at lists ends j b h).1 → Grown lists row (marked j) (Ok (formulas row ++ (behind_at lists ends j b h).1 ∷ []))
+      copy : (then : Trees) → AreDerivations c then → postfix then ≡ (behind_at lists ends j b h).0
+          → HasLast then (behind_at lists ends j b h).1
+          → Grown lists row (marked j) (Ok (formulas row ++ (behind_at lists ends j b h).1 ∷ []))
       copy none e p last = absurd last
       copy (more ts l f cs) e p last =
           let at = behind_at lists ends j b h in
-          let is : formulas row ++ f ∷ [] ≡ formulas row ++ at.1 ∷ [] = ap (λ x. formulas row ++ x ∷ []) last in (
+          let is : formulas row ++ f ∷ [] ≡ formulas row ++ at.1 ∷ [] =
+          ap (λ x. formulas row ++ x ∷ []) last in (
             more row l f cs,
             (d, e.1, e.2),
             (at.0, postfix cs ++ l ∷ [], at.2, (more ts l f cs, e, p, refl), refl),
@@ -126,21 +128,30 @@ module _ (c : Context) where
             subst (λ x. HasLast (more row l f cs) (top x)) is (sym (top-append (formulas row) f)),
           )
 
-  pub grows : (lists : List (List ℕ)) (ends : List Formula) (row : Trees) (s : Step) → AreDerivations c row → AllZip Behind lists ends → IsGoodStep (length ends) s → Grown lists row s (step_entries s ends (formulas row))
-  grows lists ends row (label l) d b good = grows_label lists row l (step c (c.rule l) (formulas row)) d (makes c (c.rule l) (formulas row) good)
+  pub grows : (lists : List (List ℕ)) (ends : List Formula) (row : Trees) (s : Step)
+      → AreDerivations c row → AllZip (Behind c) lists ends → IsGoodStep c (length ends) s
+      → Grown lists row s (step_entries c s ends (formulas row))
+  grows lists ends row (label l) d b good =
+      grows_label lists row l (step c (c.rule l) (formulas row)) d
+      (makes c (c.rule l) (formulas row) good)
   grows lists ends row (marked j) d b good = grows_marked lists ends row j d b good
 
   -- what a run over steps means
-  pub means_steps : (steps : List Step) (lists : List (List ℕ)) (ends : List Formula) (row : Trees) → AreDerivations c row → AllZip Behind lists ends → AreGoodSteps (length ends) steps → RanSteps lists (postfix row) steps (run_steps ends steps (formulas row))
+  pub means_steps : (steps : List Step) (lists : List (List ℕ)) (ends : List Formula) (row : Trees)
+      → AreDerivations c row → AllZip (Behind c) lists ends → AreGoodSteps c (length ends) steps
+      → RanSteps lists (postfix row) steps (run_steps ends steps (formulas row))
   means_steps [] lists ends row d b good = (postfix row, refl, row, d, refl, refl)
   means_steps (s ∷ steps) lists ends row d b good =
-      go (step_entries s ends (formulas row)) (grows lists ends row s d b good.0)
-      (λ next f e h. means_steps steps (lists ++ postfix next ∷ []) (ends ++ f ∷ []) next e (behind_more lists ends (postfix next) f b (next, e, refl, h)) (subst (λ n. AreGoodSteps n steps) (one_more f) good.1))
+      go (step_entries c s ends (formulas row)) (grows lists ends row s d b good.0)
+      (λ next f e h. means_steps steps (lists ++ postfix next ∷ []) (ends ++ f ∷ []) next e
+      (behind_more lists ends (postfix next) f b (next, e, refl, h))
+      (subst (λ n. AreGoodSteps c n steps) (one_more f) good.1))
     where
       one_more : (f : Formula) → suc (length ends) ≡ length (ends ++ f ∷ [])
       one_more f = omega (arith, length-append ends (f ∷ []))
 
-      later : (new : List ℕ) → Adds c lists (postfix row) s new → (r : Result (List Formula) Failed) → RanSteps (lists ++ new ∷ []) new steps r → RanSteps lists (postfix row) (s ∷ steps) r
+      later : (new : List ℕ) → Adds c lists (postfix row) s new → (r : Result (List Formula) Failed)
+          → RanSteps (lists ++ new ∷ []) new steps r → RanSteps lists (postfix row) (s ∷ steps) r
       later new adds (Ok out) h = (h.0, (new, adds, h.1), h.2, h.3, h.4, h.5)
       later new adds (Err e) h = record {
         before = s ∷ h.before;
@@ -155,8 +166,26 @@ module _ (c : Context) where
         fails = h.fails;
       }
 
-      go : (r : Result (List Formula) Reason) → Grown lists row s r → ((next : Trees) (f : Formula) → AreDerivations c next → HasLast next f → RanSteps (lists ++ postfix next ∷ []) (postfix next) steps (run_steps (ends ++ f ∷ []) steps (formulas next))) → RanSteps lists (postfix row) (s ∷ steps) (proceed r (length ends) (λ out. run_steps (ends ++ top out ∷ []) steps out))
-      go (Err reason) h on = record { before = []; first = s; after = steps; splits = refl; labels = postfix row; plain = refl; row = row; derivations = d; is = refl; fails = h }
+      go : (r : Result (List Formula) Reason) → Grown lists row s r
+          → ((next : Trees) (f : Formula) → AreDerivations c next → HasLast next f
+          → RanSteps (lists ++ postfix next ∷ []) (postfix next) steps
+          (run_steps (ends ++ f ∷ []) steps (formulas next)))
+          → RanSteps lists (postfix row) (s ∷ steps)
+          (proceed r (length ends) (λ out. run_steps (ends ++ top out ∷ []) steps out))
+      go (Err reason) h on =
+          record {
+            before = [];
+            first = s;
+            after = steps;
+            splits = refl;
+            labels = postfix row;
+            plain = refl;
+            row = row;
+            derivations = d;
+            is = refl;
+            fails = h;
+          }
       go (Ok out) h on =
           later (postfix h.0) h.2 (run_steps (ends ++ top out ∷ []) steps out)
-          (subst (λ x. RanSteps (lists ++ postfix h.0 ∷ []) (postfix h.0) steps (run_steps (ends ++ top out ∷ []) steps x)) h.3 (on h.0 (top out) h.1 h.4))
+          (subst (λ x. RanSteps (lists ++ postfix h.0 ∷ []) (postfix h.0) steps
+          (run_steps (ends ++ top out ∷ []) steps x)) h.3 (on h.0 (top out) h.1 h.4))

@@ -1,24 +1,36 @@
 -- The symbols of lawful statements are declared.
-use Rattle.std.proofs.Common.{◌≡◌, ℕ, Bool, true, false, ◌&&◌, ◌||◌, not, ◌⊎◌, inl, inr, List, [], ◌∷◌, ◌++◌, flat_map, length, Some, None, slice_get, nat_lt, refl, sym, ap, ◌∙◌, subst, true≢false, arith, bytes_eq}
+use Rattle.std.proofs.Common.{◌≡◌, ℕ, Bool, true, false, ◌&&◌, ◌||◌, not, ◌⊎◌, inl, inr, List, []}
+use Rattle.std.proofs.Common.{◌∷◌, ◌++◌, flat_map, length, Some, None, slice_get, nat_lt, refl, sym}
+use Rattle.std.proofs.Common.{ap, ◌∙◌, subst, true≢false, arith, bytes_eq}
 use Rattle.std.specs.List.{list_any}
 use Rattle.std.proofs.lemmas.Bool.{or_cases, or_left, or_right, and_parts}
 use Rattle.std.proofs.lemmas.List.{take_all}
 use Rattle.std.proofs.lemmas.List.Folds.{list_any-append}
-use Rattle.mm_spec.specs.Text.{Word, Token, Fault, fault, is_in, words}
-use Rattle.mm_spec.specs.Statement.{Statement, constants, variables, disjoint, floating, essential, axiomatic, provable, opening, closing, symbols_of}
-use Rattle.mm_spec.specs.Scope.{Names, names_before, depth, active, active_statements, constants_of, variables_of, statement_at}
-use Rattle.mm_spec.specs.Lawful.{when, at, at_each, symbol_codes, disjoint_codes, is_typed, formula_faults, label_faults, floating_faults, scope_faults, least, IsLawful}
-use Rattle.mm_spec.specs.declared.Code.TheVariants.{UndeclaredSymbol, UntypedVariable, BadTypecode, BadFloating, TooFewVariables, UndeclaredVariable, RepeatedVariable}
-use Rattle.mm_spec.proofs.Finds.{any-flat_map, inside_of, found_at, found_active, same_word, declares, declared_before}
-use Rattle.mm_spec.proofs.Faultless.{least_none, nil_first, nil_second, at_none, when_none, not_false, each_none}
+use Rattle.mm_spec.specs.Text.{Bytes, Token, Fault, fault, is_in, words}
+use Rattle.mm_spec.specs.Statement.{Statement, constants, variables, disjoint, floating, essential}
+use Rattle.mm_spec.specs.Statement.{axiomatic, provable, opening, closing, symbols_of}
+use Rattle.mm_spec.specs.Scope.{Names, names_before, depth, active, active_statements, constants_of}
+use Rattle.mm_spec.specs.Scope.{variables_of, statement_at}
+use Rattle.mm_spec.specs.Lawful.{when, at, at_each, symbol_codes, disjoint_codes, is_typed}
+use Rattle.mm_spec.specs.Lawful.{formula_faults, label_faults, floating_faults, scope_faults, least}
+use Rattle.mm_spec.specs.Lawful.{IsLawful}
+use Rattle.mm_spec.specs.declared.Code.TheVariants.{UndeclaredSymbol, UntypedVariable, BadTypecode}
+use Rattle.mm_spec.specs.declared.Code.TheVariants.{BadFloating, TooFewVariables}
+use Rattle.mm_spec.specs.declared.Code.TheVariants.{UndeclaredVariable, RepeatedVariable}
+use Rattle.mm_spec.proofs.Finds.{any-flat_map, inside_of, found_at, found_active, same_word}
+use Rattle.mm_spec.proofs.Finds.{declares, declared_before}
+use Rattle.mm_spec.proofs.Faultless.{least_none, nil_first, nil_second, at_none, when_none}
+use Rattle.mm_spec.proofs.Faultless.{not_false, each_none}
 
--- what is known of a symbol of a statement: a constant, an active variable, or one that the statement declares
-pub data IsNamed (n : Names) (s : Statement) (w : Word) : Type 0 where
+-- what is known of a symbol of a statement: a constant, an active variable, or one that the
+-- statement declares
+pub data IsNamed (n : Names) (s : Statement) (w : Bytes) : Type 0 where
   constant : is_in w n.constants ≡ true → IsNamed n s w
   variable : is_in w n.active_variables ≡ true → IsNamed n s w
   own : is_in w (constants_of s ++ variables_of s) ≡ true → IsNamed n s w
 
-formula_named : (n : Names) (s : Statement) (xs : List Token) (end : ℕ) → formula_faults n xs end ≡ [] → (w : Word) → is_in w (words xs) ≡ true → IsNamed n s w
+formula_named : (n : Names) (s : Statement) (xs : List Token) (end : ℕ)
+    → formula_faults n xs end ≡ [] → (w : Bytes) → is_in w (words xs) ≡ true → IsNamed n s w
 formula_named n s [] end e w m = absurd (true≢false (sym m))
 formula_named n s (t ∷ ts) end e w m = by (or_cases (bytes_eq w t.word) (is_in w (words ts)) m)
   where
@@ -27,76 +39,147 @@ formula_named n s (t ∷ ts) end e w m = by (or_cases (bytes_eq w t.word) (is_in
 
     by : (bytes_eq w t.word ≡ true) ⊎ (is_in w (words ts) ≡ true) → IsNamed n s w
     by (inl h) =
-        constant (ap (λ v. is_in v n.constants) (same_word w t.word h) ∙ not_false (is_in t.word n.constants) (when_none (not (is_in t.word n.constants)) BadTypecode (at_none t.at (when (not (is_in t.word n.constants)) BadTypecode) (nil_first (at t.at (when (not (is_in t.word n.constants)) BadTypecode)) (at_each (symbol_codes n) [] ts) e))))
+        constant
+        (ap (λ v. is_in v n.constants) (same_word w t.word h)
+        ∙ not_false (is_in t.word n.constants)
+        (when_none (not (is_in t.word n.constants)) BadTypecode
+        (at_none t.at (when (not (is_in t.word n.constants)) BadTypecode)
+        (nil_first (at t.at (when (not (is_in t.word n.constants)) BadTypecode))
+        (at_each (symbol_codes n) [] ts) e))))
     by (inr h) =
-        let x = each_none (symbol_codes n) [] ts (nil_second (at t.at (when (not (is_in t.word n.constants)) BadTypecode)) (at_each (symbol_codes n) [] ts) e) w h in
-        go (or_cases (is_in w n.constants) (is_in w n.active_variables) (not_false (is_in w n.constants || is_in w n.active_variables) (when_none (not (is_in w n.constants || is_in w n.active_variables)) UndeclaredSymbol (nil_first (when (not (is_in w n.constants || is_in w n.active_variables)) UndeclaredSymbol) (when (is_in w n.active_variables && not (is_typed n w)) UntypedVariable) x.1))))
+        let x =
+        each_none (symbol_codes n) [] ts
+        (nil_second (at t.at (when (not (is_in t.word n.constants)) BadTypecode))
+        (at_each (symbol_codes n) [] ts) e) w h in
+        go (or_cases (is_in w n.constants) (is_in w n.active_variables)
+        (not_false (is_in w n.constants || is_in w n.active_variables)
+        (when_none (not (is_in w n.constants || is_in w n.active_variables)) UndeclaredSymbol
+        (nil_first
+        (when (not (is_in w n.constants || is_in w n.active_variables)) UndeclaredSymbol)
+        (when (is_in w n.active_variables && not (is_typed n w)) UntypedVariable) x.1))))
       where
         go : (is_in w n.constants ≡ true) ⊎ (is_in w n.active_variables ≡ true) → IsNamed n s w
         go (inl c) = constant c
         go (inr v) = variable v
 
-floating_named : (n : Names) (s : Statement) (keyword : ℕ) (xs : List Token) → floating_faults n keyword xs ≡ [] → (w : Word) → is_in w (words xs) ≡ true → IsNamed n s w
+floating_named : (n : Names) (s : Statement) (keyword : ℕ) (xs : List Token)
+    → floating_faults n keyword xs ≡ [] → (w : Bytes) → is_in w (words xs) ≡ true → IsNamed n s w
 floating_named n s keyword [] e w m = absurd (cc)
 floating_named n s keyword (c ∷ []) e w m = absurd (cc)
 floating_named n s keyword (c ∷ v ∷ x ∷ xs) e w m = absurd (cc)
-floating_named n s keyword (c ∷ v ∷ []) e w m = by (or_cases (bytes_eq w c.word) (bytes_eq w v.word || false) m)
+floating_named n s keyword (c ∷ v ∷ []) e w m =
+    by (or_cases (bytes_eq w c.word) (bytes_eq w v.word || false) m)
   where
-    both : (b : Bool) (fs : List Fault) → ◌≡◌ {A = List Fault} (elim b [ true ↦ fs | false ↦ fault keyword BadFloating ∷ [] ]) [] → b ≡ true
+    both : (b : Bool) (fs : List Fault)
+        → ◌≡◌ {A = List Fault} (elim b [ true ↦ fs | false ↦ fault keyword BadFloating ∷ [] ]) []
+        → b ≡ true
     both true fs e = refl
     both false fs e = absurd (cc)
 
     parts : (is_in c.word n.constants ≡ true) × (is_in v.word n.active_variables ≡ true)
-    parts = and_parts (is_in c.word n.constants) (is_in v.word n.active_variables) (both (is_in c.word n.constants && is_in v.word n.active_variables) _ e)
+    parts =
+        and_parts (is_in c.word n.constants) (is_in v.word n.active_variables)
+        (both (is_in c.word n.constants && is_in v.word n.active_variables) _ e)
 
     by : (bytes_eq w c.word ≡ true) ⊎ ((bytes_eq w v.word || false) ≡ true) → IsNamed n s w
     by (inl h) = constant (ap (λ u. is_in u n.constants) (same_word w c.word h) ∙ parts.0)
     by (inr h) = go (or_cases (bytes_eq w v.word) false h)
       where
         go : (bytes_eq w v.word ≡ true) ⊎ (false ≡ true) → IsNamed n s w
-        go (inl h) = variable (ap (λ u. is_in u n.active_variables) (same_word w v.word h) ∙ parts.1)
+        go (inl h) =
+            variable (ap (λ u. is_in u n.active_variables) (same_word w v.word h) ∙ parts.1)
         go (inr h) = absurd (true≢false (sym h))
 
 -- each symbol of a statement without a fault of scope
-pub named : (n : Names) (d : ℕ) (s : Statement) → scope_faults n d s ≡ [] → (w : Word) → is_in w (words (symbols_of s)) ≡ true → IsNamed n s w
-named n d (constants k xs e) f w m = own (list_any-append (bytes_eq w) (words xs) [] ∙ or_left (is_in w (words xs)) false m)
+pub named : (n : Names) (d : ℕ) (s : Statement) → scope_faults n d s ≡ [] → (w : Bytes)
+    → is_in w (words (symbols_of s)) ≡ true → IsNamed n s w
+named n d (constants k xs e) f w m =
+    own (list_any-append (bytes_eq w) (words xs) [] ∙ or_left (is_in w (words xs)) false m)
 named n d (variables k xs e) f w m = own m
 named n d (disjoint k xs e) f w m =
-    let x = each_none (disjoint_codes n) [] xs (nil_second (at e (when (nat_lt (length xs) 2) TooFewVariables)) (at_each (disjoint_codes n) [] xs) f) w m in
-    variable (not_false (is_in w n.active_variables) (when_none (not (is_in w n.active_variables)) UndeclaredVariable (nil_first (when (not (is_in w n.active_variables)) UndeclaredVariable) (when (is_in w x.0) RepeatedVariable) x.1)))
-named n d (floating l k xs e) f w m = floating_named n (floating l k xs e) k xs (nil_second (label_faults n l) (floating_faults n k xs) f) w m
-named n d (essential l k xs e) f w m = formula_named n (essential l k xs e) xs e (nil_second (label_faults n l) (formula_faults n xs e) f) w m
-named n d (axiomatic l k xs e) f w m = formula_named n (axiomatic l k xs e) xs e (nil_second (label_faults n l) (formula_faults n xs e) f) w m
-named n d (provable l k xs e ps q) f w m = formula_named n (provable l k xs e ps q) xs e (nil_second (label_faults n l) (formula_faults n xs e) f) w m
+    let x =
+    each_none (disjoint_codes n) [] xs
+    (nil_second (at e (when (nat_lt (length xs) 2) TooFewVariables))
+    (at_each (disjoint_codes n) [] xs) f) w m in
+    variable
+    (not_false (is_in w n.active_variables)
+    (when_none (not (is_in w n.active_variables)) UndeclaredVariable
+    (nil_first (when (not (is_in w n.active_variables)) UndeclaredVariable)
+    (when (is_in w x.0) RepeatedVariable) x.1)))
+named n d (floating l k xs e) f w m =
+    floating_named n (floating l k xs e) k xs
+    (nil_second (label_faults n l) (floating_faults n k xs) f) w m
+named n d (essential l k xs e) f w m =
+    formula_named n (essential l k xs e) xs e
+    (nil_second (label_faults n l) (formula_faults n xs e) f) w m
+named n d (axiomatic l k xs e) f w m =
+    formula_named n (axiomatic l k xs e) xs e
+    (nil_second (label_faults n l) (formula_faults n xs e) f) w m
+named n d (provable l k xs e ps q) f w m =
+    formula_named n (provable l k xs e ps q) xs e
+    (nil_second (label_faults n l) (formula_faults n xs e) f) w m
 named n d (opening k) f w m = absurd (true≢false (sym m))
 named n d (closing k) f w m = absurd (true≢false (sym m))
 
-abbrev pub declared_words : Statement → List Word
+abbrev pub declared_words : Statement → List Bytes
 declared_words s = constants_of s ++ variables_of s
 
 module _ (db : List Statement) where
-  constants-declared : (w : Word) → is_in w (flat_map constants_of db) ≡ true → is_in w (flat_map declared_words db) ≡ true
-  constants-declared w h = any-flat_map (bytes_eq w) declared_words db ∙ go db (sym (any-flat_map (bytes_eq w) constants_of db) ∙ h)
+  constants-declared : (w : Bytes) → is_in w (flat_map constants_of db) ≡ true
+      → is_in w (flat_map declared_words db) ≡ true
+  constants-declared w h =
+      any-flat_map (bytes_eq w) declared_words db
+      ∙ go db (sym (any-flat_map (bytes_eq w) constants_of db) ∙ h)
     where
-      go : (xs : List Statement) → list_any (λ s. is_in w (constants_of s)) xs ≡ true → list_any (λ s. is_in w (declared_words s)) xs ≡ true
+      go : (xs : List Statement) → list_any (λ s. is_in w (constants_of s)) xs ≡ true
+          → list_any (λ s. is_in w (declared_words s)) xs ≡ true
       go [] e = e
-      go (x ∷ xs) e = by (or_cases (is_in w (constants_of x)) (list_any (λ s. is_in w (constants_of s)) xs) e) (λ k. go xs k)
+      go (x ∷ xs) e =
+          by (or_cases (is_in w (constants_of x)) (list_any (λ s. is_in w (constants_of s)) xs) e)
+          (λ k. go xs k)
         where
-          by : (is_in w (constants_of x) ≡ true) ⊎ (list_any (λ s. is_in w (constants_of s)) xs ≡ true) → (list_any (λ s. is_in w (constants_of s)) xs ≡ true → list_any (λ s. is_in w (declared_words s)) xs ≡ true) → (is_in w (declared_words x) || list_any (λ s. is_in w (declared_words s)) xs) ≡ true
-          by (inl k) on = or_left (is_in w (declared_words x)) (list_any (λ s. is_in w (declared_words s)) xs) (list_any-append (bytes_eq w) (constants_of x) (variables_of x) ∙ or_left (is_in w (constants_of x)) (is_in w (variables_of x)) k)
-          by (inr k) on = or_right (is_in w (declared_words x)) (list_any (λ s. is_in w (declared_words s)) xs) (on k)
+          by : (is_in w (constants_of x) ≡ true)
+              ⊎ (list_any (λ s. is_in w (constants_of s)) xs ≡ true)
+              → (list_any (λ s. is_in w (constants_of s)) xs ≡ true
+              → list_any (λ s. is_in w (declared_words s)) xs ≡ true)
+              → (is_in w (declared_words x) || list_any (λ s. is_in w (declared_words s)) xs) ≡ true
+          by (inl k) on =
+              or_left (is_in w (declared_words x)) (list_any (λ s. is_in w (declared_words s)) xs)
+              (list_any-append (bytes_eq w) (constants_of x) (variables_of x)
+              ∙ or_left (is_in w (constants_of x)) (is_in w (variables_of x)) k)
+          by (inr k) on =
+              or_right (is_in w (declared_words x)) (list_any (λ s. is_in w (declared_words s)) xs)
+              (on k)
 
-  own-declared : (i : ℕ) (s : Statement) (w : Word) → slice_get db i ≡ Some s → is_in w (declared_words s) ≡ true → is_in w (flat_map declared_words db) ≡ true
-  own-declared i s w e m = subst (λ (l : List Statement). is_in w (flat_map declared_words l) ≡ true) (take_all (length db) db (omega arith)) (declares declared_words db (length db) i s w e (inside_of db i s e) m)
+  own-declared : (i : ℕ) (s : Statement) (w : Bytes) → slice_get db i ≡ Some s
+      → is_in w (declared_words s) ≡ true → is_in w (flat_map declared_words db) ≡ true
+  own-declared i s w e m =
+      subst (λ (l : List Statement). is_in w (flat_map declared_words l) ≡ true)
+      (take_all (length db) db (omega arith))
+      (declares declared_words db (length db) i s w e (inside_of db i s e) m)
 
   -- each symbol of a lawful statement is declared by some statement
-  pub declared-here : (k : ℕ) (s : Statement) → slice_get db k ≡ Some s → IsLawful db k → (w : Word) → is_in w (words (symbols_of s)) ≡ true → is_in w (flat_map declared_words db) ≡ true
-  declared-here k s e law w m = by (named (names_before db k) (depth db k) s (least_none _ (sym (ap (λ o. elim o [ None ↦ None | Some s ↦ least (scope_faults (names_before db k) (depth db k) s) ]) e) ∙ law)) w m)
+  pub declared-here : (k : ℕ) (s : Statement) → slice_get db k ≡ Some s → IsLawful db k
+      → (w : Bytes) → is_in w (words (symbols_of s)) ≡ true
+      → is_in w (flat_map declared_words db) ≡ true
+  declared-here k s e law w m =
+      by (named (names_before db k) (depth db k) s
+      (least_none _
+      (sym (ap
+      (λ o. elim o
+      [ None ↦ None | Some s ↦ least (scope_faults (names_before db k) (depth db k) s) ]) e)
+      ∙ law)) w m)
     where
       by : IsNamed (names_before db k) s w → is_in w (flat_map declared_words db) ≡ true
       by (constant h) = constants-declared w (declared_before constants_of db k w h)
       by (variable h) =
-          let f = found_active db k (λ i. list_any (λ s. is_in w (variables_of s)) (statement_at db i)) (sym (any-flat_map (bytes_eq w) variables_of (active_statements db k) ∙ any-flat_map (λ s. is_in w (variables_of s)) (statement_at db) (active db k)) ∙ h) in
+          let f =
+          found_active db k (λ i. list_any (λ s. is_in w (variables_of s)) (statement_at db i))
+          (sym (any-flat_map (bytes_eq w) variables_of (active_statements db k)
+          ∙ any-flat_map (λ s. is_in w (variables_of s)) (statement_at db) (active db k))
+          ∙ h) in
           let g = found_at db (λ s. is_in w (variables_of s)) f.0 f.2 in
-          own-declared f.0 g.0 w g.1 (list_any-append (bytes_eq w) (constants_of g.0) (variables_of g.0) ∙ or_right (is_in w (constants_of g.0)) (is_in w (variables_of g.0)) g.2)
+          own-declared f.0 g.0 w g.1
+          (list_any-append (bytes_eq w) (constants_of g.0) (variables_of g.0)
+          ∙ or_right (is_in w (constants_of g.0)) (is_in w (variables_of g.0)) g.2)
       by (own h) = own-declared k s w e h

@@ -1,13 +1,18 @@
 -- The words of a text, as a set: each longest run of bytes that aren't white, once, in order.
-use Rattle.std.proofs.Common.{◌≡◌, ℕ, zero, suc, ◌+◌, ◌-◌, ◌<◌, ◌≤◌, ◌==◌, ◌⊎◌, Bool, true, false, not, List, [], ◌∷◌, length, drop, get_or, refl, sym, ap, subst, ◌∙◌, arith, inl, inr, ⊎_elim, length-drop, get_or-drop, true≢false, eqb-true}
+use Rattle.std.proofs.Common.{◌≡◌, ℕ, zero, suc, ◌+◌, ◌-◌, ◌<◌, ◌≤◌, ◌==◌, ◌⊎◌, Bool, true, false}
+use Rattle.std.proofs.Common.{not, List, [], ◌∷◌, length, drop, get_or, refl, sym, ap, subst, ◌∙◌}
+use Rattle.std.proofs.Common.{arith, inl, inr, ⊎_elim, length-drop, get_or-drop, true≢false}
+use Rattle.std.proofs.Common.{eqb-true}
 use Rattle.std.specs.List.{prefix_len, All, AllPairs, Contains}
 use Rattle.std.proofs.lemmas.List.Sums.{prefix_len_is}
 use Rattle.std.proofs.lemmas.List.Elements.{All-nil, All-cons, All-weaker, All-tail, All-contains}
 use Rattle.std.proofs.lemmas.Bool.{and_parts, or_cases, cases_lt, cases_eq, not-true}
 use Rattle.mm_spec.specs.declared.Word.{Word}
 use Rattle.mm_spec.specs.Bytes.{is_white}
-use Rattle.mm_spec.specs.Words.{white_at, begins_word, word_at, words_between, words_of, IsWord, IsBoundary, AreWords}
-use Rattle.mm_spec.proofs.WordsLemmas.{words_between-skip, words_between-take, words_between-none, IsWord-word_at, begins_word-first}
+use Rattle.mm_spec.specs.Words.{white_at, begins_word, word_at, words_between, words_of}
+use Rattle.mm_spec.proofs.WordsLemmas.{IsBoundary, words_between-skip, words_between-take}
+use Rattle.mm_spec.proofs.WordsLemmas.{words_between-none, IsWord-word_at, begins_word-first}
+use Rattle.mm_spec.specs.Laws.Words.{AreWords, IsWord}
 
 -- what the test for the beginning of a word says
 pub begins_word-ink : (text : List ℕ) (i : ℕ) → begins_word text i ≡ true → white_at text i ≡ false
@@ -19,12 +24,16 @@ unfolding begins_word
 begins_word-boundary text i h j e _ _ =
     ⊎_elim {C = white_at text j ≡ true}
     (λ at_zero. let z : i ≡ 0 = eqb-true i 0 at_zero in absurd (omega arith))
-    (λ before. let same : i - 1 ≡ j = omega arith in subst (λ (k : ℕ). white_at text k ≡ true) same before)
+    (λ before. let same : i - 1 ≡ j = omega arith in
+    subst (λ (k : ℕ). white_at text k ≡ true) same before)
     (or_cases (i == 0) (white_at text (i - 1)) (and_parts (not (white_at text i)) _ h).1)
 
 -- a word begins at its start, and is the word there
 pub IsWord-begins : {text : List ℕ} {w : Word} → IsWord text w → begins_word text w.start ≡ true
-IsWord-begins {text} {w} word = begins_word-first text w.start (omega (arith, word.within, word.nonempty)) (word.no_white w.start (omega arith) (omega (arith, word.nonempty))) (λ i e _ _. word.white_before i e)
+IsWord-begins {text} {w} word =
+    begins_word-first text w.start (omega (arith, word.within, word.nonempty))
+    (word.no_white w.start (omega arith) (omega (arith, word.nonempty)))
+    (λ i e _ _. word.white_before i e)
 
 pub IsWord-is : {text : List ℕ} {w : Word} → IsWord text w → word_at text w.start ≡ w
 unfolding word_at white_at
@@ -33,12 +42,22 @@ IsWord-is {text} {w} word =
     let n : ℕ = w.end - w.start in
     let long : length (drop w.start text) ≡ length text - w.start = length-drop w.start text in
     let same : w.start + (w.end - w.start) ≡ w.end = omega (arith, word.nonempty) in
-    let at : (k : ℕ) → not (is_white (get_or (drop w.start text) k 0)) ≡ not (is_white (get_or text (w.start + k) 0)) = λ k. ap (λ (b : ℕ). not (is_white b)) (get_or-drop w.start text k 0) in
-    let ink : (k : ℕ) → k < w.end - w.start → not (is_white (get_or (drop w.start text) k 0)) ≡ true =
+    let at : (k : ℕ)
+    → not (is_white (get_or (drop w.start text) k 0))
+    ≡ not (is_white (get_or text (w.start + k) 0)) = λ k. ap (λ (b : ℕ). not (is_white b))
+    (get_or-drop w.start text k 0) in
+    let ink : (k : ℕ) → k < w.end - w.start
+    → not (is_white (get_or (drop w.start text) k 0)) ≡ true =
     λ k h. at k ∙ ap not (word.no_white (w.start + k) (omega arith) (omega arith)) in
-    let behind : w.end - w.start < length (drop w.start text) → not (is_white (get_or (drop w.start text) (w.end - w.start) 0)) ≡ false =
-    λ h. at (w.end - w.start) ∙ ap not (subst (λ (k : ℕ). is_white (get_or text k 0) ≡ true) (sym same) (word.white_behind (omega arith))) in
-    let len : prefix_len p (drop w.start text) ≡ w.end - w.start = prefix_len_is p (drop w.start text) (w.end - w.start) 0 (omega (arith, word.within)) ink behind in
+    let behind : w.end - w.start < length (drop w.start text)
+    → not (is_white (get_or (drop w.start text) (w.end - w.start) 0)) ≡ false =
+    λ h. at (w.end - w.start)
+    ∙ ap not
+    (subst (λ (k : ℕ). is_white (get_or text k 0) ≡ true) (sym same)
+    (word.white_behind (omega arith))) in
+    let len : prefix_len p (drop w.start text) ≡ w.end - w.start =
+    prefix_len_is p (drop w.start text) (w.end - w.start) 0
+    (omega (arith, word.within)) ink behind in
     let e : w.start + prefix_len p (drop w.start text) ≡ w.end = omega (arith, word.nonempty) in
     ap (λ (x : ℕ). let v : Word = record { start = w.start; end = x } in v) e
 
@@ -47,10 +66,14 @@ unfolding word_at
 word_at-start text i = refl
 
 -- two words don't overlap
-pub IsWord-apart : {text : List ℕ} {v w : Word} → IsWord text v → IsWord text w → v.start < w.start → v.end ≤ w.start
+pub IsWord-apart : {text : List ℕ} {v w : Word} → IsWord text v → IsWord text w → v.start < w.start
+    → v.end ≤ w.start
 IsWord-apart {text} {v} {w} one other h =
     ⊎_elim {C = v.end ≤ w.start}
-    (λ inside. absurd (true≢false (sym (other.white_before (w.start - 1) (omega arith)) ∙ one.no_white (w.start - 1) (omega arith) (omega arith))))
+    (λ inside. absurd
+    (true≢false
+    (sym (other.white_before (w.start - 1) (omega arith))
+    ∙ one.no_white (w.start - 1) (omega arith) (omega arith))))
     (λ le. le)
     (cases_lt w.start v.end)
 
@@ -60,7 +83,8 @@ Contains-head x xs = (0, (omega arith), refl)
 Contains-tail : {X : Type 0} (x y : X) (xs : List X) → Contains xs y → Contains (x ∷ xs) y
 Contains-tail x y xs (k, h, e) = (suc k, (omega arith), e)
 
-AllPairs-cons : {X : Type 0} (R : X → X → Type 0) (x : X) (xs : List X) → All (R x) xs → AllPairs R xs → AllPairs R (x ∷ xs)
+AllPairs-cons : {X : Type 0} (R : X → X → Type 0) (x : X) (xs : List X) → All (R x) xs
+    → AllPairs R xs → AllPairs R (x ∷ xs)
 AllPairs-cons R x xs first rest zero zero d lt h = absurd (omega arith)
 AllPairs-cons R x xs first rest zero (suc j) d lt h = first j d (omega arith)
 AllPairs-cons R x xs first rest (suc i) zero d lt h = absurd (omega arith)
@@ -68,45 +92,59 @@ AllPairs-cons R x xs first rest (suc i) (suc j) d lt h = rest i j d (omega arith
 
 -- a place either begins a word or doesn't, and what that says of the words
 pub words_between-cases : (text : List ℕ) (i to : ℕ) → i < to →
-    ((begins_word text i ≡ true) × (words_between text i to ≡ word_at text i ∷ words_between text (i + 1) to))
+    ((begins_word text i ≡ true)
+    × (words_between text i to ≡ word_at text i ∷ words_between text (i + 1) to))
     ⊎ ((begins_word text i ≡ false) × (words_between text i to ≡ words_between text (i + 1) to))
 words_between-cases text i to h = by (begins_word text i) refl
   where
     by : (b : Bool) → begins_word text i ≡ b →
-        ((begins_word text i ≡ true) × (words_between text i to ≡ word_at text i ∷ words_between text (i + 1) to))
+        ((begins_word text i ≡ true)
+        × (words_between text i to ≡ word_at text i ∷ words_between text (i + 1) to))
         ⊎ ((begins_word text i ≡ false) × (words_between text i to ≡ words_between text (i + 1) to))
     by true e = inl (e, words_between-take text i to h e)
     by false e = inr (e, words_between-skip text i to h e)
 
-IsWord-here : (text : List ℕ) (i : ℕ) → i < length text → begins_word text i ≡ true → IsWord text (word_at text i)
-IsWord-here text i h begins = IsWord-word_at text i h (begins_word-ink text i begins) (begins_word-boundary text i begins)
+IsWord-here : (text : List ℕ) (i : ℕ) → i < length text → begins_word text i ≡ true
+    → IsWord text (word_at text i)
+IsWord-here text i h begins =
+    IsWord-word_at text i h (begins_word-ink text i begins) (begins_word-boundary text i begins)
 
 abbrev IsWordFrom : List ℕ → ℕ → Word → Type 0
 IsWordFrom text low w = IsWord text w × (low ≤ w.start)
 
 -- what begins in a stretch of places are words, and begins there
-pub words_between-each : (text : List ℕ) (low n i to : ℕ) → i + n ≡ to → to ≤ length text → low ≤ i → All (IsWordFrom text low) (words_between text i to)
+pub words_between-each : (text : List ℕ) (low n i to : ℕ) → i + n ≡ to → to ≤ length text → low ≤ i
+    → All (IsWordFrom text low) (words_between text i to)
 words_between-each text low zero i to e le lo =
-    subst (All (IsWordFrom text low)) (sym (words_between-none text i to (omega arith))) (All-nil (IsWordFrom text low))
+    subst (All (IsWordFrom text low)) (sym (words_between-none text i to (omega arith)))
+    (All-nil (IsWordFrom text low))
 words_between-each text low (suc n) i to e le lo =
-    let rest : All (IsWordFrom text low) (words_between text (i + 1) to) = words_between-each text low n (i + 1) to (omega arith) le (omega arith) in
+    let rest : All (IsWordFrom text low) (words_between text (i + 1) to) =
+    words_between-each text low n (i + 1) to (omega arith) le (omega arith) in
     ⊎_elim {C = All (IsWordFrom text low) (words_between text i to)}
     (λ taken. subst (All (IsWordFrom text low)) (sym taken.1)
-    (All-cons (IsWordFrom text low) _ _ (IsWord-here text i (omega arith) taken.0, (omega (arith, word_at-start text i))) rest))
+    (All-cons (IsWordFrom text low) _ _
+    (IsWord-here text i (omega arith) taken.0, (omega (arith, word_at-start text i))) rest))
     (λ skipped. subst (All (IsWordFrom text low)) (sym skipped.1) rest)
     (words_between-cases text i to (omega arith))
 
 -- none is left out
-pub words_between-all : (text : List ℕ) (n i to : ℕ) → i + n ≡ to → (w : Word) → IsWord text w → i ≤ w.start → w.start < to → Contains (words_between text i to) w
+pub words_between-all : (text : List ℕ) (n i to : ℕ) → i + n ≡ to → (w : Word) → IsWord text w
+    → i ≤ w.start → w.start < to → Contains (words_between text i to) w
 words_between-all text zero i to e w word low high = absurd (omega arith)
 words_between-all text (suc n) i to e w word low high =
     ⊎_elim {C = Contains (words_between text i to) w}
-    (λ same. subst (λ (ws : List Word). Contains ws w) (sym (words_between-take text i to (omega arith) (ap (begins_word text) (sym same) ∙ IsWord-begins word)))
-    (subst (λ (v : Word). Contains (v ∷ words_between text (i + 1) to) w) (sym (IsWord-is word) ∙ ap (word_at text) same) (Contains-head w _)))
+    (λ same. subst (λ (ws : List Word). Contains ws w)
+    (sym (words_between-take text i to (omega arith)
+    (ap (begins_word text) (sym same) ∙ IsWord-begins word)))
+    (subst (λ (v : Word). Contains (v ∷ words_between text (i + 1) to) w)
+    (sym (IsWord-is word) ∙ ap (word_at text) same) (Contains-head w _)))
     (λ apart.
-    let rest : Contains (words_between text (i + 1) to) w = words_between-all text n (i + 1) to (omega arith) w word (omega arith) high in
+    let rest : Contains (words_between text (i + 1) to) w =
+    words_between-all text n (i + 1) to (omega arith) w word (omega arith) high in
     ⊎_elim {C = Contains (words_between text i to) w}
-    (λ taken. subst (λ (ws : List Word). Contains ws w) (sym taken.1) (Contains-tail (word_at text i) w _ rest))
+    (λ taken. subst (λ (ws : List Word). Contains ws w) (sym taken.1)
+    (Contains-tail (word_at text i) w _ rest))
     (λ skipped. subst (λ (ws : List Word). Contains ws w) (sym skipped.1) rest)
     (words_between-cases text i to (omega arith)))
     (cases_eq w.start i)
@@ -114,16 +152,22 @@ words_between-all text (suc n) i to e w word low high =
 abbrev EndsBefore : Word → Word → Type 0
 EndsBefore v w = v.end ≤ w.start
 
-pub words_between-rising : (text : List ℕ) (n i to : ℕ) → i + n ≡ to → to ≤ length text → AllPairs EndsBefore (words_between text i to)
-words_between-rising text zero i to e le = subst (AllPairs EndsBefore) (sym (words_between-none text i to (omega arith))) (λ j k d lt h. absurd (omega arith))
+pub words_between-rising : (text : List ℕ) (n i to : ℕ) → i + n ≡ to → to ≤ length text
+    → AllPairs EndsBefore (words_between text i to)
+words_between-rising text zero i to e le =
+    subst (AllPairs EndsBefore) (sym (words_between-none text i to (omega arith)))
+    (λ j k d lt h. absurd (omega arith))
 words_between-rising text (suc n) i to e le =
-    let rest : AllPairs EndsBefore (words_between text (i + 1) to) = words_between-rising text n (i + 1) to (omega arith) le in
-    let each : All (IsWordFrom text (i + 1)) (words_between text (i + 1) to) = words_between-each text (i + 1) n (i + 1) to (omega arith) le (omega arith) in
+    let rest : AllPairs EndsBefore (words_between text (i + 1) to) =
+    words_between-rising text n (i + 1) to (omega arith) le in
+    let each : All (IsWordFrom text (i + 1)) (words_between text (i + 1) to) =
+    words_between-each text (i + 1) n (i + 1) to (omega arith) le (omega arith) in
     ⊎_elim {C = AllPairs EndsBefore (words_between text i to)}
     (λ taken. subst (AllPairs EndsBefore) (sym taken.1)
     (AllPairs-cons EndsBefore (word_at text i) _
     (All-weaker (IsWordFrom text (i + 1)) (EndsBefore (word_at text i))
-    (λ w from. IsWord-apart (IsWord-here text i (omega arith) taken.0) from.0 (omega (arith, from.1, word_at-start text i))) _ each)
+    (λ w from. IsWord-apart (IsWord-here text i (omega arith) taken.0) from.0
+    (omega (arith, from.1, word_at-start text i))) _ each)
     rest))
     (λ skipped. subst (AllPairs EndsBefore) (sym skipped.1) rest)
     (words_between-cases text i to (omega arith))
@@ -131,30 +175,41 @@ words_between-rising text (suc n) i to e le =
 pub words_of-AreWords : (text : List ℕ) → AreWords text (words_of text)
 words_of-AreWords text = record {
   rising = words_between-rising text (length text) 0 (length text) (omega arith) (omega arith);
-  each = All-weaker (IsWordFrom text 0) (IsWord text) (λ w from. from.0) _ (words_between-each text 0 (length text) 0 (length text) (omega arith) (omega arith) (omega arith));
-  all = λ w word. words_between-all text (length text) 0 (length text) (omega arith) w word (omega arith) (omega (arith, word.within, word.nonempty));
+  each =
+      All-weaker (IsWordFrom text 0) (IsWord text) (λ w from. from.0) _
+      (words_between-each text 0 (length text) 0 (length text) (omega arith) (omega arith)
+      (omega arith));
+  all =
+      λ w word. words_between-all text (length text) 0 (length text) (omega arith) w word
+      (omega arith) (omega (arith, word.within, word.nonempty));
 }
 
 -- ---- two rising lists of the same words are one list
 
-Contains-first : {X : Type 0} (x : X) (xs : List X) (y : X) → Contains (x ∷ xs) y → (x ≡ y) ⊎ Contains xs y
+Contains-first : {X : Type 0} (x : X) (xs : List X) (y : X) → Contains (x ∷ xs) y
+    → (x ≡ y) ⊎ Contains xs y
 Contains-first x xs y (zero, h, e) = inl e
 Contains-first x xs y (suc k, h, e) = inr (k, (omega arith), e)
 
-AllPairs-tail : {X : Type 0} (R : X → X → Type 0) (x : X) (xs : List X) → AllPairs R (x ∷ xs) → AllPairs R xs
+AllPairs-tail : {X : Type 0} (R : X → X → Type 0) (x : X) (xs : List X) → AllPairs R (x ∷ xs)
+    → AllPairs R xs
 AllPairs-tail R x xs all i j d lt h = all (suc i) (suc j) d (omega arith) (omega arith)
 
--- what a list contains behind its head stands after the head
-behind_head : (w : Word) (ws : List Word) → AllPairs EndsBefore (w ∷ ws) → (v : Word) → Contains ws v → w.end ≤ v.start
-behind_head w ws all v (k, h, e) = subst (λ (u : Word). w.end ≤ u.start) e (all 0 (suc k) v (omega arith) (omega arith))
+-- what a list contains after its head stands after the head
+behind_head : (w : Word) (ws : List Word) → AllPairs EndsBefore (w ∷ ws) → (v : Word)
+    → Contains ws v → w.end ≤ v.start
+behind_head w ws all v (k, h, e) =
+    subst (λ (u : Word). w.end ≤ u.start) e (all 0 (suc k) v (omega arith) (omega arith))
 
 abbrev SameIn : List Word → List Word → Type 0
 SameIn ws vs = (w : Word) → Contains ws w → Contains vs w
 
-nonempty_in : (text : List ℕ) (ws : List Word) → All (IsWord text) ws → (w : Word) → Contains ws w → w.start < w.end
+nonempty_in : (text : List ℕ) (ws : List Word) → All (IsWord text) ws → (w : Word) → Contains ws w
+    → w.start < w.end
 nonempty_in text ws all w has = (All-contains (IsWord text) ws w all has).nonempty
 
-same_head : (text : List ℕ) (w v : Word) (ws vs : List Word) → All (IsWord text) (w ∷ ws) → All (IsWord text) (v ∷ vs) → AllPairs EndsBefore (w ∷ ws) → AllPairs EndsBefore (v ∷ vs) →
+same_head : (text : List ℕ) (w v : Word) (ws vs : List Word) → All (IsWord text) (w ∷ ws)
+    → All (IsWord text) (v ∷ vs) → AllPairs EndsBefore (w ∷ ws) → AllPairs EndsBefore (v ∷ vs) →
     SameIn (w ∷ ws) (v ∷ vs) → SameIn (v ∷ vs) (w ∷ ws) → w ≡ v
 same_head text w v ws vs are_w are_v rise_w rise_v there back =
     ⊎_elim {C = w ≡ v}
@@ -171,7 +226,8 @@ same_head text w v ws vs are_w are_v rise_w rise_v there back =
     (Contains-first v vs w (there w (Contains-head w ws)))
 
 -- what is in the tail is in the other tail
-same_tail : (text : List ℕ) (w : Word) (ws vs : List Word) → All (IsWord text) (w ∷ ws) → AllPairs EndsBefore (w ∷ ws) → SameIn (w ∷ ws) (w ∷ vs) → SameIn ws vs
+same_tail : (text : List ℕ) (w : Word) (ws vs : List Word) → All (IsWord text) (w ∷ ws)
+    → AllPairs EndsBefore (w ∷ ws) → SameIn (w ∷ ws) (w ∷ vs) → SameIn ws vs
 same_tail text w ws vs are rise there u has =
     ⊎_elim {C = Contains vs u}
     (λ same.
@@ -185,17 +241,26 @@ same_tail text w ws vs are rise there u has =
 empty_contains : (w : Word) → Contains {X = Word} [] w → ⊥
 empty_contains w (k, h, e) = omega arith
 
-same_words : (text : List ℕ) (ws vs : List Word) → All (IsWord text) ws → All (IsWord text) vs → AllPairs EndsBefore ws → AllPairs EndsBefore vs → SameIn ws vs → SameIn vs ws → ws ≡ vs
+same_words : (text : List ℕ) (ws vs : List Word) → All (IsWord text) ws → All (IsWord text) vs
+    → AllPairs EndsBefore ws → AllPairs EndsBefore vs → SameIn ws vs → SameIn vs ws → ws ≡ vs
 same_words text [] [] are_w are_v rise_w rise_v there back = refl
-same_words text [] (v ∷ vs) are_w are_v rise_w rise_v there back = absurd (empty_contains v (back v (Contains-head v vs)))
-same_words text (w ∷ ws) [] are_w are_v rise_w rise_v there back = absurd (empty_contains w (there w (Contains-head w ws)))
+same_words text [] (v ∷ vs) are_w are_v rise_w rise_v there back =
+    absurd (empty_contains v (back v (Contains-head v vs)))
+same_words text (w ∷ ws) [] are_w are_v rise_w rise_v there back =
+    absurd (empty_contains w (there w (Contains-head w ws)))
 same_words text (w ∷ ws) (v ∷ vs) are_w are_v rise_w rise_v there back =
     let head : w ≡ v = same_head text w v ws vs are_w are_v rise_w rise_v there back in
-    let there' : SameIn (w ∷ ws) (w ∷ vs) = subst (λ (x : Word). SameIn (w ∷ ws) (x ∷ vs)) (sym head) there in
-    let back' : SameIn (w ∷ vs) (w ∷ ws) = subst (λ (x : Word). SameIn (x ∷ vs) (w ∷ ws)) (sym head) back in
-    let are_v' : All (IsWord text) (w ∷ vs) = subst (λ (x : Word). All (IsWord text) (x ∷ vs)) (sym head) are_v in
-    let rise_v' : AllPairs EndsBefore (w ∷ vs) = subst (λ (x : Word). AllPairs EndsBefore (x ∷ vs)) (sym head) rise_v in
-    ap (λ (us : List Word). w ∷ us) (same_words text ws vs (All-tail (IsWord text) w ws are_w) (All-tail (IsWord text) w vs are_v')
+    let there' : SameIn (w ∷ ws) (w ∷ vs) =
+    subst (λ (x : Word). SameIn (w ∷ ws) (x ∷ vs)) (sym head) there in
+    let back' : SameIn (w ∷ vs) (w ∷ ws) =
+    subst (λ (x : Word). SameIn (x ∷ vs) (w ∷ ws)) (sym head) back in
+    let are_v' : All (IsWord text) (w ∷ vs) =
+    subst (λ (x : Word). All (IsWord text) (x ∷ vs)) (sym head) are_v in
+    let rise_v' : AllPairs EndsBefore (w ∷ vs) =
+    subst (λ (x : Word). AllPairs EndsBefore (x ∷ vs)) (sym head) rise_v in
+    ap (λ (us : List Word). w ∷ us)
+    (same_words text ws vs (All-tail (IsWord text) w ws are_w)
+    (All-tail (IsWord text) w vs are_v')
     (AllPairs-tail EndsBefore w ws rise_w) (AllPairs-tail EndsBefore w vs rise_v')
     (same_tail text w ws vs are_w rise_w there') (same_tail text w vs ws are_v' rise_v' back'))
     ∙ ap (λ (x : Word). x ∷ vs) head

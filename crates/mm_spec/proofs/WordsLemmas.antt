@@ -1,11 +1,27 @@
 -- The words of a text from a place on, one after another.
-use Rattle.std.proofs.Common.{◌≡◌, ℕ, zero, suc, ◌+◌, ◌-◌, ◌<◌, ◌≤◌, ◌==◌, ◌||◌, ◌&&◌, Bool, true, false, not, List, [], ◌∷◌, length, drop, get_or, refl, sym, ap, subst, ◌∙◌, arith, length-drop, get_or-drop, ne_eqb, ⊎_elim, true≢false}
+use Rattle.std.proofs.Common.{◌≡◌, ℕ, zero, suc, ◌+◌, ◌-◌, ◌<◌, ◌≤◌, ◌==◌, ◌||◌, ◌&&◌, Bool, true}
+use Rattle.std.proofs.Common.{false, not, List, [], ◌∷◌, length, drop, get_or, refl, sym, ap, subst}
+use Rattle.std.proofs.Common.{◌∙◌, arith, length-drop, get_or-drop, ne_eqb, ⊎_elim, true≢false}
 use Rattle.std.specs.List.{prefix_len}
-use Rattle.std.proofs.lemmas.List.Sums.{prefix_len_passes, prefix_len_stops, prefix_len-le-length, prefix_len-drop_yes}
+use Rattle.std.proofs.lemmas.List.Sums.{prefix_len_passes, prefix_len_stops, prefix_len-le-length}
+use Rattle.std.proofs.lemmas.List.Sums.{prefix_len-drop_yes}
 use Rattle.std.proofs.lemmas.Bool.{cases_lt}
 use Rattle.mm_spec.specs.declared.Word.{Word}
 use Rattle.mm_spec.specs.Bytes.{is_white}
-use Rattle.mm_spec.specs.Words.{white_at, begins_word, word_at, words_between, IsWord, IsBoundary}
+use Rattle.mm_spec.specs.Words.{white_at, begins_word, word_at, words_between}
+use Rattle.mm_spec.specs.Laws.Words.{IsWord}
+
+-- no word goes on from before the place to after it
+abbrev pub IsBoundary : List ℕ → ℕ → Type 0
+IsBoundary text at =
+    (i : ℕ) → i + 1 ≡ at → at < length text → white_at text at ≡ false → white_at text i ≡ true
+
+-- w is the first word that begins at a place from `from` up to `to`
+pub record IsNextWord (text : List ℕ) (from to : ℕ) (w : Word) : Type 0 where
+  pub word : IsWord text w
+  pub from_here : from ≤ w.start
+  pub up_to : w.end ≤ to
+  pub rest : words_between text from to ≡ w ∷ words_between text w.end to
 
 pub not_true : (b : Bool) → not b ≡ true → b ≡ false
 not_true true h = cc
@@ -24,14 +40,16 @@ not_false true h = refl
 not_false false h = cc
 
 -- where no word begins, the words are those from the next place on
-pub words_between-skip : (text : List ℕ) (i to : ℕ) → i < to → begins_word text i ≡ false → words_between text i to ≡ words_between text (i + 1) to
+pub words_between-skip : (text : List ℕ) (i to : ℕ) → i < to → begins_word text i ≡ false
+    → words_between text i to ≡ words_between text (i + 1) to
 unfolding words_between
 words_between-skip text i to h begins_not =
     let e : to - i ≡ suc (to - (i + 1)) = omega arith in
     rw (e, begins_not) refl
 
 -- where one begins, it is the first
-pub words_between-take : (text : List ℕ) (i to : ℕ) → i < to → begins_word text i ≡ true → words_between text i to ≡ word_at text i ∷ words_between text (i + 1) to
+pub words_between-take : (text : List ℕ) (i to : ℕ) → i < to → begins_word text i ≡ true
+    → words_between text i to ≡ word_at text i ∷ words_between text (i + 1) to
 unfolding words_between
 words_between-take text i to h begins =
     let e : to - i ≡ suc (to - (i + 1)) = omega arith in
@@ -43,14 +61,18 @@ words_between-none text i to h =
     let e : to - i ≡ 0 = omega arith in
     rw e refl
 
-pub words_between-skips : (text : List ℕ) (n from e to : ℕ) → from + n ≡ e → e ≤ to → ((j : ℕ) → from ≤ j → j < e → begins_word text j ≡ false) → words_between text from to ≡ words_between text e to
-words_between-skips text zero from e to h le none = let same : from ≡ e = omega arith in ap (λ x. words_between text x to) same
+pub words_between-skips : (text : List ℕ) (n from e to : ℕ) → from + n ≡ e → e ≤ to
+    → ((j : ℕ) → from ≤ j → j < e → begins_word text j ≡ false)
+    → words_between text from to ≡ words_between text e to
+words_between-skips text zero from e to h le none =
+    let same : from ≡ e = omega arith in ap (λ x. words_between text x to) same
 words_between-skips text (suc n) from e to h le none =
     words_between-skip text from to (omega arith) (none from (omega arith) (omega arith))
     ∙ words_between-skips text n (from + 1) e to (omega arith) le (λ j a b. none j (omega arith) b)
 
 -- a place with a white byte before it, or at the beginning
-pub begins_word-first : (text : List ℕ) (i : ℕ) → i < length text → white_at text i ≡ false → IsBoundary text i → begins_word text i ≡ true
+pub begins_word-first : (text : List ℕ) (i : ℕ) → i < length text → white_at text i ≡ false
+    → IsBoundary text i → begins_word text i ≡ true
 unfolding begins_word
 begins_word-first text zero h ink boundary = rw ink refl
 begins_word-first text (suc i) h ink boundary =
@@ -58,11 +80,13 @@ begins_word-first text (suc i) h ink boundary =
     let e : suc i - 1 ≡ i = omega arith in
     rw (ink, e, before) (or_true (suc i == 0))
 
-pub begins_word-white : (text : List ℕ) (i : ℕ) → white_at text i ≡ true → begins_word text i ≡ false
+pub begins_word-white : (text : List ℕ) (i : ℕ) → white_at text i ≡ true
+    → begins_word text i ≡ false
 unfolding begins_word
 begins_word-white text i white = rw white refl
 
-pub begins_word-inside : (text : List ℕ) (i : ℕ) → white_at text i ≡ false → begins_word text (i + 1) ≡ false
+pub begins_word-inside : (text : List ℕ) (i : ℕ) → white_at text i ≡ false
+    → begins_word text (i + 1) ≡ false
 unfolding begins_word
 begins_word-inside text i ink =
     let e : i + 1 - 1 ≡ i = omega arith in
@@ -70,32 +94,40 @@ begins_word-inside text i ink =
     rw (e, ink, apart) (and_false (not (white_at text (i + 1))))
 
 -- the bytes of the word at a place aren't white
-pub word_at-ink : (text : List ℕ) (i j : ℕ) → i ≤ j → j < (word_at text i).end → white_at text j ≡ false
+pub word_at-ink : (text : List ℕ) (i j : ℕ) → i ≤ j → j < (word_at text i).end
+    → white_at text j ≡ false
 unfolding word_at white_at
 word_at-ink text i j le lt =
     let p : ℕ → Bool = λ b. not (is_white b) in
-    let passes : not (is_white (get_or (drop i text) (j - i) 0)) ≡ true = prefix_len_passes p (drop i text) (j - i) 0 (omega arith) in
+    let passes : not (is_white (get_or (drop i text) (j - i) 0)) ≡ true =
+    prefix_len_passes p (drop i text) (j - i) 0 (omega arith) in
     let e : i + (j - i) ≡ j = omega arith in
-    not_true _ (subst (λ (k : ℕ). not (is_white (get_or text k 0)) ≡ true) e (rw get_or-drop at passes))
+    not_true _
+    (subst (λ (k : ℕ). not (is_white (get_or text k 0)) ≡ true) e (rw get_or-drop at passes))
 
 pub word_at-within : (text : List ℕ) (i : ℕ) → i ≤ length text → (word_at text i).end ≤ length text
 unfolding word_at
-word_at-within text i h = omega (arith, prefix_len-le-length (λ b. not (is_white b)) (drop i text), length-drop i text)
+word_at-within text i h =
+    omega (arith, prefix_len-le-length (λ b. not (is_white b)) (drop i text), length-drop i text)
 
-pub word_at-behind : (text : List ℕ) (i : ℕ) → (word_at text i).end < length text → white_at text (word_at text i).end ≡ true
+pub word_at-behind : (text : List ℕ) (i : ℕ) → (word_at text i).end < length text
+    → white_at text (word_at text i).end ≡ true
 unfolding word_at white_at
 word_at-behind text i h =
     let p : ℕ → Bool = λ b. not (is_white b) in
-    let stops : not (is_white (get_or (drop i text) (prefix_len p (drop i text)) 0)) ≡ false = prefix_len_stops p (drop i text) 0 (omega (arith, length-drop i text)) in
+    let stops : not (is_white (get_or (drop i text) (prefix_len p (drop i text)) 0)) ≡ false =
+    prefix_len_stops p (drop i text) 0 (omega (arith, length-drop i text)) in
     not_false _ (rw get_or-drop at stops)
 
-pub word_at-nonempty : (text : List ℕ) (i : ℕ) → i < length text → white_at text i ≡ false → i < (word_at text i).end
+pub word_at-nonempty : (text : List ℕ) (i : ℕ) → i < length text → white_at text i ≡ false
+    → i < (word_at text i).end
 unfolding word_at white_at
 word_at-nonempty text i h ink =
     omega (arith, prefix_len-drop_yes (λ b. not (is_white b)) text i 0 h (rw ink refl))
 
 -- where a word begins
-pub IsWord-word_at : (text : List ℕ) (i : ℕ) → i < length text → white_at text i ≡ false → IsBoundary text i → IsWord text (word_at text i)
+pub IsWord-word_at : (text : List ℕ) (i : ℕ) → i < length text → white_at text i ≡ false
+    → IsBoundary text i → IsWord text (word_at text i)
 unfolding word_at
 IsWord-word_at text i h ink boundary = record {
   nonempty = word_at-nonempty text i h ink;
@@ -105,29 +137,35 @@ IsWord-word_at text i h ink boundary = record {
   white_behind = word_at-behind text i;
 }
 
-word_at-is : (text : List ℕ) (i e : ℕ) → e ≡ (word_at text i).end → word_at text i ≡ record { start = i; end = e }
+word_at-is : (text : List ℕ) (i e : ℕ) → e ≡ (word_at text i).end
+    → word_at text i ≡ record { start = i; end = e }
 unfolding word_at
 word_at-is text i e h = ap (λ (x : ℕ). let w : Word = record { start = i; end = x } in w) (sym h)
 
 -- no other word begins in it
-inside : (text : List ℕ) (i e j : ℕ) → e ≡ (word_at text i).end → i + 1 ≤ j → j < e → begins_word text j ≡ false
+inside : (text : List ℕ) (i e j : ℕ) → e ≡ (word_at text i).end → i + 1 ≤ j → j < e
+    → begins_word text j ≡ false
 inside text i e j h a b =
     let same : (j - 1) + 1 ≡ j = omega arith in
-    subst (λ (k : ℕ). begins_word text k ≡ false) same (begins_word-inside text (j - 1) (word_at-ink text i (j - 1) (omega arith) (omega arith)))
+    subst (λ (k : ℕ). begins_word text k ≡ false) same
+    (begins_word-inside text (j - 1) (word_at-ink text i (j - 1) (omega arith) (omega arith)))
 
 -- a word that begins before a place over which no word goes on ends there at the latest
-word_at-up_to : (text : List ℕ) (i e to : ℕ) → i < to → to ≤ length text → IsBoundary text to → e ≡ (word_at text i).end → e ≤ length text → e ≤ to
+word_at-up_to : (text : List ℕ) (i e to : ℕ) → i < to → to ≤ length text → IsBoundary text to
+    → e ≡ (word_at text i).end → e ≤ length text → e ≤ to
 word_at-up_to text i e to h le boundary at_end within =
     ⊎_elim {C = e ≤ to}
     (λ over.
     let here : white_at text to ≡ false = word_at-ink text i to (omega arith) (omega arith) in
-    let before : white_at text (to - 1) ≡ false = word_at-ink text i (to - 1) (omega arith) (omega arith) in
+    let before : white_at text (to - 1) ≡ false =
+    word_at-ink text i (to - 1) (omega arith) (omega arith) in
     absurd (true≢false (sym (boundary (to - 1) (omega arith) (omega arith) here) ∙ before)))
     (λ le. le)
     (cases_lt to e)
 
 -- The word at a place, and the words from its end on. The code knows the word by its two places.
-pub next_is : (text : List ℕ) (i e to : ℕ) → i < to → to ≤ length text → white_at text i ≡ false → IsBoundary text i → IsBoundary text to → e ≡ (word_at text i).end →
+pub next_is : (text : List ℕ) (i e to : ℕ) → i < to → to ≤ length text → white_at text i ≡ false
+    → IsBoundary text i → IsBoundary text to → e ≡ (word_at text i).end →
     let w : Word = record { start = i; end = e } in
     IsWord text w × (e ≤ to) × (words_between text i to ≡ w ∷ words_between text e to)
 next_is text i e to h within ink boundary end at_end =
@@ -140,10 +178,11 @@ next_is text i e to h within ink boundary end at_end =
       up_to,
       words_between-take text i to h (begins_word-first text i (omega arith) ink boundary)
           ∙ ap (λ w. w ∷ words_between text (i + 1) to) whole
-          ∙ ap (λ ws. record { start = i; end = e } ∷ ws) (words_between-skips text (e - (i + 1)) (i + 1) e to (omega arith) up_to
+          ∙ ap (λ ws. record { start = i; end = e } ∷ ws)
+          (words_between-skips text (e - (i + 1)) (i + 1) e to (omega arith) up_to
           (λ j a b. inside text i e j at_end a b)),
     )
 
--- no word goes on behind the end of one
+-- no word goes on after the end of one
 pub IsBoundary-end : {text : List ℕ} {w : Word} → IsWord text w → IsBoundary text w.end
 IsBoundary-end word i e h ink = cc (word.white_behind h)

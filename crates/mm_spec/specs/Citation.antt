@@ -1,11 +1,12 @@
--- What a proof may use, and which theorems are valid (Metamath book, section 4.1.4); on which assertions a theorem rests
--- (this project's own).
-use Rattle.std.specs.Prelude.{◌≡◌, ℕ, Bool, true, false, List, [], map, Option, Some, None, slice_get, IsTrue}
+-- What a proof may use, and which theorems are valid (Metamath book, section 4.1.4); on which
+-- assertions a theorem rests (this project's own).
+use Rattle.std.specs.Prelude.{◌≡◌, ℕ, Bool, true, false, List, [], map, Option, Some, None}
+use Rattle.std.specs.Prelude.{slice_get, IsTrue}
 use Rattle.std.specs.List.{list_any}
 use Rattle.mm_spec.specs.Text.{Fault}
 use Rattle.mm_spec.specs.Statement.{Statement, floating, essential, axiomatic, provable}
 use Rattle.mm_spec.specs.Scope.{is_active, statement_at}
-use Rattle.mm_spec.specs.Frame.{is_variable, disjoint_at, formula_at, frame_at}
+use Rattle.mm_spec.specs.Frame.{is_variable_number, disjoint_at, formula_at, frame_at}
 use Rattle.mm_spec.specs.Derivation.{Context, Rule, hypothesis, assertion, Trees}
 use Rattle.mm_spec.specs.Nodes.{IsNodeLabel}
 use Rattle.mm_spec.specs.Steps.{PlacedStep}
@@ -22,16 +23,24 @@ rule_of db j (provable l k xs e ps d) = Some (assertion (frame_at db j))
 rule_of db j _ = None
 
 abbrev pub rule_at : List Statement → ℕ → ℕ → Option Rule
-rule_at db k j = elim (is_active db j k) [ false ↦ None | true ↦ elim (slice_get db j) [ None ↦ None | Some s ↦ rule_of db j s ] ]
+rule_at db k j =
+    elim (is_active db j k)
+    [ false ↦ None | true ↦ elim (slice_get db j) [ None ↦ None | Some s ↦ rule_of db j s ] ]
 
 abbrev pub context_at : List Statement → ℕ → Context
-context_at db k = record { is_variable = is_variable db; is_disjoint = disjoint_at db k; rule = rule_at db k }
+context_at db k =
+    record {
+      is_variable = is_variable_number db;
+      is_disjoint = disjoint_at db k;
+      rule = rule_at db k;
+    }
 
 abbrev pub steps_at : List Statement → ℕ → List PlacedStep
 steps_at db k = elim (slice_get db k) [ Some (provable l p xs e ps d) ↦ steps db k ps | _ ↦ [] ]
 
 abbrev pub reading_faults_at : List Statement → ℕ → List Fault
-reading_faults_at db k = elim (slice_get db k) [ Some (provable l p xs e ps d) ↦ reading_faults db k d ps | _ ↦ [] ]
+reading_faults_at db k =
+    elim (slice_get db k) [ Some (provable l p xs e ps d) ↦ reading_faults db k d ps | _ ↦ [] ]
 
 abbrev pub is_theorem : Statement → Bool
 is_theorem (provable l k xs e ps d) = true
@@ -49,17 +58,14 @@ IsProof db k d = Derives (context_at db k) (map (λ s. s.step) (steps_at db k)) 
 abbrev pub IsValid : List Statement → ℕ → Type 0
 IsValid db k = (reading_faults_at db k ≡ []) × (d : Trees) × IsProof db k d
 
--- a theorem cites an assertion that is the label of a node of its proof, or with the flag of an essential one
+-- a theorem cites an assertion that is the label of a node of its proof, or with the flag of an
+-- essential one
 abbrev pub Cites : List Statement → (by_essential : Bool) → ℕ → ℕ → Type 0
-Cites db by_essential t a = IsTrue (list_any is_assertion (statement_at db a)) × (d : Trees) × IsProof db t d × IsNodeLabel db by_essential d a
+Cites db by_essential t a =
+    IsTrue (list_any is_assertion (statement_at db a)) × (d : Trees) × IsProof db t d
+    × IsNodeLabel db by_essential d a
 
--- the cell of a theorem and an axiom is marked: a chain of citations leads from the one to the other
+-- the cell of a theorem and an axiom is marked: a chain of citations leads from the one to the
+-- other
 abbrev pub RestsOn : List Statement → (by_essential : Bool) → ℕ → ℕ → Type 0
 RestsOn db by_essential t a = chain.RestsOn (Cites db by_essential) t a
-
-abbrev pub IsTheorem : List Statement → ℕ → Type 0
-IsTheorem db b = IsTrue (list_any is_theorem (statement_at db b))
-
--- the longest chain of citations from t through theorems alone has so many
-abbrev pub IsWave : List Statement → (by_essential : Bool) → ℕ → ℕ → Type 0
-IsWave db by_essential t n = chain.IsWave (Cites db by_essential) (IsTheorem db) t n

@@ -1,15 +1,19 @@
--- A compressed proof: labels in brackets, and behind them numbers and marks in letters, which white space may break
--- anywhere (Metamath book, Appendix B).
-use Rattle.std.specs.Prelude.{ℕ, zero, suc, ◌+◌, ◌-◌, ◌*◌, Bool, true, false, ◌&&◌, List, [], ◌∷◌, ◌++◌, map, length, Option, Some, None, nat_lt, nat_le, ◌==◌, bytes_eq, flat_map, slice_get, codes, fold}
-use Rattle.mm_spec.specs.Text.{Word, Token, Fault, fault}
+-- A compressed proof: labels in brackets, and after them numbers and marks in letters, which white
+-- space may break anywhere (Metamath book, Appendix B).
+use Rattle.std.specs.Prelude.{ℕ, zero, suc, ◌+◌, ◌-◌, ◌*◌, Bool, true, false, ◌&&◌, List, [], ◌∷◌}
+use Rattle.std.specs.Prelude.{◌++◌, map, length, Option, Some, None, nat_lt, nat_le, ◌==◌, bytes_eq}
+use Rattle.std.specs.Prelude.{flat_map, slice_get, codes, fold}
+use Rattle.mm_spec.specs.Text.{Bytes, Token, Fault, fault}
 use Rattle.mm_spec.specs.Statement.{Statement}
 use Rattle.mm_spec.specs.Lawful.{when, at}
 use Rattle.mm_spec.specs.Frame.{mandatory_hypotheses}
 use Rattle.mm_spec.specs.Steps.{Step, PlacedStep, placed, label, marked}
-use Rattle.mm_spec.specs.NormalProof.{usable, label_faults}
-use Rattle.mm_spec.specs.declared.Code.TheVariants.{EmptyProof, IncompleteProof, OpenBrackets, BadLetter, OpenNumber, MarkBeforeStep, NumberTooLarge}
+use Rattle.mm_spec.specs.NormalProof.{usable, proof_label_faults}
+use Rattle.mm_spec.specs.declared.Code.TheVariants.{EmptyProof, IncompleteProof, OpenBrackets}
+use Rattle.mm_spec.specs.declared.Code.TheVariants.{BadLetter, OpenNumber, MarkBeforeStep}
+use Rattle.mm_spec.specs.declared.Code.TheVariants.{NumberTooLarge}
 
--- a compressed proof: the labels in brackets, and what stands behind them, if they are closed
+-- a compressed proof: the labels in brackets, and what stands after them, if they are closed
 pub record Compressed : Type 0 where
   pub labels : List Token
   pub letters : Option (List Token)
@@ -26,11 +30,11 @@ pub record Letter : Type 0 where
   pub at : ℕ
   pub byte : ℕ
 
-abbrev pub letters_from : ℕ → Word → List Letter
+abbrev pub letters_from : ℕ → Bytes → List Letter
 letters_from at [] = []
 letters_from at (b ∷ bs) = record { at = at; byte = b } ∷ letters_from (at + 1) bs
 
--- A run of letters `U` to `Y` and the letter behind it.
+-- A run of letters `U` to `Y` and the letter after it.
 pub record Group : Type 0 where
   pub early : List Letter
   pub last : Letter
@@ -41,11 +45,13 @@ is_early b = nat_le 85 b && nat_le b 89
 abbrev pub is_last : ℕ → Bool
 is_last b = nat_le 65 b && nat_le b 84
 
--- the groups, behind an open run of early letters, and the run that is left
+-- the groups, after an open run of early letters, and the run that is left
 abbrev pub groups : List Letter → List Letter → List Group × List Letter
 groups early [] = ([], early)
-groups early (x ∷ xs) = elim (is_early x.byte)
-    [ true ↦ groups (early ++ x ∷ []) xs | false ↦ let g = groups [] xs in (record { early = early; last = x } ∷ g.0, g.1) ]
+groups early (x ∷ xs) = elim (is_early x.byte) [
+  | true ↦ groups (early ++ x ∷ []) xs
+  | false ↦ let g = groups [] xs in (record { early = early; last = x } ∷ g.0, g.1)
+]
 
 -- the value of a number: the early letters in bijective base 5, times 20, plus the last
 abbrev pub value : Group → ℕ
@@ -57,31 +63,40 @@ starts_at g = elim g.early [ [] ↦ g.last.at | x ∷ xs ↦ x.at ]
 -- what a number stands for, by the labels that have numbers and the steps that were marked
 abbrev pub step_of : List ℕ → List ℕ → ℕ → List Step
 step_of labels marks zero = []
-step_of labels marks (suc n) = elim (slice_get labels n)
-    [ Some j ↦ label j ∷ [] | None ↦ elim (slice_get marks (n - length labels)) [ Some i ↦ marked i ∷ [] | None ↦ [] ] ]
+step_of labels marks (suc n) = elim (slice_get labels n) [
+  | Some j ↦ label j ∷ []
+  | None ↦ elim (slice_get marks (n - length labels)) [ Some i ↦ marked i ∷ [] | None ↦ [] ]
+]
 
--- the steps of the groups, behind so many steps and marks
+-- the steps of the groups, after so many steps and marks
 abbrev pub group_steps : List ℕ → List ℕ → ℕ → List Group → List PlacedStep
 group_steps labels marks count [] = []
 group_steps labels marks count (g ∷ gs) = elim (is_last g.last.byte) [
-  | true ↦ map (placed (starts_at g)) (step_of labels marks (value g)) ++ group_steps labels marks (count + 1) gs
+  | true ↦ map (placed (starts_at g)) (step_of labels marks (value g))
+      ++ group_steps labels marks (count + 1) gs
   | false ↦ group_steps labels (marks ++ (count - 1) ∷ []) count gs
 ]
 
--- the fault of a group, by how many labels have numbers and how many marks and numbers stand before it
+-- the fault of a group, by how many labels have numbers and how many marks and numbers stand before
+-- it
 abbrev pub group_fault : ℕ → ℕ → ℕ → Group → List Fault
 group_fault labels marks count g = elim (is_last g.last.byte) [
   | true ↦ at (starts_at g) (when (nat_lt (labels + marks) (value g)) NumberTooLarge)
   | false ↦ elim (g.last.byte == 90) [
-    | true ↦ at g.last.at (when (nat_lt 0 (length g.early)) OpenNumber ++ when (count == 0) MarkBeforeStep)
-    | false ↦ at g.last.at (elim (g.last.byte == 63) [ true ↦ IncompleteProof ∷ [] | false ↦ BadLetter ∷ [] ])
+    | true ↦ at g.last.at
+        (when (nat_lt 0 (length g.early)) OpenNumber ++ when (count == 0) MarkBeforeStep)
+    | false ↦ at g.last.at
+        (elim (g.last.byte == 63) [ true ↦ IncompleteProof ∷ [] | false ↦ BadLetter ∷ [] ])
   ]
 ]
 
 abbrev pub group_faults : ℕ → ℕ → ℕ → List Group → List Fault
 group_faults labels marks count [] = []
-group_faults labels marks count (g ∷ gs) = group_fault labels marks count g ++ elim (g.last.byte == 90)
-    [ true ↦ group_faults labels (marks + 1) count gs | false ↦ group_faults labels marks (count + 1) gs ]
+group_faults labels marks count (g ∷ gs) =
+    group_fault labels marks count g ++ elim (g.last.byte == 90) [
+      | true ↦ group_faults labels (marks + 1) count gs
+      | false ↦ group_faults labels marks (count + 1) gs
+    ]
 
 abbrev pub letter_faults : ℕ → ℕ → List Letter → List Fault
 letter_faults labels end [] = fault end EmptyProof ∷ []
@@ -92,13 +107,15 @@ abbrev pub letters_of : List Token → List Letter
 letters_of ts = flat_map (λ t. letters_from t.at t.word) ts
 
 abbrev pub compressed_faults : List Statement → ℕ → ℕ → Compressed → List Fault
-compressed_faults db k end p = flat_map (label_faults db k) p.labels ++ elim p.letters [
+compressed_faults db k end p = flat_map (proof_label_faults db k) p.labels ++ elim p.letters [
   | None ↦ fault end OpenBrackets ∷ []
-  | Some ts ↦ letter_faults (length (mandatory_hypotheses db k) + length p.labels) end (letters_of ts)
+  | Some ts ↦ letter_faults (length (mandatory_hypotheses db k) + length p.labels) end
+      (letters_of ts)
 ]
 
 abbrev pub compressed_steps : List Statement → ℕ → Compressed → List PlacedStep
 compressed_steps db k p = elim p.letters [
   | None ↦ []
-  | Some ts ↦ group_steps (mandatory_hypotheses db k ++ flat_map (λ t. usable db k t.word) p.labels) [] 0 (groups [] (letters_of ts)).0
+  | Some ts ↦ group_steps (mandatory_hypotheses db k ++ flat_map (λ t. usable db k t.word) p.labels)
+      [] 0 (groups [] (letters_of ts)).0
 ]

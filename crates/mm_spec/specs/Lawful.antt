@@ -1,11 +1,18 @@
--- The rules on symbols, labels and scope (Metamath book, section 4.1.3), by the faults of a statement that breaks them
--- (codes, places and their order: this project's own).
-use Rattle.std.specs.Prelude.{◌≡◌, ℕ, Bool, true, false, ◌&&◌, ◌||◌, not, List, [], ◌∷◌, ◌++◌, map, length, Option, Some, None, nat_lt, nat_le, ◌==◌, bytes_eq, slice_get}
+-- The rules on symbols, labels and scope (Metamath book, section 4.1.3), by the faults of a
+-- statement that breaks them (codes, places and their order: this project's own).
+use Rattle.std.specs.Prelude.{◌≡◌, ℕ, Bool, true, false, ◌&&◌, ◌||◌, not, List, [], ◌∷◌, ◌++◌, map}
+use Rattle.std.specs.Prelude.{length, Option, Some, None, nat_lt, nat_le, ◌==◌, bytes_eq, slice_get}
 use Rattle.std.specs.List.{list_any}
-use Rattle.mm_spec.specs.Text.{Word, Token, Fault, fault, is_in}
-use Rattle.mm_spec.specs.Statement.{Statement, constants, variables, disjoint, floating, essential, axiomatic, provable, opening, closing}
+use Rattle.mm_spec.specs.Text.{Bytes, Token, Fault, fault, is_in}
+use Rattle.mm_spec.specs.Statement.{Statement, constants, variables, disjoint, floating, essential}
+use Rattle.mm_spec.specs.Statement.{axiomatic, provable, opening, closing}
 use Rattle.mm_spec.specs.Scope.{Names, names_before, depth}
-use Rattle.mm_spec.specs.declared.Code.TheVariants.{ConstantInBlock, EmptyDeclaration, DeclaredBefore, LabelIsSymbol, LabelUsedBefore, BadTypecode, UndeclaredSymbol, BadFloating, TypedBefore, OtherTypecode, UntypedVariable, TooFewVariables, UndeclaredVariable, RepeatedVariable}
+use Rattle.mm_spec.specs.declared.Code.TheVariants.{ConstantInBlock, EmptyDeclaration}
+use Rattle.mm_spec.specs.declared.Code.TheVariants.{DeclaredBefore, LabelIsSymbol, LabelUsedBefore}
+use Rattle.mm_spec.specs.declared.Code.TheVariants.{BadTypecode, UndeclaredSymbol, BadFloating}
+use Rattle.mm_spec.specs.declared.Code.TheVariants.{TypedBefore, OtherTypecode, UntypedVariable}
+use Rattle.mm_spec.specs.declared.Code.TheVariants.{TooFewVariables, UndeclaredVariable}
+use Rattle.mm_spec.specs.declared.Code.TheVariants.{RepeatedVariable}
 use Rattle.mm_spec.specs.declared.Code.{Code}
 use Rattle.mm_spec.specs.Codes.{code_number}
 
@@ -18,29 +25,37 @@ abbrev pub at : ℕ → List Code → List Fault
 at place codes = map (fault place) codes
 
 -- the codes at each symbol, by the words of the statement before it
-abbrev pub at_each : (List Word → Word → List Code) → List Word → List Token → List Fault
+abbrev pub at_each : (List Bytes → Bytes → List Code) → List Bytes → List Token → List Fault
 at_each codes earlier [] = []
-at_each codes earlier (t ∷ ts) = at t.at (codes earlier t.word) ++ at_each codes (t.word ∷ earlier) ts
+at_each codes earlier (t ∷ ts) =
+    at t.at (codes earlier t.word) ++ at_each codes (t.word ∷ earlier) ts
 
--- the same for a symbol of `$c`, of `$v`, of `$d` and of a formula behind its typecode
+-- the same for a symbol of `$c`, of `$v`, of `$d` and of a formula after its typecode
 module _ (names : Names) where
-  abbrev pub constant_codes : List Word → Word → List Code
+  abbrev pub constant_codes : List Bytes → Bytes → List Code
   constant_codes earlier w =
-      when (is_in w names.constants || is_in w names.all_variables || is_in w earlier) DeclaredBefore ++ when (is_in w names.labels) LabelIsSymbol
+      when (is_in w names.constants || is_in w names.all_variables || is_in w earlier)
+      DeclaredBefore
+      ++ when (is_in w names.labels) LabelIsSymbol
 
-  abbrev pub variable_codes : List Word → Word → List Code
+  abbrev pub variable_codes : List Bytes → Bytes → List Code
   variable_codes earlier w =
-      when (is_in w names.constants || is_in w names.active_variables || is_in w earlier) DeclaredBefore ++ when (is_in w names.labels) LabelIsSymbol
+      when (is_in w names.constants || is_in w names.active_variables || is_in w earlier)
+      DeclaredBefore
+      ++ when (is_in w names.labels) LabelIsSymbol
 
-  abbrev pub disjoint_codes : List Word → Word → List Code
-  disjoint_codes earlier w = when (not (is_in w names.active_variables)) UndeclaredVariable ++ when (is_in w earlier) RepeatedVariable
+  abbrev pub disjoint_codes : List Bytes → Bytes → List Code
+  disjoint_codes earlier w =
+      when (not (is_in w names.active_variables)) UndeclaredVariable
+      ++ when (is_in w earlier) RepeatedVariable
 
-  abbrev pub is_typed : Word → Bool
+  abbrev pub is_typed : Bytes → Bool
   is_typed w = list_any (λ t. bytes_eq w t.variable) names.active_typings
 
-  abbrev pub symbol_codes : List Word → Word → List Code
+  abbrev pub symbol_codes : List Bytes → Bytes → List Code
   symbol_codes earlier w =
-      when (not (is_in w names.constants || is_in w names.active_variables)) UndeclaredSymbol ++ when (is_in w names.active_variables && not (is_typed w)) UntypedVariable
+      when (not (is_in w names.constants || is_in w names.active_variables)) UndeclaredSymbol
+      ++ when (is_in w names.active_variables && not (is_typed w)) UntypedVariable
 
   abbrev pub is_empty : List Token → Bool
   is_empty [] = true
@@ -49,28 +64,38 @@ module _ (names : Names) where
   -- a formula, which ends at a place
   abbrev pub formula_faults : List Token → ℕ → List Fault
   formula_faults [] end = fault end BadTypecode ∷ []
-  formula_faults (t ∷ ts) end = at t.at (when (not (is_in t.word names.constants)) BadTypecode) ++ at_each symbol_codes [] ts
+  formula_faults (t ∷ ts) end =
+      at t.at (when (not (is_in t.word names.constants)) BadTypecode) ++ at_each symbol_codes [] ts
 
   abbrev pub label_faults : Token → List Fault
   label_faults l =
-      at l.at (when (is_in l.word names.constants || is_in l.word names.all_variables) LabelIsSymbol ++ when (is_in l.word names.labels) LabelUsedBefore)
+      at l.at (when (is_in l.word names.constants || is_in l.word names.all_variables) LabelIsSymbol
+      ++ when (is_in l.word names.labels) LabelUsedBefore)
 
   -- whether an earlier `$f` gives the variable another typecode
-  abbrev pub is_typed_otherwise : Word → Word → Bool
-  is_typed_otherwise c v = list_any (λ t. bytes_eq v t.variable && not (bytes_eq c t.typecode)) names.all_typings
+  abbrev pub is_typed_otherwise : Bytes → Bytes → Bool
+  is_typed_otherwise c v =
+      list_any (λ t. bytes_eq v t.variable && not (bytes_eq c t.typecode)) names.all_typings
 
   abbrev pub floating_faults : ℕ → List Token → List Fault
-  floating_faults keyword (c ∷ v ∷ []) = elim (is_in c.word names.constants && is_in v.word names.active_variables) [
-    | true ↦ at v.at (when (is_typed v.word) TypedBefore ++ when (is_typed_otherwise c.word v.word) OtherTypecode)
-    | false ↦ fault keyword BadFloating ∷ []
-  ]
+  floating_faults keyword (c ∷ v ∷ []) =
+      elim (is_in c.word names.constants && is_in v.word names.active_variables) [
+        | true ↦ at v.at
+            (when (is_typed v.word) TypedBefore
+            ++ when (is_typed_otherwise c.word v.word) OtherTypecode)
+        | false ↦ fault keyword BadFloating ∷ []
+      ]
   floating_faults keyword _ = fault keyword BadFloating ∷ []
 
   -- all faults of a statement, by how many blocks are open before it
   abbrev pub scope_faults : ℕ → Statement → List Fault
-  scope_faults deep (constants k xs d) = at k (when (nat_lt 0 deep) ConstantInBlock) ++ at d (when (is_empty xs) EmptyDeclaration) ++ at_each constant_codes [] xs
-  scope_faults deep (variables k xs d) = at d (when (is_empty xs) EmptyDeclaration) ++ at_each variable_codes [] xs
-  scope_faults deep (disjoint k xs d) = at d (when (nat_lt (length xs) 2) TooFewVariables) ++ at_each disjoint_codes [] xs
+  scope_faults deep (constants k xs d) =
+      at k (when (nat_lt 0 deep) ConstantInBlock) ++ at d (when (is_empty xs) EmptyDeclaration)
+      ++ at_each constant_codes [] xs
+  scope_faults deep (variables k xs d) =
+      at d (when (is_empty xs) EmptyDeclaration) ++ at_each variable_codes [] xs
+  scope_faults deep (disjoint k xs d) =
+      at d (when (nat_lt (length xs) 2) TooFewVariables) ++ at_each disjoint_codes [] xs
   scope_faults deep (floating l k xs d) = label_faults l ++ floating_faults k xs
   scope_faults deep (essential l k xs d) = label_faults l ++ formula_faults xs d
   scope_faults deep (axiomatic l k xs d) = label_faults l ++ formula_faults xs d
@@ -80,7 +105,8 @@ module _ (names : Names) where
 
 -- the fault of the lesser place, and at one place that of the lower code
 abbrev pub is_before : Fault → Fault → Bool
-is_before f g = nat_lt f.at g.at || ((f.at == g.at) && nat_le (code_number f.code) (code_number g.code))
+is_before f g =
+    nat_lt f.at g.at || ((f.at == g.at) && nat_le (code_number f.code) (code_number g.code))
 
 abbrev pub lesser : Fault → Option Fault → Option Fault
 lesser f None = Some f
@@ -92,7 +118,9 @@ least (f ∷ fs) = lesser f (least fs)
 
 -- the fault of statement k among the statements, if it is not lawful
 abbrev pub scope_fault : List Statement → ℕ → Option Fault
-scope_fault db k = elim (slice_get db k) [ None ↦ None | Some s ↦ least (scope_faults (names_before db k) (depth db k) s) ]
+scope_fault db k =
+    elim (slice_get db k)
+    [ None ↦ None | Some s ↦ least (scope_faults (names_before db k) (depth db k) s) ]
 
 abbrev pub IsLawful : List Statement → ℕ → Type 0
 IsLawful db k = scope_fault db k ≡ None

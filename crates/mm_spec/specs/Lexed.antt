@@ -1,11 +1,12 @@
--- The tokens of a text (Metamath book, sections 4.1.1 and 4.1.2), and its lexical fault (this project's own).
+-- The tokens of a text (Metamath book, sections 4.1.1 and 4.1.2), and its lexical fault (this
+-- project's own).
 use Rattle.std.specs.Prelude.{ℕ, List, [], length, nat_lt, if◌then◌else◌, Option, Some, None}
 use Rattle.mm_spec.specs.Words.{words_of}
 use Rattle.mm_spec.specs.Readings.{reading}
 use Rattle.mm_spec.specs.declared.Word.{Word}
 use Rattle.mm_spec.specs.declared.Fault.{Fault}
 use Rattle.mm_spec.specs.declared.Code.TheVariants.{TextTooLong, OpenComment}
-use Rattle.mm_spec.specs.declared.TheConstants.{TEXT_LIMIT}
+use Rattle.mm_spec.specs.Limits.{text_limit}
 
 -- a faulty word decides, and else a comment that is open at the end
 abbrev pub fault_in : Option Fault → Option ℕ → Option Fault
@@ -14,8 +15,11 @@ fault_in None (Some at) = Some (record { at = at; code = OpenComment })
 fault_in None None = None
 
 unfoldable pub tokens_of : List ℕ → List Word
-tokens_of text = if nat_lt TEXT_LIMIT (length text) then [] else (reading text None (words_of text)).tokens
+tokens_of text =
+    if nat_lt text_limit (length text) then [] else (reading text None (words_of text)).tokens
 
 unfoldable pub lexical_fault : List ℕ → Option Fault
-lexical_fault text = if nat_lt TEXT_LIMIT (length text) then Some (record { at = 0; code = TextTooLong })
-    else fault_in (reading text None (words_of text)).fault (reading text None (words_of text)).comment
+lexical_fault text =
+    if nat_lt text_limit (length text) then Some (record { at = 0; code = TextTooLong })
+    else fault_in (reading text None (words_of text)).fault
+    (reading text None (words_of text)).comment

@@ -1,4 +1,5 @@
 pub mod Bytes
+pub mod Limits
 pub mod Text
 pub mod Codes
 pub mod Words
@@ -7,7 +8,6 @@ pub mod Readings
 pub mod Lexed
 pub mod Statement
 pub mod Opened
-pub mod Table
 pub mod Scope
 pub mod Lawful
 pub mod Derivation
@@ -23,4 +23,5 @@ pub mod Citation
 pub mod Report
 pub mod Request
 pub mod Output
-pub mod Complete
+pub mod Ends
+pub mod Laws

@@ -1,5 +1,7 @@
--- The nodes of a proof, and the essential ones among them (this project's own, after the words of metamath.exe).
-use Rattle.std.specs.Prelude.{◌≡◌, ℕ, suc, Bool, true, false, ◌||◌, ◌⊎◌, not, List, Some, None, slice_get, IsTrue}
+-- The nodes of a proof, and the essential ones among them (this project's own, after the words of
+-- metamath.exe).
+use Rattle.std.specs.Prelude.{◌≡◌, ℕ, suc, Bool, true, false, ◌||◌, ◌⊎◌, not, List, Some, None}
+use Rattle.std.specs.Prelude.{slice_get, IsTrue}
 use Rattle.std.specs.List.{list_any}
 use Rattle.mm_spec.specs.Statement.{Statement}
 use Rattle.mm_spec.specs.Scope.{statement_at}
@@ -11,23 +13,28 @@ abbrev pub size : Trees → ℕ
 size none = 0
 size (more ts l f cs) = suc (size ts)
 
--- Some node that counts has this label: a root whose place in the row counts, or a node below such a root that counts
--- there. Child n of a node with label l counts if `counts l n`.
+-- Some node that counts has this label: a root whose place in the row counts, or a node below such
+-- a root that counts there. Child n of a node with label l counts if `counts l n`.
 abbrev pub HasNode : (ℕ → ℕ → Bool) → (ℕ → Bool) → Trees → ℕ → Type 0
 HasNode counts place none a = ⊥
-HasNode counts place (more ts l f cs) a = HasNode counts place ts a ⊎ (IsTrue (place (size ts)) × ((a ≡ l) ⊎ HasNode counts (counts l) cs a))
+HasNode counts place (more ts l f cs) a =
+    HasNode counts place ts a
+    ⊎ (IsTrue (place (size ts)) × ((a ≡ l) ⊎ HasNode counts (counts l) cs a))
 
 abbrev pub each_place : ℕ → Bool
 each_place n = true
 
 -- whether mandatory hypothesis n of statement l is a `$e`
 abbrev pub is_essential_place : List Statement → ℕ → ℕ → Bool
-is_essential_place db l n = elim (slice_get (mandatory_hypotheses db l) n) [ None ↦ false | Some j ↦ list_any is_essential (statement_at db j) ]
+is_essential_place db l n =
+    elim (slice_get (mandatory_hypotheses db l) n)
+    [ None ↦ false | Some j ↦ list_any is_essential (statement_at db j) ]
 
 -- which children count: all, or those for a `$e` alone
 abbrev pub child_counts : List Statement → (essential : Bool) → ℕ → ℕ → Bool
 child_counts db essential l n = not essential || is_essential_place db l n
 
--- A node of the tree has this label, or an essential node: the root, or the child of an essential node for a `$e`.
+-- A node of the tree has this label, or an essential node: the root, or the child of an essential
+-- node for a `$e`.
 abbrev pub IsNodeLabel : List Statement → (essential : Bool) → Trees → ℕ → Type 0
 IsNodeLabel db essential d a = HasNode (child_counts db essential) each_place d a

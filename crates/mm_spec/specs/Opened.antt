@@ -1,5 +1,6 @@
--- Open theorems, and statements in which they count as axioms (this project's own). In the Metamath book a `?` in a proof
--- stands for steps that aren't known yet; an open theorem is one whose whole proof is that.
+-- Open theorems, and statements in which they count as axioms (this project's own). In the Metamath
+-- book a `?` in a proof stands for steps that aren't known yet; an open theorem is one whose whole
+-- proof is that.
 use Rattle.std.specs.Prelude.{Bool, true, false, ◌&&◌, List, [], ◌∷◌, map, bytes_eq, codes}
 use Rattle.mm_spec.specs.Text.{Token}
 use Rattle.mm_spec.specs.Statement.{Statement, axiomatic, provable}
@@ -7,7 +8,8 @@ use Rattle.mm_spec.specs.Statement.{Statement, axiomatic, provable}
 -- the words of a proof of which nothing is known: `?`, or as a compressed proof `( ) ?`
 abbrev pub is_open_proof : List Token → Bool
 is_open_proof (t ∷ []) = bytes_eq t.word (codes "?")
-is_open_proof (t ∷ u ∷ v ∷ []) = bytes_eq t.word (codes "(") && bytes_eq u.word (codes ")") && bytes_eq v.word (codes "?")
+is_open_proof (t ∷ u ∷ v ∷ []) =
+    bytes_eq t.word (codes "(") && bytes_eq u.word (codes ")") && bytes_eq v.word (codes "?")
 is_open_proof _ = false
 
 abbrev pub is_open : Statement → Bool
@@ -16,10 +18,12 @@ is_open _ = false
 
 -- an open theorem as the `$a` with its label, symbols and end; any other statement as it is
 abbrev pub as_axiom : Statement → Statement
-as_axiom (provable l k xs e ps d) = elim (is_open_proof ps) [ true ↦ axiomatic l k xs d | false ↦ provable l k xs e ps d ]
+as_axiom (provable l k xs e ps d) =
+    elim (is_open_proof ps) [ true ↦ axiomatic l k xs d | false ↦ provable l k xs e ps d ]
 as_axiom s = s
 
--- the statements as they count: with the flag open theorems count as axioms, and without it each as what it is
+-- the statements as they count: with the flag open theorems count as axioms, and without it each as
+-- what it is
 abbrev pub counted : (with_open : Bool) → List Statement → List Statement
 counted true db = map as_axiom db
 counted false db = db

@@ -1,16 +1,20 @@
 -- The first fault of a text, and what is written (this project's own).
-use Rattle.std.specs.Prelude.{◌≢◌, ◌++◌, ◌≡◌, ℕ, ◌<◌, Bool, true, false, List, [], ◌∷◌, length, map, Option, Some, None, slice_get, flat_map, ◌⊎◌, IsTrue, Decides, bytes_eq, count_by, if◌then◌else◌}
-use Rattle.std.specs.List.{list_any, range_with_len, AllZip}
-use Rattle.mm_spec.specs.Text.{Word, Token, token, Fault}
+use Rattle.std.specs.Prelude.{◌≢◌, ◌++◌, ◌≡◌, ℕ, ◌<◌, Bool, true, false, List, [], ◌∷◌, length, map}
+use Rattle.std.specs.Prelude.{Option, Some, None, slice_get, flat_map, ◌⊎◌, IsTrue, Decides}
+use Rattle.std.specs.Prelude.{bytes_eq, count_by, if◌then◌else◌}
+use Rattle.std.specs.List.{list_any, range_with_len, AllZip, filter}
+use Rattle.mm_spec.specs.Text.{Bytes, Token, token, Fault}
 use Rattle.mm_spec.specs.Readings.{bytes_of}
 use Rattle.mm_spec.specs.Lexed.{tokens_of, lexical_fault}
-use Rattle.mm_spec.specs.Statement.{Statement, axiomatic, provable, IsLongestRow, ShapeFault, EndFault, symbols_of}
+use Rattle.mm_spec.specs.Statement.{Statement, axiomatic, provable, IsLongestRow, ShapeFault}
+use Rattle.mm_spec.specs.Statement.{FileEndFault, symbols_of}
 use Rattle.mm_spec.specs.Opened.{is_open, counted}
-use Rattle.mm_spec.specs.Scope.{those, statement_at, label_words}
-use Rattle.mm_spec.specs.Lawful.{least, scope_fault}
+use Rattle.mm_spec.specs.Scope.{statement_at, label_words}
+use Rattle.mm_spec.specs.Lawful.{least, scope_fault, IsLawful}
 use Rattle.mm_spec.specs.Frame.{formula_at}
 use Rattle.mm_spec.specs.Valid as proof
-use Rattle.mm_spec.specs.Citation.{context_at, steps_at, reading_faults_at, is_theorem, IsValid, Cites, RestsOn}
+use Rattle.mm_spec.specs.Citation.{context_at, steps_at, reading_faults_at, is_theorem, IsValid}
+use Rattle.mm_spec.specs.Citation.{Cites, RestsOn}
 use Rattle.mm_spec.specs.Report.{Row, CitingRow, report, citation_report, refusal}
 use Rattle.mm_spec.specs.Request.{Request}
 use Rattle.mm_spec.specs.Derivation.{is_member}
@@ -19,37 +23,44 @@ use Rattle.mm_spec.specs.declared.Choice.{Choice}
 use Rattle.mm_spec.specs.declared.Choice.TheVariants.{Citations}
 
 -- the words of a text up to its first faulty word, as tokens, and that fault
-pub record Lexed : Type 0 where
+pub record LexedText : Type 0 where
   pub tokens : List Token
   pub fault : Option Fault
 
 -- a fault of bytes, words or shape
 abbrev pub WordOrEnd : ℕ → List Token → Option Fault → Fault → Type 0
 WordOrEnd len ts (Some g) f = f ≡ g
-WordOrEnd len ts None f = EndFault len ts f
+WordOrEnd len ts None f = FileEndFault len ts f
 
-abbrev pub TextFault : ℕ → Lexed → Fault → Type 0
-TextFault len x f = ShapeFault x.tokens f ⊎ ((¬ ((g : Fault) × ShapeFault x.tokens g)) × WordOrEnd len x.tokens x.fault f)
+abbrev pub TextFault : ℕ → LexedText → Fault → Type 0
+TextFault len x f =
+    ShapeFault x.tokens f
+    ⊎ ((¬ ((g : Fault) × ShapeFault x.tokens g)) × WordOrEnd len x.tokens x.fault f)
 
--- what stops the reading behind the lawful statements
-abbrev pub Stops : ℕ → Lexed → List Statement → List Statement → List Statement → Option Fault → Type 0
+-- what stops the reading after the lawful statements
+abbrev pub Stops : ℕ → LexedText → List Statement → List Statement → List Statement → Option Fault
+    → Type 0
 Stops len x row db (s ∷ rest) fault = (fault ≢ None) × (scope_fault row (length db) ≡ fault)
 Stops len x row db [] None = (f : Fault) → ¬ TextFault len x f
 Stops len x row db [] (Some f) = TextFault len x f
 
--- What reading gives: the statements up to the first that is no whole and lawful one, and what is wrong there, if the text goes on or ends within one.
-pub record IsRead (len : ℕ) (x : Lexed) (db : List Statement) (fault : Option Fault) : Type 0 where
+-- What reading gives: the statements up to the first malformed or unlawful one, and what is
+-- wrong there, if the text goes on or ends within one.
+pub record IsRead (len : ℕ) (x : LexedText) (db : List Statement)
+    (fault : Option Fault) : Type 0 where
   pub row : List Statement
   pub is_row : IsLongestRow x.tokens row
   pub rest : List Statement
   pub splits : row ≡ db ++ rest
-  pub lawful : (k : ℕ) → k < length db → scope_fault row k ≡ None
+  pub lawful : (k : ℕ) → k < length db → IsLawful row k
   pub stops : Stops len x row db rest fault
 
 -- the fault of theorem k's proof, which ends at a place
 abbrev pub ProofFault : List Statement → ℕ → ℕ → Fault → Type 0
 ProofFault db k end f = (least (reading_faults_at db k) ≡ Some f)
-    ⊎ ((reading_faults_at db k ≡ []) × (proof.StepFault (context_at db k) (steps_at db k) f ⊎ proof.EndFault (context_at db k) (steps_at db k) (formula_at db k) end f))
+    ⊎ ((reading_faults_at db k ≡ [])
+    × (proof.StepFault (context_at db k) (steps_at db k) f
+    ⊎ proof.ProofEndFault (context_at db k) (steps_at db k) (formula_at db k) end f))
 
 abbrev pub end_of : Option Statement → ℕ
 end_of (Some (provable l p xs e ps d)) = d
@@ -68,64 +79,95 @@ AllAreValid db = AreValid db (length db)
 
 -- the first theorem whose proof has a fault, and that fault
 abbrev pub FirstProofFault : List Statement → ℕ → Fault → Type 0
-FirstProofFault db k f = IsTrue (is_theorem_at db k) × AreValid db k × ProofFault db k (end_of (slice_get db k)) f
+FirstProofFault db k f =
+    IsTrue (is_theorem_at db k) × AreValid db k × ProofFault db k (end_of (slice_get db k)) f
 
--- The first faulty statement decides: a theorem that was read, or else what stopped the reading. With the flag open theorems
--- count as axioms, so they have no proof that could be faulty.
-abbrev pub FirstFault : ℕ → Lexed → (with_open : Bool) → Fault → Type 0
-FirstFault len x with_open f = (db : List Statement) × (fault : Option Fault) × IsRead len x db fault
-    × (((k : ℕ) × FirstProofFault (counted with_open db) k f) ⊎ (AllAreValid (counted with_open db) × (fault ≡ Some f)))
+-- The first faulty statement decides: a theorem that was read, or else what stopped the reading.
+-- With the flag open theorems count as axioms, so they have no proof that could be faulty.
+abbrev pub FirstFault : ℕ → LexedText → (with_open : Bool) → Fault → Type 0
+FirstFault len x with_open f =
+    (db : List Statement) × (fault : Option Fault) × IsRead len x db fault
+    × (((k : ℕ) × FirstProofFault (counted with_open db) k f)
+    ⊎ (AllAreValid (counted with_open db) × (fault ≡ Some f)))
 
 -- what is sound from its first byte to its last
-abbrev pub HasNoFault : ℕ → Lexed → (with_open : Bool) → List Statement → Type 0
+abbrev pub HasNoFault : ℕ → LexedText → (with_open : Bool) → List Statement → Type 0
 HasNoFault len x with_open db = IsRead len x db None × AllAreValid (counted with_open db)
 
 -- the numbers of the theorems, and of the axioms with a typecode, if one is chosen
 abbrev pub theorems : List Statement → List ℕ
-theorems db = those (λ j. list_any is_theorem (statement_at db j)) (range_with_len 0 (length db))
+theorems db = filter (λ j. list_any is_theorem (statement_at db j)) (range_with_len 0 (length db))
 
-abbrev pub has_typecode : Option Word → Statement → Bool
+abbrev pub has_typecode : Option Bytes → Statement → Bool
 has_typecode None s = true
 has_typecode (Some w) s = elim (symbols_of s) [ [] ↦ false | t ∷ ts ↦ bytes_eq t.word w ]
 
-abbrev pub is_column : Option Word → Statement → Bool
+abbrev pub is_column : Option Bytes → Statement → Bool
 is_column only (axiomatic l k xs d) = has_typecode only (axiomatic l k xs d)
 is_column only _ = false
 
-abbrev pub columns : List Statement → Option Word → List ℕ
-columns db only = those (λ j. list_any (is_column only) (statement_at db j)) (range_with_len 0 (length db))
+abbrev pub columns : List Statement → Option Bytes → List ℕ
+columns db only =
+    filter (λ j. list_any (is_column only) (statement_at db j)) (range_with_len 0 (length db))
 
-abbrev pub label_at : List Statement → ℕ → Word
+abbrev pub label_at : List Statement → ℕ → Bytes
 label_at db j = flat_map (λ w. w) (flat_map label_words (statement_at db j))
 
 -- a row is that of a theorem: its label, and a mark where it rests on the column's axiom
 abbrev pub IsRowOf : List Statement → Request → ℕ → Row → Type 0
-IsRowOf db request t r = (r.label ≡ label_at db t) × AllZip (λ a mark. Decides mark (RestsOn db request.essential t a)) (columns db request.only) r.marks
+IsRowOf db request t r =
+    (r.label ≡ label_at db t)
+    × AllZip (λ a mark. Decides mark (RestsOn db request.essential t a))
+    (columns db request.only) r.marks
 
--- the assertions of this list are those that the theorem cites, with the typecode if one is chosen, in file order
+-- the assertions of this list are those that the theorem cites, with the typecode if one is chosen,
+-- in file order
 pub record AreCited (db : List Statement) (request : Request) (t : ℕ) (list : List ℕ) : Type 0 where
   pub rising : IsStrictlyIncreasing list
-  pub cited : (a : ℕ) → Decides (is_member list a) (Cites db request.essential t a × IsTrue (list_any (has_typecode request.only) (statement_at db a)))
+  pub cited : (a : ℕ)
+      → Decides (is_member list a)
+      (Cites db request.essential t a
+      × IsTrue (list_any (has_typecode request.only) (statement_at db a)))
 
 -- a row of citations is that of a theorem: its label, and the labels of what it cites
 abbrev pub IsCitingRowOf : List Statement → Request → ℕ → CitingRow → Type 0
-IsCitingRowOf db request t r = (r.label ≡ label_at db t) × ((list : List ℕ) × AreCited db request t list × (r.cited ≡ map (label_at db) list))
+IsCitingRowOf db request t r =
+    (r.label ≡ label_at db t)
+    × ((list : List ℕ) × AreCited db request t list × (r.cited ≡ map (label_at db) list))
 
 -- how many columns are open theorems, if these count as axioms
 abbrev pub open_columns : List Statement → Request → Option ℕ
-open_columns db request = if request.with_open then Some (count_by (λ a. list_any is_open (statement_at db a)) (columns (counted true db) request.only)) else None
+open_columns db request =
+    if request.with_open then Some
+    (count_by (λ a. list_any is_open (statement_at db a)) (columns (counted true db) request.only))
+    else None
 
--- the report of a database in which so many columns are open theorems: of what its theorems cite, or of what they rest on
-abbrev pub IsReportOf : Choice → List Statement → (open_theorems : Option ℕ) → Request → List ℕ → Type 0
-IsReportOf Citations db open_theorems request bytes = (rows : List CitingRow) × AllZip (IsCitingRowOf db request) (theorems db) rows × (bytes ≡ citation_report request.form open_theorems (length (columns db request.only)) rows)
-IsReportOf choice db open_theorems request bytes = (rows : List Row) × AllZip (IsRowOf db request) (theorems db) rows × (bytes ≡ report request.form open_theorems (map (label_at db) (columns db request.only)) rows choice)
+-- the report of a database in which so many columns are open theorems: of what its theorems cite,
+-- or of what they rest on
+abbrev pub IsReportOf : Choice → List Statement → (open_theorems : Option ℕ) → Request → List ℕ
+    → Type 0
+IsReportOf Citations db open_theorems request bytes =
+    (rows : List CitingRow) × AllZip (IsCitingRowOf db request) (theorems db) rows
+    × (bytes ≡ citation_report request.form open_theorems (length (columns db request.only)) rows)
+IsReportOf choice db open_theorems request bytes =
+    (rows : List Row) × AllZip (IsRowOf db request) (theorems db) rows
+    × (bytes
+    ≡ report request.form open_theorems (map (label_at db) (columns db request.only)) rows choice)
 
 -- the words of a text up to its first faulty one, with that fault
-abbrev pub lexed_of : List ℕ → Lexed
-lexed_of text = record { tokens = map (λ w. token w.start (bytes_of text w)) (tokens_of text); fault = lexical_fault text }
+abbrev pub lexed_of : List ℕ → LexedText
+lexed_of text =
+    record {
+      tokens = map (λ w. token w.start (bytes_of text w))
+          (tokens_of text);
+      fault = lexical_fault text;
+    }
 
 -- what is written for a text
 abbrev pub IsOutput : List ℕ → Request → List ℕ → Type 0
 IsOutput text request bytes =
-    ((f : Fault) × FirstFault (length text) (lexed_of text) request.with_open f × (bytes ≡ refusal text f))
-    ⊎ ((db : List Statement) × HasNoFault (length text) (lexed_of text) request.with_open db × IsReportOf request.choice (counted request.with_open db) (open_columns db request) request bytes)
+    ((f : Fault) × FirstFault (length text) (lexed_of text) request.with_open f
+    × (bytes ≡ refusal text f))
+    ⊎ ((db : List Statement) × HasNoFault (length text) (lexed_of text) request.with_open db
+    × IsReportOf request.choice (counted request.with_open db)
+    (open_columns db request) request bytes)

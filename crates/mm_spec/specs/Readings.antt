@@ -9,8 +9,8 @@ use Rattle.mm_spec.specs.declared.Role.TheVariants.{Token, Opening, Closing, Com
 abbrev pub bytes_of : List ℕ → Word → List ℕ
 bytes_of text w = slice_range text w.start w.end
 
--- What a row of words gives: the tokens before its faulty word, the fault of that, or all tokens; and the
--- place of the comment that is open there.
+-- What a row of words gives: the tokens before its faulty word, the fault of that, or all tokens;
+-- and the place of the comment that is open there.
 pub record Reading : Type 0 where
   pub tokens : List Word
   pub fault : Option Fault
@@ -27,13 +27,9 @@ reading text comment (w ∷ ws) = elim (role_of (is_some comment) (bytes_of text
   | Opening ↦ reading text (Some w.start) ws
   | Closing ↦ reading text None ws
   | Comment ↦ reading text comment ws
-  | Faulty ↦ record { tokens = []; fault = Some (fault_of (is_some comment) w.start (bytes_of text w)); comment = comment }
+  | Faulty ↦ record {
+    tokens = [];
+    fault = Some (fault_of (is_some comment) w.start (bytes_of text w));
+    comment = comment;
+  }
 ]
-
--- no words yet, where this comment is open, or none
-abbrev pub start : Option ℕ → Reading
-start comment = record { tokens = []; fault = None; comment = comment }
-
--- a reading goes on with further words, where it has no fault
-abbrev pub go_on : List ℕ → Reading → List Word → Reading
-go_on text r ws = elim r.fault [ None ↦ with_tokens r.tokens (reading text r.comment ws) | Some f ↦ r ]

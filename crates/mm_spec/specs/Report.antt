@@ -1,9 +1,10 @@
 -- The texts of a report and of a refusal (this project's own).
-use Rattle.std.specs.Prelude.{ℕ, zero, suc, ◌+◌, ◌*◌, Bool, true, false, List, [], ◌∷◌, ◌++◌, length, map, take, flat_map, codes, decimal, count_by, ◌==◌, if◌then◌else◌, nat_lt, Option, Some, None}
+use Rattle.std.specs.Prelude.{ℕ, zero, suc, ◌+◌, ◌*◌, Bool, true, false, List, [], ◌∷◌, ◌++◌}
+use Rattle.std.specs.Prelude.{length, map, take, flat_map, codes, decimal, count_by, ◌==◌}
+use Rattle.std.specs.Prelude.{if◌then◌else◌, nat_lt, Option, Some, None}
 use Rattle.std.specs.Int.{div_ceil}
-use Rattle.std.specs.List.{range_with_len}
-use Rattle.mm_spec.specs.Text.{Word, Fault}
-use Rattle.mm_spec.specs.Scope.{those}
+use Rattle.std.specs.List.{range_with_len, filter}
+use Rattle.mm_spec.specs.Text.{Bytes, Fault}
 use Rattle.mm_spec.specs.Codes.{code_number}
 use Rattle.mm_spec.specs.declared.Form.{Form}
 use Rattle.mm_spec.specs.declared.Form.TheVariants.{One, Two}
@@ -12,13 +13,13 @@ use Rattle.mm_spec.specs.declared.Choice.TheVariants.{All, Matrix, Counts, Usage
 
 -- a theorem: its label, and for each column whether it is marked
 pub record Row : Type 0 where
-  pub label : Word
+  pub label : Bytes
   pub marks : List Bool
 
 -- a theorem: its label, and the labels of what its proof cites
 pub record CitingRow : Type 0 where
-  pub label : Word
-  pub cited : List Word
+  pub label : Bytes
+  pub cited : List Bytes
 
 abbrev pub line : List ℕ → List ℕ
 line text = text ++ 10 ∷ []
@@ -42,7 +43,9 @@ bit_of false = 0
 
 -- the number of columns 4i to 4i + 3, the first of them as the highest bit
 abbrev pub digit_at : ℕ → List Bool → ℕ
-digit_at i marks = 8 * bit_of (mark_at (4 * i) marks) + 4 * bit_of (mark_at (4 * i + 1) marks) + 2 * bit_of (mark_at (4 * i + 2) marks) + bit_of (mark_at (4 * i + 3) marks)
+digit_at i marks =
+    8 * bit_of (mark_at (4 * i) marks) + 4 * bit_of (mark_at (4 * i + 1) marks)
+    + 2 * bit_of (mark_at (4 * i + 2) marks) + bit_of (mark_at (4 * i + 3) marks)
 
 -- `0` to `9`, `a` to `f`
 abbrev pub hex_digit : ℕ → ℕ
@@ -51,7 +54,8 @@ hex_digit n = if nat_lt n 10 then 48 + n else 87 + n
 -- how the cells of a row are written
 abbrev pub cells : Form → List Bool → List ℕ
 cells One marks = map digit_of marks
-cells Two marks = map (λ i. hex_digit (digit_at i marks)) (range_with_len 0 (div_ceil (length marks) 4))
+cells Two marks =
+    map (λ i. hex_digit (digit_at i marks)) (range_with_len 0 (div_ceil (length marks) 4))
 
 abbrev pub matrix_line : Form → Row → List ℕ
 matrix_line form r = line (r.label ++ 58 ∷ cells form r.marks)
@@ -60,19 +64,19 @@ abbrev pub count_line : Row → List ℕ
 count_line r = line (r.label ++ 58 ∷ decimal (count_by (λ b. b) r.marks))
 
 abbrev pub users : ℕ → List Row → List Row
-users column rows = those (λ r. mark_at column r.marks) rows
+users column rows = filter (λ r. mark_at column r.marks) rows
 
 -- the labels, with spaces between them
-abbrev pub joined : List Word → List ℕ
+abbrev pub joined : List Bytes → List ℕ
 joined [] = []
 joined (l ∷ []) = l
 joined (l ∷ m ∷ ls) = l ++ 32 ∷ joined (m ∷ ls)
 
 -- a label, and how many labels follow, and these
-abbrev pub list_line : Word → List Word → List ℕ
+abbrev pub list_line : Bytes → List Bytes → List ℕ
 list_line label labels = line (label ++ 58 ∷ (decimal (length labels) ++ 58 ∷ joined labels))
 
-abbrev pub usage_line : List Row → ℕ → Word → List ℕ
+abbrev pub usage_line : List Row → ℕ → Bytes → List ℕ
 usage_line rows column label = list_line label (map (λ r. r.label) (users column rows))
 
 abbrev pub citation_line : CitingRow → List ℕ
@@ -90,7 +94,7 @@ abbrev pub section : Bool → List ℕ → List ℕ → List ℕ
 section true name lines = line name ++ lines
 section false name lines = []
 
-abbrev pub usage_lines : List Row → ℕ → List Word → List ℕ
+abbrev pub usage_lines : List Row → ℕ → List Bytes → List ℕ
 usage_lines rows column [] = []
 usage_lines rows column (l ∷ ls) = usage_line rows column l ++ usage_lines rows (column + 1) ls
 
@@ -103,14 +107,15 @@ abbrev pub open_line : Option ℕ → List ℕ
 open_line None = []
 open_line (Some n) = heading (codes "open") n
 
--- the first lines: the version, how many columns there are, how many of them are open theorems if these count as axioms,
--- and how many theorems there are
+-- the first lines: the version, how many columns there are, how many of them are open theorems if
+-- these count as axioms, and how many theorems there are
 abbrev pub head : Form → ℕ → Option ℕ → ℕ → List ℕ
 head form axioms open_theorems theorems =
-    heading (codes "mmdepend") (version form) ++ heading (codes "axioms") axioms ++ open_line open_theorems ++ heading (codes "theorems") theorems
+    heading (codes "mmdepend") (version form) ++ heading (codes "axioms") axioms
+    ++ open_line open_theorems ++ heading (codes "theorems") theorems
 
 -- the report on columns with these labels and on these rows
-abbrev pub report : Form → Option ℕ → List Word → List Row → Choice → List ℕ
+abbrev pub report : Form → Option ℕ → List Bytes → List Row → Choice → List ℕ
 report form open_theorems columns rows choice =
     head form (length columns) open_theorems (length rows)
     ++ section (has choice Matrix) (codes "matrix") (flat_map (matrix_line form) rows)
@@ -121,9 +126,10 @@ report form open_theorems columns rows choice =
 -- the report of citations, where there are so many columns
 abbrev pub citation_report : Form → Option ℕ → ℕ → List CitingRow → List ℕ
 citation_report form open_theorems axioms rows =
-    head form axioms open_theorems (length rows) ++ section true (codes "citations") (flat_map citation_line rows) ++ line (codes "end")
+    head form axioms open_theorems (length rows)
+    ++ section true (codes "citations") (flat_map citation_line rows) ++ line (codes "end")
 
--- how many bytes stand behind the last line feed
+-- how many bytes stand after the last line feed
 abbrev pub behind_from : ℕ → List ℕ → ℕ
 behind_from n [] = n
 behind_from n (b ∷ bs) = behind_from (if b == 10 then 0 else n + 1) bs
@@ -137,4 +143,5 @@ two_digits n = if length (decimal n) == 1 then 48 ∷ decimal n else decimal n
 -- the refusal of a text for a fault
 abbrev pub refusal : List ℕ → Fault → List ℕ
 refusal text f = let before = take f.at text in
-    line (codes "refused " ++ decimal (count_by (λ b. b == 10) before + 1) ++ 58 ∷ (decimal (behind_last before + 1) ++ codes " E" ++ two_digits (code_number f.code)))
+    line (codes "refused " ++ decimal (count_by (λ b. b == 10) before + 1)
+    ++ 58 ∷ (decimal (behind_last before + 1) ++ codes " E" ++ two_digits (code_number f.code)))

@@ -1,12 +1,12 @@
 -- What a report is asked for (this project's own).
 use Rattle.std.specs.Prelude.{Bool, Option}
-use Rattle.mm_spec.specs.Text.{Word}
+use Rattle.mm_spec.specs.Text.{Bytes}
 use Rattle.mm_spec.specs.declared.Choice.{Choice}
 use Rattle.mm_spec.specs.declared.Form.{Form}
 
 pub record Request : Type 0 where
   -- the typecode of the axioms that are columns, if one is chosen
-  pub only : Option Word
+  pub only : Option Bytes
   -- the sections
   pub choice : Choice
   -- how the matrix is written

@@ -1,5 +1,7 @@
--- What a word is, by its bytes: outside comments, and inside one (Metamath book, sections 4.1.1 and 4.1.2).
-use Rattle.std.specs.Prelude.{ℕ, ◌+◌, ◌==◌, ◌||◌, ◌&&◌, Bool, true, false, not, List, [], ◌∷◌, length, slice_index, if◌then◌else◌, Some, None, codes}
+-- What a word is, by its bytes: outside comments, and inside one (Metamath book, sections 4.1.1 and
+-- 4.1.2).
+use Rattle.std.specs.Prelude.{ℕ, ◌+◌, ◌==◌, ◌||◌, ◌&&◌, Bool, true, false, not, List, [], ◌∷◌}
+use Rattle.std.specs.Prelude.{length, slice_index, if◌then◌else◌, Some, None, codes}
 use Rattle.std.specs.List.{list_all, list_any, position}
 use Rattle.mm_spec.specs.Bytes.{is_printable}
 use Rattle.mm_spec.specs.Text.{has_dollar}
@@ -48,8 +50,10 @@ is_comment_word word = is_clean word && not (has_mark word)
 
 -- what a word is, inside a comment or outside
 unfoldable pub role_of : Bool → List ℕ → Role
-role_of false word = if is_token word then Token else (if opens_comment word then Opening else Faulty)
-role_of true word = if closes_comment word then Closing else (if is_comment_word word then Comment else Faulty)
+role_of false word =
+    if is_token word then Token else (if opens_comment word then Opening else Faulty)
+role_of true word =
+    if closes_comment word then Closing else (if is_comment_word word then Comment else Faulty)
 
 -- the fault of a faulty word that begins at the place: its first bad byte where it has one
 unfoldable pub fault_of : Bool → ℕ → List ℕ → Fault

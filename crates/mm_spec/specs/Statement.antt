@@ -1,9 +1,12 @@
--- Statements and their spelling (Metamath book, section 4.1.3). What is no front of a row of statements, and the faults
--- of a text's shape, are this project's own.
-use Rattle.std.specs.Prelude.{◌≡◌, ℕ, ◌≤◌, ◌<◌, ◌≢◌, Bool, true, false, ◌&&◌, not, List, [], ◌∷◌, ◌++◌, take, Option, Some, None, codes, count_by, flat_map, ◌⊎◌, bytes_eq, if◌then◌else◌, IsTrue, ◌||◌}
+-- Statements and their spelling (Metamath book, section 4.1.3). What is no front of a row of
+-- statements, and the faults of a text's shape, are this project's own.
+use Rattle.std.specs.Prelude.{◌≡◌, ℕ, ◌≤◌, ◌<◌, ◌≢◌, Bool, true, false, ◌&&◌, not, List, [], ◌∷◌}
+use Rattle.std.specs.Prelude.{◌++◌, take, Option, Some, None, codes, count_by, flat_map, ◌⊎◌}
+use Rattle.std.specs.Prelude.{bytes_eq, if◌then◌else◌, IsTrue, ◌||◌}
 use Rattle.std.specs.List.{list_all}
-use Rattle.mm_spec.specs.Text.{Word, Token, token, Fault, fault, has_dollar, is_label}
-use Rattle.mm_spec.specs.declared.Code.TheVariants.{Inclusion, BadLabel, UnexpectedToken, OpenStatement, UnopenedBlock, OpenBlock}
+use Rattle.mm_spec.specs.Text.{Bytes, Token, token, Fault, fault, has_dollar, is_label}
+use Rattle.mm_spec.specs.declared.Code.TheVariants.{Inclusion, BadLabel, UnexpectedToken}
+use Rattle.mm_spec.specs.declared.Code.TheVariants.{OpenStatement, UnopenedBlock, OpenBlock}
 use Rattle.mm_spec.specs.declared.Code.{Code}
 
 -- The nine shapes. A number is the place of a keyword.
@@ -14,7 +17,9 @@ pub data Statement : Type 0 where
   floating : (label : Token) (keyword : ℕ) (symbols : List Token) (dot : ℕ) → Statement
   essential : (label : Token) (keyword : ℕ) (symbols : List Token) (dot : ℕ) → Statement
   axiomatic : (label : Token) (keyword : ℕ) (symbols : List Token) (dot : ℕ) → Statement
-  provable : (label : Token) (keyword : ℕ) (symbols : List Token) (equals : ℕ) (proof : List Token) (dot : ℕ) → Statement
+  provable : (label : Token) (keyword : ℕ) (symbols : List Token) (equals : ℕ) (proof : List Token)
+      → (dot : ℕ)
+      → Statement
   opening : (at : ℕ) → Statement
   closing : (at : ℕ) → Statement
 
@@ -79,18 +84,23 @@ pub record IsRow (row : List Statement) : Type 0 where
 
 -- some row begins with the tokens
 abbrev pub Begins : List Token → Type 0
-Begins ts = (row : List Statement) × IsRow row × (more : List Token) × (flat_map spelled row ≡ ts ++ more)
+Begins ts =
+    (row : List Statement) × IsRow row × (more : List Token) × (flat_map spelled row ≡ ts ++ more)
 
 -- the tokens are a row, so that the next one begins a statement
 abbrev pub IsBetween : List Token → Type 0
 IsBetween ts = (row : List Statement) × IsRow row × (flat_map spelled row ≡ ts)
 
 -- what a token is that no row goes on with: where a statement begins, and within one
-abbrev pub first_code : Word → Code
-first_code w = if bytes_eq w (codes "$}") then UnopenedBlock else if has_dollar w then UnexpectedToken else BadLabel
+abbrev pub first_code : Bytes → Code
+first_code w =
+    if bytes_eq w
+    (codes "$}") then UnopenedBlock else if has_dollar w then UnexpectedToken else BadLabel
 
-abbrev pub shape_code : Bool → Word → Code
-shape_code between w = if bytes_eq w (codes "$[") || bytes_eq w (codes "$]") then Inclusion else if between then first_code w else UnexpectedToken
+abbrev pub shape_code : Bool → Bytes → Code
+shape_code between w =
+    if bytes_eq w (codes "$[")
+    || bytes_eq w (codes "$]") then Inclusion else if between then first_code w else UnexpectedToken
 
 -- the first token such that no row begins with the tokens up to it
 pub record ShapeFault (tokens : List Token) (f : Fault) : Type 0 where
@@ -100,17 +110,22 @@ pub record ShapeFault (tokens : List Token) (f : Fault) : Type 0 where
   pub splits : tokens ≡ before ++ first ∷ after
   pub begins : Begins before
   pub no_more : ¬ Begins (before ++ first ∷ [])
-  pub code : (IsBetween before × (f ≡ fault first.at (shape_code true first.word))) ⊎ ((¬ IsBetween before) × (f ≡ fault first.at (shape_code false first.word)))
+  pub code : (IsBetween before × (f ≡ fault first.at (shape_code true first.word)))
+      ⊎ ((¬ IsBetween before) × (f ≡ fault first.at (shape_code false first.word)))
 
 -- the longest row at the beginning of the tokens
 pub record IsLongestRow (tokens : List Token) (row : List Statement) : Type 0 where
   pub is_row : IsRow row
   pub rest : List Token
   pub splits : tokens ≡ flat_map spelled row ++ rest
-  pub longest : (s : Statement) (more : List Token) → IsRow (row ++ s ∷ []) → ¬ (rest ≡ spelled s ++ more)
+  pub longest : (s : Statement) (more : List Token) → IsRow (row ++ s ∷ [])
+      → ¬ (rest ≡ spelled s ++ more)
 
--- The fault at the end of a text of so many bytes that has no other fault of its shape: part of a statement is left, or a block is open.
-pub record EndFault (len : ℕ) (tokens : List Token) (f : Fault) : Type 0 where
+-- The fault at the end of a text of so many bytes that has no other fault of its shape: part of a
+-- statement is left, or a block is open.
+pub record FileEndFault (len : ℕ) (tokens : List Token) (f : Fault) : Type 0 where
   pub row : List Statement
   pub is_row : IsLongestRow tokens row
-  pub code : ((is_row.rest ≢ []) × (f ≡ fault len OpenStatement)) ⊎ ((is_row.rest ≡ []) × (count_by is_closing row < count_by is_opening row) × (f ≡ fault len OpenBlock))
+  pub code : ((is_row.rest ≢ []) × (f ≡ fault len OpenStatement))
+      ⊎ ((is_row.rest ≡ []) × (count_by is_closing row < count_by is_opening row)
+      × (f ≡ fault len OpenBlock))

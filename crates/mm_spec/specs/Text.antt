@@ -1,40 +1,42 @@
--- Words with their places, and labels (Metamath book, section 4.1.1); faults are this project's own.
+-- Words with their places, and labels (Metamath book, section 4.1.1); faults are this project's
+-- own.
 use Rattle.std.specs.Prelude.{ℕ, Bool, ◌||◌, ◌&&◌, List, nat_le, ◌==◌, bytes_eq, map}
 use Rattle.std.specs.List.{list_any, list_all}
 pub use Rattle.mm_spec.specs.declared.Fault.{Fault}
 use Rattle.mm_spec.specs.declared.Code.{Code}
 
 -- a word: its bytes
-abbrev pub Word : Type 0
-Word = List ℕ
+abbrev pub Bytes : Type 0
+Bytes = List ℕ
 
 -- a word where it stands: the place of its first byte
 pub record Token : Type 0 where
   pub at : ℕ
-  pub word : Word
+  pub word : Bytes
 
-abbrev pub token : ℕ → Word → Token
+abbrev pub token : ℕ → Bytes → Token
 token at word = record { at = at; word = word }
 
 abbrev pub fault : ℕ → Code → Fault
 fault at code = record { at = at; code = code }
 
 -- words as a set
-abbrev pub is_in : Word → List Word → Bool
+abbrev pub is_in : Bytes → List Bytes → Bool
 is_in w ws = list_any (bytes_eq w) ws
 
 -- the words of the tokens
-abbrev pub words : List Token → List Word
+abbrev pub words : List Token → List Bytes
 words ts = map (λ t. t.word) ts
 
 -- a word with a `$` in it
-abbrev pub has_dollar : Word → Bool
+abbrev pub has_dollar : Bytes → Bool
 has_dollar w = list_any (λ b. b == 0x24) w
 
 -- a letter, a digit, `-`, `_` or `.` (section 4.1.1)
 abbrev pub is_label_byte : ℕ → Bool
 is_label_byte b =
-    (nat_le 65 b && nat_le b 90) || (nat_le 97 b && nat_le b 122) || (nat_le 48 b && nat_le b 57) || (b == 45) || (b == 95) || (b == 46)
+    (nat_le 65 b && nat_le b 90) || (nat_le 97 b && nat_le b 122) || (nat_le 48 b && nat_le b 57)
+    || (b == 45) || (b == 95) || (b == 46)
 
-abbrev pub is_label : Word → Bool
+abbrev pub is_label : Bytes → Bool
 is_label w = list_all is_label_byte w

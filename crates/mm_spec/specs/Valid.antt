@@ -1,10 +1,15 @@
--- The plain proof that steps stand for, and valid proofs (Metamath book, section 4.1.4 and Appendix B); the faults of
--- steps and of the end are this project's own.
-use Rattle.std.specs.Prelude.{◌≡◌, ◌≢◌, ℕ, ◌-◌, ◌<◌, ◌≤◌, List, [], ◌∷◌, ◌++◌, length, drop, Option, Some, slice_get, map}
+-- The plain proof that steps stand for, and valid proofs (Metamath book, section 4.1.4 and Appendix
+-- B); the faults of steps and of the end are this project's own.
+use Rattle.std.specs.Prelude.{◌≡◌, ◌≢◌, ℕ, ◌-◌, ◌<◌, ◌≤◌, List, [], ◌∷◌, ◌++◌, length, drop, Option}
+use Rattle.std.specs.Prelude.{Some, slice_get, map}
 use Rattle.mm_spec.specs.Text.{Fault, fault}
-use Rattle.mm_spec.specs.Derivation.{Context, Rule, hypothesis, assertion, Trees, tree, none, more, Formula, Substitution, Matches, KeepsApart, substitute, AreDerivations, postfix, formulas, formula_limit}
+use Rattle.mm_spec.specs.Derivation.{Context, Rule, hypothesis, assertion, Trees, tree, none, more}
+use Rattle.mm_spec.specs.Derivation.{Formula, Substitution, Matches, KeepsApart, substitute}
+use Rattle.mm_spec.specs.Derivation.{AreDerivations, postfix, formulas}
+use Rattle.mm_spec.specs.Limits.{formula_limit}
 use Rattle.mm_spec.specs.Steps.{Step, label, marked, PlacedStep}
-use Rattle.mm_spec.specs.declared.Code.TheVariants.{TooFewEntries, UnmatchedHypotheses, NotDisjoint, NotOneEntry, OtherFormula, FormulaTooLong}
+use Rattle.mm_spec.specs.declared.Code.TheVariants.{TooFewEntries, UnmatchedHypotheses, NotDisjoint}
+use Rattle.mm_spec.specs.declared.Code.TheVariants.{NotOneEntry, OtherFormula, FormulaTooLong}
 use Rattle.mm_spec.specs.declared.Code.{Code}
 
 -- the labels of the last tree
@@ -17,22 +22,27 @@ module _ (c : Context) where
   abbrev pub EndsIn : List ℕ → List ℕ → Type 0
   EndsIn labels x = (row : Trees) × AreDerivations c row × (postfix row ≡ labels) × IsLastTree row x
 
-  -- A step adds its label to the plain list, or the subtree that an earlier step ended. The plain lists behind each step so far are known.
+  -- A step adds its label to the plain list, or the subtree that an earlier step ended. The plain
+  -- lists after each step so far are known.
   abbrev pub Adds : List (List ℕ) → List ℕ → Step → List ℕ → Type 0
   Adds lists old (label l) new = new ≡ old ++ l ∷ []
-  Adds lists old (marked j) new = (then : List ℕ) × (x : List ℕ) × (slice_get lists j ≡ Some then) × EndsIn then x × (new ≡ old ++ x)
+  Adds lists old (marked j) new =
+      (then : List ℕ) × (x : List ℕ) × (slice_get lists j ≡ Some then) × EndsIn then x
+      × (new ≡ old ++ x)
 
-  -- the plain list that the steps stand for, behind those so far
+  -- the plain list that the steps stand for, after those so far
   abbrev pub Plain : List (List ℕ) → List ℕ → List Step → List ℕ → Type 0
   Plain lists old [] all = all ≡ old
-  Plain lists old (s ∷ steps) all = (new : List ℕ) × Adds lists old s new × Plain (lists ++ new ∷ []) new steps all
+  Plain lists old (s ∷ steps) all =
+      (new : List ℕ) × Adds lists old s new × Plain (lists ++ new ∷ []) new steps all
 
   abbrev pub IsPlain : List Step → List ℕ → Type 0
   IsPlain steps labels = Plain [] [] steps labels
 
   -- a derivation whose postfix list is the plain proof, of a formula
   abbrev pub Derives : List Step → Formula → Trees → Type 0
-  Derives steps f d = (l : ℕ) × (cs : Trees) × (d ≡ tree l f cs) × AreDerivations c d × IsPlain steps (postfix d)
+  Derives steps f d =
+      (l : ℕ) × (cs : Trees) × (d ≡ tree l f cs) × AreDerivations c d × IsPlain steps (postfix d)
 
   -- the entries of the last n roots
   abbrev pub last_of : ℕ → List Formula → List Formula
@@ -49,23 +59,28 @@ code_of not_apart = NotDisjoint
 code_of too_long = FormulaTooLong
 
 module _ (c : Context) where
-  -- a label's step fails behind a row with these formulas, and the reason is the first that holds
+  -- a label's step fails after a row with these formulas, and the reason is the first that holds
   abbrev pub Fails : Option Rule → List Formula → Reason → Type 0
   Fails (Some (hypothesis g)) entries too_long = formula_limit < length g
   Fails (Some (assertion a)) entries too_few = length entries < length a.hypotheses
   Fails (Some (assertion a)) entries unmatched =
-      (length a.hypotheses ≤ length entries) × ((σ : Substitution) → ¬ Matches c a (last_of c (length a.hypotheses) entries) σ)
+      (length a.hypotheses ≤ length entries)
+      × ((σ : Substitution) → ¬ Matches c a (last_of c (length a.hypotheses) entries) σ)
   Fails (Some (assertion a)) entries not_apart =
-      (σ : Substitution) × (length a.hypotheses ≤ length entries) × Matches c a (last_of c (length a.hypotheses) entries) σ × (¬ KeepsApart c a σ)
+      (σ : Substitution) × (length a.hypotheses ≤ length entries)
+      × Matches c a (last_of c (length a.hypotheses) entries) σ × (¬ KeepsApart c a σ)
   Fails (Some (assertion a)) entries too_long =
-      (σ : Substitution) × (length a.hypotheses ≤ length entries) × Matches c a (last_of c (length a.hypotheses) entries) σ × KeepsApart c a σ × (formula_limit < length (substitute c σ a.formula))
+      (σ : Substitution) × (length a.hypotheses ≤ length entries)
+      × Matches c a (last_of c (length a.hypotheses) entries) σ × KeepsApart c a σ
+      × (formula_limit < length (substitute c σ a.formula))
   Fails _ entries _ = ⊥
 
   abbrev pub StepFails : Step → List Formula → Reason → Type 0
   StepFails (label l) entries reason = Fails (c.rule l) entries reason
   StepFails (marked j) entries reason = ⊥
 
-  -- The steps before it stand for the postfix list of a row of derivations, and the step fails behind that row.
+  -- The steps before it stand for the postfix list of a row of derivations, and the step fails
+  -- after that row.
   pub record StepFault (steps : List PlacedStep) (f : Fault) : Type 0 where
     pub before : List PlacedStep
     pub first : PlacedStep
@@ -78,15 +93,17 @@ module _ (c : Context) where
     pub fails : StepFails first.step (formulas row) reason
     pub is : f ≡ fault first.at (code_of reason)
 
-  -- All steps stand for the postfix list of a row of derivations, which isn't one tree with the formula.
-  abbrev pub end_code : List Formula → Formula → Code → Type 0
-  end_code (g ∷ []) formula code = (g ≢ formula) × (code ≡ OtherFormula)
-  end_code _ formula code = code ≡ NotOneEntry
+  -- All steps stand for the postfix list of a row of derivations, which isn't one tree with the
+  -- formula.
+  abbrev pub IsEndCode : List Formula → Formula → Code → Type 0
+  IsEndCode (g ∷ []) formula code = (g ≢ formula) × (code ≡ OtherFormula)
+  IsEndCode _ formula code = code ≡ NotOneEntry
 
-  pub record EndFault (steps : List PlacedStep) (formula : Formula) (end : ℕ) (f : Fault) : Type 0 where
+  pub record ProofEndFault (steps : List PlacedStep) (formula : Formula) (end : ℕ)
+      (f : Fault) : Type 0 where
     pub row : Trees
     pub derivations : AreDerivations c row
     pub plain : IsPlain c (map (λ s. s.step) steps) (postfix row)
     pub code : Code
-    pub fails : end_code (formulas row) formula code
+    pub fails : IsEndCode (formulas row) formula code
     pub is : f ≡ fault end code

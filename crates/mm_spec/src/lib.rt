@@ -1,21 +1,24 @@
-//! What Metamath databases mean (Metamath book, second edition: sections 4.1.1 to 4.1.4, and Appendix B on compressed
-//! proofs): the definitions of words, tokens, statements, proofs, faults, citations and reports, in `specs/`, on which
-//! every other crate stands, and the plain types that go with them. There is no code here but the numbers of codes. What
-//! a reader has to believe is the folder `specs/`, with the limits below and what the contract of the run names beside it;
-//! the laws that the definitions obey are in the crate `mm_laws`.
+//! What Metamath databases mean (Metamath book, second edition: sections 4.1.1 to 4.1.4, and
+//! Appendix B on compressed proofs): the definitions of words, tokens, statements, proofs, faults,
+//! citations, reports and the end of a run, in `specs/`, on which every other crate stands, and the
+//! plain types that go with them. There is no code here but the numbers of codes. What a reader has
+//! to believe is the folder `specs/` without `specs/Laws`; the laws that the definitions obey are
+//! in the crate `mm_laws`.
 #![tactic(auto)]
 
 mod codes;
 
 use std::alloc::Allocator;
 
-/// The greatest number of bytes of a text.
+/// The greatest number of bytes of a text: `text_limit` of the definitions.
 pub const TEXT_LIMIT: usize = 2_147_483_647;
 
-/// The greatest number of symbols of a formula in a proof, its typecode included.
+/// The greatest number of symbols of a formula in a proof, its typecode included: `formula_limit`
+/// of the definitions.
 pub const FORMULA_LIMIT: usize = 1_048_576;
 
-/// A word of a text by its places, byte offsets from 0: the bytes from `start` up to `end`, `end` excluded.
+/// A word of a text by its places, byte offsets from 0: the bytes from `start` up to `end`, `end`
+/// excluded.
 #[derive(Clone, Copy, Debug, PartialEq, Eq)]
 pub struct Word {
     pub start: u32,
@@ -37,18 +40,22 @@ pub enum Role {
     Faulty,
 }
 
-/// Which sections a report has, of matrix, counts, usage and citations; each report has its first lines and its last one.
+/// Which sections a report has, of matrix, counts, usage and citations; each report has its first
+/// lines and its last one.
 #[derive(Clone, Copy, Debug, PartialEq, Eq)]
 pub enum Choice {
     /// Matrix, counts and usage, in this order.
     All,
-    /// A row for each theorem: its label, and a digit for each column, 1 where the theorem rests on that axiom.
+    /// A row for each theorem: its label, and a digit for each column, 1 where the theorem rests on
+    /// that axiom.
     Matrix,
     /// A line for each theorem: its label, and the number of columns on whose axioms it rests.
     Counts,
-    /// A line for each column: its label, the number of theorems that rest on that axiom, and their labels.
+    /// A line for each column: its label, the number of theorems that rest on that axiom, and their
+    /// labels.
     Usage,
-    /// A line for each theorem: its label, the number of assertions that its own proof cites, and their labels.
+    /// A line for each theorem: its label, the number of assertions that its own proof cites, and
+    /// their labels.
     Citations,
 }
 
@@ -68,6 +75,21 @@ pub struct Fault {
     pub code: Code,
 }
 
+/// How a run ends.
+#[derive(Clone, Copy, PartialEq, Eq, Debug)]
+pub enum RunEnd {
+    /// The database has no fault, and its report was written.
+    Accepted,
+    /// The database has this first fault, and its refusal was written.
+    Refused(Fault),
+    /// A read failed; nothing was written.
+    ReadFailed,
+    /// A write failed or took nothing; a beginning of the output was written.
+    WriteFailed,
+    /// A growth of memory was refused; nothing was written.
+    NoMemory,
+}
+
 /// The tokens of a text before its first lexical fault, and that fault (sections 4.1.1 and 4.1.2).
 #[derive(Drop)]
 pub struct Lexed<A: Allocator> {
@@ -80,7 +102,8 @@ pub struct Lexed<A: Allocator> {
 pub enum Code {
     /// E00: the text is longer than 2,147,483,647 bytes. At 0.
     TextTooLong,
-    /// E01: a byte that is neither white nor printable, in comments too. At the word's first such byte.
+    /// E01: a byte that is neither white nor printable, in comments too. At the word's first such
+    /// byte.
     BadByte,
     /// E02: in a comment a word that contains `$(` or `$)` and is not `$)`. At the word.
     MarkInComment,
@@ -110,7 +133,8 @@ pub enum Code {
     LabelIsSymbol,
     /// E15: a label that was used before. At the label.
     LabelUsedBefore,
-    /// E17: a formula whose first symbol is no constant, or that has none. At the symbol, or at the `$.` or `$=`.
+    /// E17: a formula whose first symbol is no constant, or that has none. At the symbol, or at the
+    /// `$.` or `$=`.
     BadTypecode,
     /// E18: a symbol of a formula that is neither a constant nor an active variable. At the symbol.
     UndeclaredSymbol,
@@ -138,7 +162,8 @@ pub enum Code {
     TooFewEntries,
     /// E35: entries that are not the hypotheses under one substitution. At the step.
     UnmatchedHypotheses,
-    /// E36: a pair of disjoint variables is replaced by expressions that are not disjoint. At the step.
+    /// E36: a pair of disjoint variables is replaced by expressions that are not disjoint. At the
+    /// step.
     NotDisjoint,
     /// E37: at the end of the proof there is not exactly one entry. At the `$.`.
     NotOneEntry,
@@ -150,7 +175,7 @@ pub enum Code {
     OpenBrackets,
     /// E42: a byte of a compressed proof that is neither `A` to `Z` nor `?`. At the byte.
     BadLetter,
-    /// E43: a number of a compressed proof has no last digit. At the `Z` behind it, or at the `$.`.
+    /// E43: a number of a compressed proof has no last digit. At the `Z` after it, or at the `$.`.
     OpenNumber,
     /// E44: `Z` before the first number. At the `Z`.
     MarkBeforeStep,

@@ -17,21 +17,33 @@ use Rattle.mm_scope.proofs.BoundsLaw.{few-symbols}
 use Rattle.mm_stmt.proofs.SoundLaw.{sound_read}
 
 -- the words lent are those of the text
-pub is_read : (text : List ℕ) (ws vs : List Word) (os : List Outline) (lexical fault : Option Fault) → ws ≡ vs → vs ≡ spec.tokens_of text → lexical ≡ spec.lexical_fault text
-    → IsRead (length text) (lexed text ws lexical) (statements text ws os) fault → IsRead (length text) (lexed_of text) (statements text vs os) fault
-is_read text ws vs os lexical fault e f l h = subst (λ x. IsRead (length text) x (statements text vs os) fault) (ap₂ (lexed text) f l) (subst (λ us. IsRead (length text) (lexed text us lexical) (statements text us os) fault) e h)
+pub is_read : (text : List ℕ) (ws vs : List Word) (os : List Outline) (lexical fault : Option Fault)
+    → ws ≡ vs → vs ≡ spec.tokens_of text → lexical ≡ spec.lexical_fault text
+    → IsRead (length text) (lexed text ws lexical) (statements text ws os) fault
+    → IsRead (length text) (lexed_of text) (statements text vs os) fault
+is_read text ws vs os lexical fault e f l h =
+    subst (λ x. IsRead (length text) x (statements text vs os) fault) (ap₂ (lexed text) f l)
+    (subst (λ us. IsRead (length text) (lexed text us lexical) (statements text us os) fault) e h)
 
-module _ (text : List ℕ) (ws : List Word) (os : List Outline) (lexical fault : Option Fault) (r : IsRead (length text) (lexed text ws lexical) (statements text ws os) fault) (small : length ws < 2 ^ 31) where
+module _ (text : List ℕ) (ws : List Word) (os : List Outline) (lexical fault : Option Fault)
+    (r : IsRead (length text) (lexed text ws lexical) (statements text ws os) fault)
+    (small : length ws < 2 ^ 31) where
   -- there are few symbols
-  pub names_few : (names : List (List ℕ)) → names ≡ symbol_names (statements text ws os) → length names < 2 ^ 31
+  pub names_few : (names : List (List ℕ)) → names ≡ symbol_names (statements text ws os)
+      → length names < 2 ^ 31
   names_few names e =
       let n = ap length e in
-      let f = few-symbols (lexed text ws lexical).tokens r.is_row.rest r.row r.is_row.splits (statements text ws os) r.rest r.splits in
+      let f =
+      few-symbols (lexed text ws lexical).tokens r.is_row.rest r.row r.is_row.splits
+      (statements text ws os) r.rest r.splits in
       let w = length-map ws (token_of text) in
       omega (arith, n, f, w, small)
 
   -- they are sound
-  pub sound : (look : List ℕ → Option Symbol) (labels : List ℕ → Option ℕ) (b : Lists) → Keeps (statements text ws os) look labels b → length os < 2 ^ 31 → IsSound (statements text ws os)
+  pub sound : (look : List ℕ → Option Symbol) (labels : List ℕ → Option ℕ) (b : Lists)
+      → Keeps (statements text ws os) look labels b → length os < 2 ^ 31
+      → IsSound (statements text ws os)
   sound look labels b keeps few =
       let m = length-map os (statement_of text ws) in
-      sound_read (length text) (lexed text ws lexical) (statements text ws os) fault r look labels b keeps (omega (arith, m, few))
+      sound_read (length text) (lexed text ws lexical)
+      (statements text ws os) fault r look labels b keeps (omega (arith, m, few))

@@ -1,14 +1,18 @@
 -- What statements count as, and the numbers of the theorems and of the axioms by that.
-use Rattle.std.proofs.Common.{◌≡◌, ℕ, zero, suc, ◌+◌, ◌^◌, ◌<◌, Bool, true, false, ◌&&◌, ◌||◌, List, [], ◌∷◌, ◌++◌, length, map, take, get_or, slice_get, Option, Some, None, refl, sym, ap, ◌∙◌, arith, append-nil, bytes_eq, codes}
+use Rattle.std.proofs.Common.{cond, ◌≡◌, ℕ, zero, suc, ◌+◌, ◌^◌, ◌<◌, Bool, true, false, ◌&&◌, ◌||◌}
+use Rattle.std.proofs.Common.{List, [], ◌∷◌, ◌++◌, length, map, take, get_or, slice_get, Option}
+use Rattle.std.proofs.Common.{Some, None, refl, sym, ap, ◌∙◌, arith, append-nil, bytes_eq, codes}
 use Rattle.std.specs.Option.{option_map}
-use Rattle.std.specs.List.{list_any, range_with_len}
+use Rattle.std.specs.List.{list_any, range_with_len, filter}
+use Rattle.std.proofs.lemmas.List.Elements.{filter-append}
 use Rattle.std.proofs.Math.Path.{fun_ext}
 use Rattle.std.proofs.lemmas.List.{length-map, map-append, take_more}
 use Rattle.std.proofs.lemmas.Option.{slice_get-get_or}
 use Rattle.mm_spec.specs.Text.{Token}
-use Rattle.mm_spec.specs.Statement.{Statement, constants, variables, disjoint, floating, essential, axiomatic, provable, opening, closing, proof_of}
+use Rattle.mm_spec.specs.Statement.{Statement, constants, variables, disjoint, floating, essential}
+use Rattle.mm_spec.specs.Statement.{axiomatic, provable, opening, closing, proof_of}
 use Rattle.mm_spec.specs.Opened.{is_open_proof, is_open, as_axiom, counted}
-use Rattle.mm_spec.specs.Scope.{those, statement_at}
+use Rattle.mm_spec.specs.Scope.{statement_at}
 use Rattle.mm_spec.specs.Citation.{is_theorem}
 use Rattle.mm_spec.specs.Output.{is_column, theorems, columns}
 use Rattle.mm_spec.specs.declared.Word.{Word}
@@ -24,33 +28,29 @@ use Rattle.mm_stmt.specs.Kinds.{counted_as, is_theorem_kind, is_axiom_kind, numb
 
 -- ---- the numbers that pass a test
 
-those_append : (p : ℕ → Bool) (xs : List ℕ) (y : ℕ) (b : Bool) → p y ≡ b → those p (xs ++ y ∷ []) ≡ those p xs ++ (elim b [ true ↦ y ∷ [] | false ↦ [] ])
-those_append p [] y b e = ap (λ b. elim b [ true ↦ y ∷ [] | false ↦ [] ]) e ∙ by b
-  where
-    by : (b : Bool) → ◌≡◌ {A = List ℕ} (elim b [ true ↦ y ∷ [] | false ↦ [] ]) ([] ++ (elim b [ true ↦ y ∷ [] | false ↦ [] ]))
-    by true = refl
-    by false = refl
-those_append p (x ∷ xs) y b e = by (p x) (those_append p xs y b e)
-  where
-    by : (c : Bool) → those p (xs ++ y ∷ []) ≡ those p xs ++ (elim b [ true ↦ y ∷ [] | false ↦ [] ]) → ◌≡◌ {A = List ℕ} (elim c [ true ↦ x ∷ those p (xs ++ y ∷ []) | false ↦ those p (xs ++ y ∷ []) ]) ((elim c [ true ↦ x ∷ those p xs | false ↦ those p xs ]) ++ (elim b [ true ↦ y ∷ [] | false ↦ [] ]))
-    by true r = ap (λ zs. x ∷ zs) r
-    by false r = r
-
-those_more : (p : ℕ → Bool) (k : ℕ) (b : Bool) → p k ≡ b → those p (range_with_len 0 (k + 1)) ≡ those p (range_with_len 0 k) ++ (elim b [ true ↦ k ∷ [] | false ↦ [] ])
-those_more p k b e =
+filter_more : (p : ℕ → Bool) (k : ℕ) (b : Bool) → p k ≡ b
+    → filter p (range_with_len 0 (k + 1)) ≡ filter p (range_with_len 0 k) ++ (cond b (k ∷ []) [])
+filter_more p k b e =
     let s : k + 1 ≡ suc k = omega arith in
     let z : 0 + k ≡ k = omega arith in
-    ap (λ n. those p (range_with_len 0 n)) s ∙ ap (those p) (range_more 0 k) ∙ ap (λ i. those p (range_with_len 0 k ++ i ∷ [])) z ∙ those_append p (range_with_len 0 k) k b e
+    ap (λ n. filter p (range_with_len 0 n)) s ∙ ap (filter p) (range_more 0 k)
+    ∙ ap (λ i. filter p (range_with_len 0 k ++ i ∷ [])) z
+    ∙ filter-append p (range_with_len 0 k) (k ∷ [])
+    ∙ ap (λ c. filter p (range_with_len 0 k) ++ cond c (k ∷ []) []) e
 
-pub those_push : (p : ℕ → Bool) (k : ℕ) (xs ys : List ℕ) → xs ≡ those p (range_with_len 0 k) → p k ≡ true → ys ≡ xs ++ k ∷ [] → ys ≡ those p (range_with_len 0 (k + 1))
-those_push p k xs ys h e is = is ∙ ap (λ zs. zs ++ k ∷ []) h ∙ sym (those_more p k true e)
+pub filter_push : (p : ℕ → Bool) (k : ℕ) (xs ys : List ℕ) → xs ≡ filter p (range_with_len 0 k)
+    → p k ≡ true → ys ≡ xs ++ k ∷ [] → ys ≡ filter p (range_with_len 0 (k + 1))
+filter_push p k xs ys h e is = is ∙ ap (λ zs. zs ++ k ∷ []) h ∙ sym (filter_more p k true e)
 
-pub those_skip : (p : ℕ → Bool) (k : ℕ) (xs : List ℕ) → xs ≡ those p (range_with_len 0 k) → p k ≡ false → xs ≡ those p (range_with_len 0 (k + 1))
-those_skip p k xs h e = h ∙ sym (append-nil (those p (range_with_len 0 k))) ∙ sym (those_more p k false e)
+pub filter_skip : (p : ℕ → Bool) (k : ℕ) (xs : List ℕ) → xs ≡ filter p (range_with_len 0 k)
+    → p k ≡ false → xs ≡ filter p (range_with_len 0 (k + 1))
+filter_skip p k xs h e =
+    h ∙ sym (append-nil (filter p (range_with_len 0 k))) ∙ sym (filter_more p k false e)
 
 -- ---- the theorems and the axioms by the kinds
 
-got_kind : (db : List Statement) (j : ℕ) → slice_get (map kind_of db) j ≡ option_map kind_of (slice_get db j)
+got_kind : (db : List Statement) (j : ℕ)
+    → slice_get (map kind_of db) j ≡ option_map kind_of (slice_get db j)
 got_kind [] zero = refl
 got_kind [] (suc j) = refl
 got_kind (s ∷ db) zero = refl
@@ -78,35 +78,46 @@ axiom_kind (provable l k xs e ps d) = refl
 axiom_kind (opening k) = refl
 axiom_kind (closing k) = refl
 
-numbers_are : (test : Kind → Bool) (p : Statement → Bool) → ((s : Statement) → test (kind_of s) ≡ list_any p (s ∷ [])) → (db : List Statement)
-    → numbers_of test (map kind_of db) ≡ those (λ j. list_any p (statement_at db j)) (range_with_len 0 (length db))
+numbers_are : (test : Kind → Bool) (p : Statement → Bool)
+    → ((s : Statement) → test (kind_of s) ≡ list_any p (s ∷ [])) → (db : List Statement)
+    → numbers_of test (map kind_of db)
+    ≡ filter (λ j. list_any p (statement_at db j)) (range_with_len 0 (length db))
 numbers_are test p h db =
     let n = length-map db kind_of in
-    ap (λ n. those (λ j. tested (slice_get (map kind_of db) j)) (range_with_len 0 n)) n ∙ ap (λ q. those q (range_with_len 0 (length db))) (fun_ext (λ j. ap tested (got_kind db j) ∙ by (slice_get db j)))
+    ap (λ n. filter (λ j. tested (slice_get (map kind_of db) j)) (range_with_len 0 n)) n
+    ∙ ap (λ q. filter q (range_with_len 0 (length db)))
+    (fun_ext (λ j. ap tested (got_kind db j) ∙ by (slice_get db j)))
   where
     tested : Option Kind → Bool
     tested o = elim o [ None ↦ false | Some k ↦ test k ]
 
-    by : (o : Option Statement) → tested (option_map kind_of o) ≡ list_any p (elim o [ None ↦ [] | Some s ↦ s ∷ [] ])
+    by : (o : Option Statement)
+        → tested (option_map kind_of o) ≡ list_any p (elim o [ None ↦ [] | Some s ↦ s ∷ [] ])
     by None = refl
     by (Some s) = h s
 
-pub theorems_by_kind : (db : List Statement) (kinds : List Kind) → kinds ≡ map kind_of db → numbers_of is_theorem_kind kinds ≡ theorems db
-theorems_by_kind db kinds e = ap (numbers_of is_theorem_kind) e ∙ numbers_are is_theorem_kind is_theorem theorem_kind db
+pub theorems_by_kind : (db : List Statement) (kinds : List Kind) → kinds ≡ map kind_of db
+    → numbers_of is_theorem_kind kinds ≡ theorems db
+theorems_by_kind db kinds e =
+    ap (numbers_of is_theorem_kind) e ∙ numbers_are is_theorem_kind is_theorem theorem_kind db
 
-pub axioms_by_kind : (db : List Statement) (kinds : List Kind) → kinds ≡ map kind_of db → numbers_of is_axiom_kind kinds ≡ columns db None
-axioms_by_kind db kinds e = ap (numbers_of is_axiom_kind) e ∙ numbers_are is_axiom_kind (is_column None) axiom_kind db
+pub axioms_by_kind : (db : List Statement) (kinds : List Kind) → kinds ≡ map kind_of db
+    → numbers_of is_axiom_kind kinds ≡ columns db None
+axioms_by_kind db kinds e =
+    ap (numbers_of is_axiom_kind) e ∙ numbers_are is_axiom_kind (is_column None) axiom_kind db
 
 -- ---- one statement more
 
-pub counted_more : (w : Bool) (db : List Statement) (s : Statement) → counted w (db ++ s ∷ []) ≡ counted w db ++ counted_as w s ∷ []
+pub counted_more : (w : Bool) (db : List Statement) (s : Statement)
+    → counted w (db ++ s ∷ []) ≡ counted w db ++ counted_as w s ∷ []
 counted_more true db s = map-append as_axiom db (s ∷ [])
 counted_more false db s = refl
 
 -- ---- the kind of one statement
 
 -- an outline's own kind
-pub own_kind : (text : List ℕ) (ws : List Word) (o : Kind) (k m e : ℕ) → kind_of (made text ws o k m e) ≡ o
+pub own_kind : (text : List ℕ) (ws : List Word) (o : Kind) (k m e : ℕ)
+    → kind_of (made text ws o k m e) ≡ o
 own_kind text ws kind.Theorem k m e = refl
 own_kind text ws kind.Open k m e = refl
 own_kind text ws kind.Close k m e = refl
@@ -118,28 +129,39 @@ own_kind text ws kind.Essential k m e = refl
 own_kind text ws kind.Axiom k m e = refl
 
 -- the test of a kind at a place
-pub kind_at : (test : Kind → Bool) (kinds : List Kind) (j : ℕ) (d : Kind) → j < length kinds → elim (slice_get kinds j) [ None ↦ false | Some k ↦ test k ] ≡ test (get_or kinds j d)
-kind_at test kinds j d h = ap (λ o. elim o [ None ↦ false | Some k ↦ test k ]) (slice_get-get_or kinds j d h)
+pub kind_at : (test : Kind → Bool) (kinds : List Kind) (j : ℕ) (d : Kind) → j < length kinds
+    → elim (slice_get kinds j) [ None ↦ false | Some k ↦ test k ] ≡ test (get_or kinds j d)
+kind_at test kinds j d h =
+    ap (λ o. elim o [ None ↦ false | Some k ↦ test k ]) (slice_get-get_or kinds j d h)
 
-pub kinds_more : (text : List ℕ) (ws : List Word) (os : List Outline) (w : Bool) (i : ℕ) (d : Outline) → i < length os
-    → map kind_of (held text ws (take (i + 1) os) w) ≡ map kind_of (held text ws (take i os) w) ++ kind_of (counted_as w (statement_of text ws (get_or os i d))) ∷ []
+pub kinds_more : (text : List ℕ) (ws : List Word) (os : List Outline) (w : Bool) (i : ℕ)
+    → (d : Outline)
+    → i < length os
+    → map kind_of (held text ws (take (i + 1) os) w)
+    ≡ map kind_of (held text ws (take i os) w)
+    ++ kind_of (counted_as w (statement_of text ws (get_or os i d))) ∷ []
 kinds_more text ws os w i d h =
     let s = statement_of text ws (get_or os i d) in
     let before = statements text ws (take i os) in
     ap (λ os. map kind_of (held text ws os w)) (take_more os i d h)
-    ∙ ap (λ db. map kind_of (counted w db)) (map-append (statement_of text ws) (take i os) (get_or os i d ∷ []))
+    ∙ ap (λ db. map kind_of (counted w db))
+    (map-append (statement_of text ws) (take i os) (get_or os i d ∷ []))
     ∙ ap (map kind_of) (counted_more w before s)
     ∙ map-append kind_of (counted w before) (counted_as w s ∷ [])
 
-pub kinds_few : (text : List ℕ) (ws : List Word) (os : List Outline) (w : Bool) (kinds : List Kind) → kinds ≡ map kind_of (held text ws os w) → length os < 2 ^ 31 → length kinds < 2 ^ 31
+pub kinds_few : (text : List ℕ) (ws : List Word) (os : List Outline) (w : Bool) (kinds : List Kind)
+    → kinds ≡ map kind_of (held text ws os w) → length os < 2 ^ 31 → length kinds < 2 ^ 31
 kinds_few text ws os w kinds e few =
-    let n = ap length e ∙ length-map (held text ws os w) kind_of ∙ counted_length w (statements text ws os) ∙ length-map os (statement_of text ws) in
+    let n =
+    ap length e ∙ length-map (held text ws os w) kind_of ∙ counted_length w (statements text ws os)
+    ∙ length-map os (statement_of text ws) in
     omega (arith, n, few)
 
 -- ---- where a statement counts as what it is
 
 -- what counts as a theorem is one
-pub still_theorem : (w : Bool) (s : Statement) → kind_of (counted_as w s) ≡ kind.Theorem → counted_as w s ≡ s
+pub still_theorem : (w : Bool) (s : Statement) → kind_of (counted_as w s) ≡ kind.Theorem
+    → counted_as w s ≡ s
 still_theorem false s h = refl
 still_theorem true (constants k xs d) h = refl
 still_theorem true (variables k xs d) h = refl
@@ -149,7 +171,11 @@ still_theorem true (essential l k xs d) h = refl
 still_theorem true (axiomatic l k xs d) h = refl
 still_theorem true (provable l k xs e ps d) h = by (is_open_proof ps) h
   where
-    by : (b : Bool) → kind_of (elim b [ true ↦ axiomatic l k xs d | false ↦ provable l k xs e ps d ]) ≡ kind.Theorem → (elim b [ true ↦ axiomatic l k xs d | false ↦ provable l k xs e ps d ]) ≡ provable l k xs e ps d
+    by : (b : Bool)
+        → kind_of (elim b [ true ↦ axiomatic l k xs d | false ↦ provable l k xs e ps d ])
+        ≡ kind.Theorem
+        → (elim b [ true ↦ axiomatic l k xs d | false ↦ provable l k xs e ps d ])
+        ≡ provable l k xs e ps d
     by true h = absurd (cc)
     by false h = refl
 still_theorem true (opening k) h = refl
@@ -157,7 +183,9 @@ still_theorem true (closing k) h = refl
 
 module _ (text : List ℕ) (ws : List Word) where
   -- what is a theorem and counts as an axiom is an open one
-  pub open_made : (w : Bool) (o : Kind) (k m e : ℕ) → (is_theorem_kind o && is_axiom_kind (kind_of (counted_as w (made text ws o k m e)))) ≡ (w && list_any is_open (made text ws o k m e ∷ []))
+  pub open_made : (w : Bool) (o : Kind) (k m e : ℕ)
+      → (is_theorem_kind o && is_axiom_kind (kind_of (counted_as w (made text ws o k m e))))
+      ≡ (w && list_any is_open (made text ws o k m e ∷ []))
   open_made false kind.Theorem k m e = refl
   open_made false kind.Open k m e = refl
   open_made false kind.Close k m e = refl
@@ -169,7 +197,15 @@ module _ (text : List ℕ) (ws : List Word) where
   open_made false kind.Axiom k m e = refl
   open_made true kind.Theorem k m e = by (is_open_proof (between text ws (m + 1) e))
     where
-      by : (b : Bool) → is_axiom_kind (kind_of (elim b [ true ↦ axiomatic (label_before text ws k) (place text ws k) (between text ws (k + 1) m) (place text ws e) | false ↦ made text ws kind.Theorem k m e ])) ≡ (b || false)
+      by : (b : Bool)
+          → is_axiom_kind
+          (kind_of
+          (elim b [
+            | true ↦ axiomatic (label_before text ws k) (place text ws k)
+                (between text ws (k + 1) m) (place text ws e)
+            | false ↦ made text ws kind.Theorem k m e
+          ]))
+          ≡ (b || false)
       by true = refl
       by false = refl
   open_made true kind.Open k m e = refl
@@ -182,7 +218,8 @@ module _ (text : List ℕ) (ws : List Word) where
   open_made true kind.Axiom k m e = refl
 
   -- a theorem's proof
-  pub proof_made : (o : Kind) (k m e : ℕ) → o ≡ kind.Theorem → proof_of (made text ws o k m e) ≡ between text ws (m + 1) e
+  pub proof_made : (o : Kind) (k m e : ℕ) → o ≡ kind.Theorem
+      → proof_of (made text ws o k m e) ≡ between text ws (m + 1) e
   proof_made kind.Theorem k m e h = refl
   proof_made kind.Open k m e h = absurd (cc)
   proof_made kind.Close k m e h = absurd (cc)

@@ -1,5 +1,7 @@
 -- The statements that reading keeps are sound.
-use Rattle.std.proofs.Common.{◌≡◌, ℕ, ◌<◌, ◌^◌, Bool, true, false, not, List, All, length, get_or, slice_get, flat_map, [], Option, None, Some, refl, sym, ap, ◌∙◌, true≢false}
+use Rattle.std.proofs.Common.{◌≡◌, ℕ, ◌<◌, ◌^◌, Bool, true, false, not, List, All, length, get_or}
+use Rattle.std.proofs.Common.{slice_get, flat_map, [], Option, None, Some, refl, sym, ap, ◌∙◌}
+use Rattle.std.proofs.Common.{true≢false}
 use Rattle.std.proofs.lemmas.Option.{slice_get-get_or}
 use Rattle.mm_spec.specs.Text.{is_in}
 use Rattle.mm_spec.specs.Scope.{variables_of}
@@ -9,7 +11,7 @@ use Rattle.mm_spec.specs.Statement.{Statement, opening}
 use Rattle.mm_spec.specs.Lawful.{scope_fault}
 use Rattle.mm_spec.specs.Frame.{symbol_names, formula_at}
 use Rattle.mm_spec.specs.declared.Fault.{Fault}
-use Rattle.mm_spec.specs.Output.{Lexed, IsRead}
+use Rattle.mm_spec.specs.Output.{LexedText, IsRead}
 use Rattle.mm_spec.proofs.Local.{scope_fault-front}
 use Rattle.mm_outline.specs.Blocks.{Lists}
 use Rattle.mm_scope.specs.Judge.{Entry, entry_of}
@@ -27,36 +29,56 @@ one_kind (Some e) h = by e.is_variable h
     by true h = absurd (true≢false (sym h))
     by false h = refl
 
-pub sound_is : (db : List Statement) (look : List ℕ → Option Symbol) (labels : List ℕ → Option ℕ) (b : Lists) → Keeps db look labels b → length db < 2 ^ 31 → ((k : ℕ) → k < length db → scope_fault db k ≡ None)
-    → ((k : ℕ) → k < length db → All (λ s. s < length (symbol_names db)) (formula_at db k)) → IsSound db
+pub sound_is : (db : List Statement) (look : List ℕ → Option Symbol) (labels : List ℕ → Option ℕ)
+    → (b : Lists)
+    → Keeps db look labels b → length db < 2 ^ 31
+    → ((k : ℕ) → k < length db → scope_fault db k ≡ None)
+    → ((k : ℕ) → k < length db → All (λ s. s < length (symbol_names db)) (formula_at db k))
+    → IsSound db
 sound_is db look labels b x few lawful below = record {
   few = few;
   lawful = lawful;
-  apart = λ w e. let k = x.symbols w in k.variable ∙ one_kind (entry_of (look w)) (sym k.constant ∙ e);
+  apart =
+      λ w e. let k = x.symbols w in k.variable ∙ one_kind (entry_of (look w)) (sym k.constant ∙ e);
   below = below;
 }
 
 -- what has been read is lawful
-pub lawful_is : (len : ℕ) (x : Lexed) (db : List Statement) (fault : Option Fault) → IsRead len x db fault → (k : ℕ) → k < length db → scope_fault db k ≡ None
-lawful_is len x db fault r k h = sym (scope_fault-front db r.rest k h) ∙ ap (λ row. scope_fault row k) (sym r.splits) ∙ r.lawful k h
+pub lawful_is : (len : ℕ) (x : LexedText) (db : List Statement) (fault : Option Fault)
+    → IsRead len x db fault → (k : ℕ) → k < length db → scope_fault db k ≡ None
+lawful_is len x db fault r k h =
+    sym (scope_fault-front db r.rest k h) ∙ ap (λ row. scope_fault row k) (sym r.splits)
+    ∙ r.lawful k h
 
-pub sound_read : (len : ℕ) (x : Lexed) (db : List Statement) (fault : Option Fault) → IsRead len x db fault → (look : List ℕ → Option Symbol) (labels : List ℕ → Option ℕ) (b : Lists) → Keeps db look labels b → length db < 2 ^ 31 → IsSound db
+pub sound_read : (len : ℕ) (x : LexedText) (db : List Statement) (fault : Option Fault)
+    → IsRead len x db fault
+    → (look : List ℕ → Option Symbol) (labels : List ℕ → Option ℕ) (b : Lists)
+    → Keeps db look labels b → length db < 2 ^ 31 → IsSound db
 sound_read len x db fault r look labels b keeps few =
     let lawful = lawful_is len x db fault r in
-    sound_is db look labels b keeps few lawful (λ k h. symbols-known db lawful k h (get_or db k (opening 0)) (slice_get-get_or db k (opening 0) h))
+    sound_is db look labels b keeps few lawful
+    (λ k h. symbols-known db lawful k h (get_or db k (opening 0))
+    (slice_get-get_or db k (opening 0) h))
 
 -- the marks of the variables are those that the map has
 known_as : (x : Option Symbol) → is_variable_in x ≡ is_variable_entry (entry_of x)
 known_as None = refl
 known_as (Some s) = refl
 
-pub are_symbols : (db : List Statement) (look : List ℕ → Option Symbol) (labels : List ℕ → Option ℕ) (b : Lists) → Keeps db look labels b → (names : List (List ℕ)) (kinds : List Bool) → names ≡ symbol_names db → length kinds ≡ length names
-    → ((s : ℕ) (w : List ℕ) → slice_get names s ≡ Some w → get_or kinds s false ≡ is_variable_in (look w)) → AreSymbols db names kinds
+pub are_symbols : (db : List Statement) (look : List ℕ → Option Symbol) (labels : List ℕ → Option ℕ)
+    → (b : Lists)
+    → Keeps db look labels b → (names : List (List ℕ)) (kinds : List Bool) → names ≡ symbol_names db
+    → length kinds ≡ length names
+    → ((s : ℕ) (w : List ℕ) → slice_get names s ≡ Some w
+    → get_or kinds s false ≡ is_variable_in (look w))
+    → AreSymbols db names kinds
 are_symbols db look labels b x names kinds e n h = record {
   names_are = e;
   count = n;
   variable = λ s l.
       let w = get_or names s [] in
       let there = slice_get-get_or names s [] l in
-      h s w there ∙ known_as (look w) ∙ sym (x.symbols w).variable ∙ ap (λ o. elim o [ None ↦ false | Some w ↦ is_in w (flat_map variables_of db) ]) (sym there ∙ ap (λ l. slice_get l s) e);
+      h s w there ∙ known_as (look w) ∙ sym (x.symbols w).variable
+      ∙ ap (λ o. elim o [ None ↦ false | Some w ↦ is_in w (flat_map variables_of db) ])
+      (sym there ∙ ap (λ l. slice_get l s) e);
 }

@@ -1,8 +1,10 @@
 -- What a database of statements is to those who read it, and what its fields keep.
-use Rattle.std.specs.Prelude.{◌≡◌, ℕ, ◌<◌, ◌^◌, Bool, List, length, map, slice_get, if◌then◌else◌, All, Option, None}
+use Rattle.std.specs.Prelude.{◌≡◌, ℕ, ◌<◌, ◌^◌, Bool, List, length, map, slice_get, if◌then◌else◌}
+use Rattle.std.specs.Prelude.{All, Option, None}
 use Rattle.std.specs.List.{list_any}
 use Rattle.mm_spec.specs.declared.Fault.{Fault}
-use Rattle.mm_spec.specs.Statement.{Statement, constants, variables, disjoint, floating, essential, axiomatic, provable, opening, closing}
+use Rattle.mm_spec.specs.Statement.{Statement, constants, variables, disjoint, floating, essential}
+use Rattle.mm_spec.specs.Statement.{axiomatic, provable, opening, closing}
 use Rattle.mm_spec.specs.Opened.{counted}
 use Rattle.mm_spec.specs.Scope.{statement_at}
 use Rattle.mm_spec.specs.Derivation.{Pair}
@@ -12,7 +14,7 @@ use Rattle.mm_spec.specs.Output.{IsRead, lexed_of, theorems, columns, label_at}
 use Rattle.mm_spec.specs.declared.Word.{Word}
 use Rattle.mm_outline.specs.Numbered.{AreNumbered, AreSymbols}
 use Rattle.mm_frame.specs.Frames.{AreFrames}
-use Rattle.mm_outline.specs.Parts.{AreWords, IsOutline}
+use Rattle.mm_outline.specs.Parts.{AreWithin, IsOutline}
 use Rattle.mm_outline.specs.Statements.{statements}
 use Rattle.mm_outline.specs.Blocks.{Lists, IsBlocks}
 use Rattle.mm_frame.specs.Members.{AreMembers}
@@ -23,8 +25,8 @@ use Rattle.mm_outline.specs.declared.parts.Kind.{Kind}
 use Rattle.mm_outline.specs.declared.parts.Kind.TheVariants as kind
 use Rattle.mm_outline.specs.declared.parts.Outline.{Outline}
 
--- A text, its statements before the first that is no whole and lawful one, as they were read and as they count, and what is
--- wrong there. With the flag open theorems count as axioms.
+-- A text, its statements up to the first malformed or unlawful one, as they were read and as
+-- they count, and what is wrong there. With the flag open theorems count as axioms.
 pub record Known : Type 0 where
   pub text : List ℕ
   pub read : List Statement
@@ -33,7 +35,14 @@ pub record Known : Type 0 where
   pub fault : Option Fault
 
 abbrev pub known : List ℕ → List Statement → Bool → Option Fault → Known
-known text db with_open fault = record { text = text; read = db; with_open = with_open; statements = counted with_open db; fault = fault }
+known text db with_open fault =
+    record {
+      text = text;
+      read = db;
+      with_open = with_open;
+      statements = counted with_open db;
+      fault = fault;
+    }
 
 -- which of the nine shapes a statement has
 abbrev pub kind_of : Statement → Kind
@@ -60,7 +69,9 @@ last_place (opening k) = k
 last_place (closing k) = k
 
 abbrev pub typecode_of : List Statement → ℕ → Option ℕ
-typecode_of db k = if list_any (λ s. is_labelled_kind (kind_of s)) (statement_at db k) then slice_get (formula_at db k) 0 else None
+typecode_of db k =
+    if list_any (λ s. is_labelled_kind (kind_of s)) (statement_at db k) then slice_get
+    (formula_at db k) 0 else None
 
 -- what is kept beside the statements
 pub record Fields : Type 0 where
@@ -83,29 +94,56 @@ pub record Fields : Type 0 where
   pub label_bytes : List ℕ
   pub label_starts : List ℕ
 
-abbrev pub fields : List Word → List ℕ → Lists → (List ℕ → Option ℕ) → List (List ℕ) → List Bool → List ℕ → List ℕ → List ℕ → List (List ℕ) → List (List Pair) → List (ℕ × ℕ) → List ℕ → List Kind → List ℕ → List ℕ → List ℕ → List ℕ → Fields
-fields kept starts b f ns vs xs ps fs hs ds ms ks os ts cs bs ss = record { kept = kept; kept_starts = starts; blocks = b; find = f; names = ns; variables = vs; numbers = xs; places = ps; frame_places = fs; hyps = hs; pairs = ds; members = ms; skips = ks; kinds = os; theorems = ts; axioms = cs; label_bytes = bs; label_starts = ss }
+abbrev pub fields : List Word → List ℕ → Lists → (List ℕ → Option ℕ) → List (List ℕ) → List Bool
+    → List ℕ → List ℕ → List ℕ → List (List ℕ) → List (List Pair) → List (ℕ × ℕ) → List ℕ
+    → List Kind → List ℕ → List ℕ → List ℕ → List ℕ → Fields
+fields kept starts b f ns vs xs ps fs hs ds ms ks os ts cs bs ss =
+    record {
+      kept = kept;
+      kept_starts = starts;
+      blocks = b;
+      find = f;
+      names = ns;
+      variables = vs;
+      numbers = xs;
+      places = ps;
+      frame_places = fs;
+      hyps = hs;
+      pairs = ds;
+      members = ms;
+      skips = ks;
+      kinds = os;
+      theorems = ts;
+      axioms = cs;
+      label_bytes = bs;
+      label_starts = ss;
+    }
 
 -- the statements of outlines, as they count
 abbrev pub held : List ℕ → List Word → List Outline → Bool → List Statement
 held text ws os with_open = counted with_open (statements text ws os)
 
 -- the fields are those of the statements, and these are the reading of the text
-pub record IsDatabase (text : List ℕ) (ws : List Word) (os : List Outline) (with_open : Bool) (fault : Option Fault) (f : Fields) : Type 0 where
-  pub words : AreWords text ws
+pub record IsDatabase (text : List ℕ) (ws : List Word) (os : List Outline) (with_open : Bool)
+    (fault : Option Fault) (f : Fields) : Type 0 where
+  pub words : AreWithin text ws
   pub few : length os < 2 ^ 31
   pub outlines : All (λ o. IsOutline o × (o.end < length ws)) os
   pub kept_are : AreKept ws os f.kept f.kept_starts
   pub blocks : IsBlocks (statements text ws os) f.blocks
   pub labels : AreLabels (held text ws os with_open) f.find
   pub symbols : AreSymbols (held text ws os with_open) f.names f.variables
-  pub below : (k : ℕ) → k < length os → All (λ s. s < length (symbol_names (held text ws os with_open))) (formula_at (held text ws os with_open) k)
+  pub below : (k : ℕ) → k < length os
+      → All (λ s. s < length (symbol_names (held text ws os with_open)))
+      (formula_at (held text ws os with_open) k)
   pub numbered : AreNumbered (held text ws os with_open) f.numbers f.places
   pub frames : AreFrames (held text ws os with_open) f.frame_places f.hyps f.pairs
   pub members_are : AreMembers (held text ws os with_open) f.blocks f.members f.skips
   pub kinds_are : f.kinds ≡ map kind_of (held text ws os with_open)
   pub theorems_are : f.theorems ≡ theorems (held text ws os with_open)
   pub axioms_are : f.axioms ≡ columns (held text ws os with_open) None
-  pub spaced : AreSpaced (map (label_at (held text ws os with_open)) (theorems (held text ws os with_open))) f.label_bytes f.label_starts
+  pub spaced : AreSpaced
+      (map (label_at (held text ws os with_open)) (theorems (held text ws os with_open)))
+      f.label_bytes f.label_starts
   pub few_symbols : length f.names < 2 ^ 31
   pub read : IsRead (length text) (lexed_of text) (statements text ws os) fault

@@ -1,7 +1,8 @@
 -- The words of statements that are asked for again.
-use Rattle.std.specs.Prelude.{◌≡◌, ℕ, ◌+◌, ◌-◌, ◌≤◌, Bool, true, false, List, [], ◌∷◌, ◌++◌, length, take, flat_map, slice_index, slice_range, if◌then◌else◌}
+use Rattle.std.specs.Prelude.{◌≡◌, ℕ, ◌+◌, ◌-◌, ◌≤◌, Bool, true, false, List, [], ◌∷◌, ◌++◌, length}
+use Rattle.std.specs.Prelude.{take, flat_map, slice_index, slice_range, if◌then◌else◌}
 use Rattle.mm_spec.specs.declared.Word.{Word}
-use Rattle.mm_outline.specs.Parts.{word_at}
+use Rattle.mm_outline.specs.Parts.{nth_word}
 use Rattle.mm_outline.specs.declared.parts.Kind.{Kind}
 use Rattle.mm_outline.specs.declared.parts.Kind.TheVariants as kind
 use Rattle.mm_outline.specs.declared.parts.Outline.{Outline}
@@ -15,14 +16,16 @@ is_labelled_kind kind.Theorem = true
 is_labelled_kind _ = false
 
 abbrev pub label_word : List Word → Outline → List Word
-label_word ws o = if is_labelled_kind o.kind then word_at ws (o.keyword - 1) ∷ [] else []
+label_word ws o = if is_labelled_kind o.kind then nth_word ws (o.keyword - 1) ∷ [] else []
 
 -- the label where there is one, the words of the proof where there is one, and the last token
 abbrev pub kept_words : List Word → Outline → List Word
-kept_words ws o = label_word ws o ++ (slice_range ws (o.middle + 1) o.end ++ word_at ws o.end ∷ [])
+kept_words ws o = label_word ws o ++ (slice_range ws (o.middle + 1) o.end ++ nth_word ws o.end ∷ [])
 
--- those of all statements, and where those of each begin; behind them, where they all end
-pub record AreKept (ws : List Word) (os : List Outline) (words : List Word) (starts : List ℕ) : Type 0 where
+-- those of all statements, and where those of each begin; after them, where they all end
+pub record AreKept (ws : List Word) (os : List Outline) (words : List Word)
+    (starts : List ℕ) : Type 0 where
   pub words_are : words ≡ flat_map (kept_words ws) os
   pub count : length starts ≡ length os + 1
-  pub start : (k : ℕ) → k ≤ length os → slice_index starts k ≡ length (flat_map (kept_words ws) (take k os))
+  pub start : (k : ℕ) → k ≤ length os
+      → slice_index starts k ≡ length (flat_map (kept_words ws) (take k os))

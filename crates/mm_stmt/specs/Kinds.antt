@@ -1,9 +1,8 @@
 -- What statements count as, by their kinds.
 use Rattle.std.specs.Prelude.{ℕ, Bool, true, false, List, length, Some, None, slice_get}
-use Rattle.std.specs.List.{range_with_len}
+use Rattle.std.specs.List.{range_with_len, filter}
 use Rattle.mm_spec.specs.Statement.{Statement}
 use Rattle.mm_spec.specs.Opened.{as_axiom}
-use Rattle.mm_spec.specs.Scope.{those}
 use Rattle.mm_outline.specs.declared.parts.Kind.{Kind}
 use Rattle.mm_outline.specs.declared.parts.Kind.TheVariants as kind
 
@@ -22,4 +21,6 @@ is_axiom_kind _ = false
 
 -- the numbers of the statements whose kinds pass the test
 abbrev pub numbers_of : (Kind → Bool) → List Kind → List ℕ
-numbers_of test kinds = those (λ j. elim (slice_get kinds j) [ None ↦ false | Some k ↦ test k ]) (range_with_len 0 (length kinds))
+numbers_of test kinds =
+    filter (λ j. elim (slice_get kinds j) [ None ↦ false | Some k ↦ test k ])
+    (range_with_len 0 (length kinds))

@@ -1,18 +1,23 @@
 //! The database of a text: its statements, and what is asked of them.
 
-ghost use Rattle.std.specs.Prelude.{◌≡◌, ◌<◌, ◌≤◌, ◌^◌, ◌+◌, ◌&&◌, ◌∷◌, ℕ, Bool, List, Option, Some, None, IfSome, IfNone, IsTrue, All, length, map, flat_map, slice_get, slice_index, slice_range, get_or, vec_len, true, false};
+ghost use Rattle.std.specs.Prelude.{◌≡◌, ◌<◌, ◌≤◌, ◌^◌, ◌+◌, ◌&&◌, ◌∷◌, ℕ, Bool, List, Option};
+ghost use Rattle.std.specs.Prelude.{Some, None, IfSome, IfNone, IsTrue, All, length, map, flat_map};
+ghost use Rattle.std.specs.Prelude.{slice_get, slice_index, slice_range, get_or, vec_len, true};
+ghost use Rattle.std.specs.Prelude.{false};
 ghost use Rattle.std.specs.Option.{option_map, option_copied, option_and_then};
 ghost use Rattle.std.specs.List.{list_any};
 ghost use Rattle.mm_spec.specs.Statement.{label_of, proof_of};
 ghost use Rattle.mm_spec.specs.Opened.{counted, is_open};
 ghost use Rattle.mm_spec.specs.Scope.{is_active, statement_at};
 ghost use Rattle.mm_spec.specs.Derivation.{pair, is_member};
-ghost use Rattle.mm_spec.specs.Frame.{symbol_names, is_variable, formula_at, mandatory_hypotheses, mandatory_pairs, disjoint_at, is_disjoint};
+ghost use Rattle.mm_spec.specs.Frame.{symbol_names, is_variable_number, formula_at};
+ghost use Rattle.mm_spec.specs.Frame.{mandatory_hypotheses, mandatory_pairs, disjoint_at};
+ghost use Rattle.mm_spec.specs.Frame.{is_disjoint_statement};
 ghost use Rattle.mm_spec.specs.NormalProof.{is_labelled};
 ghost use Rattle.mm_spec.specs.Citation.{is_assertion};
-ghost use Rattle.mm_spec.specs.Complete.{AreComplete};
+ghost use Rattle.mm_spec.specs.Laws.Complete.{AreComplete};
 ghost use Rattle.mm_spec.specs.Output.{IsRead, lexed_of, theorems, columns, label_at};
-ghost use Rattle.mm_outline.specs.Parts.{tokens_of, AreWords};
+ghost use Rattle.mm_outline.specs.Parts.{as_tokens, AreWithin};
 ghost use Rattle.mm_outline.specs.Statements.{active_kind};
 ghost use Rattle.mm_stmt.specs.Database.{kind_of, last_place, typecode_of};
 ghost use Rattle.mm_stmt.specs.Kinds.{is_axiom_kind, is_theorem_kind};
@@ -29,7 +34,8 @@ use mm_spec::{Fault, Word};
 use std::alloc::Allocator;
 use std::marker::Model;
 
-/// The statements of a text before the first that is no whole and lawful one, by their numbers from 0 in file order.
+/// The statements of a text up to the first malformed or unlawful one, by their numbers from
+/// 0 in file order.
 #[derive(Drop)]
 pub struct Database<'a, A: Allocator> {
     pub(crate) text: &'a [u8],
@@ -62,9 +68,18 @@ impl<'a, A: Allocator> Model for Database<'a, A> {
 
     ghost Value = { Known };
 
-    ghost view = { λ d. known d.text.now (statements d.text.now (words_of d.text.now) d.outlines.items) d.with_open d.fault };
+    ghost view = { λ d. known d.text.now
+        (statements d.text.now (words_of d.text.now) d.outlines.items) d.with_open d.fault };
 
-    ghost invariant = { λ d. IsDatabase d.text.now (words_of d.text.now) d.outlines.items d.with_open d.fault (fields d.kept.words.items d.kept.starts.items (lists d.blocks.of.items d.blocks.ends.items d.blocks.open.items) (find d.labels) (names_of d.symbols) d.variables.items d.numbers.items d.places.items d.frames.places.items (map (λ f. f.hyps.items) d.frames.list.items) (map (λ f. map (λ p. pair p.0 p.1) f.pairs.items) d.frames.list.items) d.members.pairs.items d.members.skips.items d.kinds.items d.theorems.items d.axioms.items d.spaced.bytes.items d.spaced.starts.items) };
+    ghost invariant = { λ d. IsDatabase d.text.now
+        (words_of d.text.now) d.outlines.items d.with_open d.fault
+        (fields d.kept.words.items d.kept.starts.items
+        (lists d.blocks.of.items d.blocks.ends.items d.blocks.open.items) (find d.labels)
+        (names_of d.symbols) d.variables.items d.numbers.items d.places.items
+        d.frames.places.items (map (λ f. f.hyps.items) d.frames.list.items)
+        (map (λ f. map (λ p. pair p.0 p.1) f.pairs.items) d.frames.list.items)
+        d.members.pairs.items d.members.skips.items d.kinds.items d.theorems.items
+        d.axioms.items d.spaced.bytes.items d.spaced.starts.items) };
 }
 
 impl<'a, A: Allocator> Database<'a, A> {
@@ -75,7 +90,8 @@ impl<'a, A: Allocator> Database<'a, A> {
         self.text
     }
 
-    /// What is wrong behind the statements: the first fault of words, shape, symbols, labels or scope.
+    /// What is wrong after the statements: the first fault of words, shape, symbols, labels or
+    /// scope.
     pub fn fault(&self) -> Option<Fault>
         ensures { result ≡ self.now.fault }
     {
@@ -86,14 +102,16 @@ impl<'a, A: Allocator> Database<'a, A> {
     pub fn len(&self) -> u32
         ensures len { result ≡ length self.now.statements }
         ensures small { result < 2 ^ 31 }
-        ensures read { IsRead (length self.now.text) (lexed_of self.now.text) self.now.read self.now.fault }
+        ensures read { IsRead (length self.now.text)
+            (lexed_of self.now.text) self.now.read self.now.fault }
         ensures counted { self.now.statements ≡ counted self.now.with_open self.now.read }
         ensures complete { AreComplete self.now.statements }
     {
         self.outlines.len() as u32
     }
 
-    /// Which of the nine shapes a statement has; where open theorems count as axioms, theirs is an axiom's.
+    /// Which of the nine shapes a statement has; where open theorems count as axioms, theirs is an
+    /// axiom's.
     pub fn kind(&self, statement: u32) -> Kind
         requires { statement < length self.now.statements }
         ensures { option_map kind_of (slice_get self.now.statements statement) ≡ Some result }
@@ -103,7 +121,8 @@ impl<'a, A: Allocator> Database<'a, A> {
 
     /// Whether there is such a statement and it is an open theorem that counts as an axiom.
     pub fn is_open(&self, statement: u32) -> bool
-        ensures { result ≡ (self.now.with_open && list_any is_open (statement_at self.now.read statement)) }
+        ensures { result
+            ≡ (self.now.with_open && list_any is_open (statement_at self.now.read statement)) }
     {
         if statement >= self.len() {
             return false;
@@ -124,7 +143,9 @@ impl<'a, A: Allocator> Database<'a, A> {
     /// The label of a statement that has one.
     pub fn label(&self, statement: u32) -> Option<&'a [u8]>
         requires { statement < length self.now.statements }
-        ensures { option_copied result ≡ option_map (λ t. t.word) (option_and_then label_of (slice_get self.now.statements statement)) }
+        ensures { option_copied result
+            ≡ option_map (λ t. t.word)
+            (option_and_then label_of (slice_get self.now.statements statement)) }
     {
         let outline = self.outlines[statement as usize];
         if has_label(outline.kind) {
@@ -137,14 +158,22 @@ impl<'a, A: Allocator> Database<'a, A> {
 
     /// The statement of a label.
     pub fn find(&self, label: &[u8]) -> Option<u32>
-        ensures some { IfSome result (λ k. (k < length self.now.statements) × IsTrue (list_any (is_labelled label.now) (statement_at self.now.statements k))) }
-        ensures only { IfSome result (λ k. (j : ℕ) → list_any (is_labelled label.now) (statement_at self.now.statements j) ≡ true → j ≡ k) }
-        ensures none { IfNone result ((j : ℕ) → list_any (is_labelled label.now) (statement_at self.now.statements j) ≡ false) }
+        ensures some { IfSome result
+            (λ k. (k < length self.now.statements)
+            × IsTrue (list_any (is_labelled label.now) (statement_at self.now.statements k))) }
+        ensures only { IfSome result
+            (λ k. (j : ℕ)
+            → list_any (is_labelled label.now) (statement_at self.now.statements j) ≡ true
+            → j ≡ k) }
+        ensures none { IfNone result
+            ((j : ℕ)
+            → list_any (is_labelled label.now) (statement_at self.now.statements j) ≡ false) }
     {
         self.labels.get(label).copied()
     }
 
-    /// The symbols of a statement, the typecode first where it has one; none where it is `${` or `$}`.
+    /// The symbols of a statement, the typecode first where it has one; none where it is `${` or
+    /// `$}`.
     pub fn formula(&self, statement: u32) -> &[Sym]
         requires { statement < length self.now.statements }
         ensures formula { result.now ≡ formula_at self.now.statements statement }
@@ -189,12 +218,13 @@ impl<'a, A: Allocator> Database<'a, A> {
     /// Whether a symbol is a variable.
     pub fn is_variable(&self, symbol: Sym) -> bool
         requires { symbol < length (symbol_names self.now.statements) }
-        ensures { result ≡ is_variable self.now.statements symbol }
+        ensures { result ≡ is_variable_number self.now.statements symbol }
     {
         self.variables[symbol.number() as usize]
     }
 
-    /// Whether a statement is active at another, or at the end, which is `len()`; never where it is `${` or `$}`.
+    /// Whether a statement is active at another, or at the end, which is `len()`; never where it is
+    /// `${` or `$}`.
     pub fn active_at(&self, statement: u32, at: u32) -> bool
         requires statement { statement < length self.now.statements }
         requires at { at ≤ length self.now.statements }
@@ -207,14 +237,17 @@ impl<'a, A: Allocator> Database<'a, A> {
     /// The frame of an assertion.
     pub fn frame(&self, assertion: u32) -> &Frame<A>
         requires { list_any is_assertion (statement_at self.now.statements assertion) ≡ true }
-        ensures hypotheses { result.now.hyps.items ≡ mandatory_hypotheses self.now.statements assertion }
-        ensures pairs { map (λ p. pair p.0 p.1) result.now.pairs.items ≡ mandatory_pairs self.now.statements assertion }
+        ensures hypotheses { result.now.hyps.items
+            ≡ mandatory_hypotheses self.now.statements assertion }
+        ensures pairs { map (λ p. pair p.0 p.1) result.now.pairs.items
+            ≡ mandatory_pairs self.now.statements assertion }
     {
         let place = self.frames.places[assertion as usize];
         &self.frames.list[place as usize]
     }
 
-    /// Whether a `$d` that is active at the statement, or at the end, has both variables; never a variable and itself.
+    /// Whether a `$d` that is active at the statement, or at the end, has both variables; never a
+    /// variable and itself.
     pub fn disjoint_at(&self, statement: u32, x: Sym, y: Sym) -> bool
         requires { statement ≤ length self.now.statements }
         ensures { result ≡ disjoint_at self.now.statements statement x y }
@@ -222,11 +255,13 @@ impl<'a, A: Allocator> Database<'a, A> {
         x.number() != y.number() && are_together(&self.blocks, &self.members, x, y, statement)
     }
 
-    /// The words of a theorem's proof, those behind its `$=`; none where the statement is no theorem.
+    /// The words of a theorem's proof, those after its `$=`; none where the statement is no
+    /// theorem.
     pub fn proof_words(&self, statement: u32) -> &[Word]
         requires { statement < length self.now.statements }
-        ensures words { option_map proof_of (slice_get self.now.statements statement) ≡ Some (tokens_of self.now.text result.now) }
-        ensures within { AreWords self.now.text result.now }
+        ensures words { option_map proof_of (slice_get self.now.statements statement)
+            ≡ Some (as_tokens self.now.text result.now) }
+        ensures within { AreWithin self.now.text result.now }
     {
         let outline = self.outlines[statement as usize];
         match self.kind(statement) {
@@ -238,7 +273,8 @@ impl<'a, A: Allocator> Database<'a, A> {
         }
     }
 
-    /// The theorems, in file order: the `$p` statements, but for open theorems where these count as axioms.
+    /// The theorems, in file order: the `$p` statements, but for open theorems where these count as
+    /// axioms.
     pub fn theorems(&self) -> &[u32]
         ensures theorems { result.now ≡ theorems self.now.statements }
         ensures few { length self.now.statements < 2 ^ 31 }
@@ -246,7 +282,8 @@ impl<'a, A: Allocator> Database<'a, A> {
         self.theorems.as_slice()
     }
 
-    /// The axioms, in file order: the `$a` statements, and open theorems where these count as axioms.
+    /// The axioms, in file order: the `$a` statements, and open theorems where these count as
+    /// axioms.
     pub fn axioms(&self) -> &[u32]
         ensures axioms { result.now ≡ columns self.now.statements None }
         ensures few { length self.now.statements < 2 ^ 31 }
@@ -254,11 +291,14 @@ impl<'a, A: Allocator> Database<'a, A> {
         self.axioms.as_slice()
     }
 
-    /// The labels of the theorems from the one number in `theorems` up to the other, each behind a space.
+    /// The labels of the theorems from the one number in `theorems` up to the other, each after a
+    /// space.
     pub fn spaced_labels(&self, from: u32, to: u32) -> &[u8]
         requires order { from ≤ to }
         requires within { to ≤ length (theorems self.now.statements) }
-        ensures { result.now ≡ flat_map (λ k. 32 ∷ label_at self.now.statements k) (slice_range (theorems self.now.statements) from to) }
+        ensures { result.now
+            ≡ flat_map (λ k. 32 ∷ label_at self.now.statements k)
+            (slice_range (theorems self.now.statements) from to) }
     {
         let begin = self.spaced.starts[from as usize];
         let end = self.spaced.starts[to as usize];

@@ -1,6 +1,7 @@
 //! The words of statements that are asked for again.
 
-ghost use Rattle.std.specs.Prelude.{◌≡◌, ◌<◌, ◌≤◌, ◌+◌, ◌++◌, All, IfOk, OnOk, length, slice_index, slice_range, vec_len};
+ghost use Rattle.std.specs.Prelude.{◌≡◌, ◌<◌, ◌≤◌, ◌+◌, ◌++◌, All, IfOk, OnOk, length, slice_index};
+ghost use Rattle.std.specs.Prelude.{slice_range, vec_len};
 ghost use Rattle.mm_outline.specs.Parts.{IsOutline};
 ghost use Rattle.mm_stmt.specs.Kept.{is_labelled_kind, kept_words, AreKept};
 
@@ -8,9 +9,9 @@ use mm_outline::parts::{Kind, Outline};
 use mm_spec::Word;
 use std::alloc::{AllocError, Allocator};
 
-/// Of each statement its label, the words of its proof and its last token, one statement's behind another's: those of
-/// statement k from `starts[k]` up to `starts[k + 1]`. The other tokens are needed no more once statements are read, and
-/// are let go.
+/// Of each statement its label, the words of its proof and its last token, one statement's after
+/// another's: those of statement k from `starts[k]` up to `starts[k + 1]`. The other tokens are
+/// needed no more once statements are read, and are let go.
 #[derive(Drop)]
 pub struct Kept<A: Allocator> {
     pub words: Vec<Word, A>,
@@ -21,9 +22,13 @@ impl<A: Allocator> Kept<A> {
     /// Those of a statement.
     pub(crate) fn of(&self, statement: u32) -> &[Word]
         requires inside { statement + 1 < vec_len self.now.starts }
-        requires order { slice_index self.now.starts.items statement ≤ slice_index self.now.starts.items (statement + 1) }
-        requires within { slice_index self.now.starts.items (statement + 1) ≤ vec_len self.now.words }
-        ensures { result.now ≡ slice_range self.now.words.items (slice_index self.now.starts.items statement) (slice_index self.now.starts.items (statement + 1)) }
+        requires order { slice_index self.now.starts.items statement
+            ≤ slice_index self.now.starts.items (statement + 1) }
+        requires within { slice_index self.now.starts.items (statement + 1)
+            ≤ vec_len self.now.words }
+        ensures { result.now
+            ≡ slice_range self.now.words.items (slice_index self.now.starts.items statement)
+            (slice_index self.now.starts.items (statement + 1)) }
     {
         let from = self.starts[statement as usize];
         let to = self.starts[statement as usize + 1];

@@ -1,8 +1,9 @@
-//! What each statement counts as: what it is, but an axiom where it is an open theorem and these count as axioms.
+//! What each statement counts as: what it is, but an axiom where it is an open theorem and these
+//! count as axioms.
 
 ghost use Rattle.std.specs.Prelude.{◌≡◌, ◌<◌, ◌≤◌, ◌^◌, All, IfOk, bytes_eq, length, map};
 ghost use Rattle.mm_spec.specs.Opened.{counted, is_open_proof as spec_is_open_proof};
-ghost use Rattle.mm_outline.specs.Parts.{AreWords, IsOutline, statement_of, token_of, tokens_of};
+ghost use Rattle.mm_outline.specs.Parts.{AreWithin, IsOutline, statement_of, token_of, as_tokens};
 ghost use Rattle.mm_outline.specs.Statements.{statements};
 ghost use Rattle.mm_stmt.specs.Database.{kind_of};
 ghost use Rattle.mm_stmt.specs.Kinds.{counted_as, is_axiom_kind, is_theorem_kind, numbers_of};
@@ -22,8 +23,8 @@ fn is_word(text: &[u8], word: Word, name: &[u8]) -> bool
 
 /// Whether these are the words of a proof of which nothing is known: `?`, or `(` `)` `?`.
 fn is_open_proof(text: &[u8], words: &[Word]) -> bool
-    requires { AreWords text.now words.now }
-    ensures { result ≡ spec_is_open_proof (tokens_of text.now words.now) }
+    requires { AreWithin text.now words.now }
+    ensures { result ≡ spec_is_open_proof (as_tokens text.now words.now) }
 {
     if words.len() == 1 {
         is_word(text, words[0], b"?".as_slice())
@@ -38,7 +39,7 @@ fn is_open_proof(text: &[u8], words: &[Word]) -> bool
 
 /// What the statement of an outline counts as.
 fn counted_kind(text: &[u8], tokens: &[Word], outline: Outline, with_open: bool) -> Kind
-    requires words { AreWords text.now tokens.now }
+    requires words { AreWithin text.now tokens.now }
     requires outline { IsOutline outline }
     requires within { outline.end < length tokens.now }
     ensures { result ≡ kind_of (counted_as with_open (statement_of text.now tokens.now outline)) }
@@ -64,9 +65,11 @@ pub(crate) fn kinds_of<A: Allocator + Copy>(
     outlines: &[Outline],
     with_open: bool,
 ) -> Result<Vec<Kind, A>, AllocError>
-    requires words { AreWords text.now tokens.now }
+    requires words { AreWithin text.now tokens.now }
     requires outlines { All (λ o. IsOutline o × (o.end < length tokens.now)) outlines.now }
-    ensures { IfOk result (λ kinds. kinds.items ≡ map kind_of (counted with_open (statements text.now tokens.now outlines.now))) }
+    ensures { IfOk result
+        (λ kinds. kinds.items
+        ≡ map kind_of (counted with_open (statements text.now tokens.now outlines.now))) }
 {
     let mut kinds = Vec::with_capacity(alloc, outlines.len())?;
     for outline in outlines {

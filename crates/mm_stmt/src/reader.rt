@@ -15,9 +15,10 @@ use mm_scope::reading::outline;
 use mm_spec::Lexed;
 use std::alloc::{AllocError, Allocator};
 
-/// The statements of a text before its first fault of words, shape, symbols, labels or scope, and that fault (sections
-/// 4.1 and 4.2 of the Metamath book). With the flag open theorems, those whose proof is `?` or `( ) ?`, count as axioms.
-/// The tokens and the fault are those of this text; it is refused for memory alone.
+/// The statements of a text before its first fault of words, shape, symbols, labels or scope, and
+/// that fault (sections 4.1 and 4.2 of the Metamath book). With the flag open theorems, those whose
+/// proof is `?` or `( ) ?`, count as axioms. The tokens and the fault are those of this text; it is
+/// refused for memory alone.
 pub fn read<'a, A: Allocator + Copy>(
     alloc: A,
     text: &'a [u8],
@@ -28,8 +29,10 @@ pub fn read<'a, A: Allocator + Copy>(
     requires fault { lexed.fault ≡ lexical_fault text.now }
     ensures text { IfOk result (λ database. database.text ≡ text.now) }
     ensures flag { IfOk result (λ database. database.with_open ≡ with_open) }
-    ensures read { IfOk result (λ database. IsRead (length text.now) (lexed_of text.now) database.read database.fault) }
-    ensures counted { IfOk result (λ database. database.statements ≡ counted with_open database.read) }
+    ensures read { IfOk result
+        (λ database. IsRead (length text.now) (lexed_of text.now) database.read database.fault) }
+    ensures counted { IfOk result
+        (λ database. database.statements ≡ counted with_open database.read) }
 {
     let words = lexed.tokens;
     let read = outline(alloc, text, &words, lexed.fault)?;

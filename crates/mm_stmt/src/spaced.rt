@@ -2,7 +2,7 @@
 
 ghost use Rattle.std.specs.Prelude.{◌≡◌, ◌<◌, ◌≤◌, ◌-◌, All, IfOk, IsTrue, length, map};
 ghost use Rattle.mm_spec.specs.Output.{is_theorem_at, label_at};
-ghost use Rattle.mm_outline.specs.Parts.{AreWords, IsOutline, token_at};
+ghost use Rattle.mm_outline.specs.Parts.{AreWithin, IsOutline, token_at};
 ghost use Rattle.mm_outline.specs.Statements.{statements};
 ghost use Rattle.mm_stmt.specs.Spaced.{AreSpaced};
 
@@ -10,8 +10,9 @@ use mm_outline::parts::Outline;
 use mm_spec::Word;
 use std::alloc::{AllocError, Allocator};
 
-/// The labels of the theorems, each behind a space: that of the theorem with index i from `starts[i]` up to
-/// `starts[i + 1]`. So the labels of theorems that follow one another are one slice.
+/// The labels of the theorems, each after a space: that of the theorem with index i from
+/// `starts[i]` up to `starts[i + 1]`. So the labels of theorems that follow one another are one
+/// slice.
 #[derive(Drop)]
 pub struct SpacedLabels<A: Allocator> {
     pub bytes: Vec<u8, A>,
@@ -20,7 +21,7 @@ pub struct SpacedLabels<A: Allocator> {
 
 /// The label of a statement that has one.
 fn label_of<'a>(text: &'a [u8], tokens: &[Word], outline: Outline) -> &'a [u8]
-    requires words { AreWords text.now tokens.now }
+    requires words { AreWithin text.now tokens.now }
     requires label { 0 < outline.keyword }
     requires within { outline.keyword ≤ length tokens.now }
     ensures { result.now ≡ (token_at text.now tokens.now (outline.keyword - 1)).word }
@@ -37,10 +38,15 @@ pub fn spaced_labels_of<A: Allocator + Copy>(
     outlines: &[Outline],
     theorems: &[u32],
 ) -> Result<SpacedLabels<A>, AllocError>
-    requires words { AreWords text.now tokens.now }
+    requires words { AreWithin text.now tokens.now }
     requires outlines { All (λ o. IsOutline o × (o.end < length tokens.now)) outlines.now }
-    requires theorems { All (λ k. IsTrue (is_theorem_at (statements text.now tokens.now outlines.now) k)) theorems.now }
-    ensures { IfOk result (λ l. AreSpaced (map (label_at (statements text.now tokens.now outlines.now)) theorems.now) l.bytes.items l.starts.items) }
+    requires theorems { All
+        (λ k. IsTrue (is_theorem_at (statements text.now tokens.now outlines.now) k))
+        theorems.now }
+    ensures { IfOk result
+        (λ l. AreSpaced
+        (map (label_at (statements text.now tokens.now outlines.now)) theorems.now)
+        l.bytes.items l.starts.items) }
 {
     let mut bytes = Vec::new(alloc);
     let mut starts = Vec::new(alloc);

@@ -1,5 +1,6 @@
 -- What a closed board says of the proofs.
-use Rattle.std.proofs.Common.{◌≡◌, ℕ, Bool, ◌+◌, ◌<◌, ◌⊎◌, inl, inr, List, [], ◌∷◌, get_or, refl, subst, arith, ◌∙◌}
+use Rattle.std.proofs.Common.{◌≡◌, ℕ, Bool, ◌+◌, ◌<◌, ◌⊎◌, inl, inr, List, [], ◌∷◌, get_or, refl}
+use Rattle.std.proofs.Common.{subst, arith, ◌∙◌}
 use Rattle.mm_spec.specs.Statement.{Statement}
 use Rattle.mm_spec.specs.Citation.{IsValid}
 use Rattle.mm_board.specs.Records.{times_in}
@@ -11,19 +12,28 @@ use Rattle.mm_work.specs.declared.worker.Found.{Found}
 use Rattle.mm_work.proofs.CitedLaw.{cited-valid}
 use Rattle.std.proofs.lemmas.List.{get_or_default}
 
-module _ {A : Type 0} (home : BoardValue) (db : List Statement) (by_essential : Bool) (seat : SeatValue) (fs : List (Found A)) (h : AreGathered home db by_essential seat fs) where
+module _ {A : Type 0} (home : BoardValue) (db : List Statement) (by_essential : Bool)
+    (seat : SeatValue) (fs : List (Found A)) (h : AreGathered home db by_essential seat fs) where
   -- the theorems below the floor are valid
-  pub valid-below : (first : ℕ) → ((x : ℕ) → x < first → times_in x seat.view.settled ≡ 1) → (n : ℕ) → n < first → IsValid db (theorem_of db n)
+  pub valid-below : (first : ℕ) → ((x : ℕ) → x < first → times_in x seat.view.settled ≡ 1) → (n : ℕ)
+      → n < first → IsValid db (theorem_of db n)
   valid-below first all n l =
       let one = all n l in
       let r = h.settled n (omega (arith, one)) in
-      let f : AreFound db by_essential r.0 = subst (λ (x : Found A). AreFound db by_essential x) r.1.2 (h.found r.1.0 r.0 r.1.1) in
-      cited-valid db by_essential _ _ (subst (λ i. IsCited db by_essential (theorem_of db i) (get_or r.0.cites r.2.0 [])) (get_or_default r.0.valid.items r.2.0 0 n r.2.1 ∙ r.2.2) (f.each r.2.0 r.2.1))
+      let f : AreFound db by_essential r.0 =
+      subst (λ (x : Found A). AreFound db by_essential x) r.1.2 (h.found r.1.0 r.0 r.1.1) in
+      cited-valid db by_essential _ _
+      (subst (λ i. IsCited db by_essential (theorem_of db i) (get_or r.0.cites r.2.0 []))
+      (get_or_default r.0.valid.items r.2.0 0 n r.2.1 ∙ r.2.2) (f.each r.2.0 r.2.1))
 
   -- the floor is a theorem with a fault, where it is no theorem's end
-  pub faulty-at : (first : ℕ) → IsLeastReported home.count (seat.view ∷ []) first → first < home.count → IsFoundFaulty fs first
+  pub faulty-at : (first : ℕ) → IsLeastReported home.count (seat.view ∷ []) first
+      → first < home.count → IsFoundFaulty fs first
   faulty-at first least l = by least.is
     where
-      by : (first ≡ home.count) ⊎ (0 < times_reported (seat.view ∷ []) first) → IsFoundFaulty fs first
+      by : (first ≡ home.count) ⊎ (0 < times_reported (seat.view ∷ []) first)
+          → IsFoundFaulty fs first
       by (inl e) = absurd (omega (arith, e, l))
-      by (inr p) = let own : times_reported (seat.view ∷ []) first ≡ times_in first seat.view.reported + 0 = refl in h.reported first (omega (arith, p, own))
+      by (inr p) =
+          let own : times_reported (seat.view ∷ []) first
+          ≡ times_in first seat.view.reported + 0 = refl in h.reported first (omega (arith, p, own))

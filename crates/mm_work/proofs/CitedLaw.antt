@@ -1,5 +1,7 @@
 -- The citations of valid theorems are the database's.
-use Rattle.std.proofs.Common.{◌≡◌, ℕ, zero, suc, ◌+◌, ◌==◌, ◌<◌, ◌≤◌, ◌^◌, Bool, true, ◌⊎◌, inl, inr, List, [], ◌∷◌, length, get_or, refl, sym, ap, ◌∙◌, subst, arith, true≢false, eqb-true}
+use Rattle.std.proofs.Common.{◌≡◌, ℕ, zero, suc, ◌+◌, ◌==◌, ◌<◌, ◌≤◌, ◌^◌, Bool, true, ◌⊎◌, inl}
+use Rattle.std.proofs.Common.{inr, List, [], ◌∷◌, length, get_or, refl, sym, ap, ◌∙◌, subst, arith}
+use Rattle.std.proofs.Common.{true≢false, eqb-true}
 use Rattle.std.specs.List.{list_any, range_with_len}
 use Rattle.std.proofs.lemmas.Bool.{or_cases, or_left, or_right, cases_lt, eq-eqb}
 use Rattle.mm_spec.specs.Statement.{Statement}
@@ -7,71 +9,93 @@ use Rattle.mm_spec.specs.Scope.{statement_at}
 use Rattle.mm_spec.specs.Derivation.{is_member}
 use Rattle.mm_spec.specs.Citation.{is_theorem, IsValid}
 use Rattle.mm_spec.specs.Citation as proof
-use Rattle.mm_spec.specs.Complete.{AreComplete}
+use Rattle.mm_spec.specs.Laws.Complete.{AreComplete}
 use Rattle.mm_spec.specs.Output.{theorems, is_theorem_at, AreValid}
-use Rattle.mm_spec.proofs.Finds.{those-member, found_at, inside_of}
+use Rattle.mm_spec.proofs.Finds.{filter-member, found_at, inside_of}
 use Rattle.mm_spec.proofs.Cited.{cites_earlier, proof_theorem}
 use Rattle.mm_cites.specs.Citing.{Citing, citing, Cites, IsRising, IsFileOrder}
-use Rattle.mm_cites.proofs.RisingLaw.{those-rising}
+use Rattle.mm_cites.proofs.RisingLaw.{filter-rising}
 use Rattle.mm_work.specs.Judged.{IsCited, AreCited, Shows}
 
 -- a member stands at some place
-member-at : (xs : List ℕ) (x : ℕ) → is_member xs x ≡ true → (i : ℕ) × (i < length xs) × (get_or xs i 0 ≡ x)
+member-at : (xs : List ℕ) (x : ℕ) → is_member xs x ≡ true
+    → (i : ℕ) × (i < length xs) × (get_or xs i 0 ≡ x)
 member-at [] x m = absurd (true≢false (sym m))
 member-at (y ∷ xs) x m = by (or_cases (x == y) (is_member xs x) m) (member-at xs x)
   where
-    by : ((x == y) ≡ true) ⊎ (is_member xs x ≡ true) → (is_member xs x ≡ true → (i : ℕ) × (i < length xs) × (get_or xs i 0 ≡ x)) → (i : ℕ) × (i < suc (length xs)) × (get_or (y ∷ xs) i 0 ≡ x)
+    by : ((x == y) ≡ true) ⊎ (is_member xs x ≡ true)
+        → (is_member xs x ≡ true → (i : ℕ) × (i < length xs) × (get_or xs i 0 ≡ x))
+        → (i : ℕ) × (i < suc (length xs)) × (get_or (y ∷ xs) i 0 ≡ x)
     by (inl e) r = (0, omega arith, sym (eqb-true x y e))
     by (inr h) r = let k = r h in (suc k.0, (let l = k.1 in omega (arith, l)), k.2)
 
 at-member : (xs : List ℕ) (i : ℕ) → i < length xs → is_member xs (get_or xs i 0) ≡ true
 at-member [] i h = absurd (omega arith)
 at-member (y ∷ xs) zero h = or_left (y == y) (is_member xs y) (eq-eqb y y refl)
-at-member (y ∷ xs) (suc i) h = or_right (get_or xs i 0 == y) (is_member xs (get_or xs i 0)) (at-member xs i (omega arith))
+at-member (y ∷ xs) (suc i) h =
+    or_right (get_or xs i 0 == y) (is_member xs (get_or xs i 0)) (at-member xs i (omega arith))
 
 in-range : (n a x : ℕ) → a ≤ x → x < a + n → is_member (range_with_len a n) x ≡ true
 in-range zero a x l h = absurd (omega arith)
-in-range (suc n) a x l h = by (cases_lt a x) (λ k. in-range n (a + 1) x (omega (arith, k)) (omega arith))
+in-range (suc n) a x l h =
+    by (cases_lt a x) (λ k. in-range n (a + 1) x (omega (arith, k)) (omega arith))
   where
-    by : (a < x) ⊎ (x ≤ a) → (a < x → is_member (range_with_len (a + 1) n) x ≡ true) → is_member (range_with_len a (suc n)) x ≡ true
+    by : (a < x) ⊎ (x ≤ a) → (a < x → is_member (range_with_len (a + 1) n) x ≡ true)
+        → is_member (range_with_len a (suc n)) x ≡ true
     by (inl k) r = or_right (x == a) (is_member (range_with_len (a + 1) n) x) (r k)
-    by (inr k) r = or_left (x == a) (is_member (range_with_len (a + 1) n) x) (eq-eqb x a (omega arith))
+    by (inr k) r =
+        or_left (x == a) (is_member (range_with_len (a + 1) n) x) (eq-eqb x a (omega arith))
 
 -- a theorem stands in the list of theorems
-theorem-place : (db : List Statement) (t : ℕ) → is_theorem_at db t ≡ true → (i : ℕ) × (i < length (theorems db)) × (get_or (theorems db) i 0 ≡ t)
+theorem-place : (db : List Statement) (t : ℕ) → is_theorem_at db t ≡ true
+    → (i : ℕ) × (i < length (theorems db)) × (get_or (theorems db) i 0 ≡ t)
 theorem-place db t h =
     let f = found_at db is_theorem t h in
-    member-at (theorems db) t (those-member (λ j. list_any is_theorem (statement_at db j)) (range_with_len 0 (length db)) t h (in-range (length db) 0 t (omega arith) (let l = inside_of db t f.0 f.1 in omega (arith, l))))
+    member-at (theorems db) t
+    (filter-member (λ j. list_any is_theorem (statement_at db j))
+    (range_with_len 0 (length db)) t h
+    (in-range (length db) 0 t (omega arith)
+    (let l = inside_of db t f.0 f.1 in omega (arith, l))))
 
 -- a theorem with citations is valid
-pub cited-valid : (db : List Statement) (by_essential : Bool) (t : ℕ) (cites : List ℕ) → IsCited db by_essential t cites → IsValid db t
+pub cited-valid : (db : List Statement) (by_essential : Bool) (t : ℕ) (cites : List ℕ)
+    → IsCited db by_essential t cites → IsValid db t
 cited-valid db by_essential t cites c = (c.read, c.checked.derivation, c.checked.proof)
 
 module _ (db : List Statement) (few : length db < 2 ^ 31) (complete : AreComplete db) where
   pub theorems-rise : IsRising (theorems db)
-  theorems-rise = those-rising (λ j. list_any is_theorem (statement_at db j)) (length db) few
+  theorems-rise = filter-rising (λ j. list_any is_theorem (statement_at db j)) (length db) few
 
   -- the theorems before theorem i are valid
-  pub valid-before : (i : ℕ) → ((n : ℕ) → n < i → IsValid db (get_or (theorems db) n 0)) → i < length (theorems db) → AreValid db (get_or (theorems db) i 0)
+  pub valid-before : (i : ℕ) → ((n : ℕ) → n < i → IsValid db (get_or (theorems db) n 0))
+      → i < length (theorems db) → AreValid db (get_or (theorems db) i 0)
   valid-before i h l j k th =
       let p = theorem-place db j th in
       by p.0 p.1 p.2 (cases_lt p.0 i)
     where
-      by : (n : ℕ) → n < length (theorems db) → get_or (theorems db) n 0 ≡ j → (n < i) ⊎ (i ≤ n) → IsValid db j
+      by : (n : ℕ) → n < length (theorems db) → get_or (theorems db) n 0 ≡ j → (n < i) ⊎ (i ≤ n)
+          → IsValid db j
       by n m e (inl s) = subst (λ t. IsValid db t) e (h n s)
       by n m e (inr s) = absurd (go (cases_lt i n))
         where
           go : (i < n) ⊎ (n ≤ i) → ⊥
           go (inl q) = let r = theorems-rise.rises i n q m in omega (arith, r, e, k)
-          go (inr q) = let same : get_or (theorems db) n 0 ≡ get_or (theorems db) i 0 = ap (λ x. get_or (theorems db) x 0) (let o : n ≡ i = omega (arith, s, q) in o) in omega (arith, same, e, k)
+          go (inr q) =
+              let same : get_or (theorems db) n 0
+              ≡ get_or (theorems db) i 0 = ap (λ x. get_or (theorems db) x 0)
+              (let o : n ≡ i = omega (arith, s, q) in o) in
+              omega (arith, same, e, k)
 
   -- all theorems are valid
-  pub all-valid : (by_essential : Bool) (lists : List (List ℕ)) → AreCited db by_essential (theorems db) (length (theorems db)) lists → AreValid db (length db)
+  pub all-valid : (by_essential : Bool) (lists : List (List ℕ))
+      → AreCited db by_essential (theorems db) (length (theorems db)) lists
+      → AreValid db (length db)
   all-valid by_essential lists h j k th =
       let p = theorem-place db j th in
       subst (λ t. IsValid db t) p.2 (cited-valid db by_essential _ _ (h.each p.0 p.1))
 
-  module _ (by_essential : Bool) (lists : List (List ℕ)) (h : AreCited db by_essential (theorems db) (length (theorems db)) lists) where
+  module _ (by_essential : Bool) (lists : List (List ℕ))
+      (h : AreCited db by_essential (theorems db) (length (theorems db)) lists) where
     abbrev c : Citing
     c = citing (theorems db) lists
 
@@ -79,7 +103,10 @@ module _ (db : List Statement) (few : length db < 2 ^ 31) (complete : AreComplet
     file-order = record {
       rising = theorems-rise;
       each = h.count;
-      earlier = λ i k l m. cites_earlier db by_essential (get_or (theorems db) i 0) _ (((h.each i l).checked.exact (get_or (get_or lists i []) k 0)).0 (at-member (get_or lists i []) k m));
+      earlier =
+          λ i k l m. cites_earlier db by_essential (get_or (theorems db) i 0) _
+          (((h.each i l).checked.exact (get_or (get_or lists i []) k 0)).0
+          (at-member (get_or lists i []) k m));
     }
 
     pub shows : Shows db by_essential c
@@ -89,12 +116,23 @@ module _ (db : List Statement) (few : length db < 2 ^ 31) (complete : AreComplet
         to t a x =
             let l = get_or lists x.row [] in
             let b = get_or l x.place 0 in
-            subst (λ y. proof.Cites db by_essential t y) x.cited (subst (λ y. proof.Cites db by_essential y b) x.theorem (((h.each x.row x.within).checked.exact b).0 (at-member l x.place x.listed)))
+            subst (λ y. proof.Cites db by_essential t y) x.cited
+            (subst (λ y. proof.Cites db by_essential y b) x.theorem
+            (((h.each x.row x.within).checked.exact b).0 (at-member l x.place x.listed)))
 
         from : (t a : ℕ) → proof.Cites db by_essential t a → Cites c t a
         from t a x =
             let p = theorem-place db t (proof_theorem db t x.1 x.2) in
             let l = get_or lists p.0 [] in
-            let m : is_member l a ≡ true = ((h.each p.0 p.1).checked.exact a).1 (subst (λ y. proof.Cites db by_essential y a) (sym p.2) x) in
+            let m : is_member l a ≡ true =
+            ((h.each p.0 p.1).checked.exact a).1
+            (subst (λ y. proof.Cites db by_essential y a) (sym p.2) x) in
             let q = member-at l a m in
-            record { row = p.0; place = q.0; within = p.1; listed = q.1; theorem = p.2; cited = q.2 }
+            record {
+              row = p.0;
+              place = q.0;
+              within = p.1;
+              listed = q.1;
+              theorem = p.2;
+              cited = q.2;
+            }

@@ -1,9 +1,10 @@
 -- Verifying theorem after theorem.
-use Rattle.std.proofs.Common.{◌≡◌, ℕ, ◌+◌, ◌-◌, ◌<◌, ◌≤◌, ◌^◌, ◌⊎◌, inl, inr, Bool, List, [], ◌∷◌, ◌++◌, length, get_or, refl, sym, ap, ◌∙◌, subst, arith, length-append}
+use Rattle.std.proofs.Common.{◌≡◌, ℕ, ◌+◌, ◌-◌, ◌<◌, ◌≤◌, ◌^◌, ◌⊎◌, inl, inr, Bool, List, [], ◌∷◌}
+use Rattle.std.proofs.Common.{◌++◌, length, get_or, refl, sym, ap, ◌∙◌, subst, arith, length-append}
 use Rattle.std.proofs.lemmas.Bool.{cases_lt}
 use Rattle.std.proofs.lemmas.List.{get_or_append_left, get_or-append_right}
 use Rattle.mm_spec.specs.Statement.{Statement}
-use Rattle.mm_spec.specs.Complete.{AreComplete}
+use Rattle.mm_spec.specs.Laws.Complete.{AreComplete}
 use Rattle.mm_spec.specs.Citation.{IsValid}
 use Rattle.mm_spec.specs.Output.{theorems}
 use Rattle.mm_spec.specs.declared.Fault.{Fault}
@@ -13,31 +14,57 @@ use Rattle.mm_work.specs.Judged.{IsCited, AreCited, AllCited, IsFirstFault, HasF
 use Rattle.mm_work.proofs.CitedLaw.{cited-valid, valid-before, all-valid, file-order, shows}
 
 -- one list of citations more
-pub cited-more : (db : List Statement) (by_essential : Bool) (ts : List ℕ) (n : ℕ) (lists : List (List ℕ)) (cites : List ℕ) → AreCited db by_essential ts n lists → IsCited db by_essential (get_or ts n 0) cites → AreCited db by_essential ts (n + 1) (lists ++ cites ∷ [])
+pub cited-more : (db : List Statement) (by_essential : Bool) (ts : List ℕ) (n : ℕ)
+    → (lists : List (List ℕ)) (cites : List ℕ)
+    → AreCited db by_essential ts n lists → IsCited db by_essential (get_or ts n 0) cites
+    → AreCited db by_essential ts (n + 1) (lists ++ cites ∷ [])
 cited-more db by_essential ts n lists cites h one = record {
   count = (let l = length-append lists (cites ∷ []) in let c = h.count in omega (arith, l, c));
   each = λ i l. by i (cases_lt i n) l;
 }
   where
-    by : (i : ℕ) → (i < n) ⊎ (n ≤ i) → i < n + 1 → IsCited db by_essential (get_or ts i 0) (get_or (lists ++ cites ∷ []) i [])
-    by i (inl l) m = let c = h.count in subst (λ ys. IsCited db by_essential (get_or ts i 0) ys) (sym (get_or_append_left lists (cites ∷ []) [] i (omega (arith, l, c)))) (h.each i l)
+    by : (i : ℕ) → (i < n) ⊎ (n ≤ i) → i < n + 1
+        → IsCited db by_essential (get_or ts i 0) (get_or (lists ++ cites ∷ []) i [])
+    by i (inl l) m =
+        let c = h.count in
+        subst (λ ys. IsCited db by_essential (get_or ts i 0) ys)
+        (sym (get_or_append_left lists (cites ∷ []) [] i (omega (arith, l, c)))) (h.each i l)
     by i (inr l) m =
         let same : i ≡ n = omega (arith, l, m) in
-        let last : get_or (lists ++ cites ∷ []) n [] ≡ cites = get_or-append_right lists (cites ∷ []) n n [] h.count (omega arith) ∙ ap (λ j. get_or (cites ∷ []) j []) (zero-of n) in
-        subst (λ j. IsCited db by_essential (get_or ts j 0) (get_or (lists ++ cites ∷ []) j [])) (sym same) (subst (λ ys. IsCited db by_essential (get_or ts n 0) ys) (sym last) one)
+        let last : get_or (lists ++ cites ∷ []) n [] ≡ cites =
+        get_or-append_right lists (cites ∷ []) n n [] h.count (omega arith)
+        ∙ ap (λ j. get_or (cites ∷ []) j []) (zero-of n) in
+        subst (λ j. IsCited db by_essential (get_or ts j 0) (get_or (lists ++ cites ∷ []) j []))
+        (sym same) (subst (λ ys. IsCited db by_essential (get_or ts n 0) ys) (sym last) one)
       where
         zero-of : (k : ℕ) → k - k ≡ 0
         zero-of k = omega arith
 
 module _ (db : List Statement) (few : length db < 2 ^ 31) (complete : AreComplete db) where
-  -- a fault behind valid proofs alone is the first fault
-  pub first-fault : (i : ℕ) (f : Fault) → ((n : ℕ) → n < i → IsValid db (get_or (theorems db) n 0)) → i < length (theorems db) → HasFault db (get_or (theorems db) i 0) f → IsFirstFault db f
-  first-fault i f h l p = (get_or (theorems db) i 0, (theorems_are db i 0 l, valid-before db few complete i h l, p))
+  -- a fault after valid proofs alone is the first fault
+  pub first-fault : (i : ℕ) (f : Fault) → ((n : ℕ) → n < i → IsValid db (get_or (theorems db) n 0))
+      → i < length (theorems db) → HasFault db (get_or (theorems db) i 0) f → IsFirstFault db f
+  first-fault i f h l p =
+      (get_or (theorems db) i 0, (theorems_are db i 0 l, valid-before db few complete i h l, p))
 
-  pub cited-before : (by_essential : Bool) (i : ℕ) (lists : List (List ℕ)) → AreCited db by_essential (theorems db) i lists → (n : ℕ) → n < i → IsValid db (get_or (theorems db) n 0)
+  pub cited-before : (by_essential : Bool) (i : ℕ) (lists : List (List ℕ))
+      → AreCited db by_essential (theorems db) i lists → (n : ℕ) → n < i
+      → IsValid db (get_or (theorems db) n 0)
   cited-before by_essential i lists h n l = cited-valid db by_essential _ _ (h.each n l)
 
-  pub all-cited : (by_essential : Bool) (ts : List ℕ) (lists : List (List ℕ)) → ts ≡ theorems db → AreCited db by_essential (theorems db) (length (theorems db)) lists → IsFileOrder (citing ts lists) × AllCited db by_essential (citing ts lists)
+  pub all-cited : (by_essential : Bool) (ts : List ℕ) (lists : List (List ℕ)) → ts ≡ theorems db
+      → AreCited db by_essential (theorems db) (length (theorems db)) lists
+      → IsFileOrder (citing ts lists) × AllCited db by_essential (citing ts lists)
   all-cited by_essential ts lists e h =
-      subst (λ (us : List ℕ). IsFileOrder (citing us lists) × AllCited db by_essential (citing us lists)) (sym e)
-      (file-order db few complete by_essential lists h, record { theorems_are = refl; valid = all-valid db few complete by_essential lists h; rising = λ i l. (h.each i l).checked.rising; exact = λ i l. (h.each i l).checked.exact; shows = shows db few complete by_essential lists h })
+      subst (λ (us : List ℕ). IsFileOrder (citing us lists)
+      × AllCited db by_essential (citing us lists)) (sym e) (
+        file-order db few complete by_essential lists h,
+        record {
+          theorems_are = refl;
+          valid = all-valid db few complete by_essential lists h;
+          rising = λ i l. (h.each i l).checked.rising;
+          exact = λ i l.
+              (h.each i l).checked.exact;
+          shows = shows db few complete by_essential lists h;
+        },
+      )

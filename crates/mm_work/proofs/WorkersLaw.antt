@@ -1,5 +1,7 @@
 -- What each step does to what a worker's seat and its findings say.
-use Rattle.std.proofs.Common.{◌≡◌, ℕ, zero, suc, ◌+◌, ◌-◌, ◌<◌, ◌≤◌, ◌==◌, ◌||◌, ◌⊎◌, inl, inr, All, Bool, false, cond, Option, None, Some, List, [], ◌∷◌, ◌++◌, length, get_or, refl, sym, ap, ◌∙◌, subst, arith, length-append}
+use Rattle.std.proofs.Common.{◌≡◌, ℕ, zero, suc, ◌+◌, ◌-◌, ◌<◌, ◌≤◌, ◌==◌, ◌||◌, ◌⊎◌, inl, inr, All}
+use Rattle.std.proofs.Common.{Bool, false, cond, Option, None, Some, List, [], ◌∷◌, ◌++◌, length}
+use Rattle.std.proofs.Common.{get_or, refl, sym, ap, ◌∙◌, subst, arith, length-append}
 use Rattle.std.specs.List.{Contains}
 use Rattle.std.proofs.lemmas.Bool.{cases_lt}
 use Rattle.std.proofs.lemmas.Bool.Decides.{nat_tests}
@@ -15,7 +17,8 @@ use Rattle.mm_board.specs.Events.{after_join}
 use Rattle.mm_board.specs.Models.{BoardValue, SeatValue, IsSeatOf}
 use Rattle.mm_board.proofs.Sums.{times_in-append}
 use Rattle.mm_work.specs.Judged.{IsCited}
-use Rattle.mm_work.specs.Workers.{theorem_of, AreFound, IsDone, AreGathered, IsFoundValid, IsFoundFaulty, IsFaultFound}
+use Rattle.mm_work.specs.Workers.{theorem_of, AreFound, IsDone, AreGathered, IsFoundValid}
+use Rattle.mm_work.specs.Workers.{IsFoundFaulty, IsFaultFound}
 use Rattle.mm_work.specs.declared.worker.IndexedFault.{IndexedFault}
 use Rattle.mm_work.specs.declared.worker.Found.{Found}
 use Rattle.mm_work.specs.declared.worker.Worked.{Worked}
@@ -27,7 +30,8 @@ own_number : (i : ℕ) → 0 < cond (i == i) 1 0
 own_number i = grind (arith, nat_tests)
 
 -- a number of two lists is one of either
-times-both : (x : ℕ) (l m : List ℕ) → 0 < times_in x (l ++ m) → (0 < times_in x l) ⊎ (0 < times_in x m)
+times-both : (x : ℕ) (l m : List ℕ) → 0 < times_in x (l ++ m)
+    → (0 < times_in x l) ⊎ (0 < times_in x m)
 times-both x l m p = go (cases_lt 0 (times_in x l))
   where
     go : (0 < times_in x l) ⊎ (times_in x l ≤ 0) → (0 < times_in x l) ⊎ (0 < times_in x m)
@@ -39,29 +43,55 @@ times-contains : (x : ℕ) (l : List ℕ) → 0 < times_in x l → Contains l x
 times-contains x [] p = absurd (omega arith)
 times-contains x (y ∷ l) p = go (cases_lt 0 (times_in x l)) (times-contains x l)
   where
-    go : (0 < times_in x l) ⊎ (times_in x l ≤ 0) → (0 < times_in x l → Contains l x) → Contains (y ∷ l) x
+    go : (0 < times_in x l) ⊎ (times_in x l ≤ 0) → (0 < times_in x l → Contains l x)
+        → Contains (y ∷ l) x
     go (inl h) r = let k = r h in (suc k.0, (let b = k.1 in omega (arith, b)), k.2)
-    go (inr h) r = (0, omega arith, same_number x y (let one : times_in x (y ∷ l) ≡ cond (y == x) 1 0 + times_in x l = refl in omega arith))
+    go (inr h) r = (
+      0,
+      omega arith,
+      same_number x y
+          (let one : times_in x (y ∷ l) ≡ cond (y == x) 1 0 + times_in x l = refl in omega arith),
+    )
 
 module _ {A : Type 0} (db : List Statement) (by_essential : Bool) where
   -- one valid theorem more
-  pub found-more : (f g : Found A) (i : ℕ) (cites : List ℕ) → AreFound db by_essential f → i < length (theorems db) → IsCited db by_essential (theorem_of db i) cites
-      → g.valid.items ≡ f.valid.items ++ i ∷ [] → g.cites ≡ f.cites ++ cites ∷ [] → g.faulty ≡ f.faulty → AreFound db by_essential g
+  pub found-more : (f g : Found A) (i : ℕ) (cites : List ℕ) → AreFound db by_essential f
+      → i < length (theorems db) → IsCited db by_essential (theorem_of db i) cites
+      → g.valid.items ≡ f.valid.items ++ i ∷ [] → g.cites ≡ f.cites ++ cites ∷ []
+      → g.faulty ≡ f.faulty → AreFound db by_essential g
   found-more f g i cites h l one v c e = record {
-    count = ap length c ∙ length-append f.cites (cites ∷ []) ∙ ap (λ n. n + 1) h.count ∙ sym (length-append f.valid.items (i ∷ [])) ∙ sym (ap length v);
-    known = subst (λ (xs : List ℕ). All (λ j. j < length (theorems db)) xs) (sym v) (All-push (λ j. j < length (theorems db)) f.valid.items i h.known l);
-    each = λ k m. rw (v, c) (by k (subst (λ n. k < n) (ap length v ∙ length-append f.valid.items (i ∷ [])) m) (cases_lt k (length f.valid.items)));
+    count =
+        ap length c ∙ length-append f.cites (cites ∷ []) ∙ ap (λ n. n + 1) h.count
+        ∙ sym (length-append f.valid.items (i ∷ [])) ∙ sym (ap length v);
+    known =
+        subst (λ (xs : List ℕ). All (λ j. j < length (theorems db)) xs) (sym v)
+        (All-push (λ j. j < length (theorems db)) f.valid.items i h.known l);
+    each =
+        λ k m. rw (v, c)
+        (by k (subst (λ n. k < n) (ap length v ∙ length-append f.valid.items (i ∷ [])) m)
+        (cases_lt k (length f.valid.items)));
     faulty = subst (λ (o : Option IndexedFault). IsFaultFound db o) (sym e) h.faulty;
   }
     where
-      by : (k : ℕ) → k < length f.valid.items + 1 → (k < length f.valid.items) ⊎ (length f.valid.items ≤ k) → IsCited db by_essential (theorem_of db (get_or (f.valid.items ++ i ∷ []) k 0)) (get_or (f.cites ++ cites ∷ []) k [])
-      by k m (inl b) = rw (get_or_append_left f.valid.items (i ∷ []) 0 k b, get_or_append_left f.cites (cites ∷ []) [] k (let n = h.count in omega (arith, n, b))) (h.each k b)
+      by : (k : ℕ) → k < length f.valid.items + 1
+          → (k < length f.valid.items) ⊎ (length f.valid.items ≤ k)
+          → IsCited db by_essential (theorem_of db (get_or (f.valid.items ++ i ∷ []) k 0))
+          (get_or (f.cites ++ cites ∷ []) k [])
+      by k m (inl b) =
+          rw (
+            get_or_append_left f.valid.items (i ∷ []) 0 k b,
+            get_or_append_left f.cites
+                (cites ∷ []) [] k (let n = h.count in omega (arith, n, b)),
+          ) (h.each k b)
       by k m (inr b) =
           let n = h.count in
           let z : k - length f.valid.items ≡ 0 = omega (arith, m, b) in
           let y : k - length f.cites ≡ 0 = omega (arith, m, b, n) in
-          let last : get_or (f.valid.items ++ i ∷ []) k 0 ≡ i = get_or-append_right f.valid.items (i ∷ []) k 0 b ∙ ap (λ j. get_or (i ∷ []) j 0) z in
-          let list : get_or (f.cites ++ cites ∷ []) k [] ≡ cites = get_or-append_right f.cites (cites ∷ []) k [] (omega (arith, n, b)) ∙ ap (λ j. get_or (cites ∷ []) j []) y in
+          let last : get_or (f.valid.items ++ i ∷ []) k 0 ≡ i =
+          get_or-append_right f.valid.items (i ∷ []) k 0 b ∙ ap (λ j. get_or (i ∷ []) j 0) z in
+          let list : get_or (f.cites ++ cites ∷ []) k [] ≡ cites =
+          get_or-append_right f.cites (cites ∷ []) k [] (omega (arith, n, b))
+          ∙ ap (λ j. get_or (cites ∷ []) j []) y in
           rw (last, list) one
 
 -- how many of the numbers below n stand in no part of the record
@@ -73,42 +103,63 @@ fresh (suc n) v = cond (times_recorded n v == 0) 1 0 + fresh n v
 fresh-fewer : (a b : ℕ) → a ≤ b → cond (b == 0) 1 0 ≤ cond (a == 0) 1 0
 fresh-fewer a b = grind (arith, nat_tests)
 
-fresh-le : (n : ℕ) (v w : View) → ((x : ℕ) → times_recorded x v ≤ times_recorded x w) → fresh n w ≤ fresh n v
+fresh-le : (n : ℕ) (v w : View) → ((x : ℕ) → times_recorded x v ≤ times_recorded x w)
+    → fresh n w ≤ fresh n v
 fresh-le zero v w h = omega arith
-fresh-le (suc n) v w h = let r = fresh-le n v w h in let o = fresh-fewer (times_recorded n v) (times_recorded n w) (h n) in omega (arith, r, o)
+fresh-le (suc n) v w h =
+    let r = fresh-le n v w h in
+    let o = fresh-fewer (times_recorded n v) (times_recorded n w) (h n) in omega (arith, r, o)
 
 fresh-one : (a b : ℕ) → a ≡ 0 → 0 < b → cond (b == 0) 1 0 < cond (a == 0) 1 0
 fresh-one a b = grind (arith, nat_tests)
 
-pub fresh-less : (n i : ℕ) (v w : View) → ((x : ℕ) → times_recorded x v ≤ times_recorded x w) → i < n → times_recorded i v ≡ 0 → 0 < times_recorded i w → fresh n w < fresh n v
+pub fresh-less : (n i : ℕ) (v w : View) → ((x : ℕ) → times_recorded x v ≤ times_recorded x w)
+    → i < n → times_recorded i v ≡ 0 → 0 < times_recorded i w → fresh n w < fresh n v
 fresh-less zero i v w h l z p = absurd (omega arith)
 fresh-less (suc n) i v w h l z p = go (cases_lt i n) (λ b. fresh-less n i v w h b z p)
   where
     go : (i < n) ⊎ (n ≤ i) → (i < n → fresh n w < fresh n v) → fresh (suc n) w < fresh (suc n) v
-    go (inl b) f = let r = f b in let o = fresh-fewer (times_recorded n v) (times_recorded n w) (h n) in omega (arith, r, o)
+    go (inl b) f =
+        let r = f b in let o = fresh-fewer (times_recorded n v) (times_recorded n w) (h n) in
+        omega (arith, r, o)
     go (inr b) f =
         let e : i ≡ n = omega (arith, l, b) in
         let r = fresh-le n v w h in
-        let o = fresh-one (times_recorded n v) (times_recorded n w) (subst (λ k. times_recorded k v ≡ 0) e z) (subst (λ k. 0 < times_recorded k w) e p) in
+        let o =
+        fresh-one (times_recorded n v) (times_recorded n w)
+        (subst (λ k. times_recorded k v ≡ 0) e z) (subst (λ k. 0 < times_recorded k w) e p) in
         omega (arith, r, o)
 
 module _ {A : Type 0} (home : BoardValue) (database : Known) (by_essential : Bool) where
   -- one worker's seat
-  pub gathered-first : (w : Worked A) → IsDone home database by_essential w → w.found.short_of_memory ≡ false → AreGathered home database.statements by_essential w.seat (w.found ∷ [])
+  pub gathered-first : (w : Worked A) → IsDone home database by_essential w
+      → w.found.short_of_memory ≡ false
+      → AreGathered home database.statements by_essential w.seat (w.found ∷ [])
   gathered-first w d short =
       let t = d.tells short in
       record {
         at = d.at;
         closed = d.closed;
         over = d.over short;
-        found = All-push (AreFound database.statements by_essential) [] w.found (λ k e l. absurd (omega arith)) t.found;
-        settled = λ i p. (w.found, (0, omega arith, refl), times-contains i w.found.valid.items (subst (λ (l : List ℕ). 0 < times_in i l) t.settled p));
+        found =
+            All-push (AreFound database.statements by_essential) [] w.found
+            (λ k e l. absurd (omega arith)) t.found;
+        settled =
+            λ i p. (
+              w.found,
+              (0, omega arith, refl),
+              times-contains i w.found.valid.items
+                  (subst (λ (l : List ℕ). 0 < times_in i l) t.settled p),
+            );
         reported = λ i p. (w.found, (0, omega arith, refl), t.reported i p);
       }
 
   -- one more worker's seat
-  pub gathered-more : (s u : SeatValue) (fs : List (Found A)) (w : Worked A) → AreGathered home database.statements by_essential s fs → IsDone home database by_essential w → w.found.short_of_memory ≡ false
-      → IsSeatOf home u → u.view ≡ after_join s.view w.seat.view → AreGathered home database.statements by_essential u (fs ++ w.found ∷ [])
+  pub gathered-more : (s u : SeatValue) (fs : List (Found A)) (w : Worked A)
+      → AreGathered home database.statements by_essential s fs → IsDone home database by_essential w
+      → w.found.short_of_memory ≡ false
+      → IsSeatOf home u → u.view ≡ after_join s.view w.seat.view
+      → AreGathered home database.statements by_essential u (fs ++ w.found ∷ [])
   gathered-more s u fs w h d short at is =
       let t = d.tells short in
       record {
@@ -116,28 +167,52 @@ module _ {A : Type 0} (home : BoardValue) (database : Known) (by_essential : Boo
         closed = ap (λ (v : View). v.open_number) is ∙ h.closed;
         over = ap (λ (v : View). v.over) is ∙ ap (λ (b : Bool). b || w.seat.view.over) h.over;
         found = All-push (AreFound database.statements by_essential) fs w.found h.found t.found;
-        settled = λ i p. valid i (times-both i s.view.settled w.seat.view.settled (subst (λ (l : List ℕ). 0 < times_in i l) (ap (λ (v : View). v.settled) is) p));
-        reported = λ i p. faulty i (times-both i s.view.reported w.seat.view.reported (subst (λ (l : List ℕ). 0 < times_in i l) (ap (λ (v : View). v.reported) is) p));
+        settled =
+            λ i p. valid i
+            (times-both i s.view.settled w.seat.view.settled
+            (subst (λ (l : List ℕ). 0 < times_in i l) (ap (λ (v : View). v.settled) is) p));
+        reported =
+            λ i p. faulty i
+            (times-both i s.view.reported w.seat.view.reported
+            (subst (λ (l : List ℕ). 0 < times_in i l) (ap (λ (v : View). v.reported) is) p));
       }
     where
-      valid : (i : ℕ) → (0 < times_in i s.view.settled) ⊎ (0 < times_in i w.seat.view.settled) → IsFoundValid (fs ++ w.found ∷ []) i
-      valid i (inl p) = let r = h.settled i p in (r.0, Contains-append_left fs (w.found ∷ []) r.0 r.1, r.2)
-      valid i (inr p) = let t = d.tells short in (w.found, Contains-push fs w.found, times-contains i w.found.valid.items (subst (λ (l : List ℕ). 0 < times_in i l) t.settled p))
+      valid : (i : ℕ) → (0 < times_in i s.view.settled) ⊎ (0 < times_in i w.seat.view.settled)
+          → IsFoundValid (fs ++ w.found ∷ []) i
+      valid i (inl p) =
+          let r = h.settled i p in (r.0, Contains-append_left fs (w.found ∷ []) r.0 r.1, r.2)
+      valid i (inr p) =
+          let t = d.tells short in (
+            w.found,
+            Contains-push fs w.found,
+            times-contains i w.found.valid.items
+                (subst (λ (l : List ℕ). 0 < times_in i l) t.settled p),
+          )
 
-      faulty : (i : ℕ) → (0 < times_in i s.view.reported) ⊎ (0 < times_in i w.seat.view.reported) → IsFoundFaulty (fs ++ w.found ∷ []) i
-      faulty i (inl p) = let r = h.reported i p in (r.0, Contains-append_left fs (w.found ∷ []) r.0 r.1, r.2)
-      faulty i (inr p) = let t = d.tells short in (w.found, Contains-push fs w.found, t.reported i p)
+      faulty : (i : ℕ) → (0 < times_in i s.view.reported) ⊎ (0 < times_in i w.seat.view.reported)
+          → IsFoundFaulty (fs ++ w.found ∷ []) i
+      faulty i (inl p) =
+          let r = h.reported i p in (r.0, Contains-append_left fs (w.found ∷ []) r.0 r.1, r.2)
+      faulty i (inr p) =
+          let t = d.tells short in (w.found, Contains-push fs w.found, t.reported i p)
 
 -- a number drawn and judged
-pub fresh-drawn : (n i : ℕ) (v w u : View) → v.open_number ≡ None → w ≡ record v { open_number = Some i } → i < n → ((x : ℕ) → 0 < times_recorded x v → x < i)
+pub fresh-drawn : (n i : ℕ) (v w u : View) → v.open_number ≡ None
+    → w ≡ record v { open_number = Some i } → i < n → ((x : ℕ) → 0 < times_recorded x v → x < i)
     → ((x : ℕ) → times_recorded x u ≡ times_recorded x w) → fresh n u < fresh n v
 fresh-drawn n i v w u closed is l above kept = fresh-less n i v u more l unseen seen
   where
-    at-open : (x : ℕ) → times_recorded x w ≡ cond (i == x) 1 0 + times_in x v.settled + times_in x v.reported + times_in x v.skipped
+    at-open : (x : ℕ)
+        → times_recorded x w
+        ≡ cond (i == x) 1 0 + times_in x v.settled + times_in x v.reported + times_in x v.skipped
     at-open x = ap (λ (y : View). times_recorded x y) is
 
-    at-closed : (x : ℕ) → times_recorded x v ≡ 0 + times_in x v.settled + times_in x v.reported + times_in x v.skipped
-    at-closed x = ap (λ (o : Option ℕ). times_open x o + times_in x v.settled + times_in x v.reported + times_in x v.skipped) closed
+    at-closed : (x : ℕ)
+        → times_recorded x v
+        ≡ 0 + times_in x v.settled + times_in x v.reported + times_in x v.skipped
+    at-closed x =
+        ap (λ (o : Option ℕ). times_open x o + times_in x v.settled + times_in x v.reported
+        + times_in x v.skipped) closed
 
     more : (x : ℕ) → times_recorded x v ≤ times_recorded x u
     more x = let k = kept x in let o = at-open x in let e = at-closed x in omega (arith, k, o, e)
@@ -154,10 +229,14 @@ fresh-drawn n i v w u closed is l above kept = fresh-less n i v u more l unseen 
 
 -- the parts of a list whose elements all have a property
 pub All-front : {X : Type 0} (P : X → Type 0) (l : List X) (x : X) → All P (l ++ x ∷ []) → All P l
-All-front P l x h = λ k d lt. let r = h k d (let n = length-append l (x ∷ []) in omega (arith, n, lt)) in rw (sym (get_or_append_left l (x ∷ []) d k lt)) r
+All-front P l x h =
+    λ k d lt. let r = h k d (let n = length-append l (x ∷ []) in omega (arith, n, lt)) in
+    rw (sym (get_or_append_left l (x ∷ []) d k lt)) r
 
 pub All-last : {X : Type 0} (P : X → Type 0) (l : List X) (x : X) → All P (l ++ x ∷ []) → P x
-All-last P l x h = let r = h (length l) x (let n = length-append l (x ∷ []) in omega (arith, n)) in rw (sym (last l x)) r
+All-last P l x h =
+    let r = h (length l) x (let n = length-append l (x ∷ []) in omega (arith, n)) in
+    rw (sym (last l x)) r
   where
     last : {X : Type 0} (l : List X) (x : X) → get_or (l ++ x ∷ []) (length l) x ≡ x
     last [] x = refl

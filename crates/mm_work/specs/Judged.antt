@@ -1,5 +1,6 @@
 -- What the checking of all proofs finds.
-use Rattle.std.specs.Prelude.{◌≡◌, ℕ, ◌<◌, Bool, List, [], length, slice_index, slice_index_or, slice_get, Decides, ◌↔◌}
+use Rattle.std.specs.Prelude.{◌≡◌, ℕ, ◌<◌, Bool, List, [], length, slice_index, slice_index_or}
+use Rattle.std.specs.Prelude.{slice_get, Decides, ◌↔◌}
 use Rattle.mm_spec.specs.Derivation.{is_member}
 use Rattle.std.specs.List.Sorted.{IsStrictlyIncreasing}
 use Rattle.mm_spec.specs.Statement.{Statement}
@@ -15,25 +16,30 @@ use Rattle.mm_work.specs.declared.judged.Judged.{Judged}
 use Rattle.mm_work.specs.declared.judged.Judged.TheVariants.{Valid, Faulty}
 
 -- these are the citations of a valid theorem
-pub record IsCited (db : List Statement) (by_essential : Bool) (t : ℕ) (cites : List ℕ) : Type 0 where
+pub record IsCited (db : List Statement) (by_essential : Bool) (t : ℕ)
+    (cites : List ℕ) : Type 0 where
   pub read : reading_faults_at db t ≡ []
   pub checked : IsChecked db by_essential t cites
 
 -- the first theorems are valid, with these citations
-pub record AreCited (db : List Statement) (by_essential : Bool) (ts : List ℕ) (n : ℕ) (lists : List (List ℕ)) : Type 0 where
+pub record AreCited (db : List Statement) (by_essential : Bool) (ts : List ℕ) (n : ℕ)
+    (lists : List (List ℕ)) : Type 0 where
   pub count : length lists ≡ n
-  pub each : (i : ℕ) → i < n → IsCited db by_essential (slice_index ts i) (slice_index_or lists i [])
+  pub each : (i : ℕ) → i < n
+      → IsCited db by_essential (slice_index ts i) (slice_index_or lists i [])
 
 -- the lists are what the theorems of a database cite
 pub record Shows (db : List Statement) (by_essential : Bool) (c : Citing) : Type 0 where
   pub same : (t a : ℕ) → Cites c t a ↔ proof.Cites db by_essential t a
 
--- all theorems are valid, and these are their citations, each list rising and each assertion in it once
+-- all theorems are valid, and these are their citations, each list rising and each assertion in it
+-- once
 pub record AllCited (db : List Statement) (by_essential : Bool) (c : Citing) : Type 0 where
   pub theorems_are : c.theorems ≡ theorems db
   pub valid : AreValid db (length db)
   pub rising : (i : ℕ) → i < length c.theorems → IsStrictlyIncreasing (list_at c i)
-  pub exact : (i : ℕ) → i < length c.theorems → (a : ℕ) → Decides (is_member (list_at c i) a) (proof.Cites db by_essential (theorem_at c i) a)
+  pub exact : (i : ℕ) → i < length c.theorems → (a : ℕ)
+      → Decides (is_member (list_at c i) a) (proof.Cites db by_essential (theorem_at c i) a)
   pub shows : Shows db by_essential c
 
 -- the proof of some theorem has this fault, and those of the earlier ones have none

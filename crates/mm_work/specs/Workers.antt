@@ -1,5 +1,6 @@
 -- What a worker's seat and its findings say.
-use Rattle.std.specs.Prelude.{◌≡◌, ℕ, ◌<◌, Bool, All, List, [], Option, None, Some, length, false, true, slice_index, slice_index_or}
+use Rattle.std.specs.Prelude.{◌≡◌, ℕ, ◌<◌, Bool, All, List, [], Option, None, Some, length, false}
+use Rattle.std.specs.Prelude.{true, slice_index, slice_index_or}
 use Rattle.std.specs.List.{Contains}
 use Rattle.std.specs.Option.{option_map}
 use Rattle.mm_spec.specs.Statement.{Statement}
@@ -20,22 +21,28 @@ theorem_of db i = slice_index (theorems db) i
 -- the proof of the theorem has the fault, if there is one
 abbrev pub IsFaultFound : List Statement → Option IndexedFault → Type 0
 IsFaultFound db None = Unit {0}
-IsFaultFound db (Some g) = (g.index < length (theorems db)) × HasFault db (theorem_of db g.index) g.fault
+IsFaultFound db (Some g) =
+    (g.index < length (theorems db)) × HasFault db (theorem_of db g.index) g.fault
 
 -- the theorem, by its index, in whose proof a fault was found, if there is one
 abbrev pub faulty_index : Option IndexedFault → Option ℕ
 faulty_index g = option_map (λ f. f.index) g
 
 module _ {A : Type 0} where
-  -- what a worker found is so: the proofs that it found valid are, with these citations, and the fault is that of its theorem
+  -- what a worker found is so: the proofs that it found valid are, with these citations, and the
+  -- fault is that of its theorem
   pub record AreFound (db : List Statement) (by_essential : Bool) (f : Found A) : Type 0 where
     pub count : length f.cites ≡ length f.valid.items
     pub known : All (λ i. i < length (theorems db)) f.valid.items
-    pub each : (k : ℕ) → k < length f.valid.items → IsCited db by_essential (theorem_of db (slice_index f.valid.items k)) (slice_index_or f.cites k [])
+    pub each : (k : ℕ) → k < length f.valid.items
+        → IsCited db by_essential (theorem_of db (slice_index f.valid.items k))
+        (slice_index_or f.cites k [])
     pub faulty : IsFaultFound db f.faulty
 
-  -- the numbers that a seat has settled are those of the proofs that were found valid, and what it has reported is the fault
-  pub record Tells (db : List Statement) (by_essential : Bool) (v : View) (f : Found A) : Type 0 where
+  -- the numbers that a seat has settled are those of the proofs that were found valid, and what it
+  -- has reported is the fault
+  pub record Tells (db : List Statement) (by_essential : Bool) (v : View)
+      (f : Found A) : Type 0 where
     pub found : AreFound db by_essential f
     pub settled : v.settled ≡ f.valid.items
     pub reported : (i : ℕ) → 0 < times_in i v.reported → faulty_index f.faulty ≡ Some i
@@ -54,7 +61,8 @@ pub record IsReady (home : BoardValue) (seat : SeatValue) : Type 0 where
 
 module _ {A : Type 0} where
   -- a worker that drew until no number was left, or that was short of memory
-  pub record IsDone (home : BoardValue) (database : Known) (by_essential : Bool) (w : Worked A) : Type 0 where
+  pub record IsDone (home : BoardValue) (database : Known) (by_essential : Bool)
+      (w : Worked A) : Type 0 where
     pub at : IsSeatOf home w.seat
     pub closed : w.seat.view.open_number ≡ None
     pub over : w.found.short_of_memory ≡ false → w.seat.view.over ≡ true
@@ -68,8 +76,10 @@ module _ {A : Type 0} where
   abbrev pub IsFoundFaulty : List (Found A) → ℕ → Type 0
   IsFoundFaulty fs i = (f : Found A) × Contains fs f × (faulty_index f.faulty ≡ Some i)
 
-  -- the workers' seats were joined to this one, none was short of memory, and this is what they found
-  pub record AreGathered (home : BoardValue) (db : List Statement) (by_essential : Bool) (seat : SeatValue) (fs : List (Found A)) : Type 0 where
+  -- the workers' seats were joined to this one, none was short of memory, and this is what they
+  -- found
+  pub record AreGathered (home : BoardValue) (db : List Statement) (by_essential : Bool)
+      (seat : SeatValue) (fs : List (Found A)) : Type 0 where
     pub at : IsSeatOf home seat
     pub closed : seat.view.open_number ≡ None
     pub over : seat.view.over ≡ true

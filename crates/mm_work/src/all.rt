@@ -17,11 +17,12 @@ use std::thread::Threads;
 /// The share of a board's only seat.
 const WHOLE: u32 = 64;
 
-/// Checks the proofs of all theorems by this many workers, 1 to 64, of which the calling thread is the first: what each
-/// theorem cites, with `essential` by the essential nodes of its proof alone, or the fault of the first proof that has one, its place a byte offset from 0. Each worker passes the gate
-/// between the claim of a theorem and its look at it. A thread that can't be started changes no answer: where one took its
-/// seat with it, the calling thread checks all proofs anew, in file order and without the gate. Refused only where memory
-/// is, to whichever worker.
+/// Checks the proofs of all theorems by this many workers, 1 to 64, of which the calling thread is
+/// the first: what each theorem cites, with `essential` by the essential nodes of its proof alone,
+/// or the fault of the first proof that has one, its place a byte offset from 0. Each worker passes
+/// the gate between the claim of a theorem and its look at it. A thread that can't be started
+/// changes no answer: where one took its seat with it, the calling thread checks all proofs anew,
+/// in file order and without the gate. Refused only where memory is, to whichever worker.
 pub fn check_all<'d, R: Threads + Wait + Sync, A: Allocator + Copy + Send + Sync, G: Gate>(
     rt: &R,
     alloc: A,

@@ -1,9 +1,10 @@
 //! What a worker passes between its claim and its look.
 
-/// A gate that each worker passes after each successful claim, before it looks whether the theorem is still wanted. Tests
-/// see by it that workers are under way at the same time.
+/// A gate that each worker passes after each successful claim, before it looks whether the theorem
+/// is still wanted. Tests see by it that workers are under way at the same time.
 pub trait Gate: Sync {
-    /// A worker, 0 for the calling thread, has drawn a theorem, by its index among the theorems, from 0.
+    /// A worker, 0 for the calling thread, has drawn a theorem, by its index among the theorems,
+    /// from 0.
     fn enter(&self, worker: u32, theorem: u32);
 }
 

@@ -13,8 +13,8 @@ use std::sync::Wait;
 use std::thread;
 use std::thread::{Promise, Threads};
 
-/// What a thread promises of what it hands back: that it worked at this board, on the theorems of this database, and by
-/// essential nodes alone where that is so.
+/// What a thread promises of what it hands back: that it worked at this board, on the theorems of
+/// this database, and by essential nodes alone where that is so.
 #[derive(Clone, Copy)]
 pub(crate) struct AtBoard<'a, 'd, A: Allocator>(&'a Board<A>, &'a Database<'d, A>, bool);
 
@@ -41,7 +41,8 @@ fn split<A: Allocator>(board: &Board<A>, seat: &mut Seat) -> Option<Seat>
     board.split(seat).ok()
 }
 
-/// Takes in the seats of the others. It is refused where a worker was short of memory, or where there is none for the list.
+/// Takes in the seats of the others. It is refused where a worker was short of memory, or where
+/// there is none for the list.
 fn join_all<'d, A: Allocator + Copy>(
     alloc: A,
     database: &Database<'d, A>,
@@ -52,7 +53,8 @@ fn join_all<'d, A: Allocator + Copy>(
 ) -> Result<Gathered<A>, AllocError>
     requires own { IsDone board.now database.now essential own }
     requires others { All (λ w. IsDone board.now database.now essential w) others.items }
-    ensures { IfOk result (λ g. AreGathered board.now database.now.statements essential g.seat g.found.items) }
+    ensures { IfOk result
+        (λ g. AreGathered board.now database.now.statements essential g.seat g.found.items) }
 {
     let _ = database;
     let _ = essential;
@@ -76,8 +78,9 @@ fn join_all<'d, A: Allocator + Copy>(
     Ok(Gathered { seat, found: all })
 }
 
-/// Has all theorems checked by this many workers. The calling thread is worker 0; each further one has a thread, as far as
-/// threads can be had, and a seat that was split off for it, which is lost where no thread could be started.
+/// Has all theorems checked by this many workers. The calling thread is worker 0; each further one
+/// has a thread, as far as threads can be had, and a seat that was split off for it, which is lost
+/// where no thread could be started.
 pub(crate) fn work_all<'d, R: Threads + Wait + Sync, A: Allocator + Copy + Send + Sync, G: Gate>(
     rt: &R,
     alloc: A,
@@ -90,14 +93,18 @@ pub(crate) fn work_all<'d, R: Threads + Wait + Sync, A: Allocator + Copy + Send 
 ) -> Result<Gathered<A>, AllocError>
     requires ready { IsReady board.now seat }
     requires count { board.now.count ≡ length (theorems database.now.statements) }
-    ensures { IfOk result (λ g. AreGathered board.now database.now.statements essential g.seat g.found.items) }
+    ensures { IfOk result
+        (λ g. AreGathered board.now database.now.statements essential g.seat g.found.items) }
 {
     thread::scope(
         thread::scope_env(),
         rt,
         move |scope| -> Result<Gathered<A>, AllocError>
-            requires { IsReady board.now seat × (board.now.count ≡ length (theorems database.now.statements)) }
-            ensures { IfOk result (λ g. AreGathered board.entry.now database.entry.now.statements essential g.seat g.found.items) }
+            requires { IsReady board.now seat
+                × (board.now.count ≡ length (theorems database.now.statements)) }
+            ensures { IfOk result
+                (λ g. AreGathered board.entry.now database.entry.now.statements essential g.seat
+                g.found.items) }
         {
             let mut mine = seat;
             let mut handles = Vec::with_capacity(alloc, workers as usize)?;
@@ -106,7 +113,8 @@ pub(crate) fn work_all<'d, R: Threads + Wait + Sync, A: Allocator + Copy + Send 
                     if let Ok(handle) = scope.spawn_with(
                         AtBoard(board, database, essential),
                         move || -> Worked<A>
-                            requires { IsReady board.now other × (board.now.count ≡ length (theorems database.now.statements)) }
+                            requires { IsReady board.now other
+                                × (board.now.count ≡ length (theorems database.now.statements)) }
                             ensures { IsDone board.entry.now database.entry.now essential result }
                         { work(alloc, database, board, gate, other, worker, essential) },
                     ) {

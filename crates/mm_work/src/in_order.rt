@@ -18,7 +18,8 @@ pub(crate) fn valid<'a, A: Allocator + Copy>(
     essential: bool,
     lists: Lists<A>,
 ) -> Result<Judged<A>, AllocError>
-    requires { AreCited database.now.statements essential (theorems database.now.statements) (length (theorems database.now.statements)) lists }
+    requires { AreCited database.now.statements essential (theorems database.now.statements)
+        (length (theorems database.now.statements)) lists }
     ensures { IfOk result (λ judged. Judges database.now.statements essential judged) }
 {
     let _ = database.len();

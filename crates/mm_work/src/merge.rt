@@ -12,7 +12,8 @@ use mm_spec::Fault;
 use mm_stmt::Database;
 use std::alloc::{AllocError, Allocator};
 
-/// Where the citations of a theorem are: with which worker, and at which place among the theorems that it found valid.
+/// Where the citations of a theorem are: with which worker, and at which place among the theorems
+/// that it found valid.
 #[derive(Clone, Copy)]
 pub(crate) struct Place {
     pub worker: usize,
@@ -24,7 +25,9 @@ fn note(places: &mut [Place], worker: usize, valid: &[u32])
     requires { All (λ i. i < length places.old) valid.now }
     ensures count { length places.new ≡ length places.old }
     ensures noted { All (λ i. IsNoted places.new worker valid.now i) valid.now }
-    ensures others { (i : ℕ) → IsNoted places.new worker valid.now i ⊎ (slice_get places.new i ≡ slice_get places.old i) }
+    ensures others { (i : ℕ)
+        → IsNoted places.new worker valid.now i
+        ⊎ (slice_get places.new i ≡ slice_get places.old i) }
 {
     for (place, index) in valid.iter().enumerate() {
         places[*index as usize] = Place { worker, place };
@@ -39,7 +42,8 @@ fn places<A: Allocator + Copy>(
 ) -> Result<Vec<Place, A>, AllocError>
     requires { All (λ f. All (λ i. i < count) f.valid.items) found.now }
     ensures count { IfOk result (λ places. length places.items ≡ count) }
-    ensures places { IfOk result (λ places. (i : ℕ) → IsFoundValid found.now i → HasPlace places.items found.now i) }
+    ensures places { IfOk result
+        (λ places. (i : ℕ) → IsFoundValid found.now i → HasPlace places.items found.now i) }
 {
     let mut places = Vec::new(alloc);
     places.resize(
@@ -63,8 +67,11 @@ pub(crate) fn merge<'d, A: Allocator + Copy>(
     found: &[Found<A>],
 ) -> Result<Lists<A>, AllocError>
     requires found { All (AreFound database.now.statements essential) found.now }
-    requires valid { (i : ℕ) → i < length (theorems database.now.statements) → IsFoundValid found.now i }
-    ensures { IfOk result (λ lists. AreCited database.now.statements essential (theorems database.now.statements) (length (theorems database.now.statements)) lists) }
+    requires valid { (i : ℕ) → i < length (theorems database.now.statements)
+        → IsFoundValid found.now i }
+    ensures { IfOk result
+        (λ lists. AreCited database.now.statements essential (theorems database.now.statements)
+        (length (theorems database.now.statements)) lists) }
 {
     let _ = essential;
     let places = places(alloc, found, database.theorems().len())?;

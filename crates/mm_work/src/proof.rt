@@ -20,7 +20,8 @@ pub(crate) enum VerifyRefused {
     Memory,
 }
 
-/// Reads and checks the proof of a theorem: what it cites, or by its essential nodes alone, or its fault.
+/// Reads and checks the proof of a theorem: what it cites, or by its essential nodes alone, or its
+/// fault.
 pub(crate) fn verify<'a, A: Allocator + Copy>(
     alloc: A,
     database: &Database<'a, A>,
@@ -31,7 +32,8 @@ pub(crate) fn verify<'a, A: Allocator + Copy>(
     requires made_for { IsMadeFor database.now.statements checker.old }
     requires theorem { IsTrue (is_theorem_at database.now.statements theorem) }
     ensures made_for { IsMadeFor database.now.statements checker.new }
-    ensures valid { IfOk result (λ checked. IsCited database.now.statements essential theorem checked.cites) }
+    ensures valid { IfOk result
+        (λ checked. IsCited database.now.statements essential theorem checked.cites) }
     ensures refused { IfErr result (λ e. Faults database.now.statements theorem e) }
 {
     let steps = match read_proof(alloc, database, theorem) {

@@ -1,6 +1,7 @@
 //! A worker: draws theorems from the board and checks their proofs.
 
-ghost use Rattle.std.specs.Prelude.{◌≡◌, ◌<◌, ◌++◌, ◌∷◌, [], ℕ, None, Some, OnOk, true, false, length};
+ghost use Rattle.std.specs.Prelude.{◌≡◌, ◌<◌, ◌++◌, ◌∷◌, [], ℕ, None, Some, OnOk, true, false};
+ghost use Rattle.std.specs.Prelude.{length};
 ghost use Rattle.mm_check.specs.Checker.{IsMadeFor};
 ghost use Rattle.mm_spec.specs.Output.{theorems};
 ghost use Rattle.mm_board.specs.Records.{times_in, times_recorded};
@@ -26,7 +27,8 @@ pub(crate) struct IndexedFault {
 /// What a worker found.
 #[derive(Drop)]
 pub(crate) struct Found<A: Allocator> {
-    /// The theorems whose proofs are valid, by their indices, in the order in which they were checked.
+    /// The theorems whose proofs are valid, by their indices, in the order in which they were
+    /// checked.
     pub valid: Vec<u32, A>,
     /// What each of these cites.
     pub cites: Lists<A>,
@@ -73,8 +75,8 @@ pub(crate) struct Worked<A: Allocator> {
     pub found: Found<A>,
 }
 
-/// Checks the proof of a theorem, by its index, and keeps what comes of it. Whether the proof is valid and what it cites is
-/// kept.
+/// Checks the proof of a theorem, by its index, and keeps what comes of it. Whether the proof is
+/// valid and what it cites is kept.
 fn check<'a, A: Allocator + Copy>(
     alloc: A,
     database: &Database<'a, A>,
@@ -85,12 +87,18 @@ fn check<'a, A: Allocator + Copy>(
 ) -> bool
     requires index { index < length (theorems database.now.statements) }
     requires made_for { IsMadeFor database.now.statements checker.old }
-    requires found { found.old.short_of_memory ≡ false → AreFound database.now.statements essential found.old }
+    requires found { found.old.short_of_memory ≡ false
+        → AreFound database.now.statements essential found.old }
     ensures made_for { IsMadeFor database.now.statements checker.new }
     ensures short { found.new.short_of_memory ≡ false → found.old.short_of_memory ≡ false }
-    ensures found { found.new.short_of_memory ≡ false → AreFound database.now.statements essential found.new }
-    ensures valid { found.new.short_of_memory ≡ false → result ≡ true → (found.new.valid.items ≡ found.old.valid.items ++ index ∷ []) × (found.new.faulty ≡ found.old.faulty) }
-    ensures faulty { found.new.short_of_memory ≡ false → result ≡ false → (found.new.valid.items ≡ found.old.valid.items) × (faulty_index found.new.faulty ≡ Some index) }
+    ensures found { found.new.short_of_memory ≡ false
+        → AreFound database.now.statements essential found.new }
+    ensures valid { found.new.short_of_memory ≡ false → result ≡ true
+        → (found.new.valid.items ≡ found.old.valid.items ++ index ∷ [])
+        × (found.new.faulty ≡ found.old.faulty) }
+    ensures faulty { found.new.short_of_memory ≡ false → result ≡ false
+        → (found.new.valid.items ≡ found.old.valid.items)
+        × (faulty_index found.new.faulty ≡ Some index) }
 {
     let _ = database.len();
     let theorem = database.theorems()[index as usize];
@@ -105,8 +113,8 @@ fn check<'a, A: Allocator + Copy>(
     false
 }
 
-/// Judges the theorem that the seat has open: looks whether it is still wanted, and if so checks its proof, and then
-/// settles or reports it.
+/// Judges the theorem that the seat has open: looks whether it is still wanted, and if so checks
+/// its proof, and then settles or reports it.
 fn judge<'a, A: Allocator + Copy>(
     alloc: A,
     database: &Database<'a, A>,
@@ -121,13 +129,16 @@ fn judge<'a, A: Allocator + Copy>(
     requires home { IsSeatOf board.now worked.old.seat }
     requires held { worked.old.seat.view.open_number ≡ Some index }
     requires above { (i : ℕ) → 0 < times_in i worked.old.seat.view.reported → i < index }
-    requires tells { TellsUnlessShort database.now.statements essential worked.old.seat.view worked.old.found }
+    requires tells { TellsUnlessShort database.now.statements essential worked.old.seat.view
+        worked.old.found }
     ensures made_for { IsMadeFor database.now.statements checker.new }
     ensures home { IsSeatOf board.now worked.new.seat }
     ensures closed { worked.new.seat.view.open_number ≡ None }
     ensures over { worked.new.seat.view.over ≡ worked.old.seat.view.over }
-    ensures kept { (i : ℕ) → times_recorded i worked.new.seat.view ≡ times_recorded i worked.old.seat.view }
-    ensures tells { TellsUnlessShort database.now.statements essential worked.new.seat.view worked.new.found }
+    ensures kept { (i : ℕ)
+        → times_recorded i worked.new.seat.view ≡ times_recorded i worked.old.seat.view }
+    ensures tells { TellsUnlessShort database.now.statements essential worked.new.seat.view
+        worked.new.found }
 {
     board.look(&mut worked.seat);
     if worked.seat.held().is_none() {

@@ -1,19 +1,22 @@
--- How the program ends: what the words ask for, what is read and written, the message and the status.
-use Rattle.std.specs.Prelude.{◌++◌, ℕ, List, [], ◌∷◌, take, codes, Option, Some, None, IsSome, bytes_eq, if◌then◌else◌}
+-- How the program ends: what the words ask for, what is read and written, the message and the
+-- status.
+use Rattle.std.specs.Prelude.{◌++◌, ℕ, List, [], ◌∷◌, take, codes, Option, Some, None, IsSome}
+use Rattle.std.specs.Prelude.{bytes_eq, if◌then◌else◌}
 use Rattle.std.specs.Option.{option_map}
 use Rattle.std.specs.String.{string_bytes}
 use Rattle.std.specs.Io.KnownBytes.{Appends, Keeps}
 use Rattle.clap.specs.Walk.{Text}
 use Rattle.mm_plan.specs.Plans.{request_of}
-use Rattle.mm_run.specs.Ends.{Ends}
-use Rattle.mm_run.specs.declared.RunEnd.{RunEnd}
-use Rattle.mm_run.specs.declared.RunEnd.TheVariants.{Accepted, Refused, ReadFailed, WriteFailed}
-use Rattle.mm_run.specs.declared.RunEnd.TheVariants.{NoMemory as RunNoMemory}
+use Rattle.mm_spec.specs.Ends.{Ends}
+use Rattle.mm_spec.specs.declared.RunEnd.{RunEnd}
+use Rattle.mm_spec.specs.declared.RunEnd.TheVariants.{Accepted, Refused, ReadFailed, WriteFailed}
+use Rattle.mm_spec.specs.declared.RunEnd.TheVariants.{NoMemory as RunNoMemory}
 use Rattle.mm_line.specs.Lines.{Refuses, Says}
 use Rattle.mm_line.specs.declared.command_line.Line.{Line}
 use Rattle.mm_line.specs.declared.command_line.LineRefused.TheVariants.{Help, Bad}
 use Rattle.mmdepend.specs.declared.ending.Ending.{Ending}
-use Rattle.mmdepend.specs.declared.ending.Ending.TheVariants.{Ran, Helped, HelpFailed, Misread, NotOpened, NoMemory}
+use Rattle.mmdepend.specs.declared.ending.Ending.TheVariants.{Ran, Helped, HelpFailed, Misread}
+use Rattle.mmdepend.specs.declared.ending.Ending.TheVariants.{NotOpened, NoMemory}
 
 -- the text is written, or a beginning of it where writing failed
 abbrev pub Begins : (held holds : Option (List ℕ)) → List ℕ → Type 0
@@ -29,20 +32,30 @@ opens line = opened_name (option_map string_bytes line.file)
 
 -- An opened file is of a type File, of which this is what there is still to read.
 module _ {File : Type 0} (remaining : File → Option (List ℕ)) where
-  -- A run reads the standard input where no file is opened. Where one is, it reads that, and the standard input stays as
-  -- it was.
-  abbrev pub Runs : {X : Type 0} → Option X → RunEnd → Line → (before after held holds : Option (List ℕ)) → Type 0
-  Runs None end line before after held holds = Ends end (request_of line.plan) before after held holds
+  -- A run reads the standard input where no file is opened. Where one is, it reads that, and the
+  -- standard input stays as it was.
+  abbrev pub Runs : {X : Type 0} → Option X → RunEnd → Line
+      → (before after held holds : Option (List ℕ)) → Type 0
+  Runs None end line before after held holds =
+      Ends end (request_of line.plan) before after held holds
   Runs (Some name) end line before after held holds =
-      Keeps before after × ((opened read : File) × Ends end (request_of line.plan) (remaining opened) (remaining read) held holds)
+      Keeps before after
+      × ((opened read : File)
+      × Ends end (request_of line.plan) (remaining opened) (remaining read) held holds)
 
-  -- what the words ask for, by the ending, and what is read from the standard input and written to the output
+  -- what the words ask for, by the ending, and what is read from the standard input and written to
+  -- the output
   abbrev pub IsEndingOf : List Text → Ending → (before after held holds : Option (List ℕ)) → Type 0
-  IsEndingOf words (Ran end) before after held holds = (line : Line) × Says words line × Runs (opens line) end line before after held holds
-  IsEndingOf words NotOpened before after held holds = (line : Line) × Says words line × IsSome (opens line) × Keeps before after × Keeps held holds
-  IsEndingOf words (Helped text) before after held holds = Refuses words (Help text) × Keeps before after × Appends held holds (string_bytes text)
-  IsEndingOf words (HelpFailed text) before after held holds = Refuses words (Help text) × Keeps before after × Begins held holds (string_bytes text)
-  IsEndingOf words (Misread text) before after held holds = Refuses words (Bad text) × Keeps before after × Keeps held holds
+  IsEndingOf words (Ran end) before after held holds =
+      (line : Line) × Says words line × Runs (opens line) end line before after held holds
+  IsEndingOf words NotOpened before after held holds =
+      (line : Line) × Says words line × IsSome (opens line) × Keeps before after × Keeps held holds
+  IsEndingOf words (Helped text) before after held holds =
+      Refuses words (Help text) × Keeps before after × Appends held holds (string_bytes text)
+  IsEndingOf words (HelpFailed text) before after held holds =
+      Refuses words (Help text) × Keeps before after × Begins held holds (string_bytes text)
+  IsEndingOf words (Misread text) before after held holds =
+      Refuses words (Bad text) × Keeps before after × Keeps held holds
   IsEndingOf words NoMemory before after held holds = Keeps before after × Keeps held holds
 
 abbrev pub run_status_of : RunEnd → ℕ

@@ -31,8 +31,8 @@ const WRITING_FAILED: &[u8] = b"mmdepend: writing failed\n";
 const OUT_OF_MEMORY: &[u8] = b"mmdepend: out of memory\n";
 
 impl Ending {
-    /// The status: 0 for a report or help, 1 for a refusal, 2 for words that aren't a command line, 3 where the file
-    /// wasn't opened or reading or writing failed, 4 where memory was refused.
+    /// The status: 0 for a report or help, 1 for a refusal, 2 for words that aren't a command line,
+    /// 3 where the file wasn't opened or reading or writing failed, 4 where memory ran out.
     pub fn status(&self) -> u8
         ensures { result ≡ status_of self.now }
     {

@@ -1,7 +1,8 @@
-//! The program `mmdepend`: reads a Metamath database, verifies every proof, and reports on which axioms each theorem
-//! rests, or refuses the database for its first fault. `status` is the program over a reader and two writers: the words
-//! of the command line are read (`line`), the file that they name is opened, and `run` is called; what it promises is what
-//! is written, the message on standard error, and the status.
+//! The program `mmdepend`: reads a Metamath database, verifies every proof, and reports on which
+//! axioms each theorem rests, or refuses the database for its first fault. `status` is the program
+//! over a reader and two writers: the words of the command line are read (`line`), the file that
+//! they name is opened, and `run` is called; what it promises is what is written, the message on
+//! standard error, and the status.
 #![tactic(auto)]
 
 mod ending;
@@ -18,7 +19,8 @@ use std::io::{ErrorKind, Write};
 use std::process::ExitCode;
 use std::rt::Env;
 
-/// The words of the command line, or the status with which the program ends without them, and a message.
+/// The words of the command line, or the status with which the program ends without them, and a
+/// message.
 fn given_words<R: Env + AllocGlobal>(rt: &R) -> Result<Vec<String>, (u8, &'static str)> {
     match env::args(rt) {
         Ok(words) => match words.collect::<Vec<String>>(rt.alloc()) {

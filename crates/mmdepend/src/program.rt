@@ -17,7 +17,8 @@ use std::rt::Files;
 use std::sync::Wait;
 use std::thread::Threads;
 
-/// Writes the text, or a beginning of it where writing failed, and says whether it was written whole.
+/// Writes the text, or a beginning of it where writing failed, and says whether it was written
+/// whole.
 fn put<W: Write>(to: &mut W, text: &[u8]) -> bool
     ensures whole { IsTrue result → Appends (W.contents to.old) (W.contents to.new) text.now }
     ensures beginning { Begins (W.contents to.old) (W.contents to.new) text.now }
@@ -52,7 +53,8 @@ fn end<S: AsStr, R: Threads + Wait + Files + Sync, I: Read, O: Write>(
     input: &mut I,
     output: &mut O,
 ) -> Ending
-    ensures { IsEndingOf R.File.remaining (map S.text words.now) result (I.remaining input.old) (I.remaining input.new) (O.contents output.old) (O.contents output.new) }
+    ensures { IsEndingOf R.File.remaining (map S.text words.now) result (I.remaining input.old)
+        (I.remaining input.new) (O.contents output.old) (O.contents output.new) }
 {
     let line = match line(alloc, words) {
         Ok(line) => line,
@@ -75,8 +77,9 @@ fn end<S: AsStr, R: Threads + Wait + Files + Sync, I: Read, O: Write>(
     }
 }
 
-/// The whole program over a reader and two writers. The words, of which the first is the program's name, are read first;
-/// then the file that they name is opened, and its bytes are read in place of the input's. Answers the status.
+/// The whole program over a reader and two writers. The words, of which the first is the program's
+/// name, are read first; then the file that they name is opened, and its bytes are read in place of
+/// the input's. Answers the status.
 pub fn status<S: AsStr, R: Threads + Wait + Files + Sync, I: Read, O: Write, E: Write>(
     rt: &R,
     alloc: Global,
@@ -85,8 +88,11 @@ pub fn status<S: AsStr, R: Threads + Wait + Files + Sync, I: Read, O: Write, E: 
     output: &mut O,
     errors: &mut E,
 ) -> u8
-    ensures { (ending : End) × IsEndingOf R.File.remaining (map S.text words.now) ending (I.remaining input.old) (I.remaining input.new) (O.contents output.old) (O.contents output.new)
-        × Begins (E.contents errors.old) (E.contents errors.new) (message_of ending) × (result ≡ status_of ending) }
+    ensures { (ending : End)
+        × IsEndingOf R.File.remaining (map S.text words.now) ending (I.remaining input.old)
+        (I.remaining input.new) (O.contents output.old) (O.contents output.new)
+        × Begins (E.contents errors.old) (E.contents errors.new) (message_of ending)
+        × (result ≡ status_of ending) }
 {
     let ending = end(rt, alloc, words, input, output);
     let _ = put(errors, ending.message());

@@ -26,7 +26,8 @@ impl Read for Failing {
     }
 }
 
-/// A writer that takes one byte a call, so many of them, and then none: its calls fail, or take nothing.
+/// A writer that takes one byte a call, so many of them, and then none: its calls fail, or take
+/// nothing.
 #[derive(Drop)]
 struct Closing {
     left: usize,
@@ -151,8 +152,8 @@ fn a_file_is_read_in_place_of_the_input(rt: HostRuntime) -> Result<(), Fail> {
     Ok(())
 }
 
-/// Whether the program, on these words and the first text, tells that writing failed, with an output that takes so many
-/// bytes.
+/// Whether the program, on these words and the first text, tells that writing failed, with an
+/// output that takes so many bytes.
 fn stops<R: Threads + Wait + Files + Sync + AllocGlobal>(
     rt: &R,
     words: &[&str],

@@ -178,7 +178,8 @@ fn is_whole<A: Allocator>(piece: &Piece<A>) -> bool {
         && piece.fault(false).is_none()
 }
 
-/// The stretches 0 to 1, 1 to 9 and 9 to 12, the first two read by threads; the first two are joined first.
+/// The stretches 0 to 1, 1 to 9 and 9 to 12, the first two read by threads; the first two are
+/// joined first.
 #[test]
 fn joins_from_the_left(rt: HostRuntime) -> Result<(), AllocError> {
     let alloc = rt.alloc();

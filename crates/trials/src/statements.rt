@@ -42,7 +42,8 @@ fn stops_where_a_statement_is_at_fault(rt: HostRuntime) -> Result<(), AllocError
     Ok(())
 }
 
-/// The labels of the theorems with the indices from the one up to the other; none where there are not so many.
+/// The labels of the theorems with the indices from the one up to the other; none where there are
+/// not so many.
 fn labels_between<R: Threads + Sync>(
     rt: &R,
     alloc: Global,

@@ -1,4 +1,5 @@
-//! Databases whose proofs are checked by one worker and by more, and gates at which workers wait for one another.
+//! Databases whose proofs are checked by one worker and by more, and gates at which workers wait
+//! for one another.
 
 ghost use Rattle.std.specs.Prelude.{◌≤◌};
 
@@ -23,7 +24,8 @@ const LINE: u32 = 54;
 /// The turns after which a worker no longer waits at the gate.
 const MOST_TURNS: u32 = 10_000_000;
 
-/// A database of 3,000 theorems, all with the same formula. The proofs of some of them lack their last step.
+/// A database of 3,000 theorems, all with the same formula. The proofs of some of them lack their
+/// last step.
 fn many(alloc: Global, faulty: &[u32]) -> Result<Vec<u8>, AllocError> {
     let mut text = BASE.to_vec(alloc)?;
     for k in 0..MANY {
@@ -137,7 +139,8 @@ fn the_first_fault_of_many_theorems(rt: HostRuntime) -> Result<(), AllocError> {
     Ok(())
 }
 
-/// A gate at which each worker's first call waits until all workers have come, but not longer than a number of turns.
+/// A gate at which each worker's first call waits until all workers have come, but not longer than
+/// a number of turns.
 struct Meeting {
     /// A bit for each worker.
     all: u64,

@@ -56,7 +56,8 @@ fn are_steps<A: Allocator>(answer: Result<Steps<A>, ProofRefused>) -> Option<boo
     }
 }
 
-/// Refuses each growth of reading that proof in turn. Whether a reading met no refusal at last, and not at once.
+/// Refuses each growth of reading that proof in turn. Whether a reading met no refusal at last, and
+/// not at once.
 fn read_in_turn<'h, R: Abort>(
     rt: &R,
     heap: &'h Refusing<Global>,
@@ -165,8 +166,8 @@ fn checked_in_turn<'h, R: Abort>(
     false
 }
 
-/// Refuses a growth of a checker's first check, and uses the checker again. Whether the growth came; `None` where there is
-/// no checker.
+/// Refuses a growth of a checker's first check, and uses the checker again. Whether the growth
+/// came; `None` where there is no checker.
 fn checker_refused<'h, R: Abort>(
     rt: &R,
     heap: &'h Refusing<Global>,

@@ -32,7 +32,8 @@ fn are_waves<A: Allocator>(answer: Result<Vec<u32, A>, AllocError>) -> Option<bo
     }
 }
 
-/// Refuses each growth in turn. Whether a call met no refusal at last, and not at once; so too below.
+/// Refuses each growth in turn. Whether a call met no refusal at last, and not at once; so too
+/// below.
 fn waves_in_turn<'h, R: Abort>(
     rt: &R,
     heap: &'h Refusing<Global>,

@@ -16,8 +16,8 @@ use std::process::Abort;
 use std::sync::Wait;
 use std::thread::Threads;
 
-/// Whether a run wrote this output whole, and took no memory while it wrote; `None` where it had no memory. Then it wrote
-/// nothing.
+/// Whether a run wrote this output whole, and took no memory while it wrote; `None` where it had no
+/// memory. Then it wrote nothing.
 fn answer<R: Threads + Wait + Sync>(
     rt: &R,
     alloc: Global,
@@ -42,8 +42,8 @@ fn is_end(end: Option<RunEnd>) -> bool {
     }
 }
 
-/// Asserts that a run whose growth of that number is refused has no memory or writes this output, and that the run after
-/// it writes the output. Whether the growth came.
+/// Asserts that a run whose growth of that number is refused has no memory or writes this output,
+/// and that the run after it writes the output. Whether the growth came.
 fn refused_at<R: Abort + Threads + Wait + Sync>(
     rt: &R,
     heap: &Refusing<Global>,
@@ -60,7 +60,8 @@ fn refused_at<R: Abort + Threads + Wait + Sync>(
     refused
 }
 
-/// Refuses a growth of a run, until a run meets no refusal: the first one, and then each that comes so many behind it.
+/// Refuses a growth of a run, until a run meets no refusal: the first one, and then each that comes
+/// so many after it.
 fn refused_in_turn<R: Abort + Threads + Wait + Sync>(
     rt: &R,
     alloc: Global,
@@ -100,7 +101,8 @@ fn a_run_without_memory_writes_nothing(rt: HostRuntime) {
     }
 }
 
-/// A database of so many theorems. Its report is written in several pieces, and its rows are made by several threads.
+/// A database of so many theorems. Its report is written in several pieces, and its rows are made
+/// by several threads.
 fn many(alloc: Global, count: u32) -> Result<Vec<u8>, AllocError> {
     let mut text = BASE.to_vec(alloc)?;
     for number in 0..count {

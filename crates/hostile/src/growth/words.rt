@@ -86,8 +86,8 @@ fn is_summary<A: Allocator>(answer: Result<Piece<A>, AllocError>) -> Option<bool
     }
 }
 
-/// The two parts of the first text, each read with memory, and joined, with a growth of that refused. Both parts are gone
-/// where it is.
+/// The two parts of the first text, each read with memory, and joined, with a growth of that
+/// refused. Both parts are gone where it is.
 fn joined(
     heap: &Refusing<Global>,
     number: Option<u64>,
@@ -157,8 +157,8 @@ fn is_read<A: Allocator>(answer: Result<Database<'_, A>, AllocError>) -> Option<
     }
 }
 
-/// The statements of that text, its tokens read with memory, with a growth refused in reading the statements. The tokens
-/// are gone where it is.
+/// The statements of that text, its tokens read with memory, with a growth refused in reading the
+/// statements. The tokens are gone where it is.
 fn statements<'h, R: Threads + Sync>(
     rt: &R,
     heap: &'h Refusing<Global>,

@@ -72,7 +72,8 @@ fn odd_by(chance: &mut Chance) -> Word {
     }
 }
 
-/// Where a statement begins: behind the next end of a statement or block from this place on, or at the end.
+/// Where a statement begins: after the next end of a statement or block from this place on, or at
+/// the end.
 fn beginning_from(words: &[Word], from: usize) -> usize {
     for (at, word) in words.iter().enumerate() {
         if from <= at && (*word == b"$.".as_slice() || *word == b"$}".as_slice()) {
@@ -89,7 +90,8 @@ fn put(words: &mut Words, word: Word, at: usize) {
     }
 }
 
-/// Changes one word: it is dropped, doubled, replaced or moved behind the next one, or a word is put before it.
+/// Changes one word: it is dropped, doubled, replaced or moved after the next one, or a word is
+/// put before it.
 fn change(words: &mut Words, chance: &mut Chance) {
     let count = words.list.len();
     if count == 0 {

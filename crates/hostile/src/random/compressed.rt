@@ -26,7 +26,8 @@ fn add_number(into: &mut Words, below: usize) {
     into.add(LAST[below % 20]);
 }
 
-/// The mandatory hypotheses of a theorem whose proof has these labels, and then the other labels, each once.
+/// The mandatory hypotheses of a theorem whose proof has these labels, and then the other labels,
+/// each once.
 fn numbered(alloc: Global, proof: &[Word], hypothesis: Word) -> (Words, Words) {
     let mut hypotheses = Words::new(alloc);
     let mut others = Words::new(alloc);
@@ -44,8 +45,8 @@ fn numbered(alloc: Global, proof: &[Word], hypothesis: Word) -> (Words, Words) {
     (hypotheses, others)
 }
 
-/// The proof with these labels as a compressed one. Some of its steps are marked, and hypotheses that were marked are
-/// taken up again.
+/// The proof with these labels as a compressed one. Some of its steps are marked, and hypotheses
+/// that were marked are taken up again.
 pub(crate) fn compressed(
     alloc: Global,
     proof: &[Word],

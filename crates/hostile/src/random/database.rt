@@ -6,7 +6,8 @@ use super::formulas::{ALL, Choice, Formula, conditional, formula_by};
 use super::words::{Word, Words};
 use std::alloc::Global;
 
-/// Symbols, axioms and a theorem that others cite. Each line is a word, but for the last one's proof.
+/// Symbols, axioms and a theorem that others cite. Each line is a word, but for the last one's
+/// proof.
 const HEAD: [Word; 10] = [
     b"$c wff |- ( -> ) $.",
     b"$v p q r $.",
@@ -25,8 +26,8 @@ const LABELS: [Word; 6] = [b"t0", b"t1", b"t2", b"t3", b"t4", b"t5"];
 
 const HYPOTHESES: [Word; 6] = [b"h0", b"h1", b"h2", b"h3", b"h4", b"h5"];
 
-/// A theorem: its formula, its hypothesis if it has one, whether `p` and `q` have to be disjoint, and the labels of its
-/// proof in postfix order.
+/// A theorem: its formula, its hypothesis if it has one, whether `p` and `q` have to be disjoint,
+/// and the labels of its proof in postfix order.
 #[derive(Drop)]
 struct Theorem {
     typecode: Word,
@@ -67,7 +68,8 @@ fn instance(alloc: Global, chance: &mut Chance) -> Theorem {
     }
 }
 
-/// A conditional whose second part is the hypothesis: by the theorem, or by detachment as the theorem itself.
+/// A conditional whose second part is the hypothesis: by the theorem, or by detachment as the
+/// theorem itself.
 fn consequent(alloc: Global, label: Word, chance: &mut Chance) -> Theorem {
     let first = formula_by(alloc, ALL, chance);
     let second = formula_by(alloc, ALL, chance);

@@ -1,5 +1,6 @@
-//! Texts by chance: databases whose proofs are valid, and such databases with changes. Each is run with other cuts, other
-//! numbers of workers and other sections, and what is written has to be the same.
+//! Texts by chance: databases whose proofs are valid, and such databases with changes. Each is run
+//! with other cuts, other numbers of workers and other sections, and what is written has to be the
+//! same.
 
 ghost use Rattle.std.specs.Prelude.{◌≤◌, length};
 
@@ -31,8 +32,8 @@ const NUMBERS: [u32; 24] = [
     1, 1, 1, 1, 1, 1, 1, 1, 2, 2, 2, 2, 2, 2, 2, 2, 3, 3, 3, 3, 4, 4, 7, 33,
 ];
 
-/// The numbers of the codes of faults, but for that of a text of more than 2,147,483,647 bytes (0) and that of a formula of
-/// more than 1,048,576 symbols (39).
+/// The numbers of the codes of faults, but for that of a text of more than 2,147,483,647 bytes (0)
+/// and that of a formula of more than 1,048,576 symbols (39).
 const CODES: [u8; 37] = [
     1, 2, 3, 4, 5, 6, 7, 8, 9, 10, 11, 12, 13, 14, 15, 17, 18, 19, 20, 21, 22, 23, 24, 25, 31, 32,
     33, 34, 35, 36, 37, 38, 41, 42, 43, 44, 45,
@@ -116,7 +117,8 @@ fn has_sections(report: &[u8], sections: [&[u8]; 3]) -> bool {
     rest == b"end\n".as_slice()
 }
 
-/// Asserts that a report's sections are those of reports that have one of them, with the same first lines.
+/// Asserts that a report's sections are those of reports that have one of them, with the same first
+/// lines.
 fn same_sections<R: Abort + Threads + Wait + Sync>(
     rt: &R,
     alloc: Global,
@@ -188,8 +190,8 @@ impl Tally {
     }
 }
 
-// The same texts each time. An unchanged database is valid, so it has to be accepted; the changed ones have each fault
-// that a short text can have.
+// The same texts each time. An unchanged database is valid, so it has to be accepted; the changed
+// ones have each fault that a short text can have.
 #[test]
 fn texts_by_chance_have_one_answer(rt: HostRuntime) {
     let mut tally = Tally {

@@ -6,7 +6,7 @@ use std::alloc::Global;
 /// A word of a text. What is put into a text at once is one too.
 pub(crate) type Word = &'static [u8];
 
-/// Words, one behind the other. Words for which there is no memory are left out.
+/// Words, one after the other. Words for which there is no memory are left out.
 #[derive(Drop)]
 pub(crate) struct Words {
     pub list: Vec<Word>,

@@ -16,7 +16,7 @@ ${ $d x p $. al $a wff A. x p $. $}
 twice $a wff p p $. more $a wff p p ( $.
 ";
 
-/// How a run ends on a theorem behind the head and these statements, and where its proof begins.
+/// How a run ends on a theorem after the head and these statements, and where its proof begins.
 fn judged<R: Threads + Wait + Sync>(
     rt: &R,
     alloc: Global,
@@ -53,7 +53,7 @@ fn is_valid<R: Threads + Wait + Sync>(
     }
 }
 
-/// Whether the proof has this fault, so many bytes behind its beginning.
+/// Whether the proof has this fault, so many bytes after its beginning.
 fn is_faulty<R: Threads + Wait + Sync>(
     rt: &R,
     alloc: Global,
@@ -119,7 +119,7 @@ fn pairs_are_disjoint(rt: HostRuntime) {
     assert!(&rt; is_faulty(&rt, alloc, shared, b"vx we vx al ", 9, Code::NotDisjoint));
 }
 
-// From 1 symbol behind the typecode, `more` makes 2 n + 1 of n, so 19 of them make 1,048,575.
+// From 1 symbol after the typecode, `more` makes 2 n + 1 of n, so 19 of them make 1,048,575.
 #[test]
 fn formula_of_the_limit_is_made_and_a_longer_one_not(rt: HostRuntime) -> Result<(), AllocError> {
     let alloc = rt.alloc();

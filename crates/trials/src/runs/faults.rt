@@ -1,5 +1,5 @@
-//! Each fault by its smallest example, with the line that it gives (the examples of `docs/FAULTS.md`), and theorems that
-//! rest on one another.
+//! Each fault by its smallest example, with the line that it gives (the examples of
+//! `docs/FAULTS.md`), and theorems that rest on one another.
 
 use crate::examples::{scopes, shapes, words};
 use crate::runs::prints;

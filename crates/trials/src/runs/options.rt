@@ -1,4 +1,5 @@
-//! What the options of a report change: citations by essential nodes, the second form of the matrix, and direct citations.
+//! What the options of a report change: citations by essential nodes, the second form of the
+//! matrix, and direct citations.
 
 use super::plan;
 use crate::texts::{

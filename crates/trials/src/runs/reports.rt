@@ -51,7 +51,8 @@ fn columns_of_a_typecode_alone(rt: HostRuntime) -> Result<(), AllocError> {
     Ok(())
 }
 
-/// The report on seventy axioms and two theorems: a row of marks for each, and the axioms that they rest on with their users.
+/// The report on seventy axioms and two theorems: a row of marks for each, and the axioms that they
+/// rest on with their users.
 fn seventy_report(alloc: Global) -> Result<Vec<u8>, AllocError> {
     let mut text = joined(alloc, &[b"mmdepend 1\naxioms 70\ntheorems 2\nmatrix\n"])?;
     for (label, others) in [(b't', [0, 63, 64, 69, 0]), (b'u', [0, 1, 63, 64, 69])] {

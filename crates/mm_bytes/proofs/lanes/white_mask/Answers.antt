@@ -10,4 +10,5 @@ returns c =
     let v = c.args.v in
     let at = λ (k : ℕ). zip2_splat hit v 64 k c.fits-v.0 in
     masked _ is_white v _ (omega arith) c.fits-v.1
-    (either _ _ v (either _ _ v (either _ _ v (either _ _ v (at 32) (at 10)) (at 9)) (at 12)) (at 13)) tt
+    (either _ _ v (either _ _ v (either _ _ v (either _ _ v (at 32) (at 10)) (at 9)) (at 12))
+    (at 13)) tt

@@ -1,4 +1,5 @@
-use Rattle.std.proofs.Common.{◌≡◌, ◌==◌, ◌≤◌, ℕ, ◌+◌, count_by, take, length, count_ones, ap, ◌∙◌, arith}
+use Rattle.std.proofs.Common.{◌≡◌, ◌==◌, ◌≤◌, ℕ, ◌+◌, count_by, take, length, count_ones, ap, ◌∙◌}
+use Rattle.std.proofs.Common.{arith}
 use Rattle.std.proofs.lemmas.Simd.{ones-mask_l}
 use Rattle.std.proofs.lemmas.List.Sums.{count_by-le-length}
 use Rattle.std.proofs.lemmas.List.{length-take}
@@ -8,14 +9,29 @@ use Rattle.mm_bytes.proofs.runs.count_lf.Goals as goal
 use Rattle.mm_bytes.proofs.runs.count_lf.Goals.{After-lf_mask}
 
 -- the count after a block
-more : (c : After-lf_mask) → c.loop-at.count + count_ones c.lf_mask.result ≡ count_by (λ b. b == 10) (take (c.loop-at.at + 64) c.args.bytes.now)
+more : (c : After-lf_mask)
+    → c.loop-at.count + count_ones c.lf_mask.result
+    ≡ count_by (λ b. b == 10) (take (c.loop-at.at + 64) c.args.bytes.now)
 more c =
     let s = c.args.bytes.now in
-    let block : count_ones c.lf_mask.result ≡ count_by (λ b. b == 10) (chunk c.loop-at.at 64 s) = ap count_ones c.lf_mask.ensures ∙ ones-mask_l (λ b. b == 10) (chunk c.loop-at.at 64 s) in
-    omega (arith, count_by_chunk (λ b. b == 10) c.loop-at.at 64 s, block, c.loop-at.invariant.counted)
+    let block : count_ones c.lf_mask.result ≡ count_by (λ b. b == 10) (chunk c.loop-at.at 64 s) =
+    ap count_ones c.lf_mask.ensures ∙ ones-mask_l (λ b. b == 10) (chunk c.loop-at.at 64 s) in
+    omega (
+      arith,
+      count_by_chunk
+          (λ b. b == 10) c.loop-at.at 64 s,
+      block,
+      c.loop-at.invariant.counted,
+    )
 
 pub overflow_add-count : goal.overflow_add-count
-overflow_add-count c = let m = more c in let t = count_by-le-length (λ b. b == 10) (take (c.loop-at.at + 64) c.args.bytes.now) in let u : c.loop-at.count + count_ones c.lf_mask.result ≤ length c.args.bytes.now = omega (arith, m, t, length-take {A = ℕ}) in record { fits = omega arith }
+overflow_add-count c =
+    let m = more c in
+    let t = count_by-le-length (λ b. b == 10) (take (c.loop-at.at + 64) c.args.bytes.now) in
+    let u : c.loop-at.count + count_ones c.lf_mask.result
+    ≤ length c.args.bytes.now = omega (arith, m, t, length-take {A = ℕ}) in
+    record { fits = omega arith }
 
 pub loop-at-preserved : goal.loop-at-preserved
-loop-at-preserved c = record { within = omega arith; counted = more (goal.at.loop-at-preserved c).After-lf_mask }
+loop-at-preserved c =
+    record { within = omega arith; counted = more (goal.at.loop-at-preserved c).After-lf_mask }

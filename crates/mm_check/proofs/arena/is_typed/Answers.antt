@@ -11,5 +11,8 @@ returns-then-premise c =
     let r = c.index-list-premise.result in
     let w = c.requires.premise.within in
     let more = c.if-premise.true in
-    let here : r ≡ get_or xs a 0 = c.index-list-premise.is ∙ ap (λ z. get_or z a r) c.list.ensures ∙ get_or_default xs a r 0 (omega (arith, w, more)) in
-    c.eq.ensures ∙ ap (λ z. nat_eq z c.args.typecode) here ∙ sym (typed_is xs a c.args.premise.end c.args.typecode more w)
+    let here : r ≡ get_or xs a 0 =
+    c.index-list-premise.is ∙ ap (λ z. get_or z a r) c.list.ensures
+    ∙ get_or_default xs a r 0 (omega (arith, w, more)) in
+    c.eq.ensures ∙ ap (λ z. nat_eq z c.args.typecode) here
+    ∙ sym (typed_is xs a c.args.premise.end c.args.typecode more w)

@@ -1,4 +1,5 @@
-use Rattle.std.proofs.Common.{◌≡◌, ℕ, List, slice_get, ap, sym, ◌∙◌, subst, refl, inr, ◌∷◌, [], true≢false}
+use Rattle.std.proofs.Common.{◌≡◌, ℕ, List, slice_get, ap, sym, ◌∙◌, subst, refl, inr, ◌∷◌, []}
+use Rattle.std.proofs.Common.{true≢false}
 use Rattle.std.proofs.lemmas.Slice.Eq.{slice_eq-Decides}
 use Rattle.std.proofs.lemmas.Bool.Decides.{Decides-eqb}
 use Rattle.std.specs.List.Sorted.{IsStrictlyIncreasing}
@@ -8,7 +9,7 @@ use Rattle.mm_spec.specs.Steps.{PlacedStep}
 use Rattle.mm_spec.specs.Derivation.{Formula, is_member}
 use Rattle.mm_spec.specs.Output.{ProofFault, end_of}
 use Rattle.mm_spec.specs.declared.Code.{Code}
-use Rattle.mm_spec.specs.Valid.{Derives, EndFault, end_code}
+use Rattle.mm_spec.specs.Valid.{Derives, ProofEndFault, IsEndCode}
 use Rattle.mm_spec.specs.Frame.{formula_at}
 use Rattle.std.specs.Prelude.{Decides}
 use Rattle.mm_spec.specs.Citation.{context_at, steps_at, IsProof, Cites}
@@ -19,40 +20,57 @@ use Rattle.mm_check.proofs.Reach.{derives, ends_with, not_one, end_is}
 use Rattle.mm_check.proofs.checker.judge_all.Goals.{in-None, in-Some+else-eq}
 use Rattle.mm_check.proofs.checker.judge_all.Goals as goal
 
--- the row behind all steps is the theorem's proof
-proof_of : (db : List Statement) (t : ℕ) (steps : List PlacedStep) (entries ends : List Formula) (noted : List ℕ) (r : Reached db t (steps_of steps) entries ends noted) → steps ≡ steps_at db t → entries ≡ formula_at db t ∷ [] → IsProof db t r.row
-proof_of db t steps entries ends noted r are one = subst (λ ps. Derives (context_at db t) (steps_of ps) (formula_at db t) r.row) are (derives db t steps entries ends noted r (formula_at db t) one)
+-- the row after all steps is the theorem's proof
+proof_of : (db : List Statement) (t : ℕ) (steps : List PlacedStep) (entries ends : List Formula)
+    → (noted : List ℕ) (r : Reached db t (steps_of steps) entries ends noted)
+    → steps ≡ steps_at db t → entries ≡ formula_at db t ∷ [] → IsProof db t r.row
+proof_of db t steps entries ends noted r are one =
+    subst (λ ps. Derives (context_at db t) (steps_of ps) (formula_at db t) r.row) are
+    (derives db t steps entries ends noted r (formula_at db t) one)
 
 pub choose-requires-clause-valid : goal.choose-requires-clause-valid
 choose-requires-clause-valid g c =
     let db = c.args.db.now.statements in
     let t = c.args.theorem in
     let r = c.in_ok-run.ensures.reached.1 in
-    let is : c.in-Some.formula.now ≡ formula_at db t = (slice_eq-Decides Decides-eqb _ _ _ c.eq.ensures).0 c.if-eq.true ∙ c.formula.ensures.formula in
-    (r.row, proof_of db t c.args.steps.now.steps _ _ _ r c.requires.steps (c.in-Some.ensures.some ∙ ap (λ f. f ∷ []) is))
+    let is : c.in-Some.formula.now ≡ formula_at db t =
+    (slice_eq-Decides Decides-eqb _ _ _ c.eq.ensures).0 c.if-eq.true ∙ c.formula.ensures.formula in (
+      r.row,
+      proof_of db t c.args.steps.now.steps _ _ _ r c.requires.steps
+          (c.in-Some.ensures.some ∙ ap (λ f. f ∷ []) is),
+    )
 
 pub choose-requires-clause-noted : goal.choose-requires-clause-noted
 choose-requires-clause-noted g c =
     let db = c.args.db.now.statements in
     let t = c.args.theorem in
     let r = c.in_ok-run.ensures.reached.1 in
-    let is : c.in-Some.formula.now ≡ formula_at db t = (slice_eq-Decides Decides-eqb _ _ _ c.eq.ensures).0 c.if-eq.true ∙ c.formula.ensures.formula in
-    all_cited db t r.row c.run.new.noted.items c.requires.complete (proof_of db t c.args.steps.now.steps _ _ _ r c.requires.steps (c.in-Some.ensures.some ∙ ap (λ f. f ∷ []) is)) r.noted_are
+    let is : c.in-Some.formula.now ≡ formula_at db t =
+    (slice_eq-Decides Decides-eqb _ _ _ c.eq.ensures).0 c.if-eq.true ∙ c.formula.ensures.formula in
+    all_cited db t r.row c.run.new.noted.items c.requires.complete
+    (proof_of db t c.args.steps.now.steps _ _ _ r c.requires.steps
+    (c.in-Some.ensures.some ∙ ap (λ f. f ∷ []) is)) r.noted_are
 
 pub returns-in-Ok-to_vec-clause-valid : goal.returns-in-Ok-to_vec-clause-valid
 returns-in-Ok-to_vec-clause-valid g c =
     let db = c.args.db.now.statements in
     let t = c.args.theorem in
     let r = c.in_ok-run.ensures.reached.1 in
-    let is : c.in-Some.formula.now ≡ formula_at db t = (slice_eq-Decides Decides-eqb _ _ _ c.eq.ensures).0 c.if-eq.true ∙ c.formula.ensures.formula in
-    let items : c.in-Ok-to_vec.cites.items ≡ c.tidy.new.noted.items = c.in-Ok-to_vec.ensures.items_if_clones_equal (λ x y e. e) ∙ c.deref.ensures.value in
+    let is : c.in-Some.formula.now ≡ formula_at db t =
+    (slice_eq-Decides Decides-eqb _ _ _ c.eq.ensures).0 c.if-eq.true ∙ c.formula.ensures.formula in
+    let items : c.in-Ok-to_vec.cites.items ≡ c.tidy.new.noted.items =
+    c.in-Ok-to_vec.ensures.items_if_clones_equal (λ x y e. e) ∙ c.deref.ensures.value in
     let same = λ (a : ℕ). ap (λ l. is_member l a) items ∙ c.tidy.ensures.same a in (
       refl,
       record {
         derivation = r.row;
-        proof = proof_of db t c.args.steps.now.steps _ _ _ r c.requires.steps (c.in-Some.ensures.some ∙ ap (λ f. f ∷ []) is);
+        proof =
+            proof_of db t c.args.steps.now.steps _ _ _ r c.requires.steps
+            (c.in-Some.ensures.some ∙ ap (λ f. f ∷ []) is);
         rising = subst IsStrictlyIncreasing (sym items) c.tidy.ensures.rising;
-        exact = λ a. subst (λ b. Decides b (Cites db c.args.essential t a)) (sym (same a)) (c.in-Ok.ensures a);
+        exact =
+            λ a. subst (λ b. Decides b (Cites db c.args.essential t a)) (sym (same a))
+            (c.in-Ok.ensures a);
       },
     )
 
@@ -64,13 +82,26 @@ returns-clause-refused g c =
     let at = c.end_at.result in
     let r = c.in_ok-run.ensures.reached.1 in
     let end = end_is db t at c.requires.is_theorem c.end_at.ensures in
-    let faulty : (code : Code) → end_code (context_at db t) c.run.new.machine.entries f code → ProofFault db t (end_of (slice_get db t)) (fault at code) = λ code h.
+    let faulty : (code : Code) → IsEndCode (context_at db t) c.run.new.machine.entries f code
+    → ProofFault db t (end_of (slice_get db t)) (fault at code) = λ code h.
     inr (
       c.requires.sound,
-      inr (subst (λ ps. EndFault (context_at db t) ps f (end_of (slice_get db t)) (fault at code)) c.requires.steps
-          (subst (λ n. EndFault (context_at db t) c.args.steps.now.steps f n (fault at code)) (sym end) (ends_with db t c.args.steps.now.steps _ _ _ r at code f h))),
+      inr (subst
+          (λ ps. ProofEndFault (context_at db t) ps f (end_of (slice_get db t)) (fault at code))
+          c.requires.steps
+          (subst (λ n. ProofEndFault (context_at db t) c.args.steps.now.steps f n (fault at code))
+          (sym end) (ends_with db t c.args.steps.now.steps _ _ _ r at code f h))),
     ) in
     elim c.match-only.branch [
-      | in-None w ↦ rw w.code-is (faulty NotOneEntry (not_one (context_at db t) _ f w.in-None.ensures.none))
-      | in-Some+else-eq w ↦ rw w.code-is (faulty OtherFormula (rw w.in-Some.ensures.some ((λ h. true≢false (sym ((slice_eq-Decides Decides-eqb _ _ _ w.eq.ensures).1 (h ∙ sym w.formula.ensures.formula)) ∙ w.if-eq.false)), refl)))
+      | in-None w ↦ rw w.code-is
+          (faulty NotOneEntry (not_one (context_at db t) _ f w.in-None.ensures.none))
+      | in-Some+else-eq w ↦ rw w.code-is
+          (faulty OtherFormula
+          (rw w.in-Some.ensures.some (
+            (λ h. true≢false
+                (sym ((slice_eq-Decides Decides-eqb _ _ _ w.eq.ensures).1
+                (h ∙ sym w.formula.ensures.formula))
+                ∙ w.if-eq.false)),
+            refl,
+          )))
     ]

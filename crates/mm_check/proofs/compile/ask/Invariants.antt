@@ -5,7 +5,9 @@ use Rattle.mm_check.proofs.compile.ask.Given as goal
 
 abbrev pub invariant-loop-j : goal.invariant-loop-j
 invariant-loop-j g l = record {
-  made : all_parts l.parts.items 0 l.asked.items ≡ map (parts_of l.db.statements (map (formula_at l.db.statements) l.hyps)) (map (formula_at l.db.statements) (take l.j l.hyps));
+  made : all_parts l.parts.items 0 l.asked.items
+      ≡ map (parts_of l.db.statements (map (formula_at l.db.statements) l.hyps))
+      (map (formula_at l.db.statements) (take l.j l.hyps));
   count : length l.asked.items ≡ l.j;
   within : All (IsAsked (length l.parts.items)) l.asked.items;
   below : All (IsBelow (length l.hyps)) l.parts.items;

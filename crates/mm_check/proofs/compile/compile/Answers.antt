@@ -3,7 +3,7 @@ use Rattle.std.specs.List.{AllByRecursion}
 use Rattle.mm_spec.specs.Derivation.{Pair}
 use Rattle.mm_spec.specs.Frame.{formula_at, mandatory_pairs}
 use Rattle.mm_spec.specs.Citation.{context_at, is_assertion}
-use Rattle.mm_spec.specs.Complete.{IsBound, AreBound}
+use Rattle.mm_spec.specs.Laws.Complete.{IsBound, AreBound}
 use Rattle.mm_outline.proofs.StatementsLaw.{is_there}
 use Rattle.mm_check.specs.Rule.{parts_of}
 use Rattle.mm_check.proofs.RuleLaw.{covered_all, pairs_covered, made_rule}
@@ -13,20 +13,29 @@ pub ask-requires-clause-bound : goal.ask-requires-clause-bound
 ask-requires-clause-bound g c =
     let k = c.args.db.now.statements in
     covered_all k (map (formula_at k) c.hyps-hyps.result.now) c.hyps-hyps.result.now
-    (subst (λ h. AllByRecursion (AreBound (context_at k 0) (map (formula_at k) h)) (map (formula_at k) h)) (sym c.hyps-hyps.ensures.are) c.requires.complete.hypotheses)
+    (subst (λ h. AllByRecursion (AreBound (context_at k 0) (map (formula_at k) h))
+    (map (formula_at k) h)) (sym c.hyps-hyps.ensures.are) c.requires.complete.hypotheses)
 
 pub pair-requires-clause-bound : goal.pair-requires-clause-bound
 pair-requires-clause-bound g c =
     let k = c.args.db.now.statements in
-    let bound = subst (λ h. AllByRecursion (λ (p : Pair). IsBound (context_at k 0) (map (formula_at k) h) p.low × IsBound (context_at k 0) (map (formula_at k) h) p.high) (mandatory_pairs k c.args.k)) (sym c.hyps-hyps.ensures.are) c.requires.complete.pairs in
+    let bound =
+    subst (λ h. AllByRecursion
+    (λ (p : Pair). IsBound (context_at k 0) (map (formula_at k) h) p.low
+    × IsBound (context_at k 0) (map (formula_at k) h) p.high) (mandatory_pairs k c.args.k))
+    (sym c.hyps-hyps.ensures.are) c.requires.complete.pairs in
     pairs_covered k (map (formula_at k) c.hyps-hyps.result.now) c.pairs.result.now
-    (subst (AllByRecursion (λ (p : Pair). IsBound (context_at k 0) (map (formula_at k) c.hyps-hyps.result.now) p.low × IsBound (context_at k 0) (map (formula_at k) c.hyps-hyps.result.now) p.high)) (sym c.pairs.ensures.are) bound)
+    (subst (AllByRecursion
+    (λ (p : Pair). IsBound (context_at k 0) (map (formula_at k) c.hyps-hyps.result.now) p.low
+    × IsBound (context_at k 0) (map (formula_at k) c.hyps-hyps.result.now) p.high))
+    (sym c.pairs.ensures.are) bound)
 
 pub formula-requires : goal.formula-requires
 formula-requires g c = is_there is_assertion c.args.db.now.statements c.args.k c.requires.assertion
 
 pub formula-requires-2 : goal.formula-requires-2
-formula-requires-2 g c = is_there is_assertion c.args.db.now.statements c.args.k c.requires.assertion
+formula-requires-2 g c =
+    is_there is_assertion c.args.db.now.statements c.args.k c.requires.assertion
 
 pub returns-clause-made : goal.returns-clause-made
 returns-clause-made g c =
@@ -34,5 +43,10 @@ returns-clause-made g c =
     let hyps = c.hyps-hyps.result.now in
     let f = c.formula-2.result.now in
     let asked = c.in_ok-ask.ensures in
-    made_rule k c.args.k c.requires.assertion c.requires.complete hyps c.pairs.result.now f c.ask.new.asked.items c.pair.new.pairs.items c.ask.new.parts.items c.write.new.parts.items c.hyps-hyps.ensures.are c.pairs.ensures.are c.formula-2.ensures.formula c.formula-2.ensures.known asked.asked asked.count asked.within asked.parts c.in_ok-pair.ensures
-    (c.in_ok-write.ensures ∙ ap (λ z. z ++ parts_of k (map (formula_at k) hyps) f) c.in_ok-formula.ensures.items)
+    made_rule k c.args.k c.requires.assertion c.requires.complete hyps c.pairs.result.now f
+    c.ask.new.asked.items c.pair.new.pairs.items c.ask.new.parts.items c.write.new.parts.items
+    c.hyps-hyps.ensures.are c.pairs.ensures.are c.formula-2.ensures.formula
+    c.formula-2.ensures.known asked.asked asked.count asked.within asked.parts
+    c.in_ok-pair.ensures
+    (c.in_ok-write.ensures
+    ∙ ap (λ z. z ++ parts_of k (map (formula_at k) hyps) f) c.in_ok-formula.ensures.items)

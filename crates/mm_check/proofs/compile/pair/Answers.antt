@@ -13,7 +13,13 @@ loop-p-preserved g c =
     let i = c.loop-p.p-index in
     let at : get_or from i p ≡ p = sym c.p-item.is in
     let bound = c.requires.bound i p c.loop-p-test.true in
-    let low : c.place_of-low.result ≡ first k hs p.0 = c.place_of-low.ensures ∙ ap (λ (q : ℕ × ℕ). get_or c.args.places.now q.0 0) (sym at) ∙ c.requires.placed _ bound.0 ∙ ap (λ (q : ℕ × ℕ). first k hs q.0) at in
-    let high : c.place_of-high.result ≡ first k hs p.1 = c.place_of-high.ensures ∙ ap (λ (q : ℕ × ℕ). get_or c.args.places.now q.1 0) (sym at) ∙ c.requires.placed _ bound.1 ∙ ap (λ (q : ℕ × ℕ). first k hs q.1) at in
+    let low : c.place_of-low.result ≡ first k hs p.0 =
+    c.place_of-low.ensures ∙ ap (λ (q : ℕ × ℕ). get_or c.args.places.now q.0 0) (sym at)
+    ∙ c.requires.placed _ bound.0 ∙ ap (λ (q : ℕ × ℕ). first k hs q.0) at in
+    let high : c.place_of-high.result ≡ first k hs p.1 =
+    c.place_of-high.ensures ∙ ap (λ (q : ℕ × ℕ). get_or c.args.places.now q.1 0) (sym at)
+    ∙ c.requires.placed _ bound.1 ∙ ap (λ (q : ℕ × ℕ). first k hs q.1) at in
     let f : ℕ × ℕ → ℕ × ℕ = λ (q : ℕ × ℕ). (first k hs q.0, first k hs q.1) in
-    c.in_ok-push.ensures.items ∙ ap₂ (λ u x. u ++ x ∷ []) c.loop-p.invariant (ap₂ (λ a b. (a, b)) low high ∙ ap f (sym at)) ∙ sym (map_take_more f from i p c.loop-p-test.true)
+    c.in_ok-push.ensures.items
+    ∙ ap₂ (λ u x. u ++ x ∷ []) c.loop-p.invariant (ap₂ (λ a b. (a, b)) low high ∙ ap f (sym at))
+    ∙ sym (map_take_more f from i p c.loop-p-test.true)

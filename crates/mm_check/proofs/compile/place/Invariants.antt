@@ -7,7 +7,8 @@ abbrev pub invariant-loop-j : goal.invariant-loop-j
 invariant-loop-j g l = record {
   upto : l.j ≤ length l.hyps;
   width : length l.places ≡ length (symbol_names l.db.statements);
-  placed : PlacedFrom l.db.statements l.j (map (formula_at l.db.statements) (drop l.j l.hyps)) l.places;
+  placed : PlacedFrom l.db.statements l.j
+      (map (formula_at l.db.statements) (drop l.j l.hyps)) l.places;
 }
 
 abbrev pub decreases-loop-j : goal.decreases-loop-j

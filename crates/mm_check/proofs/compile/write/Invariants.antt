@@ -4,4 +4,7 @@ use Rattle.mm_check.specs.Rule.{parts_of}
 use Rattle.mm_check.proofs.compile.write.Given as goal
 
 abbrev pub invariant-loop-s : goal.invariant-loop-s
-invariant-loop-s g l = l.parts.items ≡ l.initial.parts.items ++ parts_of l.db.statements (map (formula_at l.db.statements) l.hyps) (take l.s-index l.formula)
+invariant-loop-s g l =
+    l.parts.items
+    ≡ l.initial.parts.items
+    ++ parts_of l.db.statements (map (formula_at l.db.statements) l.hyps) (take l.s-index l.formula)

@@ -9,4 +9,9 @@ pub returns : goal.returns
 returns g c =
     let hs = c.hyps-h-items.result.now in
     let all : length hs ≤ c.loop-h.h-index = omega (arith, c.loop-h-test.false) in
-    c.loop-h.invariant ∙ ap (λ (ks : List ℕ). c.args.waiting.now.items ++ map (λ h. c.args.is_essential && list_any is_essential (statement_at c.args.db.now.statements h)) ks) (take_all c.loop-h.h-index hs all ∙ c.hyps-h-items.ensures.are)
+    c.loop-h.invariant
+    ∙ ap (λ (ks : List ℕ). c.args.waiting.now.items
+    ++ map (λ h. c.args.is_essential
+    && list_any is_essential (statement_at c.args.db.now.statements h)) ks)
+    (take_all c.loop-h.h-index hs all
+    ∙ c.hyps-h-items.ensures.are)

@@ -1,4 +1,5 @@
-use Rattle.std.proofs.Common.{rules, ◌≡◌, suc, ◌-◌, ◌<◌, ◌||◌, ◌++◌, false, length, take, drop, take_at, replicate, refl, sym, ap, ◌∙◌, subst, arith}
+use Rattle.std.proofs.Common.{rules, ◌≡◌, suc, ◌-◌, ◌<◌, ◌||◌, ◌++◌, false, length, take, drop}
+use Rattle.std.proofs.Common.{take_at, replicate, refl, sym, ap, ◌∙◌, subst, arith}
 use Rattle.std.proofs.lemmas.Bool.{or_left}
 use Rattle.std.proofs.lemmas.List.{get_or_default}
 use Rattle.mm_spec.specs.Citation.{context_at}
@@ -15,31 +16,45 @@ pub loop-i-init : goal.loop-i-init
 loop-i-init g c =
     let steps = c.args.steps.now.steps in
     let wanted = c.in_ok-restart.ensures.wanted ∙ ap (λ n. replicate n false) c.len.ensures in
-    rw c.len-i.ensures (walk_start c.args.db.now.statements c.args.theorem steps c.requires.complete c.restart.new.waiting.items c.restart.new.wanted.items c.clear.new.self.items c.requires.steps c.requires.valid c.in_ok-restart.ensures.waiting wanted c.clear.ensures.items)
+    rw c.len-i.ensures
+    (walk_start c.args.db.now.statements c.args.theorem steps c.requires.complete
+    c.restart.new.waiting.items c.restart.new.wanted.items c.clear.new.self.items
+    c.requires.steps c.requires.valid c.in_ok-restart.ensures.waiting wanted
+    c.clear.ensures.items)
 
 pub pop_flag-flag-requires : goal.pop_flag-flag-requires
 pop_flag-flag-requires g c =
     let steps = c.args.steps.now.steps in
-    let inside : c.loop-i.i - 1 < length steps = omega (arith, c.loop-i-test.true, c.loop-i.auto.i, c.len-i.ensures) in
+    let inside : c.loop-i.i - 1 < length steps =
+    omega (arith, c.loop-i-test.true, c.loop-i.auto.i, c.len-i.ensures) in
     let next : c.loop-i.i ≡ suc (c.loop-i.i - 1) = omega (arith, c.loop-i-test.true) in
-    walk_some c.args.db.now.statements c.args.theorem steps c.loop-i.i (c.loop-i.i - 1) c.loop-i.waiting.items c.loop-i.wanted.items c.loop-i.noted.items c.loop-i.invariant inside next
+    walk_some c.args.db.now.statements c.args.theorem steps c.loop-i.i
+    (c.loop-i.i - 1) c.loop-i.waiting.items c.loop-i.wanted.items c.loop-i.noted.items
+    c.loop-i.invariant inside next
 
 pub undo-requires-clause-known : goal.undo-requires-clause-known
 undo-requires-clause-known g c =
     let db = c.args.db.now.statements in
     let steps = c.args.steps.now.steps in
     let i = c.loop-i.i - 1 in
-    let inside : i < length steps = omega (arith, c.loop-i-test.true, c.loop-i.auto.i, c.len-i.ensures) in
-    good_labels db c.args.theorem i (step_of c.step.result) (good_here (context_at db c.args.theorem) steps i i (step_of c.step.result) inside c.requires.usable refl c.step.ensures)
+    let inside : i < length steps =
+    omega (arith, c.loop-i-test.true, c.loop-i.auto.i, c.len-i.ensures) in
+    good_labels db c.args.theorem i (step_of c.step.result)
+    (good_here (context_at db c.args.theorem) steps i i
+    (step_of c.step.result) inside c.requires.usable refl c.step.ensures)
 
 pub undo-requires-clause-earlier : goal.undo-requires-clause-earlier
 undo-requires-clause-earlier g c =
     let db = c.args.db.now.statements in
     let steps = c.args.steps.now.steps in
     let i = c.loop-i.i - 1 in
-    let inside : i < length steps = omega (arith, c.loop-i-test.true, c.loop-i.auto.i, c.len-i.ensures) in
+    let inside : i < length steps =
+    omega (arith, c.loop-i-test.true, c.loop-i.auto.i, c.len-i.ensures) in
     let many = ap length c.deref_mut.ensures.value ∙ c.loop-i.invariant.many in
-    earlier_of (context_at db c.args.theorem) i (length c.deref_mut.result.now) (step_of c.step.result) (omega (arith, inside, many)) (good_here (context_at db c.args.theorem) steps i i (step_of c.step.result) inside c.requires.usable refl c.step.ensures)
+    earlier_of (context_at db c.args.theorem) i (length c.deref_mut.result.now)
+    (step_of c.step.result) (omega (arith, inside, many))
+    (good_here (context_at db c.args.theorem) steps i i
+    (step_of c.step.result) inside c.requires.usable refl c.step.ensures)
 
 pub loop-i-preserved : goal.loop-i-preserved
 loop-i-preserved g c =
@@ -47,19 +62,41 @@ loop-i-preserved g c =
     let steps = c.args.steps.now.steps in
     let i = c.loop-i.i - 1 in
     let wanted = c.loop-i.wanted.items in
-    let inside : i < length steps = omega (arith, c.loop-i-test.true, c.loop-i.auto.i, c.len-i.ensures) in
+    let inside : i < length steps =
+    omega (arith, c.loop-i-test.true, c.loop-i.auto.i, c.len-i.ensures) in
     let next : c.loop-i.i ≡ suc i = omega (arith, c.loop-i-test.true) in
-    let needed : c.if-flag.is_essential ≡ (c.pop_flag-flag.result || flag_at wanted i) = elim c.if-flag.branch [
-      | then-flag w ↦ w.is_essential-is ∙ w.if-flag.true ∙ sym (or_left c.pop_flag-flag.result (flag_at wanted i) w.if-flag.true)
-      | else-flag w ↦ w.is_essential-is ∙ w.index.ensures ∙ sym (get_or_default wanted i false w.index.result.now (omega (arith, inside, c.loop-i.invariant.many))) ∙ sym (ap (λ f. f || flag_at wanted i) w.if-flag.false)
+    let needed : c.if-flag.is_essential ≡ (c.pop_flag-flag.result || flag_at wanted i) =
+    elim c.if-flag.branch [
+      | then-flag w ↦ w.is_essential-is ∙ w.if-flag.true
+          ∙ sym (or_left c.pop_flag-flag.result (flag_at wanted i) w.if-flag.true)
+      | else-flag w ↦ w.is_essential-is ∙ w.index.ensures
+          ∙ sym (get_or_default wanted i false w.index.result.now
+          (omega (arith, inside, c.loop-i.invariant.many)))
+          ∙ sym (ap (λ f. f || flag_at wanted i) w.if-flag.false)
     ] in
-    let want : c.undo.new.wanted ≡ wanted_flags c.if-flag.is_essential (step_of c.step.result) wanted = c.in_ok-undo.ensures.wanted ∙ ap (wanted_flags c.if-flag.is_essential (step_of c.step.result)) c.deref_mut.ensures.value in
+    let want : c.undo.new.wanted
+    ≡ wanted_flags c.if-flag.is_essential
+    (step_of c.step.result) wanted = c.in_ok-undo.ensures.wanted
+    ∙ ap (wanted_flags c.if-flag.is_essential (step_of c.step.result))
+    c.deref_mut.ensures.value in
     let long : length wanted ≡ c.loop-i.wanted.len = search rules in
-    let whole : take c.loop-i.wanted.len (c.undo.new.wanted ++ drop (length c.undo.new.wanted) wanted) ≡ c.undo.new.wanted = take_at c.undo.new.wanted (drop (length c.undo.new.wanted) wanted) c.loop-i.wanted.len (ap length want ∙ wanted_count c.if-flag.is_essential (step_of c.step.result) wanted ∙ long) in
-    walk_here db c.args.theorem steps c.loop-i.i i c.loop-i.waiting.items wanted c.loop-i.noted.items c.loop-i.invariant inside next c.pop_flag-flag.new.waiting.items c.pop_flag-flag.result c.if-flag.is_essential (step_of c.step.result) c.undo.new.waiting.items _ c.undo.new.noted.items c.pop_flag-flag.ensures needed c.requires.usable c.step.ensures c.in_ok-undo.ensures.waiting (whole ∙ want) c.in_ok-undo.ensures.noted
+    let whole : take c.loop-i.wanted.len
+    (c.undo.new.wanted ++ drop (length c.undo.new.wanted) wanted)
+    ≡ c.undo.new.wanted = take_at c.undo.new.wanted
+    (drop (length c.undo.new.wanted) wanted) c.loop-i.wanted.len
+    (ap length want ∙ wanted_count c.if-flag.is_essential (step_of c.step.result) wanted
+    ∙ long) in
+    walk_here db c.args.theorem steps c.loop-i.i i c.loop-i.waiting.items wanted
+    c.loop-i.noted.items c.loop-i.invariant inside next c.pop_flag-flag.new.waiting.items
+    c.pop_flag-flag.result c.if-flag.is_essential
+    (step_of c.step.result) c.undo.new.waiting.items _ c.undo.new.noted.items
+    c.pop_flag-flag.ensures needed c.requires.usable c.step.ensures c.in_ok-undo.ensures.waiting
+    (whole ∙ want) c.in_ok-undo.ensures.noted
 
 pub returns : goal.returns
 returns g c =
     let none : c.loop-i.i ≡ 0 = omega (arith, c.loop-i-test.false) in
-    walk_end c.args.db.now.statements c.args.theorem c.args.steps.now.steps c.requires.complete c.loop-i.waiting.items c.loop-i.wanted.items c.loop-i.noted.items
-    (subst (λ n. Walked c.args.db.now.statements c.args.theorem c.args.steps.now.steps n c.loop-i.waiting.items c.loop-i.wanted.items c.loop-i.noted.items) none c.loop-i.invariant)
+    walk_end c.args.db.now.statements c.args.theorem c.args.steps.now.steps c.requires.complete
+    c.loop-i.waiting.items c.loop-i.wanted.items c.loop-i.noted.items
+    (subst (λ n. Walked c.args.db.now.statements c.args.theorem c.args.steps.now.steps n
+    c.loop-i.waiting.items c.loop-i.wanted.items c.loop-i.noted.items) none c.loop-i.invariant)

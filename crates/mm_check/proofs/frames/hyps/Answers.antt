@@ -8,7 +8,8 @@ pub returns-clause-below : goal.returns-clause-below
 returns-clause-below g c =
     let db = c.args.db.now.statements in
     let there : c.args.k < length db = is_there is_assertion db c.args.k c.requires in
-    subst (All (λ h. h < length db)) (sym (c.as_slice.ensures.value ∙ c.frame.ensures.hypotheses)) (hyps_below db c.args.k (omega (arith, there)))
+    subst (All (λ h. h < length db)) (sym (c.as_slice.ensures.value ∙ c.frame.ensures.hypotheses))
+    (hyps_below db c.args.k (omega (arith, there)))
 
 pub returns-clause-few : goal.returns-clause-few
 returns-clause-few g c =

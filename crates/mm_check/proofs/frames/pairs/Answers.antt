@@ -4,4 +4,6 @@ use Rattle.mm_check.proofs.FrameLaw.{pairs_below}
 use Rattle.mm_check.proofs.frames.pairs.Goals as goal
 
 pub returns-clause-below : goal.returns-clause-below
-returns-clause-below g c = pairs_below c.args.db.now.statements c.args.k c.as_slice.result.now (ap paired c.as_slice.ensures.value ∙ c.frame.ensures.pairs)
+returns-clause-below g c =
+    pairs_below c.args.db.now.statements c.args.k c.as_slice.result.now
+    (ap paired c.as_slice.ensures.value ∙ c.frame.ensures.pairs)

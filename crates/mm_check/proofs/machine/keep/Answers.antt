@@ -1,12 +1,16 @@
-use Rattle.std.proofs.Common.{◌≡◌, ◌+◌, ◌-◌, ◌++◌, length, take, get_or, slice_range, sym, ap, ap₂, ◌∙◌, arith, rules}
+use Rattle.std.proofs.Common.{◌≡◌, ◌+◌, ◌-◌, ◌++◌, length, take, get_or, slice_range, sym, ap, ap₂}
+use Rattle.std.proofs.Common.{◌∙◌, arith, rules}
 use Rattle.std.proofs.lemmas.List.{get_or_default}
 use Rattle.mm_check.specs.declared.arena.Place.TheVariants.{Kept}
 use Rattle.mm_check.specs.Arena.{entry, nothing}
-use Rattle.mm_check.proofs.Follow.{kept_top, kept_top_is, stack_here, texts_here, kept_here, text_here, moves_here, no_move}
+use Rattle.mm_check.proofs.Follow.{kept_top, kept_top_is, stack_here, texts_here, kept_here}
+use Rattle.mm_check.proofs.Follow.{text_here, moves_here, no_move}
 use Rattle.mm_check.proofs.machine.keep.Goals as goal
 
 pub returns-in_err-extend_from_slice-in-Own-clause-moved : goal.returns-in_err-extend_from_slice-in-Own-clause-moved
-returns-in_err-extend_from_slice-in-Own-clause-moved g c = rw c.in_err-extend_from_slice-in-Own.ensures.items (no_move c.args.own.now.items c.args.kept.now.items)
+returns-in_err-extend_from_slice-in-Own-clause-moved g c =
+    rw c.in_err-extend_from_slice-in-Own.ensures.items
+    (no_move c.args.own.now.items c.args.kept.now.items)
 
 pub returns-in-Kept-clause-moved : goal.returns-in-Kept-clause-moved
 returns-in-Kept-clause-moved g c = no_move c.args.own.now.items c.args.kept.now.items
@@ -20,8 +24,12 @@ returns-in-Kept-clause-made g c =
     let e = c.index-entry.result.now in
     let long : c.len-last.result ≡ length es = search rules in
     let is_last : last + 1 ≡ length es = omega (arith, long, c.requires.entry) in
-    let is : e ≡ get_or es last nothing = c.index-entry.ensures ∙ sym (get_or_default es last nothing e (omega (arith, is_last))) in
-    (kept_top own kept es last e is_last is c.requires.stack c.in-Kept.is, kept_top_is own kept es last e is_last is c.requires.stack c.in-Kept.is)
+    let is : e ≡ get_or es last nothing =
+    c.index-entry.ensures ∙ sym (get_or_default es last nothing e (omega (arith, is_last))) in (
+      kept_top own kept es last e is_last is c.requires.stack c.in-Kept.is,
+      kept_top_is own kept es
+          last e is_last is c.requires.stack c.in-Kept.is,
+    )
 
 pub returns-in_ok-extend_from_slice-in-Own-clause-stack : goal.returns-in_ok-extend_from_slice-in-Own-clause-stack
 returns-in_ok-extend_from_slice-in-Own-clause-stack g c =
@@ -32,14 +40,21 @@ returns-in_ok-extend_from_slice-in-Own-clause-stack g c =
     let e = c.index-entry.result.now in
     let long : c.len-last.result ≡ length es = search rules in
     let is_last : last + 1 ≡ length es = omega (arith, long, c.requires.entry) in
-    let is : e ≡ get_or es last nothing = c.index-entry.ensures ∙ sym (get_or_default es last nothing e (omega (arith, is_last))) in
+    let is : e ≡ get_or es last nothing =
+    c.index-entry.ensures ∙ sym (get_or_default es last nothing e (omega (arith, is_last))) in
     let moved = slice_range own e.start e.end in
-    let grown : c.extend_from_slice.new.self.items ≡ kept ++ moved = c.in_ok-extend_from_slice-in-Own.ensures.items ∙ ap (λ z. kept ++ slice_range z e.start e.end) c.deref.ensures.value in
+    let grown : c.extend_from_slice.new.self.items ≡ kept ++ moved =
+    c.in_ok-extend_from_slice-in-Own.ensures.items
+    ∙ ap (λ z. kept ++ slice_range z e.start e.end) c.deref.ensures.value in
     let cut : c.truncate.new.self.items ≡ take e.start own = c.truncate.ensures.items in
     let start : c.len-start.result ≡ length kept = search rules in
     let end : c.len.result ≡ length c.extend_from_slice.new.self.items = search rules in
-    let made : entry Kept c.len-start.result c.len.result ≡ entry Kept (length kept) (length (kept ++ moved)) = ap₂ (entry Kept) start (end ∙ ap length grown) in
-    stack_here own kept es last e is_last is c.requires.stack c.in-Own.is c.truncate.new.self.items c.extend_from_slice.new.self.items (entry Kept c.len-start.result c.len.result) cut grown made
+    let made : entry Kept c.len-start.result c.len.result
+    ≡ entry Kept (length kept) (length (kept ++ moved)) = ap₂ (entry Kept) start
+    (end ∙ ap length grown) in
+    stack_here own kept es last e is_last is c.requires.stack c.in-Own.is c.truncate.new.self.items
+    c.extend_from_slice.new.self.items
+    (entry Kept c.len-start.result c.len.result) cut grown made
 
 pub returns-in_ok-extend_from_slice-in-Own-clause-texts : goal.returns-in_ok-extend_from_slice-in-Own-clause-texts
 returns-in_ok-extend_from_slice-in-Own-clause-texts g c =
@@ -50,14 +65,21 @@ returns-in_ok-extend_from_slice-in-Own-clause-texts g c =
     let e = c.index-entry.result.now in
     let long : c.len-last.result ≡ length es = search rules in
     let is_last : last + 1 ≡ length es = omega (arith, long, c.requires.entry) in
-    let is : e ≡ get_or es last nothing = c.index-entry.ensures ∙ sym (get_or_default es last nothing e (omega (arith, is_last))) in
+    let is : e ≡ get_or es last nothing =
+    c.index-entry.ensures ∙ sym (get_or_default es last nothing e (omega (arith, is_last))) in
     let moved = slice_range own e.start e.end in
-    let grown : c.extend_from_slice.new.self.items ≡ kept ++ moved = c.in_ok-extend_from_slice-in-Own.ensures.items ∙ ap (λ z. kept ++ slice_range z e.start e.end) c.deref.ensures.value in
+    let grown : c.extend_from_slice.new.self.items ≡ kept ++ moved =
+    c.in_ok-extend_from_slice-in-Own.ensures.items
+    ∙ ap (λ z. kept ++ slice_range z e.start e.end) c.deref.ensures.value in
     let cut : c.truncate.new.self.items ≡ take e.start own = c.truncate.ensures.items in
     let start : c.len-start.result ≡ length kept = search rules in
     let end : c.len.result ≡ length c.extend_from_slice.new.self.items = search rules in
-    let made : entry Kept c.len-start.result c.len.result ≡ entry Kept (length kept) (length (kept ++ moved)) = ap₂ (entry Kept) start (end ∙ ap length grown) in
-    texts_here own kept es last e is_last is c.requires.stack c.in-Own.is c.truncate.new.self.items c.extend_from_slice.new.self.items (entry Kept c.len-start.result c.len.result) cut grown made
+    let made : entry Kept c.len-start.result c.len.result
+    ≡ entry Kept (length kept) (length (kept ++ moved)) = ap₂ (entry Kept) start
+    (end ∙ ap length grown) in
+    texts_here own kept es last e is_last is c.requires.stack c.in-Own.is c.truncate.new.self.items
+    c.extend_from_slice.new.self.items
+    (entry Kept c.len-start.result c.len.result) cut grown made
 
 pub returns-in_ok-extend_from_slice-in-Own-clause-moved : goal.returns-in_ok-extend_from_slice-in-Own-clause-moved
 returns-in_ok-extend_from_slice-in-Own-clause-moved g c =
@@ -68,14 +90,21 @@ returns-in_ok-extend_from_slice-in-Own-clause-moved g c =
     let e = c.index-entry.result.now in
     let long : c.len-last.result ≡ length es = search rules in
     let is_last : last + 1 ≡ length es = omega (arith, long, c.requires.entry) in
-    let is : e ≡ get_or es last nothing = c.index-entry.ensures ∙ sym (get_or_default es last nothing e (omega (arith, is_last))) in
+    let is : e ≡ get_or es last nothing =
+    c.index-entry.ensures ∙ sym (get_or_default es last nothing e (omega (arith, is_last))) in
     let moved = slice_range own e.start e.end in
-    let grown : c.extend_from_slice.new.self.items ≡ kept ++ moved = c.in_ok-extend_from_slice-in-Own.ensures.items ∙ ap (λ z. kept ++ slice_range z e.start e.end) c.deref.ensures.value in
+    let grown : c.extend_from_slice.new.self.items ≡ kept ++ moved =
+    c.in_ok-extend_from_slice-in-Own.ensures.items
+    ∙ ap (λ z. kept ++ slice_range z e.start e.end) c.deref.ensures.value in
     let cut : c.truncate.new.self.items ≡ take e.start own = c.truncate.ensures.items in
     let start : c.len-start.result ≡ length kept = search rules in
     let end : c.len.result ≡ length c.extend_from_slice.new.self.items = search rules in
-    let made : entry Kept c.len-start.result c.len.result ≡ entry Kept (length kept) (length (kept ++ moved)) = ap₂ (entry Kept) start (end ∙ ap length grown) in
-    moves_here own kept es last e is_last is c.requires.stack c.in-Own.is c.truncate.new.self.items c.extend_from_slice.new.self.items (entry Kept c.len-start.result c.len.result) cut grown made
+    let made : entry Kept c.len-start.result c.len.result
+    ≡ entry Kept (length kept) (length (kept ++ moved)) = ap₂ (entry Kept) start
+    (end ∙ ap length grown) in
+    moves_here own kept es last e is_last is c.requires.stack c.in-Own.is c.truncate.new.self.items
+    c.extend_from_slice.new.self.items
+    (entry Kept c.len-start.result c.len.result) cut grown made
 
 pub returns-in_ok-extend_from_slice-in-Own-clause-made : goal.returns-in_ok-extend_from_slice-in-Own-clause-made
 returns-in_ok-extend_from_slice-in-Own-clause-made g c =
@@ -86,11 +115,23 @@ returns-in_ok-extend_from_slice-in-Own-clause-made g c =
     let e = c.index-entry.result.now in
     let long : c.len-last.result ≡ length es = search rules in
     let is_last : last + 1 ≡ length es = omega (arith, long, c.requires.entry) in
-    let is : e ≡ get_or es last nothing = c.index-entry.ensures ∙ sym (get_or_default es last nothing e (omega (arith, is_last))) in
+    let is : e ≡ get_or es last nothing =
+    c.index-entry.ensures ∙ sym (get_or_default es last nothing e (omega (arith, is_last))) in
     let moved = slice_range own e.start e.end in
-    let grown : c.extend_from_slice.new.self.items ≡ kept ++ moved = c.in_ok-extend_from_slice-in-Own.ensures.items ∙ ap (λ z. kept ++ slice_range z e.start e.end) c.deref.ensures.value in
+    let grown : c.extend_from_slice.new.self.items ≡ kept ++ moved =
+    c.in_ok-extend_from_slice-in-Own.ensures.items
+    ∙ ap (λ z. kept ++ slice_range z e.start e.end) c.deref.ensures.value in
     let cut : c.truncate.new.self.items ≡ take e.start own = c.truncate.ensures.items in
     let start : c.len-start.result ≡ length kept = search rules in
     let end : c.len.result ≡ length c.extend_from_slice.new.self.items = search rules in
-    let made : entry Kept c.len-start.result c.len.result ≡ entry Kept (length kept) (length (kept ++ moved)) = ap₂ (entry Kept) start (end ∙ ap length grown) in
-    (kept_here own kept es last e is_last is c.requires.stack c.in-Own.is c.truncate.new.self.items c.extend_from_slice.new.self.items (entry Kept c.len-start.result c.len.result) cut grown made, text_here own kept es last e is_last is c.requires.stack c.in-Own.is c.truncate.new.self.items c.extend_from_slice.new.self.items (entry Kept c.len-start.result c.len.result) cut grown made)
+    let made : entry Kept c.len-start.result c.len.result
+    ≡ entry Kept (length kept) (length (kept ++ moved)) = ap₂ (entry Kept) start
+    (end ∙ ap length grown) in (
+      kept_here own kept es last e is_last is c.requires.stack c.in-Own.is c.truncate.new.self.items
+          c.extend_from_slice.new.self.items
+          (entry Kept c.len-start.result c.len.result) cut grown made,
+      text_here own kept es last e
+          is_last is c.requires.stack c.in-Own.is c.truncate.new.self.items
+          c.extend_from_slice.new.self.items
+          (entry Kept c.len-start.result c.len.result) cut grown made,
+    )

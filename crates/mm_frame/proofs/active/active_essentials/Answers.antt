@@ -1,13 +1,17 @@
 use Rattle.std.proofs.Common.{ℕ, ◌≤◌, length, get_or, sym, subst, List, arith}
 use Rattle.mm_spec.specs.Frame.{is_essential}
 use Rattle.mm_frame.specs.Latest.{IsWalked}
-use Rattle.mm_frame.proofs.LatestLaw.{walked_start, walked_next, walked_end, height_less, essential_local}
+use Rattle.mm_frame.proofs.LatestLaw.{walked_start, walked_next, walked_end, height_less}
+use Rattle.mm_frame.proofs.LatestLaw.{essential_local}
 use Rattle.mm_frame.proofs.active.active_essentials.Goals as goal
 
 pub loop-last-init : goal.loop-last-init
 loop-last-init g c =
     let last = get_or c.args.latest.now c.args.at 0 in
-    subst (λ (xs : List ℕ). IsWalked is_essential c.args.tables.now c.args.at xs last) (sym c.clear.ensures.items) (walked_start is_essential c.args.tables.now c.args.at last (c.requires.latest.each c.args.at c.requires.at))
+    subst (λ (xs : List ℕ). IsWalked is_essential c.args.tables.now c.args.at xs last)
+    (sym c.clear.ensures.items)
+    (walked_start is_essential c.args.tables.now c.args.at last
+    (c.requires.latest.each c.args.at c.requires.at))
 
 pub loop-last-preserved : goal.loop-last-preserved
 loop-last-preserved g c =
@@ -16,7 +20,9 @@ loop-last-preserved g c =
     let f = (c.loop-last.invariant.found c.loop-last-test.true).0 in
     let h = c.requires.at in
     let l : last ≤ length c.args.tables.now = omega (arith, f, h) in
-    rw c.in_ok-push.ensures.items (walked_next is_essential c.args.tables.now c.args.at c.loop-last.into.items last next h c.loop-last.invariant c.loop-last-test.true (c.requires.latest.each last l))
+    rw c.in_ok-push.ensures.items
+    (walked_next is_essential c.args.tables.now c.args.at c.loop-last.into.items last next h
+    c.loop-last.invariant c.loop-last-test.true (c.requires.latest.each last l))
 
 pub loop-last-smaller : goal.loop-last-smaller
 loop-last-smaller g c =
@@ -24,7 +30,10 @@ loop-last-smaller g c =
     let f = (c.loop-last.invariant.found c.loop-last-test.true).0 in
     let h = c.requires.at in
     let l : last ≤ length c.args.tables.now = omega (arith, f, h) in
-    height_less is_essential c.args.tables.now c.args.at last (get_or c.args.latest.now last 0) c.loop-last-test.true (c.requires.latest.each last l)
+    height_less is_essential c.args.tables.now c.args.at last
+    (get_or c.args.latest.now last 0) c.loop-last-test.true (c.requires.latest.each last l)
 
 pub returns : goal.returns
-returns g c = walked_end is_essential c.args.tables.now essential_local c.args.at c.loop-last.into.items c.loop-last.last c.loop-last.invariant c.loop-last-test.false
+returns g c =
+    walked_end is_essential c.args.tables.now essential_local c.args.at c.loop-last.into.items
+    c.loop-last.last c.loop-last.invariant c.loop-last-test.false

@@ -18,15 +18,22 @@ last_open-last-requires-clause-first g c =
     let h = c.loop-k-test.true in
     let few : k < never = omega (arith, s, e, h, n) in
     elim c.if-is_essential.branch [
-      | then-is_essential w ↦ rw w.first-is (candidate_self t db k few (sym c.is_essential.ensures ∙ w.if-is_essential.true))
+      | then-is_essential w ↦ rw w.first-is
+          (candidate_self t db k few (sym c.is_essential.ensures ∙ w.if-is_essential.true))
       | else-is_essential w ↦
           let m = c.loop-k.invariant.count in
           let v = w.index.result.now in
-          let is : get_or c.loop-k.latest.items k 0 ≡ v = sym (w.index.ensures ∙ get_or_default_zero c.loop-k.latest.items k v (omega (arith, m))) in
-          rw w.first-is (candidate_other t db k v (sym c.is_essential.ensures ∙ w.if-is_essential.false) (subst (IsLatest t db k) is (c.loop-k.invariant.each k (omega arith))))
+          let is : get_or c.loop-k.latest.items k 0 ≡ v =
+          sym (w.index.ensures
+          ∙ get_or_default_zero c.loop-k.latest.items k v (omega (arith, m))) in
+          rw w.first-is
+          (candidate_other t db k v (sym c.is_essential.ensures ∙ w.if-is_essential.false)
+          (subst (IsLatest t db k) is (c.loop-k.invariant.each k (omega arith))))
     ]
 
 pub loop-k-preserved : goal.loop-k-preserved
 loop-k-preserved g c =
     let m = c.loop-k.invariant.count in
-    each_pushed is_essential c.args.tables.now c.loop-k.latest.items c.push-in-loop-k.new.self.items c.last_open-last.result c.loop-k.k m c.in_ok-push-2.ensures.items c.loop-k.invariant.each c.last_open-last.ensures
+    each_pushed is_essential c.args.tables.now c.loop-k.latest.items c.push-in-loop-k.new.self.items
+    c.last_open-last.result c.loop-k.k m c.in_ok-push-2.ensures.items c.loop-k.invariant.each
+    c.last_open-last.ensures

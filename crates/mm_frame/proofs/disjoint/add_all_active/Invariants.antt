@@ -6,4 +6,10 @@ use Rattle.mm_frame.specs.Pairs.{has_pair}
 use Rattle.mm_frame.proofs.disjoint.add_all_active.Given as goal
 
 abbrev pub invariant-loop-symbol : goal.invariant-loop-symbol
-invariant-loop-symbol g l = (j y : ℕ) → has_pair l.into.items j y ≡ (has_pair l.initial.into.items j y || (is_member (take l.symbol-index l.symbols) y && (has_pair l.members.pairs.items y j && is_live (lists l.blocks.of.items l.blocks.ends.items l.blocks.open.items) j l.fn.at)))
+invariant-loop-symbol g l =
+    (j y : ℕ)
+    → has_pair l.into.items j y
+    ≡ (has_pair l.initial.into.items j y
+    || (is_member (take l.symbol-index l.symbols) y
+    && (has_pair l.members.pairs.items y j
+    && is_live (lists l.blocks.of.items l.blocks.ends.items l.blocks.open.items) j l.fn.at)))

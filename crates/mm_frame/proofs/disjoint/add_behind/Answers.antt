@@ -3,9 +3,13 @@ use Rattle.mm_frame.proofs.DisjointLaw.{behind_end}
 use Rattle.mm_frame.proofs.disjoint.add_behind.Goals as goal
 
 pub returns-else-had-at : goal.returns-else-had-at
-returns-else-had-at g c = behind_end c.args.had.now c.requires.rising c.args.place c.requires.place c.loop-at.at c.args.pairs.now.items c.loop-at.pairs.items c.loop-at.invariant (λ l. c.if-had-at.false)
+returns-else-had-at g c =
+    behind_end c.args.had.now c.requires.rising c.args.place c.requires.place c.loop-at.at
+    c.args.pairs.now.items c.loop-at.pairs.items c.loop-at.invariant (λ l. c.if-had-at.false)
 
 pub returns-after-loop-at : goal.returns-after-loop-at
 returns-after-loop-at g c =
     let t = c.loop-at-test.false in
-    behind_end c.args.had.now c.requires.rising c.args.place c.requires.place c.loop-at.at c.args.pairs.now.items c.loop-at.pairs.items c.loop-at.invariant (λ l. absurd (omega (arith, l, t)))
+    behind_end c.args.had.now c.requires.rising c.args.place c.requires.place c.loop-at.at
+    c.args.pairs.now.items c.loop-at.pairs.items c.loop-at.invariant
+    (λ l. absurd (omega (arith, l, t)))

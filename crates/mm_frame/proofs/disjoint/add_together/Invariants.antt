@@ -4,4 +4,8 @@ use Rattle.mm_frame.specs.Pairs.{has_pair}
 use Rattle.mm_frame.proofs.disjoint.add_together.Given as goal
 
 abbrev pub invariant-loop-place : goal.invariant-loop-place
-invariant-loop-place g l = (x y : ℕ) → has_pair l.pairs.items x y ≡ (has_pair l.initial.pairs.items x y || list_any (λ p. nat_eq x p.1 && (has_pair l.had p.0 y && nat_lt x y)) (take l.place l.had))
+invariant-loop-place g l =
+    (x y : ℕ)
+    → has_pair l.pairs.items x y
+    ≡ (has_pair l.initial.pairs.items x y
+    || list_any (λ p. nat_eq x p.1 && (has_pair l.had p.0 y && nat_lt x y)) (take l.place l.had))

@@ -11,16 +11,24 @@ use Rattle.mm_frame.proofs.disjoint.pairs_of.Goals as goal
 pub returns : goal.returns
 returns g c = ok_then c.symbols_of.result c.symbols_of.ensures (λ v e.
     let db = c.args.tables.now in
-    let b = lists c.args.blocks.now.of.items c.args.blocks.now.ends.items c.args.blocks.now.open.items in
+    let b =
+    lists c.args.blocks.now.of.items c.args.blocks.now.ends.items c.args.blocks.now.open.items in
     let k = c.args.assertion in
     let m = c.requires.assertion in
     let h : k ≤ length db = omega (arith, m) in
     let ps = c.args.members.now.pairs.items in
     let found = c.args.found.now in
     e ∙ ap (map (λ p. pair p.0 p.1)) c.deref-2.ensures.value
-    ∙ pairs_are db b c.requires.blocks k h ps c.requires.members.are found c.tidy.new.pairs.items c.requires.found
-    (λ j y. c.tidy.ensures.same j y ∙ c.in_ok-add_all_active.ensures j y ∙ ap (λ (xs : List (ℕ × ℕ)). has_pair xs j y || (is_member found y && (has_pair ps y j && is_live b j k))) c.clear.ensures.items)
+    ∙ pairs_are db b c.requires.blocks k h ps c.requires.members.are found c.tidy.new.pairs.items
+    c.requires.found
+    (λ j y. c.tidy.ensures.same j y ∙ c.in_ok-add_all_active.ensures j y
+    ∙ ap (λ (xs : List (ℕ × ℕ)). has_pair xs j y
+    || (is_member found y && (has_pair ps y j && is_live b j k))) c.clear.ensures.items)
     c.tidy-2.new.pairs.items c.tidy-2.ensures.rising
     (λ x y. c.tidy-2.ensures.same x y ∙ c.in_ok-add_together.ensures x y
-    ∙ ap (λ (xs : List (ℕ × ℕ)). has_pair xs x y || list_any (λ p. nat_eq x p.1 && (has_pair c.deref.result.now p.0 y && nat_lt x y)) c.deref.result.now) c.clear-2.ensures.items
-    ∙ ap (λ (hs : List (ℕ × ℕ)). list_any (λ p. nat_eq x p.1 && (has_pair hs p.0 y && nat_lt x y)) hs) c.deref.ensures.value))
+    ∙ ap (λ (xs : List (ℕ × ℕ)). has_pair xs x y
+    || list_any
+    (λ p. nat_eq x p.1 && (has_pair c.deref.result.now p.0 y && nat_lt x y)) c.deref.result.now)
+    c.clear-2.ensures.items
+    ∙ ap (λ (hs : List (ℕ × ℕ)). list_any
+    (λ p. nat_eq x p.1 && (has_pair hs p.0 y && nat_lt x y)) hs) c.deref.ensures.value))

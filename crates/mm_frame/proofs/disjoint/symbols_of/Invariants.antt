@@ -3,4 +3,5 @@ use Rattle.mm_spec.specs.Derivation.{pair}
 use Rattle.mm_frame.proofs.disjoint.symbols_of.Given as goal
 
 abbrev pub invariant-loop-low : goal.invariant-loop-low
-invariant-loop-low g l = map (λ p. pair p.0 p.1) l.symbols.items ≡ map (λ p. pair p.0 p.1) (take l.low-index l.pairs)
+invariant-loop-low g l =
+    map (λ p. pair p.0 p.1) l.symbols.items ≡ map (λ p. pair p.0 p.1) (take l.low-index l.pairs)

@@ -23,10 +23,16 @@ returns-in_ok-push-2-clause-frames g c =
     let hs = map (λ x. x.hyps.items) fs in
     let ds = map (λ x. map (λ p. pair p.0 p.1) x.pairs.items) fs in
     let more = ap (map (λ x. x.hyps.items)) is ∙ map-append (λ x. x.hyps.items) fs (f ∷ []) in
-    let others = ap (map (λ x. map (λ p. pair p.0 p.1) x.pairs.items)) is ∙ map-append (λ x. map (λ p. pair p.0 p.1) x.pairs.items) fs (f ∷ []) in
-    let count : c.len.result ≡ length hs = c.len.ensures ∙ c.args.frames.now.list.ok.0 ∙ sym (length-map fs (λ x. x.hyps.items)) in
-    let placed = c.in_ok-push.ensures.items ∙ ap (λ n. c.args.frames.now.places.items ++ n ∷ []) count in
-    rw (placed, more, others) (frames_more db k c.args.frames.now.places.items hs ds c.requires.frames f.hyps.items (map (λ p. pair p.0 p.1) f.pairs.items) c.in_ok-frame.ensures.frame)
+    let others =
+    ap (map (λ x. map (λ p. pair p.0 p.1) x.pairs.items)) is
+    ∙ map-append (λ x. map (λ p. pair p.0 p.1) x.pairs.items) fs (f ∷ []) in
+    let count : c.len.result ≡ length hs =
+    c.len.ensures ∙ c.args.frames.now.list.ok.0 ∙ sym (length-map fs (λ x. x.hyps.items)) in
+    let placed =
+    c.in_ok-push.ensures.items ∙ ap (λ n. c.args.frames.now.places.items ++ n ∷ []) count in
+    rw (placed, more, others)
+    (frames_more db k c.args.frames.now.places.items hs ds c.requires.frames f.hyps.items
+    (map (λ p. pair p.0 p.1) f.pairs.items) c.in_ok-frame.ensures.frame)
 
 pub returns-else-is_assertion-clause-frames : goal.returns-else-is_assertion-clause-frames
 returns-else-is_assertion-clause-frames g c =
@@ -35,6 +41,10 @@ returns-else-is_assertion-clause-frames g c =
     let fs = c.args.frames.now.list.items in
     let hs = map (λ x. x.hyps.items) fs in
     let ds = map (λ x. map (λ p. pair p.0 p.1) x.pairs.items) fs in
-    let count : c.len.result ≡ length hs = c.len.ensures ∙ c.args.frames.now.list.ok.0 ∙ sym (length-map fs (λ x. x.hyps.items)) in
-    let placed = c.in_ok-push.ensures.items ∙ ap (λ n. c.args.frames.now.places.items ++ n ∷ []) count in
-    rw placed (frames_pass db k c.args.frames.now.places.items hs ds c.requires.frames (sym c.is_assertion.ensures ∙ c.if-is_assertion.false))
+    let count : c.len.result ≡ length hs =
+    c.len.ensures ∙ c.args.frames.now.list.ok.0 ∙ sym (length-map fs (λ x. x.hyps.items)) in
+    let placed =
+    c.in_ok-push.ensures.items ∙ ap (λ n. c.args.frames.now.places.items ++ n ∷ []) count in
+    rw placed
+    (frames_pass db k c.args.frames.now.places.items hs ds c.requires.frames
+    (sym c.is_assertion.ensures ∙ c.if-is_assertion.false))

@@ -11,4 +11,6 @@ returns g c =
     let n = c.len-k-end.ensures.len in
     let m = c.loop-k-test.false in
     let all : c.loop-k.k ≡ length db = omega (arith, e, n, m) in
-    subst (λ k. AreFramesUpTo db k fs.places.items (map (λ x. x.hyps.items) fs.list.items) (map (λ x. map (λ p. pair p.0 p.1) x.pairs.items) fs.list.items)) all c.loop-k.invariant.frames
+    subst (λ k. AreFramesUpTo db k fs.places.items (map (λ x. x.hyps.items) fs.list.items)
+    (map (λ x. map (λ p. pair p.0 p.1) x.pairs.items) fs.list.items)) all
+    c.loop-k.invariant.frames

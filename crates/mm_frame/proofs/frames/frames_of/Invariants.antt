@@ -9,5 +9,7 @@ abbrev pub invariant-loop-k : goal.invariant-loop-k
 invariant-loop-k g l = record {
   typed : AreTyped l.tables l.k l.typed.items;
   seen : IsFresh (length (symbol_names l.tables)) l.k l.scratch.seen.items;
-  frames : AreFramesUpTo l.tables l.k l.frames.places.items (map (λ f. f.hyps.items) l.frames.list.items) (map (λ f. map (λ p. pair p.0 p.1) f.pairs.items) l.frames.list.items);
+  frames : AreFramesUpTo l.tables l.k l.frames.places.items
+      (map (λ f. f.hyps.items) l.frames.list.items)
+      (map (λ f. map (λ p. pair p.0 p.1) f.pairs.items) l.frames.list.items);
 }

@@ -4,7 +4,11 @@ use Rattle.mm_frame.proofs.MembersLaw.{Apart}
 use Rattle.mm_frame.proofs.members.are_together.Given as goal
 
 abbrev pub invariant-loop-pairs : goal.invariant-loop-pairs
-invariant-loop-pairs g l = (l.left ≤ l.initial.left) × (l.right ≤ l.initial.right) × (l.left ≤ length l.members.pairs.items) × (l.right ≤ length l.members.pairs.items) × Apart (lists l.blocks.of.items l.blocks.ends.items l.blocks.open.items) l.members.pairs.items l.fn.x l.fn.y l.fn.at l.left l.right
+invariant-loop-pairs g l =
+    (l.left ≤ l.initial.left) × (l.right ≤ l.initial.right)
+    × (l.left ≤ length l.members.pairs.items) × (l.right ≤ length l.members.pairs.items)
+    × Apart (lists l.blocks.of.items l.blocks.ends.items l.blocks.open.items) l.members.pairs.items
+    l.fn.x l.fn.y l.fn.at l.left l.right
 
 abbrev pub decreases-loop-pairs : goal.decreases-loop-pairs
 decreases-loop-pairs g l = l.left + l.right

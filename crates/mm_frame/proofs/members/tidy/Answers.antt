@@ -4,7 +4,13 @@ use Rattle.mm_frame.proofs.PairsLaw.{strict_rising, tidy_same}
 use Rattle.mm_frame.proofs.members.tidy.Goals as goal
 
 pub returns-clause-rising : goal.returns-clause-rising
-returns-clause-rising g c = strict_rising c.sort_unstable.new.self.items c.dedup.new.self.items c.sort_unstable.ensures.sorted (dedup_is (λ x y. nat_eq x.0 y.0 && nat_eq x.1 y.1) _ _ c.dedup.ensures.filtered)
+returns-clause-rising g c =
+    strict_rising c.sort_unstable.new.self.items c.dedup.new.self.items
+    c.sort_unstable.ensures.sorted
+    (dedup_is (λ x y. nat_eq x.0 y.0 && nat_eq x.1 y.1) _ _ c.dedup.ensures.filtered)
 
 pub returns-clause-same : goal.returns-clause-same
-returns-clause-same g c = tidy_same c.args.pairs.now.items c.sort_unstable.new.self.items c.dedup.new.self.items c.sort_unstable.ensures.permutation (dedup_is (λ x y. nat_eq x.0 y.0 && nat_eq x.1 y.1) _ _ c.dedup.ensures.filtered)
+returns-clause-same g c =
+    tidy_same c.args.pairs.now.items c.sort_unstable.new.self.items c.dedup.new.self.items
+    c.sort_unstable.ensures.permutation
+    (dedup_is (λ x y. nat_eq x.0 y.0 && nat_eq x.1 y.1) _ _ c.dedup.ensures.filtered)

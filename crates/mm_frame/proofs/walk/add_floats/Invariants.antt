@@ -5,4 +5,7 @@ use Rattle.mm_frame.specs.Walk.{is_float_of}
 use Rattle.mm_frame.proofs.walk.add_floats.Given as goal
 
 abbrev pub invariant-loop-symbol : goal.invariant-loop-symbol
-invariant-loop-symbol g l = (j : ℕ) → is_member l.hyps.items j ≡ (is_member l.initial.hyps.items j || list_any (is_float_of l.tables l.at l.typed j) (take l.symbol-index l.found))
+invariant-loop-symbol g l =
+    (j : ℕ) → is_member l.hyps.items j
+    ≡ (is_member l.initial.hyps.items j
+    || list_any (is_float_of l.tables l.at l.typed j) (take l.symbol-index l.found))

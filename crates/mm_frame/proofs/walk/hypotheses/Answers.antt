@@ -9,7 +9,10 @@ use Rattle.mm_frame.proofs.walk.hypotheses.Goals as goal
 pub add_floats-requires-clause-found : goal.add_floats-requires-clause-found
 add_floats-requires-clause-found g c =
     let db = c.args.tables.now in
-    subst (λ (xs : List ℕ). All (λ s. s < length (symbol_names db)) xs) (sym c.deref-2.ensures.value) (found_below db c.args.assertion c.mandatory.new.found.items c.in_ok-mandatory.ensures.found)
+    subst (λ (xs : List ℕ). All (λ s. s < length (symbol_names db)) xs)
+    (sym c.deref-2.ensures.value)
+    (found_below db c.args.assertion c.mandatory.new.found.items
+    c.in_ok-mandatory.ensures.found)
 
 pub returns-clause-hyps : goal.returns-clause-hyps
 returns-clause-hyps g c =
@@ -18,5 +21,9 @@ returns-clause-hyps g c =
     let ts = c.args.typed.now in
     let h = c.requires.assertion in
     let l : k ≤ length db = omega (arith, h) in
-    hypotheses_are db k c.requires.sound l ts c.requires.typed c.mandatory.new.found.items c.in_ok-mandatory.ensures.found c.active_essentials.new.into.items c.tidy.new.numbers.items c.in_ok-active_essentials.ensures c.tidy.ensures.rising
-    (λ j. c.tidy.ensures.same j ∙ c.in_ok-add_floats.ensures j ∙ ap (λ xs. is_member c.active_essentials.new.into.items j || list_any (is_float_of db k ts j) xs) c.deref-2.ensures.value)
+    hypotheses_are db k c.requires.sound l ts c.requires.typed c.mandatory.new.found.items
+    c.in_ok-mandatory.ensures.found c.active_essentials.new.into.items c.tidy.new.numbers.items
+    c.in_ok-active_essentials.ensures c.tidy.ensures.rising
+    (λ j. c.tidy.ensures.same j ∙ c.in_ok-add_floats.ensures j
+    ∙ ap (λ xs. is_member c.active_essentials.new.into.items j
+    || list_any (is_float_of db k ts j) xs) c.deref-2.ensures.value)

@@ -7,9 +7,11 @@ use Rattle.mm_frame.proofs.walk.tidy.Goals as goal
 
 pub returns-clause-rising : goal.returns-clause-rising
 returns-clause-rising g c =
-    let e : c.dedup.new.self.items ≡ dedup nat_eq c.sort_unstable.new.self.items = dedup_is nat_eq _ _ c.dedup.ensures.filtered in
+    let e : c.dedup.new.self.items ≡ dedup nat_eq c.sort_unstable.new.self.items =
+    dedup_is nat_eq _ _ c.dedup.ensures.filtered in
     rw e (IsStrictlyIncreasing-dedup c.sort_unstable.new.self.items c.sort_unstable.ensures.sorted)
 
 pub returns-clause-same : goal.returns-clause-same
 returns-clause-same g c =
-    tidy_same c.args.numbers.now.items c.sort_unstable.new.self.items c.dedup.new.self.items c.sort_unstable.ensures.permutation (dedup_is nat_eq _ _ c.dedup.ensures.filtered)
+    tidy_same c.args.numbers.now.items c.sort_unstable.new.self.items c.dedup.new.self.items
+    c.sort_unstable.ensures.permutation (dedup_is nat_eq _ _ c.dedup.ensures.filtered)

@@ -1,4 +1,5 @@
-use Rattle.std.proofs.Common.{◌≡◌, ◌-◌, ◌≤◌, ◌∙◌, ℕ, Bool, true, false, min, if◌then◌else◌, ap, arith}
+use Rattle.std.proofs.Common.{◌≡◌, ◌-◌, ◌≤◌, ◌∙◌, ℕ, Bool, true, false, min, if◌then◌else◌, ap}
+use Rattle.std.proofs.Common.{arith}
 use Rattle.std.specs.Int.{bit_at}
 use mir.Val.{bool_byte}
 use Rattle.mm_lex.proofs.BlockFacts.{starts-first, starts-next}
@@ -14,8 +15,12 @@ chosen n false = omega arith
 
 pub returns-clause-first : goal.returns-clause-first
 returns-clause-first c =
-    starts-first c.args.white c.from.result c.ranges.white.fits (omega (arith, c.from.ensures, at_most_one c.args.first))
-    ∙ ap (min (1 - bit_at c.args.white 0)) c.from.ensures ∙ chosen (bit_at c.args.white 0) c.args.first
+    starts-first c.args.white c.from.result c.ranges.white.fits
+    (omega (arith, c.from.ensures, at_most_one c.args.first))
+    ∙ ap (min (1 - bit_at c.args.white 0)) c.from.ensures
+    ∙ chosen (bit_at c.args.white 0) c.args.first
 
 pub returns-clause-next : goal.returns-clause-next
-returns-clause-next c = starts-next c.args.white c.from.result c.ranges.white.fits (omega (arith, c.from.ensures, at_most_one c.args.first))
+returns-clause-next c =
+    starts-next c.args.white c.from.result c.ranges.white.fits
+    (omega (arith, c.from.ensures, at_most_one c.args.first))

@@ -9,8 +9,11 @@ loop-place-preserved c = record {
   low = omega (arith, c.loop-place-test.true);
   high = omega (arith, c.loop-place.invariant.high);
   ink = λ i low high. ⊎_elim {C = white_at c.args.text.now i ≡ false}
-      (λ here. block-ink c.args.text.now (c.loop-place.place - 64) c.classes_of.result.white c.classes_of.ensures.white c.if-classes_of-eq0.true
-      (omega (arith, c.loop-place-test.true, c.loop-place.invariant.high, c.requires.within)) i low (omega (arith, here, c.loop-place-test.true)))
+      (λ here. block-ink c.args.text.now
+      (c.loop-place.place - 64) c.classes_of.result.white c.classes_of.ensures.white
+      c.if-classes_of-eq0.true
+      (omega (arith, c.loop-place-test.true, c.loop-place.invariant.high, c.requires.within)) i low
+      (omega (arith, here, c.loop-place-test.true)))
       (λ behind. c.loop-place.invariant.ink i behind high)
       (cases_lt i c.loop-place.place);
 }

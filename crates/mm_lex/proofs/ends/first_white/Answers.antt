@@ -8,8 +8,11 @@ pub loop-place-preserved : goal.loop-place-preserved
 loop-place-preserved c = record {
   low = omega (arith, c.loop-place.invariant.low);
   high = omega (arith, c.loop-place-test.true, c.loop-place.invariant.high);
-  ink = λ i low high. ⊎_elim {C = white_at c.args.text.now i ≡ false} (λ before. c.loop-place.invariant.ink i low before)
-      (λ here. block-ink c.args.text.now c.loop-place.place c.classes_of.result.white c.classes_of.ensures.white c.if-classes_of-eq0.true
+  ink =
+      λ i low high. ⊎_elim {C = white_at c.args.text.now i ≡ false}
+      (λ before. c.loop-place.invariant.ink i low before)
+      (λ here. block-ink c.args.text.now c.loop-place.place c.classes_of.result.white
+      c.classes_of.ensures.white c.if-classes_of-eq0.true
       (omega (arith, c.loop-place-test.true, c.requires.within)) i here high)
       (cases_lt i c.loop-place.place);
 }

@@ -8,15 +8,21 @@ low : (c : Else-rest-eq0) → c.args.mask / 2 ^ c.args.from < 2 ^ 64
 low c = omega (arith, div-le_self c.args.mask (2 ^ c.args.from), c.ranges.mask.fits)
 
 pub returns-then-rest-eq0-clause-zeros : goal.returns-then-rest-eq0-clause-zeros
-returns-then-rest-eq0-clause-zeros c i le lt = none-left c.args.mask c.args.from c.if-rest-eq0.true i le
+returns-then-rest-eq0-clause-zeros c i le lt =
+    none-left c.args.mask c.args.from c.if-rest-eq0.true i le
 
 pub returns-else-rest-eq0-clause-up_to : goal.returns-else-rest-eq0-clause-up_to
 returns-else-rest-eq0-clause-up_to c =
-    let within = next-within c.args.mask c.args.from c.ranges.mask.fits (low c) (omega (arith, c.if-rest-eq0.false)) in
+    let within =
+    next-within c.args.mask c.args.from c.ranges.mask.fits (low c)
+    (omega (arith, c.if-rest-eq0.false)) in
     omega (arith, within)
 
 pub returns-else-rest-eq0-clause-zeros : goal.returns-else-rest-eq0-clause-zeros
-returns-else-rest-eq0-clause-zeros c = next-zeros c.args.mask c.args.from c.ranges.mask.fits (low c) (omega (arith, c.if-rest-eq0.false))
+returns-else-rest-eq0-clause-zeros c =
+    next-zeros c.args.mask c.args.from c.ranges.mask.fits (low c)
+    (omega (arith, c.if-rest-eq0.false))
 
 pub returns-else-rest-eq0-clause-one : goal.returns-else-rest-eq0-clause-one
-returns-else-rest-eq0-clause-one c lt = next-one c.args.mask c.args.from c.ranges.mask.fits (low c) (omega (arith, c.if-rest-eq0.false))
+returns-else-rest-eq0-clause-one c lt =
+    next-one c.args.mask c.args.from c.ranges.mask.fits (low c) (omega (arith, c.if-rest-eq0.false))

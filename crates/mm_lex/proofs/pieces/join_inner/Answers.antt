@@ -1,25 +1,40 @@
 use Rattle.std.proofs.Common.{◌≡◌, ℕ, sym, lt-ltb, le-ltb}
-use Rattle.mm_spec.specs.Readings.{go_on}
+use Rattle.mm_spec.specs.Laws.Readings.{go_on}
 use Rattle.mm_lex.specs.Pieces.{seen}
 use Rattle.mm_lex.specs.Inners.{side}
 use Rattle.mm_lex.specs.Stretches.{joined_word}
 use Rattle.mm_lex.proofs.PiecesLemmas.{go_on-three, go_on-nil}
 use Rattle.mm_lex.proofs.pieces.join_inner.Goals as goal
-use Rattle.mm_lex.proofs.pieces.join_inner.Goals.{then-before-behind+in_ok-read_word+in_ok-read_word-2, else-before-behind}
+use Rattle.mm_lex.proofs.pieces.join_inner.Goals.{then-before-behind+in_ok-read_word+in_ok-read_word-2}
+use Rattle.mm_lex.proofs.pieces.join_inner.Goals.{else-before-behind}
 
 pub returns-clause-readings : goal.returns-clause-readings
 returns-clause-readings g c ws us before behind =
-    let out : (p : ℕ) → seen p (side c.if-before-behind.outside) ≡ go_on c.args.text.now (seen p (side c.args.before.outside)) (joined_word c.args.before.tail c.args.behind.head) =
+    let out : (p : ℕ)
+    → seen p (side c.if-before-behind.outside)
+    ≡ go_on c.args.text.now (seen p (side c.args.before.outside))
+    (joined_word c.args.before.tail c.args.behind.head) =
     λ p. elim c.if-before-behind.branch [
-      | then-before-behind+in_ok-read_word+in_ok-read_word-2 w ↦ rw (w.outside-is, lt-ltb _ _ w.if-before-behind.true) (w.in_ok-read_word.ensures p)
-      | else-before-behind w ↦ rw (w.outside-is, le-ltb _ _ w.if-before-behind.false) (sym (go_on-nil _ _))
+      | then-before-behind+in_ok-read_word+in_ok-read_word-2 w ↦ rw
+          (w.outside-is, lt-ltb _ _ w.if-before-behind.true) (w.in_ok-read_word.ensures p)
+      | else-before-behind w ↦ rw (w.outside-is, le-ltb _ _ w.if-before-behind.false)
+          (sym (go_on-nil _ _))
     ] in
-    let inn : (p : ℕ) → seen p (side c.if-before-behind.inside) ≡ go_on c.args.text.now (seen p (side c.args.before.inside)) (joined_word c.args.before.tail c.args.behind.head) =
+    let inn : (p : ℕ)
+    → seen p (side c.if-before-behind.inside)
+    ≡ go_on c.args.text.now (seen p (side c.args.before.inside))
+    (joined_word c.args.before.tail c.args.behind.head) =
     λ p. elim c.if-before-behind.branch [
-      | then-before-behind+in_ok-read_word+in_ok-read_word-2 w ↦ rw (w.inside-is, lt-ltb _ _ w.if-before-behind.true) (w.in_ok-read_word-2.ensures p)
-      | else-before-behind w ↦ rw (w.inside-is, le-ltb _ _ w.if-before-behind.false) (sym (go_on-nil _ _))
+      | then-before-behind+in_ok-read_word+in_ok-read_word-2 w ↦ rw
+          (w.inside-is, lt-ltb _ _ w.if-before-behind.true) (w.in_ok-read_word-2.ensures p)
+      | else-before-behind w ↦ rw (w.inside-is, le-ltb _ _ w.if-before-behind.false)
+          (sym (go_on-nil _ _))
     ] in
     record {
-      out = λ p. go_on-three c.args.text.now _ _ _ _ ws _ us (before.out p) (out p) (c.in_ok-read_all.ensures c.args.text.now us behind p);
-      within = λ p. go_on-three c.args.text.now _ _ _ _ ws _ us (before.within p) (inn p) (c.in_ok-read_all-2.ensures c.args.text.now us behind p);
+      out =
+          λ p. go_on-three c.args.text.now _ _ _ _ ws _ us (before.out p) (out p)
+          (c.in_ok-read_all.ensures c.args.text.now us behind p);
+      within =
+          λ p. go_on-three c.args.text.now _ _ _ _ ws _ us (before.within p) (inn p)
+          (c.in_ok-read_all-2.ensures c.args.text.now us behind p);
     }

@@ -2,22 +2,30 @@ use Rattle.std.proofs.Common.{rules, ◌≡◌, ◌∙◌, ℕ, List, [], ◌∷
 use Rattle.mm_lex.specs.Pieces.{seen}
 use Rattle.mm_lex.specs.Inners.{side}
 use Rattle.mm_lex.specs.declared.blocks.Blocks.{Blocks}
-use Rattle.mm_spec.specs.Readings.{go_on}
+use Rattle.mm_spec.specs.Laws.Readings.{go_on}
 use Rattle.mm_spec.specs.Words.{words_between}
 use Rattle.mm_lex.proofs.PiecesLemmas.{go_on-next, go_on-done, go_on-some}
 use Rattle.mm_lex.proofs.pieces.lex_inner.Goals as goal
-use Rattle.mm_lex.proofs.pieces.lex_inner.Goals.{else-loop-blocks-test, then-loop-blocks-test+in-None-1}
+use Rattle.mm_lex.proofs.pieces.lex_inner.Goals.{else-loop-blocks-test}
+use Rattle.mm_lex.proofs.pieces.lex_inner.Goals.{then-loop-blocks-test+in-None-1}
 
 pub loop-blocks-preserved : goal.loop-blocks-preserved
 loop-blocks-preserved g c =
     let before = c.loop-blocks.invariant in
     let text = c.args.text.now in
-    let next : words_between text c.loop-blocks.blocks.from c.args.tail ≡ c.in-Some.found.word ∷ words_between text c.next_word.new.self.from c.args.tail =
-    subst (λ (t : List ℕ). words_between t c.loop-blocks.blocks.from c.args.tail ≡ c.in-Some.found.word ∷ words_between t c.next_word.new.self.from c.args.tail) before.same c.in-Some.ensures.words in
+    let next : words_between text c.loop-blocks.blocks.from c.args.tail
+    ≡ c.in-Some.found.word ∷ words_between text c.next_word.new.self.from c.args.tail =
+    subst (λ (t : List ℕ). words_between t c.loop-blocks.blocks.from c.args.tail
+    ≡ c.in-Some.found.word ∷ words_between t c.next_word.new.self.from c.args.tail) before.same
+    c.in-Some.ensures.words in
     record {
       same = c.in-Some.ensures.text ∙ before.same;
-      out = λ p. go_on-next text _ (seen p (side c.loop-blocks.outside)) _ c.in-Some.found.word _ _ (before.out p) next (c.in_ok-read_word.ensures p);
-      inn = λ p. go_on-next text _ (seen p (side c.loop-blocks.inside)) _ c.in-Some.found.word _ _ (before.inn p) next (c.in_ok-read_word-2.ensures p);
+      out =
+          λ p. go_on-next text _ (seen p (side c.loop-blocks.outside)) _ c.in-Some.found.word _ _
+          (before.out p) next (c.in_ok-read_word.ensures p);
+      inn =
+          λ p. go_on-next text _ (seen p (side c.loop-blocks.inside)) _ c.in-Some.found.word _ _
+          (before.inn p) next (c.in_ok-read_word-2.ensures p);
     }
 
 pub loop-found-init : goal.loop-found-init
@@ -27,17 +35,37 @@ loop-found-init g c =
     elim c.loop-blocks-test.branch [
       | else-loop-blocks-test w ↦ record {
         same = ap (λ (b : Blocks). b.text.now) w.blocks-is ∙ before.same;
-        out = λ p. before.out p ∙ ap (λ (n : ℕ). go_on text (seen p (side c.loop-blocks.outside)) (words_between text n c.args.tail)) (sym (ap (λ (b : Blocks). b.from) w.blocks-is));
-        inn = λ p. before.inn p ∙ go_on-some text (seen p (side c.loop-blocks.inside)) _ (c.is_none.ensures ∙ ap not w.loop-blocks-test.false);
+        out =
+            λ p. before.out p
+            ∙ ap (λ (n : ℕ). go_on text (seen p (side c.loop-blocks.outside))
+            (words_between text n c.args.tail)) (sym (ap (λ (b : Blocks). b.from) w.blocks-is));
+        inn =
+            λ p. before.inn p
+            ∙ go_on-some text (seen p (side c.loop-blocks.inside)) _
+            (c.is_none.ensures ∙ ap not w.loop-blocks-test.false);
       }
       | then-loop-blocks-test+in-None-1 w ↦
-          let none : words_between c.loop-blocks.blocks.text.now c.loop-blocks.blocks.from c.args.tail ≡ [] = search rules in
-          let done : words_between c.loop-blocks.blocks.text.now w.next_word.new.self.from c.args.tail ≡ [] = search rules in
-          let here : words_between text c.loop-blocks.blocks.from c.args.tail ≡ [] = subst (λ (t : List ℕ). words_between t c.loop-blocks.blocks.from c.args.tail ≡ []) before.same none in
-          let there : words_between text w.next_word.new.self.from c.args.tail ≡ [] = subst (λ (t : List ℕ). words_between t w.next_word.new.self.from c.args.tail ≡ []) before.same done in
+          let none : words_between c.loop-blocks.blocks.text.now c.loop-blocks.blocks.from
+          c.args.tail
+          ≡ [] = search rules in
+          let done : words_between c.loop-blocks.blocks.text.now w.next_word.new.self.from
+          c.args.tail
+          ≡ [] = search rules in
+          let here : words_between text c.loop-blocks.blocks.from c.args.tail ≡ [] =
+          subst (λ (t : List ℕ). words_between t c.loop-blocks.blocks.from c.args.tail ≡ [])
+          before.same none in
+          let there : words_between text w.next_word.new.self.from c.args.tail ≡ [] =
+          subst (λ (t : List ℕ). words_between t w.next_word.new.self.from c.args.tail ≡ [])
+          before.same done in
           record {
-            same = ap (λ (b : Blocks). b.text.now) w.blocks-is ∙ w.next_word.ensures.text ∙ before.same;
-            out = λ p. before.out p ∙ ap (go_on text (seen p (side c.loop-blocks.outside))) (here ∙ sym there ∙ ap (λ (b : Blocks). words_between text b.from c.args.tail) (sym w.blocks-is));
+            same =
+                ap (λ (b : Blocks). b.text.now) w.blocks-is ∙ w.next_word.ensures.text
+                ∙ before.same;
+            out =
+                λ p. before.out p
+                ∙ ap (go_on text (seen p (side c.loop-blocks.outside)))
+                (here ∙ sym there
+                ∙ ap (λ (b : Blocks). words_between text b.from c.args.tail) (sym w.blocks-is));
             inn = λ p. go_on-done text _ _ _ (before.inn p) here;
           }
     ]
@@ -46,11 +74,19 @@ pub loop-found-preserved : goal.loop-found-preserved
 loop-found-preserved g c =
     let before = c.loop-found.invariant in
     let text = c.args.text.now in
-    let next : words_between text c.loop-found.blocks.from c.args.tail ≡ c.in-Some-next_word.found.word ∷ words_between text c.next_word-in-loop-found.new.self.from c.args.tail =
-    subst (λ (t : List ℕ). words_between t c.loop-found.blocks.from c.args.tail ≡ c.in-Some-next_word.found.word ∷ words_between t c.next_word-in-loop-found.new.self.from c.args.tail) before.same c.in-Some-next_word.ensures.words in
+    let next : words_between text c.loop-found.blocks.from c.args.tail
+    ≡ c.in-Some-next_word.found.word
+    ∷ words_between text c.next_word-in-loop-found.new.self.from c.args.tail =
+    subst (λ (t : List ℕ). words_between t c.loop-found.blocks.from c.args.tail
+    ≡ c.in-Some-next_word.found.word
+    ∷ words_between t c.next_word-in-loop-found.new.self.from c.args.tail) before.same
+    c.in-Some-next_word.ensures.words in
     record {
       same = c.in-Some-next_word.ensures.text ∙ before.same;
-      out = λ p. go_on-next text _ (seen p (side c.loop-found.outside)) _ c.in-Some-next_word.found.word _ _ (before.out p) next (c.in_ok-read_word-3.ensures p);
+      out =
+          λ p. go_on-next text _
+          (seen p (side c.loop-found.outside)) _ c.in-Some-next_word.found.word _ _
+          (before.out p) next (c.in_ok-read_word-3.ensures p);
       inn = before.inn;
     }
 
@@ -58,7 +94,8 @@ pub returns-clause-readings : goal.returns-clause-readings
 returns-clause-readings g c =
     let before = c.loop-found.invariant in
     let none : words_between c.args.text.now c.loop-found.blocks.from c.args.tail ≡ [] =
-    subst (λ (t : List ℕ). words_between t c.loop-found.blocks.from c.args.tail ≡ []) before.same c.in_default.ensures.words in
+    subst (λ (t : List ℕ). words_between t c.loop-found.blocks.from c.args.tail ≡ []) before.same
+    c.in_default.ensures.words in
     record {
       out = λ p. go_on-done c.args.text.now _ _ _ (before.out p) none;
       within = before.inn;

@@ -1,6 +1,7 @@
 use Rattle.std.proofs.Common.{◌≡◌, ◌+◌, ◌-◌, ℕ, None, Some, length}
 use Rattle.mm_spec.specs.Words.{words_between}
-use Rattle.mm_spec.specs.Readings.{reading, go_on}
+use Rattle.mm_spec.specs.Readings.{reading}
+use Rattle.mm_spec.specs.Laws.Readings.{go_on}
 use Rattle.mm_lex.specs.Pieces.{seen}
 use Rattle.mm_lex.specs.Inners.{side}
 use Rattle.mm_lex.proofs.pieces.lex_inner.Given as goal
@@ -9,8 +10,12 @@ use Rattle.mm_lex.proofs.pieces.lex_inner.Given as goal
 abbrev pub invariant-loop-blocks : goal.invariant-loop-blocks
 invariant-loop-blocks g l = record {
   same : l.blocks.text.now ≡ l.text;
-  out : (p : ℕ) → reading l.text None (words_between l.text l.head l.tail) ≡ go_on l.text (seen p (side l.outside)) (words_between l.text l.blocks.from l.tail);
-  inn : (p : ℕ) → reading l.text (Some p) (words_between l.text l.head l.tail) ≡ go_on l.text (seen p (side l.inside)) (words_between l.text l.blocks.from l.tail);
+  out : (p : ℕ)
+      → reading l.text None (words_between l.text l.head l.tail)
+      ≡ go_on l.text (seen p (side l.outside)) (words_between l.text l.blocks.from l.tail);
+  inn : (p : ℕ)
+      → reading l.text (Some p) (words_between l.text l.head l.tail)
+      ≡ go_on l.text (seen p (side l.inside)) (words_between l.text l.blocks.from l.tail);
 }
 
 abbrev pub decreases-loop-blocks : goal.decreases-loop-blocks
@@ -20,8 +25,11 @@ decreases-loop-blocks g l = length l.text + 64 - l.blocks.from
 abbrev pub invariant-loop-found : goal.invariant-loop-found
 invariant-loop-found g l = record {
   same : l.blocks.text.now ≡ l.text;
-  out : (p : ℕ) → reading l.text None (words_between l.text l.head l.tail) ≡ go_on l.text (seen p (side l.outside)) (words_between l.text l.blocks.from l.tail);
-  inn : (p : ℕ) → reading l.text (Some p) (words_between l.text l.head l.tail) ≡ seen p (side l.inside);
+  out : (p : ℕ)
+      → reading l.text None (words_between l.text l.head l.tail)
+      ≡ go_on l.text (seen p (side l.outside)) (words_between l.text l.blocks.from l.tail);
+  inn : (p : ℕ)
+      → reading l.text (Some p) (words_between l.text l.head l.tail) ≡ seen p (side l.inside);
 }
 
 abbrev pub decreases-loop-found : goal.decreases-loop-found

@@ -9,15 +9,20 @@ lex_piece-requires-clause-order g c =
     rw (c.cut_at.ensures, c.cut_at-2.ensures) rises
 
 pub lex_piece-requires-clause-within : goal.lex_piece-requires-clause-within
-lex_piece-requires-clause-within g c = rw c.cut_at-2.ensures (cut_at-within c.args.text.now c.args.places.now c.requires.cuts (c.args.first + 1))
+lex_piece-requires-clause-within g c =
+    rw c.cut_at-2.ensures
+    (cut_at-within c.args.text.now c.args.places.now c.requires.cuts (c.args.first + 1))
 
 pub lex_piece-requires-in-loop-index-clause-order :
     goal.lex_piece-requires-in-loop-index-clause-order
 lex_piece-requires-in-loop-index-clause-order g c =
     let rises = cut_at-rises c.args.text.now c.args.places.now c.requires.cuts c.loop-index.index in
-    let from : c.to.result ≡ cut_at c.args.text.now c.args.places.now c.loop-index.index = c.to.ensures ∙ c.loop-index.invariant.to in
+    let from : c.to.result ≡ cut_at c.args.text.now c.args.places.now c.loop-index.index =
+    c.to.ensures ∙ c.loop-index.invariant.to in
     rw (from, c.cut_at-to.ensures) rises
 
 pub lex_piece-requires-in-loop-index-clause-within :
     goal.lex_piece-requires-in-loop-index-clause-within
-lex_piece-requires-in-loop-index-clause-within g c = rw c.cut_at-to.ensures (cut_at-within c.args.text.now c.args.places.now c.requires.cuts (c.loop-index.index + 1))
+lex_piece-requires-in-loop-index-clause-within g c =
+    rw c.cut_at-to.ensures
+    (cut_at-within c.args.text.now c.args.places.now c.requires.cuts (c.loop-index.index + 1))

@@ -1,12 +1,18 @@
 use Rattle.std.proofs.Common.{◌≡◌, sym, subst, arith, length, ◌+◌, ◌∷◌, []}
-use Rattle.mm_spec.specs.Table.{start}
+use Rattle.mm_spec.specs.Laws.Table.{start}
 use Rattle.mm_outline.specs.Parts.{reading, statement_of, depth_behind}
 use Rattle.mm_outline.specs.Found.{behind, Leads}
 use Rattle.mm_outline.proofs.Leads.{leads-none, leads-then, goes-go, goes-done, goes-stop, goes-end}
 use Rattle.mm_outline.proofs.parts.find.Goals as goal
 
 pub loop-at-init : goal.loop-at-init
-loop-at-init c = record { part = tt; later = omega arith; within = c.requires.inside; leads = leads-none (start c.args.deep) (behind c.args.text.now c.args.tokens.now c.args.from) }
+loop-at-init c =
+    record {
+      part = tt;
+      later = omega arith;
+      within = c.requires.inside;
+      leads = leads-none (start c.args.deep) (behind c.args.text.now c.args.tokens.now c.args.from);
+    }
 
 pub loop-at-preserved : goal.loop-at-preserved
 loop-at-preserved c =
@@ -19,28 +25,51 @@ loop-at-preserved c =
       part = passed.part;
       later = omega arith;
       within = passed.within;
-      leads = leads-then (goes-go text ws c.args.deep c.args.from c.loop-at.at c.loop-at.part c.loop-at.invariant.leads c.loop-at-test.true (reading text ws c.args.deep next (c.loop-at.at + 1)) e.same) (passed.leads c.args.deep);
+      leads =
+          leads-then
+          (goes-go text ws c.args.deep c.args.from c.loop-at.at c.loop-at.part
+          c.loop-at.invariant.leads c.loop-at-test.true
+          (reading text ws c.args.deep next (c.loop-at.at + 1)) e.same) (passed.leads c.args.deep);
     }
 
 pub loop-at-smaller : goal.loop-at-smaller
-loop-at-smaller c = let later = c.pass_words-at.ensures.later in let inside = c.loop-at-test.true in omega (arith, later, inside)
+loop-at-smaller c =
+    let later = c.pass_words-at.ensures.later in let inside = c.loop-at-test.true in
+    omega (arith, later, inside)
 
 pub returns-in-Stop : goal.returns-in-Stop
 returns-in-Stop c =
     let e = c.in-Stop.ensures in
-    goes-stop c.args.text.now c.args.tokens.now c.args.deep c.args.from c.loop-at.at c.loop-at.part c.loop-at.invariant.leads c.loop-at-test.true e.same c.unexpected.result c.unexpected.ensures
+    goes-stop c.args.text.now c.args.tokens.now c.args.deep c.args.from c.loop-at.at c.loop-at.part
+    c.loop-at.invariant.leads c.loop-at-test.true e.same c.unexpected.result
+    c.unexpected.ensures
 
 pub returns-in-Done : goal.returns-in-Done
 returns-in-Done c =
     let e = c.in-Done.ensures in
     let o = c.in-Done.outline in
     let end : o.end ≡ c.loop-at.at = e.holds.1 in
-    let l = goes-done c.args.text.now c.args.tokens.now c.args.deep c.args.from c.loop-at.at c.loop-at.part c.loop-at.invariant.leads c.loop-at-test.true (statement_of c.args.text.now c.args.tokens.now o) (depth_behind o.kind c.args.deep) e.same in
+    let l =
+    goes-done c.args.text.now c.args.tokens.now c.args.deep c.args.from c.loop-at.at c.loop-at.part
+    c.loop-at.invariant.leads c.loop-at-test.true (statement_of c.args.text.now c.args.tokens.now o)
+    (depth_behind o.kind c.args.deep) e.same in
     let later = c.loop-at.invariant.later in
-    let test = c.loop-at-test.true in
-    (e.holds.0, record { later = omega (arith, end, later); within = omega (arith, end, test); leads = subst (λ k. Leads (start c.args.deep) (behind c.args.text.now c.args.tokens.now c.args.from) (statement_of c.args.text.now c.args.tokens.now o ∷ []) (start (depth_behind o.kind c.args.deep)) (behind c.args.text.now c.args.tokens.now (k + 1))) (sym end) l })
+    let test = c.loop-at-test.true in (
+      e.holds.0,
+      record {
+        later = omega (arith, end, later);
+        within = omega
+            (arith, end, test);
+        leads = subst
+            (λ k. Leads (start c.args.deep) (behind c.args.text.now c.args.tokens.now c.args.from)
+            (statement_of c.args.text.now c.args.tokens.now o ∷ [])
+            (start (depth_behind o.kind c.args.deep))
+            (behind c.args.text.now c.args.tokens.now (k + 1))) (sym end) l;
+      },
+    )
 
 pub returns : goal.returns
 returns c =
     let at : c.loop-at.at ≡ length c.args.tokens.now = omega arith in
-    goes-end c.args.text.now c.args.tokens.now c.args.deep c.args.from c.loop-at.at c.loop-at.part c.loop-at.invariant.leads at
+    goes-end c.args.text.now c.args.tokens.now c.args.deep c.args.from c.loop-at.at c.loop-at.part
+    c.loop-at.invariant.leads at

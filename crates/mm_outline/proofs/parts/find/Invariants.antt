@@ -1,5 +1,5 @@
 use Rattle.std.proofs.Common.{◌≤◌, ◌-◌, [], length}
-use Rattle.mm_spec.specs.Table.{start}
+use Rattle.mm_spec.specs.Laws.Table.{start}
 use Rattle.mm_outline.specs.Parts.{IsPart, reading}
 use Rattle.mm_outline.specs.Found.{Leads, behind}
 use Rattle.mm_outline.proofs.parts.find.Given as goal
@@ -9,7 +9,8 @@ invariant-loop-at l = record {
   part : IsPart l.part l.at;
   later : l.from ≤ l.at;
   within : l.at ≤ length l.tokens;
-  leads : Leads (start l.deep) (behind l.text l.tokens l.from) [] (reading l.text l.tokens l.deep l.part l.at) (behind l.text l.tokens l.at);
+  leads : Leads (start l.deep) (behind l.text l.tokens l.from) []
+      (reading l.text l.tokens l.deep l.part l.at) (behind l.text l.tokens l.at);
 }
 
 abbrev pub decreases-loop-at : goal.decreases-loop-at

@@ -11,8 +11,11 @@ returns-in_default c =
     record {
       later = found.later;
       within = found.within;
-      part = part-later c.args.part c.args.at c.next_keyword.result takes found.later c.requires.part;
-      leads = λ d. passed-upto c.args.text.now c.args.tokens.now d c.args.part c.args.at c.next_keyword.result takes c.requires.part found.later found.within found.plain;
+      part =
+          part-later c.args.part c.args.at c.next_keyword.result takes found.later c.requires.part;
+      leads =
+          λ d. passed-upto c.args.text.now c.args.tokens.now d c.args.part c.args.at
+          c.next_keyword.result takes c.requires.part found.later found.within found.plain;
     }
   where
     by : (p : Part) → c.args.part ≡ p → TakesWords p

@@ -1,5 +1,5 @@
 use Rattle.std.proofs.Common.{ap, ◌∙◌, refl, nat_lt}
-use Rattle.mm_spec.specs.Table as table
+use Rattle.mm_spec.specs.Laws.Table as table
 use Rattle.mm_outline.specs.Parts.{reading, token_at, turn_of}
 use Rattle.mm_outline.proofs.Turns.{step_same, step_holds}
 use Rattle.mm_outline.proofs.parts.take_turn.Goals as goal
@@ -9,8 +9,13 @@ returns-clause-same c =
     let text = c.args.text.now in
     let ws = c.args.tokens.now in
     ap (turn_of text ws c.args.deep c.args.at) c.step.ensures
-    ∙ step_same text ws c.args.deep c.args.at c.requires.inside c.args.part c.classify-class.result c.is_label_at.result (nat_lt 0 c.args.deep) c.requires.part c.is_label_at.ensures refl
-    ∙ ap (λ k. table.turn (reading text ws c.args.deep c.args.part c.args.at) k (token_at text ws c.args.at)) c.classify-class.ensures
+    ∙ step_same text ws c.args.deep c.args.at c.requires.inside c.args.part c.classify-class.result
+    c.is_label_at.result (nat_lt 0 c.args.deep) c.requires.part c.is_label_at.ensures refl
+    ∙ ap (λ k. table.turn (reading text ws c.args.deep c.args.part c.args.at) k
+    (token_at text ws c.args.at)) c.classify-class.ensures
 
 pub returns-clause-holds : goal.returns-clause-holds
-returns-clause-holds c = rw c.step.ensures (step_holds c.args.text.now c.args.tokens.now c.args.deep c.args.at c.args.part c.classify-class.result c.is_label_at.result (nat_lt 0 c.args.deep) c.requires.part)
+returns-clause-holds c =
+    rw c.step.ensures
+    (step_holds c.args.text.now c.args.tokens.now c.args.deep c.args.at c.args.part
+    c.classify-class.result c.is_label_at.result (nat_lt 0 c.args.deep) c.requires.part)

@@ -1,9 +1,11 @@
-use Rattle.std.proofs.Common.{◌≡◌, ◌∙◌, ◌+◌, ap, ap₂, sym, take, drop, get_or, bytes_eq, codes, slice_range, false, []}
+use Rattle.std.proofs.Common.{◌≡◌, ◌∙◌, ◌+◌, ap, ap₂, sym, take, drop, get_or, bytes_eq, codes}
+use Rattle.std.proofs.Common.{slice_range, false, []}
 use Rattle.mm_spec.specs.declared.Word.{Word}
 use Rattle.mm_spec.specs.CompressedProof.{bracketed, compressed_faults}
 use Rattle.mm_spec.specs.NormalProof.{usable}
-use Rattle.mm_stmt.specs.Parts.{tokens_of, token_of}
-use Rattle.mm_proof.proofs.BracketsLaw.{behind, label_first, brackets_first, tokens_more, tokens_end}
+use Rattle.mm_stmt.specs.Parts.{as_tokens, token_of}
+use Rattle.mm_proof.proofs.BracketsLaw.{behind, label_first, brackets_first, tokens_more}
+use Rattle.mm_proof.proofs.BracketsLaw.{tokens_end}
 use Rattle.mm_proof.proofs.compressed.read_labels.Goals as goal
 
 pub returns-in-None-clause-fault : goal.returns-in-None-clause-fault
@@ -14,12 +16,22 @@ returns-in-None-clause-fault g c =
     let n = c.loop-n.n in
     let none : Word = record { start = 0; end = 0 } in
     let w = get_or words n none in
-    let done = tokens_of text (take n words) in
+    let done = as_tokens text (take n words) in
     let label = c.bytes-label.ensures ∙ ap (λ t. slice_range t w.start w.end) c.text-text.ensures in
-    let test : bytes_eq (slice_range text w.start w.end) (codes ")") ≡ false = ap₂ bytes_eq (sym label) (sym c.as_slice.ensures) ∙ sym c.eq.ensures ∙ c.if-eq.false in
-    let first = label_first db c.args.theorem c.args.end done (token_of text w) (tokens_of text (drop (n + 1) words)) c.loop-n.invariant.sound test (ap (usable db c.args.theorem) (sym label) ∙ c.in-None.ensures) in
-    rw c.refused.ensures
-    (first.0, ap (compressed_faults db c.args.theorem c.args.end) (c.loop-n.invariant.bracketed ∙ ap (λ ts. behind done (bracketed ts)) (tokens_more text words n none c.loop-n-test.true)) ∙ first.1)
+    let test : bytes_eq (slice_range text w.start w.end) (codes ")") ≡ false =
+    ap₂ bytes_eq (sym label) (sym c.as_slice.ensures) ∙ sym c.eq.ensures ∙ c.if-eq.false in
+    let first =
+    label_first db c.args.theorem c.args.end done (token_of text w)
+    (as_tokens text (drop (n + 1) words)) c.loop-n.invariant.sound test
+    (ap (usable db c.args.theorem) (sym label) ∙ c.in-None.ensures) in
+    rw c.refused.ensures (
+      first.0,
+      ap (compressed_faults db c.args.theorem c.args.end)
+          (c.loop-n.invariant.bracketed
+          ∙ ap (λ ts. behind done (bracketed ts))
+          (tokens_more text words n none c.loop-n-test.true))
+          ∙ first.1,
+    )
 
 pub returns-clause-fault : goal.returns-clause-fault
 returns-clause-fault g c =
@@ -27,6 +39,11 @@ returns-clause-fault g c =
     let text = c.args.database.now.text in
     let words = c.args.words.now in
     let n = c.loop-n.n in
-    let done = tokens_of text (take n words) in
-    rw c.refused-2.ensures
-    ([], ap (compressed_faults db c.args.theorem c.args.end) (c.loop-n.invariant.bracketed ∙ ap (λ ts. behind done (bracketed ts)) (tokens_end text words n c.loop-n-test.false)) ∙ brackets_first db c.args.theorem c.args.end done c.loop-n.invariant.sound)
+    let done = as_tokens text (take n words) in
+    rw c.refused-2.ensures (
+      [],
+      ap (compressed_faults db c.args.theorem c.args.end)
+          (c.loop-n.invariant.bracketed
+          ∙ ap (λ ts. behind done (bracketed ts)) (tokens_end text words n c.loop-n-test.false))
+          ∙ brackets_first db c.args.theorem c.args.end done c.loop-n.invariant.sound,
+    )

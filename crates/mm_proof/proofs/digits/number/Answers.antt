@@ -7,21 +7,31 @@ use Rattle.mm_proof.proofs.NumberLaw.{not_early, told_some, told_none, early_byt
 use Rattle.mm_proof.proofs.digits.number.Goals as goal
 
 pub returns-in_default-letter_of-clause-none : goal.returns-in_default-letter_of-clause-none
-returns-in_default-letter_of-clause-none c = rw c.in_ok-last.ensures.cases.0 (λ n h. absurd (not_early _ _ n _ _ _ c.loop-byte-test.true c.letter_of-in-loop-byte.ensures c.in_default-letter_of.not-Early h))
+returns-in_default-letter_of-clause-none c =
+    rw c.in_ok-last.ensures.cases.0
+    (λ n h. absurd
+    (not_early _ _ n _ _ _ c.loop-byte-test.true c.letter_of-in-loop-byte.ensures
+    c.in_default-letter_of.not-Early h))
 
 pub returns-clause-some : goal.returns-clause-some
 returns-clause-some c =
     let bs = c.in_ok-last.early.now in
-    let whole : take c.loop-byte.byte-index bs ≡ bs = take_all c.loop-byte.byte-index bs c.loop-byte-test.false in
+    let whole : take c.loop-byte.byte-index bs ≡ bs =
+    take_all c.loop-byte.byte-index bs c.loop-byte-test.false in
     let digit = c.in-Last.ensures in
     rw (c.ok.ensures.value, c.in_ok-last.ensures.cases.0)
-    (told_some c.try_from.result bs c.in_ok-last.last.now c.loop-byte.value c.with_digit.result c.try_from.ensures (c.loop-byte.invariant.value ∙ ap (λ z. told (early_bytes z)) whole)
-    (rw digit.2 at c.with_digit.ensures) (sym (ap (list_all is_early) whole) ∙ c.loop-byte.invariant.early) digit.1)
+    (told_some c.try_from.result bs c.in_ok-last.last.now c.loop-byte.value c.with_digit.result
+    c.try_from.ensures (c.loop-byte.invariant.value ∙ ap (λ z. told (early_bytes z)) whole)
+    (rw digit.2 at c.with_digit.ensures)
+    (sym (ap (list_all is_early) whole) ∙ c.loop-byte.invariant.early) digit.1)
 
 pub returns-clause-none : goal.returns-clause-none
 returns-clause-none c =
     let bs = c.in_ok-last.early.now in
-    let whole : take c.loop-byte.byte-index bs ≡ bs = take_all c.loop-byte.byte-index bs c.loop-byte-test.false in
+    let whole : take c.loop-byte.byte-index bs ≡ bs =
+    take_all c.loop-byte.byte-index bs c.loop-byte-test.false in
     let digit = c.in-Last.ensures in
     rw (c.ok.ensures.value, c.in_ok-last.ensures.cases.0)
-    (told_none c.try_from.result bs c.in_ok-last.last.now c.loop-byte.value c.with_digit.result c.try_from.ensures (c.loop-byte.invariant.value ∙ ap (λ z. told (early_bytes z)) whole) (rw digit.2 at c.with_digit.ensures))
+    (told_none c.try_from.result bs c.in_ok-last.last.now c.loop-byte.value c.with_digit.result
+    c.try_from.ensures (c.loop-byte.invariant.value ∙ ap (λ z. told (early_bytes z)) whole)
+    (rw digit.2 at c.with_digit.ensures))

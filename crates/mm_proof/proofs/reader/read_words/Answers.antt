@@ -1,4 +1,5 @@
-use Rattle.std.proofs.Common.{◌≡◌, ap, ap₂, sym, ◌∙◌, true, false, get_or, bytes_eq, codes, slice_range}
+use Rattle.std.proofs.Common.{◌≡◌, ap, ap₂, sym, ◌∙◌, true, false, get_or, bytes_eq, codes}
+use Rattle.std.proofs.Common.{slice_range}
 use Rattle.mm_spec.specs.Text.{fault}
 use Rattle.mm_spec.specs.NormalProof.{usable}
 use Rattle.mm_spec.specs.declared.Word.{Word}
@@ -14,9 +15,12 @@ returns-then-eq-clause-fault g c =
     let none : Word = record { start = 0; end = 0 } in
     let w = get_or c.args.words.now c.loop-word.word-index none in
     let label = c.bytes-label.ensures ∙ ap (λ t. slice_range t w.start w.end) c.text-text.ensures in
-    let test : bytes_eq (slice_range text w.start w.end) (codes "?") ≡ true = ap₂ bytes_eq (sym label) (sym c.as_slice.ensures) ∙ sym c.eq.ensures ∙ c.if-eq.true in
+    let test : bytes_eq (slice_range text w.start w.end) (codes "?") ≡ true =
+    ap₂ bytes_eq (sym label) (sym c.as_slice.ensures) ∙ sym c.eq.ensures ∙ c.if-eq.true in
     rw c.refused.ensures
-    (faulty_word text c.args.words.now c.loop-word.word-index none c.loop-word-test.true db c.args.theorem (fault w.start IncompleteProof) c.requires.rising c.loop-word.invariant.faults
+    (faulty_word text c.args.words.now c.loop-word.word-index none c.loop-word-test.true db
+    c.args.theorem
+    (fault w.start IncompleteProof) c.requires.rising c.loop-word.invariant.faults
     (question_fault db c.args.theorem (token_of text w) test))
 
 pub returns-in-None-clause-fault : goal.returns-in-None-clause-fault
@@ -26,7 +30,10 @@ returns-in-None-clause-fault g c =
     let none : Word = record { start = 0; end = 0 } in
     let w = get_or c.args.words.now c.loop-word.word-index none in
     let label = c.bytes-label.ensures ∙ ap (λ t. slice_range t w.start w.end) c.text-text.ensures in
-    let test : bytes_eq (slice_range text w.start w.end) (codes "?") ≡ false = ap₂ bytes_eq (sym label) (sym c.as_slice.ensures) ∙ sym c.eq.ensures ∙ c.if-eq.false in
+    let test : bytes_eq (slice_range text w.start w.end) (codes "?") ≡ false =
+    ap₂ bytes_eq (sym label) (sym c.as_slice.ensures) ∙ sym c.eq.ensures ∙ c.if-eq.false in
     rw c.refused-in-None.ensures
-    (faulty_word text c.args.words.now c.loop-word.word-index none c.loop-word-test.true db c.args.theorem (fault w.start UnusableLabel) c.requires.rising c.loop-word.invariant.faults
-    (label_fault db c.args.theorem (token_of text w) test (ap (usable db c.args.theorem) (sym label) ∙ c.in-None.ensures)))
+    (faulty_word text c.args.words.now c.loop-word.word-index none c.loop-word-test.true db
+    c.args.theorem (fault w.start UnusableLabel) c.requires.rising c.loop-word.invariant.faults
+    (label_fault db c.args.theorem (token_of text w) test
+    (ap (usable db c.args.theorem) (sym label) ∙ c.in-None.ensures)))

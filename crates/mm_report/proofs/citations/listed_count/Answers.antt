@@ -16,6 +16,10 @@ loop-statement-preserved g c =
     let n = c.loop-statement.invariant.counted in
     let few = c.loop-statement.invariant.few in
     elim c.if-is_chosen.branch [
-      | then-is_chosen w ↦ let more = count_more db only cited i l (sym c.is_chosen.ensures ∙ w.if-is_chosen.true) in rw w.count-is (record { few = omega (arith, few); counted = omega (arith, n, more) })
-      | else-is_chosen w ↦ let same = count_same db only cited i l (sym c.is_chosen.ensures ∙ w.if-is_chosen.false) in rw w.count-is (record { few = omega (arith, few); counted = omega (arith, n, same) })
+      | then-is_chosen w ↦ let more =
+          count_more db only cited i l (sym c.is_chosen.ensures ∙ w.if-is_chosen.true) in
+          rw w.count-is (record { few = omega (arith, few); counted = omega (arith, n, more) })
+      | else-is_chosen w ↦ let same =
+          count_same db only cited i l (sym c.is_chosen.ensures ∙ w.if-is_chosen.false) in
+          rw w.count-is (record { few = omega (arith, few); counted = omega (arith, n, same) })
     ]

@@ -6,5 +6,7 @@ use Rattle.mm_report.proofs.citations.listed_count.Given as goal
 abbrev pub invariant-loop-statement : goal.invariant-loop-statement
 invariant-loop-statement g l = record {
   few : l.count ≤ l.statement-index;
-  counted : l.count ≡ length (first l.database.statements (option_map (λ w. w.now) l.only) l.cited l.statement-index);
+  counted : l.count
+      ≡ length
+      (first l.database.statements (option_map (λ w. w.now) l.only) l.cited l.statement-index);
 }

@@ -1,4 +1,5 @@
-use Rattle.std.proofs.Common.{ℕ, ◌≡◌, ◌∙◌, List, [], ◌∷◌, ◌++◌, length, map, sym, ap, append_assoc, decimal}
+use Rattle.std.proofs.Common.{ℕ, ◌≡◌, ◌∙◌, List, [], ◌∷◌, ◌++◌, length, map, sym, ap, append_assoc}
+use Rattle.std.proofs.Common.{decimal}
 use Rattle.std.specs.Option.{option_map}
 use Rattle.std.proofs.lemmas.List.{length-map}
 use Rattle.mm_spec.specs.Output.{label_at}
@@ -11,6 +12,12 @@ pub returns : goal.returns
 returns g c =
     let db = c.args.database.now.statements in
     let xs = listed db (option_map (λ w. w.now) c.args.only) c.args.cited.now in
-    let n = ap (λ (k : ℕ). decimal k) (c.listed_count.ensures ∙ sym (length-map xs (label_at db))) in
+    let n =
+    ap (λ (k : ℕ). decimal k) (c.listed_count.ensures ∙ sym (length-map xs (label_at db))) in
     sent_as _ (list_shape c.args.label.now _ (joined (map (label_at db) xs)))
-    (sent_more (sent_more (sent_more (sent_more (sent_more c.send.ensures c.send_byte.ensures) (sent_as _ n c.send_number.ensures)) c.send_byte-2.ensures) c.send_cited.ensures) c.send_byte-3.ensures)
+    (sent_more
+    (sent_more
+    (sent_more
+    (sent_more (sent_more c.send.ensures c.send_byte.ensures)
+    (sent_as _ n c.send_number.ensures)) c.send_byte-2.ensures) c.send_cited.ensures)
+    c.send_byte-3.ensures)

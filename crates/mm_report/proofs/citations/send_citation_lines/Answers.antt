@@ -1,10 +1,11 @@
-use Rattle.std.proofs.Common.{ℕ, ◌≡◌, ◌<◌, [], ◌∙◌, ap, ap₂, sym, map, arith, zero-add, length, All, List, subst, true}
+use Rattle.std.proofs.Common.{ℕ, ◌≡◌, ◌<◌, [], ◌∙◌, ap, ap₂, sym, map, arith, zero-add, length, All}
+use Rattle.std.proofs.Common.{List, subst, true}
 use Rattle.std.specs.Prelude.{flat_map, slice_index_or}
 use Rattle.std.specs.Option.{option_map}
 use Rattle.std.specs.List.{range_with_len, list_any}
 use Rattle.std.proofs.lemmas.List.{flat_map_more}
 use Rattle.std.proofs.lemmas.List.FromFn.{map-range_with_len_more}
-use Rattle.mm_spec.specs.Text.{Word}
+use Rattle.mm_spec.specs.Text.{Bytes}
 use Rattle.mm_spec.specs.Scope.{statement_at}
 use Rattle.mm_spec.specs.Citation.{is_assertion}
 use Rattle.mm_spec.specs.Output.{label_at}
@@ -14,26 +15,45 @@ use Rattle.mm_report.proofs.SentFacts.{sent_none, sent_more, sent_as}
 use Rattle.mm_report.proofs.citations.send_citation_lines.Goals as goal
 
 pub loop-i-init : goal.loop-i-init
-loop-i-init g c = record { within = omega arith; sent = sent_none (g.W.Write.contents c.args.to.now) c.args.sink.now }
+loop-i-init g c =
+    record {
+      within = omega arith;
+      sent = sent_none (g.W.Write.contents c.args.to.now) c.args.sink.now;
+    }
 
 pub send_citation_line-requires : goal.send_citation_line-requires
 send_citation_line-requires g c =
     let l : c.loop-i.i < length c.args.citations.now.theorems = omega arith in
-    subst (λ (xs : List ℕ). All (λ a. list_any is_assertion (statement_at c.args.database.now.statements a) ≡ true) xs) (sym c.of.ensures.list) (c.requires.cited.assertions c.loop-i.i l)
+    subst (λ (xs : List ℕ). All
+    (λ a. list_any is_assertion (statement_at c.args.database.now.statements a) ≡ true) xs)
+    (sym c.of.ensures.list) (c.requires.cited.assertions c.loop-i.i l)
 
 pub loop-i-preserved : goal.loop-i-preserved
 loop-i-preserved g c =
     let db = c.args.database.now.statements in
     let only = option_map (λ w. w.now) c.args.only in
     let i = c.loop-i.i in
-    let f : ℕ → CitingRow = λ k. citing_row db only c.args.citations.now (slice_index_or c.args.labels.now k []) k in
-    let more = ap (flat_map citation_line) (map-range_with_len_more f 0 i i (zero-add i)) ∙ sym (flat_map_more citation_line [] (map f (range_with_len 0 i)) (f i)) in
-    let line = ap₂ (λ (w : Word) (xs : List ℕ). list_line w (map (label_at db) (listed db only xs))) c.label.ensures c.of.ensures.list in
-    record { within = omega arith; sent = sent_as _ (sym more) (sent_more c.loop-i.invariant.sent (sent_as _ line c.send_citation_line.ensures)) }
+    let f : ℕ → CitingRow =
+    λ k. citing_row db only c.args.citations.now (slice_index_or c.args.labels.now k []) k in
+    let more =
+    ap (flat_map citation_line) (map-range_with_len_more f 0 i i (zero-add i))
+    ∙ sym (flat_map_more citation_line [] (map f (range_with_len 0 i)) (f i)) in
+    let line =
+    ap₂ (λ (w : Bytes) (xs : List ℕ). list_line w (map (label_at db) (listed db only xs)))
+    c.label.ensures c.of.ensures.list in
+    record {
+      within = omega arith;
+      sent = sent_as _ (sym more)
+          (sent_more c.loop-i.invariant.sent (sent_as _ line c.send_citation_line.ensures));
+    }
 
 pub returns : goal.returns
 returns g c =
     let db = c.args.database.now.statements in
     let only = option_map (λ w. w.now) c.args.only in
     let end : c.loop-i.i ≡ length c.args.citations.now.theorems = omega arith in
-    sent_as _ (ap (λ n. flat_map citation_line (map (λ i. citing_row db only c.args.citations.now (slice_index_or c.args.labels.now i []) i) (range_with_len 0 n))) end) c.loop-i.invariant.sent
+    sent_as _
+    (ap (λ n. flat_map citation_line
+    (map (λ i. citing_row db only c.args.citations.now
+    (slice_index_or c.args.labels.now i []) i) (range_with_len 0 n))) end)
+    c.loop-i.invariant.sent

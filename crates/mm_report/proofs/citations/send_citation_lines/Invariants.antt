@@ -10,5 +10,8 @@ use Rattle.mm_report.proofs.citations.send_citation_lines.Given as goal
 abbrev pub invariant-loop-i : goal.invariant-loop-i
 invariant-loop-i g l = record {
   within : l.i ≤ length l.citations.theorems;
-  sent : Sent (g.W.Write.contents l.fn.to) (g.W.Write.contents l.to) l.fn.sink l.sink (flat_map citation_line (map (λ i. citing_row l.database.statements (option_map (λ w. w.now) l.only) l.citations (slice_index_or l.labels i []) i) (range_with_len 0 l.i)));
+  sent : Sent (g.W.Write.contents l.fn.to) (g.W.Write.contents l.to) l.fn.sink l.sink
+      (flat_map citation_line
+      (map (λ i. citing_row l.database.statements (option_map (λ w. w.now) l.only) l.citations
+      (slice_index_or l.labels i []) i) (range_with_len 0 l.i)));
 }

@@ -11,5 +11,14 @@ pub returns : goal.returns
 returns g c =
     let db = c.args.database.now.statements in
     let only = option_map (λ w. w.now) c.args.only in
-    let t : _ ≡ length (citing_rows db only c.args.citations.now c.args.labels.now) = c.rows.ensures.rows ∙ sym (length-map-range_with_len (λ i. citing_row db only c.args.citations.now (slice_index_or c.args.labels.now i []) i) 0 (length c.args.citations.now.theorems)) in
-    sent_more (sent_more (sent_as _ (ap (λ (n : ℕ). head c.args.form c.args.axioms c.args.open_theorems n) t) c.send_head.ensures) (sent_more c.send_line.ensures c.send_citation_lines.ensures)) c.send_line-2.ensures
+    let t : _ ≡ length (citing_rows db only c.args.citations.now c.args.labels.now) =
+    c.rows.ensures.rows
+    ∙ sym (length-map-range_with_len
+    (λ i. citing_row db only c.args.citations.now (slice_index_or c.args.labels.now i []) i) 0
+    (length c.args.citations.now.theorems)) in
+    sent_more
+    (sent_more
+    (sent_as _
+    (ap (λ (n : ℕ). head c.args.form c.args.axioms c.args.open_theorems n) t)
+    c.send_head.ensures) (sent_more c.send_line.ensures c.send_citation_lines.ensures))
+    c.send_line-2.ensures

@@ -1,7 +1,8 @@
-use Rattle.std.proofs.Common.{◌<◌, length, length-append, List, ℕ, map, get_or, true≢false, sym, ◌∙◌, ap, subst, arith, ◌∷◌, []}
+use Rattle.std.proofs.Common.{◌<◌, length, length-append, List, ℕ, map, get_or, true≢false, sym}
+use Rattle.std.proofs.Common.{◌∙◌, ap, subst, arith, ◌∷◌, []}
 use Rattle.std.specs.Option.{option_map}
 use Rattle.std.proofs.lemmas.List.{take_all}
-use Rattle.mm_spec.specs.Text.{Word}
+use Rattle.mm_spec.specs.Text.{Bytes}
 use Rattle.mm_spec.specs.Report.{joined}
 use Rattle.mm_spec.specs.Output.{label_at}
 use Rattle.mm_report.specs.Rows.{listed, next_label}
@@ -20,18 +21,31 @@ loop-statement-preserved g c =
     let inv = c.loop-statement.invariant in
     elim c.if-is_chosen.branch [
       | then-is_chosen w ↦
-          let more = labels_more db only cited i l (sym c.is_chosen.ensures ∙ w.if-is_chosen.true) in
-          let n = ap (λ (xs : List Word). length xs) more ∙ length-append (labels db only cited i) (label_at db (get_or cited i 0) ∷ []) in
+          let more =
+          labels_more db only cited i l (sym c.is_chosen.ensures ∙ w.if-is_chosen.true) in
+          let n =
+          ap (λ (xs : List Bytes). length xs) more
+          ∙ length-append (labels db only cited i) (label_at db (get_or cited i 0) ∷ []) in
           rw (w.is_first-is, w.sink-is, w.to-is) (record {
             none = λ e. absurd (true≢false (sym e));
             some = λ e. omega (arith, n);
-            sent = sent_as _ (sym (ap joined more ∙ joined_next (labels db only cited i) (label_at db (get_or cited i 0)) c.loop-statement.is_first inv.none inv.some)) (sent_more inv.sent (sent_as _ (ap (next_label c.loop-statement.is_first) w.label_of.ensures) w.send_next.ensures));
+            sent =
+                sent_as _
+                (sym (ap joined more
+                ∙ joined_next (labels db only cited i)
+                (label_at db (get_or cited i 0)) c.loop-statement.is_first inv.none inv.some))
+                (sent_more inv.sent
+                (sent_as _
+                (ap (next_label c.loop-statement.is_first) w.label_of.ensures)
+                w.send_next.ensures));
           })
       | else-is_chosen w ↦
-          let same = ap (λ (xs : List ℕ). map (label_at db) xs) (first_same db only cited i l (sym c.is_chosen.ensures ∙ w.if-is_chosen.false)) in
+          let same =
+          ap (λ (xs : List ℕ). map (label_at db) xs)
+          (first_same db only cited i l (sym c.is_chosen.ensures ∙ w.if-is_chosen.false)) in
           rw (w.is_first-is, w.sink-is, w.to-is) (record {
             none = λ e. same ∙ inv.none e;
-            some = λ e. subst (λ (xs : List Word). 0 < length xs) (sym same) (inv.some e);
+            some = λ e. subst (λ (xs : List Bytes). 0 < length xs) (sym same) (inv.some e);
             sent = sent_as _ (sym (ap joined same)) inv.sent;
           })
     ]
@@ -40,4 +54,7 @@ pub returns : goal.returns
 returns g c =
     let db = c.args.database.now.statements in
     let only = option_map (λ w. w.now) c.args.only in
-    sent_as _ (ap (λ (xs : List ℕ). joined (map (label_at db) (listed db only xs))) (take_all c.loop-statement.statement-index c.args.cited.now c.loop-statement-test.false)) c.loop-statement.invariant.sent
+    sent_as _
+    (ap (λ (xs : List ℕ). joined (map (label_at db) (listed db only xs)))
+    (take_all c.loop-statement.statement-index c.args.cited.now c.loop-statement-test.false))
+    c.loop-statement.invariant.sent

@@ -7,5 +7,7 @@ use Rattle.mm_report.proofs.counted.open_count.Given as goal
 abbrev pub invariant-loop-statement : goal.invariant-loop-statement
 invariant-loop-statement g l = record {
   few : l.count ≤ l.statement-index;
-  counted : l.count ≡ count_by (λ a. l.database.with_open && list_any is_open (statement_at l.database.read a)) (take l.statement-index l.chosen);
+  counted : l.count
+      ≡ count_by (λ a. l.database.with_open && list_any is_open (statement_at l.database.read a))
+      (take l.statement-index l.chosen);
 }

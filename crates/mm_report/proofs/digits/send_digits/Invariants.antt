@@ -8,7 +8,9 @@ use Rattle.mm_report.proofs.digits.send_digits.Given as goal
 abbrev pub invariant-loop-word : goal.invariant-loop-word
 invariant-loop-word g l = record {
   within : l.word ≤ div_ceil l.matrix.columns 64;
-  sent : Sent (g.W.Write.contents l.fn.to) (g.W.Write.contents l.to) l.fn.sink l.sink (map (digit_text l.matrix l.i) (range_with_len 0 (min (16 * l.word) (div_ceil l.matrix.columns 4))));
+  sent : Sent (g.W.Write.contents l.fn.to) (g.W.Write.contents l.to) l.fn.sink l.sink
+      (map (digit_text l.matrix l.i)
+      (range_with_len 0 (min (16 * l.word) (div_ceil l.matrix.columns 4))));
 }
 
 abbrev pub decreases-loop-word : goal.decreases-loop-word

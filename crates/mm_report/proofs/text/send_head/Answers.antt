@@ -5,4 +5,8 @@ use Rattle.mm_report.proofs.text.send_head.Goals as goal
 
 pub returns : goal.returns
 returns g c =
-    sent_more (sent_more (sent_more (sent_as _ (ap (heading (codes "mmdepend")) c.version.ensures) c.send_heading.ensures) c.send_heading-2.ensures) c.send_open.ensures) c.send_heading-3.ensures
+    sent_more
+    (sent_more
+    (sent_more
+    (sent_as _ (ap (heading (codes "mmdepend")) c.version.ensures) c.send_heading.ensures)
+    c.send_heading-2.ensures) c.send_open.ensures) c.send_heading-3.ensures

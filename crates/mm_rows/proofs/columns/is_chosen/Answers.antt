@@ -10,5 +10,8 @@ pub returns-in-Some-typecode : goal.returns-in-Some-typecode
 returns-in-Some-typecode g c =
     let db = c.args.database.now.statements in
     let k = c.args.statement in
-    c.eq.ensures ∙ typecode-test db k c.in-Some-typecode.typecode c.name.result.now c.in-Some.name.now c.requires (sym c.in-Some-typecode.ensures.typecode) c.name.ensures
-    ∙ ap (λ o. list_any (has_typecode (option_map (λ w. w.now) o)) (statement_at db k)) (sym c.in-Some.is)
+    c.eq.ensures
+    ∙ typecode-test db k c.in-Some-typecode.typecode c.name.result.now c.in-Some.name.now
+    c.requires (sym c.in-Some-typecode.ensures.typecode) c.name.ensures
+    ∙ ap (λ o. list_any (has_typecode (option_map (λ w. w.now) o)) (statement_at db k))
+    (sym c.in-Some.is)

@@ -3,7 +3,12 @@ use Rattle.mm_rows.proofs.DigitFacts.{digits_more}
 use Rattle.mm_rows.proofs.digits.write_digits.Goals as goal
 
 pub loop-w-preserved : goal.loop-w-preserved
-loop-w-preserved c = digits_more c.args.words.now c.loop-w.into c.word_digits.result c.loop-w.w c.loop-w-test.true (c.loop-w.auto.into ∙ c.requires) c.word_digits.ensures.length c.word_digits.ensures.each c.loop-w.invariant
+loop-w-preserved c =
+    digits_more c.args.words.now c.loop-w.into c.word_digits.result c.loop-w.w c.loop-w-test.true
+    (c.loop-w.auto.into ∙ c.requires) c.word_digits.ensures.length c.word_digits.ensures.each
+    c.loop-w.invariant
 
 pub returns-clause-each : goal.returns-clause-each
-returns-clause-each c = λ i lt. let e = c.requires in let end = c.loop-w-test.false in c.loop-w.invariant i (omega (arith, lt, e, end))
+returns-clause-each c =
+    λ i lt. let e = c.requires in let end = c.loop-w-test.false in
+    c.loop-w.invariant i (omega (arith, lt, e, end))

@@ -14,4 +14,7 @@ returns c = λ k lt.
     let is : m ≡ 2 ^ c.args.b = omega (arith, few) in
     let r = length-replicate 64 m in
     let l = length-zip2 bit_and v (replicate 64 m) (omega (arith, r, c.fits-bytes.0)) in
-    ap (λ x. bit_at x k) (bitmask_splat w8 eqb (zip2 bit_and v (replicate 64 m)) 64 m (omega (arith, l, c.fits-bytes.0)) (omega arith)) ∙ lane_bit v 64 m c.args.b k c.fits-bytes.0 is lt
+    ap (λ x. bit_at x k)
+    (bitmask_splat w8 eqb (zip2 bit_and v (replicate 64 m)) 64 m
+    (omega (arith, l, c.fits-bytes.0)) (omega arith))
+    ∙ lane_bit v 64 m c.args.b k c.fits-bytes.0 is lt

@@ -3,7 +3,11 @@ use Rattle.mm_rows.specs.Blocks.{Written}
 use Rattle.mm_rows.proofs.turn.turn_rows.Given as goal
 
 abbrev pub invariant-loop-j : goal.invariant-loop-j
-invariant-loop-j l = record { within : l.at ≤ 8 * length l.any; written : Written l.rows l.columns l.bits l.turned l.w (8 * l.at) }
+invariant-loop-j l =
+    record {
+      within : l.at ≤ 8 * length l.any;
+      written : Written l.rows l.columns l.bits l.turned l.w (8 * l.at);
+    }
 
 abbrev pub decreases-loop-j : goal.decreases-loop-j
 decreases-loop-j l = 8 * length l.any - l.at

@@ -8,8 +8,11 @@ use Rattle.mm_rows.proofs.wave.bit_rows.Goals as goal
 pub collect-requires-clause-ready : goal.collect-requires-clause-ready
 collect-requires-clause-ready g c κs within =
     let ends = c.into_par_iter.ensures in
-    let inside = nat_range-All (λ i. i < length c.args.rows.now) 0 (length c.args.rows.now) (λ i low high. high) in
-    rw (c.with_min_len.ensures.base, c.map.ensures.base, c.map.ensures.f, ends.0, ends.1) (λ k d lt. ((inside k d lt, (c.requires.rising, c.requires.ready)), λ y p. tt))
+    let inside =
+    nat_range-All (λ i. i < length c.args.rows.now) 0 (length c.args.rows.now)
+    (λ i low high. high) in
+    rw (c.with_min_len.ensures.base, c.map.ensures.base, c.map.ensures.f, ends.0, ends.1)
+    (λ k d lt. ((inside k d lt, (c.requires.rising, c.requires.ready)), λ y p. tt))
 
 pub returns : goal.returns
 returns g c =

@@ -1,4 +1,5 @@
-use Rattle.std.proofs.Common.{ℕ, ◌≡◌, ◌<◌, ◌∙◌, All, length, get_or, map, take, subst, sym, ap, arith, rules, refl}
+use Rattle.std.proofs.Common.{ℕ, ◌≡◌, ◌<◌, ◌∙◌, All, length, get_or, map, take, subst, sym, ap}
+use Rattle.std.proofs.Common.{arith, rules, refl}
 use Rattle.std.proofs.lemmas.List.Sorted.{IsNonDecreasingBy-from_sort_by_key}
 use Rattle.std.specs.List.{Contains}
 use Rattle.std.proofs.lemmas.List.{get_or_default}
@@ -18,14 +19,23 @@ returns g c =
     let most = i.0 in
     let row : c.loop-row.row ≡ length waves = omega (arith, stop, most) in
     let long : length ps ≡ length waves = i.1 ∙ row in
-    let at : (p : ℕ) → p < length ps → get_or ps p (0, 0) ≡ (get_or waves p 0, p) = λ p l. i.2 p (let e = i.1 in omega (arith, e, l)) in
+    let at : (p : ℕ) → p < length ps → get_or ps p (0, 0) ≡ (get_or waves p 0, p) =
+    λ p l. i.2 p (let e = i.1 in omega (arith, e, l)) in
     let each : All (λ (p : ℕ × ℕ). (p.1 < length waves) × (get_or waves p.1 0 ≡ p.0)) ps =
-    λ k d l. subst (λ (q : ℕ × ℕ). (q.1 < length waves) × (get_or waves q.1 0 ≡ q.0)) (sym (get_or_default ps k d (0, 0) l ∙ at k l)) ((omega (arith, l, long)), refl) in
+    λ k d l. subst (λ (q : ℕ × ℕ). (q.1 < length waves) × (get_or waves q.1 0 ≡ q.0))
+    (sym (get_or_default ps k d (0, 0) l ∙ at k l)) ((omega (arith, l, long)), refl) in
     let all : (r : ℕ) → r < length waves → Contains ps (get_or waves r 0, r) =
-    λ r l. let h : r < length ps = omega (arith, l, long) in (r, h, get_or_default ps r (get_or waves r 0, r) (0, 0) h ∙ at r h) in
-    let rises = IsNonDecreasingBy-from_sort_by_key (λ (p : ℕ × ℕ). p.0) qs c.sort_unstable_by_key.ensures.sorted (λ a r q k. search rules) in
+    λ r l. let h : r < length ps =
+    omega (arith, l, long) in
+    (r, h, get_or_default ps r (get_or waves r 0, r) (0, 0) h ∙ at r h) in
+    let rises =
+    IsNonDecreasingBy-from_sort_by_key (λ (p : ℕ × ℕ). p.0) qs c.sort_unstable_by_key.ensures.sorted
+    (λ a r q k. search rules) in
     let end = c.loop-pair-test.false in
     let far = c.loop-pair.auto.pair-index-end in
     let full : c.loop-pair.pair-index ≡ length given = omega (arith, end, far) in
-    let chain = c.loop-pair.invariant ∙ ap (λ n. map (λ (p : ℕ × ℕ). p.1) (take n given)) full ∙ ap (map (λ (p : ℕ × ℕ). p.1)) (take-length given ∙ c.deref-pair-items.ensures.value) in
-    subst (IsByWave waves) (sym chain) (by_wave_is waves ps qs each all c.sort_unstable_by_key.ensures.permutation rises)
+    let chain =
+    c.loop-pair.invariant ∙ ap (λ n. map (λ (p : ℕ × ℕ). p.1) (take n given)) full
+    ∙ ap (map (λ (p : ℕ × ℕ). p.1)) (take-length given ∙ c.deref-pair-items.ensures.value) in
+    subst (IsByWave waves) (sym chain)
+    (by_wave_is waves ps qs each all c.sort_unstable_by_key.ensures.permutation rises)

@@ -1,10 +1,14 @@
 use Rattle.std.proofs.Common.{◌≤◌, ◌-◌, vec_len}
 use Rattle.std.specs.Io.KnownBytes.{Consumes}
-use Rattle.mm_run.specs.Ends.{reading_limit}
+use Rattle.mm_spec.specs.Ends.{reading_limit}
 use Rattle.mm_run.proofs.input.read_all.Given as goal
 
 abbrev pub invariant-loop-piece : goal.invariant-loop-piece
-invariant-loop-piece g l = record { within : vec_len l.text ≤ reading_limit; took : Consumes (g.R.Read.remaining l.fn.from) (g.R.Read.remaining l.from) l.text.items }
+invariant-loop-piece g l =
+    record {
+      within : vec_len l.text ≤ reading_limit;
+      took : Consumes (g.R.Read.remaining l.fn.from) (g.R.Read.remaining l.from) l.text.items;
+    }
 
 abbrev pub decreases-loop-piece : goal.decreases-loop-piece
 decreases-loop-piece g l = reading_limit - vec_len l.text

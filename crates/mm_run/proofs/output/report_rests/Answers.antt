@@ -11,11 +11,15 @@ returns-in-Ok-write_report g c =
     let db = c.args.database.now.statements in
     let request = request_of c.args.plan.now in
     let opened = open_theorems request.with_open c.args.database.now c.in-Ok.columns in
-    let axioms : c.in-Ok.columns ≡ columns db request.only = c.in-Ok.ensures ∙ ap (columns db) c.typecode.ensures in (
+    let axioms : c.in-Ok.columns ≡ columns db request.only =
+    c.in-Ok.ensures ∙ ap (columns db) c.typecode.ensures in (
       (c.args.database.now.read, c.requires.sound),
       (
         report_of db opened request.form c.in-Ok.columns c.in-Ok-matrix.table request.choice,
-        written c.args.database.now.text request c.args.database.now c.in-Ok.columns _ c.requires.counted c.requires.sound axioms (is-report request db opened c.args.citations.now c.in-Ok.columns c.in-Ok-matrix.table c.requires.cited axioms c.in-Ok-matrix.ensures c.requires.choice),
+        written c.args.database.now.text request c.args.database.now c.in-Ok.columns _
+            c.requires.counted c.requires.sound axioms
+            (is-report request db opened c.args.citations.now c.in-Ok.columns c.in-Ok-matrix.table
+            c.requires.cited axioms c.in-Ok-matrix.ensures c.requires.choice),
         c.in-Ok-write_report.ensures.ok,
       ),
     )
@@ -25,10 +29,14 @@ returns g c =
     let db = c.args.database.now.statements in
     let request = request_of c.args.plan.now in
     let opened = open_theorems request.with_open c.args.database.now c.in-Ok.columns in
-    let axioms : c.in-Ok.columns ≡ columns db request.only = c.in-Ok.ensures ∙ ap (columns db) c.typecode.ensures in
+    let axioms : c.in-Ok.columns ≡ columns db request.only =
+    c.in-Ok.ensures ∙ ap (columns db) c.typecode.ensures in
     let cut = c.in-Err.ensures.err in (
       report_of db opened request.form c.in-Ok.columns c.in-Ok-matrix.table request.choice,
       cut.0,
-      written c.args.database.now.text request c.args.database.now c.in-Ok.columns _ c.requires.counted c.requires.sound axioms (is-report request db opened c.args.citations.now c.in-Ok.columns c.in-Ok-matrix.table c.requires.cited axioms c.in-Ok-matrix.ensures c.requires.choice),
+      written c.args.database.now.text request c.args.database.now c.in-Ok.columns _
+          c.requires.counted c.requires.sound axioms
+          (is-report request db opened c.args.citations.now c.in-Ok.columns c.in-Ok-matrix.table
+          c.requires.cited axioms c.in-Ok-matrix.ensures c.requires.choice),
       cut.1,
     )

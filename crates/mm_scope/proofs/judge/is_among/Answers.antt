@@ -17,6 +17,8 @@ loop-earlier-preserved c =
     let more = among_more text ws c.args.from i (omega arith) (omega (arith, test, within)) word in
     let before = before_next [] (between text ws c.args.from i) in
     elim c.if-eq.branch [
-      | then-eq w ↦ w.found-is ∙ w.if-eq.true ∙ ap (λ b. b || is_in word before) (sym w.if-eq.true ∙ c.eq.ensures) ∙ more
-      | else-eq w ↦ w.found-is ∙ c.loop-earlier.invariant ∙ ap (λ b. b || is_in word before) (sym w.if-eq.false ∙ c.eq.ensures) ∙ more
+      | then-eq w ↦ w.found-is ∙ w.if-eq.true
+          ∙ ap (λ b. b || is_in word before) (sym w.if-eq.true ∙ c.eq.ensures) ∙ more
+      | else-eq w ↦ w.found-is ∙ c.loop-earlier.invariant
+          ∙ ap (λ b. b || is_in word before) (sym w.if-eq.false ∙ c.eq.ensures) ∙ more
     ]

@@ -5,4 +5,5 @@ use Rattle.mm_scope.specs.Judge.{before_next}
 use Rattle.mm_scope.proofs.judge.is_among.Given as goal
 
 abbrev pub invariant-loop-earlier : goal.invariant-loop-earlier
-invariant-loop-earlier l = l.found ≡ is_in l.word (before_next [] (between l.text l.tokens l.from l.earlier))
+invariant-loop-earlier l =
+    l.found ≡ is_in l.word (before_next [] (between l.text l.tokens l.from l.earlier))

@@ -6,4 +6,5 @@ use Rattle.mm_scope.proofs.judge.is_repeated.Goals as goal
 pub returns-else-is_short-clause-seen : goal.returns-else-is_short-clause-seen
 returns-else-is_short-clause-seen g c =
     on_then c.see.result c.see.ensures.now
-    (λ now short. seen_more c.args.text.now c.args.tokens.now c.args.from c.args.at c.requires.order c.requires.within (find c.args.seen.now) (find c.see.new.seen) now (c.requires.seen short))
+    (λ now short. seen_more c.args.text.now c.args.tokens.now c.args.from c.args.at c.requires.order
+    c.requires.within (find c.args.seen.now) (find c.see.new.seen) now (c.requires.seen short))

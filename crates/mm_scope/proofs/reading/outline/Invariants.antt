@@ -8,7 +8,8 @@ use Rattle.mm_scope.proofs.reading.outline.Given as goal
 abbrev pub invariant-statements : goal.invariant-statements
 invariant-statements g l = record {
   outlines : All (λ o. IsOutline o × (o.end < length l.tokens)) l.read.outlines.items;
-  reading : IsReading l.text l.tokens (statements l.text l.tokens l.read.outlines.items) l.deep l.at;
+  reading : IsReading l.text l.tokens
+      (statements l.text l.tokens l.read.outlines.items) l.deep l.at;
   kept : IsKept (statements l.text l.tokens l.read.outlines.items) (kept_by l.read);
   sound : l.read.fault ≡ None;
 }

@@ -1,4 +1,5 @@
-use Rattle.std.proofs.Common.{◌≡◌, ◌∙◌, ◌+◌, ◌++◌, ◌∷◌, List, [], length, take, get_or, ap, ap₂, subst, arith}
+use Rattle.std.proofs.Common.{◌≡◌, ◌∙◌, ◌+◌, ◌++◌, ◌∷◌, List, [], length, take, get_or, ap, ap₂}
+use Rattle.std.proofs.Common.{subst, arith}
 use Rattle.std.proofs.lemmas.List.{take_more}
 use Rattle.std.proofs.Math.Seq.{take-length}
 use Rattle.mm_outline.specs.Parts.{outline}
@@ -11,7 +12,9 @@ use Rattle.mm_stmt.proofs.kept.keep_all.Goals as goal
 pub loop-outline-init : goal.loop-outline-init
 loop-outline-init g c =
     let none = c.new-words.ensures.items in
-    kept_none c.args.tokens.now c.new-words.result.items (c.new-starts.result.items ++ length c.new-words.result.items ∷ []) none (ap₂ (λ ss n. ss ++ n ∷ []) c.new-starts.ensures.items (ap length none))
+    kept_none c.args.tokens.now c.new-words.result.items
+    (c.new-starts.result.items ++ length c.new-words.result.items ∷ []) none
+    (ap₂ (λ ss n. ss ++ n ∷ []) c.new-starts.ensures.items (ap length none))
 
 pub loop-outline-preserved : goal.loop-outline-preserved
 loop-outline-preserved g c =
@@ -21,9 +24,13 @@ loop-outline-preserved g c =
     let words = c.loop-outline.words.items in
     let starts = c.loop-outline.starts.items in
     let o = get_or os i (outline Constants 0 0 0) in
-    let more : take (i + 1) os ≡ take i os ++ o ∷ [] = take_more os i (outline Constants 0 0 0) (omega arith) in
-    let begun : c.push.new.self.items ≡ starts ++ length words ∷ [] = c.in_ok-push.ensures.items ∙ ap (λ n. starts ++ n ∷ []) (c.len.ensures ∙ c.loop-outline.words.ok.0) in
-    rw (more, begun, c.in_ok-keep.ensures) (kept_more ws (take i os) o words (starts ++ length words ∷ []) c.loop-outline.invariant)
+    let more : take (i + 1) os ≡ take i os ++ o ∷ [] =
+    take_more os i (outline Constants 0 0 0) (omega arith) in
+    let begun : c.push.new.self.items ≡ starts ++ length words ∷ [] =
+    c.in_ok-push.ensures.items
+    ∙ ap (λ n. starts ++ n ∷ []) (c.len.ensures ∙ c.loop-outline.words.ok.0) in
+    rw (more, begun, c.in_ok-keep.ensures)
+    (kept_more ws (take i os) o words (starts ++ length words ∷ []) c.loop-outline.invariant)
 
 pub returns : goal.returns
 returns g c =
@@ -36,5 +43,9 @@ returns g c =
     let test = c.loop-outline-test.false in
     let all : i ≡ length os = omega (arith, end, test) in
     let whole : take i os ≡ os = ap (λ n. take n os) all ∙ take-length os in
-    let ended : c.push-2.new.self.items ≡ starts ++ length words ∷ [] = c.in_ok-push-2.ensures.items ∙ ap (λ n. starts ++ n ∷ []) (c.len-2.ensures ∙ c.loop-outline.words.ok.0) in
-    rw ended (subst (λ (xs : List Outline). AreKept ws xs words (starts ++ length words ∷ [])) whole c.loop-outline.invariant)
+    let ended : c.push-2.new.self.items ≡ starts ++ length words ∷ [] =
+    c.in_ok-push-2.ensures.items
+    ∙ ap (λ n. starts ++ n ∷ []) (c.len-2.ensures ∙ c.loop-outline.words.ok.0) in
+    rw ended
+    (subst (λ (xs : List Outline). AreKept ws xs words (starts ++ length words ∷ [])) whole
+    c.loop-outline.invariant)

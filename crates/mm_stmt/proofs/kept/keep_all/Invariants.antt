@@ -3,4 +3,6 @@ use Rattle.mm_stmt.specs.Kept.{AreKept}
 use Rattle.mm_stmt.proofs.kept.keep_all.Given as goal
 
 abbrev pub invariant-loop-outline : goal.invariant-loop-outline
-invariant-loop-outline g l = AreKept l.tokens (take l.outline-index l.outlines) l.words.items (l.starts.items ++ length l.words.items ∷ [])
+invariant-loop-outline g l =
+    AreKept l.tokens (take l.outline-index l.outlines) l.words.items
+    (l.starts.items ++ length l.words.items ∷ [])

@@ -4,4 +4,5 @@ use Rattle.mm_stmt.specs.Database.{kind_of, held}
 use Rattle.mm_stmt.proofs.kinds.kinds_of.Given as goal
 
 abbrev pub invariant-loop-outline : goal.invariant-loop-outline
-invariant-loop-outline g l = l.kinds.items ≡ map kind_of (held l.text l.tokens (take l.outline-index l.outlines) l.with_open)
+invariant-loop-outline g l =
+    l.kinds.items ≡ map kind_of (held l.text l.tokens (take l.outline-index l.outlines) l.with_open)

@@ -1,4 +1,5 @@
-use Rattle.std.proofs.Common.{◌≡◌, ◌∙◌, ◌+◌, ◌++◌, ◌∷◌, [], length, map, take, get_or, sym, ap, arith, append_assoc}
+use Rattle.std.proofs.Common.{◌≡◌, ◌∙◌, ◌+◌, ◌++◌, ◌∷◌, [], length, map, take, get_or, sym, ap}
+use Rattle.std.proofs.Common.{arith, append_assoc}
 use Rattle.std.proofs.lemmas.List.{take_more, map-append}
 use Rattle.mm_spec.specs.Output.{label_at}
 use Rattle.mm_outline.specs.Parts.{outline}
@@ -19,9 +20,18 @@ loop-theorem-preserved g c =
     let before = map name (take i ks) in
     let bytes = c.loop-theorem.bytes.items in
     let starts = c.loop-theorem.starts.items in
-    let more : map name (take (i + 1) ks) ≡ before ++ name k ∷ [] = ap (map name) (take_more ks i 0 (omega arith)) ∙ map-append name (take i ks) (k ∷ []) in
-    let label : c.label_of.result.now ≡ name k = c.label_of.ensures ∙ sym (theorem_label text ws os k (outline Constants 0 0 0) (c.requires.theorems i 0 (omega arith))) in
+    let more : map name (take (i + 1) ks) ≡ before ++ name k ∷ [] =
+    ap (map name) (take_more ks i 0 (omega arith)) ∙ map-append name (take i ks) (k ∷ []) in
+    let label : c.label_of.result.now ≡ name k =
+    c.label_of.ensures
+    ∙ sym (theorem_label text ws os k (outline Constants 0 0 0)
+    (c.requires.theorems i 0 (omega arith))) in
     let longer : c.extend_from_slice.new.self.items ≡ bytes ++ 32 ∷ name k =
-    c.in_ok-extend_from_slice.ensures.items ∙ ap (λ l. l ++ c.label_of.result.now) c.in_ok-push-2.ensures.items ∙ append_assoc bytes (32 ∷ []) c.label_of.result.now ∙ ap (λ l. bytes ++ 32 ∷ l) label in
-    let begun : c.push.new.self.items ≡ starts ++ length bytes ∷ [] = c.in_ok-push.ensures.items ∙ ap (λ n. starts ++ n ∷ []) (c.len.ensures ∙ c.loop-theorem.bytes.ok.0) in
-    rw (more, longer, begun) (spaced_more before bytes (starts ++ length bytes ∷ []) (name k) c.loop-theorem.invariant)
+    c.in_ok-extend_from_slice.ensures.items
+    ∙ ap (λ l. l ++ c.label_of.result.now) c.in_ok-push-2.ensures.items
+    ∙ append_assoc bytes (32 ∷ []) c.label_of.result.now ∙ ap (λ l. bytes ++ 32 ∷ l) label in
+    let begun : c.push.new.self.items ≡ starts ++ length bytes ∷ [] =
+    c.in_ok-push.ensures.items
+    ∙ ap (λ n. starts ++ n ∷ []) (c.len.ensures ∙ c.loop-theorem.bytes.ok.0) in
+    rw (more, longer, begun)
+    (spaced_more before bytes (starts ++ length bytes ∷ []) (name k) c.loop-theorem.invariant)

@@ -5,7 +5,7 @@ use Rattle.mm_spec.specs.Output.{theorems}
 use Rattle.mm_spec.specs.Scope.{statement_at}
 use Rattle.mm_work.specs.Workers.{AreFound, IsFoundValid, IsFoundFaulty}
 use Rattle.mm_work.specs.declared.worker.Found.{Found}
-use Rattle.mm_cites.proofs.RisingLaw.{those-rising}
+use Rattle.mm_cites.proofs.RisingLaw.{filter-rising}
 use Rattle.mm_work.proofs.AllLaw.{valid-below, faulty-at}
 use Rattle.mm_work.proofs.VerifyLaw.{first-fault}
 use Rattle.mm_work.proofs.all.check_all.Goals as goal
@@ -13,42 +13,66 @@ use Rattle.mm_work.proofs.all.check_all.Goals as goal
 pub overflow_cast-count : goal.overflow_cast-count
 overflow_cast-count g c =
     let db = c.args.database.now.statements in
-    let few = (those-rising (λ j. list_any is_theorem (statement_at db j)) (length db) c.theorems-count.ensures.few).few in
+    let few =
+    (filter-rising (λ j. list_any is_theorem (statement_at db j))
+    (length db) c.theorems-count.ensures.few).few in
     let same = ap (λ (ts : List ℕ). length ts) c.theorems-count.ensures.theorems in
     omega (arith, few, same)
 
 pub fault_of-requires-clause-found : goal.fault_of-requires-clause-found
-fault_of-requires-clause-found g c = subst (λ (fs : List (Found _)). All (AreFound c.args.database.now.statements c.args.essential) fs) (sym c.deref.ensures.value) c.in_ok-gathered.ensures.found
+fault_of-requires-clause-found g c =
+    subst (λ (fs : List (Found _)). All
+    (AreFound c.args.database.now.statements c.args.essential) fs)
+    (sym c.deref.ensures.value) c.in_ok-gathered.ensures.found
 
 pub fault_of-requires-clause-faulty : goal.fault_of-requires-clause-faulty
 fault_of-requires-clause-faulty g c =
     let db = c.args.database.now.statements in
-    let all : c.in_ok-gathered.gathered.seat.view.share ≡ 64 = let s = c.share.ensures.share in let r = c.share.ensures.range.1 in let f = c.if-share-lt-WHOLE.false in omega (arith, s, r, f) in
+    let all : c.in_ok-gathered.gathered.seat.view.share ≡ 64 =
+    let s = c.share.ensures.share in let r = c.share.ensures.range.1 in
+    let f = c.if-share-lt-WHOLE.false in omega (arith, s, r, f) in
     let count = c.in-Ok.ensures.board.0 in
-    let within : c.close-first.result.0 < c.in-Ok.board.count = let l = c.if-first-count.true in omega (arith, l, count) in
-    subst (λ (fs : List (Found _)). IsFoundFaulty fs c.close-first.result.0) (sym c.deref.ensures.value)
-    (faulty-at c.in-Ok.board db c.args.essential c.in_ok-gathered.gathered.seat c.in_ok-gathered.gathered.found.items c.in_ok-gathered.ensures c.close-first.result.0 (c.close-first.ensures.whole all).0 within)
+    let within : c.close-first.result.0 < c.in-Ok.board.count =
+    let l = c.if-first-count.true in omega (arith, l, count) in
+    subst (λ (fs : List (Found _)). IsFoundFaulty fs c.close-first.result.0)
+    (sym c.deref.ensures.value)
+    (faulty-at c.in-Ok.board db c.args.essential c.in_ok-gathered.gathered.seat
+    c.in_ok-gathered.gathered.found.items c.in_ok-gathered.ensures c.close-first.result.0
+    (c.close-first.ensures.whole all).0 within)
 
 pub returns-then-first-count : goal.returns-then-first-count
 returns-then-first-count g c =
     let db = c.args.database.now.statements in
     let h = c.in_ok-gathered.ensures in
-    let all : c.in_ok-gathered.gathered.seat.view.share ≡ 64 = let s = c.share.ensures.share in let r = c.share.ensures.range.1 in let f = c.if-share-lt-WHOLE.false in omega (arith, s, r, f) in
+    let all : c.in_ok-gathered.gathered.seat.view.share ≡ 64 =
+    let s = c.share.ensures.share in let r = c.share.ensures.range.1 in
+    let f = c.if-share-lt-WHOLE.false in omega (arith, s, r, f) in
     let same = ap (λ (ts : List ℕ). length ts) c.theorems-count.ensures.theorems in
     let l = c.if-first-count.true in
-    first-fault db c.theorems-count.ensures.few c.len.ensures.complete c.close-first.result.0 c.fault_of.result
-    (valid-below c.in-Ok.board db c.args.essential c.in_ok-gathered.gathered.seat c.in_ok-gathered.gathered.found.items h c.close-first.result.0 (c.close-first.ensures.finished all h.over h.closed))
+    first-fault db c.theorems-count.ensures.few c.len.ensures.complete c.close-first.result.0
+    c.fault_of.result
+    (valid-below c.in-Ok.board db c.args.essential c.in_ok-gathered.gathered.seat
+    c.in_ok-gathered.gathered.found.items h c.close-first.result.0
+    (c.close-first.ensures.finished all h.over h.closed))
     (omega (arith, same, l)) c.fault_of.ensures
 
 pub merge-requires-clause-found : goal.merge-requires-clause-found
-merge-requires-clause-found g c = subst (λ (fs : List (Found _)). All (AreFound c.args.database.now.statements c.args.essential) fs) (sym c.deref-2.ensures.value) c.in_ok-gathered.ensures.found
+merge-requires-clause-found g c =
+    subst (λ (fs : List (Found _)). All
+    (AreFound c.args.database.now.statements c.args.essential) fs)
+    (sym c.deref-2.ensures.value) c.in_ok-gathered.ensures.found
 
 pub merge-requires-clause-valid : goal.merge-requires-clause-valid
 merge-requires-clause-valid g c =
     let db = c.args.database.now.statements in
     let h = c.in_ok-gathered.ensures in
-    let all : c.in_ok-gathered.gathered.seat.view.share ≡ 64 = let s = c.share.ensures.share in let r = c.share.ensures.range.1 in let f = c.if-share-lt-WHOLE.false in omega (arith, s, r, f) in
+    let all : c.in_ok-gathered.gathered.seat.view.share ≡ 64 =
+    let s = c.share.ensures.share in let r = c.share.ensures.range.1 in
+    let f = c.if-share-lt-WHOLE.false in omega (arith, s, r, f) in
     let same = ap (λ (ts : List ℕ). length ts) c.theorems-count.ensures.theorems in
     let past = c.if-first-count.false in
-    subst (λ (fs : List (Found _)). (i : ℕ) → i < length (theorems db) → IsFoundValid fs i) (sym c.deref-2.ensures.value)
-    (λ i l. let one = c.close-first.ensures.finished all h.over h.closed i (omega (arith, same, past, l)) in h.settled i (omega (arith, one)))
+    subst (λ (fs : List (Found _)). (i : ℕ) → i < length (theorems db) → IsFoundValid fs i)
+    (sym c.deref-2.ensures.value)
+    (λ i l. let one = c.close-first.ensures.finished all h.over h.closed i
+    (omega (arith, same, past, l)) in
+    h.settled i (omega (arith, one)))

@@ -12,7 +12,9 @@ verify-requires-clause-theorem g c =
     let db = c.args.database.now.statements in
     let within = c.loop-theorem-test.true in
     let same = ap (λ (ts : List ℕ). length ts) c.theorems-theorems.ensures.theorems in
-    subst (λ (ts : List ℕ). IsTrue (is_theorem_at db (get_or ts c.loop-theorem.theorem-index 0))) (sym c.theorems-theorems.ensures.theorems) (theorems_are db c.loop-theorem.theorem-index 0 (omega (arith, within, same)))
+    subst (λ (ts : List ℕ). IsTrue (is_theorem_at db (get_or ts c.loop-theorem.theorem-index 0)))
+    (sym c.theorems-theorems.ensures.theorems)
+    (theorems_are db c.loop-theorem.theorem-index 0 (omega (arith, within, same)))
 
 pub returns-in-Err-Fault : goal.returns-in-Err-Fault
 returns-in-Err-Fault g c =
@@ -20,15 +22,28 @@ returns-in-Err-Fault g c =
     let i = c.loop-theorem.theorem-index in
     let within = c.loop-theorem-test.true in
     let same = ap (λ (ts : List ℕ). length ts) c.theorems-theorems.ensures.theorems in
-    subst (λ (f : Fault). IsFirstFault db f) (sym c.in-Err-Fault.fault-is) (first-fault db c.theorems-theorems.ensures.few c.len.ensures.complete i c.in-Err-Fault.fault (cited-before db c.theorems-theorems.ensures.few c.len.ensures.complete c.args.essential i c.loop-theorem.lists c.loop-theorem.invariant.cited) (omega (arith, within, same))
-    (subst (λ (ts : List ℕ). HasFault db (get_or ts i 0) c.in-Err-Fault.fault) c.theorems-theorems.ensures.theorems (subst (λ (e : VerifyRefused). Faults db (get_or c.theorems-theorems.result.now i 0) e) c.in-Err-Fault.field-0-is c.in-Err-Fault.ensures.refused)))
+    subst (λ (f : Fault). IsFirstFault db f) (sym c.in-Err-Fault.fault-is)
+    (first-fault db c.theorems-theorems.ensures.few c.len.ensures.complete i
+    c.in-Err-Fault.fault
+    (cited-before db c.theorems-theorems.ensures.few c.len.ensures.complete c.args.essential i
+    c.loop-theorem.lists c.loop-theorem.invariant.cited) (omega (arith, within, same))
+    (subst (λ (ts : List ℕ). HasFault db (get_or ts i 0) c.in-Err-Fault.fault)
+    c.theorems-theorems.ensures.theorems
+    (subst (λ (e : VerifyRefused). Faults db (get_or c.theorems-theorems.result.now i 0) e)
+    c.in-Err-Fault.field-0-is c.in-Err-Fault.ensures.refused)))
 
 pub loop-theorem-preserved : goal.loop-theorem-preserved
 loop-theorem-preserved g c =
     let db = c.args.database.now.statements in
     let i = c.loop-theorem.theorem-index in
-    let one = subst (λ (ts : List ℕ). IsCited db c.args.essential (get_or ts i 0) c.in-Ok.checked.cites) c.theorems-theorems.ensures.theorems c.in-Ok.ensures.valid in
+    let one =
+    subst (λ (ts : List ℕ). IsCited db c.args.essential (get_or ts i 0) c.in-Ok.checked.cites)
+    c.theorems-theorems.ensures.theorems c.in-Ok.ensures.valid in
     record {
       made_for = c.in-Ok.ensures.made_for;
-      cited = rw (c.in_ok-push-in-Ok.ensures.ok, c.cites.ensures) (cited-more db c.args.essential (theorems db) i c.loop-theorem.lists c.in-Ok.checked.cites c.loop-theorem.invariant.cited one);
+      cited =
+          rw (c.in_ok-push-in-Ok.ensures.ok, c.cites.ensures)
+          (cited-more db c.args.essential
+          (theorems db) i c.loop-theorem.lists c.in-Ok.checked.cites c.loop-theorem.invariant.cited
+          one);
     }

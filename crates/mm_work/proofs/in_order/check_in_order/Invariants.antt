@@ -7,5 +7,6 @@ use Rattle.mm_work.proofs.in_order.check_in_order.Given as goal
 abbrev pub invariant-loop-theorem : goal.invariant-loop-theorem
 invariant-loop-theorem g l = record {
   made_for : IsMadeFor l.database.statements l.checker;
-  cited : AreCited l.database.statements l.essential (theorems l.database.statements) l.theorem-index l.lists;
+  cited : AreCited l.database.statements l.essential
+      (theorems l.database.statements) l.theorem-index l.lists;
 }

@@ -4,4 +4,5 @@ use Rattle.mm_work.specs.Workers.{faulty_index}
 use Rattle.mm_work.proofs.merge.fault_of.Given as goal
 
 abbrev pub invariant-loop-one : goal.invariant-loop-one
-invariant-loop-one g l = AllWithin (λ f. faulty_index f.faulty ≡ Some l.index → ⊥) l.found 0 l.one-index
+invariant-loop-one g l =
+    AllWithin (λ f. faulty_index f.faulty ≡ Some l.index → ⊥) l.found 0 l.one-index

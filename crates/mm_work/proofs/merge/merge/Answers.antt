@@ -11,16 +11,28 @@ offset_bounds-found-place g c =
     let db = c.args.database.now.statements in
     let k = c.loop-place.place-index in
     let same = c.deref-place-items.ensures.value in
-    let within : k < length (theorems db) = let l = c.loop-place-test.true in let e = ap (λ (ps : List Place). length ps) same in let n = c.in_ok-places.ensures.count in let t = ap (λ (ts : List ℕ). length ts) c.theorems.ensures.theorems in omega (arith, l, e, n, t) in
-    less-le (worker-within db c.args.essential c.args.found.now c.requires.found c.in_ok-places.places.items c.deref-place-items.result.now k _ same (c.in_ok-places.ensures.places k (c.requires.valid k within)))
+    let within : k < length (theorems db) =
+    let l = c.loop-place-test.true in let e = ap (λ (ps : List Place). length ps) same in
+    let n = c.in_ok-places.ensures.count in
+    let t = ap (λ (ts : List ℕ). length ts) c.theorems.ensures.theorems in
+    omega (arith, l, e, n, t) in
+    less-le (worker-within db c.args.essential c.args.found.now c.requires.found
+    c.in_ok-places.places.items c.deref-place-items.result.now k _ same
+    (c.in_ok-places.ensures.places k (c.requires.valid k within)))
 
 pub bounds-found-place : goal.bounds-found-place
 bounds-found-place g c =
     let db = c.args.database.now.statements in
     let k = c.loop-place.place-index in
     let same = c.deref-place-items.ensures.value in
-    let within : k < length (theorems db) = let l = c.loop-place-test.true in let e = ap (λ (ps : List Place). length ps) same in let n = c.in_ok-places.ensures.count in let t = ap (λ (ts : List ℕ). length ts) c.theorems.ensures.theorems in omega (arith, l, e, n, t) in
-    worker-within db c.args.essential c.args.found.now c.requires.found c.in_ok-places.places.items c.deref-place-items.result.now k _ same (c.in_ok-places.ensures.places k (c.requires.valid k within))
+    let within : k < length (theorems db) =
+    let l = c.loop-place-test.true in let e = ap (λ (ps : List Place). length ps) same in
+    let n = c.in_ok-places.ensures.count in
+    let t = ap (λ (ts : List ℕ). length ts) c.theorems.ensures.theorems in
+    omega (arith, l, e, n, t) in
+    worker-within db c.args.essential c.args.found.now c.requires.found c.in_ok-places.places.items
+    c.deref-place-items.result.now k _ same
+    (c.in_ok-places.ensures.places k (c.requires.valid k within))
 
 pub get-requires : goal.get-requires
 get-requires g c =
@@ -28,9 +40,16 @@ get-requires g c =
     let fs = c.args.found.now in
     let k = c.loop-place.place-index in
     let same = c.deref-place-items.ensures.value in
-    let within : k < length (theorems db) = let l = c.loop-place-test.true in let e = ap (λ (ps : List Place). length ps) same in let n = c.in_ok-places.ensures.count in let t = ap (λ (ts : List ℕ). length ts) c.theorems.ensures.theorems in omega (arith, l, e, n, t) in
+    let within : k < length (theorems db) =
+    let l = c.loop-place-test.true in let e = ap (λ (ps : List Place). length ps) same in
+    let n = c.in_ok-places.ensures.count in
+    let t = ap (λ (ts : List ℕ). length ts) c.theorems.ensures.theorems in
+    omega (arith, l, e, n, t) in
     let h = c.in_ok-places.ensures.places k (c.requires.valid k within) in
-    list-within db c.args.essential fs c.requires.found c.in_ok-places.places.items c.deref-place-items.result.now k _ same h _ (found-there db c.args.essential fs c.requires.found c.in_ok-places.places.items c.deref-place-items.result.now k _ same h c.index-found-place.result)
+    list-within db c.args.essential fs c.requires.found c.in_ok-places.places.items
+    c.deref-place-items.result.now k _ same h _
+    (found-there db c.args.essential fs c.requires.found c.in_ok-places.places.items
+    c.deref-place-items.result.now k _ same h c.index-found-place.result)
 
 pub loop-place-preserved : goal.loop-place-preserved
 loop-place-preserved g c =
@@ -38,15 +57,30 @@ loop-place-preserved g c =
     let fs = c.args.found.now in
     let k = c.loop-place.place-index in
     let same = c.deref-place-items.ensures.value in
-    let within : k < length (theorems db) = let l = c.loop-place-test.true in let e = ap (λ (ps : List Place). length ps) same in let n = c.in_ok-places.ensures.count in let t = ap (λ (ts : List ℕ). length ts) c.theorems.ensures.theorems in omega (arith, l, e, n, t) in
+    let within : k < length (theorems db) =
+    let l = c.loop-place-test.true in let e = ap (λ (ps : List Place). length ps) same in
+    let n = c.in_ok-places.ensures.count in
+    let t = ap (λ (ts : List ℕ). length ts) c.theorems.ensures.theorems in
+    omega (arith, l, e, n, t) in
     let h = c.in_ok-places.ensures.places k (c.requires.valid k within) in
-    let there = found-there db c.args.essential fs c.requires.found c.in_ok-places.places.items c.deref-place-items.result.now k _ same h c.index-found-place.result in
-    rw c.in_ok-push.ensures.ok (cited-more db c.args.essential (theorems db) k c.loop-place.lists c.get.result.now c.loop-place.invariant
-    (list-cited db c.args.essential fs c.requires.found c.in_ok-places.places.items c.deref-place-items.result.now k _ same h _ c.get.result.now there c.get.ensures))
+    let there =
+    found-there db c.args.essential fs c.requires.found c.in_ok-places.places.items
+    c.deref-place-items.result.now k _ same h c.index-found-place.result in
+    rw c.in_ok-push.ensures.ok
+    (cited-more db c.args.essential
+    (theorems db) k c.loop-place.lists c.get.result.now c.loop-place.invariant
+    (list-cited db c.args.essential fs c.requires.found c.in_ok-places.places.items
+    c.deref-place-items.result.now k _ same h _ c.get.result.now there c.get.ensures))
 
 pub returns : goal.returns
 returns g c =
     let db = c.args.database.now.statements in
     let k = c.loop-place.place-index in
-    let all : k ≡ length (theorems db) = let end = c.loop-place.auto.place-index-end in let past = c.loop-place-test.false in let e = ap (λ (ps : List Place). length ps) c.deref-place-items.ensures.value in let n = c.in_ok-places.ensures.count in let t = ap (λ (ts : List ℕ). length ts) c.theorems.ensures.theorems in omega (arith, end, past, e, n, t) in
-    subst (λ n. AreCited db c.args.essential (theorems db) n c.loop-place.lists) all c.loop-place.invariant
+    let all : k ≡ length (theorems db) =
+    let end = c.loop-place.auto.place-index-end in let past = c.loop-place-test.false in
+    let e = ap (λ (ps : List Place). length ps) c.deref-place-items.ensures.value in
+    let n = c.in_ok-places.ensures.count in
+    let t = ap (λ (ts : List ℕ). length ts) c.theorems.ensures.theorems in
+    omega (arith, end, past, e, n, t) in
+    subst (λ n. AreCited db c.args.essential (theorems db) n c.loop-place.lists) all
+    c.loop-place.invariant

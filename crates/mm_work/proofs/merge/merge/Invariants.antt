@@ -3,4 +3,6 @@ use Rattle.mm_work.specs.Judged.{AreCited}
 use Rattle.mm_work.proofs.merge.merge.Given as goal
 
 abbrev pub invariant-loop-place : goal.invariant-loop-place
-invariant-loop-place g l = AreCited l.database.statements l.essential (theorems l.database.statements) l.place-index l.lists
+invariant-loop-place g l =
+    AreCited l.database.statements l.essential
+    (theorems l.database.statements) l.place-index l.lists

@@ -7,5 +7,6 @@ use Rattle.mm_work.proofs.merge.places.Given as goal
 abbrev pub invariant-loop-worker : goal.invariant-loop-worker
 invariant-loop-worker g l = record {
   count : length l.places.items ≡ l.count;
-  has : (v : ℕ) (f : Found _) (i : ℕ) → v < l.worker → slice_get l.found v ≡ Some f → Contains f.valid.items i → HasPlace l.places.items l.found i;
+  has : (v : ℕ) (f : Found _) (i : ℕ) → v < l.worker → slice_get l.found v ≡ Some f
+      → Contains f.valid.items i → HasPlace l.places.items l.found i;
 }

@@ -8,11 +8,19 @@ use Rattle.mm_work.proofs.worker.check.Goals as goal
 pub verify-requires-clause-theorem : goal.verify-requires-clause-theorem
 verify-requires-clause-theorem g c =
     let db = c.args.database.now.statements in
-    subst (λ (ts : List ℕ). IsTrue (is_theorem_at db (get_or ts c.args.index 0))) (sym c.theorems.ensures.theorems) (theorems_are db c.args.index 0 c.requires.index)
+    subst (λ (ts : List ℕ). IsTrue (is_theorem_at db (get_or ts c.args.index 0)))
+    (sym c.theorems.ensures.theorems) (theorems_are db c.args.index 0 c.requires.index)
 
 pub returns-in-Ok-keep-clause-found : goal.returns-in-Ok-keep-clause-found
 returns-in-Ok-keep-clause-found g c = λ short.
     let db = c.args.database.now.statements in
     let before = c.requires.found (sym c.in-Ok-keep.ensures.short ∙ short) in
-    let one = subst (λ (ts : List ℕ). IsCited db c.args.essential (get_or ts c.args.index 0) c.in-Ok.checked.cites) c.theorems.ensures.theorems c.in-Ok.ensures.valid in
-    found-more db c.args.essential c.args.found.now c.keep.new.self c.args.index c.in-Ok.checked.cites before c.requires.index one c.in-Ok-keep.ensures.valid (c.in-Ok-keep.ensures.cites ∙ ap (λ (l : List ℕ). c.args.found.now.cites ++ l ∷ []) c.cites.ensures) c.in-Ok-keep.ensures.faulty
+    let one =
+    subst (λ (ts : List ℕ). IsCited db c.args.essential
+    (get_or ts c.args.index 0) c.in-Ok.checked.cites) c.theorems.ensures.theorems
+    c.in-Ok.ensures.valid in
+    found-more db c.args.essential c.args.found.now c.keep.new.self c.args.index
+    c.in-Ok.checked.cites before c.requires.index one c.in-Ok-keep.ensures.valid
+    (c.in-Ok-keep.ensures.cites
+    ∙ ap (λ (l : List ℕ). c.args.found.now.cites ++ l ∷ []) c.cites.ensures)
+    c.in-Ok-keep.ensures.faulty

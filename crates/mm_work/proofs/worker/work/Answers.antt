@@ -3,7 +3,9 @@ use Rattle.mm_work.proofs.worker.work.Goals as goal
 
 pub loop-index-smaller : goal.loop-index-smaller
 loop-index-smaller g c =
-    fresh-drawn c.args.board.now.count c.in-Some.index c.loop-index.worked.seat.view c.claim.new.seat.view c.judge.new.worked.seat.view c.loop-index.invariant.closed c.in-Some.ensures.some c.in-Some.ensures.below c.in-Some.ensures.above c.judge.ensures.kept
+    fresh-drawn c.args.board.now.count c.in-Some.index c.loop-index.worked.seat.view
+    c.claim.new.seat.view c.judge.new.worked.seat.view c.loop-index.invariant.closed
+    c.in-Some.ensures.some c.in-Some.ensures.below c.in-Some.ensures.above c.judge.ensures.kept
 
 pub judge-requires-clause-tells : goal.judge-requires-clause-tells
 judge-requires-clause-tells g c = λ short.

@@ -6,8 +6,15 @@ use Rattle.mm_check.proofs.essential.Flags.choose.Goals as goal
 
 pub returns-then-essential : goal.returns-then-essential
 returns-then-essential g c =
-    subst (λ b. OnOk c.walk_back.result ((a : ℕ) → Decides (is_member c.walk_back.new.noted.items a) (Cites c.args.db.now.statements b c.args.theorem a))) (sym c.if-essential.true) c.walk_back.ensures
+    subst (λ b. OnOk c.walk_back.result
+    ((a : ℕ)
+    → Decides (is_member c.walk_back.new.noted.items a)
+    (Cites c.args.db.now.statements b c.args.theorem a)))
+    (sym c.if-essential.true) c.walk_back.ensures
 
 pub returns-else-essential : goal.returns-else-essential
 returns-else-essential g c =
-    subst (λ b. (a : ℕ) → Decides (is_member c.args.noted.now.items a) (Cites c.args.db.now.statements b c.args.theorem a)) (sym c.if-essential.false) c.requires.noted
+    subst (λ b. (a : ℕ)
+    → Decides (is_member c.args.noted.now.items a)
+    (Cites c.args.db.now.statements b c.args.theorem a))
+    (sym c.if-essential.false) c.requires.noted

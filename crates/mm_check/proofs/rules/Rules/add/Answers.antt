@@ -11,8 +11,15 @@ returns-clause-rules g c =
     let new = c.compile.new.places in
     let places = c.self.inside.places in
     let n : length new ≡ places.len = search rules in
-    let w : length places.items ≡ length (symbol_names k) = ap (λ (s : Store). s.width) c.self.view_is ∙ c.make_room.ensures.width in
+    let w : length places.items ≡ length (symbol_names k) =
+    ap (λ (s : Store). s.width) c.self.view_is ∙ c.make_room.ensures.width in
     record {
-      width = ap length (written new places.items places.len n) ∙ omega (arith, n, w, c.deref_mut.ensures.len);
-      all = rw c.in_ok-push.ensures.items (All-push (IsCompiled k) _ _ (subst (λ (s : Store). All (IsCompiled k) s.rules) (sym c.self.view_is) c.make_room.ensures.all) c.in_ok-rule.ensures.made);
+      width =
+          ap length (written new places.items places.len n)
+          ∙ omega (arith, n, w, c.deref_mut.ensures.len);
+      all =
+          rw c.in_ok-push.ensures.items
+          (All-push (IsCompiled k) _ _
+          (subst (λ (s : Store). All (IsCompiled k) s.rules)
+          (sym c.self.view_is) c.make_room.ensures.all) c.in_ok-rule.ensures.made);
     }

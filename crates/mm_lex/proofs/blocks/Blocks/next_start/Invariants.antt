@@ -7,7 +7,8 @@ abbrev pub invariant-loop-self : goal.invariant-loop-self
 invariant-loop-self l = record {
   same : l.self.text.now ≡ l.fn.self.text.now;
   rises : l.fn.self.from ≤ l.self.from;
-  none : (i : ℕ) → l.fn.self.from ≤ i → i < l.self.from → i < length l.fn.self.text.now → begins_word l.fn.self.text.now i ≡ false;
+  none : (i : ℕ) → l.fn.self.from ≤ i → i < l.self.from → i < length l.fn.self.text.now
+      → begins_word l.fn.self.text.now i ≡ false;
 }
 
 abbrev pub decreases-loop-self : goal.decreases-loop-self

@@ -12,9 +12,11 @@ invariant-loop-white l = record {
   none : (i : ℕ) → l.start < i → i < l.blocks.from → begins_word l.self.text.now i ≡ false;
   order : l.start ≤ l.blocks.base + l.white;
   few : l.white ≤ 64;
-  solid : (i : ℕ) → l.start ≤ i → i < l.blocks.base + l.white → i < length l.self.text.now → white_at l.self.text.now i ≡ false;
+  solid : (i : ℕ) → l.start ≤ i → i < l.blocks.base + l.white → i < length l.self.text.now
+      → white_at l.self.text.now i ≡ false;
   ends : l.white < 64 → bit_at l.blocks.white l.white ≡ 1;
-  plain : l.plain ≡ true → (i : ℕ) → l.start ≤ i → i < l.blocks.base + l.white → i < length l.self.text.now → plain_at l.self.text.now i ≡ true;
+  plain : l.plain ≡ true → (i : ℕ) → l.start ≤ i → i < l.blocks.base + l.white
+      → i < length l.self.text.now → plain_at l.self.text.now i ≡ true;
 }
 
 abbrev pub decreases-loop-white : goal.decreases-loop-white

@@ -9,9 +9,12 @@ use Rattle.mm_lex.proofs.pieces.Piece.into_lexed.Goals as goal
 pub returns-clause-tokens : goal.returns-clause-tokens
 returns-clause-tokens g c = sym (tokens_of-read c.args.text.now _ c.requires.short
     (whole-reading c.args.text.now c.args.self _ c.requires.summary c.requires.from c.requires.to
-    (ap (λ (s : Stretch). s.between) (sym c.self.view_is) ∙ ap (option_map between) (c.in-Some.is ∙ ap Some (sym c.in-Some.inner-is)))))
+    (ap (λ (s : Stretch). s.between) (sym c.self.view_is)
+    ∙ ap (option_map between) (c.in-Some.is ∙ ap Some (sym c.in-Some.inner-is)))))
 
 pub returns-clause-fault : goal.returns-clause-fault
-returns-clause-fault g c = c.fault_of.ensures ∙ sym (lexical_fault-read c.args.text.now _ c.requires.short
+returns-clause-fault g c =
+    c.fault_of.ensures ∙ sym (lexical_fault-read c.args.text.now _ c.requires.short
     (whole-reading c.args.text.now c.args.self _ c.requires.summary c.requires.from c.requires.to
-    (ap (λ (s : Stretch). s.between) (sym c.self.view_is) ∙ ap (option_map between) (c.in-Some.is ∙ ap Some (sym c.in-Some.inner-is)))))
+    (ap (λ (s : Stretch). s.between) (sym c.self.view_is)
+    ∙ ap (option_map between) (c.in-Some.is ∙ ap Some (sym c.in-Some.inner-is)))))

@@ -8,9 +8,15 @@ use Rattle.mm_lex.proofs.rows.Row.read_all.Goals.{then-is_open, else-is_open}
 pub returns : goal.returns
 returns g c text ws readings p =
     let none = none_from _ (sym c.is_some.ensures ∙ c.if-is_some.false) in
-    let items = c.in_ok-extend_from_slice.ensures.items ∙ ap (λ (ts : List Word). c.args.self.now.tokens.items ++ ts) c.deref.ensures.value in
+    let items =
+    c.in_ok-extend_from_slice.ensures.items
+    ∙ ap (λ (ts : List Word). c.args.self.now.tokens.items ++ ts) c.deref.ensures.value in
     rw c.after-self.ensures
     (elim c.if-is_open.branch [
-      | then-is_open w ↦ go_on-inside text ws p (side c.args.self.now) (side c.if-is_open.next.now) _ (λ q. rw w.next-is (readings.within q)) none (sym (c.is_open.ensures p) ∙ w.if-is_open.true) items
-      | else-is_open w ↦ go_on-outside text ws p (side c.args.self.now) (side c.if-is_open.next.now) _ (λ q. rw w.next-is (readings.out q)) none (sym (c.is_open.ensures p) ∙ w.if-is_open.false) items
+      | then-is_open w ↦ go_on-inside text ws p (side c.args.self.now)
+          (side c.if-is_open.next.now) _ (λ q. rw w.next-is (readings.within q)) none
+          (sym (c.is_open.ensures p) ∙ w.if-is_open.true) items
+      | else-is_open w ↦ go_on-outside text ws p (side c.args.self.now)
+          (side c.if-is_open.next.now) _ (λ q. rw w.next-is (readings.out q)) none
+          (sym (c.is_open.ensures p) ∙ w.if-is_open.false) items
     ])

@@ -10,4 +10,6 @@ returns-clause-reads g c = λ byte k.
     let begun = c.begun-begun.ensures in
     rw (c.in_ok-add_step.ensures, begun)
     (last_reads s.theorem s.labels s.marks s.number s.steps c.args.at byte _ k.0 k.1
-    (λ n e. c.in-Some.ensures.step n (c.with_digit.ensures ∙ ap (λ b. told (20 * b.value + c.args.digit)) begun ∙ ap (λ d. told (20 * (begun_at s.number c.args.at).value + d)) k.2 ∙ e)))
+    (λ n e. c.in-Some.ensures.step n
+    (c.with_digit.ensures ∙ ap (λ b. told (20 * b.value + c.args.digit)) begun
+    ∙ ap (λ d. told (20 * (begun_at s.number c.args.at).value + d)) k.2 ∙ e)))

@@ -1,6 +1,6 @@
 use Rattle.std.proofs.Common.{◌≡◌, List, drop}
 use Rattle.mm_spec.specs.CompressedProof.{Letter, letters_of}
-use Rattle.mm_stmt.specs.Parts.{tokens_of}
+use Rattle.mm_stmt.specs.Parts.{as_tokens}
 use Rattle.mm_proof.specs.Letters.{Continues}
 use Rattle.mm_proof.proofs.LettersLaw.{StandsBefore}
 use Rattle.mm_proof.proofs.letters.Progress.read_all.Given as goal
@@ -9,6 +9,7 @@ abbrev pub invariant-loop-word : goal.invariant-loop-word
 invariant-loop-word g l = record {
   theorem : l.self.theorem ≡ l.fn.self.theorem;
   labels : l.self.labels ≡ l.fn.self.labels;
-  stands : StandsBefore l.self (tokens_of l.text (drop l.word-index l.words)) l.end;
-  reads : (all : List Letter) → Continues l.fn.self all (letters_of (tokens_of l.text l.words)) → Continues l.self all (letters_of (tokens_of l.text (drop l.word-index l.words)));
+  stands : StandsBefore l.self (as_tokens l.text (drop l.word-index l.words)) l.end;
+  reads : (all : List Letter) → Continues l.fn.self all (letters_of (as_tokens l.text l.words))
+      → Continues l.self all (letters_of (as_tokens l.text (drop l.word-index l.words)));
 }

@@ -8,5 +8,8 @@ invariant-loop-at g l = record {
   theorem : l.self.theorem ≡ l.fn.self.theorem;
   labels : l.self.labels ≡ l.fn.self.labels;
   stands : StandsAt l.self l.at;
-  reads : (all left : List Letter) → Continues l.fn.self all (letters_from l.fn.word.start (slice_range l.text l.fn.word.start l.fn.word.end) ++ left) → Continues l.self all (letters_from l.at (slice_range l.text l.at l.fn.word.end) ++ left);
+  reads : (all left : List Letter)
+      → Continues l.fn.self all
+      (letters_from l.fn.word.start (slice_range l.text l.fn.word.start l.fn.word.end) ++ left)
+      → Continues l.self all (letters_from l.at (slice_range l.text l.at l.fn.word.end) ++ left);
 }

@@ -9,4 +9,5 @@ pub invariant_of-result : goal.invariant_of-result
 invariant_of-result g c =
     let db = c.args.database.now.statements in
     let r = c.requires in
-    subst (λ (l : List ℕ). All (λ k. k < length db) l) (sym (c.statements.ensures.statements ∙ r.1)) (selected-below (λ j. list_any (is_column r.0) (statement_at db j)) (length db))
+    subst (λ (l : List ℕ). All (λ k. k < length db) l) (sym (c.statements.ensures.statements ∙ r.1))
+    (selected-below (λ j. list_any (is_column r.0) (statement_at db j)) (length db))

@@ -10,7 +10,11 @@ use Rattle.mm_report.proofs.labels.TheoremLabels.label.Goals as goal
 pub label_of-requires : goal.label_of-requires
 label_of-requires g c =
     let db = c.self.inside.database.now.statements in
-    let all = subst (λ (l : List ℕ). All (λ k. k < length db) l) (sym c.theorems.ensures.theorems) (selected-below (λ j. list_any is_theorem (statement_at db j)) (length db)) in
-    let long = ap length (sym c.self.view_is) ∙ length-map (theorems db) (label_at db) ∙ ap length (sym c.theorems.ensures.theorems) in
+    let all =
+    subst (λ (l : List ℕ). All (λ k. k < length db) l) (sym c.theorems.ensures.theorems)
+    (selected-below (λ j. list_any is_theorem (statement_at db j)) (length db)) in
+    let long =
+    ap length (sym c.self.view_is) ∙ length-map (theorems db) (label_at db)
+    ∙ ap length (sym c.theorems.ensures.theorems) in
     let asked = c.requires in
     all c.args.index 0 (omega (arith, long, asked))

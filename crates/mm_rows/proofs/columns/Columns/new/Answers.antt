@@ -1,12 +1,13 @@
-use Rattle.std.proofs.Common.{◌≡◌, ◌∙◌, ℕ, Bool, ◌+◌, ◌<◌, ◌++◌, ◌∷◌, [], true, false, List, None, length, take, get_or, sym, ap, subst, arith, append-nil}
+use Rattle.std.proofs.Common.{cond, ◌≡◌, ◌∙◌, ℕ, Bool, ◌+◌, ◌<◌, ◌++◌, ◌∷◌, [], true, false, List}
+use Rattle.std.proofs.Common.{None, length, take, get_or, sym, ap, subst, arith, append-nil}
 use Rattle.std.specs.Option.{option_map}
-use Rattle.std.specs.List.{list_any, range_with_len}
+use Rattle.std.specs.List.{list_any, range_with_len, filter}
 use Rattle.std.proofs.lemmas.List.{take_all, take_more}
-use Rattle.mm_spec.specs.Scope.{those, statement_at}
+use Rattle.mm_spec.specs.Scope.{statement_at}
 use Rattle.mm_spec.specs.Output.{columns, has_typecode, is_column}
 use Rattle.mm_cites.specs.Citing.{IsRising}
-use Rattle.mm_cites.proofs.RisingLaw.{those-at, those-rising}
-use Rattle.mm_rows.proofs.ColumnFacts.{those-snoc, columns-are, axiom-asserts}
+use Rattle.mm_cites.proofs.RisingLaw.{filter-at, filter-rising}
+use Rattle.mm_rows.proofs.ColumnFacts.{filter-snoc, columns-are, axiom-asserts}
 use Rattle.mm_rows.proofs.columns.Columns.new.Goals as goal
 use Rattle.mm_rows.proofs.columns.Columns.new.Goals.{then-is_chosen+in_ok-push, else-is_chosen}
 
@@ -16,26 +17,33 @@ is_chosen-requires g c =
     let p = λ (j : ℕ). list_any (is_column None) (statement_at db j) in
     let i = c.loop-statement.statement-index in
     let there : i < length c.axioms-axioms.result.now = omega arith in
-    axiom-asserts db (get_or c.axioms-axioms.result.now i 0) (subst (λ (l : List ℕ). list_any (is_column None) (statement_at db (get_or l i 0)) ≡ true) (sym c.axioms-axioms.ensures.axioms)
-    (those-at p (range_with_len 0 (length db)) i 0 (subst (λ (l : List ℕ). i < length l) c.axioms-axioms.ensures.axioms there)))
+    axiom-asserts db (get_or c.axioms-axioms.result.now i 0)
+    (subst (λ (l : List ℕ). list_any (is_column None) (statement_at db (get_or l i 0)) ≡ true)
+    (sym c.axioms-axioms.ensures.axioms)
+    (filter-at p (range_with_len 0 (length db)) i 0
+    (subst (λ (l : List ℕ). i < length l) c.axioms-axioms.ensures.axioms there)))
 
 pub loop-statement-preserved : goal.loop-statement-preserved
 loop-statement-preserved g c =
     let db = c.args.database.now.statements in
-    let q = λ (j : ℕ). list_any (has_typecode (option_map (λ w. w.now) c.args.only)) (statement_at db j) in
+    let q =
+    λ (j : ℕ). list_any (has_typecode (option_map (λ w. w.now) c.args.only)) (statement_at db j) in
     let xs = c.axioms-axioms.result.now in
     let i = c.loop-statement.statement-index in
     let x = get_or xs i 0 in
-    let more : those q (take (i + 1) xs) ≡ those q (take i xs) ++ elim (q x) [ true ↦ x ∷ [] | false ↦ [] ] = ap (those q) (take_more xs i 0 (omega arith)) ∙ those-snoc q (take i xs) x in
+    let more : filter q (take (i + 1) xs) ≡ filter q (take i xs) ++ cond (q x) (x ∷ []) [] =
+    ap (filter q) (take_more xs i 0 (omega arith)) ∙ filter-snoc q (take i xs) x in
     elim c.if-is_chosen.branch [
       | then-is_chosen+in_ok-push w ↦
           let yes : q x ≡ true = sym c.is_chosen.ensures ∙ w.if-is_chosen.true in
-          ap (λ v. v.items) w.statements-is ∙ w.in_ok-push.ensures.items ∙ ap (λ l. l ++ x ∷ []) c.loop-statement.invariant
-          ∙ sym (more ∙ ap (λ (b : Bool). those q (take i xs) ++ elim b [ true ↦ x ∷ [] | false ↦ [] ]) yes)
+          ap (λ v. v.items) w.statements-is ∙ w.in_ok-push.ensures.items
+          ∙ ap (λ l. l ++ x ∷ []) c.loop-statement.invariant
+          ∙ sym (more ∙ ap (λ (b : Bool). filter q (take i xs) ++ cond b (x ∷ []) []) yes)
       | else-is_chosen w ↦
           let no : q x ≡ false = sym c.is_chosen.ensures ∙ w.if-is_chosen.false in
           ap (λ v. v.items) w.statements-is ∙ c.loop-statement.invariant
-          ∙ sym (more ∙ ap (λ (b : Bool). those q (take i xs) ++ elim b [ true ↦ x ∷ [] | false ↦ [] ]) no ∙ append-nil (those q (take i xs)))
+          ∙ sym (more ∙ ap (λ (b : Bool). filter q (take i xs) ++ cond b (x ∷ []) []) no
+          ∙ append-nil (filter q (take i xs)))
     ]
 
 pub invariant_of-result : goal.invariant_of-result
@@ -44,9 +52,14 @@ invariant_of-result g c =
     let only = option_map (λ w. w.now) c.args.only in
     let q = λ (j : ℕ). list_any (has_typecode only) (statement_at db j) in
     let xs = c.axioms-axioms.result.now in
-    let all : take c.loop-statement.statement-index xs ≡ xs = take_all c.loop-statement.statement-index xs (omega arith) in
-    let same : c.loop-statement.statements.items ≡ columns db only = c.loop-statement.invariant ∙ ap (those q) (all ∙ c.axioms-axioms.ensures.axioms) ∙ columns-are only db in
-    subst IsRising (sym same) (those-rising (λ j. list_any (is_column only) (statement_at db j)) (length db) c.axioms-axioms.ensures.few)
+    let all : take c.loop-statement.statement-index xs ≡ xs =
+    take_all c.loop-statement.statement-index xs (omega arith) in
+    let same : c.loop-statement.statements.items ≡ columns db only =
+    c.loop-statement.invariant ∙ ap (filter q) (all ∙ c.axioms-axioms.ensures.axioms)
+    ∙ columns-are only db in
+    subst IsRising (sym same)
+    (filter-rising (λ j. list_any (is_column only) (statement_at db j))
+    (length db) c.axioms-axioms.ensures.few)
 
 pub returns : goal.returns
 returns g c =
@@ -54,5 +67,7 @@ returns g c =
     let only = option_map (λ w. w.now) c.args.only in
     let q = λ (j : ℕ). list_any (has_typecode only) (statement_at db j) in
     let xs = c.axioms-axioms.result.now in
-    let all : take c.loop-statement.statement-index xs ≡ xs = take_all c.loop-statement.statement-index xs (omega arith) in
-    c.loop-statement.invariant ∙ ap (those q) (all ∙ c.axioms-axioms.ensures.axioms) ∙ columns-are only db
+    let all : take c.loop-statement.statement-index xs ≡ xs =
+    take_all c.loop-statement.statement-index xs (omega arith) in
+    c.loop-statement.invariant ∙ ap (filter q) (all ∙ c.axioms-axioms.ensures.axioms)
+    ∙ columns-are only db

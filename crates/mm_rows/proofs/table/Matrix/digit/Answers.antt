@@ -6,17 +6,33 @@ use Rattle.mm_rows.proofs.DigitFacts.{part_long, row_digit}
 use Rattle.mm_rows.proofs.table.Matrix.digit.Goals as goal
 
 pub part-words-requires : goal.part-words-requires
-part-words-requires g c = row_fits c.args.self.now c.self.inside.rows c.self.inside.columns c.self.inside.bits.items c.self.inside.turned.items (sym c.self.view_is) c.self.invariant.0 c.self.invariant.1 c.args.row c.div_ceil-across.result c.deref.result.now c.requires.row c.div_ceil-across.ensures c.deref.ensures.value
+part-words-requires g c =
+    row_fits c.args.self.now c.self.inside.rows c.self.inside.columns c.self.inside.bits.items
+    c.self.inside.turned.items
+    (sym c.self.view_is) c.self.invariant.0 c.self.invariant.1 c.args.row c.div_ceil-across.result
+    c.deref.result.now c.requires.row c.div_ceil-across.ensures c.deref.ensures.value
 
 pub bounds-words-i : goal.bounds-words-i
 bounds-words-i g c =
-    let is = c.part-words.ensures ∙ ap₂ (λ w xs. row_at xs w c.args.row) c.div_ceil-across.ensures c.deref.ensures.value in
-    let long = part_long c.args.self.now c.self.inside.rows c.self.inside.columns c.self.inside.bits.items (sym c.self.view_is) c.self.invariant.0 c.args.row _ c.requires.row is in
-    let small : 4 * c.args.i < c.self.inside.columns = subst (λ (m : Marks). 4 * c.args.i < m.columns) (sym c.self.view_is) c.requires.column in
+    let is =
+    c.part-words.ensures
+    ∙ ap₂ (λ w xs. row_at xs w c.args.row) c.div_ceil-across.ensures c.deref.ensures.value in
+    let long =
+    part_long c.args.self.now c.self.inside.rows c.self.inside.columns c.self.inside.bits.items
+    (sym c.self.view_is) c.self.invariant.0 c.args.row _ c.requires.row is in
+    let small : 4 * c.args.i < c.self.inside.columns =
+    subst (λ (m : Marks). 4 * c.args.i < m.columns) (sym c.self.view_is) c.requires.column in
     omega (arith, long, small)
 
 pub returns : goal.returns
 returns g c =
-    let is = c.part-words.ensures ∙ ap₂ (λ w xs. row_at xs w c.args.row) c.div_ceil-across.ensures c.deref.ensures.value in
-    let small : 4 * c.args.i < c.self.inside.columns = subst (λ (m : Marks). 4 * c.args.i < m.columns) (sym c.self.view_is) c.requires.column in
-    c.number.ensures ∙ row_digit c.args.self.now c.self.inside.rows c.self.inside.columns c.self.inside.bits.items (sym c.self.view_is) c.self.invariant.0 c.args.row c.args.i _ c.requires.row (omega (arith, small)) is
+    let is =
+    c.part-words.ensures
+    ∙ ap₂ (λ w xs. row_at xs w c.args.row) c.div_ceil-across.ensures c.deref.ensures.value in
+    let small : 4 * c.args.i < c.self.inside.columns =
+    subst (λ (m : Marks). 4 * c.args.i < m.columns) (sym c.self.view_is) c.requires.column in
+    c.number.ensures
+    ∙ row_digit c.args.self.now c.self.inside.rows c.self.inside.columns
+    c.self.inside.bits.items
+    (sym c.self.view_is) c.self.invariant.0 c.args.row c.args.i _ c.requires.row
+    (omega (arith, small)) is

@@ -7,10 +7,15 @@ use Rattle.mm_scope.proofs.NumberedLaw.{map-len}
 use Rattle.mm_scope.proofs.names.Names.looked_up.Goals as goal
 
 pub returns-in-Some-clause-number : goal.returns-in-Some-clause-number
-returns-in-Some-clause-number g c = found-place c.args.word.now (keys c.args.self.now.symbols) c.in-Some.number (sym c.in-Some.ensures.index)
+returns-in-Some-clause-number g c =
+    found-place c.args.word.now (keys c.args.self.now.symbols) c.in-Some.number
+    (sym c.in-Some.ensures.index)
 
 pub returns-in-None-clause-number : goal.returns-in-None-clause-number
 returns-in-None-clause-number g c =
     let w = c.args.word.now in
     let m = c.args.self.now.symbols in
-    c.len.ensures.len ∙ map-len m.entries ∙ missing-place w (names_of m) (sym (keys-in w (keys m)) ∙ sym (is_some-lookup (λ k. bytes_eq w k.now) m.entries) ∙ ap is_some (sym c.in-None.ensures.value))
+    c.len.ensures.len ∙ map-len m.entries
+    ∙ missing-place w (names_of m)
+    (sym (keys-in w (keys m)) ∙ sym (is_some-lookup (λ k. bytes_eq w k.now) m.entries)
+    ∙ ap is_some (sym c.in-None.ensures.value))

@@ -15,7 +15,10 @@ overflow_cast-number g c =
     omega (arith, le, is, few)
 
 pub loop-at-init : goal.loop-at-init
-loop-at-init g c = sym (append-nil _) ∙ ap (λ l. c.args.numbers.now.items ++ l) (numbers-none c.args.text.now c.args.tokens.now (names_of c.args.self.now.symbols) c.args.from)
+loop-at-init g c =
+    sym (append-nil _)
+    ∙ ap (λ l. c.args.numbers.now.items ++ l)
+    (numbers-none c.args.text.now c.args.tokens.now (names_of c.args.self.now.symbols) c.args.from)
 
 pub loop-at-preserved : goal.loop-at-preserved
 loop-at-preserved g c =
@@ -24,5 +27,9 @@ loop-at-preserved g c =
     let ns = names_of c.args.self.now.symbols in
     let at = c.loop-at.at in
     let xs = numbers_in ns (between text ws c.args.from at) in
-    c.in_ok-push.ensures.items ∙ ap₂ (λ x y. x ++ y ∷ []) c.loop-at.invariant (c.new.ensures ∙ c.numbered-number.ensures.number)
-    ∙ append_assoc c.args.numbers.now.items xs (place_of (token_at text ws at).word ns ∷ []) ∙ ap (λ l. c.args.numbers.now.items ++ l) (sym (numbers-more text ws ns c.args.from at (omega arith) (omega arith)))
+    c.in_ok-push.ensures.items
+    ∙ ap₂ (λ x y. x ++ y ∷ []) c.loop-at.invariant
+    (c.new.ensures ∙ c.numbered-number.ensures.number)
+    ∙ append_assoc c.args.numbers.now.items xs (place_of (token_at text ws at).word ns ∷ [])
+    ∙ ap (λ l. c.args.numbers.now.items ++ l)
+    (sym (numbers-more text ws ns c.args.from at (omega arith) (omega arith)))

@@ -5,4 +5,7 @@ use Rattle.mm_scope.specs.Names.{names_of}
 use Rattle.mm_scope.proofs.names.Names.number_all.Given as goal
 
 abbrev pub invariant-loop-at : goal.invariant-loop-at
-invariant-loop-at g l = l.numbers.items ≡ l.initial.numbers.items ++ numbers_in (names_of l.self.symbols) (between l.text l.tokens l.from l.at)
+invariant-loop-at g l =
+    l.numbers.items
+    ≡ l.initial.numbers.items
+    ++ numbers_in (names_of l.self.symbols) (between l.text l.tokens l.from l.at)

@@ -12,7 +12,9 @@ push-requires-clause-few_blocks g c =
     omega (arith, k, m, v)
 
 pub returns-clause-keeps : goal.returns-clause-keeps
-returns-clause-keeps g c = on_both c.add_names.result c.add_names.ensures.symbols c.add_names.ensures.labels (λ symbols labels db keeps law deep.
+returns-clause-keeps g c =
+    on_both c.add_names.result c.add_names.ensures.symbols c.add_names.ensures.labels
+    (λ symbols labels db keeps law deep.
     let text = c.args.text.now in
     let ws = c.args.tokens.now in
     let o = c.args.outline in
@@ -25,6 +27,12 @@ returns-clause-keeps g c = on_both c.add_names.result c.add_names.ensures.symbol
     let size = s.blocks.of.ok.0 in
     let long = c.len-number.ensures in
     let number : c.len-number.result ≡ length s.blocks.of.items = omega (arith, size, long) in
-    let same = ap (λ x. lists x.of.items x.ends.items x.open.items) c.add_names.ensures.blocks ∙ c.in_ok-push.ensures in
-    keeps_after text ws db (find s.names.symbols) (find s.names.labels) b keeps few o.kind o.keyword o.middle o.end law deep (lists c.add_names.new.self.blocks.of.items c.add_names.new.self.blocks.ends.items c.add_names.new.self.blocks.open.items) same c.len-number.result number
-    (find c.add_names.new.self.names.symbols) symbols (find c.add_names.new.self.names.labels) labels)
+    let same =
+    ap (λ x. lists x.of.items x.ends.items x.open.items) c.add_names.ensures.blocks
+    ∙ c.in_ok-push.ensures in
+    keeps_after text ws db (find s.names.symbols)
+    (find s.names.labels) b keeps few o.kind o.keyword o.middle o.end law deep
+    (lists c.add_names.new.self.blocks.of.items c.add_names.new.self.blocks.ends.items
+    c.add_names.new.self.blocks.open.items) same c.len-number.result number
+    (find c.add_names.new.self.names.symbols) symbols
+    (find c.add_names.new.self.names.labels) labels)

@@ -16,12 +16,23 @@ loop-at-preserved g c =
     let i = c.loop-at.invariant in
     record {
       labels = λ w. c.in_ok-set_symbol.ensures.labels w ∙ i.labels w;
-      symbols = declared_step c.args.text.now c.args.tokens.now c.args.from c.loop-at.at later inside c.args.is_variable c.args.number c.declared-symbol.result (find c.args.self.now.names.symbols) (find c.loop-at.self.names.symbols) (find c.set_symbol.new.self.symbols) c.in_ok-set_symbol.ensures.symbols c.declared-symbol.ensures i.symbols;
+      symbols =
+          declared_step c.args.text.now c.args.tokens.now c.args.from c.loop-at.at later inside
+          c.args.is_variable c.args.number c.declared-symbol.result
+          (find c.args.self.now.names.symbols) (find c.loop-at.self.names.symbols)
+          (find c.set_symbol.new.self.symbols) c.in_ok-set_symbol.ensures.symbols
+          c.declared-symbol.ensures i.symbols;
       blocks = i.blocks;
-      names = λ d h. c.in_ok-set_symbol.ensures.names ∙ ap (with_name (token_at c.args.text.now c.args.tokens.now c.loop-at.at).word) (i.names d h) ∙ names-more c.args.text.now c.args.tokens.now c.args.from c.loop-at.at later inside d;
+      names =
+          λ d h. c.in_ok-set_symbol.ensures.names
+          ∙ ap (with_name (token_at c.args.text.now c.args.tokens.now c.loop-at.at).word)
+          (i.names d h)
+          ∙ names-more c.args.text.now c.args.tokens.now c.args.from c.loop-at.at later inside d;
     }
 
 pub returns-clause-names : goal.returns-clause-names
 returns-clause-names g c d h =
     let e : c.loop-at.at ≡ c.args.to = omega arith in
-    c.loop-at.invariant.names d h ∙ ap (λ i. first_occurrences [] (d ++ words (between c.args.text.now c.args.tokens.now c.args.from i))) e
+    c.loop-at.invariant.names d h
+    ∙ ap (λ i. first_occurrences []
+    (d ++ words (between c.args.text.now c.args.tokens.now c.args.from i))) e

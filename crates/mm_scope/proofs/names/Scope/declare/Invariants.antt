@@ -9,7 +9,14 @@ use Rattle.mm_scope.proofs.names.Scope.declare.Given as goal
 abbrev pub invariant-loop-at : goal.invariant-loop-at
 invariant-loop-at g l = record {
   labels : (w : List ℕ) → find l.self.names.labels w ≡ find l.initial.self.names.labels w;
-  symbols : (w : List ℕ) → entry_of (find l.self.names.symbols w) ≡ (if is_in w (words (between l.text l.tokens l.from l.at)) then declared_entry l.is_variable l.number w (entry_of (find l.initial.self.names.symbols w)) else entry_of (find l.initial.self.names.symbols w));
+  symbols : (w : List ℕ)
+      → entry_of (find l.self.names.symbols w)
+      ≡ (if is_in w
+      (words (between l.text l.tokens l.from l.at)) then declared_entry l.is_variable l.number w
+      (entry_of (find l.initial.self.names.symbols w)) else entry_of
+      (find l.initial.self.names.symbols w));
   blocks : l.self.blocks ≡ l.initial.self.blocks;
-  names : (d : List (List ℕ)) → names_of l.initial.self.names.symbols ≡ first_occurrences [] d → names_of l.self.names.symbols ≡ first_occurrences [] (d ++ words (between l.text l.tokens l.from l.at));
+  names : (d : List (List ℕ)) → names_of l.initial.self.names.symbols ≡ first_occurrences [] d
+      → names_of l.self.names.symbols
+      ≡ first_occurrences [] (d ++ words (between l.text l.tokens l.from l.at));
 }

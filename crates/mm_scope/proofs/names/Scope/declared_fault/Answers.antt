@@ -15,6 +15,12 @@ loop-at-preserved g c =
     record {
       seen = c.in_ok-repeated.ensures.seen;
       least = λ n k.
-          c.note-best.ensures ∙ ap (λ o. merge c.loop-at.best (fault_at (token_at c.args.text.now c.args.tokens.now c.loop-at.at).at o)) c.declared_code.ensures
-          ∙ declared_more n (find s.names.symbols) (find s.names.labels) (is_open_in s.blocks.of.items s.blocks.ends.items) k c.args.kind c.args.text.now c.args.tokens.now c.args.from c.loop-at.at later inside c.in_ok-repeated.repeated c.in_ok-repeated.ensures.repeated c.loop-at.best (c.loop-at.invariant.least n k);
+          c.note-best.ensures
+          ∙ ap (λ o. merge c.loop-at.best
+          (fault_at (token_at c.args.text.now c.args.tokens.now c.loop-at.at).at o))
+          c.declared_code.ensures
+          ∙ declared_more n (find s.names.symbols) (find s.names.labels)
+          (is_open_in s.blocks.of.items s.blocks.ends.items) k c.args.kind c.args.text.now
+          c.args.tokens.now c.args.from c.loop-at.at later inside c.in_ok-repeated.repeated
+          c.in_ok-repeated.ensures.repeated c.loop-at.best (c.loop-at.invariant.least n k);
     }

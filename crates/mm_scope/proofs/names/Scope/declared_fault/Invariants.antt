@@ -9,6 +9,10 @@ use Rattle.mm_scope.proofs.names.Scope.declared_fault.Given as goal
 
 abbrev pub invariant-loop-at : goal.invariant-loop-at
 invariant-loop-at g l = record {
-  seen : l.is_short ≡ false → (w : List ℕ) → is_some (find l.seen w) ≡ is_in w (before_next [] (between l.text l.tokens l.from l.at));
-  least : (n : Names) → Knows n (find l.self.names.symbols) (find l.self.names.labels) (is_open_in l.self.blocks.of.items l.self.blocks.ends.items) → l.best ≡ least (at_each (declared_codes n l.kind) [] (between l.text l.tokens l.from l.at));
+  seen : l.is_short ≡ false → (w : List ℕ)
+      → is_some (find l.seen w) ≡ is_in w (before_next [] (between l.text l.tokens l.from l.at));
+  least : (n : Names)
+      → Knows n (find l.self.names.symbols) (find l.self.names.labels)
+      (is_open_in l.self.blocks.of.items l.self.blocks.ends.items)
+      → l.best ≡ least (at_each (declared_codes n l.kind) [] (between l.text l.tokens l.from l.at));
 }

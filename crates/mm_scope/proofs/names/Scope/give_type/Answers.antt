@@ -8,4 +8,6 @@ pub returns-in-Some-clause-names : goal.returns-in-Some-clause-names
 returns-in-Some-clause-names g c =
     let w = (token_at c.args.text.now c.args.tokens.now (c.args.from + 1)).word in
     let m = c.args.self.now.names.symbols in
-    on_then c.set_symbol.result c.set_symbol.ensures.names (λ h. h ∙ with-known w (names_of m) (found-known w m.entries c.symbol.result (sym c.symbol.ensures) (ap is_some c.in-Some.is)))
+    on_then c.set_symbol.result c.set_symbol.ensures.names
+    (λ h. h ∙ with-known w (names_of m)
+    (found-known w m.entries c.symbol.result (sym c.symbol.ensures) (ap is_some c.in-Some.is)))

@@ -1,4 +1,5 @@
-use Rattle.std.proofs.Common.{◌<◌, ◌≤◌, ◌∙◌, ◌++◌, ◌∷◌, [], ap, ap₂, sym, arith, length, append_assoc}
+use Rattle.std.proofs.Common.{◌<◌, ◌≤◌, ◌∙◌, ◌++◌, ◌∷◌, [], ap, ap₂, sym, arith, length}
+use Rattle.std.proofs.Common.{append_assoc}
 use Rattle.mm_spec.specs.Frame.{place_of}
 use Rattle.mm_scope.specs.Formulas.{numbers_in}
 use Rattle.mm_outline.specs.Parts.{token_at, between}
@@ -27,11 +28,22 @@ loop-at-preserved g c =
     let later : c.args.from ≤ c.loop-at.at = omega arith in
     record {
       least = λ n k.
-          c.note-best.ensures ∙ ap (λ o. merge c.loop-at.best (fault_at (token_at text ws c.loop-at.at).at o)) (c.symbol_code.ensures ∙ ap (symbol_code (is_open_in s.blocks.of.items s.blocks.ends.items)) c.numbered-number.ensures.symbol)
-          ∙ symbols_more n (find s.names.symbols) (find s.names.labels) (is_open_in s.blocks.of.items s.blocks.ends.items) k text ws c.args.from c.loop-at.at later inside c.loop-at.best (c.loop-at.invariant.least n k);
+          c.note-best.ensures
+          ∙ ap (λ o. merge c.loop-at.best (fault_at (token_at text ws c.loop-at.at).at o))
+          (c.symbol_code.ensures
+          ∙ ap (symbol_code (is_open_in s.blocks.of.items s.blocks.ends.items))
+          c.numbered-number.ensures.symbol)
+          ∙ symbols_more n (find s.names.symbols) (find s.names.labels)
+          (is_open_in s.blocks.of.items s.blocks.ends.items) k text ws c.args.from c.loop-at.at
+          later inside c.loop-at.best (c.loop-at.invariant.least n k);
       numbered = (
           let ns = names_of s.names.symbols in
           let xs = numbers_in ns (between text ws c.args.from c.loop-at.at) in
-          c.in_ok-push.ensures.items ∙ ap₂ (λ x y. x ++ y ∷ []) c.loop-at.invariant.numbered (c.new.ensures ∙ c.numbered-number.ensures.number)
-          ∙ append_assoc c.args.numbers.now.items xs (place_of (token_at text ws c.loop-at.at).word ns ∷ []) ∙ ap (λ l. c.args.numbers.now.items ++ l) (sym (numbers-more text ws ns c.args.from c.loop-at.at later inside)));
+          c.in_ok-push.ensures.items
+          ∙ ap₂ (λ x y. x ++ y ∷ []) c.loop-at.invariant.numbered
+          (c.new.ensures ∙ c.numbered-number.ensures.number)
+          ∙ append_assoc c.args.numbers.now.items xs
+          (place_of (token_at text ws c.loop-at.at).word ns ∷ [])
+          ∙ ap (λ l. c.args.numbers.now.items ++ l)
+          (sym (numbers-more text ws ns c.args.from c.loop-at.at later inside)));
     }

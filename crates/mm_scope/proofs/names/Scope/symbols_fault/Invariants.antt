@@ -9,6 +9,11 @@ use Rattle.mm_scope.proofs.names.Scope.symbols_fault.Given as goal
 
 abbrev pub invariant-loop-at : goal.invariant-loop-at
 invariant-loop-at g l = record {
-  least : (n : Names) → Knows n (find l.self.names.symbols) (find l.self.names.labels) (is_open_in l.self.blocks.of.items l.self.blocks.ends.items) → l.best ≡ least (at_each (symbol_codes n) [] (between l.text l.tokens l.from l.at));
-  numbered : l.numbers.items ≡ l.initial.numbers.items ++ numbers_in (names_of l.self.names.symbols) (between l.text l.tokens l.from l.at);
+  least : (n : Names)
+      → Knows n (find l.self.names.symbols) (find l.self.names.labels)
+      (is_open_in l.self.blocks.of.items l.self.blocks.ends.items)
+      → l.best ≡ least (at_each (symbol_codes n) [] (between l.text l.tokens l.from l.at));
+  numbered : l.numbers.items
+      ≡ l.initial.numbers.items
+      ++ numbers_in (names_of l.self.names.symbols) (between l.text l.tokens l.from l.at);
 }

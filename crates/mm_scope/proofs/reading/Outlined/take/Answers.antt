@@ -8,7 +8,8 @@ use Rattle.mm_outline.specs.Statements.{statements}
 use Rattle.mm_scope.specs.Formulas.{AreFormulas}
 use Rattle.mm_scope.specs.Names.{find, names_of}
 use Rattle.mm_scope.proofs.KnowsLaw.{knows_is}
-use Rattle.mm_scope.proofs.NumberedLaw.{declared, names-shorter, names-next, taken-numbers, formulas-more}
+use Rattle.mm_scope.proofs.NumberedLaw.{declared, names-shorter, names-next, taken-numbers}
+use Rattle.mm_scope.proofs.NumberedLaw.{formulas-more}
 use Rattle.mm_scope.proofs.reading.Outlined.take.Goals as goal
 
 pub fault-requires-clause-few : goal.fault-requires-clause-few
@@ -29,11 +30,17 @@ returns-then-is_some-clause-fault g c =
     let s = statement_of text ws c.args.outline in
     let k = c.requires.kept in
     let next = c.requires.next in
-    let b = lists c.args.self.now.scope.blocks.of.items c.args.self.now.scope.blocks.ends.items c.args.self.now.scope.blocks.open.items in
+    let b =
+    lists c.args.self.now.scope.blocks.of.items c.args.self.now.scope.blocks.ends.items
+    c.args.self.now.scope.blocks.open.items in
     let few = next.few in
     let few_blocks : length db < never = omega (arith, few) in
-    let fault = c.in_ok-self.ensures.fault (names_before db (length db)) (knows_is db (find c.args.self.now.scope.names.symbols) (find c.args.self.now.scope.names.labels) b k.keeps few_blocks) in
-    fault ∙ ap (λ n. least (scope_faults (names_before db n) c.args.deep s)) (length-map os (statement_of text ws))
+    let fault =
+    c.in_ok-self.ensures.fault (names_before db (length db))
+    (knows_is db (find c.args.self.now.scope.names.symbols)
+    (find c.args.self.now.scope.names.labels) b k.keeps few_blocks) in
+    fault ∙ ap (λ n. least (scope_faults (names_before db n) c.args.deep s))
+    (length-map os (statement_of text ws))
 
 pub overflow_cast-len : goal.overflow_cast-len
 overflow_cast-len g c =
@@ -44,10 +51,20 @@ overflow_cast-len g c =
     let s = statement_of text ws c.args.outline in
     let k = c.requires.kept in
     let next = c.requires.next in
-    let names = names-next db s (names_of c.add.new.self.names.symbols) (c.in_ok-add.ensures.names (declared db) k.names_are) in
-    let more = taken-numbers db s c.args.self.now.formulas.numbers.items c.fault.new.numbers.items c.number_others.new.numbers.items (names_of c.args.self.now.scope.names.symbols) (names_of c.add.new.self.names.symbols) k.names_are names c.in_ok-self.ensures.numbers c.in_ok-number_others.ensures in
-    let at : c.len.result ≡ length c.number_others.new.numbers.items = c.len.ensures ∙ c.number_others.new.numbers.ok.0 in
-    let formulas = formulas-more db next.lawful s c.args.self.now.formulas.numbers.items c.args.self.now.formulas.places.items k.formulas c.number_others.new.numbers.items more c.len.result at in
+    let names =
+    names-next db s (names_of c.add.new.self.names.symbols)
+    (c.in_ok-add.ensures.names (declared db) k.names_are) in
+    let more =
+    taken-numbers db s c.args.self.now.formulas.numbers.items c.fault.new.numbers.items
+    c.number_others.new.numbers.items (names_of c.args.self.now.scope.names.symbols)
+    (names_of c.add.new.self.names.symbols) k.names_are names c.in_ok-self.ensures.numbers
+    c.in_ok-number_others.ensures in
+    let at : c.len.result ≡ length c.number_others.new.numbers.items =
+    c.len.ensures ∙ c.number_others.new.numbers.ok.0 in
+    let formulas =
+    formulas-more db next.lawful s c.args.self.now.formulas.numbers.items
+    c.args.self.now.formulas.places.items k.formulas c.number_others.new.numbers.items more
+    c.len.result at in
     let small = next.few_numbers in
     let long = ap length formulas.numbers_are in
     omega (arith, at, small, long)
@@ -61,11 +78,17 @@ returns-clause-fault g c =
     let s = statement_of text ws c.args.outline in
     let k = c.requires.kept in
     let next = c.requires.next in
-    let b = lists c.args.self.now.scope.blocks.of.items c.args.self.now.scope.blocks.ends.items c.args.self.now.scope.blocks.open.items in
+    let b =
+    lists c.args.self.now.scope.blocks.of.items c.args.self.now.scope.blocks.ends.items
+    c.args.self.now.scope.blocks.open.items in
     let few = next.few in
     let few_blocks : length db < never = omega (arith, few) in
-    let fault = c.in_ok-self.ensures.fault (names_before db (length db)) (knows_is db (find c.args.self.now.scope.names.symbols) (find c.args.self.now.scope.names.labels) b k.keeps few_blocks) in
-    fault ∙ ap (λ n. least (scope_faults (names_before db n) c.args.deep s)) (length-map os (statement_of text ws))
+    let fault =
+    c.in_ok-self.ensures.fault (names_before db (length db))
+    (knows_is db (find c.args.self.now.scope.names.symbols)
+    (find c.args.self.now.scope.names.labels) b k.keeps few_blocks) in
+    fault ∙ ap (λ n. least (scope_faults (names_before db n) c.args.deep s))
+    (length-map os (statement_of text ws))
 
 pub returns-clause-taken : goal.returns-clause-taken
 returns-clause-taken g c none =
@@ -76,18 +99,38 @@ returns-clause-taken g c none =
     let s = statement_of text ws c.args.outline in
     let k = c.requires.kept in
     let next = c.requires.next in
-    let b = lists c.args.self.now.scope.blocks.of.items c.args.self.now.scope.blocks.ends.items c.args.self.now.scope.blocks.open.items in
+    let b =
+    lists c.args.self.now.scope.blocks.of.items c.args.self.now.scope.blocks.ends.items
+    c.args.self.now.scope.blocks.open.items in
     let few = next.few in
     let few_blocks : length db < never = omega (arith, few) in
-    let fault = c.in_ok-self.ensures.fault (names_before db (length db)) (knows_is db (find c.args.self.now.scope.names.symbols) (find c.args.self.now.scope.names.labels) b k.keeps few_blocks) in
-    let names = names-next db s (names_of c.add.new.self.names.symbols) (c.in_ok-add.ensures.names (declared db) k.names_are) in
-    let more = taken-numbers db s c.args.self.now.formulas.numbers.items c.fault.new.numbers.items c.number_others.new.numbers.items (names_of c.args.self.now.scope.names.symbols) (names_of c.add.new.self.names.symbols) k.names_are names c.in_ok-self.ensures.numbers c.in_ok-number_others.ensures in
-    let at : c.len.result ≡ length c.number_others.new.numbers.items = c.len.ensures ∙ c.number_others.new.numbers.ok.0 in
-    let formulas = formulas-more db next.lawful s c.args.self.now.formulas.numbers.items c.args.self.now.formulas.places.items k.formulas c.number_others.new.numbers.items more c.len.result at in (
+    let fault =
+    c.in_ok-self.ensures.fault (names_before db (length db))
+    (knows_is db (find c.args.self.now.scope.names.symbols)
+    (find c.args.self.now.scope.names.labels) b k.keeps few_blocks) in
+    let names =
+    names-next db s (names_of c.add.new.self.names.symbols)
+    (c.in_ok-add.ensures.names (declared db) k.names_are) in
+    let more =
+    taken-numbers db s c.args.self.now.formulas.numbers.items c.fault.new.numbers.items
+    c.number_others.new.numbers.items (names_of c.args.self.now.scope.names.symbols)
+    (names_of c.add.new.self.names.symbols) k.names_are names c.in_ok-self.ensures.numbers
+    c.in_ok-number_others.ensures in
+    let at : c.len.result ≡ length c.number_others.new.numbers.items =
+    c.len.ensures ∙ c.number_others.new.numbers.ok.0 in
+    let formulas =
+    formulas-more db next.lawful s c.args.self.now.formulas.numbers.items
+    c.args.self.now.formulas.places.items k.formulas c.number_others.new.numbers.items more
+    c.len.result at in (
       c.in_ok-push-2.ensures.items,
       record {
-        keeps = c.in_ok-add.ensures.keeps db k.keeps (ap (λ d. least (scope_faults (names_before db (length db)) d s)) (sym next.depth_is) ∙ sym fault ∙ none) next.inside;
+        keeps =
+            c.in_ok-add.ensures.keeps db k.keeps
+            (ap (λ d. least (scope_faults (names_before db (length db)) d s)) (sym next.depth_is)
+            ∙ sym fault ∙ none) next.inside;
         names_are = names;
-        formulas = subst (λ (ps : List ℕ). AreFormulas (db ++ s ∷ []) c.number_others.new.numbers.items ps) (sym c.in_ok-push.ensures.items) formulas;
+        formulas =
+            subst (λ (ps : List ℕ). AreFormulas (db ++ s ∷ []) c.number_others.new.numbers.items ps)
+            (sym c.in_ok-push.ensures.items) formulas;
       },
     )

@@ -3,7 +3,7 @@ use Rattle.std.proofs.lemmas.Bool.{ne_eqb}
 use Rattle.std.specs.List.{list_any}
 use Rattle.mm_spec.specs.Lexed.{tokens_of as words_of}
 use Rattle.mm_spec.specs.Derivation.{is_member}
-use Rattle.mm_spec.specs.Frame.{disjoint_at, is_disjoint, active_of, formula_at}
+use Rattle.mm_spec.specs.Frame.{disjoint_at, is_disjoint_statement, active_of, formula_at}
 use Rattle.mm_outline.specs.Blocks.{lists}
 use Rattle.mm_outline.specs.Statements.{statements}
 use Rattle.mm_stmt.specs.Database.{held, Known}
@@ -19,8 +19,17 @@ returns-then-number g c =
     let k = c.args.statement in
     let x = c.args.x in
     let y = c.args.y in
-    let within : k ≤ length db = subst (λ (n : Known). k ≤ length n.statements) (sym c.self.view_is) c.requires in
-    let apart : nat_eq x y ≡ false = ne_eqb x y (λ e. c.if-number.true (c.number.ensures ∙ e ∙ sym c.number-2.ensures)) in
+    let within : k ≤ length db =
+    subst (λ (n : Known). k ≤ length n.statements) (sym c.self.view_is) c.requires in
+    let apart : nat_eq x y ≡ false =
+    ne_eqb x y (λ e. c.if-number.true (c.number.ensures ∙ e ∙ sym c.number-2.ensures)) in
     subst (λ (n : Known). c.are_together.result ≡ disjoint_at n.statements k x y) c.self.view_is
-    (together_is db b (blocks_held f.with_open (statements f.text.now (words_of f.text.now) f.outlines.items) b c.self.invariant.blocks) k within f.members.pairs.items c.self.invariant.members_are.are c.are_together.result x y c.are_together.ensures.found c.are_together.ensures.none
-    ∙ sym (ap (λ t. not t && list_any (λ j. is_member (formula_at db j) x && is_member (formula_at db j) y) (active_of is_disjoint db k)) apart))
+    (together_is db b
+    (blocks_held f.with_open
+    (statements f.text.now (words_of f.text.now) f.outlines.items) b c.self.invariant.blocks) k
+    within f.members.pairs.items c.self.invariant.members_are.are c.are_together.result x y
+    c.are_together.ensures.found c.are_together.ensures.none
+    ∙ sym (ap
+    (λ t. not t
+    && list_any (λ j. is_member (formula_at db j) x && is_member (formula_at db j) y)
+    (active_of is_disjoint_statement db k)) apart))

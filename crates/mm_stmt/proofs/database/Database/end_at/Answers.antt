@@ -1,11 +1,13 @@
-use Rattle.std.proofs.Common.{◌≡◌, ◌∙◌, ◌<◌, ◌-◌, length, get_or, Some, sym, ap, subst, slice_get, arith}
+use Rattle.std.proofs.Common.{◌≡◌, ◌∙◌, ◌<◌, ◌-◌, length, get_or, Some, sym, ap, subst, slice_get}
+use Rattle.std.proofs.Common.{arith}
 use Rattle.std.specs.Option.{option_map}
 use Rattle.mm_spec.specs.Lexed.{tokens_of as words_of}
 use Rattle.mm_outline.specs.Parts.{outline}
 use Rattle.mm_outline.specs.declared.parts.Kind.TheVariants.{Constants}
 use Rattle.mm_stmt.specs.Database.{Known, last_place}
 use Rattle.mm_stmt.proofs.DatabaseLaw.{has_outline, last_is}
-use Rattle.mm_stmt.proofs.KeptLaw.{kept_inside, kept_order, kept_within, kept_at, kept_some, kept_last}
+use Rattle.mm_stmt.proofs.KeptLaw.{kept_inside, kept_order, kept_within, kept_at, kept_some}
+use Rattle.mm_stmt.proofs.KeptLaw.{kept_last}
 use Rattle.mm_stmt.proofs.database.Database.end_at.Goals as goal
 
 pub of-kept-requires : goal.of-kept-requires
@@ -14,12 +16,17 @@ of-kept-requires g c =
     let ws = words_of f.text.now in
     let os = f.outlines.items in
     let k = c.args.statement in
-    let there : k < length os = has_outline f.text.now ws os f.with_open f.fault _ c.self.view_is k c.requires in
+    let there : k < length os =
+    has_outline f.text.now ws os f.with_open f.fault _ c.self.view_is k c.requires in
     let kept = c.self.invariant.kept_are in
     record {
-      inside = (let n = kept_inside ws os f.kept.words.items f.kept.starts.items kept k there in let m = f.kept.starts.ok.0 in omega (arith, n, m));
+      inside =
+          (let n = kept_inside ws os f.kept.words.items f.kept.starts.items kept k there in
+          let m = f.kept.starts.ok.0 in omega (arith, n, m));
       order = kept_order ws os f.kept.words.items f.kept.starts.items kept k there;
-      within = (let n = kept_within ws os f.kept.words.items f.kept.starts.items kept k there in let m = f.kept.words.ok.0 in omega (arith, n, m));
+      within =
+          (let n = kept_within ws os f.kept.words.items f.kept.starts.items kept k there in
+          let m = f.kept.words.ok.0 in omega (arith, n, m));
     }
 
 pub overflow_sub-result : goal.overflow_sub-result
@@ -28,8 +35,12 @@ overflow_sub-result g c =
     let ws = words_of f.text.now in
     let os = f.outlines.items in
     let k = c.args.statement in
-    let there : k < length os = has_outline f.text.now ws os f.with_open f.fault _ c.self.view_is k c.requires in
-    let kept = c.of-kept.ensures ∙ kept_at ws os f.kept.words.items f.kept.starts.items c.self.invariant.kept_are k there (outline Constants 0 0 0) in
+    let there : k < length os =
+    has_outline f.text.now ws os f.with_open f.fault _ c.self.view_is k c.requires in
+    let kept =
+    c.of-kept.ensures
+    ∙ kept_at ws os f.kept.words.items f.kept.starts.items c.self.invariant.kept_are k there
+    (outline Constants 0 0 0) in
     kept_some ws (get_or os k (outline Constants 0 0 0)) c.of-kept.result.now kept
 
 pub returns : goal.returns
@@ -40,11 +51,18 @@ returns g c =
     let os = f.outlines.items in
     let k = c.args.statement in
     let d = outline Constants 0 0 0 in
-    let there : k < length os = has_outline text ws os f.with_open f.fault _ c.self.view_is k c.requires in
-    let kept = c.of-kept.ensures ∙ kept_at ws os f.kept.words.items f.kept.starts.items c.self.invariant.kept_are k there d in
-    let last = kept_last ws (get_or os k d) c.of-kept.result.now kept (record { start = 0; end = 0 }) in
-    subst (λ (n : Known). option_map last_place (slice_get n.statements k) ≡ Some (get_or c.of-kept.result.now (length c.of-kept.result.now - 1) (record { start = 0; end = 0 })).start) c.self.view_is
-    (last_is text ws f.with_open os k d there (c.self.invariant.outlines k d there).0 ∙ ap (λ x. Some x.start) (sym last))
+    let there : k < length os =
+    has_outline text ws os f.with_open f.fault _ c.self.view_is k c.requires in
+    let kept =
+    c.of-kept.ensures
+    ∙ kept_at ws os f.kept.words.items f.kept.starts.items c.self.invariant.kept_are k there d in
+    let last =
+    kept_last ws (get_or os k d) c.of-kept.result.now kept (record { start = 0; end = 0 }) in
+    subst (λ (n : Known). option_map last_place (slice_get n.statements k)
+    ≡ Some (get_or c.of-kept.result.now (length c.of-kept.result.now - 1)
+    (record { start = 0; end = 0 })).start) c.self.view_is
+    (last_is text ws f.with_open os k d there (c.self.invariant.outlines k d there).0
+    ∙ ap (λ x. Some x.start) (sym last))
 
 pub bounds-kept-kept : goal.bounds-kept-kept
 bounds-kept-kept g c =
@@ -52,7 +70,11 @@ bounds-kept-kept g c =
     let ws = words_of f.text.now in
     let os = f.outlines.items in
     let k = c.args.statement in
-    let there : k < length os = has_outline f.text.now ws os f.with_open f.fault _ c.self.view_is k c.requires in
-    let kept = c.of-kept.ensures ∙ kept_at ws os f.kept.words.items f.kept.starts.items c.self.invariant.kept_are k there (outline Constants 0 0 0) in
+    let there : k < length os =
+    has_outline f.text.now ws os f.with_open f.fault _ c.self.view_is k c.requires in
+    let kept =
+    c.of-kept.ensures
+    ∙ kept_at ws os f.kept.words.items f.kept.starts.items c.self.invariant.kept_are k there
+    (outline Constants 0 0 0) in
     let some = kept_some ws (get_or os k (outline Constants 0 0 0)) c.of-kept.result.now kept in
     omega (arith, some)

@@ -1,4 +1,5 @@
-use Rattle.std.proofs.Common.{◌≡◌, ◌∙◌, ℕ, ◌+◌, ◌-◌, ◌<◌, List, length, get_or, take, drop, All, sym, ap, ap₂, subst, arith}
+use Rattle.std.proofs.Common.{◌≡◌, ◌∙◌, ℕ, ◌+◌, ◌-◌, ◌<◌, List, length, get_or, take, drop, All}
+use Rattle.std.proofs.Common.{sym, ap, ap₂, subst, arith}
 use Rattle.std.proofs.lemmas.Grind.{get_or_default_zero}
 use Rattle.mm_spec.specs.Lexed.{tokens_of as words_of}
 use Rattle.mm_spec.specs.Frame.{symbol_names, formula_at}
@@ -20,13 +21,22 @@ returns-clause-known g c =
     let a = c.index.result.now in
     let b = c.index-2.result.now in
     let n = c.self.invariant.numbered in
-    let there : k < length f.outlines.items = has_outline f.text.now (words_of f.text.now) f.outlines.items f.with_open f.fault _ c.self.view_is k c.requires in
-    let count : length db ≡ length f.outlines.items = counted_length f.with_open (statements f.text.now (words_of f.text.now) f.outlines.items) ∙ length-map f.outlines.items (statement_of f.text.now (words_of f.text.now)) in
+    let there : k < length f.outlines.items =
+    has_outline f.text.now
+    (words_of f.text.now) f.outlines.items f.with_open f.fault _ c.self.view_is k c.requires in
+    let count : length db ≡ length f.outlines.items =
+    counted_length f.with_open (statements f.text.now (words_of f.text.now) f.outlines.items)
+    ∙ length-map f.outlines.items (statement_of f.text.now (words_of f.text.now)) in
     let inside : k < length db = omega (arith, there, count) in
     let m = n.count in
-    let first : get_or ps k 0 ≡ a = sym (c.index.ensures ∙ get_or_default_zero ps k a (omega (arith, m, inside))) in
-    let second : get_or ps (k + 1) 0 ≡ b = sym (c.index-2.ensures ∙ get_or_default_zero ps (k + 1) b (omega (arith, m, inside))) in
+    let first : get_or ps k 0 ≡ a =
+    sym (c.index.ensures ∙ get_or_default_zero ps k a (omega (arith, m, inside))) in
+    let second : get_or ps (k + 1) 0 ≡ b =
+    sym (c.index-2.ensures ∙ get_or_default_zero ps (k + 1) b (omega (arith, m, inside))) in
     let same : take (b - a) (drop a c.deref.result.now) ≡ formula_at db k =
-    ap (λ l. take (b - a) (drop a l)) c.deref.ensures.value ∙ ap₂ (λ i j. take (j - i) (drop i xs)) (sym first) (sym second) ∙ n.formula k inside in
-    subst (λ (v : Known). All (λ s. s < length (symbol_names v.statements)) (take (b - a) (drop a c.deref.result.now))) c.self.view_is
-    (subst (λ (l : List ℕ). All (λ s. s < length (symbol_names db)) l) (sym same) (c.self.invariant.below k there))
+    ap (λ l. take (b - a) (drop a l)) c.deref.ensures.value
+    ∙ ap₂ (λ i j. take (j - i) (drop i xs)) (sym first) (sym second) ∙ n.formula k inside in
+    subst (λ (v : Known). All (λ s. s < length (symbol_names v.statements))
+    (take (b - a) (drop a c.deref.result.now))) c.self.view_is
+    (subst (λ (l : List ℕ). All (λ s. s < length (symbol_names db)) l) (sym same)
+    (c.self.invariant.below k there))

@@ -1,4 +1,5 @@
-use Rattle.std.proofs.Common.{◌≡◌, ◌∙◌, ◌<◌, [], length, map, get_or, slice_index, true, sym, ap, subst, arith}
+use Rattle.std.proofs.Common.{◌≡◌, ◌∙◌, ◌<◌, [], length, map, get_or, slice_index, true, sym, ap}
+use Rattle.std.proofs.Common.{subst, arith}
 use Rattle.std.proofs.lemmas.List.{length-map, get_or_default}
 use Rattle.std.specs.List.{list_any}
 use Rattle.mm_spec.specs.Lexed.{tokens_of as words_of}
@@ -19,16 +20,28 @@ returns g c =
     let ps = f.frames.places.items in
     let frames = c.self.invariant.frames in
     let x = c.index.result.now in
-    let is = subst (λ (n : Known). list_any is_assertion (statement_at n.statements k) ≡ true) (sym c.self.view_is) c.requires in
+    let is =
+    subst (λ (n : Known). list_any is_assertion (statement_at n.statements k) ≡ true)
+    (sym c.self.view_is) c.requires in
     let there : k < length db = is_there is_assertion db k is in
     let count = frames.count in
-    let place : c.index-place.result.now ≡ slice_index ps k = c.index-place.ensures ∙ get_or_default ps k c.index-place.result.now 0 (omega (arith, there, count)) in
-    let within : slice_index ps k < length fs = subst (λ n. slice_index ps k < n) (length-map fs (λ y. y.hyps.items)) (frames.there k there is) in
+    let place : c.index-place.result.now ≡ slice_index ps k =
+    c.index-place.ensures
+    ∙ get_or_default ps k c.index-place.result.now 0 (omega (arith, there, count)) in
+    let within : slice_index ps k < length fs =
+    subst (λ n. slice_index ps k < n) (length-map fs (λ y. y.hyps.items))
+    (frames.there k there is) in
     let at : x ≡ get_or fs (slice_index ps k) x = c.index.ensures ∙ ap (λ i. get_or fs i x) place in
     let hyps = get_mapped (λ y. y.hyps.items) fs (slice_index ps k) x [] within in
-    let pairs = get_mapped (λ y. map (λ p. pair p.0 p.1) y.pairs.items) fs (slice_index ps k) x [] within in
+    let pairs =
+    get_mapped (λ y. map (λ p. pair p.0 p.1) y.pairs.items) fs (slice_index ps k) x [] within in
     let frame = frames.each k there in
     record {
-      hypotheses = subst (λ (n : Known). x.hyps.items ≡ mandatory_hypotheses n.statements k) c.self.view_is (ap (λ y. y.hyps.items) at ∙ sym hyps ∙ frame.hypotheses is);
-      pairs = subst (λ (n : Known). map (λ p. pair p.0 p.1) x.pairs.items ≡ mandatory_pairs n.statements k) c.self.view_is (ap (λ y. map (λ p. pair p.0 p.1) y.pairs.items) at ∙ sym pairs ∙ frame.disjoint is);
+      hypotheses =
+          subst (λ (n : Known). x.hyps.items ≡ mandatory_hypotheses n.statements k) c.self.view_is
+          (ap (λ y. y.hyps.items) at ∙ sym hyps ∙ frame.hypotheses is);
+      pairs =
+          subst (λ (n : Known). map (λ p. pair p.0 p.1) x.pairs.items
+          ≡ mandatory_pairs n.statements k) c.self.view_is
+          (ap (λ y. map (λ p. pair p.0 p.1) y.pairs.items) at ∙ sym pairs ∙ frame.disjoint is);
     }

@@ -1,6 +1,6 @@
 use Rattle.std.proofs.Common.{length, subst}
 use Rattle.mm_spec.specs.Lexed.{tokens_of as words_of}
-use Rattle.mm_spec.specs.Complete.{AreComplete}
+use Rattle.mm_spec.specs.Laws.Complete.{AreComplete}
 use Rattle.mm_spec.specs.Output.{lexed_of}
 use Rattle.mm_spec.proofs.CompleteLaw.{reads_complete}
 use Rattle.mm_spec.proofs.OpenedLemmas.{counted_complete}
@@ -12,4 +12,6 @@ pub returns-clause-complete : goal.returns-clause-complete
 returns-clause-complete g c =
     let f = c.self.inside in
     let db = statements f.text.now (words_of f.text.now) f.outlines.items in
-    subst (λ (n : Known). AreComplete n.statements) c.self.view_is (counted_complete f.with_open db (reads_complete (length f.text.now) (lexed_of f.text.now) db f.fault c.self.invariant.read))
+    subst (λ (n : Known). AreComplete n.statements) c.self.view_is
+    (counted_complete f.with_open db
+    (reads_complete (length f.text.now) (lexed_of f.text.now) db f.fault c.self.invariant.read))

@@ -8,5 +8,8 @@ use Rattle.mm_stmt.proofs.database.Database.name.Goals as goal
 pub returns : goal.returns
 returns g c =
     let m = c.self.inside.symbols in
-    ap (λ n. slice_get n c.args.symbol) (sym (c.self.invariant.symbols.names_are ∙ ap (λ (v : Known). symbol_names v.statements) c.self.view_is))
-    ∙ ap (slice_get (names_of m)) (sym c.number.ensures) ∙ got-name m.entries c.number.result c.in-Some.name.now _ (sym c.in-Some.ensures.entry)
+    ap (λ n. slice_get n c.args.symbol)
+    (sym (c.self.invariant.symbols.names_are
+    ∙ ap (λ (v : Known). symbol_names v.statements) c.self.view_is))
+    ∙ ap (slice_get (names_of m)) (sym c.number.ensures)
+    ∙ got-name m.entries c.number.result c.in-Some.name.now _ (sym c.in-Some.ensures.entry)

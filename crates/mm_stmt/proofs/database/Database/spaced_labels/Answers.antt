@@ -9,8 +9,13 @@ use Rattle.mm_stmt.proofs.database.Database.spaced_labels.Goals as goal
 pub slice_bounds-result-count : goal.slice_bounds-result-count
 slice_bounds-result-count g c =
     let f = c.self.inside in
-    let within = subst (λ (n : Known). c.args.to ≤ length (theorems n.statements)) (sym c.self.view_is) c.requires.within in
-    (theorems_between (held f.text.now (words_of f.text.now) f.outlines.items f.with_open) f.spaced.bytes.items f.spaced.starts.items c.self.invariant.spaced c.args.from c.args.to _ _ c.requires.order within c.index-begin.ensures c.index-end.ensures).order
+    let within =
+    subst (λ (n : Known). c.args.to ≤ length (theorems n.statements))
+    (sym c.self.view_is) c.requires.within in
+    (theorems_between
+    (held f.text.now (words_of f.text.now) f.outlines.items f.with_open) f.spaced.bytes.items
+    f.spaced.starts.items c.self.invariant.spaced c.args.from c.args.to _ _ c.requires.order
+    within c.index-begin.ensures c.index-end.ensures).order
 
 pub slice_bounds-result-start : goal.slice_bounds-result-start
 slice_bounds-result-start g c = slice_bounds-result-count g c
@@ -18,14 +23,30 @@ slice_bounds-result-start g c = slice_bounds-result-count g c
 pub slice_bounds-result-end : goal.slice_bounds-result-end
 slice_bounds-result-end g c =
     let f = c.self.inside in
-    let within = subst (λ (n : Known). c.args.to ≤ length (theorems n.statements)) (sym c.self.view_is) c.requires.within in
-    let are = theorems_between (held f.text.now (words_of f.text.now) f.outlines.items f.with_open) f.spaced.bytes.items f.spaced.starts.items c.self.invariant.spaced c.args.from c.args.to _ _ c.requires.order within c.index-begin.ensures c.index-end.ensures in
+    let within =
+    subst (λ (n : Known). c.args.to ≤ length (theorems n.statements))
+    (sym c.self.view_is) c.requires.within in
+    let are =
+    theorems_between
+    (held f.text.now (words_of f.text.now) f.outlines.items f.with_open) f.spaced.bytes.items
+    f.spaced.starts.items c.self.invariant.spaced c.args.from c.args.to _ _ c.requires.order within
+    c.index-begin.ensures c.index-end.ensures in
     subst (λ l. c.index-end.result.now ≤ length l) (sym c.deref.ensures.value) are.within
 
 pub returns : goal.returns
 returns g c =
     let f = c.self.inside in
-    let within = subst (λ (n : Known). c.args.to ≤ length (theorems n.statements)) (sym c.self.view_is) c.requires.within in
-    let are = theorems_between (held f.text.now (words_of f.text.now) f.outlines.items f.with_open) f.spaced.bytes.items f.spaced.starts.items c.self.invariant.spaced c.args.from c.args.to _ _ c.requires.order within c.index-begin.ensures c.index-end.ensures in
-    subst (λ (n : Known). slice_range c.deref.result.now c.index-begin.result.now c.index-end.result.now ≡ flat_map (λ k. 32 ∷ label_at n.statements k) (slice_range (theorems n.statements) c.args.from c.args.to)) c.self.view_is
-    (ap (λ l. slice_range l c.index-begin.result.now c.index-end.result.now) c.deref.ensures.value ∙ are.labels)
+    let within =
+    subst (λ (n : Known). c.args.to ≤ length (theorems n.statements))
+    (sym c.self.view_is) c.requires.within in
+    let are =
+    theorems_between
+    (held f.text.now (words_of f.text.now) f.outlines.items f.with_open) f.spaced.bytes.items
+    f.spaced.starts.items c.self.invariant.spaced c.args.from c.args.to _ _ c.requires.order within
+    c.index-begin.ensures c.index-end.ensures in
+    subst (λ
+    (n : Known). slice_range c.deref.result.now c.index-begin.result.now c.index-end.result.now
+    ≡ flat_map (λ k. 32 ∷ label_at n.statements k)
+    (slice_range (theorems n.statements) c.args.from c.args.to)) c.self.view_is
+    (ap (λ l. slice_range l c.index-begin.result.now c.index-end.result.now) c.deref.ensures.value
+    ∙ are.labels)

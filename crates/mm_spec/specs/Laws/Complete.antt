@@ -1,11 +1,13 @@
--- A frame is complete if each of its variables has a `$f` among its hypotheses (this project's own, for a law).
-use Rattle.std.specs.Prelude.{ℕ, Bool, false, ◌&&◌, not, List, [], ◌∷◌, Option, Some, None, ◌==◌, IsTrue}
+-- A frame is complete if each of its variables has a `$f` among its hypotheses (this project's own,
+-- for a law).
+use Rattle.std.specs.Prelude.{ℕ, Bool, false, ◌&&◌, not, List, [], ◌∷◌, Option, Some, None, ◌==◌}
+use Rattle.std.specs.Prelude.{IsTrue}
 use Rattle.std.specs.List.{list_any, AllByRecursion}
 use Rattle.mm_spec.specs.Text.{Fault}
 use Rattle.mm_spec.specs.Statement.{Statement}
 use Rattle.mm_spec.specs.Derivation.{Formula, Frame, Context, Rule, hypothesis, assertion}
 use Rattle.mm_spec.specs.Citation.{context_at}
-use Rattle.mm_spec.specs.Output.{Lexed, IsRead}
+use Rattle.mm_spec.specs.Output.{LexedText, IsRead}
 
 module _ (c : Context) where
   abbrev pub binds : ℕ → Formula → Bool
@@ -25,7 +27,8 @@ module _ (c : Context) where
   pub record IsComplete (a : Frame) : Type 0 where
     pub hypotheses : AllByRecursion (AreBound a.hypotheses) a.hypotheses
     pub formula : AreBound a.hypotheses a.formula
-    pub pairs : AllByRecursion (λ p. IsBound a.hypotheses p.low × IsBound a.hypotheses p.high) a.pairs
+    pub pairs : AllByRecursion
+        (λ p. IsBound a.hypotheses p.low × IsBound a.hypotheses p.high) a.pairs
 
   abbrev pub IsFine : Option Rule → Type 0
   IsFine None = Unit {0}
@@ -36,6 +39,8 @@ module _ (c : Context) where
 abbrev pub AreComplete : List Statement → Type 0
 AreComplete db = (k l : ℕ) → IsFine (context_at db k) ((context_at db k).rule l)
 
--- The frames of all that is read are complete: a lawful `$e`, `$a` or `$p` has an active `$f` for each of its variables.
-abbrev pub ReadsComplete : ℕ → Lexed → Type 0
-ReadsComplete len x = (db : List Statement) (fault : Option Fault) → IsRead len x db fault → AreComplete db
+-- The frames of all that is read are complete: a lawful `$e`, `$a` or `$p` has an active `$f` for
+-- each of its variables.
+abbrev pub ReadsComplete : ℕ → LexedText → Type 0
+ReadsComplete len x =
+    (db : List Statement) (fault : Option Fault) → IsRead len x db fault → AreComplete db

@@ -1,0 +1,43 @@
+-- How a run ends: what was read and written, by what it answers.
+use Rattle.std.specs.Prelude.{◌≡◌, ℕ, ◌+◌, Bool, List, length, take, Option, ◌⊎◌}
+use Rattle.std.specs.Io.KnownBytes.{Consumes, Appends, Keeps, IsAtEnd}
+use Rattle.mm_spec.specs.Limits.{text_limit}
+use Rattle.mm_spec.specs.Report.{refusal}
+use Rattle.mm_spec.specs.Request.{Request}
+use Rattle.mm_spec.specs.Statement.{Statement}
+use Rattle.mm_spec.specs.Output.{lexed_of, IsOutput, FirstFault, HasNoFault}
+use Rattle.mm_spec.specs.declared.RunEnd.{RunEnd}
+use Rattle.mm_spec.specs.declared.RunEnd.TheVariants.{Accepted, Refused, ReadFailed, WriteFailed}
+use Rattle.mm_spec.specs.declared.RunEnd.TheVariants.{NoMemory}
+
+-- the most bytes that are read: one more than a text may have
+abbrev pub reading_limit : ℕ
+reading_limit = text_limit + 1
+
+-- the reader gave this text, up to its end or up to the limit
+abbrev pub Gave : Option (List ℕ) → Option (List ℕ) → List ℕ → Type 0
+Gave before after text =
+    Consumes before after text × (IsAtEnd after ⊎ (length text ≡ reading_limit))
+
+-- What is written for a text. It has no fault where it is accepted, and its output is written; else
+-- the first fault is the one that is answered, and its refusal is written. Where a write failed, a
+-- beginning of the output is written. Of a text that was read, none answers that reading failed.
+abbrev pub Answers : RunEnd → List ℕ → Request → (held holds : Option (List ℕ)) → Type 0
+Answers Accepted text request held holds =
+    ((db : List Statement) × HasNoFault (length text) (lexed_of text) request.with_open db)
+    × ((bytes : List ℕ) × IsOutput text request bytes × Appends held holds bytes)
+Answers (Refused f) text request held holds =
+    FirstFault (length text) (lexed_of text) request.with_open f
+    × IsOutput text request (refusal text f) × Appends held holds (refusal text f)
+Answers WriteFailed text request held holds =
+    (bytes : List ℕ) × (k : ℕ) × IsOutput text request bytes × Appends held holds (take k bytes)
+Answers ReadFailed text request held holds = ⊥
+Answers NoMemory text request held holds = Keeps held holds
+
+-- The bytes written are those of the text that was read; none where reading failed or memory was
+-- refused.
+abbrev pub Ends : RunEnd → Request → (before after held holds : Option (List ℕ)) → Type 0
+Ends ReadFailed request before after held holds = Keeps held holds
+Ends NoMemory request before after held holds = Keeps held holds
+Ends end request before after held holds =
+    (text : List ℕ) × Gave before after text × Answers end text request held holds

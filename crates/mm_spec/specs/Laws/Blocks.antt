@@ -1,0 +1,9 @@
+-- The block of a statement is open as long as no block is less deep (Metamath book, section 4.1.3).
+-- The test is `stays`.
+use Rattle.std.specs.Prelude.{ℕ, ◌<◌, ◌≤◌, List}
+use Rattle.mm_spec.specs.Statement.{Statement}
+use Rattle.mm_spec.specs.Scope.{depth}
+
+-- the block of statement j is still open at k
+abbrev pub InBlock : List Statement → ℕ → ℕ → Type 0
+InBlock db j k = (i : ℕ) → j < i → i ≤ k → depth db j ≤ depth db i

@@ -1,0 +1,90 @@
+-- The stack of a proof's check (Metamath book, section 4.1.4): its entries are formulas, and each
+-- step is tried on them. For lemmas and for the contracts of the checker.
+use Rattle.std.specs.Prelude.{◌≡◌, ℕ, suc, ◌-◌, ◌<◌, Bool, true, false, ◌&&◌, List, [], ◌∷◌, ◌++◌}
+use Rattle.std.specs.Prelude.{map, length, take, drop, Option, Some, None, Result, Ok, Err, nat_le}
+use Rattle.std.specs.Prelude.{bytes_eq, slice_get}
+use Rattle.std.specs.List.{list_all}
+use Rattle.mm_spec.specs.Limits.{formula_limit}
+use Rattle.mm_spec.specs.Derivation.{Formula, Frame, Rule, hypothesis, assertion, Context}
+use Rattle.mm_spec.specs.Derivation.{Substitution, substitute, are_apart, Trees, none, more}
+use Rattle.mm_spec.specs.Derivation.{postfix, AreDerivations}
+use Rattle.mm_spec.specs.Steps.{Step, label, marked}
+use Rattle.mm_spec.specs.Valid.{Reason, too_few, unmatched, not_apart, too_long}
+use Rattle.mm_spec.specs.Laws.Complete.{binds, IsComplete}
+
+-- two lists of formulas are equal
+abbrev pub same : List Formula → List Formula → Bool
+same [] [] = true
+same [] (q ∷ qs) = false
+same (p ∷ ps) [] = false
+same (p ∷ ps) (q ∷ qs) = bytes_eq p q && same ps qs
+
+abbrev pub tail : Formula → Formula
+tail [] = []
+tail (y ∷ ys) = ys
+
+-- the last entry
+abbrev pub top : List Formula → Formula
+top [] = []
+top (f ∷ []) = f
+top (f ∷ g ∷ fs) = top (g ∷ fs)
+
+-- the formula of the last tree
+abbrev pub HasLast : Trees → Formula → Type 0
+HasLast none g = ⊥
+HasLast (more ts l f cs) g = f ≡ g
+
+-- the entries after a step, by its four tests
+abbrev pub pick : Bool → Bool → Bool → Bool → List Formula → Result (List Formula) Reason
+pick false matched apart short out = Err too_few
+pick true false apart short out = Err unmatched
+pick true true false short out = Err not_apart
+pick true true true false out = Err too_long
+pick true true true true out = Ok out
+
+module _ (c : Context) where
+  -- what stands for a variable in the premises: what its `$f` has there
+  abbrev pub found : List Formula → List Formula → Substitution
+  found [] ps x = []
+  found (h ∷ hs) [] x = []
+  found (h ∷ hs) (p ∷ ps) x = elim (binds c x h) [ true ↦ tail p | false ↦ found hs ps x ]
+
+  -- an assertion's step, by what is below its premises and by these
+  abbrev pub apply : Frame → Bool → List Formula → List Formula → Result (List Formula) Reason
+  apply a enough below premises = let σ = found a.hypotheses premises in
+      pick enough (same premises (map (substitute c σ) a.hypotheses))
+      (list_all (λ p. are_apart c (σ p.low) (σ p.high)) a.pairs)
+      (nat_le (length (substitute c σ a.formula)) formula_limit)
+      (below ++ substitute c σ a.formula ∷ [])
+
+  abbrev pub step : Option Rule → List Formula → Result (List Formula) Reason
+  step None es = Err too_few
+  step (Some (hypothesis g)) es =
+      pick true true true (nat_le (length g) formula_limit) (es ++ g ∷ [])
+  step (Some (assertion a)) es = let n = length es - length a.hypotheses in
+      apply a (nat_le (length a.hypotheses) (length es)) (take n es) (drop n es)
+
+  -- what a label stands for is at hand, and binds its variables
+  abbrev pub IsGood : Option Rule → Type 0
+  IsGood None = ⊥
+  IsGood (Some (hypothesis g)) = Unit {0}
+  IsGood (Some (assertion a)) = IsComplete c a
+
+  -- the formula after a step is that of the last tree of what the steps up to it stand for
+  abbrev pub Behind : List ℕ → Formula → Type 0
+  Behind labels f = (row : Trees) × AreDerivations c row × (postfix row ≡ labels) × HasLast row f
+
+  -- the entries after a step; ends are the formulas after the steps so far
+  abbrev pub step_entries : Step → List Formula → List Formula → Result (List Formula) Reason
+  step_entries (label l) ends es = step (c.rule l) es
+  step_entries (marked j) ends es =
+      elim (slice_get ends j) [ None ↦ Ok es | Some f ↦ Ok (es ++ f ∷ []) ]
+
+  -- a label that stands for something, and an earlier step
+  abbrev pub IsGoodStep : ℕ → Step → Type 0
+  IsGoodStep n (label l) = IsGood (c.rule l)
+  IsGoodStep n (marked j) = j < n
+
+  abbrev pub AreGoodSteps : ℕ → List Step → Type 0
+  AreGoodSteps n [] = Unit {0}
+  AreGoodSteps n (s ∷ steps) = IsGoodStep n s × AreGoodSteps (suc n) steps

@@ -1,0 +1,15 @@
+-- The wave of a theorem (this project's own): how far it is, at the longest, from what it cites at
+-- last.
+use Rattle.std.specs.Prelude.{ℕ, Bool, List, IsTrue}
+use Rattle.std.specs.List.{list_any}
+use Rattle.mm_spec.specs.Statement.{Statement}
+use Rattle.mm_spec.specs.Scope.{statement_at}
+use Rattle.mm_spec.specs.Citation.{is_theorem, Cites}
+use Rattle.mm_spec.specs.Laws.Chains as chain
+
+abbrev pub IsTheorem : List Statement → ℕ → Type 0
+IsTheorem db b = IsTrue (list_any is_theorem (statement_at db b))
+
+-- the longest chain of citations from t through theorems alone has so many
+abbrev pub IsWave : List Statement → (by_essential : Bool) → ℕ → ℕ → Type 0
+IsWave db by_essential t n = chain.IsWave (Cites db by_essential) (IsTheorem db) t n
