@@ -77,8 +77,9 @@ group_steps labels marks count (g ∷ gs) = elim (is_last g.last.byte) [
   | false ↦ group_steps labels (marks ++ (count - 1) ∷ []) count gs
 ]
 
--- the fault of a group, by how many labels have numbers and how many marks and numbers stand before
--- it
+-- The fault of a group, by how many labels have numbers and how many marks and numbers stand before
+-- it: a number above all that have a meaning (E45), a `Z` within a number (E43) or before the first
+-- one (E44), a `?` (E32), another byte (E42).
 abbrev pub group_fault : ℕ → ℕ → ℕ → Group → List Fault
 group_fault labels marks count g = elim (is_last g.last.byte) [
   | true ↦ at (starts_at g) (when (nat_lt (labels + marks) (value g)) NumberTooLarge)
@@ -98,6 +99,7 @@ group_faults labels marks count (g ∷ gs) =
       | false ↦ group_faults labels marks (count + 1) gs
     ]
 
+-- the faults of letters: there are none (E31), or the last number has no last digit (E43)
 abbrev pub letter_faults : ℕ → ℕ → List Letter → List Fault
 letter_faults labels end [] = fault end EmptyProof ∷ []
 letter_faults labels end (x ∷ xs) = let g = groups [] (x ∷ xs) in
@@ -106,6 +108,7 @@ letter_faults labels end (x ∷ xs) = let g = groups [] (x ∷ xs) in
 abbrev pub letters_of : List Token → List Letter
 letters_of ts = flat_map (λ t. letters_from t.at t.word) ts
 
+-- the faults of a compressed proof: of its labels, open brackets (E41), and of its letters
 abbrev pub compressed_faults : List Statement → ℕ → ℕ → Compressed → List Fault
 compressed_faults db k end p = flat_map (proof_label_faults db k) p.labels ++ elim p.letters [
   | None ↦ fault end OpenBrackets ∷ []

@@ -30,28 +30,31 @@ at_each codes earlier [] = []
 at_each codes earlier (t ∷ ts) =
     at t.at (codes earlier t.word) ++ at_each codes (t.word ∷ earlier) ts
 
--- the same for a symbol of `$c`, of `$v`, of `$d` and of a formula after its typecode
 module _ (names : Names) where
+  -- A symbol of `$c` is neither a constant nor a variable before (E13), and no label (E14).
   abbrev pub constant_codes : List Bytes → Bytes → List Code
   constant_codes earlier w =
-      when (is_in w names.constants || is_in w names.all_variables || is_in w earlier)
-      DeclaredBefore
+      when (is_in w names.constants || is_in w names.all_variables || is_in w earlier) DeclaredBefore
       ++ when (is_in w names.labels) LabelIsSymbol
 
+  -- A symbol of `$v` is neither a constant nor an active variable (E13), and no label (E14).
   abbrev pub variable_codes : List Bytes → Bytes → List Code
   variable_codes earlier w =
       when (is_in w names.constants || is_in w names.active_variables || is_in w earlier)
       DeclaredBefore
       ++ when (is_in w names.labels) LabelIsSymbol
 
+  -- A symbol of `$d` is an active variable (E24), and stands there once (E25).
   abbrev pub disjoint_codes : List Bytes → Bytes → List Code
   disjoint_codes earlier w =
       when (not (is_in w names.active_variables)) UndeclaredVariable
       ++ when (is_in w earlier) RepeatedVariable
 
+  -- a variable has an active `$f`
   abbrev pub is_typed : Bytes → Bool
   is_typed w = list_any (λ t. bytes_eq w t.variable) names.active_typings
 
+  -- A symbol after the typecode is a constant or an active variable (E18), which has a `$f` (E22).
   abbrev pub symbol_codes : List Bytes → Bytes → List Code
   symbol_codes earlier w =
       when (not (is_in w names.constants || is_in w names.active_variables)) UndeclaredSymbol
@@ -61,12 +64,13 @@ module _ (names : Names) where
   is_empty [] = true
   is_empty (t ∷ ts) = false
 
-  -- a formula, which ends at a place
+  -- A formula, which ends at a place, begins with a constant (E17).
   abbrev pub formula_faults : List Token → ℕ → List Fault
   formula_faults [] end = fault end BadTypecode ∷ []
   formula_faults (t ∷ ts) end =
       at t.at (when (not (is_in t.word names.constants)) BadTypecode) ++ at_each symbol_codes [] ts
 
+  -- A label is no symbol (E14), and was not used before (E15).
   abbrev pub label_faults : Token → List Fault
   label_faults l =
       at l.at (when (is_in l.word names.constants || is_in l.word names.all_variables) LabelIsSymbol
@@ -77,6 +81,8 @@ module _ (names : Names) where
   is_typed_otherwise c v =
       list_any (λ t. bytes_eq v t.variable && not (bytes_eq c t.typecode)) names.all_typings
 
+  -- A `$f` has a constant and an active variable (E19), which has no active `$f` (E20) and no earlier
+  -- one with another typecode (E21).
   abbrev pub floating_faults : ℕ → List Token → List Fault
   floating_faults keyword (c ∷ v ∷ []) =
       elim (is_in c.word names.constants && is_in v.word names.active_variables) [
@@ -87,7 +93,8 @@ module _ (names : Names) where
       ]
   floating_faults keyword _ = fault keyword BadFloating ∷ []
 
-  -- all faults of a statement, by how many blocks are open before it
+  -- All faults of a statement, by how many blocks are open before it. A `$c` stands in no block (E11),
+  -- `$c` and `$v` declare something (E12), and a `$d` has two symbols or more (E23).
   abbrev pub scope_faults : ℕ → Statement → List Fault
   scope_faults deep (constants k xs d) =
       at k (when (nat_lt 0 deep) ConstantInBlock) ++ at d (when (is_empty xs) EmptyDeclaration)

@@ -55,7 +55,8 @@ role_of false word =
 role_of true word =
     if closes_comment word then Closing else (if is_comment_word word then Comment else Faulty)
 
--- the fault of a faulty word that begins at the place: its first bad byte where it has one
+-- The fault of a faulty word that begins at the place: its first bad byte where it has one (E01);
+-- else a mark inside a comment (E02), or a dollar sign outside (E04).
 unfoldable pub fault_of : Bool → ℕ → List ℕ → Fault
 fault_of in_comment at word = elim (position (λ b. not (is_printable b)) word) [
   | Some i ↦ record { at = at + i; code = BadByte }

@@ -91,16 +91,20 @@ Begins ts =
 abbrev pub IsBetween : List Token → Type 0
 IsBetween ts = (row : List Statement) × IsRow row × (flat_map spelled row ≡ ts)
 
--- what a token is that no row goes on with: where a statement begins, and within one
+-- What a token is that no row goes on with. Where a statement begins: a `$}` too many (E09), another
+-- keyword (E07), or a word that is no label (E06).
 abbrev pub first_code : Bytes → Code
 first_code w =
-    if bytes_eq w
-    (codes "$}") then UnopenedBlock else if has_dollar w then UnexpectedToken else BadLabel
+    if bytes_eq w (codes "$}") then UnopenedBlock
+    else if has_dollar w then UnexpectedToken
+    else BadLabel
 
+-- anywhere `$[` and `$]` (E05); within a statement each other token (E07)
 abbrev pub shape_code : Bool → Bytes → Code
 shape_code between w =
-    if bytes_eq w (codes "$[")
-    || bytes_eq w (codes "$]") then Inclusion else if between then first_code w else UnexpectedToken
+    if bytes_eq w (codes "$[") || bytes_eq w (codes "$]") then Inclusion
+    else if between then first_code w
+    else UnexpectedToken
 
 -- the first token such that no row begins with the tokens up to it
 pub record ShapeFault (tokens : List Token) (f : Fault) : Type 0 where
@@ -122,7 +126,7 @@ pub record IsLongestRow (tokens : List Token) (row : List Statement) : Type 0 wh
       → ¬ (rest ≡ spelled s ++ more)
 
 -- The fault at the end of a text of so many bytes that has no other fault of its shape: part of a
--- statement is left, or a block is open.
+-- statement is left (E08), or a block is open (E10).
 pub record FileEndFault (len : ℕ) (tokens : List Token) (f : Fault) : Type 0 where
   pub row : List Statement
   pub is_row : IsLongestRow tokens row

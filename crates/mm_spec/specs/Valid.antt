@@ -48,7 +48,7 @@ module _ (c : Context) where
   abbrev pub last_of : ℕ → List Formula → List Formula
   last_of n entries = drop (length entries - n) entries
 
--- why a step isn't one of a derivation
+-- why a step isn't one of a derivation: E34, E35, E36 and E39
 pub data Reason : Type 0 where
   too_few unmatched not_apart too_long : Reason
 
@@ -93,8 +93,8 @@ module _ (c : Context) where
     pub fails : StepFails first.step (formulas row) reason
     pub is : f ≡ fault first.at (code_of reason)
 
-  -- All steps stand for the postfix list of a row of derivations, which isn't one tree with the
-  -- formula.
+  -- All steps stand for the postfix list of a row of derivations, which isn't one tree (E37) or has
+  -- another formula (E38).
   abbrev pub IsEndCode : List Formula → Formula → Code → Type 0
   IsEndCode (g ∷ []) formula code = (g ≢ formula) × (code ≡ OtherFormula)
   IsEndCode _ formula code = code ≡ NotOneEntry
