@@ -81,7 +81,7 @@ pub(crate) struct Noting<'h> {
 }
 
 impl<'h> Noting<'h> {
-    pub fn new(alloc: Global, heap: &'h Refusing<Global>) -> Noting<'h> {
+    pub(crate) fn new(alloc: Global, heap: &'h Refusing<Global>) -> Noting<'h> {
         Noting {
             heap,
             taken: Vec::new(alloc),
@@ -92,7 +92,7 @@ impl<'h> Noting<'h> {
     }
 
     /// Whether no memory was asked for between the first write and the last.
-    pub fn no_growth_between(&self) -> bool {
+    pub(crate) fn no_growth_between(&self) -> bool {
         self.first == self.last
     }
 }

@@ -18,7 +18,7 @@ pub struct Refusing<B: Allocator> {
 
 impl<B: Allocator> Refusing<B> {
     /// An allocator that refuses no growth yet.
-    pub fn new(inner: B) -> Refusing<B> {
+    pub(crate) fn new(inner: B) -> Refusing<B> {
         Refusing {
             inner,
             left: AtomicU64::new(MANY),
@@ -26,22 +26,22 @@ impl<B: Allocator> Refusing<B> {
     }
 
     /// Refuses the growth of this number from here on, the next one being number 1, and no other.
-    pub fn refuse(&self, number: u64) {
+    pub(crate) fn refuse(&self, number: u64) {
         self.left.store(number, Ordering::SeqCst);
     }
 
     /// Refuses no growth from here on.
-    pub fn refuse_none(&self) {
+    pub(crate) fn refuse_none(&self) {
         self.left.store(MANY, Ordering::SeqCst);
     }
 
     /// A number that each growth changes, and nothing else.
-    pub fn count(&self) -> u64 {
+    pub(crate) fn count(&self) -> u64 {
         self.left.load(Ordering::SeqCst)
     }
 
     /// Whether the growth that was to be refused came, and was refused.
-    pub fn has_refused(&self) -> bool {
+    pub(crate) fn has_refused(&self) -> bool {
         let left = self.count();
         left == 0 || left > MANY
     }

@@ -8,6 +8,7 @@ pub mod Excluded
 pub mod Judged
 pub mod OneOutput
 pub mod TheoremLaw
+pub mod TypedLaw
 pub mod SomeReading
 pub mod SomeFault
 pub mod Rests
@@ -16,6 +17,7 @@ pub mod Waves
 pub mod Spelling
 pub mod SpelledSteps
 pub mod WellSpelled
+pub mod MeaningLaw
 pub mod Numerals
 pub mod CitationLaw
 pub mod RisingLists

@@ -26,7 +26,7 @@ use Rattle.mm_laws.proofs.RisingLists.{same_list}
 use Rattle.mm_spec.specs.Request.{Request}
 use Rattle.mm_spec.specs.declared.Code.{Code}
 use Rattle.mm_spec.specs.Output.{LexedText, lexed_of, TextFault, Stops, IsRead, ProofFault, end_of}
-use Rattle.mm_spec.specs.Output.{is_theorem_at, AreValid, AllAreValid, FirstProofFault, FirstFault}
+use Rattle.mm_spec.specs.Output.{is_theorem_at, AllAreValid, FirstProofFault, FirstFault}
 use Rattle.mm_spec.specs.Output.{HasNoFault, theorems, columns, open_columns, label_at, IsRowOf}
 use Rattle.mm_spec.specs.Output.{AreCited, IsCitingRowOf, IsReportOf, IsOutput}
 use Rattle.mm_spec.specs.Laws.Stack.{IsGood}

@@ -4,9 +4,12 @@
 //! proof spell, and the statements of the laws. No other crate stands on this one, so that nothing
 //! waits for the laws, and a program is built without them.
 //!
-//! No wrong body can be made of an empty one, so there is no folder `must-fail` here: a law is
-//! refused only where a definition is turned. Small texts for which the definitions are worked out
-//! stand in `proofs/` (`Examples`, `Vectors`, `Outputs`).
+//! No wrong body can be made of an empty one. So the edits of `must-fail` turn a law into a
+//! statement that isn't true, and the prover refuses each, since the law's proof doesn't give it: a
+//! premise is dropped, two arguments change places, or a definition that the law stands on says
+//! something else. Each clause whose turning is likely has one, named after the mistake. Small
+//! texts for which the definitions are worked out stand in `proofs/` (`Examples`, `Vectors`,
+//! `Outputs`).
 #![tactic(auto)]
 
 ghost use Rattle.std.specs.Prelude.{◌≡◌, ◌↔◌, ℕ, Bool, List, None};
@@ -24,12 +27,14 @@ ghost use Rattle.mm_laws.specs.Grammar.{IsReading};
 ghost use Rattle.mm_laws.specs.Lexing.{IsLexed};
 ghost use Rattle.mm_laws.specs.Laws.{WhereRead, LabelsDetermine, ProofIsUnique, CompressedIsExact};
 ghost use Rattle.mm_laws.specs.Laws.{NormalIsExact};
+ghost use Rattle.mm_laws.specs.Laws.{VariablesAreTyped, VariablesAreMandatory};
 ghost use Rattle.mm_laws.specs.Laws.{IsValidOrFaulty, IsNeverBoth, FaultIsUnique};
 ghost use Rattle.mm_laws.specs.Laws.{IsReadable, IsSoundOrFaulty, AreDecided, HaveWaves};
 ghost use Rattle.mm_laws.specs.Laws.{OutputExists, OutputIsUnique, EachLabelIsCited};
 ghost use Rattle.mm_laws.specs.Laws.{EssentialIsCited};
 ghost use Rattle.mm_laws.specs.Laws.{PartsAreUnique, SpellingIsUnique, ProofsAreSpelled};
 ghost use Rattle.mm_laws.specs.Laws.{StepsAreNamed, NamedStepsAreUnique, StepsAreLabels};
+ghost use Rattle.mm_laws.specs.Laws.{ValidOnTheMeaning};
 ghost use Rattle.mm_laws.specs.Laws.{NumbersHaveOneSpelling, BookNumbers};
 
 /// The words of a text are its longest runs of bytes that aren't white, in order, and no other list
@@ -54,14 +59,18 @@ pub fn tokens_are_those_of_the_grammar()
 /// beginning of its tokens, and no other row is.
 pub fn statements_are_the_longest_row()
     ensures are { (tokens : List Token) → IsLongestRow tokens (statements_of tokens) }
-    ensures only { (tokens : List Token) (row : List Statement) → IsLongestRow tokens row
-        → row ≡ statements_of tokens }
+    ensures only { (tokens : List Token) (row : List Statement) → IsLongestRow tokens row → row ≡ statements_of tokens }
 {}
 
 /// Each variable of a frame of what is read has a `$f` among the frame's mandatory hypotheses:
-/// lawful statements have an active `$f` for each variable of their formulas.
+/// lawful statements have an active `$f` for each variable of their formulas. The first clause says
+/// so of what a label stands for, where a hypothesis is known by its form alone; the second speaks
+/// of statements. The variables of a frame are the mandatory variables: those of the formula, of
+/// the mandatory hypotheses and of the mandatory pairs.
 pub fn lawful_statements_have_complete_frames()
-    ensures { (len : ℕ) (x : LexedText) → ReadsComplete len x }
+    ensures complete { (len : ℕ) (x : LexedText) → ReadsComplete len x }
+    ensures typed { WhereRead VariablesAreTyped }
+    ensures mandatory { WhereRead VariablesAreMandatory }
 {}
 
 /// A derivation is known by its labels in postfix order, and a theorem has one proof at most.
@@ -136,6 +145,13 @@ pub fn theorems_have_one_wave()
 pub fn well_formed_proofs_are_read()
     ensures compressed { WhereRead CompressedIsExact }
     ensures normal { WhereRead NormalIsExact }
+{}
+
+/// A theorem is valid if the words of its proof are well formed and say steps that stand for a
+/// derivation of its formula, and else not. What the words say is told by what letters spell and
+/// labels name: no reading from left to right is named.
+pub fn valid_theorems_are_those_proved()
+    ensures { WhereRead ValidOnTheMeaning }
 {}
 
 /// Each number from 1 on is spelled by one row of letters: 1 by `A`, 20 by `T`, 21 by `UA`, as in

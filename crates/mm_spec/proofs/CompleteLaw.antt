@@ -32,6 +32,19 @@ use Rattle.mm_spec.proofs.Faultless.{still}
 
 -- ---- frames
 
+-- whether a hypothesis that is active at k is mandatory there
+abbrev pub is_mandatory : List Statement → ℕ → ℕ → Bool
+is_mandatory db k j =
+    list_any is_essential (statement_at db j)
+    || (list_any is_floating (statement_at db j)
+    && list_any (is_member (mandatory_variables db k)) (formula_at db j))
+
+-- whether a pair of variables is mandatory at k
+abbrev pub is_mandatory_pair : List Statement → ℕ → Pair → Bool
+is_mandatory_pair db k p =
+    nat_lt p.low p.high && is_member (mandatory_variables db k) p.low
+    && is_member (mandatory_variables db k) p.high && disjoint_at db k p.low p.high
+
 module _ (db : List Statement) (lawful : (k : ℕ) → k < length db → IsLawful db k) where
   faultless : (k : ℕ) (s : Statement) → slice_get db k ≡ Some s
       → scope_faults (names_before db k) (depth db k) s ≡ []
@@ -136,7 +149,7 @@ module _ (db : List Statement) (lawful : (k : ℕ) → k < length db → IsLawfu
           (a.0, a.1, at_word a.0 x w y.0 y.1 (y.2 w s.2) is)
 
   -- so has each mandatory variable, at the assertion
-  mandatory_typed : (k x : ℕ) (s : Statement) → slice_get db k ≡ Some s → has_formula s ≡ true
+  pub mandatory_typed : (k x : ℕ) (s : Statement) → slice_get db k ≡ Some s → has_formula s ≡ true
       → is_member (mandatory_variables db k) x ≡ true
       → (i : ℕ) × (is_active db i k ≡ true) × Types i x × (is_variable_number db x ≡ true)
   mandatory_typed k x s e f m =
@@ -172,34 +185,132 @@ module _ (db : List Statement) (lawful : (k : ℕ) → k < length db → IsLawfu
           essential_formula (essential l k xs d) e = refl
           essential_formula _ e = absurd (true≢false (sym e))
 
+  -- the `$f` of a mandatory variable is mandatory
+  pub type_mandatory : (k i x : ℕ) → Types i x → is_member (mandatory_variables db k) x ≡ true
+      → is_mandatory db k i ≡ true
+  type_mandatory k i x t h =
+      let has : list_any (is_member (mandatory_variables db k)) (formula_at db i) ≡ true =
+      ap (list_any (is_member (mandatory_variables db k))) t.is
+      ∙ or_right (is_member (mandatory_variables db k) t.typecode)
+      (is_member (mandatory_variables db k) x || false)
+      (or_left (is_member (mandatory_variables db k) x) false h) in
+      or_right (list_any is_essential (statement_at db i))
+      (list_any is_floating (statement_at db i)
+      && list_any (is_member (mandatory_variables db k)) (formula_at db i))
+      (and_from (list_any is_floating (statement_at db i))
+      (list_any (is_member (mandatory_variables db k)) (formula_at db i))
+      (at_found db is_floating i t.statement t.stands t.floats) has)
+
+  -- each variable of the formula is mandatory
+  pub of_formula : (k x : ℕ) → is_member (formula_at db k) x ≡ true → is_variable_number db x ≡ true
+      → is_member (mandatory_variables db k) x ≡ true
+  of_formula k x h v =
+      let more = flat_map (formula_at db) (active_of is_essential db k) in
+      filter-member (is_variable_number db) (formula_at db k ++ more) x v
+      (list_any-append (λ y. x == y) (formula_at db k) more
+      ∙ or_left (is_member (formula_at db k) x) (is_member more x) h)
+
+  -- so is each variable of a mandatory hypothesis
+  pub of_hypothesis : (k j x : ℕ) → is_active db j k ≡ true → is_mandatory db k j ≡ true
+      → is_member (formula_at db j) x ≡ true → is_variable_number db x ≡ true
+      → is_member (mandatory_variables db k) x ≡ true
+  of_hypothesis k j x a t h v =
+      by (or_cases (list_any is_essential (statement_at db j))
+      (list_any is_floating (statement_at db j)
+      && list_any (is_member (mandatory_variables db k)) (formula_at db j)) t)
+    where
+      is_essential_at : ℕ → Bool
+      is_essential_at i = list_any is_essential (statement_at db i)
+
+      among : list_any is_essential (statement_at db j) ≡ true
+          → is_member (flat_map (formula_at db) (active_of is_essential db k)) x ≡ true
+      among g =
+          any-flat_map (λ y. x == y) (formula_at db) (active_of is_essential db k)
+          ∙ any-filter is_essential_at (λ i. is_member (formula_at db i) x) (active db k)
+          ∙ active_found db k (λ i. is_essential_at i && is_member (formula_at db i) x) j a
+          (and_from (is_essential_at j) (is_member (formula_at db j) x) g h)
+
+      alone : (y : ℕ) → Types j y → x ≡ y
+      alone y t =
+          one (or_cases (x == t.typecode) ((x == y) || false)
+          (ap (λ g. is_member g x) (sym t.is) ∙ h))
+        where
+          one : ((x == t.typecode) ≡ true) ⊎ (((x == y) || false) ≡ true) → x ≡ y
+          one (inl g) =
+              absurd (true≢false
+              (sym v ∙ ap (is_variable_number db) (eqb-true x t.typecode g) ∙ t.constant))
+          one (inr g) = eqb-true x y (lone (x == y) g)
+
+      typed_one : (y : ℕ) → Types j y
+          → list_any (is_member (mandatory_variables db k)) (formula_at db j) ≡ true
+          → is_member (mandatory_variables db k) x ≡ true
+      typed_one y t g =
+          one (or_cases (is_member (mandatory_variables db k) t.typecode)
+          (is_member (mandatory_variables db k) y || false)
+          (ap (list_any (is_member (mandatory_variables db k))) (sym t.is) ∙ g))
+        where
+          more : List ℕ
+          more = flat_map (formula_at db) (active_of is_essential db k)
+
+          one : (is_member (mandatory_variables db k) t.typecode ≡ true)
+              ⊎ ((is_member (mandatory_variables db k) y || false) ≡ true)
+              → is_member (mandatory_variables db k) x ≡ true
+          one (inl g) =
+              absurd (true≢false
+              (sym (member-filter (is_variable_number db) (formula_at db k ++ more) t.typecode g).0
+              ∙ t.constant))
+          one (inr g) =
+              ap (is_member (mandatory_variables db k)) (alone y t)
+              ∙ lone (is_member (mandatory_variables db k) y) g
+
+      by : (list_any is_essential (statement_at db j) ≡ true)
+          ⊎ ((list_any is_floating (statement_at db j)
+          && list_any (is_member (mandatory_variables db k)) (formula_at db j))
+          ≡ true)
+          → is_member (mandatory_variables db k) x ≡ true
+      by (inl g) =
+          let more = flat_map (formula_at db) (active_of is_essential db k) in
+          filter-member (is_variable_number db) (formula_at db k ++ more) x v
+          (list_any-append (λ y. x == y) (formula_at db k) more
+          ∙ or_right (is_member (formula_at db k) x) (is_member more x) (among g))
+      by (inr g) =
+          let p =
+          and_parts (list_any is_floating (statement_at db j))
+          (list_any (is_member (mandatory_variables db k)) (formula_at db j)) g in
+          let s = found_at db is_floating j p.0 in
+          let y = typing j s.0 s.1 s.2 in
+          typed_one (place_of y.0 (symbol_names db)) y.1 p.1
+
+  -- both variables of a mandatory pair are
+  pub of_pair : (k : ℕ) (p : Pair) → is_mandatory_pair db k p ≡ true
+      → (is_member (mandatory_variables db k) p.low ≡ true)
+      × (is_member (mandatory_variables db k) p.high ≡ true)
+  of_pair k p h =
+      parts (nat_lt p.low p.high) (is_member (mandatory_variables db k) p.low)
+      (is_member (mandatory_variables db k) p.high) (disjoint_at db k p.low p.high) h
+    where
+      parts : (a b c d : Bool) → (a && b && c && d) ≡ true → (b ≡ true) × (c ≡ true)
+      parts true true true d h = (refl, refl)
+      parts true true false d h = absurd (cc)
+      parts true false true d h = absurd (cc)
+      parts true false false d h = absurd (cc)
+      parts false b c d h = absurd (cc)
+
   module _ (m k : ℕ) (s : Statement) (e : slice_get db k ≡ Some s) (f : has_formula s ≡ true) where
-    abbrev is_mandatory : ℕ → Bool
-    is_mandatory j =
-        list_any is_essential (statement_at db j)
-        || (list_any is_floating (statement_at db j)
-        && list_any (is_member (mandatory_variables db k)) (formula_at db j))
-
-    abbrev is_essential_at : ℕ → Bool
-    is_essential_at j = list_any is_essential (statement_at db j)
-
-    abbrev in_order : Pair → Bool
-    in_order p =
-        nat_lt p.low p.high && is_member (mandatory_variables db k) p.low
-        && is_member (mandatory_variables db k) p.high && disjoint_at db k p.low p.high
-
     abbrev frame_hypotheses : List Formula
     frame_hypotheses = map (formula_at db) (mandatory_hypotheses db k)
 
     -- a mandatory hypothesis that binds
-    hypothesis_binds : (x j : ℕ) → is_active db j k ≡ true → is_mandatory j ≡ true
+    hypothesis_binds : (x j : ℕ) → is_active db j k ≡ true → is_mandatory db k j ≡ true
         → binds (context_at db m) x (formula_at db j) ≡ true
         → IsBound (context_at db m) frame_hypotheses x
     hypothesis_binds x j a t b =
         any-map (binds (context_at db m) x) (formula_at db) (mandatory_hypotheses db k)
-        ∙ any-filter is_mandatory (λ j. binds (context_at db m) x (formula_at db j))
+        ∙ any-filter (is_mandatory db k) (λ j. binds (context_at db m) x (formula_at db j))
         (active db k)
-        ∙ active_found db k (λ j. is_mandatory j && binds (context_at db m) x (formula_at db j)) j a
-        (and_from (is_mandatory j) (binds (context_at db m) x (formula_at db j)) t b)
+        ∙ active_found db k
+        (λ j. is_mandatory db k j && binds (context_at db m) x (formula_at db j)) j a
+        (and_from (is_mandatory db k j) (binds (context_at db m) x (formula_at db j)) t b)
 
     types_binds : (i x : ℕ) → Types i x → is_variable_number db x ≡ true
         → binds (context_at db m) x (formula_at db i) ≡ true
@@ -211,129 +322,46 @@ module _ (db : List Statement) (lawful : (k : ℕ) → k < length db → IsLawfu
         → IsBound (context_at db m) frame_hypotheses x
     mandatory_bound x h =
         let t = mandatory_typed k x s e f h in
-        hypothesis_binds x t.0 t.1 (floats t.0 t.2) (types_binds t.0 x t.2 t.3)
-      where
-        floats : (i : ℕ) → Types i x → is_mandatory i ≡ true
-        floats i t =
-            let has : list_any (is_member (mandatory_variables db k)) (formula_at db i) ≡ true =
-            ap (list_any (is_member (mandatory_variables db k))) t.is
-            ∙ or_right (is_member (mandatory_variables db k) t.typecode)
-            (is_member (mandatory_variables db k) x || false)
-            (or_left (is_member (mandatory_variables db k) x) false h) in
-            or_right (list_any is_essential (statement_at db i))
-            (list_any is_floating (statement_at db i)
-            && list_any (is_member (mandatory_variables db k)) (formula_at db i))
-            (and_from (list_any is_floating (statement_at db i))
-            (list_any (is_member (mandatory_variables db k)) (formula_at db i))
-            (at_found db is_floating i t.statement t.stands t.floats) has)
-
-    -- a variable of a mandatory hypothesis
-    of_hypothesis : (j : ℕ) → is_active db j k ≡ true → is_mandatory j ≡ true → (x : ℕ)
-        → is_member (formula_at db j) x ≡ true → is_variable_number db x ≡ true
-        → IsBound (context_at db m) frame_hypotheses x
-    of_hypothesis j a t x h v =
-        by (or_cases (list_any is_essential (statement_at db j))
-        (list_any is_floating (statement_at db j)
-        && list_any (is_member (mandatory_variables db k)) (formula_at db j)) t)
-      where
-        among : list_any is_essential (statement_at db j) ≡ true
-            → is_member (flat_map (formula_at db) (active_of is_essential db k)) x ≡ true
-        among g =
-            any-flat_map (λ y. x == y) (formula_at db) (active_of is_essential db k)
-            ∙ any-filter is_essential_at (λ i. is_member (formula_at db i) x) (active db k)
-            ∙ active_found db k (λ i. is_essential_at i && is_member (formula_at db i) x) j a
-            (and_from (is_essential_at j) (is_member (formula_at db j) x) g h)
-
-        alone : (i y : ℕ) → Types i y → is_member (formula_at db i) x ≡ true → x ≡ y
-        alone i y t h =
-            one (or_cases (x == t.typecode) ((x == y) || false)
-            (ap (λ g. is_member g x) (sym t.is) ∙ h))
-          where
-            one : ((x == t.typecode) ≡ true) ⊎ (((x == y) || false) ≡ true) → x ≡ y
-            one (inl g) =
-                absurd (true≢false
-                (sym v ∙ ap (is_variable_number db) (eqb-true x t.typecode g) ∙ t.constant))
-            one (inr g) = eqb-true x y (lone (x == y) g)
-
-        by : (list_any is_essential (statement_at db j) ≡ true)
-            ⊎ ((list_any is_floating (statement_at db j)
-            && list_any (is_member (mandatory_variables db k)) (formula_at db j))
-            ≡ true)
-            → IsBound (context_at db m) frame_hypotheses x
-        by (inl g) =
-            let more = flat_map (formula_at db) (active_of is_essential db k) in
-            mandatory_bound x
-            (filter-member (is_variable_number db) (formula_at db k ++ more) x v
-            (list_any-append (λ y. x == y) (formula_at db k) more
-            ∙ or_right (is_member (formula_at db k) x) (is_member more x) (among g)))
-        by (inr g) =
-            let s =
-            found_at db is_floating j
-            (and_parts (list_any is_floating (statement_at db j))
-            (list_any (is_member (mandatory_variables db k)) (formula_at db j)) g).0 in
-            let y = typing j s.0 s.1 s.2 in
-            hypothesis_binds x j a t
-            (types_binds j x
-            (subst (Types j) (sym (alone j (place_of y.0 (symbol_names db)) y.1 h)) y.1) v)
+        hypothesis_binds x t.0 t.1 (type_mandatory k t.0 x t.2 h) (types_binds t.0 x t.2 t.3)
 
     pub complete : IsComplete (context_at db m) (frame_at db k)
     complete = record {
       hypotheses =
           each_map (AreBound (context_at db m) frame_hypotheses) (formula_at db)
           (mandatory_hypotheses db k)
+          (each_filter (λ j. AreBound (context_at db m) frame_hypotheses (formula_at db j))
+          (is_mandatory db k) (active db k)
           (each_filter
-          (λ j. AreBound (context_at db m) frame_hypotheses (formula_at db j)) is_mandatory
-          (active db k)
-          (each_filter
-          (λ j. is_mandatory j ≡ true
+          (λ j. is_mandatory db k j ≡ true
           → AreBound (context_at db m) frame_hypotheses (formula_at db j))
           (λ j. is_active db j k) (range_with_len 0 k)
           (each_any
-          (λ j. is_active db j k ≡ true → is_mandatory j ≡ true
+          (λ j. is_active db j k ≡ true → is_mandatory db k j ≡ true
           → AreBound (context_at db m) frame_hypotheses (formula_at db j)) (range_with_len 0 k)
           (λ j a t. each_member
           (λ x. is_variable_number db x ≡ true → IsBound (context_at db m) frame_hypotheses x)
-          (formula_at db j) (of_hypothesis j a t)))));
+          (formula_at db j) (λ x h v. mandatory_bound x (of_hypothesis k j x a t h v))))));
       formula =
           each_member
           (λ x. is_variable_number db x ≡ true → IsBound (context_at db m) frame_hypotheses x)
-          (formula_at db k) of_formula;
+          (formula_at db k) (λ x h v. mandatory_bound x (of_formula k x h v));
       pairs =
           each_filter
           (λ p. IsBound (context_at db m) frame_hypotheses p.low
-          × IsBound (context_at db m) frame_hypotheses p.high) in_order
+          × IsBound (context_at db m) frame_hypotheses p.high) (is_mandatory_pair db k)
           (pairs_of (length (symbol_names db)))
           (each_any
-          (λ p. in_order p ≡ true
+          (λ p. is_mandatory_pair db k p ≡ true
           → IsBound (context_at db m) frame_hypotheses p.low
           × IsBound (context_at db m) frame_hypotheses p.high)
-          (pairs_of (length (symbol_names db))) of_pair);
+          (pairs_of (length (symbol_names db))) bound_pair);
     }
       where
-        parts : (a b c d : Bool) → (a && b && c && d) ≡ true → (b ≡ true) × (c ≡ true)
-        parts true true true d h = (refl, refl)
-        parts true true false d h = absurd (cc)
-        parts true false true d h = absurd (cc)
-        parts true false false d h = absurd (cc)
-        parts false b c d h = absurd (cc)
-
-        of_pair : (p : Pair) → in_order p ≡ true
+        bound_pair : (p : Pair) → is_mandatory_pair db k p ≡ true
             → IsBound (context_at db m) frame_hypotheses p.low
             × IsBound (context_at db m) frame_hypotheses p.high
-        of_pair p h =
-            let q =
-            parts (nat_lt p.low p.high) (is_member (mandatory_variables db k) p.low)
-            (is_member (mandatory_variables db k) p.high) (disjoint_at db k p.low p.high) h in
-            (mandatory_bound p.low q.0, mandatory_bound p.high q.1)
-
-        of_formula : (x : ℕ) → is_member (formula_at db k) x ≡ true → is_variable_number db x ≡ true
-            → IsBound (context_at db m) frame_hypotheses x
-        of_formula x h v =
-            let more = flat_map (formula_at db) (active_of is_essential db k) in
-            mandatory_bound x
-            (filter-member (is_variable_number db) (formula_at db k ++ more) x v
-            (list_any-append (λ y. x == y) (formula_at db k) more
-            ∙ or_left (is_member (formula_at db k) x) (is_member more x) h))
+        bound_pair p h =
+            let q = of_pair k p h in (mandatory_bound p.low q.0, mandatory_bound p.high q.1)
 
   -- what lawful statements stand for asks for no variable that its hypotheses don't have
   pub lawful_complete : AreComplete db

@@ -9,12 +9,12 @@ pub(crate) struct Chance {
 }
 
 impl Chance {
-    pub fn new(seed: u64) -> Chance {
+    pub(crate) fn new(seed: u64) -> Chance {
         Chance { state: seed }
     }
 
     /// A number below this one.
-    pub fn below(&mut self, count: usize) -> usize
+    pub(crate) fn below(&mut self, count: usize) -> usize
         requires { 0 < count }
         ensures { result < count }
     {
@@ -27,7 +27,7 @@ impl Chance {
     }
 
     /// Whether a thing happens that happens once in so many times.
-    pub fn once_in(&mut self, count: usize) -> bool
+    pub(crate) fn once_in(&mut self, count: usize) -> bool
         requires { 0 < count }
     {
         self.below(count) == 0

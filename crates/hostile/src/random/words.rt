@@ -13,17 +13,17 @@ pub(crate) struct Words {
 }
 
 impl Words {
-    pub fn new(alloc: Global) -> Words {
+    pub(crate) fn new(alloc: Global) -> Words {
         Words {
             list: Vec::new(alloc),
         }
     }
 
-    pub fn add(&mut self, word: Word) {
+    pub(crate) fn add(&mut self, word: Word) {
         let _ = self.list.push(word);
     }
 
-    pub fn add_all(&mut self, words: &[Word]) {
+    pub(crate) fn add_all(&mut self, words: &[Word]) {
         for word in words {
             self.add(word);
         }

@@ -1,5 +1,6 @@
--- A frame is complete if each of its variables has a `$f` among its hypotheses (this project's own,
--- for a law).
+-- A frame is complete if its hypotheses bind each of its variables (this project's own, for a law).
+-- A frame knows its hypotheses as formulas, so a `$f` is known here by its form alone; a law of
+-- `mm_laws` says that there is a `$f`.
 use Rattle.std.specs.Prelude.{ℕ, Bool, false, ◌&&◌, not, List, [], ◌∷◌, Option, Some, None, ◌==◌}
 use Rattle.std.specs.Prelude.{IsTrue}
 use Rattle.std.specs.List.{list_any, AllByRecursion}
@@ -10,20 +11,21 @@ use Rattle.mm_spec.specs.Citation.{context_at}
 use Rattle.mm_spec.specs.Output.{LexedText, IsRead}
 
 module _ (c : Context) where
+  -- whether a hypothesis has the form of the variable's `$f`: a constant, and the variable
   abbrev pub binds : ℕ → Formula → Bool
   binds x [] = false
   binds x (t ∷ []) = false
   binds x (t ∷ y ∷ []) = not (c.is_variable t) && (c.is_variable y && (x == y))
   binds x (t ∷ y ∷ z ∷ zs) = false
 
-  -- the variable has a `$f` among the hypotheses
+  -- some hypothesis has that form
   abbrev pub IsBound : List Formula → ℕ → Type 0
   IsBound hs x = IsTrue (list_any (binds x) hs)
 
   abbrev pub AreBound : List Formula → Formula → Type 0
   AreBound hs f = AllByRecursion (λ x. IsTrue (c.is_variable x) → IsBound hs x) f
 
-  -- each mandatory variable has a `$f` among the mandatory hypotheses
+  -- the hypotheses bind each variable that stands in the frame
   pub record IsComplete (a : Frame) : Type 0 where
     pub hypotheses : AllByRecursion (AreBound a.hypotheses) a.hypotheses
     pub formula : AreBound a.hypotheses a.formula

@@ -1,0 +1,194 @@
+-- A theorem is valid if its words say steps that stand for a derivation of its formula, and else
+-- not.
+use Rattle.std.proofs.Common.{◌≡◌, ◌≢◌, ◌↔◌, ℕ, Bool, true, false, inl, inr, List, [], ◌∷◌, map}
+use Rattle.std.proofs.Common.{Option, Some, None, slice_get, bytes_eq, codes, refl, sym, ap, ap₂}
+use Rattle.std.proofs.Common.{◌∙◌, subst, true≢false}
+use Rattle.std.specs.List.{AllZip, AllByRecursion, list_any}
+use Rattle.std.proofs.lemmas.Slice.Eq.{bytes_eq-Decides}
+use Rattle.mm_spec.specs.Text.{Token}
+use Rattle.mm_spec.specs.declared.Fault.{Fault}
+use Rattle.mm_spec.specs.Statement.{Statement, provable}
+use Rattle.mm_spec.specs.Frame.{mandatory_hypotheses, formula_at}
+use Rattle.mm_spec.specs.Derivation.{Trees}
+use Rattle.mm_spec.specs.Steps.{Step, PlacedStep, label}
+use Rattle.mm_spec.specs.Proof.{steps, reading_faults}
+use Rattle.mm_spec.specs.Valid.{Derives}
+use Rattle.mm_spec.specs.Citation.{context_at, is_theorem, IsValid}
+use Rattle.mm_laws.specs.Spelling.{AreSteps, IsUsable}
+use Rattle.mm_laws.specs.Laws.{WhereRead, bare_steps, StepsAreNamed, StepsAreLabels}
+use Rattle.mm_laws.specs.Laws.{CompressedIsExact, NormalIsExact, SaysCompressed, SaysNormal, Says}
+use Rattle.mm_laws.specs.Laws.{IsProved, ValidOnTheMeaning}
+use Rattle.mm_spec.proofs.Finds.{same_word}
+use Rattle.mm_laws.proofs.SpelledSteps.{steps_named, steps_labels, steps_unique}
+use Rattle.mm_laws.proofs.WellSpelled.{compressed_exact, normal_exact}
+
+module _ (db : List Statement) (k : ℕ) where
+  abbrev IsLabelOf : Token → ℕ → Type 0
+  IsLabelOf t j = IsUsable db k t.word j
+
+  -- a word is the label of one statement
+  same_usable : (ts : List Token) (is js : List ℕ) → AllZip IsLabelOf ts is → AllZip IsLabelOf ts js
+      → is ≡ js
+  same_usable [] [] [] g h = refl
+  same_usable [] [] (j ∷ js) g h = absurd h
+  same_usable [] (i ∷ is) js g h = absurd g
+  same_usable (t ∷ ts) [] js g h = absurd g
+  same_usable (t ∷ ts) (i ∷ is) [] g h = absurd h
+  same_usable (t ∷ ts) (i ∷ is) (j ∷ js) g h =
+      ap₂ (λ x xs. x ∷ xs) (h.0.only i g.0.active g.0.labelled) (same_usable ts is js g.1 h.1)
+
+  abbrev IsLabelStep : Token → Step → Type 0
+  IsLabelStep u s = (j : ℕ) × (s ≡ label j) × IsUsable db k u.word j
+
+  abbrev IsPlainWord : Token → Type 0
+  IsPlainWord u = (u.word ≢ codes "?") × ((j : ℕ) × IsUsable db k u.word j)
+
+  both : (ts : List Token) (ss : List Step) → AllByRecursion IsPlainWord ts
+      → AllZip IsLabelStep ts ss → SaysNormal db k ts ss
+  both [] [] w h = tt
+  both [] (s ∷ ss) w h = absurd h
+  both (t ∷ ts) [] w h = absurd h
+  both (t ∷ ts) (s ∷ ss) w h = ((w.0.0, h.0), both ts ss w.1 h.1)
+
+  plain_words : (ts : List Token) (ss : List Step) → SaysNormal db k ts ss
+      → AllByRecursion IsPlainWord ts
+  plain_words [] ss h = tt
+  plain_words (t ∷ ts) [] h = absurd h
+  plain_words (t ∷ ts) (s ∷ ss) h = ((h.0.0, (h.0.1.0, h.0.1.2)), plain_words ts ss h.1)
+
+  same_labels : (ts : List Token) (ss others : List Step) → SaysNormal db k ts ss
+      → AllZip IsLabelStep ts others → ss ≡ others
+  same_labels [] [] [] g h = refl
+  same_labels [] [] (s ∷ others) g h = absurd h
+  same_labels [] (s ∷ ss) others g h = absurd g
+  same_labels (t ∷ ts) [] others g h = absurd g
+  same_labels (t ∷ ts) (s ∷ ss) [] g h = absurd h
+  same_labels (t ∷ ts) (s ∷ ss) (r ∷ others) g h =
+      let one = g.0.1 in
+      let two = h.0 in
+      let same : one.0 ≡ two.0 = two.2.only one.0 one.2.active one.2.labelled in
+      ap₂ (λ x xs. x ∷ xs) (one.1 ∙ ap label same ∙ sym two.1) (same_labels ts ss others g.1 h.1)
+
+  -- a derivation of the formula from steps
+  abbrev HasDerivation : List Step → Type 0
+  HasDerivation ss = (d : Trees) × Derives (context_at db k) ss (formula_at db k) d
+
+  abbrev IsRead : ℕ → List Token → Type 0
+  IsRead end ps = (reading_faults db k end ps ≡ []) × HasDerivation (bare_steps db k ps)
+
+  abbrev AreSaid : List Token → Type 0
+  AreSaid ps = (ss : List Step) × Says db k ps ss × HasDerivation ss
+
+  module _ (named : StepsAreNamed db k) (labelled : StepsAreLabels db k)
+      (compressed : CompressedIsExact db k) (normal : NormalIsExact db k) where
+    compressed_means : (end : ℕ) (t : Token) (ts : List Token)
+        → t.word ≡ codes "(" → IsRead end (t ∷ ts) ↔ AreSaid (t ∷ ts)
+    compressed_means end t ts opens = (to, from)
+      where
+        to : IsRead end (t ∷ ts) → AreSaid (t ∷ ts)
+        to h =
+            let w = (compressed end t ts opens).0 h.0 in
+            let n = named end (t ∷ ts) w.labels w.letters w.items h.0 w.parts w.spelled in (
+              bare_steps db k (t ∷ ts),
+              inl
+                  (opens, record { well_spelled = w; js = n.0; labels = n.1; steps = n.2 }),
+              h.1,
+            )
+
+        of : (ss : List Step) → SaysCompressed db k (t ∷ ts) ss → HasDerivation ss
+            → IsRead end (t ∷ ts)
+        of ss s h =
+            let w = s.well_spelled in
+            let f = (compressed end t ts opens).1 w in
+            let n = named end (t ∷ ts) w.labels w.letters w.items f w.parts w.spelled in
+            let js : s.js ≡ n.0 = same_usable w.labels s.js n.0 s.labels n.1 in
+            let hypotheses = mandatory_hypotheses db k in
+            let said : AreSteps hypotheses n.0 w.items ss =
+            subst (λ is. AreSteps hypotheses is w.items ss) js s.steps in
+            let same : ss ≡ bare_steps db k (t ∷ ts) =
+            steps_unique hypotheses n.0 w.items ss (bare_steps db k (t ∷ ts)) said n.2 in
+            (f, subst HasDerivation same h)
+
+        from : AreSaid (t ∷ ts) → IsRead end (t ∷ ts)
+        from (ss, inl s, h) = of ss s.1 h
+        from (ss, inr s, h) = absurd (s.0 opens)
+
+    normal_means : (end : ℕ) (t : Token) (ts : List Token)
+        → t.word ≢ codes "(" → IsRead end (t ∷ ts) ↔ AreSaid (t ∷ ts)
+    normal_means end t ts apart = (to, from)
+      where
+        to : IsRead end (t ∷ ts) → AreSaid (t ∷ ts)
+        to h =
+            let said =
+            both (t ∷ ts) (bare_steps db k (t ∷ ts)) ((normal end t ts apart).0 h.0)
+            (labelled end t ts h.0 apart) in
+            (bare_steps db k (t ∷ ts), inr (apart, said), h.1)
+
+        of : (ss : List Step) → SaysNormal db k (t ∷ ts) ss → HasDerivation ss → IsRead end (t ∷ ts)
+        of ss s h =
+            let f = (normal end t ts apart).1 (plain_words (t ∷ ts) ss s) in
+            let same =
+            same_labels (t ∷ ts) ss (bare_steps db k (t ∷ ts)) s (labelled end t ts f apart) in
+            (f, subst HasDerivation same h)
+
+        from : AreSaid (t ∷ ts) → IsRead end (t ∷ ts)
+        from (ss, inl s, h) = absurd (apart s.0)
+        from (ss, inr s, h) = of ss s.1 h
+
+    means : (end : ℕ) (ps : List Token) → IsRead end ps ↔ AreSaid ps
+    means end [] = ((λ h. none h.0), λ h. absurd h.1)
+      where
+        none : reading_faults db k end [] ≡ [] → AreSaid []
+        none e = absurd (cc)
+    means end (t ∷ ts) =
+        by (bytes_eq t.word (codes "(")) refl (compressed_means end t ts) (normal_means end t ts)
+      where
+        Goal : Type 0
+        Goal = IsRead end (t ∷ ts) ↔ AreSaid (t ∷ ts)
+
+        by : (b : Bool)
+            → bytes_eq t.word (codes "(") ≡ b → (t.word ≡ codes "(" → Goal)
+            → (t.word ≢ codes "(" → Goal) → Goal
+        by true e c n = c (same_word t.word (codes "(") e)
+        by false e c n = n (λ w. true≢false (sym ((bytes_eq-Decides t.word (codes "(")).1 w) ∙ e))
+
+    valid_means : ValidOnTheMeaning db k
+    valid_means theorem = let m = of (slice_get db k) theorem in (to m.0, from m.1)
+      where
+        words : Option Statement → List Token
+        words o = elim o [ Some (provable l p xs e ps d) ↦ ps | _ ↦ [] ]
+
+        faults : Option Statement → List Fault
+        faults o = elim o [ Some (provable l p xs e ps d) ↦ reading_faults db k d ps | _ ↦ [] ]
+
+        placed_steps : Option Statement → List PlacedStep
+        placed_steps o = elim o [ Some (provable l p xs e ps d) ↦ steps db k ps | _ ↦ [] ]
+
+        Valid : Option Statement → Type 0
+        Valid o = (faults o ≡ []) × HasDerivation (map (λ s. s.step) (placed_steps o))
+
+        found : Option Statement → List Statement
+        found o = elim o [ None ↦ [] | Some s ↦ s ∷ [] ]
+
+        of : (o : Option Statement) → list_any is_theorem (found o) ≡ true
+            → Valid o ↔ AreSaid (words o)
+        of None t = absurd (true≢false (sym t))
+        of (Some (provable l p xs e ps d)) t = means d ps
+        of (Some _) t = absurd (true≢false (sym t))
+
+        to : (Valid (slice_get db k) → AreSaid (words (slice_get db k))) → IsValid db k
+            → IsProved db k
+        to m h =
+            let s = m (h.0, (h.1, h.2)) in
+            record { steps = s.0; said = s.1; derivation = s.2.0; derives = s.2.1 }
+
+        from : (AreSaid (words (slice_get db k)) → Valid (slice_get db k)) → IsProved db k
+            → IsValid db k
+        from m p = let v = m (p.steps, p.said, (p.derivation, p.derives)) in (v.0, v.1.0, v.1.1)
+
+pub valid_on_the_meaning : WhereRead ValidOnTheMeaning
+valid_on_the_meaning len x db fault r k =
+    let named = steps_named len x db fault r k in
+    let labelled = steps_labels len x db fault r k in
+    valid_means db k named labelled (compressed_exact len x db fault r k)
+    (normal_exact len x db fault r k)

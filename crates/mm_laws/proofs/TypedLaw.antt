@@ -1,0 +1,174 @@
+-- Each mandatory variable of an assertion has a mandatory `$f`, and the variables of its frame are
+-- the mandatory ones.
+use Rattle.std.proofs.Common.{◌≡◌, ℕ, ◌==◌, ◌<◌, Bool, true, ◌&&◌, ◌||◌, ◌⊎◌, inl, inr, List}
+use Rattle.std.proofs.Common.{Option, [], ◌∷◌, ◌++◌, length, flat_map, refl, sym, ap, ◌∙◌}
+use Rattle.std.proofs.Common.{true≢false, eqb-true, eq-eqb, IsTrue}
+use Rattle.std.specs.List.{list_any}
+use Rattle.std.proofs.lemmas.Bool.{or_cases, or_left, or_right, and_parts, and_from}
+use Rattle.std.proofs.lemmas.List.Folds.{list_any-append}
+use Rattle.mm_spec.specs.Statement.{Statement, axiomatic, provable}
+use Rattle.mm_spec.specs.Scope.{is_active, active, statement_at}
+use Rattle.mm_spec.specs.Lawful.{scope_fault, IsLawful}
+use Rattle.mm_spec.specs.Frame.{symbol_names, formula_at, is_variable_number, is_floating}
+use Rattle.mm_spec.specs.Frame.{is_essential, active_of, mandatory_variables, mandatory_hypotheses}
+use Rattle.mm_spec.specs.Frame.{mandatory_pairs, pairs_of}
+use Rattle.mm_spec.specs.Derivation.{Pair, is_member}
+use Rattle.mm_spec.specs.Citation.{is_assertion}
+use Rattle.mm_spec.specs.declared.Fault.{Fault}
+use Rattle.mm_spec.specs.Output.{LexedText, IsRead}
+use Rattle.mm_laws.specs.Laws.{WhereRead, IsTyping, VariablesAreTyped, is_in_frame}
+use Rattle.mm_laws.specs.Laws.{VariablesAreMandatory}
+use Rattle.mm_spec.proofs.Local.{scope_fault-front}
+use Rattle.mm_spec.proofs.Finds.{any-flat_map, any-filter, member-filter, filter-member, found_at}
+use Rattle.mm_spec.proofs.Finds.{at_found, found_active, active_found}
+use Rattle.mm_spec.proofs.Faultless.{has_formula}
+use Rattle.mm_spec.proofs.CompleteLaw.{Types, is_mandatory, is_mandatory_pair, mandatory_typed}
+use Rattle.mm_spec.proofs.CompleteLaw.{type_mandatory, of_formula, of_hypothesis, of_pair}
+
+-- an assertion has a formula
+has_one : (s : Statement) → is_assertion s ≡ true → has_formula s ≡ true
+has_one (axiomatic l k xs d) e = refl
+has_one (provable l k xs q ps d) e = refl
+has_one _ e = absurd (true≢false (sym e))
+
+-- some item passes
+some_passes : {X : Type 0} (p : X → Bool) (xs : List X) → list_any p xs ≡ true
+    → (x : X) × (p x ≡ true)
+some_passes p [] e = absurd (true≢false (sym e))
+some_passes {X} p (x ∷ xs) e = by (or_cases (p x) (list_any p xs) e) (some_passes p xs)
+  where
+    by : (p x ≡ true) ⊎ (list_any p xs ≡ true) → (list_any p xs ≡ true → (y : X) × (p y ≡ true))
+        → (y : X) × (p y ≡ true)
+    by (inl h) more = (x, h)
+    by (inr h) more = more h
+
+-- what is read is lawful
+lawful_read : (len : ℕ) (x : LexedText) (db : List Statement) (fault : Option Fault)
+    → IsRead len x db fault → (k : ℕ) → k < length db → IsLawful db k
+lawful_read len x db fault r k h =
+    sym (scope_fault-front db r.rest k h) ∙ ap (λ row. scope_fault row k) (sym r.splits)
+    ∙ r.lawful k h
+
+module _ (db : List Statement) (lawful : (k : ℕ) → k < length db → IsLawful db k) (k : ℕ) where
+  abbrev IsMandatory : ℕ → Type 0
+  IsMandatory x = is_member (mandatory_variables db k) x ≡ true
+
+  abbrev is_essential_at : ℕ → Bool
+  is_essential_at j = list_any is_essential (statement_at db j)
+
+  abbrev essentials : List ℕ
+  essentials = active_of is_essential db k
+
+  -- whether a symbol stands in the formula of statement j, in a mandatory hypothesis, in a
+  -- mandatory pair
+  abbrev in_formula : ℕ → ℕ → Bool
+  in_formula x j = is_member (formula_at db j) x
+
+  abbrev in_hypotheses : ℕ → Bool
+  in_hypotheses x = list_any (in_formula x) (mandatory_hypotheses db k)
+
+  abbrev in_pair : ℕ → Pair → Bool
+  in_pair x p = (x == p.low) || (x == p.high)
+
+  abbrev in_pairs : ℕ → Bool
+  in_pairs x = list_any (in_pair x) (mandatory_pairs db k)
+
+  among : (j : ℕ) → is_active db j k ≡ true → is_mandatory db k j ≡ true
+      → is_member (mandatory_hypotheses db k) j ≡ true
+  among j a m =
+      filter-member (is_mandatory db k) (active db k) j m
+      (active_found db k (λ i. j == i) j a (eq-eqb j j refl))
+
+  typed : VariablesAreTyped db k
+  typed assertion x h =
+      let s = found_at db is_assertion k assertion in
+      let t = mandatory_typed db lawful k x s.0 s.1 (has_one s.0 s.2) h in
+      (t.0, among t.0 t.1 (type_mandatory db lawful k t.0 x t.2 h), is_typing t.0 t.2)
+    where
+      is_typing : (i : ℕ) → Types db lawful i x → IsTyping db i x
+      is_typing i t = record {
+        floats = at_found db is_floating i t.statement t.stands t.floats;
+        typecode = t.typecode;
+        is = t.is;
+        constant = t.constant;
+      }
+
+  -- what stands in a hypothesis
+  in_hypothesis : (x j : ℕ) → is_active db j k ≡ true → is_mandatory db k j ≡ true
+      → in_formula x j ≡ true → in_hypotheses x ≡ true
+  in_hypothesis x j a m h =
+      any-filter (is_mandatory db k) (in_formula x) (active db k)
+      ∙ active_found db k (λ j. is_mandatory db k j && in_formula x j) j a
+      (and_from (is_mandatory db k j) (in_formula x j) m h)
+
+  to_frame : (x : ℕ) → IsMandatory x
+      → IsTrue (is_variable_number db x) × IsTrue (is_in_frame db k x)
+  to_frame x h = let p = member-filter (is_variable_number db) (formula_at db k ++ more) x h in (
+    p.0,
+    by
+        (or_cases (in_formula x k) (is_member more x)
+        (sym (list_any-append (λ y. x == y) (formula_at db k) more) ∙ p.1)),
+  )
+    where
+      more : List ℕ
+      more = flat_map (formula_at db) essentials
+
+      of_essential : (j : ℕ) → is_active db j k ≡ true
+          → (is_essential_at j && in_formula x j) ≡ true → in_hypotheses x ≡ true
+      of_essential j a e =
+          let p = and_parts (is_essential_at j) (in_formula x j) e in
+          let typed_here =
+          list_any is_floating (statement_at db j)
+          && list_any (is_member (mandatory_variables db k)) (formula_at db j) in
+          in_hypothesis x j a (or_left (is_essential_at j) typed_here p.0) p.1
+
+      by : (in_formula x k ≡ true) ⊎ (is_member more x ≡ true) → is_in_frame db k x ≡ true
+      by (inl g) = or_left (in_formula x k) (in_hypotheses x || in_pairs x) g
+      by (inr g) =
+          let has =
+          sym (any-flat_map (λ y. x == y) (formula_at db) essentials
+          ∙ any-filter is_essential_at (in_formula x) (active db k))
+          ∙ g in
+          let a = found_active db k (λ j. is_essential_at j && in_formula x j) has in
+          or_right (in_formula x k) (in_hypotheses x || in_pairs x)
+          (or_left (in_hypotheses x) (in_pairs x) (of_essential a.0 a.1 a.2))
+
+  from_frame : (x : ℕ) → is_variable_number db x ≡ true → is_in_frame db k x ≡ true → IsMandatory x
+  from_frame x v h = by (or_cases (in_formula x k) (in_hypotheses x || in_pairs x) h)
+    where
+      all : List Pair
+      all = pairs_of (length (symbol_names db))
+
+      either : (p : Pair) → is_mandatory_pair db k p ≡ true
+          → ((x == p.low) ≡ true) ⊎ ((x == p.high) ≡ true) → IsMandatory x
+      either p m (inl e) =
+          ap (is_member (mandatory_variables db k)) (eqb-true x p.low e)
+          ∙ (of_pair db lawful k p m).0
+      either p m (inr e) =
+          ap (is_member (mandatory_variables db k)) (eqb-true x p.high e)
+          ∙ (of_pair db lawful k p m).1
+
+      more : (in_hypotheses x ≡ true) ⊎ (in_pairs x ≡ true) → IsMandatory x
+      more (inl g) =
+          let has = sym (any-filter (is_mandatory db k) (in_formula x) (active db k)) ∙ g in
+          let a = found_active db k (λ j. is_mandatory db k j && in_formula x j) has in
+          let p = and_parts (is_mandatory db k a.0) (in_formula x a.0) a.2 in
+          of_hypothesis db lawful k a.0 x a.1 p.0 p.1 v
+      more (inr g) =
+          let a =
+          some_passes (λ p. is_mandatory_pair db k p && in_pair x p) all
+          (sym (any-filter (is_mandatory_pair db k) (in_pair x) all) ∙ g) in
+          let p = and_parts (is_mandatory_pair db k a.0) (in_pair x a.0) a.1 in
+          either a.0 p.0 (or_cases (x == a.0.low) (x == a.0.high) p.1)
+
+      by : (in_formula x k ≡ true) ⊎ ((in_hypotheses x || in_pairs x) ≡ true) → IsMandatory x
+      by (inl g) = of_formula db lawful k x g v
+      by (inr g) = more (or_cases (in_hypotheses x) (in_pairs x) g)
+
+pub variables_typed : WhereRead VariablesAreTyped
+variables_typed len x db fault r k = typed db (lawful_read len x db fault r) k
+
+pub variables_mandatory : WhereRead VariablesAreMandatory
+variables_mandatory len x db fault r k assertion v =
+    let law = lawful_read len x db fault r in
+    (to_frame db law k v, λ p. from_frame db law k v p.0 p.1)
