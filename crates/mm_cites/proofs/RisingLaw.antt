@@ -22,8 +22,7 @@ filter-at p (x ∷ xs) i d h = by (p x) refl (filter-at p xs) i h
 pub filter-rising : (p : ℕ → Bool) (n : ℕ) → n < 2 ^ 31 → IsRising (filter p (range_with_len 0 n))
 filter-rising p n few =
     record {
-      few = let l = shorter p n 0 in
-          omega (arith, l, few);
+      few = let l = shorter p n 0 in omega (arith, l, few);
       rises = λ i j l h. rises p n 0 i j l h;
     }
   where

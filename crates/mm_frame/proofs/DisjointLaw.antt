@@ -63,8 +63,7 @@ module _ (had : List (ℕ × ℕ)) (rising : AreRising had) (place : ℕ)
       record {
         further = omega arith;
         within = omega (arith, inside);
-        same = λ p l m. absurd
-            (omega (arith, l, m));
+        same = λ p l m. absurd (omega (arith, l, m));
         kept = λ x y e. e;
         only = λ x y e. inl e;
         all = λ p l m. absurd (omega (arith, l, m));

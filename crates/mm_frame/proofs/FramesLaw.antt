@@ -152,8 +152,7 @@ module _ (db : List Statement) where
         each i l (inr m) =
             record {
               hypotheses = λ is. absurd (not_here i l is m);
-              disjoint = λ is. absurd
-                  (not_here i l is m);
+              disjoint = λ is. absurd (not_here i l is m);
             }
 
     -- an assertion with its frame

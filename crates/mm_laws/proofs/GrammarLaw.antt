@@ -192,8 +192,7 @@ both text [] = record {
         rest = Some (o, us);
         are_items = tt;
         is_rest = (h, all);
-        words = ap (λ (vs : List Word). o ∷ vs)
-            (append-nil us);
+        words = ap (λ (vs : List Word). o ∷ vs) (append-nil us);
         same_tokens = refl;
         same_comment = refl;
       });

@@ -117,8 +117,7 @@ module _ (hypotheses labels : List ℕ) where
       → IsSaid before (number n ∷ items) (s ∷ ss)
   said_number before items ss n s named h =
       record {
-        count = let c = h.count in
-            omega (arith, count_append is_number (number n ∷ []) items);
+        count = let c = h.count in omega (arith, count_append is_number (number n ∷ []) items);
         each = each;
       }
     where
@@ -152,8 +151,7 @@ module _ (hypotheses labels : List ℕ) where
       → IsSaid before (mark ∷ items) ss
   said_mark before items ss h =
       record {
-        count = let c = h.count in
-            omega (arith, count_append is_number (mark ∷ []) items);
+        count = let c = h.count in omega (arith, count_append is_number (mark ∷ []) items);
         each = each;
       }
     where

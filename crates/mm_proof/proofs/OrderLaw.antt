@@ -89,8 +89,7 @@ when_run from to place false c l h = no_run from to
 from_run : (from low to : ℕ) (fs : List Fault) → from ≤ low → Run low to fs → Run from to fs
 from_run from low to fs l h =
     record {
-      low = each_map (λ f. low ≤ f.at) (λ f. from ≤ f.at) fs
-          (λ f m. omega (arith, l, m)) h.low;
+      low = each_map (λ f. low ≤ f.at) (λ f. from ≤ f.at) fs (λ f m. omega (arith, l, m)) h.low;
       high = h.high;
       sorted = h.sorted;
     }

@@ -147,8 +147,7 @@ bytes_none across bits at first =
     let none : ℕ = 0 in
     record {
       size = length-replicate 64 none;
-      done = λ k b less small. absurd
-          (omega arith);
+      done = λ k b less small. absurd (omega arith);
       left = λ k le lt. get_or-replicate 64 k none none lt;
     }
 

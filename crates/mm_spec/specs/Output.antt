@@ -158,8 +158,7 @@ IsReportOf choice db open_theorems request bytes =
 abbrev pub lexed_of : List ℕ → LexedText
 lexed_of text =
     record {
-      tokens = map (λ w. token w.start (bytes_of text w))
-          (tokens_of text);
+      tokens = map (λ w. token w.start (bytes_of text w)) (tokens_of text);
       fault = lexical_fault text;
     }
 

@@ -63,8 +63,7 @@ module _ (db : List Statement) (few : length db < 2 ^ 31) (complete : AreComplet
           theorems_are = refl;
           valid = all-valid db few complete by_essential lists h;
           rising = λ i l. (h.each i l).checked.rising;
-          exact = λ i l.
-              (h.each i l).checked.exact;
+          exact = λ i l. (h.each i l).checked.exact;
           shows = shows db few complete by_essential lists h;
         },
       )

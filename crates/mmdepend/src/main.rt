@@ -8,7 +8,7 @@
 mod ending;
 mod program;
 #[cfg(test)]
-mod statuses;
+mod tests;
 
 pub use mm_line::{Line, LineRefused, line};
 pub use mm_plan::{Cutting, Plan};

@@ -58,8 +58,7 @@ returns-in-Done c =
       e.holds.0,
       record {
         later = omega (arith, end, later);
-        within = omega
-            (arith, end, test);
+        within = omega (arith, end, test);
         leads = subst
             (λ k. Leads (start c.args.deep) (behind c.args.text.now c.args.tokens.now c.args.from)
             (statement_of c.args.text.now c.args.tokens.now o ∷ [])
