@@ -1,5 +1,6 @@
 -- The statements of laws over the definitions (this project's own).
-use Rattle.std.specs.Prelude.{◌≡◌, ◌≢◌, ◌↔◌, ◌≤◌, ◌==◌, ℕ, Bool, true, false, ◌||◌, List, [], ◌∷◌, map, Option, Some, ◌⊎◌, Decides, IsTrue, slice_get, codes}
+use Rattle.std.specs.Prelude.{◌≡◌, ◌≢◌, ◌↔◌, ◌≤◌, ◌==◌, ℕ, Bool, true, false, ◌||◌, List, [], ◌∷◌}
+use Rattle.std.specs.Prelude.{map, Option, Some, ◌⊎◌, Decides, IsTrue, slice_get, codes}
 use Rattle.std.specs.List.{AllZip, AllByRecursion, list_any}
 use Rattle.mm_spec.specs.Text.{Token}
 use Rattle.mm_spec.specs.declared.Fault.{Fault}
@@ -7,7 +8,8 @@ use Rattle.mm_spec.specs.Statement.{Statement, provable}
 use Rattle.mm_spec.specs.Opened.{counted}
 use Rattle.mm_spec.specs.Scope.{statement_at}
 use Rattle.mm_spec.specs.Derivation.{Trees, AreDerivations, postfix, is_member}
-use Rattle.mm_spec.specs.Frame.{formula_at, is_variable_number, is_floating, mandatory_variables, mandatory_hypotheses, mandatory_pairs}
+use Rattle.mm_spec.specs.Frame.{formula_at, is_variable_number, is_floating, mandatory_variables}
+use Rattle.mm_spec.specs.Frame.{mandatory_hypotheses, mandatory_pairs}
 use Rattle.mm_spec.specs.Steps.{Step, label}
 use Rattle.mm_spec.specs.Proof.{steps, reading_faults}
 use Rattle.mm_spec.specs.Valid.{Derives}
@@ -53,7 +55,9 @@ VariablesAreMandatory db k = IsTrue (list_any is_assertion (statement_at db k)) 
 
 -- the same labels, the same row of derivations
 abbrev pub LabelsDetermine : List Statement → ℕ → Type 0
-LabelsDetermine db k = (r s : Trees) → AreDerivations (context_at db k) r → AreDerivations (context_at db k) s → postfix r ≡ postfix s → r ≡ s
+LabelsDetermine db k =
+    (r s : Trees) → AreDerivations (context_at db k) r → AreDerivations (context_at db k) s
+    → postfix r ≡ postfix s → r ≡ s
 
 -- a theorem has one derivation at most
 abbrev pub ProofIsUnique : List Statement → ℕ → Type 0
@@ -74,7 +78,9 @@ FaultIsUnique db k = (f g : Fault) → IsFaultOf db k f → IsFaultOf db k g →
 
 -- what is written for a text is one
 abbrev pub OutputIsUnique : Type 0
-OutputIsUnique = (text : List ℕ) (request : Request) (a b : List ℕ) → IsOutput text request a → IsOutput text request b → a ≡ b
+OutputIsUnique =
+    (text : List ℕ) (request : Request) (a b : List ℕ) → IsOutput text request a
+    → IsOutput text request b → a ≡ b
 
 -- reading gives something
 abbrev pub IsReadable : ℕ → LexedText → Type 0
@@ -82,7 +88,9 @@ IsReadable len x = (db : List Statement) × (fault : Option Fault) × IsRead len
 
 -- there is a first fault, or none at all
 abbrev pub IsSoundOrFaulty : ℕ → LexedText → (with_open : Bool) → Type 0
-IsSoundOrFaulty len x with_open = ((f : Fault) × FirstFault len x with_open f) ⊎ ((db : List Statement) × HasNoFault len x with_open db)
+IsSoundOrFaulty len x with_open =
+    ((f : Fault) × FirstFault len x with_open f)
+    ⊎ ((db : List Statement) × HasNoFault len x with_open db)
 
 -- one of the two truth values tells whether it holds
 abbrev pub IsDecided : Type 0 → Type 0
@@ -90,7 +98,9 @@ IsDecided P = (mark : Bool) × Decides mark P
 
 -- where there is no fault, each cell is marked or not
 abbrev pub AreDecided : ℕ → LexedText → (with_open : Bool) → Type 0
-AreDecided len x with_open = (db : List Statement) → HasNoFault len x with_open db → (by_essential : Bool) (t a : ℕ) → IsDecided (RestsOn (counted with_open db) by_essential t a)
+AreDecided len x with_open =
+    (db : List Statement) → HasNoFault len x with_open db → (by_essential : Bool) (t a : ℕ)
+    → IsDecided (RestsOn (counted with_open db) by_essential t a)
 
 -- something is written for each text
 abbrev pub OutputExists : Type 0
@@ -98,11 +108,15 @@ OutputExists = (text : List ℕ) (request : Request) → (bytes : List ℕ) × I
 
 -- the words of a compressed proof part in one way
 abbrev pub PartsAreUnique : Type 0
-PartsAreUnique = (ts labels letters others more : List Token) → IsCompressed ts labels letters → IsCompressed ts others more → (labels ≡ others) × (letters ≡ more)
+PartsAreUnique =
+    (ts labels letters others more : List Token) → IsCompressed ts labels letters
+    → IsCompressed ts others more → (labels ≡ others) × (letters ≡ more)
 
 -- letters spell one row of items at most
 abbrev pub SpellingIsUnique : Type 0
-SpellingIsUnique = (letters : List ℕ) (items others : List Item) → Spells letters items → Spells letters others → items ≡ others
+SpellingIsUnique =
+    (letters : List ℕ) (items others : List Item) → Spells letters items → Spells letters others
+    → items ≡ others
 
 -- the letters of a proof spell some items
 pub record IsSpelledOut (ts : List Token) : Type 0 where
@@ -115,7 +129,9 @@ pub record IsSpelledOut (ts : List Token) : Type 0 where
 
 -- where reading finds no fault in a proof that begins with `(`, its letters spell some items
 abbrev pub ProofsAreSpelled : Type 0
-ProofsAreSpelled = (db : List Statement) (k end : ℕ) (t : Token) (ts : List Token) → t.word ≡ codes "(" → reading_faults db k end (t ∷ ts) ≡ [] → IsSpelledOut (t ∷ ts)
+ProofsAreSpelled =
+    (db : List Statement) (k end : ℕ) (t : Token) (ts : List Token) → t.word ≡ codes "("
+    → reading_faults db k end (t ∷ ts) ≡ [] → IsSpelledOut (t ∷ ts)
 
 -- the steps of a proof without their places
 abbrev pub bare_steps : List Statement → ℕ → List Token → List Step
@@ -126,15 +142,20 @@ abbrev pub StepsAreNamed : List Statement → ℕ → Type 0
 StepsAreNamed db k =
     (end : ℕ) (ts labels letters : List Token) (items : List Item) → reading_faults db k end ts ≡ []
     → IsCompressed ts labels letters → Spells (letters_in letters) items
-    → (js : List ℕ) × AllZip (λ t j. IsUsable db k t.word j) labels js × AreSteps (mandatory_hypotheses db k) js items (bare_steps db k ts)
+    → (js : List ℕ) × AllZip (λ t j. IsUsable db k t.word j) labels js
+    × AreSteps (mandatory_hypotheses db k) js items (bare_steps db k ts)
 
 -- items and labels say one row of steps at most
 abbrev pub NamedStepsAreUnique : Type 0
-NamedStepsAreUnique = (hypotheses labels : List ℕ) (items : List Item) (ss others : List Step) → AreSteps hypotheses labels items ss → AreSteps hypotheses labels items others → ss ≡ others
+NamedStepsAreUnique =
+    (hypotheses labels : List ℕ) (items : List Item) (ss others : List Step)
+    → AreSteps hypotheses labels items ss → AreSteps hypotheses labels items others → ss ≡ others
 
 -- the steps of a normal proof are its labels
 abbrev pub StepsAreLabels : List Statement → ℕ → Type 0
-StepsAreLabels db k = (end : ℕ) (t : Token) (ts : List Token) → reading_faults db k end (t ∷ ts) ≡ [] → t.word ≢ codes "("
+StepsAreLabels db k =
+    (end : ℕ) (t : Token) (ts : List Token) → reading_faults db k end (t ∷ ts) ≡ []
+    → t.word ≢ codes "("
     → AllZip (λ u s. (j : ℕ) × (s ≡ label j) × IsUsable db k u.word j) (t ∷ ts)
     (bare_steps db k (t ∷ ts))
 
@@ -142,7 +163,8 @@ StepsAreLabels db k = (end : ℕ) (t : Token) (ts : List Token) → reading_faul
 abbrev pub HaveWaves : ℕ → LexedText → (with_open : Bool) → Type 0
 HaveWaves len x with_open =
     (db : List Statement) → HasNoFault len x with_open db → (by_essential : Bool) (t : ℕ)
-    → (n : ℕ) × IsWave (counted with_open db) by_essential t n × ((m : ℕ) → IsWave (counted with_open db) by_essential t m → m ≡ n)
+    → (n : ℕ) × IsWave (counted with_open db) by_essential t n
+    × ((m : ℕ) → IsWave (counted with_open db) by_essential t m → m ≡ n)
 
 -- what a theorem cites by the essential nodes of its proof, it cites
 abbrev pub EssentialIsCited : Type 0
@@ -150,7 +172,11 @@ EssentialIsCited = (db : List Statement) (t a : ℕ) → Cites db true t a → C
 
 -- without the flag each label of an assertion is cited
 abbrev pub EachLabelIsCited : Type 0
-EachLabelIsCited = (db : List Statement) (t a : ℕ) → Cites db false t a ↔ (IsTrue (list_any is_assertion (statement_at db a)) × (d : Trees) × IsProof db t d × IsTrue (is_member (postfix d) a))
+EachLabelIsCited =
+    (db : List Statement) (t a : ℕ)
+    → Cites db false t a
+    ↔ (IsTrue (list_any is_assertion (statement_at db a)) × (d : Trees) × IsProof db t d
+    × IsTrue (is_member (postfix d) a))
 
 -- reading finds no fault in a compressed proof that is well formed, and in no other
 abbrev pub CompressedIsExact : List Statement → ℕ → Type 0
@@ -203,8 +229,14 @@ ValidOnTheMeaning db k = IsTrue (is_theorem_at db k) → IsValid db k ↔ IsProv
 
 -- each number from 1 on is spelled by one row of letters
 abbrev pub NumbersHaveOneSpelling : Type 0
-NumbersHaveOneSpelling = (n : ℕ) → 1 ≤ n → (letters : List ℕ) × IsNumber letters n × ((others : List ℕ) → IsNumber others n → others ≡ letters)
+NumbersHaveOneSpelling =
+    (n : ℕ) → 1 ≤ n
+    → (letters : List ℕ) × IsNumber letters n
+    × ((others : List ℕ) → IsNumber others n → others ≡ letters)
 
 -- where the letters of a number become more
 abbrev pub BookNumbers : Type 0
-BookNumbers = IsNumber (codes "A") 1 × IsNumber (codes "T") 20 × IsNumber (codes "UA") 21 × IsNumber (codes "YT") 120 × IsNumber (codes "UUA") 121 × IsNumber (codes "YYT") 620 × IsNumber (codes "UUUA") 621
+BookNumbers =
+    IsNumber (codes "A") 1 × IsNumber (codes "T") 20 × IsNumber (codes "UA") 21
+    × IsNumber (codes "YT") 120 × IsNumber (codes "UUA") 121 × IsNumber (codes "YYT") 620
+    × IsNumber (codes "UUUA") 621

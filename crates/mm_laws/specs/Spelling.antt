@@ -127,7 +127,8 @@ NumbersName many items =
 
 -- a mark stands after a number
 abbrev pub MarksFollow : List Item → Type 0
-MarksFollow items = (before after : List Item) → items ≡ before ++ mark ∷ after → 1 ≤ count_by is_number before
+MarksFollow items =
+    (before after : List Item) → items ≡ before ++ mark ∷ after → 1 ≤ count_by is_number before
 
 -- a compressed proof as it should be
 pub record IsWellSpelled (db : List Statement) (k : ℕ) (ts : List Token) : Type 0 where

@@ -4,12 +4,11 @@
 //! proof spell, and the statements of the laws. No other crate stands on this one, so that nothing
 //! waits for the laws, and a program is built without them.
 //!
-//! No wrong body can be made of an empty one. So the edits of `must-fail` turn a law into a
+//! No wrong body can be made of an empty one. So the edits of `must-fail` turn a clause into a
 //! statement that isn't true, and the prover refuses each, since the law's proof doesn't give it: a
-//! premise is dropped, two arguments change places, or a definition that the law stands on says
-//! something else. Each clause whose turning is likely has one, named after the mistake. Small
-//! texts for which the definitions are worked out stand in `proofs/` (`Examples`, `Vectors`,
-//! `Outputs`).
+//! premise says less, two arguments change places, or a definition that the law stands on says
+//! something else. Each clause has one, named after the mistake. Small texts for which the
+//! definitions are worked out stand in `proofs/` (`Examples`, `Vectors`, `Outputs`).
 #![tactic(auto)]
 
 ghost use Rattle.std.specs.Prelude.{◌≡◌, ◌↔◌, ℕ, Bool, List, None};
@@ -59,7 +58,8 @@ pub fn tokens_are_those_of_the_grammar()
 /// beginning of its tokens, and no other row is.
 pub fn statements_are_the_longest_row()
     ensures are { (tokens : List Token) → IsLongestRow tokens (statements_of tokens) }
-    ensures only { (tokens : List Token) (row : List Statement) → IsLongestRow tokens row → row ≡ statements_of tokens }
+    ensures only { (tokens : List Token) (row : List Statement) → IsLongestRow tokens row
+        → row ≡ statements_of tokens }
 {}
 
 /// Each variable of a frame of what is read has a `$f` among the frame's mandatory hypotheses:
