@@ -8,3 +8,4 @@ pub mod Nested
 pub mod PairsLaw
 pub mod Rising
 pub mod WalkLaw
+pub mod StartsLaw

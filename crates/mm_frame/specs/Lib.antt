@@ -4,3 +4,4 @@ pub mod Members
 pub mod Pairs
 pub mod Tables
 pub mod Walk
+pub mod Starts

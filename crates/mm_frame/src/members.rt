@@ -8,6 +8,7 @@ ghost use Rattle.mm_outline.specs.Blocks.{IsBlocks, lists, end_of};
 ghost use Rattle.mm_frame.specs.Members.{has_symbol, is_live, AreKnown, AreSkips, AreMembers};
 ghost use Rattle.mm_frame.specs.Members.{Covers};
 ghost use Rattle.mm_frame.specs.Pairs.{has_pair, AreRising, is_before};
+ghost use Rattle.mm_frame.specs.Starts.{IsStart, AreStarts};
 
 use crate::tables::Tables;
 use mm_outline::blocks::Blocks;
@@ -23,6 +24,9 @@ pub struct Members<A: Allocator> {
     /// and of blocks that end no later than its own. So where its block is closed, all these are
     /// passed over at once.
     pub skips: Vec<usize, A>,
+    /// For each symbol up to the last that has pairs, how many pairs are of symbols before it.
+    starts: Vec<usize, A>,
+    ghost starts_are: { AreStarts pairs.items starts.items },
 }
 
 /// Puts the pairs in order, each once.
@@ -108,6 +112,23 @@ fn skips_of<A: Allocator + Copy>(
     Ok(skips)
 }
 
+/// For each symbol up to the last that has pairs, how many pairs are of symbols before it.
+fn starts_of<A: Allocator + Copy>(
+    alloc: A,
+    pairs: &[(u32, u32)],
+) -> Result<Vec<usize, A>, AllocError>
+    requires { AreRising pairs.now }
+    ensures { IfOk result (λ v. AreStarts pairs.now v.items) }
+{
+    let mut starts = Vec::new(alloc);
+    for at in 0..pairs.len() {
+        while starts.len() <= pairs[at].0 as usize {
+            starts.push(at)?;
+        }
+    }
+    Ok(starts)
+}
+
 /// The `$d` statements by their variables.
 pub(crate) fn members_of<A: Allocator + Copy>(
     alloc: A,
@@ -123,22 +144,42 @@ pub(crate) fn members_of<A: Allocator + Copy>(
 {
     let pairs = pairs_by_symbol(alloc, tables)?;
     let skips = skips_of(alloc, blocks, &pairs)?;
-    Ok(Members { pairs, skips })
+    let starts = starts_of(alloc, &pairs)?;
+    Ok(Members {
+        pairs,
+        skips,
+        starts,
+    })
+}
+
+/// How many pairs are of symbols before a symbol.
+fn start_of(pairs: &[(u32, u32)], starts: &[usize], symbol: usize) -> usize
+    requires { AreStarts pairs.now starts.now }
+    ensures { IsStart pairs.now symbol result }
+{
+    match starts.get(symbol) {
+        Some(start) => *start,
+        None => pairs.len(),
+    }
 }
 
 /// How many pairs stand before that of the symbol and the place.
-fn count_before(pairs: &[(u32, u32)], symbol: u32, at: u32) -> usize
-    requires { AreRising pairs.now }
+fn count_before(pairs: &[(u32, u32)], starts: &[usize], symbol: u32, at: u32) -> usize
+    requires rising { AreRising pairs.now }
+    requires starts { AreStarts pairs.now starts.now }
     ensures within { result ≤ length pairs.now }
     ensures before { (p : ℕ) → p < result → is_before (get_or pairs.now p (0, 0)) symbol at ≡ true }
     ensures behind { (p : ℕ) → result ≤ p → p < length pairs.now
         → is_before (get_or pairs.now p (0, 0)) symbol at ≡ false }
 {
-    pairs.partition_point(
+    let from = start_of(pairs, starts, symbol as usize);
+    let to = start_of(pairs, starts, symbol as usize + 1);
+    let earlier = pairs[from..to].partition_point(
         |pair: &(u32, u32)| -> bool
-            ensures { result ≡ is_before pair.now symbol at }
-        { pair.0 < symbol || (pair.0 == symbol && pair.1 < at) },
-    )
+            ensures { result ≡ nat_lt pair.now.1 at }
+        { pair.1 < at },
+    );
+    from + earlier
 }
 
 /// Whether the last of so many pairs, if there is one, has the symbol.
@@ -200,7 +241,8 @@ pub(crate) fn add_active<A: Allocator>(
         (lists blocks.now.of.items blocks.now.ends.items blocks.now.open.items) j at)))) }
 {
     let pairs = members.pairs.as_slice();
-    let mut left = count_before(pairs, symbol.number(), at);
+    let starts = members.starts.as_slice();
+    let mut left = count_before(pairs, starts, symbol.number(), at);
     while ends_with(pairs, left, symbol.number()) {
         let statement = pairs[left - 1].1;
         if blocks.is_open_at(statement, at) {
@@ -237,8 +279,9 @@ pub fn are_together<A: Allocator>(
         ≡ false }
 {
     let pairs = members.pairs.as_slice();
-    let mut left = count_before(pairs, x.number(), at);
-    let mut right = count_before(pairs, y.number(), at);
+    let starts = members.starts.as_slice();
+    let mut left = count_before(pairs, starts, x.number(), at);
+    let mut right = count_before(pairs, starts, y.number(), at);
     while ends_with(pairs, left, x.number()) && ends_with(pairs, right, y.number()) {
         let one = pairs[left - 1].1;
         let other = pairs[right - 1].1;

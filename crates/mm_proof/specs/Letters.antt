@@ -25,6 +25,10 @@ abbrev pub state : ℕ → List ℕ → List ℕ → Option Begun → List Place
 state t labels marks number steps =
     record { theorem = t; labels = labels; marks = marks; number = number; steps = steps }
 
+-- the same, but for the number
+abbrev pub with_number : State → Option Begun → State
+with_number s number = state s.theorem s.labels s.marks number s.steps
+
 abbrev pub letter : ℕ → ℕ → Letter
 letter at byte = record { at = at; byte = byte }
 

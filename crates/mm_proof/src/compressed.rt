@@ -62,6 +62,17 @@ fn read_labels<A: Allocator>(
     Err(refused(end, Code::OpenBrackets))
 }
 
+/// For how many labels there is room at first, at least.
+const FEWEST_LABELS: usize = 64;
+
+/// How many letters these words have, or some more, where they end at that place.
+fn letters_room(words: &[Word], end: u32) -> usize {
+    match words.first() {
+        Some(first) => end.saturating_sub(first.start) as usize,
+        None => 0,
+    }
+}
+
 /// Reads the words of a compressed proof after its `(`. The proof ends at that place.
 pub(crate) fn read_compressed<A: Allocator + Copy>(
     alloc: A,
@@ -86,10 +97,11 @@ pub(crate) fn read_compressed<A: Allocator + Copy>(
         (compressed_faults database.now.statements theorem end
         (bracketed (as_tokens database.now.text words.now))) e) }
 {
-    let mut labels = with_room(alloc);
+    let mut labels = with_room(alloc, words.len().max(FEWEST_LABELS));
     labels.extend_from_slice(database.frame(theorem).hyps.as_slice())?;
     let count = read_labels(database, theorem, words, end, &mut labels)?;
-    let mut progress = Progress::none(alloc, theorem, labels);
-    progress.read_all(database.text(), &words[count + 1..], end)?;
+    let rest = &words[count + 1..];
+    let mut progress = Progress::none(alloc, theorem, labels, letters_room(rest, end));
+    progress.read_all(database.text(), rest, end)?;
     Ok(progress.into_steps())
 }

@@ -7,9 +7,9 @@ ghost use Rattle.mm_proof.specs.Number.{IsNumber, IsLetter, told};
 #[derive(Clone, Copy, Debug, PartialEq, Eq)]
 pub(crate) enum LetterKind {
     /// `U` to `Y`: a digit 1 to 5 of a number that goes on.
-    Early(u8),
+    Early(u64),
     /// `A` to `T`: the last digit of a number, 1 to 20.
-    Last(u8),
+    Last(u64),
     /// `Z`: the step before it is marked.
     Mark,
     /// `?`: a step is missing.
@@ -22,23 +22,24 @@ pub(crate) enum LetterKind {
 pub(crate) fn letter_of(byte: u8) -> LetterKind
     ensures { IsLetter byte result }
 {
-    match byte {
-        b'A'..=b'T' => LetterKind::Last(byte - b'A' + 1),
-        b'U'..=b'Y' => LetterKind::Early(byte - b'U' + 1),
-        b'Z' => LetterKind::Mark,
-        b'?' => LetterKind::Unknown,
-        _ => LetterKind::Other,
+    if b'A' <= byte && byte <= b'T' {
+        LetterKind::Last(u64::from(byte) - 64)
+    } else if b'U' <= byte && byte <= b'Y' {
+        LetterKind::Early(u64::from(byte) - 84)
+    } else {
+        match byte {
+            b'Z' => LetterKind::Mark,
+            b'?' => LetterKind::Unknown,
+            _ => LetterKind::Other,
+        }
     }
 }
 
 /// A number with one digit more, or the greatest of 64 bits where it is above that.
-pub(crate) fn with_digit(number: u64, base: u64, digit: u8) -> u64
+pub(crate) fn with_digit(number: u64, base: u64, digit: u64) -> u64
     ensures { result ≡ told (base * number + digit) }
 {
-    if number == 0 {
-        return digit as u64;
-    }
-    number.saturating_mul(base).saturating_add(digit as u64)
+    number.saturating_mul(base).saturating_add(digit)
 }
 
 /// The value of a number in letters: any number of `U` to `Y`, and after them one of `A` to `T`.

@@ -9,6 +9,7 @@ use std::alloc::Allocator;
 
 /// The statement of a label that is usable in the proof of a theorem: that of an active hypothesis
 /// or of an earlier assertion.
+#[inline(always)]
 pub(crate) fn usable_label<A: Allocator>(
     database: &Database<A>,
     theorem: u32,

@@ -1,7 +1,7 @@
 //! The letters of a compressed proof.
 
-ghost use Rattle.std.specs.Prelude.{All, IfSome, ◌≡◌, ◌<◌, ◌≤◌, ◌+◌, ◌∷◌, ◌++◌, [], ℕ, None};
-ghost use Rattle.std.specs.Prelude.{length, slice_range, IfErr, IfNone, OnOk};
+ghost use Rattle.std.specs.Prelude.{All, IfSome, ◌≡◌, ◌<◌, ◌≤◌, ◌+◌, ◌*◌, ◌∷◌, ◌++◌, [], ℕ, None};
+ghost use Rattle.std.specs.Prelude.{length, slice_range, IfOk, IfErr, IfNone, OnOk};
 ghost use Rattle.mm_spec.specs.Steps.{placed};
 ghost use Rattle.mm_spec.specs.CompressedProof.{letters_from, letters_of, letter_faults, groups};
 ghost use Rattle.mm_spec.specs.CompressedProof.{group_steps};
@@ -9,17 +9,20 @@ ghost use Rattle.mm_spec.specs.CompressedProof as compressed;
 ghost use Rattle.mm_stmt.specs.Parts.{as_tokens, AreWithin};
 ghost use Rattle.mm_proof.specs.Read.{read, step_of, IsEarlier};
 ghost use Rattle.mm_proof.specs.Number.{IsLetter, told};
-ghost use Rattle.mm_proof.specs.declared.digits.LetterKind.TheVariants.{Early, Last};
-ghost use Rattle.mm_proof.specs.Letters.{State, state, letter, StandsAt, Reads, Stops, begun_at};
-ghost use Rattle.mm_proof.specs.Letters.{named, InOrder};
+ghost use Rattle.mm_proof.specs.declared.digits.LetterKind.TheVariants.{Last};
+ghost use Rattle.mm_proof.specs.Letters.{State, state, letter, StandsAt, with_number, Reads, Stops};
+ghost use Rattle.mm_proof.specs.Letters.{begun_at, named, InOrder};
 ghost use Rattle.mm_proof.specs.Refused.{StartsWith};
 
 use crate::digits::{LetterKind, letter_of, with_digit};
-use crate::placed::{Step, Steps};
+use crate::placed::{Step, Steps, with_room};
 use crate::refused::{ProofRefused, refused};
 use mm_stmt::{Code, Word};
 use std::alloc::{AllocError, Allocator};
 use std::marker::Model;
+
+/// For how many marks there is room at first: most proofs have fewer.
+const ROOM: usize = 64;
 
 /// A number whose last letter has not come yet.
 #[derive(Clone, Copy)]
@@ -30,7 +33,23 @@ pub(crate) struct Begun {
     value: u64,
 }
 
-/// What the letters so far stand for.
+/// A number with one digit more, whose letter stands at that place.
+fn begun_by(number: Option<Begun>, at: u32, base: u64, digit: u64) -> Begun
+    requires { digit ≤ 20 }
+    ensures at { result.at ≡ (begun_at number at).at }
+    ensures value { result.value ≡ told (base * (begun_at number at).value + digit) }
+{
+    match number {
+        Some(begun) => Begun {
+            at: begun.at,
+            value: with_digit(begun.value, base, digit),
+        },
+        None => Begun { at, value: digit },
+    }
+}
+
+/// What the letters so far stand for, but for a number whose last letter has not come yet: that one
+/// is passed along, so that it stays in registers.
 #[derive(Drop)]
 pub(crate) struct Progress<A: Allocator> {
     /// The statements whose labels have numbers: the theorem's mandatory hypotheses, and those in
@@ -38,30 +57,29 @@ pub(crate) struct Progress<A: Allocator> {
     labels: Vec<u32, A>,
     /// The steps that were marked, one for each `Z`.
     marks: Vec<u32, A>,
-    number: Option<Begun>,
     steps: Steps<A>,
 }
 
 impl<A: Allocator> Model for Progress<A> {
+    ghost use Rattle.std.specs.Prelude.{None};
     ghost use Rattle.mm_proof.specs.Letters.{State, state};
 
     ghost Value = { State };
 
-    ghost view = { λ p. state p.steps.theorem p.labels.items p.marks.items p.number p.steps.steps };
+    ghost view = { λ p. state p.steps.theorem p.labels.items p.marks.items None p.steps.steps };
 }
 
 impl<A: Allocator> Progress<A> {
-    /// No letters yet, where these labels have numbers.
-    pub(crate) fn none(alloc: A, theorem: u32, labels: Vec<u32, A>) -> Self
+    /// No letters yet, of no more than so many, where these labels have numbers.
+    pub(crate) fn none(alloc: A, theorem: u32, labels: Vec<u32, A>, most: usize) -> Self
     where
         A: Copy,
         ensures { result ≡ state theorem labels.items [] None [] }
     {
         Progress {
             labels,
-            marks: Vec::new(alloc),
-            number: None,
-            steps: Steps::none(alloc, theorem),
+            marks: with_room(alloc, ROOM),
+            steps: Steps::none(alloc, theorem, most),
         }
     }
 
@@ -70,16 +88,6 @@ impl<A: Allocator> Progress<A> {
         ensures { result ≡ read self.theorem self.steps }
     {
         self.steps
-    }
-
-    /// The number to which a letter at that place belongs.
-    fn begun(&self, at: u32) -> Begun
-        ensures { result ≡ begun_at self.now.number at }
-    {
-        match self.number {
-            Some(begun) => begun,
-            None => Begun { at, value: 0 },
-        }
     }
 
     /// The step that a number names, by its value, or by the greatest of 64 bits where it is above
@@ -107,22 +115,6 @@ impl<A: Allocator> Progress<A> {
         }
     }
 
-    /// Reads a letter after which a number goes on.
-    fn go_on(&mut self, at: u32, digit: u8)
-        ensures theorem { self.new.theorem ≡ self.old.theorem }
-        ensures labels { self.new.labels ≡ self.old.labels }
-        ensures steps { self.new.steps ≡ self.old.steps }
-        ensures marks { self.new.marks ≡ self.old.marks }
-        ensures reads { (byte : ℕ) → IsLetter byte (Early digit)
-            → Reads self.old (letter at byte ∷ []) self.new }
-    {
-        let begun = self.begun(at);
-        self.number = Some(Begun {
-            at: begun.at,
-            value: with_digit(begun.value, 5, digit),
-        });
-    }
-
     /// Adds the step of a number that ends, which is a label or an earlier step.
     fn add_step(&mut self, at: u32, step: Step) -> Result<(), AllocError>
         requires earlier { IsEarlier (step_of step) (length self.old.steps) }
@@ -132,44 +124,44 @@ impl<A: Allocator> Progress<A> {
             (self.old.steps ++ placed at (step_of step) ∷ [])) }
     {
         self.steps.push(at, step)?;
-        self.number = None;
         Ok(())
     }
 
     /// Reads the last letter of a number.
-    fn end_number(&mut self, at: u32, digit: u8) -> Result<(), ProofRefused>
+    fn end_number(&mut self, number: Option<Begun>, at: u32, digit: u64) -> Result<(), ProofRefused>
         requires digit { 0 < digit }
+        requires small { digit ≤ 20 }
         requires stands { StandsAt self.old at }
         ensures theorem { OnOk result (self.new.theorem ≡ self.old.theorem) }
         ensures labels { OnOk result (self.new.labels ≡ self.old.labels) }
         ensures stands { OnOk result (StandsAt self.new (at + 1)) }
         ensures reads { OnOk result
             ((byte : ℕ) → IsLetter byte (Last digit)
-            → Reads self.old (letter at byte ∷ []) self.new) }
+            → Reads (with_number self.old number) (letter at byte ∷ [])
+            (with_number self.new None)) }
         ensures stops { IfErr result
             (λ e. (byte : ℕ) → IsLetter byte (Last digit)
-            → Stops self.old (letter at byte ∷ []) e) }
+            → Stops (with_number self.old number) (letter at byte ∷ []) e) }
     {
-        let begun = self.begun(at);
-        let Some(step) = self.named(with_digit(begun.value, 20, digit)) else {
+        let begun = begun_by(number, at, 20, digit);
+        let Some(step) = self.named(begun.value) else {
             return Err(refused(begun.at, Code::NumberTooLarge));
         };
         self.add_step(begun.at, step)?;
         Ok(())
     }
 
-    /// Reads a `Z`.
+    /// Reads a `Z` after a number that has ended.
     fn mark(&mut self, at: u32) -> Result<(), ProofRefused>
         requires stands { StandsAt self.old at }
         ensures theorem { OnOk result (self.new.theorem ≡ self.old.theorem) }
         ensures labels { OnOk result (self.new.labels ≡ self.old.labels) }
         ensures stands { OnOk result (StandsAt self.new (at + 1)) }
-        ensures reads { OnOk result (Reads self.old (letter at 90 ∷ []) self.new) }
-        ensures stops { IfErr result (λ e. Stops self.old (letter at 90 ∷ []) e) }
+        ensures reads { OnOk result
+            (Reads (with_number self.old None) (letter at 90 ∷ []) (with_number self.new None)) }
+        ensures stops { IfErr result
+            (λ e. Stops (with_number self.old None) (letter at 90 ∷ []) e) }
     {
-        if self.number.is_some() {
-            return Err(refused(at, Code::OpenNumber));
-        }
         if self.steps.len() == 0 {
             return Err(refused(at, Code::MarkBeforeStep));
         }
@@ -177,46 +169,67 @@ impl<A: Allocator> Progress<A> {
         Ok(())
     }
 
-    /// Reads a letter.
-    fn read(&mut self, at: u32, byte: u8) -> Result<(), ProofRefused>
+    /// Reads a letter, and tells the number that is open after it.
+    fn read(
+        &mut self,
+        number: Option<Begun>,
+        at: u32,
+        byte: u8,
+    ) -> Result<Option<Begun>, ProofRefused>
         requires stands { StandsAt self.old at }
         ensures theorem { OnOk result (self.new.theorem ≡ self.old.theorem) }
         ensures labels { OnOk result (self.new.labels ≡ self.old.labels) }
         ensures stands { OnOk result (StandsAt self.new (at + 1)) }
-        ensures reads { OnOk result (Reads self.old (letter at byte ∷ []) self.new) }
-        ensures stops { IfErr result (λ e. Stops self.old (letter at byte ∷ []) e) }
+        ensures reads { IfOk result
+            (λ n. Reads (with_number self.old number) (letter at byte ∷ [])
+            (with_number self.new n)) }
+        ensures stops { IfErr result
+            (λ e. Stops (with_number self.old number) (letter at byte ∷ []) e) }
     {
         match letter_of(byte) {
-            LetterKind::Early(digit) => {
-                self.go_on(at, digit);
-                Ok(())
+            LetterKind::Early(digit) => Ok(Some(begun_by(number, at, 5, digit))),
+            LetterKind::Last(digit) => {
+                self.end_number(number, at, digit)?;
+                Ok(None)
             }
-            LetterKind::Last(digit) => self.end_number(at, digit),
-            LetterKind::Mark => self.mark(at),
+            LetterKind::Mark => {
+                if number.is_some() {
+                    return Err(refused(at, Code::OpenNumber));
+                }
+                self.mark(at)?;
+                Ok(None)
+            }
             LetterKind::Unknown => Err(refused(at, Code::IncompleteProof)),
             LetterKind::Other => Err(refused(at, Code::BadLetter)),
         }
     }
 
-    /// Reads the letters of a word.
-    fn read_word(&mut self, text: &[u8], word: Word) -> Result<(), ProofRefused>
+    /// Reads the letters of a word, and tells the number that is open after it.
+    fn read_word(
+        &mut self,
+        number: Option<Begun>,
+        text: &[u8],
+        word: Word,
+    ) -> Result<Option<Begun>, ProofRefused>
         requires order { word.start ≤ word.end }
         requires within { word.end ≤ length text.now }
         requires stands { StandsAt self.old word.start }
         ensures theorem { OnOk result (self.new.theorem ≡ self.old.theorem) }
         ensures labels { OnOk result (self.new.labels ≡ self.old.labels) }
         ensures stands { OnOk result (StandsAt self.new word.end) }
-        ensures reads { OnOk result
-            (Reads self.old
-            (letters_from word.start (slice_range text.now word.start word.end)) self.new) }
+        ensures reads { IfOk result
+            (λ n. Reads (with_number self.old number)
+            (letters_from word.start (slice_range text.now word.start word.end))
+            (with_number self.new n)) }
         ensures stops { IfErr result
-            (λ e. Stops self.old
+            (λ e. Stops (with_number self.old number)
             (letters_from word.start (slice_range text.now word.start word.end)) e) }
     {
+        let mut begun = number;
         for at in word.start..word.end {
-            self.read(at, text[at as usize])?;
+            begun = self.read(begun, at, text[at as usize])?;
         }
-        Ok(())
+        Ok(begun)
     }
 
     /// Reads all letters, which end at that place.
@@ -246,10 +259,11 @@ impl<A: Allocator> Progress<A> {
         if words.is_empty() {
             return Err(refused(end, Code::EmptyProof));
         }
+        let mut begun = None;
         for word in words {
-            self.read_word(text, *word)?;
+            begun = self.read_word(begun, text, *word)?;
         }
-        if self.number.is_some() {
+        if begun.is_some() {
             return Err(refused(end, Code::OpenNumber));
         }
         Ok(())

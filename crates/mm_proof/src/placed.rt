@@ -34,20 +34,20 @@ struct Placed {
     is_marked: bool,
 }
 
-/// For how many elements a list has room at first, where memory isn't refused: so those of a common
-/// proof don't grow.
-const ROOM: usize = 64;
+/// For how many steps there is room at first, at most: those of a common proof are fewer.
+const MOST_ROOM: usize = 4096;
 
-/// No numbers yet.
-pub(crate) fn with_room<A: Allocator>(alloc: A) -> Vec<u32, A>
+/// No elements yet, in a list with room for so many, where memory isn't refused: so it needn't
+/// grow.
+pub(crate) fn with_room<T, A: Allocator>(alloc: A, room: usize) -> Vec<T, A>
     ensures { result.items ≡ [] }
 {
-    let mut numbers = Vec::new(alloc);
-    match numbers.reserve(ROOM) {
+    let mut list = Vec::new(alloc);
+    match list.reserve(room) {
         Ok(()) => {}
         Err(_) => {}
     }
-    numbers
+    list
 }
 
 /// The steps of a theorem's proof, by their numbers from 0, each with its place.
@@ -69,15 +69,11 @@ impl<A: Allocator> Model for Steps<A> {
 }
 
 impl<A: Allocator> Steps<A> {
-    /// No steps.
-    pub(crate) fn none(alloc: A, theorem: u32) -> Self
+    /// No steps, of a proof that has no more than so many.
+    pub(crate) fn none(alloc: A, theorem: u32, most: usize) -> Self
         ensures { result ≡ read theorem [] }
     {
-        let mut steps = Vec::new(alloc);
-        match steps.reserve(ROOM) {
-            Ok(()) => {}
-            Err(_) => {}
-        }
+        let steps = with_room(alloc, most.min(MOST_ROOM));
         Steps { theorem, steps }
     }
 

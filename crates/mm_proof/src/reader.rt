@@ -78,7 +78,7 @@ pub fn read_proof<A: Allocator + Copy>(
     if bytes(database.text(), *first) == b"(".as_slice() {
         return read_compressed(alloc, database, theorem, rest, end);
     }
-    let mut steps = Steps::none(alloc, theorem);
+    let mut steps = Steps::none(alloc, theorem, words.len());
     read_words(database, theorem, words, &mut steps)?;
     Ok(steps)
 }

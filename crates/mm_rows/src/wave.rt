@@ -12,7 +12,8 @@ ghost use Rattle.mm_rows.specs.Marks.{IsMatrix};
 ghost use Rattle.mm_rows.specs.Waves.{IsTheorem, AreWaves, IsByWave, AreMade};
 
 use crate::columns::Columns;
-use crate::rows::{bit_row, finish, place};
+use crate::places::Places;
+use crate::rows::{bit_row, finish};
 use crate::table::Matrix;
 use mm_cites::Citations;
 use rayon::prelude::*;
@@ -20,7 +21,13 @@ use std::alloc::{AllocError, Allocator};
 use std::thread::Threads;
 
 /// The wave of a theorem, where those of the theorems before it are known.
-fn next_wave<A: Allocator>(citations: &Citations<A>, waves: &[u32], i: u32) -> u32
+fn next_wave<A: Allocator>(
+    citations: &Citations<A>,
+    theorems: &Places<A>,
+    waves: &[u32],
+    i: u32,
+) -> u32
+    requires theorems { theorems.now ≡ citations.now.theorems }
     requires within { i < length citations.now.theorems }
     requires waves { AreWaves citations.now i waves.now }
     ensures wave { IsWave (Cites citations.now) (IsTheorem citations.now)
@@ -29,11 +36,28 @@ fn next_wave<A: Allocator>(citations: &Citations<A>, waves: &[u32], i: u32) -> u
 {
     let mut wave = 0u32;
     for statement in citations.of(i) {
-        if let Some(r) = place(citations.theorems(), *statement) {
+        if let Some(r) = theorems.find(*statement) {
             wave = wave.max(waves[r] + 1);
         }
     }
     wave
+}
+
+/// The waves of all theorems, by the places of these.
+fn waves_of<A: Allocator + Copy>(
+    alloc: A,
+    citations: &Citations<A>,
+    theorems: &Places<A>,
+) -> Result<Vec<u32, A>, AllocError>
+    requires { theorems.now ≡ citations.now.theorems }
+    ensures { IfOk result (λ v. AreWaves citations.now (length citations.now.theorems) v.items) }
+{
+    let mut waves = Vec::new(alloc);
+    for i in 0..citations.rows() {
+        let wave = next_wave(citations, theorems, &waves, i);
+        waves.push(wave)?;
+    }
+    Ok(waves)
 }
 
 /// For each theorem the number of citations in the longest chain from it through theorems alone.
@@ -43,12 +67,8 @@ pub fn waves<A: Allocator + Copy>(
 ) -> Result<Vec<u32, A>, AllocError>
     ensures { IfOk result (λ v. AreWaves citations.now (length citations.now.theorems) v.items) }
 {
-    let mut waves = Vec::new(alloc);
-    for i in 0..citations.rows() {
-        let wave = next_wave(citations, &waves, i);
-        waves.push(wave)?;
-    }
-    Ok(waves)
+    let theorems = Places::new(alloc, citations.theorems())?;
+    waves_of(alloc, citations, &theorems)
 }
 
 /// The rows of all theorems, those of the lowest wave first.
@@ -105,11 +125,12 @@ fn bit_rows<R: Threads + Sync, A: Allocator + Copy + Send + Sync>(
     rt: &R,
     alloc: A,
     citations: &Citations<A>,
-    columns: &[u32],
+    theorems: &Places<A>,
+    columns: &Places<A>,
     bits: &[u64],
     rows: &[u32],
 ) -> Result<Vec<Result<Vec<u64, A>, AllocError>, A>, AllocError>
-    requires rising { IsRising columns.now }
+    requires theorems { theorems.now ≡ citations.now.theorems }
     requires ready { All
         (λ i. (i < length citations.now.theorems)
         × IsReady citations.now columns.now bits.now i) rows.now }
@@ -125,14 +146,14 @@ fn bit_rows<R: Threads + Sync, A: Allocator + Copy + Send + Sync>(
         .map(
             |k: usize| -> Result<Vec<u64, A>, AllocError>
                 requires within { k < length rows.now }
-                requires rising { IsRising columns.now }
+                requires theorems { theorems.now ≡ citations.now.theorems }
                 requires ready { All
                     (λ i. (i < length citations.now.theorems)
                     × IsReady citations.now columns.now bits.now i) rows.now }
                 ensures { IfOk result
                     (λ w. IsBitRow citations.entry.now columns.entry.now
                     (theorem_at citations.entry.now (slice_index rows.entry.now k)) w.items) }
-            { bit_row(alloc, citations, columns, bits, rows[k]) },
+            { bit_row(alloc, citations, theorems, columns, bits, rows[k]) },
         )
         .with_min_len(1)
         .collect(rt, alloc)
@@ -143,11 +164,12 @@ fn fill_side_by_side<R: Threads + Sync, A: Allocator + Copy + Send + Sync>(
     rt: &R,
     alloc: A,
     citations: &Citations<A>,
-    columns: &[u32],
+    theorems: &Places<A>,
+    columns: &Places<A>,
     rows: &[u32],
     bits: &mut [u64],
 ) -> Result<(), AllocError>
-    requires rising { IsRising columns.now }
+    requires theorems { theorems.now ≡ citations.now.theorems }
     requires size { length bits.old
         ≡ length citations.now.theorems * words_for (length columns.now) }
     requires ready { All
@@ -156,8 +178,8 @@ fn fill_side_by_side<R: Threads + Sync, A: Allocator + Copy + Send + Sync>(
     ensures { OnOk result
         (AreMade citations.now columns.now rows.now (length rows.now) bits.old bits.new) }
 {
-    let width = columns.len().div_ceil(64);
-    let made = bit_rows(rt, alloc, citations, columns, bits, rows)?;
+    let width = columns.words();
+    let made = bit_rows(rt, alloc, citations, theorems, columns, bits, rows)?;
     for k in 0..rows.len() {
         match &made[k] {
             Ok(row) => store(bits, width, rows[k], row),
@@ -171,11 +193,12 @@ fn fill_side_by_side<R: Threads + Sync, A: Allocator + Copy + Send + Sync>(
 fn fill_in_turn<A: Allocator + Copy>(
     alloc: A,
     citations: &Citations<A>,
-    columns: &[u32],
+    theorems: &Places<A>,
+    columns: &Places<A>,
     rows: &[u32],
     bits: &mut [u64],
 ) -> Result<(), AllocError>
-    requires rising { IsRising columns.now }
+    requires theorems { theorems.now ≡ citations.now.theorems }
     requires size { length bits.old
         ≡ length citations.now.theorems * words_for (length columns.now) }
     requires ready { All
@@ -184,9 +207,9 @@ fn fill_in_turn<A: Allocator + Copy>(
     ensures { OnOk result
         (AreMade citations.now columns.now rows.now (length rows.now) bits.old bits.new) }
 {
-    let width = columns.len().div_ceil(64);
+    let width = columns.words();
     for k in 0..rows.len() {
-        let row = bit_row(alloc, citations, columns, bits, rows[k])?;
+        let row = bit_row(alloc, citations, theorems, columns, bits, rows[k])?;
         store(bits, width, rows[k], &row);
     }
     Ok(())
@@ -200,11 +223,12 @@ fn fill_wave<R: Threads + Sync, A: Allocator + Copy + Send + Sync>(
     rt: &R,
     alloc: A,
     citations: &Citations<A>,
-    columns: &[u32],
+    theorems: &Places<A>,
+    columns: &Places<A>,
     rows: &[u32],
     bits: &mut [u64],
 ) -> Result<(), AllocError>
-    requires rising { IsRising columns.now }
+    requires theorems { theorems.now ≡ citations.now.theorems }
     requires size { length bits.old
         ≡ length citations.now.theorems * words_for (length columns.now) }
     requires ready { All
@@ -214,9 +238,9 @@ fn fill_wave<R: Threads + Sync, A: Allocator + Copy + Send + Sync>(
         (AreMade citations.now columns.now rows.now (length rows.now) bits.old bits.new) }
 {
     if rows.len() < FEWEST_FOR_THREADS {
-        fill_in_turn(alloc, citations, columns, rows, bits)
+        fill_in_turn(alloc, citations, theorems, columns, rows, bits)
     } else {
-        fill_side_by_side(rt, alloc, citations, columns, rows, bits)
+        fill_side_by_side(rt, alloc, citations, theorems, columns, rows, bits)
     }
 }
 
@@ -225,11 +249,12 @@ fn fill_waves<R: Threads + Sync, A: Allocator + Copy + Send + Sync>(
     rt: &R,
     alloc: A,
     citations: &Citations<A>,
-    columns: &[u32],
+    theorems: &Places<A>,
+    columns: &Places<A>,
     waves: &[u32],
     bits: &mut [u64],
 ) -> Result<(), AllocError>
-    requires rising { IsRising columns.now }
+    requires theorems { theorems.now ≡ citations.now.theorems }
     requires small { length waves.now < 2147483648 }
     requires waves { AreWaves citations.now (length citations.now.theorems) waves.now }
     requires size { length bits.old
@@ -241,7 +266,15 @@ fn fill_waves<R: Threads + Sync, A: Allocator + Copy + Send + Sync>(
     let mut from = 0;
     while from < rows.len() {
         let to = wave_end(waves, &rows, from);
-        fill_wave(rt, alloc, citations, columns, &rows[from..to], bits)?;
+        fill_wave(
+            rt,
+            alloc,
+            citations,
+            theorems,
+            columns,
+            &rows[from..to],
+            bits,
+        )?;
         from = to;
     }
     Ok(())
@@ -258,10 +291,12 @@ fn all_rows<R: Threads + Sync, A: Allocator + Copy + Send + Sync>(
     ensures { IfOk result
         (λ v. AreBitRows citations.now columns.now (length citations.now.theorems) v.items) }
 {
-    let waves = waves(alloc, citations)?;
+    let theorems = Places::new(alloc, citations.theorems())?;
+    let columns = Places::new(alloc, columns)?;
+    let waves = waves_of(alloc, citations, &theorems)?;
     let mut bits = Vec::new(alloc);
-    bits.resize(citations.rows() as usize * columns.len().div_ceil(64), 0u64)?;
-    fill_waves(rt, alloc, citations, columns, &waves, &mut bits)?;
+    bits.resize(citations.rows() as usize * columns.words(), 0u64)?;
+    fill_waves(rt, alloc, citations, &theorems, &columns, &waves, &mut bits)?;
     Ok(bits)
 }
 

@@ -426,6 +426,7 @@ fn see<'a, A: Allocator + Copy>(
 }
 
 /// The fault, or one at that place with that code, if it is before it.
+#[inline(always)]
 fn note(best: Option<Fault>, at: u32, code: Option<Code>) -> Option<Fault>
     ensures { result ≡ spec_merge best (fault_at at code) }
 {

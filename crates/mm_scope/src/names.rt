@@ -2,6 +2,7 @@
 
 ghost use Rattle.std.specs.Prelude.{◌≡◌, OnOk, IfOk, IfSome, true};
 ghost use Rattle.std.specs.Prelude.{ℕ, List, [], is_some, Some, None, if◌then◌else◌, bytes_eq};
+ghost use Rattle.std.specs.Option.{option_map};
 ghost use Rattle.mm_spec.specs.Frame.{place_of};
 ghost use Rattle.mm_spec.specs.Text.{is_in};
 ghost use Rattle.mm_scope.specs.Names.{find, names_of, with_name, are_distinct};
@@ -82,14 +83,14 @@ pub(crate) fn no_names<'a, A: Allocator + Copy>(alloc: A) -> Result<Names<'a, A>
 impl<'a, A: Allocator + Copy> Names<'a, A> {
     /// The symbol that is guessed, and its number, where the guess is right.
     #[inline(always)]
-    fn guessed(&self, word: &[u8]) -> Option<(usize, Symbol<'a>)>
+    fn guessed(&self, word: &[u8]) -> Option<(usize, &Symbol<'a>)>
         ensures number { IfSome result (λ p. p.0 ≡ place_of word.now (names_of self.now.symbols)) }
-        ensures symbol { IfSome result (λ p. Some p.1 ≡ find self.now.symbols word.now) }
+        ensures symbol { IfSome result (λ p. Some p.1.now ≡ find self.now.symbols word.now) }
     {
         let guess = *self.guesses.get(guess_of(word))?;
         let (name, symbol) = self.symbols.get_index(guess)?;
         if *name == word {
-            Some((guess, *symbol))
+            Some((guess, symbol))
         } else {
             None
         }
@@ -110,19 +111,23 @@ impl<'a, A: Allocator + Copy> Names<'a, A> {
         ensures number { result.0 ≡ place_of word.now (names_of self.now.symbols) }
         ensures symbol { result.1 ≡ find self.now.symbols word.now }
     {
-        match self.guessed(word) {
+        let (number, symbol) = match self.guessed(word) {
             Some((number, symbol)) => (number, Some(symbol)),
             None => self.looked_up(word),
+        };
+        match symbol {
+            Some(symbol) => (number, Some(*symbol)),
+            None => (number, None),
         }
     }
 
-    /// The same, by the word's hash.
-    fn looked_up(&self, word: &[u8]) -> (usize, Option<Symbol<'a>>)
+    /// The same, by the word's hash, with the symbol lent.
+    fn looked_up(&self, word: &[u8]) -> (usize, Option<&Symbol<'a>>)
         ensures number { result.0 ≡ place_of word.now (names_of self.now.symbols) }
-        ensures symbol { result.1 ≡ find self.now.symbols word.now }
+        ensures symbol { option_map (λ s. s.now) result.1 ≡ find self.now.symbols word.now }
     {
         match self.symbols.get_full(word) {
-            Some((number, _, symbol)) => (number, Some(*symbol)),
+            Some((number, _, symbol)) => (number, Some(symbol)),
             None => (self.symbols.len(), None),
         }
     }

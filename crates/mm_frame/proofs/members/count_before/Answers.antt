@@ -1,23 +1,30 @@
-use Rattle.std.proofs.Common.{rules, arith}
+use Rattle.std.proofs.Common.{rules, nat_lt}
 use Rattle.std.proofs.lemmas.List.Sorted.{IsPartitionPoint-from_clause}
-use Rattle.mm_frame.specs.Pairs.{is_before}
-use Rattle.mm_frame.proofs.MembersLaw.{partitioned}
+use Rattle.mm_frame.proofs.StartsLaw.{part_partitioned, before_point, behind_point}
 use Rattle.mm_frame.proofs.members.count_before.Goals as goal
 
 pub returns-clause-before : goal.returns-clause-before
 returns-clause-before c =
-    let parted = partitioned c.args.pairs.now c.requires c.args.symbol c.args.at in
+    let parted =
+    part_partitioned c.args.pairs.now c.requires.rising c.args.symbol c.args.at _ _
+    c.start_of-from.ensures c.start_of-to.ensures in
     let point =
     IsPartitionPoint-from_clause
-    (λ p. is_before p c.args.symbol c.args.at) _ _ c.partition_point.ensures.partitioned parted
+    (λ p. nat_lt p.1 c.args.at) _ _ c.partition_point-earlier.ensures.partitioned parted
     (λ a r q k. search rules) in
-    λ p h. point.0 p (0, 0) (omega arith) h
+    before_point c.args.pairs.now c.requires.rising c.args.symbol c.args.at _ _
+    c.start_of-from.ensures c.start_of-to.ensures _ c.partition_point-earlier.ensures.bound
+    point
 
 pub returns-clause-behind : goal.returns-clause-behind
 returns-clause-behind c =
-    let parted = partitioned c.args.pairs.now c.requires c.args.symbol c.args.at in
+    let parted =
+    part_partitioned c.args.pairs.now c.requires.rising c.args.symbol c.args.at _ _
+    c.start_of-from.ensures c.start_of-to.ensures in
     let point =
     IsPartitionPoint-from_clause
-    (λ p. is_before p c.args.symbol c.args.at) _ _ c.partition_point.ensures.partitioned parted
+    (λ p. nat_lt p.1 c.args.at) _ _ c.partition_point-earlier.ensures.partitioned parted
     (λ a r q k. search rules) in
-    λ p h l. point.1 p (0, 0) h l
+    behind_point c.args.pairs.now c.requires.rising c.args.symbol c.args.at _ _
+    c.start_of-from.ensures c.start_of-to.ensures _ c.partition_point-earlier.ensures.bound
+    point

@@ -12,7 +12,7 @@ collect-requires-clause-ready g c κs within =
     nat_range-All (λ i. i < length c.args.rows.now) 0 (length c.args.rows.now)
     (λ i low high. high) in
     rw (c.with_min_len.ensures.base, c.map.ensures.base, c.map.ensures.f, ends.0, ends.1)
-    (λ k d lt. ((inside k d lt, (c.requires.rising, c.requires.ready)), λ y p. tt))
+    (λ k d lt. ((inside k d lt, (c.requires.theorems, c.requires.ready)), λ y p. tt))
 
 pub returns : goal.returns
 returns g c =

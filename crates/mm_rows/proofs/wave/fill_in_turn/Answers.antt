@@ -16,11 +16,11 @@ loop-k-preserved g c =
     let rows = c.args.rows.now in
     let i = get_or rows k 0 in
     let here =
-    subst (λ (w : ℕ). row_at c.store.new.bits w i ≡ c.in_ok-row.row.items) c.div_ceil-width.ensures
+    subst (λ (w : ℕ). row_at c.store.new.bits w i ≡ c.in_ok-row.row.items) c.words-width.ensures
     (c.store.ensures.here ∙ c.deref.ensures.value) in
     let others =
     subst (λ (w : ℕ). (r : ℕ) → (r ≡ i → ⊥)
-    → row_at c.store.new.bits w r ≡ row_at c.loop-k.bits w r) c.div_ceil-width.ensures
+    → row_at c.store.new.bits w r ≡ row_at c.loop-k.bits w r) c.words-width.ensures
     c.store.ensures.others in
     made_more c.args.citations.now c.args.columns.now rows k c.args.bits.now c.loop-k.bits
     c.store.new.bits c.in_ok-row.row.items i refl c.in_ok-row.ensures

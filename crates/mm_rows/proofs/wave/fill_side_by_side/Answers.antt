@@ -17,9 +17,9 @@ pub store-requires-clause-fits : goal.store-requires-clause-fits
 store-requires-clause-fits g c =
     let i = get_or c.args.rows.now c.loop-k.k 0 in
     let n = length c.args.citations.now.theorems in
-    row_end c.div_ceil-width.result i n (length c.loop-k.bits)
+    row_end c.words-width.result i n (length c.loop-k.bits)
     (c.requires.ready c.loop-k.k 0 (omega arith)).0
-    (c.loop-k.invariant.size ∙ c.requires.size ∙ sym (ap (λ w. n * w) c.div_ceil-width.ensures))
+    (c.loop-k.invariant.size ∙ c.requires.size ∙ sym (ap (λ w. n * w) c.words-width.ensures))
 
 pub store-requires-clause-words : goal.store-requires-clause-words
 store-requires-clause-words g c =
@@ -38,7 +38,7 @@ store-requires-clause-words g c =
     (λ w. IsBitRow c.args.citations.now c.args.columns.now
     (theorem_at c.args.citations.now i) w.items)) (sym c.index.ensures
     ∙ c.in-Ok.is) made in
-    ap length c.deref.ensures.value ∙ bits.words ∙ sym c.div_ceil-width.ensures
+    ap length c.deref.ensures.value ∙ bits.words ∙ sym c.words-width.ensures
 
 pub loop-k-preserved : goal.loop-k-preserved
 loop-k-preserved g c =
@@ -58,11 +58,11 @@ loop-k-preserved g c =
     (theorem_at c.args.citations.now i) w.items)) (sym c.index.ensures
     ∙ c.in-Ok.is) made in
     let here =
-    subst (λ (w : ℕ). row_at c.store.new.bits w i ≡ c.in-Ok.row.items) c.div_ceil-width.ensures
+    subst (λ (w : ℕ). row_at c.store.new.bits w i ≡ c.in-Ok.row.items) c.words-width.ensures
     (c.store.ensures.here ∙ c.deref.ensures.value) in
     let others =
     subst (λ (w : ℕ). (r : ℕ) → (r ≡ i → ⊥)
-    → row_at c.store.new.bits w r ≡ row_at c.loop-k.bits w r) c.div_ceil-width.ensures
+    → row_at c.store.new.bits w r ≡ row_at c.loop-k.bits w r) c.words-width.ensures
     c.store.ensures.others in
     made_more c.args.citations.now c.args.columns.now rows k c.args.bits.now c.loop-k.bits
     c.store.new.bits c.in-Ok.row.items i refl bits (omega arith) here others c.loop-k.invariant

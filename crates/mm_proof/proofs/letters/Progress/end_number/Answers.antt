@@ -7,9 +7,8 @@ use Rattle.mm_proof.proofs.letters.Progress.end_number.Goals as goal
 pub returns-clause-reads : goal.returns-clause-reads
 returns-clause-reads g c = λ byte k.
     let s = c.args.self.now in
-    let begun = c.begun-begun.ensures in
-    rw (c.in_ok-add_step.ensures, begun)
-    (last_reads s.theorem s.labels s.marks s.number s.steps c.args.at byte _ k.0 k.1
+    rw (c.in_ok-add_step.ensures, c.begun_by-begun.ensures.at)
+    (last_reads s.theorem s.labels s.marks c.args.number s.steps c.args.at byte _ k.0 k.1
     (λ n e. c.in-Some.ensures.step n
-    (c.with_digit.ensures ∙ ap (λ b. told (20 * b.value + c.args.digit)) begun
-    ∙ ap (λ d. told (20 * (begun_at s.number c.args.at).value + d)) k.2 ∙ e)))
+    (c.begun_by-begun.ensures.value
+    ∙ ap (λ d. told (20 * (begun_at c.args.number c.args.at).value + d)) k.2 ∙ e)))

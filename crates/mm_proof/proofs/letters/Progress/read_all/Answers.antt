@@ -2,7 +2,7 @@ use Rattle.std.proofs.Common.{◌≡◌, ◌∙◌, ◌+◌, [], ap, sym, subst,
 use Rattle.mm_spec.specs.CompressedProof.{letters_of, letter_faults, groups, group_faults}
 use Rattle.mm_spec.specs.CompressedProof.{group_steps}
 use Rattle.mm_stmt.specs.Parts.{as_tokens}
-use Rattle.mm_proof.specs.Letters.{Continues}
+use Rattle.mm_proof.specs.Letters.{Continues, with_number}
 use Rattle.mm_spec.specs.Text.{fault}
 use Rattle.mm_spec.specs.declared.Code.TheVariants.{OpenNumber}
 use Rattle.mm_proof.specs.declared.refused.ProofRefused.TheVariants.{Fault as Faulty}
@@ -12,17 +12,18 @@ use Rattle.mm_proof.proofs.LettersLaw.{err_same, whole, fault_first, open_fault,
 use Rattle.mm_proof.proofs.LettersLaw.{all_steps, some_letters}
 use Rattle.mm_proof.proofs.letters.Progress.read_all.Goals as goal
 
-pub returns-in_err-read_word-clause-fault : goal.returns-in_err-read_word-clause-fault
-returns-in_err-read_word-clause-fault g c =
+pub returns-in_err-begun-clause-fault : goal.returns-in_err-begun-clause-fault
+returns-in_err-begun-clause-fault g c =
     let all = letters_of (as_tokens c.args.text.now c.args.words.now) in
     let start : Continues c.args.self.now all all =
     subst (λ s. Continues s all all) (sym c.requires.none)
     (whole c.args.self.now.theorem c.args.self.now.labels all) in
-    let e = c.in_err-read_word.field-0.0 in
+    let e = c.in_err-begun.field-0.0 in
     let words = c.args.words.now in
     let i = c.loop-word.word-index in
     let here =
-    subst (λ vs. Continues c.loop-word.self all (letters_of (as_tokens c.args.text.now vs)))
+    subst (λ vs. Continues (with_number c.loop-word.self c.loop-word.begun) all
+    (letters_of (as_tokens c.args.text.now vs)))
     (drop_more words i (record { start = 0; end = 0 }) c.loop-word-test.true)
     (c.loop-word.invariant.reads all start) in
     err_same c.from_residual.result e
@@ -31,7 +32,7 @@ returns-in_err-read_word-clause-fault g c =
     (fault_first (length c.args.self.now.labels) c.args.end all e
     (subst (λ ls. StartsWith (group_faults (length ls) 0 0 (groups [] all).0) e)
     c.loop-word.invariant.labels
-    (c.in_err-read_word.ensures.stops all
+    (c.in_err-begun.ensures.stops all
     (letters_of (as_tokens c.args.text.now (drop (i + 1) words))) here)))
 
 pub returns-then-is_some-clause-fault : goal.returns-then-is_some-clause-fault
@@ -41,17 +42,18 @@ returns-then-is_some-clause-fault g c =
     subst (λ s. Continues s all all) (sym c.requires.none)
     (whole c.args.self.now.theorem c.args.self.now.labels all) in
     let last =
-    all_read c.loop-word.self c.args.text.now c.args.words.now c.loop-word.word-index all
-    c.loop-word-test.false (c.loop-word.invariant.reads all start) in
+    all_read
+    (with_number c.loop-word.self c.loop-word.begun) c.args.text.now c.args.words.now
+    c.loop-word.word-index all c.loop-word-test.false (c.loop-word.invariant.reads all start) in
     let some =
     some_letters 0 c.args.end c.args.text.now c.args.words.now c.requires.in_order
     (sym c.is_empty.ensures ∙ c.if-is_empty.false) in
-    let number : is_some c.loop-word.self.number ≡ true =
-    ap (λ s. is_some s.number) (sym c.self.view_is) ∙ sym c.if-is_some.ensures in
+    let number : is_some c.loop-word.begun ≡ true = sym c.is_some.ensures ∙ c.if-is_some.true in
     rw c.refused-then-is_some.ensures
     (subst (λ ls. StartsWith (letter_faults (length ls) c.args.end all)
     (Faulty (fault c.args.end OpenNumber))) c.loop-word.invariant.labels
-    (open_fault c.loop-word.self c.args.end all number some last))
+    (open_fault
+    (with_number c.loop-word.self c.loop-word.begun) c.args.end all number some last))
 
 pub returns-clause-steps : goal.returns-clause-steps
 returns-clause-steps g c =
@@ -60,9 +62,10 @@ returns-clause-steps g c =
     subst (λ s. Continues s all all) (sym c.requires.none)
     (whole c.args.self.now.theorem c.args.self.now.labels all) in
     let last =
-    all_read c.loop-word.self c.args.text.now c.args.words.now c.loop-word.word-index all
-    c.loop-word-test.false (c.loop-word.invariant.reads all start) in
-    all_steps c.loop-word.self all last
+    all_read
+    (with_number c.loop-word.self c.loop-word.begun) c.args.text.now c.args.words.now
+    c.loop-word.word-index all c.loop-word-test.false (c.loop-word.invariant.reads all start) in
+    all_steps (with_number c.loop-word.self c.loop-word.begun) all last
     ∙ ap (λ ls. group_steps ls [] 0 (groups [] all).0) c.loop-word.invariant.labels
 
 pub returns-clause-sound : goal.returns-clause-sound
@@ -72,12 +75,12 @@ returns-clause-sound g c =
     subst (λ s. Continues s all all) (sym c.requires.none)
     (whole c.args.self.now.theorem c.args.self.now.labels all) in
     let last =
-    all_read c.loop-word.self c.args.text.now c.args.words.now c.loop-word.word-index all
-    c.loop-word-test.false (c.loop-word.invariant.reads all start) in
+    all_read
+    (with_number c.loop-word.self c.loop-word.begun) c.args.text.now c.args.words.now
+    c.loop-word.word-index all c.loop-word-test.false (c.loop-word.invariant.reads all start) in
     let some =
     some_letters 0 c.args.end c.args.text.now c.args.words.now c.requires.in_order
     (sym c.is_empty.ensures ∙ c.if-is_empty.false) in
-    let number : is_some c.loop-word.self.number ≡ false =
-    ap (λ s. is_some s.number) (sym c.self.view_is) ∙ sym c.if-is_some.ensures in
+    let number : is_some c.loop-word.begun ≡ false = sym c.is_some.ensures ∙ c.if-is_some.false in
     subst (λ ls. letter_faults (length ls) c.args.end all ≡ []) c.loop-word.invariant.labels
-    (no_fault c.loop-word.self c.args.end all number some last)
+    (no_fault (with_number c.loop-word.self c.loop-word.begun) c.args.end all number some last)

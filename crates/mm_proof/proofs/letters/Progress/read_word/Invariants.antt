@@ -1,6 +1,6 @@
 use Rattle.std.proofs.Common.{◌≡◌, ◌++◌, List, slice_range}
 use Rattle.mm_spec.specs.CompressedProof.{Letter, letters_from}
-use Rattle.mm_proof.specs.Letters.{StandsAt, Continues}
+use Rattle.mm_proof.specs.Letters.{StandsAt, Continues, with_number}
 use Rattle.mm_proof.proofs.letters.Progress.read_word.Given as goal
 
 abbrev pub invariant-loop-at : goal.invariant-loop-at
@@ -9,7 +9,8 @@ invariant-loop-at g l = record {
   labels : l.self.labels ≡ l.fn.self.labels;
   stands : StandsAt l.self l.at;
   reads : (all left : List Letter)
-      → Continues l.fn.self all
+      → Continues (with_number l.fn.self l.fn.number) all
       (letters_from l.fn.word.start (slice_range l.text l.fn.word.start l.fn.word.end) ++ left)
-      → Continues l.self all (letters_from l.at (slice_range l.text l.at l.fn.word.end) ++ left);
+      → Continues (with_number l.self l.begun) all
+      (letters_from l.at (slice_range l.text l.at l.fn.word.end) ++ left);
 }

@@ -1,0 +1,92 @@
+//! Where statements stand in a rising list of statements.
+
+ghost use Rattle.std.specs.Prelude.{◌≡◌, ◌<◌, ℕ, length, slice_index, IfOk, IfSome, IfNone};
+ghost use Rattle.mm_cites.specs.Citing.{IsRising};
+ghost use Rattle.mm_rows.specs.Bits.{words_for};
+ghost use Rattle.mm_rows.specs.Places.{ArePlaces};
+
+use std::alloc::{AllocError, Allocator};
+use std::marker::Model;
+
+/// The place of a statement that isn't in the list.
+const NOWHERE: u32 = 4_294_967_295;
+
+/// A rising list of statements, and for each statement up to its last one the place there, or
+/// `NOWHERE`: so a statement is found by one look.
+#[derive(Drop)]
+pub(crate) struct Places<'a, A: Allocator> {
+    list: &'a [u32],
+    places: Vec<u32, A>,
+}
+
+impl<'a, A: Allocator> Model for Places<'a, A> {
+    ghost use Rattle.std.specs.Prelude.{ℕ, List};
+    ghost use Rattle.mm_cites.specs.Citing.{IsRising};
+    ghost use Rattle.mm_rows.specs.Places.{ArePlaces};
+
+    ghost Value = { List ℕ };
+
+    ghost view = { λ p. p.list.now };
+
+    ghost invariant = { λ p. IsRising p.list.now × ArePlaces p.list.now p.places.items };
+}
+
+/// How many statements there are up to the last of a rising list.
+fn count_to_last(list: &[u32]) -> usize
+    requires { IsRising list.now }
+    ensures { (i : ℕ) → i < length list.now → slice_index list.now i < result }
+{
+    match list.last() {
+        Some(last) => *last as usize + 1,
+        None => 0,
+    }
+}
+
+/// Notes the places of a rising list, where none is known.
+fn note_places(list: &[u32], places: &mut [u32])
+    requires rising { IsRising list.now }
+    requires room { (i : ℕ) → i < length list.now → slice_index list.now i < length places.old }
+    requires none { (s : ℕ) → s < length places.old → slice_index places.old s ≡ 4294967295 }
+    ensures { ArePlaces list.now places.new }
+{
+    for (place, statement) in list.iter().enumerate() {
+        places[*statement as usize] = place as u32;
+    }
+}
+
+impl<'a, A: Allocator + Copy> Places<'a, A> {
+    /// The places of a rising list.
+    pub(crate) fn new(alloc: A, list: &'a [u32]) -> Result<Places<'a, A>, AllocError>
+        requires { IsRising list.now }
+        ensures { IfOk result (λ p. p ≡ list.now) }
+    {
+        let mut places = Vec::new(alloc);
+        places.resize(count_to_last(list), NOWHERE)?;
+        note_places(list, &mut places);
+        Ok(Places { list, places })
+    }
+}
+
+impl<'a, A: Allocator> Places<'a, A> {
+    /// How many words have a bit for each statement of the list.
+    pub(crate) fn words(&self) -> usize
+        ensures { result ≡ words_for (length self.now) }
+    {
+        self.list.len().div_ceil(64)
+    }
+
+    /// Where a statement stands in the list.
+    pub(crate) fn find(&self, statement: u32) -> Option<usize>
+        ensures rising { IsRising self.now }
+        ensures some { IfSome result
+            (λ i. (i < length self.now) × (slice_index self.now i ≡ statement)) }
+        ensures none { IfNone result
+            ((i : ℕ) → i < length self.now → slice_index self.now i ≡ statement → ⊥) }
+    {
+        let at = statement as usize;
+        if self.places.len() <= at || self.places[at] == NOWHERE {
+            return None;
+        }
+        Some(self.places[at] as usize)
+    }
+}
