@@ -63,7 +63,7 @@ pub(crate) fn checked<A: Allocator + Copy>(
 
 /// The same by a checker.
 pub(crate) fn checked_by<A: Allocator + Copy>(
-    checker: &mut Checker<A>,
+    checker: &mut Checker<'_, A>,
     alloc: A,
     database: &Database<'_, A>,
     theorem: u32,

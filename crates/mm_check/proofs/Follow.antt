@@ -2,7 +2,7 @@
 use Rattle.std.proofs.Common.{◌≡◌, ℕ, ◌+◌, ◌-◌, ◌<◌, ◌≤◌, List, [], ◌∷◌, ◌++◌, length, take, drop}
 use Rattle.std.proofs.Common.{get_or, slice_range, slice_set, refl, sym, ap, ap₂, ◌∙◌, subst, arith}
 use Rattle.std.proofs.Common.{All, length-append, length-take, append-nil, Result, Ok, Err, OnOk}
-use Rattle.std.proofs.Common.{OnErr}
+use Rattle.std.proofs.Common.{OnErr, IfErr}
 use Rattle.std.specs.List.{AllByRecursion}
 use Rattle.std.proofs.lemmas.List.{take-append-drop, take_all, take_more, drop_at, length-take-le}
 use Rattle.std.proofs.lemmas.List.Elements.{All-from_recursion, recursion_from_All, All-push}
@@ -393,6 +393,10 @@ module _ {T E : Type 0} where
   pub on_ok : {P Q : Type 0} (r : Result T E) → (P → Q) → OnOk r P → OnOk r Q
   on_ok (Ok x) f h = f h
   on_ok (Err e) f h = tt
+
+  pub on_err : {P Q : E → Type 0} (r : Result T E) → ((e : E) → P e → Q e) → IfErr r P → IfErr r Q
+  on_err (Ok x) f h = h
+  on_err (Err e) f h = f e h
 
   pub on_ok₂ : {P Q S : Type 0} (r : Result T E) → (P → Q → S) → OnOk r P → OnOk r Q → OnOk r S
   on_ok₂ (Ok x) f h k = f h k

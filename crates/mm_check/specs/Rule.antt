@@ -10,6 +10,8 @@ use Rattle.mm_check.specs.declared.arena.Entry.{Entry}
 use Rattle.mm_check.specs.declared.rule.Part.{Part}
 use Rattle.mm_check.specs.declared.rule.Part.TheVariants.{Constant, Variable}
 use Rattle.mm_check.specs.declared.rule.Asked.{Asked}
+use Rattle.mm_check.specs.declared.rule.Stretch.{Stretch}
+use Rattle.mm_check.specs.declared.rules.Shelf.{Shelf}
 use Rattle.mm_check.specs.declared.rule.Asked.TheVariants.{Floating, Essential}
 use Rattle.mm_check.specs.Arena.{Arena, nothing, rest, text_of}
 use Rattle.mm_check.specs.Contract.{is_assertion_at}
@@ -107,18 +109,67 @@ abbrev pub ArePairs : List Statement → List Formula → List (ℕ × ℕ) → 
 ArePairs k hs ps =
     All (λ (p : ℕ × ℕ). IsBound (context_at k 0) hs p.0 × IsBound (context_at k 0) hs p.1) ps
 
--- the rules that were made, and how many symbols there are
-pub record Store : Type 0 where
-  pub rules : List Compiled
+-- what makes rules: how many symbols it knows, and the rule that it made last
+pub record Making : Type 0 where
   pub width : ℕ
+  pub rule : Compiled
 
-abbrev pub store : List Compiled → ℕ → Store
-store rules width = record { rules = rules; width = width }
+abbrev pub making : ℕ → Compiled → Making
+making width rule = record { width = width; rule = rule }
 
-abbrev pub no_rule : Compiled
-no_rule = compiled 0 [] [] [] []
+-- the rules of a database, in lists that have what all rules have
+pub record Lists : Type 0 where
+  pub shelves : List Shelf
+  pub asked : List Asked
+  pub pairs : List (ℕ × ℕ)
+  pub parts : List Part
 
--- the rules are those of assertions of the database
-pub record AreRules (k : List Statement) (s : Store) : Type 0 where
-  pub width : s.width ≡ length (symbol_names k)
-  pub all : All (IsCompiled k) s.rules
+abbrev pub lists : List Shelf → List Asked → List (ℕ × ℕ) → List Part → Lists
+lists shelves asked pairs parts =
+    record { shelves = shelves; asked = asked; pairs = pairs; parts = parts }
+
+abbrev pub shelf : ℕ → Stretch → Stretch → Stretch → Stretch → Shelf
+shelf k asked pairs parts formula =
+    record { assertion = k; asked = asked; pairs = pairs; parts = parts; formula = formula }
+
+abbrev pub stretch : ℕ → ℕ → Stretch
+stretch start end = record { start = start; end = end }
+
+module _ {X : Type 0} where
+  abbrev pub stretch_of : List X → Stretch → List X
+  stretch_of xs s = slice_range xs s.start s.end
+
+-- the rule on a shelf
+abbrev pub rule_on : Lists → Shelf → Compiled
+rule_on l s =
+    compiled s.assertion (stretch_of l.asked s.asked) (stretch_of l.pairs s.pairs)
+    (stretch_of l.parts s.parts) (stretch_of l.parts s.formula)
+
+-- a stretch of so many elements
+pub record IsStretch (n : ℕ) (s : Stretch) : Type 0 where
+  pub rising : s.start ≤ s.end
+  pub within : s.end ≤ n
+
+-- on the shelf is the rule of an assertion of the database
+pub record IsShelf (k : List Statement) (l : Lists) (s : Shelf) : Type 0 where
+  pub asked : IsStretch (length l.asked) s.asked
+  pub pairs : IsStretch (length l.pairs) s.pairs
+  pub parts : IsStretch (length l.parts) s.parts
+  pub formula : IsStretch (length l.parts) s.formula
+  pub compiled : IsCompiled k (rule_on l s)
+
+abbrev pub AreRules : List Statement → Lists → Type 0
+AreRules k l = All (IsShelf k l) l.shelves
+
+abbrev pub no_shelf : Shelf
+no_shelf = shelf 0 (stretch 0 0) (stretch 0 0) (stretch 0 0) (stretch 0 0)
+
+-- on the shelf of a number is the rule of an assertion
+pub record IsShelfOf (l : Lists) (n a : ℕ) : Type 0 where
+  pub inside : n < length l.shelves
+  pub is : (get_or l.shelves n no_shelf).assertion ≡ a
+
+-- it is the rule of an assertion
+pub record IsRuleOf (k : List Statement) (c : Compiled) (a : ℕ) : Type 0 where
+  pub compiled : IsCompiled k c
+  pub is : c.assertion ≡ a

@@ -14,9 +14,12 @@ ghost use Rattle.mm_check.specs.Rule.{IsBelow, IsCompiled, AreCovered, ArePlaced
 ghost use Rattle.mm_check.specs.declared.rule.Part.TheVariants.{Constant, Variable};
 
 use crate::frames;
+use crate::machine::empty;
+use crate::numbers::zeros;
 use crate::rule::{Asked, Part, Rule, Stretch};
 use mm_stmt::{Database, Sym};
 use std::alloc::{AllocError, Allocator};
+use std::marker::Model;
 
 /// The variable of a hypothesis `$f`.
 fn variable_of<A: Allocator>(db: &Database<A>, h: u32) -> Option<Sym>
@@ -215,33 +218,85 @@ fn pair<A: Allocator>(
     Ok(())
 }
 
-/// Makes the rule of an assertion. The places are overwritten.
-pub fn compile<A: Allocator + Copy>(
-    alloc: A,
-    db: &Database<A>,
-    k: u32,
-    places: &mut [u32],
-) -> Result<Rule<A>, AllocError>
-    requires assertion { is_assertion_at db.now.statements k ≡ true }
-    requires complete { IsComplete (context_at db.now.statements 0) (frame_at db.now.statements k) }
-    requires width { length places.old ≡ length (symbol_names db.now.statements) }
-    ensures assertion { IfOk result (λ r. r.assertion ≡ k) }
-    ensures made { IfOk result (λ r. IsCompiled db.now.statements r) }
-{
-    let hyps = frames::hyps(db, k);
-    place(db, hyps, places);
-    let mut asked = Vec::with_capacity(alloc, hyps.len())?;
-    let mut parts = Vec::new(alloc);
-    ask(db, hyps, places, &mut asked, &mut parts)?;
-    let mut pairs = Vec::new(alloc);
-    pair(db, hyps, places, frames::pairs(db, k), &mut pairs)?;
-    let mut formula = Vec::with_capacity(alloc, db.formula(k).len())?;
-    write(db, hyps, places, db.formula(k), &mut formula)?;
-    Ok(Rule {
-        assertion: k,
-        asked,
-        pairs,
-        parts,
-        formula,
-    })
+/// What makes rules, one at a time, with the memory of those that it made before.
+#[derive(Drop)]
+pub struct Maker<A: Allocator> {
+    /// The assertion of the last rule.
+    assertion: u32,
+    asked: Vec<Asked, A>,
+    pairs: Vec<(u32, u32), A>,
+    parts: Vec<Part, A>,
+    formula: Vec<Part, A>,
+    /// A number for each symbol, with no meaning between calls.
+    places: Vec<u32, A>,
+}
+
+impl<A: Allocator> Model for Maker<A> {
+    ghost use Rattle.std.specs.Prelude.{length};
+    ghost use Rattle.mm_check.specs.Rule.{Making, making, compiled};
+
+    ghost Value = { Making };
+
+    ghost view = { λ m. making (length m.places.items)
+        (compiled m.assertion m.asked.items m.pairs.items m.parts.items m.formula.items) };
+}
+
+impl<A: Allocator> Maker<A> {
+    /// A maker of the rules of a database.
+    pub fn new(alloc: A, db: &Database<A>) -> Result<Self, AllocError>
+    where
+        A: Copy,
+        ensures { IfOk result (λ m. m.width ≡ length (symbol_names db.now.statements)) }
+    {
+        Ok(Maker {
+            assertion: 0,
+            asked: Vec::new(alloc),
+            pairs: Vec::new(alloc),
+            parts: Vec::new(alloc),
+            formula: Vec::new(alloc),
+            places: zeros(alloc, db.symbol_count() as usize)?,
+        })
+    }
+
+    /// The rule that was made last.
+    pub fn rule(&self) -> Rule<'_>
+        ensures { result ≡ self.now.rule }
+    {
+        Rule {
+            assertion: self.assertion,
+            asked: &self.asked,
+            pairs: &self.pairs,
+            parts: &self.parts,
+            formula: &self.formula,
+        }
+    }
+
+    /// Makes the rule of an assertion.
+    pub fn make(&mut self, db: &Database<A>, k: u32) -> Result<(), AllocError>
+        requires assertion { is_assertion_at db.now.statements k ≡ true }
+        requires complete { IsComplete (context_at db.now.statements 0)
+            (frame_at db.now.statements k) }
+        requires width { self.old.width ≡ length (symbol_names db.now.statements) }
+        ensures width { self.new.width ≡ self.old.width }
+        ensures assertion { OnOk result (self.new.rule.assertion ≡ k) }
+        ensures made { OnOk result (IsCompiled db.now.statements self.new.rule) }
+    {
+        let hyps = frames::hyps(db, k);
+        self.assertion = k;
+        empty(&mut self.asked);
+        empty(&mut self.pairs);
+        empty(&mut self.parts);
+        empty(&mut self.formula);
+        place(db, hyps, &mut self.places);
+        ask(db, hyps, &self.places, &mut self.asked, &mut self.parts)?;
+        pair(
+            db,
+            hyps,
+            &self.places,
+            frames::pairs(db, k),
+            &mut self.pairs,
+        )?;
+        write(db, hyps, &self.places, db.formula(k), &mut self.formula)?;
+        Ok(())
+    }
 }

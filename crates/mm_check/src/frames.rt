@@ -5,6 +5,8 @@ ghost use Rattle.std.specs.List.{list_any};
 ghost use Rattle.mm_spec.specs.Scope.{statement_at};
 ghost use Rattle.mm_spec.specs.Frame.{is_essential, symbol_names, mandatory_hypotheses};
 ghost use Rattle.mm_spec.specs.Frame.{mandatory_pairs};
+ghost use Rattle.mm_spec.specs.Derivation.{are_disjoint};
+ghost use Rattle.mm_spec.specs.Citation.{context_at};
 ghost use Rattle.mm_check.specs.Arena.{paired};
 ghost use Rattle.mm_check.specs.Contract.{is_assertion_at};
 
@@ -48,6 +50,8 @@ pub fn hyps<'b, A: Allocator>(db: &'b Database<A>, k: u32) -> &'b [u32]
 pub fn pairs<'b, A: Allocator>(db: &'b Database<A>, k: u32) -> &'b [(Sym, Sym)]
     requires { is_assertion_at db.now.statements k ≡ true }
     ensures are { paired result.now ≡ mandatory_pairs db.now.statements k }
+    ensures disjoint { All
+        (λ (p : ℕ × ℕ). are_disjoint (context_at db.now.statements k) p.0 p.1 ≡ true) result.now }
     ensures below { All
         (λ (p : ℕ × ℕ). (p.0 < length (symbol_names db.now.statements))
         × (p.1 < length (symbol_names db.now.statements))) result.now }

@@ -7,7 +7,7 @@ ghost use Rattle.mm_proof.specs.Read.{step_of};
 ghost use Rattle.mm_check.specs.Contract.{is_assertion_at, labels, is_labelled_step};
 
 use crate::frames::is_assertion;
-use crate::rules::put_number;
+use crate::numbers::put_number;
 use mm_proof::Step;
 use mm_stmt::Database;
 use std::alloc::{AllocError, Allocator};

@@ -3,7 +3,6 @@
 ghost use Rattle.std.specs.Prelude.{◌≡◌};
 
 use mm_stmt::Sym;
-use std::alloc::Allocator;
 use std::marker::Model;
 
 /// A symbol of a formula of a frame.
@@ -33,55 +32,46 @@ pub enum Asked {
 
 /// What an assertion asks and gives: its frame, with each variable by the place of its `$f`.
 #[derive(Drop)]
-pub struct Rule<A: Allocator> {
+pub struct Rule<'a> {
     /// The assertion, by its statement.
     pub assertion: u32,
     /// The mandatory hypotheses, in order.
-    pub asked: Vec<Asked, A>,
+    pub asked: &'a [Asked],
     /// The mandatory pairs of disjoint variables.
-    pub pairs: Vec<(u32, u32), A>,
+    pub pairs: &'a [(u32, u32)],
     /// The symbols of the hypotheses that are no first `$f` of a variable.
-    pub parts: Vec<Part, A>,
+    pub parts: &'a [Part],
     /// The symbols of the assertion's formula.
-    pub formula: Vec<Part, A>,
+    pub formula: &'a [Part],
 }
 
-impl<A: Allocator> Model for Rule<A> {
+impl<'a> Model for Rule<'a> {
     ghost use Rattle.mm_check.specs.Rule.{Compiled, compiled};
 
     ghost Value = { Compiled };
 
-    ghost view = { λ r. compiled r.assertion r.asked.items r.pairs.items r.parts.items
-        r.formula.items };
+    ghost view = { λ r. compiled r.assertion r.asked.now r.pairs.now r.parts.now r.formula.now };
 }
 
-impl<A: Allocator> Rule<A> {
+impl<'a> Rule<'a> {
     /// What the mandatory hypotheses ask, in order.
-    pub fn asked(&self) -> &[Asked]
+    pub fn asked(&self) -> &'a [Asked]
         ensures { result.now ≡ self.now.asked }
     {
-        self.asked.as_slice()
+        self.asked
     }
 
     /// The mandatory pairs of disjoint variables.
-    pub fn pairs(&self) -> &[(u32, u32)]
+    pub fn pairs(&self) -> &'a [(u32, u32)]
         ensures { result.now ≡ self.now.pairs }
     {
-        self.pairs.as_slice()
+        self.pairs
     }
 
     /// The symbols of the assertion's formula.
-    pub fn formula(&self) -> &[Part]
+    pub fn formula(&self) -> &'a [Part]
         ensures { result.now ≡ self.now.formula }
     {
-        self.formula.as_slice()
-    }
-
-    /// How many hypotheses, pairs and symbols it has.
-    pub fn size(&self) -> usize {
-        let symbols = self.parts.len().saturating_add(self.formula.len());
-        symbols
-            .saturating_add(self.asked.len())
-            .saturating_add(self.pairs.len())
+        self.formula
     }
 }

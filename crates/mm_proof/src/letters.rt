@@ -135,12 +135,10 @@ impl<A: Allocator> Progress<A> {
         ensures theorem { OnOk result (self.new.theorem ≡ self.old.theorem) }
         ensures labels { OnOk result (self.new.labels ≡ self.old.labels) }
         ensures stands { OnOk result (StandsAt self.new (at + 1)) }
-        ensures reads { OnOk result
-            ((byte : ℕ) → IsLetter byte (Last digit)
+        ensures reads { OnOk result ((byte : ℕ) → IsLetter byte (Last digit)
             → Reads (with_number self.old number) (letter at byte ∷ [])
             (with_number self.new None)) }
-        ensures stops { IfErr result
-            (λ e. (byte : ℕ) → IsLetter byte (Last digit)
+        ensures stops { IfErr result (λ e. (byte : ℕ) → IsLetter byte (Last digit)
             → Stops (with_number self.old number) (letter at byte ∷ []) e) }
     {
         let begun = begun_by(number, at, 20, digit);
@@ -157,8 +155,8 @@ impl<A: Allocator> Progress<A> {
         ensures theorem { OnOk result (self.new.theorem ≡ self.old.theorem) }
         ensures labels { OnOk result (self.new.labels ≡ self.old.labels) }
         ensures stands { OnOk result (StandsAt self.new (at + 1)) }
-        ensures reads { OnOk result
-            (Reads (with_number self.old None) (letter at 90 ∷ []) (with_number self.new None)) }
+        ensures reads { OnOk result (Reads (with_number self.old None) (letter at 90 ∷ [])
+            (with_number self.new None)) }
         ensures stops { IfErr result
             (λ e. Stops (with_number self.old None) (letter at 90 ∷ []) e) }
     {
@@ -180,11 +178,10 @@ impl<A: Allocator> Progress<A> {
         ensures theorem { OnOk result (self.new.theorem ≡ self.old.theorem) }
         ensures labels { OnOk result (self.new.labels ≡ self.old.labels) }
         ensures stands { OnOk result (StandsAt self.new (at + 1)) }
-        ensures reads { IfOk result
-            (λ n. Reads (with_number self.old number) (letter at byte ∷ [])
+        ensures reads { IfOk result (λ n. Reads (with_number self.old number) (letter at byte ∷ [])
             (with_number self.new n)) }
-        ensures stops { IfErr result
-            (λ e. Stops (with_number self.old number) (letter at byte ∷ []) e) }
+        ensures stops { IfErr result (λ e.
+            Stops (with_number self.old number) (letter at byte ∷ []) e) }
     {
         match letter_of(byte) {
             LetterKind::Early(digit) => Ok(Some(begun_by(number, at, 5, digit))),
@@ -217,12 +214,10 @@ impl<A: Allocator> Progress<A> {
         ensures theorem { OnOk result (self.new.theorem ≡ self.old.theorem) }
         ensures labels { OnOk result (self.new.labels ≡ self.old.labels) }
         ensures stands { OnOk result (StandsAt self.new word.end) }
-        ensures reads { IfOk result
-            (λ n. Reads (with_number self.old number)
+        ensures reads { IfOk result (λ n. Reads (with_number self.old number)
             (letters_from word.start (slice_range text.now word.start word.end))
             (with_number self.new n)) }
-        ensures stops { IfErr result
-            (λ e. Stops (with_number self.old number)
+        ensures stops { IfErr result (λ e. Stops (with_number self.old number)
             (letters_from word.start (slice_range text.now word.start word.end)) e) }
     {
         let mut begun = number;

@@ -78,10 +78,10 @@ impl<'a, A: Allocator> Places<'a, A> {
     /// Where a statement stands in the list.
     pub(crate) fn find(&self, statement: u32) -> Option<usize>
         ensures rising { IsRising self.now }
-        ensures some { IfSome result
-            (λ i. (i < length self.now) × (slice_index self.now i ≡ statement)) }
-        ensures none { IfNone result
-            ((i : ℕ) → i < length self.now → slice_index self.now i ≡ statement → ⊥) }
+        ensures some { IfSome result (λ i. (i < length self.now)
+            × (slice_index self.now i ≡ statement)) }
+        ensures none { IfNone result ((i : ℕ) → i < length self.now
+            → slice_index self.now i ≡ statement → ⊥) }
     {
         let at = statement as usize;
         if self.places.len() <= at || self.places[at] == NOWHERE {

@@ -13,7 +13,7 @@ ghost use Rattle.mm_rows.specs.Waves.{IsTheorem, AreWaves, IsByWave, AreMade};
 
 use crate::columns::Columns;
 use crate::places::Places;
-use crate::rows::{bit_row, finish};
+use crate::rows::{bit_row, fill_in_place, finish};
 use crate::table::Matrix;
 use mm_cites::Citations;
 use rayon::prelude::*;
@@ -190,29 +190,24 @@ fn fill_side_by_side<R: Threads + Sync, A: Allocator + Copy + Send + Sync>(
 }
 
 /// Fills in some rows, none of which needs another, one after the other.
-fn fill_in_turn<A: Allocator + Copy>(
-    alloc: A,
+fn fill_in_turn<A: Allocator>(
     citations: &Citations<A>,
     theorems: &Places<A>,
     columns: &Places<A>,
     rows: &[u32],
     bits: &mut [u64],
-) -> Result<(), AllocError>
+)
     requires theorems { theorems.now ≡ citations.now.theorems }
     requires size { length bits.old
         ≡ length citations.now.theorems * words_for (length columns.now) }
     requires ready { All
         (λ i. (i < length citations.now.theorems)
         × IsReady citations.now columns.now bits.old i) rows.now }
-    ensures { OnOk result
-        (AreMade citations.now columns.now rows.now (length rows.now) bits.old bits.new) }
+    ensures { AreMade citations.now columns.now rows.now (length rows.now) bits.old bits.new }
 {
-    let width = columns.words();
     for k in 0..rows.len() {
-        let row = bit_row(alloc, citations, theorems, columns, bits, rows[k])?;
-        store(bits, width, rows[k], &row);
+        fill_in_place(citations, theorems, columns, rows[k], bits);
     }
-    Ok(())
 }
 
 /// The fewest rows for which threads are worth their start.
@@ -238,7 +233,8 @@ fn fill_wave<R: Threads + Sync, A: Allocator + Copy + Send + Sync>(
         (AreMade citations.now columns.now rows.now (length rows.now) bits.old bits.new) }
 {
     if rows.len() < FEWEST_FOR_THREADS {
-        fill_in_turn(alloc, citations, theorems, columns, rows, bits)
+        fill_in_turn(citations, theorems, columns, rows, bits);
+        Ok(())
     } else {
         fill_side_by_side(rt, alloc, citations, theorems, columns, rows, bits)
     }

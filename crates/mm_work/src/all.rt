@@ -9,6 +9,7 @@ use crate::in_order::{check_in_order, valid};
 use crate::judged::Judged;
 use crate::merge::{fault_of, merge};
 use mm_board::Board;
+use mm_check::Rules;
 use mm_stmt::Database;
 use std::alloc::{AllocError, Allocator};
 use std::sync::Wait;
@@ -39,9 +40,12 @@ pub fn check_all<'d, R: Threads + Wait + Sync, A: Allocator + Copy + Send + Sync
     let Ok((board, seat)) = Board::new(alloc, count as u32) else {
         return Err(AllocError);
     };
-    let gathered = work_all(rt, alloc, database, &board, gate, seat, workers, essential)?;
+    let rules = Rules::new(alloc, database)?;
+    let gathered = work_all(
+        rt, alloc, database, &rules, &board, gate, seat, workers, essential,
+    )?;
     if gathered.seat.share() < WHOLE {
-        return check_in_order(alloc, database, essential);
+        return check_in_order(alloc, database, &rules, essential);
     }
     let (first, _) = board.close(gathered.seat);
     if (first as usize) < count {

@@ -2,11 +2,13 @@
 
 ghost use Rattle.std.specs.Prelude.{◌≡◌, ◌<◌, ◌≤◌, All, IfNone, IfOk, IfSome, false, length};
 ghost use Rattle.mm_spec.specs.Output.{theorems};
+ghost use Rattle.mm_check.specs.Rule.{AreRules};
 ghost use Rattle.mm_work.specs.Workers.{IsReady, IsDone, AreGathered};
 
 use crate::gate::Gate;
 use crate::worker::{Found, Worked, work};
 use mm_board::{Board, Seat};
+use mm_check::Rules;
 use mm_stmt::Database;
 use std::alloc::{AllocError, Allocator};
 use std::sync::Wait;
@@ -85,12 +87,14 @@ pub(crate) fn work_all<'d, R: Threads + Wait + Sync, A: Allocator + Copy + Send 
     rt: &R,
     alloc: A,
     database: &Database<'d, A>,
+    rules: &Rules<A>,
     board: &Board<A>,
     gate: &G,
     seat: Seat,
     workers: u32,
     essential: bool,
 ) -> Result<Gathered<A>, AllocError>
+    requires rules { AreRules database.now.statements rules.now }
     requires ready { IsReady board.now seat }
     requires count { board.now.count ≡ length (theorems database.now.statements) }
     ensures { IfOk result
@@ -101,7 +105,8 @@ pub(crate) fn work_all<'d, R: Threads + Wait + Sync, A: Allocator + Copy + Send 
         rt,
         move |scope| -> Result<Gathered<A>, AllocError>
             requires { IsReady board.now seat
-                × (board.now.count ≡ length (theorems database.now.statements)) }
+                × (board.now.count ≡ length (theorems database.now.statements))
+                × AreRules database.now.statements rules.now }
             ensures { IfOk result
                 (λ g. AreGathered board.entry.now database.entry.now.statements essential g.seat
                 g.found.items) }
@@ -114,15 +119,20 @@ pub(crate) fn work_all<'d, R: Threads + Wait + Sync, A: Allocator + Copy + Send 
                         AtBoard(board, database, essential),
                         move || -> Worked<A>
                             requires { IsReady board.now other
-                                × (board.now.count ≡ length (theorems database.now.statements)) }
+                                × (board.now.count ≡ length (theorems database.now.statements))
+                                × AreRules database.now.statements rules.now }
                             ensures { IsDone board.entry.now database.entry.now essential result }
-                        { work(alloc, database, board, gate, other, worker, essential) },
+                        {
+                            work(
+                                alloc, database, board, rules, gate, other, worker, essential,
+                            )
+                        },
                     ) {
                         handles.push(handle)?;
                     }
                 }
             }
-            let own = work(alloc, database, board, gate, mine, 0, essential);
+            let own = work(alloc, database, board, rules, gate, mine, 0, essential);
             let Ok(others) = thread::join_promised(rt, handles) else {
                 return Err(AllocError);
             };

@@ -1,12 +1,13 @@
 //! All proofs by the calling thread alone.
 
 ghost use Rattle.std.specs.Prelude.{◌≡◌, IfOk, length};
+ghost use Rattle.mm_check.specs.Rule.{AreRules};
 ghost use Rattle.mm_work.specs.Judged.{Judges, AreCited};
 ghost use Rattle.mm_spec.specs.Output.{theorems};
 
 use crate::judged::Judged;
 use crate::proof::{VerifyRefused, verify};
-use mm_check::Checker;
+use mm_check::{Checker, Rules};
 use mm_cites::{Citations, Lists};
 use mm_stmt::Database;
 use std::alloc::{AllocError, Allocator};
@@ -32,12 +33,14 @@ pub(crate) fn valid<'a, A: Allocator + Copy>(
 pub(crate) fn check_in_order<'a, A: Allocator + Copy>(
     alloc: A,
     database: &Database<'a, A>,
+    rules: &Rules<A>,
     essential: bool,
 ) -> Result<Judged<A>, AllocError>
+    requires { AreRules database.now.statements rules.now }
     ensures { IfOk result (λ judged. Judges database.now.statements essential judged) }
 {
     let _ = database.len();
-    let mut checker = Checker::new(alloc, database)?;
+    let mut checker = Checker::new(alloc, database, rules)?;
     let mut lists = Lists::new(alloc);
     let theorems = database.theorems();
     for theorem in theorems {

@@ -25,7 +25,7 @@ pub(crate) enum VerifyRefused {
 pub(crate) fn verify<'a, A: Allocator + Copy>(
     alloc: A,
     database: &Database<'a, A>,
-    checker: &mut Checker<A>,
+    checker: &mut Checker<'_, A>,
     theorem: u32,
     essential: bool,
 ) -> Result<Checked<A>, VerifyRefused>

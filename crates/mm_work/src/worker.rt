@@ -3,6 +3,7 @@
 ghost use Rattle.std.specs.Prelude.{◌≡◌, ◌<◌, ◌++◌, ◌∷◌, [], ℕ, None, Some, OnOk, true, false};
 ghost use Rattle.std.specs.Prelude.{length};
 ghost use Rattle.mm_check.specs.Checker.{IsMadeFor};
+ghost use Rattle.mm_check.specs.Rule.{AreRules};
 ghost use Rattle.mm_spec.specs.Output.{theorems};
 ghost use Rattle.mm_board.specs.Records.{times_in, times_recorded};
 ghost use Rattle.mm_board.specs.Models.{IsSeatOf};
@@ -11,7 +12,7 @@ ghost use Rattle.mm_work.specs.Workers.{AreFound, TellsUnlessShort, IsReady, IsD
 use crate::gate::Gate;
 use crate::proof::{VerifyRefused, verify};
 use mm_board::{Board, Seat};
-use mm_check::Checker;
+use mm_check::{Checker, Rules};
 use mm_cites::Lists;
 use mm_spec::Fault;
 use mm_stmt::Database;
@@ -80,7 +81,7 @@ pub(crate) struct Worked<A: Allocator> {
 fn check<'a, A: Allocator + Copy>(
     alloc: A,
     database: &Database<'a, A>,
-    checker: &mut Checker<A>,
+    checker: &mut Checker<'_, A>,
     found: &mut Found<A>,
     index: u32,
     essential: bool,
@@ -119,7 +120,7 @@ fn judge<'a, A: Allocator + Copy>(
     alloc: A,
     database: &Database<'a, A>,
     board: &Board<A>,
-    checker: &mut Checker<A>,
+    checker: &mut Checker<'_, A>,
     worked: &mut Worked<A>,
     index: u32,
     essential: bool,
@@ -163,11 +164,13 @@ pub(crate) fn work<'a, A: Allocator + Copy, G: Gate>(
     alloc: A,
     database: &Database<'a, A>,
     board: &Board<A>,
+    rules: &Rules<A>,
     gate: &G,
     seat: Seat,
     worker: u32,
     essential: bool,
 ) -> Worked<A>
+    requires rules { AreRules database.now.statements rules.now }
     requires ready { IsReady board.now seat }
     requires count { board.now.count ≡ length (theorems database.now.statements) }
     ensures { IsDone board.now database.now essential result }
@@ -176,7 +179,7 @@ pub(crate) fn work<'a, A: Allocator + Copy, G: Gate>(
         seat,
         found: Found::new(alloc),
     };
-    let Ok(mut checker) = Checker::new(alloc, database) else {
+    let Ok(mut checker) = Checker::new(alloc, database, rules) else {
         worked.found.short_of_memory = true;
         return worked;
     };

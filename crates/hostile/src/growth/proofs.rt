@@ -10,7 +10,7 @@ use crate::calls::{all_checked, checked, checked_by};
 use crate::heap::Refusing;
 use crate::texts::THROUGH;
 use mm_board::{Board, BoardFault, Seat};
-use mm_check::{CheckRefused, Checked, Checker};
+use mm_check::{CheckRefused, Checked, Checker, Rules};
 use mm_lex::{Cuts, lex};
 use mm_proof::{ProofRefused, Step, Steps, read_proof};
 use mm_stmt::{Database, read as read_statements};
@@ -106,6 +106,39 @@ fn is_checked<A: Allocator>(answer: Result<Checked<A>, CheckRefused>) -> Option<
     }
 }
 
+/// Whether there are rules.
+fn are_rules<A: Allocator>(answer: Result<Rules<A>, AllocError>) -> Option<bool> {
+    match answer {
+        Ok(_) => Some(true),
+        Err(_) => None,
+    }
+}
+
+/// Refuses each growth of making all rules in turn.
+fn rules_in_turn<'h, R: Abort>(
+    rt: &R,
+    heap: &'h Refusing<Global>,
+    database: &Database<'static, &'h Refusing<Global>>,
+) -> bool {
+    for number in 1..MOST {
+        heap.refuse(number);
+        let refused = met(rt, heap, are_rules(Rules::new(heap, database)));
+        assert!(rt; are_rules(Rules::new(heap, database)) == Some(true));
+        if !refused {
+            return number > 5;
+        }
+    }
+    false
+}
+
+#[test]
+fn rules_made_without_memory(rt: HostRuntime) -> Result<(), AllocError> {
+    let heap = Refusing::new(rt.alloc());
+    let database = database_of(&rt, &heap)?;
+    assert!(&rt; rules_in_turn(&rt, &heap, &database));
+    Ok(())
+}
+
 /// Whether there is a checker.
 fn is_made<A: Allocator>(answer: Result<Checker<A>, AllocError>) -> Option<bool> {
     match answer {
@@ -120,10 +153,11 @@ fn made_in_turn<'h, R: Abort>(
     heap: &'h Refusing<Global>,
     database: &Database<'static, &'h Refusing<Global>>,
 ) -> bool {
+    let rules = Rules::none(heap);
     for number in 1..MOST {
         heap.refuse(number);
-        let refused = met(rt, heap, is_made(Checker::new(heap, database)));
-        assert!(rt; is_made(Checker::new(heap, database)) == Some(true));
+        let refused = met(rt, heap, is_made(Checker::new(heap, database, &rules)));
+        assert!(rt; is_made(Checker::new(heap, database, &rules)) == Some(true));
         if !refused {
             return number > 3;
         }
@@ -180,7 +214,8 @@ fn checker_refused<'h, R: Abort>(
     requires steps { steps.now ≡ read theorem (steps_at database.now.statements theorem) }
     requires sound { reading_faults_at database.now.statements theorem ≡ [] }
 {
-    let Ok(mut checker) = Checker::new(heap, database) else {
+    let rules = Rules::none(heap);
+    let Ok(mut checker) = Checker::new(heap, database, &rules) else {
         return None;
     };
     heap.refuse(number);

@@ -1,25 +1,23 @@
-use Rattle.std.proofs.Common.{rules, ◌≡◌, length, arith, ap, ◌∙◌, sym, All, subst}
-use Rattle.std.proofs.lemmas.List.Elements.{All-push}
-use Rattle.mm_spec.specs.Frame.{symbol_names}
-use Rattle.mm_check.proofs.Grow.{written}
-use Rattle.mm_check.specs.Rule.{Store, IsCompiled}
+use Rattle.std.proofs.Common.{sym, subst}
+use Rattle.mm_check.specs.Rule.{Lists, Compiled, IsCompiled, AreRules, shelf}
+use Rattle.mm_check.proofs.Shelves.{added_at}
 use Rattle.mm_check.proofs.rules.Rules.add.Goals as goal
 
-pub returns-clause-rules : goal.returns-clause-rules
-returns-clause-rules g c =
-    let k = c.args.db.now.statements in
-    let new = c.compile.new.places in
-    let places = c.self.inside.places in
-    let n : length new ≡ places.len = search rules in
-    let w : length places.items ≡ length (symbol_names k) =
-    ap (λ (s : Store). s.width) c.self.view_is ∙ c.make_room.ensures.width in
-    record {
-      width =
-          ap length (written new places.items places.len n)
-          ∙ omega (arith, n, w, c.deref_mut.ensures.len);
-      all =
-          rw c.in_ok-push.ensures.items
-          (All-push (IsCompiled k) _ _
-          (subst (λ (s : Store). All (IsCompiled k) s.rules)
-          (sym c.self.view_is) c.make_room.ensures.all) c.in_ok-rule.ensures.made);
-    }
+pub returns : goal.returns
+returns g c =
+    let k = c.args._db.now.statements in
+    let i = c.self.inside in
+    let r = c.rule.inside in
+    let a = c.in_ok-asked in
+    let p = c.in_ok-pairs in
+    let q = c.in_ok-parts in
+    let f = c.in_ok-formula in
+    added_at k i.shelves.items c.push.new.self.items i.asked.items r.asked.now c.put.new.list.items
+    i.pairs.items r.pairs.now c.put-2.new.list.items i.parts.items r.parts.now r.formula.now
+    c.put-3.new.list.items c.put-4.new.list.items
+    (shelf r.assertion a.asked p.pairs q.parts f.formula)
+    c.in_ok-push.ensures.items a.ensures.items p.ensures.items q.ensures.items f.ensures.items
+    a.ensures.start a.ensures.end p.ensures.start p.ensures.end q.ensures.start q.ensures.end
+    f.ensures.start f.ensures.end
+    (subst (λ (z : Compiled). IsCompiled k z) (sym c.rule.view_is) c.requires.rule)
+    (subst (λ (z : Lists). AreRules k z) (sym c.self.view_is) c.requires.rules)

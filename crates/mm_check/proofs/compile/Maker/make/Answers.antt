@@ -7,7 +7,7 @@ use Rattle.mm_spec.specs.Laws.Complete.{IsBound, AreBound}
 use Rattle.mm_outline.proofs.StatementsLaw.{is_there}
 use Rattle.mm_check.specs.Rule.{parts_of}
 use Rattle.mm_check.proofs.RuleLaw.{covered_all, pairs_covered, made_rule}
-use Rattle.mm_check.proofs.compile.compile.Goals as goal
+use Rattle.mm_check.proofs.compile.Maker.make.Goals as goal
 
 pub ask-requires-clause-bound : goal.ask-requires-clause-bound
 ask-requires-clause-bound g c =
@@ -33,20 +33,16 @@ pair-requires-clause-bound g c =
 pub formula-requires : goal.formula-requires
 formula-requires g c = is_there is_assertion c.args.db.now.statements c.args.k c.requires.assertion
 
-pub formula-requires-2 : goal.formula-requires-2
-formula-requires-2 g c =
-    is_there is_assertion c.args.db.now.statements c.args.k c.requires.assertion
-
 pub returns-clause-made : goal.returns-clause-made
 returns-clause-made g c =
     let k = c.args.db.now.statements in
     let hyps = c.hyps-hyps.result.now in
-    let f = c.formula-2.result.now in
+    let f = c.formula.result.now in
     let asked = c.in_ok-ask.ensures in
     made_rule k c.args.k c.requires.assertion c.requires.complete hyps c.pairs.result.now f
     c.ask.new.asked.items c.pair.new.pairs.items c.ask.new.parts.items c.write.new.parts.items
-    c.hyps-hyps.ensures.are c.pairs.ensures.are c.formula-2.ensures.formula
-    c.formula-2.ensures.known asked.asked asked.count asked.within asked.parts
+    c.hyps-hyps.ensures.are c.pairs.ensures.are c.formula.ensures.formula
+    c.formula.ensures.known asked.asked asked.count asked.within asked.parts
     c.in_ok-pair.ensures
     (c.in_ok-write.ensures
-    ∙ ap (λ z. z ++ parts_of k (map (formula_at k) hyps) f) c.in_ok-formula.ensures.items)
+    ∙ ap (λ z. z ++ parts_of k (map (formula_at k) hyps) f) c.empty-4.ensures)

@@ -1,0 +1,68 @@
+use Rattle.std.proofs.Common.{◌≡◌, Ok, length, nat_le, sym, ap, ◌∙◌}
+use Rattle.mm_spec.specs.Limits.{formula_limit}
+use Rattle.mm_check.specs.Arena.{arena}
+use Rattle.mm_check.specs.Rule.{replaced}
+use Rattle.mm_check.proofs.Placed.{placed, made_known, too_long_here, same_formula}
+use Rattle.mm_check.proofs.machine.put_long.Goals as goal
+
+pub returns-in-Err-put-clause-known_own : goal.returns-in-Err-put-clause-known_own
+returns-in-Err-put-clause-known_own g c =
+    let k = c.args._db.now.statements in
+    let own = c.args.own.now.items in
+    let stack = c.args.stack.now.items in
+    let made = c.deref-in-Ok-true.result.now in
+    let is =
+    c.deref-in-Ok-true.ensures.value ∙ c.in-Ok-true.ensures.made c.in-Ok-true.field-0-test
+    ∙ same_formula k c.args._theorem c.args.rule.now own c.args.kept.now stack c.args.below
+    c.as_slice.result.now c.deref.result.now c.formula.result.now c.as_slice.ensures.value
+    c.deref.ensures.value c.formula.ensures in
+    c.put.ensures.known_own _ c.requires.known_own
+    (made_known k c.args._theorem c.args.rule.now own c.args.kept.now stack c.args.below made
+    c.requires.judged is c.requires.rule c.requires.known_own c.requires.known_kept)
+
+pub returns-in-Ok-clause-known_own : goal.returns-in-Ok-clause-known_own
+returns-in-Ok-clause-known_own g c =
+    let k = c.args._db.now.statements in
+    let own = c.args.own.now.items in
+    let stack = c.args.stack.now.items in
+    let made = c.deref-in-Ok-true.result.now in
+    let is =
+    c.deref-in-Ok-true.ensures.value ∙ c.in-Ok-true.ensures.made c.in-Ok-true.field-0-test
+    ∙ same_formula k c.args._theorem c.args.rule.now own c.args.kept.now stack c.args.below
+    c.as_slice.result.now c.deref.result.now c.formula.result.now c.as_slice.ensures.value
+    c.deref.ensures.value c.formula.ensures in
+    c.put.ensures.known_own _ c.requires.known_own
+    (made_known k c.args._theorem c.args.rule.now own c.args.kept.now stack c.args.below made
+    c.requires.judged is c.requires.rule c.requires.known_own c.requires.known_kept)
+
+pub returns-in-Ok-false-clause-stopped : goal.returns-in-Ok-false-clause-stopped
+returns-in-Ok-false-clause-stopped g c =
+    let k = c.args._db.now.statements in
+    let own = c.args.own.now.items in
+    let stack = c.args.stack.now.items in
+    let same =
+    same_formula k c.args._theorem c.args.rule.now own c.args.kept.now stack c.args.below
+    c.as_slice.result.now c.deref.result.now c.formula.result.now c.as_slice.ensures.value
+    c.deref.ensures.value c.formula.ensures in
+    too_long_here k c.args._theorem c.args.rule.now own c.args.kept.now stack c.args.below
+    c.requires.judged
+    (ap (λ z. nat_le (length z) formula_limit) (sym same) ∙ sym c.in-Ok-false.ensures.short
+    ∙ c.in-Ok-false.field-0-test)
+
+pub returns-in-Ok-clause-made : goal.returns-in-Ok-clause-made
+returns-in-Ok-clause-made g c =
+    let k = c.args._db.now.statements in
+    let own = c.args.own.now.items in
+    let stack = c.args.stack.now.items in
+    let made = c.deref-in-Ok-true.result.now in
+    let first =
+    c.deref-in-Ok-true.ensures.value ∙ c.in-Ok-true.ensures.made c.in-Ok-true.field-0-test in
+    let same =
+    same_formula k c.args._theorem c.args.rule.now own c.args.kept.now stack c.args.below
+    c.as_slice.result.now c.deref.result.now c.formula.result.now c.as_slice.ensures.value
+    c.deref.ensures.value c.formula.ensures in
+    placed k c.args._theorem c.args.rule.now own c.args.kept.now stack c.args.below made
+    c.requires.judged (first ∙ same)
+    (ap (λ z. nat_le (length z) formula_limit) first ∙ sym c.in-Ok-true.ensures.short
+    ∙ c.in-Ok-true.field-0-test)
+    ∙ ap Ok (sym c.in-Ok.ensures.stack)

@@ -1,0 +1,23 @@
+//! Lists of numbers.
+
+ghost use Rattle.std.specs.Prelude.{◌≡◌, length, IfOk};
+
+use std::alloc::{AllocError, Allocator};
+
+/// So many numbers, each 0.
+pub fn zeros<A: Allocator>(alloc: A, count: usize) -> Result<Vec<u32, A>, AllocError>
+    ensures { IfOk result (λ p. length p.items ≡ count) }
+{
+    let mut numbers = Vec::with_capacity(alloc, count)?;
+    for _ in 0..count {
+        numbers.push(0)?;
+    }
+    Ok(numbers)
+}
+
+/// Puts a number in a place, if there is room for both.
+pub fn put_number(numbers: &mut [u32], i: usize, number: usize) {
+    if i < numbers.len() && number < 4_294_967_296 {
+        numbers[i] = number as u32;
+    }
+}

@@ -1,0 +1,37 @@
+use Rattle.std.proofs.Common.{ℕ, List, ◌∙◌, ◌++◌, ◌*◌, length, drop, subst, sym, ap}
+use Rattle.mm_rows.specs.Bits.{words_for}
+use Rattle.mm_rows.specs.BitRows.{IsBitRow, row_at}
+use Rattle.mm_cites.specs.Citing.{theorem_at}
+use Rattle.mm_rows.proofs.PlaceFacts.{ready_before, row_here, row_there}
+use Rattle.mm_rows.proofs.rows.fill_in_place.Goals as goal
+
+pub fill_row-requires-clause-ready : goal.fill_row-requires-clause-ready
+fill_row-requires-clause-ready g c =
+    let i = c.args.i in
+    ready_before c.args.citations.now c.args.columns.now c.args.bits.now
+    c.split_at_mut-before.result.0.now c.split_at_mut-before.result.1.now i c.rows.ensures.order
+    c.requires.within (sym c.split_at_mut-before.ensures.value)
+    (c.split_at_mut-before.ensures.front_len ∙ ap (λ w. i * w) c.words-width.ensures)
+    c.requires.ready
+
+pub returns-clause-row : goal.returns-clause-row
+returns-clause-row g c =
+    let i = c.args.i in
+    let long = c.split_at_mut-before.ensures.front_len ∙ ap (λ w. i * w) c.words-width.ensures in
+    subst (IsBitRow c.args.citations.now c.args.columns.now (theorem_at c.args.citations.now i))
+    (sym (row_here c.split_at_mut-before.result.0.now c.fill_row.new.row
+    (drop c.words-width.result c.split_at_mut-before.result.1.now)
+    (words_for (length c.args.columns.now)) i long c.fill_row.ensures.words))
+    c.fill_row.ensures
+
+pub returns-clause-others : goal.returns-clause-others
+returns-clause-others g c = λ r ne.
+    let i = c.args.i in
+    let width = words_for (length c.args.columns.now) in
+    let before = c.split_at_mut-before.result.0.now in
+    let rest = c.split_at_mut-before.result.1.now in
+    let long = c.split_at_mut-before.ensures.front_len ∙ ap (λ w. i * w) c.words-width.ensures in
+    ap (λ (w : ℕ). row_at (before ++ (c.fill_row.new.row ++ drop w rest)) width r)
+    c.words-width.ensures
+    ∙ row_there before c.fill_row.new.row rest width i r long c.fill_row.ensures.words ne
+    ∙ ap (λ (xs : List ℕ). row_at xs width r) (sym c.split_at_mut-before.ensures.value)
