@@ -1,18 +1,17 @@
 -- One statement more in the walk that makes the frames.
-use Rattle.std.proofs.Common.{◌≡◌, ◌≢◌, ℕ, suc, ◌+◌, ◌<◌, ◌≤◌, Bool, true, false, List, [], ◌∷◌}
-use Rattle.std.proofs.Common.{◌++◌, length, get_or, set, None, Some, refl, sym, ap, ◌∙◌, subst}
-use Rattle.std.proofs.Common.{arith, true≢false, ◌⊎◌, inl, inr, length-append, append-nil}
+use Rattle.std.proofs.Common.{◌≡◌, ◌≢◌, ℕ, ◌+◌, ◌<◌, ◌≤◌, true, false, List, [], ◌∷◌, ◌++◌, length}
+use Rattle.std.proofs.Common.{get_or, set, None, Some, sym, ap, ◌∙◌, subst, arith, true≢false, ◌⊎◌}
+use Rattle.std.proofs.Common.{inl, inr, length-append}
 use Rattle.std.proofs.lemmas.Bool.{cases_lt, cases_eq}
 use Rattle.std.proofs.lemmas.List.{get_or-set_same, get_or-set_other, length-set}
 use Rattle.std.proofs.lemmas.List.{get_or_append_left}
 use Rattle.std.proofs.Math.Seq.{get_or-append_seam}
-use Rattle.std.specs.List.{list_any, range_with_len, filter}
+use Rattle.std.specs.List.{list_any}
 use Rattle.mm_spec.specs.Statement.{Statement}
 use Rattle.mm_spec.specs.Scope.{statement_at, stays}
 use Rattle.mm_spec.specs.Citation.{is_assertion}
 use Rattle.mm_spec.specs.Derivation.{Pair}
 use Rattle.mm_spec.specs.Frame.{symbol_names}
-use Rattle.mm_spec.proofs.Activity.{range_more}
 use Rattle.mm_outline.specs.Blocks.{never}
 use Rattle.mm_frame.specs.Frames.{IsFrame, AreFramesUpTo}
 use Rattle.mm_frame.specs.Tables.{IsSound, typed_at}

@@ -254,6 +254,7 @@ pub(crate) fn add_active<A: Allocator>(
 }
 
 /// Whether a `$d` that is active at a place has both symbols.
+#[inline(never)]
 pub fn are_together<A: Allocator>(
     blocks: &Blocks<A>,
     members: &Members<A>,

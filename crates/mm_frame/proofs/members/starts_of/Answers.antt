@@ -1,4 +1,4 @@
-use Rattle.std.proofs.Common.{[], subst, sym, arith}
+use Rattle.std.proofs.Common.{subst, sym, arith}
 use Rattle.mm_frame.proofs.StartsLaw.{StartsTo, starts_none, starts_more, starts_next, starts_all}
 use Rattle.mm_frame.proofs.members.starts_of.Goals as goal
 

@@ -1,4 +1,4 @@
-use Rattle.std.proofs.Common.{◌+◌, ◌-◌, ◌≤◌, length, get_or}
+use Rattle.std.proofs.Common.{◌+◌, ◌-◌, length, get_or}
 use Rattle.mm_frame.proofs.StartsLaw.{StartsTo}
 use Rattle.mm_frame.proofs.members.starts_of.Given as goal
 
