@@ -1,11 +1,10 @@
 -- Which symbols are disjoint doesn't depend on their order.
 use Rattle.std.proofs.Common.{◌≡◌, ℕ, ◌==◌, nat_lt, Bool, true, false, not, ◌&&◌, ◌||◌, List, []}
-use Rattle.std.proofs.Common.{◌∷◌, length, refl, sym, ap, ap₂, ◌∙◌, subst, All, true≢false, eq-eqb}
+use Rattle.std.proofs.Common.{◌∷◌, length, refl, sym, ap₂, ◌∙◌, subst, All, true≢false, eq-eqb}
 use Rattle.std.proofs.Common.{eqb-true}
 use Rattle.std.specs.List.{list_any, AllByRecursion}
 use Rattle.std.proofs.lemmas.List.Elements.{All-from_recursion}
 use Rattle.mm_spec.specs.Statement.{Statement}
-use Rattle.mm_spec.specs.Scope.{active}
 use Rattle.mm_spec.specs.Derivation.{Pair, is_member, are_disjoint}
 use Rattle.mm_spec.specs.Frame.{symbol_names, is_variable_number, formula_at, mandatory_variables}
 use Rattle.mm_spec.specs.Frame.{mandatory_pairs, disjoint_at, active_of, is_disjoint_statement}

@@ -1,6 +1,6 @@
 -- What stands after a step that was tested, once its formula is made.
-use Rattle.std.proofs.Common.{◌≡◌, ℕ, ◌≤◌, ◌<◌, Bool, true, false, List, [], ◌∷◌, ◌++◌, length}
-use Rattle.std.proofs.Common.{take, drop, nat_le, Ok, Err, sym, ap, ap₂, ◌∙◌, subst, All, arith}
+use Rattle.std.proofs.Common.{◌≡◌, ℕ, ◌≤◌, ◌<◌, true, false, List, [], ◌∷◌, ◌++◌, length, take}
+use Rattle.std.proofs.Common.{drop, nat_le, Ok, Err, sym, ap, ap₂, ◌∙◌, subst, All, arith}
 use Rattle.std.proofs.Common.{length-take, le-leb, slice_range}
 use Rattle.std.proofs.lemmas.List.{take_rest}
 use Rattle.mm_spec.specs.Statement.{Statement}
@@ -11,7 +11,7 @@ use Rattle.mm_spec.specs.Frame.{symbol_names}
 use Rattle.mm_spec.specs.Laws.Stack.{pick}
 use Rattle.mm_check.specs.declared.arena.Entry.{Entry}
 use Rattle.mm_check.specs.declared.rule.Part.{Part}
-use Rattle.mm_check.specs.Arena.{Arena, arena}
+use Rattle.mm_check.specs.Arena.{arena}
 use Rattle.mm_check.specs.Rule.{Compiled, IsCompiled, replaced}
 use Rattle.mm_check.specs.State.{texts, applied, Judges}
 use Rattle.mm_check.proofs.Grow.{replaced_known}

@@ -1,7 +1,6 @@
 -- Rules in the lists of all rules.
-use Rattle.std.proofs.Common.{◌≡◌, ℕ, ◌+◌, ◌-◌, ◌<◌, ◌≤◌, List, [], ◌∷◌, ◌++◌, length, take, drop}
-use Rattle.std.proofs.Common.{slice_range, refl, sym, ap, ap₂, ◌∙◌, subst, arith, All}
-use Rattle.std.proofs.Common.{length-append, get_or}
+use Rattle.std.proofs.Common.{◌≡◌, ℕ, ◌-◌, List, [], ◌∷◌, ◌++◌, length, take, slice_range, refl, ap}
+use Rattle.std.proofs.Common.{ap₂, ◌∙◌, arith, All, length-append, get_or}
 use Rattle.std.proofs.lemmas.List.{take_all, drop_at}
 use Rattle.std.proofs.lemmas.List.Elements.{All-push}
 use Rattle.mm_spec.specs.Statement.{Statement}
@@ -9,8 +8,8 @@ use Rattle.mm_check.specs.declared.rule.Part.{Part}
 use Rattle.mm_check.specs.declared.rule.Asked.{Asked}
 use Rattle.mm_check.specs.declared.rule.Stretch.{Stretch}
 use Rattle.mm_check.specs.declared.rules.Shelf.{Shelf}
-use Rattle.mm_check.specs.Rule.{Compiled, compiled, IsCompiled, lists, rule_on, stretch_of}
-use Rattle.mm_check.specs.Rule.{IsStretch, IsShelf, AreRules}
+use Rattle.mm_check.specs.Rule.{compiled, IsCompiled, lists, stretch_of, IsStretch, IsShelf}
+use Rattle.mm_check.specs.Rule.{AreRules}
 use Rattle.mm_check.proofs.Grow.{stretch_more}
 
 module _ {X : Type 0} (xs more : List X) (s : Stretch) where

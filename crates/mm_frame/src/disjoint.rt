@@ -125,6 +125,7 @@ pub(crate) fn pairs_of<A: Allocator + Copy>(
     ensures { IfOk result
         (λ v. map (λ p. pair p.0 p.1) v.items ≡ mandatory_pairs tables.now assertion) }
 {
+    // The contract alone speaks of it.
     let _ = tables;
     had.clear();
     add_all_active(blocks, members, found, assertion, had)?;

@@ -118,6 +118,7 @@ impl<A: Allocator> Piece<A> {
         ensures tokens { result.tokens.items ≡ tokens_of text.now }
         ensures fault { result.fault ≡ lexical_fault text.now }
     {
+        // The contract alone speaks of it.
         let _ = text;
         let row = match self.inner {
             Some(inner) => inner.outside,

@@ -69,6 +69,7 @@ pub fn read_proof<A: Allocator + Copy>(
     ensures fault { IfErr result
         (λ e. Refuses (reading_faults_at database.now.statements theorem) e) }
 {
+    // The proof needs the clauses of `len`.
     let _ = database.len();
     let words = database.proof_words(theorem);
     let end = database.end_at(theorem);

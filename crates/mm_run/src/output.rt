@@ -30,6 +30,7 @@ fn refuse<A: Allocator, W: Write>(text: &[u8], fault: Fault, plan: &Plan<A>, to:
     ensures { Answers result text.now (request_of plan.now) (W.contents to.old)
         (W.contents to.new) }
 {
+    // The contract alone speaks of it.
     let _ = plan.workers;
     match write_refusal(to, text, &fault) {
         Ok(()) => RunEnd::Refused(fault),

@@ -58,6 +58,7 @@ fn join_all<'d, A: Allocator + Copy>(
     ensures { IfOk result
         (λ g. AreGathered board.now database.now.statements essential g.seat g.found.items) }
 {
+    // The contract alone speaks of these.
     let _ = database;
     let _ = essential;
     let Worked { mut seat, found } = own;

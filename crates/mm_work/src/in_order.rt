@@ -23,7 +23,9 @@ pub(crate) fn valid<'a, A: Allocator + Copy>(
         (length (theorems database.now.statements)) lists }
     ensures { IfOk result (λ judged. Judges database.now.statements essential judged) }
 {
+    // The proof needs the clauses of `len`.
     let _ = database.len();
+    // The contract alone speaks of it.
     let _ = essential;
     let theorems = database.theorems().to_vec(alloc)?;
     Ok(Judged::Valid(Citations::new(theorems, lists)))
@@ -39,6 +41,7 @@ pub(crate) fn check_in_order<'a, A: Allocator + Copy>(
     requires { AreRules database.now.statements rules.now }
     ensures { IfOk result (λ judged. Judges database.now.statements essential judged) }
 {
+    // The proof needs the clauses of `len`.
     let _ = database.len();
     let mut checker = Checker::new(alloc, database, rules)?;
     let mut lists = Lists::new(alloc);

@@ -73,6 +73,7 @@ pub(crate) fn merge<'d, A: Allocator + Copy>(
         (λ lists. AreCited database.now.statements essential (theorems database.now.statements)
         (length (theorems database.now.statements)) lists) }
 {
+    // The contract alone speaks of it.
     let _ = essential;
     let places = places(alloc, found, database.theorems().len())?;
     let mut lists = Lists::new(alloc);
@@ -93,6 +94,7 @@ pub(crate) fn fault_of<'d, A: Allocator>(
     requires faulty { IsFoundFaulty found.now index }
     ensures { HasFault database.now.statements (theorem_of database.now.statements index) result }
 {
+    // The contract alone speaks of these.
     let _ = database;
     let _ = essential;
     for one in found {

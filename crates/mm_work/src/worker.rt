@@ -101,6 +101,7 @@ fn check<'a, A: Allocator + Copy>(
         → (found.new.valid.items ≡ found.old.valid.items)
         × (faulty_index found.new.faulty ≡ Some index) }
 {
+    // The proof needs the clauses of `len`.
     let _ = database.len();
     let theorem = database.theorems()[index as usize];
     match verify(alloc, database, checker, theorem, essential) {

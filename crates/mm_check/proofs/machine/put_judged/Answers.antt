@@ -1,4 +1,4 @@
-use Rattle.std.proofs.Common.{◌≡◌, ◌++◌, ◌∷◌, [], Ok, take, sym, ap, ap₂, ◌∙◌}
+use Rattle.std.proofs.Common.{Ok, take, sym, ap, ap₂, ◌∙◌}
 use Rattle.mm_check.specs.Arena.{arena}
 use Rattle.mm_check.specs.State.{texts, applied}
 use Rattle.mm_check.proofs.Placed.{judged_here, placed, made_known, same_formula, short_enough}

@@ -1,7 +1,5 @@
-use Rattle.std.proofs.Common.{◌≡◌, Ok, length, nat_le, sym, ap, ◌∙◌}
+use Rattle.std.proofs.Common.{Ok, length, nat_le, sym, ap, ◌∙◌}
 use Rattle.mm_spec.specs.Limits.{formula_limit}
-use Rattle.mm_check.specs.Arena.{arena}
-use Rattle.mm_check.specs.Rule.{replaced}
 use Rattle.mm_check.proofs.Placed.{placed, made_known, too_long_here, same_formula}
 use Rattle.mm_check.proofs.machine.put_long.Goals as goal
 
