@@ -12,6 +12,7 @@
 #![tactic(auto)]
 
 ghost use Rattle.std.specs.Prelude.{◌≡◌, ◌↔◌, ℕ, Bool, List, None};
+ghost use Rattle.std.specs.Prelude.{◌≤◌, IsTrue};
 ghost use Rattle.mm_spec.specs.Words.{words_of};
 ghost use Rattle.mm_spec.specs.Laws.Words.{AreWords};
 ghost use Rattle.mm_spec.specs.Readings.{reading};
@@ -19,7 +20,9 @@ ghost use Rattle.mm_spec.specs.Lexed.{lexical_fault, tokens_of};
 ghost use Rattle.mm_spec.specs.declared.Word.{Word};
 ghost use Rattle.mm_spec.specs.Text.{Token};
 ghost use Rattle.mm_spec.specs.Statement.{Statement, IsLongestRow};
+ghost use Rattle.mm_spec.specs.Scope.{stays};
 ghost use Rattle.mm_spec.specs.Laws.Table.{statements_of};
+ghost use Rattle.mm_spec.specs.Laws.Blocks.{InBlock};
 ghost use Rattle.mm_spec.specs.Output.{LexedText};
 ghost use Rattle.mm_spec.specs.Laws.Complete.{ReadsComplete};
 ghost use Rattle.mm_laws.specs.Grammar.{IsReading};
@@ -60,6 +63,11 @@ pub fn statements_are_the_longest_row()
     ensures are { (tokens : List Token) → IsLongestRow tokens (statements_of tokens) }
     ensures only { (tokens : List Token) (row : List Statement) → IsLongestRow tokens row
         → row ≡ statements_of tokens }
+{}
+
+/// The block of a statement is open at a later place exactly where no place between is less deep.
+pub fn a_block_is_open_where_none_is_less_deep()
+    ensures { (db : List Statement) (j k : ℕ) → j ≤ k → IsTrue (stays db j k) ↔ InBlock db j k }
 {}
 
 /// Each variable of a frame of what is read has a `$f` among the frame's mandatory hypotheses:
