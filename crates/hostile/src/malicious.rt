@@ -103,7 +103,7 @@ fn bad_byte_at<R: Threads + Wait + Sync>(
 }
 
 #[test]
-fn a_bad_byte_behind_spaces(rt: HostRuntime) -> Result<(), AllocError> {
+fn a_bad_byte_after_spaces(rt: HostRuntime) -> Result<(), AllocError> {
     for spaces in 0..130u32 {
         assert!(&rt; bad_byte_at(&rt, rt.alloc(), b"", spaces, spaces)?);
         assert!(&rt; bad_byte_at(&rt, rt.alloc(), b"$( ", spaces, spaces + 3)?);

@@ -19,44 +19,44 @@ count_by_chunk p i n xs =
     ∙ sum_by-append (λ x. cond (p x) 1 0) (take i xs) (chunk i n xs)
 
 -- the first place, told by what is known of each
-pub position-some : (p : ℕ → Bool) (xs : List ℕ) (i : ℕ) → i < length xs
+pub position_some : (p : ℕ → Bool) (xs : List ℕ) (i : ℕ) → i < length xs
     → ((k : ℕ) → k < i → p (get_or xs k 0) ≡ false) → p (get_or xs i 0) ≡ true
     → Some i ≡ position p xs
-position-some p xs i within before here =
+position_some p xs i within before here =
     let same : position_or_len p xs ≡ i =
     prefix_len_is (λ x. not (p x)) xs i 0 (omega arith) (λ k lt. ap not (before k lt))
     (λ lt. ap not here) in
     rw (same, lt-ltb i (length xs) within) refl
 
-pub position-none : (p : ℕ → Bool) (xs : List ℕ)
+pub position_none : (p : ℕ → Bool) (xs : List ℕ)
     → ((k : ℕ) → k < length xs → p (get_or xs k 0) ≡ false) → None ≡ position p xs
-position-none p xs before =
+position_none p xs before =
     let same : position_or_len p xs ≡ length xs =
     prefix_len_is (λ x. not (p x)) xs (length xs) 0 (omega arith) (λ k lt. ap not (before k lt))
     (λ lt. absurd (omega arith)) in
     rw (same, le-ltb (length xs) (length xs) (omega arith)) refl
 
 -- the first place, where it is in the block of 64 at i, none before which has one
-pub position-block : (p : ℕ → Bool) (xs : List ℕ) (i m : ℕ) → i + 64 ≤ length xs
+pub position_block : (p : ℕ → Bool) (xs : List ℕ) (i m : ℕ) → i + 64 ≤ length xs
     → ((k : ℕ) → k < i → p (get_or xs k 0) ≡ false) → m ≡ mask_l (map p (chunk i 64 xs))
     → m < 2 ^ 64 → 0 < m →
     Some (i + count_trailing_zeros 64 m) ≡ position p xs
-position-block p xs i m within before is fits some =
+position_block p xs i m within before is fits some =
     let r : ℕ = count_trailing_zeros 64 m in
     let short : length (chunk i 64 xs) ≤ 64 = omega (arith, length-chunk i 64 xs within) in
     let counted : r ≡ prefix_len (λ x. not (p x)) (chunk i 64 xs) =
     ap (count_trailing_zeros 64) is
     ∙ trailing_mask_l p 64 (chunk i 64 xs) short (subst (λ (n : ℕ). 0 < n) is some) in
     let inside : r < 64 = (bit_at-trailing_zeros w64 m some fits).0 in
-    position-some p xs (i + r) (omega arith)
+    position_some p xs (i + r) (omega arith)
     (λ k lt. ⊎_elim {C = p (get_or xs k 0) ≡ false} (λ h. before k h)
     (λ h. run_in_chunk_fails p xs i 64 r 0 within counted k h lt) (cases_lt k i))
     (run_in_chunk_stops p xs i 64 r 0 within counted inside)
 
 -- none in a block of 64
-pub none-block : (p : ℕ → Bool) (xs : List ℕ) (i : ℕ) → i + 64 ≤ length xs
+pub none_block : (p : ℕ → Bool) (xs : List ℕ) (i : ℕ) → i + 64 ≤ length xs
     → ((k : ℕ) → k < i → p (get_or xs k 0) ≡ false) → mask_l (map p (chunk i 64 xs)) ≡ 0 →
     (k : ℕ) → k < i + 64 → p (get_or xs k 0) ≡ false
-none-block p xs i within before empty k lt =
+none_block p xs i within before empty k lt =
     ⊎_elim {C = p (get_or xs k 0) ≡ false} (λ h. before k h)
     (λ h. none_from_empty_mask p xs i 64 0 within empty k h lt) (cases_lt k i)

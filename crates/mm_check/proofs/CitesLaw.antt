@@ -6,8 +6,8 @@ use Rattle.mm_spec.specs.Statement.{Statement}
 use Rattle.mm_spec.specs.Derivation.{Trees, postfix, is_member}
 use Rattle.mm_spec.specs.Laws.Complete.{AreComplete}
 use Rattle.mm_spec.specs.Citation.{IsProof, Cites}
-use Rattle.mm_spec.proofs.Cited.{proof_unique}
-use Rattle.mm_spec.proofs.NodesLemmas.{all_labels}
+use Rattle.mm_spec.proofs.CitedLaw.{proof_unique}
+use Rattle.mm_spec.proofs.NodesLaw.{all_labels}
 use Rattle.mm_check.specs.Contract.{is_assertion_at}
 
 -- the assertions among the labels of the proof are what the theorem cites

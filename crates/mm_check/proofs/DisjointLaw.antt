@@ -10,7 +10,7 @@ use Rattle.mm_spec.specs.Frame.{symbol_names, is_variable_number, formula_at, ma
 use Rattle.mm_spec.specs.Frame.{mandatory_pairs, disjoint_at, active_of, is_disjoint_statement}
 use Rattle.mm_spec.specs.Frame.{pairs_of}
 use Rattle.mm_spec.specs.Citation.{context_at}
-use Rattle.mm_spec.proofs.Finds.{each_filter, each_any}
+use Rattle.mm_spec.proofs.FindsLaw.{each_filter, each_any}
 use Rattle.mm_check.specs.Arena.{paired}
 
 and_sym : (a b : Bool) → (a && b) ≡ (b && a)

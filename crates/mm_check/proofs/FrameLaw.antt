@@ -12,7 +12,7 @@ use Rattle.mm_spec.specs.Derivation.{Pair, is_member}
 use Rattle.mm_spec.specs.Frame.{symbol_names, is_variable_number, is_essential, is_floating}
 use Rattle.mm_spec.specs.Frame.{formula_at, mandatory_variables, mandatory_hypotheses}
 use Rattle.mm_spec.specs.Frame.{mandatory_pairs, disjoint_at, pairs_of}
-use Rattle.mm_spec.proofs.Finds.{is_before, each_filter, each_any, member-filter}
+use Rattle.mm_spec.proofs.FindsLaw.{is_before, each_filter, each_any, member_filter}
 use Rattle.mm_check.specs.Arena.{paired}
 
 weaker : (P Q : ℕ → Type 0) → ((x : ℕ) → P x → Q x) → (xs : List ℕ) → AllByRecursion P xs
@@ -70,7 +70,7 @@ variable_below db x e = by (slice_get (symbol_names db) x) refl e
 
 mandatory_below : (db : List Statement) (k x : ℕ) → is_member (mandatory_variables db k) x ≡ true
     → x < length (symbol_names db)
-mandatory_below db k x e = variable_below db x (member-filter (is_variable_number db) _ x e).0
+mandatory_below db k x e = variable_below db x (member_filter (is_variable_number db) _ x e).0
 
 pub pairs_below : (db : List Statement) (k : ℕ) (ps : List (ℕ × ℕ))
     → paired ps ≡ mandatory_pairs db k

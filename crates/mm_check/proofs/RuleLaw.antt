@@ -13,15 +13,16 @@ use Rattle.mm_spec.specs.Frame.{symbol_names, is_variable_number, formula_at, fr
 use Rattle.mm_spec.specs.Frame.{mandatory_hypotheses, mandatory_pairs}
 use Rattle.mm_check.specs.declared.rule.Part.{Part}
 use Rattle.mm_check.specs.declared.rule.Part.TheVariants.{Constant, Variable}
-use Rattle.mm_check.specs.declared.rule.Asked.{Asked}
-use Rattle.mm_check.specs.declared.rule.Asked.TheVariants.{Floating, Essential}
+use Rattle.mm_check.specs.declared.rule.Hypothesis.{Hypothesis}
+use Rattle.mm_check.specs.declared.rule.Hypothesis.TheVariants.{Floating, Essential}
 use Rattle.mm_check.specs.declared.rule.Stretch.{Stretch}
-use Rattle.mm_check.specs.Rule.{first, parts_of, asked_parts, all_parts, IsAsked, IsBelow, IsKnown}
+use Rattle.mm_check.specs.Rule.{first, parts_of, hypothesis_parts, all_parts, IsHypothesisIn}
+use Rattle.mm_check.specs.Rule.{IsBelow, IsKnown}
 use Rattle.mm_check.specs.Rule.{compiled, IsCompiled, AreCovered, ArePairs}
 use Rattle.mm_check.specs.Arena.{paired}
 use Rattle.mm_check.specs.Contract.{is_assertion_at}
-use Rattle.mm_check.proofs.First.{first_below}
-use Rattle.mm_check.proofs.Grow.{stretch_more}
+use Rattle.mm_check.proofs.FirstLaw.{first_below}
+use Rattle.mm_check.proofs.GrowLaw.{stretch_more}
 
 pub map_push : {X Y : Type 0} (f : X → Y) (xs : List X) (x : X)
     → map f (xs ++ x ∷ []) ≡ map f xs ++ f x ∷ []
@@ -33,36 +34,36 @@ pub map_take_more : {X Y : Type 0} (f : X → Y) (xs : List X) (i : ℕ) (d : X)
     → map f (take (i + 1) xs) ≡ map f (take i xs) ++ f (get_or xs i d) ∷ []
 map_take_more f xs i d h = ap (map f) (take_more xs i d h) ∙ map_push f (take i xs) (get_or xs i d)
 
-all_parts_push : (parts : List Part) (n : ℕ) (xs : List Asked) (a : Asked)
+all_parts_push : (parts : List Part) (n : ℕ) (xs : List Hypothesis) (a : Hypothesis)
     → all_parts parts n (xs ++ a ∷ [])
-    ≡ all_parts parts n xs ++ asked_parts parts (n + length xs) a ∷ []
+    ≡ all_parts parts n xs ++ hypothesis_parts parts (n + length xs) a ∷ []
 all_parts_push parts n [] a =
-    let e : n ≡ n + 0 = omega arith in ap (λ m. asked_parts parts m a ∷ []) e
+    let e : n ≡ n + 0 = omega arith in ap (λ m. hypothesis_parts parts m a ∷ []) e
 all_parts_push parts n (x ∷ xs) a =
     let e : suc n + length xs ≡ n + suc (length xs) = omega arith in
-    ap (λ z. asked_parts parts n x ∷ z)
+    ap (λ z. hypothesis_parts parts n x ∷ z)
     (all_parts_push parts (suc n) xs a
-    ∙ ap (λ m. all_parts parts (suc n) xs ++ asked_parts parts m a ∷ []) e)
+    ∙ ap (λ m. all_parts parts (suc n) xs ++ hypothesis_parts parts m a ∷ []) e)
 
 -- more parts after
-one_grow : (parts more : List Part) (n : ℕ) (a : Asked) → IsAsked (length parts) a
-    → asked_parts (parts ++ more) n a ≡ asked_parts parts n a
+one_grow : (parts more : List Part) (n : ℕ) (a : Hypothesis) → IsHypothesisIn (length parts) a
+    → hypothesis_parts (parts ++ more) n a ≡ hypothesis_parts parts n a
 one_grow parts more n (Floating t) h = refl
 one_grow parts more n (Essential s) h = stretch_more parts more s.start s.end h.0 h.1
 
-all_parts_grow : (parts more : List Part) (n : ℕ) (xs : List Asked)
-    → AllByRecursion (IsAsked (length parts)) xs
+all_parts_grow : (parts more : List Part) (n : ℕ) (xs : List Hypothesis)
+    → AllByRecursion (IsHypothesisIn (length parts)) xs
     → all_parts (parts ++ more) n xs ≡ all_parts parts n xs
 all_parts_grow parts more n [] h = refl
 all_parts_grow parts more n (a ∷ xs) h =
     ap₂ (λ u us. u ∷ us) (one_grow parts more n a h.0) (all_parts_grow parts more (suc n) xs h.1)
 
-is_asked_more : (m n : ℕ) (a : Asked) → IsAsked m a → IsAsked (m + n) a
+is_asked_more : (m n : ℕ) (a : Hypothesis) → IsHypothesisIn m a → IsHypothesisIn (m + n) a
 is_asked_more m n (Floating t) h = tt
 is_asked_more m n (Essential s) h = (h.0, let l = h.1 in omega (arith, l))
 
-are_asked_more : (m n : ℕ) (xs : List Asked) → AllByRecursion (IsAsked m) xs
-    → AllByRecursion (IsAsked (m + n)) xs
+are_asked_more : (m n : ℕ) (xs : List Hypothesis) → AllByRecursion (IsHypothesisIn m) xs
+    → AllByRecursion (IsHypothesisIn (m + n)) xs
 are_asked_more m n [] h = tt
 are_asked_more m n (a ∷ xs) h = (is_asked_more m n a h.0, are_asked_more m n xs h.1)
 
@@ -72,23 +73,24 @@ pushed P [] x h p = (p, tt)
 pushed P (y ∷ xs) x h p = (h.0, pushed P xs x h.1 p)
 
 -- what one hypothesis more asks: a typecode
-pub typed_more : (parts : List Part) (xs : List Asked) (j t : ℕ) (us : List (List Part))
+pub typed_more : (parts : List Part) (xs : List Hypothesis) (j t : ℕ) (us : List (List Part))
     → length xs ≡ j → all_parts parts 0 xs ≡ us
     → all_parts parts 0 (xs ++ Floating t ∷ []) ≡ us ++ (Constant t ∷ Variable j ∷ []) ∷ []
 typed_more parts xs j t us n e =
     let at : 0 + length xs ≡ j = omega (arith, n) in
     all_parts_push parts 0 xs (Floating t)
-    ∙ ap₂ (λ u m. u ++ asked_parts parts m (Floating t) ∷ []) e at
+    ∙ ap₂ (λ u m. u ++ hypothesis_parts parts m (Floating t) ∷ []) e at
 
-pub typed_within : (n : ℕ) (xs : List Asked) (t : ℕ) → All (IsAsked n) xs
-    → All (IsAsked n) (xs ++ Floating t ∷ [])
+pub typed_within : (n : ℕ) (xs : List Hypothesis) (t : ℕ) → All (IsHypothesisIn n) xs
+    → All (IsHypothesisIn n) (xs ++ Floating t ∷ [])
 typed_within n xs t h =
-    All-from_recursion (IsAsked n) _
-    (pushed (IsAsked n) xs (Floating t) (recursion_from_All (IsAsked n) xs h) tt)
+    All-from_recursion (IsHypothesisIn n) _
+    (pushed (IsHypothesisIn n) xs (Floating t) (recursion_from_All (IsHypothesisIn n) xs h) tt)
 
 -- or the parts of its formula
-module _ (parts more : List Part) (xs : List Asked) (s : Stretch) (from : s.start ≡ length parts)
-    (to : s.end ≡ length (parts ++ more)) (h : All (IsAsked (length parts)) xs) where
+module _ (parts more : List Part) (xs : List Hypothesis) (s : Stretch)
+    (from : s.start ≡ length parts)
+    (to : s.end ≡ length (parts ++ more)) (h : All (IsHypothesisIn (length parts)) xs) where
   stretch_is : slice_range (parts ++ more) s.start s.end ≡ more
   stretch_is =
       ap₂ (λ a b. slice_range (parts ++ more) a b) from to
@@ -101,18 +103,18 @@ module _ (parts more : List Part) (xs : List Asked) (s : Stretch) (from : s.star
   essential_more us e =
       all_parts_push (parts ++ more) 0 xs (Essential s)
       ∙ ap₂ (λ u z. u ++ z ∷ [])
-      (all_parts_grow parts more 0 xs (recursion_from_All (IsAsked (length parts)) xs h) ∙ e)
+      (all_parts_grow parts more 0 xs (recursion_from_All (IsHypothesisIn (length parts)) xs h) ∙ e)
       stretch_is
 
-  pub essential_within : All (IsAsked (length (parts ++ more))) (xs ++ Essential s ∷ [])
+  pub essential_within : All (IsHypothesisIn (length (parts ++ more))) (xs ++ Essential s ∷ [])
   essential_within =
       let n : length parts + length more ≡ length (parts ++ more) =
       omega (arith, length-append parts more) in
-      All-from_recursion (IsAsked (length (parts ++ more))) _
-      (pushed (IsAsked (length (parts ++ more))) xs (Essential s)
-      (subst (λ m. AllByRecursion (IsAsked m) xs) n
+      All-from_recursion (IsHypothesisIn (length (parts ++ more))) _
+      (pushed (IsHypothesisIn (length (parts ++ more))) xs (Essential s)
+      (subst (λ m. AllByRecursion (IsHypothesisIn m) xs) n
       (are_asked_more (length parts) (length more) xs
-      (recursion_from_All (IsAsked (length parts)) xs h)))
+      (recursion_from_All (IsHypothesisIn (length parts)) xs h)))
       (omega (arith, from, to, length-append parts more), omega (arith, to)))
 
 module _ (k : List Statement) (hs : List Formula) where
@@ -199,19 +201,22 @@ module _ (k : List Statement) (a : ℕ) (is : is_assertion_at k a ≡ true)
   abbrev frame_hyps : List Formula
   frame_hyps = map (formula_at k) (mandatory_hypotheses k a)
 
-  rule_is : (from : List (ℕ × ℕ)) (f : Formula) (asked : List Asked) (pairs : List (ℕ × ℕ))
+  rule_is : (from : List (ℕ × ℕ)) (f : Formula) (hypotheses : List Hypothesis)
+      (pairs : List (ℕ × ℕ))
       → (parts formula : List Part)
       → paired from ≡ mandatory_pairs k a → f ≡ formula_at k a
       → All (λ s. s < length (symbol_names k)) f
-      → all_parts parts 0 asked ≡ map (parts_of k frame_hyps) frame_hyps
-      → length asked ≡ length (mandatory_hypotheses k a) → All (IsAsked (length parts)) asked
+      → all_parts parts 0 hypotheses ≡ map (parts_of k frame_hyps) frame_hyps
+      → length hypotheses ≡ length (mandatory_hypotheses k a) → All (IsHypothesisIn (length parts))
+      hypotheses
       → All (IsBelow (length (mandatory_hypotheses k a))) parts
       → pairs ≡ map {B = ℕ × ℕ}
       (λ (p : ℕ × ℕ). (first k frame_hyps p.0, first k frame_hyps p.1)) from
-      → formula ≡ parts_of k frame_hyps f → IsCompiled k (compiled a asked pairs parts formula)
-  rule_is from f asked pairs parts formula pairs_is f_is known made count within below pairs_made
+      → formula ≡ parts_of k frame_hyps f → IsCompiled k (compiled a hypotheses pairs parts formula)
+  rule_is from f hypotheses pairs parts formula pairs_is f_is known made count within below
+      pairs_made
       formula_made =
-      let same : length asked ≡ length frame_hyps =
+      let same : length hypotheses ≡ length frame_hyps =
       count ∙ sym (length-map (mandatory_hypotheses k a) (formula_at k)) in
       let pairs_are : pairs
       ≡ map {B = ℕ × ℕ} (λ (p : Pair). (first k frame_hyps p.low, first k frame_hyps p.high))
@@ -234,28 +239,28 @@ module _ (k : List Statement) (a : ℕ) (is : is_assertion_at k a ≡ true)
             (covered k frame_hyps (formula_at k a) complete.formula));
         formula_known =
             rw formula_made (parts_known k frame_hyps (length (symbol_names k)) f known);
-        asked_is = made;
+        hypotheses_are = made;
         pairs_are = pairs_are;
         formula_is = formula_are;
       }
 
-  pub made_rule : (hyps : List ℕ) (from : List (ℕ × ℕ)) (f : Formula) (asked : List Asked)
+  pub made_rule : (hyps : List ℕ) (from : List (ℕ × ℕ)) (f : Formula) (hypotheses : List Hypothesis)
       → (pairs : List (ℕ × ℕ)) (parts formula : List Part)
       → hyps ≡ mandatory_hypotheses k a → paired from ≡ mandatory_pairs k a → f ≡ formula_at k a
       → All (λ s. s < length (symbol_names k)) f
-      → all_parts parts 0 asked
+      → all_parts parts 0 hypotheses
       ≡ map (parts_of k (map (formula_at k) hyps)) (map (formula_at k) hyps)
-      → length asked ≡ length hyps → All (IsAsked (length parts)) asked
+      → length hypotheses ≡ length hyps → All (IsHypothesisIn (length parts)) hypotheses
       → All (IsBelow (length hyps)) parts
       → pairs ≡ map {B = ℕ × ℕ}
       (λ (p : ℕ × ℕ).
       (first k (map (formula_at k) hyps) p.0, first k (map (formula_at k) hyps) p.1)) from
       → formula ≡ parts_of k (map (formula_at k) hyps) f
-      → IsCompiled k (compiled a asked pairs parts formula)
-  made_rule hyps from f asked pairs parts formula hyps_is pairs_is f_is known made count within
+      → IsCompiled k (compiled a hypotheses pairs parts formula)
+  made_rule hyps from f hypotheses pairs parts formula hyps_is pairs_is f_is known made count within
       below pairs_made formula_made =
-      rule_is from f asked pairs parts formula pairs_is f_is known
-      (subst (λ h. all_parts parts 0 asked
+      rule_is from f hypotheses pairs parts formula pairs_is f_is known
+      (subst (λ h. all_parts parts 0 hypotheses
       ≡ map (parts_of k (map (formula_at k) h)) (map (formula_at k) h)) hyps_is made)
       (count ∙ ap length hyps_is) within
       (subst (λ h. All (IsBelow (length h)) parts) hyps_is below)

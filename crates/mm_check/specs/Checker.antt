@@ -4,16 +4,17 @@ use Rattle.mm_spec.specs.Statement.{Statement}
 use Rattle.mm_spec.specs.Frame.{symbol_names}
 use Rattle.mm_check.specs.Rule.{Lists, AreRules}
 
--- a checker, by how many symbols it and its maker of rules know, and the rules that it was lent
+-- a checker, by how many symbols it and its compiler of rules know, and the rules that it was lent
 pub record Made : Type 0 where
   pub width : ℕ
-  pub maker : ℕ
+  pub compiler : ℕ
   pub rules : Lists
 
 abbrev pub made : ℕ → ℕ → Lists → Made
-made width maker rules = record { width = width; maker = maker; rules = rules }
+made width compiler rules = record { width = width; compiler = compiler; rules = rules }
 
 -- the checker is one for the theorems of the database
 unfoldable pub IsMadeFor : List Statement → Made → Type 0
 IsMadeFor k m =
-    (m.width ≡ length (symbol_names k)) × (m.maker ≡ length (symbol_names k)) × AreRules k m.rules
+    (m.width ≡ length (symbol_names k)) × (m.compiler ≡ length (symbol_names k)) × AreRules k
+    m.rules

@@ -5,7 +5,7 @@ use Rattle.std.specs.List.{AllByRecursion, AllZip, Contains}
 use Rattle.mm_spec.specs.Derivation.{Formula, Trees, formulas, postfix, AreDerivations, is_member}
 use Rattle.mm_spec.specs.Steps.{Step, PlacedStep}
 use Rattle.mm_spec.specs.Valid.{Plain}
-use Rattle.mm_spec.specs.Laws.Stack.{Behind}
+use Rattle.mm_spec.specs.Laws.Stack.{Leaves}
 use Rattle.mm_spec.specs.Statement.{Statement}
 use Rattle.mm_spec.specs.Citation.{context_at}
 use Rattle.mm_proof.specs.Read.{is_marked}
@@ -14,13 +14,13 @@ use Rattle.mm_check.specs.Contract.{is_assertion_at}
 
 -- A row of derivations stands after the steps: its formulas are the entries, the ends are the last
 -- formulas of the earlier rows, and its assertions were noted.
-pub record Reached (k : List Statement) (t : ℕ) (done : List Step) (entries ends : List Formula)
+pub record Reached (k : List Statement) (t : ℕ) (done : List Step) (stack ends : List Formula)
     (noted : List ℕ) : Type 0 where
   pub row : Trees
   pub derivations : AreDerivations (context_at k t) row
-  pub entries_are : formulas row ≡ entries
+  pub entries_are : formulas row ≡ stack
   pub lists : List (List ℕ)
-  pub behind : AllZip (Behind (context_at k t)) lists ends
+  pub after : AllZip (Leaves (context_at k t)) lists ends
   pub plain : (rest : List Step) (all : List ℕ)
       → Plain (context_at k t) lists (postfix row) rest all
       → Plain (context_at k t) [] [] (done ++ rest) all
@@ -42,7 +42,7 @@ pub record Ran (k : List Statement) (t : ℕ) (steps : List PlacedStep) (i : ℕ
     (noted : List ℕ) : Type 0 where
   pub ends : List Formula
   pub count : length ends ≡ i
-  pub reached : Reached k t (steps_of (take i steps)) s.entries ends noted
+  pub reached : Reached k t (steps_of (take i steps)) s.stack ends noted
   pub agree : Agree ends s.marks s.formulas
   pub before : All (λ j. j < i) s.marks
   pub present : (j : ℕ) → j < i → is_marked steps j ≡ true → Contains s.marks j

@@ -9,14 +9,15 @@ ghost use Rattle.mm_spec.specs.Frame.{mandatory_hypotheses};
 ghost use Rattle.mm_spec.specs.Citation.{context_at};
 ghost use Rattle.mm_spec.specs.Laws.Complete.{binds, IsBound, IsComplete};
 ghost use Rattle.mm_check.specs.Contract.{is_assertion_at};
-ghost use Rattle.mm_check.specs.Rule.{first, part_of, parts_of, all_parts, compiled, IsAsked};
-ghost use Rattle.mm_check.specs.Rule.{IsBelow, IsCompiled, AreCovered, ArePlaced, ArePairs};
+ghost use Rattle.mm_check.specs.Rule.{first, part_of, parts_of, all_parts, compiled};
+ghost use Rattle.mm_check.specs.Rule.{IsHypothesisIn};
+ghost use Rattle.mm_check.specs.Rule.{IsBelow, IsCompiled, AreCovered, AreFirstNumbers, ArePairs};
 ghost use Rattle.mm_check.specs.declared.rule.Part.TheVariants.{Constant, Variable};
 
 use crate::frames;
 use crate::machine::empty;
 use crate::numbers::zeros;
-use crate::rule::{Asked, Part, Rule, Stretch};
+use crate::rule::{Hypothesis, Part, Rule, Stretch};
 use mm_stmt::{Database, Sym};
 use std::alloc::{AllocError, Allocator};
 use std::marker::Model;
@@ -41,44 +42,45 @@ fn variable_of<A: Allocator>(db: &Database<A>, h: u32) -> Option<Sym>
     }
 }
 
-/// Puts a number in the place of a symbol.
-fn put_place(places: &mut [u32], s: Sym, number: u32)
-    requires { s < length places.old }
-    ensures { places.new ≡ slice_set places.old s number }
+/// Sets the number of a symbol.
+fn set_number(numbers: &mut [u32], s: Sym, number: u32)
+    requires { s < length numbers.old }
+    ensures { numbers.new ≡ slice_set numbers.old s number }
 {
-    places[s.number() as usize] = number;
+    numbers[s.number() as usize] = number;
 }
 
-/// The number in the place of a symbol.
-fn place_of(places: &[u32], s: Sym) -> u32
-    requires { s < length places.now }
-    ensures { result ≡ get_or places.now s 0 }
+/// The number of a symbol.
+fn number_of(numbers: &[u32], s: Sym) -> u32
+    requires { s < length numbers.now }
+    ensures { result ≡ get_or numbers.now s 0 }
 {
-    places[s.number() as usize]
+    numbers[s.number() as usize]
 }
 
 /// Notes for each variable of a hypothesis `$f` the number of the first one.
-fn place<A: Allocator>(db: &Database<A>, hyps: &[u32], places: &mut [u32])
-    requires width { length places.old ≡ length (symbol_names db.now.statements) }
+fn number_variables<A: Allocator>(db: &Database<A>, hyps: &[u32], numbers: &mut [u32])
+    requires width { length numbers.old ≡ length (symbol_names db.now.statements) }
     requires hyps { All (λ h. h < length db.now.statements) hyps.now }
     requires few { length hyps.now < 2 ^ 32 }
-    ensures { ArePlaced db.now.statements (map (formula_at db.now.statements) hyps.now) places.new }
+    ensures { AreFirstNumbers db.now.statements (map (formula_at db.now.statements) hyps.now)
+        numbers.new }
 {
     let mut j = hyps.len();
     while 0 < j {
         j -= 1;
         match variable_of(db, hyps[j]) {
-            Some(y) => put_place(places, y, j as u32),
+            Some(y) => set_number(numbers, y, j as u32),
             None => {}
         }
     }
 }
 
 /// The part of a symbol.
-fn part<A: Allocator>(db: &Database<A>, _hyps: &[u32], places: &[u32], s: Sym) -> Part
-    requires width { length places.now ≡ length (symbol_names db.now.statements) }
-    requires placed { ArePlaced db.now.statements
-        (map (formula_at db.now.statements) _hyps.now) places.now }
+fn compile_symbol<A: Allocator>(db: &Database<A>, _hyps: &[u32], numbers: &[u32], s: Sym) -> Part
+    requires width { length numbers.now ≡ length (symbol_names db.now.statements) }
+    requires placed { AreFirstNumbers db.now.statements
+        (map (formula_at db.now.statements) _hyps.now) numbers.now }
     requires known { s < length (symbol_names db.now.statements) }
     requires bound { is_variable_number db.now.statements s ≡ true
         → IsBound (context_at db.now.statements 0)
@@ -86,23 +88,23 @@ fn part<A: Allocator>(db: &Database<A>, _hyps: &[u32], places: &[u32], s: Sym) -
     ensures { result ≡ part_of db.now.statements (map (formula_at db.now.statements) _hyps.now) s }
 {
     if db.is_variable(s) {
-        Part::Variable(place_of(places, s))
+        Part::Variable(number_of(numbers, s))
     } else {
         Part::Constant(s)
     }
 }
 
 /// Puts the parts of a formula after the others of a list.
-fn write<A: Allocator>(
+fn compile_formula<A: Allocator>(
     db: &Database<A>,
     hyps: &[u32],
-    places: &[u32],
+    numbers: &[u32],
     formula: &[Sym],
     parts: &mut Vec<Part, A>,
 ) -> Result<(), AllocError>
-    requires width { length places.now ≡ length (symbol_names db.now.statements) }
-    requires placed { ArePlaced db.now.statements
-        (map (formula_at db.now.statements) hyps.now) places.now }
+    requires width { length numbers.now ≡ length (symbol_names db.now.statements) }
+    requires placed { AreFirstNumbers db.now.statements
+        (map (formula_at db.now.statements) hyps.now) numbers.now }
     requires known { All (λ s. s < length (symbol_names db.now.statements)) formula.now }
     requires bound { AreCovered db.now.statements
         (map (formula_at db.now.statements) hyps.now) formula.now }
@@ -112,7 +114,7 @@ fn write<A: Allocator>(
         ++ parts_of db.now.statements (map (formula_at db.now.statements) hyps.now) formula.now) }
 {
     for s in formula {
-        parts.push(part(db, hyps, places, *s))?;
+        parts.push(compile_symbol(db, hyps, numbers, *s))?;
     }
     Ok(())
 }
@@ -121,13 +123,13 @@ fn write<A: Allocator>(
 fn is_first<A: Allocator>(
     db: &Database<A>,
     _hyps: &[u32],
-    places: &[u32],
+    numbers: &[u32],
     j: usize,
     formula: &[Sym],
 ) -> bool
-    requires width { length places.now ≡ length (symbol_names db.now.statements) }
-    requires placed { ArePlaced db.now.statements
-        (map (formula_at db.now.statements) _hyps.now) places.now }
+    requires width { length numbers.now ≡ length (symbol_names db.now.statements) }
+    requires placed { AreFirstNumbers db.now.statements
+        (map (formula_at db.now.statements) _hyps.now) numbers.now }
     requires known { All (λ s. s < length (symbol_names db.now.statements)) formula.now }
     requires bound { AreCovered db.now.statements
         (map (formula_at db.now.statements) _hyps.now) formula.now }
@@ -139,43 +141,44 @@ fn is_first<A: Allocator>(
     formula.len() == 2
         && !db.is_variable(formula[0])
         && db.is_variable(formula[1])
-        && place_of(places, formula[1]) as usize == j
+        && number_of(numbers, formula[1]) as usize == j
 }
 
 /// Makes what the hypotheses ask.
-fn ask<A: Allocator>(
+fn compile_hypotheses<A: Allocator>(
     db: &Database<A>,
     hyps: &[u32],
-    places: &[u32],
-    asked: &mut Vec<Asked, A>,
+    numbers: &[u32],
+    hypotheses: &mut Vec<Hypothesis, A>,
     parts: &mut Vec<Part, A>,
 ) -> Result<(), AllocError>
-    requires width { length places.now ≡ length (symbol_names db.now.statements) }
-    requires placed { ArePlaced db.now.statements
-        (map (formula_at db.now.statements) hyps.now) places.now }
+    requires width { length numbers.now ≡ length (symbol_names db.now.statements) }
+    requires placed { AreFirstNumbers db.now.statements
+        (map (formula_at db.now.statements) hyps.now) numbers.now }
     requires hyps { All (λ h. h < length db.now.statements) hyps.now }
     requires bound { All
         (λ h. AreCovered db.now.statements (map (formula_at db.now.statements) hyps.now)
         (formula_at db.now.statements h)) hyps.now }
-    requires asked { asked.old.items ≡ [] }
+    requires hypotheses { hypotheses.old.items ≡ [] }
     requires parts { parts.old.items ≡ [] }
-    ensures asked { OnOk result
-        (all_parts parts.new.items 0 asked.new.items
+    ensures hypotheses { OnOk result
+        (all_parts parts.new.items 0 hypotheses.new.items
         ≡ map (parts_of db.now.statements (map (formula_at db.now.statements) hyps.now))
         (map (formula_at db.now.statements) hyps.now)) }
-    ensures count { OnOk result (length asked.new.items ≡ length hyps.now) }
-    ensures within { OnOk result (All (IsAsked (length parts.new.items)) asked.new.items) }
+    ensures count { OnOk result (length hypotheses.new.items ≡ length hyps.now) }
+    ensures within { OnOk result (All (IsHypothesisIn (length parts.new.items))
+        hypotheses.new.items) }
     ensures parts { OnOk result (All (IsBelow (length hyps.now)) parts.new.items) }
 {
     for j in 0..hyps.len() {
         let h = hyps[j];
         let formula = db.formula(h);
-        if is_first(db, hyps, places, j, formula) {
-            asked.push(Asked::Floating(formula[0]))?;
+        if is_first(db, hyps, numbers, j, formula) {
+            hypotheses.push(Hypothesis::Floating(formula[0]))?;
         } else {
             let start = parts.len();
-            write(db, hyps, places, formula, parts)?;
-            asked.push(Asked::Essential(Stretch {
+            compile_formula(db, hyps, numbers, formula, parts)?;
+            hypotheses.push(Hypothesis::Essential(Stretch {
                 start,
                 end: parts.len(),
             }))?;
@@ -185,16 +188,16 @@ fn ask<A: Allocator>(
 }
 
 /// Makes the mandatory pairs of disjoint variables.
-fn pair<A: Allocator>(
+fn compile_pairs<A: Allocator>(
     _db: &Database<A>,
     _hyps: &[u32],
-    places: &[u32],
+    numbers: &[u32],
     from: &[(Sym, Sym)],
     pairs: &mut Vec<(u32, u32), A>,
 ) -> Result<(), AllocError>
-    requires width { length places.now ≡ length (symbol_names _db.now.statements) }
-    requires placed { ArePlaced _db.now.statements
-        (map (formula_at _db.now.statements) _hyps.now) places.now }
+    requires width { length numbers.now ≡ length (symbol_names _db.now.statements) }
+    requires placed { AreFirstNumbers _db.now.statements
+        (map (formula_at _db.now.statements) _hyps.now) numbers.now }
     requires known { All
         (λ (p : ℕ × ℕ). (p.0 < length (symbol_names _db.now.statements))
         × (p.1 < length (symbol_names _db.now.statements))) from.now }
@@ -211,8 +214,8 @@ fn pair<A: Allocator>(
         )) from.now) }
 {
     for p in from {
-        let low = place_of(places, p.0);
-        let high = place_of(places, p.1);
+        let low = number_of(numbers, p.0);
+        let high = number_of(numbers, p.1);
         pairs.push((low, high))?;
     }
     Ok(())
@@ -220,41 +223,41 @@ fn pair<A: Allocator>(
 
 /// What makes rules, one at a time, with the memory of those that it made before.
 #[derive(Drop)]
-pub struct Maker<A: Allocator> {
+pub struct RuleCompiler<A: Allocator> {
     /// The assertion of the last rule.
     assertion: u32,
-    asked: Vec<Asked, A>,
+    hypotheses: Vec<Hypothesis, A>,
     pairs: Vec<(u32, u32), A>,
     parts: Vec<Part, A>,
     formula: Vec<Part, A>,
     /// A number for each symbol, with no meaning between calls.
-    places: Vec<u32, A>,
+    numbers: Vec<u32, A>,
 }
 
-impl<A: Allocator> Model for Maker<A> {
+impl<A: Allocator> Model for RuleCompiler<A> {
     ghost use Rattle.std.specs.Prelude.{length};
-    ghost use Rattle.mm_check.specs.Rule.{Making, making, compiled};
+    ghost use Rattle.mm_check.specs.Rule.{CompilerState, compiler_state, compiled};
 
-    ghost Value = { Making };
+    ghost Value = { CompilerState };
 
-    ghost view = { λ m. making (length m.places.items)
-        (compiled m.assertion m.asked.items m.pairs.items m.parts.items m.formula.items) };
+    ghost view = { λ m. compiler_state (length m.numbers.items)
+        (compiled m.assertion m.hypotheses.items m.pairs.items m.parts.items m.formula.items) };
 }
 
-impl<A: Allocator> Maker<A> {
-    /// A maker of the rules of a database.
+impl<A: Allocator> RuleCompiler<A> {
+    /// A compiler of the rules of a database.
     pub fn new(alloc: A, db: &Database<A>) -> Result<Self, AllocError>
     where
         A: Copy,
         ensures { IfOk result (λ m. m.width ≡ length (symbol_names db.now.statements)) }
     {
-        Ok(Maker {
+        Ok(RuleCompiler {
             assertion: 0,
-            asked: Vec::new(alloc),
+            hypotheses: Vec::new(alloc),
             pairs: Vec::new(alloc),
             parts: Vec::new(alloc),
             formula: Vec::new(alloc),
-            places: zeros(alloc, db.symbol_count() as usize)?,
+            numbers: zeros(alloc, db.symbol_count() as usize)?,
         })
     }
 
@@ -264,7 +267,7 @@ impl<A: Allocator> Maker<A> {
     {
         Rule {
             assertion: self.assertion,
-            asked: &self.asked,
+            hypotheses: &self.hypotheses,
             pairs: &self.pairs,
             parts: &self.parts,
             formula: &self.formula,
@@ -283,20 +286,26 @@ impl<A: Allocator> Maker<A> {
     {
         let hyps = frames::hyps(db, k);
         self.assertion = k;
-        empty(&mut self.asked);
+        empty(&mut self.hypotheses);
         empty(&mut self.pairs);
         empty(&mut self.parts);
         empty(&mut self.formula);
-        place(db, hyps, &mut self.places);
-        ask(db, hyps, &self.places, &mut self.asked, &mut self.parts)?;
-        pair(
+        number_variables(db, hyps, &mut self.numbers);
+        compile_hypotheses(
             db,
             hyps,
-            &self.places,
+            &self.numbers,
+            &mut self.hypotheses,
+            &mut self.parts,
+        )?;
+        compile_pairs(
+            db,
+            hyps,
+            &self.numbers,
             frames::pairs(db, k),
             &mut self.pairs,
         )?;
-        write(db, hyps, &self.places, db.formula(k), &mut self.formula)?;
+        compile_formula(db, hyps, &self.numbers, db.formula(k), &mut self.formula)?;
         Ok(())
     }
 }

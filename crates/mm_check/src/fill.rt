@@ -5,7 +5,7 @@ ghost use Rattle.mm_spec.specs.Limits.{formula_limit};
 ghost use Rattle.mm_check.specs.Arena.{IsIn};
 ghost use Rattle.mm_check.specs.Rule.{IsBelow, replaced};
 
-use crate::arena::{Entry, Symbols, piece_of};
+use crate::arena::{Span, Symbols, span_of};
 use crate::rule::Part;
 use mm_spec::FORMULA_LIMIT;
 use mm_stmt::Sym;
@@ -48,7 +48,7 @@ fn put_text(text: &[Sym], list: &mut [Sym], at: usize) -> Option<usize>
 #[inline(always)]
 pub fn fill(
     symbols: &Symbols,
-    premises: &[Entry],
+    premises: &[Span],
     formula: &[Part],
     list: &mut [Sym],
 ) -> Option<usize>
@@ -63,7 +63,7 @@ pub fn fill(
     for part in formula {
         match *part {
             Part::Variable(j) => {
-                at = put_text(symbols.text(piece_of(symbols, premises, j)), list, at)?;
+                at = put_text(symbols.text(span_of(symbols, premises, j)), list, at)?;
             }
             Part::Constant(s) => at = put_symbol(s, list, at)?,
         }

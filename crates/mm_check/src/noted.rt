@@ -52,7 +52,7 @@ pub fn cite<A: Allocator>(
 }
 
 /// Puts the numbers in rising order, each once.
-pub fn tidy<A: Allocator>(noted: &mut Vec<u32, A>)
+pub fn sort_and_dedup<A: Allocator>(noted: &mut Vec<u32, A>)
     ensures rising { IsStrictlyIncreasing noted.new.items }
     ensures same { (a : ℕ) → is_member noted.new.items a ≡ is_member noted.old.items a }
 {

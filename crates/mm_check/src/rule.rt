@@ -23,7 +23,7 @@ pub struct Stretch {
 
 /// What a mandatory hypothesis asks of its premise.
 #[derive(Clone, Copy, PartialEq, Eq, Debug, Drop)]
-pub enum Asked {
+pub enum Hypothesis {
     /// The typecode, where it is the first `$f` of its variable.
     Floating(Sym),
     /// The symbols, by a stretch of the rule's parts.
@@ -36,7 +36,7 @@ pub struct Rule<'a> {
     /// The assertion, by its statement.
     pub assertion: u32,
     /// The mandatory hypotheses, in order.
-    pub asked: &'a [Asked],
+    pub hypotheses: &'a [Hypothesis],
     /// The mandatory pairs of disjoint variables.
     pub pairs: &'a [(u32, u32)],
     /// The symbols of the hypotheses that are no first `$f` of a variable.
@@ -50,15 +50,15 @@ impl<'a> Model for Rule<'a> {
 
     ghost Value = { Compiled };
 
-    ghost view = { λ r. compiled r.assertion r.asked.now r.pairs.now r.parts.now r.formula.now };
+    ghost view = { λ r. compiled r.assertion r.hypotheses.now r.pairs.now r.parts.now r.formula.now };
 }
 
 impl<'a> Rule<'a> {
     /// What the mandatory hypotheses ask, in order.
-    pub fn asked(&self) -> &'a [Asked]
-        ensures { result.now ≡ self.now.asked }
+    pub fn hypotheses(&self) -> &'a [Hypothesis]
+        ensures { result.now ≡ self.now.hypotheses }
     {
-        self.asked
+        self.hypotheses
     }
 
     /// The mandatory pairs of disjoint variables.

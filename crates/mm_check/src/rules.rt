@@ -3,12 +3,12 @@
 ghost use Rattle.std.specs.Prelude.{◌≡◌, ◌<◌, ◌++◌, [], length, get_or, OnOk, IfOk, IfSome};
 ghost use Rattle.mm_spec.specs.Frame.{symbol_names};
 ghost use Rattle.mm_spec.specs.Laws.Complete.{AreComplete};
-ghost use Rattle.mm_check.specs.Rule.{IsCompiled, AreRules, IsShelfOf, lists, no_shelf};
+ghost use Rattle.mm_check.specs.Rule.{IsCompiled, AreRules, IsRuleNumber, lists, no_stretches};
 
-use crate::compile::Maker;
+use crate::compile::RuleCompiler;
 use crate::frames::is_assertion;
 use crate::numbers::{put_number, zeros};
-use crate::rule::{Asked, Part, Rule, Stretch};
+use crate::rule::{Hypothesis, Part, Rule, Stretch};
 use mm_stmt::Database;
 use std::alloc::{AllocError, Allocator};
 use std::marker::Model;
@@ -17,11 +17,11 @@ use std::marker::Model;
 /// frames that are much longer than the text aren't all held.
 const HELD: usize = 8_388_608;
 
-/// Where a rule stands in the lists of all rules.
+/// The stretches of a rule in the lists of all rules.
 #[derive(Clone, Copy, Drop)]
-pub struct Shelf {
+pub struct RuleStretches {
     pub assertion: u32,
-    pub asked: Stretch,
+    pub hypotheses: Stretch,
     pub pairs: Stretch,
     pub parts: Stretch,
     pub formula: Stretch,
@@ -31,12 +31,12 @@ pub struct Shelf {
 /// together.
 #[derive(Drop)]
 pub struct Rules<A: Allocator> {
-    shelves: Vec<Shelf, A>,
-    asked: Vec<Asked, A>,
+    stretches: Vec<RuleStretches, A>,
+    hypotheses: Vec<Hypothesis, A>,
     pairs: Vec<(u32, u32), A>,
     /// The symbols of hypotheses and of formulas.
     parts: Vec<Part, A>,
-    /// Where the shelf of a statement may be.
+    /// For each statement the number that its rule may have.
     numbers: Vec<u32, A>,
 }
 
@@ -45,7 +45,7 @@ impl<A: Allocator> Model for Rules<A> {
 
     ghost Value = { Lists };
 
-    ghost view = { λ r. lists r.shelves.items r.asked.items r.pairs.items r.parts.items };
+    ghost view = { λ r. lists r.stretches.items r.hypotheses.items r.pairs.items r.parts.items };
 }
 
 /// Puts elements after the others of a list, and tells where they stand.
@@ -70,8 +70,8 @@ impl<A: Allocator> Rules<A> {
         ensures { result ≡ lists [] [] [] [] }
     {
         Rules {
-            shelves: Vec::new(alloc),
-            asked: Vec::new(alloc),
+            stretches: Vec::new(alloc),
+            hypotheses: Vec::new(alloc),
             pairs: Vec::new(alloc),
             parts: Vec::new(alloc),
             numbers: Vec::new(alloc),
@@ -86,20 +86,25 @@ impl<A: Allocator> Rules<A> {
     {
         let mut rules = Self::none(alloc);
         rules.numbers = zeros(alloc, database.len() as usize)?;
-        let mut maker = Maker::new(alloc, database)?;
+        let mut compiler = RuleCompiler::new(alloc, database)?;
         for k in 0..database.len() {
-            rules.hold(database, k, &mut maker)?;
+            rules.hold(database, k, &mut compiler)?;
         }
         Ok(rules)
     }
 
     /// Makes the rule of a statement and holds it, if that is an assertion and there is room.
-    fn hold(&mut self, db: &Database<A>, k: u32, maker: &mut Maker<A>) -> Result<(), AllocError>
+    fn hold(
+        &mut self,
+        db: &Database<A>,
+        k: u32,
+        compiler: &mut RuleCompiler<A>,
+    ) -> Result<(), AllocError>
         requires statement { k < length db.now.statements }
         requires complete { AreComplete db.now.statements }
-        requires width { maker.old.width ≡ length (symbol_names db.now.statements) }
+        requires width { compiler.old.width ≡ length (symbol_names db.now.statements) }
         requires rules { AreRules db.now.statements self.old }
-        ensures width { maker.new.width ≡ maker.old.width }
+        ensures width { compiler.new.width ≡ compiler.old.width }
         ensures rules { OnOk result (AreRules db.now.statements self.new) }
     {
         if !is_assertion(db, k) {
@@ -108,13 +113,13 @@ impl<A: Allocator> Rules<A> {
         if !self.has_room() {
             return Ok(());
         }
-        maker.make(db, k)?;
-        self.add(db, maker.rule())
+        compiler.make(db, k)?;
+        self.add(db, compiler.rule())
     }
 
     /// Whether one more rule is held.
     fn has_room(&self) -> bool {
-        let held = self.asked.len().saturating_add(self.pairs.len());
+        let held = self.hypotheses.len().saturating_add(self.pairs.len());
         held.saturating_add(self.parts.len()) < HELD
     }
 
@@ -124,14 +129,14 @@ impl<A: Allocator> Rules<A> {
         requires rule { IsCompiled _db.now.statements rule }
         ensures { OnOk result (AreRules _db.now.statements self.new) }
     {
-        let number = self.shelves.len();
-        let asked = put(&mut self.asked, rule.asked)?;
+        let number = self.stretches.len();
+        let hypotheses = put(&mut self.hypotheses, rule.hypotheses)?;
         let pairs = put(&mut self.pairs, rule.pairs)?;
         let parts = put(&mut self.parts, rule.parts)?;
         let formula = put(&mut self.parts, rule.formula)?;
-        self.shelves.push(Shelf {
+        self.stretches.push(RuleStretches {
             assertion: rule.assertion,
-            asked,
+            hypotheses,
             pairs,
             parts,
             formula,
@@ -140,36 +145,36 @@ impl<A: Allocator> Rules<A> {
         Ok(())
     }
 
-    /// The number of the shelf of an assertion's rule, if that is held.
+    /// The number of an assertion's rule, if that is held.
     pub fn find(&self, k: u32) -> Option<usize>
-        ensures { IfSome result (λ n. IsShelfOf self.now n k) }
+        ensures { IfSome result (λ n. IsRuleNumber self.now n k) }
     {
         let i = k as usize;
         if i >= self.numbers.len() {
             return None;
         }
         let n = self.numbers[i] as usize;
-        if n < self.shelves.len() && self.shelves[n].assertion == k {
+        if n < self.stretches.len() && self.stretches[n].assertion == k {
             Some(n)
         } else {
             None
         }
     }
 
-    /// The rule on a shelf.
+    /// The rule of a number.
     pub fn rule(&self, _db: &Database<A>, n: usize) -> Rule<'_>
         requires rules { AreRules _db.now.statements self.now }
-        requires shelf { n < length self.now.shelves }
-        ensures assertion { result.assertion ≡ (get_or self.now.shelves n no_shelf).assertion }
+        requires stretches { n < length self.now.stretches }
+        ensures assertion { result.assertion ≡ (get_or self.now.stretches n no_stretches).assertion }
         ensures rule { IsCompiled _db.now.statements result }
     {
-        let shelf = self.shelves[n];
+        let stretches = self.stretches[n];
         Rule {
-            assertion: shelf.assertion,
-            asked: &self.asked[shelf.asked.start..shelf.asked.end],
-            pairs: &self.pairs[shelf.pairs.start..shelf.pairs.end],
-            parts: &self.parts[shelf.parts.start..shelf.parts.end],
-            formula: &self.parts[shelf.formula.start..shelf.formula.end],
+            assertion: stretches.assertion,
+            hypotheses: &self.hypotheses[stretches.hypotheses.start..stretches.hypotheses.end],
+            pairs: &self.pairs[stretches.pairs.start..stretches.pairs.end],
+            parts: &self.parts[stretches.parts.start..stretches.parts.end],
+            formula: &self.parts[stretches.formula.start..stretches.formula.end],
         }
     }
 }

@@ -5,22 +5,22 @@ use Rattle.std.specs.List.{slice_range}
 use Rattle.std.proofs.lemmas.List.{take-append-le}
 use Rattle.mm_cites.specs.Lists.{cut_at, AreEnds, start_of}
 
-pub length-cut_at : (from : ℕ) (ends numbers : List ℕ)
+pub length_cut_at : (from : ℕ) (ends numbers : List ℕ)
     → length (cut_at from ends numbers) ≡ length ends
-length-cut_at from [] numbers = refl
-length-cut_at from (e ∷ ends) numbers = ap suc (length-cut_at e ends numbers)
+length_cut_at from [] numbers = refl
+length_cut_at from (e ∷ ends) numbers = ap suc (length_cut_at e ends numbers)
 
 -- the places are within the one list
-pub first-within : (from : ℕ) (ends : List ℕ) (len : ℕ) → AreEnds from ends len → from ≤ len
-first-within from [] len h = omega (arith, h)
-first-within from (e ∷ ends) len h =
-    let l = h.0 in let r = first-within e ends len h.1 in omega (arith, l, r)
+pub first_within : (from : ℕ) (ends : List ℕ) (len : ℕ) → AreEnds from ends len → from ≤ len
+first_within from [] len h = omega (arith, h)
+first_within from (e ∷ ends) len h =
+    let l = h.0 in let r = first_within e ends len h.1 in omega (arith, l, r)
 
-pub end-within : (from : ℕ) (ends : List ℕ) (len i : ℕ) → AreEnds from ends len → i < length ends
+pub end_within : (from : ℕ) (ends : List ℕ) (len i : ℕ) → AreEnds from ends len → i < length ends
     → get_or ends i 0 ≤ len
-end-within from [] len i h l = absurd (omega arith)
-end-within from (e ∷ ends) len zero h l = first-within e ends len h.1
-end-within from (e ∷ ends) len (suc i) h l = end-within e ends len i h.1 (omega arith)
+end_within from [] len i h l = absurd (omega arith)
+end_within from (e ∷ ends) len zero h l = first_within e ends len h.1
+end_within from (e ∷ ends) len (suc i) h l = end_within e ends len i h.1 (omega arith)
 
 -- where a list begins, after the first
 abbrev begins : ℕ → List ℕ → ℕ → ℕ
@@ -51,14 +51,14 @@ begins-cut from [] numbers i l = absurd (omega arith)
 begins-cut from (e ∷ ends) numbers zero l = refl
 begins-cut from (e ∷ ends) numbers (suc i) l = begins-cut e ends numbers i (omega arith)
 
-pub starts-rise : (ends : List ℕ) (len i : ℕ) → AreEnds 0 ends len → i < length ends
+pub starts_rise : (ends : List ℕ) (len i : ℕ) → AreEnds 0 ends len → i < length ends
     → start_of ends i ≤ get_or ends i 0
-starts-rise ends len i h l =
+starts_rise ends len i h l =
     subst (λ (b : ℕ). b ≤ get_or ends i 0) (begins-start ends i l) (begins-rise 0 ends len i h l)
 
-pub cut_at-index : (ends numbers : List ℕ) (i : ℕ) → i < length ends
+pub cut_at_index : (ends numbers : List ℕ) (i : ℕ) → i < length ends
     → get_or (cut_at 0 ends numbers) i [] ≡ slice_range numbers (start_of ends i) (get_or ends i 0)
-cut_at-index ends numbers i l =
+cut_at_index ends numbers i l =
     begins-cut 0 ends numbers i l
     ∙ ap (λ (b : ℕ). slice_range numbers b (get_or ends i 0)) (begins-start ends i l)
 
@@ -88,22 +88,22 @@ range-last xs ys =
     whole [] = refl
     whole (y ∷ ys) = ap (λ zs. y ∷ zs) (whole ys)
 
-pub cut_at-more : (from : ℕ) (ends xs ys : List ℕ) → AreEnds from ends (length xs)
+pub cut_at_more : (from : ℕ) (ends xs ys : List ℕ) → AreEnds from ends (length xs)
     → cut_at from (ends ++ (length xs + length ys) ∷ []) (xs ++ ys) ≡ cut_at from ends xs ++ ys ∷ []
-cut_at-more from [] xs ys h =
+cut_at_more from [] xs ys h =
     ap (λ (l : List ℕ). l ∷ [])
     (ap (λ (a : ℕ). slice_range (xs ++ ys) a (length xs + length ys)) h ∙ range-last xs ys)
-cut_at-more from (e ∷ ends) xs ys h =
+cut_at_more from (e ∷ ends) xs ys h =
     ap₂ (λ (l : List ℕ) (ls : List (List ℕ)). l ∷ ls)
-    (range-left xs ys from e h.0 (first-within e ends (length xs) h.1))
-    (cut_at-more e ends xs ys h.1)
+    (range-left xs ys from e h.0 (first_within e ends (length xs) h.1))
+    (cut_at_more e ends xs ys h.1)
 
-pub ends-more : (from : ℕ) (ends : List ℕ) (len more : ℕ) → AreEnds from ends len
+pub ends_more : (from : ℕ) (ends : List ℕ) (len more : ℕ) → AreEnds from ends len
     → AreEnds from (ends ++ (len + more) ∷ []) (len + more)
-ends-more from [] len more h = (omega (arith, h), refl)
-ends-more from (e ∷ ends) len more h = (h.0, ends-more e ends len more h.1)
+ends_more from [] len more h = (omega (arith, h), refl)
+ends_more from (e ∷ ends) len more h = (h.0, ends_more e ends len more h.1)
 
-pub index-within : (ends numbers : List ℕ) (lists : List (List ℕ)) (i : ℕ)
+pub index_within : (ends numbers : List ℕ) (lists : List (List ℕ)) (i : ℕ)
     → cut_at 0 ends numbers ≡ lists → i < length lists → i < length ends
-index-within ends numbers lists i e l =
-    let n = length-cut_at 0 ends numbers in let m = ap length e in omega (arith, n, m, l)
+index_within ends numbers lists i e l =
+    let n = length_cut_at 0 ends numbers in let m = ap length e in omega (arith, n, m, l)

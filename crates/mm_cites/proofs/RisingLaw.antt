@@ -5,10 +5,10 @@ use Rattle.std.specs.List.{range_with_len, filter}
 use Rattle.mm_cites.specs.Citing.{IsRising}
 
 -- an element of a selection passes
-pub filter-at : (p : ℕ → Bool) (xs : List ℕ) (i d : ℕ) → i < length (filter p xs)
+pub filter_at : (p : ℕ → Bool) (xs : List ℕ) (i d : ℕ) → i < length (filter p xs)
     → p (get_or (filter p xs) i d) ≡ true
-filter-at p [] i d h = absurd (omega arith)
-filter-at p (x ∷ xs) i d h = by (p x) refl (filter-at p xs) i h
+filter_at p [] i d h = absurd (omega arith)
+filter_at p (x ∷ xs) i d h = by (p x) refl (filter_at p xs) i h
   where
     by : (a : Bool) → p x ≡ a
         → ((i d : ℕ) → i < length (filter p xs) → p (get_or (filter p xs) i d) ≡ true) → (i : ℕ)
@@ -19,8 +19,8 @@ filter-at p (x ∷ xs) i d h = by (p x) refl (filter-at p xs) i h
     by false e r i h = r i d h
 
 -- a selection of numbers in order rises
-pub filter-rising : (p : ℕ → Bool) (n : ℕ) → n < 2 ^ 31 → IsRising (filter p (range_with_len 0 n))
-filter-rising p n few =
+pub filter_rising : (p : ℕ → Bool) (n : ℕ) → n < 2 ^ 31 → IsRising (filter p (range_with_len 0 n))
+filter_rising p n few =
     record {
       few = let l = shorter p n 0 in omega (arith, l, few);
       rises = λ i j l h. rises p n 0 i j l h;

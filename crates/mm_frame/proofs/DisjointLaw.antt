@@ -14,13 +14,13 @@ use Rattle.mm_spec.specs.Frame.{symbol_names, is_disjoint_statement, active_of, 
 use Rattle.mm_spec.specs.Frame.{mandatory_variables, mandatory_pairs, disjoint_at, pairs_of}
 use Rattle.mm_outline.specs.Blocks.{Lists, IsBlocks, end_of}
 use Rattle.mm_frame.specs.Latest.{is_on}
-use Rattle.mm_frame.specs.Members.{has_symbol, is_live}
+use Rattle.mm_frame.specs.DisjointIndex.{has_symbol, is_live}
 use Rattle.mm_frame.specs.Pairs.{has_pair, IsBefore, AreRising}
-use Rattle.mm_frame.proofs.Nested.{same_tests}
+use Rattle.mm_frame.proofs.NestedLaw.{same_tests}
 use Rattle.mm_frame.proofs.LatestLaw.{and_left, and_right, or_true, or_false, member_range}
 use Rattle.mm_frame.proofs.LatestLaw.{active_member, disjoint_local}
-use Rattle.mm_frame.proofs.MembersLaw.{has_at, at_has, rising_at}
-use Rattle.mm_frame.proofs.WalkLaw.{any_witness, any_of, mandatory_named}
+use Rattle.mm_frame.proofs.DisjointIndexLaw.{has_at, at_has, rising_at}
+use Rattle.mm_frame.proofs.HypothesesLaw.{any_witness, any_of, mandatory_named}
 use Rattle.mm_frame.proofs.PairsLaw.{has_map, sorted_map, unique, has_filter, has_rows}
 use Rattle.mm_frame.proofs.PairsLaw.{sorted_filter, sorted_pairs}
 
@@ -58,8 +58,8 @@ module _ (had : List (ℕ × ℕ)) (rising : AreRising had) (place : ℕ)
   abbrev low : ℕ
   low = (get_or had place (0, 0)).1
 
-  pub behind_start : (old : List (ℕ × ℕ)) → Behind had place (place + 1) old old
-  behind_start old =
+  pub after_start : (old : List (ℕ × ℕ)) → Behind had place (place + 1) old old
+  after_start old =
       record {
         further = omega arith;
         within = omega (arith, inside);
@@ -69,10 +69,10 @@ module _ (had : List (ℕ × ℕ)) (rising : AreRising had) (place : ℕ)
         all = λ p l m. absurd (omega (arith, l, m));
       }
 
-  pub behind_next : (at : ℕ) (old now : List (ℕ × ℕ)) → Behind had place at old now
+  pub after_next : (at : ℕ) (old now : List (ℕ × ℕ)) → Behind had place at old now
       → at < length had → (get_or had at (0, 0)).0 ≡ j
       → Behind had place (at + 1) old (now ++ (low, (get_or had at (0, 0)).1) ∷ [])
-  behind_next at old now b l s = record {
+  after_next at old now b l s = record {
     further = let f = b.further in omega (arith, f);
     within = omega (arith, l);
     same = λ p h m. same p h m (cases_eq p at);
@@ -130,12 +130,12 @@ module _ (had : List (ℕ × ℕ)) (rising : AreRising had) (place : ℕ)
           ∙ or_true (has_pair now low (get_or had p (0, 0)).1)
       all p h m (inr n) = longer low (get_or had p (0, 0)).1 (b.all p h (omega (arith, m, n)))
 
-  pub behind_end : (at : ℕ) (old now : List (ℕ × ℕ)) → Behind had place at old now
+  pub after_end : (at : ℕ) (old now : List (ℕ × ℕ)) → Behind had place at old now
       → (at < length had → (get_or had at (0, 0)).0 ≢ j)
       → (x y : ℕ)
       → has_pair now x y
       ≡ (has_pair old x y || (nat_eq x low && (has_pair had j y && nat_lt x y)))
-  behind_end at old now b stop x y =
+  after_end at old now b stop x y =
       same_tests (has_pair now x y)
       (has_pair old x y || (nat_eq x low && (has_pair had j y && nat_lt x y)))
       (λ e. forth (b.only x y e)) (λ e. back (has_pair old x y) refl e)

@@ -22,8 +22,8 @@ use Rattle.mm_spec.specs.Frame.{symbol_names, place_of, is_variable_number, is_f
 use Rattle.mm_spec.specs.Frame.{formula_of}
 use Rattle.mm_outline.specs.Typed.{has, typed_words}
 use Rattle.mm_frame.specs.Tables.{IsSound, typed_at}
-use Rattle.mm_outline.proofs.Faultless.{append_none, floating_new, none_least}
-use Rattle.mm_outline.proofs.Among.{typed_in, any_true, among_active}
+use Rattle.mm_outline.proofs.FaultlessLaw.{append_none, floating_new, none_least}
+use Rattle.mm_outline.proofs.AmongLaw.{typed_in, any_true, among_active}
 
 -- a word that has a place is there
 pub place_get : (w : Bytes) (ws : List Bytes) → place_of w ws < length ws

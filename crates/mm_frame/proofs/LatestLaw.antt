@@ -16,7 +16,7 @@ use Rattle.mm_spec.specs.Derivation.{is_member}
 use Rattle.mm_spec.specs.Frame.{active_of, is_essential, is_disjoint_statement}
 use Rattle.mm_outline.specs.Blocks.{never}
 use Rattle.mm_frame.specs.Latest.{is_on, IsCandidate, IsLatest, IsWalked}
-use Rattle.mm_frame.proofs.Nested.{same_tests, stays_earlier, stays_nested}
+use Rattle.mm_frame.proofs.NestedLaw.{same_tests, stays_earlier, stays_nested}
 
 pub and_left : (a b : Bool) → (a && b) ≡ true → a ≡ true
 and_left true b e = refl
@@ -42,7 +42,7 @@ pub and_false : (b : Bool) → (b && false) ≡ false
 and_false true = refl
 and_false false = refl
 
--- ---- members
+-- ---- disjoint_index
 
 pub member_push : (xs : List ℕ) (y i : ℕ)
     → is_member (xs ++ y ∷ []) i ≡ (is_member xs i || nat_eq i y)
@@ -109,7 +109,7 @@ module _ (test : Statement → Bool) (db : List Statement) where
           and_left
               (list_any test (statement_at db next)) (stays db next last) f.1,
         );
-    behind = λ i h o. by i h o (cases_order i last);
+    after = λ i h o. by i h o (cases_order i last);
   }
     where
       by : (i : ℕ) → i < k → (next < i) ⊎ (next ≡ never) → (i ≡ last) ⊎ ((i < last) ⊎ (last < i))
@@ -118,19 +118,19 @@ module _ (test : Statement → Bool) (db : List Statement) where
           not_true (is_on test db i k)
           (λ t. true≢false
           (sym (on_earlier i last k (omega arith) (let g = (c.found ne).0 in omega (arith, g)) t)
-          ∙ x.behind i l o))
+          ∙ x.after i l o))
       by i h o (inl e) =
           subst (λ i. is_on test db i k ≡ false) (sym e)
           (not_true (is_on test db last k)
           (λ t. true≢false
           (sym (and_right (list_any test (statement_at db last)) (stays db last k) t) ∙ out)))
-      by i h o (inr (inr g)) = c.behind i h (inl g)
+      by i h o (inr (inr g)) = c.after i h (inl g)
 
   pub candidate_open : (k last : ℕ) → IsCandidate test db k last
       → (last ≢ never → stays db last k ≡ true) → IsLatest test db k last
   candidate_open k last c o = record {
     found = λ n. let f = c.found n in (f.0, ap₂ (λ a b. a && b) f.1 (o n));
-    behind = c.behind;
+    after = c.after;
   }
 
   -- the statement itself, or the last one at it
@@ -138,7 +138,7 @@ module _ (test : Statement → Bool) (db : List Statement) where
       → IsCandidate test db (k + 1) k
   candidate_self k few e = record {
     found = λ n. ((omega arith), e);
-    behind = λ i h o. absurd (by i h o);
+    after = λ i h o. absurd (by i h o);
   }
     where
       by : (i : ℕ) → i < k + 1 → (k < i) ⊎ (k ≡ never) → ⊥
@@ -154,7 +154,7 @@ module _ (test : Statement → Bool) (db : List Statement) where
           and_left (list_any test (statement_at db last))
               (stays db last k) f.1,
         );
-    behind = λ i h o. by i h o (cases_lt i k);
+    after = λ i h o. by i h o (cases_lt i k);
   }
     where
       by : (i : ℕ) → i < k + 1 → (last < i) ⊎ (last ≡ never) → (i < k) ⊎ (k ≤ i)
@@ -162,13 +162,13 @@ module _ (test : Statement → Bool) (db : List Statement) where
       by i h o (inl l) =
           not_true (is_on test db i (k + 1))
           (λ t. true≢false
-          (sym (on_earlier i k (k + 1) (omega arith) (omega arith) t) ∙ x.behind i l o))
+          (sym (on_earlier i k (k + 1) (omega arith) (omega arith) t) ∙ x.after i l o))
       by i h o (inr g) =
           let same : i ≡ k = omega arith in
           ap (λ b. b && stays db i (k + 1)) (ap (λ i. list_any test (statement_at db i)) same ∙ e)
 
   pub latest_start : (last : ℕ) → last ≡ never → IsLatest test db 0 last
-  latest_start last e = record { found = λ n. absurd (n e); behind = λ i h o. absurd (omega arith) }
+  latest_start last e = record { found = λ n. absurd (n e); after = λ i h o. absurd (omega arith) }
 
   pub height_less : (k last next : ℕ) → last ≢ never → IsLatest test db last next
       → height next < height last
@@ -196,8 +196,8 @@ module _ (test : Statement → Bool) (db : List Statement) where
     where
       by : (i : ℕ) → i < k → is_on test db i k ≡ true → (last ≡ never) ⊎ (last ≢ never)
           → (last < i) ⊎ (i ≤ last) → (last ≢ never) × (i ≤ last)
-      by i h e (inl n) b = absurd (true≢false (sym e ∙ x.behind i h (inr n)))
-      by i h e (inr n) (inl l) = absurd (true≢false (sym e ∙ x.behind i h (inl l)))
+      by i h e (inl n) b = absurd (true≢false (sym e ∙ x.after i h (inr n)))
+      by i h e (inr n) (inl l) = absurd (true≢false (sym e ∙ x.after i h (inl l)))
       by i h e (inr n) (inr l) = (n, l)
 
   pub walked_next : (k : ℕ) (xs : List ℕ) (last next : ℕ) → k ≤ length db
@@ -238,11 +238,11 @@ module _ (test : Statement → Bool) (db : List Statement) where
           go m (inl n) b =
               absurd (true≢false
               (sym (on_earlier i last k (omega arith) (let l = here.0 in omega (arith, l)) e)
-              ∙ x.behind i m (inr n)))
+              ∙ x.after i m (inr n)))
           go m (inr n) (inl l) =
               absurd (true≢false
               (sym (on_earlier i last k (omega arith) (let l = here.0 in omega (arith, l)) e)
-              ∙ x.behind i m (inl l)))
+              ∙ x.after i m (inl l)))
           go m (inr n) (inr l) = (n, l)
 
           by : (i < last) ⊎ (last ≤ i)

@@ -3,9 +3,9 @@ pub mod FloatLaw
 pub mod FramesLaw
 pub mod LatestLaw
 pub mod MarksLaw
-pub mod MembersLaw
-pub mod Nested
+pub mod DisjointIndexLaw
+pub mod NestedLaw
 pub mod PairsLaw
-pub mod Rising
-pub mod WalkLaw
+pub mod RisingLaw
+pub mod HypothesesLaw
 pub mod StartsLaw

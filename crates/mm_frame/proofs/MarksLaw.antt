@@ -5,7 +5,7 @@ use Rattle.std.proofs.Common.{arith, ◌⊎◌, inl, inr, le_refl}
 use Rattle.std.proofs.lemmas.Bool.{cases_eq, eq-eqb, ne_eqb}
 use Rattle.std.proofs.lemmas.List.{get_or-set_same, get_or-set_other, length-set}
 use Rattle.mm_spec.specs.Derivation.{is_member}
-use Rattle.mm_frame.specs.Walk.{AreMarks}
+use Rattle.mm_frame.specs.Hypotheses.{AreMarks}
 use Rattle.mm_frame.proofs.LatestLaw.{member_push}
 
 -- one symbol more

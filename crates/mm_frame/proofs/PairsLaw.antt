@@ -1,4 +1,4 @@
--- A list of pairs in order is known by its members.
+-- A list of pairs in order is known by its disjoint_index.
 use Rattle.std.proofs.Common.{◌≡◌, ℕ, zero, suc, ◌+◌, ◌<◌, ◌≤◌, Bool, true, false, ◌&&◌, ◌||◌, cond}
 use Rattle.std.proofs.Common.{List, [], ◌∷◌, ◌++◌, get_or, map, flat_map, nat_eq, refl, sym, ap}
 use Rattle.std.proofs.Common.{ap₂, ◌∙◌, subst, arith, eqb-true, eq-eqb, true≢false, ◌⊎◌, inl, inr}
@@ -19,7 +19,7 @@ use Rattle.std.proofs.lemmas.List.Sorted.{Contains-permutation, IsPermutation-sy
 use Rattle.mm_spec.specs.Derivation.{Pair, pair, is_member}
 use Rattle.mm_spec.specs.Frame.{pairs_of}
 use Rattle.mm_frame.specs.Pairs.{has_pair, IsBefore, AreRising}
-use Rattle.mm_frame.proofs.Nested.{same_tests}
+use Rattle.mm_frame.proofs.NestedLaw.{same_tests}
 use Rattle.mm_frame.proofs.LatestLaw.{and_left, and_right, or_true}
 
 cmp_less : (a b : ℕ) → a < b → nat_cmp a b ≡ Less
@@ -112,9 +112,9 @@ same_equal p q h =
     ap₂ (λ (i j : ℕ). (i, j)) (eqb-true p.0 q.0 (and_left (nat_eq p.0 q.0) (nat_eq p.1 q.1) h))
     (eqb-true p.1 q.1 (and_right (nat_eq p.0 q.0) (nat_eq p.1 q.1) h))
 
-pub tidy_same : (xs ys zs : List (ℕ × ℕ)) → IsPermutation xs ys → zs ≡ dedup same_pair ys
+pub sort_and_dedup_same : (xs ys zs : List (ℕ × ℕ)) → IsPermutation xs ys → zs ≡ dedup same_pair ys
     → (x y : ℕ) → has_pair zs x y ≡ has_pair xs x y
-tidy_same xs ys zs p e x y =
+sort_and_dedup_same xs ys zs p e x y =
     ap (λ z. has_pair z x y) e
     ∙ same_tests _ _
     (λ h. member xs x y
@@ -172,12 +172,12 @@ split p ps x y e = by (nat_eq x p.low && nat_eq y p.high) refl e
         )
     by false s e = inr e
 
-behind : (p : Pair) (ps : List Pair) (x y : ℕ) → has ps x y ≡ true → has (p ∷ ps) x y ≡ true
-behind p ps x y e =
+after : (p : Pair) (ps : List Pair) (x y : ℕ) → has ps x y ≡ true → has (p ∷ ps) x y ≡ true
+after p ps x y e =
     ap (λ b. (nat_eq x p.low && nat_eq y p.high) || b) e
     ∙ or_true (nat_eq x p.low && nat_eq y p.high)
 
--- two lists in order with the same members are one
+-- two lists in order with the same disjoint_index are one
 pub unique : (ps qs : List Pair) → Sorted ps → Sorted qs → ((x y : ℕ) → has ps x y ≡ has qs x y)
     → ps ≡ qs
 unique [] [] s t h = refl
@@ -204,8 +204,8 @@ unique (p ∷ ps) (q ∷ qs) s t h = ap₂ (λ a b. a ∷ b) first (unique ps qs
     tails : (x y : ℕ) → has ps x y ≡ has qs x y
     tails x y =
         same_tests (has ps x y) (has qs x y)
-        (λ e. forth e (split q qs x y (sym (h x y) ∙ behind p ps x y e)))
-        (λ e. back e (split p ps x y (h x y ∙ behind q qs x y e)))
+        (λ e. forth e (split q qs x y (sym (h x y) ∙ after p ps x y e)))
+        (λ e. back e (split p ps x y (h x y ∙ after q qs x y e)))
       where
         forth : has ps x y ≡ true → ((x ≡ q.low) × (y ≡ q.high)) ⊎ (has qs x y ≡ true)
             → has qs x y ≡ true
@@ -307,7 +307,7 @@ sorted_append (p ∷ ps) qs s t h = (
   λ x y e. by x y (has ps x y) refl
       (sym (list_any-append _ ps qs) ∙ e),
   sorted_append ps qs s.1 t
-      (λ a b x y e f. h a b x y (behind p ps a b e) f),
+      (λ a b x y e f. h a b x y (after p ps a b e) f),
 )
   where
     by : (x y : ℕ) → (c : Bool) → has ps x y ≡ c → (c || has qs x y) ≡ true

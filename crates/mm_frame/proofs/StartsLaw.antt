@@ -9,7 +9,7 @@ use Rattle.std.proofs.lemmas.List.{get_or-take, get_or-drop, length-take-le, len
 use Rattle.mm_frame.specs.Pairs.{IsBefore, is_before, AreRising}
 use Rattle.mm_frame.specs.Starts.{IsStart, AreStarts}
 use Rattle.mm_frame.proofs.LatestLaw.{not_true}
-use Rattle.mm_frame.proofs.MembersLaw.{rising_at, is_before_if, before_is}
+use Rattle.mm_frame.proofs.DisjointIndexLaw.{rising_at, is_before_if, before_is}
 
 -- the starts that the first n pairs tell
 pub record StartsTo (ps : List (ℕ × ℕ)) (n : ℕ) (starts : List ℕ) : Type 0 where
@@ -50,7 +50,7 @@ starts_more ps n starts r lt below h = record {
     here = record {
       within = omega arith;
       before = λ p l. h.known p l;
-      behind = λ p l m. let up = no_lower ps r n p l m in omega (arith, up, below);
+      after = λ p l m. let up = no_lower ps r n p l m in omega (arith, up, below);
     }
 
     each : (x : ℕ) → x < length (starts ++ n ∷ []) → (x ≡ length starts) ⊎ (x ≡ length starts → ⊥)
@@ -84,7 +84,7 @@ starts_all ps n starts all h x = go (cases_lt x (length starts))
     go (inr g) = subst (IsStart ps x) (sym (get_or_past starts x (length ps) g)) (record {
       within = omega arith;
       before = λ p l. let k = h.known p (omega arith) in omega (arith, k, g);
-      behind = λ p l m. absurd (omega arith);
+      after = λ p l m. absurd (omega arith);
     })
 
 -- ---- among the pairs of one symbol
@@ -95,7 +95,7 @@ module _ (ps : List (ℕ × ℕ)) (rising : AreRising ps) (x at from to : ℕ) (
   here p d l m =
       let inside = last.within in
       let lt : p < length ps = omega (arith, inside, m) in
-      let low = first.behind p l lt in
+      let low = first.after p l lt in
       let high = last.before p m in
       ap (λ (q : ℕ × ℕ). q.0) (get_or_default ps p d (0, 0) lt) ∙ (omega (arith, low, high))
 
@@ -161,9 +161,9 @@ module _ (ps : List (ℕ × ℕ)) (rising : AreRising ps) (x at from to : ℕ) (
             is_before_if (get_or ps p (0, 0)) x at
             (inr (here p (0, 0) k (omega (arith, short, k)), less))
 
-    pub behind_point : (p : ℕ) → from + n ≤ p → p < length ps
+    pub after_point : (p : ℕ) → from + n ≤ p → p < length ps
         → is_before (get_or ps p (0, 0)) x at ≡ false
-    behind_point p l m =
+    after_point p l m =
         not_true (is_before (get_or ps p (0, 0)) x at)
         (λ e. never (before_is (get_or ps p (0, 0)) x at e) (cases_lt p to))
       where
@@ -172,8 +172,8 @@ module _ (ps : List (ℕ × ℕ)) (rising : AreRising ps) (x at from to : ℕ) (
         never b (inr k) = up b
           where
             up : IsBefore (get_or ps p (0, 0)).0 (get_or ps p (0, 0)).1 x at → ⊥
-            up (inl s) = let h = last.behind p k m in omega (arith, h, s)
-            up (inr (s, t)) = let h = last.behind p k m in omega (arith, h, s)
+            up (inl s) = let h = last.after p k m in omega (arith, h, s)
+            up (inr (s, t)) = let h = last.after p k m in omega (arith, h, s)
         never b (inl k) = up b
           where
             low : from ≤ p

@@ -15,12 +15,12 @@ module _ (test : Statement → Bool) (db : List Statement) where
   -- no later one is active; it may be none
   pub record IsCandidate (k last : ℕ) : Type 0 where
     pub found : last ≢ never → (last < k) × (list_any test (statement_at db last) ≡ true)
-    pub behind : (i : ℕ) → i < k → (last < i) ⊎ (last ≡ never) → is_on i k ≡ false
+    pub after : (i : ℕ) → i < k → (last < i) ⊎ (last ≡ never) → is_on i k ≡ false
 
   -- and it is active
   pub record IsLatest (k last : ℕ) : Type 0 where
     pub found : last ≢ never → (last < k) × (is_on last k ≡ true)
-    pub behind : (i : ℕ) → i < k → (last < i) ⊎ (last ≡ never) → is_on i k ≡ false
+    pub after : (i : ℕ) → i < k → (last < i) ⊎ (last ≡ never) → is_on i k ≡ false
 
   -- at each statement and at the end
   pub record AreLatest (lasts : List ℕ) : Type 0 where

@@ -1,7 +1,7 @@
 pub mod Frames
 pub mod Latest
-pub mod Members
+pub mod DisjointIndex
 pub mod Pairs
 pub mod Tables
-pub mod Walk
+pub mod Hypotheses
 pub mod Starts

@@ -5,7 +5,7 @@ use Rattle.std.specs.Prelude.{ℕ, ◌<◌, ◌≤◌, List, length, get_or}
 pub record IsStart (ps : List (ℕ × ℕ)) (x start : ℕ) : Type 0 where
   pub within : start ≤ length ps
   pub before : (p : ℕ) → p < start → (get_or ps p (0, 0)).0 < x
-  pub behind : (p : ℕ) → start ≤ p → p < length ps → x ≤ (get_or ps p (0, 0)).0
+  pub after : (p : ℕ) → start ≤ p → p < length ps → x ≤ (get_or ps p (0, 0)).0
 
 -- the starts of all symbols; past the last of these there are no pairs
 abbrev pub AreStarts : List (ℕ × ℕ) → List ℕ → Type 0

@@ -6,17 +6,17 @@ ghost use Rattle.std.specs.List.{list_any};
 ghost use Rattle.mm_spec.specs.Derivation.{is_member, pair};
 ghost use Rattle.mm_spec.specs.Frame.{mandatory_variables, mandatory_pairs};
 ghost use Rattle.mm_outline.specs.Blocks.{IsBlocks, lists};
-ghost use Rattle.mm_frame.specs.Members.{is_live, AreKnown, AreSkips, AreMembers};
+ghost use Rattle.mm_frame.specs.DisjointIndex.{is_live, AreKnown, AreSkips, IsDisjointIndex};
 ghost use Rattle.mm_frame.specs.Pairs.{has_pair, AreRising};
 
-use crate::members::{Members, add_active, tidy};
+use crate::disjoint_index::{DisjointIndex, add_active, sort_and_dedup};
 use crate::tables::Tables;
 use mm_outline::blocks::Blocks;
 use mm_outline::symbol::Sym;
 use std::alloc::{AllocError, Allocator};
 
 /// Adds the pairs of the variable at a place and those after it that stand in the same statement.
-fn add_behind<A: Allocator>(
+fn add_later_pairs<A: Allocator>(
     had: &[(u32, u32)],
     place: usize,
     pairs: &mut Vec<(u32, u32), A>,
@@ -51,7 +51,7 @@ fn add_together<A: Allocator>(
         || list_any (λ p. nat_eq x p.1 && (has_pair had.now p.0 y && nat_lt x y)) had.now)) }
 {
     for place in 0..had.len() {
-        add_behind(had, place, pairs)?;
+        add_later_pairs(had, place, pairs)?;
     }
     Ok(())
 }
@@ -59,29 +59,29 @@ fn add_together<A: Allocator>(
 /// Adds the `$d` that are active at a place, each with those of the symbols that it has.
 fn add_all_active<A: Allocator>(
     blocks: &Blocks<A>,
-    members: &Members<A>,
+    disjoint_index: &DisjointIndex<A>,
     symbols: &[Sym],
     at: u32,
     into: &mut Vec<(u32, u32), A>,
 ) -> Result<(), AllocError>
-    requires rising { AreRising members.now.pairs.items }
+    requires rising { AreRising disjoint_index.now.pairs.items }
     requires known { AreKnown
         (lists blocks.now.of.items blocks.now.ends.items blocks.now.open.items)
-        members.now.pairs.items }
+        disjoint_index.now.pairs.items }
     requires skips { AreSkips
         (lists blocks.now.of.items blocks.now.ends.items blocks.now.open.items)
-        members.now.pairs.items members.now.skips.items }
+        disjoint_index.now.pairs.items disjoint_index.now.skips.items }
     ensures { OnOk result
         ((j y : ℕ)
         → has_pair into.new.items j y
         ≡ (has_pair into.old.items j y
         || (is_member symbols.now y
-        && (has_pair members.now.pairs.items y j
+        && (has_pair disjoint_index.now.pairs.items y j
         && is_live
         (lists blocks.now.of.items blocks.now.ends.items blocks.now.open.items) j at)))) }
 {
     for symbol in symbols {
-        add_active(blocks, members, *symbol, at, into)?;
+        add_active(blocks, disjoint_index, *symbol, at, into)?;
     }
     Ok(())
 }
@@ -108,7 +108,7 @@ pub(crate) fn pairs_of<A: Allocator + Copy>(
     alloc: A,
     tables: &Tables<A>,
     blocks: &Blocks<A>,
-    members: &Members<A>,
+    disjoint_index: &DisjointIndex<A>,
     found: &[Sym],
     assertion: u32,
     had: &mut Vec<(u32, u32), A>,
@@ -117,9 +117,9 @@ pub(crate) fn pairs_of<A: Allocator + Copy>(
     requires assertion { assertion < length tables.now }
     requires blocks { IsBlocks tables.now
         (lists blocks.now.of.items blocks.now.ends.items blocks.now.open.items) }
-    requires members { AreMembers tables.now
+    requires disjoint_index { IsDisjointIndex tables.now
         (lists blocks.now.of.items blocks.now.ends.items blocks.now.open.items)
-        members.now.pairs.items members.now.skips.items }
+        disjoint_index.now.pairs.items disjoint_index.now.skips.items }
     requires found { (x : ℕ)
         → is_member found.now x ≡ is_member (mandatory_variables tables.now assertion) x }
     ensures { IfOk result
@@ -128,10 +128,10 @@ pub(crate) fn pairs_of<A: Allocator + Copy>(
     // The contract alone speaks of it.
     let _ = tables;
     had.clear();
-    add_all_active(blocks, members, found, assertion, had)?;
-    tidy(had);
+    add_all_active(blocks, disjoint_index, found, assertion, had)?;
+    sort_and_dedup(had);
     together.clear();
     add_together(had, together)?;
-    tidy(together);
+    sort_and_dedup(together);
     symbols_of(alloc, together)
 }

@@ -6,15 +6,15 @@ ghost use Rattle.mm_spec.specs.Frame.{symbol_names, is_essential};
 ghost use Rattle.mm_outline.specs.Blocks.{IsBlocks, lists};
 ghost use Rattle.mm_frame.specs.Frames.{AreFrames, AreFramesUpTo, IsFrame};
 ghost use Rattle.mm_frame.specs.Latest.{AreLatest};
-ghost use Rattle.mm_frame.specs.Members.{AreMembers};
+ghost use Rattle.mm_frame.specs.DisjointIndex.{IsDisjointIndex};
 ghost use Rattle.mm_frame.specs.Tables.{IsSound};
-ghost use Rattle.mm_frame.specs.Walk.{AreTyped, IsFresh};
+ghost use Rattle.mm_frame.specs.Hypotheses.{AreTyped, IsFresh};
 
 use crate::active::latest_essentials;
 use crate::disjoint::pairs_of;
-use crate::members::{Members, members_of};
+use crate::disjoint_index::{DisjointIndex, disjoint_index_of};
+use crate::hypotheses::hypotheses;
 use crate::tables::Tables;
-use crate::walk::hypotheses;
 use mm_outline::blocks::{Blocks, NEVER};
 use mm_outline::symbol::Sym;
 use std::alloc::{AllocError, Allocator};
@@ -86,7 +86,7 @@ fn frame_of<A: Allocator + Copy>(
     tables: &Tables<A>,
     blocks: &Blocks<A>,
     essentials: &[u32],
-    members: &Members<A>,
+    disjoint_index: &DisjointIndex<A>,
     typed: &[u32],
     assertion: u32,
     scratch: &mut Scratch<A>,
@@ -96,9 +96,9 @@ fn frame_of<A: Allocator + Copy>(
     requires essentials { AreLatest is_essential tables.now essentials.now }
     requires blocks { IsBlocks tables.now
         (lists blocks.now.of.items blocks.now.ends.items blocks.now.open.items) }
-    requires members { AreMembers tables.now
+    requires disjoint_index { IsDisjointIndex tables.now
         (lists blocks.now.of.items blocks.now.ends.items blocks.now.open.items)
-        members.now.pairs.items members.now.skips.items }
+        disjoint_index.now.pairs.items disjoint_index.now.skips.items }
     requires typed { AreTyped tables.now assertion typed.now }
     requires seen { IsFresh (length (symbol_names tables.now)) assertion scratch.old.seen.items }
     ensures seen { OnOk result
@@ -120,7 +120,7 @@ fn frame_of<A: Allocator + Copy>(
         alloc,
         tables,
         blocks,
-        members,
+        disjoint_index,
         &scratch.found,
         assertion,
         &mut scratch.had,
@@ -135,7 +135,7 @@ fn add_frame<A: Allocator + Copy>(
     tables: &Tables<A>,
     blocks: &Blocks<A>,
     essentials: &[u32],
-    members: &Members<A>,
+    disjoint_index: &DisjointIndex<A>,
     typed: &[u32],
     statement: u32,
     scratch: &mut Scratch<A>,
@@ -146,9 +146,9 @@ fn add_frame<A: Allocator + Copy>(
     requires essentials { AreLatest is_essential tables.now essentials.now }
     requires blocks { IsBlocks tables.now
         (lists blocks.now.of.items blocks.now.ends.items blocks.now.open.items) }
-    requires members { AreMembers tables.now
+    requires disjoint_index { IsDisjointIndex tables.now
         (lists blocks.now.of.items blocks.now.ends.items blocks.now.open.items)
-        members.now.pairs.items members.now.skips.items }
+        disjoint_index.now.pairs.items disjoint_index.now.skips.items }
     requires typed { AreTyped tables.now statement typed.now }
     requires seen { IsFresh (length (symbol_names tables.now)) statement scratch.old.seen.items }
     requires frames { AreFramesUpTo tables.now statement frames.old.places.items
@@ -164,7 +164,14 @@ fn add_frame<A: Allocator + Copy>(
     frames.places.push(frames.list.len() as u32)?;
     if tables.is_assertion(statement) {
         let frame = frame_of(
-            alloc, tables, blocks, essentials, members, typed, statement, scratch,
+            alloc,
+            tables,
+            blocks,
+            essentials,
+            disjoint_index,
+            typed,
+            statement,
+            scratch,
         )?;
         frames.list.push(frame)?;
     }
@@ -176,13 +183,13 @@ pub(crate) fn frames_of<A: Allocator + Copy>(
     alloc: A,
     tables: &Tables<A>,
     blocks: &Blocks<A>,
-    members: &Members<A>,
+    disjoint_index: &DisjointIndex<A>,
 ) -> Result<Frames<A>, AllocError>
     requires blocks { IsBlocks tables.now
         (lists blocks.now.of.items blocks.now.ends.items blocks.now.open.items) }
-    requires members { AreMembers tables.now
+    requires disjoint_index { IsDisjointIndex tables.now
         (lists blocks.now.of.items blocks.now.ends.items blocks.now.open.items)
-        members.now.pairs.items members.now.skips.items }
+        disjoint_index.now.pairs.items disjoint_index.now.skips.items }
     ensures { IfOk result
         (λ v. AreFrames tables.now v.places.items (map (λ f. f.hyps.items) v.list.items)
         (map (λ f. map (λ p. pair p.0 p.1) f.pairs.items) v.list.items)) }
@@ -206,7 +213,7 @@ pub(crate) fn frames_of<A: Allocator + Copy>(
             tables,
             blocks,
             &essentials,
-            members,
+            disjoint_index,
             &typed,
             k,
             &mut scratch,
@@ -220,7 +227,7 @@ pub(crate) fn frames_of<A: Allocator + Copy>(
 /// What is kept beside the statements: the `$d` by their variables, and the frames.
 #[derive(Drop)]
 pub struct Beside<A: Allocator> {
-    pub members: Members<A>,
+    pub disjoint_index: DisjointIndex<A>,
     pub frames: Frames<A>,
 }
 
@@ -232,16 +239,19 @@ pub fn gather<A: Allocator + Copy>(
 ) -> Result<Beside<A>, AllocError>
     requires { IsBlocks tables.now
         (lists blocks.now.of.items blocks.now.ends.items blocks.now.open.items) }
-    ensures members { IfOk result
-        (λ b. AreMembers tables.now
+    ensures disjoint_index { IfOk result
+        (λ b. IsDisjointIndex tables.now
         (lists blocks.now.of.items blocks.now.ends.items blocks.now.open.items)
-        b.members.pairs.items b.members.skips.items) }
+        b.disjoint_index.pairs.items b.disjoint_index.skips.items) }
     ensures frames { IfOk result
         (λ b. AreFrames tables.now b.frames.places.items
         (map (λ f. f.hyps.items) b.frames.list.items)
         (map (λ f. map (λ p. pair p.0 p.1) f.pairs.items) b.frames.list.items)) }
 {
-    let members = members_of(alloc, tables, blocks)?;
-    let frames = frames_of(alloc, tables, blocks, &members)?;
-    Ok(Beside { members, frames })
+    let disjoint_index = disjoint_index_of(alloc, tables, blocks)?;
+    let frames = frames_of(alloc, tables, blocks, &disjoint_index)?;
+    Ok(Beside {
+        disjoint_index,
+        frames,
+    })
 }

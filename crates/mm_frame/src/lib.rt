@@ -6,9 +6,9 @@
 
 pub mod active;
 pub mod disjoint;
+pub mod disjoint_index;
 pub mod frames;
-pub mod members;
+pub mod hypotheses;
 pub mod tables;
-pub mod walk;
 
 pub use frames::Frame;

@@ -16,8 +16,8 @@ use Rattle.mm_spec.specs.Readings.{Reading, reading, with_tokens, bytes_of}
 use Rattle.mm_spec.specs.Laws.Readings.{go_on}
 use Rattle.mm_laws.specs.Grammar.{Item, Single, Comment, Rest, IsItem, IsRest, AreCommentWords}
 use Rattle.mm_laws.specs.Grammar.{words_in, words_open, tokens_in, IsWellBegun, IsFaulty, IsReading}
-use Rattle.mm_spec.proofs.ReadingsLemmas.{reading-opening, reading-closing, reading-comment}
-use Rattle.mm_spec.proofs.ReadingsLemmas.{reading-faulty, reading-end, reading-one, reading-append}
+use Rattle.mm_spec.proofs.ReadingsLaw.{reading_opening, reading_closing, reading_comment}
+use Rattle.mm_spec.proofs.ReadingsLaw.{reading_faulty, reading_end, reading_one, reading_append}
 
 -- ---- the classes of words exclude each other
 
@@ -105,39 +105,39 @@ reading-comment_words : (text : List ℕ) (p : ℕ) (ws us : List Word) → AreC
     → reading text (Some p) (ws ++ us) ≡ reading text (Some p) us
 reading-comment_words text p [] us all = refl
 reading-comment_words text p (w ∷ ws) us (h, all) =
-    reading-comment text (Some p) w (ws ++ us) (role-comment _ h)
+    reading_comment text (Some p) w (ws ++ us) (role-comment _ h)
     ∙ reading-comment_words text p ws us all
 
 reading-items : (text : List ℕ) (items : List Item) → AllByRecursion (IsItem text) items →
     reading text None (flat_map words_in items)
     ≡ record { tokens = flat_map tokens_in items; fault = None; comment = None }
-reading-items text [] all = reading-end text None
+reading-items text [] all = reading_end text None
 reading-items text (Single w ∷ items) (h, all) =
-    reading-one text None w _ (role-token _ h)
+    reading_one text None w _ (role-token _ h)
     ∙ ap (with_tokens (w ∷ [])) (reading-items text items all)
 reading-items text (Comment o ws c ∷ items) (h, all) =
-    reading-opening text None o _ (role-opening _ h.0)
+    reading_opening text None o _ (role-opening _ h.0)
     ∙ ap (reading text (Some o.start)) (append_assoc ws (c ∷ []) (flat_map words_in items))
     ∙ reading-comment_words text o.start ws (c ∷ flat_map words_in items) h.1
-    ∙ reading-closing text (Some o.start) c _ (role-closing _ h.2)
+    ∙ reading_closing text (Some o.start) c _ (role-closing _ h.2)
     ∙ reading-items text items all
 
 reading-rest : (text : List ℕ) (rest : Rest) → IsRest text rest
     → reading text None (words_open rest)
     ≡ record { tokens = []; fault = None; comment = option_map (λ p. p.0.start) rest }
-reading-rest text None all = reading-end text None
+reading-rest text None all = reading_end text None
 reading-rest text (Some (o, ws)) all =
-    reading-opening text None o ws (role-opening _ all.0)
+    reading_opening text None o ws (role-opening _ all.0)
     ∙ ap (reading text (Some o.start)) (sym (append-nil ws))
     ∙ reading-comment_words text o.start ws [] all.1
-    ∙ reading-end text (Some o.start)
+    ∙ reading_end text (Some o.start)
 
-pub IsWellBegun-reading : (text : List ℕ) (ws ts : List Word) (c : Option ℕ)
+pub IsWellBegun_reading : (text : List ℕ) (ws ts : List Word) (c : Option ℕ)
     → IsWellBegun text ws ts c
     → reading text None ws ≡ record { tokens = ts; fault = None; comment = c }
-IsWellBegun-reading text ws ts c begun =
+IsWellBegun_reading text ws ts c begun =
     ap (reading text None) begun.words
-    ∙ reading-append text None (flat_map words_in begun.items) (words_open begun.rest)
+    ∙ reading_append text None (flat_map words_in begun.items) (words_open begun.rest)
     ∙ ap (λ (r : Reading). go_on text r (words_open begun.rest))
     (reading-items text begun.items begun.are_items)
     ∙ ap (with_tokens (flat_map tokens_in begun.items)) (reading-rest text begun.rest begun.is_rest)
@@ -176,7 +176,7 @@ record Both (text : List ℕ) (ws : List Word) : Type 0 where
 
 both : (text : List ℕ) (ws : List Word) → Both text ws
 both text [] = record {
-  out = subst (Begun text []) (sym (reading-end text None))
+  out = subst (Begun text []) (sym (reading_end text None))
       (λ _. record {
         items = [];
         rest = None;
@@ -186,7 +186,7 @@ both text [] = record {
         same_tokens = refl;
         same_comment = refl;
       });
-  within = λ o us h all. subst (Begun text (o ∷ (us ++ []))) (sym (reading-end text (Some o.start)))
+  within = λ o us h all. subst (Begun text (o ∷ (us ++ []))) (sym (reading_end text (Some o.start)))
       (λ _. record {
         items = [];
         rest = Some (o, us);
@@ -205,32 +205,32 @@ both text (w ∷ ws) = record {
     by_out : Outside (bytes_of text w) → Both text ws
         → Begun text (w ∷ ws) (reading text None (w ∷ ws))
     by_out (token h role) ih =
-        subst (Begun text (w ∷ ws)) (sym (reading-one text None w ws role))
+        subst (Begun text (w ∷ ws)) (sym (reading_one text None w ws role))
         (λ e. IsWellBegun-cons text (Single w) ws _ _ h (ih.out e))
     by_out (opening h role) ih =
-        subst (Begun text (w ∷ ws)) (sym (reading-opening text None w ws role))
+        subst (Begun text (w ∷ ws)) (sym (reading_opening text None w ws role))
         (ih.within w [] h tt)
     by_out (Outside.neither role) ih =
-        subst (Begun text (w ∷ ws)) (sym (reading-faulty text None w ws role)) (λ e. absurd cc)
+        subst (Begun text (w ∷ ws)) (sym (reading_faulty text None w ws role)) (λ e. absurd cc)
 
     by_within : (o : Word) (us : List Word) → opens_comment (bytes_of text o) ≡ true
         → AreCommentWords text us → Inside (bytes_of text w) → Both text ws →
         Begun text (o ∷ (us ++ w ∷ ws)) (reading text (Some o.start) (w ∷ ws))
     by_within o us h all (closing end role) ih =
         subst (Begun text (o ∷ (us ++ w ∷ ws)))
-        (sym (reading-closing text (Some o.start) w ws role))
+        (sym (reading_closing text (Some o.start) w ws role))
         (λ e. subst
         (λ (vs : List Word). IsWellBegun text (o ∷ vs) (reading text None ws).tokens
         (reading text None ws).comment) (append_assoc us (w ∷ []) ws)
         (IsWellBegun-cons text (Comment o us w) ws _ _ (h, all, end) (ih.out e)))
     by_within o us h all (comment in_it role) ih =
         subst (Begun text (o ∷ (us ++ w ∷ ws)))
-        (sym (reading-comment text (Some o.start) w ws role))
+        (sym (reading_comment text (Some o.start) w ws role))
         (subst (λ (vs : List Word). Begun text (o ∷ vs) (reading text (Some o.start) ws))
         (append_assoc us (w ∷ []) ws)
         (ih.within o (us ++ w ∷ []) h (AreCommentWords-push text us w all in_it)))
     by_within o us h all (Inside.neither role) ih =
-        subst (Begun text (o ∷ (us ++ w ∷ ws))) (sym (reading-faulty text (Some o.start) w ws role))
+        subst (Begun text (o ∷ (us ++ w ∷ ws))) (sym (reading_faulty text (Some o.start) w ws role))
         (λ e. absurd cc)
 
 -- ---- a fault is that of the first faulty word
@@ -239,8 +239,8 @@ record Split (text : List ℕ) (c : Option ℕ) (ws : List Word) (f : Fault)
     (r : Reading) : Type 0 where
   before : List Word
   w : Word
-  behind : List Word
-  split : ws ≡ before ++ w ∷ behind
+  after : List Word
+  split : ws ≡ before ++ w ∷ after
   begun : reading text c before ≡ record { tokens = r.tokens; fault = None; comment = r.comment }
   role : role_of (is_some r.comment) (bytes_of text w) ≡ roles.Faulty
   same : f ≡ fault_of (is_some r.comment) w.start (bytes_of text w)
@@ -256,7 +256,7 @@ split-cons : (text : List ℕ) (c d : Option ℕ) (x : Word) (xs : List Word) (f
 split-cons text c d x xs f r step s = record {
   before = x ∷ s.before;
   w = s.w;
-  behind = s.behind;
+  after = s.after;
   split = ap (λ (us : List Word). x ∷ us) s.split;
   begun = step s.before ∙ s.begun;
   role = s.role;
@@ -265,41 +265,41 @@ split-cons text c d x xs f r step s = record {
 
 split_at : (text : List ℕ) (c : Option ℕ) (ws : List Word) (f : Fault)
     → SplitIf text c ws f (reading text c ws)
-split_at text c [] f = subst (SplitIf text c [] f) (sym (reading-end text c)) (λ e. absurd cc)
+split_at text c [] f = subst (SplitIf text c [] f) (sym (reading_end text c)) (λ e. absurd cc)
 split_at text c (x ∷ xs) f =
     by (role_of (is_some c) (bytes_of text x)) refl (λ d. split_at text d xs f)
   where
     by : (r : Role) → role_of (is_some c) (bytes_of text x) ≡ r
         → ((d : Option ℕ) → SplitIf text d xs f (reading text d xs))
         → SplitIf text c (x ∷ xs) f (reading text c (x ∷ xs))
-    by roles.Token h ih = subst (SplitIf text c (x ∷ xs) f) (sym (reading-one text c x xs h)) (λ e.
+    by roles.Token h ih = subst (SplitIf text c (x ∷ xs) f) (sym (reading_one text c x xs h)) (λ e.
         let s = ih c e in record {
           before = x ∷ s.before;
           w = s.w;
-          behind = s.behind;
+          after = s.after;
           split = ap (λ (us : List Word). x ∷ us) s.split;
-          begun = reading-one text c x s.before h ∙ ap (with_tokens (x ∷ [])) s.begun;
+          begun = reading_one text c x s.before h ∙ ap (with_tokens (x ∷ [])) s.begun;
           role = s.role;
           same = s.same;
         })
     by roles.Opening h ih =
-        subst (SplitIf text c (x ∷ xs) f) (sym (reading-opening text c x xs h))
-        (λ e. split-cons text c (Some x.start) x xs f _ (λ us. reading-opening text c x us h)
+        subst (SplitIf text c (x ∷ xs) f) (sym (reading_opening text c x xs h))
+        (λ e. split-cons text c (Some x.start) x xs f _ (λ us. reading_opening text c x us h)
         (ih (Some x.start) e))
     by roles.Closing h ih =
-        subst (SplitIf text c (x ∷ xs) f) (sym (reading-closing text c x xs h))
-        (λ e. split-cons text c None x xs f _ (λ us. reading-closing text c x us h) (ih None e))
+        subst (SplitIf text c (x ∷ xs) f) (sym (reading_closing text c x xs h))
+        (λ e. split-cons text c None x xs f _ (λ us. reading_closing text c x us h) (ih None e))
     by roles.Comment h ih =
-        subst (SplitIf text c (x ∷ xs) f) (sym (reading-comment text c x xs h))
-        (λ e. split-cons text c c x xs f _ (λ us. reading-comment text c x us h) (ih c e))
+        subst (SplitIf text c (x ∷ xs) f) (sym (reading_comment text c x xs h))
+        (λ e. split-cons text c c x xs f _ (λ us. reading_comment text c x us h) (ih c e))
     by roles.Faulty h ih =
-        subst (SplitIf text c (x ∷ xs) f) (sym (reading-faulty text c x xs h)) (λ e.
+        subst (SplitIf text c (x ∷ xs) f) (sym (reading_faulty text c x xs h)) (λ e.
         record {
           before = [];
           w = x;
-          behind = xs;
+          after = xs;
           split = refl;
-          begun = reading-end text c;
+          begun = reading_end text c;
           role = h;
           same = cc;
         })
@@ -311,29 +311,29 @@ faulty_word text ws f r s = (
   s.w,
   record {
     before = s.before;
-    behind = s.behind;
+    after = s.after;
     split = s.split;
     begun = subst (Begun text s.before) s.begun ((both text s.before).out) refl;
     faulty = λ ts c begun.
         let whole : reading text None (s.before ++ s.w ∷ [])
-        ≡ record { tokens = ts; fault = None; comment = c } = IsWellBegun-reading text _ ts c
+        ≡ record { tokens = ts; fault = None; comment = c } = IsWellBegun_reading text _ ts c
         begun in
         let on : reading text None (s.before ++ s.w ∷ [])
         ≡ with_tokens r.tokens (reading text r.comment (s.w ∷ [])) =
-        reading-append text None s.before (s.w ∷ [])
+        reading_append text None s.before (s.w ∷ [])
         ∙ ap (λ (q : Reading). go_on text q (s.w ∷ [])) s.begun in
         let fault =
         ap (λ (q : Reading). q.fault)
         (sym whole ∙ on
-        ∙ ap (with_tokens r.tokens) (reading-faulty text r.comment s.w [] s.role)) in
+        ∙ ap (with_tokens r.tokens) (reading_faulty text r.comment s.w [] s.role)) in
         cc fault;
   },
   s.same,
 )
 
-pub reading-IsReading : (text : List ℕ) (ws : List Word) → IsReading text ws (reading text None ws)
-reading-IsReading text ws = record {
+pub reading_IsReading : (text : List ℕ) (ws : List Word) → IsReading text ws (reading text None ws)
+reading_IsReading text ws = record {
   whole = (both text ws).out;
-  only = λ ts c begun. IsWellBegun-reading text ws ts c begun;
+  only = λ ts c begun. IsWellBegun_reading text ws ts c begun;
   faulty = λ f e. faulty_word text ws f _ (split_at text None ws f e);
 }

@@ -18,9 +18,9 @@ use Rattle.mm_laws.specs.Spelling.{AreSteps, IsUsable}
 use Rattle.mm_laws.specs.Laws.{WhereRead, bare_steps, StepsAreNamed, StepsAreLabels}
 use Rattle.mm_laws.specs.Laws.{CompressedIsExact, NormalIsExact, SaysCompressed, SaysNormal, Says}
 use Rattle.mm_laws.specs.Laws.{IsProved, ValidOnTheMeaning}
-use Rattle.mm_spec.proofs.Finds.{same_word}
-use Rattle.mm_laws.proofs.SpelledSteps.{steps_named, steps_labels, steps_unique}
-use Rattle.mm_laws.proofs.WellSpelled.{compressed_exact, normal_exact}
+use Rattle.mm_spec.proofs.FindsLaw.{same_word}
+use Rattle.mm_laws.proofs.SpelledStepsLaw.{steps_named, steps_labels, steps_unique}
+use Rattle.mm_laws.proofs.WellSpelledLaw.{compressed_exact, normal_exact}
 
 module _ (db : List Statement) (k : ℕ) where
   abbrev IsLabelOf : Token → ℕ → Type 0

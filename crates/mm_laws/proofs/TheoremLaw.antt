@@ -10,12 +10,12 @@ use Rattle.mm_spec.specs.Laws.Complete.{AreComplete}
 use Rattle.mm_spec.specs.Output.{ProofFault}
 use Rattle.mm_laws.specs.Laws.{WhereRead, LabelsDetermine, ProofIsUnique, IsValidOrFaulty}
 use Rattle.mm_laws.specs.Laws.{IsNeverBoth, FaultIsUnique}
-use Rattle.mm_spec.proofs.Checked.{same_row}
-use Rattle.mm_spec.proofs.Cited.{proof_unique}
+use Rattle.mm_spec.proofs.CheckedLaw.{same_row}
+use Rattle.mm_spec.proofs.CitedLaw.{proof_unique}
 use Rattle.mm_spec.proofs.CompleteLaw.{reads_complete}
-use Rattle.mm_spec.proofs.GoodSteps.{good_steps}
-use Rattle.mm_laws.proofs.Judged.{Judged, judged, valid, step_fault, end_fault}
-use Rattle.mm_laws.proofs.OneOutput.{proof_fault_unique, valid_no_fault}
+use Rattle.mm_spec.proofs.GoodStepsLaw.{good_steps}
+use Rattle.mm_laws.proofs.JudgedLaw.{Judged, judged, valid, step_fault, end_fault}
+use Rattle.mm_laws.proofs.OneOutputLaw.{proof_fault_unique, valid_no_fault}
 
 -- some fault is the least
 least_some : (f : Fault) (fs : List Fault) → (g : Fault) × (least (f ∷ fs) ≡ Some g)

@@ -18,10 +18,10 @@ use Rattle.mm_spec.specs.declared.Fault.{Fault}
 use Rattle.mm_spec.specs.Output.{LexedText, IsRead}
 use Rattle.mm_laws.specs.Laws.{WhereRead, IsTyping, VariablesAreTyped, is_in_frame}
 use Rattle.mm_laws.specs.Laws.{VariablesAreMandatory}
-use Rattle.mm_spec.proofs.Local.{scope_fault-front}
-use Rattle.mm_spec.proofs.Finds.{any-flat_map, any-filter, member-filter, filter-member, found_at}
-use Rattle.mm_spec.proofs.Finds.{at_found, found_active, active_found}
-use Rattle.mm_spec.proofs.Faultless.{has_formula}
+use Rattle.mm_spec.proofs.LocalLaw.{scope_fault_front}
+use Rattle.mm_spec.proofs.FindsLaw.{any_flat_map, any_filter, member_filter, filter_member, found_at}
+use Rattle.mm_spec.proofs.FindsLaw.{at_found, found_active, active_found}
+use Rattle.mm_spec.proofs.FaultlessLaw.{has_formula}
 use Rattle.mm_spec.proofs.CompleteLaw.{Types, is_mandatory, is_mandatory_pair, mandatory_typed}
 use Rattle.mm_spec.proofs.CompleteLaw.{type_mandatory, of_formula, of_hypothesis, of_pair}
 
@@ -46,7 +46,7 @@ some_passes {X} p (x ∷ xs) e = by (or_cases (p x) (list_any p xs) e) (some_pas
 lawful_read : (len : ℕ) (x : LexedText) (db : List Statement) (fault : Option Fault)
     → IsRead len x db fault → (k : ℕ) → k < length db → IsLawful db k
 lawful_read len x db fault r k h =
-    sym (scope_fault-front db r.rest k h) ∙ ap (λ row. scope_fault row k) (sym r.splits)
+    sym (scope_fault_front db r.rest k h) ∙ ap (λ row. scope_fault row k) (sym r.splits)
     ∙ r.lawful k h
 
 module _ (db : List Statement) (lawful : (k : ℕ) → k < length db → IsLawful db k) (k : ℕ) where
@@ -76,7 +76,7 @@ module _ (db : List Statement) (lawful : (k : ℕ) → k < length db → IsLawfu
   among : (j : ℕ) → is_active db j k ≡ true → is_mandatory db k j ≡ true
       → is_member (mandatory_hypotheses db k) j ≡ true
   among j a m =
-      filter-member (is_mandatory db k) (active db k) j m
+      filter_member (is_mandatory db k) (active db k) j m
       (active_found db k (λ i. j == i) j a (eq-eqb j j refl))
 
   typed : VariablesAreTyped db k
@@ -97,13 +97,13 @@ module _ (db : List Statement) (lawful : (k : ℕ) → k < length db → IsLawfu
   in_hypothesis : (x j : ℕ) → is_active db j k ≡ true → is_mandatory db k j ≡ true
       → in_formula x j ≡ true → in_hypotheses x ≡ true
   in_hypothesis x j a m h =
-      any-filter (is_mandatory db k) (in_formula x) (active db k)
+      any_filter (is_mandatory db k) (in_formula x) (active db k)
       ∙ active_found db k (λ j. is_mandatory db k j && in_formula x j) j a
       (and_from (is_mandatory db k j) (in_formula x j) m h)
 
   to_frame : (x : ℕ) → IsMandatory x
       → IsTrue (is_variable_number db x) × IsTrue (is_in_frame db k x)
-  to_frame x h = let p = member-filter (is_variable_number db) (formula_at db k ++ more) x h in (
+  to_frame x h = let p = member_filter (is_variable_number db) (formula_at db k ++ more) x h in (
     p.0,
     by
         (or_cases (in_formula x k) (is_member more x)
@@ -126,8 +126,8 @@ module _ (db : List Statement) (lawful : (k : ℕ) → k < length db → IsLawfu
       by (inl g) = or_left (in_formula x k) (in_hypotheses x || in_pairs x) g
       by (inr g) =
           let has =
-          sym (any-flat_map (λ y. x == y) (formula_at db) essentials
-          ∙ any-filter is_essential_at (in_formula x) (active db k))
+          sym (any_flat_map (λ y. x == y) (formula_at db) essentials
+          ∙ any_filter is_essential_at (in_formula x) (active db k))
           ∙ g in
           let a = found_active db k (λ j. is_essential_at j && in_formula x j) has in
           or_right (in_formula x k) (in_hypotheses x || in_pairs x)
@@ -150,14 +150,14 @@ module _ (db : List Statement) (lawful : (k : ℕ) → k < length db → IsLawfu
 
       more : (in_hypotheses x ≡ true) ⊎ (in_pairs x ≡ true) → IsMandatory x
       more (inl g) =
-          let has = sym (any-filter (is_mandatory db k) (in_formula x) (active db k)) ∙ g in
+          let has = sym (any_filter (is_mandatory db k) (in_formula x) (active db k)) ∙ g in
           let a = found_active db k (λ j. is_mandatory db k j && in_formula x j) has in
           let p = and_parts (is_mandatory db k a.0) (in_formula x a.0) a.2 in
           of_hypothesis db lawful k a.0 x a.1 p.0 p.1 v
       more (inr g) =
           let a =
           some_passes (λ p. is_mandatory_pair db k p && in_pair x p) all
-          (sym (any-filter (is_mandatory_pair db k) (in_pair x) all) ∙ g) in
+          (sym (any_filter (is_mandatory_pair db k) (in_pair x) all) ∙ g) in
           let p = and_parts (is_mandatory_pair db k a.0) (in_pair x a.0) a.1 in
           either a.0 p.0 (or_cases (x == a.0.low) (x == a.0.high) p.1)
 

@@ -59,8 +59,8 @@ pub record IsWellBegun (text : List ℕ) (ws : List Word) (tokens : List Word)
 pub record IsFaulty (text : List ℕ) (ws : List Word) (w : Word) (tokens : List Word)
     (comment : Option ℕ) : Type 0 where
   pub before : List Word
-  pub behind : List Word
-  pub split : ws ≡ before ++ w ∷ behind
+  pub after : List Word
+  pub split : ws ≡ before ++ w ∷ after
   pub begun : IsWellBegun text before tokens comment
   pub faulty : (ts : List Word) (c : Option ℕ) → IsWellBegun text (before ++ w ∷ []) ts c → ⊥
 

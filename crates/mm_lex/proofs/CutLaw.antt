@@ -11,9 +11,9 @@ div-mono : (x y k : ℕ) → 0 < k → x ≤ y → x / k ≤ y / k
 div-mono x y k pos le =
     (le-div_iff_mul-le pos).1 (let h = div-mul-le_self x k in omega (arith, h, le))
 
-pub equal-cuts : (len count : ℕ) → 0 < count
+pub equal_cuts : (len count : ℕ) → 0 < count
     → IsCutText (cut_text (map (λ i. len * (i + 1) / count) (range_with_len 0 (count - 1))) len)
-equal-cuts len count some =
+equal_cuts len count some =
     let f = λ (i : ℕ). len * (i + 1) / count in
     let n : length (map f (range_with_len 0 (count - 1))) ≡ count - 1 =
     length-map-range_with_len f 0 (count - 1) in

@@ -1,7 +1,7 @@
-pub mod RolesLemmas
+pub mod RolesLaw
 pub mod StretchesLaw
-pub mod PiecesLemmas
-pub mod CutsLemmas
+pub mod PiecesLaw
+pub mod CutsLaw
 pub mod CutLaw
-pub mod MaskFacts
-pub mod BlockFacts
+pub mod MaskLaw
+pub mod BlockLaw

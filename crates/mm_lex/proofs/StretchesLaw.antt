@@ -5,47 +5,47 @@ use Rattle.std.proofs.Common.{lt-ltb, le-ltb}
 use Rattle.std.proofs.lemmas.Bool.{cases_lt}
 use Rattle.mm_spec.specs.declared.Word.{Word}
 use Rattle.mm_spec.specs.Words.{white_at, begins_word, word_at, words_between, words_of}
-use Rattle.mm_spec.proofs.WordsLemmas.{IsBoundary, words_between-skip, words_between-take}
-use Rattle.mm_spec.proofs.WordsLemmas.{words_between-none, words_between-skips, begins_word-inside}
+use Rattle.mm_spec.proofs.WordRunsLaw.{IsBoundary, words_between_skip, words_between_take}
+use Rattle.mm_spec.proofs.WordRunsLaw.{words_between_none, words_between_skips, begins_word_inside}
 use Rattle.mm_spec.specs.Laws.Words.{IsWord}
 use Rattle.mm_lex.specs.Stretches.{NoWhite, IsUnbroken, IsBroken, joined_word}
-use Rattle.mm_spec.proofs.WordsLaw.{IsWord-begins, IsWord-is, words_between-cases}
+use Rattle.mm_spec.proofs.WordsLaw.{IsWord_begins, IsWord_is, words_between_cases}
 
 -- the words of two stretches of places, one after the other
-pub words_between-append : (text : List ℕ) (n from mid to : ℕ) → from + n ≡ mid → mid ≤ to
+pub words_between_append : (text : List ℕ) (n from mid to : ℕ) → from + n ≡ mid → mid ≤ to
     → words_between text from to ≡ words_between text from mid ++ words_between text mid to
-words_between-append text zero from mid to e le =
+words_between_append text zero from mid to e le =
     let same : from ≡ mid = omega arith in
     ap (λ (x : ℕ). words_between text x to) same
     ∙ ap (λ (ws : List Word). ws ++ words_between text mid to)
-    (sym (words_between-none text from mid (omega arith)))
-words_between-append text (suc n) from mid to e le =
+    (sym (words_between_none text from mid (omega arith)))
+words_between_append text (suc n) from mid to e le =
     let ih : words_between text (from + 1) to
     ≡ words_between text (from + 1) mid
-    ++ words_between text mid to = words_between-append text n (from + 1) mid to
+    ++ words_between text mid to = words_between_append text n (from + 1) mid to
     (omega arith) le in
     ⊎_elim {C = words_between text from to
     ≡ words_between text from mid ++ words_between text mid to}
     (λ taken. taken.1 ∙ ap (λ (ws : List Word). word_at text from ∷ ws) ih
     ∙ sym (ap (λ (ws : List Word). ws ++ words_between text mid to)
-    (words_between-take text from mid (omega arith) taken.0)))
+    (words_between_take text from mid (omega arith) taken.0)))
     (λ skipped. skipped.1 ∙ ih
     ∙ sym (ap (λ (ws : List Word). ws ++ words_between text mid to)
-    (words_between-skip text from mid (omega arith) skipped.0)))
-    (words_between-cases text from to (omega arith))
+    (words_between_skip text from mid (omega arith) skipped.0)))
+    (words_between_cases text from to (omega arith))
 
 -- no word goes on over the ends of what lies between head and tail
-pub boundary-head : {text : List ℕ} {from to head tail : ℕ} → IsBroken text from to head tail
+pub boundary_head : {text : List ℕ} {from to head tail : ℕ} → IsBroken text from to head tail
     → IsBoundary text head
-boundary-head {text} {from} {to} {head} {tail} s i e h ink =
+boundary_head {text} {from} {to} {head} {tail} s i e h ink =
     ⊎_elim {C = white_at text i ≡ true}
     (λ before. absurd (true≢false (sym (s.head_ends (grind (arith, s.no_head)) before) ∙ ink)))
     (λ at_end. absurd (grind (arith, s.some_white, s.no_head)))
     (cases_lt head to)
 
-pub boundary-tail : {text : List ℕ} {from to head tail : ℕ} → IsBroken text from to head tail
+pub boundary_tail : {text : List ℕ} {from to head tail : ℕ} → IsBroken text from to head tail
     → IsBoundary text tail
-boundary-tail {text} {from} {to} {head} {tail} s i e h ink =
+boundary_tail {text} {from} {to} {head} {tail} s i e h ink =
     s.tail_begins (grind (arith, s.no_tail)) i e (grind (arith, s.some_white, s.no_tail, s.no_head))
 
 -- a run without a white byte between two places over which no word goes on
@@ -56,12 +56,12 @@ run-is-word text p q lt le bp bq ink = record {
   within = le;
   no_white = ink;
   white_before = λ i e. bp i e (omega arith) (ink p (omega arith) lt);
-  white_behind = λ h. behind (white_at text q) refl h;
+  white_after = λ h. after (white_at text q) refl h;
 }
   where
-    behind : (b : Bool) → white_at text q ≡ b → q < length text → white_at text q ≡ true
-    behind true e h = e
-    behind false e h =
+    after : (b : Bool) → white_at text q ≡ b → q < length text → white_at text q ≡ true
+    after true e h = e
+    after false e h =
         absurd (true≢false
         (sym (bq (q - 1) (omega arith) h e) ∙ ink (q - 1) (omega arith) (omega arith)))
 
@@ -70,44 +70,44 @@ no_more : (text : List ℕ) (p q : ℕ) → NoWhite text p q → (j : ℕ) → p
 no_more text p q ink j a b =
     let same : (j - 1) + 1 ≡ j = omega arith in
     subst (λ (k : ℕ). begins_word text k ≡ false) same
-    (begins_word-inside text (j - 1) (ink (j - 1) (omega arith) (omega arith)))
+    (begins_word_inside text (j - 1) (ink (j - 1) (omega arith) (omega arith)))
 
-pub words_between-run : (text : List ℕ) (p q : ℕ) → q ≤ length text → IsBoundary text p
+pub words_between_run : (text : List ℕ) (p q : ℕ) → q ≤ length text → IsBoundary text p
     → IsBoundary text q → NoWhite text p q → words_between text p q ≡ joined_word p q
-words_between-run text p q le bp bq ink =
+words_between_run text p q le bp bq ink =
     ⊎_elim {C = words_between text p q ≡ joined_word p q}
     (λ lt.
     let word = run-is-word text p q lt le bp bq ink in
     let n : ℕ = q - (p + 1) in
-    words_between-take text p q lt (IsWord-begins word)
-    ∙ ap (λ (w : Word). w ∷ words_between text (p + 1) q) (IsWord-is word)
+    words_between_take text p q lt (IsWord_begins word)
+    ∙ ap (λ (w : Word). w ∷ words_between text (p + 1) q) (IsWord_is word)
     ∙ ap (λ (ws : List Word). let w : Word = record { start = p; end = q } in w ∷ ws)
-    (words_between-skips text (q - (p + 1)) (p + 1) q q (omega arith) (omega arith)
+    (words_between_skips text (q - (p + 1)) (p + 1) q q (omega arith) (omega arith)
     (no_more text p q ink)
-    ∙ words_between-none text q q (omega arith))
+    ∙ words_between_none text q q (omega arith))
     ∙ rw (lt-ltb p q lt) refl)
-    (λ ge. words_between-none text p q ge ∙ rw (le-ltb p q ge) refl)
+    (λ ge. words_between_none text p q ge ∙ rw (le-ltb p q ge) refl)
     (cases_lt p q)
 
 ink_over : (text : List ℕ) (p b q : ℕ) → NoWhite text p b → NoWhite text b q → NoWhite text p q
 ink_over text p b q left right i lo hi =
     ⊎_elim {C = white_at text i ≡ false} (λ h. left i lo h) (λ h. right i h hi) (cases_lt i b)
 
-pub join-words : {text : List ℕ} {a b c h1 t1 h2 t2 : ℕ} → IsBroken text a b h1 t1
+pub join_words : {text : List ℕ} {a b c h1 t1 h2 t2 : ℕ} → IsBroken text a b h1 t1
     → IsBroken text b c h2 t2 →
     words_between text h1 t2
     ≡ words_between text h1 t1 ++ (joined_word t1 h2 ++ words_between text h2 t2)
-join-words {text} {a} {b} {c} {h1} {t1} {h2} {t2} s r =
-    words_between-append text (t1 - h1) h1 t1 t2 (omega arith) (omega arith)
+join_words {text} {a} {b} {c} {h1} {t1} {h2} {t2} s r =
+    words_between_append text (t1 - h1) h1 t1 t2 (omega arith) (omega arith)
     ∙ ap (λ (ws : List Word). words_between text h1 t1 ++ ws)
-    (words_between-append text (h2 - t1) t1 h2 t2 (omega arith) (omega arith)
+    (words_between_append text (h2 - t1) t1 h2 t2 (omega arith) (omega arith)
     ∙ ap (λ (ws : List Word). ws ++ words_between text h2 t2)
-    (words_between-run text t1 h2 (omega arith) (boundary-tail s) (boundary-head r)
+    (words_between_run text t1 h2 (omega arith) (boundary_tail s) (boundary_head r)
     (ink_over text t1 b h2 s.tail_ink r.head_ink)))
 
-pub join-broken : {text : List ℕ} {a b c h1 t1 h2 t2 : ℕ} → IsBroken text a b h1 t1
+pub join_broken : {text : List ℕ} {a b c h1 t1 h2 t2 : ℕ} → IsBroken text a b h1 t1
     → IsBroken text b c h2 t2 → IsBroken text a c h1 t2
-join-broken {text} {a} {b} {c} {h1} {t1} {h2} {t2} s r = record {
+join_broken {text} {a} {b} {c} {h1} {t1} {h2} {t2} s r = record {
   from_head = s.from_head;
   order = omega arith;
   tail_to = r.tail_to;
@@ -121,9 +121,9 @@ join-broken {text} {a} {b} {c} {h1} {t1} {h2} {t2} s r = record {
   tail_begins = λ high i e lo. r.tail_begins high i e (grind (arith, r.some_white));
 }
 
-pub join-unbroken_broken : {text : List ℕ} {a b c h t : ℕ} → IsUnbroken text a b
+pub join_unbroken_broken : {text : List ℕ} {a b c h t : ℕ} → IsUnbroken text a b
     → IsBroken text b c h t → IsBroken text a c h t
-join-unbroken_broken {text} {a} {b} {c} {h} {t} s r = record {
+join_unbroken_broken {text} {a} {b} {c} {h} {t} s r = record {
   from_head = omega arith;
   order = r.order;
   tail_to = r.tail_to;
@@ -137,9 +137,9 @@ join-unbroken_broken {text} {a} {b} {c} {h} {t} s r = record {
   tail_begins = λ high i e lo. r.tail_begins high i e (omega arith);
 }
 
-pub join-broken_unbroken : {text : List ℕ} {a b c h t : ℕ} → IsBroken text a b h t
+pub join_broken_unbroken : {text : List ℕ} {a b c h t : ℕ} → IsBroken text a b h t
     → IsUnbroken text b c → IsBroken text a c h t
-join-broken_unbroken {text} {a} {b} {c} {h} {t} s r = record {
+join_broken_unbroken {text} {a} {b} {c} {h} {t} s r = record {
   from_head = s.from_head;
   order = s.order;
   tail_to = omega arith;
@@ -153,9 +153,9 @@ join-broken_unbroken {text} {a} {b} {c} {h} {t} s r = record {
   tail_begins = λ high i e lo. s.tail_begins (omega arith) i e lo;
 }
 
-pub join-unbroken : {text : List ℕ} {a b c : ℕ} → IsUnbroken text a b → IsUnbroken text b c
+pub join_unbroken : {text : List ℕ} {a b c : ℕ} → IsUnbroken text a b → IsUnbroken text b c
     → IsUnbroken text a c
-join-unbroken {text} {a} {b} {c} s r = record {
+join_unbroken {text} {a} {b} {c} s r = record {
   first = s.first;
   order = omega arith;
   last = r.last;
@@ -163,9 +163,9 @@ join-unbroken {text} {a} {b} {c} s r = record {
 }
 
 -- the whole text
-pub whole-broken : {text : List ℕ} {h t : ℕ} → IsBroken text 0 (length text) h t
+pub whole_broken : {text : List ℕ} {h t : ℕ} → IsBroken text 0 (length text) h t
     → words_between text h t ≡ words_of text
-whole-broken {text} {h} {t} s =
+whole_broken {text} {h} {t} s =
     let a : h ≡ 0 = s.no_head refl in
     let b : t ≡ length text = s.no_tail refl in
     rw (a, b) refl

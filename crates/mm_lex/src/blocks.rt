@@ -173,7 +173,7 @@ impl<'a> Blocks<'a> {
         requires short { length self.text.now ≤ TEXT_LIMIT }
         requires ink { white_at self.text.now start ≡ false }
         ensures text { result.0.text.now ≡ self.entry.text.now }
-        ensures behind { start < result.0.from }
+        ensures after { start < result.0.from }
         ensures none { (i : ℕ) → start < i → i < result.0.from
             → begins_word self.entry.text.now i ≡ false }
         ensures start { result.1.word.start ≡ start }

@@ -30,7 +30,7 @@ fn first_white(text: &[u8], from: usize, to: usize) -> usize
 
 /// The place after the last white byte before `to`, or `from`.
 #[tactic(auto, unfolding(mm_spec::specs::Words::white_at))]
-fn behind_white(text: &[u8], from: usize, to: usize) -> usize
+fn after_white(text: &[u8], from: usize, to: usize) -> usize
     requires order { from ≤ to }
     requires within { to ≤ length text.now }
     ensures from_here { from ≤ result }
@@ -67,7 +67,7 @@ pub fn bounds(text: &[u8], from: usize, to: usize) -> Option<(usize, usize)>
     let tail = if to == text.len() {
         to
     } else {
-        behind_white(text, from, to)
+        after_white(text, from, to)
     };
     Some((head, tail))
 }

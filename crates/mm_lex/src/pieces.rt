@@ -206,33 +206,33 @@ pub fn lex_piece<A: Allocator + Copy>(
 fn join_inner<A: Allocator + Copy>(
     text: &[u8],
     before: Inner<A>,
-    behind: Inner<A>,
+    after: Inner<A>,
 ) -> Result<Inner<A>, AllocError>
-    requires within { behind.head ≤ length text.now }
+    requires within { after.head ≤ length text.now }
     requires short { length text.now ≤ TEXT_LIMIT }
     ensures head { IfOk result (λ inner. inner.head ≡ before.head) }
-    ensures tail { IfOk result (λ inner. inner.tail ≡ behind.tail) }
+    ensures tail { IfOk result (λ inner. inner.tail ≡ after.tail) }
     ensures readings { IfOk result (λ inner. (ws us : List Word) →
         AreReadings text.now ws (side before.outside) (side before.inside)
-        → AreReadings text.now us (side behind.outside) (side behind.inside) →
-        AreReadings text.now (ws ++ (joined_word before.tail behind.head ++ us))
+        → AreReadings text.now us (side after.outside) (side after.inside) →
+        AreReadings text.now (ws ++ (joined_word before.tail after.head ++ us))
         (side inner.outside) (side inner.inside)) }
 {
     let mut outside = before.outside;
     let mut inside = before.inside;
-    if before.tail < behind.head {
+    if before.tail < after.head {
         let word = Word {
             start: before.tail,
-            end: behind.head,
+            end: after.head,
         };
         outside.read_word(text, word, false)?;
         inside.read_word(text, word, false)?;
     }
-    outside.read_all(&behind.outside, &behind.inside)?;
-    inside.read_all(&behind.outside, &behind.inside)?;
+    outside.read_all(&after.outside, &after.inside)?;
+    inside.read_all(&after.outside, &after.inside)?;
     Ok(Inner {
         head: before.head,
-        tail: behind.tail,
+        tail: after.tail,
         outside,
         inside,
     })
@@ -260,7 +260,7 @@ pub fn join<A: Allocator + Copy>(
         None => second.inner,
         Some(before) => match second.inner {
             None => Some(before),
-            Some(behind) => Some(join_inner(text, before, behind)?),
+            Some(after) => Some(join_inner(text, before, after)?),
         },
     };
     Ok(Piece { from, to, inner })

@@ -42,13 +42,13 @@ fn read_run<A: Allocator + Copy>(
     text: &[u8],
     places: &[u32],
     first: usize,
-    behind: usize,
+    after: usize,
 ) -> Result<Piece<A>, AllocError>
     requires short { length text.now ≤ TEXT_LIMIT }
     requires cuts { IsCutText (cut_text places.now (length text.now)) }
-    requires some { first < behind }
-    requires behind { behind ≤ length places.now + 1 }
-    ensures { IfOk result (IsRun text.now places.now first behind) }
+    requires some { first < after }
+    requires after { after ≤ length places.now + 1 }
+    ensures { IfOk result (IsRun text.now places.now first after) }
 {
     let mut run = lex_piece(
         alloc,
@@ -56,7 +56,7 @@ fn read_run<A: Allocator + Copy>(
         cut_at(text, places, first),
         cut_at(text, places, first + 1),
     )?;
-    for index in first + 1..behind {
+    for index in first + 1..after {
         let to = cut_at(text, places, index + 1);
         let next = lex_piece(alloc, text, run.to() as usize, to)?;
         run = join(alloc, text, run, next)?;
@@ -82,8 +82,8 @@ fn run_at<A: Allocator + Copy>(
 {
     let count = places.len() + 1;
     let first = run_start(count, runs, index);
-    let behind = run_start(count, runs, index + 1);
-    read_run(alloc, text, places, first, behind)
+    let after = run_start(count, runs, index + 1);
+    read_run(alloc, text, places, first, after)
 }
 
 /// The summaries of the runs, in order.

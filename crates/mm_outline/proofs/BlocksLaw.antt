@@ -10,8 +10,8 @@ use Rattle.std.proofs.Math.Seq.{get_or-append_seam}
 use Rattle.std.specs.List.{list_all, range_with_len}
 use Rattle.mm_spec.specs.Statement.{Statement, is_opening, is_closing}
 use Rattle.mm_spec.specs.Scope.{depth, stays}
-use Rattle.mm_spec.proofs.Activity.{stays_more}
-use Rattle.mm_spec.proofs.Shape.{count_end}
+use Rattle.mm_spec.proofs.ActivityLaw.{stays_more}
+use Rattle.mm_spec.proofs.ShapeLaw.{count_end}
 use Rattle.mm_outline.specs.Blocks.{Lists, lists, never, top, no_blocks, end_of, IsBlocks}
 
 -- ---- what stays the same after one statement more
@@ -23,20 +23,20 @@ module _ (db : List Statement) (s : Statement) where
   length-more : length more ≡ length db + 1
   length-more = length-append db (s ∷ [])
 
-  pub depth-front : (i : ℕ) → i ≤ length db → depth more i ≡ depth db i
-  depth-front i h =
+  pub depth_front : (i : ℕ) → i ≤ length db → depth more i ≡ depth db i
+  depth_front i h =
       ap₂ (λ a b. a - b) (ap (count_by is_opening) (take-append-le i db (s ∷ []) h))
       (ap (count_by is_closing) (take-append-le i db (s ∷ []) h))
 
-  pub depth-end : depth db (length db) ≡ count_by is_opening db - count_by is_closing db
-  depth-end =
+  pub depth_end : depth db (length db) ≡ count_by is_opening db - count_by is_closing db
+  depth_end =
       ap₂ (λ a b. a - b) (ap (count_by is_opening) (take_all (length db) db (le_refl (length db))))
       (ap (count_by is_closing) (take_all (length db) db (le_refl (length db))))
 
-  pub depth-last : depth more (length db + 1)
+  pub depth_last : depth more (length db + 1)
       ≡ (count_by is_opening db + cond (is_opening s) 1 0) -
       (count_by is_closing db + cond (is_closing s) 1 0)
-  depth-last =
+  depth_last =
       let l : length more ≤ length db + 1 = omega (arith, length-more) in
       ap₂ (λ a b. a - b)
       (ap (count_by is_opening) (take_all (length db + 1) more l) ∙ count_end is_opening db s)
@@ -50,10 +50,10 @@ module _ (db : List Statement) (s : Statement) where
       ap₂ (λ x y. x && y) (ap₂ nat_le h (k a (omega arith)))
       (same_all d e f g n (a + 1) h (λ i l. k i (omega arith)))
 
-  pub stays-front : (j k : ℕ) → j < k → k ≤ length db → stays more j k ≡ stays db j k
-  stays-front j k h l =
+  pub stays_front : (j k : ℕ) → j < k → k ≤ length db → stays more j k ≡ stays db j k
+  stays_front j k h l =
       same_all (depth more j) (depth db j) (depth more) (depth db) (k - j) (j + 1)
-      (depth-front j (omega arith)) (λ i m. depth-front i (omega arith))
+      (depth_front j (omega arith)) (λ i m. depth_front i (omega arith))
 
   stays-here : (j : ℕ) → stays more j j ≡ true
   stays-here j =
@@ -61,26 +61,26 @@ module _ (db : List Statement) (s : Statement) where
       ap (λ m. list_all (λ i. nat_le (depth more j) (depth more i)) (range_with_len (j + 1) m)) n
 
   -- one place more
-  pub stays-last : (j : ℕ) → j < length db
+  pub stays_last : (j : ℕ) → j < length db
       → stays more j (length db + 1)
       ≡ (stays db j (length db) && nat_le (depth db j) (depth more (length db + 1)))
-  stays-last j h =
+  stays_last j h =
       let e : suc (length db) ≡ length db + 1 = omega arith in
       subst (λ n. stays more j n
       ≡ (stays more j (length db) && nat_le (depth more j) (depth more n))) e
       (stays_more more j (length db) (omega arith))
       ∙ ap₂ (λ a b. a && nat_le b (depth more (length db + 1)))
-      (stays-front j (length db) h (le_refl (length db))) (depth-front j (omega arith))
+      (stays_front j (length db) h (le_refl (length db))) (depth_front j (omega arith))
 
-  pub stays-new : stays more (length db) (length db + 1)
+  pub stays_new : stays more (length db) (length db + 1)
       ≡ nat_le (depth db (length db)) (depth more (length db + 1))
-  stays-new =
+  stays_new =
       let e : suc (length db) ≡ length db + 1 = omega arith in
       subst (λ n. stays more (length db) n
       ≡ (stays more (length db) (length db) && nat_le (depth more (length db)) (depth more n)))
       e (stays_more more (length db) (length db) (le_refl (length db)))
       ∙ ap₂ (λ a b. a && nat_le b (depth more (length db + 1))) (stays-here (length db))
-      (depth-front (length db) (le_refl (length db)))
+      (depth_front (length db) (le_refl (length db)))
 
 pub blocks_none : IsBlocks [] no_blocks
 blocks_none = record {
@@ -204,7 +204,7 @@ module _ (db : List Statement) (s : Statement) (b : Lists) (x : IsBlocks db b)
             → (depth (more db s) (length db) ≤ depth (more db s) (length (more db s)))
             × (get_or opens (depth (more db s) (length db)) 0 ≡ get_or of-more (length db) 0)
         at-new (inl o) e =
-            rw (length-more db s, depth-front db s (length db) (le_refl (length db)), of-last)
+            rw (length-more db s, depth_front db s (length db) (le_refl (length db)), of-last)
             (o.1, o.2)
         at-new (inr c) e =
             absurd (let f : get_or ends (top b.open_blocks) 0
@@ -219,7 +219,7 @@ module _ (db : List Statement) (s : Statement) (b : Lists) (x : IsBlocks db b)
                 → (depth (more db s) j ≤ depth (more db s) (length (more db s)))
                 × (get_or opens (depth (more db s) j) 0 ≡ get_or of-more j 0)
             by (inl (f, inl o)) e =
-                rw (length-more db s, depth-front db s j (omega (arith, h)), of-front j h)
+                rw (length-more db s, depth_front db s j (omega (arith, h)), of-front j h)
                 (o.1, o.2)
             by (inl (f, inr c)) e = absurd (omega (arith, c.0, few, e))
             by (inr p) e = absurd (omega (arith, p.0, p.1, few, e))
@@ -297,13 +297,13 @@ module _ (db : List Statement) (s : Statement) (b : Lists) (x : IsBlocks db b)
                 → stays (more db s) j (length db + 1)
                 ≡ nat_le (length db + 1) (end_of (lists of-more ends opens) j)
             at-last (inl i) e =
-                stays-last db s j i ∙ last i (g.becomes j i)
+                stays_last db s j i ∙ last i (g.becomes j i)
                 ∙ ap (λ q. nat_le (length db + 1) (get_or ends q 0)) (sym (of-front j i))
             at-last (inr i) e =
                 let same : length db ≡ j = omega (arith, h, e, i) in
                 subst (λ j. stays (more db s) j (length db + 1)
                 ≡ nat_le (length db + 1) (end_of (lists of-more ends opens) j)) same
-                (stays-new db s ∙ fresh g.new
+                (stays_new db s ∙ fresh g.new
                 ∙ ap (λ q. nat_le (length db + 1) (get_or ends q 0)) (sym of-last))
 
             by : (length db < k) ⊎ (k ≤ length db)
@@ -314,33 +314,33 @@ module _ (db : List Statement) (s : Statement) (b : Lists) (x : IsBlocks db b)
                 (sym e) (at-last (cases_lt j (length db)) e)
             by (inr m) =
                 let i : j < length db = omega arith in
-                stays-front db s j k h m ∙ x.ended j k h m ∙ old i m (g.becomes j i)
+                stays_front db s j k h m ∙ x.ended j k h m ∙ old i m (g.becomes j i)
                 ∙ ap (λ q. nat_le k (get_or ends q 0)) (sym (of-front j i))
 
   -- the count of blocks after the statement
-  pub depth-plain : is_opening s ≡ false → is_closing s ≡ false
+  pub depth_plain : is_opening s ≡ false → is_closing s ≡ false
       → depth (more db s) (length db + 1) ≡ depth db (length db)
-  depth-plain o c =
-      depth-last db s
+  depth_plain o c =
+      depth_last db s
       ∙ ap₂ (λ p q. (count_by is_opening db + cond p 1 0) - (count_by is_closing db + cond q 1 0)) o
       c
-      ∙ (let e = depth-end db s in omega (arith, e))
+      ∙ (let e = depth_end db s in omega (arith, e))
 
-  pub depth-opening : is_opening s ≡ true → is_closing s ≡ false
+  pub depth_opening : is_opening s ≡ true → is_closing s ≡ false
       → depth (more db s) (length db + 1) ≡ depth db (length db) + 1
-  depth-opening o c =
-      depth-last db s
+  depth_opening o c =
+      depth_last db s
       ∙ ap₂ (λ p q. (count_by is_opening db + cond p 1 0) - (count_by is_closing db + cond q 1 0)) o
       c
-      ∙ (let e = depth-end db s in let n = x.nested in omega (arith, e, n))
+      ∙ (let e = depth_end db s in let n = x.nested in omega (arith, e, n))
 
-  pub depth-closing : is_opening s ≡ false → is_closing s ≡ true
+  pub depth_closing : is_opening s ≡ false → is_closing s ≡ true
       → depth (more db s) (length db + 1) ≡ depth db (length db) - 1
-  depth-closing o c =
-      depth-last db s
+  depth_closing o c =
+      depth_last db s
       ∙ ap₂ (λ p q. (count_by is_opening db + cond p 1 0) - (count_by is_closing db + cond q 1 0)) o
       c
-      ∙ (let e = depth-end db s in let n = x.nested in omega (arith, e, n))
+      ∙ (let e = depth_end db s in let n = x.nested in omega (arith, e, n))
 
   counted : (p q : Bool) → is_opening s ≡ p → is_closing s ≡ q
       → (count_by is_opening (more db s) ≡ count_by is_opening db + cond p 1 0)
@@ -355,7 +355,7 @@ module _ (db : List Statement) (s : Statement) (b : Lists) (x : IsBlocks db b)
   pub blocks_plain : is_opening s ≡ false → is_closing s ≡ false
       → IsBlocks (db ++ s ∷ []) (lists (b.of ++ top b.open_blocks ∷ []) b.ends b.open_blocks)
   blocks_plain o c =
-      let d = depth-plain o c in
+      let d = depth_plain o c in
       let m = counted false false o c in
       grown b.ends b.open_blocks (record {
         nested = let n = x.nested in omega (arith, m.0, m.1, n);
@@ -373,7 +373,7 @@ module _ (db : List Statement) (s : Statement) (b : Lists) (x : IsBlocks db b)
           → Becomes b.ends b.open_blocks j
       by j h (inl e) =
           let y = x.at j h e in
-          inl (e, inl (e, let l = y.0 in let d = depth-plain o c in omega (arith, d, l), y.1))
+          inl (e, inl (e, let l = y.0 in let d = depth_plain o c in omega (arith, d, l), y.1))
       by j h (inr l) = inr (l, refl)
 
   pub blocks_opening : is_opening s ≡ true → is_closing s ≡ false
@@ -381,7 +381,7 @@ module _ (db : List Statement) (s : Statement) (b : Lists) (x : IsBlocks db b)
       (lists (b.of ++ top b.open_blocks ∷ []) (b.ends ++ never ∷ [])
       (b.open_blocks ++ length b.ends ∷ []))
   blocks_opening o c =
-      let d = depth-opening o c in
+      let d = depth_opening o c in
       let m = counted true false o c in
       grown ends opens (record {
         nested = let n = x.nested in omega (arith, m.0, m.1, n);
@@ -455,7 +455,7 @@ module _ (db : List Statement) (s : Statement) (b : Lists) (x : IsBlocks db b)
           → Becomes ends opens j
       by j h (inl e) =
           let y = x.at j h e in
-          let d = depth-opening o c in
+          let d = depth_opening o c in
           let k = x.stack in
           let l = y.0 in
           inl (
@@ -474,11 +474,11 @@ module _ (db : List Statement) (s : Statement) (b : Lists) (x : IsBlocks db b)
       (lists (b.of ++ top b.open_blocks ∷ []) (set b.ends (top b.open_blocks) (length b.of))
       (take (length b.open_blocks - 1) b.open_blocks))
   blocks_closing o c deep =
-      let d = depth-closing o c in
+      let d = depth_closing o c in
       let m = counted false true o c in
       let k = x.stack in
       grown ends opens (record {
-        nested = let e = depth-end db s in omega (arith, m.0, m.1, e, deep);
+        nested = let e = depth_end db s in omega (arith, m.0, m.1, e, deep);
         stack = omega (arith, k, d, shorter, deep);
         longer = omega (arith, length-set b.ends (top b.open_blocks) (length b.of));
         few-more =
@@ -551,10 +551,10 @@ module _ (db : List Statement) (s : Statement) (b : Lists) (x : IsBlocks db b)
                   absurd (let k = x.stack in
                   let r = x.rising (depth db j) (depth db (length db)) l (omega (arith, k)) in
                   omega (arith, r, y.1, q, top-at))
-              last (inr l) = let d = depth-closing o c in omega (arith, d, deep, l)
+              last (inr l) = let d = depth_closing o c in omega (arith, d, deep, l)
           go (inr q) y =
               let k = x.stack in
-              let d = depth-closing o c in
+              let d = depth_closing o c in
               let ne : depth db j ≢ depth db (length db) =
               λ z. q (sym y.1 ∙ ap (λ i. get_or b.open_blocks i 0) z ∙ sym top-at) in
               let l = y.0 in

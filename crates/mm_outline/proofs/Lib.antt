@@ -1,10 +1,10 @@
 pub mod ActiveLaw
-pub mod Among
+pub mod AmongLaw
 pub mod BlocksLaw
-pub mod Faultless
-pub mod Leads
-pub mod Passed
-pub mod Results
+pub mod FaultlessLaw
+pub mod LeadsLaw
+pub mod PassedLaw
+pub mod ResultsLaw
 pub mod StatementsLaw
 pub mod TokensLaw
-pub mod Turns
+pub mod TurnsLaw

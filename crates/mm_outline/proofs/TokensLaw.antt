@@ -25,10 +25,10 @@ use Rattle.mm_spec.specs.Laws.Words.{IsWord}
 use Rattle.mm_spec.specs.Readings.{reading, bytes_of}
 use Rattle.mm_spec.specs.Lexed.{tokens_of, lexical_fault}
 use Rattle.mm_spec.specs.Output.{lexed_of}
-use Rattle.mm_spec.proofs.WordsLaw.{words_of-AreWords}
-use Rattle.mm_spec.proofs.ReadingsLemmas.{reading-opening, reading-closing, reading-comment}
-use Rattle.mm_spec.proofs.ReadingsLemmas.{reading-faulty, reading-end, reading-one}
-use Rattle.mm_spec.proofs.LexedLemmas.{tokens_of-long, lexical_fault-long, tokens_of-read}
+use Rattle.mm_spec.proofs.WordsLaw.{words_of_AreWords}
+use Rattle.mm_spec.proofs.ReadingsLaw.{reading_opening, reading_closing, reading_comment}
+use Rattle.mm_spec.proofs.ReadingsLaw.{reading_faulty, reading_end, reading_one}
+use Rattle.mm_spec.proofs.LexedLaw.{tokens_of_long, lexical_fault_long, tokens_of_read}
 use Rattle.mm_outline.specs.Parts.{AreWithin}
 use Rattle.mm_outline.specs.Tokens.{AreTokens}
 use Rattle.mm_outline.specs.Statements.{lexed, end_fault_of}
@@ -39,7 +39,7 @@ module _ (Q : List Word → List Word → Type 0) (none : (ws : List Word) → Q
     (taken : (w : Word) (ws ts : List Word) → Q ws ts → Q (w ∷ ws) (w ∷ ts))
     (skipped : (w : Word) (ws ts : List Word) → Q ws ts → Q (w ∷ ws) ts) where
   tokens_kept : (text : List ℕ) (c : Option ℕ) (ws : List Word) → Q ws (reading text c ws).tokens
-  tokens_kept text c [] = subst (λ r. Q [] r.tokens) (sym (reading-end text c)) (none [])
+  tokens_kept text c [] = subst (λ r. Q [] r.tokens) (sym (reading_end text c)) (none [])
   tokens_kept text c (w ∷ ws) =
       by (role_of (is_some c) (bytes_of text w)) refl (λ d. tokens_kept text d ws)
     where
@@ -47,19 +47,19 @@ module _ (Q : List Word → List Word → Type 0) (none : (ws : List Word) → Q
           → ((d : Option ℕ) → Q ws (reading text d ws).tokens)
           → Q (w ∷ ws) (reading text c (w ∷ ws)).tokens
       by Token e rest =
-          subst (λ r. Q (w ∷ ws) r.tokens) (sym (reading-one text c w ws e))
+          subst (λ r. Q (w ∷ ws) r.tokens) (sym (reading_one text c w ws e))
           (taken w ws (reading text c ws).tokens (rest c))
       by Opening e rest =
-          subst (λ r. Q (w ∷ ws) r.tokens) (sym (reading-opening text c w ws e))
+          subst (λ r. Q (w ∷ ws) r.tokens) (sym (reading_opening text c w ws e))
           (skipped w ws (reading text (Some w.start) ws).tokens (rest (Some w.start)))
       by Closing e rest =
-          subst (λ r. Q (w ∷ ws) r.tokens) (sym (reading-closing text c w ws e))
+          subst (λ r. Q (w ∷ ws) r.tokens) (sym (reading_closing text c w ws e))
           (skipped w ws (reading text None ws).tokens (rest None))
       by Comment e rest =
-          subst (λ r. Q (w ∷ ws) r.tokens) (sym (reading-comment text c w ws e))
+          subst (λ r. Q (w ∷ ws) r.tokens) (sym (reading_comment text c w ws e))
           (skipped w ws (reading text c ws).tokens (rest c))
       by Faulty e rest =
-          subst (λ r. Q (w ∷ ws) r.tokens) (sym (reading-faulty text c w ws e)) (none (w ∷ ws))
+          subst (λ r. Q (w ∷ ws) r.tokens) (sym (reading_faulty text c w ws e)) (none (w ∷ ws))
 
 -- the tokens are some of the words, in their order
 all_kept : (P : Word → Type 0) (text : List ℕ) (c : Option ℕ) (ws : List Word) → All P ws
@@ -124,20 +124,20 @@ by_limit : (P : List Word → Type 0) (text : List ℕ) → P []
 by_limit P text none some = by (cases_lt text_limit (length text))
   where
     by : (text_limit < length text) ⊎ (length text ≤ text_limit) → P (tokens_of text)
-    by (inl h) = subst P (sym (tokens_of-long text h)) none
-    by (inr h) = subst P (sym (tokens_of-read text (reading text None (words_of text)) h refl)) some
+    by (inl h) = subst P (sym (tokens_of_long text h)) none
+    by (inr h) = subst P (sym (tokens_of_read text (reading text None (words_of text)) h refl)) some
 
 -- each token is a word of the text
 pub tokens_are_words : (text : List ℕ) → All (IsWord text) (tokens_of text)
 tokens_are_words text =
     by_limit (All (IsWord text)) text (All-nil (IsWord text))
-    (all_kept (IsWord text) text None (words_of text) (words_of-AreWords text).each)
+    (all_kept (IsWord text) text None (words_of text) (words_of_AreWords text).each)
 
 -- each token ends before the next begins
 pub tokens_rising : (text : List ℕ) → AllPairs (λ v w. v.end ≤ w.start) (tokens_of text)
 tokens_rising text =
     by_limit (AllPairs Later) text (λ i j d l k. absurd (omega arith))
-    (rising_kept text None (words_of text) (words_of-AreWords text).rising)
+    (rising_kept text None (words_of text) (words_of_AreWords text).rising)
 
 -- the tokens stand in the text
 pub tokens_stand : (text : List ℕ) → AreWithin text (tokens_of text)
@@ -212,7 +212,7 @@ token_tells w h e = by (has_dollar w) refl (is_clean w) e
 tokens_tokens : (text : List ℕ) (c : Option ℕ) (ws : List Word)
     → All (λ w. is_token (bytes_of text w) ≡ true) (reading text c ws).tokens
 tokens_tokens text c [] =
-    subst (λ r. All (λ w. is_token (bytes_of text w) ≡ true) r.tokens) (sym (reading-end text c))
+    subst (λ r. All (λ w. is_token (bytes_of text w) ≡ true) r.tokens) (sym (reading_end text c))
     (All-nil (λ w. is_token (bytes_of text w) ≡ true))
 tokens_tokens text c (w ∷ ws) =
     by (role_of (is_some c) (bytes_of text w)) refl (λ d. tokens_tokens text d ws)
@@ -224,15 +224,15 @@ tokens_tokens text c (w ∷ ws) =
         → ((d : Option ℕ) → All P (reading text d ws).tokens)
         → All P (reading text c (w ∷ ws)).tokens
     by Token e rest =
-        subst (λ r. All P r.tokens) (sym (reading-one text c w ws e))
+        subst (λ r. All P r.tokens) (sym (reading_one text c w ws e))
         (All-cons P w (reading text c ws).tokens (token_role (is_some c) (bytes_of text w) e)
         (rest c))
     by Opening e rest =
-        subst (λ r. All P r.tokens) (sym (reading-opening text c w ws e)) (rest (Some w.start))
+        subst (λ r. All P r.tokens) (sym (reading_opening text c w ws e)) (rest (Some w.start))
     by Closing e rest =
-        subst (λ r. All P r.tokens) (sym (reading-closing text c w ws e)) (rest None)
-    by Comment e rest = subst (λ r. All P r.tokens) (sym (reading-comment text c w ws e)) (rest c)
-    by Faulty e rest = subst (λ r. All P r.tokens) (sym (reading-faulty text c w ws e)) (All-nil P)
+        subst (λ r. All P r.tokens) (sym (reading_closing text c w ws e)) (rest None)
+    by Comment e rest = subst (λ r. All P r.tokens) (sym (reading_comment text c w ws e)) (rest c)
+    by Faulty e rest = subst (λ r. All P r.tokens) (sym (reading_faulty text c w ws e)) (All-nil P)
 
 -- the first byte of each token tells whether it has a `$`
 pub tokens_tell : (text : List ℕ) → AreTokens text (tokens_of text)
@@ -267,7 +267,7 @@ tokens_small text = by (cases_lt text_limit (length text))
   where
     by : (text_limit < length text) ⊎ (length text ≤ text_limit) → length (tokens_of text) < 2 ^ 31
     by (inl h) =
-        let e : length (tokens_of text) ≡ 0 = ap length (tokens_of-long text h) in omega (arith, e)
+        let e : length (tokens_of text) ≡ 0 = ap length (tokens_of_long text h) in omega (arith, e)
     by (inr h) = let n = tokens_few text in omega (arith, h, n)
 
 -- a text without a lexical fault is short
@@ -277,7 +277,7 @@ short_text text e = by (cases_lt text_limit (length text))
     by : (text_limit < length text) ⊎ (length text ≤ text_limit) → length text ≤ text_limit
     by (inl h) =
         absurd (let f : Some (record { at = 0; code = TextTooLong })
-        ≡ None = sym (lexical_fault-long text h) ∙ e in cc)
+        ≡ None = sym (lexical_fault_long text h) ∙ e in cc)
     by (inr h) = h
 
 -- the fault at the end needs the length of a short text alone

@@ -1,5 +1,5 @@
 pub mod Blocks
-pub mod Found
+pub mod NextStatement
 pub mod Numbered
 pub mod Parts
 pub mod Statements

@@ -91,10 +91,10 @@ less_one zero = zero
 less_one (suc d) = d
 
 -- how deep it is after a statement
-abbrev pub depth_behind : Kind → ℕ → ℕ
-depth_behind kind.Open d = suc d
-depth_behind kind.Close d = less_one d
-depth_behind _ d = d
+abbrev pub depth_after : Kind → ℕ → ℕ
+depth_after kind.Open d = suc d
+depth_after kind.Close d = less_one d
+depth_after _ d = d
 
 module _ (text : List ℕ) (ws : List Word) where
   -- the label's token and the keyword's place
@@ -139,7 +139,7 @@ module _ (text : List ℕ) (ws : List Word) where
   abbrev pub turn_of : ℕ → ℕ → Turn → table.Turn
   turn_of d i Stop = table.stop
   turn_of d i (Go part) = table.go (reading d part (i + 1))
-  turn_of d i (Done o) = table.done (depth_behind o.kind d) (statement_of o)
+  turn_of d i (Done o) = table.done (depth_after o.kind d) (statement_of o)
 
 -- where nothing has been read
 abbrev pub AtStart : Part → Type 0 → Type 0

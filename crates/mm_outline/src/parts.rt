@@ -3,7 +3,7 @@
 ghost use Rattle.std.specs.Prelude.{◌≡◌, ◌<◌, ◌≤◌, ◌^◌, ℕ, [], length, slice_range, All, false};
 ghost use Rattle.mm_spec.specs.Text.{fault, has_dollar, is_label as spec_is_label};
 ghost use Rattle.mm_spec.specs.Statement.{shape_code};
-ghost use Rattle.mm_outline.specs.Found.{IsFound, Leads, behind, is_start as spec_is_start};
+ghost use Rattle.mm_outline.specs.NextStatement.{IsNextStatement, Leads, tokens_from, is_start as spec_is_start};
 ghost use Rattle.mm_spec.specs.Laws.Table.{class, turn as spec_turn};
 ghost use Rattle.mm_outline.specs.Parts.{IsPart, Holds, AreWithin, reading, token_at, turn_of};
 ghost use Rattle.mm_outline.specs.Parts.{step_of, single_of, AtStart};
@@ -157,7 +157,7 @@ fn take_turn(text: &[u8], tokens: &[Word], deep: u32, part: Part, at: u32) -> Tu
 /// What stands where a statement should begin: a whole one, a token that is not expected, or the
 /// end, after part of one.
 #[derive(Clone, Copy, Debug, PartialEq, Eq)]
-pub enum Found {
+pub enum NextStatement {
     Whole(Outline),
     Stopped(Fault),
     Ended(Part),
@@ -232,8 +232,8 @@ fn pass_words(text: &[u8], tokens: &[Word], part: Part, at: u32) -> u32
     ensures within { result ≤ length tokens.now }
     ensures part { IsPart part result }
     ensures leads { (d : ℕ)
-        → Leads (reading text.now tokens.now d part at) (behind text.now tokens.now at) []
-        (reading text.now tokens.now d part result) (behind text.now tokens.now result) }
+        → Leads (reading text.now tokens.now d part at) (tokens_from text.now tokens.now at) []
+        (reading text.now tokens.now d part result) (tokens_from text.now tokens.now result) }
 {
     match part {
         Part::Start | Part::Labelled(_) => at,
@@ -242,23 +242,23 @@ fn pass_words(text: &[u8], tokens: &[Word], part: Part, at: u32) -> u32
 }
 
 /// What stands from the token `from` on.
-pub fn find(text: &[u8], tokens: &[Word], deep: u32, from: u32) -> Found
+pub fn next_statement(text: &[u8], tokens: &[Word], deep: u32, from: u32) -> NextStatement
     requires tokens { AreTokens text.now tokens.now }
     requires limit { length tokens.now < 2 ^ 31 }
     requires inside { from ≤ length tokens.now }
-    ensures { IsFound text.now tokens.now deep from result }
+    ensures { IsNextStatement text.now tokens.now deep from result }
 {
     let mut part = Part::Start;
     let mut at = from;
     while at < tokens.len() as u32 {
         match take_turn(text, tokens, deep, part, at) {
-            Turn::Stop => return Found::Stopped(unexpected(text, tokens, part, at)),
+            Turn::Stop => return NextStatement::Stopped(unexpected(text, tokens, part, at)),
             Turn::Go(next) => {
                 part = next;
                 at = pass_words(text, tokens, next, at + 1);
             }
-            Turn::Done(outline) => return Found::Whole(outline),
+            Turn::Done(outline) => return NextStatement::Whole(outline),
         }
     }
-    Found::Ended(part)
+    NextStatement::Ended(part)
 }

@@ -20,8 +20,8 @@ use Rattle.mm_proof.specs.Read.{read}
 use Rattle.mm_proof.specs.Letters.{InOrder, closed}
 
 -- a compressed proof with further labels before it
-abbrev pub behind : List Token → Compressed → Compressed
-behind ts p = record { labels = ts ++ p.labels; letters = p.letters }
+abbrev pub after : List Token → Compressed → Compressed
+after ts p = record { labels = ts ++ p.labels; letters = p.letters }
 
 module _ (db : List Statement) (k end : ℕ) where
   -- after labels without faults stands a word that is no label that is usable
@@ -29,7 +29,7 @@ module _ (db : List Statement) (k end : ℕ) where
       → flat_map (proof_label_faults db k) done ≡ [] → bytes_eq t.word (codes ")") ≡ false
       → usable db k t.word ≡ []
       → (more : List Fault)
-      × (compressed_faults db k end (behind done (bracketed (t ∷ ts)))
+      × (compressed_faults db k end (after done (bracketed (t ∷ ts)))
       ≡ fault t.at UnusableLabel ∷ more)
   label_first done t ts sound e none = (
     flat_map F ls ++ rest,
@@ -48,7 +48,7 @@ module _ (db : List Statement) (k end : ℕ) where
       F t = proof_label_faults db k t
 
       faults : Compressed → List Fault
-      faults p = compressed_faults db k end (behind done p)
+      faults p = compressed_faults db k end (after done p)
 
       ls : List Token
       ls = (bracketed ts).labels
@@ -63,7 +63,7 @@ module _ (db : List Statement) (k end : ℕ) where
 
   -- there is no `)`
   pub brackets_first : (done : List Token) → flat_map (proof_label_faults db k) done ≡ []
-      → compressed_faults db k end (behind done (bracketed [])) ≡ fault end OpenBrackets ∷ []
+      → compressed_faults db k end (after done (bracketed [])) ≡ fault end OpenBrackets ∷ []
   brackets_first done sound =
       ap (λ ls. flat_map (proof_label_faults db k) ls ++ (fault end OpenBrackets ∷ []))
       (append-nil done)

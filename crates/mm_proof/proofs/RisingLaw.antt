@@ -15,7 +15,7 @@ use Rattle.mm_spec.specs.Lexed as lexed
 use Rattle.mm_spec.specs.Statement.{Statement, provable, spelled}
 use Rattle.mm_spec.specs.Opened.{counted}
 use Rattle.mm_spec.specs.Output.{IsRead, lexed_of}
-use Rattle.mm_spec.proofs.OpenedLemmas.{theorem_read}
+use Rattle.mm_spec.proofs.OpenedLaw.{theorem_read}
 use Rattle.mm_outline.proofs.TokensLaw.{tokens_rising, tokens_are_words}
 use Rattle.mm_proof.specs.Letters.{InOrder}
 use Rattle.mm_proof.proofs.LeastLaw.{Earlier, pairs_head, pairs_tail, pairs_back}
@@ -25,15 +25,15 @@ abbrev Follows : Token → Token → Type 0
 Follows t u = (1 ≤ length t.word) × (t.at + length t.word ≤ u.at)
 
 -- each word of rising words begins after the ones before it
-begins_behind : (text : List ℕ) (ws : List Word) → All (IsWord text) ws
+begins_after : (text : List ℕ) (ws : List Word) → All (IsWord text) ws
     → AllPairs (λ (v w : Word). v.end ≤ w.start) ws
     → AllPairs Follows (map (λ w. token w.start (bytes_of text w)) ws)
-begins_behind text [] a p = λ i j d l h. absurd (omega arith)
-begins_behind text (w ∷ ws) a p =
+begins_after text [] a p = λ i j d l h. absurd (omega arith)
+begins_after text (w ∷ ws) a p =
     AllPairs-cons Follows (token w.start (bytes_of text w))
     (map (λ w. token w.start (bytes_of text w)) ws)
-    (behind ws (pairs_head (λ (v w : Word). v.end ≤ w.start) w ws p))
-    (begins_behind text ws (All-tail (IsWord text) w ws a)
+    (after ws (pairs_head (λ (v w : Word). v.end ≤ w.start) w ws p))
+    (begins_after text ws (All-tail (IsWord text) w ws a)
     (pairs_tail (λ (v w : Word). v.end ≤ w.start) w ws p))
   where
     is : IsWord text w
@@ -44,17 +44,17 @@ begins_behind text (w ∷ ws) a p =
         length-take-le (w.end - w.start) (drop w.start text)
         (let l = is.within in omega (arith, l, length-drop w.start text))
 
-    behind : (vs : List Word) → All (λ (v : Word). w.end ≤ v.start) vs
+    after : (vs : List Word) → All (λ (v : Word). w.end ≤ v.start) vs
         → All (Follows (token w.start (bytes_of text w)))
         (map (λ w. token w.start (bytes_of text w)) vs)
-    behind [] h = All-nil (Follows (token w.start (bytes_of text w)))
-    behind (v ∷ vs) h =
+    after [] h = All-nil (Follows (token w.start (bytes_of text w)))
+    after (v ∷ vs) h =
         let e = All-head (λ (v : Word). w.end ≤ v.start) v vs h in
         let long = is.nonempty in
         All-cons (Follows (token w.start (bytes_of text w))) (token v.start (bytes_of text v))
         (map (λ w. token w.start (bytes_of text w)) vs)
         (omega (arith, many, long), omega (arith, many, e, long))
-        (behind vs (All-tail (λ (v : Word). w.end ≤ v.start) v vs h))
+        (after vs (All-tail (λ (v : Word). w.end ≤ v.start) v vs h))
 
 pairs_front : {X : Type 0} (R : X → X → Type 0) (xs ys : List X) → AllPairs R (xs ++ ys)
     → AllPairs R xs
@@ -66,13 +66,13 @@ pairs_front R xs ys p = λ i j d l h.
 -- a list that stands within another
 pub record StandsIn (xs ys : List Token) : Type 0 where
   pub before : List Token
-  pub behind : List Token
-  pub is : ys ≡ before ++ (xs ++ behind)
+  pub after : List Token
+  pub is : ys ≡ before ++ (xs ++ after)
 
 pairs_in : (xs ys : List Token) → StandsIn xs ys → AllPairs Follows ys → AllPairs Follows xs
 pairs_in xs ys s p =
-    pairs_front Follows xs s.behind
-    (pairs_back Follows s.before (xs ++ s.behind) (subst (AllPairs Follows) s.is p))
+    pairs_front Follows xs s.after
+    (pairs_back Follows s.before (xs ++ s.after) (subst (AllPairs Follows) s.is p))
 
 spelled_in : (db : List Statement) (k : ℕ) (s : Statement) → slice_get db k ≡ Some s
     → StandsIn (spelled s) (flat_map spelled db)
@@ -82,16 +82,16 @@ spelled_in (x ∷ db) zero s e =
     let same : x ≡ s = cc in
     record {
       before = [];
-      behind = flat_map spelled db;
+      after = flat_map spelled db;
       is = ap (λ z. spelled z ++ flat_map spelled db) same;
     }
 spelled_in (x ∷ db) (suc k) s e =
     let r = spelled_in db k s e in
     record {
       before = spelled x ++ r.before;
-      behind = r.behind;
+      after = r.after;
       is = ap (λ z. spelled x ++ z) r.is
-          ∙ sym (append_assoc (spelled x) r.before (spelled s ++ r.behind));
+          ∙ sym (append_assoc (spelled x) r.before (spelled s ++ r.after));
     }
 
 get_front : (db rest : List Statement) (k : ℕ) (s : Statement) → slice_get db k ≡ Some s
@@ -113,20 +113,20 @@ proof_follows text db fault r k l p xs e ps d is =
     spelled_in r.row k s
     (subst (λ z. slice_get z k ≡ Some s) (sym r.splits) (get_front db r.rest k s is)) in
     let ts = map (λ w. token w.start (bytes_of text w)) (lexed.tokens_of text) in
-    let whole : ts ≡ a.before ++ (spelled s ++ (a.behind ++ r.is_row.rest)) =
+    let whole : ts ≡ a.before ++ (spelled s ++ (a.after ++ r.is_row.rest)) =
     r.is_row.splits ∙ ap (λ z. z ++ r.is_row.rest) a.is
-    ∙ append_assoc a.before (spelled s ++ a.behind) r.is_row.rest
-    ∙ ap (λ z. a.before ++ z) (append_assoc (spelled s) a.behind r.is_row.rest) in
+    ∙ append_assoc a.before (spelled s ++ a.after) r.is_row.rest
+    ∙ ap (λ z. a.before ++ z) (append_assoc (spelled s) a.after r.is_row.rest) in
     let all : AllPairs Follows ts =
-    begins_behind text (lexed.tokens_of text) (tokens_are_words text) (tokens_rising text) in
+    begins_after text (lexed.tokens_of text) (tokens_are_words text) (tokens_rising text) in
     pairs_in (ps ++ token d (codes "$.") ∷ []) (spelled s) inner
     (pairs_in (spelled s) ts
-    (record { before = a.before; behind = a.behind ++ r.is_row.rest; is = whole }) all)
+    (record { before = a.before; after = a.after ++ r.is_row.rest; is = whole }) all)
   where
     inner : StandsIn (ps ++ token d (codes "$.") ∷ []) (spelled (provable l p xs e ps d))
     inner = record {
       before = l ∷ token p (codes "$p") ∷ (xs ++ token e (codes "$=") ∷ []);
-      behind = [];
+      after = [];
       is =
           ap (λ z. l ∷ token p (codes "$p") ∷ z)
           (ap (λ z. xs ++ token e (codes "$=") ∷ z)
@@ -160,12 +160,12 @@ in_order : (from : ℕ) (ts : List Token) (d : Token) → AllPairs Follows (ts +
     → All (λ t. from ≤ t.at) (ts ++ d ∷ []) → InOrder from ts d.at
 in_order from [] d p a = All-head (λ (t : Token). from ≤ t.at) d [] a
 in_order from (t ∷ ts) d p a =
-    let behind = pairs_head Follows t (ts ++ d ∷ []) p in (
+    let after = pairs_head Follows t (ts ++ d ∷ []) p in (
       All-head (λ (t : Token). from ≤ t.at) t (ts ++ d ∷ []) a,
-      (long ts behind).0,
+      (long ts after).0,
       in_order
           (t.at + length t.word) ts d (pairs_tail Follows t (ts ++ d ∷ []) p)
-          (λ i x here. (behind i x here).1),
+          (λ i x here. (after i x here).1),
     )
   where
     long : (ts : List Token) → All (Follows t) (ts ++ d ∷ [])

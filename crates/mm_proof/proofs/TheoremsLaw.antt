@@ -4,7 +4,7 @@ use Rattle.std.specs.List.{range_with_len}
 use Rattle.std.proofs.lemmas.List.Elements.{All-from_recursion}
 use Rattle.mm_spec.specs.Statement.{Statement}
 use Rattle.mm_spec.specs.Output.{is_theorem_at, theorems}
-use Rattle.mm_spec.proofs.Finds.{each_filter, each_any}
+use Rattle.mm_spec.proofs.FindsLaw.{each_filter, each_any}
 
 pub theorems_are : (db : List Statement) → All (λ t. IsTrue (is_theorem_at db t)) (theorems db)
 theorems_are db =

@@ -6,8 +6,8 @@ use Rattle.mm_spec.specs.Text.{Bytes}
 use Rattle.mm_spec.specs.Statement.{Statement}
 use Rattle.mm_spec.specs.Scope.{is_active, statement_at}
 use Rattle.mm_spec.specs.NormalProof.{is_labelled, usable}
-use Rattle.mm_spec.proofs.Finds.{is_before, lone}
-use Rattle.mm_frame.proofs.Rising.{filter_is}
+use Rattle.mm_spec.proofs.FindsLaw.{is_before, lone}
+use Rattle.mm_frame.proofs.RisingLaw.{filter_is}
 
 and_no : (b : Bool) → (b && false) ≡ false
 and_no true = refl

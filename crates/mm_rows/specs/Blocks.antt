@@ -20,13 +20,15 @@ AreRowBytes rows across bits w at bytes =
     → (bit_at (slice_index bytes k) b == 1) ≡ in_row rows across bits (64 * w + k) (8 * at + b)
 
 -- columns that are being written: the blocks below w are, and block w in the columns below from
-pub record Written (rows columns : ℕ) (bits turned : List ℕ) (w from : ℕ) : Type 0 where
-  pub size : length turned ≡ columns * words_for rows
+pub record Written (rows columns : ℕ) (bits transposed : List ℕ) (w from : ℕ) : Type 0 where
+  pub size : length transposed ≡ columns * words_for rows
   pub before : (j v : ℕ) → j < columns → v < w → v < words_for rows
-      → IsColumnWord rows (words_for columns) bits v j (slice_index turned (j * words_for rows + v))
+      → IsColumnWord rows (words_for columns) bits v j
+      (slice_index transposed (j * words_for rows + v))
   pub done : (j : ℕ) → j < columns → j < from
-      → IsColumnWord rows (words_for columns) bits w j (slice_index turned (j * words_for rows + w))
+      → IsColumnWord rows (words_for columns) bits w j
+      (slice_index transposed (j * words_for rows + w))
   pub left : (j : ℕ) → j < columns → from ≤ j → w < words_for rows
-      → slice_index turned (j * words_for rows + w) ≡ 0
+      → slice_index transposed (j * words_for rows + w) ≡ 0
   pub after : (j v : ℕ) → j < columns → w < v → v < words_for rows
-      → slice_index turned (j * words_for rows + v) ≡ 0
+      → slice_index transposed (j * words_for rows + v) ≡ 0

@@ -18,7 +18,7 @@ use Rattle.mm_spec.specs.declared.Choice.{Choice}
 use Rattle.mm_spec.specs.declared.Choice.TheVariants.{Citations}
 use Rattle.mm_spec.specs.Output.{AreCited, IsCitingRowOf, theorems, columns, has_typecode, label_at}
 use Rattle.mm_spec.specs.Output.{IsReportOf}
-use Rattle.mm_spec.proofs.Finds.{member-filter, filter-member}
+use Rattle.mm_spec.proofs.FindsLaw.{member_filter, filter_member}
 use Rattle.mm_work.specs.Citing.{Citing, theorem_at, list_at}
 use Rattle.mm_work.specs.Judged.{AllCited}
 use Rattle.mm_report.specs.Rows.{listed, citing_row, citing_rows, citation_report_of}
@@ -34,8 +34,8 @@ at_member (y ∷ xs) (suc i) d h =
 module _ (db : List Statement) (request : Request) (c : Citing)
     (cited : AllCited db request.essential c) where
   -- the lists are those of the database
-  pub citations-of : AreCitationsOf db c
-  citations-of = record {
+  pub citations_of : AreCitationsOf db c
+  citations_of = record {
     theorems_are = cited.theorems_are;
     assertions =
         λ i l k d m.
@@ -48,8 +48,8 @@ module _ (db : List Statement) (request : Request) (c : Citing)
   are-cited i l = record {
     rising = IsStrictlyIncreasing-filter is_chosen (list_at c i) (cited.rising i l);
     cited = λ a. (
-      λ e. let p = member-filter is_chosen (list_at c i) a e in ((cited.exact i l a).0 p.1, p.0),
-      λ h. filter-member is_chosen (list_at c i) a h.1 ((cited.exact i l a).1 h.0),
+      λ e. let p = member_filter is_chosen (list_at c i) a e in ((cited.exact i l a).0 p.1, p.0),
+      λ h. filter_member is_chosen (list_at c i) a h.1 ((cited.exact i l a).1 h.0),
     );
   }
     where
@@ -86,11 +86,11 @@ module _ (db : List Statement) (request : Request) (c : Citing)
       mapped (t ∷ ts) (suc i) l = mapped ts i (omega arith)
 
   -- what is written of a database without a fault
-  pub is-citation-report : (opened : Option ℕ) (axioms : List ℕ) → axioms ≡ columns db request.only
+  pub is_citation_report : (opened : Option ℕ) (axioms : List ℕ) → axioms ≡ columns db request.only
       → request.choice ≡ Citations
       → IsReportOf request.choice db opened request
       (citation_report_of db opened request.form request.only axioms c)
-  is-citation-report opened axioms is choice =
+  is_citation_report opened axioms is choice =
       subst (λ (o : Choice). IsReportOf o db opened request
       (citation_report_of db opened request.form request.only axioms c)) (sym choice) (
         citing_rows db request.only c (map (label_at db) (theorems db)),

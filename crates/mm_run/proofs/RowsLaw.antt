@@ -11,7 +11,7 @@ use Rattle.mm_spec.specs.Request.{Request}
 use Rattle.mm_spec.specs.declared.Choice.{Choice}
 use Rattle.mm_spec.specs.declared.Choice.TheVariants.{All, Matrix, Counts, Usage, Citations}
 use Rattle.mm_spec.specs.Output.{IsRowOf, theorems, columns, label_at, IsReportOf}
-use Rattle.mm_spec.proofs.Chains.{chains_alike}
+use Rattle.mm_spec.proofs.ChainsLaw.{chains_alike}
 use Rattle.mm_work.specs.Citing.{Citing, Cites, theorem_at}
 use Rattle.mm_rows.specs.Marks.{Marks, mark, IsMatrix}
 use Rattle.mm_report.specs.Rows.{row_of, rows_of, marks_of, report_of}
@@ -56,9 +56,9 @@ module _ (db : List Statement) (request : Request) (c : Citing) (m : Marks)
       (proof.RestsOn db request.essential t (get_or (columns db request.only) j 0)))
       (ap (λ ts. get_or ts i 0) same) d))
 
-  pub rows-are : AllZip (IsRowOf db request) (theorems db)
+  pub rows_are : AllZip (IsRowOf db request) (theorems db)
       (rows_of m (map (label_at db) (theorems db)))
-  rows-are =
+  rows_are =
       let names = map (label_at db) (theorems db) in
       let f = λ (i : ℕ). row_of m (get_or names i []) i in
       let r = h.rows in
@@ -90,17 +90,17 @@ reports db opened request Usage rows other h = (rows, h, refl)
 reports db opened request Citations rows other h = absurd (other refl)
 
 -- what is written of a database without a fault
-pub is-report : (request : Request) (db : List Statement) (opened : Option ℕ) (c : Citing)
+pub is_report : (request : Request) (db : List Statement) (opened : Option ℕ) (c : Citing)
     → (axioms : List ℕ) (m : Marks)
     → AllCited db request.essential c → axioms ≡ columns db request.only → IsMatrix c axioms m
     → (request.choice ≡ Citations → ⊥)
     → IsReportOf request.choice db opened request
     (report_of db opened request.form axioms m request.choice)
-is-report request db opened c axioms m cited is h other =
+is_report request db opened c axioms m cited is h other =
     let h' = subst (λ (l : List ℕ). IsMatrix c l m) is h in
     let rows = rows_of m (map (label_at db) (theorems db)) in
     let here =
     reports db opened request request.choice rows other
-    (rows-are db request c m cited.theorems_are cited.shows h') in
+    (rows_are db request c m cited.theorems_are cited.shows h') in
     subst (λ (l : List ℕ). IsReportOf request.choice db opened request
     (report request.form opened (map (label_at db) l) rows request.choice)) (sym is) here

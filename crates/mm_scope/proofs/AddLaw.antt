@@ -17,22 +17,22 @@ use Rattle.mm_spec.specs.declared.Code.TheVariants.{ConstantInBlock, EmptyDeclar
 use Rattle.std.specs.Prelude.{nat_lt}
 use Rattle.mm_outline.specs.Blocks.{Lists, IsBlocks, never, pushed}
 use Rattle.mm_scope.specs.Judge.{Entry, entry_of, declared_entry, typed_entry}
-use Rattle.mm_scope.specs.Known.{IsKnown, is_other, is_constant_entry, is_variable_entry}
-use Rattle.mm_scope.specs.Known.{entry_after, label_after}
+use Rattle.mm_scope.specs.WordEntry.{IsEntryOf, is_other, is_constant_entry, is_variable_entry}
+use Rattle.mm_scope.specs.WordEntry.{entry_after, label_after}
 use Rattle.mm_outline.specs.Parts.{made}
 use Rattle.mm_scope.specs.Keeps.{Keeps}
 use Rattle.mm_scope.specs.declared.names.Symbol.{Symbol}
 use Rattle.mm_outline.specs.declared.parts.Kind.{Kind}
 use Rattle.mm_outline.specs.declared.parts.Kind.TheVariants as kind
 use Rattle.mm_outline.proofs.BlocksLaw.{blocks_plain, blocks_opening, blocks_closing}
-use Rattle.mm_scope.proofs.JudgeLaw.{bytes_eq-sym}
-use Rattle.mm_outline.proofs.Faultless.{none_least, append_none, constant_new, variable_new}
-use Rattle.mm_outline.proofs.Faultless.{floating_new}
+use Rattle.mm_scope.proofs.JudgeLaw.{bytes_eq_sym}
+use Rattle.mm_outline.proofs.FaultlessLaw.{none_least, append_none, constant_new, variable_new}
+use Rattle.mm_outline.proofs.FaultlessLaw.{floating_new}
 use Rattle.mm_scope.proofs.KnowsLaw.{none_active}
-use Rattle.mm_outline.proofs.Among.{typed_in}
+use Rattle.mm_outline.proofs.AmongLaw.{typed_in}
 use Rattle.mm_scope.proofs.LabelsLaw.{labels_after, label_unused}
-use Rattle.mm_scope.proofs.KnownLaw.{known_same, known_constant, known_variable, known_typed}
-use Rattle.mm_scope.proofs.KnownLaw.{in_more}
+use Rattle.mm_scope.proofs.WordEntryLaw.{known_same, known_constant, known_variable, known_typed}
+use Rattle.mm_scope.proofs.WordEntryLaw.{in_more}
 
 module _ (db : List Statement) (few : length db < never) (w : Bytes) where
   abbrev n : Names
@@ -42,44 +42,44 @@ module _ (db : List Statement) (few : length db < never) (w : Bytes) where
   all = take_all (length db) db (le_refl (length db))
 
   -- with no entry, or that of a variable
-  no_constant : (x : Option Entry) → IsKnown db w x → is_in w n.constants ≡ false
+  no_constant : (x : Option Entry) → IsEntryOf db w x → is_in w n.constants ≡ false
       → is_constant_entry x ≡ false
   no_constant x k e = sym k.constant ∙ sym (ap (λ xs. is_in w (flat_map constants_of xs)) all) ∙ e
 
-  no_variable : (x : Option Entry) → IsKnown db w x → is_in w n.all_variables ≡ false
+  no_variable : (x : Option Entry) → IsEntryOf db w x → is_in w n.all_variables ≡ false
       → is_variable_entry x ≡ false
   no_variable x k e = sym k.variable ∙ sym (ap (λ xs. is_in w (flat_map variables_of xs)) all) ∙ e
 
   in_nil : (xs : List Bytes) (b : Bool) → is_in w xs ≡ b → is_in w (xs ++ []) ≡ b
   in_nil xs b e = ap (is_in w) (append-nil xs) ∙ e
 
-  constant_after : (k : ℕ) (xs : List Token) (e : ℕ) (x : Option Entry) → IsKnown db w x
+  constant_after : (k : ℕ) (xs : List Token) (e : ℕ) (x : Option Entry) → IsEntryOf db w x
       → at_each (constant_codes n) [] xs ≡ []
-      → IsKnown (db ++ constants k xs e ∷ []) w (entry_after (length db) (constants k xs e) w x)
+      → IsEntryOf (db ++ constants k xs e ∷ []) w (entry_after (length db) (constants k xs e) w x)
   constant_after k xs e x kn law = by (is_in w (words xs)) refl
     where
-      fresh : (x : Option Entry) → IsKnown db w x → is_constant_entry x ≡ false
+      fresh : (x : Option Entry) → IsEntryOf db w x → is_constant_entry x ≡ false
           → is_variable_entry x ≡ false → is_in w (words xs) ≡ true
-          → IsKnown (db ++ constants k xs e ∷ []) w (declared_entry false (length db) w x)
+          → IsEntryOf (db ++ constants k xs e ∷ []) w (declared_entry false (length db) w x)
       fresh None kn c v h =
           known_constant db (constants k xs e) w kn (in_nil (words xs) true h) refl refl (length db)
       fresh (Some o) kn c v h = absurd (true≢false (sym (ap not v) ∙ c))
 
       by : (b : Bool) → is_in w (words xs) ≡ b
-          → IsKnown (db ++ constants k xs e ∷ []) w
+          → IsEntryOf (db ++ constants k xs e ∷ []) w
           (if b then declared_entry false (length db) w x else x)
       by false h = known_same db (constants k xs e) w x kn (in_nil (words xs) false h) refl refl
       by true h =
           let new = constant_new n xs law w h in
           fresh x kn (no_constant x kn new.0) (no_variable x kn new.1) h
 
-  variable_after : (k : ℕ) (xs : List Token) (e : ℕ) (x : Option Entry) → IsKnown db w x
+  variable_after : (k : ℕ) (xs : List Token) (e : ℕ) (x : Option Entry) → IsEntryOf db w x
       → at_each (variable_codes n) [] xs ≡ []
-      → IsKnown (db ++ variables k xs e ∷ []) w (entry_after (length db) (variables k xs e) w x)
+      → IsEntryOf (db ++ variables k xs e ∷ []) w (entry_after (length db) (variables k xs e) w x)
   variable_after k xs e x kn law = by (is_in w (words xs)) refl
     where
       by : (b : Bool) → is_in w (words xs) ≡ b
-          → IsKnown (db ++ variables k xs e ∷ []) w
+          → IsEntryOf (db ++ variables k xs e ∷ []) w
           (if b then declared_entry true (length db) w x else x)
       by false h = known_same db (variables k xs e) w x kn refl (in_nil (words xs) false h) refl
       by true h =
@@ -87,14 +87,14 @@ module _ (db : List Statement) (few : length db < never) (w : Bytes) where
           known_variable db (variables k xs e) w x kn (no_constant x kn new.0) new.1 refl
           (in_nil (words xs) true h) refl
 
-  floating_after : (l : Token) (k : ℕ) (c v : Token) (e : ℕ) (x : Option Entry) → IsKnown db w x
+  floating_after : (l : Token) (k : ℕ) (c v : Token) (e : ℕ) (x : Option Entry) → IsEntryOf db w x
       → floating_faults n k (c ∷ v ∷ []) ≡ []
-      → IsKnown (db ++ floating l k (c ∷ v ∷ []) e ∷ []) w
+      → IsEntryOf (db ++ floating l k (c ∷ v ∷ []) e ∷ []) w
       (entry_after (length db) (floating l k (c ∷ v ∷ []) e) w x)
   floating_after l k c v e x kn law = by (bytes_eq v.word w) refl
     where
-      typed : (x : Option Entry) → IsKnown db w x → v.word ≡ w
-          → IsKnown (db ++ floating l k (c ∷ v ∷ []) e ∷ []) w (typed_entry (length db) c.word x)
+      typed : (x : Option Entry) → IsEntryOf db w x → v.word ≡ w
+          → IsEntryOf (db ++ floating l k (c ∷ v ∷ []) e ∷ []) w (typed_entry (length db) c.word x)
       typed None kn same =
           let new = floating_new n k c v law in
           absurd (true≢false
@@ -110,16 +110,16 @@ module _ (db : List Statement) (few : length db < never) (w : Bytes) where
           refl refl (ap (λ u. record { typecode = c.word; variable = u } ∷ []) same)
 
       by : (b : Bool) → bytes_eq v.word w ≡ b
-          → IsKnown (db ++ floating l k (c ∷ v ∷ []) e ∷ []) w
+          → IsEntryOf (db ++ floating l k (c ∷ v ∷ []) e ∷ []) w
           (if b then typed_entry (length db) c.word x else x)
       by false h =
           known_same db (floating l k (c ∷ v ∷ []) e) w x kn refl refl
-          (ap (λ b. b || false) (bytes_eq-sym w v.word ∙ h))
+          (ap (λ b. b || false) (bytes_eq_sym w v.word ∙ h))
       by true h = typed x kn ((bytes_eq-Decides v.word w).0 h)
 
   -- what is known of the word after a lawful statement
-  pub known_after : (s : Statement) (d : ℕ) (x : Option Entry) → IsKnown db w x
-      → scope_faults n d s ≡ [] → IsKnown (db ++ s ∷ []) w (entry_after (length db) s w x)
+  pub known_after : (s : Statement) (d : ℕ) (x : Option Entry) → IsEntryOf db w x
+      → scope_faults n d s ≡ [] → IsEntryOf (db ++ s ∷ []) w (entry_after (length db) s w x)
   known_after (constants k xs e) d x kn law =
       constant_after k xs e x kn
       (append_none
@@ -176,7 +176,7 @@ module _ (db : List Statement) (few : length db < never) (w : Bytes) where
       by None = or_false (is_some o)
       by (Some l) =
           one l (bytes_eq w l.word) refl
-          ∙ ap (λ b. is_some (if b then Some m else o)) (bytes_eq-sym w l.word)
+          ∙ ap (λ b. is_some (if b then Some m else o)) (bytes_eq_sym w l.word)
 
 module _ (text : List ℕ) (ws : List place.Word) (db : List Statement) (b : Lists)
     (x : IsBlocks db b) (few : length db < never) where
@@ -227,7 +227,7 @@ keeps_after text ws db look labels b x few k p m e law deep c same number is new
           subst (IsBlocks (db ++ made text ws k p m e ∷ [])) (sym same)
           (blocks_after text ws db b x.blocks few k p m e deep);
       symbols =
-          λ w. subst (IsKnown (db ++ made text ws k p m e ∷ []) w)
+          λ w. subst (IsEntryOf (db ++ made text ws k p m e ∷ []) w)
           (sym (after w ∙ ap (λ i. entry_after i (made text ws k p m e) w (entry_of (look w))) n))
           (known_after db few w (made text ws k p m e) (depth db (length db)) (entry_of (look w))
           (x.symbols w)

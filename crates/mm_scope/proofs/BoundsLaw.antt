@@ -12,9 +12,9 @@ use Rattle.mm_spec.specs.Statement.{axiomatic, provable, opening, closing, symbo
 use Rattle.mm_spec.specs.Scope.{constants_of, variables_of}
 use Rattle.mm_spec.specs.Lawful.{IsLawful}
 use Rattle.mm_spec.specs.Frame.{symbol_names, place_of, first_occurrences, formula_at, formula_of}
-use Rattle.mm_spec.proofs.Finds.{formula_at-is}
-use Rattle.mm_spec.proofs.SymbolLaw.{declared-here}
-use Rattle.mm_scope.proofs.SymbolsLaw.{itself, in-first, place-in}
+use Rattle.mm_spec.proofs.FindsLaw.{formula_at_is}
+use Rattle.mm_spec.proofs.SymbolLaw.{declared_here}
+use Rattle.mm_scope.proofs.SymbolsLaw.{itself, in_first, place_in}
 use Rattle.mm_outline.proofs.StatementsLaw.{get_mapped}
 
 -- ---- symbols are declared
@@ -31,29 +31,29 @@ in-get (w ∷ ws) (suc i) d h =
     or-true false = refl
 
 -- each symbol of a lawful statement has a name
-pub symbol-known : (db : List Statement) → ((k : ℕ) → k < length db → IsLawful db k) → (k : ℕ)
+pub symbol_known : (db : List Statement) → ((k : ℕ) → k < length db → IsLawful db k) → (k : ℕ)
     → k < length db → (s : Statement) → slice_get db k ≡ Some s → (w : Bytes)
     → is_in w (words (symbols_of s)) ≡ true → is_in w (symbol_names db) ≡ true
-symbol-known db law k l s e w h =
-    in-first (flat_map (λ s. constants_of s ++ variables_of s) db) [] w refl
-    ∙ declared-here db k s e (law k l) w h
+symbol_known db law k l s e w h =
+    in_first (flat_map (λ s. constants_of s ++ variables_of s) db) [] w refl
+    ∙ declared_here db k s e (law k l) w h
 
-pub symbols-known : (db : List Statement) → ((k : ℕ) → k < length db → IsLawful db k) → (k : ℕ)
+pub symbols_known : (db : List Statement) → ((k : ℕ) → k < length db → IsLawful db k) → (k : ℕ)
     → k < length db → (s : Statement) → slice_get db k ≡ Some s
     → All (λ x. x < length (symbol_names db)) (formula_at db k)
-symbols-known db law k l s e =
+symbols_known db law k l s e =
     subst (λ (xs : List ℕ). All (λ x. x < length (symbol_names db)) xs)
-    (sym (formula_at-is db k s e))
+    (sym (formula_at_is db k s e))
     (λ i d h.
     let ws = words (symbols_of s) in
     let inside : i < length ws =
     omega (arith, h, length-map ws (λ w. place_of w (symbol_names db))) in
     let w = get_or ws i [] in
     let known : is_in w (symbol_names db) ≡ true =
-    symbol-known db law k l s e w (in-get ws i [] inside) in
+    symbol_known db law k l s e w (in-get ws i [] inside) in
     let place =
     slice_get_within (symbol_names db) (place_of w (symbol_names db)) w
-    (place-in (symbol_names db) w known) in
+    (place_in (symbol_names db) w known) in
     subst (λ x. x < length (symbol_names db))
     (sym (get_mapped (λ w. place_of w (symbol_names db)) ws i [] d inside)) place)
 
@@ -77,10 +77,10 @@ symbols-spelled (essential l k xs d) =
 symbols-spelled (axiomatic l k xs d) =
     labelled-within l (token k (codes "$a")) (token d (codes "$.")) xs
 symbols-spelled (provable l k xs e ps d) =
-    behind l (token k (codes "$p")) (token e (codes "$=")) xs (ps ++ token d (codes "$.") ∷ [])
+    after l (token k (codes "$p")) (token e (codes "$=")) xs (ps ++ token d (codes "$.") ∷ [])
   where
-    behind : (l t u : Token) (xs ys : List Token) → length xs ≤ length (l ∷ t ∷ (xs ++ u ∷ ys))
-    behind l t u xs ys = omega (arith, length-append xs (u ∷ ys))
+    after : (l t u : Token) (xs ys : List Token) → length xs ≤ length (l ∷ t ∷ (xs ++ u ∷ ys))
+    after l t u xs ys = omega (arith, length-append xs (u ∷ ys))
 symbols-spelled (opening k) = omega arith
 symbols-spelled (closing k) = omega arith
 
@@ -138,16 +138,16 @@ module _ (ts rest : List Token) (row : List Statement) (splits : ts ≡ flat_map
       omega (arith, a, b, c, d)
 
   -- the symbols are no more than the tokens
-  pub few-symbols : length (symbol_names db) ≤ length ts
-  few-symbols =
+  pub few_symbols : length (symbol_names db) ≤ length ts
+  few_symbols =
       let a = first-shorter [] (flat_map (λ s. constants_of s ++ variables_of s) db) in
       let b = shorter (λ s. constants_of s ++ variables_of s) spelled declared-spelled db in
       let c = spelled-few in
       omega (arith, a, b, c)
 
   -- the symbols of the statements are no more than the tokens
-  pub few-numbers : (all : List Statement) → length (flat_map (formula_of all) db) ≤ length ts
-  few-numbers all =
+  pub few_numbers : (all : List Statement) → length (flat_map (formula_of all) db) ≤ length ts
+  few_numbers all =
       let a =
       shorter (formula_of all) spelled
       (λ s. subst (λ n. n ≤ length (spelled s))

@@ -16,7 +16,7 @@ use Rattle.mm_spec.specs.Lawful.{is_typed, is_typed_otherwise, formula_faults, f
 use Rattle.mm_spec.specs.Lawful.{constant_codes, variable_codes, is_empty}
 use Rattle.mm_spec.specs.declared.Word as place
 use Rattle.mm_scope.specs.declared.names.Symbol.{Symbol}
-use Rattle.mm_outline.proofs.Faultless.{pick, lesser_is}
+use Rattle.mm_outline.proofs.FaultlessLaw.{pick, lesser_is}
 use Rattle.mm_outline.specs.Parts.{between, token_at, token_of, nth_word}
 use Rattle.mm_scope.specs.Judge.{merge, fault_at, is_active, is_typed_here, is_constant}
 use Rattle.mm_scope.specs.Judge.{is_variable_symbol, symbol_code, code_of_variable, first_code}
@@ -24,7 +24,7 @@ use Rattle.mm_scope.specs.Judge.{declared_code, declared_codes, typecode_code, f
 use Rattle.mm_scope.specs.Judge.{typing_code, typing_fault, list_fault, before_next, Knows}
 use Rattle.mm_outline.specs.declared.parts.Kind.{Kind}
 use Rattle.mm_outline.specs.declared.parts.Kind.TheVariants.{Constants, Variables}
-use Rattle.mm_outline.proofs.Turns.{between-more, between-none}
+use Rattle.mm_outline.proofs.TurnsLaw.{between_more, between_none}
 use Rattle.mm_spec.specs.declared.Code.{Code}
 use Rattle.mm_spec.specs.Codes.{code_number}
 use Rattle.mm_spec.specs.declared.Code.TheVariants.{ConstantInBlock, EmptyDeclaration}
@@ -61,24 +61,24 @@ merge-none : (a : Option Fault) → merge a None ≡ a
 merge-none None = refl
 merge-none (Some f) = refl
 
-pub merge-assoc : (a b c : Option Fault) → merge (merge a b) c ≡ merge a (merge b c)
-merge-assoc None b c = refl
-merge-assoc (Some f) None c = refl
-merge-assoc (Some f) (Some g) None = merge-none (lesser f (Some g))
-merge-assoc (Some f) (Some g) (Some h) = three f g h
+pub merge_assoc : (a b c : Option Fault) → merge (merge a b) c ≡ merge a (merge b c)
+merge_assoc None b c = refl
+merge_assoc (Some f) None c = refl
+merge_assoc (Some f) (Some g) None = merge-none (lesser f (Some g))
+merge_assoc (Some f) (Some g) (Some h) = three f g h
 
-pub least-append : (xs ys : List Fault) → least (xs ++ ys) ≡ merge (least xs) (least ys)
-least-append [] ys = refl
-least-append (f ∷ xs) ys =
-    ap (lesser f) (least-append xs ys) ∙ sym (merge-assoc (Some f) (least xs) (least ys))
+pub least_append : (xs ys : List Fault) → least (xs ++ ys) ≡ merge (least xs) (least ys)
+least_append [] ys = refl
+least_append (f ∷ xs) ys =
+    ap (lesser f) (least_append xs ys) ∙ sym (merge_assoc (Some f) (least xs) (least ys))
 
-pub at_each-snoc : (codes : List Bytes → Bytes → List Code) (e : List Bytes) (xs : List Token)
+pub at_each_snoc : (codes : List Bytes → Bytes → List Code) (e : List Bytes) (xs : List Token)
     → (t : Token)
     → at_each codes e (xs ++ t ∷ [])
     ≡ at_each codes e xs ++ at t.at (codes (before_next e xs) t.word)
-at_each-snoc codes e [] t = append-nil (at t.at (codes e t.word))
-at_each-snoc codes e (x ∷ xs) t =
-    ap (λ y. at x.at (codes e x.word) ++ y) (at_each-snoc codes (x.word ∷ e) xs t)
+at_each_snoc codes e [] t = append-nil (at t.at (codes e t.word))
+at_each_snoc codes e (x ∷ xs) t =
+    ap (λ y. at x.at (codes e x.word) ++ y) (at_each_snoc codes (x.word ∷ e) xs t)
     ∙ sym (append_assoc (at x.at (codes e x.word)) (at_each codes (x.word ∷ e) xs)
     (at t.at (codes (before_next (x.word ∷ e) xs) t.word)))
 
@@ -127,10 +127,10 @@ symbols_more n look labels is_open k text ws from i h l best e =
     let t = token_at text ws i in
     let xs = between text ws from i in
     ap₂ merge e (sym (symbol_code_is n look labels is_open k (before_next [] xs) t.word t.at))
-    ∙ sym (least-append (at_each (symbol_codes n) [] xs)
+    ∙ sym (least_append (at_each (symbol_codes n) [] xs)
     (at t.at (symbol_codes n (before_next [] xs) t.word)))
-    ∙ ap least (sym (at_each-snoc (symbol_codes n) [] xs t))
-    ∙ ap (λ ys. least (at_each (symbol_codes n) [] ys)) (sym (between-more text ws from i h l))
+    ∙ ap least (sym (at_each_snoc (symbol_codes n) [] xs t))
+    ∙ ap (λ ys. least (at_each (symbol_codes n) [] ys)) (sym (between_more text ws from i h l))
 
 same_place : (p m n : ℕ) → nat_le m n ≡ true → (nat_lt p p || ((p == p) && nat_le m n)) ≡ true
 same_place p m n h = grind (arith, nat_tests)
@@ -190,8 +190,8 @@ before_next-snoc : (e : List Bytes) (xs : List Token) (t : Token)
 before_next-snoc e [] t = refl
 before_next-snoc e (x ∷ xs) t = before_next-snoc (x.word ∷ e) xs t
 
-pub bytes_eq-sym : (a b : Bytes) → bytes_eq a b ≡ bytes_eq b a
-bytes_eq-sym a b = by (bytes_eq a b) refl (bytes_eq b a) refl
+pub bytes_eq_sym : (a b : Bytes) → bytes_eq a b ≡ bytes_eq b a
+bytes_eq_sym a b = by (bytes_eq a b) refl (bytes_eq b a) refl
   where
     by : (x : Bool) → bytes_eq a b ≡ x → (y : Bool) → bytes_eq b a ≡ y → x ≡ y
     by true e true f = refl
@@ -219,11 +219,11 @@ declared_more n look labels is_open k kind text ws from i h l repeated q best e 
     (ap (λ r. fault_at t.at
     (declared_code is_open kind (look t.word) r (is_some (labels t.word)))) q
     ∙ sym (declared_code_is n look labels is_open k kind (before_next [] xs) t.word t.at))
-    ∙ sym (least-append (at_each (declared_codes n kind) [] xs)
+    ∙ sym (least_append (at_each (declared_codes n kind) [] xs)
     (at t.at (declared_codes n kind (before_next [] xs) t.word)))
-    ∙ ap least (sym (at_each-snoc (declared_codes n kind) [] xs t))
+    ∙ ap least (sym (at_each_snoc (declared_codes n kind) [] xs t))
     ∙ ap (λ ys. least (at_each (declared_codes n kind) [] ys))
-    (sym (between-more text ws from i h l))
+    (sym (between_more text ws from i h l))
 
 pub seen_more : (text : List ℕ) (ws : List place.Word) (from i : ℕ) → from ≤ i → i < length ws
     → (old new : List ℕ → Option ℕ)
@@ -234,17 +234,17 @@ seen_more text ws from i h l old new u e w =
     let t = token_at text ws i in
     let xs = between text ws from i in
     ap is_some (u w) ∙ by (bytes_eq t.word w) refl ∙ ap (is_in w) (sym (before_next-snoc [] xs t))
-    ∙ ap (λ ys. is_in w (before_next [] ys)) (sym (between-more text ws from i h l))
+    ∙ ap (λ ys. is_in w (before_next [] ys)) (sym (between_more text ws from i h l))
   where
     by : (b : Bool) → bytes_eq (token_at text ws i).word w ≡ b
         → is_some (if b then Some 0 else old w)
         ≡ is_in w ((token_at text ws i).word ∷ before_next [] (between text ws from i))
     by true b =
         ap (λ c. c || is_in w (before_next [] (between text ws from i)))
-        (sym (bytes_eq-sym w (token_at text ws i).word ∙ b))
+        (sym (bytes_eq_sym w (token_at text ws i).word ∙ b))
     by false b =
         e w ∙ ap (λ c. c || is_in w (before_next [] (between text ws from i)))
-        (sym (bytes_eq-sym w (token_at text ws i).word ∙ b))
+        (sym (bytes_eq_sym w (token_at text ws i).word ∙ b))
 
 -- one word more that was passed
 pub among_more : (text : List ℕ) (ws : List place.Word) (from i : ℕ) → from ≤ i → i < length ws
@@ -253,11 +253,11 @@ pub among_more : (text : List ℕ) (ws : List place.Word) (from i : ℕ) → fro
     ≡ is_in w (before_next [] (between text ws from (i + 1)))
 among_more text ws from i h l w =
     ap (is_in w) (sym (before_next-snoc [] (between text ws from i) (token_at text ws i)))
-    ∙ ap (λ ys. is_in w (before_next [] ys)) (sym (between-more text ws from i h l))
+    ∙ ap (λ ys. is_in w (before_next [] ys)) (sym (between_more text ws from i h l))
 
-pub between-first : (text : List ℕ) (ws : List place.Word) (i j : ℕ) → i < j → j ≤ length ws
+pub between_first : (text : List ℕ) (ws : List place.Word) (i j : ℕ) → i < j → j ≤ length ws
     → between text ws i j ≡ token_at text ws i ∷ between text ws (i + 1) j
-between-first text ws i j h l =
+between_first text ws i j h l =
     let within : i < length ws = omega arith in
     let e : drop i ws ≡ nth_word ws i ∷ drop (i + 1) ws =
     rw (add-one, drop-cons ws i (record { start = 0; end = 0 })) refl in
@@ -277,9 +277,9 @@ formula_is n look labels is_open k text ws i j end h l rest e =
     ap₂ merge
     (by (is_constant (look t.word))
     ∙ ap (λ b. least (at t.at (when (not b) BadTypecode))) (sym (k.constants t.word))) e
-    ∙ sym (least-append (at t.at (when (not (is_in t.word n.constants)) BadTypecode))
+    ∙ sym (least_append (at t.at (when (not (is_in t.word n.constants)) BadTypecode))
     (at_each (symbol_codes n) [] (between text ws (i + 1) j)))
-    ∙ ap (λ xs. least (formula_faults n xs end)) (sym (between-first text ws i j h l))
+    ∙ ap (λ xs. least (formula_faults n xs end)) (sym (between_first text ws i j h l))
   where
     by : (b : Bool)
         → fault_at (token_at text ws i).at (first_code (not b) BadTypecode None)
@@ -347,12 +347,12 @@ pub two_between : (text : List ℕ) (ws : List place.Word) (k j : ℕ) → j ≤
 two_between text ws k j l e =
     let two : k + 1 + 1 ≡ k + 2 = omega arith in
     let three : k + 2 + 1 ≡ j = omega arith in
-    between-first text ws (k + 1) j (omega arith) l
+    between_first text ws (k + 1) j (omega arith) l
     ∙ ap (λ m. token_at text ws (k + 1) ∷ between text ws m j) two
-    ∙ ap (λ ys. token_at text ws (k + 1) ∷ ys) (between-first text ws (k + 2) j (omega arith) l)
+    ∙ ap (λ ys. token_at text ws (k + 1) ∷ ys) (between_first text ws (k + 2) j (omega arith) l)
     ∙ ap (λ m. token_at text ws (k + 1) ∷ token_at text ws (k + 2) ∷ between text ws m j) three
     ∙ ap (λ ys. token_at text ws (k + 1) ∷ token_at text ws (k + 2) ∷ ys)
-    (sym (between-none text ws j))
+    (sym (between_none text ws j))
 
 when_first : (p : ℕ) (b : Bool) (x : Code)
     → fault_at p (first_code b x None) ≡ least (at p (when b x))
@@ -383,8 +383,8 @@ constants_is n deep kw end text ws k j h l =
     ∙ ap (λ b. merge (merge (least first) b) (least (at_each (constant_codes n) [] xs)))
     (when_first end (is_empty n xs) EmptyDeclaration)
     ∙ ap (λ a. merge a (least (at_each (constant_codes n) [] xs)))
-    (sym (least-append first second))
-    ∙ sym (least-append (first ++ second) (at_each (constant_codes n) [] xs))
+    (sym (least_append first second))
+    ∙ sym (least_append (first ++ second) (at_each (constant_codes n) [] xs))
 
 pub variables_is : (n : Names) (deep kw end : ℕ) (text : List ℕ) (ws : List place.Word) (k j : ℕ)
     → k < j → j ≤ length ws
@@ -401,5 +401,5 @@ variables_is n deep kw end text ws k j h l =
     ∙ empty_count n xs)
     ∙ ap (λ b. merge b (least (at_each (variable_codes n) [] xs)))
     (when_first end (is_empty n xs) EmptyDeclaration)
-    ∙ sym (least-append (at end (when (is_empty n xs) EmptyDeclaration))
+    ∙ sym (least_append (at end (when (is_empty n xs) EmptyDeclaration))
     (at_each (variable_codes n) [] xs))

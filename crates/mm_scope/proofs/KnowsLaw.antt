@@ -15,13 +15,13 @@ use Rattle.mm_outline.specs.Blocks.{Lists, IsBlocks, never}
 use Rattle.mm_scope.specs.Judge as judge
 use Rattle.mm_scope.specs.Judge.{Knows, is_open_in, is_never, end_in, is_constant}
 use Rattle.mm_scope.specs.Judge.{is_variable_symbol, has_other_typecode, is_typed_here, entry_of}
-use Rattle.mm_scope.specs.Known.{IsKnown, typed_by, typecode_by, is_other, is_constant_entry}
-use Rattle.mm_scope.specs.Known.{is_variable_entry}
+use Rattle.mm_scope.specs.WordEntry.{IsEntryOf, typed_by, typecode_by, is_other, is_constant_entry}
+use Rattle.mm_scope.specs.WordEntry.{is_variable_entry}
 use Rattle.mm_outline.specs.Typed.{has, typed_words}
 use Rattle.mm_scope.specs.Keeps.{Keeps}
 use Rattle.mm_scope.specs.declared.names.Symbol.{Symbol}
-use Rattle.mm_scope.proofs.Latest.{latest_is}
-use Rattle.mm_outline.proofs.Among.{among_active, any_false, typed_in}
+use Rattle.mm_scope.proofs.LatestLaw.{latest_is}
+use Rattle.mm_outline.proofs.AmongLaw.{among_active, any_false, typed_in}
 use Rattle.mm_scope.proofs.OpenLaw.{latest_open, declares_local, types_local}
 
 or_left : (a b : Bool) → (a || b) ≡ false → a ≡ false
@@ -63,7 +63,7 @@ never_open b h = ap (λ o. is_never (end_in b.ends o)) (slice_get_past b.of neve
 
 module _ (db : List Statement) (b : Lists) (x : IsBlocks db b) (few : length db < never)
     (w : Bytes) where
-  variable_active : (o : Option Symbol) → IsKnown db w (entry_of o)
+  variable_active : (o : Option Symbol) → IsEntryOf db w (entry_of o)
       → is_in w (flat_map variables_of (active_statements db (length db)))
       ≡ judge.is_active (is_open_in b.of b.ends) o
   variable_active None k = none_active db variables_of w k.variable
@@ -78,7 +78,7 @@ module _ (db : List Statement) (b : Lists) (x : IsBlocks db b) (few : length db 
           ∙ latest_open db b x few variables_of w (declares_local w) s.declared l
       by false e = none_active db variables_of w (k.variable ∙ e)
 
-  typed_active : (o : Option Symbol) → IsKnown db w (entry_of o)
+  typed_active : (o : Option Symbol) → IsEntryOf db w (entry_of o)
       → is_in w (flat_map typed_words (active_statements db (length db)))
       ≡ is_typed_here (is_open_in b.of b.ends) o
   typed_active None k = none_active db typed_words w (k.untyped refl)

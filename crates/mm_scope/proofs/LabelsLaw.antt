@@ -14,11 +14,11 @@ use Rattle.mm_spec.specs.Scope.{Names, names_before, statement_at, label_words}
 use Rattle.mm_spec.specs.NormalProof.{is_labelled}
 use Rattle.mm_spec.specs.Lawful.{scope_faults, label_faults, formula_faults, floating_faults, when}
 use Rattle.mm_spec.specs.declared.Code.TheVariants.{LabelIsSymbol, LabelUsedBefore}
-use Rattle.mm_spec.proofs.Local.{get-front, get-seam}
-use Rattle.mm_scope.specs.Known.{label_after}
+use Rattle.mm_spec.proofs.LocalLaw.{get_front, get_seam}
+use Rattle.mm_scope.specs.WordEntry.{label_after}
 use Rattle.mm_scope.specs.Labels.{AreLabels}
 use Rattle.mm_outline.proofs.StatementsLaw.{is_there}
-use Rattle.mm_outline.proofs.Faultless.{append_none, at_none, when_none}
+use Rattle.mm_outline.proofs.FaultlessLaw.{append_none, at_none, when_none}
 
 -- a label that has no fault is new
 label_new : (n : Names) (l : Token) → label_faults n l ≡ [] → is_in l.word n.labels ≡ false
@@ -72,12 +72,12 @@ module _ (db : List Statement) (s : Statement) (find new : List ℕ → Option �
       ≡ list_any (is_labelled w) (statement_at db k)
   front w k h =
       ap (λ o. list_any (is_labelled w) (elim o [ None ↦ [] | Some t ↦ t ∷ [] ]))
-      (get-front db (s ∷ []) k h)
+      (get_front db (s ∷ []) k h)
 
   last : (w : Bytes)
       → list_any (is_labelled w) (statement_at (db ++ s ∷ []) (length db)) ≡ is_labelled w s
   last w =
-      ap (λ o. list_any (is_labelled w) (elim o [ None ↦ [] | Some t ↦ t ∷ [] ])) (get-seam db s [])
+      ap (λ o. list_any (is_labelled w) (elim o [ None ↦ [] | Some t ↦ t ∷ [] ])) (get_seam db s [])
       ∙ or_false (is_labelled w s)
     where
       or_false : (b : Bool) → (b || false) ≡ b

@@ -1,13 +1,13 @@
 pub mod AddLaw
 pub mod BoundsLaw
-pub mod Declared
+pub mod DeclaredLaw
 pub mod JudgeLaw
-pub mod KnownLaw
+pub mod WordEntryLaw
 pub mod KnowsLaw
 pub mod LabelsLaw
-pub mod Latest
+pub mod LatestLaw
 pub mod NumberedLaw
 pub mod OpenLaw
 pub mod ReadLaw
 pub mod SymbolsLaw
-pub mod Typed
+pub mod TypedLaw

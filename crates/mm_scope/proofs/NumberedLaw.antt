@@ -21,29 +21,29 @@ use Rattle.mm_spec.specs.Statement.{essential, axiomatic, provable, opening, clo
 use Rattle.mm_spec.specs.Scope.{constants_of, variables_of}
 use Rattle.mm_spec.specs.Lawful.{scope_fault}
 use Rattle.mm_spec.specs.Frame.{first_occurrences, symbol_names, place_of, formula_of}
-use Rattle.mm_spec.proofs.Local.{get-front}
+use Rattle.mm_spec.proofs.LocalLaw.{get_front}
 use Rattle.mm_spec.specs.declared.Word as place
 use Rattle.mm_outline.specs.Numbered.{AreNumbered}
 use Rattle.mm_outline.specs.Parts.{between, token_at}
-use Rattle.mm_outline.proofs.Turns.{between-more, between-none}
+use Rattle.mm_outline.proofs.TurnsLaw.{between_more, between_none}
 use Rattle.mm_scope.specs.Names.{with_name}
 use Rattle.mm_scope.specs.Formulas.{AreFormulas, numbers_in, judged, unjudged}
-use Rattle.mm_scope.proofs.SymbolsLaw.{first-added, if_new, itself, keys-in}
-use Rattle.mm_scope.proofs.BoundsLaw.{symbol-known}
+use Rattle.mm_scope.proofs.SymbolsLaw.{first_added, if_new, itself, keys_in}
+use Rattle.mm_scope.proofs.BoundsLaw.{symbol_known}
 
 -- ---- one name more
 
 -- the keys of a map with one entry more
-pub names-inserted : {V : Type 0} (es : List (Bor Bytes × V)) (k : Bor Bytes) (v : V)
+pub names_inserted : {V : Type 0} (es : List (Bor Bytes × V)) (k : Bor Bytes) (v : V)
     → map (λ x. x.now) (keys_of (insert_entry (λ (a b : Bor Bytes). bytes_eq a.now b.now) es k v))
     ≡ with_name k.now (map (λ x. x.now) (keys_of es))
-names-inserted [] k v = refl
-names-inserted (e ∷ es) k v = by (bytes_eq k.now e.0.now) (names-inserted es k v)
+names_inserted [] k v = refl
+names_inserted (e ∷ es) k v = by (bytes_eq k.now e.0.now) (names_inserted es k v)
   where
     ns : List Bytes
     ns = map (λ x. x.now) (keys_of es)
 
-    behind : (b : Bool)
+    after : (b : Bool)
         → map (λ x. x.now)
         (keys_of (insert_entry (λ (a b : Bor Bytes). bytes_eq a.now b.now) es k v))
         ≡ (if b then ns else (ns ++ k.now ∷ []))
@@ -51,8 +51,8 @@ names-inserted (e ∷ es) k v = by (bytes_eq k.now e.0.now) (names-inserted es k
         ∷ map (λ x. x.now)
         (keys_of (insert_entry (λ (a b : Bor Bytes). bytes_eq a.now b.now) es k v))
         ≡ (if b then (e.0.now ∷ ns) else ((e.0.now ∷ ns) ++ k.now ∷ []))
-    behind true h = ap (λ l. e.0.now ∷ l) h
-    behind false h = ap (λ l. e.0.now ∷ l) h
+    after true h = ap (λ l. e.0.now ∷ l) h
+    after false h = ap (λ l. e.0.now ∷ l) h
 
     by : (b : Bool)
         → map (λ x. x.now)
@@ -64,12 +64,12 @@ names-inserted (e ∷ es) k v = by (bytes_eq k.now e.0.now) (names-inserted es k
         (e ∷ insert_entry (λ (a b : Bor Bytes). bytes_eq a.now b.now) es k v)))
         ≡ (if b || is_in k.now ns then (e.0.now ∷ ns) else ((e.0.now ∷ ns) ++ k.now ∷ []))
     by true h = refl
-    by false h = behind (is_in k.now ns) h
+    by false h = after (is_in k.now ns) h
 
 -- the names of what is declared, with one word more
-pub names-declared : (d : List Bytes) (w : Bytes)
+pub names_declared : (d : List Bytes) (w : Bytes)
     → with_name w (first_occurrences [] d) ≡ first_occurrences [] (d ++ w ∷ [])
-names-declared d w = by (is_in w (first_occurrences [] d)) ∙ sym (first-added d w)
+names_declared d w = by (is_in w (first_occurrences [] d)) ∙ sym (first_added d w)
   where
     by : (b : Bool)
         → (if b then first_occurrences [] d else (first_occurrences [] d ++ w ∷ []))
@@ -78,15 +78,15 @@ names-declared d w = by (is_in w (first_occurrences [] d)) ∙ sym (first-added 
     by false = refl
 
 -- a name that is there stays the list as it was
-pub with-known : (w : Bytes) (ns : List Bytes) → is_in w ns ≡ true → with_name w ns ≡ ns
-with-known w ns h = ap (λ b. if b then ns else (ns ++ w ∷ [])) h
+pub with_known : (w : Bytes) (ns : List Bytes) → is_in w ns ≡ true → with_name w ns ≡ ns
+with_known w ns h = ap (λ b. if b then ns else (ns ++ w ∷ [])) h
 
 -- ---- more names after
 
-pub place-front : (w : Bytes) (ns more : List Bytes) → is_in w ns ≡ true
+pub place_front : (w : Bytes) (ns more : List Bytes) → is_in w ns ≡ true
     → place_of w (ns ++ more) ≡ place_of w ns
-place-front w [] more h = absurd (true≢false (sym h))
-place-front w (n ∷ ns) more h = by (bytes_eq w n) refl (place-front w ns more)
+place_front w [] more h = absurd (true≢false (sym h))
+place_front w (n ∷ ns) more h = by (bytes_eq w n) refl (place_front w ns more)
   where
     by : (b : Bool) → bytes_eq w n ≡ b
         → (is_in w ns ≡ true → place_of w (ns ++ more) ≡ place_of w ns)
@@ -105,7 +105,7 @@ more-names d (w ∷ ws) =
     let b = is_in w (first_occurrences [] d) in (
       if_new b w ++ r.0,
       ap (first_occurrences []) (sym (append_assoc d (w ∷ []) ws)) ∙ r.1
-          ∙ ap (λ l. l ++ r.0) (first-added d w)
+          ∙ ap (λ l. l ++ r.0) (first_added d w)
           ∙ append_assoc (first_occurrences [] d) (if_new b w) r.0,
     )
 
@@ -119,10 +119,10 @@ declared-next db s =
     ∙ ap (λ l. declared db ++ l) (append-nil (constants_of s ++ variables_of s))
 
 -- the names after a statement, by what it declares
-pub names-next : (db : List Statement) (s : Statement) (ns : List Bytes)
+pub names_next : (db : List Statement) (s : Statement) (ns : List Bytes)
     → ns ≡ first_occurrences [] (declared db ++ (constants_of s ++ variables_of s))
     → ns ≡ symbol_names (db ++ s ∷ [])
-names-next db s ns h = h ∙ ap (first_occurrences []) (sym (declared-next db s))
+names_next db s ns h = h ∙ ap (first_occurrences []) (sym (declared-next db s))
 
 names-grow : (db : List Statement) (s : Statement)
     → (more : List Bytes) × (symbol_names (db ++ s ∷ []) ≡ symbol_names db ++ more)
@@ -130,9 +130,9 @@ names-grow db s =
     let r = more-names (declared db) (constants_of s ++ variables_of s) in
     (r.0, ap (first_occurrences []) (declared-next db s) ∙ r.1)
 
-pub names-stay : (db : List Statement) (s : Statement) → constants_of s ++ variables_of s ≡ []
+pub names_stay : (db : List Statement) (s : Statement) → constants_of s ++ variables_of s ≡ []
     → symbol_names (db ++ s ∷ []) ≡ symbol_names db
-names-stay db s h =
+names_stay db s h =
     ap (first_occurrences [])
     (declared-next db s ∙ ap (λ l. declared db ++ l) h ∙ append-nil (declared db))
 
@@ -168,8 +168,8 @@ module _ (db : List Statement) (lawful : (k : ℕ) → k < length db → scope_f
       let g = names-grow db s in
       same-places (symbol_names all) (symbol_names db) (words (symbols_of t))
       (λ w h. ap (place_of w) g.1
-      ∙ place-front w (symbol_names db) g.0
-      (symbol-known db lawful k (slice_get_within db k t e) t e w h))
+      ∙ place_front w (symbol_names db) g.0
+      (symbol_known db lawful k (slice_get_within db k t e) t e w h))
 
   front-kept : (j : ℕ)
       → flat_map (formula_of all) (take j db) ≡ flat_map (formula_of db) (take j db)
@@ -177,7 +177,7 @@ module _ (db : List Statement) (lawful : (k : ℕ) → k < length db → scope_f
       same-maps (formula_of all) (formula_of db) (take j db)
       (λ k t e. formula-kept k t
       (ap (λ l. slice_get l k) (sym (take-append-drop j db))
-      ∙ get-front (take j db) (drop j db) k (slice_get_within (take j db) k t e) ∙ e))
+      ∙ get_front (take j db) (drop j db) k (slice_get_within (take j db) k t e) ∙ e))
 
   all-kept : flat_map (formula_of all) db ≡ flat_map (formula_of db) db
   all-kept =
@@ -199,10 +199,10 @@ module _ (db : List Statement) (lawful : (k : ℕ) → k < length db → scope_f
       front (x ∷ xs) (suc j) h = ap (λ l. x ∷ l) (front xs j (omega arith))
 
   -- one statement more
-  pub formulas-more : (numbers places : List ℕ) → AreFormulas db numbers places → (more : List ℕ)
+  pub formulas_more : (numbers places : List ℕ) → AreFormulas db numbers places → (more : List ℕ)
       → more ≡ numbers ++ formula_of all s → (at : ℕ) → at ≡ length more
       → AreFormulas all more (places ++ at ∷ [])
-  formulas-more numbers places f more e at a = record {
+  formulas_more numbers places f more e at a = record {
     numbers_are = whole;
     count = length-append places (at ∷ []) ∙ ap (λ n. n + 1) f.count ∙ ap (λ n. n + 1) (sym long);
     place = λ k h. by k (cases_lt k (length db + 1)) h;
@@ -246,8 +246,8 @@ module _ (db : List Statement) (numbers places : List ℕ) (f : AreFormulas db n
       f.numbers_are ∙ ap (flat_map (formula_of db)) (sym (take-append-drop k db))
       ∙ flat_map-append (formula_of db) (take k db) (drop k db)
 
-  pub formulas-numbered : AreNumbered db numbers places
-  formulas-numbered = record {
+  pub formulas_numbered : AreNumbered db numbers places
+  formulas_numbered = record {
     count = f.count;
     order = λ k l.
         let p = f.place k (omega (arith, l)) in
@@ -287,9 +287,9 @@ module _ (db : List Statement) (numbers places : List ℕ) (f : AreFormulas db n
 
 -- ---- what a map says of a name
 
-pub map-len : {V : Type 0} (es : List (Bor Bytes × V))
+pub map_len : {V : Type 0} (es : List (Bor Bytes × V))
     → length es ≡ length (map (λ x. x.now) (keys_of es))
-map-len es = sym (length-map (keys_of es) (λ x. x.now) ∙ length-map es (λ e. e.0))
+map_len es = sym (length-map (keys_of es) (λ x. x.now) ∙ length-map es (λ e. e.0))
 
 -- ---- words numbered one by one
 
@@ -298,7 +298,7 @@ pub numbers-more : (text : List ℕ) (ws : List place.Word) (ns : List Bytes) (f
     → numbers_in ns (between text ws from (i + 1))
     ≡ numbers_in ns (between text ws from i) ++ place_of (token_at text ws i).word ns ∷ []
 numbers-more text ws ns from i l h =
-    ap (numbers_in ns) (between-more text ws from i l h)
+    ap (numbers_in ns) (between_more text ws from i l h)
     ∙ ap (map (λ w. place_of w ns))
     (map-append (λ (t : Token). t.word) (between text ws from i) (token_at text ws i ∷ []))
     ∙ map-append (λ (w : Bytes). place_of w ns) (words (between text ws from i))
@@ -306,104 +306,104 @@ numbers-more text ws ns from i l h =
 
 pub numbers-none : (text : List ℕ) (ws : List place.Word) (ns : List Bytes) (from : ℕ)
     → [] ≡ numbers_in ns (between text ws from from)
-numbers-none text ws ns from = ap (numbers_in ns) (between-none text ws from)
+numbers-none text ws ns from = ap (numbers_in ns) (between_none text ws from)
 
 -- a name's place
-pub place-le : (w : Bytes) (ns : List Bytes) → place_of w ns ≤ length ns
-place-le w [] = omega arith
-place-le w (n ∷ ns) = by (bytes_eq w n) (place-le w ns)
+pub place_le : (w : Bytes) (ns : List Bytes) → place_of w ns ≤ length ns
+place_le w [] = omega arith
+place_le w (n ∷ ns) = by (bytes_eq w n) (place_le w ns)
   where
     by : (b : Bool) → place_of w ns ≤ length ns
         → elim b [ true ↦ 0 | false ↦ suc (place_of w ns) ] ≤ suc (length ns)
     by true h = omega arith
     by false h = omega (arith, h)
 
-pub words-more : (text : List ℕ) (ws : List place.Word) (from i : ℕ) → from ≤ i → i < length ws
+pub words_more : (text : List ℕ) (ws : List place.Word) (from i : ℕ) → from ≤ i → i < length ws
     → words (between text ws from i) ++ (token_at text ws i).word ∷ []
     ≡ words (between text ws from (i + 1))
-words-more text ws from i l h =
-    sym (ap words (between-more text ws from i l h)
+words_more text ws from i l h =
+    sym (ap words (between_more text ws from i l h)
     ∙ map-append (λ (t : Token). t.word) (between text ws from i) (token_at text ws i ∷ []))
 
 -- the names after words that are declared one by one
-pub names-none : (text : List ℕ) (ws : List place.Word) (from : ℕ) (d : List Bytes)
+pub names_none : (text : List ℕ) (ws : List place.Word) (from : ℕ) (d : List Bytes)
     → first_occurrences [] d ≡ first_occurrences [] (d ++ words (between text ws from from))
-names-none text ws from d =
+names_none text ws from d =
     ap (first_occurrences [])
-    (sym (append-nil d) ∙ ap (λ l. d ++ words l) (between-none text ws from))
+    (sym (append-nil d) ∙ ap (λ l. d ++ words l) (between_none text ws from))
 
-pub names-more : (text : List ℕ) (ws : List place.Word) (from i : ℕ) → from ≤ i → i < length ws
+pub names_more : (text : List ℕ) (ws : List place.Word) (from i : ℕ) → from ≤ i → i < length ws
     → (d : List Bytes)
     → with_name (token_at text ws i).word
     (first_occurrences [] (d ++ words (between text ws from i)))
     ≡ first_occurrences [] (d ++ words (between text ws from (i + 1)))
-names-more text ws from i l h d =
+names_more text ws from i l h d =
     let xs = words (between text ws from i) in
     let w = (token_at text ws i).word in
-    names-declared (d ++ xs) w
+    names_declared (d ++ xs) w
     ∙ ap (first_occurrences [])
-    (append_assoc d xs (w ∷ []) ∙ ap (λ l. d ++ l) (words-more text ws from i l h))
+    (append_assoc d xs (w ∷ []) ∙ ap (λ l. d ++ l) (words_more text ws from i l h))
 
 pub on_then : {A E : Type 0} {P Q : Type 0} (r : Result A E) → OnOk r P → (P → Q) → OnOk r Q
 on_then (Ok a) h f = f h
 on_then (Err e) h f = tt
 
 -- a name that the map has
-pub found-known : {V : Type 0} (w : Bytes) (es : List (Bor Bytes × V)) (o : Option V)
+pub found_known : {V : Type 0} (w : Bytes) (es : List (Bor Bytes × V)) (o : Option V)
     → lookup (λ (k : Bor Bytes). bytes_eq w k.now) es ≡ o → is_some o ≡ true
     → is_in w (map (λ x. x.now) (keys_of es)) ≡ true
-found-known w es o h k =
-    sym (keys-in w (keys_of es)) ∙ sym (is_some-lookup (λ (k : Bor Bytes). bytes_eq w k.now) es)
+found_known w es o h k =
+    sym (keys_in w (keys_of es)) ∙ sym (is_some-lookup (λ (k : Bor Bytes). bytes_eq w k.now) es)
     ∙ ap is_some h ∙ k
 
 -- ---- a statement's symbols, those of a formula as they are judged, the others once they are declared
 
-pub formula-split : (db : List Statement) (s : Statement)
+pub formula_split : (db : List Statement) (s : Statement)
     → judged (symbol_names db) s ++ unjudged (symbol_names (db ++ s ∷ [])) s
     ≡ formula_of (db ++ s ∷ []) s
-formula-split db (constants k xs d) = refl
-formula-split db (variables k xs d) = refl
-formula-split db (disjoint k xs d) = refl
-formula-split db (floating l k xs d) = refl
-formula-split db (essential l k xs d) =
-    append-nil _ ∙ ap (λ ns. numbers_in ns xs) (sym (names-stay db (essential l k xs d) refl))
-formula-split db (axiomatic l k xs d) =
-    append-nil _ ∙ ap (λ ns. numbers_in ns xs) (sym (names-stay db (axiomatic l k xs d) refl))
-formula-split db (provable l k xs e ps d) =
-    append-nil _ ∙ ap (λ ns. numbers_in ns xs) (sym (names-stay db (provable l k xs e ps d) refl))
-formula-split db (opening k) = refl
-formula-split db (closing k) = refl
+formula_split db (constants k xs d) = refl
+formula_split db (variables k xs d) = refl
+formula_split db (disjoint k xs d) = refl
+formula_split db (floating l k xs d) = refl
+formula_split db (essential l k xs d) =
+    append-nil _ ∙ ap (λ ns. numbers_in ns xs) (sym (names_stay db (essential l k xs d) refl))
+formula_split db (axiomatic l k xs d) =
+    append-nil _ ∙ ap (λ ns. numbers_in ns xs) (sym (names_stay db (axiomatic l k xs d) refl))
+formula_split db (provable l k xs e ps d) =
+    append-nil _ ∙ ap (λ ns. numbers_in ns xs) (sym (names_stay db (provable l k xs e ps d) refl))
+formula_split db (opening k) = refl
+formula_split db (closing k) = refl
 
-pub names-shorter : (db : List Statement) (s : Statement)
+pub names_shorter : (db : List Statement) (s : Statement)
     → length (symbol_names db) ≤ length (symbol_names (db ++ s ∷ []))
-names-shorter db s =
+names_shorter db s =
     let g = names-grow db s in let n = ap length g.1 in
     let m = length-append (symbol_names db) g.0 in omega (arith, n, m)
 
-pub taken-numbers : (db : List Statement) (s : Statement) (numbers mid more : List ℕ)
+pub taken_numbers : (db : List Statement) (s : Statement) (numbers mid more : List ℕ)
     → (before after : List Bytes)
     → before ≡ symbol_names db → after ≡ symbol_names (db ++ s ∷ [])
     → mid ≡ numbers ++ judged before s → more ≡ mid ++ unjudged after s
     → more ≡ numbers ++ formula_of (db ++ s ∷ []) s
-taken-numbers db s numbers mid more before after b a m n =
+taken_numbers db s numbers mid more before after b a m n =
     n ∙ ap (λ l. l ++ unjudged after s) m
     ∙ append_assoc numbers (judged before s) (unjudged after s)
-    ∙ ap (λ l. numbers ++ l) (ap₂ (λ x y. judged x s ++ unjudged y s) b a ∙ formula-split db s)
+    ∙ ap (λ l. numbers ++ l) (ap₂ (λ x y. judged x s ++ unjudged y s) b a ∙ formula_split db s)
 
 -- the name of an entry
-pub name-at : {V : Type 0} (es : List (Bor Bytes × V)) (i : ℕ) (k : Bor Bytes) (v : V) (w : Bytes)
+pub name_at : {V : Type 0} (es : List (Bor Bytes × V)) (i : ℕ) (k : Bor Bytes) (v : V) (w : Bytes)
     → slice_get es i ≡ Some (k, v) → slice_get (map (λ x. x.now) (keys_of es)) i ≡ Some w
     → k.now ≡ w
-name-at [] zero k v w h e = absurd (let q : None ≡ Some w = e in cc)
-name-at [] (suc i) k v w h e = absurd (let q : None ≡ Some w = e in cc)
-name-at (x ∷ es) zero k v w h e =
+name_at [] zero k v w h e = absurd (let q : None ≡ Some w = e in cc)
+name_at [] (suc i) k v w h e = absurd (let q : None ≡ Some w = e in cc)
+name_at (x ∷ es) zero k v w h e =
     let p : Some x ≡ Some (k, v) = h in let q : Some x.0.now ≡ Some w = e in
     let r : x ≡ (k, v) = cc in let s : x.0.now ≡ w = cc in ap (λ y. y.0.now) (sym r) ∙ s
-name-at (x ∷ es) (suc i) k v w h e = name-at es i k v w h e
+name_at (x ∷ es) (suc i) k v w h e = name_at es i k v w h e
 
-pub got-name : {V : Type 0} (es : List (Bor Bytes × V)) (i : ℕ) (k : Bor Bytes) (v : V)
+pub got_name : {V : Type 0} (es : List (Bor Bytes × V)) (i : ℕ) (k : Bor Bytes) (v : V)
     → slice_get es i ≡ Some (k, v) → slice_get (map (λ x. x.now) (keys_of es)) i ≡ Some k.now
-got-name [] zero k v h = absurd (let q : None ≡ Some (k, v) = h in cc)
-got-name [] (suc i) k v h = absurd (let q : None ≡ Some (k, v) = h in cc)
-got-name (x ∷ es) zero k v h = ap (option_map (λ y. y.0.now)) h
-got-name (x ∷ es) (suc i) k v h = got-name es i k v h
+got_name [] zero k v h = absurd (let q : None ≡ Some (k, v) = h in cc)
+got_name [] (suc i) k v h = absurd (let q : None ≡ Some (k, v) = h in cc)
+got_name (x ∷ es) zero k v h = ap (option_map (λ y. y.0.now)) h
+got_name (x ∷ es) (suc i) k v h = got_name es i k v h

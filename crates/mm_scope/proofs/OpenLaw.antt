@@ -11,7 +11,7 @@ use Rattle.mm_spec.specs.Statement.{axiomatic, provable, opening, closing}
 use Rattle.mm_spec.specs.Scope.{is_active, is_active_some, is_active_kind, variables_of, stays}
 use Rattle.mm_outline.specs.Blocks.{Lists, IsBlocks, end_of, never}
 use Rattle.mm_scope.specs.Judge.{is_open_in, is_never, end_in}
-use Rattle.mm_scope.specs.Known.{Latest}
+use Rattle.mm_scope.specs.WordEntry.{Latest}
 use Rattle.mm_outline.specs.Typed.{typed_words}
 
 pub open_is : (db : List Statement) (b : Lists) → IsBlocks db b → length db < never → (j : ℕ)

@@ -14,24 +14,24 @@ use Rattle.mm_spec.specs.Laws.Table.{start, statements_from, statements_of, stop
 use Rattle.mm_spec.specs.Laws.Table.{fault_at_end}
 use Rattle.mm_spec.specs.declared.Word.{Word}
 use Rattle.mm_spec.specs.declared.Fault.{Fault}
-use Rattle.mm_spec.proofs.Local.{scope_fault-front, scope_fault-next}
+use Rattle.mm_spec.proofs.LocalLaw.{scope_fault_front, scope_fault_next}
 use Rattle.mm_spec.proofs.RowLaw.{is_longest}
-use Rattle.mm_spec.proofs.Stops.{text_fault, text_fault_is, no_text_fault, first_of}
-use Rattle.mm_outline.specs.Parts.{as_tokens, reading, made, depth_behind, less_one}
+use Rattle.mm_spec.proofs.StopsLaw.{text_fault, text_fault_is, no_text_fault, first_of}
+use Rattle.mm_outline.specs.Parts.{as_tokens, reading, made, depth_after, less_one}
 use Rattle.mm_outline.specs.Blocks.{Lists, IsBlocks, never}
-use Rattle.mm_outline.proofs.BlocksLaw.{depth-end, depth-plain, depth-opening, depth-closing}
+use Rattle.mm_outline.proofs.BlocksLaw.{depth_end, depth_plain, depth_opening, depth_closing}
 use Rattle.mm_outline.specs.declared.parts.Kind.{Kind}
 use Rattle.mm_outline.specs.declared.parts.Kind.TheVariants as kind
-use Rattle.mm_outline.specs.Found.{Leads, behind}
+use Rattle.mm_outline.specs.NextStatement.{Leads, tokens_from}
 use Rattle.mm_outline.specs.Statements.{lexed, end_fault_of}
 use Rattle.mm_outline.specs.declared.parts.Part.{Part}
 use Rattle.mm_outline.specs.declared.parts.Part.TheVariants.{Start, Labelled, Words, Formula, Proof}
-use Rattle.mm_outline.proofs.Leads.{leads-then}
-use Rattle.mm_spec.proofs.Shape.{count_end}
+use Rattle.mm_outline.proofs.LeadsLaw.{leads_then}
+use Rattle.mm_spec.proofs.ShapeLaw.{count_end}
 
 pub record IsReading (text : List ℕ) (ws : List Word) (db : List Statement)
     (deep at : ℕ) : Type 0 where
-  pub leads : Leads (start 0) (as_tokens text ws) db (start deep) (behind text ws at)
+  pub leads : Leads (start 0) (as_tokens text ws) db (start deep) (tokens_from text ws at)
   pub within : at ≤ length ws
   pub few : length db ≤ at
   pub shallow : deep ≤ at
@@ -44,11 +44,11 @@ module _ (text : List ℕ) (ws : List Word) (len : ℕ) (lexical : Option Fault)
   x = lexed text ws lexical
 
   -- an unlawful statement
-  pub read-unlawful : (s : Statement) (d : ℕ) (us : List _)
-      → Leads (start deep) (behind text ws at) (s ∷ []) (start d) us → (f : Option Fault) → f ≢ None
+  pub read_unlawful : (s : Statement) (d : ℕ) (us : List _)
+      → Leads (start deep) (tokens_from text ws at) (s ∷ []) (start d) us → (f : Option Fault) → f ≢ None
       → f ≡ least (scope_faults (names_before db (length db)) deep s)
       → IsRead len (lexed text ws lexical) db f
-  read-unlawful s d us l f ne e =
+  read_unlawful s d us l f ne e =
       let more = statements_from (start d) us in
       let row : statements_of (as_tokens text ws) ≡ db ++ s ∷ more =
       r.leads.statements ∙ ap (λ y. db ++ y) l.statements in
@@ -58,11 +58,11 @@ module _ (text : List ℕ) (ws : List Word) (len : ℕ) (lexical : Option Fault)
         rest = s ∷ more;
         splits = row;
         lawful =
-            λ k h. ap (λ y. scope_fault y k) row ∙ scope_fault-front db (s ∷ more) k h
+            λ k h. ap (λ y. scope_fault y k) row ∙ scope_fault_front db (s ∷ more) k h
             ∙ r.lawful k h;
         stops = (
           ne,
-          ap (λ y. scope_fault y (length db)) row ∙ scope_fault-next db s more
+          ap (λ y. scope_fault y (length db)) row ∙ scope_fault_next db s more
               ∙ ap (λ d. least (scope_faults (names_before db (length db)) d s)) (sym r.deep_is)
               ∙ sym e,
         );
@@ -74,9 +74,9 @@ module _ (text : List ℕ) (ws : List Word) (len : ℕ) (lexical : Option Fault)
   stops_with None e = no_text_fault len (lexed text ws lexical) e
   stops_with (Some f) e = text_fault_is len (lexed text ws lexical) f e
 
-  pub read-end : statements_from (start deep) (behind text ws at) ≡ [] → (f : Option Fault)
+  pub read_end : statements_from (start deep) (tokens_from text ws at) ≡ [] → (f : Option Fault)
       → text_fault len (lexed text ws lexical) ≡ f → IsRead len (lexed text ws lexical) db f
-  read-end n f e =
+  read_end n f e =
       let row : statements_of (as_tokens text ws) ≡ db ++ [] =
       r.leads.statements ∙ ap (λ y. db ++ y) n in
       record {
@@ -84,15 +84,15 @@ module _ (text : List ℕ) (ws : List Word) (len : ℕ) (lexical : Option Fault)
         is_row = is_longest (as_tokens text ws);
         rest = [];
         splits = row;
-        lawful = λ k h. ap (λ y. scope_fault y k) row ∙ scope_fault-front db [] k h ∙ r.lawful k h;
+        lawful = λ k h. ap (λ y. scope_fault y k) row ∙ scope_fault_front db [] k h ∙ r.lawful k h;
         stops = stops_with f e;
       }
 
-  pub read-stopped : (f : Fault) → statements_from (start deep) (behind text ws at) ≡ []
-      → stop_from (start deep) (behind text ws at) ≡ Some f
+  pub read_stopped : (f : Fault) → statements_from (start deep) (tokens_from text ws at) ≡ []
+      → stop_from (start deep) (tokens_from text ws at) ≡ Some f
       → IsRead len (lexed text ws lexical) db (Some f)
-  read-stopped f n e =
-      read-end n (Some f)
+  read_stopped f n e =
+      read_end n (Some f)
       (ap (λ o. first_of o
       (first_of lexical (fault_at_end len (rest_from (start 0) (as_tokens text ws))))) (r.leads.stop
       ∙ e))
@@ -110,13 +110,13 @@ module _ (text : List ℕ) (ws : List Word) (len : ℕ) (lexical : Option Fault)
   end_is (Formula w) i None = refl
   end_is (Proof w e) i None = refl
 
-  pub read-ended : (part : Part) → statements_from (start deep) (behind text ws at) ≡ []
-      → stop_from (start deep) (behind text ws at) ≡ None
-      → rest_from (start deep) (behind text ws at) ≡ reading text ws deep part (length ws)
+  pub read_ended : (part : Part) → statements_from (start deep) (tokens_from text ws at) ≡ []
+      → stop_from (start deep) (tokens_from text ws at) ≡ None
+      → rest_from (start deep) (tokens_from text ws at) ≡ reading text ws deep part (length ws)
       → (f : Option Fault) → f ≡ end_fault_of lexical len part deep
       → IsRead len (lexed text ws lexical) db f
-  read-ended part n s e f is =
-      read-end n f
+  read_ended part n s e f is =
+      read_end n f
       (ap₂ (λ o q. first_of o (first_of lexical (fault_at_end len q))) (r.leads.stop ∙ s)
       (r.leads.rest ∙ e)
       ∙ end_is part (length ws) lexical ∙ sym is)
@@ -124,7 +124,7 @@ module _ (text : List ℕ) (ws : List Word) (len : ℕ) (lexical : Option Fault)
 -- a statement that closes a block stands in one
 pub inside_block : (text : List ℕ) (ws : List Word) (db : List Statement) (deep at : ℕ)
     → IsReading text ws db deep at → (s : Statement) (d : ℕ) (us : List _)
-    → Leads (start deep) (behind text ws at) (s ∷ []) (start d) us → is_closing s ≡ true
+    → Leads (start deep) (tokens_from text ws at) (s ∷ []) (start d) us → is_closing s ≡ true
     → 0 < depth db (length db)
 inside_block text ws db deep at r s d us l e =
     let more = statements_from (start d) us in
@@ -139,7 +139,7 @@ inside_block text ws db deep at r s d us l e =
     count_end is_closing db s ∙ ap (λ b. count_by is_closing db + cond b 1 0) e in
     let o : count_by is_opening (db ++ s ∷ []) ≡ count_by is_opening db + 0 =
     count_end is_opening db s ∙ ap (λ b. count_by is_opening db + cond b 1 0) (not_both s e) in
-    let same = depth-end db s in
+    let same = depth_end db s in
     omega (arith, n, c, o, same)
   where
     take_one : (db : List Statement) (s : Statement) (more : List Statement)
@@ -164,50 +164,50 @@ less_one-is : (d : ℕ) → d - 1 ≡ less_one d
 less_one-is zero = omega arith
 less_one-is (suc d) = omega arith
 
-behind_le : (k : Kind) (d at end : ℕ) → d ≤ at → at ≤ end → depth_behind k d ≤ end + 1
-behind_le kind.Open d at end h l = omega arith
-behind_le kind.Close zero at end h l = omega arith
-behind_le kind.Close (suc d) at end h l = omega arith
-behind_le _ d at end h l = omega arith
+after_le : (k : Kind) (d at end : ℕ) → d ≤ at → at ≤ end → depth_after k d ≤ end + 1
+after_le kind.Open d at end h l = omega arith
+after_le kind.Close zero at end h l = omega arith
+after_le kind.Close (suc d) at end h l = omega arith
+after_le _ d at end h l = omega arith
 
 depth_is : (text : List ℕ) (ws : List Word) (db : List Statement) (b : Lists) → IsBlocks db b
     → length db < never → (k : Kind) (w m e : ℕ)
-    → depth_behind k (depth db (length db))
+    → depth_after k (depth db (length db))
     ≡ depth (db ++ made text ws k w m e ∷ []) (length db + 1)
 depth_is text ws db b x few kind.Open w m e =
-    (let y = depth-opening db (made text ws kind.Open w m e) b x few refl refl in omega (arith, y))
+    (let y = depth_opening db (made text ws kind.Open w m e) b x few refl refl in omega (arith, y))
 depth_is text ws db b x few kind.Close w m e =
-    sym (depth-closing db (made text ws kind.Close w m e) b x few refl refl
+    sym (depth_closing db (made text ws kind.Close w m e) b x few refl refl
     ∙ less_one-is (depth db (length db)))
 depth_is text ws db b x few kind.Constants w m e =
-    sym (depth-plain db (made text ws kind.Constants w m e) b x few refl refl)
+    sym (depth_plain db (made text ws kind.Constants w m e) b x few refl refl)
 depth_is text ws db b x few kind.Variables w m e =
-    sym (depth-plain db (made text ws kind.Variables w m e) b x few refl refl)
+    sym (depth_plain db (made text ws kind.Variables w m e) b x few refl refl)
 depth_is text ws db b x few kind.Disjoint w m e =
-    sym (depth-plain db (made text ws kind.Disjoint w m e) b x few refl refl)
+    sym (depth_plain db (made text ws kind.Disjoint w m e) b x few refl refl)
 depth_is text ws db b x few kind.Floating w m e =
-    sym (depth-plain db (made text ws kind.Floating w m e) b x few refl refl)
+    sym (depth_plain db (made text ws kind.Floating w m e) b x few refl refl)
 depth_is text ws db b x few kind.Essential w m e =
-    sym (depth-plain db (made text ws kind.Essential w m e) b x few refl refl)
+    sym (depth_plain db (made text ws kind.Essential w m e) b x few refl refl)
 depth_is text ws db b x few kind.Axiom w m e =
-    sym (depth-plain db (made text ws kind.Axiom w m e) b x few refl refl)
+    sym (depth_plain db (made text ws kind.Axiom w m e) b x few refl refl)
 depth_is text ws db b x few kind.Theorem w m e =
-    sym (depth-plain db (made text ws kind.Theorem w m e) b x few refl refl)
+    sym (depth_plain db (made text ws kind.Theorem w m e) b x few refl refl)
 
-pub reading-more : (text : List ℕ) (ws : List Word) (db : List Statement) (deep at : ℕ)
+pub reading_more : (text : List ℕ) (ws : List Word) (db : List Statement) (deep at : ℕ)
     → IsReading text ws db deep at → length ws < 2 ^ 31 → (b : Lists) → IsBlocks db b
     → (k : Kind) (w m e : ℕ) → at ≤ e → e < length ws
-    → Leads (start deep) (behind text ws at) (made text ws k w m e ∷ [])
-    (start (depth_behind k deep)) (behind text ws (e + 1))
+    → Leads (start deep) (tokens_from text ws at) (made text ws k w m e ∷ [])
+    (start (depth_after k deep)) (tokens_from text ws (e + 1))
     → None ≡ least (scope_faults (names_before db (length db)) deep (made text ws k w m e))
-    → IsReading text ws (db ++ made text ws k w m e ∷ []) (depth_behind k deep) (e + 1)
-reading-more text ws db deep at r small b x k w m e later within l f = record {
-  leads = leads-then r.leads l;
+    → IsReading text ws (db ++ made text ws k w m e ∷ []) (depth_after k deep) (e + 1)
+reading_more text ws db deep at r small b x k w m e later within l f = record {
+  leads = leads_then r.leads l;
   within = omega (arith, within);
   few = let n = r.few in omega (arith, n, long, later);
-  shallow = behind_le k deep at e r.shallow later;
+  shallow = after_le k deep at e r.shallow later;
   deep_is =
-      ap (depth_behind k) r.deep_is
+      ap (depth_after k) r.deep_is
       ∙ depth_is text ws db b x
       (let n = r.few in let i = r.within in omega (arith, n, i, small)) k w m e
       ∙ ap (depth (db ++ s ∷ [])) (sym long);
@@ -226,20 +226,20 @@ reading-more text ws db deep at r small b x k w m e later within l f = record {
       where
         by : (j < length db) ⊎ (length db ≤ j)
             → scope_fault (db ++ made text ws k w m e ∷ []) j ≡ None
-        by (inl i) = scope_fault-front db (made text ws k w m e ∷ []) j i ∙ r.lawful j i
+        by (inl i) = scope_fault_front db (made text ws k w m e ∷ []) j i ∙ r.lawful j i
         by (inr i) =
             let same : length db ≡ j = omega (arith, h, i, long) in
             subst (λ j. scope_fault (db ++ made text ws k w m e ∷ []) j ≡ None) same
-            (scope_fault-next db (made text ws k w m e) []
+            (scope_fault_next db (made text ws k w m e) []
             ∙ ap (λ d. least
             (scope_faults (names_before db (length db)) d (made text ws k w m e)))
             (sym r.deep_is)
             ∙ sym f)
 
-pub some-not : (f : Option Fault) → is_some f ≡ true → f ≢ None
-some-not None h e = absurd (true≢false (sym h))
-some-not (Some f) h e = cc
+pub some_not : (f : Option Fault) → is_some f ≡ true → f ≢ None
+some_not None h e = absurd (true≢false (sym h))
+some_not (Some f) h e = cc
 
-pub none-is : (f : Option Fault) → is_some f ≡ false → None ≡ f
-none-is None h = refl
-none-is (Some f) h = absurd (true≢false h)
+pub none_is : (f : Option Fault) → is_some f ≡ false → None ≡ f
+none_is None h = refl
+none_is (Some f) h = absurd (true≢false h)

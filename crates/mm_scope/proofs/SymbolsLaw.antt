@@ -38,15 +38,15 @@ first_step e v ws b h =
     ap (λ b. elim b [ true ↦ first_occurrences e ws | false ↦ v ∷ first_occurrences (v ∷ e) ws ]) h
 
 -- one word more
-pub first-snoc : (ws e : List Bytes) (w : Bytes)
+pub first_snoc : (ws e : List Bytes) (w : Bytes)
     → first_occurrences e (ws ++ w ∷ [])
     ≡ first_occurrences e ws ++ if_new (is_in w e || is_in w ws) w
-first-snoc [] e w = by (is_in w e)
+first_snoc [] e w = by (is_in w e)
   where
     by : (b : Bool) → elim b [ true ↦ [] | false ↦ w ∷ [] ] ≡ if_new (b || false) w
     by true = refl
     by false = refl
-first-snoc (v ∷ ws) e w = by (is_in v e) refl (first-snoc ws e w) (first-snoc ws (v ∷ e) w)
+first_snoc (v ∷ ws) e w = by (is_in v e) refl (first_snoc ws e w) (first_snoc ws (v ∷ e) w)
   where
     known : is_in v e ≡ true → (b : Bool) → bytes_eq w v ≡ b
         → (is_in w e || is_in w ws) ≡ (is_in w e || (b || is_in w ws))
@@ -75,11 +75,11 @@ first-snoc (v ∷ ws) e w = by (is_in v e) refl (first-snoc ws e w) (first-snoc 
         (first_step e v ws false h))
 
 -- the words are those, but for the earlier ones
-pub in-first : (ws e : List Bytes) (w : Bytes) → is_in w e ≡ false
+pub in_first : (ws e : List Bytes) (w : Bytes) → is_in w e ≡ false
     → is_in w (first_occurrences e ws) ≡ is_in w ws
-in-first [] e w h = refl
-in-first (v ∷ ws) e w h =
-    by (in-first ws e w h) (in-first ws (v ∷ e) w) (is_in v e) refl (bytes_eq w v) refl
+in_first [] e w h = refl
+in_first (v ∷ ws) e w h =
+    by (in_first ws e w h) (in_first ws (v ∷ e) w) (is_in v e) refl (bytes_eq w v) refl
   where
     by : is_in w (first_occurrences e ws) ≡ is_in w ws
         → (is_in w (v ∷ e) ≡ false → is_in w (first_occurrences (v ∷ e) ws) ≡ is_in w ws)
@@ -118,17 +118,17 @@ not-first (v ∷ ws) e w h =
 abbrev pub added : List Bytes → Bytes → List Bytes
 added ns w = ns ++ if_new (is_in w ns) w
 
-pub first-added : (ws : List Bytes) (w : Bytes)
+pub first_added : (ws : List Bytes) (w : Bytes)
     → first_occurrences [] (ws ++ w ∷ []) ≡ added (first_occurrences [] ws) w
-first-added ws w =
-    first-snoc ws [] w
-    ∙ ap (λ b. first_occurrences [] ws ++ if_new b w) (sym (in-first ws [] w refl))
+first_added ws w =
+    first_snoc ws [] w
+    ∙ ap (λ b. first_occurrences [] ws ++ if_new b w) (sym (in_first ws [] w refl))
 
 -- a name's place
-pub place-in : (ns : List Bytes) (w : Bytes) → is_in w ns ≡ true
+pub place_in : (ns : List Bytes) (w : Bytes) → is_in w ns ≡ true
     → slice_get ns (place_of w ns) ≡ Some w
-place-in [] w h = absurd (true≢false (sym h))
-place-in (n ∷ ns) w h = by (place-in ns w) (bytes_eq w n) refl
+place_in [] w h = absurd (true≢false (sym h))
+place_in (n ∷ ns) w h = by (place_in ns w) (bytes_eq w n) refl
   where
     by : (is_in w ns ≡ true → slice_get ns (place_of w ns) ≡ Some w) → (b : Bool) → bytes_eq w n ≡ b
         → slice_get (n ∷ ns) (place_of w (n ∷ ns)) ≡ Some w
@@ -139,21 +139,21 @@ place-in (n ∷ ns) w h = by (place-in ns w) (bytes_eq w n) refl
         ap (λ b. slice_get (n ∷ ns) (elim b [ true ↦ 0 | false ↦ suc (place_of w ns) ])) s
         ∙ r (sym (ap (λ b. b || is_in w ns) s) ∙ h)
 
-pub get-in : (ns : List Bytes) (s : ℕ) (w : Bytes) → slice_get ns s ≡ Some w → is_in w ns ≡ true
-get-in [] zero w h = absurd (let e : None ≡ Some w = h in cc)
-get-in [] (suc s) w h = absurd (let e : None ≡ Some w = h in cc)
-get-in (n ∷ ns) zero w h =
+pub get_in : (ns : List Bytes) (s : ℕ) (w : Bytes) → slice_get ns s ≡ Some w → is_in w ns ≡ true
+get_in [] zero w h = absurd (let e : None ≡ Some w = h in cc)
+get_in [] (suc s) w h = absurd (let e : None ≡ Some w = h in cc)
+get_in (n ∷ ns) zero w h =
     let e : n ≡ w = (let q : Some n ≡ Some w = h in cc) in
     ap (λ b. b || is_in w ns) (ap (bytes_eq w) e ∙ itself w)
-get-in (n ∷ ns) (suc s) w h = ap (λ b. bytes_eq w n || b) (get-in ns s w h) ∙ or_true (bytes_eq w n)
+get_in (n ∷ ns) (suc s) w h = ap (λ b. bytes_eq w n || b) (get_in ns s w h) ∙ or_true (bytes_eq w n)
 
 -- each name stands once
-pub place-get : (ws e : List Bytes) (s : ℕ) (w : Bytes)
+pub place_get : (ws e : List Bytes) (s : ℕ) (w : Bytes)
     → slice_get (first_occurrences e ws) s ≡ Some w → place_of w (first_occurrences e ws) ≡ s
-place-get [] e zero w h = absurd (let q : None ≡ Some w = h in cc)
-place-get [] e (suc s) w h = absurd (let q : None ≡ Some w = h in cc)
-place-get (v ∷ ws) e s w h =
-    by (λ r. place-get ws e r w) (λ r. place-get ws (v ∷ e) r w) (is_in v e) refl s h
+place_get [] e zero w h = absurd (let q : None ≡ Some w = h in cc)
+place_get [] e (suc s) w h = absurd (let q : None ≡ Some w = h in cc)
+place_get (v ∷ ws) e s w h =
+    by (λ r. place_get ws e r w) (λ r. place_get ws (v ∷ e) r w) (is_in v e) refl s h
   where
     head : (t : List Bytes) (s : ℕ) → slice_get (v ∷ t) s ≡ Some w → is_in v t ≡ false
         → ((r : ℕ) → slice_get t r ≡ Some w → place_of w t ≡ r) → place_of w (v ∷ t) ≡ s
@@ -165,7 +165,7 @@ place-get (v ∷ ws) e s w h =
         go : (b : Bool) → bytes_eq w v ≡ b → place_of w (v ∷ t) ≡ suc s
         go true k =
             absurd (true≢false
-            (sym (ap (λ x. is_in x t) (sym (same_word w v k)) ∙ get-in t s w q) ∙ n))
+            (sym (ap (λ x. is_in x t) (sym (same_word w v k)) ∙ get_in t s w q) ∙ n))
         go false k = ap (λ b. elim b [ true ↦ 0 | false ↦ suc (place_of w t) ]) k ∙ ap suc (r s q)
 
     by : ((r : ℕ) → slice_get (first_occurrences e ws) r ≡ Some w
@@ -184,9 +184,9 @@ place-get (v ∷ ws) e s w h =
         (not-first ws (v ∷ e) v (ap (λ b. b || is_in v e) (itself v))) g
 
 -- where the code finds a name
-pub place-position : (w : Bytes) (ks : List (Bor Bytes))
+pub place_position : (w : Bytes) (ks : List (Bor Bytes))
     → position_or_len (λ k. bytes_eq w k.now) ks ≡ place_of w (map (λ k. k.now) ks)
-place-position w ks =
+place_position w ks =
     sym (is_position_or_len (λ (xs : List (Bor Bytes)). place_of w (map (λ k. k.now) xs))
     (λ k. bytes_eq w k.now) refl
     (λ x xs. step (bytes_eq w x.now) (place_of w (map (λ k. k.now) xs))) ks)
@@ -195,25 +195,25 @@ place-position w ks =
     step true n = refl
     step false n = omega arith
 
-pub keys-in : (w : Bytes) (ks : List (Bor Bytes))
+pub keys_in : (w : Bytes) (ks : List (Bor Bytes))
     → list_any (λ k. bytes_eq w k.now) ks ≡ is_in w (map (λ k. k.now) ks)
-keys-in w [] = refl
-keys-in w (k ∷ ks) = ap (λ b. bytes_eq w k.now || b) (keys-in w ks)
+keys_in w [] = refl
+keys_in w (k ∷ ks) = ap (λ b. bytes_eq w k.now || b) (keys_in w ks)
 
 -- the place of a name that is found, and of one that is not
-pub found-place : (w : Bytes) (ks : List (Bor Bytes)) (n : ℕ)
+pub found_place : (w : Bytes) (ks : List (Bor Bytes)) (n : ℕ)
     → position (λ k. bytes_eq w k.now) ks ≡ Some n → n ≡ place_of w (map (λ k. k.now) ks)
-found-place w ks n h =
-    by (nat_lt (position_or_len (λ k. bytes_eq w k.now) ks) (length ks)) h ∙ place-position w ks
+found_place w ks n h =
+    by (nat_lt (position_or_len (λ k. bytes_eq w k.now) ks) (length ks)) h ∙ place_position w ks
   where
     by : (b : Bool) → cond b (Some (position_or_len (λ k. bytes_eq w k.now) ks)) None ≡ Some n
         → n ≡ position_or_len (λ k. bytes_eq w k.now) ks
     by true e = let q : Some (position_or_len (λ k. bytes_eq w k.now) ks) ≡ Some n = e in cc
     by false e = let q : None ≡ Some n = e in cc
 
-pub missing-place : (w : Bytes) (ns : List Bytes) → is_in w ns ≡ false → length ns ≡ place_of w ns
-missing-place w [] h = refl
-missing-place w (n ∷ ns) h = by (bytes_eq w n) refl (missing-place w ns)
+pub missing_place : (w : Bytes) (ns : List Bytes) → is_in w ns ≡ false → length ns ≡ place_of w ns
+missing_place w [] h = refl
+missing_place w (n ∷ ns) h = by (bytes_eq w n) refl (missing_place w ns)
   where
     by : (b : Bool) → bytes_eq w n ≡ b → (is_in w ns ≡ false → length ns ≡ place_of w ns)
         → suc (length ns) ≡ place_of w (n ∷ ns)
@@ -242,15 +242,15 @@ others_too true b e = absurd (true≢false (sym e))
 others_too false b e = e
 
 -- the place of a name is where it stands
-pub place-distinct : (ns : List Bytes) → are_distinct ns ≡ true → (i : ℕ) (w : Bytes)
+pub place_distinct : (ns : List Bytes) → are_distinct ns ≡ true → (i : ℕ) (w : Bytes)
     → slice_get ns i ≡ Some w → i ≡ place_of w ns
-place-distinct [] d zero w e = absurd (let q : None ≡ Some w = e in cc)
-place-distinct [] d (suc i) w e = absurd (let q : None ≡ Some w = e in cc)
-place-distinct (n ∷ ns) d zero w e =
+place_distinct [] d zero w e = absurd (let q : None ≡ Some w = e in cc)
+place_distinct [] d (suc i) w e = absurd (let q : None ≡ Some w = e in cc)
+place_distinct (n ∷ ns) d zero w e =
     sym (ap (λ b. elim b [ true ↦ 0 | false ↦ suc (place_of w ns) ])
     (ap (bytes_eq w) (list_head e) ∙ itself w))
-place-distinct (n ∷ ns) d (suc i) w e =
-    by (bytes_eq w n) refl (place-distinct ns (others_too (is_in n ns) (are_distinct ns) d) i w e)
+place_distinct (n ∷ ns) d (suc i) w e =
+    by (bytes_eq w n) refl (place_distinct ns (others_too (is_in n ns) (are_distinct ns) d) i w e)
   where
     by : (b : Bool) → bytes_eq w n ≡ b → i ≡ place_of w ns
         → suc i ≡ elim b [ true ↦ 0 | false ↦ suc (place_of w ns) ]
@@ -286,9 +286,9 @@ distinct-push (n ∷ ns) w d h =
     differ false s = refl
 
 -- a name more, where it is new
-pub distinct-with : (w : Bytes) (ns : List Bytes) → are_distinct ns ≡ true
+pub distinct_with : (w : Bytes) (ns : List Bytes) → are_distinct ns ≡ true
     → are_distinct (with_name w ns) ≡ true
-distinct-with w ns d = by (is_in w ns) refl
+distinct_with w ns d = by (is_in w ns) refl
   where
     by : (b : Bool) → is_in w ns ≡ b → are_distinct (if b then ns else (ns ++ w ∷ [])) ≡ true
     by true h = d

@@ -11,7 +11,7 @@ use Rattle.mm_scope.specs.Formulas.{AreFormulas}
 use Rattle.mm_scope.specs.declared.reading.Outlined.{Outlined}
 use Rattle.mm_spec.specs.Text.{is_in}
 use Rattle.mm_scope.specs.Judge.{entry_of}
-use Rattle.mm_scope.specs.Known.{IsKnown}
+use Rattle.mm_scope.specs.WordEntry.{IsEntryOf}
 use Rattle.mm_scope.specs.Labels.{AreLabels}
 use Rattle.mm_scope.specs.declared.names.Symbol.{Symbol}
 
@@ -19,7 +19,7 @@ use Rattle.mm_scope.specs.declared.names.Symbol.{Symbol}
 pub record Keeps (db : List Statement) (look : List ℕ → Option Symbol) (labels : List ℕ → Option ℕ)
     (b : Lists) : Type 0 where
   pub blocks : IsBlocks db b
-  pub symbols : (w : List ℕ) → IsKnown db w (entry_of (look w))
+  pub symbols : (w : List ℕ) → IsEntryOf db w (entry_of (look w))
   pub labels_known : (w : List ℕ) → is_in w (flat_map label_words db) ≡ is_some (labels w)
   pub labels_are : AreLabels db labels
 

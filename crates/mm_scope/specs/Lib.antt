@@ -1,6 +1,6 @@
 pub mod Formulas
 pub mod Judge
 pub mod Keeps
-pub mod Known
+pub mod WordEntry
 pub mod Labels
 pub mod Names

@@ -9,7 +9,7 @@ ghost use Rattle.mm_scope.specs.Names.{find, names_of};
 ghost use Rattle.mm_scope.specs.Formulas.{judged};
 ghost use Rattle.mm_spec.specs.Lawful.{least, at_each, symbol_codes, formula_faults};
 ghost use Rattle.mm_spec.specs.Lawful.{floating_faults, label_faults, scope_faults};
-ghost use Rattle.mm_spec.specs.Scope.{Names as Known};
+ghost use Rattle.mm_spec.specs.Scope.{Names as DeclaredNames};
 ghost use Rattle.mm_outline.specs.Parts.{AreWithin, IsOutline, between, nth_word, token_at};
 ghost use Rattle.mm_outline.specs.Parts.{statement_of};
 ghost use Rattle.mm_scope.specs.Judge.{merge as spec_merge, fault_at, is_open_in, declared_codes};
@@ -38,7 +38,7 @@ impl<'a, A: Allocator + Copy> Scope<'a, A> {
         requires within { to ≤ length tokens.now }
         requires few { length (names_of self.now.names.symbols) < 2 ^ 31 }
         ensures fault { IfOk result
-            (λ r. (n : Known)
+            (λ r. (n : DeclaredNames)
             → Knows n (find self.now.names.symbols) (find self.now.names.labels)
             (is_open_in self.now.blocks.of.items self.now.blocks.ends.items)
             → r ≡ least (at_each (symbol_codes n) [] (between text.now tokens.now from to))) }
@@ -74,7 +74,7 @@ impl<'a, A: Allocator + Copy> Scope<'a, A> {
         requires order { from ≤ to }
         requires within { to < length tokens.now }
         ensures { IfOk result
-            (λ r. (n : Known)
+            (λ r. (n : DeclaredNames)
             → Knows n (find self.now.names.symbols) (find self.now.names.labels)
             (is_open_in self.now.blocks.of.items self.now.blocks.ends.items)
             → r ≡ least
@@ -107,7 +107,7 @@ impl<'a, A: Allocator + Copy> Scope<'a, A> {
         requires within { to < length tokens.now }
         requires few { length (names_of self.now.names.symbols) < 2 ^ 31 }
         ensures fault { IfOk result
-            (λ r. (n : Known)
+            (λ r. (n : DeclaredNames)
             → Knows n (find self.now.names.symbols) (find self.now.names.labels)
             (is_open_in self.now.blocks.of.items self.now.blocks.ends.items)
             → r ≡ least
@@ -136,7 +136,7 @@ impl<'a, A: Allocator + Copy> Scope<'a, A> {
     fn label_fault(&self, text: &[u8], tokens: &[Word], at: u32) -> Option<Fault>
         requires words { AreWithin text.now tokens.now }
         requires within { at < length tokens.now }
-        ensures { (n : Known)
+        ensures { (n : DeclaredNames)
             → Knows n (find self.now.names.symbols) (find self.now.names.labels)
             (is_open_in self.now.blocks.of.items self.now.blocks.ends.items)
             → result ≡ least (label_faults n (token_at text.now tokens.now at)) }
@@ -154,7 +154,7 @@ impl<'a, A: Allocator + Copy> Scope<'a, A> {
         requires words { AreWithin text.now tokens.now }
         requires order { keyword < to }
         requires within { to < length tokens.now }
-        ensures { (n : Known)
+        ensures { (n : DeclaredNames)
             → Knows n (find self.now.names.symbols) (find self.now.names.labels)
             (is_open_in self.now.blocks.of.items self.now.blocks.ends.items)
             → result
@@ -259,7 +259,7 @@ impl<'a, A: Allocator + Copy> Scope<'a, A> {
             ++ judged (names_of self.now.names.symbols)
             (statement_of text.now tokens.now outline)) }
         ensures fault { IfOk result
-            (λ r. (n : Known)
+            (λ r. (n : DeclaredNames)
             → Knows n (find self.now.names.symbols) (find self.now.names.labels)
             (is_open_in self.now.blocks.of.items self.now.blocks.ends.items)
             → r ≡ least (scope_faults n deep (statement_of text.now tokens.now outline))) }
@@ -299,7 +299,7 @@ impl<'a, A: Allocator + Copy> Scope<'a, A> {
         requires within { to < length tokens.now }
         requires few { length (names_of self.now.names.symbols) < 2 ^ 31 }
         ensures fault { IfOk result
-            (λ r. (n : Known)
+            (λ r. (n : DeclaredNames)
             → Knows n (find self.now.names.symbols) (find self.now.names.labels)
             (is_open_in self.now.blocks.of.items self.now.blocks.ends.items)
             → r ≡ least
@@ -332,7 +332,7 @@ impl<'a, A: Allocator + Copy> Scope<'a, A> {
         requires order { keyword < to }
         requires within { to < length tokens.now }
         ensures { IfOk result
-            (λ r. (n : Known)
+            (λ r. (n : DeclaredNames)
             → Knows n (find self.now.names.symbols) (find self.now.names.labels)
             (is_open_in self.now.blocks.of.items self.now.blocks.ends.items)
             → r ≡ spec_merge

@@ -11,10 +11,10 @@ ghost use Rattle.mm_outline.specs.Blocks.{IsBlocks, lists};
 ghost use Rattle.std.specs.Prelude.{◌+◌, ◌-◌, ℕ, Some, if◌then◌else◌, bytes_eq, true};
 ghost use Rattle.mm_spec.specs.Text.{is_in, words};
 ghost use Rattle.mm_scope.specs.Judge.{declared_entry, entry_of, typed_entry};
-ghost use Rattle.mm_outline.specs.Parts.{AreWithin, between, token_at, IsOutline, depth_behind};
+ghost use Rattle.mm_outline.specs.Parts.{AreWithin, between, token_at, IsOutline, depth_after};
 ghost use Rattle.mm_outline.specs.Parts.{statement_of};
 ghost use Rattle.mm_outline.specs.Tokens.{AreTokens};
-ghost use Rattle.mm_scope.specs.Known.{entry_after, label_after};
+ghost use Rattle.mm_scope.specs.WordEntry.{entry_after, label_after};
 ghost use Rattle.mm_outline.specs.Statements.{active_kind, end_fault_of, lexed, statements};
 ghost use Rattle.mm_scope.specs.Keeps.{Keeps, IsKept, MayTake, kept_by};
 ghost use Rattle.mm_spec.specs.Frame.{first_occurrences};
@@ -22,7 +22,7 @@ ghost use Rattle.mm_spec.specs.Frame.{first_occurrences};
 use crate::formulas::{Formulas, no_formulas};
 use crate::names::{Names, Scope, Symbol, no_names};
 use mm_outline::blocks::{NEVER, no_blocks};
-use mm_outline::parts::{Found, Kind, Outline, Part, find};
+use mm_outline::parts::{Kind, NextStatement, Outline, Part, next_statement};
 use mm_spec::{Code, Fault, Word};
 use std::alloc::{AllocError, Allocator};
 
@@ -39,7 +39,7 @@ pub struct Outlined<'a, A: Allocator> {
 /// How many blocks are open after a statement.
 fn depth_after(kind: Kind, deep: u32) -> u32
     requires { deep < 2 ^ 31 }
-    ensures { result ≡ depth_behind kind deep }
+    ensures { result ≡ depth_after kind deep }
 {
     match kind {
         Kind::Open => deep + 1,
@@ -185,8 +185,8 @@ pub fn outline<'a, A: Allocator + Copy>(
     let mut deep = 0;
     let mut at = 0;
     'statements: loop {
-        match find(text, tokens, deep, at) {
-            Found::Whole(outline) => {
+        match next_statement(text, tokens, deep, at) {
+            NextStatement::Whole(outline) => {
                 read.take(alloc, text, tokens, deep, outline)?;
                 if read.fault.is_some() {
                     return Ok(read);
@@ -194,11 +194,11 @@ pub fn outline<'a, A: Allocator + Copy>(
                 deep = depth_after(outline.kind, deep);
                 at = outline.end + 1;
             }
-            Found::Stopped(fault) => {
+            NextStatement::Stopped(fault) => {
                 read.fault = Some(fault);
                 return Ok(read);
             }
-            Found::Ended(part) => {
+            NextStatement::Ended(part) => {
                 read.fault = end_fault(lexical, text, part, deep);
                 return Ok(read);
             }

@@ -20,15 +20,15 @@ use Rattle.mm_spec.specs.Citation.{context_at, rule_of}
 use Rattle.mm_spec.specs.Laws.Complete.{binds, IsBound, AreBound, IsComplete, IsFine, AreComplete}
 use Rattle.mm_spec.specs.Laws.Complete.{ReadsComplete}
 use Rattle.mm_spec.specs.Output.{LexedText}
-use Rattle.mm_spec.proofs.Local.{scope_fault-front}
-use Rattle.mm_spec.proofs.Finds.{lone, any-flat_map, any-map, any-filter, member-filter}
-use Rattle.mm_spec.proofs.Finds.{filter-member, each_member, each_map, each_any, each_filter}
-use Rattle.mm_spec.proofs.Finds.{inside_of, formula_at-is, found_at, at_found, found_active}
-use Rattle.mm_spec.proofs.Finds.{active_found, same_word, declared, declares, declared_before}
-use Rattle.mm_spec.proofs.Faultless.{least_none, no_kind, new_constant, new_variable, has_formula}
-use Rattle.mm_spec.proofs.Faultless.{IsKnown, statement_known, floating_typing, typing_floats}
-use Rattle.mm_spec.proofs.Faultless.{variable_word, member_word, floating_local, essential_local}
-use Rattle.mm_spec.proofs.Faultless.{still}
+use Rattle.mm_spec.proofs.LocalLaw.{scope_fault_front}
+use Rattle.mm_spec.proofs.FindsLaw.{lone, any_flat_map, any_map, any_filter, member_filter}
+use Rattle.mm_spec.proofs.FindsLaw.{filter_member, each_member, each_map, each_any, each_filter}
+use Rattle.mm_spec.proofs.FindsLaw.{inside_of, formula_at_is, found_at, at_found, found_active}
+use Rattle.mm_spec.proofs.FindsLaw.{active_found, same_word, declared, declares, declared_before}
+use Rattle.mm_spec.proofs.FaultlessLaw.{least_none, no_kind, new_constant, new_variable, has_formula}
+use Rattle.mm_spec.proofs.FaultlessLaw.{IsKnown, statement_known, floating_typing, typing_floats}
+use Rattle.mm_spec.proofs.FaultlessLaw.{variable_word, member_word, floating_local, essential_local}
+use Rattle.mm_spec.proofs.FaultlessLaw.{still}
 
 -- ---- frames
 
@@ -109,7 +109,7 @@ module _ (db : List Statement) (lawful : (k : ℕ) → k < length db → IsLawfu
           stands = e;
           floats = f;
           typecode = place_of t.typecode.word (symbol_names db);
-          is = formula_at-is db i s e ∙ ap (formula_of db) t.is;
+          is = formula_at_is db i s e ∙ ap (formula_of db) t.is;
           constant = constant_before i t.typecode.word t.constant;
         },
         λ v h. same_word v t.variable.word
@@ -129,7 +129,7 @@ module _ (db : List Statement) (lawful : (k : ℕ) → k < length db → IsLawfu
   typed j x s e f m v =
       let w =
       member_word (symbol_names db) (words (symbols_of s)) x
-      (ap (λ g. is_member g x) (sym (formula_at-is db j s e)) ∙ m) in
+      (ap (λ g. is_member g x) (sym (formula_at_is db j s e)) ∙ m) in
       by w.0 w.2 (variable_word db w.0 (ap (is_variable_number db) (sym w.2) ∙ v))
       (statement_known (names_before db j) (depth db j) s f (faultless j s e) w.0 w.1)
     where
@@ -141,8 +141,8 @@ module _ (db : List Statement) (lawful : (k : ℕ) → k < length db → IsLawfu
           let q : Typing → Bool = λ (t : Typing). bytes_eq w t.variable in
           let a =
           found_active db j (λ i. list_any (λ s. list_any q (typings_of s)) (statement_at db i))
-          (sym (any-flat_map q typings_of (active_statements db j)
-          ∙ any-flat_map (λ s. list_any q (typings_of s)) (statement_at db) (active db j))
+          (sym (any_flat_map q typings_of (active_statements db j)
+          ∙ any_flat_map (λ s. list_any q (typings_of s)) (statement_at db) (active db j))
           ∙ t) in
           let s = found_at db (λ s. list_any q (typings_of s)) a.0 a.2 in
           let y = typing a.0 s.0 s.1 (typing_floats q s.0 s.2) in
@@ -154,7 +154,7 @@ module _ (db : List Statement) (lawful : (k : ℕ) → k < length db → IsLawfu
       → (i : ℕ) × (is_active db i k ≡ true) × Types i x × (is_variable_number db x ≡ true)
   mandatory_typed k x s e f m =
       let more = flat_map (formula_at db) (active_of is_essential db k) in
-      let p = member-filter (is_variable_number db) (formula_at db k ++ more) x m in
+      let p = member_filter (is_variable_number db) (formula_at db k ++ more) x m in
       by p.0 (or_cases (is_member (formula_at db k) x) (is_member more x)
       (sym (list_any-append (λ y. x == y) (formula_at db k) more) ∙ p.1))
     where
@@ -167,8 +167,8 @@ module _ (db : List Statement) (lawful : (k : ℕ) → k < length db → IsLawfu
           let kind : ℕ → Bool = λ (j : ℕ). list_any is_essential (statement_at db j) in
           let a =
           found_active db k (λ j. kind j && is_member (formula_at db j) x)
-          (sym (any-flat_map (λ y. x == y) (formula_at db) (active_of is_essential db k)
-          ∙ any-filter kind (λ j. is_member (formula_at db j) x) (active db k))
+          (sym (any_flat_map (λ y. x == y) (formula_at db) (active_of is_essential db k)
+          ∙ any_filter kind (λ j. is_member (formula_at db j) x) (active db k))
           ∙ h) in
           let p = and_parts (kind a.0) (is_member (formula_at db a.0) x) a.2 in
           let t = found_at db is_essential a.0 p.0 in
@@ -206,7 +206,7 @@ module _ (db : List Statement) (lawful : (k : ℕ) → k < length db → IsLawfu
       → is_member (mandatory_variables db k) x ≡ true
   of_formula k x h v =
       let more = flat_map (formula_at db) (active_of is_essential db k) in
-      filter-member (is_variable_number db) (formula_at db k ++ more) x v
+      filter_member (is_variable_number db) (formula_at db k ++ more) x v
       (list_any-append (λ y. x == y) (formula_at db k) more
       ∙ or_left (is_member (formula_at db k) x) (is_member more x) h)
 
@@ -225,8 +225,8 @@ module _ (db : List Statement) (lawful : (k : ℕ) → k < length db → IsLawfu
       among : list_any is_essential (statement_at db j) ≡ true
           → is_member (flat_map (formula_at db) (active_of is_essential db k)) x ≡ true
       among g =
-          any-flat_map (λ y. x == y) (formula_at db) (active_of is_essential db k)
-          ∙ any-filter is_essential_at (λ i. is_member (formula_at db i) x) (active db k)
+          any_flat_map (λ y. x == y) (formula_at db) (active_of is_essential db k)
+          ∙ any_filter is_essential_at (λ i. is_member (formula_at db i) x) (active db k)
           ∙ active_found db k (λ i. is_essential_at i && is_member (formula_at db i) x) j a
           (and_from (is_essential_at j) (is_member (formula_at db j) x) g h)
 
@@ -257,7 +257,7 @@ module _ (db : List Statement) (lawful : (k : ℕ) → k < length db → IsLawfu
               → is_member (mandatory_variables db k) x ≡ true
           one (inl g) =
               absurd (true≢false
-              (sym (member-filter (is_variable_number db) (formula_at db k ++ more) t.typecode g).0
+              (sym (member_filter (is_variable_number db) (formula_at db k ++ more) t.typecode g).0
               ∙ t.constant))
           one (inr g) =
               ap (is_member (mandatory_variables db k)) (alone y t)
@@ -270,7 +270,7 @@ module _ (db : List Statement) (lawful : (k : ℕ) → k < length db → IsLawfu
           → is_member (mandatory_variables db k) x ≡ true
       by (inl g) =
           let more = flat_map (formula_at db) (active_of is_essential db k) in
-          filter-member (is_variable_number db) (formula_at db k ++ more) x v
+          filter_member (is_variable_number db) (formula_at db k ++ more) x v
           (list_any-append (λ y. x == y) (formula_at db k) more
           ∙ or_right (is_member (formula_at db k) x) (is_member more x) (among g))
       by (inr g) =
@@ -305,8 +305,8 @@ module _ (db : List Statement) (lawful : (k : ℕ) → k < length db → IsLawfu
         → binds (context_at db m) x (formula_at db j) ≡ true
         → IsBound (context_at db m) frame_hypotheses x
     hypothesis_binds x j a t b =
-        any-map (binds (context_at db m) x) (formula_at db) (mandatory_hypotheses db k)
-        ∙ any-filter (is_mandatory db k) (λ j. binds (context_at db m) x (formula_at db j))
+        any_map (binds (context_at db m) x) (formula_at db) (mandatory_hypotheses db k)
+        ∙ any_filter (is_mandatory db k) (λ j. binds (context_at db m) x (formula_at db j))
         (active db k)
         ∙ active_found db k
         (λ j. is_mandatory db k j && binds (context_at db m) x (formula_at db j)) j a
@@ -396,5 +396,5 @@ module _ (db : List Statement) (lawful : (k : ℕ) → k < length db → IsLawfu
 pub reads_complete : (len : ℕ) (x : LexedText) → ReadsComplete len x
 reads_complete len x db fault r =
     lawful_complete db
-    (λ k h. sym (scope_fault-front db r.rest k h) ∙ ap (λ row. scope_fault row k) (sym r.splits)
+    (λ k h. sym (scope_fault_front db r.rest k h) ∙ ap (λ row. scope_fault row k) (sym r.splits)
     ∙ r.lawful k h)

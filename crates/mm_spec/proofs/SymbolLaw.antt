@@ -17,10 +17,10 @@ use Rattle.mm_spec.specs.Lawful.{IsLawful}
 use Rattle.mm_spec.specs.declared.Code.TheVariants.{UndeclaredSymbol, UntypedVariable, BadTypecode}
 use Rattle.mm_spec.specs.declared.Code.TheVariants.{BadFloating, TooFewVariables}
 use Rattle.mm_spec.specs.declared.Code.TheVariants.{UndeclaredVariable, RepeatedVariable}
-use Rattle.mm_spec.proofs.Finds.{any-flat_map, inside_of, found_at, found_active, same_word}
-use Rattle.mm_spec.proofs.Finds.{declares, declared_before}
-use Rattle.mm_spec.proofs.Faultless.{least_none, nil_first, nil_second, at_none, when_none}
-use Rattle.mm_spec.proofs.Faultless.{not_false, each_none}
+use Rattle.mm_spec.proofs.FindsLaw.{any_flat_map, inside_of, found_at, found_active, same_word}
+use Rattle.mm_spec.proofs.FindsLaw.{declares, declared_before}
+use Rattle.mm_spec.proofs.FaultlessLaw.{least_none, nil_first, nil_second, at_none, when_none}
+use Rattle.mm_spec.proofs.FaultlessLaw.{not_false, each_none}
 
 -- what is known of a symbol of a statement: a constant, an active variable, or one that the
 -- statement declares
@@ -128,8 +128,8 @@ module _ (db : List Statement) where
   constants-declared : (w : Bytes) → is_in w (flat_map constants_of db) ≡ true
       → is_in w (flat_map declared_words db) ≡ true
   constants-declared w h =
-      any-flat_map (bytes_eq w) declared_words db
-      ∙ go db (sym (any-flat_map (bytes_eq w) constants_of db) ∙ h)
+      any_flat_map (bytes_eq w) declared_words db
+      ∙ go db (sym (any_flat_map (bytes_eq w) constants_of db) ∙ h)
     where
       go : (xs : List Statement) → list_any (λ s. is_in w (constants_of s)) xs ≡ true
           → list_any (λ s. is_in w (declared_words s)) xs ≡ true
@@ -159,10 +159,10 @@ module _ (db : List Statement) where
       (declares declared_words db (length db) i s w e (inside_of db i s e) m)
 
   -- each symbol of a lawful statement is declared by some statement
-  pub declared-here : (k : ℕ) (s : Statement) → slice_get db k ≡ Some s → IsLawful db k
+  pub declared_here : (k : ℕ) (s : Statement) → slice_get db k ≡ Some s → IsLawful db k
       → (w : Bytes) → is_in w (words (symbols_of s)) ≡ true
       → is_in w (flat_map declared_words db) ≡ true
-  declared-here k s e law w m =
+  declared_here k s e law w m =
       by (named (names_before db k) (depth db k) s
       (least_none _
       (sym (ap
@@ -175,8 +175,8 @@ module _ (db : List Statement) where
       by (variable h) =
           let f =
           found_active db k (λ i. list_any (λ s. is_in w (variables_of s)) (statement_at db i))
-          (sym (any-flat_map (bytes_eq w) variables_of (active_statements db k)
-          ∙ any-flat_map (λ s. is_in w (variables_of s)) (statement_at db) (active db k))
+          (sym (any_flat_map (bytes_eq w) variables_of (active_statements db k)
+          ∙ any_flat_map (λ s. is_in w (variables_of s)) (statement_at db) (active db k))
           ∙ h) in
           let g = found_at db (λ s. is_in w (variables_of s)) f.0 f.2 in
           own-declared f.0 g.0 w g.1

@@ -10,18 +10,18 @@ use Rattle.std.proofs.lemmas.Bool.{and_parts, or_cases, cases_lt, cases_eq, not-
 use Rattle.mm_spec.specs.declared.Word.{Word}
 use Rattle.mm_spec.specs.Bytes.{is_white}
 use Rattle.mm_spec.specs.Words.{white_at, begins_word, word_at, words_between, words_of}
-use Rattle.mm_spec.proofs.WordsLemmas.{IsBoundary, words_between-skip, words_between-take}
-use Rattle.mm_spec.proofs.WordsLemmas.{words_between-none, IsWord-word_at, begins_word-first}
+use Rattle.mm_spec.proofs.WordRunsLaw.{IsBoundary, words_between_skip, words_between_take}
+use Rattle.mm_spec.proofs.WordRunsLaw.{words_between_none, IsWord_word_at, begins_word_first}
 use Rattle.mm_spec.specs.Laws.Words.{AreWords, IsWord}
 
 -- what the test for the beginning of a word says
-pub begins_word-ink : (text : List ℕ) (i : ℕ) → begins_word text i ≡ true → white_at text i ≡ false
+pub begins_word_ink : (text : List ℕ) (i : ℕ) → begins_word text i ≡ true → white_at text i ≡ false
 unfolding begins_word
-begins_word-ink text i h = not-true _ (and_parts (not (white_at text i)) _ h).0
+begins_word_ink text i h = not-true _ (and_parts (not (white_at text i)) _ h).0
 
-pub begins_word-boundary : (text : List ℕ) (i : ℕ) → begins_word text i ≡ true → IsBoundary text i
+pub begins_word_boundary : (text : List ℕ) (i : ℕ) → begins_word text i ≡ true → IsBoundary text i
 unfolding begins_word
-begins_word-boundary text i h j e _ _ =
+begins_word_boundary text i h j e _ _ =
     ⊎_elim {C = white_at text j ≡ true}
     (λ at_zero. let z : i ≡ 0 = eqb-true i 0 at_zero in absurd (omega arith))
     (λ before. let same : i - 1 ≡ j = omega arith in
@@ -29,15 +29,15 @@ begins_word-boundary text i h j e _ _ =
     (or_cases (i == 0) (white_at text (i - 1)) (and_parts (not (white_at text i)) _ h).1)
 
 -- a word begins at its start, and is the word there
-pub IsWord-begins : {text : List ℕ} {w : Word} → IsWord text w → begins_word text w.start ≡ true
-IsWord-begins {text} {w} word =
-    begins_word-first text w.start (omega (arith, word.within, word.nonempty))
+pub IsWord_begins : {text : List ℕ} {w : Word} → IsWord text w → begins_word text w.start ≡ true
+IsWord_begins {text} {w} word =
+    begins_word_first text w.start (omega (arith, word.within, word.nonempty))
     (word.no_white w.start (omega arith) (omega (arith, word.nonempty)))
     (λ i e _ _. word.white_before i e)
 
-pub IsWord-is : {text : List ℕ} {w : Word} → IsWord text w → word_at text w.start ≡ w
+pub IsWord_is : {text : List ℕ} {w : Word} → IsWord text w → word_at text w.start ≡ w
 unfolding word_at white_at
-IsWord-is {text} {w} word =
+IsWord_is {text} {w} word =
     let p : ℕ → Bool = λ b. not (is_white b) in
     let n : ℕ = w.end - w.start in
     let long : length (drop w.start text) ≡ length text - w.start = length-drop w.start text in
@@ -49,15 +49,15 @@ IsWord-is {text} {w} word =
     let ink : (k : ℕ) → k < w.end - w.start
     → not (is_white (get_or (drop w.start text) k 0)) ≡ true =
     λ k h. at k ∙ ap not (word.no_white (w.start + k) (omega arith) (omega arith)) in
-    let behind : w.end - w.start < length (drop w.start text)
+    let after : w.end - w.start < length (drop w.start text)
     → not (is_white (get_or (drop w.start text) (w.end - w.start) 0)) ≡ false =
     λ h. at (w.end - w.start)
     ∙ ap not
     (subst (λ (k : ℕ). is_white (get_or text k 0) ≡ true) (sym same)
-    (word.white_behind (omega arith))) in
+    (word.white_after (omega arith))) in
     let len : prefix_len p (drop w.start text) ≡ w.end - w.start =
     prefix_len_is p (drop w.start text) (w.end - w.start) 0
-    (omega (arith, word.within)) ink behind in
+    (omega (arith, word.within)) ink after in
     let e : w.start + prefix_len p (drop w.start text) ≡ w.end = omega (arith, word.nonempty) in
     ap (λ (x : ℕ). let v : Word = record { start = w.start; end = x } in v) e
 
@@ -66,9 +66,9 @@ unfolding word_at
 word_at-start text i = refl
 
 -- two words don't overlap
-pub IsWord-apart : {text : List ℕ} {v w : Word} → IsWord text v → IsWord text w → v.start < w.start
+pub IsWord_apart : {text : List ℕ} {v w : Word} → IsWord text v → IsWord text w → v.start < w.start
     → v.end ≤ w.start
-IsWord-apart {text} {v} {w} one other h =
+IsWord_apart {text} {v} {w} one other h =
     ⊎_elim {C = v.end ≤ w.start}
     (λ inside. absurd
     (true≢false
@@ -91,96 +91,96 @@ AllPairs-cons R x xs first rest (suc i) zero d lt h = absurd (omega arith)
 AllPairs-cons R x xs first rest (suc i) (suc j) d lt h = rest i j d (omega arith) (omega arith)
 
 -- a place either begins a word or doesn't, and what that says of the words
-pub words_between-cases : (text : List ℕ) (i to : ℕ) → i < to →
+pub words_between_cases : (text : List ℕ) (i to : ℕ) → i < to →
     ((begins_word text i ≡ true)
     × (words_between text i to ≡ word_at text i ∷ words_between text (i + 1) to))
     ⊎ ((begins_word text i ≡ false) × (words_between text i to ≡ words_between text (i + 1) to))
-words_between-cases text i to h = by (begins_word text i) refl
+words_between_cases text i to h = by (begins_word text i) refl
   where
     by : (b : Bool) → begins_word text i ≡ b →
         ((begins_word text i ≡ true)
         × (words_between text i to ≡ word_at text i ∷ words_between text (i + 1) to))
         ⊎ ((begins_word text i ≡ false) × (words_between text i to ≡ words_between text (i + 1) to))
-    by true e = inl (e, words_between-take text i to h e)
-    by false e = inr (e, words_between-skip text i to h e)
+    by true e = inl (e, words_between_take text i to h e)
+    by false e = inr (e, words_between_skip text i to h e)
 
 IsWord-here : (text : List ℕ) (i : ℕ) → i < length text → begins_word text i ≡ true
     → IsWord text (word_at text i)
 IsWord-here text i h begins =
-    IsWord-word_at text i h (begins_word-ink text i begins) (begins_word-boundary text i begins)
+    IsWord_word_at text i h (begins_word_ink text i begins) (begins_word_boundary text i begins)
 
 abbrev IsWordFrom : List ℕ → ℕ → Word → Type 0
 IsWordFrom text low w = IsWord text w × (low ≤ w.start)
 
 -- what begins in a stretch of places are words, and begins there
-pub words_between-each : (text : List ℕ) (low n i to : ℕ) → i + n ≡ to → to ≤ length text → low ≤ i
+pub words_between_each : (text : List ℕ) (low n i to : ℕ) → i + n ≡ to → to ≤ length text → low ≤ i
     → All (IsWordFrom text low) (words_between text i to)
-words_between-each text low zero i to e le lo =
-    subst (All (IsWordFrom text low)) (sym (words_between-none text i to (omega arith)))
+words_between_each text low zero i to e le lo =
+    subst (All (IsWordFrom text low)) (sym (words_between_none text i to (omega arith)))
     (All-nil (IsWordFrom text low))
-words_between-each text low (suc n) i to e le lo =
+words_between_each text low (suc n) i to e le lo =
     let rest : All (IsWordFrom text low) (words_between text (i + 1) to) =
-    words_between-each text low n (i + 1) to (omega arith) le (omega arith) in
+    words_between_each text low n (i + 1) to (omega arith) le (omega arith) in
     ⊎_elim {C = All (IsWordFrom text low) (words_between text i to)}
     (λ taken. subst (All (IsWordFrom text low)) (sym taken.1)
     (All-cons (IsWordFrom text low) _ _
     (IsWord-here text i (omega arith) taken.0, (omega (arith, word_at-start text i))) rest))
     (λ skipped. subst (All (IsWordFrom text low)) (sym skipped.1) rest)
-    (words_between-cases text i to (omega arith))
+    (words_between_cases text i to (omega arith))
 
 -- none is left out
-pub words_between-all : (text : List ℕ) (n i to : ℕ) → i + n ≡ to → (w : Word) → IsWord text w
+pub words_between_all : (text : List ℕ) (n i to : ℕ) → i + n ≡ to → (w : Word) → IsWord text w
     → i ≤ w.start → w.start < to → Contains (words_between text i to) w
-words_between-all text zero i to e w word low high = absurd (omega arith)
-words_between-all text (suc n) i to e w word low high =
+words_between_all text zero i to e w word low high = absurd (omega arith)
+words_between_all text (suc n) i to e w word low high =
     ⊎_elim {C = Contains (words_between text i to) w}
     (λ same. subst (λ (ws : List Word). Contains ws w)
-    (sym (words_between-take text i to (omega arith)
-    (ap (begins_word text) (sym same) ∙ IsWord-begins word)))
+    (sym (words_between_take text i to (omega arith)
+    (ap (begins_word text) (sym same) ∙ IsWord_begins word)))
     (subst (λ (v : Word). Contains (v ∷ words_between text (i + 1) to) w)
-    (sym (IsWord-is word) ∙ ap (word_at text) same) (Contains-head w _)))
+    (sym (IsWord_is word) ∙ ap (word_at text) same) (Contains-head w _)))
     (λ apart.
     let rest : Contains (words_between text (i + 1) to) w =
-    words_between-all text n (i + 1) to (omega arith) w word (omega arith) high in
+    words_between_all text n (i + 1) to (omega arith) w word (omega arith) high in
     ⊎_elim {C = Contains (words_between text i to) w}
     (λ taken. subst (λ (ws : List Word). Contains ws w) (sym taken.1)
     (Contains-tail (word_at text i) w _ rest))
     (λ skipped. subst (λ (ws : List Word). Contains ws w) (sym skipped.1) rest)
-    (words_between-cases text i to (omega arith)))
+    (words_between_cases text i to (omega arith)))
     (cases_eq w.start i)
 
 abbrev EndsBefore : Word → Word → Type 0
 EndsBefore v w = v.end ≤ w.start
 
-pub words_between-rising : (text : List ℕ) (n i to : ℕ) → i + n ≡ to → to ≤ length text
+pub words_between_rising : (text : List ℕ) (n i to : ℕ) → i + n ≡ to → to ≤ length text
     → AllPairs EndsBefore (words_between text i to)
-words_between-rising text zero i to e le =
-    subst (AllPairs EndsBefore) (sym (words_between-none text i to (omega arith)))
+words_between_rising text zero i to e le =
+    subst (AllPairs EndsBefore) (sym (words_between_none text i to (omega arith)))
     (λ j k d lt h. absurd (omega arith))
-words_between-rising text (suc n) i to e le =
+words_between_rising text (suc n) i to e le =
     let rest : AllPairs EndsBefore (words_between text (i + 1) to) =
-    words_between-rising text n (i + 1) to (omega arith) le in
+    words_between_rising text n (i + 1) to (omega arith) le in
     let each : All (IsWordFrom text (i + 1)) (words_between text (i + 1) to) =
-    words_between-each text (i + 1) n (i + 1) to (omega arith) le (omega arith) in
+    words_between_each text (i + 1) n (i + 1) to (omega arith) le (omega arith) in
     ⊎_elim {C = AllPairs EndsBefore (words_between text i to)}
     (λ taken. subst (AllPairs EndsBefore) (sym taken.1)
     (AllPairs-cons EndsBefore (word_at text i) _
     (All-weaker (IsWordFrom text (i + 1)) (EndsBefore (word_at text i))
-    (λ w from. IsWord-apart (IsWord-here text i (omega arith) taken.0) from.0
+    (λ w from. IsWord_apart (IsWord-here text i (omega arith) taken.0) from.0
     (omega (arith, from.1, word_at-start text i))) _ each)
     rest))
     (λ skipped. subst (AllPairs EndsBefore) (sym skipped.1) rest)
-    (words_between-cases text i to (omega arith))
+    (words_between_cases text i to (omega arith))
 
-pub words_of-AreWords : (text : List ℕ) → AreWords text (words_of text)
-words_of-AreWords text = record {
-  rising = words_between-rising text (length text) 0 (length text) (omega arith) (omega arith);
+pub words_of_AreWords : (text : List ℕ) → AreWords text (words_of text)
+words_of_AreWords text = record {
+  rising = words_between_rising text (length text) 0 (length text) (omega arith) (omega arith);
   each =
       All-weaker (IsWordFrom text 0) (IsWord text) (λ w from. from.0) _
-      (words_between-each text 0 (length text) 0 (length text) (omega arith) (omega arith)
+      (words_between_each text 0 (length text) 0 (length text) (omega arith) (omega arith)
       (omega arith));
   all =
-      λ w word. words_between-all text (length text) 0 (length text) (omega arith) w word
+      λ w word. words_between_all text (length text) 0 (length text) (omega arith) w word
       (omega arith) (omega (arith, word.within, word.nonempty));
 }
 
@@ -196,9 +196,9 @@ AllPairs-tail : {X : Type 0} (R : X → X → Type 0) (x : X) (xs : List X) → 
 AllPairs-tail R x xs all i j d lt h = all (suc i) (suc j) d (omega arith) (omega arith)
 
 -- what a list contains after its head stands after the head
-behind_head : (w : Word) (ws : List Word) → AllPairs EndsBefore (w ∷ ws) → (v : Word)
+after_head : (w : Word) (ws : List Word) → AllPairs EndsBefore (w ∷ ws) → (v : Word)
     → Contains ws v → w.end ≤ v.start
-behind_head w ws all v (k, h, e) =
+after_head w ws all v (k, h, e) =
     subst (λ (u : Word). w.end ≤ u.start) e (all 0 (suc k) v (omega arith) (omega arith))
 
 abbrev SameIn : List Word → List Word → Type 0
@@ -217,8 +217,8 @@ same_head text w v ws vs are_w are_v rise_w rise_v there back =
     (λ later. ⊎_elim {C = w ≡ v}
     (λ same. same)
     (λ after.
-    let a : v.end ≤ w.start = behind_head v vs rise_v w later in
-    let b : w.end ≤ v.start = behind_head w ws rise_w v after in
+    let a : v.end ≤ w.start = after_head v vs rise_v w later in
+    let b : w.end ≤ v.start = after_head w ws rise_w v after in
     let m : w.start < w.end = nonempty_in text (w ∷ ws) are_w w (Contains-head w ws) in
     let n : v.start < v.end = nonempty_in text (v ∷ vs) are_v v (Contains-head v vs) in
     absurd (omega arith))
@@ -231,7 +231,7 @@ same_tail : (text : List ℕ) (w : Word) (ws vs : List Word) → All (IsWord tex
 same_tail text w ws vs are rise there u has =
     ⊎_elim {C = Contains vs u}
     (λ same.
-    let a : w.end ≤ u.start = behind_head w ws rise u has in
+    let a : w.end ≤ u.start = after_head w ws rise u has in
     let b : w.end ≤ w.start = subst (λ (x : Word). w.end ≤ x.start) (sym same) a in
     let m : w.start < w.end = nonempty_in text (w ∷ ws) are w (Contains-head w ws) in
     absurd (omega arith))
@@ -265,9 +265,9 @@ same_words text (w ∷ ws) (v ∷ vs) are_w are_v rise_w rise_v there back =
     (same_tail text w ws vs are_w rise_w there') (same_tail text w vs ws are_v' rise_v' back'))
     ∙ ap (λ (x : Word). x ∷ vs) head
 
-pub AreWords-only : (text : List ℕ) (ws : List Word) → AreWords text ws → ws ≡ words_of text
-AreWords-only text ws words =
-    let are = words_of-AreWords text in
+pub AreWords_only : (text : List ℕ) (ws : List Word) → AreWords text ws → ws ≡ words_of text
+AreWords_only text ws words =
+    let are = words_of_AreWords text in
     same_words text ws (words_of text) words.each are.each words.rising are.rising
     (λ w has. are.all w (All-contains (IsWord text) ws w words.each has))
     (λ w has. words.all w (All-contains (IsWord text) (words_of text) w are.each has))

@@ -130,12 +130,12 @@ citation_report form open_theorems axioms rows =
     ++ section true (codes "citations") (flat_map citation_line rows) ++ line (codes "end")
 
 -- how many bytes stand after the last line feed
-abbrev pub behind_from : ℕ → List ℕ → ℕ
-behind_from n [] = n
-behind_from n (b ∷ bs) = behind_from (if b == 10 then 0 else n + 1) bs
+abbrev pub after_line_feed_from : ℕ → List ℕ → ℕ
+after_line_feed_from n [] = n
+after_line_feed_from n (b ∷ bs) = after_line_feed_from (if b == 10 then 0 else n + 1) bs
 
-abbrev pub behind_last : List ℕ → ℕ
-behind_last bytes = behind_from 0 bytes
+abbrev pub bytes_after_line_feed : List ℕ → ℕ
+bytes_after_line_feed bytes = after_line_feed_from 0 bytes
 
 abbrev pub two_digits : ℕ → List ℕ
 two_digits n = if length (decimal n) == 1 then 48 ∷ decimal n else decimal n
@@ -144,4 +144,4 @@ two_digits n = if length (decimal n) == 1 then 48 ∷ decimal n else decimal n
 abbrev pub refusal : List ℕ → Fault → List ℕ
 refusal text f = let before = take f.at text in
     line (codes "refused " ++ decimal (count_by (λ b. b == 10) before + 1)
-    ++ 58 ∷ (decimal (behind_last before + 1) ++ codes " E" ++ two_digits (code_number f.code)))
+    ++ 58 ∷ (decimal (bytes_after_line_feed before + 1) ++ codes " E" ++ two_digits (code_number f.code)))

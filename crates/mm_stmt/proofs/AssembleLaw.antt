@@ -13,7 +13,7 @@ use Rattle.mm_scope.specs.Keeps.{Keeps}
 use Rattle.mm_frame.specs.Tables.{IsSound}
 use Rattle.mm_scope.specs.declared.names.Symbol.{Symbol}
 use Rattle.mm_outline.specs.declared.parts.Outline.{Outline}
-use Rattle.mm_scope.proofs.BoundsLaw.{few-symbols}
+use Rattle.mm_scope.proofs.BoundsLaw.{few_symbols}
 use Rattle.mm_stmt.proofs.SoundLaw.{sound_read}
 
 -- the words lent are those of the text
@@ -34,7 +34,7 @@ module _ (text : List ℕ) (ws : List Word) (os : List Outline) (lexical fault :
   names_few names e =
       let n = ap length e in
       let f =
-      few-symbols (lexed text ws lexical).tokens r.is_row.rest r.row r.is_row.splits
+      few_symbols (lexed text ws lexical).tokens r.is_row.rest r.row r.is_row.splits
       (statements text ws os) r.rest r.splits in
       let w = length-map ws (token_of text) in
       omega (arith, n, f, w, small)

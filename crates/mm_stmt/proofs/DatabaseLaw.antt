@@ -14,12 +14,12 @@ use Rattle.mm_outline.specs.Parts.{AreWithin, nth_word, token_at, between, made,
 use Rattle.mm_outline.specs.Parts.{HasEnd, IsOutline}
 use Rattle.mm_outline.specs.Statements.{statements}
 use Rattle.mm_spec.specs.declared.Fault.{Fault}
-use Rattle.mm_stmt.specs.Database.{kind_of, last_place, Known, known, held}
+use Rattle.mm_stmt.specs.Database.{kind_of, last_place, Contents, contents, held}
 use Rattle.mm_stmt.specs.Kept.{is_labelled_kind}
 use Rattle.mm_stmt.specs.Kinds.{counted_as, is_theorem_kind, is_axiom_kind}
 use Rattle.mm_stmt.proofs.KindsLaw.{own_kind, still_theorem, open_made, proof_made}
 use Rattle.mm_spec.specs.Opened.{as_axiom, is_open}
-use Rattle.mm_spec.proofs.OpenedLemmas.{got_axiom, counted_got, counted_then, counted_length}
+use Rattle.mm_spec.proofs.OpenedLaw.{got_axiom, counted_got, counted_then, counted_length}
 use Rattle.mm_outline.proofs.ActiveLaw.{get_map}
 use Rattle.mm_outline.specs.declared.parts.Kind.{Kind}
 use Rattle.mm_outline.specs.declared.parts.Kind.TheVariants as kind
@@ -144,8 +144,8 @@ module _ (text : List ℕ) (ws : List Word) where
 
 -- a statement of the database has an outline
 pub has_outline : (text : List ℕ) (ws : List Word) (os : List Outline) (w : Bool)
-    → (fault : Option Fault) (n : Known)
-    → known text (statements text ws os) w fault ≡ n → (k : ℕ) → k < length n.statements
+    → (fault : Option Fault) (n : Contents)
+    → contents text (statements text ws os) w fault ≡ n → (k : ℕ) → k < length n.statements
     → k < length os
 has_outline text ws os w fault n e k h =
     let q : length n.statements

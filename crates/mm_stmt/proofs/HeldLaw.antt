@@ -12,14 +12,14 @@ use Rattle.mm_spec.specs.Derivation.{Formula, Pair, is_member}
 use Rattle.mm_spec.specs.Frame.{symbol_names, formula_at, is_disjoint_statement}
 use Rattle.mm_spec.specs.NormalProof.{is_labelled}
 use Rattle.mm_spec.specs.Citation.{is_assertion}
-use Rattle.mm_spec.proofs.OpenedLemmas.{counted_length, counted_count, counted_any, counted_depth}
-use Rattle.mm_spec.proofs.OpenedLemmas.{counted_stays, counted_names, counted_variable}
-use Rattle.mm_spec.proofs.OpenedLemmas.{counted_formula, counted_hypotheses, counted_pairs}
+use Rattle.mm_spec.proofs.OpenedLaw.{counted_length, counted_count, counted_any, counted_depth}
+use Rattle.mm_spec.proofs.OpenedLaw.{counted_stays, counted_names, counted_variable}
+use Rattle.mm_spec.proofs.OpenedLaw.{counted_formula, counted_hypotheses, counted_pairs}
 use Rattle.mm_outline.specs.Blocks.{Lists, IsBlocks}
 use Rattle.mm_outline.specs.Numbered.{AreNumbered, AreSymbols}
 use Rattle.mm_scope.specs.Labels.{AreLabels}
 use Rattle.mm_frame.specs.Frames.{AreFrames}
-use Rattle.mm_frame.specs.Members.{AreMembers}
+use Rattle.mm_frame.specs.DisjointIndex.{IsDisjointIndex}
 
 module _ (w : Bool) (db : List Statement) where
   abbrev held_db : List Statement
@@ -121,8 +121,8 @@ module _ (w : Bool) (db : List Statement) where
           ≡ list_any is_assertion (statement_at db k)
       same k = counted_any w db is_assertion (λ l k xs e ps d. refl) k
 
-  pub members_held : (b : Lists) (ps : List (ℕ × ℕ)) (skips : List ℕ) → AreMembers db b ps skips
-      → AreMembers held_db b ps skips
+  pub members_held : (b : Lists) (ps : List (ℕ × ℕ)) (skips : List ℕ) → IsDisjointIndex db b ps skips
+      → IsDisjointIndex held_db b ps skips
   members_held b ps skips h = record {
     are =
         λ x j. h.are x j

@@ -11,7 +11,7 @@ use Rattle.mm_spec.specs.declared.Word.{Word}
 use Rattle.mm_outline.specs.Parts.{nth_word}
 use Rattle.mm_outline.specs.declared.parts.Outline.{Outline}
 use Rattle.mm_stmt.specs.Kept.{AreKept, kept_words, label_word, is_labelled_kind}
-use Rattle.mm_stmt.proofs.SpacedLaw.{slice-flat_map, prefixes-rise, prefix-within}
+use Rattle.mm_stmt.proofs.SpacedLaw.{slice_flat_map, prefixes_rise, prefix_within}
 
 first : {X : Type 0} (xs : List X) (k : ℕ) (d : X) → k < length xs
     → take 1 (drop k xs) ≡ get_or xs k d ∷ []
@@ -80,13 +80,13 @@ module _ (ws : List Word) (os : List Outline) (words : List Word) (starts : List
   kept_order =
       let p = h.start k (omega arith) in
       let q = h.start (k + 1) (omega arith) in
-      let r = prefixes-rise (kept_words ws) os k (k + 1) (omega arith) in
+      let r = prefixes_rise (kept_words ws) os k (k + 1) (omega arith) in
       omega (arith, p, q, r)
 
   pub kept_within : get_or starts (k + 1) 0 ≤ length words
   kept_within =
       let q = h.start (k + 1) (omega arith) in
-      let r = prefix-within (kept_words ws) os (k + 1) in
+      let r = prefix_within (kept_words ws) os (k + 1) in
       let n = ap length h.words_are in
       omega (arith, q, r, n)
 
@@ -101,7 +101,7 @@ module _ (ws : List Word) (os : List Outline) (words : List Word) (starts : List
       ap₂ (slice_range words) (h.start k (omega arith)) (h.start (k + 1) (omega arith))
       ∙ ap (λ l. slice_range l (length (flat_map (kept_words ws) (take k os)))
       (length (flat_map (kept_words ws) (take (k + 1) os)))) h.words_are
-      ∙ slice-flat_map (kept_words ws) os k (k + 1) (omega arith)
+      ∙ slice_flat_map (kept_words ws) os k (k + 1) (omega arith)
       ∙ ap (flat_map (kept_words ws)) (ap (λ n. take n (drop k os)) one ∙ first os k d there)
       ∙ append-nil (kept_words ws (get_or os k d))
 

@@ -16,8 +16,8 @@ use Rattle.mm_spec.specs.Scope.{statement_at}
 use Rattle.mm_spec.specs.Citation.{is_theorem}
 use Rattle.mm_spec.specs.Output.{is_column, theorems, columns}
 use Rattle.mm_spec.specs.declared.Word.{Word}
-use Rattle.mm_spec.proofs.Activity.{range_more}
-use Rattle.mm_spec.proofs.OpenedLemmas.{counted_length}
+use Rattle.mm_spec.proofs.ActivityLaw.{range_more}
+use Rattle.mm_spec.proofs.OpenedLaw.{counted_length}
 use Rattle.mm_outline.specs.Parts.{between, label_before, place, made, statement_of}
 use Rattle.mm_outline.specs.Statements.{statements}
 use Rattle.mm_outline.specs.declared.parts.Kind.{Kind}

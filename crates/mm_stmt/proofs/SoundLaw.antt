@@ -12,14 +12,14 @@ use Rattle.mm_spec.specs.Lawful.{scope_fault}
 use Rattle.mm_spec.specs.Frame.{symbol_names, formula_at}
 use Rattle.mm_spec.specs.declared.Fault.{Fault}
 use Rattle.mm_spec.specs.Output.{LexedText, IsRead}
-use Rattle.mm_spec.proofs.Local.{scope_fault-front}
+use Rattle.mm_spec.proofs.LocalLaw.{scope_fault_front}
 use Rattle.mm_outline.specs.Blocks.{Lists}
 use Rattle.mm_scope.specs.Judge.{Entry, entry_of}
-use Rattle.mm_scope.specs.Known.{is_constant_entry, is_variable_entry}
+use Rattle.mm_scope.specs.WordEntry.{is_constant_entry, is_variable_entry}
 use Rattle.mm_scope.specs.Keeps.{Keeps}
 use Rattle.mm_frame.specs.Tables.{IsSound}
 use Rattle.mm_scope.specs.declared.names.Symbol.{Symbol}
-use Rattle.mm_scope.proofs.BoundsLaw.{symbols-known}
+use Rattle.mm_scope.proofs.BoundsLaw.{symbols_known}
 
 one_kind : (x : Option Entry) → is_constant_entry x ≡ true → is_variable_entry x ≡ false
 one_kind None e = refl
@@ -47,7 +47,7 @@ sound_is db look labels b x few lawful below = record {
 pub lawful_is : (len : ℕ) (x : LexedText) (db : List Statement) (fault : Option Fault)
     → IsRead len x db fault → (k : ℕ) → k < length db → scope_fault db k ≡ None
 lawful_is len x db fault r k h =
-    sym (scope_fault-front db r.rest k h) ∙ ap (λ row. scope_fault row k) (sym r.splits)
+    sym (scope_fault_front db r.rest k h) ∙ ap (λ row. scope_fault row k) (sym r.splits)
     ∙ r.lawful k h
 
 pub sound_read : (len : ℕ) (x : LexedText) (db : List Statement) (fault : Option Fault)
@@ -57,7 +57,7 @@ pub sound_read : (len : ℕ) (x : LexedText) (db : List Statement) (fault : Opti
 sound_read len x db fault r look labels b keeps few =
     let lawful = lawful_is len x db fault r in
     sound_is db look labels b keeps few lawful
-    (λ k h. symbols-known db lawful k h (get_or db k (opening 0))
+    (λ k h. symbols_known db lawful k h (get_or db k (opening 0))
     (slice_get-get_or db k (opening 0) h))
 
 -- the marks of the variables are those that the map has

@@ -16,7 +16,7 @@ use Rattle.mm_spec.specs.Scope.{statement_at, label_words}
 use Rattle.mm_spec.specs.Citation.{is_theorem}
 use Rattle.mm_spec.specs.Output.{is_theorem_at, theorems, label_at}
 use Rattle.mm_spec.specs.declared.Word.{Word}
-use Rattle.mm_spec.proofs.Finds.{each_filter, each_any}
+use Rattle.mm_spec.proofs.FindsLaw.{each_filter, each_any}
 use Rattle.mm_outline.specs.Parts.{token_at, made, statement_of}
 use Rattle.mm_outline.specs.Statements.{statements}
 use Rattle.mm_outline.specs.declared.parts.Kind.{Kind}
@@ -48,22 +48,22 @@ module _ {X Y : Type 0} (f : X → List Y) (xs : List X) (i j : ℕ) (order : i 
       ∙ flat_map-append f (take i xs) (slice_range xs i j ++ drop j xs)
       ∙ ap (λ l. ahead ++ l) (flat_map-append f (slice_range xs i j) (drop j xs))
 
-  pub slice-flat_map : slice_range (flat_map f xs) (length (flat_map f (take i xs)))
+  pub slice_flat_map : slice_range (flat_map f xs) (length (flat_map f (take i xs)))
       (length (flat_map f (take j xs)))
       ≡ flat_map f (slice_range xs i j)
-  slice-flat_map =
+  slice_flat_map =
       let e = ap length upto ∙ length-append ahead here in
       let n : length (flat_map f (take j xs)) - length ahead ≡ length here = omega (arith, e) in
       ap₂ (λ n l. take n (drop (length ahead) l)) n whole
       ∙ ap (take (length here)) (drop-append_seam ahead (here ++ flat_map f (drop j xs)))
       ∙ take-append_seam here (flat_map f (drop j xs))
 
-  pub prefixes-rise : length (flat_map f (take i xs)) ≤ length (flat_map f (take j xs))
-  prefixes-rise = let e = ap length upto ∙ length-append ahead here in omega (arith, e)
+  pub prefixes_rise : length (flat_map f (take i xs)) ≤ length (flat_map f (take j xs))
+  prefixes_rise = let e = ap length upto ∙ length-append ahead here in omega (arith, e)
 
-pub prefix-within : {X Y : Type 0} (f : X → List Y) (xs : List X) (i : ℕ)
+pub prefix_within : {X Y : Type 0} (f : X → List Y) (xs : List X) (i : ℕ)
     → length (flat_map f (take i xs)) ≤ length (flat_map f xs)
-prefix-within f xs i =
+prefix_within f xs i =
     let e =
     ap length
     (ap (flat_map f) (sym (take-append-drop i xs)) ∙ flat_map-append f (take i xs) (drop i xs))
@@ -117,13 +117,13 @@ module _ (labels : List (List ℕ)) (bytes starts : List ℕ) (h : AreSpaced lab
   starts_rise =
       let p = h.start i (omega arith) in
       let q = h.start j within in
-      let r = prefixes-rise (λ (l : List ℕ). 32 ∷ l) labels i j order in
+      let r = prefixes_rise (λ (l : List ℕ). 32 ∷ l) labels i j order in
       omega (arith, p, q, r)
 
   pub starts_within : get_or starts j 0 ≤ length bytes
   starts_within =
       let q = h.start j within in
-      let r = prefix-within (λ (l : List ℕ). 32 ∷ l) labels j in
+      let r = prefix_within (λ (l : List ℕ). 32 ∷ l) labels j in
       let n = ap length h.bytes_are in
       omega (arith, q, r, n)
 
@@ -134,7 +134,7 @@ module _ (labels : List (List ℕ)) (bytes starts : List ℕ) (h : AreSpaced lab
       ap₂ (slice_range bytes) (h.start i (omega arith)) (h.start j within)
       ∙ ap (λ l. slice_range l (length (spaced (take i labels))) (length (spaced (take j labels))))
       h.bytes_are
-      ∙ slice-flat_map (λ (l : List ℕ). 32 ∷ l) labels i j order
+      ∙ slice_flat_map (λ (l : List ℕ). 32 ∷ l) labels i j order
 
 -- ---- the labels of the theorems
 

@@ -17,7 +17,7 @@ use Rattle.mm_frame.specs.Frames.{AreFrames}
 use Rattle.mm_outline.specs.Parts.{AreWithin, IsOutline}
 use Rattle.mm_outline.specs.Statements.{statements}
 use Rattle.mm_outline.specs.Blocks.{Lists, IsBlocks}
-use Rattle.mm_frame.specs.Members.{AreMembers}
+use Rattle.mm_frame.specs.DisjointIndex.{IsDisjointIndex}
 use Rattle.mm_stmt.specs.Spaced.{AreSpaced}
 use Rattle.mm_stmt.specs.Kept.{AreKept}
 pub use Rattle.mm_stmt.specs.Kept.{is_labelled_kind}
@@ -27,15 +27,15 @@ use Rattle.mm_outline.specs.declared.parts.Outline.{Outline}
 
 -- A text, its statements up to the first malformed or unlawful one, as they were read and as
 -- they count, and what is wrong there. With the flag open theorems count as axioms.
-pub record Known : Type 0 where
+pub record Contents : Type 0 where
   pub text : List ℕ
   pub read : List Statement
   pub with_open : Bool
   pub statements : List Statement
   pub fault : Option Fault
 
-abbrev pub known : List ℕ → List Statement → Bool → Option Fault → Known
-known text db with_open fault =
+abbrev pub contents : List ℕ → List Statement → Bool → Option Fault → Contents
+contents text db with_open fault =
     record {
       text = text;
       read = db;
@@ -86,7 +86,7 @@ pub record Fields : Type 0 where
   pub frame_places : List ℕ
   pub hyps : List (List ℕ)
   pub pairs : List (List Pair)
-  pub members : List (ℕ × ℕ)
+  pub disjoint_index : List (ℕ × ℕ)
   pub skips : List ℕ
   pub kinds : List Kind
   pub theorems : List ℕ
@@ -110,7 +110,7 @@ fields kept starts b f ns vs xs ps fs hs ds ms ks os ts cs bs ss =
       frame_places = fs;
       hyps = hs;
       pairs = ds;
-      members = ms;
+      disjoint_index = ms;
       skips = ks;
       kinds = os;
       theorems = ts;
@@ -138,7 +138,7 @@ pub record IsDatabase (text : List ℕ) (ws : List Word) (os : List Outline) (wi
       (formula_at (held text ws os with_open) k)
   pub numbered : AreNumbered (held text ws os with_open) f.numbers f.places
   pub frames : AreFrames (held text ws os with_open) f.frame_places f.hyps f.pairs
-  pub members_are : AreMembers (held text ws os with_open) f.blocks f.members f.skips
+  pub disjoint_index_is : IsDisjointIndex (held text ws os with_open) f.blocks f.disjoint_index f.skips
   pub kinds_are : f.kinds ≡ map kind_of (held text ws os with_open)
   pub theorems_are : f.theorems ≡ theorems (held text ws os with_open)
   pub axioms_are : f.axioms ≡ columns (held text ws os with_open) None

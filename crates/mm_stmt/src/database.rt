@@ -24,8 +24,8 @@ ghost use Rattle.mm_stmt.specs.Kinds.{is_axiom_kind, is_theorem_kind};
 
 use crate::kept::{Kept, has_label};
 use crate::spaced::SpacedLabels;
+use mm_frame::disjoint_index::{DisjointIndex, are_together};
 use mm_frame::frames::{Frame, Frames};
-use mm_frame::members::{Members, are_together};
 use mm_outline::blocks::Blocks;
 use mm_outline::parts::{Kind, Outline};
 use mm_outline::symbol::Sym;
@@ -50,7 +50,7 @@ pub struct Database<'a, A: Allocator> {
     pub(crate) numbers: Vec<Sym, A>,
     pub(crate) places: Vec<u32, A>,
     pub(crate) frames: Frames<A>,
-    pub(crate) members: Members<A>,
+    pub(crate) disjoint_index: DisjointIndex<A>,
     pub(crate) kinds: Vec<Kind, A>,
     pub(crate) theorems: Vec<u32, A>,
     pub(crate) axioms: Vec<u32, A>,
@@ -64,11 +64,11 @@ impl<'a, A: Allocator> Model for Database<'a, A> {
     ghost use Rattle.mm_scope.specs.Names.{find, names_of};
     ghost use Rattle.mm_outline.specs.Blocks.{lists};
     ghost use Rattle.mm_outline.specs.Statements.{statements};
-    ghost use Rattle.mm_stmt.specs.Database.{Known, known, fields, IsDatabase};
+    ghost use Rattle.mm_stmt.specs.Database.{Contents, contents, fields, IsDatabase};
 
-    ghost Value = { Known };
+    ghost Value = { Contents };
 
-    ghost view = { λ d. known d.text.now
+    ghost view = { λ d. contents d.text.now
         (statements d.text.now (words_of d.text.now) d.outlines.items) d.with_open d.fault };
 
     ghost invariant = { λ d. IsDatabase d.text.now
@@ -78,7 +78,7 @@ impl<'a, A: Allocator> Model for Database<'a, A> {
         (names_of d.symbols) d.variables.items d.numbers.items d.places.items
         d.frames.places.items (map (λ f. f.hyps.items) d.frames.list.items)
         (map (λ f. map (λ p. pair p.0 p.1) f.pairs.items) d.frames.list.items)
-        d.members.pairs.items d.members.skips.items d.kinds.items d.theorems.items
+        d.disjoint_index.pairs.items d.disjoint_index.skips.items d.kinds.items d.theorems.items
         d.axioms.items d.spaced.bytes.items d.spaced.starts.items) };
 }
 
@@ -252,7 +252,8 @@ impl<'a, A: Allocator> Database<'a, A> {
         requires { statement ≤ length self.now.statements }
         ensures { result ≡ disjoint_at self.now.statements statement x y }
     {
-        x.number() != y.number() && are_together(&self.blocks, &self.members, x, y, statement)
+        x.number() != y.number()
+            && are_together(&self.blocks, &self.disjoint_index, x, y, statement)
     }
 
     /// The words of a theorem's proof, those after its `$=`; none where the statement is no

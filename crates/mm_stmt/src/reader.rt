@@ -70,7 +70,7 @@ pub fn read<'a, A: Allocator + Copy>(
         numbers: read.formulas.numbers,
         places: read.formulas.places,
         frames: beside.frames,
-        members: beside.members,
+        disjoint_index: beside.disjoint_index,
         kinds,
         theorems,
         axioms,

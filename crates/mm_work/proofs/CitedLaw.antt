@@ -11,10 +11,10 @@ use Rattle.mm_spec.specs.Citation.{is_theorem, IsValid}
 use Rattle.mm_spec.specs.Citation as proof
 use Rattle.mm_spec.specs.Laws.Complete.{AreComplete}
 use Rattle.mm_spec.specs.Output.{theorems, is_theorem_at, AreValid}
-use Rattle.mm_spec.proofs.Finds.{filter-member, found_at, inside_of}
-use Rattle.mm_spec.proofs.Cited.{cites_earlier, proof_theorem}
+use Rattle.mm_spec.proofs.FindsLaw.{filter_member, found_at, inside_of}
+use Rattle.mm_spec.proofs.CitedLaw.{cites_earlier, proof_theorem}
 use Rattle.mm_cites.specs.Citing.{Citing, citing, Cites, IsRising, IsFileOrder}
-use Rattle.mm_cites.proofs.RisingLaw.{filter-rising}
+use Rattle.mm_cites.proofs.RisingLaw.{filter_rising}
 use Rattle.mm_work.specs.Judged.{IsCited, AreCited, Shows}
 
 -- a member stands at some place
@@ -52,24 +52,24 @@ theorem-place : (db : List Statement) (t : ℕ) → is_theorem_at db t ≡ true
 theorem-place db t h =
     let f = found_at db is_theorem t h in
     member-at (theorems db) t
-    (filter-member (λ j. list_any is_theorem (statement_at db j))
+    (filter_member (λ j. list_any is_theorem (statement_at db j))
     (range_with_len 0 (length db)) t h
     (in-range (length db) 0 t (omega arith)
     (let l = inside_of db t f.0 f.1 in omega (arith, l))))
 
 -- a theorem with citations is valid
-pub cited-valid : (db : List Statement) (by_essential : Bool) (t : ℕ) (cites : List ℕ)
+pub cited_valid : (db : List Statement) (by_essential : Bool) (t : ℕ) (cites : List ℕ)
     → IsCited db by_essential t cites → IsValid db t
-cited-valid db by_essential t cites c = (c.read, c.checked.derivation, c.checked.proof)
+cited_valid db by_essential t cites c = (c.read, c.checked.derivation, c.checked.proof)
 
 module _ (db : List Statement) (few : length db < 2 ^ 31) (complete : AreComplete db) where
-  pub theorems-rise : IsRising (theorems db)
-  theorems-rise = filter-rising (λ j. list_any is_theorem (statement_at db j)) (length db) few
+  pub theorems_rise : IsRising (theorems db)
+  theorems_rise = filter_rising (λ j. list_any is_theorem (statement_at db j)) (length db) few
 
   -- the theorems before theorem i are valid
-  pub valid-before : (i : ℕ) → ((n : ℕ) → n < i → IsValid db (get_or (theorems db) n 0))
+  pub valid_before : (i : ℕ) → ((n : ℕ) → n < i → IsValid db (get_or (theorems db) n 0))
       → i < length (theorems db) → AreValid db (get_or (theorems db) i 0)
-  valid-before i h l j k th =
+  valid_before i h l j k th =
       let p = theorem-place db j th in
       by p.0 p.1 p.2 (cases_lt p.0 i)
     where
@@ -79,7 +79,7 @@ module _ (db : List Statement) (few : length db < 2 ^ 31) (complete : AreComplet
       by n m e (inr s) = absurd (go (cases_lt i n))
         where
           go : (i < n) ⊎ (n ≤ i) → ⊥
-          go (inl q) = let r = theorems-rise.rises i n q m in omega (arith, r, e, k)
+          go (inl q) = let r = theorems_rise.rises i n q m in omega (arith, r, e, k)
           go (inr q) =
               let same : get_or (theorems db) n 0
               ≡ get_or (theorems db) i 0 = ap (λ x. get_or (theorems db) x 0)
@@ -87,21 +87,21 @@ module _ (db : List Statement) (few : length db < 2 ^ 31) (complete : AreComplet
               omega (arith, same, e, k)
 
   -- all theorems are valid
-  pub all-valid : (by_essential : Bool) (lists : List (List ℕ))
+  pub all_valid : (by_essential : Bool) (lists : List (List ℕ))
       → AreCited db by_essential (theorems db) (length (theorems db)) lists
       → AreValid db (length db)
-  all-valid by_essential lists h j k th =
+  all_valid by_essential lists h j k th =
       let p = theorem-place db j th in
-      subst (λ t. IsValid db t) p.2 (cited-valid db by_essential _ _ (h.each p.0 p.1))
+      subst (λ t. IsValid db t) p.2 (cited_valid db by_essential _ _ (h.each p.0 p.1))
 
   module _ (by_essential : Bool) (lists : List (List ℕ))
       (h : AreCited db by_essential (theorems db) (length (theorems db)) lists) where
     abbrev c : Citing
     c = citing (theorems db) lists
 
-    pub file-order : IsFileOrder c
-    file-order = record {
-      rising = theorems-rise;
+    pub file_order : IsFileOrder c
+    file_order = record {
+      rising = theorems_rise;
       each = h.count;
       earlier =
           λ i k l m. cites_earlier db by_essential (get_or (theorems db) i 0) _

@@ -7,11 +7,11 @@ use Rattle.std.proofs.lemmas.Bool.{cases_lt, cases_eq}
 use Rattle.std.proofs.Math.Seq.{take-append_seam}
 use Rattle.std.proofs.lemmas.Option.{slice_get-get_or, slice_get_within, get_or_from_slice_get}
 use Rattle.mm_spec.specs.Statement.{Statement}
-use Rattle.mm_work.specs.declared.merge.Place.{Place}
-use Rattle.mm_work.specs.declared.worker.Found.{Found}
+use Rattle.mm_work.specs.declared.merge.Whereabouts.{Whereabouts}
+use Rattle.mm_work.specs.declared.worker.Findings.{Findings}
 use Rattle.mm_work.specs.Places.{IsNoted, HasPlace}
 use Rattle.mm_work.specs.Judged.{IsCited}
-use Rattle.mm_work.specs.Workers.{IsFoundValid, AreFound, theorem_of}
+use Rattle.mm_work.specs.Workers.{IsFoundValid, AreFindings, theorem_of}
 
 -- an element that was written
 written : {X : Type 0} (xs : List X) (i : ℕ) (x : X) → i < length xs
@@ -30,9 +30,9 @@ kept (y ∷ xs) (suc i) zero x n = refl
 kept (y ∷ xs) (suc i) (suc j) x n = kept xs i j x (λ e. n (ap suc e))
 
 -- where a place is the same, what is noted there is too
-pub same-noted : (old new : List Place) (worker : ℕ) (valid : List ℕ) (i : ℕ)
+pub same_noted : (old new : List Whereabouts) (worker : ℕ) (valid : List ℕ) (i : ℕ)
     → slice_get new i ≡ slice_get old i → IsNoted old worker valid i → IsNoted new worker valid i
-same-noted old new worker valid i e h =
+same_noted old new worker valid i e h =
     record {
       place = h.place;
       place_is = e ∙ h.place_is;
@@ -41,10 +41,11 @@ same-noted old new worker valid i e h =
       index_is = h.index_is;
     }
 
-module _ (first old : List Place) (worker : ℕ) (valid : List ℕ) (k x : ℕ) (place : Place)
+module _ (first old : List Whereabouts) (worker : ℕ) (valid : List ℕ) (k x : ℕ)
+    (place : Whereabouts)
     (index : get_or valid k 0 ≡ x) (inside : x < length old) (within : k < length valid)
     (worker_is : place.worker ≡ worker) (place_is : place.place ≡ k) where
-  abbrev new : List Place
+  abbrev new : List Whereabouts
   new = slice_set old x place
 
   here : IsNoted new worker valid x
@@ -57,9 +58,9 @@ module _ (first old : List Place) (worker : ℕ) (valid : List ℕ) (k x : ℕ) 
         index_is = ap (λ n. get_or valid n 0) place_is ∙ index;
       }
 
-  pub noted-more : ((q : ℕ) → q < k → IsNoted old worker valid (get_or valid q 0)) → (q : ℕ)
+  pub noted_more : ((q : ℕ) → q < k → IsNoted old worker valid (get_or valid q 0)) → (q : ℕ)
       → q < k + 1 → IsNoted new worker valid (get_or valid q 0)
-  noted-more h q l = by (cases_eq (get_or valid q 0) x)
+  noted_more h q l = by (cases_eq (get_or valid q 0) x)
     where
       by : (get_or valid q 0 ≡ x) ⊎ (get_or valid q 0 ≡ x → ⊥)
           → IsNoted new worker valid (get_or valid q 0)
@@ -68,14 +69,14 @@ module _ (first old : List Place) (worker : ℕ) (valid : List ℕ) (k x : ℕ) 
         where
           before : (q < k) ⊎ (k ≤ q) → IsNoted new worker valid (get_or valid q 0)
           before (inl b) =
-              same-noted old new worker valid (get_or valid q 0)
+              same_noted old new worker valid (get_or valid q 0)
               (kept old x (get_or valid q 0) place n) (h q b)
           before (inr b) =
               absurd (n (ap (λ j. get_or valid j 0) (let e : q ≡ k = omega arith in e) ∙ index))
 
-  pub others-more : ((i : ℕ) → IsNoted old worker valid i ⊎ (slice_get old i ≡ slice_get first i))
+  pub others_more : ((i : ℕ) → IsNoted old worker valid i ⊎ (slice_get old i ≡ slice_get first i))
       → (i : ℕ) → IsNoted new worker valid i ⊎ (slice_get new i ≡ slice_get first i)
-  others-more h i = by (cases_eq i x)
+  others_more h i = by (cases_eq i x)
     where
       by : (i ≡ x) ⊎ (i ≡ x → ⊥)
           → IsNoted new worker valid i ⊎ (slice_get new i ≡ slice_get first i)
@@ -84,19 +85,20 @@ module _ (first old : List Place) (worker : ℕ) (valid : List ℕ) (k x : ℕ) 
         where
           before : IsNoted old worker valid i ⊎ (slice_get old i ≡ slice_get first i)
               → IsNoted new worker valid i ⊎ (slice_get new i ≡ slice_get first i)
-          before (inl o) = inl (same-noted old new worker valid i (kept old x i place n) o)
+          before (inl o) = inl (same_noted old new worker valid i (kept old x i place n) o)
           before (inr e) = inr (kept old x i place n ∙ e)
 
-module _ {A : Type 0} (fs : List (Found A)) where
+module _ {A : Type 0} (fs : List (Findings A)) where
   -- after one more worker
-  pub has-more : (old new : List Place) (w : ℕ) (one : Found A) → slice_get fs w ≡ Some one
+  pub has_more : (old new : List Whereabouts) (w : ℕ) (one : Findings A) → slice_get fs w ≡ Some one
       → ((i : ℕ) → Contains one.valid.items i → IsNoted new w one.valid.items i)
       → ((i : ℕ) → IsNoted new w one.valid.items i ⊎ (slice_get new i ≡ slice_get old i))
-      → ((v : ℕ) (f : Found A) (i : ℕ) → v < w → slice_get fs v ≡ Some f → Contains f.valid.items i
+      → ((v : ℕ) (f : Findings A) (i : ℕ) → v < w → slice_get fs v ≡ Some f → Contains
+      f.valid.items i
       → HasPlace old fs i)
-      → (v : ℕ) (f : Found A) (i : ℕ) → v < w + 1 → slice_get fs v ≡ Some f
+      → (v : ℕ) (f : Findings A) (i : ℕ) → v < w + 1 → slice_get fs v ≡ Some f
       → Contains f.valid.items i → HasPlace new fs i
-  has-more old new w one is noted others h v f i l e m = by (cases_lt v w)
+  has_more old new w one is noted others h v f i l e m = by (cases_lt v w)
     where
       own : IsNoted new w one.valid.items i → HasPlace new fs i
       own n = record { worker = w; found = one; found_is = is; noted = n }
@@ -113,21 +115,21 @@ module _ {A : Type 0} (fs : List (Found A)) where
                 worker = o.worker;
                 found = o.found;
                 found_is = o.found_is;
-                noted = same-noted old new o.worker o.found.valid.items i s o.noted;
+                noted = same_noted old new o.worker o.found.valid.items i s o.noted;
               }
       by (inr b) =
           let same : v ≡ w = omega arith in
           let found : f ≡ one =
           sym (get_or_from_slice_get fs v f one e) ∙ ap (λ n. get_or fs n one) same
           ∙ get_or_from_slice_get fs w one one is in
-          own (noted i (subst (λ (g : Found A). Contains g.valid.items i) found m))
+          own (noted i (subst (λ (g : Findings A). Contains g.valid.items i) found m))
 
   -- what was found valid has a place
-  pub has-all : (places : List Place)
-      → ((v : ℕ) (f : Found A) (i : ℕ) → v < length fs → slice_get fs v ≡ Some f
+  pub has_all : (places : List Whereabouts)
+      → ((v : ℕ) (f : Findings A) (i : ℕ) → v < length fs → slice_get fs v ≡ Some f
       → Contains f.valid.items i → HasPlace places fs i)
       → (i : ℕ) → IsFoundValid fs i → HasPlace places fs i
-  has-all places h i r =
+  has_all places h i r =
       h r.1.0 r.0 i r.1.1 (slice_get-get_or fs r.1.0 r.0 r.1.1 ∙ ap Some r.1.2) r.2
 
 -- a list written back whole
@@ -137,52 +139,54 @@ refilled len new old e =
     subst (λ n. take n (new ++ drop (length new) old) ≡ new) e
     (take-append_seam new (drop (length new) old))
 
-module _ {A : Type 0} (db : List Statement) (by_essential : Bool) (fs : List (Found A))
-    (found : All (AreFound db by_essential) fs) (ps qs : List Place) (k : ℕ) (d : Place)
+module _ {A : Type 0} (db : List Statement) (by_essential : Bool) (fs : List (Findings A))
+    (found : All (AreFindings db by_essential) fs) (ps qs : List Whereabouts) (k : ℕ)
+    (d : Whereabouts)
     (same : qs ≡ ps) (h : HasPlace ps fs k) where
   -- the place that is read
-  abbrev p : Place
+  abbrev p : Whereabouts
   p = get_or qs k d
 
   is : p ≡ h.noted.place
   is =
-      ap (λ (l : List Place). get_or l k d) same
+      ap (λ (l : List Whereabouts). get_or l k d) same
       ∙ get_or_from_slice_get ps k h.noted.place d h.noted.place_is
 
   worker : p.worker ≡ h.worker
-  worker = ap (λ (q : Place). q.worker) is ∙ h.noted.worker_is
+  worker = ap (λ (q : Whereabouts). q.worker) is ∙ h.noted.worker_is
 
-  pub worker-within : p.worker < length fs
-  worker-within =
+  pub worker_within : p.worker < length fs
+  worker_within =
       subst (λ n. n < length fs) (sym worker) (slice_get_within fs h.worker h.found h.found_is)
 
-  pub found-there : (e : Found A) → get_or fs p.worker e ≡ h.found
-  found-there e =
+  pub found_there : (e : Findings A) → get_or fs p.worker e ≡ h.found
+  found_there e =
       ap (λ n. get_or fs n e) worker ∙ get_or_from_slice_get fs h.worker h.found e h.found_is
 
-  are-found : AreFound db by_essential h.found
+  are-found : AreFindings db by_essential h.found
   are-found =
-      subst (λ (f : Found A). AreFound db by_essential f) (found-there h.found)
-      (found p.worker h.found worker-within)
+      subst (λ (f : Findings A). AreFindings db by_essential f) (found_there h.found)
+      (found p.worker h.found worker_within)
 
   place-within : p.place < length h.found.valid.items
-  place-within = subst (λ (q : Place). q.place < length h.found.valid.items) (sym is) h.noted.within
+  place-within = subst (λ (q : Whereabouts). q.place < length h.found.valid.items) (sym is)
+      h.noted.within
 
-  pub list-within : (f : Found A) → f ≡ h.found → p.place < length f.cites
-  list-within f e =
-      subst (λ (g : Found A). p.place < length g.cites) (sym e)
+  pub list_within : (f : Findings A) → f ≡ h.found → p.place < length f.cites
+  list_within f e =
+      subst (λ (g : Findings A). p.place < length g.cites) (sym e)
       (subst (λ n. p.place < n) (sym are-found.count) place-within)
 
-  pub list-cited : (f : Found A) (list : List ℕ) → f ≡ h.found → list ≡ get_or f.cites p.place []
+  pub list_cited : (f : Findings A) (list : List ℕ) → f ≡ h.found → list ≡ get_or f.cites p.place []
       → IsCited db by_essential (theorem_of db k) list
-  list-cited f list e l =
+  list_cited f list e l =
       let index : get_or h.found.valid.items p.place 0 ≡ k =
-      ap (λ (q : Place). get_or h.found.valid.items q.place 0) is ∙ h.noted.index_is in
+      ap (λ (q : Whereabouts). get_or h.found.valid.items q.place 0) is ∙ h.noted.index_is in
       let one =
       subst (λ i. IsCited db by_essential (theorem_of db i) (get_or h.found.cites p.place [])) index
       (are-found.each p.place place-within) in
       subst (λ (xs : List ℕ). IsCited db by_essential (theorem_of db k) xs)
-      (sym (l ∙ ap (λ (g : Found A). get_or g.cites p.place []) e)) one
+      (sym (l ∙ ap (λ (g : Findings A). get_or g.cites p.place []) e)) one
 
-pub less-le : {m n : ℕ} → m < n → m ≤ n
-less-le l = omega (arith, l)
+pub less_le : {m n : ℕ} → m < n → m ≤ n
+less_le l = omega (arith, l)

@@ -11,14 +11,14 @@ use Rattle.mm_spec.specs.declared.Fault.{Fault}
 use Rattle.mm_proof.proofs.TheoremsLaw.{theorems_are}
 use Rattle.mm_cites.specs.Citing.{citing, IsFileOrder}
 use Rattle.mm_work.specs.Judged.{IsCited, AreCited, AllCited, IsFirstFault, HasFault}
-use Rattle.mm_work.proofs.CitedLaw.{cited-valid, valid-before, all-valid, file-order, shows}
+use Rattle.mm_work.proofs.CitedLaw.{cited_valid, valid_before, all_valid, file_order, shows}
 
 -- one list of citations more
-pub cited-more : (db : List Statement) (by_essential : Bool) (ts : List ℕ) (n : ℕ)
+pub cited_more : (db : List Statement) (by_essential : Bool) (ts : List ℕ) (n : ℕ)
     → (lists : List (List ℕ)) (cites : List ℕ)
     → AreCited db by_essential ts n lists → IsCited db by_essential (get_or ts n 0) cites
     → AreCited db by_essential ts (n + 1) (lists ++ cites ∷ [])
-cited-more db by_essential ts n lists cites h one = record {
+cited_more db by_essential ts n lists cites h one = record {
   count = (let l = length-append lists (cites ∷ []) in let c = h.count in omega (arith, l, c));
   each = λ i l. by i (cases_lt i n) l;
 }
@@ -42,26 +42,26 @@ cited-more db by_essential ts n lists cites h one = record {
 
 module _ (db : List Statement) (few : length db < 2 ^ 31) (complete : AreComplete db) where
   -- a fault after valid proofs alone is the first fault
-  pub first-fault : (i : ℕ) (f : Fault) → ((n : ℕ) → n < i → IsValid db (get_or (theorems db) n 0))
+  pub first_fault : (i : ℕ) (f : Fault) → ((n : ℕ) → n < i → IsValid db (get_or (theorems db) n 0))
       → i < length (theorems db) → HasFault db (get_or (theorems db) i 0) f → IsFirstFault db f
-  first-fault i f h l p =
-      (get_or (theorems db) i 0, (theorems_are db i 0 l, valid-before db few complete i h l, p))
+  first_fault i f h l p =
+      (get_or (theorems db) i 0, (theorems_are db i 0 l, valid_before db few complete i h l, p))
 
-  pub cited-before : (by_essential : Bool) (i : ℕ) (lists : List (List ℕ))
+  pub cited_before : (by_essential : Bool) (i : ℕ) (lists : List (List ℕ))
       → AreCited db by_essential (theorems db) i lists → (n : ℕ) → n < i
       → IsValid db (get_or (theorems db) n 0)
-  cited-before by_essential i lists h n l = cited-valid db by_essential _ _ (h.each n l)
+  cited_before by_essential i lists h n l = cited_valid db by_essential _ _ (h.each n l)
 
-  pub all-cited : (by_essential : Bool) (ts : List ℕ) (lists : List (List ℕ)) → ts ≡ theorems db
+  pub all_cited : (by_essential : Bool) (ts : List ℕ) (lists : List (List ℕ)) → ts ≡ theorems db
       → AreCited db by_essential (theorems db) (length (theorems db)) lists
       → IsFileOrder (citing ts lists) × AllCited db by_essential (citing ts lists)
-  all-cited by_essential ts lists e h =
+  all_cited by_essential ts lists e h =
       subst (λ (us : List ℕ). IsFileOrder (citing us lists)
       × AllCited db by_essential (citing us lists)) (sym e) (
-        file-order db few complete by_essential lists h,
+        file_order db few complete by_essential lists h,
         record {
           theorems_are = refl;
-          valid = all-valid db few complete by_essential lists h;
+          valid = all_valid db few complete by_essential lists h;
           rising = λ i l. (h.each i l).checked.rising;
           exact = λ i l. (h.each i l).checked.exact;
           shows = shows db few complete by_essential lists h;

@@ -10,17 +10,17 @@ use Rattle.std.proofs.Math.Seq.{get_or-append_right}
 use Rattle.std.proofs.lemmas.List.Elements.{All-push, Contains-push, Contains-append_left}
 use Rattle.mm_spec.specs.Statement.{Statement}
 use Rattle.mm_spec.specs.Output.{theorems}
-use Rattle.mm_stmt.specs.Database.{Known}
+use Rattle.mm_stmt.specs.Database.{Contents}
 use Rattle.mm_board.specs.declared.views.View.{View}
 use Rattle.mm_board.specs.Records.{times_in, times_open, times_recorded}
 use Rattle.mm_board.specs.Events.{after_join}
 use Rattle.mm_board.specs.Models.{BoardValue, SeatValue, IsSeatOf}
-use Rattle.mm_board.proofs.Sums.{times_in-append}
+use Rattle.mm_board.proofs.SumsLaw.{times_in_append}
 use Rattle.mm_work.specs.Judged.{IsCited}
-use Rattle.mm_work.specs.Workers.{theorem_of, AreFound, IsDone, AreGathered, IsFoundValid}
+use Rattle.mm_work.specs.Workers.{theorem_of, AreFindings, IsDone, AreGathered, IsFoundValid}
 use Rattle.mm_work.specs.Workers.{IsFoundFaulty, IsFaultFound}
 use Rattle.mm_work.specs.declared.worker.IndexedFault.{IndexedFault}
-use Rattle.mm_work.specs.declared.worker.Found.{Found}
+use Rattle.mm_work.specs.declared.worker.Findings.{Findings}
 use Rattle.mm_work.specs.declared.worker.Worked.{Worked}
 
 same_number : (x i : ℕ) → 0 < cond (i == x) 1 0 → i ≡ x
@@ -36,7 +36,7 @@ times-both x l m p = go (cases_lt 0 (times_in x l))
   where
     go : (0 < times_in x l) ⊎ (times_in x l ≤ 0) → (0 < times_in x l) ⊎ (0 < times_in x m)
     go (inl h) = inl h
-    go (inr h) = let a = times_in-append x l m in inr (omega arith)
+    go (inr h) = let a = times_in_append x l m in inr (omega arith)
 
 -- a number that stands in a list is an element of it
 times-contains : (x : ℕ) (l : List ℕ) → 0 < times_in x l → Contains l x
@@ -55,11 +55,11 @@ times-contains x (y ∷ l) p = go (cases_lt 0 (times_in x l)) (times-contains x 
 
 module _ {A : Type 0} (db : List Statement) (by_essential : Bool) where
   -- one valid theorem more
-  pub found-more : (f g : Found A) (i : ℕ) (cites : List ℕ) → AreFound db by_essential f
+  pub found_more : (f g : Findings A) (i : ℕ) (cites : List ℕ) → AreFindings db by_essential f
       → i < length (theorems db) → IsCited db by_essential (theorem_of db i) cites
       → g.valid.items ≡ f.valid.items ++ i ∷ [] → g.cites ≡ f.cites ++ cites ∷ []
-      → g.faulty ≡ f.faulty → AreFound db by_essential g
-  found-more f g i cites h l one v c e = record {
+      → g.faulty ≡ f.faulty → AreFindings db by_essential g
+  found_more f g i cites h l one v c e = record {
     count =
         ap length c ∙ length-append f.cites (cites ∷ []) ∙ ap (λ n. n + 1) h.count
         ∙ sym (length-append f.valid.items (i ∷ [])) ∙ sym (ap length v);
@@ -113,10 +113,10 @@ fresh-le (suc n) v w h =
 fresh-one : (a b : ℕ) → a ≡ 0 → 0 < b → cond (b == 0) 1 0 < cond (a == 0) 1 0
 fresh-one a b = grind (arith, nat_tests)
 
-pub fresh-less : (n i : ℕ) (v w : View) → ((x : ℕ) → times_recorded x v ≤ times_recorded x w)
+pub fresh_less : (n i : ℕ) (v w : View) → ((x : ℕ) → times_recorded x v ≤ times_recorded x w)
     → i < n → times_recorded i v ≡ 0 → 0 < times_recorded i w → fresh n w < fresh n v
-fresh-less zero i v w h l z p = absurd (omega arith)
-fresh-less (suc n) i v w h l z p = go (cases_lt i n) (λ b. fresh-less n i v w h b z p)
+fresh_less zero i v w h l z p = absurd (omega arith)
+fresh_less (suc n) i v w h l z p = go (cases_lt i n) (λ b. fresh_less n i v w h b z p)
   where
     go : (i < n) ⊎ (n ≤ i) → (i < n → fresh n w < fresh n v) → fresh (suc n) w < fresh (suc n) v
     go (inl b) f =
@@ -130,19 +130,19 @@ fresh-less (suc n) i v w h l z p = go (cases_lt i n) (λ b. fresh-less n i v w h
         (subst (λ k. times_recorded k v ≡ 0) e z) (subst (λ k. 0 < times_recorded k w) e p) in
         omega (arith, r, o)
 
-module _ {A : Type 0} (home : BoardValue) (database : Known) (by_essential : Bool) where
+module _ {A : Type 0} (home : BoardValue) (database : Contents) (by_essential : Bool) where
   -- one worker's seat
-  pub gathered-first : (w : Worked A) → IsDone home database by_essential w
+  pub gathered_first : (w : Worked A) → IsDone home database by_essential w
       → w.found.short_of_memory ≡ false
       → AreGathered home database.statements by_essential w.seat (w.found ∷ [])
-  gathered-first w d short =
+  gathered_first w d short =
       let t = d.tells short in
       record {
         at = d.at;
         closed = d.closed;
         over = d.over short;
         found =
-            All-push (AreFound database.statements by_essential) [] w.found
+            All-push (AreFindings database.statements by_essential) [] w.found
             (λ k e l. absurd (omega arith)) t.found;
         settled =
             λ i p. (
@@ -155,18 +155,18 @@ module _ {A : Type 0} (home : BoardValue) (database : Known) (by_essential : Boo
       }
 
   -- one more worker's seat
-  pub gathered-more : (s u : SeatValue) (fs : List (Found A)) (w : Worked A)
+  pub gathered_more : (s u : SeatValue) (fs : List (Findings A)) (w : Worked A)
       → AreGathered home database.statements by_essential s fs → IsDone home database by_essential w
       → w.found.short_of_memory ≡ false
       → IsSeatOf home u → u.view ≡ after_join s.view w.seat.view
       → AreGathered home database.statements by_essential u (fs ++ w.found ∷ [])
-  gathered-more s u fs w h d short at is =
+  gathered_more s u fs w h d short at is =
       let t = d.tells short in
       record {
         at = at;
         closed = ap (λ (v : View). v.open_number) is ∙ h.closed;
         over = ap (λ (v : View). v.over) is ∙ ap (λ (b : Bool). b || w.seat.view.over) h.over;
-        found = All-push (AreFound database.statements by_essential) fs w.found h.found t.found;
+        found = All-push (AreFindings database.statements by_essential) fs w.found h.found t.found;
         settled =
             λ i p. valid i
             (times-both i s.view.settled w.seat.view.settled
@@ -197,10 +197,10 @@ module _ {A : Type 0} (home : BoardValue) (database : Known) (by_essential : Boo
           let t = d.tells short in (w.found, Contains-push fs w.found, t.reported i p)
 
 -- a number drawn and judged
-pub fresh-drawn : (n i : ℕ) (v w u : View) → v.open_number ≡ None
+pub fresh_drawn : (n i : ℕ) (v w u : View) → v.open_number ≡ None
     → w ≡ record v { open_number = Some i } → i < n → ((x : ℕ) → 0 < times_recorded x v → x < i)
     → ((x : ℕ) → times_recorded x u ≡ times_recorded x w) → fresh n u < fresh n v
-fresh-drawn n i v w u closed is l above kept = fresh-less n i v u more l unseen seen
+fresh_drawn n i v w u closed is l above kept = fresh_less n i v u more l unseen seen
   where
     at-open : (x : ℕ)
         → times_recorded x w

@@ -1,11 +1,11 @@
 -- Where among the workers' findings the citations of a theorem are.
 use Rattle.std.specs.Prelude.{◌≡◌, ℕ, ◌<◌, List, Some, length, slice_index, slice_get}
-use Rattle.mm_work.specs.declared.merge.Place.{Place}
-use Rattle.mm_work.specs.declared.worker.Found.{Found}
+use Rattle.mm_work.specs.declared.merge.Whereabouts.{Whereabouts}
+use Rattle.mm_work.specs.declared.worker.Findings.{Findings}
 
 -- among the places, that of index i is with this worker, who found these proofs valid
-pub record IsNoted (places : List Place) (worker : ℕ) (valid : List ℕ) (i : ℕ) : Type 0 where
-  pub place : Place
+pub record IsNoted (places : List Whereabouts) (worker : ℕ) (valid : List ℕ) (i : ℕ) : Type 0 where
+  pub place : Whereabouts
   pub place_is : slice_get places i ≡ Some place
   pub worker_is : place.worker ≡ worker
   pub within : place.place < length valid
@@ -13,8 +13,8 @@ pub record IsNoted (places : List Place) (worker : ℕ) (valid : List ℕ) (i : 
 
 -- among the places, that of index i is with one of the workers
 module _ {A : Type 0} where
-  pub record HasPlace (places : List Place) (fs : List (Found A)) (i : ℕ) : Type 0 where
+  pub record HasPlace (places : List Whereabouts) (fs : List (Findings A)) (i : ℕ) : Type 0 where
     pub worker : ℕ
-    pub found : Found A
+    pub found : Findings A
     pub found_is : slice_get fs worker ≡ Some found
     pub noted : IsNoted places worker found.valid.items i

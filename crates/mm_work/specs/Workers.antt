@@ -5,13 +5,13 @@ use Rattle.std.specs.List.{Contains}
 use Rattle.std.specs.Option.{option_map}
 use Rattle.mm_spec.specs.Statement.{Statement}
 use Rattle.mm_spec.specs.Output.{theorems}
-use Rattle.mm_stmt.specs.Database.{Known}
+use Rattle.mm_stmt.specs.Database.{Contents}
 use Rattle.mm_board.specs.declared.views.View.{View}
 use Rattle.mm_board.specs.Records.{times_in}
 use Rattle.mm_board.specs.Models.{BoardValue, SeatValue, IsSeatOf}
 use Rattle.mm_work.specs.Judged.{IsCited, HasFault}
 use Rattle.mm_work.specs.declared.worker.IndexedFault.{IndexedFault}
-use Rattle.mm_work.specs.declared.worker.Found.{Found}
+use Rattle.mm_work.specs.declared.worker.Findings.{Findings}
 use Rattle.mm_work.specs.declared.worker.Worked.{Worked}
 
 -- the theorem of this index
@@ -31,7 +31,7 @@ faulty_index g = option_map (λ f. f.index) g
 module _ {A : Type 0} where
   -- what a worker found is so: the proofs that it found valid are, with these citations, and the
   -- fault is that of its theorem
-  pub record AreFound (db : List Statement) (by_essential : Bool) (f : Found A) : Type 0 where
+  pub record AreFindings (db : List Statement) (by_essential : Bool) (f : Findings A) : Type 0 where
     pub count : length f.cites ≡ length f.valid.items
     pub known : All (λ i. i < length (theorems db)) f.valid.items
     pub each : (k : ℕ) → k < length f.valid.items
@@ -42,13 +42,13 @@ module _ {A : Type 0} where
   -- the numbers that a seat has settled are those of the proofs that were found valid, and what it
   -- has reported is the fault
   pub record Tells (db : List Statement) (by_essential : Bool) (v : View)
-      (f : Found A) : Type 0 where
-    pub found : AreFound db by_essential f
+      (f : Findings A) : Type 0 where
+    pub found : AreFindings db by_essential f
     pub settled : v.settled ≡ f.valid.items
     pub reported : (i : ℕ) → 0 < times_in i v.reported → faulty_index f.faulty ≡ Some i
 
   -- the same where no growth of memory was refused
-  abbrev pub TellsUnlessShort : List Statement → Bool → View → Found A → Type 0
+  abbrev pub TellsUnlessShort : List Statement → Bool → View → Findings A → Type 0
   TellsUnlessShort db by_essential v f = f.short_of_memory ≡ false → Tells db by_essential v f
 
 -- a seat that can begin to work
@@ -61,7 +61,7 @@ pub record IsReady (home : BoardValue) (seat : SeatValue) : Type 0 where
 
 module _ {A : Type 0} where
   -- a worker that drew until no number was left, or that was short of memory
-  pub record IsDone (home : BoardValue) (database : Known) (by_essential : Bool)
+  pub record IsDone (home : BoardValue) (database : Contents) (by_essential : Bool)
       (w : Worked A) : Type 0 where
     pub at : IsSeatOf home w.seat
     pub closed : w.seat.view.open_number ≡ None
@@ -69,20 +69,20 @@ module _ {A : Type 0} where
     pub tells : TellsUnlessShort database.statements by_essential w.seat.view w.found
 
   -- one of the workers found the proof of the theorem of this index valid
-  abbrev pub IsFoundValid : List (Found A) → ℕ → Type 0
-  IsFoundValid fs i = (f : Found A) × Contains fs f × Contains f.valid.items i
+  abbrev pub IsFoundValid : List (Findings A) → ℕ → Type 0
+  IsFoundValid fs i = (f : Findings A) × Contains fs f × Contains f.valid.items i
 
   -- one of the workers found a fault in the proof of the theorem of this index
-  abbrev pub IsFoundFaulty : List (Found A) → ℕ → Type 0
-  IsFoundFaulty fs i = (f : Found A) × Contains fs f × (faulty_index f.faulty ≡ Some i)
+  abbrev pub IsFoundFaulty : List (Findings A) → ℕ → Type 0
+  IsFoundFaulty fs i = (f : Findings A) × Contains fs f × (faulty_index f.faulty ≡ Some i)
 
   -- the workers' seats were joined to this one, none was short of memory, and this is what they
   -- found
   pub record AreGathered (home : BoardValue) (db : List Statement) (by_essential : Bool)
-      (seat : SeatValue) (fs : List (Found A)) : Type 0 where
+      (seat : SeatValue) (fs : List (Findings A)) : Type 0 where
     pub at : IsSeatOf home seat
     pub closed : seat.view.open_number ≡ None
     pub over : seat.view.over ≡ true
-    pub found : All (AreFound db by_essential) fs
+    pub found : All (AreFindings db by_essential) fs
     pub settled : (i : ℕ) → 0 < times_in i seat.view.settled → IsFoundValid fs i
     pub reported : (i : ℕ) → 0 < times_in i seat.view.reported → IsFoundFaulty fs i

@@ -6,7 +6,7 @@ ghost use Rattle.mm_check.specs.Rule.{AreRules};
 ghost use Rattle.mm_work.specs.Workers.{IsReady, IsDone, AreGathered};
 
 use crate::gate::Gate;
-use crate::worker::{Found, Worked, work};
+use crate::worker::{Findings, Worked, work};
 use mm_board::{Board, Seat};
 use mm_check::Rules;
 use mm_stmt::Database;
@@ -30,7 +30,7 @@ impl<'a, 'd, A: Allocator> Promise<Worked<A>> for AtBoard<'a, 'd, A> {
 #[derive(Drop)]
 pub(crate) struct Gathered<A: Allocator> {
     pub seat: Seat,
-    pub found: Vec<Found<A>, A>,
+    pub found: Vec<Findings<A>, A>,
 }
 
 /// A seat for one more worker; none where the seat has no share to give.

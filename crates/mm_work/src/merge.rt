@@ -3,10 +3,10 @@
 ghost use Rattle.std.specs.Prelude.{◌≡◌, ◌<◌, ◌≤◌, ◌⊎◌, ℕ, All, IfOk, length, slice_get};
 ghost use Rattle.mm_spec.specs.Output.{theorems};
 ghost use Rattle.mm_work.specs.Judged.{AreCited, HasFault};
-ghost use Rattle.mm_work.specs.Workers.{AreFound, IsFoundValid, IsFoundFaulty, theorem_of};
+ghost use Rattle.mm_work.specs.Workers.{AreFindings, IsFoundValid, IsFoundFaulty, theorem_of};
 ghost use Rattle.mm_work.specs.Places.{IsNoted, HasPlace};
 
-use crate::worker::Found;
+use crate::worker::Findings;
 use mm_cites::Lists;
 use mm_spec::Fault;
 use mm_stmt::Database;
@@ -15,13 +15,13 @@ use std::alloc::{AllocError, Allocator};
 /// Where the citations of a theorem are: with which worker, and at which place among the theorems
 /// that it found valid.
 #[derive(Clone, Copy)]
-pub(crate) struct Place {
+pub(crate) struct Whereabouts {
     pub worker: usize,
     pub place: usize,
 }
 
 /// Notes where the citations of a worker's theorems are.
-fn note(places: &mut [Place], worker: usize, valid: &[u32])
+fn note(places: &mut [Whereabouts], worker: usize, valid: &[u32])
     requires { All (λ i. i < length places.old) valid.now }
     ensures count { length places.new ≡ length places.old }
     ensures noted { All (λ i. IsNoted places.new worker valid.now i) valid.now }
@@ -30,16 +30,16 @@ fn note(places: &mut [Place], worker: usize, valid: &[u32])
         ⊎ (slice_get places.new i ≡ slice_get places.old i) }
 {
     for (place, index) in valid.iter().enumerate() {
-        places[*index as usize] = Place { worker, place };
+        places[*index as usize] = Whereabouts { worker, place };
     }
 }
 
 /// Where the citations of each theorem are.
 fn places<A: Allocator + Copy>(
     alloc: A,
-    found: &[Found<A>],
+    found: &[Findings<A>],
     count: usize,
-) -> Result<Vec<Place, A>, AllocError>
+) -> Result<Vec<Whereabouts, A>, AllocError>
     requires { All (λ f. All (λ i. i < count) f.valid.items) found.now }
     ensures count { IfOk result (λ places. length places.items ≡ count) }
     ensures places { IfOk result
@@ -48,7 +48,7 @@ fn places<A: Allocator + Copy>(
     let mut places = Vec::new(alloc);
     places.resize(
         count,
-        Place {
+        Whereabouts {
             worker: 0,
             place: 0,
         },
@@ -64,9 +64,9 @@ pub(crate) fn merge<'d, A: Allocator + Copy>(
     alloc: A,
     database: &Database<'d, A>,
     essential: bool,
-    found: &[Found<A>],
+    found: &[Findings<A>],
 ) -> Result<Lists<A>, AllocError>
-    requires found { All (AreFound database.now.statements essential) found.now }
+    requires found { All (AreFindings database.now.statements essential) found.now }
     requires valid { (i : ℕ) → i < length (theorems database.now.statements)
         → IsFoundValid found.now i }
     ensures { IfOk result
@@ -87,10 +87,10 @@ pub(crate) fn merge<'d, A: Allocator + Copy>(
 pub(crate) fn fault_of<'d, A: Allocator>(
     database: &Database<'d, A>,
     essential: bool,
-    found: &[Found<A>],
+    found: &[Findings<A>],
     index: u32,
 ) -> Fault
-    requires found { All (AreFound database.now.statements essential) found.now }
+    requires found { All (AreFindings database.now.statements essential) found.now }
     requires faulty { IsFoundFaulty found.now index }
     ensures { HasFault database.now.statements (theorem_of database.now.statements index) result }
 {

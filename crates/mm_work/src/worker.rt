@@ -7,7 +7,8 @@ ghost use Rattle.mm_check.specs.Rule.{AreRules};
 ghost use Rattle.mm_spec.specs.Output.{theorems};
 ghost use Rattle.mm_board.specs.Records.{times_in, times_recorded};
 ghost use Rattle.mm_board.specs.Models.{IsSeatOf};
-ghost use Rattle.mm_work.specs.Workers.{AreFound, TellsUnlessShort, IsReady, IsDone, faulty_index};
+ghost use Rattle.mm_work.specs.Workers.{AreFindings, TellsUnlessShort, IsReady, IsDone};
+ghost use Rattle.mm_work.specs.Workers.{faulty_index};
 
 use crate::gate::Gate;
 use crate::proof::{VerifyRefused, verify};
@@ -27,7 +28,7 @@ pub(crate) struct IndexedFault {
 
 /// What a worker found.
 #[derive(Drop)]
-pub(crate) struct Found<A: Allocator> {
+pub(crate) struct Findings<A: Allocator> {
     /// The theorems whose proofs are valid, by their indices, in the order in which they were
     /// checked.
     pub valid: Vec<u32, A>,
@@ -39,16 +40,16 @@ pub(crate) struct Found<A: Allocator> {
     pub short_of_memory: bool,
 }
 
-impl<A: Allocator> Found<A> {
+impl<A: Allocator> Findings<A> {
     /// Nothing yet.
-    fn new(alloc: A) -> Found<A>
+    fn new(alloc: A) -> Findings<A>
     where
         A: Copy,
         ensures valid { result.valid.items ≡ [] }
         ensures cites { result.cites ≡ [] }
         ensures faulty { result.faulty ≡ None }
     {
-        Found {
+        Findings {
             valid: Vec::new(alloc),
             cites: Lists::new(alloc),
             faulty: None,
@@ -73,7 +74,7 @@ impl<A: Allocator> Found<A> {
 #[derive(Drop)]
 pub(crate) struct Worked<A: Allocator> {
     pub seat: Seat,
-    pub found: Found<A>,
+    pub found: Findings<A>,
 }
 
 /// Checks the proof of a theorem, by its index, and keeps what comes of it. Whether the proof is
@@ -82,18 +83,18 @@ fn check<'a, A: Allocator + Copy>(
     alloc: A,
     database: &Database<'a, A>,
     checker: &mut Checker<'_, A>,
-    found: &mut Found<A>,
+    found: &mut Findings<A>,
     index: u32,
     essential: bool,
 ) -> bool
     requires index { index < length (theorems database.now.statements) }
     requires made_for { IsMadeFor database.now.statements checker.old }
     requires found { found.old.short_of_memory ≡ false
-        → AreFound database.now.statements essential found.old }
+        → AreFindings database.now.statements essential found.old }
     ensures made_for { IsMadeFor database.now.statements checker.new }
     ensures short { found.new.short_of_memory ≡ false → found.old.short_of_memory ≡ false }
     ensures found { found.new.short_of_memory ≡ false
-        → AreFound database.now.statements essential found.new }
+        → AreFindings database.now.statements essential found.new }
     ensures valid { found.new.short_of_memory ≡ false → result ≡ true
         → (found.new.valid.items ≡ found.old.valid.items ++ index ∷ [])
         × (found.new.faulty ≡ found.old.faulty) }
@@ -115,9 +116,10 @@ fn check<'a, A: Allocator + Copy>(
     false
 }
 
-/// Judges the theorem that the seat has open: looks whether it is still wanted, and if so checks
+/// Settles or reports the theorem that the seat has drawn: looks whether it is still wanted, and
+/// if so checks
 /// its proof, and then settles or reports it.
-fn judge<'a, A: Allocator + Copy>(
+fn settle_drawn<'a, A: Allocator + Copy>(
     alloc: A,
     database: &Database<'a, A>,
     board: &Board<A>,
@@ -178,7 +180,7 @@ pub(crate) fn work<'a, A: Allocator + Copy, G: Gate>(
 {
     let mut worked = Worked {
         seat,
-        found: Found::new(alloc),
+        found: Findings::new(alloc),
     };
     let Ok(mut checker) = Checker::new(alloc, database, rules) else {
         worked.found.short_of_memory = true;
@@ -186,7 +188,7 @@ pub(crate) fn work<'a, A: Allocator + Copy, G: Gate>(
     };
     while let Some(index) = board.claim(&mut worked.seat) {
         gate.enter(worker, index);
-        judge(
+        settle_drawn(
             alloc,
             database,
             board,

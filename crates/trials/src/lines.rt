@@ -65,7 +65,7 @@ fn defaults_stand_for_what_is_left_out(rt: HostRuntime) {
 }
 
 #[test]
-fn options_stand_before_and_behind_the_file(rt: HostRuntime) {
+fn options_stand_before_and_after_the_file(rt: HostRuntime) {
     let alloc = rt.alloc();
     let words = [
         "mmdepend",
@@ -108,8 +108,8 @@ fn options_stand_before_and_behind_the_file(rt: HostRuntime) {
             )
         );
     }
-    let behind = ["mmdepend", "--", "--help"];
-    assert!(&rt; says(alloc, &behind, 4, 4, None, Choice::All, Some("--help")));
+    let after = ["mmdepend", "--", "--help"];
+    assert!(&rt; says(alloc, &after, 4, 4, None, Choice::All, Some("--help")));
 }
 
 #[test]

@@ -110,7 +110,7 @@ fn has_sections(report: &[u8], sections: [&[u8]; 3]) -> bool {
     let mut rest = &report[head_of(report)..];
     for section in sections {
         match rest.strip_prefix(section) {
-            Some(behind) => rest = behind,
+            Some(after) => rest = after,
             None => return false,
         }
     }

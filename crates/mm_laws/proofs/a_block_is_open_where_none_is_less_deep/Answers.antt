@@ -1,4 +1,4 @@
-use Rattle.mm_spec.proofs.Activity.{stays_exact}
+use Rattle.mm_spec.proofs.ActivityLaw.{stays_exact}
 use Rattle.mm_laws.proofs.a_block_is_open_where_none_is_less_deep.Goals as goal
 
 pub returns : goal.returns

@@ -1,4 +1,4 @@
-use Rattle.mm_laws.proofs.SomeOutput.{cells_decided}
+use Rattle.mm_laws.proofs.SomeOutputLaw.{cells_decided}
 use Rattle.mm_laws.proofs.cells_are_decided.Goals as goal
 
 pub returns : goal.returns

@@ -1,4 +1,4 @@
-use Rattle.mm_laws.proofs.SomeReading.{is_readable}
+use Rattle.mm_laws.proofs.SomeReadingLaw.{is_readable}
 use Rattle.mm_laws.proofs.every_text_is_read.Goals as goal
 
 pub returns : goal.returns

@@ -1,4 +1,4 @@
-use Rattle.mm_laws.proofs.Spelling.{parts_unique, spelling_unique, spelled_out}
+use Rattle.mm_laws.proofs.SpellingLaw.{parts_unique, spelling_unique, spelled_out}
 use Rattle.mm_laws.proofs.letters_spell_one_row.Goals as goal
 
 pub returns : goal.returns

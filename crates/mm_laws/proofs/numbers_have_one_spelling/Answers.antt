@@ -1,4 +1,4 @@
-use Rattle.mm_laws.proofs.Numerals.{numbers_spelled, book_numbers}
+use Rattle.mm_laws.proofs.NumeralsLaw.{numbers_spelled, book_numbers}
 use Rattle.mm_laws.proofs.numbers_have_one_spelling.Goals as goal
 
 pub returns : goal.returns

@@ -1,4 +1,4 @@
-use Rattle.mm_laws.proofs.SomeOutput.{output_exists}
+use Rattle.mm_laws.proofs.SomeOutputLaw.{output_exists}
 use Rattle.mm_laws.proofs.output_exists.Goals as goal
 
 pub returns : goal.returns

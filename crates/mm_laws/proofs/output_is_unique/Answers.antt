@@ -1,4 +1,4 @@
-use Rattle.mm_laws.proofs.OneOutput.{output_unique}
+use Rattle.mm_laws.proofs.OneOutputLaw.{output_unique}
 use Rattle.mm_laws.proofs.output_is_unique.Goals as goal
 
 pub returns : goal.returns

@@ -1,4 +1,4 @@
-use Rattle.mm_laws.proofs.SpelledSteps.{steps_named, steps_unique, steps_labels}
+use Rattle.mm_laws.proofs.SpelledStepsLaw.{steps_named, steps_unique, steps_labels}
 use Rattle.mm_laws.proofs.steps_are_what_is_named.Goals as goal
 
 pub returns : goal.returns

@@ -1,4 +1,4 @@
-use Rattle.mm_laws.proofs.SomeFault.{sound_or_faulty}
+use Rattle.mm_laws.proofs.SomeFaultLaw.{sound_or_faulty}
 use Rattle.mm_laws.proofs.texts_are_sound_or_faulty.Goals as goal
 
 pub returns : goal.returns

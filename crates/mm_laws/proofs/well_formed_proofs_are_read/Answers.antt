@@ -1,4 +1,4 @@
-use Rattle.mm_laws.proofs.WellSpelled.{compressed_exact, normal_exact}
+use Rattle.mm_laws.proofs.WellSpelledLaw.{compressed_exact, normal_exact}
 use Rattle.mm_laws.proofs.well_formed_proofs_are_read.Goals as goal
 
 pub returns : goal.returns

@@ -71,8 +71,8 @@ module _ (c : Context) where
   IsGood (Some (assertion a)) = IsComplete c a
 
   -- the formula after a step is that of the last tree of what the steps up to it stand for
-  abbrev pub Behind : List ℕ → Formula → Type 0
-  Behind labels f = (row : Trees) × AreDerivations c row × (postfix row ≡ labels) × HasLast row f
+  abbrev pub Leaves : List ℕ → Formula → Type 0
+  Leaves labels f = (row : Trees) × AreDerivations c row × (postfix row ≡ labels) × HasLast row f
 
   -- the entries after a step; ends are the formulas after the steps so far
   abbrev pub step_entries : Step → List Formula → List Formula → Result (List Formula) Reason

@@ -11,7 +11,7 @@ pub record IsWord (text : List ℕ) (w : Word) : Type 0 where
   pub within : w.end ≤ length text
   pub no_white : (i : ℕ) → w.start ≤ i → i < w.end → white_at text i ≡ false
   pub white_before : (i : ℕ) → i + 1 ≡ w.start → white_at text i ≡ true
-  pub white_behind : w.end < length text → white_at text w.end ≡ true
+  pub white_after : w.end < length text → white_at text w.end ≡ true
 
 -- ws has each word of the text, nothing else, and rises.
 pub record AreWords (text : List ℕ) (ws : List Word) : Type 0 where

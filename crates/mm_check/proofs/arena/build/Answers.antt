@@ -3,10 +3,11 @@ use Rattle.std.proofs.lemmas.Bool.{lt-leb}
 use Rattle.mm_spec.specs.Limits.{formula_limit}
 use Rattle.mm_check.specs.Arena.{text_of}
 use Rattle.mm_check.specs.Rule.{told, replaced}
-use Rattle.mm_check.proofs.Longer.{longer}
+use Rattle.mm_check.proofs.LongerLaw.{longer}
 use Rattle.mm_check.proofs.arena.build.Goals as goal
 
-pub returns-then-len-gt-FORMULA_LIMIT-clause-short : goal.returns-then-len-gt-FORMULA_LIMIT-clause-short
+pub returns-then-len-gt-FORMULA_LIMIT-clause-short :
+    goal.returns-then-len-gt-FORMULA_LIMIT-clause-short
 returns-then-len-gt-FORMULA_LIMIT-clause-short g c =
     let xs = c.args.symbols.now in
     let es = c.args.premises.now in
@@ -16,11 +17,11 @@ returns-then-len-gt-FORMULA_LIMIT-clause-short g c =
     let inside : i < length f = c.loop-part-test.true in
     let is : told xs es c.part-item.result ≡ u =
     ap (told xs es) c.in-Variable.is
-    ∙ sym (c.text.ensures ∙ ap (text_of xs) c.piece_of.ensures.piece) in
+    ∙ sym (c.text.ensures ∙ ap (text_of xs) c.span_of.ensures.span) in
     let l : length (replaced xs es (take i f)) + length u ≤ length (replaced xs es f) =
     longer xs es f i c.part-item.result u inside (sym c.part-item.is) is in
-    let m : length c.append_piece.new.list.items ≡ length (replaced xs es (take i f)) + length u =
-    ap length c.in_ok-append_piece-in-Variable.ensures ∙ length-append c.loop-part.made.items u
+    let m : length c.append_text.new.list.items ≡ length (replaced xs es (take i f)) + length u =
+    ap length c.in_ok-append_text-in-Variable.ensures ∙ length-append c.loop-part.made.items u
     ∙ ap (λ z. length z + length u) c.loop-part.invariant in
     sym (lt-leb (length (replaced xs es f)) formula_limit
     (omega (arith, l, m, c.len.ensures, c.if-len-gt-FORMULA_LIMIT.true)))

@@ -1,12 +1,12 @@
 use Rattle.std.proofs.Common.{◌≡◌, get_or, nat_eq, sym, ap, ◌∙◌, arith}
 use Rattle.std.proofs.lemmas.List.{get_or_default}
 use Rattle.mm_check.specs.Arena.{symbols_of}
-use Rattle.mm_check.proofs.Stretch.{typed_is}
+use Rattle.mm_check.proofs.StretchLaw.{typed_is}
 use Rattle.mm_check.proofs.arena.is_typed.Goals as goal
 
 pub returns-then-premise : goal.returns-then-premise
 returns-then-premise c =
-    let xs = symbols_of c.args.symbols.now c.args.premise.place in
+    let xs = symbols_of c.args.symbols.now c.args.premise.store in
     let a = c.args.premise.start in
     let r = c.index-list-premise.result in
     let w = c.requires.premise.within in

@@ -5,10 +5,10 @@ use Rattle.std.proofs.lemmas.List.{get_or_default}
 use Rattle.mm_spec.specs.Citation.{context_at}
 use Rattle.mm_proof.specs.Read.{step_of}
 use Rattle.mm_check.specs.Flags.{wanted_flags}
-use Rattle.mm_check.proofs.Making.{good_labels}
-use Rattle.mm_check.proofs.Reach.{good_here}
-use Rattle.mm_check.proofs.Back.{flag_at, wanted_count}
-use Rattle.mm_check.proofs.Walk.{Walked, walk_start, walk_some, walk_here, walk_end, earlier_of}
+use Rattle.mm_check.proofs.CompilerStateLaw.{good_labels}
+use Rattle.mm_check.proofs.ReachLaw.{good_here}
+use Rattle.mm_check.proofs.BackLaw.{flag_at, wanted_count}
+use Rattle.mm_check.proofs.WalkLaw.{Walked, walk_start, walk_some, walk_here, walk_end, earlier_of}
 use Rattle.mm_check.proofs.essential.walk_back.Goals.{then-flag, else-flag}
 use Rattle.mm_check.proofs.essential.walk_back.Goals as goal
 

@@ -1,4 +1,4 @@
-use Rattle.mm_check.proofs.Walk.{Walked}
+use Rattle.mm_check.proofs.WalkLaw.{Walked}
 use Rattle.mm_check.proofs.essential.walk_back.Given as goal
 
 abbrev pub invariant-loop-i : goal.invariant-loop-i

@@ -1,4 +1,4 @@
-use Rattle.mm_check.proofs.Marks.{not_absent}
+use Rattle.mm_check.proofs.MarksLaw.{not_absent}
 use Rattle.mm_check.proofs.machine.find.Goals as goal
 
 pub returns-in-Err-clause-below : goal.returns-in-Err-clause-below

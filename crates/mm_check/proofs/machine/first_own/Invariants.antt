@@ -3,4 +3,4 @@ use Rattle.mm_check.specs.State.{first_own}
 use Rattle.mm_check.proofs.machine.first_own.Given as goal
 
 abbrev pub invariant-loop-entry : goal.invariant-loop-entry
-invariant-loop-entry l = first_own l.entries l.end ≡ first_own (drop l.entry-index l.entries) l.end
+invariant-loop-entry l = first_own l.stack l.end ≡ first_own (drop l.entry-index l.stack) l.end

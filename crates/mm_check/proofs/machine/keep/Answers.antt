@@ -1,13 +1,14 @@
 use Rattle.std.proofs.Common.{◌≡◌, ◌+◌, ◌-◌, ◌++◌, length, take, get_or, slice_range, sym, ap, ap₂}
 use Rattle.std.proofs.Common.{◌∙◌, arith, rules}
 use Rattle.std.proofs.lemmas.List.{get_or_default}
-use Rattle.mm_check.specs.declared.arena.Place.TheVariants.{Kept}
-use Rattle.mm_check.specs.Arena.{entry, nothing}
-use Rattle.mm_check.proofs.Follow.{kept_top, kept_top_is, stack_here, texts_here, kept_here}
-use Rattle.mm_check.proofs.Follow.{text_here, moves_here, no_move}
+use Rattle.mm_check.specs.declared.arena.Store.TheVariants.{Kept}
+use Rattle.mm_check.specs.Arena.{span, nothing}
+use Rattle.mm_check.proofs.FollowLaw.{kept_top, kept_top_is, stack_here, texts_here, kept_here}
+use Rattle.mm_check.proofs.FollowLaw.{text_here, moves_here, no_move}
 use Rattle.mm_check.proofs.machine.keep.Goals as goal
 
-pub returns-in_err-extend_from_slice-in-Own-clause-moved : goal.returns-in_err-extend_from_slice-in-Own-clause-moved
+pub returns-in_err-extend_from_slice-in-Own-clause-moved :
+    goal.returns-in_err-extend_from_slice-in-Own-clause-moved
 returns-in_err-extend_from_slice-in-Own-clause-moved g c =
     rw c.in_err-extend_from_slice-in-Own.ensures.items
     (no_move c.args.own.now.items c.args.kept.now.items)
@@ -31,7 +32,8 @@ returns-in-Kept-clause-made g c =
           last e is_last is c.requires.stack c.in-Kept.is,
     )
 
-pub returns-in_ok-extend_from_slice-in-Own-clause-stack : goal.returns-in_ok-extend_from_slice-in-Own-clause-stack
+pub returns-in_ok-extend_from_slice-in-Own-clause-stack :
+    goal.returns-in_ok-extend_from_slice-in-Own-clause-stack
 returns-in_ok-extend_from_slice-in-Own-clause-stack g c =
     let own = c.args.own.now.items in
     let kept = c.args.kept.now.items in
@@ -49,14 +51,15 @@ returns-in_ok-extend_from_slice-in-Own-clause-stack g c =
     let cut : c.truncate.new.self.items ≡ take e.start own = c.truncate.ensures.items in
     let start : c.len-start.result ≡ length kept = search rules in
     let end : c.len.result ≡ length c.extend_from_slice.new.self.items = search rules in
-    let made : entry Kept c.len-start.result c.len.result
-    ≡ entry Kept (length kept) (length (kept ++ moved)) = ap₂ (entry Kept) start
+    let made : span Kept c.len-start.result c.len.result
+    ≡ span Kept (length kept) (length (kept ++ moved)) = ap₂ (span Kept) start
     (end ∙ ap length grown) in
     stack_here own kept es last e is_last is c.requires.stack c.in-Own.is c.truncate.new.self.items
     c.extend_from_slice.new.self.items
-    (entry Kept c.len-start.result c.len.result) cut grown made
+    (span Kept c.len-start.result c.len.result) cut grown made
 
-pub returns-in_ok-extend_from_slice-in-Own-clause-texts : goal.returns-in_ok-extend_from_slice-in-Own-clause-texts
+pub returns-in_ok-extend_from_slice-in-Own-clause-texts :
+    goal.returns-in_ok-extend_from_slice-in-Own-clause-texts
 returns-in_ok-extend_from_slice-in-Own-clause-texts g c =
     let own = c.args.own.now.items in
     let kept = c.args.kept.now.items in
@@ -74,14 +77,15 @@ returns-in_ok-extend_from_slice-in-Own-clause-texts g c =
     let cut : c.truncate.new.self.items ≡ take e.start own = c.truncate.ensures.items in
     let start : c.len-start.result ≡ length kept = search rules in
     let end : c.len.result ≡ length c.extend_from_slice.new.self.items = search rules in
-    let made : entry Kept c.len-start.result c.len.result
-    ≡ entry Kept (length kept) (length (kept ++ moved)) = ap₂ (entry Kept) start
+    let made : span Kept c.len-start.result c.len.result
+    ≡ span Kept (length kept) (length (kept ++ moved)) = ap₂ (span Kept) start
     (end ∙ ap length grown) in
     texts_here own kept es last e is_last is c.requires.stack c.in-Own.is c.truncate.new.self.items
     c.extend_from_slice.new.self.items
-    (entry Kept c.len-start.result c.len.result) cut grown made
+    (span Kept c.len-start.result c.len.result) cut grown made
 
-pub returns-in_ok-extend_from_slice-in-Own-clause-moved : goal.returns-in_ok-extend_from_slice-in-Own-clause-moved
+pub returns-in_ok-extend_from_slice-in-Own-clause-moved :
+    goal.returns-in_ok-extend_from_slice-in-Own-clause-moved
 returns-in_ok-extend_from_slice-in-Own-clause-moved g c =
     let own = c.args.own.now.items in
     let kept = c.args.kept.now.items in
@@ -99,14 +103,15 @@ returns-in_ok-extend_from_slice-in-Own-clause-moved g c =
     let cut : c.truncate.new.self.items ≡ take e.start own = c.truncate.ensures.items in
     let start : c.len-start.result ≡ length kept = search rules in
     let end : c.len.result ≡ length c.extend_from_slice.new.self.items = search rules in
-    let made : entry Kept c.len-start.result c.len.result
-    ≡ entry Kept (length kept) (length (kept ++ moved)) = ap₂ (entry Kept) start
+    let made : span Kept c.len-start.result c.len.result
+    ≡ span Kept (length kept) (length (kept ++ moved)) = ap₂ (span Kept) start
     (end ∙ ap length grown) in
     moves_here own kept es last e is_last is c.requires.stack c.in-Own.is c.truncate.new.self.items
     c.extend_from_slice.new.self.items
-    (entry Kept c.len-start.result c.len.result) cut grown made
+    (span Kept c.len-start.result c.len.result) cut grown made
 
-pub returns-in_ok-extend_from_slice-in-Own-clause-made : goal.returns-in_ok-extend_from_slice-in-Own-clause-made
+pub returns-in_ok-extend_from_slice-in-Own-clause-made :
+    goal.returns-in_ok-extend_from_slice-in-Own-clause-made
 returns-in_ok-extend_from_slice-in-Own-clause-made g c =
     let own = c.args.own.now.items in
     let kept = c.args.kept.now.items in
@@ -124,14 +129,14 @@ returns-in_ok-extend_from_slice-in-Own-clause-made g c =
     let cut : c.truncate.new.self.items ≡ take e.start own = c.truncate.ensures.items in
     let start : c.len-start.result ≡ length kept = search rules in
     let end : c.len.result ≡ length c.extend_from_slice.new.self.items = search rules in
-    let made : entry Kept c.len-start.result c.len.result
-    ≡ entry Kept (length kept) (length (kept ++ moved)) = ap₂ (entry Kept) start
+    let made : span Kept c.len-start.result c.len.result
+    ≡ span Kept (length kept) (length (kept ++ moved)) = ap₂ (span Kept) start
     (end ∙ ap length grown) in (
       kept_here own kept es last e is_last is c.requires.stack c.in-Own.is c.truncate.new.self.items
           c.extend_from_slice.new.self.items
-          (entry Kept c.len-start.result c.len.result) cut grown made,
+          (span Kept c.len-start.result c.len.result) cut grown made,
       text_here own kept es last e
           is_last is c.requires.stack c.in-Own.is c.truncate.new.self.items
           c.extend_from_slice.new.self.items
-          (entry Kept c.len-start.result c.len.result) cut grown made,
+          (span Kept c.len-start.result c.len.result) cut grown made,
     )

@@ -1,7 +1,7 @@
 use Rattle.std.proofs.Common.{Ok, take, sym, ap, ap₂, ◌∙◌}
 use Rattle.mm_check.specs.Arena.{arena}
 use Rattle.mm_check.specs.State.{texts, applied}
-use Rattle.mm_check.proofs.Placed.{judged_here, placed, made_known, same_formula, short_enough}
+use Rattle.mm_check.proofs.PlacedLaw.{judged_here, placed, made_known, same_formula, short_enough}
 use Rattle.mm_check.proofs.machine.put_judged.Goals as goal
 
 pub returns-in-Err-clause-stopped : goal.returns-in-Err-clause-stopped

@@ -1,6 +1,6 @@
 use Rattle.std.proofs.Common.{Ok, length, nat_le, sym, ap, ◌∙◌}
 use Rattle.mm_spec.specs.Limits.{formula_limit}
-use Rattle.mm_check.proofs.Placed.{placed, made_known, too_long_here, same_formula}
+use Rattle.mm_check.proofs.PlacedLaw.{placed, made_known, too_long_here, same_formula}
 use Rattle.mm_check.proofs.machine.put_long.Goals as goal
 
 pub returns-in-Err-put-clause-known_own : goal.returns-in-Err-put-clause-known_own

@@ -1,7 +1,7 @@
 use Rattle.std.proofs.Common.{◌≡◌, ℕ, ◌&&◌, ◌||◌, take}
 use Rattle.mm_spec.specs.Derivation.{is_member}
 use Rattle.mm_outline.specs.Blocks.{lists}
-use Rattle.mm_frame.specs.Members.{is_live}
+use Rattle.mm_frame.specs.DisjointIndex.{is_live}
 use Rattle.mm_frame.specs.Pairs.{has_pair}
 use Rattle.mm_frame.proofs.disjoint.add_all_active.Given as goal
 
@@ -11,5 +11,5 @@ invariant-loop-symbol g l =
     → has_pair l.into.items j y
     ≡ (has_pair l.initial.into.items j y
     || (is_member (take l.symbol-index l.symbols) y
-    && (has_pair l.members.pairs.items y j
+    && (has_pair l.disjoint_index.pairs.items y j
     && is_live (lists l.blocks.of.items l.blocks.ends.items l.blocks.open.items) j l.fn.at)))

@@ -2,9 +2,9 @@ use Rattle.std.proofs.Common.{◌∙◌, ℕ, ◌≤◌, ◌&&◌, ◌||◌, Lis
 use Rattle.std.specs.List.{list_any}
 use Rattle.mm_spec.specs.Derivation.{pair, is_member}
 use Rattle.mm_outline.specs.Blocks.{lists}
-use Rattle.mm_frame.specs.Members.{is_live}
+use Rattle.mm_frame.specs.DisjointIndex.{is_live}
 use Rattle.mm_frame.specs.Pairs.{has_pair}
-use Rattle.mm_outline.proofs.Results.{ok_then}
+use Rattle.mm_outline.proofs.ResultsLaw.{ok_then}
 use Rattle.mm_frame.proofs.DisjointLaw.{pairs_are}
 use Rattle.mm_frame.proofs.disjoint.pairs_of.Goals as goal
 
@@ -16,16 +16,16 @@ returns g c = ok_then c.symbols_of.result c.symbols_of.ensures (λ v e.
     let k = c.args.assertion in
     let m = c.requires.assertion in
     let h : k ≤ length db = omega (arith, m) in
-    let ps = c.args.members.now.pairs.items in
+    let ps = c.args.disjoint_index.now.pairs.items in
     let found = c.args.found.now in
     e ∙ ap (map (λ p. pair p.0 p.1)) c.deref-2.ensures.value
-    ∙ pairs_are db b c.requires.blocks k h ps c.requires.members.are found c.tidy.new.pairs.items
+    ∙ pairs_are db b c.requires.blocks k h ps c.requires.disjoint_index.are found c.sort_and_dedup.new.pairs.items
     c.requires.found
-    (λ j y. c.tidy.ensures.same j y ∙ c.in_ok-add_all_active.ensures j y
+    (λ j y. c.sort_and_dedup.ensures.same j y ∙ c.in_ok-add_all_active.ensures j y
     ∙ ap (λ (xs : List (ℕ × ℕ)). has_pair xs j y
     || (is_member found y && (has_pair ps y j && is_live b j k))) c.clear.ensures.items)
-    c.tidy-2.new.pairs.items c.tidy-2.ensures.rising
-    (λ x y. c.tidy-2.ensures.same x y ∙ c.in_ok-add_together.ensures x y
+    c.sort_and_dedup-2.new.pairs.items c.sort_and_dedup-2.ensures.rising
+    (λ x y. c.sort_and_dedup-2.ensures.same x y ∙ c.in_ok-add_together.ensures x y
     ∙ ap (λ (xs : List (ℕ × ℕ)). has_pair xs x y
     || list_any
     (λ p. nat_eq x p.1 && (has_pair c.deref.result.now p.0 y && nat_lt x y)) c.deref.result.now)

@@ -2,7 +2,7 @@ use Rattle.std.proofs.Common.{length, map}
 use Rattle.mm_spec.specs.Derivation.{pair}
 use Rattle.mm_spec.specs.Frame.{symbol_names}
 use Rattle.mm_frame.specs.Frames.{AreFramesUpTo}
-use Rattle.mm_frame.specs.Walk.{AreTyped, IsFresh}
+use Rattle.mm_frame.specs.Hypotheses.{AreTyped, IsFresh}
 use Rattle.mm_frame.proofs.frames.frames_of.Given as goal
 
 abbrev pub invariant-loop-k : goal.invariant-loop-k

@@ -2,7 +2,7 @@ use Rattle.std.proofs.Common.{◌≡◌, ◌-◌, ◌≤◌, ◌∙◌, ℕ, Boo
 use Rattle.std.proofs.Common.{arith}
 use Rattle.std.specs.Int.{bit_at}
 use mir.Val.{bool_byte}
-use Rattle.mm_lex.proofs.BlockFacts.{starts-first, starts-next}
+use Rattle.mm_lex.proofs.BlockLaw.{starts_first, starts_next}
 use Rattle.mm_lex.proofs.blocks.starts_of.Goals as goal
 
 at_most_one : (b : Bool) → bool_byte b ≤ 1
@@ -15,12 +15,12 @@ chosen n false = omega arith
 
 pub returns-clause-first : goal.returns-clause-first
 returns-clause-first c =
-    starts-first c.args.white c.from.result c.ranges.white.fits
+    starts_first c.args.white c.from.result c.ranges.white.fits
     (omega (arith, c.from.ensures, at_most_one c.args.first))
     ∙ ap (min (1 - bit_at c.args.white 0)) c.from.ensures
     ∙ chosen (bit_at c.args.white 0) c.args.first
 
 pub returns-clause-next : goal.returns-clause-next
 returns-clause-next c =
-    starts-next c.args.white c.from.result c.ranges.white.fits
+    starts_next c.args.white c.from.result c.ranges.white.fits
     (omega (arith, c.from.ensures, at_most_one c.args.first))

@@ -4,7 +4,7 @@ use Rattle.mm_lex.specs.Inners.{side}
 use Rattle.mm_lex.specs.declared.blocks.Blocks.{Blocks}
 use Rattle.mm_spec.specs.Laws.Readings.{go_on}
 use Rattle.mm_spec.specs.Words.{words_between}
-use Rattle.mm_lex.proofs.PiecesLemmas.{go_on-next, go_on-done, go_on-some}
+use Rattle.mm_lex.proofs.PiecesLaw.{go_on_next, go_on_done, go_on_some}
 use Rattle.mm_lex.proofs.pieces.lex_inner.Goals as goal
 use Rattle.mm_lex.proofs.pieces.lex_inner.Goals.{else-loop-blocks-test}
 use Rattle.mm_lex.proofs.pieces.lex_inner.Goals.{then-loop-blocks-test+in-None-1}
@@ -21,10 +21,10 @@ loop-blocks-preserved g c =
     record {
       same = c.in-Some.ensures.text ∙ before.same;
       out =
-          λ p. go_on-next text _ (seen p (side c.loop-blocks.outside)) _ c.in-Some.found.word _ _
+          λ p. go_on_next text _ (seen p (side c.loop-blocks.outside)) _ c.in-Some.found.word _ _
           (before.out p) next (c.in_ok-read_word.ensures p);
       inn =
-          λ p. go_on-next text _ (seen p (side c.loop-blocks.inside)) _ c.in-Some.found.word _ _
+          λ p. go_on_next text _ (seen p (side c.loop-blocks.inside)) _ c.in-Some.found.word _ _
           (before.inn p) next (c.in_ok-read_word-2.ensures p);
     }
 
@@ -41,7 +41,7 @@ loop-found-init g c =
             (words_between text n c.args.tail)) (sym (ap (λ (b : Blocks). b.from) w.blocks-is));
         inn =
             λ p. before.inn p
-            ∙ go_on-some text (seen p (side c.loop-blocks.inside)) _
+            ∙ go_on_some text (seen p (side c.loop-blocks.inside)) _
             (c.is_none.ensures ∙ ap not w.loop-blocks-test.false);
       }
       | then-loop-blocks-test+in-None-1 w ↦
@@ -66,7 +66,7 @@ loop-found-init g c =
                 ∙ ap (go_on text (seen p (side c.loop-blocks.outside)))
                 (here ∙ sym there
                 ∙ ap (λ (b : Blocks). words_between text b.from c.args.tail) (sym w.blocks-is));
-            inn = λ p. go_on-done text _ _ _ (before.inn p) here;
+            inn = λ p. go_on_done text _ _ _ (before.inn p) here;
           }
     ]
 
@@ -84,7 +84,7 @@ loop-found-preserved g c =
     record {
       same = c.in-Some-next_word.ensures.text ∙ before.same;
       out =
-          λ p. go_on-next text _
+          λ p. go_on_next text _
           (seen p (side c.loop-found.outside)) _ c.in-Some-next_word.found.word _ _
           (before.out p) next (c.in_ok-read_word-3.ensures p);
       inn = before.inn;
@@ -97,6 +97,6 @@ returns-clause-readings g c =
     subst (λ (t : List ℕ). words_between t c.loop-found.blocks.from c.args.tail ≡ []) before.same
     c.in_default.ensures.words in
     record {
-      out = λ p. go_on-done c.args.text.now _ _ _ (before.out p) none;
+      out = λ p. go_on_done c.args.text.now _ _ _ (before.out p) none;
       within = before.inn;
     }

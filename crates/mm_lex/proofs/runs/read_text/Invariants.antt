@@ -1,5 +1,5 @@
 use Rattle.std.proofs.Common.{vec_len, length, ◌+◌}
-use Rattle.mm_lex.proofs.CutsLemmas.{IsLeft}
+use Rattle.mm_lex.proofs.CutsLaw.{IsLeft}
 use Rattle.mm_lex.proofs.runs.read_text.Given as goal
 
 abbrev pub invariant-joining : goal.invariant-joining

@@ -1,7 +1,7 @@
 use Rattle.std.proofs.Common.{◌≡◌, refl}
 use Rattle.mm_outline.specs.declared.parts.Part.{Part}
 use Rattle.mm_outline.specs.declared.parts.Part.TheVariants.{Start, Labelled, Words, Formula, Proof}
-use Rattle.mm_outline.proofs.Passed.{TakesWords, passed-upto, part-later}
+use Rattle.mm_outline.proofs.PassedLaw.{TakesWords, passed_upto, part_later}
 use Rattle.mm_outline.proofs.parts.pass_words.Goals as goal
 
 pub returns-in_default : goal.returns-in_default
@@ -12,9 +12,9 @@ returns-in_default c =
       later = found.later;
       within = found.within;
       part =
-          part-later c.args.part c.args.at c.next_keyword.result takes found.later c.requires.part;
+          part_later c.args.part c.args.at c.next_keyword.result takes found.later c.requires.part;
       leads =
-          λ d. passed-upto c.args.text.now c.args.tokens.now d c.args.part c.args.at
+          λ d. passed_upto c.args.text.now c.args.tokens.now d c.args.part c.args.at
           c.next_keyword.result takes c.requires.part found.later found.within found.plain;
     }
   where

@@ -1,7 +1,7 @@
 use Rattle.std.proofs.Common.{ap, ◌∙◌, refl, nat_lt}
 use Rattle.mm_spec.specs.Laws.Table as table
 use Rattle.mm_outline.specs.Parts.{reading, token_at, turn_of}
-use Rattle.mm_outline.proofs.Turns.{step_same, step_holds}
+use Rattle.mm_outline.proofs.TurnsLaw.{step_same, step_holds}
 use Rattle.mm_outline.proofs.parts.take_turn.Goals as goal
 
 pub returns-clause-same : goal.returns-clause-same

@@ -4,7 +4,7 @@ use Rattle.mm_spec.specs.declared.Word.{Word}
 use Rattle.mm_spec.specs.CompressedProof.{bracketed, compressed_faults}
 use Rattle.mm_spec.specs.NormalProof.{usable}
 use Rattle.mm_stmt.specs.Parts.{as_tokens, token_of}
-use Rattle.mm_proof.proofs.BracketsLaw.{behind, label_first, brackets_first, tokens_more}
+use Rattle.mm_proof.proofs.BracketsLaw.{after, label_first, brackets_first, tokens_more}
 use Rattle.mm_proof.proofs.BracketsLaw.{tokens_end}
 use Rattle.mm_proof.proofs.compressed.read_labels.Goals as goal
 
@@ -28,7 +28,7 @@ returns-in-None-clause-fault g c =
       first.0,
       ap (compressed_faults db c.args.theorem c.args.end)
           (c.loop-n.invariant.bracketed
-          ∙ ap (λ ts. behind done (bracketed ts))
+          ∙ ap (λ ts. after done (bracketed ts))
           (tokens_more text words n none c.loop-n-test.true))
           ∙ first.1,
     )
@@ -44,6 +44,6 @@ returns-clause-fault g c =
       [],
       ap (compressed_faults db c.args.theorem c.args.end)
           (c.loop-n.invariant.bracketed
-          ∙ ap (λ ts. behind done (bracketed ts)) (tokens_end text words n c.loop-n-test.false))
+          ∙ ap (λ ts. after done (bracketed ts)) (tokens_end text words n c.loop-n-test.false))
           ∙ brackets_first db c.args.theorem c.args.end done c.loop-n.invariant.sound,
     )

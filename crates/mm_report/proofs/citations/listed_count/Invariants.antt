@@ -1,6 +1,6 @@
 use Rattle.std.proofs.Common.{◌≡◌, ◌≤◌, length}
 use Rattle.std.specs.Option.{option_map}
-use Rattle.mm_report.proofs.CitationFacts.{first}
+use Rattle.mm_report.proofs.CitationLaw.{first}
 use Rattle.mm_report.proofs.citations.listed_count.Given as goal
 
 abbrev pub invariant-loop-statement : goal.invariant-loop-statement

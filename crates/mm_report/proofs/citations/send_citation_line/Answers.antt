@@ -5,7 +5,7 @@ use Rattle.std.proofs.lemmas.List.{length-map}
 use Rattle.mm_spec.specs.Output.{label_at}
 use Rattle.mm_spec.specs.Report.{joined}
 use Rattle.mm_report.specs.Rows.{listed}
-use Rattle.mm_report.proofs.SentFacts.{sent_more, sent_as, list_shape}
+use Rattle.mm_report.proofs.SentLaw.{sent_more, sent_as, list_shape}
 use Rattle.mm_report.proofs.citations.send_citation_line.Goals as goal
 
 pub returns : goal.returns

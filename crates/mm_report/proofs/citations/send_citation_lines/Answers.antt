@@ -11,7 +11,7 @@ use Rattle.mm_spec.specs.Citation.{is_assertion}
 use Rattle.mm_spec.specs.Output.{label_at}
 use Rattle.mm_spec.specs.Report.{CitingRow, citation_line, list_line}
 use Rattle.mm_report.specs.Rows.{citing_row, listed}
-use Rattle.mm_report.proofs.SentFacts.{sent_none, sent_more, sent_as}
+use Rattle.mm_report.proofs.SentLaw.{sent_none, sent_more, sent_as}
 use Rattle.mm_report.proofs.citations.send_citation_lines.Goals as goal
 
 pub loop-i-init : goal.loop-i-init

@@ -4,7 +4,7 @@ use Rattle.std.specs.Option.{option_map}
 use Rattle.std.proofs.lemmas.List.FromFn.{length-map-range_with_len}
 use Rattle.mm_spec.specs.Report.{head}
 use Rattle.mm_report.specs.Rows.{citing_row, citing_rows}
-use Rattle.mm_report.proofs.SentFacts.{sent_more, sent_as}
+use Rattle.mm_report.proofs.SentLaw.{sent_more, sent_as}
 use Rattle.mm_report.proofs.citations.send_citations.Goals as goal
 
 pub returns : goal.returns

@@ -2,7 +2,7 @@ use Rattle.std.proofs.Common.{◌≡◌, ◌<◌, true, false, [], length}
 use Rattle.std.specs.Option.{option_map}
 use Rattle.mm_spec.specs.Report.{joined}
 use Rattle.mm_report.specs.Sent.{Sent}
-use Rattle.mm_report.proofs.CitationFacts.{labels}
+use Rattle.mm_report.proofs.CitationLaw.{labels}
 use Rattle.mm_report.proofs.citations.send_cited.Given as goal
 
 abbrev pub invariant-loop-statement : goal.invariant-loop-statement

@@ -1,6 +1,6 @@
 use Rattle.std.proofs.Common.{Bool, ap, sym}
 use Rattle.mm_report.specs.Rows.{next_label}
-use Rattle.mm_report.proofs.SentFacts.{sent_more, sent_as}
+use Rattle.mm_report.proofs.SentLaw.{sent_more, sent_as}
 use Rattle.mm_report.proofs.citations.send_next.Goals as goal
 
 pub returns-then-is_first : goal.returns-then-is_first

@@ -4,7 +4,7 @@ use Rattle.mm_spec.specs.Text.{Bytes}
 use Rattle.mm_spec.specs.Report.{citation_report}
 use Rattle.mm_report.specs.Rows.{citing_rows, open_theorems, citation_report_of}
 use Rattle.mm_report.specs.Sent.{Pending, Sent}
-use Rattle.mm_report.proofs.SentFacts.{sent_as, sent_all, sent_part, on_ok, on_err}
+use Rattle.mm_report.proofs.SentLaw.{sent_as, sent_all, sent_part, on_ok, on_err}
 use Rattle.mm_report.proofs.citations.write_citations.Goals as goal
 
 pub returns-clause-ok : goal.returns-clause-ok

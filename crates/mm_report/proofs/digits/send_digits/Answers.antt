@@ -3,8 +3,8 @@ use Rattle.std.specs.List.{range_with_len}
 use Rattle.std.specs.Int.{div_ceil}
 use Rattle.std.proofs.lemmas.List.{length-take-le}
 use Rattle.std.proofs.lemmas.List.FromFn.{take-map-range_with_len}
-use Rattle.mm_report.proofs.SentFacts.{sent_none, sent_more, sent_as}
-use Rattle.mm_report.proofs.DigitFacts.{digit_text, digits-append, row_long}
+use Rattle.mm_report.proofs.SentLaw.{sent_none, sent_more, sent_as}
+use Rattle.mm_report.proofs.DigitLaw.{digit_text, digits_append, row_long}
 use Rattle.mm_report.proofs.digits.send_digits.Goals as goal
 
 pub loop-word-init : goal.loop-word-init
@@ -51,7 +51,7 @@ loop-word-preserved g c =
           sent_as _
           (ap (λ n. map f (range_with_len 0 n) ++ map f (range_with_len (16 * word) c.min.result))
           before
-          ∙ digits-append f (16 * word) c.min.result _ sum)
+          ∙ digits_append f (16 * word) c.min.result _ sum)
           (sent_more c.loop-word.invariant.sent (sent_as _ piece c.send.ensures));
     }
 

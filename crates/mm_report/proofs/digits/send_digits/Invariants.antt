@@ -2,7 +2,7 @@ use Rattle.std.proofs.Common.{◌≤◌, ◌-◌, ◌*◌, map, min}
 use Rattle.std.specs.List.{range_with_len}
 use Rattle.std.specs.Int.{div_ceil}
 use Rattle.mm_report.specs.Sent.{Sent}
-use Rattle.mm_report.proofs.DigitFacts.{digit_text}
+use Rattle.mm_report.proofs.DigitLaw.{digit_text}
 use Rattle.mm_report.proofs.digits.send_digits.Given as goal
 
 abbrev pub invariant-loop-word : goal.invariant-loop-word

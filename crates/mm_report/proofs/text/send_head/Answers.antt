@@ -1,6 +1,6 @@
 use Rattle.std.proofs.Common.{codes, ap}
 use Rattle.mm_spec.specs.Report.{heading}
-use Rattle.mm_report.proofs.SentFacts.{sent_more, sent_as}
+use Rattle.mm_report.proofs.SentLaw.{sent_more, sent_as}
 use Rattle.mm_report.proofs.text.send_head.Goals as goal
 
 pub returns : goal.returns

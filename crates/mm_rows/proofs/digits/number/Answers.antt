@@ -1,4 +1,4 @@
-use Rattle.mm_rows.proofs.DigitFacts.{number_is}
+use Rattle.mm_rows.proofs.DigitLaw.{number_is}
 use Rattle.mm_rows.proofs.digits.number.Goals as goal
 
 pub returns : goal.returns

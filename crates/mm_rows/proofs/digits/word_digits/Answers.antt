@@ -1,4 +1,4 @@
-use Rattle.mm_rows.proofs.DigitFacts.{half_is}
+use Rattle.mm_rows.proofs.DigitLaw.{half_is}
 use Rattle.mm_rows.proofs.digits.word_digits.Goals as goal
 
 pub returns-clause-each : goal.returns-clause-each

@@ -1,5 +1,5 @@
 use Rattle.std.proofs.Common.{arith, ◌∙◌}
-use Rattle.mm_rows.proofs.DigitFacts.{digits_more}
+use Rattle.mm_rows.proofs.DigitLaw.{digits_more}
 use Rattle.mm_rows.proofs.digits.write_digits.Goals as goal
 
 pub loop-w-preserved : goal.loop-w-preserved

@@ -1,4 +1,4 @@
-use Rattle.mm_rows.proofs.DigitFacts.{AreDigits}
+use Rattle.mm_rows.proofs.DigitLaw.{AreDigits}
 use Rattle.mm_rows.proofs.digits.write_digits.Given as goal
 
 abbrev pub invariant-loop-w : goal.invariant-loop-w

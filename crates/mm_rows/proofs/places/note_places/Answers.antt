@@ -1,6 +1,6 @@
 use Rattle.std.proofs.Common.{refl, arith, ◌∙◌}
 use Rattle.std.proofs.lemmas.List.{length-set}
-use Rattle.mm_rows.proofs.PlacesFacts.{places_none, places_more}
+use Rattle.mm_rows.proofs.PlacesLaw.{places_none, places_more}
 use Rattle.mm_rows.proofs.places.note_places.Goals as goal
 
 pub loop-place-init : goal.loop-place-init

@@ -5,7 +5,7 @@ use Rattle.std.specs.List.{Contains}
 use Rattle.std.proofs.lemmas.List.{get_or_default}
 use Rattle.std.proofs.Math.Seq.{take-length}
 use Rattle.mm_rows.specs.Waves.{IsByWave}
-use Rattle.mm_rows.proofs.WaveFacts.{by_wave_is}
+use Rattle.mm_rows.proofs.WaveLaw.{by_wave_is}
 use Rattle.mm_rows.proofs.wave.by_wave.Goals as goal
 
 pub returns : goal.returns

@@ -1,8 +1,8 @@
 use Rattle.std.proofs.Common.{◌∙◌, length, get_or, arith, refl}
 use Rattle.mm_rows.specs.Bits.{words_for}
 use Rattle.mm_rows.specs.BitRows.{row_at}
-use Rattle.mm_rows.proofs.TurnFacts.{row_end}
-use Rattle.mm_rows.proofs.WaveFacts.{made_more, ready_still}
+use Rattle.mm_rows.proofs.TransposeLaw.{row_end}
+use Rattle.mm_rows.proofs.WaveLaw.{made_more, ready_still}
 use Rattle.mm_rows.proofs.wave.fill_in_turn.Goals as goal
 
 pub fill_in_place-requires-clause-fits : goal.fill_in_place-requires-clause-fits

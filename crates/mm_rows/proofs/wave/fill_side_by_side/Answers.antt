@@ -2,8 +2,8 @@ use Rattle.std.proofs.Common.{ℕ, ◌≡◌, ◌∙◌, ◌+◌, ◌*◌, lengt
 use Rattle.std.specs.Prelude.{IfOk}
 use Rattle.mm_cites.specs.Citing.{theorem_at}
 use Rattle.mm_rows.specs.BitRows.{IsBitRow, row_at}
-use Rattle.mm_rows.proofs.TurnFacts.{row_end}
-use Rattle.mm_rows.proofs.WaveFacts.{made_more, zip_at}
+use Rattle.mm_rows.proofs.TransposeLaw.{row_end}
+use Rattle.mm_rows.proofs.WaveLaw.{made_more, zip_at}
 use Rattle.mm_rows.proofs.wave.fill_side_by_side.Goals as goal
 
 pub index-requires : goal.index-requires

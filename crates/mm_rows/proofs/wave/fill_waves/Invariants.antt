@@ -1,5 +1,5 @@
 use Rattle.std.proofs.Common.{◌-◌, length}
-use Rattle.mm_rows.proofs.WaveFacts.{MadeTo}
+use Rattle.mm_rows.proofs.WaveLaw.{MadeTo}
 use Rattle.mm_rows.proofs.wave.fill_waves.Given as goal
 
 abbrev pub invariant-loop-from : goal.invariant-loop-from

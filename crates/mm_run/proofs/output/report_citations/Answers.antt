@@ -6,12 +6,12 @@ use Rattle.mm_spec.specs.Output.{columns}
 use Rattle.mm_report.specs.Rows.{citation_report_of, open_theorems}
 use Rattle.mm_plan.specs.Plans.{request_of}
 use Rattle.mm_run.proofs.CountedLaw.{written}
-use Rattle.mm_run.proofs.CitationsLaw.{citations-of, is-citation-report}
+use Rattle.mm_run.proofs.CitationsLaw.{citations_of, is_citation_report}
 use Rattle.mm_run.proofs.output.report_citations.Goals as goal
 
 pub write_citations-requires : goal.write_citations-requires
 write_citations-requires g c =
-    citations-of c.args.database.now.statements
+    citations_of c.args.database.now.statements
     (request_of c.args.plan.now) c.args.citations.now c.requires.cited
 
 pub returns-in-Ok-write_citations : goal.returns-in-Ok-write_citations
@@ -28,7 +28,7 @@ returns-in-Ok-write_citations g c =
         bytes request.only,
         written c.args.database.now.text request c.args.database.now c.in-Ok.columns _
             c.requires.counted c.requires.sound axioms
-            (is-citation-report db request c.args.citations.now c.requires.cited opened
+            (is_citation_report db request c.args.citations.now c.requires.cited opened
             c.in-Ok.columns axioms c.requires.choice),
         subst (λ (o : Option Bytes). Appends (g.W.Write.contents c.args.to.now)
             (g.W.Write.contents c.write_citations.new.to) (bytes o)) c.typecode-2.ensures
@@ -50,7 +50,7 @@ returns g c =
       cut.0,
       written c.args.database.now.text request c.args.database.now c.in-Ok.columns _
           c.requires.counted c.requires.sound axioms
-          (is-citation-report db request c.args.citations.now c.requires.cited opened
+          (is_citation_report db request c.args.citations.now c.requires.cited opened
           c.in-Ok.columns axioms c.requires.choice),
       subst (λ (o : Option Bytes). Appends (g.W.Write.contents c.args.to.now)
           (g.W.Write.contents c.write_citations.new.to) (take cut.0 (bytes o))) c.typecode-2.ensures

@@ -3,7 +3,7 @@ use Rattle.mm_spec.specs.Output.{columns}
 use Rattle.mm_report.specs.Rows.{report_of, open_theorems}
 use Rattle.mm_plan.specs.Plans.{request_of}
 use Rattle.mm_run.proofs.CountedLaw.{written}
-use Rattle.mm_run.proofs.RowsLaw.{is-report}
+use Rattle.mm_run.proofs.RowsLaw.{is_report}
 use Rattle.mm_run.proofs.output.report_rests.Goals as goal
 
 pub returns-in-Ok-write_report : goal.returns-in-Ok-write_report
@@ -18,7 +18,7 @@ returns-in-Ok-write_report g c =
         report_of db opened request.form c.in-Ok.columns c.in-Ok-matrix.table request.choice,
         written c.args.database.now.text request c.args.database.now c.in-Ok.columns _
             c.requires.counted c.requires.sound axioms
-            (is-report request db opened c.args.citations.now c.in-Ok.columns c.in-Ok-matrix.table
+            (is_report request db opened c.args.citations.now c.in-Ok.columns c.in-Ok-matrix.table
             c.requires.cited axioms c.in-Ok-matrix.ensures c.requires.choice),
         c.in-Ok-write_report.ensures.ok,
       ),
@@ -36,7 +36,7 @@ returns g c =
       cut.0,
       written c.args.database.now.text request c.args.database.now c.in-Ok.columns _
           c.requires.counted c.requires.sound axioms
-          (is-report request db opened c.args.citations.now c.in-Ok.columns c.in-Ok-matrix.table
+          (is_report request db opened c.args.citations.now c.in-Ok.columns c.in-Ok-matrix.table
           c.requires.cited axioms c.in-Ok-matrix.ensures c.requires.choice),
       cut.1,
     )

@@ -7,14 +7,14 @@ use Rattle.mm_spec.specs.Lawful.{least, scope_faults}
 use Rattle.mm_spec.specs.Laws.Table.{start, statements_from, statements_of}
 use Rattle.mm_spec.proofs.RowLaw.{is_longest}
 use Rattle.mm_outline.specs.Blocks.{lists}
-use Rattle.mm_outline.specs.Parts.{statement_of, token_of, as_tokens, depth_behind, IsOutline}
+use Rattle.mm_outline.specs.Parts.{statement_of, token_of, as_tokens, depth_after, IsOutline}
 use Rattle.mm_outline.specs.declared.parts.Outline.{Outline}
-use Rattle.mm_outline.specs.Found.{behind}
+use Rattle.mm_outline.specs.NextStatement.{tokens_from}
 use Rattle.mm_outline.specs.Statements.{statements}
 use Rattle.mm_scope.specs.Keeps.{IsKept, kept_by}
-use Rattle.mm_scope.proofs.ReadLaw.{reading-more, read-unlawful, read-stopped, read-ended, some-not}
-use Rattle.mm_scope.proofs.ReadLaw.{none-is, inside_block}
-use Rattle.mm_scope.proofs.BoundsLaw.{few-symbols, few-numbers}
+use Rattle.mm_scope.proofs.ReadLaw.{reading_more, read_unlawful, read_stopped, read_ended, some_not}
+use Rattle.mm_scope.proofs.ReadLaw.{none_is, inside_block}
+use Rattle.mm_scope.proofs.BoundsLaw.{few_symbols, few_numbers}
 use Rattle.mm_scope.proofs.reading.outline.Goals as goal
 
 pub take-requires-clause-next : goal.take-requires-clause-next
@@ -27,7 +27,7 @@ take-requires-clause-next g c =
     let one = statement_of text ws o in
     let r = s.invariant.reading in
     let ts = as_tokens text ws in
-    let more = statements_from (start (depth_behind o.kind s.deep)) (behind text ws (o.end + 1)) in
+    let more = statements_from (start (depth_after o.kind s.deep)) (tokens_from text ws (o.end + 1)) in
     let row : statements_of ts ≡ (db ++ one ∷ []) ++ more =
     r.leads.statements ∙ ap (λ y. db ++ y) c.in-Whole.ensures.1.leads.statements
     ∙ sym (append_assoc db (one ∷ []) more) in
@@ -41,14 +41,14 @@ take-requires-clause-next g c =
       few = omega (arith, count, inside, short);
       depth_is = r.deep_is;
       inside =
-          inside_block text ws db s.deep s.at r one (depth_behind o.kind s.deep)
-          (behind text ws (o.end + 1)) c.in-Whole.ensures.1.leads;
+          inside_block text ws db s.deep s.at r one (depth_after o.kind s.deep)
+          (tokens_from text ws (o.end + 1)) c.in-Whole.ensures.1.leads;
       few_names =
-          (let n = few-symbols ts longest.rest (statements_of ts) longest.splits
+          (let n = few_symbols ts longest.rest (statements_of ts) longest.splits
           (db ++ one ∷ []) more row in
           omega (arith, n, long, short));
       few_numbers =
-          (let n = few-numbers ts longest.rest (statements_of ts) longest.splits
+          (let n = few_numbers ts longest.rest (statements_of ts) longest.splits
           (db ++ one ∷ []) more row (db ++ one ∷ []) in
           omega (arith, n, long, short));
     }
@@ -63,14 +63,14 @@ returns-then-is_some-clause-few g c =
     let stays =
     ap length
     (c.in_ok-take-in-Whole.ensures.stays
-    (some-not c.take.new.self.fault (sym c.is_some.ensures ∙ c.if-is_some.true))).0 in
+    (some_not c.take.new.self.fault (sym c.is_some.ensures ∙ c.if-is_some.true))).0 in
     omega (arith, count, inside, short, same, stays)
 
 pub returns-then-is_some-clause-outlines : goal.returns-then-is_some-clause-outlines
 returns-then-is_some-clause-outlines g c =
     let stays =
     (c.in_ok-take-in-Whole.ensures.stays
-    (some-not c.take.new.self.fault (sym c.is_some.ensures ∙ c.if-is_some.true))).0 in
+    (some_not c.take.new.self.fault (sym c.is_some.ensures ∙ c.if-is_some.true))).0 in
     subst (λ (xs : List Outline). All (λ o. IsOutline o × (o.end < length c.args.tokens.now)) xs)
     (sym stays) c.statements.invariant.outlines
 
@@ -78,7 +78,7 @@ pub returns-then-is_some-clause-kept : goal.returns-then-is_some-clause-kept
 returns-then-is_some-clause-kept g c =
     let stays =
     c.in_ok-take-in-Whole.ensures.stays
-    (some-not c.take.new.self.fault (sym c.is_some.ensures ∙ c.if-is_some.true)) in
+    (some_not c.take.new.self.fault (sym c.is_some.ensures ∙ c.if-is_some.true)) in
     subst (λ (xs : List Outline). IsKept (statements c.args.text.now c.args.tokens.now xs)
     (kept_by c.take.new.self)) (sym stays.0) stays.1
 
@@ -91,15 +91,15 @@ returns-then-is_some-clause-read g c =
     let db = statements text ws s.read.outlines.items in
     let f = c.take.new.self.fault in
     let is : is_some f ≡ true = sym c.is_some.ensures ∙ c.if-is_some.true in
-    let stays = (c.in_ok-take-in-Whole.ensures.stays (some-not f is)).0 in
+    let stays = (c.in_ok-take-in-Whole.ensures.stays (some_not f is)).0 in
     let fault =
     c.in_ok-take-in-Whole.ensures.fault
     ∙ ap (λ n. least (scope_faults (names_before db n) s.deep (statement_of text ws o)))
     (sym (length-map s.read.outlines.items (statement_of text ws))) in
     rw (ap (statements text ws) stays)
-    (read-unlawful text ws (length text) c.args.lexical db s.deep s.at s.invariant.reading
-    (statement_of text ws o) (depth_behind o.kind s.deep)
-    (behind text ws (o.end + 1)) c.in-Whole.ensures.1.leads f (some-not f is) fault)
+    (read_unlawful text ws (length text) c.args.lexical db s.deep s.at s.invariant.reading
+    (statement_of text ws o) (depth_after o.kind s.deep)
+    (tokens_from text ws (o.end + 1)) c.in-Whole.ensures.1.leads f (some_not f is) fault)
 
 pub statements-preserved : goal.statements-preserved
 statements-preserved g c =
@@ -113,7 +113,7 @@ statements-preserved g c =
     lists s.read.scope.blocks.of.items s.read.scope.blocks.ends.items
     s.read.scope.blocks.open.items in
     let f = c.take.new.self.fault in
-    let none : None ≡ f = none-is f (sym c.is_some.ensures ∙ c.if-is_some.false) in
+    let none : None ≡ f = none_is f (sym c.is_some.ensures ∙ c.if-is_some.false) in
     let lawful =
     none ∙ c.in_ok-take-in-Whole.ensures.fault
     ∙ ap (λ n. least (scope_faults (names_before db n) s.deep one))
@@ -123,7 +123,7 @@ statements-preserved g c =
     ap (statements text ws) taken.0
     ∙ map-append (statement_of text ws) s.read.outlines.items (o ∷ []) in
     let next =
-    reading-more text ws db s.deep s.at s.invariant.reading c.requires.few b
+    reading_more text ws db s.deep s.at s.invariant.reading c.requires.few b
     s.invariant.kept.keeps.blocks o.kind o.keyword o.middle o.end c.in-Whole.ensures.1.later
     c.in-Whole.ensures.1.within c.in-Whole.ensures.1.leads lawful in
     record {
@@ -152,7 +152,7 @@ returns-in-Stopped-clause-read g c =
     let text = c.args.text.now in
     let ws = c.args.tokens.now in
     let s = c.statements in
-    read-stopped text ws (length text) c.args.lexical
+    read_stopped text ws (length text) c.args.lexical
     (statements text ws s.read.outlines.items) s.deep s.at s.invariant.reading
     c.in-Stopped.fault c.in-Stopped.ensures.0 c.in-Stopped.ensures.1
 
@@ -171,6 +171,6 @@ returns-in-Ended-clause-read g c =
     let ws = c.args.tokens.now in
     let s = c.statements in
     let e = c.in-Ended.ensures in
-    read-ended text ws (length text) c.args.lexical
+    read_ended text ws (length text) c.args.lexical
     (statements text ws s.read.outlines.items) s.deep s.at s.invariant.reading c.in-Ended.part
     e.0 e.1 e.2 c.end_fault-read.result c.end_fault-read.ensures

@@ -9,14 +9,14 @@ use Rattle.mm_outline.specs.Statements.{statements}
 use Rattle.mm_outline.specs.Tokens.{AreTokens}
 use Rattle.mm_outline.proofs.TokensLaw.{tokens_stand, tokens_tell, tokens_small, short_text}
 use Rattle.mm_scope.specs.Names.{names_of}
-use Rattle.mm_scope.proofs.NumberedLaw.{formulas-numbered}
+use Rattle.mm_scope.proofs.NumberedLaw.{formulas_numbered}
 use Rattle.mm_frame.specs.Tables.{IsSound}
 use Rattle.mm_stmt.specs.Kept.{AreKept}
 use Rattle.mm_stmt.specs.Spaced.{AreSpaced}
 use Rattle.mm_stmt.proofs.AssembleLaw.{is_read, names_few, sound}
 use Rattle.mm_stmt.proofs.SoundLaw.{are_symbols}
 use Rattle.mm_spec.specs.Opened.{counted}
-use Rattle.mm_spec.proofs.OpenedLemmas.{counted_label, theorem_still}
+use Rattle.mm_spec.proofs.OpenedLaw.{counted_label, theorem_still}
 use Rattle.mm_stmt.specs.Database.{kind_of, held}
 use Rattle.mm_stmt.proofs.HeldLaw.{labels_held, symbols_held, below_held, numbered_held}
 use Rattle.mm_stmt.proofs.HeldLaw.{frames_held, members_held}
@@ -69,7 +69,7 @@ new-requires-clause-numbered g c =
       c.deref-4.ensures.value,
       c.deref-5.ensures.value,
     )
-    (formulas-numbered _ _ _ c.in_ok-read.ensures.kept.formulas)
+    (formulas_numbered _ _ _ c.in_ok-read.ensures.kept.formulas)
 
 pub new-requires-clause-symbols : goal.new-requires-clause-symbols
 new-requires-clause-symbols g c =
@@ -195,9 +195,9 @@ invariant_of-result g c =
           (are_symbols _ _ _ _ kept.keeps
           (names_of m) c.in_ok-variables.variables.items kept.names_are
           c.in_ok-variables.ensures.count c.in_ok-variables.ensures.each));
-      numbered = numbered_held w db _ _ (rw (sym same) (formulas-numbered _ _ _ kept.formulas));
+      numbered = numbered_held w db _ _ (rw (sym same) (formulas_numbered _ _ _ kept.formulas));
       frames = frames_held w db _ _ _ (rw (sym tables) c.in_ok-beside.ensures.frames);
-      members_are = members_held w db _ _ _ (rw (sym tables) c.in_ok-beside.ensures.members);
+      disjoint_index_is = members_held w db _ _ _ (rw (sym tables) c.in_ok-beside.ensures.disjoint_index);
       kinds_are = kinds;
       theorems_are = listed;
       axioms_are =

@@ -3,26 +3,26 @@ use Rattle.std.specs.List.{list_any}
 use Rattle.mm_spec.specs.Citation.{is_theorem}
 use Rattle.mm_spec.specs.Output.{theorems}
 use Rattle.mm_spec.specs.Scope.{statement_at}
-use Rattle.mm_work.specs.Workers.{AreFound, IsFoundValid, IsFoundFaulty}
-use Rattle.mm_work.specs.declared.worker.Found.{Found}
-use Rattle.mm_cites.proofs.RisingLaw.{filter-rising}
-use Rattle.mm_work.proofs.AllLaw.{valid-below, faulty-at}
-use Rattle.mm_work.proofs.VerifyLaw.{first-fault}
+use Rattle.mm_work.specs.Workers.{AreFindings, IsFoundValid, IsFoundFaulty}
+use Rattle.mm_work.specs.declared.worker.Findings.{Findings}
+use Rattle.mm_cites.proofs.RisingLaw.{filter_rising}
+use Rattle.mm_work.proofs.AllLaw.{valid_below, faulty_at}
+use Rattle.mm_work.proofs.VerifyLaw.{first_fault}
 use Rattle.mm_work.proofs.all.check_all.Goals as goal
 
 pub overflow_cast-count : goal.overflow_cast-count
 overflow_cast-count g c =
     let db = c.args.database.now.statements in
     let few =
-    (filter-rising (λ j. list_any is_theorem (statement_at db j))
+    (filter_rising (λ j. list_any is_theorem (statement_at db j))
     (length db) c.theorems-count.ensures.few).few in
     let same = ap (λ (ts : List ℕ). length ts) c.theorems-count.ensures.theorems in
     omega (arith, few, same)
 
 pub fault_of-requires-clause-found : goal.fault_of-requires-clause-found
 fault_of-requires-clause-found g c =
-    subst (λ (fs : List (Found _)). All
-    (AreFound c.args.database.now.statements c.args.essential) fs)
+    subst (λ (fs : List (Findings _)). All
+    (AreFindings c.args.database.now.statements c.args.essential) fs)
     (sym c.deref.ensures.value) c.in_ok-gathered.ensures.found
 
 pub fault_of-requires-clause-faulty : goal.fault_of-requires-clause-faulty
@@ -34,9 +34,9 @@ fault_of-requires-clause-faulty g c =
     let count = c.in-Ok.ensures.board.0 in
     let within : c.close-first.result.0 < c.in-Ok.board.count =
     let l = c.if-first-count.true in omega (arith, l, count) in
-    subst (λ (fs : List (Found _)). IsFoundFaulty fs c.close-first.result.0)
+    subst (λ (fs : List (Findings _)). IsFoundFaulty fs c.close-first.result.0)
     (sym c.deref.ensures.value)
-    (faulty-at c.in-Ok.board db c.args.essential c.in_ok-gathered.gathered.seat
+    (faulty_at c.in-Ok.board db c.args.essential c.in_ok-gathered.gathered.seat
     c.in_ok-gathered.gathered.found.items c.in_ok-gathered.ensures c.close-first.result.0
     (c.close-first.ensures.whole all).0 within)
 
@@ -49,17 +49,17 @@ returns-then-first-count g c =
     let f = c.if-share-lt-WHOLE.false in omega (arith, s, r, f) in
     let same = ap (λ (ts : List ℕ). length ts) c.theorems-count.ensures.theorems in
     let l = c.if-first-count.true in
-    first-fault db c.theorems-count.ensures.few c.len.ensures.complete c.close-first.result.0
+    first_fault db c.theorems-count.ensures.few c.len.ensures.complete c.close-first.result.0
     c.fault_of.result
-    (valid-below c.in-Ok.board db c.args.essential c.in_ok-gathered.gathered.seat
+    (valid_below c.in-Ok.board db c.args.essential c.in_ok-gathered.gathered.seat
     c.in_ok-gathered.gathered.found.items h c.close-first.result.0
     (c.close-first.ensures.finished all h.over h.closed))
     (omega (arith, same, l)) c.fault_of.ensures
 
 pub merge-requires-clause-found : goal.merge-requires-clause-found
 merge-requires-clause-found g c =
-    subst (λ (fs : List (Found _)). All
-    (AreFound c.args.database.now.statements c.args.essential) fs)
+    subst (λ (fs : List (Findings _)). All
+    (AreFindings c.args.database.now.statements c.args.essential) fs)
     (sym c.deref-2.ensures.value) c.in_ok-gathered.ensures.found
 
 pub merge-requires-clause-valid : goal.merge-requires-clause-valid
@@ -71,7 +71,7 @@ merge-requires-clause-valid g c =
     let f = c.if-share-lt-WHOLE.false in omega (arith, s, r, f) in
     let same = ap (λ (ts : List ℕ). length ts) c.theorems-count.ensures.theorems in
     let past = c.if-first-count.false in
-    subst (λ (fs : List (Found _)). (i : ℕ) → i < length (theorems db) → IsFoundValid fs i)
+    subst (λ (fs : List (Findings _)). (i : ℕ) → i < length (theorems db) → IsFoundValid fs i)
     (sym c.deref-2.ensures.value)
     (λ i l. let one = c.close-first.ensures.finished all h.over h.closed i
     (omega (arith, same, past, l)) in

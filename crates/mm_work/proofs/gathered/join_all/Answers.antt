@@ -1,21 +1,21 @@
 use Rattle.std.proofs.Common.{◌∙◌, ◌++◌, ◌∷◌, [], All, List, sym, ap, subst}
 use Rattle.mm_work.specs.Workers.{IsDone, AreGathered}
-use Rattle.mm_work.specs.declared.worker.Found.{Found}
+use Rattle.mm_work.specs.declared.worker.Findings.{Findings}
 use Rattle.mm_work.specs.declared.worker.Worked.{Worked}
-use Rattle.mm_work.proofs.WorkersLaw.{gathered-first, gathered-more, All-front, All-last}
+use Rattle.mm_work.proofs.WorkersLaw.{gathered_first, gathered_more, All-front, All-last}
 use Rattle.mm_work.proofs.gathered.join_all.Goals as goal
 
 pub loop-other-init : goal.loop-other-init
 loop-other-init g c =
     let is =
     c.in_ok-push.ensures.items
-    ∙ ap (λ (fs : List (Found _)). fs ++ c.args.own.found ∷ []) c.in_ok-all.ensures.items in
+    ∙ ap (λ (fs : List (Findings _)). fs ++ c.args.own.found ∷ []) c.in_ok-all.ensures.items in
     record {
       gathered =
           subst (λ
-          (fs : List (Found _)). AreGathered c.args.board.now c.args.database.now.statements
+          (fs : List (Findings _)). AreGathered c.args.board.now c.args.database.now.statements
           c.args.essential c.args.own.seat fs) (sym is)
-          (gathered-first c.args.board.now c.args.database.now c.args.essential c.args.own
+          (gathered_first c.args.board.now c.args.database.now c.args.essential c.args.own
           c.requires.own c.if-found.false);
       others = c.requires.others;
     }
@@ -44,9 +44,10 @@ loop-other-preserved g c =
     c.loop-other.invariant.others in
     record {
       gathered =
-          subst (λ (fs : List (Found _)). AreGathered home db c.args.essential c.join.new.seat fs)
+          subst (λ (fs : List (Findings _)). AreGathered home db c.args.essential c.join.new.seat
+          fs)
           (sym c.in_ok-push-2.ensures.items)
-          (gathered-more home c.args.database.now c.args.essential c.loop-other.seat c.join.new.seat
+          (gathered_more home c.args.database.now c.args.essential c.loop-other.seat c.join.new.seat
           c.loop-other.all.items c.in-Some.other c.loop-other.invariant.gathered
           (All-last P _ _ all) c.if-found-2.false c.join.ensures.home c.join.ensures.joined);
       others = All-front P _ _ all;

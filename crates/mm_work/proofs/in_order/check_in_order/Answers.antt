@@ -4,7 +4,7 @@ use Rattle.mm_proof.proofs.TheoremsLaw.{theorems_are}
 use Rattle.mm_work.specs.Judged.{HasFault, Faults, IsCited, IsFirstFault}
 use Rattle.mm_spec.specs.declared.Fault.{Fault}
 use Rattle.mm_work.specs.declared.proof.VerifyRefused.{VerifyRefused}
-use Rattle.mm_work.proofs.VerifyLaw.{cited-more, cited-before, first-fault}
+use Rattle.mm_work.proofs.VerifyLaw.{cited_more, cited_before, first_fault}
 use Rattle.mm_work.proofs.in_order.check_in_order.Goals as goal
 
 pub verify-requires-clause-theorem : goal.verify-requires-clause-theorem
@@ -23,9 +23,9 @@ returns-in-Err-Fault g c =
     let within = c.loop-theorem-test.true in
     let same = ap (λ (ts : List ℕ). length ts) c.theorems-theorems.ensures.theorems in
     subst (λ (f : Fault). IsFirstFault db f) (sym c.in-Err-Fault.fault-is)
-    (first-fault db c.theorems-theorems.ensures.few c.len.ensures.complete i
+    (first_fault db c.theorems-theorems.ensures.few c.len.ensures.complete i
     c.in-Err-Fault.fault
-    (cited-before db c.theorems-theorems.ensures.few c.len.ensures.complete c.args.essential i
+    (cited_before db c.theorems-theorems.ensures.few c.len.ensures.complete c.args.essential i
     c.loop-theorem.lists c.loop-theorem.invariant.cited) (omega (arith, within, same))
     (subst (λ (ts : List ℕ). HasFault db (get_or ts i 0) c.in-Err-Fault.fault)
     c.theorems-theorems.ensures.theorems
@@ -43,7 +43,7 @@ loop-theorem-preserved g c =
       made_for = c.in-Ok.ensures.made_for;
       cited =
           rw (c.in_ok-push-in-Ok.ensures.ok, c.cites.ensures)
-          (cited-more db c.args.essential
+          (cited_more db c.args.essential
           (theorems db) i c.loop-theorem.lists c.in-Ok.checked.cites c.loop-theorem.invariant.cited
           one);
     }

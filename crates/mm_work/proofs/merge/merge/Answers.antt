@@ -1,9 +1,9 @@
 use Rattle.std.proofs.Common.{◌≡◌, ◌<◌, ℕ, List, length, ap, subst, arith}
 use Rattle.mm_spec.specs.Output.{theorems}
 use Rattle.mm_work.specs.Judged.{AreCited}
-use Rattle.mm_work.specs.declared.merge.Place.{Place}
-use Rattle.mm_work.proofs.PlacesLaw.{less-le, worker-within, found-there, list-within, list-cited}
-use Rattle.mm_work.proofs.VerifyLaw.{cited-more}
+use Rattle.mm_work.specs.declared.merge.Whereabouts.{Whereabouts}
+use Rattle.mm_work.proofs.PlacesLaw.{less_le, worker_within, found_there, list_within, list_cited}
+use Rattle.mm_work.proofs.VerifyLaw.{cited_more}
 use Rattle.mm_work.proofs.merge.merge.Goals as goal
 
 pub offset_bounds-found-place : goal.offset_bounds-found-place
@@ -12,11 +12,11 @@ offset_bounds-found-place g c =
     let k = c.loop-place.place-index in
     let same = c.deref-place-items.ensures.value in
     let within : k < length (theorems db) =
-    let l = c.loop-place-test.true in let e = ap (λ (ps : List Place). length ps) same in
+    let l = c.loop-place-test.true in let e = ap (λ (ps : List Whereabouts). length ps) same in
     let n = c.in_ok-places.ensures.count in
     let t = ap (λ (ts : List ℕ). length ts) c.theorems.ensures.theorems in
     omega (arith, l, e, n, t) in
-    less-le (worker-within db c.args.essential c.args.found.now c.requires.found
+    less_le (worker_within db c.args.essential c.args.found.now c.requires.found
     c.in_ok-places.places.items c.deref-place-items.result.now k _ same
     (c.in_ok-places.ensures.places k (c.requires.valid k within)))
 
@@ -26,11 +26,11 @@ bounds-found-place g c =
     let k = c.loop-place.place-index in
     let same = c.deref-place-items.ensures.value in
     let within : k < length (theorems db) =
-    let l = c.loop-place-test.true in let e = ap (λ (ps : List Place). length ps) same in
+    let l = c.loop-place-test.true in let e = ap (λ (ps : List Whereabouts). length ps) same in
     let n = c.in_ok-places.ensures.count in
     let t = ap (λ (ts : List ℕ). length ts) c.theorems.ensures.theorems in
     omega (arith, l, e, n, t) in
-    worker-within db c.args.essential c.args.found.now c.requires.found c.in_ok-places.places.items
+    worker_within db c.args.essential c.args.found.now c.requires.found c.in_ok-places.places.items
     c.deref-place-items.result.now k _ same
     (c.in_ok-places.ensures.places k (c.requires.valid k within))
 
@@ -41,14 +41,14 @@ get-requires g c =
     let k = c.loop-place.place-index in
     let same = c.deref-place-items.ensures.value in
     let within : k < length (theorems db) =
-    let l = c.loop-place-test.true in let e = ap (λ (ps : List Place). length ps) same in
+    let l = c.loop-place-test.true in let e = ap (λ (ps : List Whereabouts). length ps) same in
     let n = c.in_ok-places.ensures.count in
     let t = ap (λ (ts : List ℕ). length ts) c.theorems.ensures.theorems in
     omega (arith, l, e, n, t) in
     let h = c.in_ok-places.ensures.places k (c.requires.valid k within) in
-    list-within db c.args.essential fs c.requires.found c.in_ok-places.places.items
+    list_within db c.args.essential fs c.requires.found c.in_ok-places.places.items
     c.deref-place-items.result.now k _ same h _
-    (found-there db c.args.essential fs c.requires.found c.in_ok-places.places.items
+    (found_there db c.args.essential fs c.requires.found c.in_ok-places.places.items
     c.deref-place-items.result.now k _ same h c.index-found-place.result)
 
 pub loop-place-preserved : goal.loop-place-preserved
@@ -58,18 +58,18 @@ loop-place-preserved g c =
     let k = c.loop-place.place-index in
     let same = c.deref-place-items.ensures.value in
     let within : k < length (theorems db) =
-    let l = c.loop-place-test.true in let e = ap (λ (ps : List Place). length ps) same in
+    let l = c.loop-place-test.true in let e = ap (λ (ps : List Whereabouts). length ps) same in
     let n = c.in_ok-places.ensures.count in
     let t = ap (λ (ts : List ℕ). length ts) c.theorems.ensures.theorems in
     omega (arith, l, e, n, t) in
     let h = c.in_ok-places.ensures.places k (c.requires.valid k within) in
     let there =
-    found-there db c.args.essential fs c.requires.found c.in_ok-places.places.items
+    found_there db c.args.essential fs c.requires.found c.in_ok-places.places.items
     c.deref-place-items.result.now k _ same h c.index-found-place.result in
     rw c.in_ok-push.ensures.ok
-    (cited-more db c.args.essential
+    (cited_more db c.args.essential
     (theorems db) k c.loop-place.lists c.get.result.now c.loop-place.invariant
-    (list-cited db c.args.essential fs c.requires.found c.in_ok-places.places.items
+    (list_cited db c.args.essential fs c.requires.found c.in_ok-places.places.items
     c.deref-place-items.result.now k _ same h _ c.get.result.now there c.get.ensures))
 
 pub returns : goal.returns
@@ -78,7 +78,7 @@ returns g c =
     let k = c.loop-place.place-index in
     let all : k ≡ length (theorems db) =
     let end = c.loop-place.auto.place-index-end in let past = c.loop-place-test.false in
-    let e = ap (λ (ps : List Place). length ps) c.deref-place-items.ensures.value in
+    let e = ap (λ (ps : List Whereabouts). length ps) c.deref-place-items.ensures.value in
     let n = c.in_ok-places.ensures.count in
     let t = ap (λ (ts : List ℕ). length ts) c.theorems.ensures.theorems in
     omega (arith, end, past, e, n, t) in

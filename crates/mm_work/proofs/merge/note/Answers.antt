@@ -1,8 +1,8 @@
 use Rattle.std.proofs.Common.{◌∙◌, ◌<◌, length, get_or, refl, subst, arith}
 use Rattle.std.proofs.lemmas.List.{length-set, get_or_default}
 use Rattle.mm_work.specs.Places.{IsNoted}
-use Rattle.mm_work.specs.declared.merge.Place.{Place}
-use Rattle.mm_work.proofs.PlacesLaw.{noted-more, others-more}
+use Rattle.mm_work.specs.declared.merge.Whereabouts.{Whereabouts}
+use Rattle.mm_work.proofs.PlacesLaw.{noted_more, others_more}
 use Rattle.mm_work.proofs.merge.note.Goals as goal
 
 pub loop-place-preserved : goal.loop-place-preserved
@@ -10,17 +10,17 @@ loop-place-preserved c =
     let old = c.loop-place.places in
     let k = c.loop-place.place in
     let x = get_or c.args.valid.now k 0 in
-    let p : Place = record { worker = c.args.worker; place = k } in
+    let p : Whereabouts = record { worker = c.args.worker; place = k } in
     let inside : x < length old =
     let l = c.requires k 0 c.loop-place-test.true in let e = c.loop-place.invariant.count in
     omega (arith, l, e) in
     record {
       count = length-set old x p ∙ c.loop-place.invariant.count;
       noted =
-          noted-more c.args.places.now old c.args.worker c.args.valid.now k x p refl inside
+          noted_more c.args.places.now old c.args.worker c.args.valid.now k x p refl inside
           c.loop-place-test.true refl refl c.loop-place.invariant.noted;
       others =
-          others-more c.args.places.now old c.args.worker c.args.valid.now k x p refl inside
+          others_more c.args.places.now old c.args.worker c.args.valid.now k x p refl inside
           c.loop-place-test.true refl refl c.loop-place.invariant.others;
     }
 

@@ -2,7 +2,7 @@ use Rattle.std.proofs.Common.{ℕ, ◌++◌, ◌∷◌, [], List, get_or, sym, a
 use Rattle.mm_spec.specs.Output.{is_theorem_at}
 use Rattle.mm_proof.proofs.TheoremsLaw.{theorems_are}
 use Rattle.mm_work.specs.Judged.{IsCited}
-use Rattle.mm_work.proofs.WorkersLaw.{found-more}
+use Rattle.mm_work.proofs.WorkersLaw.{found_more}
 use Rattle.mm_work.proofs.worker.check.Goals as goal
 
 pub verify-requires-clause-theorem : goal.verify-requires-clause-theorem
@@ -19,7 +19,7 @@ returns-in-Ok-keep-clause-found g c = λ short.
     subst (λ (ts : List ℕ). IsCited db c.args.essential
     (get_or ts c.args.index 0) c.in-Ok.checked.cites) c.theorems.ensures.theorems
     c.in-Ok.ensures.valid in
-    found-more db c.args.essential c.args.found.now c.keep.new.self c.args.index
+    found_more db c.args.essential c.args.found.now c.keep.new.self c.args.index
     c.in-Ok.checked.cites before c.requires.index one c.in-Ok-keep.ensures.valid
     (c.in-Ok-keep.ensures.cites
     ∙ ap (λ (l : List ℕ). c.args.found.now.cites ++ l ∷ []) c.cites.ensures)

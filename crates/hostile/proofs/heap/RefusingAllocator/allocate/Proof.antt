@@ -41,7 +41,7 @@ use denote.Triple.Call.{calls_at}
 use Rattle.std.proofs.alloc.Calls.{Al, α, seen, Answer, answer_val, Answer-typed, Answer-Ok}
 use Rattle.std.proofs.alloc.Calls.{Answer-err, takes_key, Takes, at_takes, Answered, Takes-goes}
 use Rattle.std.proofs.alloc.Calls.{Takes-gives, answers}
-use Rattle.hostile.proofs.Ticks.{Tick, at_tick, Tick-goes, Tick-gives}
+use Rattle.hostile.proofs.TicksLaw.{Tick, at_tick, Tick-goes, Tick-gives}
 use Rattle.hostile.proofs.heap.tick.Symbol as c_sym
 use Rattle.hostile.proofs.heap.tick.Met as c_met
 use Rattle.hostile.specs.contracts.heap.Refusing as wrapper

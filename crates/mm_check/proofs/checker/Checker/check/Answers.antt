@@ -2,22 +2,22 @@ use Rattle.std.proofs.Common.{◌≡◌, ℕ, List, subst, sym, ap, ◌∙◌}
 use Rattle.mm_spec.specs.Statement.{Statement}
 use Rattle.mm_spec.specs.Citation.{context_at}
 use Rattle.mm_spec.specs.Laws.Stack.{AreGoodSteps}
-use Rattle.mm_spec.proofs.GoodSteps.{good_steps}
+use Rattle.mm_spec.proofs.GoodStepsLaw.{good_steps}
 use Rattle.mm_check.specs.Reached.{steps_of}
 use Rattle.mm_check.specs.State.{State}
 use Rattle.mm_check.specs.Rule.{Lists, AreRules}
 use Rattle.mm_check.specs.Checker.{Made, made, IsMadeFor}
 use Rattle.mm_check.proofs.checker.Checker.check.Goals as goal
 
-pub judge_all-requires-clause-usable : goal.judge_all-requires-clause-usable
-judge_all-requires-clause-usable g c =
+pub verify_steps-requires-clause-usable : goal.verify_steps-requires-clause-usable
+verify_steps-requires-clause-usable g c =
     let db = c.args.database.now.statements in
     subst (λ ps. AreGoodSteps (context_at db c.args.theorem) 0 (steps_of ps))
     (sym (ap (λ s. s.steps) c.requires.steps))
     (good_steps db c.args.theorem (c.len.ensures.complete c.args.theorem) c.requires.sound)
 
-pub judge_all-requires-clause-complete : goal.judge_all-requires-clause-complete
-judge_all-requires-clause-complete g c = c.len.ensures.complete
+pub verify_steps-requires-clause-complete : goal.verify_steps-requires-clause-complete
+verify_steps-requires-clause-complete g c = c.len.ensures.complete
 
 rules_of : (k : List Statement) (m : Made) → IsMadeFor k m → AreRules k m.rules
 unfolding IsMadeFor
@@ -28,8 +28,8 @@ still_made : (k : List Statement) (w m w' m' : ℕ) (r : Lists) → IsMadeFor k 
 unfolding IsMadeFor
 still_made k w m w' m' r h e f = (e ∙ h.0, f ∙ h.1, h.2)
 
-pub judge_all-requires-clause-rules : goal.judge_all-requires-clause-rules
-judge_all-requires-clause-rules g c =
+pub verify_steps-requires-clause-rules : goal.verify_steps-requires-clause-rules
+verify_steps-requires-clause-rules g c =
     let db = c.args.database.now.statements in
     rules_of db _ (subst (λ (m : Made). IsMadeFor db m) (sym c.self.view_is) c.requires.made_for)
 
@@ -37,8 +37,8 @@ pub returns-clause-made_for : goal.returns-clause-made_for
 returns-clause-made_for g c =
     let db = c.args.database.now.statements in
     let i = c.self.inside in
-    still_made db i.machine.width i.maker.width c.judge_all.new.machine.width
-    c.judge_all.new.maker.width i.rules.now
+    still_made db i.machine.width i.compiler.width c.verify_steps.new.machine.width
+    c.verify_steps.new.compiler.width i.rules.now
     (subst (λ (m : Made). IsMadeFor db m) (sym c.self.view_is) c.requires.made_for)
-    (c.judge_all.ensures.width ∙ ap (λ (s : State). s.width) c.restart.ensures)
-    c.judge_all.ensures.maker
+    (c.verify_steps.ensures.width ∙ ap (λ (s : State). s.width) c.restart.ensures)
+    c.verify_steps.ensures.compiler

@@ -2,7 +2,7 @@ use Rattle.std.proofs.Common.{◌≡◌, ◌<◌, ◌++◌, ◌∷◌, [], All, 
 use Rattle.mm_spec.specs.Laws.Stack.{top}
 use Rattle.mm_check.specs.Arena.{arena}
 use Rattle.mm_check.specs.State.{state, texts}
-use Rattle.mm_check.proofs.Keep.{moved_machine, marked_more, both_more, marked_texts}
+use Rattle.mm_check.proofs.KeepLaw.{moved_machine, marked_more, both_more, marked_texts}
 use Rattle.mm_check.proofs.machine.Machine.mark.Goals as goal
 
 pub invariant_of-self : goal.invariant_of-self
@@ -60,5 +60,5 @@ returns-clause-ok g c =
     ap (λ z. state z c.push-2.new.self.items
     (texts (arena [] new.kept.items) c.push.new.self.items) i.width) c.keep.ensures.texts
     ∙ ap₂ (λ m f. state old m f i.width) c.in_ok-push-2.ensures.items kept
-    ∙ ap (λ s. state s.entries (s.marks ++ c.args.step ∷ [])
-    (s.formulas ++ top s.entries ∷ []) s.width) c.self.view_is
+    ∙ ap (λ s. state s.stack (s.marks ++ c.args.step ∷ [])
+    (s.formulas ++ top s.stack ∷ []) s.width) c.self.view_is

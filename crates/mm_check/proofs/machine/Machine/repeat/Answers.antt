@@ -1,7 +1,7 @@
 use Rattle.std.proofs.Common.{◌<◌, length, ap, sym, subst, arith}
 use Rattle.std.proofs.lemmas.List.Elements.{All-get_or}
 use Rattle.mm_check.specs.State.{IsKept}
-use Rattle.mm_check.proofs.Follow.{repeat_stack}
+use Rattle.mm_check.proofs.FollowLaw.{repeat_stack}
 use Rattle.mm_check.proofs.machine.Machine.repeat.Goals as goal
 
 pub invariant_of-self-2 : goal.invariant_of-self-2

@@ -1,5 +1,5 @@
 use Rattle.std.proofs.Common.{sym, ◌∙◌}
-use Rattle.mm_check.proofs.Making.{complete_at}
+use Rattle.mm_check.proofs.CompilerStateLaw.{complete_at}
 use Rattle.mm_check.proofs.rules.Rules.hold.Goals as goal
 
 pub make-requires-clause-complete : goal.make-requires-clause-complete

@@ -5,6 +5,6 @@ use Rattle.mm_check.proofs.rules.Rules.new.Given as goal
 
 abbrev pub invariant-loop-k : goal.invariant-loop-k
 invariant-loop-k g l = record {
-  width : l.maker.width ≡ length (symbol_names l.database.statements);
+  width : l.compiler.width ≡ length (symbol_names l.database.statements);
   rules : AreRules l.database.statements l.rules;
 }

@@ -3,8 +3,8 @@ use Rattle.std.proofs.Common.{arith}
 use Rattle.std.specs.Int.{bit_at, trailing_zeros}
 use Rattle.std.proofs.lemmas.Nat.Bits.{bit_at-trailing_zeros, bit_at-zero}
 use Rattle.mm_spec.specs.Words.{begins_word}
-use Rattle.mm_lex.proofs.BlockFacts.{between-none, cleared-above, cleared-one, cleared-other}
-use Rattle.mm_lex.proofs.BlockFacts.{run-on}
+use Rattle.mm_lex.proofs.BlockLaw.{between_none, cleared_above, cleared_one, cleared_other}
+use Rattle.mm_lex.proofs.BlockLaw.{run_on}
 use Rattle.mm_lex.proofs.blocks.Blocks.next_start.Goals as goal
 
 pub returns-then-to-self-clause-before : goal.returns-then-to-self-clause-before
@@ -12,9 +12,9 @@ returns-then-to-self-clause-before c =
     let b = c.loop-self.self in
     let text = c.args.self.now.text.now in
     let before = c.loop-self.invariant in
-    between-none text c.args.self.now.from (b.base + 64) c.args.to
+    between_none text c.args.self.now.from (b.base + 64) c.args.to
     (omega (arith, before.rises, b.high)) c.if-to-self.true
-    (λ i low high lt. run-on
+    (λ i low high lt. run_on
     (λ t k. begins_word t k ≡ false) b.text.now text b.starts c.args.self.now.from b.from b.base
     64 before.same b.low (omega arith) before.none
     (λ k _ _. ap (λ (n : ℕ). bit_at n k) c.loop-self-test.true ∙ bit_at-zero k) b.none i low high
@@ -29,7 +29,7 @@ loop-self-preserved c =
       same = c.turn.ensures.text ∙ before.same;
       rises = omega (arith, before.rises, b.high, c.turn.ensures.from);
       none =
-          λ i low high lt. run-on
+          λ i low high lt. run_on
           (λ t k. begins_word t k ≡ false) b.text.now text b.starts c.args.self.now.from b.from
           b.base 64 before.same b.low (omega arith) before.none
           (λ k _ _. ap (λ (n : ℕ). bit_at n k) c.loop-self-test.true ∙ bit_at-zero k) b.none i low
@@ -43,10 +43,10 @@ returns-then-to-start-clause-before c =
     let before = c.loop-self.invariant in
     let place =
     bit_at-trailing_zeros w64 b.starts (omega (arith, c.loop-self-test.false)) (omega arith) in
-    between-none text c.args.self.now.from (b.base + trailing_zeros w64 b.starts) c.args.to
+    between_none text c.args.self.now.from (b.base + trailing_zeros w64 b.starts) c.args.to
     (omega (arith, before.rises, b.further (trailing_zeros w64 b.starts) place.0 place.1))
     c.if-to-start.true
-    (λ i low high lt. run-on
+    (λ i low high lt. run_on
     (λ t k. begins_word t k ≡ false) b.text.now text b.starts c.args.self.now.from b.from b.base
     (trailing_zeros w64 b.starts) before.same b.low (omega (arith, place.0)) before.none
     (λ k _ under. place.2 k under) b.none i low high (omega (arith, c.requires.within)))
@@ -56,14 +56,14 @@ invariant_of-self-clause-begins c i lt within one =
     let b = c.loop-self.self in
     let place =
     bit_at-trailing_zeros w64 b.starts (omega (arith, c.loop-self-test.false)) (omega arith) in
-    b.begins i lt within (cleared-one b.starts (trailing_zeros w64 b.starts) place.0 i lt one).1
+    b.begins i lt within (cleared_one b.starts (trailing_zeros w64 b.starts) place.0 i lt one).1
 
 pub invariant_of-self-clause-further : goal.invariant_of-self-clause-further
 invariant_of-self-clause-further c i lt one =
     let b = c.loop-self.self in
     let place =
     bit_at-trailing_zeros w64 b.starts (omega (arith, c.loop-self-test.false)) (omega arith) in
-    omega (arith, cleared-above b.starts (trailing_zeros w64 b.starts) place.0 place.2 i lt one)
+    omega (arith, cleared_above b.starts (trailing_zeros w64 b.starts) place.0 place.2 i lt one)
 
 pub invariant_of-self-clause-none : goal.invariant_of-self-clause-none
 invariant_of-self-clause-none c i lt within le none =
@@ -71,7 +71,7 @@ invariant_of-self-clause-none c i lt within le none =
     let place =
     bit_at-trailing_zeros w64 b.starts (omega (arith, c.loop-self-test.false)) (omega arith) in
     b.none i lt within (omega (arith, le, b.further (trailing_zeros w64 b.starts) place.0 place.1))
-    (sym (cleared-other b.starts (trailing_zeros w64 b.starts) place.0 i lt
+    (sym (cleared_other b.starts (trailing_zeros w64 b.starts) place.0 i lt
     (λ e. omega (arith, e, le)))
     ∙ none)
 
@@ -82,7 +82,7 @@ returns-clause-before c i low high =
     let before = c.loop-self.invariant in
     let place =
     bit_at-trailing_zeros w64 b.starts (omega (arith, c.loop-self-test.false)) (omega arith) in
-    run-on (λ t k. begins_word t k ≡ false) b.text.now text b.starts c.args.self.now.from b.from
+    run_on (λ t k. begins_word t k ≡ false) b.text.now text b.starts c.args.self.now.from b.from
     b.base (trailing_zeros w64 b.starts) before.same b.low (omega (arith, place.0)) before.none
     (λ k _ under. place.2 k under) b.none i low high
     (omega (arith, c.requires.within, c.if-to-start.false))
@@ -114,8 +114,8 @@ pub returns-then-to-self-clause-done : goal.returns-then-to-self-clause-done
 returns-then-to-self-clause-done c =
     let b = c.loop-self.self in
     let text = c.args.self.now.text.now in
-    between-none text b.from (b.base + 64) c.args.to b.high c.if-to-self.true
-    (λ i low high lt. run-on
+    between_none text b.from (b.base + 64) c.args.to b.high c.if-to-self.true
+    (λ i low high lt. run_on
     (λ t k. begins_word t k ≡ false) b.text.now text b.starts b.from b.from b.base 64
     c.loop-self.invariant.same b.low (omega arith) (λ k a h _. absurd (omega arith))
     (λ k _ _. ap (λ (n : ℕ). bit_at n k) c.loop-self-test.true ∙ bit_at-zero k) b.none i low high
@@ -127,9 +127,9 @@ returns-then-to-start-clause-done c =
     let text = c.args.self.now.text.now in
     let place =
     bit_at-trailing_zeros w64 b.starts (omega (arith, c.loop-self-test.false)) (omega arith) in
-    between-none text b.from (b.base + trailing_zeros w64 b.starts) c.args.to
+    between_none text b.from (b.base + trailing_zeros w64 b.starts) c.args.to
     (b.further (trailing_zeros w64 b.starts) place.0 place.1) c.if-to-start.true
-    (λ i low high lt. run-on
+    (λ i low high lt. run_on
     (λ t k. begins_word t k ≡ false) b.text.now text b.starts b.from b.from b.base
     (trailing_zeros w64 b.starts) c.loop-self.invariant.same b.low (omega (arith, place.0))
     (λ k a h _. absurd (omega arith)) (λ k _ under. place.2 k under) b.none i low high

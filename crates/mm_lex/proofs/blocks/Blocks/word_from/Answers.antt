@@ -3,7 +3,7 @@ use Rattle.std.proofs.Common.{true≢false, arith}
 use Rattle.std.proofs.lemmas.Bool.{eqb-true}
 use Rattle.mm_spec.specs.Words.{white_at}
 use Rattle.mm_lex.specs.Plain.{plain_at}
-use Rattle.mm_lex.proofs.BlockFacts.{none-inside, run-on, white-one, white-zero}
+use Rattle.mm_lex.proofs.BlockLaw.{none_inside, run_on, white_one, white_zero}
 use Rattle.mm_lex.proofs.blocks.Blocks.word_from.Goals as goal
 use Rattle.mm_lex.proofs.blocks.Blocks.word_from.Goals.{then-loop-white-test+else-len-blocks-gt64}
 use Rattle.mm_lex.proofs.blocks.Blocks.word_from.Goals.{else-loop-white-test}
@@ -15,18 +15,18 @@ loop-white-init c =
     let found = c.first_one-white in
     record {
       same = refl;
-      behind = omega (arith, c.requires.from);
+      after = omega (arith, c.requires.from);
       none = λ i low high. absurd (omega (arith, c.requires.from));
       order = omega (arith, found.ensures.from_here, c.requires.low);
       few = found.ensures.up_to;
       solid =
-          run-on (λ t i. white_at t i ≡ false) text text b.white c.args.start c.args.start b.base
+          run_on (λ t i. white_at t i ≡ false) text text b.white c.args.start c.args.start b.base
           found.result refl c.requires.low found.ensures.up_to
           (λ i low high _. absurd (omega arith)) found.ensures.zeros
-          (λ i lt inside _. white-zero text b.base b.white b.white_is i lt inside);
+          (λ i lt inside _. white_zero text b.base b.white b.white_is i lt inside);
       ends = found.ensures.one;
       plain = λ quiet. let same = eqb-true c.first_one.result found.result quiet in
-          run-on (λ t i. plain_at t i ≡ true) text text b.stops c.args.start c.args.start b.base
+          run_on (λ t i. plain_at t i ≡ true) text text b.stops c.args.start c.args.start b.base
           found.result refl c.requires.low found.ensures.up_to
           (λ i low high _. absurd (omega arith))
           (λ i low high. c.first_one.ensures.zeros i low (omega (arith, same)))
@@ -43,18 +43,18 @@ loop-white-preserved-then-plain c =
     omega (arith, c.at-blocks.ensures.base, c.loop-white-test.true) in
     record {
       same = c.at-blocks.ensures.text;
-      behind =
+      after =
           omega (
             arith,
             c.at-blocks.ensures.from,
             c.at-blocks.ensures.base,
-            before.behind,
+            before.after,
             c.loop-white.blocks.high,
             before.order,
             base,
           );
       none =
-          none-inside text c.args.start b.from
+          none_inside text c.args.start b.from
           (λ i low high. before.solid i low (omega (arith, base, c.at-blocks.ensures.from))
           (omega (
             arith,
@@ -66,14 +66,14 @@ loop-white-preserved-then-plain c =
       order = omega (arith, base, before.order);
       few = found.ensures.up_to;
       solid =
-          run-on (λ t i. white_at t i ≡ false) b.text.now text b.white c.args.start b.base b.base
+          run_on (λ t i. white_at t i ≡ false) b.text.now text b.white c.args.start b.base b.base
           found.result c.at-blocks.ensures.text (omega arith) found.ensures.up_to
           (λ i low high within. before.solid i low (omega (arith, base)) within)
           (λ i low high. found.ensures.zeros i (omega arith) high)
-          (λ i lt inside _. white-zero b.text.now b.base b.white b.white_is i lt inside);
+          (λ i lt inside _. white_zero b.text.now b.base b.white b.white_is i lt inside);
       ends = found.ensures.one;
       plain = λ quiet. let same = eqb-true c.first_one-then-plain.result found.result quiet in
-          run-on (λ t i. plain_at t i ≡ true) b.text.now text b.stops c.args.start b.base b.base
+          run_on (λ t i. plain_at t i ≡ true) b.text.now text b.stops c.args.start b.base b.base
           found.result c.at-blocks.ensures.text (omega arith) found.ensures.up_to
           (λ i low high within. before.plain c.if-plain.true i low (omega (arith, base)) within)
           (λ i low high. c.first_one-then-plain.ensures.zeros i (omega arith)
@@ -90,18 +90,18 @@ loop-white-preserved c =
     omega (arith, c.at-blocks.ensures.base, c.loop-white-test.true) in
     record {
       same = c.at-blocks.ensures.text;
-      behind =
+      after =
           omega (
             arith,
             c.at-blocks.ensures.from,
             c.at-blocks.ensures.base,
-            before.behind,
+            before.after,
             c.loop-white.blocks.high,
             before.order,
             base,
           );
       none =
-          none-inside text c.args.start b.from
+          none_inside text c.args.start b.from
           (λ i low high. before.solid i low (omega (arith, base, c.at-blocks.ensures.from))
           (omega (
             arith,
@@ -113,11 +113,11 @@ loop-white-preserved c =
       order = omega (arith, base, before.order);
       few = found.ensures.up_to;
       solid =
-          run-on (λ t i. white_at t i ≡ false) b.text.now text b.white c.args.start b.base b.base
+          run_on (λ t i. white_at t i ≡ false) b.text.now text b.white c.args.start b.base b.base
           found.result c.at-blocks.ensures.text (omega arith) found.ensures.up_to
           (λ i low high within. before.solid i low (omega (arith, base)) within)
           (λ i low high. found.ensures.zeros i (omega arith) high)
-          (λ i lt inside _. white-zero b.text.now b.base b.white b.white_is i lt inside);
+          (λ i lt inside _. white_zero b.text.now b.base b.white b.white_is i lt inside);
       ends = found.ensures.one;
       plain = λ quiet. absurd (true≢false (sym quiet ∙ c.if-plain.false));
     }
@@ -139,7 +139,7 @@ returns-clause-white c inside =
     let here : b.base + c.loop-white.white ≡ c.min-end.result =
     omega (arith, inside, c.min-end.ensures) in
     let one =
-    (white-one b.text.now b.base b.white b.white_is c.loop-white.white small
+    (white_one b.text.now b.base b.white b.white_is c.loop-white.white small
     (c.loop-white.invariant.ends small)).1 in
     subst (λ (i : ℕ). white_at c.args.self.text.now i ≡ true) here
     (subst (λ (t : List ℕ). white_at t (b.base + c.loop-white.white) ≡ true)

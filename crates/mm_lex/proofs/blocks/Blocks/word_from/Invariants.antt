@@ -8,7 +8,7 @@ use Rattle.mm_lex.proofs.blocks.Blocks.word_from.Given as goal
 abbrev pub invariant-loop-white : goal.invariant-loop-white
 invariant-loop-white l = record {
   same : l.blocks.text.now ≡ l.self.text.now;
-  behind : l.start < l.blocks.from;
+  after : l.start < l.blocks.from;
   none : (i : ℕ) → l.start < i → i < l.blocks.from → begins_word l.self.text.now i ≡ false;
   order : l.start ≤ l.blocks.base + l.white;
   few : l.white ≤ 64;

@@ -3,7 +3,7 @@ use Rattle.std.proofs.Common.{subst, arith}
 use Rattle.std.specs.List.{range_with_len}
 use Rattle.std.proofs.lemmas.List.FromFn.{map-range_with_len_more}
 use Rattle.mm_lex.specs.Places.{cut_text, IsCutText}
-use Rattle.mm_lex.proofs.CutLaw.{equal-cuts}
+use Rattle.mm_lex.proofs.CutLaw.{equal_cuts}
 use Rattle.mm_lex.proofs.cuts.Cuts.equal.Goals as goal
 
 pub loop-i-preserved : goal.loop-i-preserved
@@ -21,4 +21,4 @@ invariant_of-result g c =
     c.loop-i.invariant
     ∙ ap (λ n. map (λ i. c.args.len * (i + 1) / c.args.count) (range_with_len 0 n)) end in
     subst (λ (l : List ℕ). IsCutText (cut_text l c.args.len)) (sym same)
-    (equal-cuts c.args.len c.args.count c.requires.some)
+    (equal_cuts c.args.len c.args.count c.requires.some)

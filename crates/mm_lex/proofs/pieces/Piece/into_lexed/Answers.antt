@@ -1,20 +1,20 @@
 use Rattle.std.proofs.Common.{◌∙◌, sym, ap, Some}
 use Rattle.std.specs.Option.{option_map}
-use Rattle.mm_spec.proofs.LexedLemmas.{tokens_of-read, lexical_fault-read}
+use Rattle.mm_spec.proofs.LexedLaw.{tokens_of_read, lexical_fault_read}
 use Rattle.mm_lex.specs.Pieces.{Stretch}
 use Rattle.mm_lex.specs.Inners.{between}
-use Rattle.mm_lex.proofs.PiecesLemmas.{whole-reading}
+use Rattle.mm_lex.proofs.PiecesLaw.{whole_reading}
 use Rattle.mm_lex.proofs.pieces.Piece.into_lexed.Goals as goal
 
 pub returns-clause-tokens : goal.returns-clause-tokens
-returns-clause-tokens g c = sym (tokens_of-read c.args.text.now _ c.requires.short
-    (whole-reading c.args.text.now c.args.self _ c.requires.summary c.requires.from c.requires.to
+returns-clause-tokens g c = sym (tokens_of_read c.args.text.now _ c.requires.short
+    (whole_reading c.args.text.now c.args.self _ c.requires.summary c.requires.from c.requires.to
     (ap (λ (s : Stretch). s.between) (sym c.self.view_is)
     ∙ ap (option_map between) (c.in-Some.is ∙ ap Some (sym c.in-Some.inner-is)))))
 
 pub returns-clause-fault : goal.returns-clause-fault
 returns-clause-fault g c =
-    c.fault_of.ensures ∙ sym (lexical_fault-read c.args.text.now _ c.requires.short
-    (whole-reading c.args.text.now c.args.self _ c.requires.summary c.requires.from c.requires.to
+    c.fault_of.ensures ∙ sym (lexical_fault_read c.args.text.now _ c.requires.short
+    (whole_reading c.args.text.now c.args.self _ c.requires.summary c.requires.from c.requires.to
     (ap (λ (s : Stretch). s.between) (sym c.self.view_is)
     ∙ ap (option_map between) (c.in-Some.is ∙ ap Some (sym c.in-Some.inner-is)))))

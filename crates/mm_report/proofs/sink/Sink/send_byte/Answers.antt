@@ -1,6 +1,6 @@
 use Rattle.std.proofs.Common.{◌≡◌, ◌⊎◌, inl, inr, true, false, [], ◌∷◌, arith}
 use Rattle.std.proofs.lemmas.Bool.{cases_Bool}
-use Rattle.mm_report.proofs.SentFacts.{sent_more, sent_held, sent_stuck}
+use Rattle.mm_report.proofs.SentLaw.{sent_more, sent_held, sent_stuck}
 use Rattle.mm_report.proofs.sink.Sink.send_byte.Goals as goal
 
 pub returns-then-not-is_full : goal.returns-then-not-is_full

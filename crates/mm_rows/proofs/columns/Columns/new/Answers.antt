@@ -6,8 +6,8 @@ use Rattle.std.proofs.lemmas.List.{take_all, take_more}
 use Rattle.mm_spec.specs.Scope.{statement_at}
 use Rattle.mm_spec.specs.Output.{columns, has_typecode, is_column}
 use Rattle.mm_cites.specs.Citing.{IsRising}
-use Rattle.mm_cites.proofs.RisingLaw.{filter-at, filter-rising}
-use Rattle.mm_rows.proofs.ColumnFacts.{filter-snoc, columns-are, axiom-asserts}
+use Rattle.mm_cites.proofs.RisingLaw.{filter_at, filter_rising}
+use Rattle.mm_rows.proofs.ColumnLaw.{filter_snoc, columns_are, axiom_asserts}
 use Rattle.mm_rows.proofs.columns.Columns.new.Goals as goal
 use Rattle.mm_rows.proofs.columns.Columns.new.Goals.{then-is_chosen+in_ok-push, else-is_chosen}
 
@@ -17,10 +17,10 @@ is_chosen-requires g c =
     let p = λ (j : ℕ). list_any (is_column None) (statement_at db j) in
     let i = c.loop-statement.statement-index in
     let there : i < length c.axioms-axioms.result.now = omega arith in
-    axiom-asserts db (get_or c.axioms-axioms.result.now i 0)
+    axiom_asserts db (get_or c.axioms-axioms.result.now i 0)
     (subst (λ (l : List ℕ). list_any (is_column None) (statement_at db (get_or l i 0)) ≡ true)
     (sym c.axioms-axioms.ensures.axioms)
-    (filter-at p (range_with_len 0 (length db)) i 0
+    (filter_at p (range_with_len 0 (length db)) i 0
     (subst (λ (l : List ℕ). i < length l) c.axioms-axioms.ensures.axioms there)))
 
 pub loop-statement-preserved : goal.loop-statement-preserved
@@ -32,7 +32,7 @@ loop-statement-preserved g c =
     let i = c.loop-statement.statement-index in
     let x = get_or xs i 0 in
     let more : filter q (take (i + 1) xs) ≡ filter q (take i xs) ++ cond (q x) (x ∷ []) [] =
-    ap (filter q) (take_more xs i 0 (omega arith)) ∙ filter-snoc q (take i xs) x in
+    ap (filter q) (take_more xs i 0 (omega arith)) ∙ filter_snoc q (take i xs) x in
     elim c.if-is_chosen.branch [
       | then-is_chosen+in_ok-push w ↦
           let yes : q x ≡ true = sym c.is_chosen.ensures ∙ w.if-is_chosen.true in
@@ -56,9 +56,9 @@ invariant_of-result g c =
     take_all c.loop-statement.statement-index xs (omega arith) in
     let same : c.loop-statement.statements.items ≡ columns db only =
     c.loop-statement.invariant ∙ ap (filter q) (all ∙ c.axioms-axioms.ensures.axioms)
-    ∙ columns-are only db in
+    ∙ columns_are only db in
     subst IsRising (sym same)
-    (filter-rising (λ j. list_any (is_column only) (statement_at db j))
+    (filter_rising (λ j. list_any (is_column only) (statement_at db j))
     (length db) c.axioms-axioms.ensures.few)
 
 pub returns : goal.returns
@@ -70,4 +70,4 @@ returns g c =
     let all : take c.loop-statement.statement-index xs ≡ xs =
     take_all c.loop-statement.statement-index xs (omega arith) in
     c.loop-statement.invariant ∙ ap (filter q) (all ∙ c.axioms-axioms.ensures.axioms)
-    ∙ columns-are only db
+    ∙ columns_are only db

@@ -1,14 +1,14 @@
 use Rattle.std.proofs.Common.{◌<◌, ◌*◌, ◌∙◌, ap₂, sym, subst, arith}
 use Rattle.mm_rows.specs.BitRows.{row_at}
 use Rattle.mm_rows.specs.Marks.{Marks}
-use Rattle.mm_rows.proofs.TableFacts.{row_fits}
-use Rattle.mm_rows.proofs.DigitFacts.{part_long, row_digit}
+use Rattle.mm_rows.proofs.TableLaw.{row_fits}
+use Rattle.mm_rows.proofs.DigitLaw.{part_long, row_digit}
 use Rattle.mm_rows.proofs.table.Matrix.digit.Goals as goal
 
 pub part-words-requires : goal.part-words-requires
 part-words-requires g c =
     row_fits c.args.self.now c.self.inside.rows c.self.inside.columns c.self.inside.bits.items
-    c.self.inside.turned.items
+    c.self.inside.transposed.items
     (sym c.self.view_is) c.self.invariant.0 c.self.invariant.1 c.args.row c.div_ceil-across.result
     c.deref.result.now c.requires.row c.div_ceil-across.ensures c.deref.ensures.value
 

@@ -2,13 +2,13 @@ use Rattle.std.proofs.Common.{◌≡◌, ◌∙◌, ◌<◌, ◌≤◌, ◌⊎�
 use Rattle.std.proofs.lemmas.Bool.{cases_lt}
 use Rattle.mm_rows.specs.BitRows.{row_at}
 use Rattle.mm_rows.specs.Marks.{Marks, mark}
-use Rattle.mm_rows.proofs.TableFacts.{column_fits, user_fits, user_is}
+use Rattle.mm_rows.proofs.TableLaw.{column_fits, user_fits, user_is}
 use Rattle.mm_rows.proofs.table.Matrix.run_end.Goals as goal
 
 pub part-users-requires : goal.part-users-requires
 part-users-requires g c =
     column_fits c.args.self.now c.self.inside.rows c.self.inside.columns c.self.inside.bits.items
-    c.self.inside.turned.items
+    c.self.inside.transposed.items
     (sym c.self.view_is) c.self.invariant.0 c.self.invariant.1 c.args.column c.div_ceil-down.result
     c.deref.result.now c.requires.column c.div_ceil-down.ensures c.deref.ensures.value
 
@@ -19,7 +19,7 @@ is_set-requires g c =
     ∙ ap₂ (λ w xs. row_at xs w c.args.column) c.div_ceil-down.ensures c.deref.ensures.value in
     let inside = subst (λ (m : Marks). c.loop-end.end < m.rows) c.self.view_is (omega arith) in
     user_fits c.args.self.now c.self.inside.rows c.self.inside.columns c.self.inside.bits.items
-    c.self.inside.turned.items
+    c.self.inside.transposed.items
     (sym c.self.view_is) c.self.invariant.0 c.self.invariant.1 c.args.column c.loop-end.end _
     c.requires.column is inside
 
@@ -29,7 +29,7 @@ returns-then-not-is_set-clause-gap g c inside =
     c.part-users.ensures
     ∙ ap₂ (λ w xs. row_at xs w c.args.column) c.div_ceil-down.ensures c.deref.ensures.value in
     sym (user_is c.args.self.now c.self.inside.rows c.self.inside.columns c.self.inside.bits.items
-    c.self.inside.turned.items
+    c.self.inside.transposed.items
     (sym c.self.view_is) c.self.invariant.0 c.self.invariant.1 c.args.column c.loop-end.end _
     c.requires.column is inside)
     ∙ sym c.is_set.ensures ∙ cc
@@ -42,7 +42,7 @@ loop-end-preserved g c k low high =
     let inside = subst (λ (m : Marks). c.loop-end.end < m.rows) c.self.view_is (omega arith) in
     let here : mark c.args.self.now c.loop-end.end c.args.column ≡ true =
     sym (user_is c.args.self.now c.self.inside.rows c.self.inside.columns c.self.inside.bits.items
-    c.self.inside.turned.items
+    c.self.inside.transposed.items
     (sym c.self.view_is) c.self.invariant.0 c.self.invariant.1 c.args.column c.loop-end.end _
     c.requires.column is inside)
     ∙ sym c.is_set.ensures ∙ cc in

@@ -1,8 +1,8 @@
 use Rattle.std.proofs.Common.{◌≡◌, ap, ◌∙◌, sym, Some}
 use Rattle.std.proofs.lemmas.Slice.Eq.{bytes_eq-Decides}
 use Rattle.mm_scope.specs.Names.{names_of}
-use Rattle.mm_scope.proofs.NumberedLaw.{got-name}
-use Rattle.mm_scope.proofs.SymbolsLaw.{place-distinct}
+use Rattle.mm_scope.proofs.NumberedLaw.{got_name}
+use Rattle.mm_scope.proofs.SymbolsLaw.{place_distinct}
 use Rattle.mm_scope.proofs.names.Names.guessed.Goals as goal
 
 pub returns-then-eq-clause-number : goal.returns-then-eq-clause-number
@@ -12,6 +12,6 @@ returns-then-eq-clause-number g c =
     let name = c.in_ok-name.name.now in
     let same : name.now ≡ c.args.word.now =
     (bytes_eq-Decides name.now c.args.word.now).0 (sym c.eq.ensures ∙ c.if-eq.true) in
-    place-distinct (names_of m) c.args.self.now.distinct i c.args.word.now
-    (got-name m.entries i name c.in_ok-name.symbol.now (sym c.in_ok-name.ensures.entry)
+    place_distinct (names_of m) c.args.self.now.distinct i c.args.word.now
+    (got_name m.entries i name c.in_ok-name.symbol.now (sym c.in_ok-name.ensures.entry)
     ∙ ap Some same)

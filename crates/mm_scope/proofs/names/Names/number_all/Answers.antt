@@ -3,14 +3,14 @@ use Rattle.mm_spec.specs.Frame.{place_of}
 use Rattle.mm_outline.specs.Parts.{between, token_at}
 use Rattle.mm_scope.specs.Formulas.{numbers_in}
 use Rattle.mm_scope.specs.Names.{names_of}
-use Rattle.mm_scope.proofs.NumberedLaw.{place-le, numbers-more, numbers-none}
+use Rattle.mm_scope.proofs.NumberedLaw.{place_le, numbers-more, numbers-none}
 use Rattle.mm_scope.proofs.names.Names.number_all.Goals as goal
 
 pub overflow_cast-number : goal.overflow_cast-number
 overflow_cast-number g c =
     let ns = names_of c.args.self.now.symbols in
     let few = c.requires.few in
-    let le = place-le (token_at c.args.text.now c.args.tokens.now c.loop-at.at).word ns in
+    let le = place_le (token_at c.args.text.now c.args.tokens.now c.loop-at.at).word ns in
     let is = c.numbered-number.ensures.number in
     omega (arith, le, is, few)
 

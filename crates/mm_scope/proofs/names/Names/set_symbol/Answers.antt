@@ -1,18 +1,18 @@
 use Rattle.std.proofs.Common.{◌≡◌, ap, ◌∙◌, map, sym, subst, List, ℕ, true}
 use Rattle.std.specs.Map.{keys_of}
 use Rattle.mm_scope.specs.Names.{are_distinct, names_of}
-use Rattle.mm_scope.proofs.NumberedLaw.{names-inserted}
-use Rattle.mm_scope.proofs.SymbolsLaw.{distinct-with}
+use Rattle.mm_scope.proofs.NumberedLaw.{names_inserted}
+use Rattle.mm_scope.proofs.SymbolsLaw.{distinct_with}
 use Rattle.mm_scope.proofs.names.Names.set_symbol.Goals as goal
 
 pub invariant_of-self-2 : goal.invariant_of-self-2
 invariant_of-self-2 g c =
     let names =
     ap (λ es. map (λ k. k.now) (keys_of es)) c.in_ok-number.ensures.entries
-    ∙ names-inserted c.args.self.now.symbols.entries c.args.word c.args.symbol in
+    ∙ names_inserted c.args.self.now.symbols.entries c.args.word c.args.symbol in
     record {
       distinct = subst (λ (ns : List (List ℕ)). are_distinct ns ≡ true) (sym names)
-          (distinct-with c.args.word.now
+          (distinct_with c.args.word.now
           (names_of c.args.self.now.symbols) c.args.self.now.distinct);
     }
 
@@ -24,4 +24,4 @@ returns-clause-symbols g c =
 pub returns-clause-names : goal.returns-clause-names
 returns-clause-names g c =
     ap (λ es. map (λ k. k.now) (keys_of es)) c.in_ok-number.ensures.entries
-    ∙ names-inserted c.args.self.now.symbols.entries c.args.word c.args.symbol
+    ∙ names_inserted c.args.self.now.symbols.entries c.args.word c.args.symbol

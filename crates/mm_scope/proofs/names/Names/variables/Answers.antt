@@ -4,7 +4,7 @@ use Rattle.std.proofs.lemmas.Bool.{cases_lt}
 use Rattle.std.proofs.lemmas.List.{get_or_push, get_or_append_left}
 use Rattle.std.proofs.lemmas.Option.{slice_get_within}
 use Rattle.mm_scope.specs.Names.{find, is_variable_in, names_of}
-use Rattle.mm_scope.proofs.NumberedLaw.{name-at, map-len}
+use Rattle.mm_scope.proofs.NumberedLaw.{name_at, map_len}
 use Rattle.mm_scope.proofs.names.Names.variables.Goals as goal
 use Rattle.mm_scope.proofs.names.Names.variables.Goals.{in-Some, in-None}
 
@@ -20,12 +20,12 @@ loop-i-preserved g c =
       | in-Some b ↦
           let key = b.in-Some.field-0-0.now in
           let name =
-          name-at m.entries i key b.in-Some.symbol.now w (sym b.in-Some.ensures.entry) h in
+          name_at m.entries i key b.in-Some.symbol.now w (sym b.in-Some.ensures.entry) h in
           b.is_variable-is
           ∙ sym (ap is_variable_in (ap (find m) (sym name) ∙ b.in-Some.ensures.value))
       | in-None b ↦
           let inside = slice_get_within (names_of m) i w h in
-          let n = map-len m.entries in
+          let n = map_len m.entries in
           absurd (true≢false (sym (b.in-None.ensures.found.1 (omega (arith, inside, n)))))
     ] in
     record {
@@ -48,5 +48,5 @@ pub returns-clause-each : goal.returns-clause-each
 returns-clause-each g c i w h =
     let m = c.args.self.now.symbols in
     let inside = slice_get_within (names_of m) i w h in
-    let n = map-len m.entries in
+    let n = map_len m.entries in
     c.loop-i.invariant.each i w (omega (arith, inside, n)) h

@@ -2,8 +2,8 @@ use Rattle.std.proofs.Common.{◌<◌, ◌≤◌, ◌∙◌, sym, ap, arith, len
 use Rattle.mm_scope.specs.Names.{find}
 use Rattle.mm_outline.specs.Parts.{made, IsRising}
 use Rattle.mm_scope.specs.Judge.{entry_of}
-use Rattle.mm_scope.specs.Known.{entry_after}
-use Rattle.mm_scope.proofs.Typed.{typed_not, typed_now}
+use Rattle.mm_scope.specs.WordEntry.{entry_after}
+use Rattle.mm_scope.proofs.TypedLaw.{typed_not, typed_now}
 use Rattle.mm_scope.proofs.names.Scope.add_names.Goals as goal
 
 pub returns-in_ok-give_type-in-Floating-clause-symbols : goal.returns-in_ok-give_type-in-Floating-clause-symbols

@@ -2,9 +2,9 @@ use Rattle.std.proofs.Common.{ap, ◌<◌, ◌≤◌, arith, length, ◌∙◌, 
 use Rattle.mm_spec.specs.Text.{words}
 use Rattle.mm_spec.specs.Frame.{first_occurrences}
 use Rattle.mm_outline.specs.Parts.{token_at, between}
-use Rattle.mm_scope.proofs.NumberedLaw.{names-more}
+use Rattle.mm_scope.proofs.NumberedLaw.{names_more}
 use Rattle.mm_scope.specs.Names.{find, with_name}
-use Rattle.mm_scope.proofs.Declared.{declared_step}
+use Rattle.mm_scope.proofs.DeclaredLaw.{declared_step}
 use Rattle.mm_scope.proofs.names.Scope.declare.Goals as goal
 
 pub loop-at-preserved : goal.loop-at-preserved
@@ -27,7 +27,7 @@ loop-at-preserved g c =
           λ d h. c.in_ok-set_symbol.ensures.names
           ∙ ap (with_name (token_at c.args.text.now c.args.tokens.now c.loop-at.at).word)
           (i.names d h)
-          ∙ names-more c.args.text.now c.args.tokens.now c.args.from c.loop-at.at later inside d;
+          ∙ names_more c.args.text.now c.args.tokens.now c.args.from c.loop-at.at later inside d;
     }
 
 pub returns-clause-names : goal.returns-clause-names

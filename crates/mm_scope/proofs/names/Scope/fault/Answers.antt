@@ -2,8 +2,8 @@ use Rattle.std.proofs.Common.{◌∙◌, sym, ap, ap₂, ◌-◌, ◌+◌, arith
 use Rattle.mm_spec.specs.Lawful.{least, at_each, scope_faults, floating_faults, label_faults}
 use Rattle.mm_outline.specs.Parts.{token_at, nth_word, between, made, IsRising}
 use Rattle.mm_scope.specs.Judge.{merge, list_fault, declared_codes}
-use Rattle.mm_scope.proofs.JudgeLaw.{least-append, constants_is, variables_is}
-use Rattle.mm_outline.proofs.Results.{ok_then}
+use Rattle.mm_scope.proofs.JudgeLaw.{least_append, constants_is, variables_is}
+use Rattle.mm_outline.proofs.ResultsLaw.{ok_then}
 use Rattle.mm_scope.proofs.names.Scope.fault.Goals as goal
 
 pub returns-in-Constants-clause-fault : goal.returns-in-Constants-clause-fault
@@ -54,7 +54,7 @@ returns-in-Floating-clause-fault g c = λ n k.
     let ws = c.args.tokens.now in
     let o = c.args.outline in
     c.merge.ensures ∙ ap₂ merge (c.label_fault-label.ensures n k) (c.floating_fault.ensures n k)
-    ∙ sym (least-append (label_faults n (token_at text ws (o.keyword - 1)))
+    ∙ sym (least_append (label_faults n (token_at text ws (o.keyword - 1)))
     (floating_faults n (nth_word ws o.keyword).start
     (between text ws (o.keyword + 1) o.middle)))
     ∙ ap (λ kd. least (scope_faults n c.args.deep (made text ws kd o.keyword o.middle o.end)))

@@ -5,15 +5,15 @@ use Rattle.mm_outline.specs.Parts.{token_at, nth_word, between}
 use Rattle.mm_scope.specs.Formulas.{numbers_in}
 use Rattle.mm_scope.specs.Judge.{merge, fault_at, is_open_in, typecode_code}
 use Rattle.mm_scope.specs.Names.{find, names_of}
-use Rattle.mm_scope.proofs.JudgeLaw.{between-first, formula_is}
-use Rattle.mm_scope.proofs.NumberedLaw.{place-le}
+use Rattle.mm_scope.proofs.JudgeLaw.{between_first, formula_is}
+use Rattle.mm_scope.proofs.NumberedLaw.{place_le}
 use Rattle.mm_scope.proofs.names.Scope.formula_fault.Goals as goal
 
 pub overflow_cast-number : goal.overflow_cast-number
 overflow_cast-number g c =
     let ns = names_of c.args.self.now.names.symbols in
     let few = c.requires.few in
-    let le = place-le (token_at c.args.text.now c.args.tokens.now c.args.from).word ns in
+    let le = place_le (token_at c.args.text.now c.args.tokens.now c.args.from).word ns in
     let is = c.numbered-number.ensures.number in
     omega (arith, le, is, few)
 
@@ -54,4 +54,4 @@ returns-clause-numbers g c =
     ∙ append_assoc c.args.numbers.now.items (place_of (token_at text ws c.args.from).word ns ∷ [])
     (numbers_in ns (between text ws (c.args.from + 1) c.args.to))
     ∙ ap (λ l. c.args.numbers.now.items ++ l)
-    (sym (ap (numbers_in ns) (between-first text ws c.args.from c.args.to below inside)))
+    (sym (ap (numbers_in ns) (between_first text ws c.args.from c.args.to below inside)))

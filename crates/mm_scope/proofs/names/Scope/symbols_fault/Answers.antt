@@ -6,14 +6,14 @@ use Rattle.mm_outline.specs.Parts.{token_at, between}
 use Rattle.mm_scope.specs.Judge.{merge, fault_at, is_open_in, symbol_code}
 use Rattle.mm_scope.specs.Names.{find, names_of}
 use Rattle.mm_scope.proofs.JudgeLaw.{symbols_more}
-use Rattle.mm_scope.proofs.NumberedLaw.{numbers-more, place-le}
+use Rattle.mm_scope.proofs.NumberedLaw.{numbers-more, place_le}
 use Rattle.mm_scope.proofs.names.Scope.symbols_fault.Goals as goal
 
 pub overflow_cast-number : goal.overflow_cast-number
 overflow_cast-number g c =
     let ns = names_of c.args.self.now.names.symbols in
     let few = c.requires.few in
-    let le = place-le (token_at c.args.text.now c.args.tokens.now c.loop-at.at).word ns in
+    let le = place_le (token_at c.args.text.now c.args.tokens.now c.loop-at.at).word ns in
     let is = c.numbered-number.ensures.number in
     omega (arith, le, is, few)
 

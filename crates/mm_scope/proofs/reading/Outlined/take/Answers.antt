@@ -8,8 +8,8 @@ use Rattle.mm_outline.specs.Statements.{statements}
 use Rattle.mm_scope.specs.Formulas.{AreFormulas}
 use Rattle.mm_scope.specs.Names.{find, names_of}
 use Rattle.mm_scope.proofs.KnowsLaw.{knows_is}
-use Rattle.mm_scope.proofs.NumberedLaw.{declared, names-shorter, names-next, taken-numbers}
-use Rattle.mm_scope.proofs.NumberedLaw.{formulas-more}
+use Rattle.mm_scope.proofs.NumberedLaw.{declared, names_shorter, names_next, taken_numbers}
+use Rattle.mm_scope.proofs.NumberedLaw.{formulas_more}
 use Rattle.mm_scope.proofs.reading.Outlined.take.Goals as goal
 
 pub fault-requires-clause-few : goal.fault-requires-clause-few
@@ -17,7 +17,7 @@ fault-requires-clause-few g c =
     let db = statements c.args.text.now c.args.tokens.now c.args.self.now.outlines.items in
     let s = statement_of c.args.text.now c.args.tokens.now c.args.outline in
     let e = ap length c.requires.kept.names_are in
-    let l = names-shorter db s in
+    let l = names_shorter db s in
     let f = c.requires.next.few_names in
     omega (arith, e, l, f)
 
@@ -52,17 +52,17 @@ overflow_cast-len g c =
     let k = c.requires.kept in
     let next = c.requires.next in
     let names =
-    names-next db s (names_of c.add.new.self.names.symbols)
+    names_next db s (names_of c.add.new.self.names.symbols)
     (c.in_ok-add.ensures.names (declared db) k.names_are) in
     let more =
-    taken-numbers db s c.args.self.now.formulas.numbers.items c.fault.new.numbers.items
+    taken_numbers db s c.args.self.now.formulas.numbers.items c.fault.new.numbers.items
     c.number_others.new.numbers.items (names_of c.args.self.now.scope.names.symbols)
     (names_of c.add.new.self.names.symbols) k.names_are names c.in_ok-self.ensures.numbers
     c.in_ok-number_others.ensures in
     let at : c.len.result ≡ length c.number_others.new.numbers.items =
     c.len.ensures ∙ c.number_others.new.numbers.ok.0 in
     let formulas =
-    formulas-more db next.lawful s c.args.self.now.formulas.numbers.items
+    formulas_more db next.lawful s c.args.self.now.formulas.numbers.items
     c.args.self.now.formulas.places.items k.formulas c.number_others.new.numbers.items more
     c.len.result at in
     let small = next.few_numbers in
@@ -109,17 +109,17 @@ returns-clause-taken g c none =
     (knows_is db (find c.args.self.now.scope.names.symbols)
     (find c.args.self.now.scope.names.labels) b k.keeps few_blocks) in
     let names =
-    names-next db s (names_of c.add.new.self.names.symbols)
+    names_next db s (names_of c.add.new.self.names.symbols)
     (c.in_ok-add.ensures.names (declared db) k.names_are) in
     let more =
-    taken-numbers db s c.args.self.now.formulas.numbers.items c.fault.new.numbers.items
+    taken_numbers db s c.args.self.now.formulas.numbers.items c.fault.new.numbers.items
     c.number_others.new.numbers.items (names_of c.args.self.now.scope.names.symbols)
     (names_of c.add.new.self.names.symbols) k.names_are names c.in_ok-self.ensures.numbers
     c.in_ok-number_others.ensures in
     let at : c.len.result ≡ length c.number_others.new.numbers.items =
     c.len.ensures ∙ c.number_others.new.numbers.ok.0 in
     let formulas =
-    formulas-more db next.lawful s c.args.self.now.formulas.numbers.items
+    formulas_more db next.lawful s c.args.self.now.formulas.numbers.items
     c.args.self.now.formulas.places.items k.formulas c.number_others.new.numbers.items more
     c.len.result at in (
       c.in_ok-push-2.ensures.items,

@@ -7,8 +7,8 @@ use Rattle.mm_spec.specs.Scope.{is_active}
 use Rattle.mm_outline.specs.Blocks.{lists, end_of}
 use Rattle.mm_outline.specs.Parts.{statement_of}
 use Rattle.mm_outline.specs.Statements.{statements, active_kind}
-use Rattle.mm_stmt.specs.Database.{Known, held}
-use Rattle.mm_spec.proofs.OpenedLemmas.{counted_length, counted_active}
+use Rattle.mm_stmt.specs.Database.{Contents, held}
+use Rattle.mm_spec.proofs.OpenedLaw.{counted_length, counted_active}
 use Rattle.mm_outline.proofs.ActiveLaw.{active_is}
 use Rattle.mm_stmt.proofs.DatabaseLaw.{has_outline}
 use Rattle.mm_stmt.proofs.database.Database.active_at.Goals as goal
@@ -35,7 +35,7 @@ returns-then-statement-at g c =
     ≡ active_kind o.kind (nat_le k (end_of b j)) =
     ap₂ (λ t p. t && active_kind p.kind (nat_le k (end_of b j))) (lt-ltb j k c.if-statement-at.true)
     (sym c.index.ensures) in
-    subst (λ (n : Known). c.is_active_kind.result ≡ is_active n.statements j k) c.self.view_is
+    subst (λ (n : Contents). c.is_active_kind.result ≡ is_active n.statements j k) c.self.view_is
     (c.is_active_kind.ensures ∙ ap (active_kind o.kind) c.is_open_at.ensures ∙ sym test ∙ law
     ∙ ap (λ (f : ℕ → ℕ → Bool). f j k)
     (sym (counted_active f.with_open (statements text ws os))))

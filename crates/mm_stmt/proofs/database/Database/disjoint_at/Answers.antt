@@ -6,7 +6,7 @@ use Rattle.mm_spec.specs.Derivation.{is_member}
 use Rattle.mm_spec.specs.Frame.{disjoint_at, is_disjoint_statement, active_of, formula_at}
 use Rattle.mm_outline.specs.Blocks.{lists}
 use Rattle.mm_outline.specs.Statements.{statements}
-use Rattle.mm_stmt.specs.Database.{held, Known}
+use Rattle.mm_stmt.specs.Database.{held, Contents}
 use Rattle.mm_frame.proofs.DisjointLaw.{together_is}
 use Rattle.mm_stmt.proofs.HeldLaw.{blocks_held}
 use Rattle.mm_stmt.proofs.database.Database.disjoint_at.Goals as goal
@@ -20,14 +20,14 @@ returns-then-number g c =
     let x = c.args.x in
     let y = c.args.y in
     let within : k ≤ length db =
-    subst (λ (n : Known). k ≤ length n.statements) (sym c.self.view_is) c.requires in
+    subst (λ (n : Contents). k ≤ length n.statements) (sym c.self.view_is) c.requires in
     let apart : nat_eq x y ≡ false =
     ne_eqb x y (λ e. c.if-number.true (c.number.ensures ∙ e ∙ sym c.number-2.ensures)) in
-    subst (λ (n : Known). c.are_together.result ≡ disjoint_at n.statements k x y) c.self.view_is
+    subst (λ (n : Contents). c.are_together.result ≡ disjoint_at n.statements k x y) c.self.view_is
     (together_is db b
     (blocks_held f.with_open
     (statements f.text.now (words_of f.text.now) f.outlines.items) b c.self.invariant.blocks) k
-    within f.members.pairs.items c.self.invariant.members_are.are c.are_together.result x y
+    within f.disjoint_index.pairs.items c.self.invariant.disjoint_index_is.are c.are_together.result x y
     c.are_together.ensures.found c.are_together.ensures.none
     ∙ sym (ap
     (λ t. not t

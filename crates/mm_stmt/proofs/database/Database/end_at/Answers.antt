@@ -4,7 +4,7 @@ use Rattle.std.specs.Option.{option_map}
 use Rattle.mm_spec.specs.Lexed.{tokens_of as words_of}
 use Rattle.mm_outline.specs.Parts.{outline}
 use Rattle.mm_outline.specs.declared.parts.Kind.TheVariants.{Constants}
-use Rattle.mm_stmt.specs.Database.{Known, last_place}
+use Rattle.mm_stmt.specs.Database.{Contents, last_place}
 use Rattle.mm_stmt.proofs.DatabaseLaw.{has_outline, last_is}
 use Rattle.mm_stmt.proofs.KeptLaw.{kept_inside, kept_order, kept_within, kept_at, kept_some}
 use Rattle.mm_stmt.proofs.KeptLaw.{kept_last}
@@ -58,7 +58,7 @@ returns g c =
     ∙ kept_at ws os f.kept.words.items f.kept.starts.items c.self.invariant.kept_are k there d in
     let last =
     kept_last ws (get_or os k d) c.of-kept.result.now kept (record { start = 0; end = 0 }) in
-    subst (λ (n : Known). option_map last_place (slice_get n.statements k)
+    subst (λ (n : Contents). option_map last_place (slice_get n.statements k)
     ≡ Some (get_or c.of-kept.result.now (length c.of-kept.result.now - 1)
     (record { start = 0; end = 0 })).start) c.self.view_is
     (last_is text ws f.with_open os k d there (c.self.invariant.outlines k d there).0

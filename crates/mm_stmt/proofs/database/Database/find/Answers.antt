@@ -6,7 +6,7 @@ use Rattle.mm_spec.specs.Scope.{statement_at}
 use Rattle.mm_spec.specs.NormalProof.{is_labelled}
 use Rattle.mm_scope.specs.Names.{find}
 use Rattle.mm_outline.specs.Statements.{statements}
-use Rattle.mm_stmt.specs.Database.{held, Known}
+use Rattle.mm_stmt.specs.Database.{held, Contents}
 use Rattle.mm_stmt.proofs.database.Database.find.Goals as goal
 
 pub returns-clause-only : goal.returns-clause-only
@@ -14,7 +14,7 @@ returns-clause-only g c =
     let w = c.args.label.now in
     let look : c.copied.result ≡ find c.self.inside.labels w =
     c.copied.ensures ∙ c.get.ensures.value in
-    let P : Known → Option ℕ → Type 0 =
+    let P : Contents → Option ℕ → Type 0 =
     λ n r. IfSome r
     (λ k. (j : ℕ) → list_any (is_labelled w) (statement_at n.statements j) ≡ true → j ≡ k) in
     subst (λ n. P n c.copied.result) c.self.view_is (go c.copied.result look)
@@ -38,7 +38,7 @@ returns-clause-none g c =
     let w = c.args.label.now in
     let look : c.copied.result ≡ find c.self.inside.labels w =
     c.copied.ensures ∙ c.get.ensures.value in
-    let P : Known → Option ℕ → Type 0 =
+    let P : Contents → Option ℕ → Type 0 =
     λ n r. IfNone r ((j : ℕ) → list_any (is_labelled w) (statement_at n.statements j) ≡ false) in
     subst (λ n. P n c.copied.result) c.self.view_is (go c.copied.result look)
   where

@@ -4,10 +4,10 @@ use Rattle.std.proofs.lemmas.Grind.{get_or_default_zero}
 use Rattle.mm_spec.specs.Lexed.{tokens_of as words_of}
 use Rattle.mm_spec.specs.Frame.{symbol_names, formula_at}
 use Rattle.mm_outline.specs.Statements.{statements}
-use Rattle.mm_spec.proofs.OpenedLemmas.{counted_length}
+use Rattle.mm_spec.proofs.OpenedLaw.{counted_length}
 use Rattle.mm_outline.specs.Parts.{statement_of}
 use Rattle.std.proofs.lemmas.List.{length-map}
-use Rattle.mm_stmt.specs.Database.{held, Known}
+use Rattle.mm_stmt.specs.Database.{held, Contents}
 use Rattle.mm_stmt.proofs.DatabaseLaw.{has_outline}
 use Rattle.mm_stmt.proofs.database.Database.formula.Goals as goal
 
@@ -36,7 +36,7 @@ returns-clause-known g c =
     let same : take (b - a) (drop a c.deref.result.now) ≡ formula_at db k =
     ap (λ l. take (b - a) (drop a l)) c.deref.ensures.value
     ∙ ap₂ (λ i j. take (j - i) (drop i xs)) (sym first) (sym second) ∙ n.formula k inside in
-    subst (λ (v : Known). All (λ s. s < length (symbol_names v.statements))
+    subst (λ (v : Contents). All (λ s. s < length (symbol_names v.statements))
     (take (b - a) (drop a c.deref.result.now))) c.self.view_is
     (subst (λ (l : List ℕ). All (λ s. s < length (symbol_names db)) l) (sym same)
     (c.self.invariant.below k there))

@@ -7,7 +7,7 @@ use Rattle.mm_spec.specs.Scope.{statement_at}
 use Rattle.mm_spec.specs.Derivation.{pair}
 use Rattle.mm_spec.specs.Citation.{is_assertion}
 use Rattle.mm_spec.specs.Frame.{mandatory_hypotheses, mandatory_pairs}
-use Rattle.mm_stmt.specs.Database.{held, Known}
+use Rattle.mm_stmt.specs.Database.{held, Contents}
 use Rattle.mm_outline.proofs.StatementsLaw.{is_there, get_mapped}
 use Rattle.mm_stmt.proofs.database.Database.frame.Goals as goal
 
@@ -21,7 +21,7 @@ returns g c =
     let frames = c.self.invariant.frames in
     let x = c.index.result.now in
     let is =
-    subst (λ (n : Known). list_any is_assertion (statement_at n.statements k) ≡ true)
+    subst (λ (n : Contents). list_any is_assertion (statement_at n.statements k) ≡ true)
     (sym c.self.view_is) c.requires in
     let there : k < length db = is_there is_assertion db k is in
     let count = frames.count in
@@ -38,10 +38,10 @@ returns g c =
     let frame = frames.each k there in
     record {
       hypotheses =
-          subst (λ (n : Known). x.hyps.items ≡ mandatory_hypotheses n.statements k) c.self.view_is
+          subst (λ (n : Contents). x.hyps.items ≡ mandatory_hypotheses n.statements k) c.self.view_is
           (ap (λ y. y.hyps.items) at ∙ sym hyps ∙ frame.hypotheses is);
       pairs =
-          subst (λ (n : Known). map (λ p. pair p.0 p.1) x.pairs.items
+          subst (λ (n : Contents). map (λ p. pair p.0 p.1) x.pairs.items
           ≡ mandatory_pairs n.statements k) c.self.view_is
           (ap (λ y. map (λ p. pair p.0 p.1) y.pairs.items) at ∙ sym pairs ∙ frame.disjoint is);
     }

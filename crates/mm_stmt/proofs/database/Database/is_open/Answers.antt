@@ -4,9 +4,9 @@ use Rattle.std.specs.Option.{option_map}
 use Rattle.std.specs.List.{list_any}
 use Rattle.mm_spec.specs.Lexed.{tokens_of as words_of}
 use Rattle.mm_spec.specs.Opened.{is_open}
-use Rattle.mm_spec.proofs.OpenedLemmas.{counted_length}
+use Rattle.mm_spec.proofs.OpenedLaw.{counted_length}
 use Rattle.mm_spec.specs.Scope.{statement_at}
-use Rattle.mm_stmt.specs.Database.{Known, kind_of}
+use Rattle.mm_stmt.specs.Database.{Contents, kind_of}
 use Rattle.mm_stmt.specs.Kinds.{is_theorem_kind, is_axiom_kind}
 use Rattle.mm_stmt.proofs.DatabaseLaw.{has_outline, open_is, none_there, no_and}
 use Rattle.mm_stmt.proofs.database.Database.is_open.Goals as goal
@@ -14,11 +14,11 @@ use Rattle.mm_stmt.proofs.database.Database.is_open.Goals as goal
 pub returns-then-statement-len : goal.returns-then-statement-len
 returns-then-statement-len g c =
     let n = c.args.self.now in
-    let behind = ap (λ db. length db) c.len.ensures.counted ∙ counted_length n.with_open n.read in
+    let after = ap (λ db. length db) c.len.ensures.counted ∙ counted_length n.with_open n.read in
     let len = c.len.ensures.len in
     let at = c.if-statement-len.true in
     sym (ap (λ b. n.with_open && b)
-    (none_there is_open n.read c.args.statement (omega (arith, behind, len, at)))
+    (none_there is_open n.read c.args.statement (omega (arith, after, len, at)))
     ∙ no_and n.with_open)
 
 pub returns : goal.returns
@@ -34,9 +34,9 @@ returns g c =
     (let l = c.if-statement-len.false in let n = c.len.ensures.len in omega (arith, l, n)) in
     let same : get_or os k o ≡ o = sym c.index-outline.ensures in
     let kind =
-    subst (λ (n : Known). option_map kind_of (slice_get n.statements k) ≡ Some c.kind.result)
+    subst (λ (n : Contents). option_map kind_of (slice_get n.statements k) ≡ Some c.kind.result)
     (sym c.self.view_is) c.kind.ensures in
-    subst (λ (n : Known). c.counts_otherwise.result
+    subst (λ (n : Contents). c.counts_otherwise.result
     ≡ (n.with_open && list_any is_open (statement_at n.read k))) c.self.view_is
     (c.counts_otherwise.ensures
     ∙ ap (λ x. is_theorem_kind x.kind && is_axiom_kind c.kind.result) (sym same)

@@ -5,7 +5,7 @@ use Rattle.mm_spec.specs.Lexed.{tokens_of as words_of}
 use Rattle.mm_spec.specs.Statement.{label_of}
 use Rattle.mm_outline.specs.Parts.{token_at}
 use Rattle.mm_spec.specs.declared.Word.{Word}
-use Rattle.mm_stmt.specs.Database.{Known, is_labelled_kind}
+use Rattle.mm_stmt.specs.Database.{Contents, is_labelled_kind}
 use Rattle.mm_stmt.proofs.DatabaseLaw.{has_outline, label_is, label_stands}
 use Rattle.mm_stmt.proofs.KeptLaw.{kept_inside, kept_order, kept_within, kept_at, kept_some}
 use Rattle.mm_stmt.proofs.KeptLaw.{kept_label}
@@ -49,7 +49,7 @@ returns-then-has_label g c =
     let first =
     kept_label ws (get_or os k o) c.of.result.now kept label (record { start = 0; end = 0 }) in
     let w = get_or c.of.result.now 0 (record { start = 0; end = 0 }) in
-    subst (λ (n : Known). Some (take (w.end - w.start) (drop w.start text))
+    subst (λ (n : Contents). Some (take (w.end - w.start) (drop w.start text))
     ≡ option_map (λ t. t.word) (option_and_then label_of (slice_get n.statements k)))
     c.self.view_is
     (sym (label_is text ws f.with_open os k o there
@@ -69,7 +69,7 @@ returns-else-has_label g c =
     has_outline text ws os f.with_open f.fault _ c.self.view_is k c.requires in
     let same : get_or os k o ≡ o = sym c.index-outline.ensures in
     let label : is_labelled_kind o.kind ≡ false = sym c.has_label.ensures ∙ c.if-has_label.false in
-    subst (λ (n : Known). None
+    subst (λ (n : Contents). None
     ≡ option_map (λ t. t.word) (option_and_then label_of (slice_get n.statements k)))
     c.self.view_is
     (sym (label_is text ws f.with_open os k o there

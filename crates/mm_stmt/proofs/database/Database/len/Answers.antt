@@ -3,15 +3,15 @@ use Rattle.mm_spec.specs.Lexed.{tokens_of as words_of}
 use Rattle.mm_spec.specs.Laws.Complete.{AreComplete}
 use Rattle.mm_spec.specs.Output.{lexed_of}
 use Rattle.mm_spec.proofs.CompleteLaw.{reads_complete}
-use Rattle.mm_spec.proofs.OpenedLemmas.{counted_complete}
+use Rattle.mm_spec.proofs.OpenedLaw.{counted_complete}
 use Rattle.mm_outline.specs.Statements.{statements}
-use Rattle.mm_stmt.specs.Database.{Known}
+use Rattle.mm_stmt.specs.Database.{Contents}
 use Rattle.mm_stmt.proofs.database.Database.len.Goals as goal
 
 pub returns-clause-complete : goal.returns-clause-complete
 returns-clause-complete g c =
     let f = c.self.inside in
     let db = statements f.text.now (words_of f.text.now) f.outlines.items in
-    subst (λ (n : Known). AreComplete n.statements) c.self.view_is
+    subst (λ (n : Contents). AreComplete n.statements) c.self.view_is
     (counted_complete f.with_open db
     (reads_complete (length f.text.now) (lexed_of f.text.now) db f.fault c.self.invariant.read))

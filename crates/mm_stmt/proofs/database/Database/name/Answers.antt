@@ -1,8 +1,8 @@
 use Rattle.std.proofs.Common.{◌∙◌, sym, ap, slice_get}
 use Rattle.mm_spec.specs.Frame.{symbol_names}
 use Rattle.mm_scope.specs.Names.{names_of}
-use Rattle.mm_scope.proofs.NumberedLaw.{got-name}
-use Rattle.mm_stmt.specs.Database.{Known}
+use Rattle.mm_scope.proofs.NumberedLaw.{got_name}
+use Rattle.mm_stmt.specs.Database.{Contents}
 use Rattle.mm_stmt.proofs.database.Database.name.Goals as goal
 
 pub returns : goal.returns
@@ -10,6 +10,6 @@ returns g c =
     let m = c.self.inside.symbols in
     ap (λ n. slice_get n c.args.symbol)
     (sym (c.self.invariant.symbols.names_are
-    ∙ ap (λ (v : Known). symbol_names v.statements) c.self.view_is))
+    ∙ ap (λ (v : Contents). symbol_names v.statements) c.self.view_is))
     ∙ ap (slice_get (names_of m)) (sym c.number.ensures)
-    ∙ got-name m.entries c.number.result c.in-Some.name.now _ (sym c.in-Some.ensures.entry)
+    ∙ got_name m.entries c.number.result c.in-Some.name.now _ (sym c.in-Some.ensures.entry)

@@ -6,7 +6,7 @@ use Rattle.mm_spec.specs.Lexed.{tokens_of as words_of}
 use Rattle.mm_spec.specs.Statement.{proof_of}
 use Rattle.mm_outline.specs.Parts.{as_tokens, AreWithin}
 use Rattle.mm_outline.specs.declared.parts.Kind.TheVariants.{Theorem}
-use Rattle.mm_stmt.specs.Database.{Known, kind_of}
+use Rattle.mm_stmt.specs.Database.{Contents, kind_of}
 use Rattle.mm_stmt.specs.Kept.{is_labelled_kind}
 use Rattle.mm_stmt.proofs.DatabaseLaw.{has_outline, theorem_outline, proof_is, no_proof}
 use Rattle.mm_stmt.proofs.KeptLaw.{kept_inside, kept_order, kept_within, kept_at, kept_some}
@@ -44,7 +44,7 @@ overflow_sub-result g c =
     has_outline text ws os f.with_open f.fault _ c.self.view_is k c.requires in
     let theorem : (get_or os k o).kind ≡ Theorem =
     theorem_outline text ws f.with_open os k o there
-    (subst (λ (n : Known). option_map kind_of (slice_get n.statements k) ≡ Some Theorem)
+    (subst (λ (n : Contents). option_map kind_of (slice_get n.statements k) ≡ Some Theorem)
     (sym c.self.view_is) (c.kind.ensures ∙ ap Some c.in-Theorem.is)) in
     let label : is_labelled_kind (get_or os k o).kind ≡ true = ap is_labelled_kind theorem in
     let kept =
@@ -64,7 +64,7 @@ slice_bounds-result-count g c =
     has_outline text ws os f.with_open f.fault _ c.self.view_is k c.requires in
     let theorem : (get_or os k o).kind ≡ Theorem =
     theorem_outline text ws f.with_open os k o there
-    (subst (λ (n : Known). option_map kind_of (slice_get n.statements k) ≡ Some Theorem)
+    (subst (λ (n : Contents). option_map kind_of (slice_get n.statements k) ≡ Some Theorem)
     (sym c.self.view_is) (c.kind.ensures ∙ ap Some c.in-Theorem.is)) in
     let label : is_labelled_kind (get_or os k o).kind ≡ true = ap is_labelled_kind theorem in
     let kept =
@@ -85,7 +85,7 @@ slice_bounds-result-start g c =
     has_outline text ws os f.with_open f.fault _ c.self.view_is k c.requires in
     let theorem : (get_or os k o).kind ≡ Theorem =
     theorem_outline text ws f.with_open os k o there
-    (subst (λ (n : Known). option_map kind_of (slice_get n.statements k) ≡ Some Theorem)
+    (subst (λ (n : Contents). option_map kind_of (slice_get n.statements k) ≡ Some Theorem)
     (sym c.self.view_is) (c.kind.ensures ∙ ap Some c.in-Theorem.is)) in
     let label : is_labelled_kind (get_or os k o).kind ≡ true = ap is_labelled_kind theorem in
     let kept =
@@ -106,17 +106,17 @@ returns-in-Theorem-clause-words g c =
     has_outline text ws os f.with_open f.fault _ c.self.view_is k c.requires in
     let theorem : (get_or os k o).kind ≡ Theorem =
     theorem_outline text ws f.with_open os k o there
-    (subst (λ (n : Known). option_map kind_of (slice_get n.statements k) ≡ Some Theorem)
+    (subst (λ (n : Contents). option_map kind_of (slice_get n.statements k) ≡ Some Theorem)
     (sym c.self.view_is) (c.kind.ensures ∙ ap Some c.in-Theorem.is)) in
     let kind =
-    subst (λ (n : Known). option_map kind_of (slice_get n.statements k) ≡ Some Theorem)
+    subst (λ (n : Contents). option_map kind_of (slice_get n.statements k) ≡ Some Theorem)
     (sym c.self.view_is) (c.kind.ensures ∙ ap Some c.in-Theorem.is) in
     let label : is_labelled_kind (get_or os k o).kind ≡ true = ap is_labelled_kind theorem in
     let kept =
     c.of-kept.ensures
     ∙ kept_at ws os f.kept.words.items f.kept.starts.items c.self.invariant.kept_are k there o in
     let proof = kept_proof ws (get_or os k o) c.of-kept.result.now kept label in
-    subst (λ (n : Known). option_map proof_of (slice_get n.statements k)
+    subst (λ (n : Contents). option_map proof_of (slice_get n.statements k)
     ≡ Some (as_tokens n.text
     (slice_range c.of-kept.result.now 1 (length c.of-kept.result.now - 1)))) c.self.view_is
     (proof_is text ws f.with_open os k o there kind
@@ -134,7 +134,7 @@ returns-in-Theorem-clause-within g c =
     has_outline text ws os f.with_open f.fault _ c.self.view_is k c.requires in
     let theorem : (get_or os k o).kind ≡ Theorem =
     theorem_outline text ws f.with_open os k o there
-    (subst (λ (n : Known). option_map kind_of (slice_get n.statements k) ≡ Some Theorem)
+    (subst (λ (n : Contents). option_map kind_of (slice_get n.statements k) ≡ Some Theorem)
     (sym c.self.view_is) (c.kind.ensures ∙ ap Some c.in-Theorem.is)) in
     let label : is_labelled_kind (get_or os k o).kind ≡ true = ap is_labelled_kind theorem in
     let kept =
@@ -142,7 +142,7 @@ returns-in-Theorem-clause-within g c =
     ∙ kept_at ws os f.kept.words.items f.kept.starts.items c.self.invariant.kept_are k there o in
     let proof = kept_proof ws (get_or os k o) c.of-kept.result.now kept label in
     let x = get_or os k o in
-    subst (λ (n : Known). AreWithin n.text
+    subst (λ (n : Contents). AreWithin n.text
     (slice_range c.of-kept.result.now 1 (length c.of-kept.result.now - 1))) c.self.view_is
     (subst (AreWithin text) (sym proof)
     (All-take (λ w. (w.start ≤ w.end) × (w.end ≤ length text)) (x.end - (x.middle + 1))

@@ -2,7 +2,7 @@ use Rattle.std.proofs.Common.{◌≡◌, ◌∙◌, ◌≤◌, length, slice_ran
 use Rattle.mm_spec.specs.Lexed.{tokens_of as words_of}
 use Rattle.mm_spec.specs.Output.{theorems, label_at}
 use Rattle.mm_outline.specs.Statements.{statements}
-use Rattle.mm_stmt.specs.Database.{held, Known}
+use Rattle.mm_stmt.specs.Database.{held, Contents}
 use Rattle.mm_stmt.proofs.SpacedLaw.{theorems_between}
 use Rattle.mm_stmt.proofs.database.Database.spaced_labels.Goals as goal
 
@@ -10,7 +10,7 @@ pub slice_bounds-result-count : goal.slice_bounds-result-count
 slice_bounds-result-count g c =
     let f = c.self.inside in
     let within =
-    subst (λ (n : Known). c.args.to ≤ length (theorems n.statements))
+    subst (λ (n : Contents). c.args.to ≤ length (theorems n.statements))
     (sym c.self.view_is) c.requires.within in
     (theorems_between
     (held f.text.now (words_of f.text.now) f.outlines.items f.with_open) f.spaced.bytes.items
@@ -24,7 +24,7 @@ pub slice_bounds-result-end : goal.slice_bounds-result-end
 slice_bounds-result-end g c =
     let f = c.self.inside in
     let within =
-    subst (λ (n : Known). c.args.to ≤ length (theorems n.statements))
+    subst (λ (n : Contents). c.args.to ≤ length (theorems n.statements))
     (sym c.self.view_is) c.requires.within in
     let are =
     theorems_between
@@ -37,7 +37,7 @@ pub returns : goal.returns
 returns g c =
     let f = c.self.inside in
     let within =
-    subst (λ (n : Known). c.args.to ≤ length (theorems n.statements))
+    subst (λ (n : Contents). c.args.to ≤ length (theorems n.statements))
     (sym c.self.view_is) c.requires.within in
     let are =
     theorems_between
@@ -45,7 +45,7 @@ returns g c =
     f.spaced.starts.items c.self.invariant.spaced c.args.from c.args.to _ _ c.requires.order within
     c.index-begin.ensures c.index-end.ensures in
     subst (λ
-    (n : Known). slice_range c.deref.result.now c.index-begin.result.now c.index-end.result.now
+    (n : Contents). slice_range c.deref.result.now c.index-begin.result.now c.index-end.result.now
     ≡ flat_map (λ k. 32 ∷ label_at n.statements k)
     (slice_range (theorems n.statements) c.args.from c.args.to)) c.self.view_is
     (ap (λ l. slice_range l c.index-begin.result.now c.index-end.result.now) c.deref.ensures.value

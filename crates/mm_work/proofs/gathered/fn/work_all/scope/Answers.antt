@@ -1,5 +1,5 @@
 use Rattle.std.proofs.Common.{◌≡◌, ◌<◌, ◌∙◌, Bool, get_or, ap, subst, arith, vec_len}
-use Rattle.mm_stmt.specs.Database.{Known}
+use Rattle.mm_stmt.specs.Database.{Contents}
 use Rattle.mm_board.specs.Models.{BoardValue}
 use Rattle.mm_work.specs.Workers.{IsDone}
 use Rattle.std.proofs.lemmas.List.Elements.{All-push}
@@ -25,7 +25,7 @@ join_all-requires g c = record {
       let flag = ap (λ h. h.promise.2) same ∙ promised.2 in
       subst (λ (b : BoardValue). IsDone b c.captures.database.now c.captures.essential
       (get_or c.in-Ok-join_promised.others.items k d)) board
-      (subst (λ (s : Known). IsDone kept.handle.promise.0.now s c.captures.essential
+      (subst (λ (s : Contents). IsDone kept.handle.promise.0.now s c.captures.essential
       (get_or c.in-Ok-join_promised.others.items k d)) database
       (subst (λ (e : Bool). IsDone kept.handle.promise.0.now kept.handle.promise.1.now e
       (get_or c.in-Ok-join_promised.others.items k d)) flag kept.kept));

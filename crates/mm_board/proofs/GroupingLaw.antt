@@ -1,0 +1,249 @@
+-- A split and a join keep the rule: the words stay, and so do the totals over all seats.
+use Rattle.std.proofs.Common.{◌≡◌, ℕ, ◌+◌, ◌-◌, ◌<◌, ◌≤◌, ◌⊎◌, ◌||◌, inl, inr, min, Bool, true}
+use Rattle.std.proofs.Common.{false, cond, Option, None, List, [], ◌∷◌, ◌++◌, length, length-append}
+use Rattle.std.proofs.Common.{get_or, set, sym, refl, ap, ◌∙◌, subst, arith}
+use Rattle.std.proofs.lemmas.Bool.{cases_lt}
+use mathlib.Core.Option.{some}
+use lib.ListN.{get_elem?}
+use Rattle.atomic_table.specs.Table.{Splits, Joins}
+use Rattle.atomic_table.proofs.Lists.{at_set, at_snoc}
+use Rattle.mm_board.specs.declared.views.View.{View}
+use Rattle.mm_board.specs.Records.{times_in, times_open, times_recorded, open_count, record_length}
+use Rattle.mm_board.specs.Rule.{total, times_reported, times_skipped, settled_count, over_share}
+use Rattle.mm_board.specs.Rule.{IsCountOrReported, SeatRule, BoardRule}
+use Rattle.mm_board.specs.Events.{after_split, new_seat_view, after_join, spent_view}
+use Rattle.mm_board.specs.Table.{MeetsRule}
+use Rattle.mm_board.proofs.SumsLaw.{total_set, total_snoc, times_in_append}
+
+-- The views become others, over which each total is the same
+record Regroups (n c f : ℕ) (views after : List View) : Type 0 where
+  once : (x : ℕ) → total (times_recorded x) after ≡ total (times_recorded x) views
+  lengths : total record_length after ≡ total record_length views
+  reported : (x : ℕ) → times_reported after x ≡ times_reported views x
+  settled : settled_count after ≡ settled_count views
+  skipped : (x : ℕ) → times_skipped after x ≡ times_skipped views x
+  shares : total (λ v. v.share) after ≡ total (λ v. v.share) views
+  over : total over_share views ≤ total over_share after
+  seats : (seat : ℕ) (v : View) → get_elem? after seat ≡ some v → SeatRule n views c f v
+
+module _ (n c f d : ℕ) (views after : List View) (r : BoardRule n c f d views)
+    (m : Regroups n c f views after) where
+  still : (x : ℕ) → IsCountOrReported n views x → IsCountOrReported n after x
+  still x (inl e) = inl e
+  still x (inr p) = inr (let k = m.reported x in omega arith)
+
+  regrouped : BoardRule n c f d after
+  regrouped = record {
+    once = λ x. m.once x ∙ r.once x;
+    lengths = m.lengths ∙ r.lengths;
+    least =
+        record {
+          at_most = r.least.at_most;
+          lowest = λ y p. r.least.lowest y (let k = m.reported y in omega arith);
+          is = still f r.least.is;
+        };
+    settled = r.settled ∙ sym m.settled;
+    skipped = λ x p. r.skipped x (let k = m.skipped x in omega arith);
+    seats =
+        λ seat v e. let o = m.seats seat v e in
+        record {
+          count = o.count;
+          floor = o.floor;
+          seen = λ p. still v.seen (o.seen p);
+          over = o.over;
+          spent = o.spent;
+        };
+    shares = m.shares ∙ r.shares;
+    bound = let o = m.over in let b = r.bound in omega arith;
+  }
+
+-- a total after a split
+cut : (g : View → ℕ) (views : List View) (id : ℕ) (v : View) → get_elem? views id ≡ some v
+    → g (after_split v) + g (new_seat_view v) ≡ g v
+    → total g (set views id (after_split v) ++ new_seat_view v ∷ []) ≡ total g views
+cut g views id v at e =
+    let t = total_set g views id v (after_split v) at in
+    let a = total_snoc g (set views id (after_split v)) (new_seat_view v) in omega arith
+
+pub splits : (n id : ℕ) (v : View) → 1 < v.share
+    → Splits (MeetsRule n) id v (after_split v) (new_seat_view v)
+splits n id v more s r at = (
+  r.0,
+  regrouped n _ _ _ s.views _ r.1 record {
+    once = λ x. cut (times_recorded x) s.views id v at (stand x);
+    lengths =
+        cut record_length s.views id v at
+        (let a : record_length (after_split v) ≡ record_length v = refl in
+        let b : record_length (new_seat_view v) ≡ 0 = refl in omega arith);
+    reported = λ x. cut (λ u. times_in x u.reported) s.views id v at (omega arith);
+    settled = cut (λ u. length u.settled) s.views id v at (omega arith);
+    skipped = λ x. cut (λ u. times_in x u.skipped) s.views id v at (omega arith);
+    shares = cut (λ u. u.share) s.views id v at (omega arith);
+    over = let t = cut over_share s.views id v at (halves v.over) in omega arith;
+    seats = λ seat u e. elim (at_snoc (set s.views id (after_split v)) (new_seat_view v) u seat e) [
+      | inl h ↦ elim (at_set s.views id seat (after_split v) u h) [
+        | inl p ↦ subst (SeatRule n s.views (get_or s.words 0 0) (get_or s.words 1 0)) p.1 left
+        | inr p ↦ r.1.seats seat u p.1
+      ]
+      | inr h ↦ subst (SeatRule n s.views (get_or s.words 0 0) (get_or s.words 1 0)) h right
+    ];
+  },
+)
+  where
+    o : SeatRule n s.views (get_or s.words 0 0) (get_or s.words 1 0) v
+    o = r.1.seats id v at
+
+    stand : (x : ℕ)
+        → times_recorded x (after_split v) + times_recorded x (new_seat_view v) ≡ times_recorded x v
+    stand x =
+        let a : times_recorded x (after_split v) ≡ times_recorded x v = refl in
+        let b : times_recorded x (new_seat_view v) ≡ 0 = refl in omega arith
+
+    halves : (b : Bool) → cond b (v.share - 1) 0 + cond b 1 0 ≡ cond b v.share 0
+    halves true = omega arith
+    halves false = refl
+
+    left : SeatRule n s.views (get_or s.words 0 0) (get_or s.words 1 0) (after_split v)
+    left =
+        let live : 0 < v.share = omega arith in
+        record {
+          count = λ p. o.count live;
+          floor = λ p. o.floor live;
+          seen = λ p. o.seen live;
+          over = o.over;
+          spent = λ e. absurd (omega arith);
+        }
+
+    right : SeatRule n s.views (get_or s.words 0 0) (get_or s.words 1 0) (new_seat_view v)
+    right =
+        let live : 0 < v.share = omega arith in
+        record {
+          count = λ p. o.count live;
+          floor = λ p. o.floor live;
+          seen = λ p. o.seen live;
+          over = o.over;
+          spent = λ e. absurd (omega arith);
+        }
+
+-- a total after a join
+glued : (g : View → ℕ) (views : List View) (id : ℕ) (v : View) (other : ℕ) (w : View)
+    → get_elem? views id ≡ some v → get_elem? (set views id (after_join v w)) other ≡ some w
+    → total g (set (set views id (after_join v w)) other spent_view) + g v + g w
+    ≡ total g views + g (after_join v w) + g spent_view
+glued g views id v other w at at_other =
+    let t = total_set g views id v (after_join v w) at in
+    let t' = total_set g (set views id (after_join v w)) other w spent_view at_other in omega arith
+
+pub joins : (n id : ℕ) (v : View) (other : ℕ) (w : View) → w.open_number ≡ None → 0 < v.share
+    → 0 < w.share → Joins (MeetsRule n) id v other w (after_join v w) spent_view
+joins n id v other w closed live live_w s r at apart at_other = (
+  r.0,
+  regrouped n _ _ _ s.views _ r.1 record {
+    once =
+        λ x. let t = glued (times_recorded x) s.views id v other w at at_other in
+        let a = times_in_append x v.settled w.settled in
+        let b = times_in_append x v.reported w.reported in
+        let c = times_in_append x v.skipped w.skipped in
+        let e : times_open x w.open_number ≡ 0 = ap (λ (o : Option ℕ). times_open x o) closed in
+        let i : times_recorded x (after_join v w)
+        ≡ times_open x v.open_number + times_in x (v.settled ++ w.settled)
+        + times_in x (v.reported ++ w.reported) + times_in x (v.skipped ++ w.skipped) = refl in
+        let j : times_recorded x v
+        ≡ times_open x v.open_number + times_in x v.settled + times_in x v.reported
+        + times_in x v.skipped = refl in
+        let k : times_recorded x w
+        ≡ times_open x w.open_number + times_in x w.settled + times_in x w.reported
+        + times_in x w.skipped = refl in
+        let z : times_recorded x spent_view ≡ 0 = refl in omega arith;
+    lengths =
+        let t = glued record_length s.views id v other w at at_other in
+        let a = length-append v.settled w.settled in let b = length-append v.reported w.reported in
+        let c = length-append v.skipped w.skipped in
+        let e : open_count w.open_number ≡ 0 = ap (λ (o : Option ℕ). open_count o) closed in
+        let i : record_length (after_join v w)
+        ≡ open_count v.open_number + length (v.settled ++ w.settled)
+        + length (v.reported ++ w.reported) + length (v.skipped ++ w.skipped) = refl in
+        let j : record_length v
+        ≡ open_count v.open_number + length v.settled + length v.reported
+        + length v.skipped = refl in
+        let k : record_length w
+        ≡ open_count w.open_number + length w.settled + length w.reported
+        + length w.skipped = refl in
+        let z : record_length spent_view ≡ 0 = refl in omega arith;
+    reported =
+        λ x. let t = glued (λ u. times_in x u.reported) s.views id v other w at at_other in
+        let a = times_in_append x v.reported w.reported in omega arith;
+    settled =
+        let t = glued (λ u. length u.settled) s.views id v other w at at_other in
+        let a = length-append v.settled w.settled in omega arith;
+    skipped =
+        λ x. let t = glued (λ u. times_in x u.skipped) s.views id v other w at at_other in
+        let a = times_in_append x v.skipped w.skipped in omega arith;
+    shares = let t = glued (λ u. u.share) s.views id v other w at at_other in omega arith;
+    over =
+        let t = glued over_share s.views id v other w at at_other in let e = sums v.over w.over in
+        let z : over_share spent_view ≡ 0 =
+        refl in
+        let i : over_share (after_join v w)
+        ≡ cond (v.over || w.over) (v.share + w.share) 0 = refl in
+        let j : over_share v ≡ cond v.over v.share 0 = refl in
+        let k : over_share w ≡ cond w.over w.share 0 = refl in omega arith;
+    seats = λ seat u e. elim (at_set (set s.views id (after_join v w)) other seat spent_view u e) [
+      | inl p ↦ subst (SeatRule n s.views (get_or s.words 0 0) (get_or s.words 1 0)) p.1 gone
+      | inr p ↦ elim (at_set s.views id seat (after_join v w) u p.1) [
+        | inl q ↦ subst (SeatRule n s.views (get_or s.words 0 0) (get_or s.words 1 0)) q.1 one
+        | inr q ↦ r.1.seats seat u q.1
+      ]
+    ];
+  },
+)
+  where
+    sums : (a b : Bool) → cond a v.share 0 + cond b w.share 0 ≤ cond (a || b) (v.share + w.share) 0
+    sums true true = omega arith
+    sums true false = omega arith
+    sums false true = omega arith
+    sums false false = omega arith
+
+    o : SeatRule n s.views (get_or s.words 0 0) (get_or s.words 1 0) v
+    o = r.1.seats id v at
+
+    at_w : get_elem? s.views other ≡ some w
+    at_w =
+        elim (at_set s.views id other (after_join v w) w at_other)
+        [ inl q ↦ absurd (apart q.0) | inr q ↦ q.1 ]
+
+    k : SeatRule n s.views (get_or s.words 0 0) (get_or s.words 1 0) w
+    k = r.1.seats other w at_w
+
+    gone : SeatRule n s.views (get_or s.words 0 0) (get_or s.words 1 0) spent_view
+    gone =
+        record {
+          count = λ p. absurd (omega arith);
+          floor = λ p. absurd (omega arith);
+          seen = λ p. absurd (omega arith);
+          over = λ e. absurd (cc);
+          spent = λ e. record {
+            nothing_open = refl;
+            none_settled = refl;
+            none_reported = refl;
+            none_skipped = refl;
+          };
+        }
+
+    lesser : (v.seen < w.seen) ⊎ (w.seen ≤ v.seen) → IsCountOrReported n s.views (min v.seen w.seen)
+    lesser (inl lt) = let is : min v.seen w.seen ≡ v.seen = omega arith in rw is (o.seen live)
+    lesser (inr le) = let is : min v.seen w.seen ≡ w.seen = omega arith in rw is (k.seen live_w)
+
+    either_over : (a b : Bool) → v.over ≡ a → w.over ≡ b → (a || b) ≡ true → n < get_or s.words 0 0
+    either_over true b ev ew h = o.over ev
+    either_over false true ev ew h = k.over ew
+    either_over false false ev ew h = absurd (cc)
+
+    one : SeatRule n s.views (get_or s.words 0 0) (get_or s.words 1 0) (after_join v w)
+    one = record {
+      count = λ p. o.count live;
+      floor = λ p. let a = o.floor live in let b = k.floor live_w in omega arith;
+      seen = λ p. lesser (cases_lt v.seen w.seen);
+      over = λ e. either_over v.over w.over refl refl e;
+      spent = λ e. absurd (omega arith);
+    }

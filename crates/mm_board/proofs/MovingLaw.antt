@@ -1,0 +1,141 @@
+-- A step on a word, which changes the view of one seat, keeps the rule.
+use Rattle.std.proofs.Common.{◌≡◌, ℕ, ◌+◌, ◌<◌, ◌≤◌, ◌⊎◌, inl, inr, min, true, List, length, set}
+use Rattle.std.proofs.Common.{sym, ◌∙◌, subst, arith}
+use Rattle.std.proofs.lemmas.Bool.{cases_lt}
+use mathlib.Core.Option.{some}
+use lib.ListN.{get_elem?}
+use Rattle.atomic_table.proofs.Lists.{at_set}
+use Rattle.mm_board.specs.declared.views.View.{View}
+use Rattle.mm_board.specs.Records.{times_in, times_recorded, record_length}
+use Rattle.mm_board.specs.Rule.{total, times_reported, times_skipped, once_below, over_share}
+use Rattle.mm_board.specs.Rule.{IsCountOrReported, IsLeastReported, SeatRule, BoardRule}
+use Rattle.mm_board.proofs.SumsLaw.{total_set, le_total}
+
+-- The words go from a, b, c to a', b', c', and the view of one seat from v to w
+pub record Moves (n a b c a' b' c' : ℕ) (v w : View) : Type 0 where
+  pub count : w.count ≡ v.count
+  pub share : w.share ≡ v.share
+  pub once : (x : ℕ)
+      → once_below x (min a n) + times_recorded x w ≡ once_below x (min a' n) + times_recorded x v
+  pub lengths : min a n + record_length w ≡ min a' n + record_length v
+  pub later : a ≤ a'
+  pub lower : b' ≤ b
+  pub report_kept : (x : ℕ) → times_in x v.reported ≤ times_in x w.reported
+  pub report_new : (x : ℕ) → times_in x v.reported < times_in x w.reported → b' ≤ x
+  pub floor : (b' ≡ b) ⊎ (0 < times_in b' w.reported)
+  pub settled : c + length w.settled ≡ c' + length v.settled
+  pub skip_new : (x : ℕ) → times_in x v.skipped < times_in x w.skipped → b' < x
+  pub seen_floor : b' ≤ w.seen
+  pub seen : (w.seen ≡ v.seen) ⊎ (w.seen ≡ b')
+  pub over : w.over ≡ true → (v.over ≡ true) ⊎ (n < a')
+  pub bound : (t : ℕ) → a ≤ n + t → a' + over_share v ≤ n + t + over_share w
+
+module _ (n a b c a' b' c' : ℕ) (v w : View) (views : List View) (id : ℕ)
+    (r : BoardRule n a b c views) (at : get_elem? views id ≡ some v) (live : 0 < v.share)
+    (m : Moves n a b c a' b' c' v w) where
+  abbrev after : List View
+  after = set views id w
+
+  reports_set : (x : ℕ)
+      → times_reported after x + times_in x v.reported
+      ≡ times_reported views x + times_in x w.reported
+  reports_set x = total_set (λ u. times_in x u.reported) views id v w at
+
+  skips_set : (x : ℕ)
+      → times_skipped after x + times_in x v.skipped ≡ times_skipped views x + times_in x w.skipped
+  skips_set x = total_set (λ u. times_in x u.skipped) views id v w at
+
+  reports_le : (x : ℕ) → times_in x v.reported ≤ times_reported views x
+  reports_le x = le_total (λ u. times_in x u.reported) views id v at
+
+  more : (x : ℕ) → times_reported views x ≤ times_reported after x
+  more x = let t = reports_set x in let k = m.report_kept x in omega arith
+
+  still : (x : ℕ) → IsCountOrReported n views x → IsCountOrReported n after x
+  still x (inl e) = inl e
+  still x (inr p) = inr (let k = more x in omega arith)
+
+  own : (x : ℕ) → 0 < times_in x w.reported → 0 < times_reported after x
+  own x p = let t = reports_set x in let l = reports_le x in omega arith
+
+  is_still : IsCountOrReported n after b'
+  is_still = go m.floor
+    where
+      go : (b' ≡ b) ⊎ (0 < times_in b' w.reported) → IsCountOrReported n after b'
+      go (inl e) = subst (IsCountOrReported n after) (sym e) (still b r.least.is)
+      go (inr p) = inr (own b' p)
+
+  least : IsLeastReported n after b'
+  least = record {
+    at_most = let l = m.lower in let o = r.least.at_most in omega arith;
+    lowest = λ y p. go y p (cases_lt (times_in y v.reported) (times_in y w.reported));
+    is = is_still;
+  }
+    where
+      go : (y : ℕ) → 0 < times_reported after y
+          → (times_in y v.reported < times_in y w.reported)
+          ⊎ (times_in y w.reported ≤ times_in y v.reported) → b' ≤ y
+      go y p (inl lt) = m.report_new y lt
+      go y p (inr le) =
+          let t = reports_set y in let o = r.least.lowest y (omega arith) in let l = m.lower in
+          omega arith
+
+  skipped : (x : ℕ) → 0 < times_skipped after x → b' < x
+  skipped x p = go (cases_lt (times_in x v.skipped) (times_in x w.skipped))
+    where
+      go : (times_in x v.skipped < times_in x w.skipped)
+          ⊎ (times_in x w.skipped ≤ times_in x v.skipped) → b' < x
+      go (inl lt) = m.skip_new x lt
+      go (inr le) =
+          let t = skips_set x in let o = r.skipped x (omega arith) in let l = m.lower in omega arith
+
+  mine : SeatRule n after a' b' w
+  mine = record {
+    count = λ p. m.count ∙ (r.seats id v at).count live;
+    floor = λ p. m.seen_floor;
+    seen = λ p. go m.seen;
+    over = λ p. went (m.over p);
+    spent = λ p. let s = m.share in absurd (omega arith);
+  }
+    where
+      go : (w.seen ≡ v.seen) ⊎ (w.seen ≡ b') → IsCountOrReported n after w.seen
+      go (inl e) =
+          subst (IsCountOrReported n after) (sym e) (still v.seen ((r.seats id v at).seen live))
+      go (inr e) = subst (IsCountOrReported n after) (sym e) is_still
+
+      went : (v.over ≡ true) ⊎ (n < a') → n < a'
+      went (inl h) = let o = (r.seats id v at).over h in let l = m.later in omega arith
+      went (inr h) = h
+
+  other : (u : View) → SeatRule n views a b u → SeatRule n after a' b' u
+  other u o = record {
+    count = o.count;
+    floor = λ p. let f = o.floor p in let l = m.lower in omega arith;
+    seen = λ p. still u.seen (o.seen p);
+    over = λ p. let f = o.over p in let l = m.later in omega arith;
+    spent = o.spent;
+  }
+
+  pub moved : BoardRule n a' b' c' (set views id w)
+  moved = record {
+    once =
+        λ x. let t = total_set (times_recorded x) views id v w at in let o = r.once x in
+        let k = m.once x in omega arith;
+    lengths =
+        let t = total_set record_length views id v w at in let o = r.lengths in let k = m.lengths in
+        omega arith;
+    least = least;
+    settled =
+        let t = total_set (λ u. length u.settled) views id v w at in let o = r.settled in
+        let k = m.settled in omega arith;
+    skipped = skipped;
+    seats =
+        λ seat u e. elim (at_set views id seat w u e)
+        [ inl p ↦ subst (SeatRule n after a' b') p.1 mine | inr p ↦ other u (r.seats seat u p.1) ];
+    shares =
+        let t = total_set (λ u. u.share) views id v w at in let o = r.shares in let k = m.share in
+        omega arith;
+    bound =
+        let t = total_set over_share views id v w at in
+        let k = m.bound (total over_share views) r.bound in omega arith;
+  }

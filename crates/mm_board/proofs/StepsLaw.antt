@@ -1,0 +1,354 @@
+-- Each step on a word keeps the rule, and tells its caller what it found.
+use Rattle.std.proofs.Common.{◌≡◌, ℕ, ◌+◌, ◌<◌, ◌≤◌, ◌==◌, ◌⊎◌, inl, inr, min, Bool, true, false}
+use Rattle.std.proofs.Common.{cond, Option, None, Some, List, [], ◌∷◌, ◌++◌, length, length-append}
+use Rattle.std.proofs.Common.{length-set, get_or, set, sym, refl, ap, ◌∙◌, subst, arith}
+use Rattle.std.proofs.Common.{get_or-set_same}
+use Rattle.std.proofs.lemmas.List.{get_or-set_other}
+use Rattle.std.proofs.lemmas.Bool.{cases_lt}
+use mathlib.Core.Option.{some}
+use lib.ListN.{get_elem?}
+use Rattle.atomic_table.specs.Table.{State, keeps, stepped}
+use Rattle.mm_board.specs.declared.views.View.{View}
+use Rattle.mm_board.specs.Records.{times_in, times_open, times_recorded, open_count, record_length}
+use Rattle.mm_board.specs.Rule.{over_share, BoardRule}
+use Rattle.mm_board.specs.Events.{IsClaimWord, IsFloorWord, IsSettledWord}
+use Rattle.mm_board.specs.Table.{MeetsRule}
+use Rattle.mm_board.proofs.SumsLaw.{once_more, times_in_append, times_same, times_own}
+use Rattle.mm_board.proofs.MovingLaw.{Moves, moved}
+
+-- the three steps that change a word, and the rule of the new words
+module _ (n : ℕ) (s : State (Unit {0}) View) (r : MeetsRule n s) (id : ℕ) (v w : View)
+    (at : get_elem? s.views id ≡ some v) (live : 0 < v.share) where
+  word0 : ℕ
+  word0 = get_or s.words 0 0
+
+  pub at_claim : (z : ℕ)
+      → Moves n (get_or s.words 0 0) (get_or s.words 1 0) (get_or s.words 2 0) z
+      (get_or s.words 1 0) (get_or s.words 2 0) v w
+      → (carried : List (ℕ × Unit {0})) → MeetsRule n (stepped s 0 z id carried w keeps)
+  at_claim z m carried =
+      let three = r.0 in
+      let a : get_or (set s.words 0 z) 0 0 ≡ z = get_or-set_same s.words 0 z 0 (omega arith) in
+      let b : get_or (set s.words 0 z) 1 0 ≡ get_or s.words 1 0 =
+      get_or-set_other s.words 0 1 z 0 (λ e. omega arith) in
+      let c : get_or (set s.words 0 z) 2 0 ≡ get_or s.words 2 0 =
+      get_or-set_other s.words 0 2 z 0 (λ e. omega arith) in (
+        length-set s.words 0 z
+            ∙ three,
+        rw (a, b, c) (moved n _ _ _ _ _ _ v w s.views id r.1 at live m),
+      )
+
+  pub at_floor : (z : ℕ)
+      → Moves n (get_or s.words 0 0) (get_or s.words 1 0) (get_or s.words 2 0)
+      (get_or s.words 0 0) z (get_or s.words 2 0) v w
+      → (carried : List (ℕ × Unit {0})) → MeetsRule n (stepped s 1 z id carried w keeps)
+  at_floor z m carried =
+      let three = r.0 in
+      let a : get_or (set s.words 1 z) 0 0 ≡ get_or s.words 0 0 =
+      get_or-set_other s.words 1 0 z 0 (λ e. omega arith) in
+      let b : get_or (set s.words 1 z) 1 0 ≡ z = get_or-set_same s.words 1 z 0 (omega arith) in
+      let c : get_or (set s.words 1 z) 2 0 ≡ get_or s.words 2 0 =
+      get_or-set_other s.words 1 2 z 0 (λ e. omega arith) in (
+        length-set s.words 1 z
+            ∙ three,
+        rw (a, b, c) (moved n _ _ _ _ _ _ v w s.views id r.1 at live m),
+      )
+
+  pub at_settled : (z : ℕ)
+      → Moves n (get_or s.words 0 0) (get_or s.words 1 0) (get_or s.words 2 0) (get_or s.words 0 0)
+      (get_or s.words 1 0) z v w
+      → (carried : List (ℕ × Unit {0})) → MeetsRule n (stepped s 2 z id carried w keeps)
+  at_settled z m carried =
+      let three = r.0 in
+      let a : get_or (set s.words 2 z) 0 0 ≡ get_or s.words 0 0 =
+      get_or-set_other s.words 2 0 z 0 (λ e. omega arith) in
+      let b : get_or (set s.words 2 z) 1 0 ≡ get_or s.words 1 0 =
+      get_or-set_other s.words 2 1 z 0 (λ e. omega arith) in
+      let c : get_or (set s.words 2 z) 2 0 ≡ z = get_or-set_same s.words 2 z 0 (omega arith) in (
+        length-set s.words 2 z
+            ∙ three,
+        rw (a, b, c) (moved n _ _ _ _ _ _ v w s.views id r.1 at live m),
+      )
+
+  -- what the rule says of the seat that steps
+  pub count_is : v.count ≡ n
+  count_is = (r.1.seats id v at).count live
+
+  pub claim_word : IsClaimWord v (get_or s.words 0 0)
+  claim_word = (
+    get_or s.words 1 0,
+    get_or s.words 2 0,
+    s.views,
+    subst
+        (λ (k : ℕ). BoardRule k (get_or s.words 0 0) (get_or s.words 1 0)
+        (get_or s.words 2 0) s.views) (sym count_is) r.1,
+    (id, at),
+  )
+
+  pub floor_word : IsFloorWord v (get_or s.words 1 0)
+  floor_word = (
+    get_or s.words 0 0,
+    get_or s.words 2 0,
+    s.views,
+    subst
+        (λ (k : ℕ). BoardRule k (get_or s.words 0 0) (get_or s.words 1 0)
+        (get_or s.words 2 0) s.views) (sym count_is) r.1,
+    (id, at),
+  )
+
+  pub settled_word : IsSettledWord v (get_or s.words 2 0)
+  settled_word = (
+    get_or s.words 0 0,
+    get_or s.words 1 0,
+    s.views,
+    subst
+        (λ (k : ℕ). BoardRule k (get_or s.words 0 0) (get_or s.words 1 0)
+        (get_or s.words 2 0) s.views) (sym count_is) r.1,
+    (id, at),
+  )
+
+module _ (n b c : ℕ) (v : View) (floor : b ≤ v.seen) where
+  none_open_times : (y : ℕ) → v.open_number ≡ None → times_open y v.open_number ≡ 0
+  none_open_times y e = ap (λ (o : Option ℕ). times_open y o) e
+
+  none_open_count : v.open_number ≡ None → open_count v.open_number ≡ 0
+  none_open_count e = ap (λ (o : Option ℕ). open_count o) e
+
+  times_of_open : (y i : ℕ) → v.open_number ≡ Some i
+      → times_open y v.open_number ≡ cond (i == y) 1 0
+  times_of_open y i e = ap (λ (o : Option ℕ). times_open y o) e
+
+  one_open : (i : ℕ) → v.open_number ≡ Some i → open_count v.open_number ≡ 1
+  one_open i e = ap (λ (o : Option ℕ). open_count o) e
+
+  not_over : v.over ≡ false → over_share v ≡ 0
+  not_over e = ap (λ (o : Bool). cond o v.share 0) e
+
+  pub glances : (a : ℕ) → Moves n a b c a b c v v
+  glances a = record {
+    count = refl;
+    share = refl;
+    once = λ x. refl;
+    lengths = refl;
+    later = omega arith;
+    lower = omega arith;
+    report_kept = λ x. omega arith;
+    report_new = λ x h. omega arith;
+    floor = inl refl;
+    settled = refl;
+    skip_new = λ x h. omega arith;
+    seen_floor = floor;
+    seen = inl refl;
+    over = λ h. inl h;
+    bound = λ t h. omega arith;
+  }
+
+  pub draws : (x : ℕ) → x < n → v.open_number ≡ None → v.over ≡ false
+      → Moves n x b c (x + 1) b c v (record v { open_number = Some x })
+  draws x lt closed isopen = record {
+    count = refl;
+    share = refl;
+    once = λ y. let o = once_more y x n lt in let e = none_open_times y closed in
+        let is : times_recorded y (record v { open_number = Some x })
+        ≡ cond (x == y) 1 0 + times_in y v.settled + times_in y v.reported
+        + times_in y v.skipped = refl in
+        let was : times_recorded y v
+        ≡ times_open y v.open_number + times_in y v.settled + times_in y v.reported
+        + times_in y v.skipped = refl in omega arith;
+    lengths = let e = none_open_count closed in
+        let is : record_length (record v { open_number = Some x })
+        ≡ 1 + length v.settled + length v.reported + length v.skipped = refl in
+        let was : record_length v
+        ≡ open_count v.open_number + length v.settled + length v.reported
+        + length v.skipped = refl in omega arith;
+    later = omega arith;
+    lower = omega arith;
+    report_kept = λ y. omega arith;
+    report_new = λ y h. omega arith;
+    floor = inl refl;
+    settled = refl;
+    skip_new = λ y h. omega arith;
+    seen_floor = floor;
+    seen = inl refl;
+    over = λ h. inl h;
+    bound =
+        λ t h. let e = not_over isopen in
+        let same : over_share (record v { open_number = Some x }) ≡ over_share v = refl in
+        omega arith;
+  }
+
+  pub draws_none : (x : ℕ) → n ≤ x → v.over ≡ false → 0 < v.share
+      → Moves n x b c (x + 1) b c v (record v { over = true })
+  draws_none x le isopen live = record {
+    count = refl;
+    share = refl;
+    once =
+        λ y. let a : min x n ≡ n = omega arith in let a' : min (x + 1) n ≡ n = omega arith in
+        rw (a, a') refl;
+    lengths =
+        let same : record_length (record v { over = true }) ≡ record_length v = refl in omega arith;
+    later = omega arith;
+    lower = omega arith;
+    report_kept = λ y. omega arith;
+    report_new = λ y h. omega arith;
+    floor = inl refl;
+    settled = refl;
+    skip_new = λ y h. omega arith;
+    seen_floor = floor;
+    seen = inl refl;
+    over = λ h. inr (omega arith);
+    bound =
+        λ t h. let e = not_over isopen in
+        let now : over_share (record v { over = true }) ≡ v.share = refl in omega arith;
+  }
+
+  pub looks_open : (a i : ℕ) → b < i → v.open_number ≡ Some i
+      → Moves n a b c a b c v
+      (record v { open_number = None; skipped = v.skipped ++ i ∷ []; seen = b })
+  looks_open a i lt open_is = record {
+    count = refl;
+    share = refl;
+    once = λ y. let e = times_of_open y i open_is in let t = times_in_append y v.skipped (i ∷ []) in
+        let is : times_recorded y
+        (record v { open_number = None; skipped = v.skipped ++ i ∷ []; seen = b })
+        ≡ 0 + times_in y v.settled + times_in y v.reported
+        + times_in y (v.skipped ++ i ∷ []) = refl in
+        let one : times_in y (i ∷ []) ≡ cond (i == y) 1 0 + 0 = refl in
+        let was : times_recorded y v
+        ≡ times_open y v.open_number + times_in y v.settled + times_in y v.reported
+        + times_in y v.skipped = refl in omega arith;
+    lengths = let e = one_open i open_is in let t = length-append v.skipped (i ∷ []) in
+        let is : record_length
+        (record v { open_number = None; skipped = v.skipped ++ i ∷ []; seen = b })
+        ≡ 0 + length v.settled + length v.reported + length (v.skipped ++ i ∷ []) = refl in
+        let was : record_length v
+        ≡ open_count v.open_number + length v.settled + length v.reported
+        + length v.skipped = refl in omega arith;
+    later = omega arith;
+    lower = omega arith;
+    report_kept = λ y. omega arith;
+    report_new = λ y h. omega arith;
+    floor = inl refl;
+    settled = refl;
+    skip_new =
+        λ y h. let t = times_in_append y v.skipped (i ∷ []) in
+        let one : times_in y (i ∷ []) ≡ cond (i == y) 1 0 + 0 = refl in
+        let same = times_same y i (omega arith) in omega arith;
+    seen_floor = omega arith;
+    seen = inr refl;
+    over = λ h. inl h;
+    bound =
+        λ t h. let same : over_share
+        (record v { open_number = None; skipped = v.skipped ++ i ∷ []; seen = b })
+        ≡ over_share v = refl in
+        omega arith;
+  }
+
+  pub looks_shut : (a : ℕ) → Moves n a b c a b c v (record v { seen = b })
+  looks_shut a = record {
+    count = refl;
+    share = refl;
+    once = λ x. refl;
+    lengths = refl;
+    later = omega arith;
+    lower = omega arith;
+    report_kept = λ x. omega arith;
+    report_new = λ x h. omega arith;
+    floor = inl refl;
+    settled = refl;
+    skip_new = λ x h. omega arith;
+    seen_floor = omega arith;
+    seen = inr refl;
+    over = λ h. inl h;
+    bound =
+        λ t h. let same : over_share (record v { seen = b }) ≡ over_share v = refl in omega arith;
+  }
+
+  pub settling : (a i : ℕ) → v.open_number ≡ Some i
+      → Moves n a b c a b (c + 1) v (record v { open_number = None; settled = v.settled ++ i ∷ [] })
+  settling a i open_is = record {
+    count = refl;
+    share = refl;
+    once = λ y. let e = times_of_open y i open_is in let t = times_in_append y v.settled (i ∷ []) in
+        let is : times_recorded y (record v { open_number = None; settled = v.settled ++ i ∷ [] })
+        ≡ 0 + times_in y (v.settled ++ i ∷ []) + times_in y v.reported
+        + times_in y v.skipped = refl in
+        let one : times_in y (i ∷ []) ≡ cond (i == y) 1 0 + 0 = refl in
+        let was : times_recorded y v
+        ≡ times_open y v.open_number + times_in y v.settled + times_in y v.reported
+        + times_in y v.skipped = refl in omega arith;
+    lengths = let e = one_open i open_is in let t = length-append v.settled (i ∷ []) in
+        let is : record_length (record v { open_number = None; settled = v.settled ++ i ∷ [] })
+        ≡ 0 + length (v.settled ++ i ∷ []) + length v.reported + length v.skipped = refl in
+        let was : record_length v
+        ≡ open_count v.open_number + length v.settled + length v.reported
+        + length v.skipped = refl in omega arith;
+    later = omega arith;
+    lower = omega arith;
+    report_kept = λ y. omega arith;
+    report_new = λ y h. omega arith;
+    floor = inl refl;
+    settled = let t = length-append v.settled (i ∷ []) in omega arith;
+    skip_new = λ y h. omega arith;
+    seen_floor = floor;
+    seen = inl refl;
+    over = λ h. inl h;
+    bound =
+        λ t h. let same : over_share
+        (record v { open_number = None; settled = v.settled ++ i ∷ [] })
+        ≡ over_share v = refl in
+        omega arith;
+  }
+
+  pub reporting : (a i : ℕ) → v.open_number ≡ Some i
+      → Moves n a b c a (min b i) c v
+      (record v { open_number = None; reported = v.reported ++ i ∷ []; seen = min b i })
+  reporting a i open_is = record {
+    count = refl;
+    share = refl;
+    once =
+        λ y. let e = times_of_open y i open_is in let t = times_in_append y v.reported (i ∷ []) in
+        let is : times_recorded y
+        (record v { open_number = None; reported = v.reported ++ i ∷ []; seen = min b i })
+        ≡ 0 + times_in y v.settled + times_in y (v.reported ++ i ∷ [])
+        + times_in y v.skipped = refl in
+        let one : times_in y (i ∷ []) ≡ cond (i == y) 1 0 + 0 = refl in
+        let was : times_recorded y v
+        ≡ times_open y v.open_number + times_in y v.settled + times_in y v.reported
+        + times_in y v.skipped = refl in omega arith;
+    lengths = let e = one_open i open_is in let t = length-append v.reported (i ∷ []) in
+        let is : record_length
+        (record v { open_number = None; reported = v.reported ++ i ∷ []; seen = min b i })
+        ≡ 0 + length v.settled + length (v.reported ++ i ∷ []) + length v.skipped = refl in
+        let was : record_length v
+        ≡ open_count v.open_number + length v.settled + length v.reported
+        + length v.skipped = refl in omega arith;
+    later = omega arith;
+    lower = omega arith;
+    report_kept = λ y. let t = times_in_append y v.reported (i ∷ []) in omega arith;
+    report_new =
+        λ y h. let t = times_in_append y v.reported (i ∷ []) in
+        let one : times_in y (i ∷ []) ≡ cond (i == y) 1 0 + 0 = refl in
+        let same = times_same y i (omega arith) in omega arith;
+    floor = go (cases_lt i b);
+    settled = refl;
+    skip_new = λ y h. omega arith;
+    seen_floor = omega arith;
+    seen = inr refl;
+    over = λ h. inl h;
+    bound =
+        λ t h. let same : over_share
+        (record v { open_number = None; reported = v.reported ++ i ∷ []; seen = min b i })
+        ≡ over_share v = refl in
+        omega arith;
+  }
+    where
+      own : 0 < times_in i (v.reported ++ i ∷ [])
+      own =
+          let t = times_in_append i v.reported (i ∷ []) in
+          let one : times_in i (i ∷ []) ≡ cond (i == i) 1 0 + 0 = refl in let here = times_own i in
+          omega arith
+
+      go : (i < b) ⊎ (b ≤ i) → (min b i ≡ b) ⊎ (0 < times_in (min b i) (v.reported ++ i ∷ []))
+      go (inl lt) = let is : min b i ≡ i = omega arith in inr (rw is own)
+      go (inr le) = inl (omega arith)

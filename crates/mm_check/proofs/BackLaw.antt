@@ -1,0 +1,315 @@
+-- One step back over the steps of a proof: which nodes are still to be found, and where.
+use Rattle.std.proofs.Common.{◌≡◌, ℕ, zero, suc, ◌+◌, ◌<◌, ◌≤◌, ◌⊎◌, inl, inr, ◌↔◌, Bool, true}
+use Rattle.std.proofs.Common.{false, ◌||◌, List, [], ◌∷◌, ◌++◌, length, get_or, refl, sym, ap, ◌∙◌}
+use Rattle.std.proofs.Common.{subst, arith, true≢false, eqb-true, ◌==◌}
+use Rattle.std.proofs.lemmas.Bool.{cases_lt, or_cases, or_left, or_right, eqb-false}
+use Rattle.std.proofs.lemmas.List.{get_or_append_left, get_or-append-add, get_or-set_same}
+use Rattle.std.proofs.lemmas.List.{get_or-set_other, length-set}
+use Rattle.mm_spec.specs.Derivation.{Formula, Trees, none, more, tree}
+use Rattle.mm_spec.specs.Nodes.{size, HasNode, each_place}
+use Rattle.mm_spec.specs.Steps.{Step, label, marked}
+use Rattle.mm_spec.proofs.UniqueLaw.{◌⧺◌}
+use Rattle.mm_check.specs.Flags.{wanted_flags}
+use Rattle.mm_check.proofs.RowsLaw.{last_tree}
+
+-- the flag of a number, if there is one
+abbrev pub flag_at : List Bool → ℕ → Bool
+flag_at flags n = get_or flags n false
+
+-- ---- nodes of rows
+
+pub size_join : (ts us : Trees) → size (ts ⧺ us) ≡ size ts + size us
+size_join ts none = omega arith
+size_join ts (more us l f cs) = omega (arith, size_join ts us)
+
+module _ (counts : ℕ → ℕ → Bool) where
+  -- some root counts
+  some_place : (p : ℕ → Bool) (ts : Trees) (a : ℕ) → HasNode counts p ts a → (n : ℕ) × (p n ≡ true)
+  some_place p none a h = absurd h
+  some_place p (more ts l f cs) a (inl h) = some_place p ts a h
+  some_place p (more ts l f cs) a (inr h) = (size ts, h.0)
+
+  -- more roots count
+  other_places : (p q : ℕ → Bool) (ts : Trees) (a : ℕ)
+      → ((n : ℕ) → n < size ts → p n ≡ true → q n ≡ true) → HasNode counts p ts a
+      → HasNode counts q ts a
+  other_places p q none a on h = absurd h
+  other_places p q (more ts l f cs) a on (inl h) =
+      inl (other_places p q ts a (λ n k e. on n (omega (arith, k)) e) h)
+  other_places p q (more ts l f cs) a on (inr h) = inr (on (size ts) (omega arith) h.0, h.1)
+
+  join_left : (p : ℕ → Bool) (ts us : Trees) (a : ℕ) → HasNode counts p ts a
+      → HasNode counts p (ts ⧺ us) a
+  join_left p ts none a h = h
+  join_left p ts (more us l f cs) a h = inl (join_left p ts us a h)
+
+  join_right : (p : ℕ → Bool) (ts us : Trees) (a : ℕ) → HasNode counts (λ n. p (size ts + n)) us a
+      → HasNode counts p (ts ⧺ us) a
+  join_right p ts none a h = absurd h
+  join_right p ts (more us l f cs) a (inl h) = inl (join_right p ts us a h)
+  join_right p ts (more us l f cs) a (inr h) = inr (ap p (size_join ts us) ∙ h.0, h.1)
+
+  join_parts : (p : ℕ → Bool) (ts us : Trees) (a : ℕ) → HasNode counts p (ts ⧺ us) a
+      → HasNode counts p ts a ⊎ HasNode counts (λ n. p (size ts + n)) us a
+  join_parts p ts none a h = inl h
+  join_parts p ts (more us l f cs) a (inl h) = by (join_parts p ts us a h)
+    where
+      by : HasNode counts p ts a ⊎ HasNode counts (λ n. p (size ts + n)) us a
+          → HasNode counts p ts a ⊎ HasNode counts (λ n. p (size ts + n)) (more us l f cs) a
+      by (inl h) = inl h
+      by (inr h) = inr (inl h)
+  join_parts p ts (more us l f cs) a (inr h) = inr (inr (ap p (sym (size_join ts us)) ∙ h.0, h.1))
+
+-- ---- flags
+
+flag_last : (ws : List Bool) (b : Bool) → flag_at (ws ++ b ∷ []) (length ws) ≡ b
+flag_last [] b = refl
+flag_last (w ∷ ws) b = flag_last ws b
+
+flag_front : (ws us vs : List Bool) (n : ℕ) → n < length ws
+    → flag_at (ws ++ us) n ≡ flag_at (ws ++ vs) n
+flag_front ws us vs n h =
+    get_or_append_left ws us false n h ∙ sym (get_or_append_left ws vs false n h)
+
+-- what is wanted stays so
+wanted_more : (b : Bool) (s : Step) (wanted : List Bool) (k : ℕ) → flag_at wanted k ≡ true
+    → flag_at (wanted_flags b s wanted) k ≡ true
+wanted_more b (label l) wanted k e = e
+wanted_more false (marked j) wanted k e = e
+wanted_more true (marked j) wanted k e = by (k == j) refl (cases_lt k (length wanted))
+  where
+    by : (q : Bool) → (k == j) ≡ q → (k < length wanted) ⊎ (length wanted ≤ k)
+        → flag_at (wanted_flags true (marked j) wanted) k ≡ true
+    by true q (inl h) =
+        let same = eqb-true k j q in
+        subst (λ n. get_or (wanted_flags true (marked j) wanted) n false ≡ true) (sym same)
+        (get_or-set_same wanted j true false (subst (λ n. n < length wanted) same h))
+    by true q (inr h) = absurd (true≢false (sym e ∙ past wanted k h))
+      where
+        past : (ws : List Bool) (k : ℕ) → length ws ≤ k → flag_at ws k ≡ false
+        past [] zero h = refl
+        past [] (suc k) h = refl
+        past (w ∷ ws) zero h = absurd (omega (arith, h))
+        past (w ∷ ws) (suc k) h = past ws k (omega (arith, h))
+    by false q h = get_or-set_other wanted j k true false (eqb-false k j q) ∙ e
+
+-- a step of a mark makes the earlier one wanted, if it is essential itself
+wanted_here : (j : ℕ) (wanted : List Bool) → j < length wanted → (b : Bool) → b ≡ true
+    → flag_at (wanted_flags b (marked j) wanted) j ≡ true
+wanted_here j wanted h true e = get_or-set_same wanted j true false h
+wanted_here j wanted h false e = absurd (true≢false (sym e))
+
+-- and no other
+wanted_was : (j : ℕ) (wanted : List Bool) (b : Bool) (k : ℕ)
+    → flag_at (wanted_flags b (marked j) wanted) k ≡ true
+    → (flag_at wanted k ≡ true) ⊎ ((k ≡ j) × (b ≡ true))
+wanted_was j wanted false k e = inl e
+wanted_was j wanted true k e = by (k == j) refl
+  where
+    by : (q : Bool) → (k == j) ≡ q → (flag_at wanted k ≡ true) ⊎ ((k ≡ j) × (true ≡ true))
+    by true q = inr (eqb-true k j q, refl)
+    by false q = inl (sym (get_or-set_other wanted j k true false (eqb-false k j q)) ∙ e)
+
+pub wanted_count : (b : Bool) (s : Step) (wanted : List Bool)
+    → length (wanted_flags b s wanted) ≡ length wanted
+wanted_count b (label l) wanted = refl
+wanted_count false (marked j) wanted = refl
+wanted_count true (marked j) wanted = length-set wanted j true
+
+-- ---- one step back
+
+module _ (counts : ℕ → ℕ → Bool) (at : ℕ → Trees) where
+  -- a node of what one of the first i steps ended, if that is wanted
+  abbrev pub Wanted : ℕ → List Bool → ℕ → Type 0
+  Wanted i wanted a =
+      (j : ℕ) × (j < i) × (flag_at wanted j ≡ true)
+      × HasNode counts each_place (last_tree (at (suc j))) a
+
+  -- The nodes that are still to be found, when the first i steps are left: those of the entries
+  -- with a flag, and those of what is wanted.
+  abbrev pub Left : ℕ → List Bool → List Bool → ℕ → Type 0
+  Left i waiting wanted a = HasNode counts (flag_at waiting) (at i) a ⊎ Wanted i wanted a
+
+  -- the nodes of one tree
+  tree_node : (l : ℕ) (f : Formula) (cs : Trees) (a : ℕ) → HasNode counts each_place (tree l f cs) a
+      → (a ≡ l) ⊎ HasNode counts (counts l) cs a
+  tree_node l f cs a (inl h) = absurd h
+  tree_node l f cs a (inr h) = h.1
+
+  module _ (i : ℕ) (ws wanted : List Bool) (flag b : Bool) (is : b ≡ (flag || flag_at wanted i))
+      (a : ℕ) where
+    by_flag : flag ≡ true → b ≡ true
+    by_flag e = is ∙ or_left flag (flag_at wanted i) e
+
+    by_want : flag_at wanted i ≡ true → b ≡ true
+    by_want e = is ∙ or_right flag (flag_at wanted i) e
+
+    last_flag : (n : ℕ) → length ws ≡ n → flag_at (ws ++ flag ∷ []) n ≡ flag
+    last_flag n e = ap (flag_at (ws ++ flag ∷ [])) (sym e) ∙ flag_last ws flag
+
+    -- an essential tree of step i, by its flag or since it is wanted
+    found : (rest : Trees) (l : ℕ) (f : Formula) (cs : Trees) → at (suc i) ≡ more rest l f cs
+        → length ws ≡ size rest → b ≡ true → (a ≡ l) ⊎ HasNode counts (counts l) cs a
+        → Left (suc i) (ws ++ flag ∷ []) wanted a
+    found rest l f cs here count e h = by (or_cases flag (flag_at wanted i) (sym is ∙ e))
+      where
+        by : (flag ≡ true) ⊎ (flag_at wanted i ≡ true) → Left (suc i) (ws ++ flag ∷ []) wanted a
+        by (inl k) =
+            inl (subst (λ t. HasNode counts (flag_at (ws ++ flag ∷ [])) t a) (sym here)
+            (inr (last_flag (size rest) count ∙ k, h)))
+        by (inr k) =
+            inr (
+              i,
+              omega arith,
+              k,
+              subst (λ t. HasNode counts each_place t a)
+                  (sym (ap last_tree here)) (inr (refl, h)),
+            )
+
+    -- what is wanted of the first steps and of step i
+    wanted_parts : (rest : Trees) (l : ℕ) (f : Formula) (cs : Trees) → at (suc i) ≡ more rest l f cs
+        → Wanted (suc i) wanted a
+        → ((b ≡ true) × ((a ≡ l) ⊎ HasNode counts (counts l) cs a)) ⊎ Wanted i wanted a
+    wanted_parts rest l f cs here h = by (cases_lt h.0 i)
+      where
+        by : (h.0 < i) ⊎ (i ≤ h.0)
+            → ((b ≡ true) × ((a ≡ l) ⊎ HasNode counts (counts l) cs a)) ⊎ Wanted i wanted a
+        by (inl k) = inr (h.0, k, h.2, h.3)
+        by (inr k) =
+            let up = h.1 in
+            let same : h.0 ≡ i = omega (arith, k, up) in
+            inl (
+              by_want (subst (λ n. flag_at wanted n ≡ true) same h.2),
+              tree_node l f cs a
+                  (subst (λ t. HasNode counts each_place t a)
+                  (ap (λ n. last_tree (at (suc n))) same ∙ ap last_tree here) h.3),
+            )
+
+    wanted_grown : Wanted i wanted a → Wanted (suc i) wanted a
+    wanted_grown h = let up = h.1 in (h.0, omega (arith, up), h.2, h.3)
+
+    -- the step of a label, whose entry gives way to those of its premises
+    module _ (l : ℕ) (ts : Trees) (f : Formula) (cs : Trees) (here : at (suc i) ≡ more ts l f cs)
+        (before : at i ≡ ts ⧺ cs) (count : length ws ≡ size ts) (vs : List Bool)
+        (from : (n : ℕ) → flag_at vs n ≡ true → (b ≡ true) × (counts l n ≡ true))
+        (to : (n : ℕ) → n < size cs → b ≡ true → counts l n ≡ true → flag_at vs n ≡ true) where
+      after : (n : ℕ) → flag_at (ws ++ vs) (size ts + n) ≡ flag_at vs n
+      after n = ap (λ k. flag_at (ws ++ vs) (k + n)) (sym count) ∙ get_or-append-add ws vs n false
+
+      old_places : (us xs : List Bool) → HasNode counts (flag_at (ws ++ us)) ts a
+          → HasNode counts (flag_at (ws ++ xs)) ts a
+      old_places us xs h =
+          other_places counts (flag_at (ws ++ us)) (flag_at (ws ++ xs)) ts a
+          (λ n k e. sym (flag_front ws us xs n (omega (arith, k, count))) ∙ e) h
+
+      in_row : HasNode counts (flag_at (ws ++ vs)) (ts ⧺ cs) a → Left i (ws ++ vs) wanted a
+      in_row h = inl (subst (λ t. HasNode counts (flag_at (ws ++ vs)) t a) (sym before) h)
+
+      node_down : b ≡ true → (a ≡ l) ⊎ HasNode counts (counts l) cs a
+          → ((b ≡ true) × (a ≡ l)) ⊎ Left i (ws ++ vs) wanted a
+      node_down e (inl h) = inl (e, h)
+      node_down e (inr h) =
+          inr (in_row
+          (join_right counts (flag_at (ws ++ vs)) ts cs a
+          (other_places counts (counts l) (λ n. flag_at (ws ++ vs) (size ts + n)) cs a
+          (λ n k p. after n ∙ to n k e p) h)))
+
+      label_down : Left (suc i) (ws ++ flag ∷ []) wanted a
+          → ((b ≡ true) × (a ≡ l)) ⊎ Left i (ws ++ vs) wanted a
+      label_down (inl h) =
+          roots (subst (λ t. HasNode counts (flag_at (ws ++ flag ∷ [])) t a) here h)
+        where
+          roots : HasNode counts (flag_at (ws ++ flag ∷ [])) (more ts l f cs) a
+              → ((b ≡ true) × (a ≡ l)) ⊎ Left i (ws ++ vs) wanted a
+          roots (inl k) =
+              inr (in_row
+              (join_left counts (flag_at (ws ++ vs)) ts cs a (old_places (flag ∷ []) vs k)))
+          roots (inr k) = node_down (by_flag (sym (last_flag (size ts) count) ∙ k.0)) k.1
+      label_down (inr h) = go (wanted_parts ts l f cs here h)
+        where
+          go : ((b ≡ true) × ((a ≡ l) ⊎ HasNode counts (counts l) cs a)) ⊎ Wanted i wanted a
+              → ((b ≡ true) × (a ≡ l)) ⊎ Left i (ws ++ vs) wanted a
+          go (inl k) = node_down k.0 k.1
+          go (inr k) = inr (inr k)
+
+      label_up : ((b ≡ true) × (a ≡ l)) ⊎ Left i (ws ++ vs) wanted a
+          → Left (suc i) (ws ++ flag ∷ []) wanted a
+      label_up (inl h) = found ts l f cs here count h.0 (inl h.1)
+      label_up (inr (inl h)) =
+          parts (join_parts counts (flag_at (ws ++ vs)) ts cs a
+          (subst (λ t. HasNode counts (flag_at (ws ++ vs)) t a) before h))
+        where
+          parts : HasNode counts (flag_at (ws ++ vs)) ts a
+              ⊎ HasNode counts (λ n. flag_at (ws ++ vs) (size ts + n)) cs a
+              → Left (suc i) (ws ++ flag ∷ []) wanted a
+          parts (inl k) =
+              inl (subst (λ t. HasNode counts (flag_at (ws ++ flag ∷ [])) t a) (sym here)
+              (inl (old_places vs (flag ∷ []) k)))
+          parts (inr k) =
+              let p = some_place counts (λ n. flag_at (ws ++ vs) (size ts + n)) cs a k in
+              let e = (from p.0 (sym (after p.0) ∙ p.1)).0 in
+              found ts l f cs here count e
+              (inr (other_places counts (λ n. flag_at (ws ++ vs) (size ts + n)) (counts l) cs a
+              (λ n u q. (from n (sym (after n) ∙ q)).1) k))
+      label_up (inr (inr h)) = inr (wanted_grown h)
+
+      pub label_back : Left (suc i) (ws ++ flag ∷ []) wanted a
+          ↔ (((b ≡ true) × (a ≡ l)) ⊎ Left i (ws ++ vs) wanted a)
+      label_back = (label_down, label_up)
+
+    -- the step of a mark, whose entry goes
+    module _ (j l : ℕ) (f : Formula) (cs : Trees) (earlier : j < i)
+        (here : at (suc i) ≡ more (at i) l f cs) (copy : last_tree (at (suc j)) ≡ tree l f cs)
+        (count : length ws ≡ size (at i)) (inside : i < length wanted) where
+      same_places : (us xs : List Bool) → HasNode counts (flag_at (ws ++ us)) (at i) a
+          → HasNode counts (flag_at (ws ++ xs)) (at i) a
+      same_places us xs h =
+          other_places counts (flag_at (ws ++ us)) (flag_at (ws ++ xs)) (at i) a
+          (λ n k e. sym (flag_front ws us xs n (omega (arith, k, count))) ∙ e) h
+
+      tree_down : b ≡ true → (a ≡ l) ⊎ HasNode counts (counts l) cs a
+          → Left i (ws ++ []) (wanted_flags b (marked j) wanted) a
+      tree_down e h =
+          inr (
+            j,
+            earlier,
+            wanted_here j wanted (omega (arith, earlier, inside)) b e,
+            subst
+                (λ t. HasNode counts each_place t a) (sym copy) (inr (refl, h)),
+          )
+
+      marked_down : Left (suc i) (ws ++ flag ∷ []) wanted a
+          → Left i (ws ++ []) (wanted_flags b (marked j) wanted) a
+      marked_down (inl h) =
+          roots (subst (λ t. HasNode counts (flag_at (ws ++ flag ∷ [])) t a) here h)
+        where
+          roots : HasNode counts (flag_at (ws ++ flag ∷ [])) (more (at i) l f cs) a
+              → Left i (ws ++ []) (wanted_flags b (marked j) wanted) a
+          roots (inl k) = inl (same_places (flag ∷ []) [] k)
+          roots (inr k) = tree_down (by_flag (sym (last_flag (size (at i)) count) ∙ k.0)) k.1
+      marked_down (inr h) = go (wanted_parts (at i) l f cs here h)
+        where
+          go : ((b ≡ true) × ((a ≡ l) ⊎ HasNode counts (counts l) cs a)) ⊎ Wanted i wanted a
+              → Left i (ws ++ []) (wanted_flags b (marked j) wanted) a
+          go (inl k) = tree_down k.0 k.1
+          go (inr k) = inr (k.0, k.1, wanted_more b (marked j) wanted k.0 k.2, k.3)
+
+      marked_up : Left i (ws ++ []) (wanted_flags b (marked j) wanted) a
+          → Left (suc i) (ws ++ flag ∷ []) wanted a
+      marked_up (inl h) =
+          inl (subst (λ t. HasNode counts (flag_at (ws ++ flag ∷ [])) t a) (sym here)
+          (inl (same_places [] (flag ∷ []) h)))
+      marked_up (inr h) = by (wanted_was j wanted b h.0 h.2)
+        where
+          by : (flag_at wanted h.0 ≡ true) ⊎ ((h.0 ≡ j) × (b ≡ true))
+              → Left (suc i) (ws ++ flag ∷ []) wanted a
+          by (inl k) = inr (wanted_grown (h.0, h.1, k, h.3))
+          by (inr k) =
+              found (at i) l f cs here count k.1
+              (tree_node l f cs a
+              (subst (λ t. HasNode counts each_place t a)
+              (ap (λ n. last_tree (at (suc n))) k.0 ∙ copy) h.3))
+
+      pub marked_back : Left (suc i) (ws ++ flag ∷ []) wanted a
+          ↔ Left i (ws ++ []) (wanted_flags b (marked j) wanted) a
+      marked_back = (marked_down, marked_up)

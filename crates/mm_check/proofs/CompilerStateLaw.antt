@@ -1,0 +1,151 @@
+-- What a good label stands for, by whether it is that of an assertion.
+use Rattle.std.proofs.Common.{◌≡◌, ℕ, ◌<◌, ◌≤◌, Bool, true, false, List, [], ◌∷◌, ◌++◌, length, Ok}
+use Rattle.std.proofs.Common.{Err, Option, None, Some, slice_get, refl, sym, ap, ap₂, ◌∙◌, ◌&&◌}
+use Rattle.std.proofs.Common.{subst, le-leb, nat_le, nat_lt, true≢false}
+use Rattle.std.specs.List.{list_any}
+use Rattle.std.proofs.lemmas.Bool.{lt-leb, lt-ltb}
+use Rattle.mm_spec.specs.Statement.{Statement, floating, essential, axiomatic, provable}
+use Rattle.mm_spec.specs.Scope.{is_active, is_active_some, stays}
+use Rattle.mm_spec.specs.Frame.{formula_at, frame_at}
+use Rattle.mm_spec.specs.Derivation.{Formula, Rule, hypothesis, assertion}
+use Rattle.mm_spec.specs.Limits.{formula_limit}
+use Rattle.mm_spec.specs.Valid.{too_long}
+use Rattle.mm_spec.specs.Laws.Complete.{IsComplete, IsFine, AreComplete}
+use Rattle.mm_spec.specs.Citation.{context_at, rule_of, rule_at, is_assertion}
+use Rattle.mm_spec.specs.Laws.Stack.{IsGood, step, pick, IsGoodStep}
+use Rattle.mm_spec.proofs.FindsLaw.{inside_of}
+use Rattle.mm_spec.specs.Steps.{Step, label, marked}
+use Rattle.mm_check.specs.Contract.{is_assertion_at, labels}
+
+module _ (k : List Statement) (t j : ℕ) where
+  -- the statement of a good label, and what it stands for
+  record Stands : Type 0 where
+    pub statement : Statement
+    pub stands : slice_get k j ≡ Some statement
+    pub rule : rule_at k t j ≡ rule_of k j statement
+
+  stands_at : IsGood (context_at k t) (rule_at k t j) → Stands
+  stands_at good = by (is_active k j t) refl (slice_get k j) refl good
+    where
+      out : Bool → Option Statement → Option Rule
+      out b o = elim b [ false ↦ None | true ↦ elim o [ None ↦ None | Some s ↦ rule_of k j s ] ]
+
+      by : (b : Bool) → is_active k j t ≡ b → (o : Option Statement) → slice_get k j ≡ o
+          → IsGood (context_at k t) (out b o) → Stands
+      by false e o f g = absurd g
+      by true e None f g = absurd g
+      by true e (Some s) f g =
+          record {
+            statement = s;
+            stands = f;
+            rule = ap (λ b. out b (slice_get k j)) e ∙ ap (λ o. out true o) f;
+          }
+
+  pub good_below : IsGood (context_at k t) (rule_at k t j) → j < length k
+  good_below good = let s = stands_at good in inside_of k j s.statement s.stands
+
+  at_is : (s : Statement) (b : Bool) → slice_get k j ≡ Some s → is_assertion_at k j ≡ b
+      → list_any is_assertion (s ∷ []) ≡ b
+  at_is s b e h =
+      sym (ap (λ o. list_any is_assertion (elim o [ None ↦ [] | Some s ↦ s ∷ [] ])) e) ∙ h
+
+  -- an assertion's frame is complete
+  pub assertion_complete : is_assertion_at k j ≡ true → IsGood (context_at k t) (rule_at k t j)
+      → IsComplete (context_at k t) (frame_at k j)
+  assertion_complete is good =
+      let s = stands_at good in
+      by s.statement (at_is s.statement true s.stands is)
+      (subst (IsGood (context_at k t)) s.rule good)
+    where
+      by : (s : Statement) → list_any is_assertion (s ∷ []) ≡ true
+          → IsGood (context_at k t) (rule_of k j s) → IsComplete (context_at k t) (frame_at k j)
+      by (axiomatic l p xs d) h g = g
+      by (provable l p xs e ps d) h g = g
+      by _ h g = absurd (true≢false (sym h))
+
+  pub assertion_rule : is_assertion_at k j ≡ true → IsGood (context_at k t) (rule_at k t j)
+      → rule_at k t j ≡ Some (assertion (frame_at k j))
+  assertion_rule is good =
+      let s = stands_at good in s.rule ∙ by s.statement (at_is s.statement true s.stands is)
+    where
+      by : (s : Statement) → list_any is_assertion (s ∷ []) ≡ true
+          → rule_of k j s ≡ Some (assertion (frame_at k j))
+      by (axiomatic l p xs d) h = refl
+      by (provable l p xs e ps d) h = refl
+      by _ h = absurd (true≢false (sym h))
+
+  pub hypothesis_rule : is_assertion_at k j ≡ false → IsGood (context_at k t) (rule_at k t j)
+      → rule_at k t j ≡ Some (hypothesis (formula_at k j))
+  hypothesis_rule is good =
+      let s = stands_at good in
+      s.rule ∙ by s.statement (at_is s.statement false s.stands is)
+      (subst (IsGood (context_at k t)) s.rule good)
+    where
+      by : (s : Statement) → list_any is_assertion (s ∷ []) ≡ false
+          → IsGood (context_at k t) (rule_of k j s)
+          → rule_of k j s ≡ Some (hypothesis (formula_at k j))
+      by (floating l p xs d) h g = refl
+      by (essential l p xs d) h g = refl
+      by (axiomatic l p xs d) h g = absurd (true≢false h)
+      by (provable l p xs e ps d) h g = absurd (true≢false h)
+      by _ h g = absurd g
+
+  -- the step of a hypothesis
+  pub hypothesis_step : (es : List Formula) (f : Formula) → f ≡ formula_at k j
+      → is_assertion_at k j ≡ false → IsGood (context_at k t) (rule_at k t j)
+      → length f ≤ formula_limit → step (context_at k t) (rule_at k t j) es ≡ Ok (es ++ f ∷ [])
+  hypothesis_step es f is other good short =
+      ap (λ r. step (context_at k t) r es) (hypothesis_rule other good)
+      ∙ ap (λ z. pick true true true (nat_le (length z) formula_limit) (es ++ z ∷ [])) (sym is)
+      ∙ ap (λ b. pick true true true b (es ++ f ∷ [])) (le-leb (length f) formula_limit short)
+
+  pub long_step : (es : List Formula) (f : Formula) → f ≡ formula_at k j
+      → is_assertion_at k j ≡ false → IsGood (context_at k t) (rule_at k t j)
+      → formula_limit < length f → step (context_at k t) (rule_at k t j) es ≡ Err too_long
+  long_step es f is other good long =
+      ap (λ r. step (context_at k t) r es) (hypothesis_rule other good)
+      ∙ ap (λ z. pick true true true (nat_le (length z) formula_limit) (es ++ z ∷ [])) (sym is)
+      ∙ ap (λ b. pick true true true b (es ++ f ∷ [])) (lt-leb (length f) formula_limit long)
+
+-- the label of a good step is that of a statement
+pub good_labels : (k : List Statement) (t n : ℕ) (s : Step) → IsGoodStep (context_at k t) n s
+    → labels s (length k)
+good_labels k t n (label l) good = good_below k t l good
+good_labels k t n (marked j) good = tt
+
+-- in a database whose frames are complete, so is that of each assertion
+module _ (k : List Statement) (complete : AreComplete k) (j : ℕ) where
+  at_end : (s : Statement) → slice_get k j ≡ Some s
+      → is_active_some (Some s) (stays k j (length k)) ≡ true
+      → rule_at k (length k) j ≡ rule_of k j s
+  at_end s e a =
+      let below : j < length k = inside_of k j s e in
+      let before : nat_lt j (length k) ≡ true = lt-ltb j (length k) below in
+      ap₂ (λ b o. elim (b && is_active_some o (stays k j (length k)))
+      [ false ↦ None | true ↦ elim o [ None ↦ None | Some s ↦ rule_of k j s ] ]) before e
+      ∙ ap (λ b. elim b [ false ↦ None | true ↦ rule_of k j s ]) a
+
+  frame_complete : IsComplete (context_at k (length k)) (frame_at k j)
+      → IsComplete (context_at k 0) (frame_at k j)
+  frame_complete h = record { hypotheses = h.hypotheses; formula = h.formula; pairs = h.pairs }
+
+  pub complete_at : is_assertion_at k j ≡ true → IsComplete (context_at k 0) (frame_at k j)
+  complete_at is = some (slice_get k j) refl is
+    where
+      by : (s : Statement) → slice_get k j ≡ Some s → list_any is_assertion (s ∷ []) ≡ true
+          → IsComplete (context_at k 0) (frame_at k j)
+      by (axiomatic l p xs d) e h =
+          frame_complete
+          (subst (IsFine (context_at k (length k))) (at_end (axiomatic l p xs d) e refl)
+          (complete (length k) j))
+      by (provable l p xs w ps d) e h =
+          frame_complete
+          (subst (IsFine (context_at k (length k))) (at_end (provable l p xs w ps d) e refl)
+          (complete (length k) j))
+      by _ e h = absurd (true≢false (sym h))
+
+      some : (o : Option Statement) → slice_get k j ≡ o
+          → list_any is_assertion (elim o [ None ↦ [] | Some s ↦ s ∷ [] ]) ≡ true
+          → IsComplete (context_at k 0) (frame_at k j)
+      some None e h = absurd (true≢false (sym h))
+      some (Some s) e h = by s e h

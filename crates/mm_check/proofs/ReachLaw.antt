@@ -1,0 +1,279 @@
+-- One step more, a step that fails, and the end.
+use Rattle.std.proofs.Common.{◌≡◌, ◌≢◌, ℕ, zero, suc, ◌+◌, ◌<◌, Bool, true, false, ◌&&◌, ◌||◌, ◌==◌}
+use Rattle.std.proofs.Common.{List, [], ◌∷◌, ◌++◌, length, take, drop, Some, None, Option}
+use Rattle.std.proofs.Common.{true≢false, Ok, Err, refl, sym, ap, ◌∙◌, subst, arith, append-nil}
+use Rattle.std.proofs.Common.{append_assoc, slice_get, length-append}
+use Rattle.std.specs.List.{AllByRecursion, list_any}
+use Rattle.std.proofs.lemmas.List.{drop_more, take-append-drop, take_more, map-append}
+use Rattle.std.proofs.lemmas.List.Folds.{list_any-append}
+use Rattle.mm_spec.specs.Text.{fault}
+use Rattle.mm_spec.specs.declared.Code.{Code}
+use Rattle.mm_spec.specs.declared.Code.TheVariants.{NotOneEntry}
+use Rattle.mm_spec.specs.Derivation.{Formula, Context, Trees, none, more, tree, formulas, postfix}
+use Rattle.mm_spec.specs.Derivation.{AreDerivations, is_member}
+use Rattle.mm_spec.specs.Steps.{Step, label, marked, PlacedStep, placed}
+use Rattle.mm_spec.specs.Valid.{Reason, code_of, Plain, Adds, Derives, StepFault, ProofEndFault}
+use Rattle.mm_spec.specs.Valid.{IsEndCode, IsLastTree}
+use Rattle.mm_spec.proofs.StepsLaw.{after_more, Grown, grows}
+use Rattle.mm_spec.specs.Laws.Stack.{AreGoodSteps, IsGoodStep, step_entries, top}
+use Rattle.mm_spec.specs.Statement.{Statement, provable}
+use Rattle.mm_spec.specs.Citation.{context_at, is_theorem}
+use Rattle.mm_proof.specs.Read.{step_at}
+use Rattle.std.specs.Option.{option_map}
+use Rattle.mm_spec.specs.Output.{is_theorem_at, end_of}
+use Rattle.mm_stmt.specs.Database.{last_place}
+use Rattle.mm_check.specs.Contract.{is_assertion_at, is_labelled_step}
+use Rattle.mm_check.specs.Reached.{Reached, steps_of}
+
+or_false : (a : Bool) → (a || false) ≡ a
+or_false true = refl
+or_false false = refl
+
+or_right : (a b : Bool) → b ≡ true → (a || b) ≡ true
+or_right true b e = refl
+or_right false b e = e
+
+or_kept : (a b : Bool) → a ≡ true → (a || b) ≡ true
+or_kept true b e = refl
+or_kept false b e = cc
+
+or_weak : (a b : Bool) → (b ≡ true → a ≡ true) → (a || b) ≡ (a || false)
+or_weak true b f = refl
+or_weak false true f = sym (f refl)
+or_weak false false f = refl
+
+spread : (a b c : Bool) → ((a && c) || (b && c)) ≡ ((a || b) && c)
+spread true true true = refl
+spread true true false = refl
+spread true false true = refl
+spread true false false = refl
+spread false b c = refl
+
+abbrev Within : List (List ℕ) → List ℕ → Type 0
+Within lists all =
+    AllByRecursion (λ l. (a : ℕ) → is_member l a ≡ true → is_member all a ≡ true) lists
+
+within_at : (lists : List (List ℕ)) (all then : List ℕ) (j : ℕ) → Within lists all
+    → slice_get lists j ≡ Some then → (a : ℕ) → is_member then a ≡ true → is_member all a ≡ true
+within_at [] all then j w e a h = cc
+within_at (l ∷ lists) all then zero w e a h =
+    w.0 a (subst (λ x. is_member x a ≡ true) (sym (some_same l then e)) h)
+  where
+    some_same : (x y : List ℕ) → Some x ≡ Some y → x ≡ y
+    some_same x y e = cc
+within_at (l ∷ lists) all then (suc j) w e a h = within_at lists all then j w.1 e a h
+
+within_more : (lists : List (List ℕ)) (old new : List ℕ) → Within lists old
+    → ((a : ℕ) → is_member old a ≡ true → is_member new a ≡ true) → Within (lists ++ new ∷ []) new
+within_more [] old new w up = ((λ a h. h), tt)
+within_more (l ∷ lists) old new w up = ((λ a h. up a (w.0 a h)), within_more lists old new w.1 up)
+
+module _ (c : Context) where
+  last_member : (row : Trees) (x : List ℕ) (a : ℕ) → IsLastTree row x → is_member x a ≡ true
+      → is_member (postfix row) a ≡ true
+  last_member none x a h m = absurd h
+  last_member (more ts l f cs) x a h m =
+      list_any-append (λ y. a == y) (postfix ts) (postfix cs ++ l ∷ [])
+      ∙ or_right (is_member (postfix ts) a) _ (subst (λ z. is_member z a ≡ true) h m)
+
+  adds_member : (lists : List (List ℕ)) (old new : List ℕ) (s : Step) → Adds c lists old s new
+      → Within lists old → (a : ℕ) → is_member new a ≡ (is_member old a || is_labelled_step s a)
+  adds_member lists old new (label l) h w a =
+      ap (λ z. is_member z a) h ∙ list_any-append (λ y. a == y) old (l ∷ [])
+      ∙ ap (λ b. is_member old a || b) (or_false (a == l))
+  adds_member lists old new (marked j) h w a =
+      ap (λ z. is_member z a) h.4 ∙ list_any-append (λ y. a == y) old h.1
+      ∙ or_weak (is_member old a) (is_member h.1 a)
+      (λ m. within_at lists old h.0 j w h.2 a
+      (subst (λ z. is_member z a ≡ true) h.3.2 (last_member h.3.0 h.1 a h.3.3 m)))
+
+-- one step more
+pub next : (k : List Statement) (t : ℕ) (done : List Step) (stack ends : List Formula)
+    → (noted : List ℕ) (s : Step) (out : List Formula) (then : List ℕ)
+    → Reached k t done stack ends noted → IsGoodStep (context_at k t) (length ends) s
+    → step_entries (context_at k t) s ends stack ≡ Ok out
+    → ((a : ℕ)
+    → is_member then a ≡ (is_member noted a || (is_labelled_step s a && is_assertion_at k a)))
+    → Reached k t (done ++ s ∷ []) out (ends ++ top out ∷ []) then
+next k t done stack ends noted s out then r good made notes =
+    let c = context_at k t in
+    let same : step_entries c s ends (formulas r.row) ≡ Ok out =
+    ap (step_entries c s ends) r.entries_are ∙ made in
+    let g =
+    subst (Grown c r.lists r.row s) same
+    (grows c r.lists ends r.row s r.derivations r.after good) in
+    let members = adds_member c r.lists (postfix r.row) (postfix g.0) s g.2 r.within in
+    record {
+      row = g.0;
+      derivations = g.1;
+      entries_are = g.3;
+      lists = r.lists ++ postfix g.0 ∷ [];
+      after = after_more c r.lists ends (postfix g.0) (top out) r.after (g.0, g.1, refl, g.4);
+      plain =
+          λ rest all h. subst (λ z. Plain c [] [] z all) (sym (append_assoc done (s ∷ []) rest))
+          (r.plain (s ∷ rest) all (postfix g.0, g.2, h));
+      within =
+          within_more r.lists (postfix r.row) (postfix g.0) r.within
+          (λ a m. members a ∙ or_kept _ _ m);
+      noted_are =
+          λ a. notes a
+          ∙ ap (λ b. b || (is_labelled_step s a && is_assertion_at k a)) (r.noted_are a)
+          ∙ spread (is_member (postfix r.row) a) (is_labelled_step s a) (is_assertion_at k a)
+          ∙ ap (λ b. b && is_assertion_at k a) (sym (members a));
+    }
+
+-- a step that fails
+pub fails : (k : List Statement) (t : ℕ) (steps : List PlacedStep) (i : ℕ)
+    → (stack ends : List Formula) (noted : List ℕ) (reason : Reason)
+    → i < length steps → Reached k t (steps_of (take i steps)) stack ends noted
+    → IsGoodStep (context_at k t) (length ends) (step_at steps i).step
+    → step_entries (context_at k t) (step_at steps i).step ends stack ≡ Err reason
+    → StepFault (context_at k t) steps (fault (step_at steps i).at (code_of reason))
+fails k t steps i stack ends noted reason h r good made =
+    let c = context_at k t in
+    let s = step_at steps i in
+    let same : step_entries c s.step ends (formulas r.row) ≡ Err reason =
+    ap (step_entries c s.step ends) r.entries_are ∙ made in
+    let g =
+    subst (Grown c r.lists r.row s.step) same
+    (grows c r.lists ends r.row s.step r.derivations r.after good) in
+    record {
+      before = take i steps;
+      first = s;
+      after = drop (i + 1) steps;
+      splits =
+          sym (take-append-drop i steps)
+          ∙ ap (λ z. take i steps ++ z) (drop_more steps i (placed 0 (label 0)) h);
+      row = r.row;
+      derivations = r.derivations;
+      plain =
+          subst (λ z. Plain c [] [] z (postfix r.row)) (append-nil (steps_of (take i steps)))
+          (r.plain [] (postfix r.row) refl);
+      reason = reason;
+      fails = g;
+      is = refl;
+    }
+
+module _ (k : List Statement) (t : ℕ) (steps : List PlacedStep) (stack ends : List Formula)
+    (noted : List ℕ) (r : Reached k t (steps_of steps) stack ends noted) where
+  plain_all : Plain (context_at k t) [] [] (steps_of steps) (postfix r.row)
+  plain_all =
+      subst (λ z. Plain (context_at k t) [] [] z (postfix r.row)) (append-nil (steps_of steps))
+      (r.plain [] (postfix r.row) refl)
+
+  pub derives : (f : Formula) → stack ≡ f ∷ [] → Derives (context_at k t) (steps_of steps) f r.row
+  derives f e = one r.row r.derivations (r.entries_are ∙ e) plain_all
+    where
+      two : (xs : List Formula) (h g : Formula) → ¬ ((xs ++ h ∷ []) ++ g ∷ [] ≡ f ∷ [])
+      two xs h g e =
+          let n = ap length e in
+          omega (arith, n, length-append (xs ++ h ∷ []) (g ∷ []), length-append xs (h ∷ []))
+
+      one : (row : Trees) → AreDerivations (context_at k t) row → formulas row ≡ f ∷ []
+          → Plain (context_at k t) [] [] (steps_of steps) (postfix row)
+          → Derives (context_at k t) (steps_of steps) f row
+      one none d e p = cc
+      one (more none l g cs) d e p = (l, cs, ap (λ z. tree l z cs) (ap top e), d, p)
+      one (more (more ts m h bs) l g cs) d e p = absurd (two (formulas ts) h g e)
+
+  pub ends_with : (end : ℕ) (code : Code) (formula : Formula)
+      → IsEndCode (context_at k t) stack formula code
+      → ProofEndFault (context_at k t) steps formula end (fault end code)
+  ends_with end code formula h = record {
+    row = r.row;
+    derivations = r.derivations;
+    plain = plain_all;
+    code = code;
+    fails = subst (λ z. IsEndCode (context_at k t) z formula code) (sym r.entries_are) h;
+    is = refl;
+  }
+
+-- not one entry
+pub not_one : (c : Context) (stack : List Formula) (formula : Formula) → length stack ≢ 1
+    → IsEndCode c stack formula NotOneEntry
+not_one c [] formula h = refl
+not_one c (g ∷ []) formula h = absurd (h refl)
+not_one c (g ∷ i ∷ gs) formula h = refl
+
+-- the step at a place is good
+pub good_at : (c : Context) (n : ℕ) (steps : List PlacedStep) (i : ℕ) → i < length steps
+    → AreGoodSteps c n (steps_of steps) → IsGoodStep c (n + i) (step_at steps i).step
+good_at c n [] i h g = absurd (omega arith)
+good_at c n (s ∷ steps) zero h g =
+    let e : n ≡ n + 0 = omega arith in subst (λ m. IsGoodStep c m s.step) e g.0
+good_at c n (s ∷ steps) (suc i) h g =
+    let e : suc n + i ≡ n + suc i = omega arith in
+    subst (λ m. IsGoodStep c m (step_at steps i).step) e
+    (good_at c (suc n) steps i (omega arith) g.1)
+
+pub good_here : (c : Context) (steps : List PlacedStep) (i n : ℕ) (s : Step) → i < length steps
+    → AreGoodSteps c 0 (steps_of steps) → n ≡ i → s ≡ (step_at steps i).step → IsGoodStep c n s
+good_here c steps i n s h g e is =
+    let f : 0 + i ≡ n = omega arith in
+    subst (λ z. IsGoodStep c n z) (sym is)
+    (subst (λ m. IsGoodStep c m (step_at steps i).step) f (good_at c 0 steps i h g))
+
+pub take_step : (steps : List PlacedStep) (i : ℕ) → i < length steps
+    → steps_of (take (i + 1) steps) ≡ steps_of (take i steps) ++ (step_at steps i).step ∷ []
+take_step steps i h =
+    ap steps_of (take_more steps i (placed 0 (label 0)) h)
+    ∙ map-append (λ s. s.step) (take i steps) (step_at steps i ∷ [])
+
+-- no step so far
+pub starts : (k : List Statement) (t : ℕ) (stack ends : List Formula) (noted : List ℕ)
+    → stack ≡ [] → ends ≡ [] → noted ≡ [] → Reached k t [] stack ends noted
+starts k t stack ends noted e f n =
+    rw (e, f, n)
+    (record {
+      row = none;
+      derivations = tt;
+      entries_are = refl;
+      lists = [];
+      after = tt;
+      plain = λ rest all h. h;
+      within = tt;
+      noted_are = λ a. refl;
+    })
+
+-- the same by the values that the code has
+pub next_here : (k : List Statement) (t : ℕ) (steps : List PlacedStep) (i : ℕ)
+    → (stack ends : List Formula) (noted : List ℕ) (s : Step) (out outer : List Formula)
+    → (then : List ℕ)
+    → i < length steps → s ≡ (step_at steps i).step
+    → Reached k t (steps_of (take i steps)) stack ends noted
+    → IsGoodStep (context_at k t) (length ends) s
+    → step_entries (context_at k t) s ends stack ≡ Ok out → outer ≡ ends ++ top out ∷ []
+    → ((a : ℕ)
+    → is_member then a ≡ (is_member noted a || (is_labelled_step s a && is_assertion_at k a)))
+    → Reached k t (steps_of (take (i + 1) steps)) out outer then
+next_here k t steps i stack ends noted s out outer then h is r good made grown notes =
+    let n = next k t (steps_of (take i steps)) stack ends noted s out then r good made notes in
+    let e : steps_of (take (i + 1) steps) ≡ steps_of (take i steps) ++ s ∷ [] =
+    take_step steps i h ∙ ap (λ z. steps_of (take i steps) ++ z ∷ []) (sym is) in
+    rw (e, grown) n
+
+pub fails_here : (k : List Statement) (t : ℕ) (steps : List PlacedStep) (i : ℕ)
+    → (stack ends : List Formula) (noted : List ℕ) (reason : Reason) (s : Step) (at : ℕ)
+    → (code : Code)
+    → i < length steps → s ≡ (step_at steps i).step → at ≡ (step_at steps i).at
+    → code ≡ code_of reason → Reached k t (steps_of (take i steps)) stack ends noted
+    → IsGoodStep (context_at k t) (length ends) s
+    → step_entries (context_at k t) s ends stack ≡ Err reason
+    → StepFault (context_at k t) steps (fault at code)
+fails_here k t steps i stack ends noted reason s at code h is at_is code_is r good made =
+    let good' = subst (λ z. IsGoodStep (context_at k t) (length ends) z) is good in
+    let made' : step_entries (context_at k t) (step_at steps i).step ends stack ≡ Err reason =
+    ap (λ z. step_entries (context_at k t) z ends stack) (sym is) ∙ made in
+    rw (at_is, code_is) (fails k t steps i stack ends noted reason h r good' made')
+
+-- the place of the end of a theorem's proof
+pub end_is : (db : List Statement) (t at : ℕ) → is_theorem_at db t ≡ true
+    → option_map last_place (slice_get db t) ≡ Some at → end_of (slice_get db t) ≡ at
+end_is db t at h e = by (slice_get db t) h e
+  where
+    by : (o : Option Statement)
+        → list_any is_theorem (elim o [ None ↦ [] | Some s ↦ s ∷ [] ]) ≡ true
+        → option_map last_place o ≡ Some at → end_of o ≡ at
+    by None h e = absurd (true≢false (sym h))
+    by (Some (provable l p xs q ps d)) h e = cc
+    by (Some s) h e = absurd (true≢false (sym h))

@@ -1,0 +1,352 @@
+-- The mandatory variables and hypotheses are those that the walk finds.
+use Rattle.std.proofs.Common.{cond, ◌≡◌, ℕ, zero, suc, ◌+◌, ◌==◌, ◌<◌, ◌≤◌, Bool, true, false, ◌&&◌}
+use Rattle.std.proofs.Common.{◌||◌, not, All, List, [], ◌∷◌, ◌++◌, length, get_or, flat_map, nat_eq}
+use Rattle.std.proofs.Common.{nat_lt, None, Some, refl, sym, ap, ap₂, ◌∙◌, subst, arith, eqb-true}
+use Rattle.std.proofs.Common.{eq-eqb, true≢false, ◌⊎◌, inl, inr}
+use Rattle.std.proofs.lemmas.Bool.{cases_lt, lt-ltb, ltb-true, ne_eqb}
+use Rattle.std.proofs.lemmas.Option.{slice_get_past}
+use Rattle.std.specs.List.{Contains, dedup, list_any, range_with_len, filter}
+use Rattle.std.specs.List.Sorted.{IsPermutation, IsStrictlyIncreasing}
+use Rattle.std.proofs.lemmas.List.Folds.{Any-from_list_any, list_any_at, list_any-append}
+use Rattle.std.proofs.lemmas.List.Kept.{Contains-dedup_nat, Contains-from_dedup}
+use Rattle.std.proofs.lemmas.List.Sorted.{Contains-permutation, IsPermutation-sym}
+use Rattle.mm_spec.specs.Text.{is_in}
+use Rattle.mm_spec.specs.Derivation.{is_member}
+use Rattle.mm_spec.specs.Statement.{Statement}
+use Rattle.mm_spec.specs.Scope.{statement_at, active, is_active, variables_of, stays}
+use Rattle.mm_spec.specs.Frame.{symbol_names, place_of, is_variable_number, is_essential}
+use Rattle.mm_spec.specs.Frame.{is_floating, active_of, formula_at, mandatory_variables}
+use Rattle.mm_spec.specs.Frame.{mandatory_hypotheses}
+use Rattle.mm_outline.specs.Blocks.{never}
+use Rattle.mm_frame.specs.Latest.{is_on}
+use Rattle.mm_frame.specs.Tables.{IsSound, typed_at}
+use Rattle.mm_frame.specs.Hypotheses.{AreTyped, is_float_of}
+use Rattle.mm_frame.proofs.RisingLaw.{Rising, filter_is}
+use Rattle.mm_frame.proofs.NestedLaw.{same_tests}
+use Rattle.mm_frame.proofs.LatestLaw.{and_left, and_right, or_true, or_false, member_filter}
+use Rattle.mm_frame.proofs.LatestLaw.{member_range, active_member, essential_local}
+use Rattle.mm_frame.proofs.FloatLaw.{typed_float, floating_typed, formula_is, floating_is}
+use Rattle.mm_frame.proofs.FloatLaw.{typecode_constant, variable_below, float_active}
+
+contains : (xs : List ℕ) (a : ℕ) → is_member xs a ≡ true → Contains xs a
+contains xs a h =
+    let n = Any-from_list_any (λ y. a == y) xs h in
+    let e : a ≡ n.1 = eqb-true a n.1 n.4 in
+    (n.0, n.2, subst (λ z. get_or xs n.0 z ≡ z) (sym e) n.3)
+
+member : (xs : List ℕ) (a : ℕ) → Contains xs a → is_member xs a ≡ true
+member xs a h = list_any_at (λ y. a == y) xs h.0 a h.1 (eq-eqb a (get_or xs h.0 a) (sym h.2))
+
+-- what sorting and dropping repeated numbers keeps
+pub sort_and_dedup_same : (xs ys zs : List ℕ) → IsPermutation xs ys → zs ≡ dedup nat_eq ys → (a : ℕ)
+    → is_member zs a ≡ is_member xs a
+sort_and_dedup_same xs ys zs p e a =
+    ap (λ z. is_member z a) e
+    ∙ same_tests _ _
+    (λ h. member xs a
+    (Contains-permutation ys xs a (IsPermutation-sym xs ys p)
+    (Contains-from_dedup nat_eq ys a (contains (dedup nat_eq ys) a h))))
+    (λ h. member (dedup nat_eq ys) a
+    (Contains-dedup_nat ys a (Contains-permutation xs ys a p (contains xs a h))))
+
+-- a list that is strictly rising, by its neighbours
+pub rising_is : (xs : List ℕ) (a : ℕ) → IsStrictlyIncreasing xs
+    → (0 < length xs → a ≤ get_or xs 0 0) → Rising a xs
+rising_is [] a inc h = tt
+rising_is (y ∷ ys) a inc h = (
+  h (omega arith),
+  rising_is ys (y + 1) (λ k l. tail k (inc (k + 1) (omega arith)))
+      (λ l. first (inc 0 (omega arith))),
+)
+  where
+    first : get_or (y ∷ ys) 0 0 < get_or (y ∷ ys) (0 + 1) 0 → y + 1 ≤ get_or ys 0 0
+    first s =
+        let e : 0 + 1 ≡ suc 0 = omega arith in let t = subst (λ i. y < get_or (y ∷ ys) i 0) e s in
+        omega (arith, t)
+
+    tail : (k : ℕ) → get_or (y ∷ ys) (k + 1) 0 < get_or (y ∷ ys) (k + 1 + 1) 0
+        → get_or ys k 0 < get_or ys (k + 1) 0
+    tail k s =
+        let e : k + 1 ≡ suc k = omega arith in
+        let f : k + 1 + 1 ≡ suc (k + 1) = omega arith in
+        subst (λ i. get_or ys k 0 < get_or (y ∷ ys) i 0) f
+        (subst (λ i. get_or (y ∷ ys) i 0 < get_or (y ∷ ys) (k + 1 + 1) 0) e s)
+
+-- ---- disjoint_index
+
+pub any_witness : (q : ℕ → Bool) (xs : List ℕ) → list_any q xs ≡ true
+    → (v : ℕ) × (is_member xs v ≡ true) × (q v ≡ true)
+any_witness q [] e = absurd (true≢false (sym e))
+any_witness q (x ∷ xs) e = by (q x) refl e (any_witness q xs)
+  where
+    by : (b : Bool) → q x ≡ b → (b || list_any q xs) ≡ true
+        → (list_any q xs ≡ true → (v : ℕ) × (is_member xs v ≡ true) × (q v ≡ true))
+        → (v : ℕ) × (is_member (x ∷ xs) v ≡ true) × (q v ≡ true)
+    by true h e r = (x, ap (λ b. b || is_member xs x) (eq-eqb x x refl), h)
+    by false h e r =
+        let w = r e in (w.0, ap (λ b. nat_eq w.0 x || b) w.1 ∙ or_true (nat_eq w.0 x), w.2)
+
+pub any_of : (q : ℕ → Bool) (xs : List ℕ) (v : ℕ) → is_member xs v ≡ true → q v ≡ true
+    → list_any q xs ≡ true
+any_of q [] v m e = absurd (true≢false (sym m))
+any_of q (x ∷ xs) v m e = by (nat_eq v x) refl m (any_of q xs v)
+  where
+    by : (b : Bool) → nat_eq v x ≡ b → (b || is_member xs v) ≡ true
+        → (is_member xs v ≡ true → q v ≡ true → list_any q xs ≡ true)
+        → (q x || list_any q xs) ≡ true
+    by true h m r = ap (λ b. b || list_any q xs) (ap q (sym (eqb-true v x h)) ∙ e)
+    by false h m r = ap (λ b. q x || b) (r m e) ∙ or_true (q x)
+
+pub same_any : (q : ℕ → Bool) (xs ys : List ℕ) → ((i : ℕ) → is_member xs i ≡ is_member ys i)
+    → list_any q xs ≡ list_any q ys
+same_any q xs ys h =
+    same_tests (list_any q xs) (list_any q ys)
+    (λ e. let w = any_witness q xs e in any_of q ys w.0 (sym (h w.0) ∙ w.1) w.2)
+    (λ e. let w = any_witness q ys e in any_of q xs w.0 (h w.0 ∙ w.1) w.2)
+
+pub member_flat : (f : ℕ → List ℕ) (xs : List ℕ) (x : ℕ)
+    → is_member (flat_map f xs) x ≡ list_any (λ j. is_member (f j) x) xs
+member_flat f [] x = refl
+member_flat f (j ∷ xs) x =
+    list_any-append (nat_eq x) (f j) (flat_map f xs)
+    ∙ ap (λ b. is_member (f j) x || b) (member_flat f xs x)
+
+pub member_at : (xs : List ℕ) (k d : ℕ) → k < length xs → is_member xs (get_or xs k d) ≡ true
+member_at [] k d h = absurd (omega arith)
+member_at (x ∷ xs) zero d h = ap (λ b. b || is_member xs x) (eq-eqb x x refl)
+member_at (x ∷ xs) (suc k) d h =
+    ap (λ b. nat_eq (get_or xs k d) x || b) (member_at xs k d (omega arith))
+    ∙ or_true (nat_eq (get_or xs k d) x)
+
+filter_filter : (p q : ℕ → Bool) (xs : List ℕ)
+    → filter p (filter q xs) ≡ filter (λ j. q j && p j) xs
+filter_filter p q [] = refl
+filter_filter p q (x ∷ xs) = by (q x) (filter_filter p q xs)
+  where
+    by : (b : Bool) → filter p (filter q xs) ≡ filter (λ j. q j && p j) xs
+        → filter p (cond b (x ∷ filter q xs) (filter q xs))
+        ≡ cond (b && p x) (x ∷ filter (λ j. q j && p j) xs) (filter (λ j. q j && p j) xs)
+    by true r = go (p x)
+      where
+        go : (c : Bool)
+            → ◌≡◌ {A = List ℕ} (cond c (x ∷ filter p (filter q xs)) (filter p (filter q xs)))
+            (cond c (x ∷ filter (λ j. q j && p j) xs) (filter (λ j. q j && p j) xs))
+        go true = ap (λ ys. x ∷ ys) r
+        go false = r
+    by false r = r
+
+module _ (db : List Statement) (k : ℕ) where
+  -- ---- variables
+
+  pub mandatory_is : (xs : List ℕ)
+      → ((i : ℕ) → is_member xs i ≡ is_member (active_of is_essential db k) i) → (x : ℕ)
+      → (is_variable_number db x
+      && (is_member (formula_at db k) x || list_any (λ j. is_member (formula_at db j) x) xs))
+      ≡ is_member (mandatory_variables db k) x
+  mandatory_is xs h x =
+      sym (member_filter (is_variable_number db)
+      (formula_at db k ++ flat_map (formula_at db) (active_of is_essential db k)) x
+      ∙ ap (λ b. is_variable_number db x && b)
+      (list_any-append (nat_eq x) (formula_at db k)
+      (flat_map (formula_at db) (active_of is_essential db k))
+      ∙ ap (λ b. is_member (formula_at db k) x || b)
+      (member_flat (formula_at db) (active_of is_essential db k) x
+      ∙ sym (same_any (λ j. is_member (formula_at db j) x) xs
+      (active_of is_essential db k) h))))
+
+  pub essential_before : (xs : List ℕ)
+      → ((i : ℕ) → is_member xs i ≡ is_member (active_of is_essential db k) i) → (i : ℕ)
+      → i < length xs → get_or xs i 0 < k
+  essential_before xs h i l =
+      let j = get_or xs i 0 in
+      let e =
+      sym (active_member is_essential db essential_local k j) ∙ sym (h j) ∙ member_at xs i 0 l in
+      ltb-true j k (and_left (nat_lt j k) (is_on is_essential db j k) e)
+
+  variable_named : (x : ℕ) → is_variable_number db x ≡ true → x < length (symbol_names db)
+  variable_named x e = by (cases_lt x (length (symbol_names db)))
+    where
+      by : (x < length (symbol_names db)) ⊎ (length (symbol_names db) ≤ x)
+          → x < length (symbol_names db)
+      by (inl l) = l
+      by (inr l) =
+          absurd (true≢false
+          (sym e ∙ ap (λ o. elim o [ None ↦ false | Some w ↦ is_in w (flat_map variables_of db) ])
+          (slice_get_past (symbol_names db) x l)))
+
+  pub mandatory_named : (x : ℕ) → is_member (mandatory_variables db k) x ≡ true
+      → x < length (symbol_names db)
+  mandatory_named x e =
+      variable_named x
+      (and_left (is_variable_number db x)
+      (is_member (formula_at db k ++ flat_map (formula_at db) (active_of is_essential db k)) x)
+      (sym (member_filter (is_variable_number db)
+      (formula_at db k ++ flat_map (formula_at db) (active_of is_essential db k)) x)
+      ∙ e))
+
+  pub found_below : (xs : List ℕ)
+      → ((x : ℕ) → is_member xs x ≡ is_member (mandatory_variables db k) x)
+      → All (λ s. s < length (symbol_names db)) xs
+  found_below xs h i d l =
+      mandatory_named (get_or xs i d) (sym (h (get_or xs i d)) ∙ member_at xs i d l)
+
+  -- ---- hypotheses
+
+  abbrev wanted : ℕ → Bool
+  wanted j =
+      list_any is_essential (statement_at db j)
+      || (list_any is_floating (statement_at db j)
+      && list_any (is_member (mandatory_variables db k)) (formula_at db j))
+
+  module _ (sound : IsSound db) (h : k ≤ length db) (ts : List ℕ) (typed : AreTyped db k ts)
+      (found : List ℕ)
+      (found_is : (x : ℕ) → is_member found x ≡ is_member (mandatory_variables db k) x) where
+    -- an active `$f` of a mandatory variable is found
+    float_found : (j : ℕ) → j < k → list_any is_floating (statement_at db j) ≡ true
+        → list_any (is_member (mandatory_variables db k)) (formula_at db j) ≡ true
+        → is_active db j k ≡ true → list_any (is_float_of db k ts j) found ≡ true
+    float_found j l t m a =
+        let n : j < length db = omega arith in
+        let f = floating_typed db sound j n t in
+        let v = f.0 in
+        let x = f.2 in
+        let c = place_of x.typecode.word (symbol_names db) in
+        let both =
+        sym (ap (list_any (is_member (mandatory_variables db k))) (formula_is db sound j v n x))
+        ∙ m in
+        let no =
+        member_filter (is_variable_number db)
+        (formula_at db k ++ flat_map (formula_at db) (active_of is_essential db k)) c
+        ∙ ap (λ b. b
+        && is_member (formula_at db k ++ flat_map (formula_at db) (active_of is_essential db k)) c)
+        (typecode_constant db sound j v n x) in
+        let yes =
+        sym (or_false (is_member (mandatory_variables db k) v))
+        ∙ sym (ap (λ b. b || (is_member (mandatory_variables db k) v || false)) no) ∙ both in
+        let on = sym (float_active db sound j v n x k l) ∙ a in
+        let same = typed.alone j v l (variable_below db sound j v n x) f.1 on in
+        any_of (is_float_of db k ts j) found v (found_is v ∙ yes)
+        (ap₂ (λ p q. p && q) (eq-eqb j (get_or ts v 0) (sym same))
+        (ap₂ (λ p q. not p && q)
+        (ne_eqb (get_or ts v 0) never
+        (λ e. let few = sound.few in absurd (omega (arith, e, same, n, few))))
+        (ap (λ i. stays db i k) same
+        ∙ on)))
+
+    -- what is found is an active `$f` of a mandatory variable
+    found_float : (j : ℕ) → list_any (is_float_of db k ts j) found ≡ true
+        → (is_active db j k ≡ true) × (list_any is_floating (statement_at db j) ≡ true)
+        × (list_any (is_member (mandatory_variables db k)) (formula_at db j) ≡ true) × (j < k)
+    found_float j e =
+        let w = any_witness (is_float_of db k ts j) found e in
+        let v = w.0 in
+        let t = get_or ts v 0 in
+        let same =
+        eqb-true j t (and_left (nat_eq j t) (not (nat_eq t never) && stays db t k) w.2) in
+        let rest = and_right (nat_eq j t) (not (nat_eq t never) && stays db t k) w.2 in
+        let m = sym (found_is v) ∙ w.1 in
+        let s =
+        typed.some v (mandatory_named v m)
+        (λ z. true≢false
+        (sym (and_left (not (nat_eq t never)) (stays db t k) rest) ∙ ap not (eq-eqb t never z))) in
+        let l : j < k = subst (λ i. i < k) (sym same) s.0 in
+        let n : j < length db = omega arith in
+        let at : typed_at db j ≡ Some v = ap (typed_at db) same ∙ s.1 in
+        let x = typed_float db sound j v n at in
+        let c = place_of x.typecode.word (symbol_names db) in (
+          float_active db sound j v n x k l ∙ ap (λ i. stays db i k) same
+              ∙ and_right (not (nat_eq t never)) (stays db t k) rest,
+          floating_is db sound j v n x,
+          ap (list_any (is_member (mandatory_variables db k))) (formula_is db sound j v n x)
+              ∙ ap (λ b. is_member (mandatory_variables db k) c || (b || false)) m
+              ∙ or_true (is_member (mandatory_variables db k) c),
+          l,
+        )
+
+    pub hypotheses_are : (es xs : List ℕ)
+        → ((j : ℕ) → is_member es j ≡ is_member (active_of is_essential db k) j)
+        → IsStrictlyIncreasing xs
+        → ((j : ℕ) → is_member xs j ≡ (is_member es j || list_any (is_float_of db k ts j) found))
+        → xs ≡ mandatory_hypotheses db k
+    hypotheses_are es xs essentials rising same =
+        sym (filter_filter wanted (λ j. is_active db j k) (range_with_len 0 k)
+        ∙ filter_is (λ j. is_active db j k && wanted j) k 0 xs
+        (rising_is xs 0 rising (λ l. omega arith))
+        (λ j e. let l = (back j (sym (same j) ∙ e)).1 in omega (arith, l))
+        (λ j a b. both j (omega arith)))
+      where
+        essential_is : (j : ℕ)
+            → is_member es j
+            ≡ (list_any is_essential (statement_at db j) && (is_active db j k && nat_lt j k))
+        essential_is j =
+            essentials j
+            ∙ member_filter (λ j. list_any is_essential (statement_at db j)) (active db k) j
+            ∙ ap (λ b. list_any is_essential (statement_at db j) && b)
+            (member_filter (λ j. is_active db j k) (range_with_len 0 k) j
+            ∙ ap (λ b. is_active db j k && b)
+            (member_range k 0 j (omega arith)
+            ∙ (let z : 0 + k ≡ k = omega arith in ap (nat_lt j) z)))
+
+        back : (j : ℕ) → (is_member es j || list_any (is_float_of db k ts j) found) ≡ true
+            → ((is_active db j k && wanted j) ≡ true) × (j < k)
+        back j e = by (is_member es j) refl e
+          where
+            by : (b : Bool) → is_member es j ≡ b
+                → (b || list_any (is_float_of db k ts j) found) ≡ true
+                → ((is_active db j k && wanted j) ≡ true) × (j < k)
+            by true m e =
+                let z = sym (essential_is j) ∙ m in
+                let t =
+                and_left (list_any is_essential (statement_at db j))
+                (is_active db j k && nat_lt j k) z in
+                let y =
+                and_right (list_any is_essential (statement_at db j))
+                (is_active db j k && nat_lt j k) z in (
+                  ap₂ (λ a b. a
+                      && (b ||
+                      (list_any is_floating (statement_at db j)
+                      && list_any (is_member (mandatory_variables db k)) (formula_at db j))))
+                      (and_left (is_active db j k) (nat_lt j k) y) t,
+                  ltb-true j k (and_right (is_active db j k) (nat_lt j k) y),
+                )
+            by false m e =
+                let f = found_float j e in (
+                  ap₂ (λ a b. a && b) f.0
+                      (ap (λ b. list_any is_essential (statement_at db j) || b)
+                      (ap₂ (λ a b. a && b) f.1 f.2)
+                      ∙ or_true (list_any is_essential (statement_at db j))),
+                  f.3,
+                )
+
+        forth : (j : ℕ) → j < k → (is_active db j k && wanted j) ≡ true
+            → (is_member es j || list_any (is_float_of db k ts j) found) ≡ true
+        forth j l e =
+            by (list_any is_essential (statement_at db j)) refl
+            (and_right (is_active db j k) (wanted j) e)
+          where
+            a : is_active db j k ≡ true
+            a = and_left (is_active db j k) (wanted j) e
+
+            by : (b : Bool) → list_any is_essential (statement_at db j) ≡ b
+                → (b || (list_any is_floating (statement_at db j)
+                && list_any (is_member (mandatory_variables db k)) (formula_at db j)))
+                ≡ true
+                → (is_member es j || list_any (is_float_of db k ts j) found) ≡ true
+            by true t e =
+                ap (λ b. b || list_any (is_float_of db k ts j) found)
+                (essential_is j ∙ ap₂ (λ p q. p && q) t (ap₂ (λ p q. p && q) a (lt-ltb j k l)))
+            by false t e =
+                ap (λ b. is_member es j || b)
+                (float_found j l
+                (and_left (list_any is_floating (statement_at db j))
+                (list_any (is_member (mandatory_variables db k)) (formula_at db j)) e)
+                (and_right (list_any is_floating (statement_at db j))
+                (list_any (is_member (mandatory_variables db k)) (formula_at db j)) e) a)
+                ∙ or_true (is_member es j)
+
+        both : (j : ℕ) → j < k → (is_active db j k && wanted j) ≡ is_member xs j
+        both j l =
+            same_tests (is_active db j k && wanted j)
+            (is_member es j || list_any (is_float_of db k ts j) found) (forth j l)
+            (λ e. (back j e).0)
+            ∙ sym (same j)

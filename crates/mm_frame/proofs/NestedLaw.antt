@@ -1,0 +1,34 @@
+-- Of two blocks that are open, the one that was opened first stays open for as long as the other.
+use Rattle.std.proofs.Common.{◌≡◌, ℕ, ◌<◌, ◌≤◌, Bool, true, false, List, refl, sym, arith, ◌⊎◌, inl}
+use Rattle.std.proofs.Common.{inr}
+use Rattle.std.proofs.lemmas.Bool.{cases_lt}
+use Rattle.mm_spec.specs.Statement.{Statement}
+use Rattle.mm_spec.specs.Scope.{depth, stays}
+use Rattle.mm_spec.specs.Laws.Blocks.{InBlock}
+use Rattle.mm_spec.proofs.ActivityLaw.{stays_exact}
+
+pub same_tests : (a b : Bool) → (a ≡ true → b ≡ true) → (b ≡ true → a ≡ true) → a ≡ b
+same_tests true b f g = sym (f refl)
+same_tests false true f g = g refl
+same_tests false false f g = refl
+
+module _ (db : List Statement) where
+  -- what stays open is open before
+  pub stays_earlier : (j k l : ℕ) → j ≤ k → k ≤ l → stays db j l ≡ true → stays db j k ≡ true
+  stays_earlier j k l h m e =
+      let inside = (stays_exact db j l (omega arith)).0 e in
+      (stays_exact db j k h).1 (λ i a b. inside i a (omega arith))
+
+  -- to the end of the inner one is to where it began
+  pub stays_nested : (i j k : ℕ) → i < j → j ≤ k → stays db j k ≡ true → stays db i k ≡ stays db i j
+  stays_nested i j k h l e =
+      same_tests (stays db i k) (stays db i j) (stays_earlier i j k (omega arith) l)
+      (λ f. (stays_exact db i k (omega arith)).1
+      (outer ((stays_exact db i j (omega arith)).0 f) ((stays_exact db j k l).0 e)))
+    where
+      outer : InBlock db i j → InBlock db j k → InBlock db i k
+      outer f g m a b = by (cases_lt j m)
+        where
+          by : (j < m) ⊎ (m ≤ j) → depth db i ≤ depth db m
+          by (inl q) = let x = f j h (omega arith) in let y = g m q b in omega (arith, x, y)
+          by (inr q) = f m a q

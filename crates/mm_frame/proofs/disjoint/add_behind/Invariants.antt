@@ -1,9 +1,0 @@
-use Rattle.std.proofs.Common.{◌-◌, length}
-use Rattle.mm_frame.proofs.DisjointLaw.{Behind}
-use Rattle.mm_frame.proofs.disjoint.add_behind.Given as goal
-
-abbrev pub invariant-loop-at : goal.invariant-loop-at
-invariant-loop-at g l = Behind l.had l.fn.place l.at l.initial.pairs.items l.pairs.items
-
-abbrev pub decreases-loop-at : goal.decreases-loop-at
-decreases-loop-at g l = length l.had - l.at

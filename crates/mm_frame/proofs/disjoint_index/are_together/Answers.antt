@@ -1,0 +1,206 @@
+use Rattle.std.proofs.Common.{◌≡◌, ◌≢◌, ℕ, ◌-◌, ◌<◌, ◌≤◌, ◌&&◌, List, length, get_or, true, false}
+use Rattle.std.proofs.Common.{nat_le, sym, subst, ap, ap₂, ◌∙◌, arith, inl, inr, ◌⊎◌}
+use Rattle.std.proofs.lemmas.Bool.{cases_lt, lt-ltb}
+use Rattle.mm_outline.specs.Blocks.{lists, end_of}
+use Rattle.mm_frame.specs.Pairs.{has_pair, is_before}
+use Rattle.mm_frame.proofs.DisjointIndexLaw.{apart_left, apart_right, apart_end, none_left, sooner}
+use Rattle.mm_frame.proofs.DisjointIndexLaw.{at_has}
+use Rattle.mm_frame.proofs.disjoint_index.are_together.Goals as goal
+use Rattle.mm_frame.proofs.disjoint_index.are_together.Goals.{else-one-other-via-then-one-other+else-is_open_at}
+use Rattle.mm_frame.proofs.disjoint_index.are_together.Goals.{else-one-other-via-else-one-other}
+
+pub returns-then-is_open_at-clause-found : goal.returns-then-is_open_at-clause-found
+returns-then-is_open_at-clause-found g c =
+    let b =
+    lists c.args.blocks.now.of.items c.args.blocks.now.ends.items c.args.blocks.now.open.items in
+    let ps = c.args.disjoint_index.now.pairs.items in
+    let x = c.args.x in
+    let y = c.args.y in
+    let at = c.args.at in
+    let left = c.loop-pairs.left in
+    let right = c.loop-pairs.right in
+    let start = c.count_before-left.result in
+    let v = c.as_slice-pairs.ensures.value in
+    let before : (p : ℕ) → p < start → is_before (get_or ps p (0, 0)) x at ≡ true =
+    subst (λ (y : ℕ). (p : ℕ) → p < start → is_before (get_or ps p (0, 0)) y at ≡ true)
+    c.number.ensures
+    (subst (λ (qs : List (ℕ × ℕ)). (p : ℕ) → p < start
+    → is_before (get_or qs p (0, 0)) c.number.result at ≡ true) v
+    c.count_before-left.ensures.before) in
+    let after : (p : ℕ) → start ≤ p → p < length ps → is_before (get_or ps p (0, 0)) x at ≡ false =
+    subst (λ (y : ℕ). (p : ℕ) → start ≤ p → p < length ps
+    → is_before (get_or ps p (0, 0)) y at ≡ false) c.number.ensures
+    (subst (λ (qs : List (ℕ × ℕ)). (p : ℕ) → start ≤ p → p < length qs
+    → is_before (get_or qs p (0, 0)) c.number.result at ≡ false) v
+    c.count_before-left.ensures.after) in
+    let within : start ≤ length ps =
+    subst (λ (qs : List (ℕ × ℕ)). start ≤ length qs) v c.count_before-left.ensures.within in
+    let one = c.ends_with.ensures.some c.loop-pairs-test.true in
+    let other = c.ends_with-in-loop-pairs.ensures.some c.if-ends_with.true in
+    let has_x : (get_or ps (left - 1) (0, 0)).0 ≡ x =
+    sym (ap (λ (qs : List (ℕ × ℕ)). (get_or qs (left - 1) (0, 0)).0) v) ∙ one.1
+    ∙ c.number-in-loop-pairs.ensures in
+    let has_y : (get_or ps (right - 1) (0, 0)).0 ≡ y =
+    sym (ap (λ (qs : List (ℕ × ℕ)). (get_or qs (right - 1) (0, 0)).0) v) ∙ other.1
+    ∙ c.number-in-loop-pairs-2.ensures in
+    let same : (get_or ps (left - 1) (0, 0)).1 ≡ (get_or ps (right - 1) (0, 0)).1 =
+    subst (λ (qs : List (ℕ × ℕ)). (get_or qs (left - 1) (0, 0)).1
+    ≡ (get_or qs (right - 1) (0, 0)).1) v c.if-one-other.true in
+    let j = (get_or ps (left - 1) (0, 0)).1 in
+    let some = one.0 in
+    let many = other.0 in
+    let il = c.loop-pairs.invariant.0 in
+    let wl = c.loop-pairs.invariant.2 in
+    let wr = c.loop-pairs.invariant.3 in
+    let inside : left - 1 < start = omega (arith, some, il) in
+    let known : left - 1 < length ps = omega (arith, some, wl) in
+    let known_too : right - 1 < length ps = omega (arith, many, wr) in
+    let is_open : nat_le at (end_of b j) ≡ true =
+    subst (λ (qs : List (ℕ × ℕ)). nat_le at (end_of b (get_or qs (left - 1) (0, 0)).1) ≡ true) v
+    (sym c.is_open_at.ensures ∙ c.if-is_open_at.true) in
+    λ e. (
+      j,
+      ap (λ z. has_pair ps z j) (sym has_x) ∙ at_has ps (left - 1) (0, 0) known,
+      ap₂ (has_pair ps) (sym has_y) same ∙ at_has ps (right - 1) (0, 0) known_too,
+      ap₂ (λ p q. p && q)
+          (lt-ltb j at
+          (sooner b ps c.requires.rising x at start within before after (left - 1) inside has_x))
+          is_open,
+    )
+
+pub loop-pairs-preserved-then-one-other-2 : goal.loop-pairs-preserved-then-one-other-2
+loop-pairs-preserved-then-one-other-2 g c =
+    let b =
+    lists c.args.blocks.now.of.items c.args.blocks.now.ends.items c.args.blocks.now.open.items in
+    let ps = c.args.disjoint_index.now.pairs.items in
+    let left = c.loop-pairs.left in
+    let right = c.loop-pairs.right in
+    let v = c.as_slice-pairs.ensures.value in
+    let one = c.ends_with.ensures.some c.loop-pairs-test.true in
+    let other = c.ends_with-in-loop-pairs.ensures.some c.if-ends_with.true in
+    let has_x : (get_or ps (left - 1) (0, 0)).0 ≡ c.args.x =
+    sym (ap (λ (qs : List (ℕ × ℕ)). (get_or qs (left - 1) (0, 0)).0) v) ∙ one.1
+    ∙ c.number-in-loop-pairs.ensures in
+    let less : (get_or ps (left - 1) (0, 0)).1 < (get_or ps (right - 1) (0, 0)).1 =
+    subst (λ (qs : List (ℕ × ℕ)). (get_or qs (left - 1) (0, 0)).1
+    < (get_or qs (right - 1) (0, 0)).1) v c.if-one-other-2.true in
+    let down = c.back-right.ensures.less in
+    let i = c.loop-pairs.invariant in
+    let ir = i.1 in
+    let wr = i.3 in (
+      i.0,
+      (omega (arith, down, ir)),
+      i.2,
+      (omega (arith, down, wr)),
+      apart_right b ps c.requires.rising c.args.x c.args.y c.args.at
+          left right c.back-right.result i.4 one.0 i.2 other.0 wr has_x less
+          c.back-right.ensures.passed,
+    )
+
+pub loop-pairs-preserved : goal.loop-pairs-preserved
+loop-pairs-preserved g c =
+    let b =
+    lists c.args.blocks.now.of.items c.args.blocks.now.ends.items c.args.blocks.now.open.items in
+    let ps = c.args.disjoint_index.now.pairs.items in
+    let at = c.args.at in
+    let left = c.loop-pairs.left in
+    let right = c.loop-pairs.right in
+    let v = c.as_slice-pairs.ensures.value in
+    let one = c.ends_with.ensures.some c.loop-pairs-test.true in
+    let other = c.ends_with-in-loop-pairs.ensures.some c.if-ends_with.true in
+    let has_y : (get_or ps (right - 1) (0, 0)).0 ≡ c.args.y =
+    sym (ap (λ (qs : List (ℕ × ℕ)). (get_or qs (right - 1) (0, 0)).0) v) ∙ other.1
+    ∙ c.number-in-loop-pairs-2.ensures in
+    let no_less : (get_or ps (right - 1) (0, 0)).1 ≤ (get_or ps (left - 1) (0, 0)).1 =
+    subst (λ (qs : List (ℕ × ℕ)). (get_or qs (right - 1) (0, 0)).1
+    ≤ (get_or qs (left - 1) (0, 0)).1) v c.if-one-other-2.false in
+    let why : ((get_or ps (right - 1) (0, 0)).1 < (get_or ps (left - 1) (0, 0)).1)
+    ⊎ (nat_le at (end_of b (get_or ps (left - 1) (0, 0)).1) ≡ false) = elim
+    c.else-one-other.branch [
+      | else-one-other-via-then-one-other+else-is_open_at w ↦ inr
+          (subst (λ (qs : List (ℕ × ℕ)). nat_le at (end_of b (get_or qs (left - 1) (0, 0)).1)
+          ≡ false) v (sym w.is_open_at.ensures ∙ w.if-is_open_at.false))
+      | else-one-other-via-else-one-other w ↦
+          let n =
+          subst (λ (qs : List (ℕ × ℕ)). (get_or qs (left - 1) (0, 0)).1
+          ≢ (get_or qs (right - 1) (0, 0)).1) v w.if-one-other.false in
+          inl (elim (cases_lt (get_or ps (right - 1) (0, 0)).1 (get_or ps (left - 1) (0, 0)).1)
+          [ inl l ↦ l | inr l ↦ absurd (n (omega (arith, l, no_less))) ])
+    ] in
+    let down = c.back-left.ensures.less in
+    let i = c.loop-pairs.invariant in
+    let il = i.0 in
+    let wl = i.2 in (
+      (omega (arith, down, il)),
+      i.1,
+      (omega (arith, down, wl)),
+      i.3,
+      apart_left b ps c.requires.rising c.args.x c.args.y at left
+          right c.back-left.result i.4 one.0 wl other.0 i.3 has_y why c.back-left.ensures.passed,
+    )
+
+pub returns-else-ends_with-clause-none : goal.returns-else-ends_with-clause-none
+returns-else-ends_with-clause-none g c =
+    let b =
+    lists c.args.blocks.now.of.items c.args.blocks.now.ends.items c.args.blocks.now.open.items in
+    let ps = c.args.disjoint_index.now.pairs.items in
+    let y = c.args.y in
+    let at = c.args.at in
+    let start = c.count_before-right.result in
+    let right = c.loop-pairs.right in
+    let v = c.as_slice-pairs.ensures.value in
+    let before : (p : ℕ) → p < start → is_before (get_or ps p (0, 0)) y at ≡ true =
+    subst (λ (y : ℕ). (p : ℕ) → p < start → is_before (get_or ps p (0, 0)) y at ≡ true)
+    c.number-2.ensures
+    (subst (λ (qs : List (ℕ × ℕ)). (p : ℕ) → p < start
+    → is_before (get_or qs p (0, 0)) c.number-2.result at ≡ true) v
+    c.count_before-right.ensures.before) in
+    let after : (p : ℕ) → start ≤ p → p < length ps → is_before (get_or ps p (0, 0)) y at ≡ false =
+    subst (λ (y : ℕ). (p : ℕ) → start ≤ p → p < length ps
+    → is_before (get_or ps p (0, 0)) y at ≡ false) c.number-2.ensures
+    (subst (λ (qs : List (ℕ × ℕ)). (p : ℕ) → start ≤ p → p < length qs
+    → is_before (get_or qs p (0, 0)) c.number-2.result at ≡ false) v
+    c.count_before-right.ensures.after) in
+    let within : start ≤ length ps =
+    subst (λ (qs : List (ℕ × ℕ)). start ≤ length qs) v c.count_before-right.ensures.within in
+    let none = c.ends_with-in-loop-pairs.ensures.none c.if-ends_with.false in
+    λ e. apart_end b ps c.requires.rising c.args.x y at c.loop-pairs.left right
+    c.loop-pairs.invariant.4
+    (inr (none_left b ps c.requires.rising y at start within before after right
+    c.loop-pairs.invariant.1
+    (λ h f. none h
+    (ap (λ (qs : List (ℕ × ℕ)). (get_or qs (right - 1) (0, 0)).0) v ∙ f
+    ∙ sym c.number-in-loop-pairs-2.ensures))))
+
+pub returns-after-loop-pairs-clause-none : goal.returns-after-loop-pairs-clause-none
+returns-after-loop-pairs-clause-none g c =
+    let b =
+    lists c.args.blocks.now.of.items c.args.blocks.now.ends.items c.args.blocks.now.open.items in
+    let ps = c.args.disjoint_index.now.pairs.items in
+    let x = c.args.x in
+    let at = c.args.at in
+    let start = c.count_before-left.result in
+    let left = c.loop-pairs.left in
+    let v = c.as_slice-pairs.ensures.value in
+    let before : (p : ℕ) → p < start → is_before (get_or ps p (0, 0)) x at ≡ true =
+    subst (λ (y : ℕ). (p : ℕ) → p < start → is_before (get_or ps p (0, 0)) y at ≡ true)
+    c.number.ensures
+    (subst (λ (qs : List (ℕ × ℕ)). (p : ℕ) → p < start
+    → is_before (get_or qs p (0, 0)) c.number.result at ≡ true) v
+    c.count_before-left.ensures.before) in
+    let after : (p : ℕ) → start ≤ p → p < length ps → is_before (get_or ps p (0, 0)) x at ≡ false =
+    subst (λ (y : ℕ). (p : ℕ) → start ≤ p → p < length ps
+    → is_before (get_or ps p (0, 0)) y at ≡ false) c.number.ensures
+    (subst (λ (qs : List (ℕ × ℕ)). (p : ℕ) → start ≤ p → p < length qs
+    → is_before (get_or qs p (0, 0)) c.number.result at ≡ false) v
+    c.count_before-left.ensures.after) in
+    let within : start ≤ length ps =
+    subst (λ (qs : List (ℕ × ℕ)). start ≤ length qs) v c.count_before-left.ensures.within in
+    let none = c.ends_with.ensures.none c.loop-pairs-test.false in
+    λ e. apart_end b ps c.requires.rising x c.args.y at left c.loop-pairs.right
+    c.loop-pairs.invariant.4
+    (inl (none_left b ps c.requires.rising x at start within before after left
+    c.loop-pairs.invariant.0
+    (λ h f. none h
+    (ap (λ (qs : List (ℕ × ℕ)). (get_or qs (left - 1) (0, 0)).0) v ∙ f
+    ∙ sym c.number-in-loop-pairs.ensures))))

@@ -1,0 +1,30 @@
+use Rattle.std.proofs.Common.{sym, subst, ℕ, List}
+use Rattle.mm_outline.specs.Blocks.{lists}
+use Rattle.mm_frame.specs.DisjointIndex.{AreKnown, AreSkips}
+use Rattle.mm_frame.proofs.DisjointIndexLaw.{are_known}
+use Rattle.mm_frame.proofs.disjoint_index.disjoint_index_of.Goals as goal
+
+pub skips_of-requires : goal.skips_of-requires
+skips_of-requires g c =
+    let b =
+    lists c.args.blocks.now.of.items c.args.blocks.now.ends.items c.args.blocks.now.open.items in
+    record {
+      known = subst (AreKnown b) (sym c.deref.ensures.value)
+          (are_known c.args.tables.now b c.requires c.in_ok-pairs.pairs.items
+          c.in_ok-pairs.ensures.are);
+    }
+
+pub returns : goal.returns
+returns g c =
+    let b =
+    lists c.args.blocks.now.of.items c.args.blocks.now.ends.items c.args.blocks.now.open.items in
+    record {
+      are = c.in_ok-pairs.ensures.are;
+      rising = c.in_ok-pairs.ensures.rising;
+      known =
+          are_known c.args.tables.now b c.requires c.in_ok-pairs.pairs.items
+          c.in_ok-pairs.ensures.are;
+      skips_are =
+          subst (λ (ps : List (ℕ × ℕ)). AreSkips b ps c.in_ok-skips.skips.items)
+          c.deref.ensures.value c.in_ok-skips.ensures;
+    }

@@ -1,0 +1,17 @@
+use Rattle.std.proofs.Common.{◌≡◌, ℕ, ◌+◌, ◌&&◌, ◌||◌, length, take}
+use Rattle.std.specs.List.{list_any}
+use Rattle.mm_spec.specs.Derivation.{is_member}
+use Rattle.mm_spec.specs.Frame.{symbol_names, is_variable_number, formula_at}
+use Rattle.mm_frame.specs.Hypotheses.{AreMarks}
+use Rattle.mm_frame.proofs.hypotheses.mandatory.Given as goal
+
+abbrev pub invariant-loop-essential : goal.invariant-loop-essential
+invariant-loop-essential g l = record {
+  marks : AreMarks (length (symbol_names l.tables)) (l.assertion + 1) l.seen.items l.found.items;
+  found : (x : ℕ)
+      → is_member l.found.items x
+      ≡ (is_variable_number l.tables x
+      && (is_member (formula_at l.tables l.assertion) x
+      || list_any (λ j. is_member (formula_at l.tables j) x)
+      (take l.essential-index l.essentials)));
+}

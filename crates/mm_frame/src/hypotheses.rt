@@ -1,0 +1,181 @@
+//! The mandatory variables and hypotheses of assertions.
+
+ghost use Rattle.std.specs.Prelude.{◌≡◌, ◌<◌, ◌≤◌, ◌+◌, ◌^◌, ◌&&◌, ◌||◌, ℕ, All, OnOk, length};
+ghost use Rattle.std.specs.Prelude.{nat_eq, slice_index};
+ghost use Rattle.std.specs.List.{list_any};
+ghost use Rattle.std.specs.List.Sorted.{IsStrictlyIncreasing};
+ghost use Rattle.mm_spec.specs.Derivation.{is_member};
+ghost use Rattle.mm_spec.specs.Frame.{symbol_names, is_variable_number, is_essential, active_of};
+ghost use Rattle.mm_spec.specs.Frame.{mandatory_variables, mandatory_hypotheses};
+ghost use Rattle.mm_frame.specs.Latest.{AreLatest};
+ghost use Rattle.mm_frame.specs.Tables.{IsSound};
+ghost use Rattle.mm_frame.specs.Hypotheses.{AreMarks, AreTyped, IsFresh, is_float_of};
+
+use crate::active::active_essentials;
+use crate::tables::Tables;
+use mm_outline::blocks::NEVER;
+use mm_outline::symbol::Sym;
+use std::alloc::{AllocError, Allocator};
+
+/// Marks and lists a variable, unless it is marked.
+fn mark<A: Allocator>(
+    tables: &Tables<A>,
+    symbol: Sym,
+    stamp: u32,
+    seen: &mut Vec<u32, A>,
+    found: &mut Vec<Sym, A>,
+) -> Result<(), AllocError>
+    requires symbol { symbol < length (symbol_names tables.now) }
+    requires marks { AreMarks
+        (length (symbol_names tables.now)) stamp seen.old.items found.old.items }
+    ensures marks { OnOk result
+        (AreMarks (length (symbol_names tables.now)) stamp seen.new.items found.new.items) }
+    ensures found { OnOk result
+        ((x : ℕ)
+        → is_member found.new.items x
+        ≡ (is_member found.old.items x || (is_variable_number tables.now x && nat_eq x symbol))) }
+{
+    if tables.is_variable(symbol) {
+        let place = symbol.number() as usize;
+        if seen[place] != stamp {
+            seen[place] = stamp;
+            found.push(symbol)?;
+        }
+    }
+    Ok(())
+}
+
+/// Marks and lists the variables of a formula.
+fn note<A: Allocator>(
+    tables: &Tables<A>,
+    symbols: &[Sym],
+    stamp: u32,
+    seen: &mut Vec<u32, A>,
+    found: &mut Vec<Sym, A>,
+) -> Result<(), AllocError>
+    requires symbols { All (λ s. s < length (symbol_names tables.now)) symbols.now }
+    requires marks { AreMarks
+        (length (symbol_names tables.now)) stamp seen.old.items found.old.items }
+    ensures marks { OnOk result
+        (AreMarks (length (symbol_names tables.now)) stamp seen.new.items found.new.items) }
+    ensures found { OnOk result
+        ((x : ℕ)
+        → is_member found.new.items x
+        ≡ (is_member found.old.items x
+        || (is_variable_number tables.now x && is_member symbols.now x))) }
+{
+    for symbol in symbols {
+        mark(tables, *symbol, stamp, seen, found)?;
+    }
+    Ok(())
+}
+
+/// Marks and lists the mandatory variables of an assertion.
+fn mandatory<A: Allocator>(
+    tables: &Tables<A>,
+    essentials: &[u32],
+    assertion: u32,
+    seen: &mut Vec<u32, A>,
+    found: &mut Vec<Sym, A>,
+) -> Result<(), AllocError>
+    requires few { length tables.now < 2 ^ 31 }
+    requires assertion { assertion < length tables.now }
+    requires essentials { (i : ℕ)
+        → is_member essentials.now i
+        ≡ is_member (active_of is_essential tables.now assertion) i }
+    requires marks { AreMarks (length (symbol_names tables.now))
+        (assertion + 1) seen.old.items found.old.items }
+    requires none { length found.old.items ≡ 0 }
+    ensures marks { OnOk result
+        (AreMarks (length (symbol_names tables.now))
+        (assertion + 1) seen.new.items found.new.items) }
+    ensures found { OnOk result
+        ((x : ℕ)
+        → is_member found.new.items x ≡ is_member (mandatory_variables tables.now assertion) x) }
+{
+    note(
+        tables,
+        tables.formula(assertion),
+        assertion + 1,
+        seen,
+        found,
+    )?;
+    for essential in essentials {
+        note(
+            tables,
+            tables.formula(*essential),
+            assertion + 1,
+            seen,
+            found,
+        )?;
+    }
+    Ok(())
+}
+
+/// Adds the active `$f` statements of the variables.
+fn add_floats<A: Allocator>(
+    tables: &Tables<A>,
+    typed: &[u32],
+    at: u32,
+    found: &[Sym],
+    hyps: &mut Vec<u32, A>,
+) -> Result<(), AllocError>
+    requires at { at ≤ length tables.now }
+    requires typed { AreTyped tables.now at typed.now }
+    requires found { All (λ s. s < length (symbol_names tables.now)) found.now }
+    ensures { OnOk result
+        ((j : ℕ)
+        → is_member hyps.new.items j
+        ≡ (is_member hyps.old.items j
+        || list_any (is_float_of tables.now at typed.now j) found.now)) }
+{
+    for symbol in found {
+        let floating = typed[symbol.number() as usize];
+        if floating != NEVER {
+            if tables.is_open(floating, at) {
+                hyps.push(floating)?;
+            }
+        }
+    }
+    Ok(())
+}
+
+/// Puts the numbers in rising order, each once.
+fn sort_and_dedup<A: Allocator>(numbers: &mut Vec<u32, A>)
+    ensures rising { IsStrictlyIncreasing numbers.new.items }
+    ensures same { (a : ℕ) → is_member numbers.new.items a ≡ is_member numbers.old.items a }
+{
+    numbers.sort_unstable();
+    numbers.dedup();
+}
+
+/// The mandatory hypotheses of an assertion, and its mandatory variables, which are marked.
+pub(crate) fn hypotheses<A: Allocator>(
+    tables: &Tables<A>,
+    essentials: &[u32],
+    typed: &[u32],
+    assertion: u32,
+    seen: &mut Vec<u32, A>,
+    found: &mut Vec<Sym, A>,
+    hyps: &mut Vec<u32, A>,
+) -> Result<(), AllocError>
+    requires sound { IsSound tables.now }
+    requires assertion { assertion < length tables.now }
+    requires essentials { AreLatest is_essential tables.now essentials.now }
+    requires typed { AreTyped tables.now assertion typed.now }
+    requires seen { IsFresh (length (symbol_names tables.now)) assertion seen.old.items }
+    ensures marks { OnOk result
+        (AreMarks (length (symbol_names tables.now))
+        (assertion + 1) seen.new.items found.new.items) }
+    ensures found { OnOk result
+        ((x : ℕ)
+        → is_member found.new.items x ≡ is_member (mandatory_variables tables.now assertion) x) }
+    ensures hyps { OnOk result (hyps.new.items ≡ mandatory_hypotheses tables.now assertion) }
+{
+    found.clear();
+    active_essentials(tables, essentials, assertion, hyps)?;
+    mandatory(tables, hyps, assertion, seen, found)?;
+    add_floats(tables, typed, assertion, found, hyps)?;
+    sort_and_dedup(hyps);
+    Ok(())
+}

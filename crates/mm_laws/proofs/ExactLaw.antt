@@ -1,0 +1,132 @@
+-- The stack is exact in both directions, and the labels determine the row.
+use Rattle.std.proofs.Common.{◌≡◌, ℕ, suc, ◌+◌, ◌-◌, ◌<◌, Bool, true, false, List, [], ◌∷◌, ◌++◌}
+use Rattle.std.proofs.Common.{map, length, take, drop, Option, Some, None, Ok, Err, nat_le, refl}
+use Rattle.std.proofs.Common.{sym, ap, ap₂, ◌∙◌, subst, append-nil, arith, ◌↔◌, le-leb, leb-true}
+use Rattle.std.proofs.Common.{leb}
+use Rattle.std.specs.List.{list_all}
+use Rattle.mm_spec.specs.Derivation.{Formula, Rule, hypothesis, assertion, Context, Substitution}
+use Rattle.mm_spec.specs.Derivation.{substitute, are_apart, Trees, none, formulas, postfix}
+use Rattle.mm_spec.specs.Derivation.{AreDerivations}
+use Rattle.mm_spec.specs.Limits.{formula_limit}
+use Rattle.mm_spec.specs.Valid.{Reason, too_few, unmatched, not_apart, too_long, Fails}
+use Rattle.mm_spec.proofs.UnifyLaw.{same_equal, found_formula, found_apart}
+use Rattle.mm_spec.specs.Laws.Stack.{found, IsGood, step, apply, pick}
+use Rattle.mm_spec.proofs.MachineLaw.{proceed, run, AreGood, runs_row, good_parts, no_other, means}
+use Rattle.mm_spec.proofs.MachineLaw.{Ran, Stopped}
+
+-- the labels are the postfix list of a row of derivations
+abbrev pub IsPostfixOfRow : Context → List ℕ → Type 0
+IsPostfixOfRow c labels = (row : Trees) × AreDerivations c row × (postfix row ≡ labels)
+
+-- a test that cannot be true, and one whose other side is too large
+is_false : (b : Bool) → ¬ (b ≡ true) → b ≡ false
+is_false true h = absurd (h refl)
+is_false false h = refl
+
+lt-leb_false : (m n : ℕ) → n < m → leb m n ≡ false
+lt-leb_false m n h = is_false (leb m n) (λ e. let le = leb-true m n e in omega (arith, le, h))
+
+module _ (c : Context) where
+  -- a step that fails stops the run, for that reason
+  pub stops : (r : Option Rule) (es : List Formula) (reason : Reason) → IsGood c r
+      → Fails c r es reason → step c r es ≡ Err reason
+  stops None es too_few good h = absurd h
+  stops None es unmatched good h = absurd h
+  stops None es not_apart good h = absurd h
+  stops None es too_long good h = absurd h
+  stops (Some (hypothesis g)) es too_few good h = absurd h
+  stops (Some (hypothesis g)) es unmatched good h = absurd h
+  stops (Some (hypothesis g)) es not_apart good h = absurd h
+  stops (Some (hypothesis g)) es too_long good h =
+      ap (λ b. pick true true true b (es ++ g ∷ [])) (lt-leb_false (length g) formula_limit h)
+  stops (Some (assertion a)) es too_few good h =
+      ap (λ b. apply c a b (take (length es - length a.hypotheses) es)
+      (drop (length es - length a.hypotheses) es))
+      (lt-leb_false (length a.hypotheses) (length es) h)
+  stops (Some (assertion a)) es unmatched good h =
+      let ps = drop (length es - length a.hypotheses) es in
+      let σ = found c a.hypotheses ps in
+      let apart = list_all (λ p. are_apart c (σ p.low) (σ p.high)) a.pairs in
+      ap₂ (λ b m. pick b m apart (nat_le (length (substitute c σ a.formula)) formula_limit)
+      (take (length es - length a.hypotheses) es ++ substitute c σ a.formula ∷ []))
+      (le-leb (length a.hypotheses) (length es) h.0)
+      (is_false _ (λ e. h.1 σ (same_equal _ _ e)))
+  stops (Some (assertion a)) es not_apart good h =
+      let n = length es - length a.hypotheses in
+      let ps = drop n es in
+      let σ = found c a.hypotheses ps in
+      let e : found c a.hypotheses (map (substitute c h.0) a.hypotheses) ≡ σ =
+      ap (found c a.hypotheses) (sym h.2) in
+      let same_test = found_apart c a.hypotheses h.0 a.pairs good.pairs in
+      let apart =
+      subst (λ (s : Substitution). list_all (λ p. are_apart c (s p.low) (s p.high)) a.pairs
+      ≡ list_all (λ p. are_apart c (h.0 p.low) (h.0 p.high)) a.pairs) e same_test in
+      ap₂ (λ b m. pick b m (list_all (λ p. are_apart c (σ p.low) (σ p.high)) a.pairs)
+      (nat_le (length (substitute c σ a.formula)) formula_limit)
+      (take n es ++ substitute c σ a.formula ∷ []))
+      (le-leb (length a.hypotheses) (length es) h.1) (no_other c a ps h.0 good h.2)
+      ∙ ap (λ k. pick true true k (nat_le (length (substitute c σ a.formula)) formula_limit)
+      (take n es ++ substitute c σ a.formula ∷ [])) (apart
+      ∙ is_false _ h.3)
+  stops (Some (assertion a)) es too_long good h =
+      let n = length es - length a.hypotheses in
+      let ps = drop n es in
+      let σ = found c a.hypotheses ps in
+      let e : found c a.hypotheses (map (substitute c h.0) a.hypotheses) ≡ σ =
+      ap (found c a.hypotheses) (sym h.2) in
+      let apart =
+      subst (λ (s : Substitution). list_all (λ p. are_apart c (s p.low) (s p.high)) a.pairs
+      ≡ list_all (λ p. are_apart c (h.0 p.low) (h.0 p.high)) a.pairs) e
+      (found_apart c a.hypotheses h.0 a.pairs good.pairs) in
+      let formula =
+      subst (λ (s : Substitution). substitute c s a.formula ≡ substitute c h.0 a.formula) e
+      (found_formula c a.hypotheses h.0 a.formula good.formula) in
+      ap₂ (λ b m. pick b m (list_all (λ p. are_apart c (σ p.low) (σ p.high)) a.pairs)
+      (nat_le (length (substitute c σ a.formula)) formula_limit)
+      (take n es ++ substitute c σ a.formula ∷ []))
+      (le-leb (length a.hypotheses) (length es) h.1) (no_other c a ps h.0 good h.2)
+      ∙ ap₂ (λ k s. pick true true k s (take n es ++ substitute c σ a.formula ∷ [])) (apart ∙ h.3)
+      (ap (λ f. nat_le (length f) formula_limit) formula ∙ lt-leb_false _ _ h.4)
+
+  -- a row of derivations with these labels is what a run finds
+  pub row_run : (ls : List ℕ) → AreGood c ls → (row : Trees) → AreDerivations c row
+      → postfix row ≡ ls → run c 0 ls [] ≡ Ok (formulas row)
+  row_run ls good row d e =
+      let g : AreGood c (postfix row) = subst (AreGood c) (sym e) good in
+      ap (λ x. run c 0 x []) (sym e ∙ sym (append-nil (postfix row))) ∙ runs_row c row d g 0 [] []
+
+  -- the run ends well exactly where there is one
+  pub exact_ok : (ls : List ℕ) → AreGood c ls
+      → IsPostfixOfRow c ls ↔ ((out : List Formula) × (run c 0 ls [] ≡ Ok out))
+  exact_ok ls good = (
+    λ h. (formulas h.0, row_run ls good h.0 h.1 h.2),
+    λ h. let m = subst (Ran c none ls) h.1
+        (means c ls none 0 tt good) in
+        (m.0, m.1, m.2),
+  )
+
+  -- a run stops exactly where a label fails after a row of derivations, and that tells the place
+  -- and the reason
+  pub stopped_run : (ls : List ℕ) (reason : Reason) → AreGood c ls → (s : Stopped c none ls reason)
+      → run c 0 ls [] ≡ Err (record { at = length s.before; reason = reason })
+  stopped_run ls reason good s =
+      let g : AreGood c (s.before ++ s.label ∷ s.after) = subst (AreGood c) s.splits good in
+      let parts = good_parts c s.before (s.label ∷ s.after) g in
+      let gr : AreGood c (postfix s.reached) = subst (AreGood c) (sym s.labels) parts.0 in
+      let e : ls ≡ postfix s.reached ++ s.label ∷ s.after =
+      s.splits ∙ ap (λ x. x ++ s.label ∷ s.after) (sym s.labels) in
+      let n : 0 + length (postfix s.reached) ≡ length s.before =
+      let k = ap length s.labels in omega (arith, k) in
+      ap (λ x. run c 0 x []) e ∙ runs_row c s.reached s.derivations gr 0 (s.label ∷ s.after) []
+      ∙ ap (λ r. proceed r (0 + length (postfix s.reached))
+      (run c (suc (0 + length (postfix s.reached))) s.after))
+      (stops (c.rule s.label) (formulas s.reached) reason parts.1.0 s.fails)
+      ∙ ap (λ k. Err (record { at = k; reason = reason })) n
+
+  -- with the label that fails, the labels are of no row
+  pub stopped_no_row : (ls : List ℕ) (reason : Reason) → AreGood c ls → Stopped c none ls reason
+      → ¬ IsPostfixOfRow c ls
+  stopped_no_row ls reason good s h =
+      let found = row_run ls good h.0 h.1 h.2 in
+      let stopped = stopped_run ls reason good s in
+      cc

@@ -1,0 +1,177 @@
+-- Steps without a reading fault have a derivation of the formula, a step fault or an end fault, and
+-- no two of these.
+use Rattle.std.proofs.Common.{◌≡◌, ℕ, Bool, true, false, List, [], ◌∷◌, ◌++◌, map, Result, Ok, Err}
+use Rattle.std.proofs.Common.{refl, sym, ap, ap₂, ◌∙◌, subst, true≢false, bytes_eq}
+use Rattle.std.proofs.lemmas.Slice.Eq.{bytes_eq-Decides}
+use Rattle.mm_spec.specs.Text.{fault}
+use Rattle.mm_spec.specs.declared.Fault.{Fault}
+use Rattle.mm_spec.specs.Derivation.{Formula, Context, Trees, none, more, tree, formulas, postfix}
+use Rattle.mm_spec.specs.Derivation.{AreDerivations}
+use Rattle.mm_spec.specs.Steps.{Step, PlacedStep}
+use Rattle.mm_spec.specs.Valid.{code_of, Plain, IsPlain, Derives, StepFault, ProofEndFault}
+use Rattle.mm_spec.specs.Valid.{IsEndCode}
+use Rattle.mm_spec.proofs.MachineLaw.{Failed}
+use Rattle.mm_spec.proofs.StepsLaw.{run_steps, StoppedStep, RanSteps, means_steps}
+use Rattle.mm_spec.specs.Laws.Stack.{AreGoodSteps}
+use Rattle.mm_spec.specs.Laws.Complete.{IsFine}
+use Rattle.mm_spec.proofs.CheckedLaw.{same_row, plain_unique}
+use Rattle.mm_laws.proofs.ExcludedLaw.{excludes}
+use Rattle.mm_spec.specs.declared.Code.TheVariants.{NotOneEntry, OtherFormula}
+
+abbrev steps_of : List PlacedStep → List Step
+steps_of ps = map (λ p. p.step) ps
+
+-- a split of the steps is one of the placed steps
+record Split (ps : List PlacedStep) (before : List Step) (first : Step) : Type 0 where
+  front : List PlacedStep
+  at : ℕ
+  back : List PlacedStep
+  is : ps ≡ front ++ record { at = at; step = first } ∷ back
+  same : steps_of front ≡ before
+
+rest_of : List Step → List Step
+rest_of [] = []
+rest_of (s ∷ ss) = ss
+
+first_of : Step → List Step → Step
+first_of d [] = d
+first_of d (s ∷ ss) = s
+
+split : (before after : List Step) (first : Step) (ps : List PlacedStep)
+    → steps_of ps ≡ before ++ first ∷ after → Split ps before first
+unfolding rest_of first_of
+split [] after first [] e = cc
+split [] after first (p ∷ ps) e =
+    record {
+      front = [];
+      at = p.at;
+      back = ps;
+      is = ap (λ s. record { at = p.at; step = s } ∷ ps) (ap (first_of first) e);
+      same = refl;
+    }
+split (s ∷ before) after first [] e = cc
+split (s ∷ before) after first (p ∷ ps) e =
+    let r = split before after first ps (ap rest_of e) in
+    record {
+      front = p ∷ r.front;
+      at = r.at;
+      back = r.back;
+      is = ap (λ x. p ∷ x) r.is;
+      same = ap₂ (λ x y. x ∷ y) (ap (first_of s) e) r.same;
+    }
+
+module _ (c : Context) (fine : (l : ℕ) → IsFine c (c.rule l)) (ps : List PlacedStep)
+    (formula : Formula) (end : ℕ) where
+  pub data Judged : Type 0 where
+    valid : (d : Trees) → Derives c (steps_of ps) formula d → Judged
+    step_fault : (f : Fault) → StepFault c ps f → Judged
+    end_fault : (f : Fault) → ProofEndFault c ps formula end f → Judged
+
+  -- one entry, or not
+  at_end : (row : Trees) → AreDerivations c row → IsPlain c (steps_of ps) (postfix row) → Judged
+  at_end none d p =
+      end_fault (fault end NotOneEntry)
+      (record {
+        row = none;
+        derivations = d;
+        plain = p;
+        code = NotOneEntry;
+        fails = refl;
+        is = refl;
+      })
+  at_end (more (more ts k h bs) l g cs) d p =
+      end_fault (fault end NotOneEntry)
+      (record {
+        row = more (more ts k h bs) l g cs;
+        derivations = d;
+        plain = p;
+        code = NotOneEntry;
+        fails = two (formulas ts) h g;
+        is = refl;
+      })
+    where
+      two : (xs : List Formula) (h g : Formula)
+          → IsEndCode c ((xs ++ h ∷ []) ++ g ∷ []) formula NotOneEntry
+      two [] h g = refl
+      two (x ∷ []) h g = refl
+      two (x ∷ y ∷ xs) h g = refl
+  at_end (more none l g cs) d p = go (bytes_eq g formula) refl
+    where
+      go : (b : Bool) → bytes_eq g formula ≡ b → Judged
+      go true e =
+          valid (more none l g cs)
+          (l, cs, ap (λ z. tree l z cs) ((bytes_eq-Decides g formula).0 e), d, p)
+      go false e =
+          end_fault (fault end OtherFormula)
+          (record {
+            row = more none l g cs;
+            derivations = d;
+            plain = p;
+            code = OtherFormula;
+            fails = ((λ h. true≢false (sym ((bytes_eq-Decides g formula).1 h) ∙ e)), refl);
+            is = refl;
+          })
+
+  -- one of the three
+  pub judged : AreGoodSteps c 0 (steps_of ps) → Judged
+  judged good =
+      go (run_steps c [] (steps_of ps) []) (means_steps c (steps_of ps) [] [] none tt tt good)
+    where
+      go : (r : Result (List Formula) Failed) → RanSteps c [] [] (steps_of ps) r → Judged
+      go (Ok out) m = at_end m.2 m.3 (subst (λ x. Plain c [] [] (steps_of ps) x) (sym m.4) m.1)
+      go (Err e) m =
+          let s = split m.before m.after m.first ps m.splits in
+          step_fault (fault s.at (code_of e.reason))
+          (record {
+            before = s.front;
+            first = record { at = s.at; step = m.first };
+            after = s.back;
+            splits = s.is;
+            row = m.row;
+            derivations = m.derivations;
+            plain =
+                subst (λ x. Plain c [] [] x (postfix m.row)) (sym s.same)
+                (subst (λ x. Plain c [] [] m.before x) (sym m.is) m.plain);
+            reason = e.reason;
+            fails = m.fails;
+            is = refl;
+          })
+
+  pub stopped : (f : Fault) → (s : StepFault c ps f) → StoppedStep c [] [] (steps_of ps) s.reason
+  stopped f s = record {
+    before = steps_of s.before;
+    first = s.first.step;
+    after = steps_of s.after;
+    splits = ap steps_of s.splits ∙ map_append s.before s.first s.after;
+    labels = postfix s.row;
+    plain = s.plain;
+    row = s.row;
+    derivations = s.derivations;
+    is = refl;
+    fails = s.fails;
+  }
+    where
+      map_append : (xs : List PlacedStep) (x : PlacedStep) (ys : List PlacedStep)
+          → steps_of (xs ++ x ∷ ys) ≡ steps_of xs ++ x.step ∷ steps_of ys
+      map_append [] x ys = refl
+      map_append (y ∷ xs) x ys = ap (λ z. y.step ∷ z) (map_append xs x ys)
+
+  -- no two of them
+  pub no_step_fault : (d : Trees) → Derives c (steps_of ps) formula d → (f : Fault)
+      → ¬ StepFault c ps f
+  no_step_fault d h f s =
+      excludes c fine (steps_of ps) s.reason (postfix d) (stopped f s) h.4 (d, h.3, refl)
+
+  pub no_both_faults : (f g : Fault) → StepFault c ps f → ¬ ProofEndFault c ps formula end g
+  no_both_faults f g s h =
+      excludes c fine (steps_of ps) s.reason (postfix h.row) (stopped f s) h.plain
+      (h.row, h.derivations, refl)
+
+  pub no_end_fault : (d : Trees) → Derives c (steps_of ps) formula d → (f : Fault)
+      → ¬ ProofEndFault c ps formula end f
+  no_end_fault d h f e =
+      let row : e.row ≡ d =
+      same_row c fine e.row d e.derivations h.3
+      (plain_unique c fine (steps_of ps) [] [] (postfix e.row) (postfix d) e.plain h.4) in
+      let one : formulas e.row ≡ formula ∷ [] = ap formulas row ∙ ap formulas h.2 in
+      (subst (λ x. IsEndCode c x formula e.code) one e.fails).0 refl

@@ -1,0 +1,488 @@
+-- There is one output.
+use Rattle.std.proofs.Common.{◌≡◌, ◌≢◌, ℕ, zero, suc, ◌<◌, Bool, true, false, List, [], ◌∷◌, ◌++◌}
+use Rattle.std.proofs.Common.{map, length, Option, Some, None, Err, refl, sym, ap, ap₂, ◌∙◌, subst}
+use Rattle.std.proofs.Common.{append_assoc, arith, ◌⊎◌, inl, inr}
+use Rattle.std.specs.Prelude.{flat_map, Decides, slice_get, count_by, IsTrue}
+use Rattle.std.specs.List.{AllZip}
+use Rattle.std.proofs.lemmas.Bool.{cases_order}
+use Rattle.std.proofs.lemmas.Bool.Decides.{same_from_decides}
+use Rattle.std.proofs.lemmas.List.{append_cancel_left}
+use Rattle.mm_spec.specs.Text.{Bytes, Token, fault}
+use Rattle.mm_spec.specs.declared.Fault.{Fault}
+use Rattle.mm_spec.specs.Statement.{Statement, spelled, Begins, IsBetween, ShapeFault, IsLongestRow}
+use Rattle.mm_spec.specs.Statement.{FileEndFault, shape_code, is_closing, is_opening}
+use Rattle.mm_spec.specs.Lawful.{least, scope_fault}
+use Rattle.mm_spec.specs.Derivation.{Formula, Context, Rule, hypothesis, assertion, Trees, formulas}
+use Rattle.mm_spec.specs.Derivation.{postfix, AreDerivations, is_member}
+use Rattle.mm_spec.specs.Steps.{Step, label, marked, PlacedStep}
+use Rattle.mm_spec.specs.Valid as proof
+use Rattle.mm_spec.specs.Valid.{Reason, code_of, Fails, StepFails, StepFault, IsPlain, IsEndCode}
+use Rattle.mm_spec.specs.Citation.{context_at, steps_at, reading_faults_at, IsValid, RestsOn}
+use Rattle.mm_spec.specs.Frame.{formula_at}
+use Rattle.mm_spec.specs.Report.{Row, CitingRow, report, citation_report, refusal}
+use Rattle.mm_spec.specs.declared.Choice.{Choice}
+use Rattle.mm_spec.specs.declared.Choice.TheVariants.{All, Matrix, Counts, Usage, Citations}
+use Rattle.mm_laws.proofs.RisingListsLaw.{same_list}
+use Rattle.mm_spec.specs.Request.{Request}
+use Rattle.mm_spec.specs.declared.Code.{Code}
+use Rattle.mm_spec.specs.Output.{LexedText, lexed_of, TextFault, Stops, IsRead, ProofFault, end_of}
+use Rattle.mm_spec.specs.Output.{is_theorem_at, AllAreValid, FirstProofFault, FirstFault}
+use Rattle.mm_spec.specs.Output.{HasNoFault, theorems, columns, open_columns, label_at, IsRowOf}
+use Rattle.mm_spec.specs.Output.{AreCited, IsCitingRowOf, IsReportOf, IsOutput}
+use Rattle.mm_spec.specs.Laws.Stack.{IsGood}
+use Rattle.mm_laws.proofs.ExactLaw.{stops}
+use Rattle.mm_spec.specs.Laws.Complete.{IsFine, AreComplete}
+use Rattle.mm_spec.specs.Opened.{counted}
+use Rattle.mm_spec.proofs.CompleteLaw.{reads_complete}
+use Rattle.mm_spec.proofs.OpenedLaw.{counted_complete}
+use Rattle.mm_spec.proofs.CheckedLaw.{same_row, plain_unique}
+use Rattle.mm_laws.proofs.ExcludedLaw.{excludes}
+use Rattle.mm_laws.proofs.JudgedLaw.{stopped, no_step_fault, no_end_fault, no_both_faults}
+use Rattle.mm_spec.proofs.RowLaw.{longest_unique}
+use Rattle.mm_spec.specs.declared.Code.TheVariants.{OpenStatement, OpenBlock}
+
+-- ---- two splits of one list
+
+abbrev Splits : {X : Type 0} → List X → X → List X → X → Type 0
+Splits {X} xs x ys y =
+    ((xs ≡ ys) × (x ≡ y))
+    ⊎ (((zs : List X) × (ys ≡ xs ++ x ∷ zs)) ⊎ ((zs : List X) × (xs ≡ ys ++ y ∷ zs)))
+
+head_or : {X : Type 0} → X → List X → X
+head_or d [] = d
+head_or d (x ∷ xs) = x
+
+tail_of : {X : Type 0} → List X → List X
+tail_of [] = []
+tail_of (x ∷ xs) = xs
+
+splits_of : {X : Type 0} (xs ys us vs : List X) (x y : X) → xs ++ x ∷ us ≡ ys ++ y ∷ vs
+    → Splits xs x ys y
+unfolding head_or tail_of
+splits_of [] [] us vs x y e = inl (refl, ap (head_or x) e)
+splits_of [] (b ∷ ys) us vs x y e = inr (inl (ys, ap (λ z. z ∷ ys) (sym (ap (head_or x) e))))
+splits_of (a ∷ xs) [] us vs x y e = inr (inr (xs, ap (λ z. z ∷ xs) (ap (head_or y) e)))
+splits_of (a ∷ xs) (b ∷ ys) us vs x y e = go (splits_of xs ys us vs x y (ap tail_of e))
+  where
+    same : a ≡ b
+    same = ap (head_or a) e
+
+    go : Splits xs x ys y → Splits (a ∷ xs) x (b ∷ ys) y
+    go (inl h) = inl (ap₂ (λ p q. p ∷ q) same h.0, h.1)
+    go (inr (inl h)) = inr (inl (h.0, ap₂ (λ p q. p ∷ q) (sym same) h.1))
+    go (inr (inr h)) = inr (inr (h.0, ap₂ (λ p q. p ∷ q) same h.1))
+
+-- ---- faults of steps and of the end
+
+module _ (c : Context) (fine : (l : ℕ) → IsFine c (c.rule l)) where
+  good : (r : Option Rule) (es : List Formula) (a : Reason) → IsFine c r → Fails c r es a
+      → IsGood c r
+  good None es a f h = nothing a h
+    where
+      nothing : (a : Reason) → Fails c None es a → ⊥
+      nothing _ h = h
+  good (Some (hypothesis g)) es a f h = tt
+  good (Some (assertion g)) es a f h = f
+
+  reason_unique : (s : Step) (es : List Formula) (a b : Reason) → StepFails c s es a
+      → StepFails c s es b → a ≡ b
+  reason_unique (label l) es a b h k =
+      let g = good (c.rule l) es a (fine l) h in
+      let e : Err a ≡ Err b = sym (stops c (c.rule l) es a g h) ∙ stops c (c.rule l) es b g k in
+      cc
+  reason_unique (marked j) es a b h k = absurd h
+
+  -- no later step fails too
+  no_later : (ps : List PlacedStep) (f : Fault) (s : StepFault c ps f) (row : Trees)
+      → (before zs : List PlacedStep)
+      → AreDerivations c row → IsPlain c (map (λ p. p.step) before) (postfix row)
+      → before ≡ s.before ++ s.first ∷ zs → ⊥
+  no_later ps f s row before zs d p is =
+      let t : StepFault c before f =
+      record {
+        before = s.before;
+        first = s.first;
+        after = zs;
+        splits = is;
+        row = s.row;
+        derivations = s.derivations;
+        plain = s.plain;
+        reason = s.reason;
+        fails = s.fails;
+        is = s.is;
+      } in
+      excludes c fine (map (λ p. p.step) before) s.reason (postfix row)
+      (stopped c fine before [] 0 f t) p (row, d, refl)
+
+  pub step_fault_unique : (ps : List PlacedStep) (f g : Fault) → StepFault c ps f → StepFault c ps g
+      → f ≡ g
+  step_fault_unique ps f g s t =
+      go (splits_of s.before t.before s.after t.after s.first t.first (sym s.splits ∙ t.splits))
+    where
+      go : Splits s.before s.first t.before t.first → f ≡ g
+      go (inl e) =
+          let plain = subst (λ x. IsPlain c (map (λ p. p.step) x) (postfix s.row)) e.0 s.plain in
+          let row : s.row ≡ t.row =
+          same_row c fine s.row t.row s.derivations t.derivations
+          (plain_unique c fine (map (λ p. p.step) t.before) [] [] (postfix s.row)
+          (postfix t.row) plain t.plain) in
+          let fails =
+          subst (λ x. StepFails c x.step (formulas t.row) s.reason) e.1
+          (subst (λ r. StepFails c s.first.step (formulas r) s.reason) row s.fails) in
+          s.is ∙ ap₂ (λ p r. fault p.at (code_of r)) e.1
+          (reason_unique t.first.step (formulas t.row) s.reason t.reason fails t.fails)
+          ∙ sym t.is
+      go (inr (inl h)) = absurd (no_later ps f s t.row t.before h.0 t.derivations t.plain h.1)
+      go (inr (inr h)) = absurd (no_later ps g t s.row s.before h.0 s.derivations s.plain h.1)
+
+  code_unique : (xs : List Formula) (formula : Formula) (a b : Code) → IsEndCode c xs formula a
+      → IsEndCode c xs formula b → a ≡ b
+  code_unique [] formula a b h k = h ∙ sym k
+  code_unique (g ∷ []) formula a b h k = h.1 ∙ sym k.1
+  code_unique (g ∷ e ∷ xs) formula a b h k = h ∙ sym k
+
+  pub end_fault_unique : (ps : List PlacedStep) (formula : Formula) (end : ℕ) (f g : Fault)
+      → proof.ProofEndFault c ps formula end f → proof.ProofEndFault c ps formula end g → f ≡ g
+  end_fault_unique ps formula end f g s t =
+      let row : s.row ≡ t.row =
+      same_row c fine s.row t.row s.derivations t.derivations
+      (plain_unique c fine (map (λ p. p.step) ps) [] [] (postfix s.row)
+      (postfix t.row) s.plain t.plain) in
+      s.is ∙ ap (fault end)
+      (code_unique (formulas t.row) formula s.code t.code
+      (subst (λ r. IsEndCode c (formulas r) formula s.code) row s.fails) t.fails)
+      ∙ sym t.is
+
+no_least : (fs : List Fault) (f : Fault) → fs ≡ [] → least fs ≡ Some f → ⊥
+no_least fs f e h = let no : None ≡ Some f = sym (ap least e) ∙ h in cc
+
+module _ (db : List Statement) (fine : AreComplete db) where
+  pub proof_fault_unique : (k end : ℕ) (f g : Fault) → ProofFault db k end f → ProofFault db k end g
+      → f ≡ g
+  proof_fault_unique k end f g (inl h) (inl i) = let e : Some f ≡ Some g = sym h ∙ i in cc
+  proof_fault_unique k end f g (inl h) (inr i) = absurd (no_least (reading_faults_at db k) f i.0 h)
+  proof_fault_unique k end f g (inr h) (inl i) = absurd (no_least (reading_faults_at db k) g h.0 i)
+  proof_fault_unique k end f g (inr h) (inr i) = go h.1 i.1
+    where
+      go : StepFault (context_at db k) (steps_at db k) f
+          ⊎ proof.ProofEndFault (context_at db k) (steps_at db k) (formula_at db k) end f
+          → StepFault (context_at db k) (steps_at db k) g
+          ⊎ proof.ProofEndFault (context_at db k) (steps_at db k) (formula_at db k) end g → f ≡ g
+      go (inl s) (inl t) = step_fault_unique (context_at db k) (fine k) (steps_at db k) f g s t
+      go (inl s) (inr t) =
+          absurd (no_both_faults (context_at db k) (fine k) (steps_at db k)
+          (formula_at db k) end f g s t)
+      go (inr s) (inl t) =
+          absurd (no_both_faults (context_at db k) (fine k) (steps_at db k)
+          (formula_at db k) end g f t s)
+      go (inr s) (inr t) =
+          end_fault_unique (context_at db k) (fine k) (steps_at db k) (formula_at db k) end f g s t
+
+  pub valid_no_fault : (k end : ℕ) (f : Fault) → IsValid db k → ProofFault db k end f → ⊥
+  valid_no_fault k end f v (inl h) = no_least (reading_faults_at db k) f v.0 h
+  valid_no_fault k end f v (inr h) = go h.1
+    where
+      go : StepFault (context_at db k) (steps_at db k) f
+          ⊎ proof.ProofEndFault (context_at db k) (steps_at db k) (formula_at db k) end f → ⊥
+      go (inl s) =
+          no_step_fault (context_at db k) (fine k) (steps_at db k) (formula_at db k) end v.1 v.2 f s
+      go (inr t) =
+          no_end_fault (context_at db k) (fine k) (steps_at db k) (formula_at db k) end v.1 v.2 f t
+
+  earlier : (j k : ℕ) (f g : Fault) → j < k → FirstProofFault db j f → FirstProofFault db k g → ⊥
+  earlier j k f g lt h i = valid_no_fault j (end_of (slice_get db j)) f (i.1 j lt h.0) h.2
+
+  first_proof_unique : (j k : ℕ) (f g : Fault) → FirstProofFault db j f → FirstProofFault db k g
+      → f ≡ g
+  first_proof_unique j k f g h i = go (cases_order j k)
+    where
+      go : (j ≡ k) ⊎ ((j < k) ⊎ (k < j)) → f ≡ g
+      go (inl e) =
+          proof_fault_unique k (end_of (slice_get db k)) f g
+          (subst (λ n. ProofFault db n (end_of (slice_get db n)) f) e h.2) i.2
+      go (inr (inl l)) = absurd (earlier j k f g l h i)
+      go (inr (inr l)) = absurd (earlier k j g f l i h)
+
+-- ---- rows of marks
+
+marks_unique : (db : List Statement) (by_essential : Bool) (t : ℕ) (axioms : List ℕ)
+    → (a b : List Bool)
+    → AllZip (λ x mark. Decides mark (RestsOn db by_essential t x)) axioms a
+    → AllZip (λ x mark. Decides mark (RestsOn db by_essential t x)) axioms b → a ≡ b
+marks_unique db by_essential t [] [] [] h k = refl
+marks_unique db by_essential t [] [] (y ∷ b) h k = absurd k
+marks_unique db by_essential t [] (x ∷ a) b h k = absurd h
+marks_unique db by_essential t (n ∷ axioms) [] b h k = absurd h
+marks_unique db by_essential t (n ∷ axioms) (x ∷ a) [] h k = absurd k
+marks_unique db by_essential t (n ∷ axioms) (x ∷ a) (y ∷ b) h k =
+    ap₂ (λ p q. p ∷ q) (same_from_decides x y h.0 k.0)
+    (marks_unique db by_essential t axioms a b h.1 k.1)
+
+row_unique : (db : List Statement) (request : Request) (t : ℕ) (r s : Row) → IsRowOf db request t r
+    → IsRowOf db request t s → r ≡ s
+row_unique db request t r s h k =
+    ap₂ (λ (l : Bytes) (m : List Bool). record { label = l; marks = m }) (h.0 ∙ sym k.0)
+    (marks_unique db request.essential t (columns db request.only) r.marks s.marks h.1 k.1)
+
+rows_unique : (db : List Statement) (request : Request) (ts : List ℕ) (a b : List Row)
+    → AllZip (IsRowOf db request) ts a → AllZip (IsRowOf db request) ts b → a ≡ b
+rows_unique db request [] [] [] h k = refl
+rows_unique db request [] [] (y ∷ b) h k = absurd k
+rows_unique db request [] (x ∷ a) b h k = absurd h
+rows_unique db request (n ∷ ts) [] b h k = absurd h
+rows_unique db request (n ∷ ts) (x ∷ a) [] h k = absurd k
+rows_unique db request (n ∷ ts) (x ∷ a) (y ∷ b) h k =
+    ap₂ (λ p q. p ∷ q) (row_unique db request n x y h.0 k.0) (rows_unique db request ts a b h.1 k.1)
+
+-- ---- faults of the text
+
+begins_front : (before zs : List Token) (x : Token) → Begins (before ++ x ∷ zs)
+    → Begins (before ++ x ∷ [])
+begins_front before zs x b = (
+  b.0,
+  b.1,
+  zs ++ b.2,
+  b.3 ∙ append_assoc before (x ∷ zs) b.2
+      ∙ sym (append_assoc before (x ∷ []) (zs ++ b.2)),
+)
+
+shape_unique : (ts : List Token) (f g : Fault) → ShapeFault ts f → ShapeFault ts g → f ≡ g
+shape_unique ts f g s t =
+    go (splits_of s.before t.before s.after t.after s.first t.first (sym s.splits ∙ t.splits))
+  where
+    Code : List Token → Token → Fault → Type 0
+    Code before first f =
+        (IsBetween before × (f ≡ fault first.at (shape_code true first.word)))
+        ⊎ ((¬ IsBetween before) × (f ≡ fault first.at (shape_code false first.word)))
+
+    codes : (before : List Token) (first : Token) → Code before first f → Code before first g
+        → f ≡ g
+    codes before first (inl h) (inl k) = h.1 ∙ sym k.1
+    codes before first (inl h) (inr k) = absurd (k.0 h.0)
+    codes before first (inr h) (inl k) = absurd (h.0 k.0)
+    codes before first (inr h) (inr k) = h.1 ∙ sym k.1
+
+    go : Splits s.before s.first t.before t.first → f ≡ g
+    go (inl e) =
+        codes t.before t.first
+        (subst (λ x. Code t.before x f) e.1 (subst (λ b. Code b s.first f) e.0 s.code)) t.code
+    go (inr (inl h)) =
+        absurd (s.no_more (begins_front s.before h.0 s.first (subst Begins h.1 t.begins)))
+    go (inr (inr h)) =
+        absurd (t.no_more (begins_front t.before h.0 t.first (subst Begins h.1 s.begins)))
+
+one_row : (ts : List Token) (a b : List Statement) → IsLongestRow ts a → IsLongestRow ts b → a ≡ b
+one_row ts a b h k = sym (longest_unique ts a h) ∙ longest_unique ts b k
+
+end_unique : (len : ℕ) (ts : List Token) (f g : Fault) → FileEndFault len ts f
+    → FileEndFault len ts g → f ≡ g
+end_unique len ts f g s t = go s.code t.code
+  where
+    rest : s.is_row.rest ≡ t.is_row.rest
+    rest =
+        append_cancel_left (flat_map spelled t.row) s.is_row.rest t.is_row.rest
+        (sym (subst (λ r. ts ≡ flat_map spelled r ++ s.is_row.rest)
+        (one_row ts s.row t.row s.is_row t.is_row) s.is_row.splits)
+        ∙ t.is_row.splits)
+
+    go : ((s.is_row.rest ≢ []) × (f ≡ fault len OpenStatement))
+        ⊎ ((s.is_row.rest ≡ []) × (count_by is_closing s.row < count_by is_opening s.row)
+        × (f ≡ fault len OpenBlock))
+        → ((t.is_row.rest ≢ []) × (g ≡ fault len OpenStatement))
+        ⊎ ((t.is_row.rest ≡ []) × (count_by is_closing t.row < count_by is_opening t.row)
+        × (g ≡ fault len OpenBlock))
+        → f ≡ g
+    go (inl h) (inl k) = h.1 ∙ sym k.1
+    go (inl h) (inr k) = absurd (h.0 (rest ∙ k.0))
+    go (inr h) (inl k) = absurd (k.0 (sym rest ∙ h.0))
+    go (inr h) (inr k) = h.2 ∙ sym k.2
+
+text_fault_unique : (len : ℕ) (ts : List Token) (o : Option Fault) (f g : Fault)
+    → TextFault len (record { tokens = ts; fault = o }) f
+    → TextFault len (record { tokens = ts; fault = o }) g → f ≡ g
+text_fault_unique len ts o f g (inl h) (inl k) = shape_unique ts f g h k
+text_fault_unique len ts o f g (inl h) (inr k) = absurd (k.0 (f, h))
+text_fault_unique len ts o f g (inr h) (inl k) = absurd (h.0 (g, k))
+text_fault_unique len ts (Some e) f g (inr h) (inr k) = h.1 ∙ sym k.1
+text_fault_unique len ts None f g (inr h) (inr k) = end_unique len ts f g h.1 k.1
+
+-- ---- what is read
+
+abbrev Fronts : {X : Type 0} → List X → List X → List X → List X → Type 0
+Fronts {X} xs us ys vs =
+    ((xs ≡ ys) × (us ≡ vs))
+    ⊎ (((s : X) × (zs : List X) × (us ≡ s ∷ zs) × (length xs < length ys))
+    ⊎ ((s : X) × (zs : List X) × (vs ≡ s ∷ zs) × (length ys < length xs)))
+
+fronts_of : {X : Type 0} (xs ys us vs : List X) → xs ++ us ≡ ys ++ vs → Fronts xs us ys vs
+unfolding head_or tail_of
+fronts_of [] [] us vs e = inl (refl, e)
+fronts_of [] (b ∷ ys) us vs e = inr (inl (b, ys ++ vs, e, omega arith))
+fronts_of (a ∷ xs) [] us vs e = inr (inr (a, xs ++ us, sym e, omega arith))
+fronts_of (a ∷ xs) (b ∷ ys) us vs e = go (fronts_of xs ys us vs (ap tail_of e))
+  where
+    same : a ≡ b
+    same = ap (head_or a) e
+
+    go : Fronts xs us ys vs → Fronts (a ∷ xs) us (b ∷ ys) vs
+    go (inl h) = inl (ap₂ (λ p q. p ∷ q) same h.0, h.1)
+    go (inr (inl h)) = let l = h.3 in inr (inl (h.0, h.1, h.2, omega (arith, l)))
+    go (inr (inr h)) = let l = h.3 in inr (inr (h.0, h.1, h.2, omega (arith, l)))
+
+stops_unique : (len : ℕ) (x : LexedText) (row db rest : List Statement) (f g : Option Fault)
+    → Stops len x row db rest f → Stops len x row db rest g → f ≡ g
+stops_unique len x row db (s ∷ rest) f g h k = sym h.1 ∙ k.1
+stops_unique len x row db [] None None h k = refl
+stops_unique len x row db [] None (Some g) h k = absurd (h g k)
+stops_unique len x row db [] (Some f) None h k = absurd (k f h)
+stops_unique len x row db [] (Some f) (Some g) h k =
+    ap Some (text_fault_unique len x.tokens x.fault f g h k)
+
+shorter : (len : ℕ) (x : LexedText) (a b : List Statement) (f g : Option Fault)
+    → (h : IsRead len x a f) (k : IsRead len x b g) (s : Statement) (zs : List Statement)
+    → h.rest ≡ s ∷ zs → length a < length b → ⊥
+shorter len x a b f g h k s zs is lt =
+    let stop = subst (λ r. Stops len x h.row a r f) is h.stops in
+    let row = one_row x.tokens h.row k.row h.is_row k.is_row in
+    stop.0 (sym stop.1 ∙ ap (λ r. scope_fault r (length a)) row ∙ k.lawful (length a) lt)
+
+read_unique : (len : ℕ) (x : LexedText) (a b : List Statement) (f g : Option Fault)
+    → IsRead len x a f → IsRead len x b g → (a ≡ b) × (f ≡ g)
+read_unique len x a b f g h k =
+    go (fronts_of a b h.rest k.rest
+    (sym h.splits ∙ one_row x.tokens h.row k.row h.is_row k.is_row ∙ k.splits))
+  where
+    go : Fronts a h.rest b k.rest → (a ≡ b) × (f ≡ g)
+    go (inl e) = (
+      e.0,
+      stops_unique len x k.row b k.rest f g
+          (subst (λ r. Stops len x r b k.rest f) (one_row x.tokens h.row k.row h.is_row k.is_row)
+          (subst (λ r. Stops len x h.row b r f) e.1
+          (subst (λ d. Stops len x h.row d h.rest f) e.0 h.stops)))
+          k.stops,
+    )
+    go (inr (inl l)) = absurd (shorter len x a b f g h k l.0 l.1 l.2 l.3)
+    go (inr (inr l)) = absurd (shorter len x b a g f k h l.0 l.1 l.2 l.3)
+
+-- ---- the output
+
+inside : (db : List Statement) (k : ℕ) → IsTrue (is_theorem_at db k) → k < length db
+inside [] zero h = let no : false ≡ true = h in cc
+inside [] (suc k) h = let no : false ≡ true = h in cc
+inside (s ∷ db) zero h = omega arith
+inside (s ∷ db) (suc k) h = let l = inside db k h in omega (arith, l)
+
+module _ (len : ℕ) (x : LexedText) (with_open : Bool) where
+  Cause : List Statement → Option Fault → Fault → Type 0
+  Cause db o f =
+      ((k : ℕ) × FirstProofFault (counted with_open db) k f)
+      ⊎ (AllAreValid (counted with_open db) × (o ≡ Some f))
+
+  complete : (db : List Statement) (o : Option Fault) → IsRead len x db o
+      → AreComplete (counted with_open db)
+  complete db o r = counted_complete with_open db (reads_complete len x db o r)
+
+  -- a proof with a fault is not valid
+  not_both : (db : List Statement) (o : Option Fault) → IsRead len x db o → (k : ℕ) (f : Fault)
+      → FirstProofFault (counted with_open db) k f → AllAreValid (counted with_open db) → ⊥
+  not_both db o r k f a v =
+      let counts = counted with_open db in
+      valid_no_fault counts (complete db o r) k (end_of (slice_get counts k)) f
+      (v k (inside counts k a.0) a.0) a.2
+
+  first_fault_unique : (f g : Fault) → FirstFault len x with_open f → FirstFault len x with_open g
+      → f ≡ g
+  unfolding Cause
+  first_fault_unique f g h k =
+      let same = read_unique len x h.0 k.0 h.1 k.1 h.2 k.2 in
+      go (subst (λ d. Cause d k.1 f) same.0 (subst (λ o. Cause h.0 o f) same.1 h.3)) k.3
+    where
+      go : Cause k.0 k.1 f → Cause k.0 k.1 g → f ≡ g
+      go (inl a) (inl b) =
+          first_proof_unique (counted with_open k.0) (complete k.0 k.1 k.2) a.0 b.0 f g a.1 b.1
+      go (inl a) (inr b) = absurd (not_both k.0 k.1 k.2 a.0 f a.1 b.0)
+      go (inr a) (inl b) = absurd (not_both k.0 k.1 k.2 b.0 g b.1 a.0)
+      go (inr a) (inr b) = let e : Some f ≡ Some g = sym a.1 ∙ b.1 in cc
+
+  no_both : (f : Fault) (db : List Statement) → FirstFault len x with_open f
+      → HasNoFault len x with_open db → ⊥
+  unfolding Cause
+  no_both f db h k =
+      let same = read_unique len x h.0 db h.1 None h.2 k.0 in
+      go (subst (λ d. Cause d None f) same.0 (subst (λ o. Cause h.0 o f) same.1 h.3))
+    where
+      go : Cause db None f → ⊥
+      go (inl a) = not_both db None k.0 a.0 f a.1 k.1
+      go (inr a) = let e : None ≡ Some f = a.1 in cc
+
+-- ---- rows of citations
+
+cited_unique : (db : List Statement) (request : Request) (t : ℕ) (a b : List ℕ)
+    → AreCited db request t a → AreCited db request t b → a ≡ b
+cited_unique db request t a b h k =
+    same_list a b h.rising k.rising
+    (λ x. same_from_decides (is_member a x) (is_member b x) (h.cited x) (k.cited x))
+
+citing_unique : (db : List Statement) (request : Request) (t : ℕ) (r s : CitingRow)
+    → IsCitingRowOf db request t r → IsCitingRowOf db request t s → r ≡ s
+citing_unique db request t r s h k =
+    ap₂ (λ (l : Bytes) (m : List Bytes). record { label = l; cited = m }) (h.0 ∙ sym k.0)
+    (h.1.2 ∙ ap (map (label_at db)) (cited_unique db request t h.1.0 k.1.0 h.1.1 k.1.1)
+    ∙ sym k.1.2)
+
+all_citing_unique : (db : List Statement) (request : Request) (ts : List ℕ) (a b : List CitingRow)
+    → AllZip (IsCitingRowOf db request) ts a → AllZip (IsCitingRowOf db request) ts b → a ≡ b
+all_citing_unique db request [] [] [] h k = refl
+all_citing_unique db request [] [] (y ∷ b) h k = absurd k
+all_citing_unique db request [] (x ∷ a) b h k = absurd h
+all_citing_unique db request (n ∷ ts) [] b h k = absurd h
+all_citing_unique db request (n ∷ ts) (x ∷ a) [] h k = absurd k
+all_citing_unique db request (n ∷ ts) (x ∷ a) (y ∷ b) h k =
+    ap₂ (λ p q. p ∷ q) (citing_unique db request n x y h.0 k.0)
+    (all_citing_unique db request ts a b h.1 k.1)
+
+-- a database has one report
+report_unique : (db : List Statement) (opened : Option ℕ) (request : Request) (choice : Choice)
+    → (a b : List ℕ)
+    → IsReportOf choice db opened request a → IsReportOf choice db opened request b → a ≡ b
+report_unique db opened request Citations a b h k =
+    h.2 ∙ ap (citation_report request.form opened (length (columns db request.only)))
+    (all_citing_unique db request (theorems db) h.0 k.0 h.1 k.1)
+    ∙ sym k.2
+report_unique db opened request All a b h k =
+    h.2 ∙ ap (λ r. report request.form opened (map (label_at db) (columns db request.only)) r All)
+    (rows_unique db request (theorems db) h.0 k.0 h.1 k.1)
+    ∙ sym k.2
+report_unique db opened request Matrix a b h k =
+    h.2 ∙ ap
+    (λ r. report request.form opened (map (label_at db) (columns db request.only)) r Matrix)
+    (rows_unique db request (theorems db) h.0 k.0 h.1 k.1)
+    ∙ sym k.2
+report_unique db opened request Counts a b h k =
+    h.2 ∙ ap
+    (λ r. report request.form opened (map (label_at db) (columns db request.only)) r Counts)
+    (rows_unique db request (theorems db) h.0 k.0 h.1 k.1)
+    ∙ sym k.2
+report_unique db opened request Usage a b h k =
+    h.2 ∙ ap (λ r. report request.form opened (map (label_at db) (columns db request.only)) r Usage)
+    (rows_unique db request (theorems db) h.0 k.0 h.1 k.1)
+    ∙ sym k.2
+
+-- there is one output
+pub output_unique : (text : List ℕ) (request : Request) (a b : List ℕ) → IsOutput text request a
+    → IsOutput text request b → a ≡ b
+output_unique text request a b (inl h) (inl k) =
+    h.2 ∙ ap (refusal text)
+    (first_fault_unique (length text) (lexed_of text) request.with_open h.0 k.0 h.1 k.1)
+    ∙ sym k.2
+output_unique text request a b (inl h) (inr k) =
+    absurd (no_both (length text) (lexed_of text) request.with_open h.0 k.0 h.1 k.1)
+output_unique text request a b (inr h) (inl k) =
+    absurd (no_both (length text) (lexed_of text) request.with_open k.0 h.0 k.1 h.1)
+output_unique text request a b (inr h) (inr k) =
+    let db : h.0 ≡ k.0 =
+    (read_unique (length text) (lexed_of text) h.0 k.0 None None h.1.0 k.1.0).0 in
+    report_unique (counted request.with_open k.0)
+    (open_columns k.0 request) request request.choice a b
+    (subst (λ d. IsReportOf request.choice (counted request.with_open d)
+    (open_columns d request) request a) db h.2) k.2

@@ -1,0 +1,97 @@
+-- What is written for two small texts, a faulty one and a sound one.
+use Rattle.std.proofs.Common.{◌≡◌, ℕ, zero, suc, ◌<◌, false, List, [], ◌∷◌, flat_map, Some, None}
+use Rattle.std.proofs.Common.{codes, refl, sym, inl, inr, true≢false, arith}
+use Rattle.std.specs.Fmt.{digits}
+use Rattle.mm_spec.specs.Text.{token, fault}
+use Rattle.mm_spec.specs.Statement.{Statement, constants, axiomatic, opening, closing}
+use Rattle.mm_spec.specs.Lawful.{scope_fault}
+use Rattle.mm_spec.specs.Report.{line}
+use Rattle.mm_spec.specs.declared.Choice.TheVariants.{All}
+use Rattle.mm_spec.specs.declared.Form.TheVariants.{One}
+use Rattle.mm_spec.specs.Request.{Request}
+use Rattle.mm_spec.specs.Output.{lexed_of, IsRead, AreValid, IsOutput}
+use Rattle.mm_spec.specs.declared.Code.TheVariants.{ConstantInBlock}
+use Rattle.mm_laws.proofs.ReaderLaw.{statements}
+use Rattle.mm_spec.proofs.RowLaw.{is_longest}
+use Rattle.mm_spec.proofs.StopsLaw.{no_text_fault}
+
+-- the whole report, by all nodes
+abbrev whole : Request
+whole = record { only = None; choice = All; form = One; essential = false; with_open = false }
+
+-- ---- a `$c` in a block
+
+abbrev faulty : List ℕ
+faulty = codes "$c a $. ${ $c b $. $}"
+
+abbrev front : List Statement
+front = constants 0 (token 3 (codes "a") ∷ []) 5 ∷ opening 8 ∷ []
+
+front_lawful : (k : ℕ) → k < 2 → scope_fault (statements faulty) k ≡ None
+unfolding statements
+front_lawful zero h = refl
+front_lawful (suc zero) h = refl
+front_lawful (suc (suc k)) h = absurd (omega arith)
+
+front_valid : AreValid front 2
+front_valid zero h t = absurd (true≢false (sym t))
+front_valid (suc zero) h t = absurd (true≢false (sym t))
+front_valid (suc (suc k)) h t = absurd (omega arith)
+
+front_read : IsRead 21 (lexed_of faulty) front (Some (fault 11 ConstantInBlock))
+unfolding statements
+front_read = record {
+  row = statements faulty;
+  is_row = is_longest (lexed_of faulty).tokens;
+  rest = constants 11 (token 14 (codes "b") ∷ []) 16 ∷ closing 19 ∷ [];
+  splits = refl;
+  lawful = front_lawful;
+  stops = ((λ e. cc), refl);
+}
+
+refused : IsOutput faulty whole (line (codes "refused 1:12 E11"))
+unfolding digits
+refused =
+    inl (
+      fault 11 ConstantInBlock,
+      (front, Some (fault 11 ConstantInBlock), front_read, inr (front_valid, refl)),
+      refl,
+    )
+
+-- ---- a text without faults
+
+abbrev sound : List ℕ
+sound = codes "$c a $. ax $a a $."
+
+abbrev db : List Statement
+db =
+    constants 0 (token 3 (codes "a") ∷ []) 5
+    ∷ axiomatic (token 8 (codes "ax")) 11 (token 14 (codes "a") ∷ []) 16 ∷ []
+
+db_lawful : (k : ℕ) → k < 2 → scope_fault db k ≡ None
+db_lawful zero h = refl
+db_lawful (suc zero) h = refl
+db_lawful (suc (suc k)) h = absurd (omega arith)
+
+db_valid : AreValid db 2
+db_valid zero h t = absurd (true≢false (sym t))
+db_valid (suc zero) h t = absurd (true≢false (sym t))
+db_valid (suc (suc k)) h t = absurd (omega arith)
+
+db_read : IsRead 18 (lexed_of sound) db None
+unfolding statements
+db_read = record {
+  row = db;
+  is_row = is_longest (lexed_of sound).tokens;
+  rest = [];
+  splits = refl;
+  lawful = db_lawful;
+  stops = no_text_fault 18 (lexed_of sound) refl;
+}
+
+reported : IsOutput sound whole
+    (flat_map line
+    (codes "mmdepend 1" ∷ codes "axioms 1" ∷ codes "theorems 0" ∷ codes "matrix" ∷ codes "counts"
+    ∷ codes "usage" ∷ codes "ax:0:" ∷ codes "end" ∷ []))
+unfolding digits
+reported = inr (db, (db_read, db_valid), ([], tt, refl))

@@ -1,0 +1,166 @@
+-- Rising lists of numbers: one with the same members is the same, and there is one of all numbers
+-- below another that have a property, if it is decided.
+use Rattle.std.proofs.Common.{◌≡◌, ℕ, zero, suc, ◌+◌, ◌<◌, ◌≤◌, ◌==◌, Bool, true, false, ◌⊎◌, inl}
+use Rattle.std.proofs.Common.{inr, List, [], ◌∷◌, get_or, refl, sym, ◌∙◌, subst, arith, true≢false}
+use Rattle.std.proofs.Common.{eqb-true, eq-eqb}
+use Rattle.std.specs.Prelude.{Decides}
+use Rattle.std.specs.List.Sorted.{IsStrictlyIncreasing}
+use Rattle.std.proofs.lemmas.Bool.{or_cases, or_left, or_right}
+use Rattle.mm_spec.specs.Derivation.{is_member}
+use Rattle.mm_laws.specs.Laws.{IsDecided}
+
+rising_tail : (x : ℕ) (xs : List ℕ) → IsStrictlyIncreasing (x ∷ xs) → IsStrictlyIncreasing xs
+rising_tail x xs h =
+    λ k l. let e : suc k + 1 ≡ suc (k + 1) = omega arith in
+    subst (λ n. get_or xs k 0 < get_or (x ∷ xs) n 0) e (h (suc k) (omega arith))
+
+-- the first is below the others
+first_below : (x : ℕ) (xs : List ℕ) → IsStrictlyIncreasing (x ∷ xs) → (a : ℕ)
+    → is_member xs a ≡ true → x < a
+first_below x [] h a m = absurd (true≢false (sym m))
+first_below x (y ∷ ys) h a m =
+    by (or_cases (a == y) (is_member ys a) m) (h 0 (omega arith))
+    (λ q. first_below y ys (rising_tail x (y ∷ ys) h) a q)
+  where
+    by : ((a == y) ≡ true) ⊎ (is_member ys a ≡ true) → x < y → (is_member ys a ≡ true → y < a)
+        → x < a
+    by (inl e) l on = let same : a ≡ y = eqb-true a y e in omega arith
+    by (inr q) l on = let r = on q in omega arith
+
+own_member : (x : ℕ) (xs : List ℕ) → is_member (x ∷ xs) x ≡ true
+own_member x xs = or_left (x == x) (is_member xs x) (eq-eqb x x refl)
+
+-- the same members, the same list
+pub same_list : (xs ys : List ℕ) → IsStrictlyIncreasing xs → IsStrictlyIncreasing ys
+    → ((a : ℕ) → is_member xs a ≡ is_member ys a) → xs ≡ ys
+same_list [] [] h k same = refl
+same_list [] (y ∷ ys) h k same = absurd (true≢false (sym (own_member y ys) ∙ sym (same y)))
+same_list (x ∷ xs) [] h k same = absurd (true≢false (sym (own_member x xs) ∙ same x))
+same_list (x ∷ xs) (y ∷ ys) h k same =
+    cc (first, same_list xs ys (rising_tail x xs h) (rising_tail y ys k) others)
+  where
+    in_front : (a b : ℕ) (bs : List ℕ) → IsStrictlyIncreasing (b ∷ bs) → is_member (b ∷ bs) a ≡ true
+        → b ≤ a
+    in_front a b bs r m = by (or_cases (a == b) (is_member bs a) m)
+      where
+        by : ((a == b) ≡ true) ⊎ (is_member bs a ≡ true) → b ≤ a
+        by (inl e) = let same : a ≡ b = eqb-true a b e in omega arith
+        by (inr q) = let l = first_below b bs r a q in omega arith
+
+    first : x ≡ y
+    first =
+        let l = in_front x y ys k (sym (same x) ∙ own_member x xs) in
+        let m = in_front y x xs h (same y ∙ own_member y ys) in
+        omega arith
+
+    -- what is after the one first element is after the other
+    after : (a b c : ℕ) (bs cs : List ℕ) → b ≡ c → IsStrictlyIncreasing (b ∷ bs)
+        → is_member bs a ≡ true → is_member (c ∷ cs) a ≡ true → is_member cs a ≡ true
+    after a b c bs cs e r m n = by (or_cases (a == c) (is_member cs a) n)
+      where
+        by : ((a == c) ≡ true) ⊎ (is_member cs a ≡ true) → is_member cs a ≡ true
+        by (inl q) =
+            let same : a ≡ c = eqb-true a c q in let l = first_below b bs r a m in
+            absurd (omega (arith, same, l, e))
+        by (inr q) = q
+
+    others : (a : ℕ) → is_member xs a ≡ is_member ys a
+    others a = by (is_member xs a) (is_member ys a) refl refl
+      where
+        by : (p q : Bool) → is_member xs a ≡ p → is_member ys a ≡ q
+            → is_member xs a ≡ is_member ys a
+        by true q e f =
+            e ∙ sym (after a x y xs ys first h e
+            (sym (same a) ∙ or_right (a == x) (is_member xs a) e))
+        by false true e f =
+            absurd (true≢false
+            (sym (after a y x ys xs (sym first) k f
+            (same a ∙ or_right (a == y) (is_member ys a) f))
+            ∙ e))
+        by false false e f = e ∙ sym f
+
+rising_cons : (x : ℕ) (xs : List ℕ) → IsStrictlyIncreasing xs
+    → ((a : ℕ) → is_member xs a ≡ true → x < a) → IsStrictlyIncreasing (x ∷ xs)
+rising_cons x [] h below k l = absurd (omega arith)
+rising_cons x (y ∷ ys) h below zero l = below y (own_member y ys)
+rising_cons x (y ∷ ys) h below (suc k) l =
+    let e : suc (k + 1) ≡ suc k + 1 = omega arith in
+    subst (λ n. get_or (y ∷ ys) k 0 < get_or (x ∷ y ∷ ys) n 0) e (h k (omega arith))
+
+-- the numbers from i on, below i + n, that have the property
+abbrev pub IsListOf : (ℕ → Type 0) → ℕ → ℕ → List ℕ → Type 0
+IsListOf P i n xs =
+    IsStrictlyIncreasing xs × ((a : ℕ) → Decides (is_member xs a) ((i ≤ a) × (a < i + n) × P a))
+
+pub list_of : (P : ℕ → Type 0) → ((a : ℕ) → IsDecided (P a)) → (i n : ℕ)
+    → (xs : List ℕ) × IsListOf P i n xs
+list_of P each i zero = (
+  [],
+  (
+    (λ k l. absurd (omega arith)),
+    λ a. (
+      (λ e. absurd (true≢false (sym e))),
+      λ h. let l = h.0 in let m = h.1 in
+          absurd (omega (arith, l, m)),
+    ),
+  ),
+)
+list_of P each i (suc n) = by (each i) (list_of P each (suc i) n)
+  where
+    by : IsDecided (P i) → (xs : List ℕ) × IsListOf P (suc i) n xs
+        → (xs : List ℕ) × IsListOf P i (suc n) xs
+    by (false, d) r = (
+      r.0,
+      (
+        r.1.0,
+        λ a. (
+          (λ e. let h = (r.1.1 a).0 e in let l = h.0 in let m = h.1 in
+              (omega (arith, l), omega (arith, m), h.2)),
+          λ h. (r.1.1 a).1
+              (later a h, (let m = h.1 in omega (arith, m)), h.2),
+        ),
+      ),
+    )
+      where
+        later : (a : ℕ) → (i ≤ a) × (a < i + suc n) × P a → suc i ≤ a
+        later a h = at (a == i) refl
+          where
+            at : (b : Bool) → (a == i) ≡ b → suc i ≤ a
+            at true e = absurd (true≢false (sym (d.1 (subst P (eqb-true a i e) h.2))))
+            at false e = let l = h.0 in above l
+              where
+                above : i ≤ a → suc i ≤ a
+                above l =
+                    let ne : a ≡ i → ⊥ = λ q. true≢false (sym (eq-eqb a i q) ∙ e) in
+                    omega (arith, l, ne)
+    by (true, d) r = (
+      i ∷ r.0,
+      (
+        rising_cons i r.0 r.1.0
+            (λ a m. let h = (r.1.1 a).0 m in let l = h.0 in omega (arith, l)),
+        λ a. (to a, from a),
+      ),
+    )
+      where
+        to : (a : ℕ) → is_member (i ∷ r.0) a ≡ true → (i ≤ a) × (a < i + suc n) × P a
+        to a m = at (or_cases (a == i) (is_member r.0 a) m)
+          where
+            at : ((a == i) ≡ true) ⊎ (is_member r.0 a ≡ true) → (i ≤ a) × (a < i + suc n) × P a
+            at (inl e) =
+                let same : a ≡ i = eqb-true a i e in
+                (omega (arith, same), omega (arith, same), subst P (sym same) (d.0 refl))
+            at (inr q) =
+                let h = (r.1.1 a).0 q in let l = h.0 in let k = h.1 in
+                (omega (arith, l), omega (arith, k), h.2)
+
+        from : (a : ℕ) → (i ≤ a) × (a < i + suc n) × P a → is_member (i ∷ r.0) a ≡ true
+        from a h = at (a == i) refl
+          where
+            at : (b : Bool) → (a == i) ≡ b → is_member (i ∷ r.0) a ≡ true
+            at true e = or_left (a == i) (is_member r.0 a) e
+            at false e =
+                let ne : a ≡ i → ⊥ = λ q. true≢false (sym (eq-eqb a i q) ∙ e) in
+                let l = h.0 in
+                let k = h.1 in
+                or_right (a == i) (is_member r.0 a)
+                ((r.1.1 a).1 (omega (arith, l, ne), omega (arith, k), h.2))

@@ -1,0 +1,65 @@
+-- Where a text is read, its proofs are valid or a first one has a fault.
+use Rattle.std.proofs.Common.{◌≡◌, ℕ, zero, suc, Bool, true, false, List, length, Option, Some}
+use Rattle.std.proofs.Common.{None, slice_get, ◌⊎◌, inl, inr, refl, sym, ◌∙◌, subst, true≢false}
+use Rattle.std.proofs.Common.{arith}
+use Rattle.std.specs.Prelude.{IsTrue}
+use Rattle.std.proofs.lemmas.Bool.{cases_eq}
+use Rattle.mm_spec.specs.declared.Fault.{Fault}
+use Rattle.mm_spec.specs.Statement.{Statement}
+use Rattle.mm_spec.specs.Citation.{IsValid}
+use Rattle.mm_spec.specs.Laws.Complete.{AreComplete}
+use Rattle.mm_spec.specs.Output.{LexedText, IsRead, ProofFault, end_of, is_theorem_at, AreValid}
+use Rattle.mm_spec.specs.Output.{AllAreValid, FirstProofFault}
+use Rattle.mm_laws.specs.Laws.{IsSoundOrFaulty}
+use Rattle.mm_spec.specs.Opened.{counted}
+use Rattle.mm_spec.proofs.CompleteLaw.{reads_complete}
+use Rattle.mm_spec.proofs.OpenedLaw.{counted_complete}
+use Rattle.mm_laws.proofs.TheoremLaw.{valid_or_faulty}
+use Rattle.mm_laws.proofs.SomeReadingLaw.{is_readable}
+
+module _ (db : List Statement) (fine : AreComplete db) where
+  one_more : (n : ℕ) → AreValid db n → (IsTrue (is_theorem_at db n) → IsValid db n)
+      → AreValid db (suc n)
+  one_more n h v j l t = by (cases_eq j n)
+    where
+      by : (j ≡ n) ⊎ (j ≡ n → ⊥) → IsValid db j
+      by (inl e) = subst (IsValid db) (sym e) (v (subst (λ i. IsTrue (is_theorem_at db i)) e t))
+      by (inr ne) = h j (omega arith) t
+
+  -- the first theorems are valid, or one of them is the first with a fault
+  pub valid_or_first : (n : ℕ) → AreValid db n ⊎ ((k : ℕ) × (f : Fault) × FirstProofFault db k f)
+  valid_or_first zero = inl (λ j l t. absurd (omega arith))
+  valid_or_first (suc n) = go (valid_or_first n)
+    where
+      judged : AreValid db n → IsTrue (is_theorem_at db n)
+          → IsValid db n ⊎ ((f : Fault) × ProofFault db n (end_of (slice_get db n)) f)
+          → AreValid db (suc n) ⊎ ((k : ℕ) × (f : Fault) × FirstProofFault db k f)
+      judged h t (inl v) = inl (one_more n h (λ u. v))
+      judged h t (inr f) = inr (n, f.0, (t, h, f.1))
+
+      by : AreValid db n → (b : Bool) → is_theorem_at db n ≡ b
+          → AreValid db (suc n) ⊎ ((k : ℕ) × (f : Fault) × FirstProofFault db k f)
+      by h true e = judged h e (valid_or_faulty db fine n (end_of (slice_get db n)))
+      by h false e = inl (one_more n h (λ t. absurd (true≢false (sym t ∙ e))))
+
+      go : AreValid db n ⊎ ((k : ℕ) × (f : Fault) × FirstProofFault db k f)
+          → AreValid db (suc n) ⊎ ((k : ℕ) × (f : Fault) × FirstProofFault db k f)
+      go (inl h) = by h (is_theorem_at db n) refl
+      go (inr f) = inr f
+
+-- a text has a first fault, or none at all
+pub sound_or_faulty : (len : ℕ) (x : LexedText) (with_open : Bool) → IsSoundOrFaulty len x with_open
+sound_or_faulty len x with_open =
+    let r = is_readable len x in
+    by r.0 r.1 r.2
+    (valid_or_first (counted with_open r.0)
+    (counted_complete with_open r.0 (reads_complete len x r.0 r.1 r.2))
+    (length (counted with_open r.0)))
+  where
+    by : (db : List Statement) (o : Option Fault) → IsRead len x db o
+        → AllAreValid (counted with_open db)
+        ⊎ ((k : ℕ) × (f : Fault) × FirstProofFault (counted with_open db) k f)
+        → IsSoundOrFaulty len x with_open
+    by db o r (inr h) = inl (h.1, (db, o, r, inl (h.0, h.2)))
+    by db (Some f) r (inl v) = inl (f, (db, Some f, r, inr (v, refl)))
+    by db None r (inl v) = inr (db, (r, v))

@@ -1,0 +1,82 @@
+-- Each text is read, up to what stops the reading.
+use Rattle.std.proofs.Common.{◌≡◌, ℕ, ◌+◌, ◌<◌, ◌≤◌, List, [], ◌∷◌, ◌++◌, length, Option, Some}
+use Rattle.std.proofs.Common.{None, ◌⊎◌, inl, inr, refl, sym, ap, ◌∙◌, append_assoc, length-append}
+use Rattle.std.proofs.Common.{arith}
+use Rattle.std.proofs.lemmas.Bool.{cases_lt}
+use Rattle.mm_spec.specs.declared.Fault.{Fault}
+use Rattle.mm_spec.specs.Statement.{Statement}
+use Rattle.mm_spec.specs.Laws.Table.{statements_of}
+use Rattle.mm_spec.specs.Lawful.{scope_fault}
+use Rattle.mm_spec.specs.Output.{LexedText}
+use Rattle.mm_laws.specs.Laws.{IsReadable}
+use Rattle.mm_spec.proofs.RowLaw.{is_longest}
+use Rattle.mm_spec.proofs.StopsLaw.{text_fault, text_fault_is, no_text_fault}
+
+-- the first statements are lawful
+abbrev AreLawful : List Statement → ℕ → Type 0
+AreLawful row n = (k : ℕ) → k < n → scope_fault row k ≡ None
+
+one_more : (row : List Statement) (n : ℕ) → AreLawful row n → scope_fault row n ≡ None → (m : ℕ)
+    → m ≡ n + 1 → AreLawful row m
+one_more row n h e m is k l = by (cases_lt k n)
+  where
+    by : (k < n) ⊎ (n ≤ k) → scope_fault row k ≡ None
+    by (inl b) = h k b
+    by (inr b) = let same : k ≡ n = omega (arith, is, l, b) in ap (scope_fault row) same ∙ e
+
+module _ (len : ℕ) (x : LexedText) where
+  -- where the first statements are lawful, the reading goes on
+  read_from : (rest db : List Statement) → statements_of x.tokens ≡ db ++ rest
+      → AreLawful (statements_of x.tokens) (length db) → IsReadable len x
+  read_from [] db is lawful = by (text_fault len x) refl
+    where
+      by : (o : Option Fault) → text_fault len x ≡ o → IsReadable len x
+      by None e = (
+        db,
+        None,
+        record {
+          row = statements_of x.tokens;
+          is_row = is_longest x.tokens;
+          rest = [];
+          splits = is;
+          lawful = lawful;
+          stops = no_text_fault len x e;
+        },
+      )
+      by (Some f) e = (
+        db,
+        Some f,
+        record {
+          row = statements_of x.tokens;
+          is_row = is_longest x.tokens;
+          rest = [];
+          splits = is;
+          lawful = lawful;
+          stops = text_fault_is len x f e;
+        },
+      )
+  read_from (s ∷ rest) db is lawful =
+      by (scope_fault (statements_of x.tokens) (length db)) refl
+      (λ e. read_from rest (db ++ s ∷ []) (is ∙ sym (append_assoc db (s ∷ []) rest))
+      (one_more (statements_of x.tokens) (length db) lawful e (length (db ++ s ∷ []))
+      (length-append db (s ∷ []))))
+    where
+      by : (o : Option Fault) → scope_fault (statements_of x.tokens) (length db) ≡ o
+          → (scope_fault (statements_of x.tokens) (length db) ≡ None → IsReadable len x)
+          → IsReadable len x
+      by None e on = on e
+      by (Some f) e on = (
+        db,
+        Some f,
+        record {
+          row = statements_of x.tokens;
+          is_row = is_longest x.tokens;
+          rest = s ∷ rest;
+          splits = is;
+          lawful = lawful;
+          stops = ((λ n. cc), e);
+        },
+      )
+
+  pub is_readable : IsReadable len x
+  is_readable = read_from (statements_of x.tokens) [] refl (λ k l. absurd (omega arith))

@@ -1,0 +1,574 @@
+-- Letters spell one row of items at most, and those of a proof without reading faults spell one.
+use Rattle.std.proofs.Common.{◌≡◌, ◌≢◌, ℕ, suc, ◌+◌, ◌-◌, ◌*◌, ◌^◌, ◌==◌, ◌<◌, ◌≤◌, Bool, true}
+use Rattle.std.proofs.Common.{false, ◌⊎◌, inl, inr, List, [], ◌∷◌, ◌++◌, map, length, fold}
+use Rattle.std.proofs.Common.{flat_map, Option, Some, None, nat_le, nat_lt, bytes_eq, codes, refl}
+use Rattle.std.proofs.Common.{sym, ap, ap₂, ◌∙◌, subst, true≢false, arith, leb-true, ltb-false}
+use Rattle.std.proofs.Common.{eqb-true, append_assoc, append-nil}
+use Rattle.std.specs.List.{AllByRecursion}
+use Rattle.std.proofs.Math.Nat.{pow-succ'}
+use Rattle.std.proofs.lemmas.Bool.{and_parts, eqb-false}
+use Rattle.std.proofs.lemmas.Slice.Eq.{bytes_eq-Decides}
+use Rattle.mm_spec.specs.Text.{Bytes, Token, fault}
+use Rattle.mm_spec.specs.declared.Fault.{Fault}
+use Rattle.mm_spec.specs.Statement.{Statement}
+use Rattle.mm_spec.specs.Lawful.{when, at}
+use Rattle.mm_spec.specs.Frame.{mandatory_hypotheses}
+use Rattle.mm_spec.specs.NormalProof.{proof_label_faults, normal_faults}
+use Rattle.mm_spec.specs.CompressedProof.{Compressed, bracketed, with_label, Letter, letters_from}
+use Rattle.mm_spec.specs.CompressedProof.{letters_of, Group, is_early, is_last, groups, value}
+use Rattle.mm_spec.specs.CompressedProof.{starts_at, group_faults, letter_faults, compressed_faults}
+use Rattle.mm_spec.specs.Proof.{reading_faults}
+use Rattle.mm_laws.specs.Spelling.{Item, number, mark, IsEarlyDigit, IsLastDigit, AreEarlyDigits}
+use Rattle.mm_laws.specs.Spelling.{IsNumber, IsSpelled, Spells, letters_in}
+use Rattle.mm_laws.specs.Laws.{PartsAreUnique, SpellingIsUnique, ProofsAreSpelled}
+use Rattle.mm_spec.specs.declared.Code.TheVariants.{OpenBrackets, OpenNumber, MarkBeforeStep}
+use Rattle.mm_spec.specs.declared.Code.TheVariants.{NumberTooLarge, IncompleteProof, BadLetter}
+use Rattle.mm_spec.proofs.FindsLaw.{same_word}
+use Rattle.mm_spec.proofs.FaultlessLaw.{nil_first, nil_second, at_none, when_none}
+
+-- ---- one spelling
+
+digit_unique : (b c d : ℕ) → IsEarlyDigit b c → IsEarlyDigit b d → c ≡ d
+digit_unique b c d h k = let x = h.code in let y = k.code in omega arith
+
+last_unique : (b c d : ℕ) → IsLastDigit b c → IsLastDigit b d → c ≡ d
+last_unique b c d h k = let x = h.code in let y = k.code in omega arith
+
+early_unique : (bs : List ℕ) (m n : ℕ) → AreEarlyDigits bs m → AreEarlyDigits bs n → m ≡ n
+early_unique [] m n h k = h ∙ sym k
+early_unique (b ∷ bs) m n h k =
+    let digit : h.0 ≡ k.0 = digit_unique b h.0 k.0 h.2 k.2 in
+    let rest : h.1 ≡ k.1 = early_unique bs h.1 k.1 h.3 k.3 in
+    h.4 ∙ ap₂ (λ d r. d * 5 ^ length bs + r) digit rest ∙ sym k.4
+
+-- what ends an item is no earlier digit
+abbrev pub EndsItem : ℕ → Type 0
+EndsItem b = (b < 85) ⊎ (89 < b)
+
+pub no_early : (b d : ℕ) → EndsItem b → IsEarlyDigit b d → ⊥
+no_early b d (inl h) e = let x = e.code in let l = e.least in omega arith
+no_early b d (inr h) e = let x = e.code in let l = e.most in omega arith
+
+-- the letters of an item: earlier digits and what ends it
+record IsOne (letters : List ℕ) : Type 0 where
+  pub early : List ℕ
+  pub last : ℕ
+  pub are : letters ≡ early ++ last ∷ []
+  pub high : ℕ
+  pub earlier : AreEarlyDigits early high
+  pub ends : EndsItem last
+
+one_of : (item : Item) (letters : List ℕ) → IsSpelled letters item → IsOne letters
+one_of (number n) letters h =
+    record {
+      early = h.early;
+      last = h.last;
+      are = h.are;
+      high = h.high;
+      earlier = h.earlier;
+      ends = inl (let c = h.ends.code in let m = h.ends.most in omega arith);
+    }
+one_of mark letters h =
+    record { early = []; last = 90; are = h; high = 0; earlier = refl; ends = inr (omega arith) }
+
+-- two such fronts of the same letters are one
+same_fronts : (early other : List ℕ) (last end m n : ℕ) (rest more : List ℕ)
+    → AreEarlyDigits early m → AreEarlyDigits other n → EndsItem last → EndsItem end
+    → early ++ last ∷ rest ≡ other ++ end ∷ more → (early ≡ other) × (last ≡ end) × (rest ≡ more)
+same_fronts [] [] last end m n rest more h k a b e = (refl, cc, cc)
+same_fronts [] (c ∷ other) last end m n rest more h k a b e =
+    let same : last ≡ c = cc in absurd (no_early c k.0 (subst EndsItem same a) k.2)
+same_fronts (c ∷ early) [] last end m n rest more h k a b e =
+    let same : end ≡ c = cc in absurd (no_early c h.0 (subst EndsItem same b) h.2)
+same_fronts (c ∷ early) (d ∷ other) last end m n rest more h k a b e =
+    let heads : c ≡ d = cc in
+    let tails : early ++ last ∷ rest ≡ other ++ end ∷ more = cc in
+    let r = same_fronts early other last end h.1 k.1 rest more h.3 k.3 a b tails in
+    (ap₂ (λ x xs. x ∷ xs) heads r.0, r.1, r.2)
+
+same_front : (first other rest more : List ℕ) → IsOne first → IsOne other
+    → first ++ rest ≡ other ++ more → (first ≡ other) × (rest ≡ more)
+same_front first other rest more h k e =
+    let left : first ++ rest ≡ h.early ++ h.last ∷ rest =
+    ap (λ x. x ++ rest) h.are ∙ append_assoc h.early (h.last ∷ []) rest in
+    let right : other ++ more ≡ k.early ++ k.last ∷ more =
+    ap (λ x. x ++ more) k.are ∙ append_assoc k.early (k.last ∷ []) more in
+    let r =
+    same_fronts h.early k.early h.last k.last h.high k.high rest more h.earlier k.earlier h.ends
+    k.ends (sym left ∙ e ∙ right) in
+    (h.are ∙ ap₂ (λ xs x. xs ++ x ∷ []) r.0 r.1 ∙ sym k.are, r.2)
+
+last_of_two : (early other : List ℕ) (last end m n : ℕ) → AreEarlyDigits early m
+    → AreEarlyDigits other n → EndsItem last → EndsItem end → early ++ last ∷ [] ≡ other ++ end ∷ []
+    → (early ≡ other) × (last ≡ end)
+last_of_two early other last end m n h k a b e =
+    let r = same_fronts early other last end m n [] [] h k a b e in (r.0, r.1)
+
+below : (b d : ℕ) → IsLastDigit b d → EndsItem b
+below b d h = inl (let c = h.code in let m = h.most in omega arith)
+
+-- the letters of one item are those of no other
+pub item_unique : (a b : Item) (letters : List ℕ) → IsSpelled letters a → IsSpelled letters b
+    → a ≡ b
+item_unique mark mark letters h k = refl
+item_unique (number m) (number n) letters h k =
+    let r =
+    last_of_two h.early k.early h.last k.last h.high k.high h.earlier k.earlier
+    (below h.last h.low h.ends) (below k.last k.low k.ends) (sym h.are ∙ k.are) in
+    let high : h.high ≡ k.high =
+    early_unique k.early h.high k.high
+    (subst (λ xs. AreEarlyDigits xs h.high) r.0 h.earlier) k.earlier in
+    let low : h.low ≡ k.low =
+    last_unique k.last h.low k.low (subst (λ x. IsLastDigit x h.low) r.1 h.ends) k.ends in
+    ap number (h.value ∙ ap₂ (λ x y. x * 20 + y) high low ∙ sym k.value)
+item_unique (number m) mark letters h k =
+    let r =
+    last_of_two h.early [] h.last 90 h.high 0 h.earlier refl (below h.last h.low h.ends)
+    (inr (omega arith)) (sym h.are ∙ k) in
+    let e = r.1 in let c = h.ends.code in let m = h.ends.most in absurd (omega arith)
+item_unique mark (number n) letters h k =
+    let r =
+    last_of_two k.early [] k.last 90 k.high 0 k.earlier refl (below k.last k.low k.ends)
+    (inr (omega arith)) (sym k.are ∙ h) in
+    let e = r.1 in let c = k.ends.code in let m = k.ends.most in absurd (omega arith)
+
+pub nonempty : (early : List ℕ) (last : ℕ) (rest : List ℕ) → [] ≡ (early ++ last ∷ []) ++ rest → ⊥
+nonempty [] last rest e = cc
+nonempty (b ∷ early) last rest e = cc
+
+pub spelling_unique : SpellingIsUnique
+spelling_unique letters [] [] h k = refl
+spelling_unique letters [] (b ∷ others) h k =
+    let one =
+    one_of b k.0 k.3 in
+    absurd (nonempty one.early one.last k.1 (sym h ∙ k.2 ∙ ap (λ x. x ++ k.1) one.are))
+spelling_unique letters (a ∷ items) [] h k =
+    let one =
+    one_of a h.0 h.3 in
+    absurd (nonempty one.early one.last h.1 (sym k ∙ h.2 ∙ ap (λ x. x ++ h.1) one.are))
+spelling_unique letters (a ∷ items) (b ∷ others) h k =
+    let r = same_front h.0 k.0 h.1 k.1 (one_of a h.0 h.3) (one_of b k.0 k.3) (sym h.2 ∙ k.2) in
+    let item : a ≡ b = item_unique a b k.0 (subst (λ x. IsSpelled x a) r.0 h.3) k.3 in
+    ap₂ (λ x xs. x ∷ xs) item
+    (spelling_unique k.1 items others (subst (λ x. Spells x items) r.1 h.4) k.4)
+
+-- ---- brackets
+
+-- one word of brackets more
+abbrev one_more : Token → List Token → Bool → Compressed
+one_more t ts b =
+    elim b [
+      | true ↦ record { labels = []; letters = Some ts }
+      | false ↦ with_label t (bracketed ts)
+    ]
+
+-- what stands in brackets and after them
+pub bracketed_is : (labels : List Token) (closing : Token) (letters : List Token)
+    → closing.word ≡ codes ")" → AllByRecursion (λ t. t.word ≢ codes ")") labels
+    → bracketed (labels ++ closing ∷ letters) ≡ record { labels = labels; letters = Some letters }
+bracketed_is [] closing letters e h =
+    ap (one_more closing letters) ((bytes_eq-Decides closing.word (codes ")")).1 e)
+bracketed_is (t ∷ labels) closing letters e h =
+    by (bytes_eq t.word (codes ")")) refl (bracketed_is labels closing letters e h.1)
+  where
+    by : (b : Bool) → bytes_eq t.word (codes ")") ≡ b
+        → bracketed (labels ++ closing ∷ letters)
+        ≡ record { labels = labels; letters = Some letters }
+        → one_more t (labels ++ closing ∷ letters) b
+        ≡ record { labels = t ∷ labels; letters = Some letters }
+    by true q r = absurd (h.0 (same_word t.word (codes ")") q))
+    by false q r = ap (with_label t) r
+
+pub parts_unique : PartsAreUnique
+parts_unique ts labels letters others more h k =
+    let one = bracketed_is labels h.closing letters h.closes h.first in
+    let two = bracketed_is others k.closing more k.closes k.first in
+    let tails : labels ++ h.closing ∷ letters ≡ others ++ k.closing ∷ more =
+    tail_is (sym h.are ∙ k.are) in
+    let same = sym one ∙ ap bracketed tails ∙ two in
+    (ap (λ p. p.labels) same, some_is (ap (λ p. p.letters) same))
+  where
+    tail_is : {s t : Token} {xs ys : List Token} → s ∷ xs ≡ t ∷ ys → xs ≡ ys
+    tail_is e = cc
+
+    some_is : {xs ys : List Token} → Some xs ≡ Some ys → xs ≡ ys
+    some_is e = cc
+
+-- the parts of words with brackets
+pub record Parts (ts letters : List Token) : Type 0 where
+  pub labels : List Token
+  pub closing : Token
+  pub are : ts ≡ labels ++ closing ∷ letters
+  pub closes : closing.word ≡ codes ")"
+  pub first : AllByRecursion (λ t. t.word ≢ codes ")") labels
+
+pub parts_of : (ts letters : List Token) → (bracketed ts).letters ≡ Some letters → Parts ts letters
+parts_of [] letters e = absurd (cc)
+parts_of (t ∷ ts) letters e = by (bytes_eq t.word (codes ")")) refl e (λ h. parts_of ts letters h)
+  where
+    by : (b : Bool) → bytes_eq t.word (codes ")") ≡ b → (one_more t ts b).letters ≡ Some letters
+        → ((bracketed ts).letters ≡ Some letters → Parts ts letters) → Parts (t ∷ ts) letters
+    by true q h on =
+        let same : ts ≡ letters = cc in
+        record {
+          labels = [];
+          closing = t;
+          are = ap (λ xs. t ∷ xs) same;
+          closes = same_word t.word (codes ")") q;
+          first = tt;
+        }
+    by false q h on =
+        let r = on h in
+        record {
+          labels = t ∷ r.labels;
+          closing = r.closing;
+          are = ap (λ xs. t ∷ xs) r.are;
+          closes = r.closes;
+          first = (
+            (λ w. true≢false (sym ((bytes_eq-Decides t.word (codes ")")).1 w) ∙ q)),
+            r.first,
+          );
+        }
+
+-- ---- groups
+
+abbrev pub bytes_of : List Letter → List ℕ
+bytes_of xs = map (λ x. x.byte) xs
+
+abbrev pub AreEarly : List Letter → Type 0
+AreEarly xs = AllByRecursion (λ x. is_early x.byte ≡ true) xs
+
+abbrev pub item_of : Group → Item
+item_of g = elim (is_last g.last.byte) [ true ↦ number (value g) | false ↦ mark ]
+
+-- groups that have no fault
+abbrev pub AreFine : ℕ → ℕ → ℕ → List Group → Type 0
+AreFine many marks count [] = Unit {0}
+AreFine many marks count (g ∷ gs) =
+    ((is_last g.last.byte ≡ true) × (value g ≤ many + marks) × AreFine many marks (count + 1) gs)
+    ⊎ ((is_last g.last.byte ≡ false) × (g.last.byte ≡ 90) × (g.early ≡ []) × (0 < count)
+    × AreFine many (marks + 1) count gs)
+
+no_length : (xs : List Letter) → nat_lt 0 (length xs) ≡ false → xs ≡ []
+no_length [] e = refl
+no_length (x ∷ xs) e = absurd (let h = ltb-false 0 (length (x ∷ xs)) e in omega arith)
+
+pub fine_of : (gs : List Group) (many marks count : ℕ) → group_faults many marks count gs ≡ []
+    → AreFine many marks count gs
+fine_of [] many marks count f = tt
+fine_of (g ∷ gs) many marks count f =
+    by (is_last g.last.byte) refl (g.last.byte == 90) refl f
+    (λ e. fine_of gs many marks (count + 1) e)
+    (λ e. fine_of gs many (marks + 1) count e)
+  where
+    first : Bool → Bool → List Fault
+    first a b = elim a [
+      | true ↦ at (starts_at g) (when (nat_lt (many + marks) (value g)) NumberTooLarge)
+      | false ↦ elim b [
+        | true ↦ at g.last.at
+            (when (nat_lt 0 (length g.early)) OpenNumber ++ when (count == 0) MarkBeforeStep)
+        | false ↦ at g.last.at
+            (elim (g.last.byte == 63) [ true ↦ IncompleteProof ∷ [] | false ↦ BadLetter ∷ [] ])
+      ]
+    ]
+
+    second : Bool → List Fault
+    second b =
+        elim b [
+          | true ↦ group_faults many (marks + 1) count gs
+          | false ↦ group_faults many marks (count + 1) gs
+        ]
+
+    other : (b : Bool)
+        → ¬ (at g.last.at (elim b [ true ↦ IncompleteProof ∷ [] | false ↦ BadLetter ∷ [] ]) ≡ [])
+    other true e = cc
+    other false e = cc
+
+    by : (a : Bool) → is_last g.last.byte ≡ a → (b : Bool) → (g.last.byte == 90) ≡ b
+        → first a b ++ second b ≡ []
+        → (group_faults many marks (count + 1) gs ≡ [] → AreFine many marks (count + 1) gs)
+        → (group_faults many (marks + 1) count gs ≡ [] → AreFine many (marks + 1) count gs)
+        → AreFine many marks count (g ∷ gs)
+    by true p true q f on marking =
+        let u =
+        leb-true g.last.byte 84 (and_parts (nat_le 65 g.last.byte) (nat_le g.last.byte 84) p).1 in
+        let v = eqb-true g.last.byte 90 q in
+        absurd (omega arith)
+    by true p false q f on marking =
+        let none =
+        when_none (nat_lt (many + marks) (value g)) NumberTooLarge
+        (at_none (starts_at g) (when (nat_lt (many + marks) (value g)) NumberTooLarge)
+        (nil_first (first true false) (second false) f)) in
+        inl (
+          p,
+          ltb-false (many + marks) (value g) none,
+          on
+              (nil_second (first true false) (second false) f),
+        )
+    by false p true q f on marking =
+        let codes =
+        at_none g.last.at
+        (when (nat_lt 0 (length g.early)) OpenNumber ++ when (count == 0) MarkBeforeStep)
+        (nil_first (first false true) (second true) f) in
+        let open_none =
+        when_none (nat_lt 0 (length g.early)) OpenNumber
+        (nil_first (when (nat_lt 0 (length g.early)) OpenNumber)
+        (when (count == 0) MarkBeforeStep) codes) in
+        let none =
+        eqb-false count 0
+        (when_none (count == 0) MarkBeforeStep
+        (nil_second (when (nat_lt 0 (length g.early)) OpenNumber)
+        (when (count == 0) MarkBeforeStep) codes)) in
+        inr (
+          p,
+          eqb-true g.last.byte 90 q,
+          no_length g.early open_none,
+          omega arith,
+          marking
+              (nil_second (first false true) (second true) f),
+        )
+    by false p false q f on marking =
+        absurd (other (g.last.byte == 63) (nil_first (first false false) (second false) f))
+
+pub early_digit : (b : ℕ) → is_early b ≡ true → IsEarlyDigit b (b - 84)
+early_digit b e =
+    let p = and_parts (nat_le 85 b) (nat_le b 89) e in
+    let l = leb-true 85 b p.0 in
+    let u = leb-true b 89 p.1 in
+    record { least = omega arith; most = omega arith; code = omega arith }
+
+last_digit : (b : ℕ) → is_last b ≡ true → IsLastDigit b (b - 64)
+last_digit b e =
+    let p = and_parts (nat_le 65 b) (nat_le b 84) e in
+    let l = leb-true 65 b p.0 in
+    let u = leb-true b 84 p.1 in
+    record { least = omega arith; most = omega arith; code = omega arith }
+
+shift : (n d p q r : ℕ) → q ≡ 5 * p → (5 * n + d) * p + r ≡ n * q + (d * p + r)
+shift n d p q r e = rw e (omega arith)
+
+-- the value of earlier digits, after others
+early_value : (xs : List Letter) (n : ℕ) → AreEarly xs
+    → (high : ℕ) × AreEarlyDigits (bytes_of xs) high
+    × (fold (λ n x. 5 * n + (x.byte - 84)) n xs ≡ n * 5 ^ length (bytes_of xs) + high)
+early_value [] n h = (0, refl, omega arith)
+early_value (x ∷ xs) n h =
+    let r = early_value xs (5 * n + (x.byte - 84)) h.1 in (
+      (x.byte - 84) * 5 ^ length (bytes_of xs) + r.0,
+      (x.byte - 84, r.0, early_digit x.byte h.0, r.1, refl),
+      r.2 ∙ shift n (x.byte - 84) (5 ^ length (bytes_of xs)) (5 ^ suc (length (bytes_of xs))) r.0
+          (pow-succ' 5 (length (bytes_of xs))),
+    )
+
+pub group_number : (g : Group) → AreEarly g.early → is_last g.last.byte ≡ true
+    → IsNumber (bytes_of g.early ++ g.last.byte ∷ []) (value g)
+group_number g h e =
+    let r = early_value g.early 0 h in
+    let same : 0 * 5 ^ length (bytes_of g.early) + r.0 ≡ r.0 = omega arith in
+    record {
+      early = bytes_of g.early;
+      last = g.last.byte;
+      are = refl;
+      high = r.0;
+      low = g.last.byte - 64;
+      earlier = r.1;
+      ends = last_digit g.last.byte e;
+      value = ap (λ n. n * 20 + (g.last.byte - 64)) (r.2 ∙ same);
+    }
+
+group_spelled : (g : Group) → AreEarly g.early
+    → (is_last g.last.byte ≡ true)
+    ⊎ ((is_last g.last.byte ≡ false) × (g.last.byte ≡ 90) × (g.early ≡ []))
+    → IsSpelled (bytes_of g.early ++ g.last.byte ∷ []) (item_of g)
+group_spelled g h (inl e) =
+    subst (λ b. IsSpelled (bytes_of g.early ++ g.last.byte ∷ [])
+    (elim b [ true ↦ number (value g) | false ↦ mark ])) (sym e) (group_number g h e)
+group_spelled g h (inr e) =
+    subst (λ b. IsSpelled (bytes_of g.early ++ g.last.byte ∷ [])
+    (elim b [ true ↦ number (value g) | false ↦ mark ])) (sym e.0)
+    (ap₂ (λ xs b. bytes_of xs ++ b ∷ []) e.2 e.1)
+
+early_more : (early : List Letter) (x : Letter) → AreEarly early → is_early x.byte ≡ true
+    → AreEarly (early ++ x ∷ [])
+early_more [] x h e = (e, tt)
+early_more (y ∷ early) x h e = (h.0, early_more early x h.1 e)
+
+bytes_more : (early : List Letter) (x : Letter) (bs : List ℕ)
+    → bytes_of (early ++ x ∷ []) ++ bs ≡ bytes_of early ++ x.byte ∷ bs
+bytes_more [] x bs = refl
+bytes_more (y ∷ early) x bs = ap (λ xs. y.byte ∷ xs) (bytes_more early x bs)
+
+-- letters without a fault spell the items of their groups
+pub groups_spell : (xs early : List Letter) (many marks count : ℕ) → AreEarly early
+    → AreFine many marks count (groups early xs).0 → (groups early xs).1 ≡ []
+    → Spells (bytes_of early ++ bytes_of xs) (map item_of (groups early xs).0)
+groups_spell [] early many marks count h f e = append-nil (bytes_of early) ∙ ap bytes_of e
+groups_spell (x ∷ xs) early many marks count h f e =
+    by (is_early x.byte) refl f e
+    (λ p k n. subst (λ bs. Spells bs (map item_of (groups (early ++ x ∷ []) xs).0))
+    (bytes_more early x (bytes_of xs))
+    (groups_spell xs (early ++ x ∷ []) many marks count (early_more early x h p) k n))
+    (λ m c k n. groups_spell xs [] many m c tt k n)
+  where
+    out : Bool → List Group × List Letter
+    out b =
+        elim b [
+          | true ↦ groups (early ++ x ∷ []) xs
+          | false ↦ let g = groups [] xs in (record { early = early; last = x } ∷ g.0, g.1)
+        ]
+
+    own : Group
+    own = record { early = early; last = x }
+
+    whole : IsSpelled (bytes_of early ++ x.byte ∷ []) (item_of own)
+        → Spells (bytes_of xs) (map item_of (groups [] xs).0)
+        → Spells (bytes_of early ++ x.byte ∷ bytes_of xs)
+        (item_of own ∷ map item_of (groups [] xs).0)
+    whole s r = (
+      bytes_of early
+          ++ x.byte
+          ∷ [],
+      bytes_of xs,
+      sym (append_assoc (bytes_of early) (x.byte ∷ []) (bytes_of xs)),
+      s,
+      r,
+    )
+
+    last : AreFine many marks count (own ∷ (groups [] xs).0) → (groups [] xs).1 ≡ []
+        → ((m c : ℕ) → AreFine many m c (groups [] xs).0 → (groups [] xs).1 ≡ []
+        → Spells (bytes_of xs) (map item_of (groups [] xs).0))
+        → Spells (bytes_of early ++ x.byte ∷ bytes_of xs)
+        (item_of own ∷ map item_of (groups [] xs).0)
+    last (inl k) n on = whole (group_spelled own h (inl k.0)) (on marks (count + 1) k.2 n)
+    last (inr k) n on =
+        whole (group_spelled own h (inr (k.0, k.1, k.2))) (on (marks + 1) count k.4 n)
+
+    by : (b : Bool) → is_early x.byte ≡ b → AreFine many marks count (out b).0 → (out b).1 ≡ []
+        → (is_early x.byte ≡ true → AreFine many marks count (groups (early ++ x ∷ []) xs).0
+        → (groups (early ++ x ∷ []) xs).1 ≡ []
+        → Spells (bytes_of early ++ x.byte ∷ bytes_of xs)
+        (map item_of (groups (early ++ x ∷ []) xs).0))
+        → ((m c : ℕ) → AreFine many m c (groups [] xs).0 → (groups [] xs).1 ≡ []
+        → Spells (bytes_of xs) (map item_of (groups [] xs).0))
+        → Spells (bytes_of early ++ x.byte ∷ bytes_of xs) (map item_of (out b).0)
+    by true p k n on next = on p k n
+    by false p k n on next = last k n next
+
+-- ---- the letters of a proof
+
+bytes_from : (p : ℕ) (w : Bytes) → bytes_of (letters_from p w) ≡ w
+bytes_from p [] = refl
+bytes_from p (b ∷ w) = ap (λ xs. b ∷ xs) (bytes_from (p + 1) w)
+
+bytes_append : (xs ys : List Letter) → bytes_of (xs ++ ys) ≡ bytes_of xs ++ bytes_of ys
+bytes_append [] ys = refl
+bytes_append (x ∷ xs) ys = ap (λ bs. x.byte ∷ bs) (bytes_append xs ys)
+
+pub letters_bytes : (ts : List Token) → bytes_of (letters_of ts) ≡ letters_in ts
+letters_bytes [] = refl
+letters_bytes (t ∷ ts) =
+    bytes_append (letters_from t.at t.word) (letters_of ts)
+    ∙ ap₂ (λ xs ys. xs ++ ys) (bytes_from t.at t.word) (letters_bytes ts)
+
+-- letters of which nothing is wrong
+pub record AreGood (many : ℕ) (xs : List Letter) : Type 0 where
+  pub fine : AreFine many 0 0 (groups [] xs).0
+  pub whole : (groups [] xs).1 ≡ []
+  pub some : xs ≢ []
+
+pub good_letters : (many end : ℕ) (xs : List Letter) → letter_faults many end xs ≡ []
+    → AreGood many xs
+good_letters many end [] e = absurd (cc)
+good_letters many end (x ∷ xs) e = record {
+  fine =
+      fine_of (groups [] (x ∷ xs)).0 many 0 0
+      (nil_first (group_faults many 0 0 (groups [] (x ∷ xs)).0)
+      (at end (when (nat_lt 0 (length (groups [] (x ∷ xs)).1)) OpenNumber)) e);
+  whole =
+      no_length (groups [] (x ∷ xs)).1
+      (when_none (nat_lt 0 (length (groups [] (x ∷ xs)).1)) OpenNumber
+      (at_none end (when (nat_lt 0 (length (groups [] (x ∷ xs)).1)) OpenNumber)
+      (nil_second (group_faults many 0 0 (groups [] (x ∷ xs)).0)
+      (at end (when (nat_lt 0 (length (groups [] (x ∷ xs)).1)) OpenNumber)) e)));
+  some = λ n. cc;
+}
+
+-- what a compressed proof without faults has
+pub record IsGoodProof (db : List Statement) (k : ℕ) (ts : List Token) : Type 0 where
+  pub letters : List Token
+  pub is : (bracketed ts).letters ≡ Some letters
+  pub usable : flat_map (proof_label_faults db k) (bracketed ts).labels ≡ []
+  pub good : AreGood (length (mandatory_hypotheses db k) + length (bracketed ts).labels)
+      (letters_of letters)
+
+pub good_proof : (db : List Statement) (k end : ℕ) (t : Token) (ts : List Token)
+    → t.word ≡ codes "(" → reading_faults db k end (t ∷ ts) ≡ [] → IsGoodProof db k ts
+good_proof db k end t ts opens f =
+    by (bracketed ts).letters refl
+    (nil_second (flat_map (proof_label_faults db k) (bracketed ts).labels)
+    (rest (bracketed ts).letters) compressed)
+  where
+    many : ℕ
+    many = length (mandatory_hypotheses db k) + length (bracketed ts).labels
+
+    rest : Option (List Token) → List Fault
+    rest o =
+        elim o [
+          | None ↦ fault end OpenBrackets ∷ []
+          | Some ts ↦ letter_faults many end (letters_of ts)
+        ]
+
+    faults : Bool → List Fault
+    faults b =
+        elim b [
+          | true ↦ compressed_faults db k end (bracketed ts)
+          | false ↦ normal_faults db k end (t ∷ ts)
+        ]
+
+    compressed : compressed_faults db k end (bracketed ts) ≡ []
+    compressed = ap faults (sym ((bytes_eq-Decides t.word (codes "(")).1 opens)) ∙ f
+
+    by : (o : Option (List Token)) → (bracketed ts).letters ≡ o → rest o ≡ [] → IsGoodProof db k ts
+    by None e g = absurd (cc)
+    by (Some letters) e g =
+        record {
+          letters = letters;
+          is = e;
+          usable = nil_first (flat_map (proof_label_faults db k) (bracketed ts).labels)
+              (rest (bracketed ts).letters) compressed;
+          good = good_letters many end (letters_of letters) g;
+        }
+
+pub spelled_out : ProofsAreSpelled
+spelled_out db k end t ts opens f =
+    let p = good_proof db k end t ts opens f in
+    let parts = parts_of ts p.letters p.is in
+    let spelled =
+    groups_spell (letters_of p.letters) []
+    (length (mandatory_hypotheses db k) + length (bracketed ts).labels) 0 0 tt p.good.fine
+    p.good.whole in
+    let read : Spells (letters_in p.letters) (map item_of (groups [] (letters_of p.letters)).0) =
+    subst (λ bs. Spells bs (map item_of (groups [] (letters_of p.letters)).0))
+    (letters_bytes p.letters) spelled in
+    record {
+      labels = parts.labels;
+      letters = p.letters;
+      parts =
+          record {
+            opening = t;
+            closing = parts.closing;
+            are = ap (λ xs. t ∷ xs) parts.are;
+            opens = opens;
+            closes = parts.closes;
+            first = parts.first;
+          };
+      items = map item_of (groups [] (letters_of p.letters)).0;
+      spelled = read;
+      some =
+          λ n. none (letters_of p.letters)
+          (letters_bytes p.letters ∙ subst (Spells (letters_in p.letters)) n read) p.good.some;
+    }
+  where
+    none : (xs : List Letter) → bytes_of xs ≡ [] → xs ≢ [] → ⊥
+    none [] e h = h refl
+    none (x ∷ xs) e h = cc

@@ -1,0 +1,106 @@
+-- Faults of scope and of reading, at outside examples.
+use Rattle.std.specs.Prelude.{◌≡◌, ℕ, List, [], ◌∷◌, ◌++◌, Option, Some, None, codes, refl}
+use Rattle.std.specs.Prelude.{flat_map, map, slice_get}
+use Rattle.std.proofs.Common.{true≢false, lit≤, sym}
+use Rattle.mm_spec.specs.Text.{fault}
+use Rattle.mm_spec.specs.declared.Fault.{Fault}
+use Rattle.mm_spec.specs.Statement.{Statement, provable}
+use Rattle.mm_spec.specs.Lawful.{least}
+use Rattle.mm_spec.specs.Derivation.{Trees, none, more}
+use Rattle.mm_spec.specs.Steps.{Step, label, marked, placed}
+use Rattle.mm_spec.specs.CompressedProof.{groups, letters_from, value}
+use Rattle.mm_spec.specs.Valid.{StepFault, not_apart}
+use Rattle.mm_spec.specs.Proof.{reading_faults}
+use Rattle.mm_spec.specs.Citation.{context_at, steps_at}
+use Rattle.mm_laws.proofs.ReaderLaw.{statements}
+use Rattle.mm_spec.specs.declared.Code.TheVariants.{EmptyProof, IncompleteProof, UnusableLabel}
+use Rattle.mm_spec.specs.declared.Code.TheVariants.{OpenBrackets, BadLetter, OpenNumber}
+use Rattle.mm_spec.specs.declared.Code.TheVariants.{MarkBeforeStep, NumberTooLarge, NotDisjoint}
+
+abbrev text_b : List ℕ
+text_b =
+    codes "$c wff |- ( -> ) $. $v p q $. wp $f wff p $. wq $f wff q $. wi $a wff ( p -> q ) $. ax-1 $a |- ( p -> ( q -> p ) ) $. "
+
+abbrev text_bm : List ℕ
+text_bm = text_b ++ codes "${ min $e |- p $. maj $e |- ( p -> q ) $. ax-mp $a |- q $. $} "
+
+abbrev with_proof : List ℕ → List Statement
+with_proof p =
+    statements (text_bm ++ codes "${ h $e |- p $. a1i $p |- ( q -> p ) $= " ++ p ++ codes " $. $}")
+
+abbrev plain_steps : List Statement → ℕ → List Step
+plain_steps db k = map (λ s. s.step) (steps_at db k)
+
+-- in the text, the theorem is statement 13
+abbrev compressed : List Statement
+compressed = with_proof (codes "( wi ax-1 ax-mp ) ABADZCABEF")
+
+steps_compressed : plain_steps compressed 13
+    ≡ label 2 ∷ label 3 ∷ label 2 ∷ label 4 ∷ label 12 ∷ label 2 ∷ label 3 ∷ label 5 ∷ label 9 ∷ []
+unfolding statements
+steps_compressed = refl
+
+steps_marked : plain_steps (with_proof (codes "( wi ax-1 ax-mp ) ABADZZCABEFHG")) 13
+    ≡ label 2 ∷ label 3 ∷ label 2 ∷ label 4 ∷ label 12 ∷ label 2 ∷ label 3 ∷ label 5 ∷ label 9
+    ∷ marked 3 ∷ marked 3 ∷ []
+unfolding statements
+steps_marked = refl
+
+-- reading faults; column C of the line is place 179 + C
+abbrev reading : List ℕ → Option Fault
+reading p =
+    let db = with_proof p in
+    elim (slice_get db 13)
+    [ Some (provable l k xs e ps d) ↦ least (reading_faults db 13 d ps) | _ ↦ None ]
+
+faults_read :
+    map reading
+    (codes "( wi ax-1 ax-mp )" ∷ codes "( wi ax-1 ax-mp ) ABADCABE?"
+    ∷ codes "( wi ax-1 ax-mp ABADCABEF" ∷ codes "( wi ax-1 ax-mp"
+    ∷ codes "( wi ax-1 ax-mp ) ABADCAbEF"
+    ∷ codes "( wi ax-1 ax-mp ) ABADCABEU" ∷ codes "( wi ax-1 ax-mp ) ZABADCABEF"
+    ∷ codes "( wi ax-1 ax-mp ) ABADCABEG" ∷ codes "( wi ax-1 ax-mp ) ABADCABEF" ∷ [])
+    ≡ Some (fault 238 EmptyProof) ∷ Some (fault 246 IncompleteProof)
+    ∷ Some (fault 236 UnusableLabel) ∷ Some (fault 236 OpenBrackets)
+    ∷ Some (fault 244 BadLetter)
+    ∷ Some (fault 248 OpenNumber) ∷ Some (fault 238 MarkBeforeStep)
+    ∷ Some (fault 246 NumberTooLarge) ∷ None ∷ []
+unfolding statements
+faults_read = refl
+
+-- the values of numbers
+abbrev number : List ℕ → List ℕ
+number letters = map value (groups [] (letters_from 0 letters)).0
+
+values : flat_map number
+    (codes "A" ∷ codes "T" ∷ codes "UA" ∷ codes "UT" ∷ codes "VA" ∷ codes "YT" ∷ codes "UUA"
+    ∷ codes "YYT" ∷ [])
+    ≡ 1 ∷ 20 ∷ 21 ∷ 40 ∷ 41 ∷ 120 ∷ 121 ∷ 620 ∷ []
+values = refl
+
+-- row 13: the step of a pair of variables that no `$d` has
+abbrev db_13 : List Statement
+db_13 =
+    statements
+    (text_b ++ codes "${ $d p q $. ax-d $a |- ( p -> q ) $. $} bad $p |- ( p -> q ) $= wp wq ax-d $. ")
+
+frames : Trees
+frames = more (more none 2 (0 ∷ 5 ∷ []) none) 3 (0 ∷ 6 ∷ []) none
+
+each_itself : ℕ → List ℕ
+each_itself x = x ∷ []
+
+fault_13 : StepFault (context_at db_13 10) (steps_at db_13 10) (fault 189 NotDisjoint)
+unfolding frames each_itself statements
+fault_13 = record {
+  before = placed 183 (label 2) ∷ placed 186 (label 3) ∷ [];
+  first = placed 189 (label 8);
+  after = [];
+  splits = refl;
+  row = frames;
+  derivations = ((tt, tt, (refl, refl, lit≤ tt)), tt, (refl, refl, lit≤ tt));
+  plain = (2 ∷ [], refl, (2 ∷ 3 ∷ [], refl, refl));
+  reason = not_apart;
+  fails = (each_itself, lit≤ tt, refl, λ e. true≢false (sym e));
+  is = refl;
+}

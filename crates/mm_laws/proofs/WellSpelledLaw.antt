@@ -1,0 +1,555 @@
+-- Reading finds no fault in exactly the proofs that are well formed.
+use Rattle.std.proofs.Common.{cond, ◌≡◌, ◌≢◌, ℕ, zero, suc, ◌+◌, ◌-◌, ◌==◌, ◌<◌, ◌≤◌, Bool, true}
+use Rattle.std.proofs.Common.{false, ◌&&◌, ◌⊎◌, inl, inr, List, [], ◌∷◌, ◌++◌, map, length}
+use Rattle.std.proofs.Common.{flat_map, count_by, Some, nat_le, nat_lt, bytes_eq, codes, refl, sym}
+use Rattle.std.proofs.Common.{ap, ap₂, ◌∙◌, subst, true≢false, arith, leb-true, le-leb, ltb-true}
+use Rattle.std.proofs.Common.{eqb-true, eq-eqb, append_assoc, append-nil}
+use Rattle.std.specs.List.{list_any, range_with_len, AllByRecursion, AllZip, filter}
+use Rattle.std.proofs.lemmas.Bool.{and_parts, and_from, cases_eq}
+use Rattle.std.proofs.lemmas.Slice.Eq.{bytes_eq-Decides}
+use Rattle.mm_spec.specs.Text.{Token, fault}
+use Rattle.mm_spec.specs.declared.Fault.{Fault}
+use Rattle.mm_spec.specs.Statement.{Statement}
+use Rattle.mm_spec.specs.Scope.{is_active, statement_at}
+use Rattle.mm_spec.specs.Lawful.{when, at, IsLawful, scope_fault}
+use Rattle.mm_spec.specs.Frame.{mandatory_hypotheses}
+use Rattle.mm_spec.specs.NormalProof.{is_labelled, usable, proof_label_faults, normal_faults}
+use Rattle.mm_spec.specs.CompressedProof.{bracketed, Letter, letters_of, Group, is_early, is_last}
+use Rattle.mm_spec.specs.CompressedProof.{groups, value, starts_at, group_faults, letter_faults}
+use Rattle.mm_spec.specs.CompressedProof.{compressed_faults}
+use Rattle.mm_spec.specs.Proof.{reading_faults}
+use Rattle.mm_laws.specs.Spelling.{Item, number, mark, is_number, is_mark, IsEarlyDigit}
+use Rattle.mm_laws.specs.Spelling.{IsLastDigit, AreEarlyDigits, IsNumber, Spells, letters_in}
+use Rattle.mm_laws.specs.Spelling.{IsUsable, IsWellSpelled}
+use Rattle.mm_laws.specs.Laws.{WhereRead, CompressedIsExact, NormalIsExact}
+use Rattle.mm_spec.specs.declared.Code.TheVariants.{OpenNumber, MarkBeforeStep, NumberTooLarge}
+use Rattle.mm_spec.specs.declared.Code.TheVariants.{UnusableLabel, IncompleteProof, BadLetter}
+use Rattle.mm_spec.proofs.FindsLaw.{same_word, is_before}
+use Rattle.mm_spec.proofs.FaultlessLaw.{nil_first, nil_second}
+use Rattle.mm_spec.proofs.LocalLaw.{scope_fault_front}
+use Rattle.mm_laws.proofs.SpellingLaw.{EndsItem, no_early, item_unique, group_number, early_digit}
+use Rattle.mm_laws.proofs.SpellingLaw.{nonempty, parts_of, bracketed_is, bytes_of, AreEarly, item_of}
+use Rattle.mm_laws.proofs.SpellingLaw.{AreFine, groups_spell, letters_bytes, good_proof}
+use Rattle.mm_laws.proofs.SpelledStepsLaw.{count_append, usable_one, all_usable, own_faults}
+
+-- ---- items of which nothing is wrong, from the left
+
+abbrev AreRight : ℕ → ℕ → ℕ → List Item → Type 0
+AreRight many marks count [] = Unit {0}
+AreRight many marks count (number n ∷ items) =
+    (n ≤ many + marks) × AreRight many marks (count + 1) items
+AreRight many marks count (mark ∷ items) = (0 < count) × AreRight many (marks + 1) count items
+
+right_of_fine : (gs : List Group) (many marks count : ℕ) → AreFine many marks count gs
+    → AreRight many marks count (map item_of gs)
+right_of_fine [] many marks count f = tt
+right_of_fine (g ∷ gs) many marks count f =
+    by f (λ k. right_of_fine gs many marks (count + 1) k)
+    (λ k. right_of_fine gs many (marks + 1) count k)
+  where
+    item : Bool → Item
+    item b = elim b [ true ↦ number (value g) | false ↦ mark ]
+
+    by : AreFine many marks count (g ∷ gs)
+        → (AreFine many marks (count + 1) gs → AreRight many marks (count + 1) (map item_of gs))
+        → (AreFine many (marks + 1) count gs → AreRight many (marks + 1) count (map item_of gs))
+        → AreRight many marks count (item (is_last g.last.byte) ∷ map item_of gs)
+    by (inl k) on marking =
+        subst (λ b. AreRight many marks count (item b ∷ map item_of gs)) (sym k.0) (k.1, on k.2)
+    by (inr k) on marking =
+        subst (λ b. AreRight many marks count (item b ∷ map item_of gs)) (sym k.0)
+        (k.3, marking k.4)
+
+numbers_right : (items : List Item) (many marks count : ℕ) → AreRight many marks count items
+    → (before after : List Item) (n : ℕ) → items ≡ before ++ number n ∷ after
+    → n ≤ many + (marks + count_by is_mark before)
+numbers_right [] many marks count r [] after n e = absurd (cc)
+numbers_right [] many marks count r (x ∷ b) after n e = absurd (cc)
+numbers_right (number m ∷ items) many marks count r [] after n e =
+    let same : m ≡ n = cc in let h = r.0 in omega arith
+numbers_right (mark ∷ items) many marks count r [] after n e = absurd (cc)
+numbers_right (number m ∷ items) many marks count r (x ∷ b) after n e =
+    let head : x ≡ number m = cc in
+    let tail : items ≡ b ++ number n ∷ after = cc in
+    let h = numbers_right items many marks (count + 1) r.1 b after n tail in
+    let c : count_by is_mark (x ∷ b) ≡ count_by is_mark (number m ∷ b) =
+    ap (λ y. count_by is_mark (y ∷ b)) head in
+    omega (arith, count_append is_mark (number m ∷ []) b)
+numbers_right (mark ∷ items) many marks count r (x ∷ b) after n e =
+    let head : x ≡ mark = cc in
+    let tail : items ≡ b ++ number n ∷ after = cc in
+    let h = numbers_right items many (marks + 1) count r.1 b after n tail in
+    let c : count_by is_mark (x ∷ b) ≡ count_by is_mark (mark ∷ b) =
+    ap (λ y. count_by is_mark (y ∷ b)) head in
+    omega (arith, count_append is_mark (mark ∷ []) b)
+
+marks_right : (items : List Item) (many marks count : ℕ) → AreRight many marks count items
+    → (before after : List Item) → items ≡ before ++ mark ∷ after
+    → 0 < count + count_by is_number before
+marks_right [] many marks count r [] after e = absurd (cc)
+marks_right [] many marks count r (x ∷ b) after e = absurd (cc)
+marks_right (number m ∷ items) many marks count r [] after e = absurd (cc)
+marks_right (mark ∷ items) many marks count r [] after e = let h = r.0 in omega arith
+marks_right (number m ∷ items) many marks count r (x ∷ b) after e =
+    let head : x ≡ number m = cc in
+    let tail : items ≡ b ++ mark ∷ after = cc in
+    let h = marks_right items many marks (count + 1) r.1 b after tail in
+    let c : count_by is_number (x ∷ b) ≡ count_by is_number (number m ∷ b) =
+    ap (λ y. count_by is_number (y ∷ b)) head in
+    omega (arith, count_append is_number (number m ∷ []) b)
+marks_right (mark ∷ items) many marks count r (x ∷ b) after e =
+    let head : x ≡ mark = cc in
+    let tail : items ≡ b ++ mark ∷ after = cc in
+    let h = marks_right items many (marks + 1) count r.1 b after tail in
+    let c : count_by is_number (x ∷ b) ≡ count_by is_number (mark ∷ b) =
+    ap (λ y. count_by is_number (y ∷ b)) head in
+    omega (arith, count_append is_number (mark ∷ []) b)
+
+right_from : (items : List Item) (many marks count : ℕ)
+    → ((before after : List Item) (n : ℕ) → items ≡ before ++ number n ∷ after
+    → n ≤ many + (marks + count_by is_mark before))
+    → ((before after : List Item) → items ≡ before ++ mark ∷ after
+    → 0 < count + count_by is_number before)
+    → AreRight many marks count items
+right_from [] many marks count h k = tt
+right_from (number n ∷ items) many marks count h k = (
+  (let first = h [] items n refl in omega arith),
+  right_from items many marks (count + 1)
+      (λ b a m e. let x = h (number n ∷ b) a m (ap (λ xs. number n ∷ xs) e) in
+      omega (arith, x, count_append is_mark (number n ∷ []) b))
+      (λ b a e. let x = k (number n ∷ b) a (ap (λ xs. number n ∷ xs) e) in
+      omega (arith, x, count_append is_number (number n ∷ []) b)),
+)
+right_from (mark ∷ items) many marks count h k = (
+  (let first = k [] items refl in omega arith),
+  right_from items many (marks + 1) count
+      (λ b a m e. let x = h (mark ∷ b) a m (ap (λ xs. mark ∷ xs) e) in
+      omega (arith, x, count_append is_mark (mark ∷ []) b))
+      (λ b a e. let x = k (mark ∷ b) a (ap (λ xs. mark ∷ xs) e) in
+      omega (arith, x, count_append is_number (mark ∷ []) b)),
+)
+
+-- ---- groups of letters that spell items
+
+early_is : (b d : ℕ) → IsEarlyDigit b d → is_early b ≡ true
+early_is b d h =
+    let l = h.least in
+    let m = h.most in
+    let c = h.code in
+    and_from (nat_le 85 b) (nat_le b 89) (le-leb 85 b (omega arith)) (le-leb b 89 (omega arith))
+
+last_is : (b d : ℕ) → IsLastDigit b d → is_last b ≡ true
+last_is b d h =
+    let l = h.least in
+    let m = h.most in
+    let c = h.code in
+    and_from (nat_le 65 b) (nat_le b 84) (le-leb 65 b (omega arith)) (le-leb b 84 (omega arith))
+
+ends_not_early : (b : ℕ) → EndsItem b → is_early b ≡ false
+ends_not_early b h = by (is_early b) refl
+  where
+    by : (x : Bool) → is_early b ≡ x → is_early b ≡ false
+    by true e = absurd (no_early b (b - 84) h (early_digit b e))
+    by false e = e
+
+are_early : (xs : List Letter) (n : ℕ) → AreEarlyDigits (bytes_of xs) n → AreEarly xs
+are_early [] n h = tt
+are_early (x ∷ xs) n h = (early_is x.byte h.0 h.2, are_early xs h.1 h.3)
+
+groups_run : (early front : List Letter) (x : Letter) (back : List Letter) → AreEarly front
+    → is_early x.byte ≡ false
+    → groups early (front ++ x ∷ back)
+    ≡ (record { early = early ++ front; last = x } ∷ (groups [] back).0, (groups [] back).1)
+groups_run early [] x back h e =
+    let out : Bool → List Group × List Letter =
+    λ b. elim b [
+      | true ↦ groups (early ++ x ∷ []) back
+      | false ↦ (record { early = early; last = x } ∷ (groups [] back).0, (groups [] back).1)
+    ] in
+    ap out e
+    ∙ ap (λ (ys : List Letter). let r : List Group
+    × List Letter = (
+      record { early = ys; last = x }
+          ∷ (groups [] back).0,
+      (groups [] back).1,
+    ) in
+    r) (sym (append-nil early))
+groups_run early (y ∷ front) x back h e =
+    let out : Bool → List Group × List Letter =
+    λ b. elim b [
+      | true ↦ groups (early ++ y ∷ []) (front ++ x ∷ back)
+      | false ↦ (
+        record { early = early; last = y }
+            ∷ (groups [] (front ++ x ∷ back)).0,
+        (groups [] (front ++ x ∷ back)).1,
+      )
+    ] in
+    ap out h.0 ∙ groups_run (early ++ y ∷ []) front x back h.1 e
+    ∙ ap (λ (ys : List Letter). let r : List Group
+    × List Letter = (
+      record { early = ys; last = x }
+          ∷ (groups [] back).0,
+      (groups [] back).1,
+    ) in
+    r) (append_assoc early (y ∷ []) front)
+
+-- letters by their bytes
+record IsSplit (xs : List Letter) (es : List ℕ) (last : ℕ) (rest : List ℕ) : Type 0 where
+  pub front : List Letter
+  pub x : Letter
+  pub back : List Letter
+  pub are : xs ≡ front ++ x ∷ back
+  pub fronts : bytes_of front ≡ es
+  pub middle : x.byte ≡ last
+  pub backs : bytes_of back ≡ rest
+
+split_bytes : (xs : List Letter) (es : List ℕ) (last : ℕ) (rest : List ℕ)
+    → bytes_of xs ≡ es ++ last ∷ rest → IsSplit xs es last rest
+split_bytes [] [] last rest e = absurd (cc)
+split_bytes [] (b ∷ es) last rest e = absurd (cc)
+split_bytes (x ∷ xs) [] last rest e =
+    record { front = []; x = x; back = xs; are = refl; fronts = refl; middle = cc; backs = cc }
+split_bytes (x ∷ xs) (b ∷ es) last rest e = more (cc) (split_bytes xs es last rest (cc))
+  where
+    more : x.byte ≡ b → IsSplit xs es last rest → IsSplit (x ∷ xs) (b ∷ es) last rest
+    more head r =
+        record {
+          front = x ∷ r.front;
+          x = r.x;
+          back = r.back;
+          are = ap (λ ys. x ∷ ys) r.are;
+          fronts = ap₂ (λ c cs. c ∷ cs) head r.fronts;
+          middle = r.middle;
+          backs = r.backs;
+        }
+
+no_bytes : (xs : List Letter) → bytes_of xs ≡ [] → xs ≡ []
+no_bytes [] e = refl
+no_bytes (x ∷ xs) e = absurd (cc)
+
+number_is : (m n : ℕ) → number m ≡ number n → m ≡ n
+number_is m n e = cc
+
+abbrev IsRead : ℕ → ℕ → ℕ → List Group × List Letter → Type 0
+IsRead many marks count r = AreFine many marks count r.0 × (r.1 ≡ [])
+
+-- letters that spell right items are groups without faults
+fine_of_right : (items : List Item) (xs : List Letter) (many marks count : ℕ)
+    → Spells (bytes_of xs) items → AreRight many marks count items
+    → IsRead many marks count (groups [] xs)
+fine_of_right [] xs many marks count s r =
+    subst (λ ys. IsRead many marks count (groups [] ys)) (sym (no_bytes xs s)) (tt, refl)
+fine_of_right (number n ∷ items) xs many marks count s r =
+    let w : IsNumber s.0 n = s.3 in
+    let p =
+    split_bytes xs w.early w.last s.1
+    (s.2 ∙ ap (λ bs. bs ++ s.1) w.are ∙ append_assoc w.early (w.last ∷ []) s.1) in
+    let early : AreEarly p.front =
+    are_early p.front w.high (subst (λ bs. AreEarlyDigits bs w.high) (sym p.fronts) w.earlier) in
+    let ends : IsLastDigit p.x.byte w.low =
+    subst (λ b. IsLastDigit b w.low) (sym p.middle) w.ends in
+    let most = ends.most in
+    let code = ends.code in
+    let not_early : is_early p.x.byte ≡ false = ends_not_early p.x.byte (inl (omega arith)) in
+    let last : is_last p.x.byte ≡ true = last_is p.x.byte w.low ends in
+    let g : Group = record { early = p.front; last = p.x } in
+    let spelled : IsNumber s.0 (value g) =
+    subst (λ bs. IsNumber bs (value g)) (ap₂ (λ bs b. bs ++ b ∷ []) p.fronts p.middle ∙ sym w.are)
+    (group_number g early last) in
+    let same : value g ≡ n =
+    number_is (value g) n (item_unique (number (value g)) (number n) s.0 spelled w) in
+    let on =
+    fine_of_right items p.back many marks (count + 1)
+    (subst (λ bs. Spells bs items) (sym p.backs) s.4) r.1 in
+    let here : value g ≤ many + marks = subst (λ i. i ≤ many + marks) (sym same) r.0 in
+    let whole : IsRead many marks count (groups [] (p.front ++ p.x ∷ p.back)) =
+    subst (IsRead many marks count) (sym (groups_run [] p.front p.x p.back early not_early))
+    (inl (last, here, on.0), on.1) in
+    subst (λ ys. IsRead many marks count (groups [] ys)) (sym p.are) whole
+fine_of_right (mark ∷ items) xs many marks count s r =
+    let p = split_bytes xs [] 90 s.1 (s.2 ∙ ap (λ bs. bs ++ s.1) s.3) in
+    let none : p.front ≡ [] = no_bytes p.front p.fronts in
+    let middle = p.middle in
+    let early : AreEarly p.front =
+    are_early p.front 0 (subst (λ bs. AreEarlyDigits bs 0) (sym p.fronts) refl) in
+    let not_early : is_early p.x.byte ≡ false = ends_not_early p.x.byte (inr (omega arith)) in
+    let not_last : is_last p.x.byte ≡ false = ap is_last middle in
+    let on =
+    fine_of_right items p.back many (marks + 1) count
+    (subst (λ bs. Spells bs items) (sym p.backs) s.4) r.1 in
+    let whole : IsRead many marks count (groups [] (p.front ++ p.x ∷ p.back)) =
+    subst (IsRead many marks count) (sym (groups_run [] p.front p.x p.back early not_early))
+    (inr (not_last, middle, none, r.0, on.0), on.1) in
+    subst (λ ys. IsRead many marks count (groups [] ys)) (sym p.are) whole
+
+-- ---- groups without faults
+
+small : (n m : ℕ) → n ≤ m → nat_lt m n ≡ false
+small n m h = by (nat_lt m n) refl
+  where
+    by : (b : Bool) → nat_lt m n ≡ b → nat_lt m n ≡ false
+    by true e = absurd (let l = ltb-true m n e in omega arith)
+    by false e = e
+
+other_number : (m n : ℕ) → (m ≡ n → ⊥) → (m == n) ≡ false
+other_number m n h = by (m == n) refl
+  where
+    by : (b : Bool) → (m == n) ≡ b → (m == n) ≡ false
+    by true e = absurd (h (eqb-true m n e))
+    by false e = e
+
+faults_of_fine : (gs : List Group) (many marks count : ℕ) → AreFine many marks count gs
+    → group_faults many marks count gs ≡ []
+faults_of_fine [] many marks count f = refl
+faults_of_fine (g ∷ gs) many marks count f =
+    by f (λ k. faults_of_fine gs many marks (count + 1) k)
+    (λ k. faults_of_fine gs many (marks + 1) count k)
+  where
+    inner : Bool → List Fault
+    inner b = elim b [
+      | true ↦ at g.last.at
+          (when (nat_lt 0 (length g.early)) OpenNumber ++ when (count == 0) MarkBeforeStep)
+      | false ↦ at g.last.at
+          (elim (g.last.byte == 63) [ true ↦ IncompleteProof ∷ [] | false ↦ BadLetter ∷ [] ])
+    ]
+
+    first : Bool → Bool → List Fault
+    first a b =
+        elim a [
+          | true ↦ at (starts_at g) (when (nat_lt (many + marks) (value g)) NumberTooLarge)
+          | false ↦ inner b
+        ]
+
+    second : Bool → List Fault
+    second b =
+        elim b [
+          | true ↦ group_faults many (marks + 1) count gs
+          | false ↦ group_faults many marks (count + 1) gs
+        ]
+
+    by : AreFine many marks count (g ∷ gs)
+        → (AreFine many marks (count + 1) gs → group_faults many marks (count + 1) gs ≡ [])
+        → (AreFine many (marks + 1) count gs → group_faults many (marks + 1) count gs ≡ [])
+        → first (is_last g.last.byte) (g.last.byte == 90) ++ second (g.last.byte == 90) ≡ []
+    by (inl k) on marking =
+        let u =
+        leb-true g.last.byte 84 (and_parts (nat_le 65 g.last.byte) (nat_le g.last.byte 84) k.0).1 in
+        let not_mark : (g.last.byte == 90) ≡ false =
+        other_number g.last.byte 90 (λ e. omega arith) in
+        ap₂ (λ a b. first a b ++ second b) k.0 not_mark
+        ∙ ap₂ (λ b ys. at (starts_at g) (when b NumberTooLarge) ++ ys)
+        (small (value g) (many + marks) k.1) (on k.2)
+    by (inr k) on marking =
+        let is : (g.last.byte == 90) ≡ true = eq-eqb g.last.byte 90 k.1 in
+        let l = k.3 in
+        ap₂ (λ a b. first a b ++ second b) k.0 is
+        ∙ ap₂ (λ (e : List Letter) (b : Bool). at g.last.at
+        (when (nat_lt 0 (length e)) OpenNumber ++ when b MarkBeforeStep)
+        ++ group_faults many (marks + 1) count gs) k.2 (other_number count 0 (λ e. omega arith))
+        ∙ marking k.4
+
+letters_fine : (many end : ℕ) (xs : List Letter) → xs ≢ [] → IsRead many 0 0 (groups [] xs)
+    → letter_faults many end xs ≡ []
+letters_fine many end [] n r = absurd (n refl)
+letters_fine many end (x ∷ xs) n r =
+    ap₂ (λ fs (open_ : List Letter). fs ++ at end (when (nat_lt 0 (length open_)) OpenNumber))
+    (faults_of_fine (groups [] (x ∷ xs)).0 many 0 0 r.0) r.1
+
+-- ---- labels
+
+filter_some : (test : ℕ → Bool) (n a j : ℕ) → a ≤ j → j < a + n → test j ≡ true
+    → filter test (range_with_len a n) ≡ [] → ⊥
+filter_some test zero a j l h e n = omega arith
+filter_some test (suc m) a j l h e n =
+    by (test a) refl n (λ b k. filter_some test m (a + 1) j b (omega arith) e k) (cases_eq a j)
+  where
+    by : (b : Bool) → test a ≡ b
+        → ◌≡◌ {A = List ℕ}
+        (cond b (a ∷ filter test (range_with_len (a + 1) m))
+        (filter test (range_with_len (a + 1) m))) []
+        → (a + 1 ≤ j → filter test (range_with_len (a + 1) m) ≡ [] → ⊥) → (a ≡ j) ⊎ (a ≡ j → ⊥) → ⊥
+    by true f k on c = cc
+    by false f k on (inl s) = true≢false (sym e ∙ sym (ap test s) ∙ f)
+    by false f k on (inr ne) = on (omega arith) k
+
+usable_faultless : (db : List Statement) (k : ℕ) (t : Token) (j : ℕ) → IsUsable db k t.word j
+    → proof_label_faults db k t ≡ []
+usable_faultless db k t j h =
+    by (usable db k t.word)
+    (λ n. filter_some
+    (λ i. is_active db i k && list_any (is_labelled t.word) (statement_at db i)) k 0 j (omega arith)
+    (let b = is_before db j k h.active in omega arith)
+    (and_from (is_active db j k)
+    (list_any (is_labelled t.word) (statement_at db j)) h.active h.labelled) n)
+  where
+    by : (js : List ℕ) → (js ≡ [] → ⊥)
+        → ◌≡◌ {A = List Fault} (elim js [ [] ↦ fault t.at UnusableLabel ∷ [] | j ∷ js ↦ [] ]) []
+    by [] n = absurd (n refl)
+    by (j ∷ js) n = refl
+
+labels_faultless : (db : List Statement) (k : ℕ) (ts : List Token)
+    → AllByRecursion (λ t. (j : ℕ) × IsUsable db k t.word j) ts
+    → flat_map (proof_label_faults db k) ts ≡ []
+labels_faultless db k [] h = refl
+labels_faultless db k (t ∷ ts) h =
+    ap₂ (λ xs ys. xs ++ ys) (usable_faultless db k t h.0.0 h.0.1) (labels_faultless db k ts h.1)
+
+each_usable : (db : List Statement) (k : ℕ) (ts : List Token) (js : List ℕ)
+    → AllZip (λ t j. IsUsable db k t.word j) ts js
+    → AllByRecursion (λ t. (j : ℕ) × IsUsable db k t.word j) ts
+each_usable db k [] js h = tt
+each_usable db k (t ∷ ts) [] h = absurd h
+each_usable db k (t ∷ ts) (j ∷ js) h = ((j, h.0), each_usable db k ts js h.1)
+
+-- ---- proofs
+
+module _ (db : List Statement) (law : (k : ℕ) → k < length db → IsLawful db k) (k end : ℕ) where
+  to_well : (t : Token) (ts : List Token) → t.word ≡ codes "("
+      → reading_faults db k end (t ∷ ts) ≡ [] → IsWellSpelled db k (t ∷ ts)
+  to_well t ts opens f =
+      let p = good_proof db k end t ts opens f in
+      let parts = parts_of ts p.letters p.is in
+      let many = length (mandatory_hypotheses db k) + length (bracketed ts).labels in
+      let items = map item_of (groups [] (letters_of p.letters)).0 in
+      let read : Spells (letters_in p.letters) items =
+      subst (λ bs. Spells bs items) (letters_bytes p.letters)
+      (groups_spell (letters_of p.letters) [] many 0 0 tt p.good.fine p.good.whole) in
+      let right = right_of_fine (groups [] (letters_of p.letters)).0 many 0 0 p.good.fine in
+      let js = all_usable db law k (bracketed ts).labels p.usable in
+      let same : (bracketed ts).labels ≡ parts.labels =
+      ap (λ b. b.labels)
+      (ap bracketed parts.are
+      ∙ bracketed_is parts.labels parts.closing p.letters parts.closes parts.first) in
+      record {
+        labels = parts.labels;
+        letters = p.letters;
+        parts =
+            record {
+              opening = t;
+              closing = parts.closing;
+              are = ap (λ xs. t ∷ xs) parts.are;
+              opens = opens;
+              closes = parts.closes;
+              first = parts.first;
+            };
+        usable =
+            subst (AllByRecursion (λ u. (j : ℕ) × IsUsable db k u.word j)) same
+            (each_usable db k (bracketed ts).labels js.0 js.1);
+        items = items;
+        spelled = read;
+        some =
+            λ n. p.good.some
+            (no_bytes (letters_of p.letters)
+            (letters_bytes p.letters ∙ subst (Spells (letters_in p.letters)) n read));
+        numbers =
+            λ b a n e. let h = numbers_right items many 0 0 right b a n e in
+            subst (λ ls. n ≤ length (mandatory_hypotheses db k) + length ls + count_by is_mark b)
+            same (omega arith);
+        marks = λ b a e. let h = marks_right items many 0 0 right b a e in omega arith;
+      }
+
+  from_well : (t : Token) (ts : List Token) → t.word ≡ codes "(" → IsWellSpelled db k (t ∷ ts)
+      → reading_faults db k end (t ∷ ts) ≡ []
+  from_well t ts opens w =
+      ap faults ((bytes_eq-Decides t.word (codes "(")).1 opens)
+      ∙ ap (compressed_faults db k end) parts
+      ∙ ap₂ (λ xs ys. xs ++ ys) (labels_faultless db k w.labels w.usable)
+      (letters_fine many end (letters_of w.letters) some
+      (fine_of_right w.items (letters_of w.letters) many 0 0 spelled right))
+    where
+      many : ℕ
+      many = length (mandatory_hypotheses db k) + length w.labels
+
+      faults : Bool → List Fault
+      faults b =
+          elim b [
+            | true ↦ compressed_faults db k end (bracketed ts)
+            | false ↦ normal_faults db k end (t ∷ ts)
+          ]
+
+      tail_is : {s t : Token} {xs ys : List Token} → s ∷ xs ≡ t ∷ ys → xs ≡ ys
+      tail_is e = cc
+
+      parts : bracketed ts ≡ record { labels = w.labels; letters = Some w.letters }
+      parts =
+          ap bracketed (tail_is w.parts.are)
+          ∙ bracketed_is w.labels w.parts.closing w.letters w.parts.closes w.parts.first
+
+      spelled : Spells (bytes_of (letters_of w.letters)) w.items
+      spelled = subst (λ bs. Spells bs w.items) (sym (letters_bytes w.letters)) w.spelled
+
+      right : AreRight many 0 0 w.items
+      right =
+          right_from w.items many 0 0 (λ b a n e. let h = w.numbers b a n e in omega arith)
+          (λ b a e. let h = w.marks b a e in omega arith)
+
+      none : (items : List Item) → Spells [] items → items ≡ []
+      none [] s = refl
+      none (number n ∷ items) s =
+          absurd (nonempty s.3.early s.3.last s.1 (s.2 ∙ ap (λ bs. bs ++ s.1) s.3.are))
+      none (mark ∷ items) s = absurd (nonempty [] 90 s.1 (s.2 ∙ ap (λ bs. bs ++ s.1) s.3))
+
+      some : letters_of w.letters ≢ []
+      some n = w.some (none w.items (subst (λ xs. Spells (bytes_of xs) w.items) n spelled))
+
+  abbrev IsPlainWord : Token → Type 0
+  IsPlainWord u = (u.word ≢ codes "?") × ((j : ℕ) × IsUsable db k u.word j)
+
+  abbrev faults_of_word : Token → List Fault
+  faults_of_word u = own_faults db law k u (bytes_eq u.word (codes "?"))
+
+  to_words : (ts : List Token) → flat_map faults_of_word ts ≡ [] → AllByRecursion IsPlainWord ts
+  to_words [] f = tt
+  to_words (t ∷ ts) f = (
+    by (bytes_eq t.word (codes "?")) refl
+        (nil_first (faults_of_word t) (flat_map faults_of_word ts) f),
+    to_words ts
+        (nil_second (faults_of_word t) (flat_map faults_of_word ts) f),
+  )
+    where
+      by : (b : Bool) → bytes_eq t.word (codes "?") ≡ b → own_faults db law k t b ≡ []
+          → IsPlainWord t
+      by true e h = absurd (cc)
+      by false e h =
+          let one = usable_one db law k t h in
+          ((λ w. true≢false (sym ((bytes_eq-Decides t.word (codes "?")).1 w) ∙ e)), (one.0, one.2))
+
+  from_words : (ts : List Token) → AllByRecursion IsPlainWord ts → flat_map faults_of_word ts ≡ []
+  from_words [] h = refl
+  from_words (t ∷ ts) h =
+      ap₂ (λ xs ys. xs ++ ys) (by (bytes_eq t.word (codes "?")) refl) (from_words ts h.1)
+    where
+      by : (b : Bool) → bytes_eq t.word (codes "?") ≡ b → own_faults db law k t b ≡ []
+      by true e = absurd (h.0.0 (same_word t.word (codes "?") e))
+      by false e = usable_faultless db k t h.0.1.0 h.0.1.1
+
+  normal_read : (t : Token) (ts : List Token) → t.word ≢ codes "("
+      → reading_faults db k end (t ∷ ts) ≡ flat_map faults_of_word (t ∷ ts)
+  normal_read t ts ne = by (bytes_eq t.word (codes "(")) refl
+    where
+      by : (b : Bool) → bytes_eq t.word (codes "(") ≡ b
+          → ◌≡◌ {A = List Fault}
+          (elim b [
+            | true ↦ compressed_faults db k end (bracketed ts)
+            | false ↦ normal_faults db k end (t ∷ ts)
+          ]) (flat_map faults_of_word (t ∷ ts))
+      by true e = absurd (ne (same_word t.word (codes "(") e))
+      by false e = refl
+
+pub normal_exact : WhereRead NormalIsExact
+normal_exact len x db fault r k end t ts ne =
+    let law =
+    λ (k : ℕ) (h : k < length db). sym (scope_fault_front db r.rest k h)
+    ∙ ap (λ row. scope_fault row k) (sym r.splits) ∙ r.lawful k h in (
+      (λ f. to_words db law k end (t ∷ ts) (sym (normal_read db law k end t ts ne) ∙ f)),
+      λ h.
+          normal_read db law k end t ts ne
+          ∙ from_words db law k end (t ∷ ts) h,
+    )
+
+pub compressed_exact : WhereRead CompressedIsExact
+compressed_exact len x db fault r k end t ts opens =
+    let law =
+    λ (k : ℕ) (h : k < length db). sym (scope_fault_front db r.rest k h)
+    ∙ ap (λ row. scope_fault row k) (sym r.splits) ∙ r.lawful k h in
+    (to_well db law k end t ts opens, from_well db law k end t ts opens)

@@ -1,0 +1,176 @@
+-- Pieces between cuts, and runs of pieces that are joined in order.
+use Rattle.std.proofs.Common.{◌≡◌, ℕ, zero, suc, ◌+◌, ◌*◌, ◌/◌, ◌%◌, ◌<◌, ◌≤◌, List, length, get_or}
+use Rattle.std.proofs.Common.{Result, Ok, sym, ap, subst, ◌∙◌, ⊎_elim, arith}
+use Rattle.std.specs.Prelude.{IfOk}
+use Rattle.std.specs.List.{remove}
+use Rattle.std.specs.declared.alloc.AllocError.{AllocError}
+use Rattle.std.proofs.Math.Nat.{div-add-mod, mod-lt, le-div_iff_mul-le, mul-le-mul_right, add-mul}
+use Rattle.std.proofs.Math.Nat.{zero-mul}
+use Rattle.std.proofs.lemmas.Bool.{cases_lt}
+use Rattle.std.proofs.lemmas.Grind.{get_or_default_zero}
+use Rattle.std.proofs.lemmas.List.{get_or_past}
+use Rattle.std.proofs.lemmas.List.Edits.{length-remove, get_or-remove_above}
+use Rattle.mm_lex.specs.Pieces.{IsSummary, Stretch}
+use Rattle.mm_lex.specs.Cuts.{cut_at, run_start, IsRun}
+use Rattle.mm_lex.specs.Places.{cut_text, IsCutText}
+
+module _ (text places : List ℕ) (cuts : IsCutText (cut_text places (length text))) where
+  pub cut_at_within : (i : ℕ) → cut_at text places i ≤ length text
+  cut_at_within zero = omega arith
+  cut_at_within (suc i) =
+      ⊎_elim {C = get_or places i (length text) ≤ length text}
+      (λ lt. rw (get_or_default_zero places i (length text) lt) (cuts.within i lt))
+      (λ ge. rw (get_or_past places i (length text) ge) (omega arith))
+      (cases_lt i (length places))
+
+  pub cut_at_rises : (i : ℕ) → cut_at text places i ≤ cut_at text places (i + 1)
+  cut_at_rises zero = omega arith
+  cut_at_rises (suc i) =
+      let next : suc i + 1 ≡ suc (suc i) = omega arith in
+      let more : i + 1 ≡ suc i = omega arith in
+      rw next
+      (⊎_elim {C = get_or places i (length text) ≤ get_or places (suc i) (length text)}
+      (λ lt. let low : i < length places = omega (arith, lt) in
+      let rises : get_or places i 0 ≤ get_or places (suc i) 0 =
+      subst (λ (n : ℕ). get_or places i 0 ≤ get_or places n 0) more
+      (cuts.rising i (omega (arith, lt))) in
+      rw (
+        get_or_default_zero places i (length text) low,
+        get_or_default_zero places (suc i)
+            (length text) lt,
+      ) rises)
+      (λ ge. rw (get_or_past places (suc i) (length text) ge) (cut_at_within (suc i)))
+      (cases_lt (suc i) (length places)))
+
+pub cut_at_last : (text places : List ℕ) → cut_at text places (length places + 1) ≡ length text
+cut_at_last text places =
+    let next : length places + 1 ≡ suc (length places) = omega arith in
+    ap (cut_at text places) next ∙ get_or_past places (length places) (length text) (omega arith)
+
+-- ---- runs
+
+module _ (n runs : ℕ) (some : 0 < runs) (few : runs ≤ n) where
+  all : runs * (n / runs) + n % runs ≡ n
+  all = div-add-mod n runs
+
+  pub run_start_first : run_start n runs 0 ≡ 0
+  run_start_first = omega (arith, zero-mul (n / runs))
+
+  pub run_start_last : run_start n runs runs ≡ n
+  run_start_last = let low = mod-lt n some in omega (arith, low, all)
+
+  pub run_start_more : (i : ℕ) → run_start n runs i < run_start n runs (i + 1)
+  run_start_more i =
+      let one : 1 ≤ n / runs = (le-div_iff_mul-le some).1 (omega arith) in
+      let more : (i + 1) * (n / runs) ≡ i * (n / runs) + 1 * (n / runs) = add-mul i 1 (n / runs) in
+      omega (arith, one, more)
+
+  pub run_start_within : (i : ℕ) → i ≤ runs → run_start n runs i ≤ n
+  run_start_within i le =
+      let low = mul-le-mul_right {m = i} {n = runs} (n / runs) le in
+      omega (arith, low, all)
+
+-- the first runs make up whole, and these are the rest
+pub record IsLeft (text places : List ℕ) (n runs : ℕ) (whole : Stretch)
+    (rest : List (Result Stretch AllocError)) : Type 0 where
+  pub done : ℕ
+  pub count : done + length rest ≡ runs
+  pub run : IsRun text places 0 (run_start n runs done) whole
+  pub each : (k : ℕ) (x : Result Stretch AllocError) → k < length rest
+      → IfOk (get_or rest k x)
+      (IsRun text places (run_start n runs (done + k)) (run_start n runs (done + k + 1)))
+
+module _ (text places : List ℕ) (n runs : ℕ) where
+  pub IsLeft_first : (ps qs : List (Result Stretch AllocError)) (piece : Stretch) → 0 < runs
+      → runs ≤ n → length ps ≡ runs →
+      ((i : ℕ) (d : Result Stretch AllocError) → i < runs
+      → IfOk (get_or ps i d)
+      (IsRun text places (run_start n runs i) (run_start n runs (i + 1))))
+      →
+      Ok piece ≡ get_or ps 0 (Ok piece) → qs ≡ remove ps 0 → IsLeft text places n runs piece qs
+  IsLeft_first ps qs piece some few count each first rest =
+      let here : IsRun text places (run_start n runs 0) (run_start n runs 1) piece =
+      subst (λ (r : Result Stretch AllocError). IfOk r
+      (IsRun text places (run_start n runs 0) (run_start n runs 1))) (sym first)
+      (each 0 (Ok piece) some) in
+      let from_start : IsRun text places 0 (run_start n runs 1) piece =
+      subst (λ (i : ℕ). IsRun text places i (run_start n runs 1) piece)
+      (run_start_first n runs some few) here in
+      let long : length qs + 1 ≡ length ps =
+      ap (λ (xs : List (Result Stretch AllocError)). length xs + 1) rest
+      ∙ length-remove ps 0 (omega (arith, some, count)) in
+      record {
+        done = 1;
+        count = omega (arith, long, count);
+        run = from_start;
+        each = λ k x h.
+            let shift : k + 1 ≡ 1 + k = omega arith in
+            let after : get_or qs k x ≡ get_or ps (k + 1) x =
+            ap (λ (xs : List (Result Stretch AllocError)). get_or xs k x) rest
+            ∙ get_or-remove_above ps 0 x k (omega arith) (omega (arith, some, count)) in
+            rw after
+            (subst (λ (i : ℕ). IfOk (get_or ps (k + 1) x)
+            (IsRun text places (run_start n runs i) (run_start n runs (i + 1)))) shift
+            (each (k + 1) x (omega (arith, long, count))));
+      }
+
+  pub IsLeft_next : (ps qs : List (Result Stretch AllocError)) (whole piece joined : Stretch)
+      → IsLeft text places n runs whole ps → 0 < length ps → Ok piece ≡ get_or ps 0 (Ok piece)
+      → qs ≡ remove ps 0 →
+      joined.from ≡ whole.from → joined.to ≡ piece.to → IsSummary text joined
+      → IsLeft text places n runs joined qs
+  IsLeft_next ps qs whole piece joined left some first rest from to summary =
+      let zero_more : left.done + 0 ≡ left.done = omega arith in
+      let here : IsRun text places (run_start n runs (left.done + 0))
+      (run_start n runs (left.done + 0 + 1)) piece =
+      subst (λ (r : Result Stretch AllocError). IfOk r
+      (IsRun text places (run_start n runs (left.done + 0))
+      (run_start n runs (left.done + 0 + 1)))) (sym first) (left.each 0 (Ok piece) some) in
+      let long : length qs + 1 ≡ length ps =
+      ap (λ (xs : List (Result Stretch AllocError)). length xs + 1) rest
+      ∙ length-remove ps 0 some in
+      record {
+        done = left.done + 1;
+        count = omega (arith, long, left.count);
+        run = record {
+          from = from ∙ left.run.from;
+          to =
+              to ∙ here.to
+              ∙ ap (λ (i : ℕ). cut_at text places (run_start n runs (i + 1))) zero_more;
+          summary = summary;
+        };
+        each = λ k x h.
+            let shift : left.done + (k + 1) ≡ left.done + 1 + k = omega arith in
+            let after : get_or qs k x ≡ get_or ps (k + 1) x =
+            ap (λ (xs : List (Result Stretch AllocError)). get_or xs k x) rest
+            ∙ get_or-remove_above ps 0 x k (omega arith) some in
+            rw after
+            (subst (λ (i : ℕ). IfOk (get_or ps (k + 1) x)
+            (IsRun text places (run_start n runs i) (run_start n runs (i + 1)))) shift
+            (left.each (k + 1) x (omega (arith, long))));
+      }
+
+  -- the next piece begins where those before it end
+  pub IsLeft_neighbour : (ps : List (Result Stretch AllocError)) (whole piece : Stretch)
+      → IsLeft text places n runs whole ps → 0 < length ps → Ok piece ≡ get_or ps 0 (Ok piece) →
+      (whole.to ≡ piece.from) × IsSummary text piece
+  IsLeft_neighbour ps whole piece left some first =
+      let zero_more : left.done + 0 ≡ left.done = omega arith in
+      let here : IsRun text places (run_start n runs (left.done + 0))
+      (run_start n runs (left.done + 0 + 1)) piece =
+      subst (λ (r : Result Stretch AllocError). IfOk r
+      (IsRun text places (run_start n runs (left.done + 0))
+      (run_start n runs (left.done + 0 + 1)))) (sym first) (left.each 0 (Ok piece) some) in (
+        left.run.to ∙ ap (λ (i : ℕ). cut_at text places (run_start n runs i)) (sym zero_more)
+            ∙ sym here.from,
+        here.summary,
+      )
+
+  pub IsLeft_end : (ps : List (Result Stretch AllocError)) (whole : Stretch) → 0 < runs → runs ≤ n
+      → n ≡ length places + 1 → IsLeft text places n runs whole ps → length ps ≡ 0
+      → whole.to ≡ length text
+  IsLeft_end ps whole some few pieces left none =
+      let done : left.done ≡ runs = omega (arith, left.count, none) in
+      left.run.to ∙ ap (λ (i : ℕ). cut_at text places (run_start n runs i)) done
+      ∙ ap (cut_at text places) (run_start_last n runs some few ∙ pieces)
+      ∙ cut_at_last text places

@@ -1,0 +1,272 @@
+-- A row of words goes on: by one word, and by words whose readings are known.
+use Rattle.std.proofs.Common.{◌≡◌, ℕ, Bool, true, false, List, [], ◌∷◌, ◌++◌, length, Option, Some}
+use Rattle.std.proofs.Common.{None, MatchOption, is_some, refl, sym, ap, subst, ◌∙◌, append-nil}
+use Rattle.std.proofs.Common.{arith}
+use Rattle.mm_spec.specs.declared.Word.{Word}
+use Rattle.mm_spec.specs.declared.Fault.{Fault}
+use Rattle.mm_spec.specs.declared.Role.{Role}
+use Rattle.mm_spec.specs.declared.Role.TheVariants as roles
+use Rattle.mm_lex.specs.declared.rows.Opened.{Opened}
+use Rattle.mm_lex.specs.declared.rows.Opened.TheVariants.{Nowhere, Before, At}
+use Rattle.mm_spec.specs.Roles.{role_of, fault_of}
+use Rattle.mm_spec.specs.Readings.{Reading, reading, with_tokens, bytes_of}
+use Rattle.mm_spec.specs.Laws.Readings.{go_on, start}
+use Rattle.mm_lex.specs.Pieces.{resolved, seen, Side, Between, Stretch, AreReadings, IsBetween}
+use Rattle.mm_lex.specs.Pieces.{IsSummary}
+use Rattle.mm_lex.specs.Inners.{carried}
+use Rattle.mm_spec.specs.Words.{words_of}
+use Rattle.mm_lex.specs.Stretches.{IsUnbroken, IsBroken, joined_word}
+use Rattle.mm_lex.proofs.StretchesLaw.{join_words, join_broken, join_unbroken_broken}
+use Rattle.mm_lex.proofs.StretchesLaw.{join_broken_unbroken, join_unbroken, whole_broken}
+use Rattle.mm_spec.proofs.ReadingsLaw.{reading_opening, reading_closing, reading_comment}
+use Rattle.mm_spec.proofs.ReadingsLaw.{reading_faulty, reading_end, reading_append, reading_one}
+use Rattle.mm_spec.proofs.ReadingsLaw.{go_on_with_tokens}
+
+pub none_from : {X : Type 0} (o : Option X) → is_some o ≡ false → o ≡ None
+none_from None h = refl
+none_from (Some x) h = cc
+
+some_from : {X : Type 0} (o : Option X) → is_some o ≡ true → (x : X) × (o ≡ Some x)
+some_from None h = cc
+some_from (Some x) h = (x, refl)
+
+pub go_on_none : (text : List ℕ) (r : Reading) (ws : List Word) → r.fault ≡ None
+    → go_on text r ws ≡ with_tokens r.tokens (reading text r.comment ws)
+go_on_none text r ws h = rw h refl
+
+pub go_on_some : (text : List ℕ) (r : Reading) (ws : List Word) → is_some r.fault ≡ true
+    → go_on text r ws ≡ r
+go_on_some text r ws h = let e = some_from r.fault h in rw e.1 refl
+
+pub go_on_start : (text : List ℕ) (c : Option ℕ) (ws : List Word)
+    → go_on text (start c) ws ≡ reading text c ws
+go_on_start text c ws = refl
+
+module _ (text : List ℕ) (r : Reading) (w : Word) (b : Bool) (none : r.fault ≡ None)
+    (is : b ≡ is_some r.comment) where
+  step : {f : Role} → f ≡ role_of b (bytes_of text w)
+      → role_of (is_some r.comment) (bytes_of text w) ≡ f
+  step role = ap (λ (x : Bool). role_of x (bytes_of text w)) (sym is) ∙ sym role
+
+  pub go_on_token : roles.Token ≡ role_of b (bytes_of text w)
+      → go_on text r (w ∷ [])
+      ≡ record { tokens = r.tokens ++ w ∷ []; fault = r.fault; comment = r.comment }
+  go_on_token role =
+      go_on_none text r _ none
+      ∙ ap (with_tokens r.tokens)
+      (reading_one text r.comment w [] (step role)
+      ∙ ap (with_tokens (w ∷ [])) (reading_end text r.comment))
+      ∙ rw none refl
+
+  pub go_on_opening : roles.Opening ≡ role_of b (bytes_of text w)
+      → go_on text r (w ∷ [])
+      ≡ record { tokens = r.tokens; fault = r.fault; comment = Some w.start }
+  go_on_opening role =
+      go_on_none text r _ none
+      ∙ ap (with_tokens r.tokens)
+      (reading_opening text r.comment w [] (step role) ∙ reading_end text (Some w.start))
+      ∙ rw (none, append-nil) refl
+
+  pub go_on_closing : roles.Closing ≡ role_of b (bytes_of text w)
+      → go_on text r (w ∷ []) ≡ record { tokens = r.tokens; fault = r.fault; comment = None }
+  go_on_closing role =
+      go_on_none text r _ none
+      ∙ ap (with_tokens r.tokens)
+      (reading_closing text r.comment w [] (step role) ∙ reading_end text None)
+      ∙ rw (none, append-nil) refl
+
+  pub go_on_comment : roles.Comment ≡ role_of b (bytes_of text w) → go_on text r (w ∷ []) ≡ r
+  go_on_comment role =
+      go_on_none text r _ none
+      ∙ ap (with_tokens r.tokens)
+      (reading_comment text r.comment w [] (step role) ∙ reading_end text r.comment)
+      ∙ rw (append-nil, ← none) refl
+
+  pub go_on_faulty : roles.Faulty ≡ role_of b (bytes_of text w)
+      → go_on text r (w ∷ [])
+      ≡ record {
+        tokens = r.tokens;
+        fault = Some (fault_of b w.start (bytes_of text w));
+        comment = r.comment;
+      }
+  go_on_faulty role =
+      go_on_none text r _ none
+      ∙ ap (with_tokens r.tokens) (reading_faulty text r.comment w [] (step role))
+      ∙ rw (append-nil, is) refl
+
+pub go_on_append : (text : List ℕ) (r : Reading) (xs ys : List Word)
+    → go_on text r (xs ++ ys) ≡ go_on text (go_on text r xs) ys
+go_on_append text r xs ys = by r.tokens r.fault r.comment
+  where
+    by : (ts : List Word) (f : Option Fault) (c : Option ℕ)
+        → go_on text (record { tokens = ts; fault = f; comment = c }) (xs ++ ys)
+        ≡ go_on text (go_on text (record { tokens = ts; fault = f; comment = c }) xs) ys
+    by ts None c =
+        ap (with_tokens ts) (reading_append text c xs ys)
+        ∙ go_on_with_tokens text ts ys (reading text c xs).tokens (reading text c xs).fault
+        (reading text c xs).comment
+    by ts (Some f) c = refl
+
+resolved-carried : (p x : ℕ) (c d : Opened) → resolved p c ≡ Some x
+    → resolved p (carried c d) ≡ resolved x d
+resolved-carried p x c Nowhere h = refl
+resolved-carried p x c Before h = h
+resolved-carried p x c (At q) h = refl
+
+-- The words go on inside a comment.
+pub go_on_inside : (text : List ℕ) (ws : List Word) (p : ℕ) (r next : Side) (items : List Word)
+    → ((q : ℕ) → reading text (Some q) ws ≡ seen q next) →
+    r.fault ≡ None → is_some (resolved p r.comment) ≡ true → items ≡ r.tokens ++ next.tokens →
+    record {
+      tokens = items;
+      fault = next.fault;
+      comment = resolved p (carried r.comment next.comment);
+    }
+    ≡ go_on text (seen p r) ws
+go_on_inside text ws p r next items readings none is_open e =
+    let opened = some_from (resolved p r.comment) is_open in
+    let all : go_on text (seen p r) ws
+    ≡ with_tokens r.tokens (reading text (resolved p r.comment) ws) = go_on_none text
+    (seen p r) ws none in
+    rw (e, resolved-carried p opened.0 r.comment next.comment opened.1)
+    (sym (all ∙ ap (λ (c : Option ℕ). with_tokens r.tokens (reading text c ws)) opened.1
+    ∙ ap (with_tokens r.tokens) (readings opened.0)))
+
+-- The words go on outside. No comment from before them can be open after them.
+
+some_same : (m n : ℕ) → Some m ≡ Some n → m ≡ n
+some_same m n e = cc
+
+not_before : (x : Option ℕ) (d : Opened) → ((q : ℕ) → x ≡ resolved q d) → (c : Opened)
+    → carried c d ≡ d
+not_before x Nowhere h c = refl
+not_before x Before h c = absurd (omega (arith, some_same 0 1 (sym (h 0) ∙ h 1)))
+not_before x (At q) h c = refl
+
+pub go_on_outside : (text : List ℕ) (ws : List Word) (p : ℕ) (r next : Side) (items : List Word)
+    → ((q : ℕ) → reading text None ws ≡ seen q next) →
+    r.fault ≡ None → is_some (resolved p r.comment) ≡ false → items ≡ r.tokens ++ next.tokens →
+    record {
+      tokens = items;
+      fault = next.fault;
+      comment = resolved p (carried r.comment next.comment);
+    }
+    ≡ go_on text (seen p r) ws
+go_on_outside text ws p r next items readings none is_open e =
+    let closed : resolved p r.comment ≡ None = none_from (resolved p r.comment) is_open in
+    let all : go_on text (seen p r) ws
+    ≡ with_tokens r.tokens (reading text (resolved p r.comment) ws) = go_on_none text
+    (seen p r) ws none in
+    rw (
+      e,
+      not_before (reading text None ws).comment next.comment
+          (λ q. ap (λ (x : Reading). x.comment) (readings q)) r.comment,
+    )
+    (sym (all ∙ ap (λ (c : Option ℕ). with_tokens r.tokens (reading text c ws)) closed
+    ∙ ap (with_tokens r.tokens) (readings p)))
+
+pub go_on_nil : (text : List ℕ) (r : Reading) → go_on text r [] ≡ r
+go_on_nil text r = by r.tokens r.fault r.comment
+  where
+    by : (ts : List Word) (f : Option Fault) (c : Option ℕ)
+        → go_on text (record { tokens = ts; fault = f; comment = c }) []
+        ≡ record { tokens = ts; fault = f; comment = c }
+    by ts None c = ap (with_tokens ts) (reading_end text c) ∙ rw append-nil refl
+    by ts (Some f) c = refl
+
+-- one more word of those that are left
+pub go_on_next : (text : List ℕ) (all r s : Reading) (w : Word) (vs ws : List Word)
+    → all ≡ go_on text r vs → vs ≡ w ∷ ws → s ≡ go_on text r (w ∷ []) → all ≡ go_on text s ws
+go_on_next text all r s w vs ws e next step =
+    e ∙ ap (go_on text r) next ∙ go_on_append text r (w ∷ []) ws
+    ∙ ap (λ (q : Reading). go_on text q ws) (sym step)
+
+pub go_on_done : (text : List ℕ) (all r : Reading) (vs : List Word) → all ≡ go_on text r vs
+    → vs ≡ [] → all ≡ r
+go_on_done text all r vs e next = e ∙ ap (go_on text r) next ∙ go_on_nil text r
+
+-- three rows of words, one after another
+pub go_on_three : (text : List ℕ) (c : Option ℕ) (first mid last : Reading) (ws vs us : List Word)
+    → reading text c ws ≡ first → mid ≡ go_on text first vs → last ≡ go_on text mid us →
+    reading text c (ws ++ (vs ++ us)) ≡ last
+go_on_three text c first mid last ws vs us a b d =
+    reading_append text c ws (vs ++ us) ∙ ap (λ (r : Reading). go_on text r (vs ++ us)) a
+    ∙ go_on_append text first vs us
+    ∙ ap (λ (r : Reading). go_on text r us) (sym b) ∙ sym d
+
+-- ---- pieces
+
+module _ (text : List ℕ) (a b c : ℕ) where
+  pub piece_after_unbroken : (first second : Option Between) → first ≡ None
+      → MatchOption first (IsUnbroken text a b) (IsBetween text a b) →
+      MatchOption second (IsUnbroken text b c) (IsBetween text b c)
+      → MatchOption second (IsUnbroken text a c) (IsBetween text a c)
+  piece_after_unbroken first None e s r =
+      join_unbroken
+      (subst (λ (o : Option Between). MatchOption o (IsUnbroken text a b) (IsBetween text a b)) e s)
+      r
+  piece_after_unbroken first (Some inner) e s r =
+      record {
+        broken = join_unbroken_broken
+            (subst (λ (o : Option Between). MatchOption o (IsUnbroken text a b)
+            (IsBetween text a b))
+            e s) r.broken;
+        readings = r.readings;
+      }
+
+  pub piece_before_unbroken : (first second : Option Between) (inner : Between) → first ≡ Some inner
+      → second ≡ None → MatchOption first (IsUnbroken text a b) (IsBetween text a b) →
+      MatchOption second (IsUnbroken text b c) (IsBetween text b c) → IsBetween text a c inner
+  piece_before_unbroken first second inner e f s r =
+      let x : IsBetween text a b inner =
+      subst (λ (o : Option Between). MatchOption o (IsUnbroken text a b) (IsBetween text a b)) e
+      s in
+      let y : IsUnbroken text b c =
+      subst (λ (o : Option Between). MatchOption o (IsUnbroken text b c) (IsBetween text b c)) f
+      r in
+      record { broken = join_broken_unbroken x.broken y; readings = x.readings }
+
+  pub piece_both : (first second : Option Between) (before after inner : Between)
+      → first ≡ Some before → second ≡ Some after
+      → MatchOption first (IsUnbroken text a b) (IsBetween text a b) →
+      MatchOption second (IsUnbroken text b c) (IsBetween text b c) → inner.head ≡ before.head
+      → inner.tail ≡ after.tail →
+      ((ws us : List Word) → AreReadings text ws before.outside before.inside
+      → AreReadings text us after.outside after.inside →
+      AreReadings text
+      (ws ++ (joined_word before.tail after.head ++ us)) inner.outside inner.inside)
+      →
+      IsBetween text a c inner
+  piece_both first second before after inner e f s r head tail readings =
+      let x : IsBetween text a b before =
+      subst (λ (o : Option Between). MatchOption o (IsUnbroken text a b) (IsBetween text a b)) e
+      s in
+      let y : IsBetween text b c after =
+      subst (λ (o : Option Between). MatchOption o (IsUnbroken text b c) (IsBetween text b c)) f
+      r in
+      record {
+        broken = rw (head, tail) (join_broken x.broken y.broken);
+        readings =
+            rw (head, tail, join_words x.broken y.broken) (readings _ _ x.readings y.readings);
+      }
+
+-- the piece of the whole text has what lies between head and tail, and that is the whole text
+pub whole_some : (text : List ℕ) (piece : Stretch) → IsSummary text piece → piece.from ≡ 0
+    → piece.between ≡ None → ⊥
+whole_some text piece s from e =
+    let x : IsUnbroken text piece.from piece.to =
+    subst (λ (o : Option Between). MatchOption o (IsUnbroken text piece.from piece.to)
+    (IsBetween text piece.from piece.to)) e s in
+    omega (arith, x.first)
+
+pub whole_reading : (text : List ℕ) (piece : Stretch) (inner : Between) → IsSummary text piece
+    → piece.from ≡ 0 → piece.to ≡ length text → piece.between ≡ Some inner →
+    reading text None (words_of text) ≡ seen 0 inner.outside
+whole_reading text piece inner s from to e =
+    let x : IsBetween text piece.from piece.to inner =
+    subst (λ (o : Option Between). MatchOption o (IsUnbroken text piece.from piece.to)
+    (IsBetween text piece.from piece.to)) e s in
+    let broken : IsBroken text 0 (length text) inner.head inner.tail =
+    subst (λ (b : ℕ). IsBroken text 0 b inner.head inner.tail) to
+    (subst (λ (a : ℕ). IsBroken text a piece.to inner.head inner.tail) from x.broken) in
+    ap (reading text None) (sym (whole_broken broken)) ∙ x.readings.out 0

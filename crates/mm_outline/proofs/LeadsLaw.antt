@@ -1,0 +1,128 @@
+-- Progress goes on by one token.
+use Rattle.std.proofs.Common.{◌≡◌, ℕ, ◌+◌, ◌<◌, List, [], ◌∷◌, ◌++◌, length, drop, None, Some, refl}
+use Rattle.std.proofs.Common.{sym, ap, ◌∙◌, subst, add-one, drop-cons, append_assoc}
+use Rattle.mm_spec.specs.Text.{Token, fault}
+use Rattle.mm_spec.specs.declared.Fault.{Fault}
+use Rattle.mm_spec.specs.Statement.{Statement, shape_code}
+use Rattle.mm_spec.specs.Laws.Table as table
+use Rattle.mm_spec.specs.Laws.Table.{Progress, start, statements_from, stop_from, rest_from, begins}
+use Rattle.mm_spec.specs.Laws.Table.{class, Turn, after, stop_after, rest_after}
+use Rattle.mm_spec.specs.declared.Word.{Word}
+use Rattle.mm_outline.specs.Parts.{as_tokens, token_at, nth_word, reading}
+use Rattle.mm_outline.specs.NextStatement.{Leads, tokens_from, is_start}
+use Rattle.mm_outline.specs.declared.parts.Part.{Part}
+use Rattle.mm_outline.specs.declared.parts.Part.TheVariants.{Start, Labelled, Words, Formula, Proof}
+
+pub leads_none : (r : Progress) (us : List Token) → Leads r us [] r us
+leads_none r us = record { statements = refl; stop = refl; rest = refl }
+
+pub leads_then : {r q p : Progress} {us vs ws : List Token} {row more : List Statement}
+    → Leads r us row q vs → Leads q vs more p ws → Leads r us (row ++ more) p ws
+leads_then {row = row} {more = more} a b = record {
+  statements = a.statements ∙ ap (λ x. row ++ x) b.statements ∙ sym (append_assoc row more _);
+  stop = a.stop ∙ b.stop;
+  rest = a.rest ∙ b.rest;
+}
+
+pub tokens_from_one : (text : List ℕ) (ws : List Word) (i : ℕ) → i < length ws
+    → tokens_from text ws i ≡ token_at text ws i ∷ tokens_from text ws (i + 1)
+tokens_from_one text ws i h =
+    let e : drop i ws ≡ nth_word ws i ∷ drop (i + 1) ws =
+    rw (add-one, drop-cons ws i (record { start = 0; end = 0 })) refl in
+    ap (as_tokens text) e
+
+pub leads_go : {r : Progress} {t : Token} {us : List Token} {q : Progress}
+    → table.go q ≡ table.turn r (class t.word) t → Leads r (t ∷ us) [] q us
+leads_go {r = r} {t = t} {us = us} e = record {
+  statements = ap (λ o. after o (λ q. statements_from q us)) (sym e);
+  stop =
+      ap (λ o. stop_after o (Some (fault t.at (shape_code (begins r) t.word)))
+      (λ q. stop_from q us)) (sym e);
+  rest = ap (λ o. rest_after o (λ q. rest_from q us) r) (sym e);
+}
+
+pub leads_done : {r : Progress} {t : Token} {us : List Token} {d : ℕ} {s : Statement}
+    → table.done d s ≡ table.turn r (class t.word) t → Leads r (t ∷ us) (s ∷ []) (start d) us
+leads_done {r = r} {t = t} {us = us} e = record {
+  statements = ap (λ o. after o (λ q. statements_from q us)) (sym e);
+  stop =
+      ap (λ o. stop_after o (Some (fault t.at (shape_code (begins r) t.word)))
+      (λ q. stop_from q us)) (sym e);
+  rest = ap (λ o. rest_after o (λ q. rest_from q us) r) (sym e);
+}
+
+pub leads_stop : (r : Progress) (t : Token) (us : List Token)
+    → table.stop ≡ table.turn r (class t.word) t
+    → (statements_from r (t ∷ us) ≡ [])
+    × (stop_from r (t ∷ us) ≡ Some (fault t.at (shape_code (begins r) t.word)))
+leads_stop r t us e = (
+  ap (λ o. after o (λ q. statements_from q us)) (sym e),
+  ap (λ o. stop_after o (Some (fault t.at (shape_code (begins r) t.word))) (λ q. stop_from q us))
+      (sym e),
+)
+
+pub is_start_begins : (text : List ℕ) (ws : List Word) (d i : ℕ) (part : Part)
+    → is_start part ≡ begins (reading text ws d part i)
+is_start_begins text ws d i Start = refl
+is_start_begins text ws d i (Labelled l) = refl
+is_start_begins text ws d i (Words k w) = refl
+is_start_begins text ws d i (Formula w) = refl
+is_start_begins text ws d i (Proof w e) = refl
+
+-- what has been read of a statement from a token on
+abbrev pub Goes : List ℕ → List Word → ℕ → ℕ → Part → ℕ → Type 0
+Goes text ws d from part i =
+    Leads (start d) (tokens_from text ws from) [] (reading text ws d part i) (tokens_from text ws i)
+
+module _ (text : List ℕ) (ws : List Word) (d from i : ℕ) (part : Part) where
+  abbrev pub Turned : Turn → Type 0
+  Turned o =
+      o ≡ table.turn (reading text ws d part i) (class (token_at text ws i).word)
+      (token_at text ws i)
+
+  pub goes_go : Goes text ws d from part i → i < length ws → (q : Progress) → Turned (table.go q)
+      → Leads (start d) (tokens_from text ws from) [] q (tokens_from text ws (i + 1))
+  goes_go g h q e =
+      leads_then g
+      (subst (λ us. Leads (reading text ws d part i) us [] q (tokens_from text ws (i + 1)))
+      (sym (tokens_from_one text ws i h)) (leads_go e))
+
+  pub goes_done : Goes text ws d from part i → i < length ws → (s : Statement) (n : ℕ)
+      → Turned (table.done n s)
+      → Leads (start d) (tokens_from text ws from) (s ∷ []) (start n) (tokens_from text ws (i + 1))
+  goes_done g h s n e =
+      leads_then g
+      (subst (λ us. Leads (reading text ws d part i) us (s ∷ []) (start n) (tokens_from text ws (i + 1)))
+      (sym (tokens_from_one text ws i h)) (leads_done e))
+
+  pub goes_stop : Goes text ws d from part i → i < length ws → Turned table.stop → (f : Fault)
+      → f ≡ fault (token_at text ws i).at (shape_code (is_start part) (token_at text ws i).word)
+      → (statements_from (start d) (tokens_from text ws from) ≡ [])
+      × (stop_from (start d) (tokens_from text ws from) ≡ Some f)
+  goes_stop g h e f is =
+      let x =
+      leads_stop (reading text ws d part i) (token_at text ws i) (tokens_from text ws (i + 1)) e in (
+        g.statements ∙ ap (statements_from (reading text ws d part i)) (tokens_from_one text ws i h)
+            ∙ x.0,
+        g.stop ∙ ap (stop_from (reading text ws d part i)) (tokens_from_one text ws i h) ∙ x.1
+            ∙ ap (λ b. Some
+            (fault (token_at text ws i).at (shape_code b (token_at text ws i).word)))
+            (sym (is_start_begins text ws d i part))
+            ∙ ap Some (sym is),
+      )
+
+  pub goes_end : Goes text ws d from part i → i ≡ length ws
+      → (statements_from (start d) (tokens_from text ws from) ≡ [])
+      × (stop_from (start d) (tokens_from text ws from) ≡ None)
+      × (rest_from (start d) (tokens_from text ws from) ≡ reading text ws d part (length ws))
+  goes_end g e =
+      let none : tokens_from text ws i ≡ [] =
+      ap (as_tokens text) (ap (λ k. drop k ws) e ∙ drop-all ws) in (
+        g.statements ∙ ap (statements_from (reading text ws d part i)) none,
+        g.stop ∙ ap (stop_from (reading text ws d part i)) none,
+        g.rest ∙ ap (rest_from (reading text ws d part i)) none ∙ ap (reading text ws d part) e,
+      )
+    where
+      drop-all : (xs : List Word) → drop (length xs) xs ≡ []
+      drop-all [] = refl
+      drop-all (x ∷ xs) = drop-all xs

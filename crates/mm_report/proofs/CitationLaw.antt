@@ -1,0 +1,75 @@
+-- The lists of labels of direct citations.
+use Rattle.std.proofs.Common.{cond, ◌≡◌, ℕ, suc, ◌+◌, ◌<◌, ◌≤◌, Bool, true, false, List, [], ◌∷◌}
+use Rattle.std.proofs.Common.{◌++◌, length, map, take, get_or, All, Some, None, slice_get, Option}
+use Rattle.std.proofs.Common.{refl, sym, ap, ◌∙◌, subst, arith, append_assoc, append-nil}
+use Rattle.std.proofs.Common.{length-append, true≢false}
+use Rattle.std.specs.List.{list_any, filter}
+use Rattle.std.proofs.lemmas.List.{take_more, map-append, length-map}
+use Rattle.mm_spec.specs.Text.{Bytes}
+use Rattle.mm_spec.specs.Statement.{Statement}
+use Rattle.mm_spec.specs.Scope.{statement_at}
+use Rattle.mm_spec.specs.Citation.{is_assertion}
+use Rattle.mm_spec.specs.Output.{has_typecode, label_at}
+use Rattle.mm_spec.specs.Report.{joined}
+use Rattle.mm_spec.proofs.FindsLaw.{found_at, inside_of}
+use Rattle.mm_rows.proofs.ColumnLaw.{filter_snoc}
+use Rattle.mm_report.specs.Rows.{listed, next_label}
+
+-- one label more
+pub joined_next : (xs : List Bytes) (x : Bytes) (is_first : Bool) → (is_first ≡ true → xs ≡ [])
+    → (is_first ≡ false → 0 < length xs)
+    → joined (xs ++ x ∷ []) ≡ joined xs ++ next_label is_first x
+joined_next xs x true none some =
+    let e = none refl in
+    ap (λ (z : List Bytes). joined (z ++ x ∷ [])) e ∙ sym (ap (λ (z : List Bytes). joined z ++ x) e)
+joined_next [] x false none some = absurd (let l = some refl in omega (arith, l))
+joined_next (y ∷ []) x false none some = refl
+joined_next (y ∷ z ∷ ys) x false none some =
+    ap (λ u. y ++ 32 ∷ u)
+    (joined_next (z ∷ ys) x false (λ e. absurd (true≢false (sym e))) (λ e. omega arith))
+    ∙ sym (append_assoc y (32 ∷ joined (z ∷ ys)) (32 ∷ x))
+
+-- an assertion is one of the statements
+pub assertion_below : (db : List Statement) (a : ℕ)
+    → list_any is_assertion (statement_at db a) ≡ true → a < length db
+assertion_below db a h = let f = found_at db is_assertion a h in inside_of db a f.0 f.1
+
+module _ (db : List Statement) (only : Option Bytes) (cited : List ℕ) where
+  abbrev pub first : ℕ → List ℕ
+  first i = listed db only (take i cited)
+
+  abbrev pub is_listed : ℕ → Bool
+  is_listed a = list_any (has_typecode only) (statement_at db a)
+
+  one_more : (i : ℕ) → i < length cited → (b : Bool) → is_listed (get_or cited i 0) ≡ b
+      → first (i + 1) ≡ first i ++ cond b (get_or cited i 0 ∷ []) []
+  one_more i l b e =
+      ap (listed db only) (take_more cited i 0 l)
+      ∙ filter_snoc is_listed (take i cited) (get_or cited i 0)
+      ∙ ap (λ c. first i ++ cond c (get_or cited i 0 ∷ []) []) e
+
+  pub first_more : (i : ℕ) → i < length cited → is_listed (get_or cited i 0) ≡ true
+      → first (i + 1) ≡ first i ++ get_or cited i 0 ∷ []
+  first_more i l e = one_more i l true e
+
+  pub first_same : (i : ℕ) → i < length cited → is_listed (get_or cited i 0) ≡ false
+      → first (i + 1) ≡ first i
+  first_same i l e = one_more i l false e ∙ append-nil (first i)
+
+  pub count_more : (i : ℕ) → i < length cited → is_listed (get_or cited i 0) ≡ true
+      → length (first (i + 1)) ≡ length (first i) + 1
+  count_more i l e = ap length (first_more i l e) ∙ length-append (first i) (get_or cited i 0 ∷ [])
+
+  pub count_same : (i : ℕ) → i < length cited → is_listed (get_or cited i 0) ≡ false
+      → length (first (i + 1)) ≡ length (first i)
+  count_same i l e = ap length (first_same i l e)
+
+  -- the labels of the first of them
+  abbrev pub labels : ℕ → List Bytes
+  labels i = map (label_at db) (first i)
+
+  pub labels_more : (i : ℕ) → i < length cited → is_listed (get_or cited i 0) ≡ true
+      → labels (i + 1) ≡ labels i ++ label_at db (get_or cited i 0) ∷ []
+  labels_more i l e =
+      ap (map (label_at db)) (first_more i l e)
+      ∙ map-append (label_at db) (first i) (get_or cited i 0 ∷ [])

@@ -1,0 +1,228 @@
+-- Texts sent one after the other.
+use Rattle.std.proofs.Common.{◌≡◌, ℕ, ◌+◌, ◌≤◌, Bool, true, false, List, [], ◌∷◌, ◌++◌, length}
+use Rattle.std.proofs.Common.{take, min, Option, refl, sym, ap, ◌∙◌, subst, arith, append_assoc}
+use Rattle.std.proofs.Common.{append-nil, ◌⊎◌, inl, inr, decimal, ltb, eqb, ◌<◌, count_by, map}
+use Rattle.std.proofs.Common.{cond, sum, zero, suc, zero-add, add-zero}
+use Rattle.std.specs.Io.KnownBytes.{Appends}
+use Rattle.std.proofs.KnownBytes.{Appends-nil, Appends-trans}
+use Rattle.std.proofs.Math.Seq.{take-append-add, take-append_seam}
+use Rattle.std.proofs.lemmas.List.{take-append-le, take_min, take_all, append-nil, map-append}
+use Rattle.std.proofs.lemmas.Bool.{cases_Bool, agree_below_at, lt-ltb, le-ltb}
+use Rattle.std.specs.Fmt.{digits}
+use Rattle.std.specs.Prelude.{Result, Ok, Err, OnOk, OnErr}
+use Rattle.mm_spec.specs.Report.{two_digits, digit_of}
+use Rattle.mm_report.specs.Sent.{Pending, pending, Sent}
+use Rattle.std.specs.List.{range_with_len}
+use Rattle.std.proofs.lemmas.List.Sums.{sum-map}
+use Rattle.mm_rows.specs.Marks.{Marks, mark}
+use Rattle.mm_report.specs.Rows.{marks_of}
+
+pub sent_none : (a : Option (List ℕ)) (s : Pending) → Sent a a s s []
+sent_none a s =
+    record {
+      out = [];
+      wrote = Appends-nil a;
+      fine = λ e. (e, sym (append-nil s.held));
+      part = (0, refl);
+      stuck = λ e. refl;
+    }
+
+pub sent_as : {a b : Option (List ℕ)} {s t : Pending} {x : List ℕ} (y : List ℕ) → x ≡ y
+    → Sent a b s t x → Sent a b s t y
+sent_as {a} {b} {s} {t} {x} y e h = subst (Sent a b s t) e h
+
+pub sent_more : {a b c : Option (List ℕ)} {r s t : Pending} {x y : List ℕ} → Sent a b r s x
+    → Sent b c s t y → Sent a c r t (x ++ y)
+sent_more {a} {b} {c} {r} {s} {t} {x} {y} h k = record {
+  out = h.out ++ k.out;
+  wrote = Appends-trans a b c h.out k.out h.wrote k.wrote;
+  fine =
+      λ e. let f = k.fine e in let g = h.fine f.0 in (
+        g.0,
+        append_assoc h.out k.out t.held ∙ ap (λ z. h.out ++ z) f.1
+            ∙ sym (append_assoc h.out s.held y) ∙ ap (λ z. z ++ y) g.1 ∙ append_assoc r.held x y,
+      );
+  part = parts (cases_Bool s.failed);
+  stuck = λ e. ap (λ z. z ++ k.out) (h.stuck e) ∙ k.stuck (still e (cases_Bool s.failed));
+}
+  where
+    still : r.failed ≡ true → (s.failed ≡ true) ⊎ (s.failed ≡ false) → s.failed ≡ true
+    still e (inl t) = t
+    still e (inr f) = let g = (h.fine f).0 in absurd (let no : true ≡ false = sym e ∙ g in cc)
+
+    parts : (s.failed ≡ true) ⊎ (s.failed ≡ false)
+        → (n : ℕ) × (h.out ++ k.out ≡ take n (r.held ++ (x ++ y)))
+    parts (inr f) = (
+      length h.out + k.part.0,
+      ap (λ z. h.out ++ z) k.part.1 ∙ sym (take-append-add h.out (s.held ++ y) k.part.0)
+          ∙ ap (take (length h.out + k.part.0))
+          (sym (append_assoc h.out s.held y) ∙ ap (λ z. z ++ y) (h.fine f).1
+          ∙ append_assoc r.held x y),
+    )
+    parts (inl e) = (
+      min h.part.0 (length (r.held ++ x)),
+      ap (λ z. h.out ++ z) (k.stuck e) ∙ append-nil h.out ∙ h.part.1
+          ∙ sym (take_min h.part.0 (r.held ++ x))
+          ∙ sym (take-append-le (min h.part.0 (length (r.held ++ x))) (r.held ++ x) y (omega arith))
+          ∙ ap (take (min h.part.0 (length (r.held ++ x)))) (append_assoc r.held x y),
+    )
+
+-- nothing is written after a failure
+pub sent_stuck : (a : Option (List ℕ)) (s : Pending) (x : List ℕ) → s.failed ≡ true → Sent a a s s x
+sent_stuck a s x e =
+    record {
+      out = [];
+      wrote = Appends-nil a;
+      fine = λ f. absurd (let no : true ≡ false = sym e ∙ f in cc);
+      part = (0, refl);
+      stuck = λ f. refl;
+    }
+
+-- a piece that is held
+pub sent_held : (a : Option (List ℕ)) (s t : Pending) (x : List ℕ) → t.held ≡ s.held ++ x
+    → t.failed ≡ s.failed → Sent a a s t x
+sent_held a s t x e f =
+    record {
+      out = [];
+      wrote = Appends-nil a;
+      fine = λ g. (sym f ∙ g, e);
+      part = (0, refl);
+      stuck = λ g. refl;
+    }
+
+-- what was held is written, or a beginning of it
+pub sent_flushed : (a b : Option (List ℕ)) (s t : Pending) → Appends a b s.held → s.failed ≡ false
+    → t.held ≡ [] → Sent a b s t []
+sent_flushed a b s t w f e =
+    record {
+      out = s.held;
+      wrote = w;
+      fine = λ g. (f, ap (λ z. s.held ++ z) e);
+      part = (length s.held, sym (take-append_seam s.held []));
+      stuck = λ g. absurd (let no : true ≡ false = sym g ∙ f in cc);
+    }
+
+pub sent_failed : (a b : Option (List ℕ)) (s t : Pending) (k : ℕ) → Appends a b (take k s.held)
+    → s.failed ≡ false → t.failed ≡ true → Sent a b s t []
+sent_failed a b s t k w f e =
+    record {
+      out = take k s.held;
+      wrote = w;
+      fine = λ g. absurd (let no : true ≡ false = sym e ∙ g in cc);
+      part = (k, ap (take k) (sym (append-nil s.held)));
+      stuck = λ g. absurd (let no : true ≡ false = sym g ∙ f in cc);
+    }
+
+-- a piece that is written past an empty buffer
+pub sent_past : (a b : Option (List ℕ)) (s t : Pending) (x : List ℕ) → Appends a b x
+    → s.failed ≡ false → s.held ≡ [] → t.held ≡ [] → Sent a b s t x
+sent_past a b s t x w f e g =
+    record {
+      out = x;
+      wrote = w;
+      fine = λ h. (f, ap (λ z. x ++ z) g ∙ append-nil x ∙ ap (λ z. z ++ x) (sym e));
+      part = (
+        length x,
+        sym
+            (ap (λ z. take (length x) (z ++ x)) e ∙ take_all (length x) x (omega arith)),
+      );
+      stuck = λ h.
+          absurd (let no : true
+          ≡ false = sym h ∙ f in
+          cc);
+    }
+
+pub sent_past_failed : (a b : Option (List ℕ)) (s t : Pending) (x : List ℕ) (k : ℕ)
+    → Appends a b (take k x) → s.failed ≡ false → s.held ≡ [] → t.failed ≡ true → Sent a b s t x
+sent_past_failed a b s t x k w f e g =
+    record {
+      out = take k x;
+      wrote = w;
+      fine = λ h. absurd (let no : true ≡ false = sym g ∙ h in cc);
+      part = (k, ap (take k) (ap (λ z. z ++ x) (sym e)));
+      stuck = λ h. absurd (let no : true ≡ false = sym h ∙ f in cc);
+    }
+
+-- a count over places, as a count of tests
+one_if : Bool → ℕ
+one_if b = cond b 1 0
+
+count_map : {X : Type 0} (p : X → Bool) (xs : List X) → count_by p xs ≡ count_by (λ b. b) (map p xs)
+unfolding one_if
+count_map {X} p xs =
+    sym (sum-map (λ x. one_if (p x)) xs) ∙ ap sum (twice xs) ∙ sum-map one_if (map p xs)
+  where
+    twice : (ys : List X) → map (λ x. one_if (p x)) ys ≡ map one_if (map p ys)
+    twice [] = refl
+    twice (y ∷ ys) = ap (λ z. one_if (p y) ∷ z) (twice ys)
+
+pub counted : (m : Marks) (i : ℕ)
+    → count_by (λ j. mark m i j) (range_with_len 0 m.columns) ≡ count_by (λ b. b) (marks_of m i)
+counted m i = count_map (λ j. mark m i j) (range_with_len 0 m.columns)
+
+-- numbers from b on, and those after them
+pub range_append : (b a n : ℕ)
+    → range_with_len b (a + n) ≡ range_with_len b a ++ range_with_len (b + a) n
+range_append b zero n =
+    ap (range_with_len b) (zero-add n) ∙ ap (λ m. range_with_len m n) (sym (add-zero b))
+range_append b (suc a) n =
+    let more : suc a + n ≡ suc (a + n) = omega arith in
+    let after : b + 1 + a ≡ b + suc a = omega arith in
+    ap (range_with_len b) more
+    ∙ ap (λ r. b ∷ r)
+    (range_append (b + 1) a n ∙ ap (λ m. range_with_len (b + 1) a ++ range_with_len m n) after)
+
+-- some cells, and those after them
+pub cells_append : (f : ℕ → Bool) (a n : ℕ)
+    → map digit_of (map f (range_with_len 0 (a + n)))
+    ≡ map digit_of (map f (range_with_len 0 a)) ++ map digit_of (map f (range_with_len a n))
+cells_append f a n =
+    ap (λ r. map digit_of (map f r))
+    (range_append 0 a n ∙ ap (λ m. range_with_len 0 a ++ range_with_len m n) (zero-add a))
+    ∙ ap (map digit_of) (map-append f (range_with_len 0 a) (range_with_len a n))
+    ∙ map-append digit_of (map f (range_with_len 0 a)) (map f (range_with_len a n))
+
+-- all was written
+pub sent_all : (a b c : Option (List ℕ)) (s t : Pending) (x : List ℕ)
+    → Sent a b (pending [] false) s x → Sent b c s t [] → t.failed ≡ false → t.held ≡ []
+    → Appends a c x
+sent_all a b c s t x h k f e =
+    let m = sent_more h k in
+    let w = (m.fine f).1 in
+    subst (Appends a c)
+    (sym (append-nil m.out) ∙ ap (λ z. m.out ++ z) (sym e) ∙ w ∙ append-nil x) m.wrote
+
+-- or a beginning
+pub sent_part : (a b c : Option (List ℕ)) (s t : Pending) (x : List ℕ)
+    → Sent a b (pending [] false) s x → Sent b c s t [] → (k : ℕ) × Appends a c (take k x)
+sent_part a b c s t x h k =
+    let m = sent_more h k in
+    (m.part.0, subst (Appends a c) (m.part.1 ∙ ap (take m.part.0) (append-nil x)) m.wrote)
+
+same_test : (n : ℕ) → n < 100 → (eqb (length (decimal n)) 1) ≡ ltb n 10
+unfolding digits
+same_test n lt = agree_below_at (λ k. eqb (length (decimal k)) 1) (λ k. ltb k 10) 100 n refl lt
+
+pub two_short : (n : ℕ) → n < 10 → 48 ∷ decimal n ≡ two_digits n
+two_short n lt =
+    sym (ap (λ b. cond b (48 ∷ decimal n) (decimal n)) (same_test n (omega arith) ∙ lt-ltb n 10 lt))
+
+pub two_long : (n : ℕ) → n < 100 → 10 ≤ n → decimal n ≡ two_digits n
+two_long n lt le =
+    sym (ap (λ b. cond b (48 ∷ decimal n) (decimal n)) (same_test n lt ∙ le-ltb n 10 le))
+
+pub on_ok : {T E : Type 0} (r : Result T E) (P Q : Type 0) → (P → Q) → OnOk r P → OnOk r Q
+on_ok (Ok x) P Q f h = f h
+on_ok (Err e) P Q f h = tt
+
+pub on_err : {T E : Type 0} (r : Result T E) (Q : Type 0) → Q → OnErr r Q
+on_err (Ok x) Q q = tt
+on_err (Err e) Q q = q
+
+-- a label, a number and labels, put together piece by piece
+pub list_shape : (l d j : List ℕ)
+    → (((((l ++ 58 ∷ []) ++ d) ++ 58 ∷ []) ++ j) ++ 10 ∷ []) ≡ (l ++ 58 ∷ (d ++ 58 ∷ j)) ++ 10 ∷ []
+list_shape l d j =
+    ap (λ z. z ++ 10 ∷ [])
+    (append_assoc ((l ++ 58 ∷ []) ++ d) (58 ∷ []) j ∙ append_assoc (l ++ 58 ∷ []) d (58 ∷ j)
+    ∙ append_assoc l (58 ∷ []) (d ++ 58 ∷ j))

@@ -1,0 +1,239 @@
+-- The theorems of a column, a run of neighbours at a time.
+use Rattle.std.proofs.Common.{◌≡◌, ℕ, zero, suc, ◌+◌, ◌-◌, ◌<◌, ◌≤◌, Bool, true, false, List, []}
+use Rattle.std.proofs.Common.{◌∷◌, ◌++◌, map, length, Option, Some, None, refl, sym, ap, ◌∙◌, arith}
+use Rattle.std.proofs.Common.{append_assoc, zero-add, add-zero, count_by, cond, take, drop, get_or}
+use Rattle.std.proofs.Common.{IfSome}
+use Rattle.std.specs.Prelude.{flat_map, slice_range}
+use Rattle.std.proofs.lemmas.List.{append-nil, take_more, length-take-le, map-id, length-append}
+use Rattle.std.proofs.lemmas.List.{map-append}
+use Rattle.std.proofs.lemmas.List.Folds.{flat_map-map}
+use Rattle.std.proofs.lemmas.Grind.{flat_map-append}
+use Rattle.std.proofs.lemmas.Simd.{pick_l-range_with_len}
+use Rattle.std.specs.List.{range_with_len, filter}
+use Rattle.std.proofs.lemmas.List.Elements.{filter-append}
+use Rattle.std.proofs.lemmas.List.FromFn.{sum_by-map-range_with_len_more}
+use Rattle.mm_spec.specs.Text.{Bytes}
+use Rattle.mm_spec.specs.Report.{Row, joined, mark_at, users, usage_line, usage_lines}
+use Rattle.mm_rows.specs.Marks.{Marks, mark, IsAbove, start_of}
+use Rattle.mm_report.specs.Rows.{row_of, after_label}
+use Rattle.mm_report.proofs.SentLaw.{range_append}
+
+-- all are selected
+filter_all : {X : Type 0} (p : X → Bool) (f : ℕ → X) (a n : ℕ)
+    → ((k : ℕ) → a ≤ k → k < a + n → p (f k) ≡ true)
+    → filter p (map f (range_with_len a n)) ≡ map f (range_with_len a n)
+filter_all p f a zero h = refl
+filter_all {X} p f a (suc n) h =
+    let rest : List X = filter p (map f (range_with_len (a + 1) n)) in
+    ap (λ (b : Bool). cond b (f a ∷ rest) rest) (h a (omega arith) (omega arith))
+    ∙ ap (λ z. f a ∷ z) (filter_all p f (a + 1) n (λ k lo hi. h k (omega arith) (omega arith)))
+
+-- none is
+filter_none : {X : Type 0} (p : X → Bool) (f : ℕ → X) (a n : ℕ)
+    → ((k : ℕ) → a ≤ k → k < a + n → p (f k) ≡ false) → filter p (map f (range_with_len a n)) ≡ []
+filter_none p f a zero h = refl
+filter_none {X} p f a (suc n) h =
+    let rest : List X = filter p (map f (range_with_len (a + 1) n)) in
+    ap (λ (b : Bool). cond b (f a ∷ rest) rest) (h a (omega arith) (omega arith))
+    ∙ filter_none p f (a + 1) n (λ k lo hi. h k (omega arith) (omega arith))
+
+count_more : (p : ℕ → Bool) (n : ℕ)
+    → count_by p (range_with_len 0 (n + 1)) ≡ count_by p (range_with_len 0 n) + cond (p n) 1 0
+count_more p n =
+    ap (count_by p) (sym (map-id (range_with_len 0 (n + 1))))
+    ∙ sum_by-map-range_with_len_more (λ x. cond (p x) 1 0) (λ x. x) 0 n n (zero-add n)
+    ∙ ap (λ xs. count_by p xs + cond (p n) 1 0) (map-id (range_with_len 0 n))
+
+mark_at_range : (f : ℕ → Bool) (a k n : ℕ) → n < k
+    → mark_at n (map f (range_with_len a k)) ≡ f (a + n)
+mark_at_range f a zero n lt = absurd (omega arith)
+mark_at_range f a (suc k) zero lt = ap f (sym (add-zero a))
+mark_at_range f a (suc k) (suc n) lt =
+    mark_at_range f (a + 1) k n (omega arith) ∙ ap f (omega arith)
+
+-- the labels of rows, each after a space
+abbrev pub spaced : List Row → List ℕ
+spaced rows = flat_map (λ r. 32 ∷ r.label) rows
+
+-- the labels of rows, with spaces between them
+abbrev pub joined_rows : List Row → List ℕ
+joined_rows rs = joined (map (λ r. r.label) rs)
+
+-- joined labels are those without the first space
+joined_spaced : (rs : List Row) → joined_rows rs ≡ drop 1 (spaced rs)
+joined_spaced [] = refl
+joined_spaced (r ∷ []) = sym (append-nil r.label)
+joined_spaced (r ∷ s ∷ rs) = ap (λ z. r.label ++ 32 ∷ z) (joined_spaced (s ∷ rs))
+
+joined_append : (rs ss : List Row) → 0 < length rs
+    → joined_rows (rs ++ ss) ≡ joined_rows rs ++ spaced ss
+joined_append [] ss some = absurd (omega arith)
+joined_append (r ∷ rs) ss some =
+    joined_spaced (r ∷ (rs ++ ss))
+    ∙ ap (drop 1) (flat_map-append (λ (q : Row). 32 ∷ q.label) (r ∷ rs) ss)
+    ∙ ap (λ z. z ++ spaced ss) (sym (joined_spaced (r ∷ rs)))
+
+-- the spaced labels of neighbours are those of their rows
+pub run_spaced : (m : Marks) (names : List Bytes) (from to : ℕ) → from ≤ to → to ≤ length names
+    → flat_map (λ (l : Bytes). 32 ∷ l) (slice_range names from to)
+    ≡ spaced (map (λ i. row_of m (get_or names i []) i) (range_with_len from (to - from)))
+run_spaced m names from to order within =
+    let numbers : List ℕ = range_with_len from (to - from) in
+    let row : ℕ → Row = λ i. row_of m (get_or names i []) i in
+    ap (flat_map (λ (l : Bytes). 32 ∷ l))
+    (sym (pick_l-range_with_len [] names from (to - from) (omega arith)))
+    ∙ flat_map-map (λ (l : Bytes). 32 ∷ l) (λ i. get_or names i []) numbers
+    ∙ sym (flat_map-map (λ (r : Row). 32 ∷ r.label) row numbers)
+
+module _ (m : Marks) (labels : ℕ → Bytes) (j : ℕ) where
+  abbrev pub row : ℕ → Row
+  row i = row_of m (labels i) i
+
+  -- the theorems below n that are marked in the column
+  abbrev pub gather : ℕ → List Row
+  gather n = users j (map row (range_with_len 0 n))
+
+  -- the theorems from one number up to another
+  abbrev pub run : ℕ → ℕ → List Row
+  run first end = map row (range_with_len first (end - first))
+
+module _ (m : Marks) (labels : ℕ → Bytes) (j : ℕ) (inside : j < m.columns) where
+  is_marked : (i : ℕ) → mark_at j ((row m labels j) i).marks ≡ mark m i j
+  is_marked i = mark_at_range (mark m i) 0 m.columns j inside ∙ ap (mark m i) (zero-add j)
+
+  -- the theorems below n, and those of the next d
+  gather_next : (n d : ℕ)
+      → gather m labels j (n + d)
+      ≡ gather m labels j n ++ users j (map (row m labels j) (range_with_len n d))
+  gather_next n d =
+      ap (λ ns. users j (map (row m labels j) ns))
+      (range_append 0 n d ∙ ap (λ k. range_with_len 0 n ++ range_with_len k d) (zero-add n))
+      ∙ ap (users j) (map-append (row m labels j) (range_with_len 0 n) (range_with_len n d))
+      ∙ filter-append (λ r. mark_at j r.marks) (map (row m labels j) (range_with_len 0 n))
+      (map (row m labels j) (range_with_len n d))
+
+  -- all of the next are marked
+  gather_run : (n d : ℕ) → ((k : ℕ) → n ≤ k → k < n + d → mark m k j ≡ true)
+      → gather m labels j (n + d) ≡ gather m labels j n ++ map (row m labels j) (range_with_len n d)
+  gather_run n d all =
+      gather_next n d
+      ∙ ap (λ z. gather m labels j n ++ z)
+      (filter_all (λ r. mark_at j r.marks) (row m labels j) n d
+      (λ k lo hi. is_marked k ∙ all k lo hi))
+
+  -- none of the next is marked
+  gather_gap : (n d : ℕ) → ((k : ℕ) → n ≤ k → k < n + d → mark m k j ≡ false)
+      → gather m labels j (n + d) ≡ gather m labels j n
+  gather_gap n d none =
+      gather_next n d
+      ∙ ap (λ z. gather m labels j n ++ z)
+      (filter_none (λ r. mark_at j r.marks) (row m labels j) n d
+      (λ k lo hi. is_marked k ∙ none k lo hi))
+      ∙ append-nil (gather m labels j n)
+
+  above : (last : Option ℕ) (k : ℕ) → start_of last ≤ k → IsAbove last k
+  above None k h = tt
+  above (Some i) k h = omega arith
+
+  reach : (last : Option ℕ) (i : ℕ) → IsAbove last i → start_of last ≤ i
+  reach None i h = omega arith
+  reach (Some l) i h = omega arith
+
+  -- up to the next marked theorem nothing is added
+  gather_to : (last : Option ℕ) (n : ℕ) → start_of last ≤ n
+      → ((k : ℕ) → IsAbove last k → k < n → mark m k j ≡ false)
+      → gather m labels j n ≡ gather m labels j (start_of last)
+  gather_to last n le none =
+      let e : start_of last + (n - start_of last) ≡ n = omega arith in
+      ap (gather m labels j) (sym e)
+      ∙ gather_gap (start_of last) (n - start_of last)
+      (λ k lo hi. none k (above last k lo) (omega arith))
+
+  -- after a marked theorem there is one
+  some_gathered : (i : ℕ) → mark m i j ≡ true → 0 < length (gather m labels j (i + 1))
+  some_gathered i e =
+      let one =
+      ap length
+      (gather_run i 1 (λ k lo hi. let same : k ≡ i = omega arith in ap (λ n. mark m n j) same ∙ e))
+      ∙ length-append (gather m labels j i) (row m labels j i ∷ []) in
+      omega (arith, one)
+
+  -- the labels of a run
+  pub users_more : (last : Option ℕ) (first end : ℕ) → IfSome last (λ i. mark m i j ≡ true)
+      → IsAbove last first → first ≤ end
+      → ((k : ℕ) → IsAbove last k → k < first → mark m k j ≡ false)
+      → ((k : ℕ) → first ≤ k → k < end → mark m k j ≡ true)
+      → joined_rows (gather m labels j (start_of last))
+      ++ after_label last (spaced (run m labels j first end))
+      ≡ joined_rows (gather m labels j end)
+  users_more last first end marked up order none all =
+      text last marked (gather_to last first (reach last first up) none)
+    where
+      whole : gather m labels j end ≡ gather m labels j first ++ run m labels j first end
+      whole =
+          let e : first + (end - first) ≡ end = omega arith in
+          ap (gather m labels j) (sym e)
+          ∙ gather_run first (end - first) (λ k lo hi. all k lo (omega arith))
+
+      text : (o : Option ℕ) → IfSome o (λ i. mark m i j ≡ true)
+          → gather m labels j first ≡ gather m labels j (start_of o)
+          → joined_rows (gather m labels j (start_of o))
+          ++ after_label o (spaced (run m labels j first end))
+          ≡ joined_rows (gather m labels j end)
+      text None marked e =
+          sym (ap joined_rows (whole ∙ ap (λ z. z ++ run m labels j first end) e)
+          ∙ joined_spaced (run m labels j first end))
+      text (Some i) marked e =
+          sym (ap joined_rows (whole ∙ ap (λ z. z ++ run m labels j first end) e)
+          ∙ joined_append (gather m labels j (i + 1)) (run m labels j first end)
+          (some_gathered i marked))
+
+  pub users_all : (last : Option ℕ) (n : ℕ) → start_of last ≤ n
+      → ((k : ℕ) → IsAbove last k → k < n → mark m k j ≡ false)
+      → joined_rows (gather m labels j (start_of last)) ≡ joined_rows (gather m labels j n)
+  users_all last n le none = ap joined_rows (sym (gather_to last n le none))
+
+  one_more : (r : Row) (b : Bool) → length {A = Row} (cond b (r ∷ []) []) ≡ cond b 1 0
+  one_more r true = refl
+  one_more r false = refl
+
+  -- the count of a column
+  pub users_counted : (n : ℕ)
+      → count_by (λ i. mark m i j) (range_with_len 0 n) ≡ length (gather m labels j n)
+  users_counted zero = refl
+  users_counted (suc n) =
+      let e : suc n ≡ n + 1 = omega arith in
+      let t = count_more (λ i. mark m i j) n in
+      let i = users_counted n in
+      let g =
+      ap length (gather_next n 1)
+      ∙ length-append (gather m labels j n)
+      (filter (λ r. mark_at j r.marks) (row m labels j n ∷ [])) in
+      let o =
+      one_more (row m labels j n) (mark_at j (row m labels j n).marks)
+      ∙ ap (λ b. cond b 1 0) (is_marked n) in
+      ap (λ k. count_by (λ i. mark m i j) (range_with_len 0 k)) e ∙ t
+      ∙ sym (g ∙ omega (arith, i, o)) ∙ ap (λ k. length (gather m labels j k)) (sym e)
+
+usage_push : (rows : List Row) (a : ℕ) (ls : List Bytes) (l : Bytes)
+    → usage_lines rows a (ls ++ l ∷ []) ≡ usage_lines rows a ls ++ usage_line rows (a + length ls) l
+usage_push rows a [] l =
+    append-nil (usage_line rows a l) ∙ ap (λ n. usage_line rows n l) (sym (add-zero a))
+usage_push rows a (k ∷ ls) l =
+    let e : a + 1 + length ls ≡ a + suc (length ls) = omega arith in
+    ap (λ z. usage_line rows a k ++ z)
+    (usage_push rows (a + 1) ls l
+    ∙ ap (λ n. usage_lines rows (a + 1) ls ++ usage_line rows n l) e)
+    ∙ sym (append_assoc (usage_line rows a k) (usage_lines rows (a + 1) ls)
+    (usage_line rows (a + suc (length ls)) l))
+
+-- one column more
+pub usage_more : (rows : List Row) (names : List Bytes) (j : ℕ) → j < length names
+    → usage_lines rows 0 (take (j + 1) names)
+    ≡ usage_lines rows 0 (take j names) ++ usage_line rows j (get_or names j [])
+usage_more rows names j lt =
+    let l = length-take-le j names (omega arith) in
+    let e : 0 + length (take j names) ≡ j = omega (arith, l) in
+    ap (usage_lines rows 0) (take_more names j [] lt)
+    ∙ usage_push rows 0 (take j names) (get_or names j [])
+    ∙ ap (λ n. usage_lines rows 0 (take j names) ++ usage_line rows n (get_or names j [])) e

@@ -1,0 +1,351 @@
+-- Blocks of 64 rows written as columns.
+use Rattle.std.proofs.Common.{◌≡◌, ℕ, Bool, true, false, cond, ◌||◌, ◌&&◌, List, ◌⊎◌, inl, inr, ◌<◌}
+use Rattle.std.proofs.Common.{◌≤◌, ◌+◌, ◌*◌, ◌/◌, ◌%◌, ◌-◌, ◌^◌, min, length, map, subst, sym, ap}
+use Rattle.std.proofs.Common.{ap₂, refl, arith, get_or, set, eqb, replicate, bit_and, bit_or, ◌∙◌}
+use Rattle.std.proofs.lemmas.Bool.{cases_eq, cases_lt, eq-eqb, ne_eqb, lt-ltb, le-ltb}
+use Rattle.std.proofs.lemmas.Nat.{same_from_place, mul-add-lt, shr_split, mod_below, pow_pos}
+use Rattle.std.proofs.lemmas.Nat.Bits.{bit_at_and, bit_at_ones, bit_at_cat_high, bit_at-lt}
+use Rattle.std.proofs.lemmas.Nat.Bits.{bit_at-zero, and_pow}
+use Rattle.std.proofs.lemmas.List.{get_or-set_same, get_or-set_other, get_or-map, length-set}
+use Rattle.std.proofs.lemmas.Simd.{length-zip2, get_or-zip2, bit_mask_l, get_or-replicate}
+use Rattle.std.proofs.lemmas.Simd.{length-replicate}
+use Rattle.std.proofs.Math.Nat.{mul_comm}
+use Rattle.std.specs.Int.{bit_at}
+use Rattle.mm_rows.specs.Bits.{is_bit, words_for, spot, AreTransposed}
+use Rattle.mm_rows.specs.BitRows.{row_at}
+use Rattle.mm_rows.specs.Blocks.{in_row, IsColumnWord, AreRowBytes, Written}
+use Rattle.mm_rows.proofs.BitLaw.{or_bits}
+use Rattle.mm_rows.proofs.TransposeLaw.{spot_word, spot_bit, row_bit, row_length}
+use lib.Lanes.{zip2, mask_l}
+
+-- a bit is that of 2 ^ b alone, where there is one
+bit_of_pow : (n b : ℕ) → cond (eqb (bit_and n (2 ^ b)) (2 ^ b)) 1 0 ≡ bit_at n b
+bit_of_pow n b = ap (λ x. cond (eqb x (2 ^ b)) 1 0) (and_pow n b) ∙ go (cases_eq (bit_at n b) 0)
+  where
+    go : (bit_at n b ≡ 0) ⊎ (bit_at n b ≡ 0 → ⊥)
+        → cond (eqb (bit_at n b * 2 ^ b) (2 ^ b)) 1 0 ≡ bit_at n b
+    go (inl e) =
+        let p = pow_pos b in
+        let ne : 0 * 2 ^ b ≡ 2 ^ b → ⊥ = λ h. omega (arith, p, h) in
+        ap (λ x. cond (eqb (x * 2 ^ b) (2 ^ b)) 1 0) e
+        ∙ ap (λ t. cond t 1 0) (ne_eqb (0 * 2 ^ b) (2 ^ b) ne) ∙ sym e
+    go (inr ne) =
+        let l = bit_at-lt n b in
+        let e : bit_at n b ≡ 1 = omega (arith, l, ne) in
+        let one : 1 * 2 ^ b ≡ 2 ^ b = omega arith in
+        ap (λ x. cond (eqb (x * 2 ^ b) (2 ^ b)) 1 0) e
+        ∙ ap (λ t. cond t 1 0) (eq-eqb (1 * 2 ^ b) (2 ^ b) one) ∙ sym e
+
+-- bit b of each lane, as the mask of the lanes that have it
+pub lane_bit : (v : List ℕ) (n m b k : ℕ) → length v ≡ n → m ≡ 2 ^ b → k < n
+    → bit_at (mask_l (map (λ x. eqb x m) (zip2 bit_and v (replicate n m)))) k
+    ≡ bit_at (get_or v k 0) b
+lane_bit v n m b k long e lt =
+    let r = length-replicate n m in
+    let l = length-zip2 bit_and v (replicate n m) (omega (arith, r, long)) in
+    bit_mask_l (map (λ x. eqb x m) (zip2 bit_and v (replicate n m))) k
+    ∙ ap (λ t. cond t 1 0)
+    (get_or-map (λ x. eqb x m) (zip2 bit_and v (replicate n m)) k 0 false
+    (omega (arith, l, long, lt)))
+    ∙ ap (λ x. cond (eqb x m) 1 0)
+    (get_or-zip2 bit_and v (replicate n m) k 0 0 0 (omega (arith, long, lt))
+    (omega (arith, r, lt))
+    ∙ ap (bit_and (get_or v k 0)) (get_or-replicate n k m 0 lt))
+    ∙ ap (λ x. cond (eqb (bit_and (get_or v k 0) x) x) 1 0) e
+    ∙ bit_of_pow (get_or v k 0) b
+
+-- a row of the table, and none past it
+pub in_row_within : (rows across : ℕ) (bits : List ℕ) (i j : ℕ) → i < rows
+    → in_row rows across bits i j ≡ is_bit bits (spot across i j)
+in_row_within rows across bits i j lt =
+    ap (λ b. b && is_bit bits (spot across i j)) (lt-ltb i rows lt)
+
+pub in_row_past : (rows across : ℕ) (bits : List ℕ) (i j : ℕ) → rows ≤ i
+    → in_row rows across bits i j ≡ false
+in_row_past rows across bits i j le =
+    ap (λ b. b && is_bit bits (spot across i j)) (le-ltb i rows le)
+
+-- the columns of the rows from first up to n are marked
+abbrev pub AreMarked : ℕ → List ℕ → List ℕ → ℕ → ℕ → Type 0
+AreMarked across bits any first n =
+    (i j : ℕ) → first ≤ i → i < n → j < 64 * across → is_bit bits (spot across i j) ≡ true
+    → is_bit any j ≡ true
+
+either : (a b : Bool) → (a ≡ true) ⊎ (b ≡ true) → (a || b) ≡ true
+either true b h = refl
+either false b (inl e) = absurd (cc)
+either false b (inr e) = e
+
+pub marked_more : (across rows : ℕ) (bits old new : List ℕ) (first n : ℕ) → n < rows
+    → length bits ≡ rows * across → length old ≡ across → length new ≡ length old
+    → ((k : ℕ) → k < length old
+    → get_or new k 0 ≡ bit_or (get_or old k 0) (get_or (row_at bits across n) k 0))
+    → AreMarked across bits old first n → AreMarked across bits new first (n + 1)
+marked_more across rows bits old new first n within size width same each h i j le lt small one =
+    or_bits new old (row_at bits across n) same
+    (width ∙ sym (row_length bits across n rows within size)) each j
+    ∙ either _ _ (go (cases_eq i n))
+  where
+    go : (i ≡ n) ⊎ (i ≡ n → ⊥) → (is_bit old j ≡ true) ⊎ (is_bit (row_at bits across n) j ≡ true)
+    go (inl e) =
+        inr (row_bit bits across n j small
+        ∙ subst (λ x. is_bit bits (spot across x j) ≡ true) e one)
+    go (inr ne) = inl (h i j le (omega arith) small one)
+
+pub all_marked : (across rows : ℕ) (bits any : List ℕ) (w end : ℕ) → min (64 * w + 64) rows ≤ end
+    → AreMarked across bits any (64 * w) end → (k j : ℕ) → k < 64 → j < 64 * across
+    → in_row rows across bits (64 * w + k) j ≡ true → is_bit any j ≡ true
+all_marked across rows bits any w end le h k j lt small one = go (cases_lt (64 * w + k) rows)
+  where
+    go : (64 * w + k < rows) ⊎ (rows ≤ 64 * w + k) → is_bit any j ≡ true
+    go (inl l) =
+        h (64 * w + k) j (omega arith) (omega arith) small
+        (sym (in_row_within rows across bits (64 * w + k) j l) ∙ one)
+    go (inr g) =
+        let no = in_row_past rows across bits (64 * w + k) j g in
+        absurd (let e : true ≡ false = sym one ∙ no in cc)
+
+-- a bit of a byte of a word
+pub shifted : (n s b : ℕ) → bit_at (n / 2 ^ s) b ≡ bit_at n (s + b)
+shifted n s b =
+    let back : s + b - s ≡ b = omega arith in
+    ap (bit_at (n / 2 ^ s)) (sym back)
+    ∙ sym (bit_at_cat_high (n / 2 ^ s) s (n % 2 ^ s) (s + b) (mod_below n (2 ^ s) (pow_pos s))
+    (omega arith))
+    ∙ ap (λ x. bit_at x (s + b)) (shr_split n s)
+
+pub byte_bit : (n s b : ℕ) → b < 8 → bit_at (bit_and (n / 2 ^ s) 255) b ≡ bit_at n (s + b)
+byte_bit n s b lt =
+    let l = bit_at-lt (n / 2 ^ s) b in
+    let all : bit_at 255 b ≡ 1 = bit_at_ones 8 b lt in
+    let least : min (bit_at (n / 2 ^ s) b) 1 ≡ bit_at (n / 2 ^ s) b = omega (arith, l) in
+    bit_at_and (n / 2 ^ s) 255 b ∙ ap (min (bit_at (n / 2 ^ s) b)) all ∙ least ∙ shifted n s b
+
+-- bit b of byte at of a row
+pub row_byte : (bits : List ℕ) (across i at b : ℕ) → b < 8
+    → eqb (bit_at (bit_and (get_or bits (i * across + at / 8) 0 / 2 ^ (8 * (at % 8))) 255) b) 1
+    ≡ is_bit bits (spot across i (8 * at + b))
+row_byte bits across i at b lt =
+    let q : (8 * at + b) / 64 ≡ at / 8 = omega arith in
+    let r : (8 * at + b) % 64 ≡ 8 * (at % 8) + b = omega arith in
+    ap (λ x. eqb x 1) (byte_bit (get_or bits (i * across + at / 8) 0) (8 * (at % 8)) b lt)
+    ∙ sym (ap₂ (λ x y. eqb (bit_at (get_or bits x 0) y) 1)
+    (spot_word across i (8 * at + b) ∙ ap (λ x. i * across + x) q)
+    (spot_bit across i (8 * at + b) ∙ r))
+
+-- the bytes of the first n of the rows from first on are there
+pub record BytesTo (across : ℕ) (bits : List ℕ) (at : ℕ) (bytes : List ℕ)
+    (first n : ℕ) : Type 0 where
+  pub size : length bytes ≡ 64
+  pub done : (k b : ℕ) → k < n → b < 8
+      → eqb (bit_at (get_or bytes k 0) b) 1 ≡ is_bit bits (spot across (first + k) (8 * at + b))
+  pub left : (k : ℕ) → n ≤ k → k < 64 → get_or bytes k 0 ≡ 0
+
+pub bytes_none : (across : ℕ) (bits : List ℕ) (at first : ℕ)
+    → BytesTo across bits at (replicate 64 0) first 0
+bytes_none across bits at first =
+    let none : ℕ = 0 in
+    record {
+      size = length-replicate 64 none;
+      done = λ k b less small. absurd (omega arith);
+      left = λ k le lt. get_or-replicate 64 k none none lt;
+    }
+
+pub bytes_more : (across : ℕ) (bits : List ℕ) (at : ℕ) (bytes : List ℕ) (first n : ℕ) → n < 64
+    → BytesTo across bits at bytes first n
+    → BytesTo across bits at
+    (set bytes n
+    (bit_and (get_or bits ((first + n) * across + at / 8) 0 / 2 ^ (8 * (at % 8))) 255)) first (n
+    + 1)
+bytes_more across bits at bytes first n within h = record {
+  size = length-set bytes n byte ∙ h.size;
+  done = λ k b less small. go k b less small (cases_eq k n);
+  left =
+      λ k le lt. let ne : k ≡ n → ⊥ = λ e. omega arith in
+      get_or-set_other bytes n k byte 0 ne ∙ h.left k (omega arith) lt;
+}
+  where
+    byte : ℕ
+    byte = bit_and (get_or bits ((first + n) * across + at / 8) 0 / 2 ^ (8 * (at % 8))) 255
+
+    go : (k b : ℕ) → k < n + 1 → b < 8 → (k ≡ n) ⊎ (k ≡ n → ⊥)
+        → eqb (bit_at (get_or (set bytes n byte) k 0) b) 1
+        ≡ is_bit bits (spot across (first + k) (8 * at + b))
+    go k b less small (inl e) =
+        ap (λ x. eqb (bit_at (get_or (set bytes n byte) x 0) b) 1) e
+        ∙ ap (λ x. eqb (bit_at x b) 1)
+        (get_or-set_same bytes n byte 0 (let s = h.size in omega (arith, s)))
+        ∙ row_byte bits across (first + n) at b small
+        ∙ ap (λ x. is_bit bits (spot across (first + x) (8 * at + b))) (sym e)
+    go k b less small (inr ne) =
+        ap (λ x. eqb (bit_at x b) 1) (get_or-set_other bytes n k byte 0 ne)
+        ∙ h.done k b (omega arith) small
+
+pub all_bytes : (rows across : ℕ) (bits : List ℕ) (w at : ℕ) (bytes : List ℕ) (n : ℕ)
+    → min (rows - 64 * w) 64 ≤ n → 64 * w + n ≤ rows → BytesTo across bits at bytes (64 * w) n
+    → AreRowBytes rows across bits w at bytes
+all_bytes rows across bits w at bytes n least most h k b lt small = go (cases_lt k n)
+  where
+    go : (k < n) ⊎ (n ≤ k)
+        → eqb (bit_at (get_or bytes k 0) b) 1 ≡ in_row rows across bits (64 * w + k) (8 * at + b)
+    go (inl l) =
+        h.done k b l small
+        ∙ sym (in_row_within rows across bits (64 * w + k) (8 * at + b) (omega arith))
+    go (inr g) =
+        ap (λ x. eqb (bit_at x b) 1) (h.left k g lt) ∙ ap (λ x. eqb x 1) (bit_at-zero b)
+        ∙ sym (in_row_past rows across bits (64 * w + k) (8 * at + b) (omega arith))
+
+-- the word of a column whose bits are those of the bytes
+pub lane_is_word : (rows across : ℕ) (bits : List ℕ) (w at : ℕ) (bytes : List ℕ) (j word : ℕ)
+    → AreRowBytes rows across bits w at bytes → 8 * at ≤ j → j < 8 * at + 8
+    → ((k : ℕ) → k < 64 → bit_at word k ≡ bit_at (get_or bytes k 0) (j % 8))
+    → IsColumnWord rows across bits w j word
+lane_is_word rows across bits w at bytes j word are lo hi same k lt =
+    let is : 8 * at + j % 8 ≡ j = omega arith in
+    ap (λ x. eqb x 1) (same k lt) ∙ are k (j % 8) lt (omega arith)
+    ∙ ap (in_row rows across bits (64 * w + k)) is
+
+-- a column without a mark in a block
+pub no_mark : (rows across : ℕ) (bits : List ℕ) (w j : ℕ)
+    → ((k : ℕ) → k < 64 → in_row rows across bits (64 * w + k) j ≡ true → ⊥)
+    → IsColumnWord rows across bits w j 0
+no_mark rows across bits w j none k lt =
+    ap (λ x. eqb x 1) (bit_at-zero k) ∙ sym (never _ (none k lt))
+  where
+    never : (b : Bool) → (b ≡ true → ⊥) → b ≡ false
+    never true h = absurd (h refl)
+    never false h = refl
+
+-- a word of a column lies within the words
+pub word_within : (columns down j w len : ℕ) → j < columns → w < down → len ≡ columns * down
+    → j * down + w < len
+word_within columns down j w len small block size =
+    let m = mul-add-lt j down w columns small block in
+    let t = mul_comm down columns in
+    omega (arith, m, t, size)
+
+-- one word more
+pub written_word : (rows columns : ℕ) (bits transposed : List ℕ) (w j word : ℕ) → w < words_for rows
+    → j < columns → IsColumnWord rows (words_for columns) bits w j word
+    → Written rows columns bits transposed w j
+    → Written rows columns bits (set transposed (j * words_for rows + w) word) w (j + 1)
+written_word rows columns bits transposed w j word block small is h = record {
+  size = length-set transposed place word ∙ h.size;
+  before =
+      λ l v a b d. subst (IsColumnWord rows (words_for columns) bits v l)
+      (sym (other l v d (λ e f. omega arith))) (h.before l v a b d);
+  done = λ l a b. go l a b (cases_eq l j);
+  left = λ l a b d. other l w d (λ e f. omega arith) ∙ h.left l a (omega arith) d;
+  after = λ l v a b d. other l v d (λ e f. omega arith) ∙ h.after l v a b d;
+}
+  where
+    place : ℕ
+    place = j * words_for rows + w
+
+    other : (l v : ℕ) → v < words_for rows → (l ≡ j → v ≡ w → ⊥)
+        → get_or (set transposed place word) (l * words_for rows + v) 0
+        ≡ get_or transposed (l * words_for rows + v) 0
+    other l v d ne =
+        get_or-set_other transposed place (l * words_for rows + v) word 0
+        (λ e. let s = same_from_place l v j w (words_for rows) d block e in ne s.0 s.1)
+
+    go : (l : ℕ) → l < columns → l < j + 1 → (l ≡ j) ⊎ (l ≡ j → ⊥)
+        → IsColumnWord rows (words_for columns) bits w l
+        (get_or (set transposed place word) (l * words_for rows + w) 0)
+    go l a b (inl e) =
+        subst (λ x. IsColumnWord rows (words_for columns) bits w x
+        (get_or (set transposed place word) (x * words_for rows + w) 0)) (sym e)
+        (subst (IsColumnWord rows (words_for columns) bits w j)
+        (sym (get_or-set_same transposed place word 0
+        (word_within columns (words_for rows) j w (length transposed) small block h.size))) is)
+    go l a b (inr ne) =
+        subst (IsColumnWord rows (words_for columns) bits w l) (sym (other l w block (λ e f. ne e)))
+        (h.done l a (omega arith))
+
+-- columns without a mark need no word
+pub written_zeros : (rows columns : ℕ) (bits transposed : List ℕ) (w from to : ℕ) → w < words_for
+    rows
+    → ((j : ℕ) → from ≤ j → j < to → j < columns → IsColumnWord rows (words_for columns) bits w j 0)
+    → from ≤ to → Written rows columns bits transposed w from → Written rows columns bits
+    transposed w to
+written_zeros rows columns bits transposed w from to block none le h = record {
+  size = h.size;
+  before = h.before;
+  done = λ j a b. go j a b (cases_lt j from);
+  left = λ j a b d. h.left j a (omega arith) d;
+  after = h.after;
+}
+  where
+    go : (j : ℕ) → j < columns → j < to → (j < from) ⊎ (from ≤ j)
+        → IsColumnWord rows (words_for columns) bits w j
+        (get_or transposed (j * words_for rows + w) 0)
+    go j a b (inl l) = h.done j a l
+    go j a b (inr g) =
+        subst (IsColumnWord rows (words_for columns) bits w j) (sym (h.left j a g block))
+        (none j g b a)
+
+pub written_zero : (rows columns : ℕ) (bits transposed : List ℕ) (w j word : ℕ) → w < words_for rows
+    → IsColumnWord rows (words_for columns) bits w j word → word ≡ 0
+    → Written rows columns bits transposed w j → Written rows columns bits transposed w (j + 1)
+written_zero rows columns bits transposed w j word block is e =
+    written_zeros rows columns bits transposed w j (j + 1) block
+    (λ i a b s. let here : j ≡ i = omega arith in
+    subst (λ x. IsColumnWord rows (words_for columns) bits w x 0) here
+    (subst (IsColumnWord rows (words_for columns) bits w j) e is)) (omega arith)
+
+pub written_skip : (rows columns : ℕ) (bits any transposed : List ℕ) (across w from to : ℕ)
+    → across ≡ words_for columns → w < words_for rows
+    → ((k j : ℕ) → k < 64 → j < 64 * across → in_row rows across bits (64 * w + k) j ≡ true
+    → is_bit any j ≡ true)
+    → from ≤ to → ((j : ℕ) → from ≤ j → j < to → is_bit any j ≡ false)
+    → Written rows columns bits transposed w from → Written rows columns bits transposed w to
+written_skip rows columns bits any transposed across w from to width block marked le none =
+    written_zeros rows columns bits transposed w from to block
+    (λ j a b c. no_mark rows (words_for columns) bits w j (unmarked j a b c)) le
+  where
+    unmarked : (j : ℕ) → from ≤ j → j < to → j < columns → (k : ℕ) → k < 64
+        → in_row rows (words_for columns) bits (64 * w + k) j ≡ true → ⊥
+    unmarked j a b c k lt one =
+        let no = none j a b in
+        let yes =
+        marked k j lt (omega (arith, width))
+        (subst (λ x. in_row rows x bits (64 * w + k) j ≡ true) (sym width) one) in
+        let e : true ≡ false = sym yes ∙ no in
+        absurd (cc)
+
+-- the next block
+pub written_block : (rows columns : ℕ) (bits transposed : List ℕ) (w from : ℕ) → columns ≤ from
+    → Written rows columns bits transposed w from → Written rows columns bits transposed (w + 1) 0
+written_block rows columns bits transposed w from le h = record {
+  size = h.size;
+  before = λ j v a b d. go j v a b d (cases_eq v w);
+  done = λ j a b. absurd (omega arith);
+  left = λ j a b d. h.after j (w + 1) a (omega arith) d;
+  after = λ j v a b d. h.after j v a (omega arith) d;
+}
+  where
+    go : (j v : ℕ) → j < columns → v < w + 1 → v < words_for rows → (v ≡ w) ⊎ (v ≡ w → ⊥)
+        → IsColumnWord rows (words_for columns) bits v j
+        (get_or transposed (j * words_for rows + v) 0)
+    go j v a b d (inl e) =
+        subst (λ x. IsColumnWord rows (words_for columns) bits x j
+        (get_or transposed (j * words_for rows + x) 0)) (sym e) (h.done j a (omega arith))
+    go j v a b d (inr ne) = h.before j v a (omega arith) d
+
+-- all blocks are written
+pub written_all : (rows columns : ℕ) (bits transposed : List ℕ) (w : ℕ) → words_for rows ≤ w
+    → Written rows columns bits transposed w 0 → AreTransposed rows columns bits transposed
+written_all rows columns bits transposed w le h = record {
+  size = h.size;
+  same = λ i j a b. cell i j (omega arith) b ∙ in_row_within rows (words_for columns) bits i j a;
+  past = λ i j a b d. cell i j (omega arith) d ∙ in_row_past rows (words_for columns) bits i j a;
+}
+  where
+    cell : (i j : ℕ) → i / 64 < words_for rows → j < columns
+        → is_bit transposed (spot (words_for rows) j i) ≡ in_row rows (words_for columns) bits i j
+    cell i j a b =
+        let is : 64 * (i / 64) + i % 64 ≡ i = omega arith in
+        ap₂ (λ x y. eqb (bit_at (get_or transposed x 0) y) 1) (spot_word (words_for rows) j i)
+        (spot_bit (words_for rows) j i)
+        ∙ h.before j (i / 64) b (omega arith) a (i % 64) (omega arith)
+        ∙ ap (λ x. in_row rows (words_for columns) bits x j) is

@@ -1,0 +1,252 @@
+-- Chains of citations, one citation at a time.
+use Rattle.std.proofs.Common.{◌≡◌, ℕ, Bool, true, false, ◌||◌, List, [], ◌⊎◌, inl, inr, ⊎_elim, ◌<◌}
+use Rattle.std.proofs.Common.{◌≤◌, ◌+◌, length, subst, sym, ap, refl, arith, get_or, bit_or}
+use Rattle.std.proofs.Common.{replicate, eqb, take, drop, ◌++◌, ◌-◌, ap₂, ◌/◌, ◌%◌, ◌*◌, ◌∙◌}
+use Rattle.std.proofs.lemmas.Bool.{cases_order, cases_eq, cases_lt}
+use Rattle.std.proofs.lemmas.Bool.Decides.{Decides-at, Decides-or}
+use Rattle.std.specs.Prelude.{Decides}
+use Rattle.mm_rows.specs.Bits.{is_bit, words_for}
+use Rattle.mm_rows.proofs.BitLaw.{or_bits, past_words}
+use Rattle.std.specs.Int.{bit_at}
+use Rattle.std.proofs.lemmas.Nat.Bits.{bit_at-zero}
+use Rattle.std.proofs.lemmas.List.{get_or-replicate, length-replicate, drop-append-le}
+use Rattle.std.proofs.lemmas.List.{take-append-le, drop_at, take_all, length-drop, length-append}
+use Rattle.std.proofs.lemmas.Nat.{mul-le}
+use Rattle.std.proofs.Math.Nat.{add-mul}
+use Rattle.mm_cites.specs.Citing.{Citing, Cites, IsRising, IsFileOrder, theorem_at, list_at}
+use Rattle.mm_spec.specs.Chains.{RestsOn}
+use Rattle.mm_spec.proofs.ChainsLaw.{rests_step}
+use Rattle.mm_rows.specs.BitRows.{IsBitRow, IsReady, AreBitRows, row_at}
+
+-- a rising list has a number once
+pub once : (xs : List ℕ) (i j : ℕ) → IsRising xs → i < length xs → j < length xs
+    → get_or xs i 0 ≡ get_or xs j 0 → i ≡ j
+once xs i j r p q e = go (cases_order i j)
+  where
+    go : (i ≡ j) ⊎ ((i < j) ⊎ (j < i)) → i ≡ j
+    go (inl h) = h
+    go (inr (inl l)) = let m = r.rises i j l q in absurd (omega arith)
+    go (inr (inr g)) = let m = r.rises j i g p in absurd (omega arith)
+
+-- a place of a list below n whose statement is a, or rests on it
+abbrev pub IsVia : Citing → List ℕ → ℕ → ℕ → Type 0
+IsVia c cited n a =
+    (m : ℕ) × (m < n) × ((get_or cited m 0 ≡ a) ⊎ RestsOn (Cites c) (get_or cited m 0) a)
+
+-- the bits of a row that is made from the first n citations
+pub record Made (c : Citing) (columns cited : List ℕ) (n : ℕ) (row : List ℕ) : Type 0 where
+  pub words : length row ≡ words_for (length columns)
+  pub marks : (j : ℕ) → j < length columns
+      → Decides (is_bit row j) (IsVia c cited n (get_or columns j 0))
+  pub past : (j : ℕ) → length columns ≤ j → is_bit row j ≡ false
+
+pub made_more : (c : Citing) (columns cited : List ℕ) (n : ℕ) (row mid new : List ℕ)
+    → Made c columns cited n row
+    → length new ≡ length row
+    → ((j : ℕ) → j < length columns
+    → Decides (is_bit mid j) ((is_bit row j ≡ true) ⊎ (get_or cited n 0 ≡ get_or columns j 0)))
+    → ((j : ℕ) → length columns ≤ j → is_bit mid j ≡ is_bit row j)
+    → ((j : ℕ) → j < length columns
+    → Decides (is_bit new j)
+    ((is_bit mid j ≡ true) ⊎ RestsOn (Cites c) (get_or cited n 0) (get_or columns j 0)))
+    → ((j : ℕ) → length columns ≤ j → is_bit new j ≡ is_bit mid j)
+    → Made c columns cited (n + 1) new
+made_more c columns cited n row mid new h same a b d e = record {
+  words = same ∙ h.words;
+  marks = λ j lt. (λ t. to j lt ((d j lt).0 t), λ v. from j lt v.0 v.1 v.2 (cases_eq v.0 n));
+  past = λ j le. e j le ∙ b j le ∙ h.past j le;
+}
+  where
+    more : (j : ℕ) → IsVia c cited n (get_or columns j 0)
+        → IsVia c cited (n + 1) (get_or columns j 0)
+    more j v = let lt = v.1 in (v.0, omega arith, v.2)
+
+    to : (j : ℕ) → j < length columns
+        → (is_bit mid j ≡ true) ⊎ RestsOn (Cites c) (get_or cited n 0) (get_or columns j 0)
+        → IsVia c cited (n + 1) (get_or columns j 0)
+    to j lt (inr r) = (n, omega arith, inr r)
+    to j lt (inl t) =
+        ⊎_elim (λ u. more j ((h.marks j lt).0 u)) (λ is. (n, omega arith, inl is)) ((a j lt).0 t)
+
+    set_by : (j : ℕ) → j < length columns
+        → (get_or cited n 0 ≡ get_or columns j 0)
+        ⊎ RestsOn (Cites c) (get_or cited n 0) (get_or columns j 0) → is_bit new j ≡ true
+    set_by j lt (inl is) = (d j lt).1 (inl ((a j lt).1 (inr is)))
+    set_by j lt (inr r) = (d j lt).1 (inr r)
+
+    from : (j : ℕ) → j < length columns → (m : ℕ) → m < n + 1
+        → (get_or cited m 0 ≡ get_or columns j 0)
+        ⊎ RestsOn (Cites c) (get_or cited m 0) (get_or columns j 0) → (m ≡ n) ⊎ (m ≡ n → ⊥)
+        → is_bit new j ≡ true
+    from j lt m below v (inl is) =
+        set_by j lt
+        (subst (λ x. (get_or cited x 0 ≡ get_or columns j 0)
+        ⊎ RestsOn (Cites c) (get_or cited x 0) (get_or columns j 0)) is v)
+    from j lt m below v (inr ne) =
+        (d j lt).1 (inl ((a j lt).1 (inl ((h.marks j lt).1 (m, omega arith, v)))))
+
+-- all citations of a theorem
+pub made_all : (c : Citing) (columns : List ℕ) (i : ℕ) (row : List ℕ) → IsFileOrder c
+    → i < length c.theorems → Made c columns (list_at c i) (length (list_at c i)) row
+    → IsBitRow c columns (theorem_at c i) row
+made_all c columns i row o within h = record {
+  words = h.words;
+  marks =
+      λ j lt. (
+        λ t. to (get_or columns j 0) ((h.marks j lt).0 t),
+        λ r. (h.marks j lt).1
+            (from (get_or columns j 0) r),
+      );
+  past = h.past;
+}
+  where
+    cites : (m : ℕ) → m < length (list_at c i) → Cites c (theorem_at c i) (get_or (list_at c i) m 0)
+    cites m lt =
+        record { row = i; place = m; within = within; listed = lt; theorem = refl; cited = refl }
+
+    to : (a : ℕ) → IsVia c (list_at c i) (length (list_at c i)) a
+        → RestsOn (Cites c) (theorem_at c i) a
+    to a v =
+        let step = (rests_step (Cites c) (theorem_at c i) a).1 in
+        ⊎_elim (λ e. step (inl (subst (Cites c (theorem_at c i)) e (cites v.0 v.1))))
+        (λ r. step (inr (get_or (list_at c i) v.0 0, cites v.0 v.1, r))) v.2
+
+    via : (b a : ℕ) → Cites c (theorem_at c i) b → (b ≡ a) ⊎ RestsOn (Cites c) b a
+        → IsVia c (list_at c i) (length (list_at c i)) a
+    via b a s v =
+        let is : s.row ≡ i = once c.theorems s.row i o.rising s.within within s.theorem in
+        let listed : s.place < length (list_at c i) =
+        subst (λ x. s.place < length (list_at c x)) is s.listed in
+        let cited : get_or (list_at c i) s.place 0 ≡ b =
+        subst (λ x. get_or (list_at c x) s.place 0 ≡ b) is s.cited in
+        (s.place, listed, subst (λ x. (x ≡ a) ⊎ RestsOn (Cites c) x a) (sym cited) v)
+
+    from : (a : ℕ) → RestsOn (Cites c) (theorem_at c i) a
+        → IsVia c (list_at c i) (length (list_at c i)) a
+    from a r =
+        ⊎_elim (λ s. via a a s (inl refl)) (λ h. via h.0 a h.1 (inr h.2))
+        ((rests_step (Cites c) (theorem_at c i) a).0 r)
+
+-- what rests on nothing
+pub no_theorem : (c : Citing) (t a : ℕ)
+    → ((i : ℕ) → i < length c.theorems → get_or c.theorems i 0 ≡ t → ⊥) → RestsOn (Cites c) t a → ⊥
+no_theorem c t a none r =
+    ⊎_elim (λ s. none s.row s.within s.theorem) (λ h. none h.1.row h.1.within h.1.theorem)
+    ((rests_step (Cites c) t a).0 r)
+
+-- a finished row is or-ed into another
+pub ored : (c : Citing) (columns : List ℕ) (t : ℕ) (old from new : List ℕ)
+    → IsBitRow c columns t from → length new ≡ length old → length old ≡ words_for (length columns)
+    → ((k : ℕ) → k < length old → get_or new k 0 ≡ bit_or (get_or old k 0) (get_or from k 0))
+    → ((j : ℕ) → j < length columns
+    → Decides (is_bit new j) ((is_bit old j ≡ true) ⊎ RestsOn (Cites c) t (get_or columns j 0)))
+    × ((j : ℕ) → length columns ≤ j → is_bit new j ≡ is_bit old j)
+ored c columns t old from new h same words each =
+    let bits = or_bits new old from same (words ∙ sym h.words) each in (
+      (λ j lt. Decides-at (is_bit new j) (is_bit old j || is_bit from j) (bits j)
+          (Decides-or (is_bit old j) (is_bit from j) ((λ e. e), λ e. e) (h.marks j lt))),
+      λ j le. bits j ∙ or_no (is_bit old j) (is_bit from j) (h.past j le),
+    )
+  where
+    or_no : (a b : Bool) → b ≡ false → (a || b) ≡ a
+    or_no true b e = refl
+    or_no false b e = e
+
+-- before the first citation
+pub made_none : (c : Citing) (columns cited row : List ℕ) → length row ≡ words_for (length columns)
+    → ((j : ℕ) → is_bit row j ≡ false) → Made c columns cited 0 row
+made_none c columns cited row words empty = record {
+  words = words;
+  marks =
+      λ j lt. (
+        λ t. absurd (let no : true ≡ false = sym t ∙ empty j in cc),
+        λ v. let l = v.1 in
+            absurd (omega (arith, l)),
+      );
+  past = λ j le. empty j;
+}
+
+-- what is ready for one citation
+pub ready_at : (c : Citing) (columns bits : List ℕ) (i k : ℕ) (cited row : List ℕ)
+    → cited ≡ list_at c i → k < length cited → length row ≡ words_for (length columns)
+    → IsReady c columns bits i
+    → (r : ℕ) → r < length c.theorems → theorem_at c r ≡ get_or cited k 0
+    → IsBitRow c columns (get_or cited k 0) (row_at bits (length row) r)
+ready_at c columns bits i k cited row is lt words ready r within e =
+    let lt' : k < length (list_at c i) = subst (λ xs. k < length xs) is lt in
+    let e' : theorem_at c r ≡ get_or (list_at c i) k 0 = e ∙ ap (λ xs. get_or xs k 0) is in
+    subst (λ w. IsBitRow c columns (get_or cited k 0) (row_at bits w r)) (sym words)
+    (subst (λ t. IsBitRow c columns t (row_at bits (words_for (length columns)) r)) e
+    (ready r k within lt' e'))
+
+-- no citation at all: nothing is set
+pub no_bits : (n j : ℕ) → is_bit (replicate n 0) j ≡ false
+no_bits n j = go (cases_lt (j / 64) n)
+  where
+    go : (j / 64 < n) ⊎ (n ≤ j / 64) → is_bit (replicate n 0) j ≡ false
+    go (inl l) =
+        ap (λ w. eqb (bit_at w (j % 64)) 1) (get_or-replicate n (j / 64) 0 0 l)
+        ∙ ap (λ x. eqb x 1) (bit_at-zero (j % 64))
+    go (inr g) = past_words (replicate n 0) j (omega (arith, length-replicate {A = ℕ}))
+
+-- in file order the rows before i are those that it needs
+pub rows_ready : (c : Citing) (columns bits : List ℕ) (i : ℕ) → IsFileOrder c
+    → i < length c.theorems → AreBitRows c columns i bits → IsReady c columns bits i
+rows_ready c columns bits i o within h =
+    λ r k lt listed e. let m = o.earlier i k within listed in
+    h.each r (below r lt (omega arith) (cases_order r i))
+  where
+    below : (r : ℕ) → r < length c.theorems → theorem_at c r < theorem_at c i
+        → (r ≡ i) ⊎ ((r < i) ⊎ (i < r)) → r < i
+    below r lt m (inl e) = let s = ap (theorem_at c) e in absurd (omega (arith, m, s))
+    below r lt m (inr (inl l)) = l
+    below r lt m (inr (inr g)) = let n = o.rising.rises i r g lt in absurd (omega (arith, m, n))
+
+pub rows_none : (c : Citing) (columns : List ℕ) → AreBitRows c columns 0 []
+rows_none c columns = record { size = omega arith; each = λ r lt. absurd (omega arith) }
+
+-- a row as a part of longer words
+pub row_kept : (bits more : List ℕ) (width r : ℕ) → r * width + width ≤ length bits
+    → row_at (bits ++ more) width r ≡ row_at bits width r
+row_kept bits more width r le =
+    let w : r * width + width - r * width ≡ width = omega arith in
+    ap (λ n. take n (drop (r * width) (bits ++ more))) w
+    ∙ ap (take width) (drop-append-le (r * width) bits more (omega arith))
+    ∙ take-append-le width (drop (r * width) bits) more
+    (omega (arith, length-drop (r * width) bits))
+    ∙ ap (λ n. take n (drop (r * width) bits)) (sym w)
+
+pub rows_more : (c : Citing) (columns bits row : List ℕ) (i : ℕ) → AreBitRows c columns i bits
+    → IsBitRow c columns (theorem_at c i) row → AreBitRows c columns (i + 1) (bits ++ row)
+rows_more c columns bits row i h new = record {
+  size =
+      let l = length-append bits row in let s = h.size in let n = new.words in
+      let m = add-mul i 1 (words_for (length columns)) in omega (arith, l, s, n, m);
+  each = λ r lt. go r (cases_eq r i) lt;
+}
+  where
+    width : ℕ
+    width = words_for (length columns)
+
+    go : (r : ℕ) → (r ≡ i) ⊎ (r ≡ i → ⊥) → r < i + 1
+        → IsBitRow c columns (theorem_at c r) (row_at (bits ++ row) (words_for (length columns)) r)
+    go r (inl e) lt =
+        let w : r * words_for (length columns)
+        + words_for (length columns) - r * words_for (length columns)
+        ≡ words_for (length columns) = omega arith in
+        let at : length bits ≡ r * words_for (length columns) =
+        h.size ∙ ap (λ n. n * words_for (length columns)) (sym e) in
+        let is : row_at (bits ++ row) (words_for (length columns)) r ≡ row =
+        ap₂ (λ n xs. take n xs) w (drop_at bits row (r * words_for (length columns)) at)
+        ∙ take_all (words_for (length columns)) row (let n = new.words in omega arith) in
+        subst (λ x. IsBitRow c columns (theorem_at c r) x) (sym is)
+        (subst (λ n. IsBitRow c columns (theorem_at c n) row) (sym e) new)
+    go r (inr ne) lt =
+        let m =
+        mul-le (r + 1) (words_for (length columns)) i (words_for (length columns)) (omega arith)
+        (omega arith) in
+        let s = add-mul r 1 (words_for (length columns)) in
+        let z = h.size in
+        subst (λ x. IsBitRow c columns (theorem_at c r) x)
+        (sym (row_kept bits row (words_for (length columns)) r (omega (arith, m, s, z))))
+        (h.each r (omega arith))

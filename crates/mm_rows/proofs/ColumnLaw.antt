@@ -1,0 +1,160 @@
+-- Columns, as a selection among the axioms.
+use Rattle.std.proofs.Common.{cond, ◌≡◌, ℕ, Bool, true, false, ◌&&◌, ◌||◌, List, [], ◌∷◌, ◌++◌}
+use Rattle.std.proofs.Common.{length, map, slice_get, Option, Some, None, refl, sym, ap, ap₂, ◌∙◌}
+use Rattle.std.proofs.Common.{true≢false, bytes_eq, if◌then◌else◌}
+use Rattle.std.specs.List.{list_any, range_with_len, filter}
+use Rattle.std.proofs.lemmas.List.Elements.{filter-append}
+use Rattle.mm_spec.specs.Text.{Bytes, Token, words}
+use Rattle.mm_spec.specs.Statement.{Statement, constants, variables, disjoint, floating, essential}
+use Rattle.mm_spec.specs.Statement.{axiomatic, provable, opening, closing, symbols_of}
+use Rattle.mm_spec.specs.Scope.{statement_at}
+use Rattle.mm_spec.specs.Citation.{is_assertion}
+use Rattle.mm_spec.specs.Output.{columns, has_typecode, is_column}
+use Rattle.mm_spec.specs.Frame.{symbol_names, place_of}
+use Rattle.mm_spec.proofs.FindsLaw.{found_at, statement_at_is, formula_at_is}
+use Rattle.mm_spec.proofs.FaultlessLaw.{place_get}
+use Rattle.mm_stmt.specs.Database.{typecode_of, is_labelled_kind, kind_of}
+
+-- a selection of a selection
+pub filter-filter : (p q r : ℕ → Bool) (xs : List ℕ) → ((x : ℕ) → r x ≡ (p x && q x))
+    → filter q (filter p xs) ≡ filter r xs
+filter-filter p q r [] h = refl
+filter-filter p q r (x ∷ xs) h = by (p x) (h x) (filter-filter p q r xs h)
+  where
+    by : (a : Bool) → r x ≡ (a && q x) → filter q (filter p xs) ≡ filter r xs
+        → filter q (cond a (x ∷ filter p xs) (filter p xs))
+        ≡ cond (r x) (x ∷ filter r xs) (filter r xs)
+    by false e i = i ∙ sym (ap (λ c. cond c (x ∷ filter r xs) (filter r xs)) e)
+    by true e i = ap₂ (λ (c : Bool) (l : List ℕ). cond c (x ∷ l) l) (sym e) i
+
+-- one element more
+pub filter_snoc : (p : ℕ → Bool) (xs : List ℕ) (x : ℕ)
+    → filter p (xs ++ x ∷ []) ≡ filter p xs ++ cond (p x) (x ∷ []) []
+filter_snoc p xs x = filter-append p xs (x ∷ [])
+
+-- an axiom is a column where it has the typecode
+column-split : (only : Option Bytes) (s : Statement)
+    → is_column only s ≡ (is_column None s && has_typecode only s)
+column-split only (axiomatic l k xs d) = refl
+column-split only (constants k xs d) = refl
+column-split only (variables k xs d) = refl
+column-split only (disjoint k xs d) = refl
+column-split only (floating l k xs d) = refl
+column-split only (essential l k xs d) = refl
+column-split only (provable l k xs e ps d) = refl
+column-split only (opening k) = refl
+column-split only (closing k) = refl
+
+pub columns_split : (only : Option Bytes) (db : List Statement) (j : ℕ)
+    → list_any (is_column only) (statement_at db j)
+    ≡ (list_any (is_column None) (statement_at db j)
+    && list_any (has_typecode only) (statement_at db j))
+columns_split only db j = by (slice_get db j)
+  where
+    shut : (a b : Bool) → ((a && b) || false) ≡ ((a || false) && (b || false))
+    shut true true = refl
+    shut true false = refl
+    shut false b = refl
+
+    by : (o : Option Statement)
+        → list_any (is_column only) (elim o [ None ↦ [] | Some s ↦ s ∷ [] ])
+        ≡ (list_any (is_column None) (elim o [ None ↦ [] | Some s ↦ s ∷ [] ])
+        && list_any (has_typecode only) (elim o [ None ↦ [] | Some s ↦ s ∷ [] ]))
+    by None = refl
+    by (Some s) =
+        ap (λ b. b || false) (column-split only s) ∙ shut (is_column None s) (has_typecode only s)
+
+-- the columns are the axioms with the typecode
+pub columns_are : (only : Option Bytes) (db : List Statement)
+    → filter (λ j. list_any (has_typecode only) (statement_at db j)) (columns db None)
+    ≡ columns db only
+columns_are only db =
+    filter-filter (λ j. list_any (is_column None) (statement_at db j))
+    (λ j. list_any (has_typecode only) (statement_at db j))
+    (λ j. list_any (is_column only) (statement_at db j)) (range_with_len 0 (length db))
+    (columns_split only db)
+
+-- an axiom is an assertion
+pub axiom_asserts : (db : List Statement) (j : ℕ)
+    → list_any (is_column None) (statement_at db j) ≡ true
+    → list_any is_assertion (statement_at db j) ≡ true
+axiom_asserts db j h = by (slice_get db j) h
+  where
+    shut : (s : Statement) → is_column None s ≡ true → is_assertion s ≡ true
+    shut (axiomatic l k xs d) e = refl
+    shut (provable l k xs q ps d) e = refl
+    shut (constants k xs d) e = absurd (true≢false (sym e))
+    shut (variables k xs d) e = absurd (true≢false (sym e))
+    shut (disjoint k xs d) e = absurd (true≢false (sym e))
+    shut (floating l k xs d) e = absurd (true≢false (sym e))
+    shut (essential l k xs d) e = absurd (true≢false (sym e))
+    shut (opening k) e = absurd (true≢false (sym e))
+    shut (closing k) e = absurd (true≢false (sym e))
+
+    open_or : (b : Bool) → (b || false) ≡ true → b ≡ true
+    open_or true e = refl
+    open_or false e = e
+
+    by : (o : Option Statement)
+        → list_any (is_column None) (elim o [ None ↦ [] | Some s ↦ s ∷ [] ]) ≡ true
+        → list_any is_assertion (elim o [ None ↦ [] | Some s ↦ s ∷ [] ]) ≡ true
+    by None e = absurd (true≢false (sym e))
+    by (Some s) e = ap (λ b. b || false) (shut s (open_or (is_column None s) e))
+
+-- the typecode is compared by its name
+pub typecode_test : (db : List Statement) (k x : ℕ) (v w : Bytes)
+    → list_any is_assertion (statement_at db k) ≡ true → typecode_of db k ≡ Some x
+    → slice_get (symbol_names db) x ≡ Some v
+    → bytes_eq v w ≡ list_any (has_typecode (Some w)) (statement_at db k)
+typecode_test db k x v w is e n = let f = found_at db is_assertion k is in by f.0 f.1 f.2
+  where
+    shut : (b : Bool) → (b || false) ≡ b
+    shut true = refl
+    shut false = refl
+
+    -- a statement with a label, by its symbols
+    labelled : (s : Statement) → slice_get db k ≡ Some s → is_labelled_kind (kind_of s) ≡ true
+        → (xs : List Token) → symbols_of s ≡ xs
+        → bytes_eq v w ≡ list_any (has_typecode (Some w)) (statement_at db k)
+    labelled s g lab xs same = at xs same
+      where
+        code : (xs : List Token) → symbols_of s ≡ xs
+            → typecode_of db k ≡ slice_get (map (λ u. place_of u (symbol_names db)) (words xs)) 0
+        code xs same =
+            ap₂ (λ ss f. if list_any
+            (λ s. is_labelled_kind (kind_of s)) ss then slice_get f 0 else None)
+            (statement_at_is db k s g) (formula_at_is db k s g)
+            ∙ ap (λ b. if b
+            || false then slice_get
+            (map (λ u. place_of u (symbol_names db)) (words (symbols_of s))) 0 else None) lab
+            ∙ ap (λ ys. slice_get (map (λ u. place_of u (symbol_names db)) (words ys)) 0) same
+
+        test : (t : Token) (ts : List Token) → symbols_of s ≡ t ∷ ts
+            → has_typecode (Some w) s ≡ bytes_eq t.word w
+        test t ts same =
+            ap (λ (ys : List Token). elim ys [ [] ↦ false | u ∷ us ↦ bytes_eq u.word w ]) same
+
+        at : (xs : List Token) → symbols_of s ≡ xs
+            → bytes_eq v w ≡ list_any (has_typecode (Some w)) (statement_at db k)
+        at [] same = absurd (let no : None ≡ Some x = sym (code [] same) ∙ e in cc)
+        at (t ∷ ts) same =
+            let found : Some (place_of t.word (symbol_names db)) ≡ Some x =
+            sym (code (t ∷ ts) same) ∙ e in
+            let place : place_of t.word (symbol_names db) ≡ x = cc in
+            let word : v ≡ t.word =
+            place_get t.word v (symbol_names db) (ap (slice_get (symbol_names db)) place ∙ n) in
+            ap (λ u. bytes_eq u w) word
+            ∙ sym (ap (list_any (has_typecode (Some w))) (statement_at_is db k s g)
+            ∙ shut (has_typecode (Some w) s) ∙ test t ts same)
+
+    by : (s : Statement) → slice_get db k ≡ Some s → is_assertion s ≡ true
+        → bytes_eq v w ≡ list_any (has_typecode (Some w)) (statement_at db k)
+    by (constants kw xs d) g c = absurd (true≢false (sym c))
+    by (variables kw xs d) g c = absurd (true≢false (sym c))
+    by (disjoint kw xs d) g c = absurd (true≢false (sym c))
+    by (floating l kw xs d) g c = absurd (true≢false (sym c))
+    by (essential l kw xs d) g c = absurd (true≢false (sym c))
+    by (opening kw) g c = absurd (true≢false (sym c))
+    by (closing kw) g c = absurd (true≢false (sym c))
+    by (provable l kw xs q ps d) g c = labelled (provable l kw xs q ps d) g refl xs refl
+    by (axiomatic l kw xs d) g c = labelled (axiomatic l kw xs d) g refl xs refl

@@ -1,0 +1,71 @@
+-- The places of bits in a table.
+use Rattle.std.proofs.Common.{◌≡◌, ℕ, false, List, ◌⊎◌, inl, inr, ◌<◌, ◌≤◌, ◌+◌, ◌*◌, ◌/◌, ◌%◌, ◌-◌}
+use Rattle.std.proofs.Common.{length, sym, ap, ap₂, arith, get_or, eqb, take, drop, ◌∙◌}
+use Rattle.std.proofs.lemmas.Bool.{cases_lt}
+use Rattle.std.proofs.lemmas.Nat.{mul-add-lt, mul-le}
+use Rattle.std.proofs.Math.Nat.{add-mul, mul_left_comm, mul_comm}
+use Rattle.std.proofs.lemmas.List.{length-drop, length-take-le}
+use Rattle.std.specs.Int.{bit_at}
+use Rattle.mm_rows.specs.Bits.{is_bit, words_for, spot, IsTable}
+use Rattle.mm_rows.specs.BitRows.{row_at}
+use Rattle.mm_rows.proofs.BitLaw.{part_bit, past_words}
+
+-- where bit j of row i lies
+pub spot_word : (width i j : ℕ) → spot width i j / 64 ≡ i * width + j / 64
+spot_word width i j = let m = mul_left_comm i 64 width in omega (arith, m)
+
+pub spot_bit : (width i j : ℕ) → spot width i j % 64 ≡ j % 64
+spot_bit width i j = let m = mul_left_comm i 64 width in omega (arith, m)
+
+-- a place lies within the words
+pub spot_within : (width n i j len : ℕ) → i < n → j < 64 * width → len ≡ n * width
+    → spot width i j / 64 < len
+spot_within width n i j len a b e =
+    let w = spot_word width i j in
+    let c : j / 64 < width = omega arith in
+    let m = mul-add-lt i width (j / 64) n a c in
+    let t = mul_comm width n in
+    omega (arith, w, m, t)
+
+-- a row as a part of all words
+pub row_bit : (words : List ℕ) (width i j : ℕ) → j < 64 * width
+    → is_bit (row_at words width i) j ≡ is_bit words (spot width i j)
+row_bit words width i j lt =
+    let w : i * width + width - i * width ≡ width = omega arith in
+    let d : j / 64 < width = omega arith in
+    ap (λ n. is_bit (take n (drop (i * width) words)) j) w ∙ part_bit words width i j d
+    ∙ sym (ap₂ (λ a b. eqb (bit_at (get_or words a 0) b) 1) (spot_word width i j)
+    (spot_bit width i j))
+
+pub row_length : (words : List ℕ) (width i n : ℕ) → i < n → length words ≡ n * width
+    → length (row_at words width i) ≡ width
+row_length words width i n lt size =
+    let w : i * width + width - i * width ≡ width = omega arith in
+    let m = mul-le (i + 1) width n width (omega arith) (omega arith) in
+    let s = add-mul i 1 width in
+    ap (λ k. length (take k (drop (i * width) words))) w
+    ∙ length-take-le width (drop (i * width) words)
+    (omega (arith, m, s, size, length-drop (i * width) words))
+
+-- bits past the words of a row
+pub row_past : (words : List ℕ) (width i n j : ℕ) → i < n → length words ≡ n * width
+    → 64 * width ≤ j → is_bit (row_at words width i) j ≡ false
+row_past words width i n j lt size le =
+    past_words (row_at words width i) j
+    (let l = row_length words width i n lt size in omega (arith, l))
+
+-- a row of a table has nothing past its columns
+pub table_past : (rows columns : ℕ) (bits : List ℕ) (i : ℕ) → IsTable rows columns bits → i < rows
+    → (j : ℕ) → columns ≤ j → is_bit (row_at bits (words_for columns) i) j ≡ false
+table_past rows columns bits i t lt j le = go (cases_lt j (64 * words_for columns))
+  where
+    go : (j < 64 * words_for columns) ⊎ (64 * words_for columns ≤ j)
+        → is_bit (row_at bits (words_for columns) i) j ≡ false
+    go (inl l) = row_bit bits (words_for columns) i j l ∙ t.past i j lt le l
+    go (inr g) = row_past bits (words_for columns) i rows j lt t.size g
+
+-- where a row ends
+pub row_end : (width i n len : ℕ) → i < n → len ≡ n * width → i * width + width ≤ len
+row_end width i n len lt size =
+    let m = mul-le (i + 1) width n width (omega arith) (omega arith) in let s = add-mul i 1 width in
+    omega (arith, m, s, size)

@@ -1,0 +1,379 @@
+-- Waves, one theorem after the other.
+use Rattle.std.proofs.Common.{◌≡◌, ℕ, zero, suc, List, [], ◌∷◌, ◌++◌, ◌⊎◌, inl, inr, ◌<◌, ◌≤◌, ◌+◌}
+use Rattle.std.proofs.Common.{◌-◌, ◌*◌, max, All, map, drop, slice_range, length, subst, sym, ap}
+use Rattle.std.proofs.Common.{refl, arith, get_or, ◌∙◌}
+use Rattle.std.proofs.lemmas.Bool.{cases_order, cases_eq, cases_lt}
+use Rattle.std.proofs.lemmas.List.{length-append, length-map, length-take-le, length-drop}
+use Rattle.std.proofs.lemmas.List.{get_or-map, get_or-take, get_or-drop, get_or_append_left}
+use Rattle.std.proofs.lemmas.List.{get_or_push, get_or_default}
+use Rattle.mm_cites.specs.Citing.{Citing, Cites, IsFileOrder, theorem_at, list_at}
+use Rattle.mm_rows.specs.BitRows.{IsBitRow, IsReady, AreBitRows, row_at}
+use Rattle.mm_spec.specs.Laws.Chains.{IsWave, TheoremChain}
+use Rattle.mm_rows.specs.Waves.{IsTheorem, AreWaves, IsByWave, HasRow, AreMade}
+use Rattle.mm_rows.specs.Bits.{words_for}
+use Rattle.std.specs.List.{Contains, AllZip, range_with_len}
+use Rattle.std.specs.List.Sorted.{IsPermutation, IsNonDecreasingBy}
+use Rattle.std.proofs.lemmas.List.Sorted.{All-permutation, Contains-permutation}
+use Rattle.mm_rows.proofs.ChainLaw.{once}
+
+-- a wave from the first n citations of theorem i
+pub record WaveTo (c : Citing) (waves : List ℕ) (i : ℕ) (cited : List ℕ) (n wave : ℕ) : Type 0 where
+  pub same : cited ≡ list_at c i
+  pub chain : TheoremChain (Cites c) (IsTheorem c) (theorem_at c i) wave
+  pub above : (m r : ℕ) → m < n → r < length c.theorems → theorem_at c r ≡ get_or cited m 0
+      → get_or waves r 0 + 1 ≤ wave
+  pub small : wave ≤ i
+
+-- in file order a cited theorem has an earlier row
+pub earlier_row : (c : Citing) (i r k : ℕ) → IsFileOrder c → i < length c.theorems
+    → k < length (list_at c i) → r < length c.theorems → theorem_at c r ≡ get_or (list_at c i) k 0
+    → r < i
+earlier_row c i r k o within listed lt e = go (cases_order r i)
+  where
+    m : get_or (list_at c i) k 0 < theorem_at c i
+    m = o.earlier i k within listed
+
+    go : (r ≡ i) ⊎ ((r < i) ⊎ (i < r)) → r < i
+    go (inl s) = let a = ap (theorem_at c) s in let b = m in absurd (omega (arith, a, b))
+    go (inr (inl l)) = l
+    go (inr (inr g)) = let n = o.rising.rises i r g lt in let b = m in absurd (omega (arith, b, n))
+
+pub wave_none : (c : Citing) (waves : List ℕ) (i : ℕ) (cited : List ℕ) → cited ≡ list_at c i
+    → WaveTo c waves i cited 0 0
+wave_none c waves i cited is =
+    record { same = is; chain = tt; above = λ m r lt. absurd (omega arith); small = omega arith }
+
+-- one theorem more
+pub wave_more : (c : Citing) (waves : List ℕ) (i : ℕ) (cited : List ℕ) (n wave r : ℕ)
+    → IsFileOrder c → i < length c.theorems → AreWaves c i waves → n < length cited
+    → r < length c.theorems → theorem_at c r ≡ get_or cited n 0 → WaveTo c waves i cited n wave
+    → (r < length waves) × WaveTo c waves i cited (n + 1) (max wave (get_or waves r 0 + 1))
+wave_more c waves i cited n wave r o within w lt inside is h = (
+  let s = w.size in let b = before in
+      omega (arith, s, b),
+  pick (cases_lt wave (get_or waves r 0 + 1)),
+)
+  where
+    listed : n < length (list_at c i)
+    listed = subst (λ xs. n < length xs) h.same lt
+
+    before : r < i
+    before = earlier_row c i r n o within listed inside (is ∙ ap (λ xs. get_or xs n 0) h.same)
+
+    cites : Cites c (theorem_at c i) (theorem_at c r)
+    cites =
+        record {
+          row = i;
+          place = n;
+          within = within;
+          listed = listed;
+          theorem = refl;
+          cited = sym (is ∙ ap (λ xs. get_or xs n 0) h.same);
+        }
+
+    longer : TheoremChain (Cites c) (IsTheorem c) (theorem_at c i) (suc (get_or waves r 0))
+    longer = (theorem_at c r, cites, (r, inside, refl), (w.each r before).0)
+
+    above : (x : ℕ) → wave ≤ x → get_or waves r 0 + 1 ≤ x → (m s : ℕ) → m < n + 1
+        → s < length c.theorems → theorem_at c s ≡ get_or cited m 0 → get_or waves s 0 + 1 ≤ x
+    above x a b m s l t e = go (cases_eq m n)
+      where
+        go : (m ≡ n) ⊎ (m ≡ n → ⊥) → get_or waves s 0 + 1 ≤ x
+        go (inl f) =
+            let same : s ≡ r =
+            once c.theorems s r o.rising t inside (e ∙ ap (λ k. get_or cited k 0) f ∙ sym is) in
+            subst (λ k. get_or waves k 0 + 1 ≤ x) (sym same) b
+        go (inr f) = let y = h.above m s (omega arith) t e in omega (arith, y, a)
+
+    pick : (wave < get_or waves r 0 + 1) ⊎ (get_or waves r 0 + 1 ≤ wave)
+        → WaveTo c waves i cited (n + 1) (max wave (get_or waves r 0 + 1))
+    pick (inl l) =
+        let top : max wave (get_or waves r 0 + 1) ≡ get_or waves r 0 + 1 = omega arith in
+        let one : suc (get_or waves r 0) ≡ max wave (get_or waves r 0 + 1) = omega arith in
+        let b = before in
+        let few = w.small r before in
+        record {
+          same = h.same;
+          chain = subst (TheoremChain (Cites c) (IsTheorem c) (theorem_at c i)) one longer;
+          above = above (max wave (get_or waves r 0 + 1)) (omega arith) (omega arith);
+          small = omega (arith, top, few, b);
+        }
+    pick (inr g) =
+        let top : wave ≡ max wave (get_or waves r 0 + 1) = omega arith in
+        let small = h.small in
+        record {
+          same = h.same;
+          chain = subst (TheoremChain (Cites c) (IsTheorem c) (theorem_at c i)) top h.chain;
+          above = above (max wave (get_or waves r 0 + 1)) (omega arith) (omega arith);
+          small = omega (arith, top, small);
+        }
+
+-- what is no theorem adds nothing
+pub wave_same : (c : Citing) (waves : List ℕ) (i : ℕ) (cited : List ℕ) (n wave : ℕ)
+    → ((r : ℕ) → r < length c.theorems → theorem_at c r ≡ get_or cited n 0 → ⊥)
+    → WaveTo c waves i cited n wave → WaveTo c waves i cited (n + 1) wave
+wave_same c waves i cited n wave none h =
+    record {
+      same = h.same;
+      chain = h.chain;
+      above = λ m r lt within e. go m r lt within e (cases_eq m n);
+      small = h.small;
+    }
+  where
+    go : (m r : ℕ) → m < n + 1 → r < length c.theorems → theorem_at c r ≡ get_or cited m 0
+        → (m ≡ n) ⊎ (m ≡ n → ⊥) → get_or waves r 0 + 1 ≤ wave
+    go m r lt within e (inl f) = absurd (none r within (e ∙ ap (λ k. get_or cited k 0) f))
+    go m r lt within e (inr f) = h.above m r (omega arith) within e
+
+-- all citations
+pub wave_all : (c : Citing) (waves : List ℕ) (i : ℕ) (cited : List ℕ) (wave : ℕ) → IsFileOrder c
+    → i < length c.theorems → AreWaves c i waves → WaveTo c waves i cited (length cited) wave
+    → IsWave (Cites c) (IsTheorem c) (theorem_at c i) wave
+wave_all c waves i cited wave o within w h = (h.chain, longest)
+  where
+    step : (m b : ℕ) → Cites c (theorem_at c i) b → IsTheorem c b
+        → TheoremChain (Cites c) (IsTheorem c) b m → suc m ≤ wave
+    step m b s t chain =
+        let row : s.row ≡ i = once c.theorems s.row i o.rising s.within within s.theorem in
+        let listed : s.place < length (list_at c i) =
+        subst (λ x. s.place < length (list_at c x)) row s.listed in
+        let cited_b : get_or (list_at c i) s.place 0 ≡ b =
+        subst (λ x. get_or (list_at c x) s.place 0 ≡ b) row s.cited in
+        let before : t.0 < i =
+        earlier_row c i t.0 s.place o within listed t.1 (t.2 ∙ sym cited_b) in
+        let deep =
+        (w.each t.0 before).1 m
+        (subst (λ x. TheoremChain (Cites c) (IsTheorem c) x m) (sym t.2) chain) in
+        let up =
+        h.above s.place t.0 (subst (λ xs. s.place < length xs) (sym h.same) listed) t.1
+        (t.2 ∙ sym cited_b ∙ ap (λ xs. get_or xs s.place 0) (sym h.same)) in
+        omega (arith, deep, up)
+
+    longest : (m : ℕ) → TheoremChain (Cites c) (IsTheorem c) (theorem_at c i) m → m ≤ wave
+    longest zero k = omega arith
+    longest (suc m) k = step m k.0 k.1 k.2 k.3
+
+pub waves_none : (c : Citing) → AreWaves c 0 []
+waves_none c =
+    record {
+      size = refl;
+      each = λ r lt. absurd (omega arith);
+      small = λ r lt. absurd (omega arith);
+    }
+
+pub waves_more : (c : Citing) (n wave : ℕ) (waves : List ℕ) → AreWaves c n waves
+    → IsWave (Cites c) (IsTheorem c) (theorem_at c n) wave → wave ≤ n
+    → AreWaves c (n + 1) (waves ++ wave ∷ [])
+waves_more c n wave waves h w small = record {
+  size = let l = length-append waves (wave ∷ []) in let s = h.size in omega (arith, l, s);
+  each =
+      λ r lt. at (IsWave (Cites c) (IsTheorem c) (theorem_at c r)) r lt (λ l. h.each r l)
+      (λ e. subst (λ k. IsWave (Cites c) (IsTheorem c) (theorem_at c k) wave) (sym e) w)
+      (cases_eq r n);
+  small = λ r lt. at (λ x. x ≤ r) r lt (λ l. h.small r l) (λ e. omega arith) (cases_eq r n);
+}
+  where
+    at : (P : ℕ → Type 0) (r : ℕ) → r < n + 1 → (r < n → P (get_or waves r 0)) → (r ≡ n → P wave)
+        → (r ≡ n) ⊎ (r ≡ n → ⊥) → P (get_or (waves ++ wave ∷ []) r 0)
+    at P r lt below new (inl e) =
+        subst P (sym (get_or_push waves wave 0 r (h.size ∙ sym e))) (new e)
+    at P r lt below new (inr ne) =
+        subst P (sym (get_or_append_left waves (wave ∷ []) 0 r (let s = h.size in omega arith)))
+        (below (omega arith))
+
+-- a cited theorem has a lower wave
+pub lower : (c : Citing) (waves : List ℕ) (i r k : ℕ) → AreWaves c (length c.theorems) waves
+    → i < length c.theorems → r < length c.theorems → k < length (list_at c i)
+    → theorem_at c r ≡ get_or (list_at c i) k 0 → get_or waves r 0 < get_or waves i 0
+lower c waves i r k w within inside listed e =
+    let cites : Cites c (theorem_at c i) (theorem_at c r) =
+    record {
+      row = i;
+      place = k;
+      within = within;
+      listed = listed;
+      theorem = refl;
+      cited = sym e;
+    } in
+    let one : suc (get_or waves r 0) ≤ get_or waves i 0 =
+    (w.each i within).1 (suc (get_or waves r 0))
+    (theorem_at c r, cites, (r, inside, refl), (w.each r inside).0) in
+    omega arith
+
+-- ---- rows by wave
+
+pub by_wave_is : (waves : List ℕ) (ps qs : List (ℕ × ℕ))
+    → All (λ p. (p.1 < length waves) × (get_or waves p.1 0 ≡ p.0)) ps
+    → ((r : ℕ) → r < length waves → Contains ps (get_or waves r 0, r))
+    → IsPermutation ps qs → IsNonDecreasingBy (λ p. p.0) qs → IsByWave waves (map (λ p. p.1) qs)
+by_wave_is waves ps qs each all moved rises = record {
+  known =
+      λ k d l. let h = (entry k l) in
+      subst (λ r. r < length waves)
+      (sym (get_or-map (λ (p : ℕ × ℕ). p.1) qs k (0, 0) d (inside k l))) h.0;
+  all = λ r l. let w = Contains-permutation ps qs (get_or waves r 0, r) moved (all r l) in (
+    w.0,
+    subst (λ n. w.0 < n) (sym (length-map qs (λ (p : ℕ × ℕ). p.1))) w.1,
+    get_or-map
+        (λ (p : ℕ × ℕ). p.1) qs w.0 (get_or waves r 0, r) r w.1
+        ∙ ap (λ (p : ℕ × ℕ). p.1) w.2,
+  );
+  rises = λ i j l m.
+      let n = inside j m in
+      let k : i < length qs = omega (arith, l, n) in
+      subst (λ x. get_or waves x 0 ≤ get_or waves (get_or (map (λ (p : ℕ × ℕ). p.1) qs) j 0) 0)
+      (sym (get_or-map (λ (p : ℕ × ℕ). p.1) qs i (0, 0) 0 k))
+      (subst (λ x. get_or waves (get_or qs i (0, 0)).1 0 ≤ get_or waves x 0)
+      (sym (get_or-map (λ (p : ℕ × ℕ). p.1) qs j (0, 0) 0 n))
+      (let a = (sorted i (0, 0) k).1 in let b = (sorted j (0, 0) n).1 in
+      let up = rises i j (0, 0) l n in omega (arith, a, b, up)));
+}
+  where
+    sorted : All (λ p. (p.1 < length waves) × (get_or waves p.1 0 ≡ p.0)) qs
+    sorted =
+        All-permutation
+        (λ (p : ℕ × ℕ). (p.1 < length waves) × (get_or waves p.1 0 ≡ p.0)) ps qs moved each
+
+    inside : (k : ℕ) → k < length (map (λ (p : ℕ × ℕ). p.1) qs) → k < length qs
+    inside k l = subst (λ n. k < n) (length-map qs (λ (p : ℕ × ℕ). p.1)) l
+
+    entry : (k : ℕ) → k < length (map (λ (p : ℕ × ℕ). p.1) qs)
+        → ((get_or qs k (0, 0)).1 < length waves)
+        × (get_or waves (get_or qs k (0, 0)).1 0 ≡ (get_or qs k (0, 0)).0)
+    entry k l = sorted k (0, 0) (inside k l)
+
+-- ---- the items that a map gives, by their places
+
+pub zip_at : {Y : Type 0} (P : ℕ → Y → Type 0) (n a : ℕ) (ys : List Y)
+    → AllZip P (range_with_len a n) ys
+    → (length ys ≡ n) × ((k : ℕ) (d : Y) → k < n → P (a + k) (get_or ys k d))
+zip_at P zero a [] h = (refl, λ k d l. absurd (omega arith))
+zip_at P zero a (y ∷ ys) h = absurd h
+zip_at P (suc n) a [] h = absurd h
+zip_at P (suc n) a (y ∷ ys) h =
+    let r = zip_at P n (a + 1) ys h.1 in ((let e = r.0 in omega (arith, e)), λ k d l. at k d l r.1)
+  where
+    at : (k : ℕ) (d : _) → k < suc n → ((k : ℕ) (d : _) → k < n → P (a + 1 + k) (get_or ys k d))
+        → P (a + k) (get_or (y ∷ ys) k d)
+    at zero d l r = let e : a ≡ a + 0 = omega arith in subst (λ i. P i y) e h.0
+    at (suc k) d l r =
+        let e : a + 1 + k ≡ a + suc k = omega arith in
+        subst (λ i. P i (get_or ys k d)) e (r k d (omega arith))
+
+-- ---- rows that are made
+
+pub made_none : (c : Citing) (columns rows bits : List ℕ) → AreMade c columns rows 0 bits bits
+made_none c columns rows bits =
+    record { size = refl; kept = λ r h. h; made = λ m l. absurd (omega arith) }
+
+pub made_more : (c : Citing) (columns rows : List ℕ) (k : ℕ) (first old new row : List ℕ) (i : ℕ)
+    → i ≡ get_or rows k 0 → IsBitRow c columns (theorem_at c i) row → length new ≡ length old
+    → row_at new (words_for (length columns)) i ≡ row
+    → ((r : ℕ) → (r ≡ i → ⊥)
+    → row_at new (words_for (length columns)) r ≡ row_at old (words_for (length columns)) r)
+    → AreMade c columns rows k first old → AreMade c columns rows (k + 1) first new
+made_more c columns rows k first old new row i is bits same here others h = record {
+  size = same ∙ h.size;
+  kept = λ r b. again r (h.kept r b) (cases_eq r i);
+  made = λ m l. go m l (cases_eq m k);
+}
+  where
+    fresh : (r : ℕ) → r ≡ i → HasRow c columns new r
+    fresh r e =
+        subst (HasRow c columns new) (sym e)
+        (subst (IsBitRow c columns (theorem_at c i)) (sym here) bits)
+
+    again : (r : ℕ) → HasRow c columns old r → (r ≡ i) ⊎ (r ≡ i → ⊥) → HasRow c columns new r
+    again r b (inl e) = fresh r e
+    again r b (inr ne) = subst (IsBitRow c columns (theorem_at c r)) (sym (others r ne)) b
+
+    go : (m : ℕ) → m < k + 1 → (m ≡ k) ⊎ (m ≡ k → ⊥) → HasRow c columns new (get_or rows m 0)
+    go m l (inl e) = fresh (get_or rows m 0) (ap (λ x. get_or rows x 0) e ∙ sym is)
+    go m l (inr ne) =
+        again (get_or rows m 0) (h.made m (omega arith)) (cases_eq (get_or rows m 0) i)
+
+-- a row that could be made can still be made
+pub ready_still : (c : Citing) (columns rows : List ℕ) (k : ℕ) (old new : List ℕ)
+    → AreMade c columns rows k old new → (i : ℕ) → IsReady c columns old i → IsReady c columns new i
+ready_still c columns rows k old new h i ready = λ r n l m e. h.kept r (ready r n l m e)
+
+-- ---- wave by wave
+
+-- the first so many rows by wave are made
+pub record MadeTo (c : Citing) (columns rows : List ℕ) (from : ℕ) (bits : List ℕ) : Type 0 where
+  pub size : length bits ≡ length c.theorems * words_for (length columns)
+  pub within : from ≤ length rows
+  pub made : (p : ℕ) → p < from → HasRow c columns bits (get_or rows p 0)
+
+pub made_start : (c : Citing) (columns rows bits : List ℕ)
+    → length bits ≡ length c.theorems * words_for (length columns) → MadeTo c columns rows 0 bits
+made_start c columns rows bits size =
+    record { size = size; within = omega arith; made = λ p l. absurd (omega arith) }
+
+-- the rows of a wave need those before them
+pub wave_ready : (c : Citing) (columns waves rows : List ℕ) (from to : ℕ) (bits : List ℕ)
+    → AreWaves c (length c.theorems) waves → IsByWave waves rows → MadeTo c columns rows from bits
+    → from < length rows → to ≤ length rows
+    → ((p : ℕ) → from ≤ p → p < to
+    → get_or waves (get_or rows p 0) 0 ≡ get_or waves (get_or rows from 0) 0)
+    → (p : ℕ) → from ≤ p → p < to
+    → (get_or rows p 0 < length c.theorems) × IsReady c columns bits (get_or rows p 0)
+wave_ready c columns waves rows from to bits w o h inside within same p l m =
+    (known, λ r k lt listed e. ready r (lower c waves (get_or rows p 0) r k w known lt listed e) lt)
+  where
+    known : get_or rows p 0 < length c.theorems
+    known = let s = w.size in let k = o.known p 0 (omega arith) in omega (arith, s, k)
+
+    ready : (r : ℕ) → get_or waves r 0 < get_or waves (get_or rows p 0) 0 → r < length c.theorems
+        → HasRow c columns bits r
+    ready r low lt =
+        let q = o.all r (let s = w.size in omega (arith, s, lt)) in
+        let is : get_or rows q.0 0 ≡ r = get_or_default rows q.0 0 r q.1 ∙ q.2 in
+        subst (HasRow c columns bits) is
+        (h.made q.0 (before q.0 q.1 (ap (λ x. get_or waves x 0) is) (cases_lt q.0 from)))
+      where
+        before : (q : ℕ) → q < length rows → get_or waves (get_or rows q 0) 0 ≡ get_or waves r 0
+            → (q < from) ⊎ (from ≤ q) → q < from
+        before q k e (inl b) = b
+        before q k e (inr b) =
+            absurd (let up = o.rises from q b k in let s = same p l m in
+            omega (arith, up, s, e, low))
+
+pub part_length : (xs : List ℕ) (from to : ℕ) → to ≤ length xs
+    → length (slice_range xs from to) ≡ to - from
+part_length xs from to within =
+    length-take-le (to - from) (drop from xs)
+    (let e = length-drop from xs in omega (arith, e, within))
+
+pub part_at : (xs : List ℕ) (from to i d : ℕ) → i < to - from
+    → get_or (slice_range xs from to) i d ≡ get_or xs (from + i) d
+part_at xs from to i d l = get_or-take (to - from) (drop from xs) i d l ∙ get_or-drop from xs i d
+
+pub made_wave : (c : Citing) (columns rows part : List ℕ) (from to : ℕ) (old new : List ℕ)
+    → MadeTo c columns rows from old → to ≤ length rows → part ≡ slice_range rows from to
+    → from ≤ to
+    → AreMade c columns part (length part) old new → MadeTo c columns rows to new
+made_wave c columns rows part from to old new h within is order m =
+    record { size = m.size ∙ h.size; within = within; made = λ p l. go p l (cases_lt p from) }
+  where
+    go : (p : ℕ) → p < to → (p < from) ⊎ (from ≤ p) → HasRow c columns new (get_or rows p 0)
+    go p l (inl b) = m.kept (get_or rows p 0) (h.made p b)
+    go p l (inr b) =
+        let long : length part ≡ to - from =
+        ap (λ xs. length xs) is ∙ part_length rows from to within in
+        let e : from + (p - from) ≡ p = omega (arith, b) in
+        let at : get_or part (p - from) 0 ≡ get_or rows p 0 =
+        ap (λ xs. get_or xs (p - from) 0) is
+        ∙ part_at rows from to (p - from) 0 (omega (arith, l, b)) ∙ ap (λ x. get_or rows x 0) e in
+        subst (HasRow c columns new) at (m.made (p - from) (omega (arith, long, l, b)))
+
+pub made_all : (c : Citing) (columns waves rows bits : List ℕ) (from : ℕ)
+    → AreWaves c (length c.theorems) waves → IsByWave waves rows → MadeTo c columns rows from bits
+    → length rows ≤ from → AreBitRows c columns (length c.theorems) bits
+made_all c columns waves rows bits from w o h end = record {
+  size = h.size;
+  each = λ r lt.
+      let q = o.all r (let s = w.size in omega (arith, s, lt)) in
+      let is : get_or rows q.0 0 ≡ r = get_or_default rows q.0 0 r q.1 ∙ q.2 in
+      subst (HasRow c columns bits) is (h.made q.0 (let l = q.1 in omega (arith, l, end)));
+}

@@ -1,0 +1,7 @@
+use Rattle.std.proofs.Common.{◌≤◌, ◌*◌}
+use Rattle.mm_rows.proofs.BlockLaw.{AreMarked}
+use Rattle.mm_rows.proofs.transpose.mark_columns.Given as goal
+
+abbrev pub invariant-loop-i : goal.invariant-loop-i
+invariant-loop-i l =
+    record { from : 64 * l.w ≤ l.i; marked : AreMarked l.across l.bits l.any (64 * l.w) l.i }

@@ -1,0 +1,10 @@
+use Rattle.std.proofs.Common.{◌≤◌, ◌+◌, ◌*◌}
+use Rattle.mm_rows.proofs.BlockLaw.{BytesTo}
+use Rattle.mm_rows.proofs.transpose.row_bytes.Given as goal
+
+abbrev pub invariant-loop-k : goal.invariant-loop-k
+invariant-loop-k l =
+    record {
+      within : 64 * l.w + l.k ≤ l.rows;
+      bytes : BytesTo l.across l.bits l.at l.bytes (64 * l.w) l.k;
+    }

@@ -1,0 +1,51 @@
+use Rattle.std.proofs.Common.{ℕ, ◌≡◌, ◌<◌, ◌≤◌, ◌+◌, ◌*◌, arith, subst}
+use Rattle.mm_rows.specs.Bits.{words_for}
+use Rattle.mm_rows.specs.Blocks.{AreRowBytes, Written}
+use Rattle.mm_rows.proofs.BlockLaw.{lane_is_word, written_word, written_zero, written_zeros}
+use Rattle.mm_rows.proofs.transpose.write_columns.Goals as goal
+use Rattle.mm_rows.proofs.transpose.write_columns.Goals.{then-word-ne0, else-word-ne0}
+
+pub loop-j-preserved : goal.loop-j-preserved
+loop-j-preserved c =
+    let rows = c.args.rows in
+    let columns = c.args.columns in
+    let bits = c.args.bits.now in
+    let w = c.args.w in
+    let j = c.loop-j.j in
+    let h = c.loop-j.invariant in
+    let less = c.loop-j-test.true in
+    let end = c.min-j-end.ensures in
+    let from : 8 * c.args.at ≤ j = h.from in
+    let small : j < columns = omega (arith, less, end) in
+    let low : j < 8 * c.args.at + 8 = omega (arith, less, end) in
+    let block : w < words_for rows = let b = c.requires.block in omega (arith, b) in
+    let bytes =
+    subst (λ (x : ℕ). AreRowBytes rows x bits w c.args.at c.row_bytes-bytes.result)
+    c.div_ceil.ensures c.row_bytes-bytes.ensures in
+    let is =
+    lane_is_word rows
+    (words_for columns) bits w c.args.at c.row_bytes-bytes.result j c.lane_bits-word.result bytes
+    from low c.lane_bits-word.ensures in
+    let word =
+    written_word rows columns bits c.loop-j.transposed w j c.lane_bits-word.result block small is
+    h.written in
+    let zero =
+    λ (e : c.lane_bits-word.result ≡ 0). written_zero rows columns bits c.loop-j.transposed w j
+    c.lane_bits-word.result block is e h.written in
+    let more : Written rows columns bits c.if-word-ne0.transposed w (j + 1) =
+    elim c.if-word-ne0.branch [
+      | then-word-ne0 b ↦ rw (b.transposed-is, c.div_ceil-down.ensures) word
+      | else-word-ne0 b ↦ rw b.transposed-is (zero b.if-word-ne0.false)
+    ] in
+    record { from = omega arith; within = omega arith; written = more }
+
+pub returns : goal.returns
+returns c =
+    let end = c.min-j-end.ensures in
+    let past = c.loop-j-test.false in
+    let b = c.requires.block in
+    let block : c.args.w < words_for c.args.rows = omega (arith, b) in
+    written_zeros c.args.rows c.args.columns c.args.bits.now c.loop-j.transposed c.args.w c.loop-j.j
+    (8 * c.args.at + 8) block
+    (λ i le lt small. absurd (omega (arith, end, past))) c.loop-j.invariant.within
+    c.loop-j.invariant.written

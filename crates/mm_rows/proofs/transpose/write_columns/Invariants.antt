@@ -1,0 +1,11 @@
+use Rattle.std.proofs.Common.{◌≤◌, ◌+◌, ◌*◌}
+use Rattle.mm_rows.specs.Blocks.{Written}
+use Rattle.mm_rows.proofs.transpose.write_columns.Given as goal
+
+abbrev pub invariant-loop-j : goal.invariant-loop-j
+invariant-loop-j l =
+    record {
+      from : 8 * l.at ≤ l.j;
+      within : l.j ≤ 8 * l.at + 8;
+      written : Written l.rows l.columns l.bits l.transposed l.w l.j;
+    }

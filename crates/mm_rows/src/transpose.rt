@@ -1,0 +1,145 @@
+//! Rows of bits as columns, a block of 64 rows at a time: block w has the rows from `64 * w` on,
+//! and makes word w of each column. So a word of a column is written once, where a mark at a time
+//! would fetch it again for each of its bits.
+
+ghost use Rattle.std.specs.Prelude.{◌≡◌, ◌<◌, ◌≤◌, ◌+◌, ◌*◌, ℕ, length, slice_index, IfOk, true};
+ghost use Rattle.std.specs.Prelude.{false};
+ghost use Rattle.std.specs.Int.{bit_at};
+ghost use Rattle.mm_rows.specs.Bits.{is_bit, words_for, AreTransposed, IsTable};
+ghost use Rattle.mm_rows.specs.Blocks.{in_row, AreRowBytes, Written};
+
+use crate::bits::{next_set, or_row};
+use std::alloc::{AllocError, Allocator};
+use std::simd::prelude::*;
+
+/// Marks the columns in which any row of block w has a mark.
+fn mark_columns(any: &mut [u64], bits: &[u64], rows: usize, w: usize)
+    requires size { length bits.now ≡ rows * length any.old }
+    requires few_rows { rows < 2147483648 }
+    requires narrow { length any.old ≤ 67108864 }
+    requires block { 64 * w < rows }
+    ensures { (k j : ℕ) → k < 64 → j < 64 * length any.old
+        → in_row rows (length any.old) bits.now (64 * w + k) j ≡ true
+        → is_bit any.new j ≡ true }
+{
+    let across = any.len();
+    any.fill(0);
+    for i in 64 * w..(64 * w + 64).min(rows) {
+        or_row(any, &bits[i * across..i * across + across]);
+    }
+}
+
+/// Byte `at` of each row of block w; zeros past the last row.
+fn row_bytes(bits: &[u64], across: usize, rows: usize, w: usize, at: usize) -> [u8; 64]
+    requires size { length bits.now ≡ rows * across }
+    requires few_rows { rows < 2147483648 }
+    requires narrow { across ≤ 67108864 }
+    requires block { 64 * w < rows }
+    requires within { at < 8 * across }
+    ensures { AreRowBytes rows across bits.now w at result }
+{
+    let mut bytes = [0u8; 64];
+    for k in 0..(rows - 64 * w).min(64) {
+        let word = bits[(64 * w + k) * across + at / 8];
+        bytes[k] = ((word >> (8 * (at % 8))) & 0xFF) as u8;
+    }
+    bytes
+}
+
+/// Bit `b` of each of 64 bytes.
+#[inline(always)]
+fn lane_bits(bytes: u8x64, b: usize) -> u64
+    requires { b < 8 }
+    ensures { (k : ℕ) → k < 64 → bit_at result k ≡ bit_at (slice_index bytes k) b }
+{
+    let bit = u8x64::splat(1u8 << b);
+    (bytes & bit).simd_eq(bit).to_bitmask()
+}
+
+/// Writes what block w makes of the columns of byte `at`.
+fn write_columns(
+    transposed: &mut [u64],
+    bits: &[u64],
+    rows: usize,
+    columns: usize,
+    w: usize,
+    at: usize,
+)
+    requires table { IsTable rows columns bits.now }
+    requires block { 64 * w < rows }
+    requires within { at < 8 * words_for columns }
+    requires written { Written rows columns bits.now transposed.old w (8 * at) }
+    ensures { Written rows columns bits.now transposed.new w (8 * at + 8) }
+{
+    let down = rows.div_ceil(64);
+    let bytes = u8x64::from_array(row_bytes(bits, columns.div_ceil(64), rows, w, at));
+    for j in 8 * at..(8 * at + 8).min(columns) {
+        let word = lane_bits(bytes, j % 8);
+        // A column in which the block has no mark is zero there, and isn't fetched.
+        if word != 0 {
+            transposed[j * down + w] = word;
+        }
+    }
+}
+
+/// Writes what block w makes of each column; `any` is a row to work in.
+fn transpose_block(
+    transposed: &mut [u64],
+    bits: &[u64],
+    any: &mut [u64],
+    rows: usize,
+    columns: usize,
+    w: usize,
+)
+    requires table { IsTable rows columns bits.now }
+    requires block { 64 * w < rows }
+    requires width { length any.old ≡ words_for columns }
+    requires written { Written rows columns bits.now transposed.old w 0 }
+    ensures { Written rows columns bits.now transposed.new (w + 1) 0 }
+{
+    mark_columns(any, bits, rows, w);
+    let mut at = 0usize;
+    while let Some(j) = next_set(any, 8 * at) {
+        write_columns(transposed, bits, rows, columns, w, j / 8);
+        at = j / 8 + 1;
+    }
+}
+
+/// Writes what each block makes of each column.
+fn transpose_blocks(
+    transposed: &mut [u64],
+    bits: &[u64],
+    any: &mut [u64],
+    rows: usize,
+    columns: usize,
+)
+    requires table { IsTable rows columns bits.now }
+    requires width { length any.old ≡ words_for columns }
+    requires size { length transposed.old ≡ columns * words_for rows }
+    requires empty { (k : ℕ) → slice_index transposed.old k ≡ 0 }
+    ensures { AreTransposed rows columns bits.now transposed.new }
+{
+    for w in 0..rows.div_ceil(64) {
+        transpose_block(transposed, bits, any, rows, columns, w);
+    }
+}
+
+/// The columns of a table of bits.
+pub fn transpose<A: Allocator + Copy>(
+    alloc: A,
+    bits: &[u64],
+    rows: u32,
+    columns: u32,
+) -> Result<Vec<u64, A>, AllocError>
+    requires { IsTable rows columns bits.now }
+    ensures { IfOk result (λ v. AreTransposed rows columns bits.now v.items) }
+{
+    let rows = rows as usize;
+    let columns = columns as usize;
+    let mut any = Vec::new(alloc);
+    any.resize(columns.div_ceil(64), 0u64)?;
+    let mut transposed = Vec::new(alloc);
+    transposed.resize(columns * rows.div_ceil(64), 0u64)?;
+    transpose_blocks(&mut transposed, bits, &mut any, rows, columns);
+    Ok(transposed)
+}

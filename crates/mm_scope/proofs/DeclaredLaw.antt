@@ -1,0 +1,80 @@
+-- One symbol more is declared.
+use Rattle.std.proofs.Common.{◌≡◌, ℕ, ◌+◌, ◌<◌, ◌≤◌, Bool, true, false, ◌||◌, List, [], ◌∷◌, length}
+use Rattle.std.proofs.Common.{Option, None, Some, bytes_eq, if◌then◌else◌, refl, sym, ap, ◌∙◌}
+use Rattle.std.proofs.lemmas.Slice.Eq.{bytes_eq-Decides}
+use Rattle.std.proofs.lemmas.List.Folds.{list_any-append}
+use Rattle.std.proofs.lemmas.List.{map-append}
+use Rattle.mm_spec.specs.Text.{is_in, words}
+use Rattle.mm_spec.specs.declared.Word.{Word}
+use Rattle.mm_scope.specs.declared.names.Symbol.{Symbol}
+use Rattle.mm_outline.specs.Parts.{between, token_at}
+use Rattle.mm_scope.specs.Judge.{Entry, entry_of, declared_entry}
+use Rattle.mm_outline.proofs.TurnsLaw.{between_more}
+use Rattle.mm_scope.proofs.JudgeLaw.{bytes_eq_sym}
+
+twice : (v : Bool) (n : ℕ) (w : List ℕ) (e : Option Entry)
+    → declared_entry v n w (declared_entry v n w e) ≡ declared_entry v n w e
+twice v n w None = refl
+twice v n w (Some e) = refl
+
+or_false : (b : Bool) → (b || false) ≡ b
+or_false true = refl
+or_false false = refl
+
+or_true : (b : Bool) → (b || true) ≡ true
+or_true true = refl
+or_true false = refl
+
+module _ (text : List ℕ) (ws : List Word) (from i : ℕ) (later : from ≤ i)
+    (inside : i < length ws) where
+  abbrev so_far : List (List ℕ)
+  so_far = words (between text ws from i)
+
+  abbrev here : List ℕ
+  here = (token_at text ws i).word
+
+  is_in-more : (w : List ℕ)
+      → is_in w (words (between text ws from (i + 1)))
+      ≡ (is_in w so_far || (bytes_eq here w || false))
+  is_in-more w =
+      ap (λ ts. is_in w (words ts)) (between_more text ws from i later inside)
+      ∙ ap (is_in w)
+      (map-append (λ t. t.word) (between text ws from i) (token_at text ws i ∷ []))
+      ∙ list_any-append (bytes_eq w) so_far (here ∷ [])
+      ∙ ap (λ b. is_in w so_far || (b || false)) (bytes_eq_sym w here)
+
+  pub declared_step : (v : Bool) (n : ℕ) (s : Symbol) (old cur new : List ℕ → Option Symbol)
+      → ((w : List ℕ) → new w ≡ (if bytes_eq here w then Some s else cur w))
+      → entry_of (Some s) ≡ declared_entry v n here (entry_of (cur here))
+      → ((w : List ℕ)
+      → entry_of (cur w)
+      ≡ (if is_in w (words (between text ws from i)) then declared_entry v n w
+      (entry_of (old w)) else entry_of (old w)))
+      → (w : List ℕ)
+      → entry_of (new w)
+      ≡ (if is_in w (words (between text ws from (i + 1))) then declared_entry v n w
+      (entry_of (old w)) else entry_of (old w))
+  declared_step v n s old cur new u e k w =
+      ap entry_of (u w) ∙ by (bytes_eq here w) refl
+      ∙ ap (λ b. if b then declared_entry v n w (entry_of (old w)) else entry_of (old w))
+      (sym (is_in-more w))
+    where
+      again : (b : Bool) (o : Option Entry)
+          → declared_entry v n w (if b then declared_entry v n w o else o) ≡ declared_entry v n w o
+      again true o = twice v n w o
+      again false o = refl
+
+      by : (b : Bool) → bytes_eq here w ≡ b
+          → entry_of (if b then Some s else cur w)
+          ≡ (if is_in w so_far
+          || (bytes_eq here w || false) then declared_entry v n w (entry_of (old w)) else entry_of
+          (old w))
+      by true h =
+          let same : here ≡ w = (bytes_eq-Decides here w).0 h in
+          e ∙ ap (λ x. declared_entry v n x (entry_of (cur x))) same
+          ∙ ap (declared_entry v n w) (k w) ∙ again (is_in w so_far) (entry_of (old w))
+          ∙ ap (λ b. if b then declared_entry v n w (entry_of (old w)) else entry_of (old w))
+          (sym (ap (λ b. is_in w so_far || (b || false)) h ∙ or_true (is_in w so_far)))
+      by false h =
+          k w ∙ ap (λ b. if b then declared_entry v n w (entry_of (old w)) else entry_of (old w))
+          (sym (ap (λ b. is_in w so_far || (b || false)) h ∙ or_false (is_in w so_far)))

@@ -1,0 +1,54 @@
+-- The variable of a `$f` has its type.
+use Rattle.std.proofs.Common.{◌≡◌, ◌≢◌, ℕ, ◌+◌, ◌-◌, ◌<◌, ◌≤◌, Bool, true, false, List, [], ◌∷◌}
+use Rattle.std.proofs.Common.{length, Option, bytes_eq, if◌then◌else◌, refl, sym, ap, ◌∙◌, arith}
+use Rattle.std.proofs.lemmas.Slice.Eq.{bytes_eq-Decides}
+use Rattle.mm_spec.specs.Text.{Token}
+use Rattle.mm_spec.specs.declared.Word.{Word}
+use Rattle.mm_scope.specs.declared.names.Symbol.{Symbol}
+use Rattle.mm_outline.specs.Parts.{between, token_at}
+use Rattle.mm_scope.specs.Judge.{Entry, entry_of, typed_entry}
+use Rattle.mm_scope.specs.WordEntry.{typed_after}
+use Rattle.mm_scope.proofs.JudgeLaw.{two_between, length-between}
+
+other_length : (n : ℕ) (xs : List Token) (w : List ℕ) (x : Option Entry) → length xs ≢ 2
+    → typed_after n xs w x ≡ x
+other_length n [] w x h = refl
+other_length n (a ∷ []) w x h = refl
+other_length n (a ∷ b ∷ []) w x h = absurd (h refl)
+other_length n (a ∷ b ∷ c ∷ xs) w x h = refl
+
+module _ (text : List ℕ) (ws : List Word) (k j : ℕ) (l : j ≤ length ws) where
+  -- no two symbols
+  pub typed_not : (n : ℕ) (w : List ℕ) (x : Option Entry) → k < j → j - k ≢ 3
+      → typed_after n (between text ws (k + 1) j) w x ≡ x
+  typed_not n w x h ne =
+      other_length n (between text ws (k + 1) j) w x
+      (λ e. ne (let m = length-between text ws (k + 1) j (omega arith) l in omega (arith, m, e, h)))
+
+  -- two symbols
+  pub typed_now : j - k ≡ 3 → (n : ℕ) (old mid new : List ℕ → Option Symbol)
+      → ((w : List ℕ) → mid w ≡ old w)
+      → ((w : List ℕ)
+      → entry_of (new w)
+      ≡ (if bytes_eq (token_at text ws (k + 1 + 1)).word w then typed_entry n
+      (token_at text ws (k + 1)).word
+      (entry_of (mid (token_at text ws (k + 1 + 1)).word)) else entry_of (mid w)))
+      → (w : List ℕ)
+      → entry_of (new w) ≡ typed_after n (between text ws (k + 1) j) w (entry_of (old w))
+  typed_now e n old mid new same u w =
+      let next : k + 1 + 1 ≡ k + 2 = omega arith in
+      u w ∙ by (bytes_eq (token_at text ws (k + 1 + 1)).word w) refl
+      ∙ ap (λ m. if bytes_eq (token_at text ws m).word w then typed_entry n
+      (token_at text ws (k + 1)).word (entry_of (old w)) else entry_of (old w)) next
+      ∙ ap (λ xs. typed_after n xs w (entry_of (old w))) (sym (two_between text ws k j l e))
+    where
+      by : (b : Bool) → bytes_eq (token_at text ws (k + 1 + 1)).word w ≡ b
+          → (if b then typed_entry n (token_at text ws (k + 1)).word
+          (entry_of (mid (token_at text ws (k + 1 + 1)).word)) else entry_of (mid w))
+          ≡ (if b then typed_entry n (token_at text ws (k + 1)).word
+          (entry_of (old w)) else entry_of (old w))
+      by true h =
+          ap (λ v. typed_entry n (token_at text ws (k + 1)).word (entry_of (mid v)))
+          ((bytes_eq-Decides (token_at text ws (k + 1 + 1)).word w).0 h)
+          ∙ ap (λ o. typed_entry n (token_at text ws (k + 1)).word (entry_of o)) (same w)
+      by false h = ap entry_of (same w)

@@ -1,0 +1,199 @@
+-- What is known of a word after one statement more.
+use Rattle.std.proofs.Common.{◌≡◌, ℕ, ◌<◌, Bool, true, false, ◌&&◌, ◌||◌, not, List, [], ◌∷◌, ◌++◌}
+use Rattle.std.proofs.Common.{length, flat_map, map, bytes_eq, nat_eq, Option, None, Some, refl}
+use Rattle.std.proofs.Common.{sym, ap, ap₂, ◌∙◌, subst, arith, true≢false}
+use Rattle.std.proofs.lemmas.List.Folds.{list_any-append}
+use Rattle.std.proofs.lemmas.Grind.{flat_map-append}
+use Rattle.std.proofs.lemmas.Bool.{ne_eqb}
+use Rattle.std.proofs.lemmas.Slice.Eq.{bytes_eq-Decides}
+use Rattle.std.specs.List.{list_any}
+use Rattle.mm_spec.specs.Text.{Bytes, is_in}
+use Rattle.mm_spec.specs.Statement.{Statement}
+use Rattle.mm_spec.specs.Scope.{Typing, active_statements, variables_of, constants_of, typings_of}
+use Rattle.mm_outline.specs.Blocks.{never}
+use Rattle.mm_scope.specs.Judge.{Entry, entry, declared_entry, typed_entry}
+use Rattle.mm_scope.specs.WordEntry.{IsEntryOf, Latest, typed_by, typecode_by, declared_by, is_other}
+use Rattle.mm_scope.specs.WordEntry.{is_constant_entry, is_variable_entry}
+use Rattle.mm_outline.specs.Typed.{typed_words}
+use Rattle.mm_scope.proofs.LatestLaw.{latest_stays, latest_new}
+
+or_false : (a : Bool) → (a || false) ≡ a
+or_false true = refl
+or_false false = refl
+
+or_true : (a : Bool) → (a || true) ≡ true
+or_true true = refl
+or_true false = refl
+
+none_other : (c w : Bytes) (ts : List Typing) → is_in w (map (λ t. t.variable) ts ++ []) ≡ false
+    → list_any (is_other c w) (ts ++ []) ≡ false
+none_other c w [] e = refl
+none_other c w (t ∷ ts) e = by (bytes_eq w t.variable) e (none_other c w ts)
+  where
+    by : (b : Bool) → (b || is_in w (map (λ t. t.variable) ts ++ [])) ≡ false
+        → (is_in w (map (λ t. t.variable) ts ++ []) ≡ false
+        → list_any (is_other c w) (ts ++ []) ≡ false)
+        → ((b && not (bytes_eq c t.typecode)) || list_any (is_other c w) (ts ++ [])) ≡ false
+    by true e r = absurd (true≢false e)
+    by false e r = r e
+
+module _ (db : List Statement) (s : Statement) (w : Bytes) where
+  pub in_more : (f : Statement → List Bytes)
+      → is_in w (flat_map f (db ++ s ∷ [])) ≡ (is_in w (flat_map f db) || is_in w (f s ++ []))
+  in_more f =
+      ap (is_in w) (flat_map-append f db (s ∷ []))
+      ∙ list_any-append (bytes_eq w) (flat_map f db) (f s ++ [])
+
+  other_more : (c : Bytes)
+      → list_any (is_other c w) (flat_map typings_of (db ++ s ∷ []))
+      ≡ (list_any (is_other c w) (flat_map typings_of db)
+      || list_any (is_other c w) (typings_of s ++ []))
+  other_more c =
+      ap (list_any (is_other c w)) (flat_map-append typings_of db (s ∷ []))
+      ∙ list_any-append (is_other c w) (flat_map typings_of db) (typings_of s ++ [])
+
+  -- the statement has not the word among these
+  pub in_same : (f : Statement → List Bytes) → is_in w (f s ++ []) ≡ false
+      → is_in w (flat_map f (db ++ s ∷ [])) ≡ is_in w (flat_map f db)
+  in_same f n =
+      in_more f ∙ ap (λ b. is_in w (flat_map f db) || b) n ∙ or_false (is_in w (flat_map f db))
+
+  in_now : (f : Statement → List Bytes) → is_in w (f s ++ []) ≡ true
+      → is_in w (flat_map f (db ++ s ∷ [])) ≡ true
+  in_now f n =
+      in_more f ∙ ap (λ b. is_in w (flat_map f db) || b) n ∙ or_true (is_in w (flat_map f db))
+
+  other_same : (c : Bytes) → is_in w (typed_words s ++ []) ≡ false
+      → list_any (is_other c w) (flat_map typings_of (db ++ s ∷ []))
+      ≡ list_any (is_other c w) (flat_map typings_of db)
+  other_same c n =
+      other_more c
+      ∙ ap (λ b. list_any (is_other c w) (flat_map typings_of db) || b)
+      (none_other c w (typings_of s) n)
+      ∙ or_false (list_any (is_other c w) (flat_map typings_of db))
+
+  -- the statement says nothing of the word
+  pub known_same : (x : Option Entry) → IsEntryOf db w x → is_in w (constants_of s ++ []) ≡ false
+      → is_in w (variables_of s ++ []) ≡ false → is_in w (typed_words s ++ []) ≡ false
+      → IsEntryOf (db ++ s ∷ []) w x
+  known_same x k nc nv nt = record {
+    constant = in_same constants_of nc ∙ k.constant;
+    variable = in_same variables_of nv ∙ k.variable;
+    declared = λ e. latest_stays db s variables_of w (declared_by x) (k.declared e) nv;
+    typed = λ n. latest_stays db s typed_words w (typed_by x) (k.typed n) nt;
+    untyped = λ e. in_same typed_words nt ∙ k.untyped e;
+    otherwise = λ c. other_same c nt ∙ k.otherwise c;
+  }
+
+  -- it declares it as a constant
+  pub known_constant : IsEntryOf db w None → is_in w (constants_of s ++ []) ≡ true
+      → is_in w (variables_of s ++ []) ≡ false → is_in w (typed_words s ++ []) ≡ false → (n : ℕ)
+      → IsEntryOf (db ++ s ∷ []) w (Some (entry false n never w))
+  known_constant k yc nv nt n = record {
+    constant = in_now constants_of yc;
+    variable = in_same variables_of nv ∙ k.variable;
+    declared = λ e. absurd (true≢false (sym e));
+    typed = λ ne. absurd (ne refl);
+    untyped = λ e. in_same typed_words nt ∙ k.untyped refl;
+    otherwise = λ c. other_same c nt ∙ k.otherwise c;
+  }
+
+  typed_same : (x : Option Entry) → typed_by (declared_entry true (length db) w x) ≡ typed_by x
+  typed_same None = refl
+  typed_same (Some e) = refl
+
+  other_declared : (c : Bytes) (x : Option Entry)
+      → (not (nat_eq (typed_by x) never) && not (bytes_eq c (typecode_by x)))
+      ≡ (not (nat_eq (typed_by (declared_entry true (length db) w x)) never)
+      && not (bytes_eq c (typecode_by (declared_entry true (length db) w x))))
+  other_declared c None = refl
+  other_declared c (Some e) = refl
+
+  is_declared : (x : Option Entry)
+      → (is_constant_entry (declared_entry true (length db) w x) ≡ false)
+      × (is_variable_entry (declared_entry true (length db) w x) ≡ true)
+      × (declared_by (declared_entry true (length db) w x) ≡ length db)
+  is_declared None = (refl, refl, refl)
+  is_declared (Some e) = (refl, refl, refl)
+
+  -- it declares it as a variable
+  pub known_variable : (x : Option Entry) → IsEntryOf db w x → is_constant_entry x ≡ false
+      → is_in w (flat_map variables_of (active_statements db (length db))) ≡ false
+      → is_in w (constants_of s ++ []) ≡ false → is_in w (variables_of s ++ []) ≡ true
+      → is_in w (typed_words s ++ []) ≡ false
+      → IsEntryOf (db ++ s ∷ []) w (declared_entry true (length db) w x)
+  known_variable x k none idle nc yv nt =
+      let is = is_declared x in
+      record {
+        constant = in_same constants_of nc ∙ k.constant ∙ none ∙ sym is.0;
+        variable = in_now variables_of yv ∙ sym is.1;
+        declared =
+            λ e. subst (Latest (db ++ s ∷ []) variables_of w) (sym is.2)
+            (latest_new db s variables_of w yv idle);
+        typed =
+            λ n. subst (Latest (db ++ s ∷ []) typed_words w) (sym (typed_same x))
+            (latest_stays db s typed_words w (typed_by x) (k.typed (λ e. n (typed_same x ∙ e))) nt);
+        untyped = λ e. in_same typed_words nt ∙ k.untyped (sym (typed_same x) ∙ e);
+        otherwise = λ c. other_same c nt ∙ k.otherwise c ∙ other_declared c x;
+      }
+
+  -- it types it
+  pub known_typed : (e : Entry) → IsEntryOf db w (Some e) → length db < never → (c : Bytes)
+      → is_in w (flat_map typed_words (active_statements db (length db))) ≡ false
+      → list_any (is_other c w) (flat_map typings_of db) ≡ false
+      → is_in w (constants_of s ++ []) ≡ false → is_in w (variables_of s ++ []) ≡ false
+      → typings_of s ≡ record { typecode = c; variable = w } ∷ []
+      → IsEntryOf (db ++ s ∷ []) w (typed_entry (length db) c (Some e))
+  known_typed e k few c idle same nc nv is = record {
+    constant = in_same constants_of nc ∙ k.constant;
+    variable = in_same variables_of nv ∙ k.variable;
+    declared = λ v. latest_stays db s variables_of w e.declared (k.declared v) nv;
+    typed = λ n. latest_new db s typed_words w typed idle;
+    untyped = λ n. absurd (omega (arith, n, few));
+    otherwise = other;
+  }
+    where
+      self : bytes_eq w w ≡ true
+      self = (bytes_eq-Decides w w).1 refl
+
+      typed : is_in w (typed_words s ++ []) ≡ true
+      typed = ap (λ ts. is_in w (map (λ t. t.variable) ts ++ [])) is ∙ ap (λ b. b || false) self
+
+      now : (d : Bytes) → list_any (is_other d w) (typings_of s ++ []) ≡ not (bytes_eq d c)
+      now d =
+          ap (λ ts. list_any (is_other d w) (ts ++ [])) is
+          ∙ ap (λ b. (b && not (bytes_eq d c)) || false) self ∙ or_false (not (bytes_eq d c))
+
+      again : (a b y : Bool) → (a && b) ≡ false → ((a && y) || y) ≡ y
+      again true b true h = refl
+      again true b false h = refl
+      again false b y h = refl
+
+      -- the typecode that an earlier `$f` gave is this one
+      old : (d : Bytes) → (t : Bool) → nat_eq e.typed never ≡ t
+          → (not t && not (bytes_eq c e.typecode)) ≡ false
+          → ((not t && not (bytes_eq d e.typecode)) || not (bytes_eq d c)) ≡ not (bytes_eq d c)
+      old d true h q = refl
+      old d false h q = by (bytes_eq c e.typecode) refl q
+        where
+          by : (b : Bool) → bytes_eq c e.typecode ≡ b → not b ≡ false
+              → (not (bytes_eq d e.typecode) || not (bytes_eq d c)) ≡ not (bytes_eq d c)
+          by true z q =
+              ap (λ y. not (bytes_eq d y) || not (bytes_eq d c))
+              (sym ((bytes_eq-Decides c e.typecode).0 z))
+              ∙ twice (not (bytes_eq d c))
+            where
+              twice : (y : Bool) → (y || y) ≡ y
+              twice true = refl
+              twice false = refl
+          by false z q = absurd (true≢false q)
+
+      other : (d : Bytes)
+          → list_any (is_other d w) (flat_map typings_of (db ++ s ∷ []))
+          ≡ (not (nat_eq (length db) never) && not (bytes_eq d c))
+      other d =
+          let new : nat_eq (length db) never ≡ false =
+          ne_eqb (length db) never (λ z. omega (arith, z, few)) in
+          other_more d ∙ ap₂ (λ a b. a || b) (k.otherwise d) (now d)
+          ∙ old d (nat_eq e.typed never) refl (sym (k.otherwise c) ∙ same)
+          ∙ sym (ap (λ b. not b && not (bytes_eq d c)) new)

@@ -1,0 +1,69 @@
+-- What is known of each word after some statements.
+use Rattle.std.specs.Prelude.{◌≡◌, ◌≢◌, ℕ, ◌<◌, Bool, true, false, ◌&&◌, not, List, [], ◌∷◌, length}
+use Rattle.std.specs.Prelude.{flat_map, nat_eq, bytes_eq, Option, None, Some, if◌then◌else◌}
+use Rattle.std.specs.List.{list_any}
+use Rattle.mm_spec.specs.Text.{Bytes, Token, is_in, words}
+use Rattle.mm_spec.specs.Statement.{Statement, constants, variables, floating}
+use Rattle.mm_spec.specs.Scope.{Typing, is_active, constants_of, variables_of, typings_of}
+use Rattle.mm_outline.specs.Blocks.{never}
+use Rattle.mm_scope.specs.Judge.{Entry, declared_entry, typed_entry}
+use Rattle.mm_outline.specs.Typed.{has, typed_words}
+
+-- whether the typing gives the word another typecode
+abbrev pub is_other : Bytes → Bytes → Typing → Bool
+is_other c w t = bytes_eq w t.variable && not (bytes_eq c t.typecode)
+
+module _ (db : List Statement) (f : Statement → List Bytes) (w : Bytes) where
+  -- the last statement that has the word, the only one that may be active
+  pub record Latest (last : ℕ) : Type 0 where
+    pub before : last < length db
+    pub there : has db f w last ≡ true
+    pub alone : (j : ℕ) → j < length db → has db f w j ≡ true → is_active db j (length db) ≡ true
+        → j ≡ last
+
+abbrev pub is_constant_entry : Option Entry → Bool
+is_constant_entry None = false
+is_constant_entry (Some e) = not e.is_variable
+
+abbrev pub is_variable_entry : Option Entry → Bool
+is_variable_entry None = false
+is_variable_entry (Some e) = e.is_variable
+
+-- the last declaration, the last `$f`, and its typecode
+abbrev pub declared_by : Option Entry → ℕ
+declared_by None = never
+declared_by (Some e) = e.declared
+
+abbrev pub typed_by : Option Entry → ℕ
+typed_by None = never
+typed_by (Some e) = e.typed
+
+abbrev pub typecode_by : Option Entry → List ℕ
+typecode_by None = []
+typecode_by (Some e) = e.typecode
+
+-- the entry is what the statements say of the word
+pub record IsEntryOf (db : List Statement) (w : Bytes) (x : Option Entry) : Type 0 where
+  pub constant : is_in w (flat_map constants_of db) ≡ is_constant_entry x
+  pub variable : is_in w (flat_map variables_of db) ≡ is_variable_entry x
+  pub declared : is_variable_entry x ≡ true → Latest db variables_of w (declared_by x)
+  pub typed : typed_by x ≢ never → Latest db typed_words w (typed_by x)
+  pub untyped : typed_by x ≡ never → is_in w (flat_map typed_words db) ≡ false
+  pub otherwise : (c : Bytes)
+      → list_any (is_other c w) (flat_map typings_of db)
+      ≡ (not (nat_eq (typed_by x) never) && not (bytes_eq c (typecode_by x)))
+
+-- the entry of a word after statement n, and the statement of a label
+abbrev pub typed_after : ℕ → List Token → Bytes → Option Entry → Option Entry
+typed_after n (c ∷ v ∷ []) w x = if bytes_eq v.word w then typed_entry n c.word x else x
+typed_after n _ w x = x
+
+abbrev pub entry_after : ℕ → Statement → Bytes → Option Entry → Option Entry
+entry_after n (constants k xs d) w x = if is_in w (words xs) then declared_entry false n w x else x
+entry_after n (variables k xs d) w x = if is_in w (words xs) then declared_entry true n w x else x
+entry_after n (floating l k xs d) w x = typed_after n xs w x
+entry_after n _ w x = x
+
+abbrev pub label_after : ℕ → Option Token → Bytes → Option ℕ → Option ℕ
+label_after n None w o = o
+label_after n (Some l) w o = if bytes_eq l.word w then Some n else o

@@ -1,0 +1,245 @@
+-- What tests of lists find among active statements and names.
+use Rattle.std.proofs.Common.{cond, ◌≡◌, ℕ, zero, suc, ◌+◌, ◌==◌, ◌<◌, ◌≤◌, Bool, true, false, ◌&&◌}
+use Rattle.std.proofs.Common.{◌||◌, ◌⊎◌, inl, inr, List, [], ◌∷◌, map, take, length, flat_map}
+use Rattle.std.proofs.Common.{Option, Some, None, slice_get, refl, sym, ap, ◌∙◌, subst, true≢false}
+use Rattle.std.proofs.Common.{append-nil, arith, bytes_eq, ltb-true, eqb-true, eq-eqb}
+use Rattle.std.proofs.Common.{eq-or-lt_of_le}
+use Rattle.std.specs.List.{list_any, range_with_len, AllByRecursion, filter}
+use Rattle.std.proofs.lemmas.Bool.{or_cases, or_left, or_right, and_parts, and_from}
+use Rattle.std.proofs.lemmas.List.Folds.{list_any-append}
+use Rattle.std.proofs.lemmas.Slice.Eq.{bytes_eq-Decides}
+use Rattle.mm_spec.specs.Text.{Bytes, is_in}
+use Rattle.mm_spec.specs.Statement.{Statement}
+use Rattle.mm_spec.specs.Scope.{is_active, active, statement_at}
+use Rattle.mm_spec.specs.Frame.{formula_of, formula_at}
+use Rattle.mm_spec.specs.Derivation.{is_member}
+
+-- ---- tests of lists
+
+pub lone : (b : Bool) → (b || false) ≡ true → b ≡ true
+lone true e = refl
+lone false e = e
+
+pub any_flat_map : {X Y : Type 0} (p : Y → Bool) (f : X → List Y) (xs : List X)
+    → list_any p (flat_map f xs) ≡ list_any (λ x. list_any p (f x)) xs
+any_flat_map p f [] = refl
+any_flat_map p f (x ∷ xs) =
+    list_any-append p (f x) (flat_map f xs) ∙ ap (λ b. list_any p (f x) || b) (any_flat_map p f xs)
+
+pub any_map : {X Y : Type 0} (p : Y → Bool) (f : X → Y) (xs : List X)
+    → list_any p (map f xs) ≡ list_any (λ x. p (f x)) xs
+any_map p f [] = refl
+any_map p f (x ∷ xs) = ap (λ b. p (f x) || b) (any_map p f xs)
+
+pub any_filter : {X : Type 0} (t p : X → Bool) (xs : List X)
+    → list_any p (filter t xs) ≡ list_any (λ x. t x && p x) xs
+any_filter t p [] = refl
+any_filter {X} t p (x ∷ xs) = by (t x) (any_filter t p xs)
+  where
+    by : (b : Bool) → list_any p (filter t xs) ≡ list_any (λ y. t y && p y) xs
+        → list_any p (cond b (x ∷ filter t xs) (filter t xs))
+        ≡ ((b && p x) || list_any (λ y. t y && p y) xs)
+    by true r = ap (λ b. p x || b) r
+    by false r = r
+
+any_range : (p : ℕ → Bool) (n a : ℕ) → list_any p (range_with_len a n) ≡ true
+    → (i : ℕ) × (p i ≡ true)
+any_range p zero a e = absurd (true≢false (sym e))
+any_range p (suc n) a e =
+    by (or_cases (p a) (list_any p (range_with_len (a + 1) n)) e) (λ h. any_range p n (a + 1) h)
+  where
+    by : (p a ≡ true) ⊎ (list_any p (range_with_len (a + 1) n) ≡ true)
+        → (list_any p (range_with_len (a + 1) n) ≡ true → (i : ℕ) × (p i ≡ true))
+        → (i : ℕ) × (p i ≡ true)
+    by (inl h) on = (a, h)
+    by (inr h) on = on h
+
+range_any : (p : ℕ → Bool) (n a i : ℕ) → a ≤ i → i < a + n → p i ≡ true
+    → list_any p (range_with_len a n) ≡ true
+range_any p zero a i l h e = absurd (omega arith)
+range_any p (suc n) a i l h e =
+    by (eq-or-lt_of_le l) (λ s. range_any p n (a + 1) i (omega (arith, s)) (omega arith) e)
+  where
+    by : (a ≡ i) ⊎ (a < i) → (a < i → list_any p (range_with_len (a + 1) n) ≡ true)
+        → (p a || list_any p (range_with_len (a + 1) n)) ≡ true
+    by (inl s) on =
+        or_left (p a) (list_any p (range_with_len (a + 1) n)) (subst (λ x. p x ≡ true) (sym s) e)
+    by (inr s) on = or_right (p a) (list_any p (range_with_len (a + 1) n)) (on s)
+
+-- ---- members
+
+pub member_filter : (t : ℕ → Bool) (xs : List ℕ) (x : ℕ) → is_member (filter t xs) x ≡ true
+    → (t x ≡ true) × (is_member xs x ≡ true)
+member_filter t xs x e = go xs (sym (any_filter t (λ y. x == y) xs) ∙ e)
+  where
+    go : (ys : List ℕ) → list_any (λ y. t y && (x == y)) ys ≡ true
+        → (t x ≡ true) × (is_member ys x ≡ true)
+    go [] h = absurd (true≢false (sym h))
+    go (y ∷ ys) h =
+        by (or_cases (t y && (x == y)) (list_any (λ y. t y && (x == y)) ys) h) (λ k. go ys k)
+      where
+        by : ((t y && (x == y)) ≡ true) ⊎ (list_any (λ y. t y && (x == y)) ys ≡ true)
+            → (list_any (λ y. t y && (x == y)) ys ≡ true → (t x ≡ true) × (is_member ys x ≡ true))
+            → (t x ≡ true) × (((x == y) || is_member ys x) ≡ true)
+        by (inl k) on =
+            let p = and_parts (t y) (x == y) k in (
+              subst (λ z. t z ≡ true) (sym (eqb-true x y p.1)) p.0,
+              or_left (x == y)
+                  (is_member ys x) p.1,
+            )
+        by (inr k) on = let r = on k in (r.0, or_right (x == y) (is_member ys x) r.1)
+
+pub filter_member : (t : ℕ → Bool) (xs : List ℕ) (x : ℕ) → t x ≡ true → is_member xs x ≡ true
+    → is_member (filter t xs) x ≡ true
+filter_member t xs x e m = any_filter t (λ y. x == y) xs ∙ go xs m
+  where
+    go : (ys : List ℕ) → is_member ys x ≡ true → list_any (λ y. t y && (x == y)) ys ≡ true
+    go [] h = h
+    go (y ∷ ys) h = by (or_cases (x == y) (is_member ys x) h) (λ k. go ys k)
+      where
+        by : ((x == y) ≡ true) ⊎ (is_member ys x ≡ true)
+            → (is_member ys x ≡ true → list_any (λ y. t y && (x == y)) ys ≡ true)
+            → ((t y && (x == y)) || list_any (λ y. t y && (x == y)) ys) ≡ true
+        by (inl k) on =
+            or_left (t y && (x == y)) (list_any (λ y. t y && (x == y)) ys)
+            (and_from (t y) (x == y) (subst (λ z. t z ≡ true) (eqb-true x y k) e) k)
+        by (inr k) on = or_right (t y && (x == y)) (list_any (λ y. t y && (x == y)) ys) (on k)
+
+-- ---- what holds of each element
+
+pub each_member : (P : ℕ → Type 0) (xs : List ℕ) → ((x : ℕ) → is_member xs x ≡ true → P x)
+    → AllByRecursion P xs
+each_member P [] h = tt
+each_member P (x ∷ xs) h = (
+  h x (or_left (x == x) (is_member xs x) (eq-eqb x x refl)),
+  each_member P xs
+      (λ y m. h y (or_right (y == x) (is_member xs y) m)),
+)
+
+pub each_map : {X Y : Type 0} (P : Y → Type 0) (f : X → Y) (xs : List X)
+    → AllByRecursion (λ x. P (f x)) xs → AllByRecursion P (map f xs)
+each_map P f [] h = tt
+each_map P f (x ∷ xs) h = (h.0, each_map P f xs h.1)
+
+pub each_any : {X : Type 0} (P : X → Type 0) (xs : List X) → ((x : X) → P x) → AllByRecursion P xs
+each_any P [] h = tt
+each_any P (x ∷ xs) h = (h x, each_any P xs h)
+
+pub each_filter : {X : Type 0} (P : X → Type 0) (t : X → Bool) (xs : List X)
+    → AllByRecursion (λ x. t x ≡ true → P x) xs → AllByRecursion P (filter t xs)
+each_filter P t [] h = tt
+each_filter {X} P t (x ∷ xs) h = by (t x) h.0 (each_filter P t xs h.1)
+  where
+    by : (b : Bool) → (b ≡ true → P x) → AllByRecursion P (filter t xs)
+        → AllByRecursion P (cond b (x ∷ filter t xs) (filter t xs))
+    by true g r = (g refl, r)
+    by false g r = r
+
+-- ---- statements
+
+pub inside_of : (db : List Statement) (i : ℕ) (s : Statement) → slice_get db i ≡ Some s
+    → i < length db
+inside_of [] zero s e = absurd (cc)
+inside_of [] (suc i) s e = absurd (cc)
+inside_of (x ∷ db) zero s e = omega arith
+inside_of (x ∷ db) (suc i) s e = let h : i < length db = inside_of db i s e in omega arith
+
+pub statement_at_is : (db : List Statement) (i : ℕ) (s : Statement) → slice_get db i ≡ Some s
+    → statement_at db i ≡ s ∷ []
+statement_at_is db i s e = ap (λ o. elim o [ None ↦ [] | Some s ↦ s ∷ [] ]) e
+
+pub formula_at_is : (db : List Statement) (i : ℕ) (s : Statement) → slice_get db i ≡ Some s
+    → formula_at db i ≡ formula_of db s
+formula_at_is db i s e =
+    ap (flat_map (formula_of db)) (statement_at_is db i s e) ∙ append-nil (formula_of db s)
+
+pub found_at : (db : List Statement) (q : Statement → Bool) (i : ℕ)
+    → list_any q (statement_at db i) ≡ true
+    → (s : Statement) × (slice_get db i ≡ Some s) × (q s ≡ true)
+found_at db q i e = by (slice_get db i) refl e
+  where
+    by : (o : Option Statement) → slice_get db i ≡ o
+        → list_any q (elim o [ None ↦ [] | Some s ↦ s ∷ [] ]) ≡ true
+        → (s : Statement) × (slice_get db i ≡ Some s) × (q s ≡ true)
+    by None o e = absurd (true≢false (sym e))
+    by (Some s) o e = (s, o, lone (q s) e)
+
+pub at_found : (db : List Statement) (q : Statement → Bool) (i : ℕ) (s : Statement)
+    → slice_get db i ≡ Some s → q s ≡ true → list_any q (statement_at db i) ≡ true
+at_found db q i s e h = ap (list_any q) (statement_at_is db i s e) ∙ or_left (q s) false h
+
+pub is_before : (db : List Statement) (i k : ℕ) → is_active db i k ≡ true → i < k
+is_before db i k e = ltb-true i k (and_parts _ _ e).0
+
+pub found_active : (db : List Statement) (k : ℕ) (q : ℕ → Bool) → list_any q (active db k) ≡ true
+    → (i : ℕ) × (is_active db i k ≡ true) × (q i ≡ true)
+found_active db k q e =
+    let h =
+    any_range (λ i. is_active db i k && q i) k 0
+    (sym (any_filter (λ i. is_active db i k) q (range_with_len 0 k)) ∙ e) in
+    let p = and_parts (is_active db h.0 k) (q h.0) h.1 in
+    (h.0, p.0, p.1)
+
+pub active_found : (db : List Statement) (k : ℕ) (q : ℕ → Bool) (i : ℕ) → is_active db i k ≡ true
+    → q i ≡ true → list_any q (active db k) ≡ true
+active_found db k q i a e =
+    let l = is_before db i k a in
+    any_filter (λ i. is_active db i k) q (range_with_len 0 k)
+    ∙ range_any (λ i. is_active db i k && q i) k 0 i (omega arith) (omega arith)
+    (and_from (is_active db i k) (q i) a e)
+
+-- ---- names
+
+pub same_word : (v w : Bytes) → bytes_eq v w ≡ true → v ≡ w
+same_word v w e = (bytes_eq-Decides v w).0 e
+
+-- what declares a word
+pub declared : (f : Statement → List Bytes) (db : List Statement) (w : Bytes)
+    → is_in w (flat_map f db) ≡ true
+    → (i : ℕ) × (s : Statement) × (slice_get db i ≡ Some s) × (is_in w (f s) ≡ true)
+declared f [] w e = absurd (true≢false (sym e))
+declared f (x ∷ db) w e =
+    by (or_cases (is_in w (f x)) (is_in w (flat_map f db))
+    (sym (list_any-append (bytes_eq w) (f x) (flat_map f db)) ∙ e)) (λ h. declared f db w h)
+  where
+    by : (is_in w (f x) ≡ true) ⊎ (is_in w (flat_map f db) ≡ true)
+        → (is_in w (flat_map f db) ≡ true
+        → (i : ℕ) × (s : Statement) × (slice_get db i ≡ Some s) × (is_in w (f s) ≡ true))
+        → (i : ℕ) × (s : Statement) × (slice_get (x ∷ db) i ≡ Some s) × (is_in w (f s) ≡ true)
+    by (inl h) on = (0, x, refl, h)
+    by (inr h) on = let r = on h in (suc r.0, r.1, r.2, r.3)
+
+-- it is declared before each later place
+pub declares : (f : Statement → List Bytes) (db : List Statement) (k i : ℕ) (s : Statement)
+    → (w : Bytes)
+    → slice_get db i ≡ Some s → i < k → is_in w (f s) ≡ true
+    → is_in w (flat_map f (take k db)) ≡ true
+declares f [] k zero s w e h m = absurd (cc)
+declares f [] k (suc i) s w e h m = absurd (cc)
+declares f (x ∷ db) zero i s w e h m = absurd (omega arith)
+declares f (x ∷ db) (suc k) zero s w e h m =
+    let same : x ≡ s = cc in
+    list_any-append (bytes_eq w) (f x) (flat_map f (take k db))
+    ∙ or_left (is_in w (f x)) (is_in w (flat_map f (take k db)))
+    (subst (λ y. is_in w (f y) ≡ true) (sym same) m)
+declares f (x ∷ db) (suc k) (suc i) s w e h m =
+    list_any-append (bytes_eq w) (f x) (flat_map f (take k db))
+    ∙ or_right (is_in w (f x)) (is_in w (flat_map f (take k db)))
+    (declares f db k i s w e (omega arith) m)
+
+pub declared_before : (f : Statement → List Bytes) (db : List Statement) (k : ℕ) (w : Bytes)
+    → is_in w (flat_map f (take k db)) ≡ true → is_in w (flat_map f db) ≡ true
+declared_before f [] zero w e = e
+declared_before f [] (suc k) w e = e
+declared_before f (x ∷ db) zero w e = absurd (true≢false (sym e))
+declared_before f (x ∷ db) (suc k) w e =
+    list_any-append (bytes_eq w) (f x) (flat_map f db)
+    ∙ by (or_cases (is_in w (f x)) (is_in w (flat_map f (take k db)))
+    (sym (list_any-append (bytes_eq w) (f x) (flat_map f (take k db))) ∙ e))
+    (λ h. declared_before f db k w h)
+  where
+    by : (is_in w (f x) ≡ true) ⊎ (is_in w (flat_map f (take k db)) ≡ true)
+        → (is_in w (flat_map f (take k db)) ≡ true → is_in w (flat_map f db) ≡ true)
+        → (is_in w (f x) || is_in w (flat_map f db)) ≡ true
+    by (inl h) on = or_left (is_in w (f x)) (is_in w (flat_map f db)) h
+    by (inr h) on = or_right (is_in w (f x)) (is_in w (flat_map f db)) (on h)

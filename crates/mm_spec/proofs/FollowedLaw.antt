@@ -1,0 +1,230 @@
+-- The table of what is expected, token by token, goes through the tokens of each row.
+use Rattle.std.proofs.Common.{◌≡◌, ℕ, zero, suc, ◌+◌, ◌≤◌, ◌<◌, Bool, true, false, ◌&&◌, not, cond}
+use Rattle.std.proofs.Common.{List, [], ◌∷◌, ◌++◌, take, Option, Some, None, codes, count_by}
+use Rattle.std.proofs.Common.{flat_map, refl, sym, ap, ap₂, ◌∙◌, true≢false, arith, ◌||◌, ◌==◌}
+use Rattle.std.proofs.Common.{eqb-true, pred, zero-add}
+use Rattle.std.proofs.lemmas.List.Sums.{sum_by-append}
+use Rattle.std.specs.List.{list_all}
+use Rattle.mm_spec.specs.Text.{Bytes, Token, token, has_dollar, is_label, is_label_byte}
+use Rattle.mm_spec.specs.Laws.Table.{Class, constant, variable, disjoint_of, type_of, logical}
+use Rattle.mm_spec.specs.Laws.Table.{axiom_of, theorem_of, equals, dot, open_block, close_block}
+use Rattle.mm_spec.specs.Laws.Table.{plain, keyword, class}
+use Rattle.mm_spec.specs.Statement.{Statement, constants, variables, disjoint, floating, essential}
+use Rattle.mm_spec.specs.Statement.{axiomatic, provable, opening, closing, spelled, is_plain}
+use Rattle.mm_spec.specs.Statement.{is_whole, is_opening, is_closing, Begins}
+
+-- where the reading stands, with so many blocks open
+pub data State : Type 0 where
+  at_start at_label in_symbols in_formula in_proof : ℕ → State
+
+abbrev pub start_block : ℕ → Option State
+start_block zero = None
+start_block (suc d) = Some (at_start d)
+
+abbrev pub label_at_start : Bool → ℕ → Option State
+label_at_start true d = Some (at_label d)
+label_at_start false d = None
+
+abbrev pub next : State → Class → Bytes → Option State
+next (at_start d) constant w = Some (in_symbols d)
+next (at_start d) variable w = Some (in_symbols d)
+next (at_start d) disjoint_of w = Some (in_symbols d)
+next (at_start d) open_block w = Some (at_start (suc d))
+next (at_start d) close_block w = start_block d
+next (at_start d) plain w = label_at_start (is_label w) d
+next (at_label d) type_of w = Some (in_symbols d)
+next (at_label d) logical w = Some (in_symbols d)
+next (at_label d) axiom_of w = Some (in_symbols d)
+next (at_label d) theorem_of w = Some (in_formula d)
+next (in_symbols d) plain w = Some (in_symbols d)
+next (in_symbols d) dot w = Some (at_start d)
+next (in_formula d) plain w = Some (in_formula d)
+next (in_formula d) equals w = Some (in_proof d)
+next (in_proof d) plain w = Some (in_proof d)
+next (in_proof d) dot w = Some (at_start d)
+next _ _ w = None
+
+abbrev pub follow : Option State → List Token → Option State
+follow q [] = q
+follow None (t ∷ ts) = None
+follow (Some q) (t ∷ ts) = follow (next q (class t.word) t.word) ts
+
+pub follow_append : (ts us : List Token) (q : Option State)
+    → follow q (ts ++ us) ≡ follow (follow q ts) us
+follow_append [] us q = refl
+follow_append (t ∷ ts) [] None = refl
+follow_append (t ∷ ts) (u ∷ us) None = refl
+follow_append (t ∷ ts) us (Some q) = follow_append ts us (next q (class t.word) t.word)
+
+-- ---- whole statements are followed
+
+pub and_first : (a b : Bool) → (a && b) ≡ true → a ≡ true
+and_first true b e = refl
+and_first false b e = e
+
+pub and_second : (a b : Bool) → (a && b) ≡ true → b ≡ true
+and_second true b e = e
+and_second false b e = absurd (true≢false (sym e))
+
+pub plain_word : (w : Bytes) → not (has_dollar w) ≡ true → class w ≡ plain
+plain_word w e = go (has_dollar w) e
+  where
+    go : (b : Bool) → not b ≡ true → elim b [ true ↦ keyword w | false ↦ plain ] ≡ plain
+    go true e = absurd (true≢false (sym e))
+    go false e = refl
+
+-- a state in which plain words stay
+abbrev Stays : State → Type 0
+Stays q = (w : Bytes) → next q plain w ≡ Some q
+
+follow_plain : (q : State) → Stays q → (xs : List Token) → is_plain xs ≡ true → (ts : List Token)
+    → follow (Some q) (xs ++ ts) ≡ follow (Some q) ts
+follow_plain q stays [] e ts = refl
+follow_plain q stays (x ∷ xs) e ts =
+    ap (λ k. follow (next q k x.word) (xs ++ ts))
+    (plain_word x.word (and_first (not (has_dollar x.word)) (is_plain xs) e))
+    ∙ ap (λ o. follow o (xs ++ ts)) (stays x.word)
+    ∙ follow_plain q stays xs (and_second (not (has_dollar x.word)) (is_plain xs) e) ts
+
+no_dollar : (b : ℕ) → is_label_byte b ≡ true → (b == 36) ≡ false
+no_dollar b e = go (b == 36) refl
+  where
+    go : (t : Bool) → (b == 36) ≡ t → t ≡ false
+    go true h = absurd (true≢false (sym e ∙ ap is_label_byte (eqb-true b 36 h)))
+    go false h = refl
+
+pub label_plain : (w : Bytes) → is_label w ≡ true → has_dollar w ≡ false
+label_plain [] e = refl
+label_plain (b ∷ w) e =
+    ap₂ (λ x y. x || y) (no_dollar b (and_first (is_label_byte b) (is_label w) e))
+    (label_plain w (and_second (is_label_byte b) (is_label w) e))
+
+follow_label : (d : ℕ) (l : Token) → is_label l.word ≡ true → (ts : List Token)
+    → follow (Some (at_start d)) (l ∷ ts) ≡ follow (Some (at_label d)) ts
+follow_label d l e ts =
+    ap (λ k. follow (next (at_start d) k l.word) ts)
+    (plain_word l.word (ap not (label_plain l.word e)))
+    ∙ ap (λ b. follow (label_at_start b d) ts) e
+
+-- the end of a statement without a proof
+body : (d : ℕ) (xs : List Token) (k : ℕ) → is_plain xs ≡ true
+    → follow (Some (in_symbols d)) (xs ++ token k (codes "$.") ∷ []) ≡ Some (at_start d)
+body d xs k e = follow_plain (in_symbols d) (λ w. refl) xs e (token k (codes "$.") ∷ [])
+
+whole_body : (xs : List Token) → (true && is_plain xs && true) ≡ true → is_plain xs ≡ true
+whole_body xs e = and_first (is_plain xs) true e
+
+-- where a statement leads
+abbrev pub depth_following : Statement → ℕ → ℕ
+depth_following (opening k) d = suc d
+depth_following (closing k) d = pred d
+depth_following _ d = d
+
+statement_followed : (s : Statement) (d : ℕ) → is_whole s ≡ true → (is_closing s ≡ true → 0 < d)
+    → follow (Some (at_start d)) (spelled s) ≡ Some (at_start (depth_following s d))
+statement_followed (constants k xs t) d e h = body d xs t (whole_body xs e)
+statement_followed (variables k xs t) d e h = body d xs t (whole_body xs e)
+statement_followed (disjoint k xs t) d e h = body d xs t (whole_body xs e)
+statement_followed (floating l k xs t) d e h =
+    let f = and_first (is_label l.word && is_plain xs) true e in
+    follow_label d l (and_first (is_label l.word) (is_plain xs) f)
+    (token k (codes "$f") ∷ (xs ++ token t (codes "$.") ∷ []))
+    ∙ body d xs t (and_second (is_label l.word) (is_plain xs) f)
+statement_followed (essential l k xs t) d e h =
+    let f = and_first (is_label l.word && is_plain xs) true e in
+    follow_label d l (and_first (is_label l.word) (is_plain xs) f)
+    (token k (codes "$e") ∷ (xs ++ token t (codes "$.") ∷ []))
+    ∙ body d xs t (and_second (is_label l.word) (is_plain xs) f)
+statement_followed (axiomatic l k xs t) d e h =
+    let f = and_first (is_label l.word && is_plain xs) true e in
+    follow_label d l (and_first (is_label l.word) (is_plain xs) f)
+    (token k (codes "$a") ∷ (xs ++ token t (codes "$.") ∷ []))
+    ∙ body d xs t (and_second (is_label l.word) (is_plain xs) f)
+statement_followed (provable l k xs q ps t) d e h =
+    let f = and_first (is_label l.word && is_plain xs) (is_plain ps) e in
+    follow_label d l (and_first (is_label l.word) (is_plain xs) f)
+    (token k (codes "$p") ∷ (xs ++ token q (codes "$=") ∷ (ps ++ token t (codes "$.") ∷ [])))
+    ∙ follow_plain (in_formula d) (λ w. refl) xs (and_second (is_label l.word) (is_plain xs) f)
+    (token q (codes "$=") ∷ (ps ++ token t (codes "$.") ∷ []))
+    ∙ follow_plain (in_proof d) (λ w. refl) ps
+    (and_second (is_label l.word && is_plain xs) (is_plain ps) e) (token t (codes "$.") ∷ [])
+statement_followed (opening k) d e h = refl
+statement_followed (closing k) zero e h = absurd (let x = h refl in omega arith)
+statement_followed (closing k) (suc d) e h = refl
+
+-- how the count of blocks goes on
+pub counted : (s : Statement) (d : ℕ) → (is_closing s ≡ true → 0 < d)
+    → depth_following s d + cond (is_closing s) 1 0 ≡ d + cond (is_opening s) 1 0
+counted (constants k xs t) d h = refl
+counted (variables k xs t) d h = refl
+counted (disjoint k xs t) d h = refl
+counted (floating l k xs t) d h = refl
+counted (essential l k xs t) d h = refl
+counted (axiomatic l k xs t) d h = refl
+counted (provable l k xs q ps t) d h = refl
+counted (opening k) d h = omega arith
+counted (closing k) zero h = absurd (let x = h refl in omega arith)
+counted (closing k) (suc d) h = omega arith
+
+pub count_one : (p : Statement → Bool) (s : Statement) (row : List Statement)
+    → count_by p (s ∷ row) ≡ cond (p s) 1 0 + count_by p row
+count_one p s row =
+    sum_by-append (λ x. cond (p x) 1 0) (s ∷ []) row
+    ∙ ap (λ n. n + count_by p row) (zero-add (cond (p s) 1 0))
+
+pub row_followed : (row : List Statement) (d : ℕ) → list_all is_whole row ≡ true
+    → ((n : ℕ) → count_by is_closing (take n row) ≤ d + count_by is_opening (take n row))
+    → (e : ℕ) × (follow (Some (at_start d)) (flat_map spelled row) ≡ Some (at_start e))
+    × (e + count_by is_closing row ≡ d + count_by is_opening row)
+row_followed [] d w n = (d, refl, refl)
+row_followed (s ∷ row) d w n =
+    let first : is_closing s ≡ true → 0 < d = closes_one s d (n 1) in
+    let step = counted s d first in
+    let rest =
+    row_followed row (depth_following s d) (and_second (is_whole s) (list_all is_whole row) w)
+    (λ k. fewer (depth_following s d) (take k row) (n (suc k)) step) in (
+      rest.0,
+      follow_append (spelled s) (flat_map spelled row) (Some (at_start d))
+          ∙ ap (λ q. follow q (flat_map spelled row))
+          (statement_followed s d (and_first (is_whole s) (list_all is_whole row) w) first)
+          ∙ rest.1,
+      total rest.0 (depth_following s d) rest.2 step,
+    )
+  where
+    closes_one : (s : Statement) (d : ℕ)
+        → count_by is_closing (s ∷ []) ≤ d + count_by is_opening (s ∷ []) → is_closing s ≡ true
+        → 0 < d
+    closes_one (closing k) d h e = omega (arith, h)
+    closes_one _ d h e = absurd (true≢false (sym e))
+
+    total : (e m : ℕ) → e + count_by is_closing row ≡ m + count_by is_opening row
+        → m + cond (is_closing s) 1 0 ≡ d + cond (is_opening s) 1 0
+        → e + count_by is_closing (s ∷ row) ≡ d + count_by is_opening (s ∷ row)
+    total e m h k = omega (arith, h, k, count_one is_closing s row, count_one is_opening s row)
+
+    fewer : (m : ℕ) (front : List Statement)
+        → count_by is_closing (s ∷ front) ≤ d + count_by is_opening (s ∷ front)
+        → m + cond (is_closing s) 1 0 ≡ d + cond (is_opening s) 1 0
+        → count_by is_closing front ≤ m + count_by is_opening front
+    fewer m front h k =
+        omega (arith, h, k, count_one is_closing s front, count_one is_opening s front)
+
+pub no_way_back : (ts : List Token) (q : State) → ¬ (follow None ts ≡ Some q)
+no_way_back [] q e = cc
+no_way_back (t ∷ ts) q e = cc
+
+-- tokens with which some row begins are followed
+pub begins_followed : (ts : List Token) → Begins ts
+    → (q : State) × (follow (Some (at_start 0)) ts ≡ Some q)
+begins_followed ts b = go (follow (Some (at_start 0)) ts) refl
+  where
+    r : (e : ℕ) × (follow (Some (at_start 0)) (flat_map spelled b.0) ≡ Some (at_start e))
+        × (e + count_by is_closing b.0 ≡ 0 + count_by is_opening b.0)
+    r = row_followed b.0 0 b.1.whole (λ n. let m = b.1.nested n in omega (arith, m))
+
+    go : (o : Option State) → follow (Some (at_start 0)) ts ≡ o → (q : State) × (o ≡ Some q)
+    go None e =
+        absurd (no_way_back b.2 (at_start r.0)
+        (sym (ap (λ o. follow o b.2) e) ∙ sym (follow_append ts b.2 (Some (at_start 0)))
+        ∙ ap (follow (Some (at_start 0))) (sym b.3) ∙ r.1))
+    go (Some q) e = (q, refl)

@@ -1,0 +1,414 @@
+-- Each step of a proof without reading faults is a label that stands for something, or a mark of an
+-- earlier step.
+use Rattle.std.proofs.Common.{◌≡◌, ℕ, zero, suc, ◌+◌, ◌-◌, ◌*◌, ◌==◌, ◌<◌, ◌≤◌, Bool, true, false}
+use Rattle.std.proofs.Common.{◌&&◌, ◌||◌, ◌⊎◌, inl, inr, List, [], ◌∷◌, ◌++◌, map, length, flat_map}
+use Rattle.std.proofs.Common.{Option, Some, None, slice_get, nat_le, nat_lt, bytes_eq, codes, refl}
+use Rattle.std.proofs.Common.{sym, ap, ◌∙◌, subst, true≢false, arith, leb-true, ltb-false, eqb-true}
+use Rattle.std.proofs.Common.{length-append}
+use Rattle.std.specs.List.{list_any, range_with_len, AllByRecursion}
+use Rattle.std.proofs.lemmas.Bool.{or_cases, and_parts, eqb-false}
+use Rattle.mm_spec.specs.Text.{Bytes, Token, Fault, fault}
+use Rattle.mm_spec.specs.Statement.{Statement, floating, essential, axiomatic, provable}
+use Rattle.mm_spec.specs.Scope.{is_active, active, statement_at}
+use Rattle.mm_spec.specs.Lawful.{when, at}
+use Rattle.mm_spec.specs.Frame.{formula_at, is_floating, is_essential, mandatory_variables}
+use Rattle.mm_spec.specs.Frame.{mandatory_hypotheses}
+use Rattle.mm_spec.specs.Derivation.{Rule, is_member}
+use Rattle.mm_spec.specs.Steps.{Step, PlacedStep, placed, label, marked}
+use Rattle.mm_spec.specs.NormalProof.{is_labelled, usable, normal_steps, normal_faults}
+use Rattle.mm_spec.specs.NormalProof.{proof_label_faults}
+use Rattle.mm_spec.specs.CompressedProof.{Compressed, bracketed, Letter, letters_of, Group, is_last}
+use Rattle.mm_spec.specs.CompressedProof.{groups, value, starts_at, step_of, group_steps}
+use Rattle.mm_spec.specs.CompressedProof.{group_faults, letter_faults, compressed_faults}
+use Rattle.mm_spec.specs.CompressedProof.{compressed_steps}
+use Rattle.mm_spec.specs.Proof.{steps, reading_faults}
+use Rattle.mm_spec.specs.Citation.{rule_of, rule_at, context_at, steps_at, reading_faults_at}
+use Rattle.mm_spec.specs.Laws.Complete.{IsFine}
+use Rattle.mm_spec.specs.declared.Code.TheVariants.{OpenBrackets, OpenNumber, MarkBeforeStep}
+use Rattle.mm_spec.specs.declared.Code.TheVariants.{NumberTooLarge, UnusableLabel, IncompleteProof}
+use Rattle.mm_spec.specs.declared.Code.TheVariants.{BadLetter}
+use Rattle.mm_spec.specs.Laws.Stack.{IsGood, AreGoodSteps, IsGoodStep}
+use Rattle.mm_spec.proofs.FindsLaw.{each_any, each_filter, found_at}
+use Rattle.mm_spec.proofs.FaultlessLaw.{nil_first, nil_second, at_none, when_none}
+
+abbrev bare : List PlacedStep → List Step
+bare ps = map (λ p. p.step) ps
+
+-- ---- lists
+
+each_append : {X : Type 0} (P : X → Type 0) (xs ys : List X) → AllByRecursion P xs
+    → AllByRecursion P ys → AllByRecursion P (xs ++ ys)
+each_append P [] ys h k = k
+each_append P (x ∷ xs) ys h k = (h.0, each_append P xs ys h.1 k)
+
+each_flat : {X Y : Type 0} (P : Y → Type 0) (f : X → List Y) (xs : List X)
+    → ((x : X) → AllByRecursion P (f x)) → AllByRecursion P (flat_map f xs)
+each_flat P f [] h = tt
+each_flat P f (x ∷ xs) h = each_append P (f x) (flat_map f xs) (h x) (each_flat P f xs h)
+
+each_get : {X : Type 0} (P : X → Type 0) (xs : List X) (n : ℕ) (x : X) → AllByRecursion P xs
+    → slice_get xs n ≡ Some x → P x
+each_get P [] zero x h e = absurd (cc)
+each_get P [] (suc n) x h e = absurd (cc)
+each_get P (y ∷ xs) zero x h e = let same : y ≡ x = cc in subst P same h.0
+each_get P (y ∷ xs) (suc n) x h e = each_get P xs n x h.1 e
+
+get_none : {X : Type 0} (xs : List X) (n : ℕ) → slice_get xs n ≡ None → length xs ≤ n
+get_none [] n e = omega arith
+get_none (x ∷ xs) zero e = absurd (cc)
+get_none (x ∷ xs) (suc n) e = let h = get_none xs n e in omega arith
+
+-- ---- labels
+
+abbrev has_rule : Statement → Bool
+has_rule (floating l k xs d) = true
+has_rule (essential l k xs d) = true
+has_rule (axiomatic l k xs d) = true
+has_rule (provable l k xs e ps d) = true
+has_rule _ = false
+
+labelled_rule : (w : Bytes) (s : Statement) → is_labelled w s ≡ true → has_rule s ≡ true
+labelled_rule w (floating l k xs d) e = refl
+labelled_rule w (essential l k xs d) e = refl
+labelled_rule w (axiomatic l k xs d) e = refl
+labelled_rule w (provable l k xs e ps d) h = refl
+labelled_rule w _ e = absurd (true≢false (sym e))
+
+floating_rule : (s : Statement) → is_floating s ≡ true → has_rule s ≡ true
+floating_rule (floating l k xs d) e = refl
+floating_rule _ e = absurd (true≢false (sym e))
+
+essential_rule : (s : Statement) → is_essential s ≡ true → has_rule s ≡ true
+essential_rule (essential l k xs d) e = refl
+essential_rule _ e = absurd (true≢false (sym e))
+
+positive : (n b : ℕ) → 65 ≤ b → 0 < n * 20 + (b - 64)
+positive n b h = omega arith
+
+-- each label is usable
+each_usable : (db : List Statement) (k : ℕ) (ts : List Token)
+    → flat_map (proof_label_faults db k) ts ≡ []
+    → length ts ≤ length (flat_map (λ t. usable db k t.word) ts)
+each_usable db k [] e = omega arith
+each_usable db k (t ∷ ts) e =
+    by (usable db k t.word)
+    (nil_first (proof_label_faults db k t) (flat_map (proof_label_faults db k) ts) e)
+    (each_usable db k ts
+    (nil_second (proof_label_faults db k t) (flat_map (proof_label_faults db k) ts) e))
+  where
+    more : List ℕ
+    more = flat_map (λ t. usable db k t.word) ts
+
+    by : (js : List ℕ)
+        → ◌≡◌ {A = List Fault} (elim js [ [] ↦ fault t.at UnusableLabel ∷ [] | j ∷ js ↦ [] ]) []
+        → length ts ≤ length more → suc (length ts) ≤ length (js ++ more)
+    by [] h l = absurd (cc)
+    by (j ∷ js) h l = omega (arith, length-append js more)
+
+module _ (db : List Statement) (k : ℕ)
+    (fine : (l : ℕ) → IsFine (context_at db k) (rule_at db k l)) where
+  abbrev IsGoodLabel : ℕ → Type 0
+  IsGoodLabel j = IsGood (context_at db k) (rule_at db k j)
+
+  good_label : (j : ℕ) (s : Statement) → is_active db j k ≡ true → slice_get db j ≡ Some s
+      → has_rule s ≡ true → IsGoodLabel j
+  good_label j s a e h =
+      subst (IsGood (context_at db k)) (sym rule)
+      (by s h (subst (IsFine (context_at db k)) rule (fine j)))
+    where
+      stated : Option Statement → Option Rule
+      stated o = elim o [ None ↦ None | Some s ↦ rule_of db j s ]
+
+      if_active : Bool → Option Rule
+      if_active b =
+          elim b [
+            | false ↦ None
+            | true ↦ elim (slice_get db j) [ None ↦ None | Some s ↦ rule_of db j s ]
+          ]
+
+      rule : rule_at db k j ≡ rule_of db j s
+      rule = ap if_active a ∙ ap stated e
+
+      by : (s : Statement) → has_rule s ≡ true → IsFine (context_at db k) (rule_of db j s)
+          → IsGood (context_at db k) (rule_of db j s)
+      by (floating l p xs d) h f = tt
+      by (essential l p xs d) h f = tt
+      by (axiomatic l p xs d) h f = f
+      by (provable l p xs q ps d) h f = f
+      by _ h f = absurd (true≢false (sym h))
+
+  usable_good : (w : Bytes) → AllByRecursion IsGoodLabel (usable db k w)
+  usable_good w =
+      each_filter IsGoodLabel test (range_with_len 0 k)
+      (each_any (λ j. test j ≡ true → IsGoodLabel j) (range_with_len 0 k) good)
+    where
+      test : ℕ → Bool
+      test j = is_active db j k && list_any (is_labelled w) (statement_at db j)
+
+      good : (j : ℕ) → test j ≡ true → IsGoodLabel j
+      good j e =
+          let p = and_parts (is_active db j k) (list_any (is_labelled w) (statement_at db j)) e in
+          let s = found_at db (is_labelled w) j p.1 in
+          good_label j s.0 p.0 s.1 (labelled_rule w s.0 s.2)
+
+  mandatory_good : AllByRecursion IsGoodLabel (mandatory_hypotheses db k)
+  mandatory_good =
+      each_filter IsGoodLabel test (active db k)
+      (each_filter (λ j. test j ≡ true → IsGoodLabel j) (λ j. is_active db j k)
+      (range_with_len 0 k)
+      (each_any (λ j. is_active db j k ≡ true → test j ≡ true → IsGoodLabel j)
+      (range_with_len 0 k) good))
+    where
+      test : ℕ → Bool
+      test j =
+          list_any is_essential (statement_at db j)
+          || (list_any is_floating (statement_at db j)
+          && list_any (is_member (mandatory_variables db k)) (formula_at db j))
+
+      good : (j : ℕ) → is_active db j k ≡ true → test j ≡ true → IsGoodLabel j
+      good j a t =
+          by (or_cases (list_any is_essential (statement_at db j))
+          (list_any is_floating (statement_at db j)
+          && list_any (is_member (mandatory_variables db k)) (formula_at db j)) t)
+        where
+          by : (list_any is_essential (statement_at db j) ≡ true)
+              ⊎ ((list_any is_floating (statement_at db j)
+              && list_any (is_member (mandatory_variables db k)) (formula_at db j))
+              ≡ true)
+              → IsGoodLabel j
+          by (inl h) =
+              let s = found_at db is_essential j h in
+              good_label j s.0 a s.1 (essential_rule s.0 s.2)
+          by (inr h) =
+              let s =
+              found_at db is_floating j
+              (and_parts (list_any is_floating (statement_at db j))
+              (list_any (is_member (mandatory_variables db k)) (formula_at db j)) h).0 in
+              good_label j s.0 a s.1 (floating_rule s.0 s.2)
+
+  -- ---- normal proofs
+
+  good_row : (js : List ℕ) (p n : ℕ) (rest : List PlacedStep) → AllByRecursion IsGoodLabel js
+      → ((m : ℕ) → AreGoodSteps (context_at db k) m (bare rest))
+      → AreGoodSteps (context_at db k) n (bare (map (λ j. placed p (label j)) js ++ rest))
+  good_row [] p n rest h r = r n
+  good_row (j ∷ js) p n rest h r = (h.0, good_row js p (suc n) rest h.1 r)
+
+  normal_good : (ts : List Token) (n : ℕ)
+      → AreGoodSteps (context_at db k) n (bare (normal_steps db k ts))
+  normal_good [] n = tt
+  normal_good (t ∷ ts) n =
+      good_row (usable db k t.word) t.at n (normal_steps db k ts) (usable_good t.word)
+      (λ m. normal_good ts m)
+
+  -- ---- compressed proofs
+
+  -- a number stands for a label, or for a mark of a step before it
+  number_good : (labels marks : List ℕ) (count many v : ℕ) → AllByRecursion IsGoodLabel labels
+      → AllByRecursion (λ i. i < count) marks → many ≤ length labels → 0 < v
+      → v ≤ many + length marks
+      → (s : Step) × (step_of labels marks v ≡ s ∷ []) × IsGoodStep (context_at db k) count s
+  number_good labels marks count many zero l m h z u = absurd (omega arith)
+  number_good labels marks count many (suc n) l m h z u =
+      by (slice_get labels n) refl (slice_get marks (n - length labels)) refl
+    where
+      out : Option ℕ → Option ℕ → List Step
+      out a b =
+          elim a [ Some j ↦ label j ∷ [] | None ↦ elim b [ Some i ↦ marked i ∷ [] | None ↦ [] ] ]
+
+      by : (a : Option ℕ) → slice_get labels n ≡ a → (b : Option ℕ)
+          → slice_get marks (n - length labels) ≡ b
+          → (s : Step) × (out a b ≡ s ∷ []) × IsGoodStep (context_at db k) count s
+      by (Some j) e b f = (label j, refl, each_get IsGoodLabel labels n j l e)
+      by None e (Some i) f =
+          (marked i, refl, each_get (λ i. i < count) marks (n - length labels) i m f)
+      by None e None f =
+          let x = get_none labels n e in
+          let y = get_none marks (n - length labels) f in
+          absurd (omega arith)
+
+  groups_good : (gs : List Group) (labels marks : List ℕ) (many count : ℕ)
+      → AllByRecursion IsGoodLabel labels → AllByRecursion (λ i. i < count) marks
+      → many ≤ length labels → group_faults many (length marks) count gs ≡ []
+      → AreGoodSteps (context_at db k) count (bare (group_steps labels marks count gs))
+  groups_good [] labels marks many count l m h f = tt
+  groups_good (g ∷ gs) labels marks many count l m h f =
+      by (is_last g.last.byte) refl (g.last.byte == 90) refl f
+      (λ e. groups_good gs labels marks many (count + 1) l (later marks m) h e)
+      (λ p e. groups_good gs labels (marks ++ (count - 1) ∷ []) many count l
+      (each_append (λ i. i < count) marks ((count - 1) ∷ []) m (omega arith, tt)) h
+      (let same : length marks + 1
+      ≡ length (marks ++ (count - 1) ∷ []) = omega
+      (arith, length-append marks ((count - 1) ∷ [])) in
+      subst (λ z. group_faults many z count gs ≡ []) same e))
+    where
+      later : (xs : List ℕ) → AllByRecursion (λ i. i < count) xs
+          → AllByRecursion (λ i. i < count + 1) xs
+      later [] h = tt
+      later (x ∷ xs) h = let b = h.0 in (omega arith, later xs h.1)
+
+      first : Bool → Bool → List Fault
+      first a b = elim a [
+        | true ↦ at (starts_at g) (when (nat_lt (many + length marks) (value g)) NumberTooLarge)
+        | false ↦ elim b [
+          | true ↦ at g.last.at
+              (when (nat_lt 0 (length g.early)) OpenNumber ++ when (count == 0) MarkBeforeStep)
+          | false ↦ at g.last.at
+              (elim (g.last.byte == 63) [ true ↦ IncompleteProof ∷ [] | false ↦ BadLetter ∷ [] ])
+        ]
+      ]
+
+      second : Bool → List Fault
+      second b =
+          elim b [
+            | true ↦ group_faults many (length marks + 1) count gs
+            | false ↦ group_faults many (length marks) (count + 1) gs
+          ]
+
+      out : Bool → List PlacedStep
+      out a = elim a [
+        | true ↦ map (placed (starts_at g)) (step_of labels marks (value g))
+            ++ group_steps labels marks (count + 1) gs
+        | false ↦ group_steps labels (marks ++ (count - 1) ∷ []) count gs
+      ]
+
+      other : (b : Bool)
+          → ¬ (at g.last.at (elim b [ true ↦ IncompleteProof ∷ [] | false ↦ BadLetter ∷ [] ]) ≡ [])
+      other true e = cc
+      other false e = cc
+
+      by : (a : Bool) → is_last g.last.byte ≡ a → (b : Bool) → (g.last.byte == 90) ≡ b
+          → first a b ++ second b ≡ []
+          → (group_faults many (length marks) (count + 1) gs ≡ []
+          → AreGoodSteps (context_at db k) (count + 1)
+          (bare (group_steps labels marks (count + 1) gs)))
+          → (0 < count → group_faults many (length marks + 1) count gs ≡ []
+          → AreGoodSteps (context_at db k) count
+          (bare (group_steps labels (marks ++ (count - 1) ∷ []) count gs)))
+          → AreGoodSteps (context_at db k) count (bare (out a))
+      by true p true q f on marking =
+          let u =
+          leb-true g.last.byte 84 (and_parts (nat_le 65 g.last.byte) (nat_le g.last.byte 84) p).1 in
+          let v = eqb-true g.last.byte 90 q in
+          absurd (omega arith)
+      by true p false q f on marking =
+          let low =
+          leb-true 65 g.last.byte (and_parts (nat_le 65 g.last.byte) (nat_le g.last.byte 84) p).0 in
+          let none =
+          when_none (nat_lt (many + length marks) (value g)) NumberTooLarge
+          (at_none (starts_at g) (when (nat_lt (many + length marks) (value g)) NumberTooLarge)
+          (nil_first (first true false) (second false) f)) in
+          let s =
+          number_good labels marks count many (value g) l m h (positive _ g.last.byte low)
+          (ltb-false (many + length marks) (value g) none) in
+          let next = on (nil_second (first true false) (second false) f) in
+          let one : suc count ≡ count + 1 = omega arith in
+          subst (λ ss. AreGoodSteps (context_at db k) count
+          (bare (map (placed (starts_at g)) ss ++ group_steps labels marks (count + 1) gs)))
+          (sym s.1) (
+            s.2,
+            subst
+                (λ n. AreGoodSteps (context_at db k) n
+                (bare (group_steps labels marks (count + 1) gs))) (sym one) next,
+          )
+      by false p true q f on marking =
+          let codes =
+          at_none g.last.at
+          (when (nat_lt 0 (length g.early)) OpenNumber ++ when (count == 0) MarkBeforeStep)
+          (nil_first (first false true) (second true) f) in
+          let none =
+          eqb-false count 0
+          (when_none (count == 0) MarkBeforeStep
+          (nil_second (when (nat_lt 0 (length g.early)) OpenNumber)
+          (when (count == 0) MarkBeforeStep) codes)) in
+          marking (omega arith) (nil_second (first false true) (second true) f)
+      by false p false q f on marking =
+          absurd (other (g.last.byte == 63) (nil_first (first false false) (second false) f))
+
+  compressed_good : (end : ℕ) (p : Compressed) → compressed_faults db k end p ≡ []
+      → AreGoodSteps (context_at db k) 0 (bare (compressed_steps db k p))
+  compressed_good end p f =
+      by p.letters (nil_second (flat_map (proof_label_faults db k) p.labels) (rest p.letters) f)
+    where
+      labels : List ℕ
+      labels = mandatory_hypotheses db k ++ flat_map (λ t. usable db k t.word) p.labels
+
+      many : ℕ
+      many = length (mandatory_hypotheses db k) + length p.labels
+
+      rest : Option (List Token) → List Fault
+      rest o =
+          elim o [
+            | None ↦ fault end OpenBrackets ∷ []
+            | Some ts ↦ letter_faults many end (letters_of ts)
+          ]
+
+      out : Option (List Token) → List PlacedStep
+      out o = elim o [ None ↦ [] | Some ts ↦ group_steps labels [] 0 (groups [] (letters_of ts)).0 ]
+
+      good : AllByRecursion IsGoodLabel labels
+      good =
+          each_append IsGoodLabel (mandatory_hypotheses db k)
+          (flat_map (λ t. usable db k t.word) p.labels) mandatory_good
+          (each_flat IsGoodLabel (λ t. usable db k t.word) p.labels (λ t. usable_good t.word))
+
+      enough : many ≤ length labels
+      enough =
+          omega (
+            arith,
+            length-append (mandatory_hypotheses db k)
+                (flat_map (λ t. usable db k t.word) p.labels),
+            each_usable db k p.labels
+                (nil_first (flat_map (proof_label_faults db k) p.labels) (rest p.letters) f),
+          )
+
+      lettered : (xs : List Letter) → letter_faults many end xs ≡ []
+          → AreGoodSteps (context_at db k) 0 (bare (group_steps labels [] 0 (groups [] xs).0))
+      lettered [] e = tt
+      lettered (x ∷ xs) e =
+          groups_good (groups [] (x ∷ xs)).0 labels [] many 0 good tt enough
+          (nil_first (group_faults many 0 0 (groups [] (x ∷ xs)).0)
+          (at end (when (nat_lt 0 (length (groups [] (x ∷ xs)).1)) OpenNumber)) e)
+
+      by : (o : Option (List Token)) → rest o ≡ [] → AreGoodSteps (context_at db k) 0 (bare (out o))
+      by None e = tt
+      by (Some ts) e = lettered (letters_of ts) e
+
+  -- ---- the proof of a theorem
+
+  proof_good : (end : ℕ) (ts : List Token) → reading_faults db k end ts ≡ []
+      → AreGoodSteps (context_at db k) 0 (bare (steps db k ts))
+  proof_good end [] e = tt
+  proof_good end (t ∷ ts) e = by (bytes_eq t.word (codes "(")) e
+    where
+      faults : Bool → List Fault
+      faults b =
+          elim b [
+            | true ↦ compressed_faults db k end (bracketed ts)
+            | false ↦ normal_faults db k end (t ∷ ts)
+          ]
+
+      out : Bool → List PlacedStep
+      out b =
+          elim b [
+            | true ↦ compressed_steps db k (bracketed ts)
+            | false ↦ normal_steps db k (t ∷ ts)
+          ]
+
+      by : (b : Bool) → faults b ≡ [] → AreGoodSteps (context_at db k) 0 (bare (out b))
+      by true e = compressed_good end (bracketed ts) e
+      by false e = normal_good (t ∷ ts) 0
+
+  pub good_steps : reading_faults_at db k ≡ []
+      → AreGoodSteps (context_at db k) 0 (bare (steps_at db k))
+  good_steps e = by (slice_get db k) e
+    where
+      faults : Option Statement → List Fault
+      faults o = elim o [ Some (provable l p xs q ps d) ↦ reading_faults db k d ps | _ ↦ [] ]
+
+      out : Option Statement → List PlacedStep
+      out o = elim o [ Some (provable l p xs q ps d) ↦ steps db k ps | _ ↦ [] ]
+
+      by : (o : Option Statement) → faults o ≡ [] → AreGoodSteps (context_at db k) 0 (bare (out o))
+      by (Some (provable l p xs q ps d)) e = proof_good d ps e
+      by _ e = tt

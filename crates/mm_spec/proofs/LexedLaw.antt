@@ -1,0 +1,26 @@
+-- A text is too long, or its words are read.
+use Rattle.std.proofs.Common.{◌≡◌, ℕ, ◌<◌, ◌≤◌, List, [], length, Some, None, refl, lt-ltb, le-ltb}
+use Rattle.mm_spec.specs.Words.{words_of}
+use Rattle.mm_spec.specs.Readings.{Reading, reading}
+use Rattle.mm_spec.specs.Lexed.{tokens_of, lexical_fault, fault_in}
+use Rattle.mm_spec.specs.declared.Code.TheVariants.{TextTooLong}
+use Rattle.mm_spec.specs.Limits.{text_limit}
+
+pub tokens_of_long : (text : List ℕ) → text_limit < length text → tokens_of text ≡ []
+unfolding tokens_of
+tokens_of_long text h = rw (lt-ltb text_limit (length text) h) refl
+
+pub lexical_fault_long : (text : List ℕ) → text_limit < length text
+    → lexical_fault text ≡ Some (record { at = 0; code = TextTooLong })
+unfolding lexical_fault
+lexical_fault_long text h = rw (lt-ltb text_limit (length text) h) refl
+
+pub tokens_of_read : (text : List ℕ) (r : Reading) → length text ≤ text_limit
+    → reading text None (words_of text) ≡ r → tokens_of text ≡ r.tokens
+unfolding tokens_of
+tokens_of_read text r h e = rw (le-ltb text_limit (length text) h, e) refl
+
+pub lexical_fault_read : (text : List ℕ) (r : Reading) → length text ≤ text_limit
+    → reading text None (words_of text) ≡ r → lexical_fault text ≡ fault_in r.fault r.comment
+unfolding lexical_fault
+lexical_fault_read text r h e = rw (le-ltb text_limit (length text) h, e) refl

@@ -1,0 +1,329 @@
+-- A stack of formulas tells whether labels are the postfix list of a row of derivations, and if
+-- not, at which label and why.
+use Rattle.std.proofs.Common.{◌≡◌, ℕ, zero, suc, ◌+◌, ◌-◌, ◌≤◌, Bool, true, false, List, [], ◌∷◌}
+use Rattle.std.proofs.Common.{◌++◌, map, length, take, drop, Option, Some, None, Result, Ok, Err}
+use Rattle.std.proofs.Common.{nat_le, refl, sym, ap, ap₂, ◌∙◌, subst, true≢false, append-nil}
+use Rattle.std.proofs.Common.{append_assoc, length-append, take_at, drop_at, drop_of_length-le}
+use Rattle.std.proofs.Common.{take_all, arith, le-leb, leb-true, leb-false}
+use Rattle.std.proofs.lemmas.List.{length-map}
+use Rattle.std.specs.List.{list_all, AllByRecursion}
+use Rattle.mm_spec.specs.Derivation.{Formula, Frame, Rule, hypothesis, assertion, Context}
+use Rattle.mm_spec.specs.Derivation.{Substitution, substitute, are_apart, Matches, KeepsApart}
+use Rattle.mm_spec.specs.Derivation.{Follows, Trees, none, more, formulas, postfix, AreDerivations}
+use Rattle.mm_spec.specs.Limits.{formula_limit}
+use Rattle.mm_spec.specs.Valid.{Reason, too_few, unmatched, not_apart, too_long, Fails}
+use Rattle.mm_spec.proofs.UnifyLaw.{same_equal, equal_same, found_formula, found_all, found_apart}
+use Rattle.mm_spec.specs.Laws.Stack.{found, same, pick, apply, step, IsGood}
+use Rattle.mm_spec.specs.Laws.Complete.{IsComplete}
+
+-- where a run stopped, and why
+pub record Failed : Type 0 where
+  pub at : ℕ
+  pub reason : Reason
+
+abbrev pub proceed : Result (List Formula) Reason → ℕ
+    → (List Formula → Result (List Formula) Failed) → Result (List Formula) Failed
+proceed (Ok es) n go = go es
+proceed (Err r) n go = Err (record { at = n; reason = r })
+
+module _ (c : Context) where
+  abbrev pub run : ℕ → List ℕ → List Formula → Result (List Formula) Failed
+  run n [] es = Ok es
+  run n (l ∷ ls) es = proceed (step c (c.rule l) es) n (run (suc n) ls)
+
+  -- a step that a derivation makes is made
+  takes_assertion : (a : Frame) (es : List Formula) (τ : Substitution) → IsComplete c a
+      → KeepsApart c a τ → length (substitute c τ a.formula) ≤ formula_limit
+      → step c (Some (assertion a)) (es ++ map (substitute c τ) a.hypotheses)
+      ≡ Ok (es ++ substitute c τ a.formula ∷ [])
+  takes_assertion a es τ good kept short =
+      let hs = a.hypotheses in
+      let ps = map (substitute c τ) hs in
+      let count : length (es ++ ps) ≡ length es + length hs =
+      length-append es ps ∙ ap (λ n. length es + n) (length-map hs (substitute c τ)) in
+      let below : length es ≡ length (es ++ ps) - length hs = omega arith in
+      let enough : length hs ≤ length (es ++ ps) = omega arith in
+      let σ = found c hs ps in
+      let f : substitute c σ a.formula ≡ substitute c τ a.formula =
+      found_formula c hs τ a.formula good.formula in
+      let apply_at : List Formula → List Formula → Result (List Formula) Reason = apply c a true in
+      ap (λ b. apply c a b (take (length (es ++ ps) - length hs) (es ++ ps))
+      (drop (length (es ++ ps) - length hs) (es ++ ps)))
+      (le-leb (length hs) (length (es ++ ps)) enough)
+      ∙ ap₂ apply_at (take_at es ps (length (es ++ ps) - length hs) below)
+      (drop_at es ps (length (es ++ ps) - length hs) below)
+      ∙ tests (equal_same ps (map (substitute c σ) hs) (found_all c hs τ hs good.hypotheses))
+      (found_apart c hs τ a.pairs good.pairs ∙ kept)
+      (ap (λ g. nat_le (length g) formula_limit) f
+      ∙ le-leb (length (substitute c τ a.formula)) formula_limit short)
+      ∙ ap (λ g. Ok (es ++ g ∷ [])) f
+    where
+      tests : {p q r : Bool} {out : List Formula} → p ≡ true → q ≡ true → r ≡ true
+          → pick true p q r out ≡ Ok out
+      tests {r = r} {out = out} x y z =
+          ap₂ (λ p q. pick true p q r out) x y ∙ ap (λ r. pick true true true r out) z
+
+  pub takes : (r : Option Rule) (es ps : List Formula) (f : Formula) → IsGood c r → Follows c r ps f
+      → step c r (es ++ ps) ≡ Ok (es ++ f ∷ [])
+  takes None es ps f good h = absurd h
+  takes (Some (hypothesis g)) es ps f good h =
+      ap (λ b. pick true true true b ((es ++ ps) ++ g ∷ []))
+      (le-leb (length g) formula_limit (subst (λ x. length x ≤ formula_limit) h.1 h.2))
+      ∙ ap₂ (λ x y. Ok (x ++ y ∷ [])) (ap (λ x. es ++ x) h.0 ∙ append-nil es) (sym h.1)
+  takes (Some (assertion a)) es ps f good h =
+      ap (λ x. step c (Some (assertion a)) (es ++ x)) h.1
+      ∙ takes_assertion a es h.0 good h.2 (subst (λ x. length x ≤ formula_limit) h.3 h.4)
+      ∙ ap (λ x. Ok (es ++ x ∷ [])) (sym h.3)
+
+  -- each label is good
+  abbrev pub AreGood : List ℕ → Type 0
+  AreGood ls = AllByRecursion (λ l. IsGood c (c.rule l)) ls
+
+  pub good_parts : (xs ys : List ℕ) → AreGood (xs ++ ys) → AreGood xs × AreGood ys
+  good_parts [] ys g = (tt, g)
+  good_parts (x ∷ xs) ys g = let h = good_parts xs ys g.1 in ((g.0, h.0), h.1)
+
+  -- a row's derivations are run, and leave their formulas
+  pub runs_row : (row : Trees) → AreDerivations c row → AreGood (postfix row)
+      → (n : ℕ) (ls : List ℕ) (es : List Formula)
+      → run n (postfix row ++ ls) es ≡ run (n + length (postfix row)) ls (es ++ formulas row)
+  runs_row none d good n ls es =
+      let count : n ≡ n + 0 = omega arith in
+      ap₂ (λ k x. run k ls x) count (sym (append-nil es))
+  runs_row (more ts l f cs) d good n ls es =
+      let p = postfix ts in
+      let q = postfix cs in
+      let k = n + length p + length q in
+      let regroup : (p ++ (q ++ l ∷ [])) ++ ls ≡ p ++ (q ++ l ∷ ls) =
+      append_assoc p (q ++ l ∷ []) ls ∙ ap (λ x. p ++ x) (append_assoc q (l ∷ []) ls) in
+      let count : suc k ≡ n + length (p ++ (q ++ l ∷ [])) =
+      omega (arith, length-append p (q ++ l ∷ []), length-append q (l ∷ [])) in
+      let outer = good_parts p (q ++ l ∷ []) good in
+      let inner = good_parts q (l ∷ []) outer.1 in
+      ap (λ x. run n x es) regroup
+      ∙ runs_row ts d.0 outer.0 n (q ++ l ∷ ls) es
+      ∙ runs_row cs d.1 inner.0 (n + length p) (l ∷ ls) (es ++ formulas ts)
+      ∙ ap (λ r. proceed r k (run (suc k) ls))
+      (takes (c.rule l) (es ++ formulas ts) (formulas cs) f inner.1.0 d.2)
+      ∙ ap₂ (λ m x. run m ls x) count (append_assoc es (formulas ts) (f ∷ []))
+
+  -- a row in two parts
+  record Parts (row : Trees) (n : ℕ) : Type 0 where
+    before : Trees
+    last : Trees
+    before_derivations : AreDerivations c before
+    last_derivations : AreDerivations c last
+    all_formulas : formulas row ≡ formulas before ++ formulas last
+    all_labels : postfix row ≡ postfix before ++ postfix last
+    count : length (formulas last) ≡ n
+
+  parts : (row : Trees) (n : ℕ) → AreDerivations c row → n ≤ length (formulas row) → Parts row n
+  parts row zero d e =
+      record {
+        before = row;
+        last = none;
+        before_derivations = d;
+        last_derivations = tt;
+        all_formulas = sym (append-nil (formulas row));
+        all_labels = sym (append-nil (postfix row));
+        count = refl;
+      }
+  parts none (suc n) d e = absurd (omega arith)
+  parts (more ts l f cs) (suc n) d e =
+      let fits : n ≤ length (formulas ts) = omega (arith, length-append (formulas ts) (f ∷ [])) in
+      let p = parts ts n d.0 fits in
+      record {
+        before = p.before;
+        last = more p.last l f cs;
+        before_derivations = p.before_derivations;
+        last_derivations = (p.last_derivations, d.1, d.2);
+        all_formulas =
+            ap (λ x. x ++ f ∷ []) p.all_formulas
+            ∙ append_assoc (formulas p.before) (formulas p.last) (f ∷ []);
+        all_labels =
+            ap (λ x. x ++ (postfix cs ++ l ∷ [])) p.all_labels
+            ∙ append_assoc (postfix p.before) (postfix p.last) (postfix cs ++ l ∷ []);
+        count =
+            let e : suc n ≡ suc (length (formulas p.last)) = ap suc (sym p.count) in
+            omega (arith, length-append (formulas p.last) (f ∷ []), p.count);
+      }
+
+  -- what a step that was made means: premises on top of the entries, and a formula that follows
+  abbrev pub Made : Option Rule → List Formula → Result (List Formula) Reason → Type 0
+  Made r es (Ok out) =
+      (n : ℕ) × (f : Formula) × (n ≤ length es) × Follows c r (drop (length es - n) es) f
+      × (out ≡ take (length es - n) es ++ f ∷ [])
+  Made r es (Err reason) = Fails c r es reason
+
+  makes_hypothesis : (g : Formula) (es : List Formula) (b : Bool)
+      → nat_le (length g) formula_limit ≡ b
+      → Made (Some (hypothesis g)) es (pick true true true b (es ++ g ∷ []))
+  makes_hypothesis g es true e =
+      let all : length es ≤ length es - 0 = omega arith in (
+        0,
+        g,
+        omega arith,
+        (drop_of_length-le es all, refl, leb-true (length g) formula_limit e),
+        ap
+            (λ x. x ++ g ∷ []) (sym (take_all (length es - 0) es all)),
+      )
+  makes_hypothesis g es false e = leb-false (length g) formula_limit e
+
+  -- premises that some substitution gives are given by the one that is found
+  pub no_other : (a : Frame) (ps : List Formula) (τ : Substitution) → IsComplete c a
+      → Matches c a ps τ
+      → same ps (map (substitute c (found c a.hypotheses ps)) a.hypotheses) ≡ true
+  no_other a ps τ good e =
+      subst (λ x. same x (map (substitute c (found c a.hypotheses x)) a.hypotheses) ≡ true) (sym e)
+      (equal_same _ _ (found_all c a.hypotheses τ a.hypotheses good.hypotheses))
+
+  makes_assertion : (a : Frame) (es : List Formula) → IsComplete c a
+      → Made (Some (assertion a)) es (step c (Some (assertion a)) es)
+  makes_assertion a es good =
+      let n = length es - length a.hypotheses in
+      let ps = drop n es in
+      let σ = found c a.hypotheses ps in
+      go _ _ _ _ refl refl refl refl
+    where
+      n : ℕ
+      n = length es - length a.hypotheses
+
+      σ : Substitution
+      σ = found c a.hypotheses (drop n es)
+
+      go : (enough matched apart short : Bool) → nat_le (length a.hypotheses) (length es) ≡ enough
+          → same (drop n es) (map (substitute c σ) a.hypotheses) ≡ matched
+          → list_all (λ p. are_apart c (σ p.low) (σ p.high)) a.pairs ≡ apart
+          → nat_le (length (substitute c σ a.formula)) formula_limit ≡ short
+          → Made (Some (assertion a)) es
+          (pick enough matched apart short (take n es ++ substitute c σ a.formula ∷ []))
+      go false m k s e1 e2 e3 e4 = leb-false (length a.hypotheses) (length es) e1
+      go true false k s e1 e2 e3 e4 = (
+        leb-true (length a.hypotheses) (length es) e1,
+        λ τ e. true≢false
+            (sym (no_other a (drop n es) τ good e) ∙ e2),
+      )
+      go true true false s e1 e2 e3 e4 = (
+        σ,
+        leb-true (length a.hypotheses) (length es) e1,
+        same_equal _ _ e2,
+        λ k. true≢false
+            (sym k ∙ e3),
+      )
+      go true true true false e1 e2 e3 e4 = (
+        σ,
+        leb-true (length a.hypotheses) (length es) e1,
+        same_equal _ _ e2,
+        e3,
+        leb-false
+            (length (substitute c σ a.formula)) formula_limit e4,
+      )
+      go true true true true e1 e2 e3 e4 = (
+        length a.hypotheses,
+        substitute c σ a.formula,
+        leb-true (length a.hypotheses)
+            (length es) e1,
+        (
+          σ,
+          same_equal _ _ e2,
+          e3,
+          refl,
+          leb-true
+              (length (substitute c σ a.formula)) formula_limit e4,
+        ),
+        refl,
+      )
+
+  pub makes : (r : Option Rule) (es : List Formula) → IsGood c r → Made r es (step c r es)
+  makes None es good = absurd good
+  makes (Some (hypothesis g)) es good = makes_hypothesis g es (nat_le (length g) formula_limit) refl
+  makes (Some (assertion a)) es good = makes_assertion a es good
+
+  -- what a run means after a row
+  pub record Stopped (row : Trees) (ls : List ℕ) (reason : Reason) : Type 0 where
+    pub before : List ℕ
+    pub label : ℕ
+    pub after : List ℕ
+    pub splits : ls ≡ before ++ label ∷ after
+    pub reached : Trees
+    pub derivations : AreDerivations c reached
+    pub labels : postfix reached ≡ postfix row ++ before
+    pub fails : Fails c (c.rule label) (formulas reached) reason
+
+  abbrev pub Ran : Trees → List ℕ → Result (List Formula) Failed → Type 0
+  Ran row ls (Ok out) =
+      (reached : Trees) × AreDerivations c reached × (postfix reached ≡ postfix row ++ ls)
+      × (formulas reached ≡ out)
+  Ran row ls (Err e) = Stopped row ls e.reason
+
+  -- a step after a row gives one more row
+  pub grown : (row : Trees) (l : ℕ) (n : ℕ) (f : Formula) → AreDerivations c row
+      → n ≤ length (formulas row)
+      → Follows c (c.rule l) (drop (length (formulas row) - n) (formulas row)) f
+      → (next : Trees) × AreDerivations c next × (postfix next ≡ postfix row ++ l ∷ [])
+      × (formulas next ≡ take (length (formulas row) - n) (formulas row) ++ f ∷ [])
+  grown row l n f d e h =
+      let p = parts row n d e in
+      let k = length (formulas row) - n in
+      let count : length (formulas p.before) ≡ k =
+      omega (
+        arith,
+        p.count,
+        ap length p.all_formulas,
+        length-append (formulas p.before)
+            (formulas p.last),
+      ) in
+      let last : drop k (formulas row) ≡ formulas p.last =
+      ap (drop k) p.all_formulas ∙ drop_at (formulas p.before) (formulas p.last) k count in
+      let first : take k (formulas row) ≡ formulas p.before =
+      ap (take k) p.all_formulas ∙ take_at (formulas p.before) (formulas p.last) k count in (
+        more p.before l f p.last,
+        (p.before_derivations, p.last_derivations, subst (λ x. Follows c (c.rule l) x f) last h),
+        sym (append_assoc (postfix p.before) (postfix p.last) (l ∷ []))
+            ∙ ap (λ x. x ++ l ∷ []) (sym p.all_labels),
+        ap (λ x. x ++ f ∷ []) (sym first),
+      )
+
+  -- a run after a row is that of a longer row, or stops where a label fails
+  pub means : (ls : List ℕ) (row : Trees) (n : ℕ) → AreDerivations c row → AreGood ls
+      → Ran row ls (run n ls (formulas row))
+  means [] row n d good = (row, d, sym (append-nil (postfix row)), refl)
+  means (l ∷ ls) row n d good =
+      go (step c (c.rule l) (formulas row)) (makes (c.rule l) (formulas row) good.0)
+      (λ next h. means ls next (suc n) h good.1)
+    where
+      later : (next : Trees) → postfix next ≡ postfix row ++ l ∷ []
+          → (r : Result (List Formula) Failed) → Ran next ls r → Ran row (l ∷ ls) r
+      later next e (Ok out) h =
+          (h.0, h.1, h.2 ∙ ap (λ x. x ++ ls) e ∙ append_assoc (postfix row) (l ∷ []) ls, h.3)
+      later next e (Err x) h = record {
+        before = l ∷ h.before;
+        label = h.label;
+        after = h.after;
+        splits = ap (λ x. l ∷ x) h.splits;
+        reached = h.reached;
+        derivations = h.derivations;
+        labels =
+            h.labels ∙ ap (λ x. x ++ h.before) e ∙ append_assoc (postfix row) (l ∷ []) h.before;
+        fails = h.fails;
+      }
+
+      go : (r : Result (List Formula) Reason) → Made (c.rule l) (formulas row) r
+          → ((next : Trees) → AreDerivations c next → Ran next ls (run (suc n) ls (formulas next)))
+          → Ran row (l ∷ ls) (proceed r n (run (suc n) ls))
+      go (Err x) made on =
+          record {
+            before = [];
+            label = l;
+            after = ls;
+            splits = refl;
+            reached = row;
+            derivations = d;
+            labels = sym (append-nil (postfix row));
+            fails = made;
+          }
+      go (Ok out) made on =
+          let next = grown row l made.0 made.1 d made.2 made.3 in
+          later next.0 next.2 (run (suc n) ls out)
+          (subst (λ x. Ran next.0 ls (run (suc n) ls x)) (next.3 ∙ sym made.4)
+          (on next.0 next.1))

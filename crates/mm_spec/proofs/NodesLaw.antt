@@ -1,0 +1,131 @@
+-- Nodes that count, as members of lists of labels.
+use Rattle.std.proofs.Common.{◌≡◌, ℕ, ◌==◌, Bool, true, false, ◌⊎◌, inl, inr, ◌↔◌, List, [], ◌∷◌}
+use Rattle.std.proofs.Common.{◌++◌, refl, sym, ◌∙◌, subst, true≢false, eqb-true, eq-eqb}
+use Rattle.std.specs.List.{list_any}
+use Rattle.std.proofs.lemmas.Bool.{or_cases, or_left, or_right}
+use Rattle.std.proofs.lemmas.List.Folds.{list_any-append}
+use Rattle.mm_spec.specs.Statement.{Statement}
+use Rattle.mm_spec.specs.Derivation.{Trees, none, more, postfix, is_member}
+use Rattle.mm_spec.specs.Nodes.{size, HasNode, each_place, child_counts, IsNodeLabel}
+use Rattle.mm_spec.proofs.FindsLaw.{lone}
+
+-- ---- where each child counts, the labels are those of all nodes
+
+-- each node that counts is a node
+pub node_member : (counts : ℕ → ℕ → Bool) (place : ℕ → Bool) (ts : Trees) (a : ℕ)
+    → HasNode counts place ts a → is_member (postfix ts) a ≡ true
+node_member counts place none a h = absurd h
+node_member counts place (more ts l f cs) a (inl h) =
+    list_any-append (λ y. a == y) (postfix ts) (postfix cs ++ l ∷ [])
+    ∙ or_left (is_member (postfix ts) a) (is_member (postfix cs ++ l ∷ []) a)
+    (node_member counts place ts a h)
+node_member counts place (more ts l f cs) a (inr (t, inl e)) =
+    list_any-append (λ y. a == y) (postfix ts) (postfix cs ++ l ∷ [])
+    ∙ or_right (is_member (postfix ts) a) (is_member (postfix cs ++ l ∷ []) a)
+    (list_any-append (λ y. a == y) (postfix cs) (l ∷ [])
+    ∙ or_right (is_member (postfix cs) a) (is_member (l ∷ []) a)
+    (or_left (a == l) false (eq-eqb a l e)))
+node_member counts place (more ts l f cs) a (inr (t, inr h)) =
+    list_any-append (λ y. a == y) (postfix ts) (postfix cs ++ l ∷ [])
+    ∙ or_right (is_member (postfix ts) a) (is_member (postfix cs ++ l ∷ []) a)
+    (list_any-append (λ y. a == y) (postfix cs) (l ∷ [])
+    ∙ or_left (is_member (postfix cs) a) (is_member (l ∷ []) a)
+    (node_member counts (counts l) cs a h))
+
+member_node : (ts : Trees) (a : ℕ) → is_member (postfix ts) a ≡ true
+    → HasNode (λ l. each_place) each_place ts a
+member_node none a e = absurd (true≢false (sym e))
+member_node (more ts l f cs) a e =
+    by (or_cases (is_member (postfix ts) a) (is_member (postfix cs ++ l ∷ []) a)
+    (sym (list_any-append (λ y. a == y) (postfix ts) (postfix cs ++ l ∷ [])) ∙ e))
+    (λ h. member_node ts a h) (λ h. member_node cs a h)
+  where
+    inner : (is_member (postfix cs) a ≡ true) ⊎ (is_member (l ∷ []) a ≡ true)
+        → (is_member (postfix cs) a ≡ true → HasNode (λ l. each_place) each_place cs a)
+        → HasNode (λ l. each_place) each_place (more ts l f cs) a
+    inner (inl h) on = inr (refl, inr (on h))
+    inner (inr h) on = inr (refl, inl (eqb-true a l (lone (a == l) h)))
+
+    by : (is_member (postfix ts) a ≡ true) ⊎ (is_member (postfix cs ++ l ∷ []) a ≡ true)
+        → (is_member (postfix ts) a ≡ true → HasNode (λ l. each_place) each_place ts a)
+        → (is_member (postfix cs) a ≡ true → HasNode (λ l. each_place) each_place cs a)
+        → HasNode (λ l. each_place) each_place (more ts l f cs) a
+    by (inl h) on in_children = inl (on h)
+    by (inr h) on in_children =
+        inner (or_cases (is_member (postfix cs) a) (is_member (l ∷ []) a)
+        (sym (list_any-append (λ y. a == y) (postfix cs) (l ∷ [])) ∙ h)) in_children
+
+-- ---- the labels as a list
+
+abbrev pub node_labels : (ℕ → ℕ → Bool) → (ℕ → Bool) → Trees → List ℕ
+node_labels counts place none = []
+node_labels counts place (more ts l f cs) =
+    node_labels counts place ts
+    ++ elim (place (size ts)) [ true ↦ l ∷ node_labels counts (counts l) cs | false ↦ [] ]
+
+node_listed : (counts : ℕ → ℕ → Bool) (place : ℕ → Bool) (ts : Trees) (a : ℕ)
+    → HasNode counts place ts a → is_member (node_labels counts place ts) a ≡ true
+node_listed counts place none a h = absurd h
+node_listed counts place (more ts l f cs) a (inl h) =
+    list_any-append (λ y. a == y) (node_labels counts place ts) _
+    ∙ or_left (is_member (node_labels counts place ts) a) _ (node_listed counts place ts a h)
+node_listed counts place (more ts l f cs) a (inr (t, h)) =
+    list_any-append (λ y. a == y) (node_labels counts place ts) _
+    ∙ or_right (is_member (node_labels counts place ts) a) _
+    (subst (λ b. is_member
+    (elim b [ true ↦ l ∷ node_labels counts (counts l) cs | false ↦ [] ]) a
+    ≡ true) (sym t) (by h (λ k. node_listed counts (counts l) cs a k)))
+  where
+    by : (a ≡ l) ⊎ HasNode counts (counts l) cs a
+        → (HasNode counts (counts l) cs a → is_member (node_labels counts (counts l) cs) a ≡ true)
+        → is_member (l ∷ node_labels counts (counts l) cs) a ≡ true
+    by (inl e) on = or_left (a == l) (is_member (node_labels counts (counts l) cs) a) (eq-eqb a l e)
+    by (inr k) on = or_right (a == l) (is_member (node_labels counts (counts l) cs) a) (on k)
+
+listed_node : (counts : ℕ → ℕ → Bool) (place : ℕ → Bool) (ts : Trees) (a : ℕ)
+    → is_member (node_labels counts place ts) a ≡ true → HasNode counts place ts a
+listed_node counts place none a e = absurd (true≢false (sym e))
+listed_node counts place (more ts l f cs) a e =
+    by (or_cases (is_member (node_labels counts place ts) a) (is_member (under (place (size ts))) a)
+    (sym (list_any-append (λ y. a == y) (node_labels counts place ts) (under (place (size ts))))
+    ∙ e)) (λ k. listed_node counts place ts a k) (λ k. listed_node counts (counts l) cs a k)
+  where
+    under : Bool → List ℕ
+    under b = elim b [ true ↦ l ∷ node_labels counts (counts l) cs | false ↦ [] ]
+
+    inner : (b : Bool) → place (size ts) ≡ b → is_member (under b) a ≡ true
+        → (is_member (node_labels counts (counts l) cs) a ≡ true → HasNode counts (counts l) cs a)
+        → HasNode counts place (more ts l f cs) a
+    inner false p k on = absurd (true≢false (sym k))
+    inner true p k on =
+        inr (p, which (or_cases (a == l) (is_member (node_labels counts (counts l) cs) a) k))
+      where
+        which : ((a == l) ≡ true) ⊎ (is_member (node_labels counts (counts l) cs) a ≡ true)
+            → (a ≡ l) ⊎ HasNode counts (counts l) cs a
+        which (inl q) = inl (eqb-true a l q)
+        which (inr q) = inr (on q)
+
+    by : (is_member (node_labels counts place ts) a ≡ true)
+        ⊎ (is_member (under (place (size ts))) a ≡ true)
+        → (is_member (node_labels counts place ts) a ≡ true → HasNode counts place ts a)
+        → (is_member (node_labels counts (counts l) cs) a ≡ true → HasNode counts (counts l) cs a)
+        → HasNode counts place (more ts l f cs) a
+    by (inl k) on in_children = inl (on k)
+    by (inr k) on in_children = inner (place (size ts)) refl k in_children
+
+-- so it is decided whether there is such a node
+pub node_labels_are : (counts : ℕ → ℕ → Bool) (place : ℕ → Bool) (ts : Trees) (a : ℕ)
+    → HasNode counts place ts a ↔ (is_member (node_labels counts place ts) a ≡ true)
+node_labels_are counts place ts a = (node_listed counts place ts a, listed_node counts place ts a)
+
+-- ---- of a proof
+
+-- an essential node is a node
+pub label_member : (db : List Statement) (essential : Bool) (d : Trees) (a : ℕ)
+    → IsNodeLabel db essential d a → is_member (postfix d) a ≡ true
+label_member db essential d a h = node_member (child_counts db essential) each_place d a h
+
+-- without the flag each label counts
+pub all_labels : (db : List Statement) (d : Trees) (a : ℕ)
+    → IsNodeLabel db false d a ↔ (is_member (postfix d) a ≡ true)
+all_labels db d a = (label_member db false d a, member_node d a)

@@ -1,0 +1,392 @@
+-- What counts as an axiom has the label, the symbols, the scope and the frame that it has as a
+-- theorem.
+use Rattle.std.proofs.Common.{◌≡◌, ℕ, zero, suc, ◌+◌, ◌-◌, ◌<◌, Bool, true, false, ◌&&◌, ◌||◌, not}
+use Rattle.std.proofs.Common.{◌==◌, List, [], ◌∷◌, ◌++◌, map, take, length, flat_map, count_by}
+use Rattle.std.proofs.Common.{Option, Some, None, slice_get, nat_le, nat_lt, refl, sym, ap, ap₂}
+use Rattle.std.proofs.Common.{◌∙◌, subst, cond, true≢false}
+use Rattle.std.specs.Option.{option_map, option_and_then}
+use Rattle.std.specs.List.{list_any, list_all, range_with_len, filter}
+use Rattle.std.proofs.Math.Path.{fun_ext}
+use Rattle.std.proofs.lemmas.List.{length-map, take-map}
+use Rattle.std.proofs.lemmas.List.Folds.{flat_map-map}
+use Rattle.std.proofs.lemmas.List.Sums.{sum_by-cons}
+use Rattle.mm_spec.specs.Text.{Bytes, Token, is_in, words}
+use Rattle.mm_spec.specs.Statement.{Statement, constants, variables, disjoint, floating, essential}
+use Rattle.mm_spec.specs.Statement.{axiomatic, provable, opening, closing, label_of, symbols_of}
+use Rattle.mm_spec.specs.Statement.{is_opening, is_closing}
+use Rattle.mm_spec.specs.Opened.{is_open_proof, is_open, as_axiom, counted}
+use Rattle.mm_spec.specs.Scope.{depth, is_active, is_active_kind, is_active_some, active}
+use Rattle.mm_spec.specs.Scope.{statement_at, label_words, constants_of, variables_of, stays}
+use Rattle.mm_spec.specs.Derivation.{Formula, Pair, Frame, Context, Rule, hypothesis, assertion}
+use Rattle.mm_spec.specs.Derivation.{is_member}
+use Rattle.mm_spec.specs.Frame.{symbol_names, first_occurrences, place_of, formula_of, formula_at}
+use Rattle.mm_spec.specs.Frame.{is_variable_number, is_floating, is_essential}
+use Rattle.mm_spec.specs.Frame.{is_disjoint_statement, active_of, mandatory_variables}
+use Rattle.mm_spec.specs.Frame.{mandatory_hypotheses, mandatory_pairs, disjoint_at, pairs_of}
+use Rattle.mm_spec.specs.Frame.{frame_at}
+use Rattle.mm_spec.specs.NormalProof.{is_labelled}
+use Rattle.mm_spec.specs.Citation.{rule_of, rule_at, context_at, is_assertion, is_theorem}
+use Rattle.mm_spec.specs.Laws.Complete.{IsFine, AreComplete}
+use Rattle.mm_spec.specs.Output.{label_at}
+use Rattle.mm_spec.proofs.FindsLaw.{any_map, found_at, at_found}
+
+-- ---- one statement
+
+-- what an `$a` and a `$p` have in common stays
+abbrev pub IsAlike : {X : Type 0} → (Statement → X) → Type 0
+IsAlike f =
+    (l : Token) (k : ℕ) (xs : List Token) (e : ℕ) (ps : List Token) (d : ℕ)
+    → f (axiomatic l k xs d) ≡ f (provable l k xs e ps d)
+
+pub kept : {X : Type 0} (f : Statement → X) → IsAlike f → (s : Statement) → f (as_axiom s) ≡ f s
+kept f h (constants k xs d) = refl
+kept f h (variables k xs d) = refl
+kept f h (disjoint k xs d) = refl
+kept f h (floating l k xs d) = refl
+kept f h (essential l k xs d) = refl
+kept f h (axiomatic l k xs d) = refl
+kept f h (provable l k xs e ps d) = by (is_open_proof ps)
+  where
+    by : (b : Bool)
+        → f (elim b [ true ↦ axiomatic l k xs d | false ↦ provable l k xs e ps d ])
+        ≡ f (provable l k xs e ps d)
+    by true = h l k xs e ps d
+    by false = refl
+kept f h (opening k) = refl
+kept f h (closing k) = refl
+
+-- ---- lists
+
+abbrev pub axioms_of : List Statement → List Statement
+axioms_of db = map as_axiom db
+
+pub got_axiom : (db : List Statement) (j : ℕ)
+    → slice_get (axioms_of db) j ≡ option_map as_axiom (slice_get db j)
+got_axiom [] zero = refl
+got_axiom [] (suc j) = refl
+got_axiom (s ∷ db) zero = refl
+got_axiom (s ∷ db) (suc j) = got_axiom db j
+
+at_mapped : (db : List Statement) (j : ℕ)
+    → statement_at (axioms_of db) j ≡ map as_axiom (statement_at db j)
+at_mapped db j =
+    ap (λ o. elim o [ None ↦ [] | Some s ↦ s ∷ [] ]) (got_axiom db j) ∙ by (slice_get db j)
+  where
+    by : (o : Option Statement)
+        → elim (option_map as_axiom o) [ None ↦ [] | Some s ↦ s ∷ [] ]
+        ≡ map as_axiom (elim o [ None ↦ [] | Some s ↦ s ∷ [] ])
+    by None = refl
+    by (Some s) = refl
+
+count_kept : (p : Statement → Bool) → IsAlike p → (db : List Statement)
+    → count_by p (axioms_of db) ≡ count_by p db
+count_kept p h [] = refl
+count_kept p h (s ∷ db) =
+    sum_by-cons (λ s. cond (p s) 1 0) (as_axiom s) (axioms_of db)
+    ∙ ap₂ (λ b n. cond b 1 0 + n) (kept p h s) (count_kept p h db)
+    ∙ sym (sum_by-cons (λ s. cond (p s) 1 0) s db)
+
+flat_kept : {X : Type 0} (f : Statement → List X) → IsAlike f → (db : List Statement)
+    → flat_map f (axioms_of db) ≡ flat_map f db
+flat_kept f h db = flat_map-map f as_axiom db ∙ ap (λ g. flat_map g db) (fun_ext (kept f h))
+
+flat_at : {X : Type 0} (f : Statement → List X) → IsAlike f → (db : List Statement) (j : ℕ)
+    → flat_map f (statement_at (axioms_of db) j) ≡ flat_map f (statement_at db j)
+flat_at f h db j = ap (flat_map f) (at_mapped db j) ∙ flat_kept f h (statement_at db j)
+
+any_at : (p : Statement → Bool) → IsAlike p → (db : List Statement) (j : ℕ)
+    → list_any p (statement_at (axioms_of db) j) ≡ list_any p (statement_at db j)
+any_at p h db j =
+    ap (list_any p) (at_mapped db j) ∙ any_map p as_axiom (statement_at db j)
+    ∙ ap (λ q. list_any q (statement_at db j)) (fun_ext (kept p h))
+
+got : {X : Type 0} (f : Statement → X) → IsAlike f → (db : List Statement) (j : ℕ)
+    → option_map f (slice_get (axioms_of db) j) ≡ option_map f (slice_get db j)
+got f h db j = ap (option_map f) (got_axiom db j) ∙ by (slice_get db j)
+  where
+    by : (o : Option Statement) → option_map f (option_map as_axiom o) ≡ option_map f o
+    by None = refl
+    by (Some s) = ap Some (kept f h s)
+
+-- ---- scope
+
+module _ (db : List Statement) where
+  abbrev as_axioms : List Statement
+  as_axioms = axioms_of db
+
+  depth_kept : depth as_axioms ≡ depth db
+  depth_kept =
+      fun_ext (λ k. ap₂ (λ a b. a - b)
+      (ap (count_by is_opening) (take-map as_axiom k db)
+      ∙ count_kept is_opening (λ l k xs e ps d. refl) (take k db))
+      (ap (count_by is_closing) (take-map as_axiom k db)
+      ∙ count_kept is_closing (λ l k xs e ps d. refl) (take k db)))
+
+  stays_kept : stays as_axioms ≡ stays db
+  stays_kept =
+      fun_ext (λ j. fun_ext
+      (λ k. ap
+      (λ (f : ℕ → ℕ). list_all (λ i. nat_le (f j) (f i)) (range_with_len (j + 1) (k - j)))
+      depth_kept))
+
+  is_active_kept : is_active as_axioms ≡ is_active db
+  is_active_kept = fun_ext (λ j. fun_ext (λ k.
+      ap (λ o. nat_lt j k && is_active_some o (stays as_axioms j k)) (got_axiom db j)
+      ∙ ap (λ b. nat_lt j k && b) (by (slice_get db j) (stays as_axioms j k))
+      ∙ ap (λ (s : ℕ → ℕ → Bool). nat_lt j k && is_active_some (slice_get db j) (s j k))
+      stays_kept))
+    where
+      by : (o : Option Statement) (b : Bool)
+          → is_active_some (option_map as_axiom o) b ≡ is_active_some o b
+      by None b = refl
+      by (Some s) b = kept (λ s. is_active_kind s b) (λ l k xs e ps d. refl) s
+
+  active_kept : active as_axioms ≡ active db
+  active_kept =
+      fun_ext (λ k. ap
+      (λ (t : ℕ → ℕ → Bool). filter (λ j. t j k) (range_with_len 0 k)) is_active_kept)
+
+  -- ---- symbols and frames
+
+  names_kept : symbol_names as_axioms ≡ symbol_names db
+  names_kept =
+      ap (first_occurrences [])
+      (flat_kept (λ s. constants_of s ++ variables_of s) (λ l k xs e ps d. refl) db)
+
+  formula_kept : formula_at as_axioms ≡ formula_at db
+  formula_kept =
+      fun_ext (λ k. flat_at (formula_of as_axioms) (λ l k xs e ps d. refl) db k
+      ∙ ap (λ (ns : List Bytes). flat_map (λ s. map (λ w. place_of w ns) (words (symbols_of s)))
+      (statement_at db k)) names_kept)
+
+  variable_kept : is_variable_number as_axioms ≡ is_variable_number db
+  variable_kept =
+      fun_ext (λ x. ap₂
+      (λ (ns vs : List Bytes). elim (slice_get ns x) [ None ↦ false | Some w ↦ is_in w vs ])
+      names_kept (flat_kept variables_of (λ l k xs e ps d. refl) db))
+
+  active_of_kept : (kind : Statement → Bool) → IsAlike kind
+      → active_of kind as_axioms ≡ active_of kind db
+  active_of_kept kind h =
+      fun_ext (λ k. ap₂ (λ (t : ℕ → Bool) (a : ℕ → List ℕ). filter t (a k))
+      (fun_ext (any_at kind h db)) active_kept)
+
+  mandatory_kept : mandatory_variables as_axioms ≡ mandatory_variables db
+  mandatory_kept = fun_ext (λ k.
+      ap (λ (v : ℕ → Bool). filter v
+      (formula_at as_axioms k
+      ++ flat_map (formula_at as_axioms) (active_of is_essential as_axioms k))) variable_kept
+      ∙ ap₂ (λ (f : ℕ → Formula) (a : ℕ → List ℕ). filter (is_variable_number db)
+      (f k ++ flat_map f (a k))) formula_kept
+      (active_of_kept is_essential (λ l k xs e ps d. refl)))
+
+  hypotheses_kept : mandatory_hypotheses as_axioms ≡ mandatory_hypotheses db
+  hypotheses_kept = fun_ext (λ k.
+      ap₂ (λ (e f : ℕ → Bool). filter
+      (λ j. e j
+      || (f j && list_any (is_member (mandatory_variables as_axioms k))
+      (formula_at as_axioms j))) (active as_axioms k))
+      (fun_ext (any_at is_essential (λ l k xs e ps d. refl) db))
+      (fun_ext (any_at is_floating (λ l k xs e ps d. refl) db))
+      ∙ ap₂ (λ (m : ℕ → List ℕ) (f : ℕ → Formula). filter
+      (λ j. list_any is_essential (statement_at db j)
+      || (list_any is_floating (statement_at db j) && list_any (is_member (m k)) (f j)))
+      (active as_axioms k)) mandatory_kept formula_kept
+      ∙ ap (λ (a : ℕ → List ℕ). filter
+      (λ j. list_any is_essential (statement_at db j)
+      || (list_any is_floating (statement_at db j)
+      && list_any (is_member (mandatory_variables db k)) (formula_at db j))) (a k)) active_kept)
+
+  disjoint_kept : disjoint_at as_axioms ≡ disjoint_at db
+  disjoint_kept =
+      fun_ext (λ k. fun_ext
+      (λ x. fun_ext
+      (λ y. ap₂
+      (λ (f : ℕ → Formula) (a : ℕ → List ℕ). not (x == y)
+      && list_any (λ j. is_member (f j) x && is_member (f j) y) (a k)) formula_kept
+      (active_of_kept is_disjoint_statement (λ l k xs e ps d. refl)))))
+
+  pairs_kept : mandatory_pairs as_axioms ≡ mandatory_pairs db
+  pairs_kept = fun_ext (λ k.
+      ap₂ (λ (m : ℕ → List ℕ) (j : ℕ → ℕ → ℕ → Bool). filter
+      (λ p. nat_lt p.low p.high && is_member (m k) p.low && is_member (m k) p.high
+      && j k p.low p.high) (pairs_of (length (symbol_names as_axioms)))) mandatory_kept
+      disjoint_kept
+      ∙ ap (λ (ns : List Bytes). filter
+      (λ p. nat_lt p.low p.high && is_member (mandatory_variables db k) p.low
+      && is_member (mandatory_variables db k) p.high && disjoint_at db k p.low p.high)
+      (pairs_of (length ns))) names_kept)
+
+  abbrev frame : List Formula → List Pair → Formula → Frame
+  frame hs ps f = record { hypotheses = hs; pairs = ps; formula = f }
+
+  frame_kept : frame_at as_axioms ≡ frame_at db
+  frame_kept = fun_ext (λ k.
+      ap₂ (λ (f : ℕ → Formula) (h : ℕ → List ℕ). frame (map f (h k)) (mandatory_pairs as_axioms k)
+      (f k)) formula_kept hypotheses_kept
+      ∙ ap (λ (p : ℕ → List Pair). frame (map (formula_at db) (mandatory_hypotheses db k)) (p k)
+      (formula_at db k)) pairs_kept)
+
+  -- ---- what a proof is made over
+
+  rule_same : (j : ℕ) (s : Statement) → rule_of as_axioms j s ≡ rule_of db j s
+  rule_same j (constants k xs d) = refl
+  rule_same j (variables k xs d) = refl
+  rule_same j (disjoint k xs d) = refl
+  rule_same j (floating l k xs d) = ap (λ (f : ℕ → Formula). Some (hypothesis (f j))) formula_kept
+  rule_same j (essential l k xs d) = ap (λ (f : ℕ → Formula). Some (hypothesis (f j))) formula_kept
+  rule_same j (axiomatic l k xs d) = ap (λ (f : ℕ → Frame). Some (assertion (f j))) frame_kept
+  rule_same j (provable l k xs e ps d) = ap (λ (f : ℕ → Frame). Some (assertion (f j))) frame_kept
+  rule_same j (opening k) = refl
+  rule_same j (closing k) = refl
+
+  abbrev ruled : ℕ → Option Statement → Option Rule
+  ruled j o = elim o [ None ↦ None | Some s ↦ rule_of db j s ]
+
+  abbrev ruled_as : ℕ → Option Statement → Option Rule
+  ruled_as j o = elim o [ None ↦ None | Some s ↦ rule_of as_axioms j s ]
+
+  abbrev if_active : Bool → Option Rule → Option Rule
+  if_active b r = elim b [ false ↦ None | true ↦ r ]
+
+  rule_kept : rule_at as_axioms ≡ rule_at db
+  rule_kept = fun_ext (λ k. fun_ext (λ j.
+      ap (λ (t : ℕ → ℕ → Bool). if_active (t j k) (ruled_as j (slice_get as_axioms j)))
+      is_active_kept
+      ∙ ap (if_active (is_active db j k))
+      (ap (ruled_as j) (got_axiom db j) ∙ by j (slice_get db j))))
+    where
+      by : (j : ℕ) (o : Option Statement) → ruled_as j (option_map as_axiom o) ≡ ruled j o
+      by j None = refl
+      by j (Some s) = kept (rule_of as_axioms j) (λ l k xs e ps d. refl) s ∙ rule_same j s
+
+  abbrev context : (ℕ → Bool) → (ℕ → ℕ → Bool) → (ℕ → Option Rule) → Context
+  context v d r = record { is_variable = v; is_disjoint = d; rule = r }
+
+  context_kept : context_at as_axioms ≡ context_at db
+  context_kept = fun_ext (λ k.
+      ap₂ (λ (v : ℕ → Bool) (r : ℕ → ℕ → Option Rule). context v (disjoint_at as_axioms k) (r k))
+      variable_kept rule_kept
+      ∙ ap (λ (d : ℕ → ℕ → ℕ → Bool). context (is_variable_number db) (d k) (rule_at db k))
+      disjoint_kept)
+
+-- ---- the statements as they count, with the flag or without
+
+either : {X : Type 0} (F : List Statement → X) → ((db : List Statement) → F (axioms_of db) ≡ F db)
+    → (w : Bool) (db : List Statement) → F (counted w db) ≡ F db
+either F h true db = h db
+either F h false db = refl
+
+module _ (w : Bool) (db : List Statement) where
+  pub counted_length : length (counted w db) ≡ length db
+  counted_length = either length (λ db. length-map db as_axiom) w db
+
+  pub counted_count : (p : Statement → Bool) → IsAlike p → count_by p (counted w db) ≡ count_by p db
+  counted_count p h = either (count_by p) (count_kept p h) w db
+
+  pub counted_any : (p : Statement → Bool) → IsAlike p → (j : ℕ)
+      → list_any p (statement_at (counted w db) j) ≡ list_any p (statement_at db j)
+  counted_any p h j = either (λ db. list_any p (statement_at db j)) (λ db. any_at p h db j) w db
+
+  pub counted_flat : {X : Type 0} (f : Statement → List X) → IsAlike f → (j : ℕ)
+      → flat_map f (statement_at (counted w db) j) ≡ flat_map f (statement_at db j)
+  counted_flat f h j = either (λ db. flat_map f (statement_at db j)) (λ db. flat_at f h db j) w db
+
+  pub counted_got : {X : Type 0} (f : Statement → X) → IsAlike f → (j : ℕ)
+      → option_map f (slice_get (counted w db) j) ≡ option_map f (slice_get db j)
+  counted_got f h j = either (λ db. option_map f (slice_get db j)) (λ db. got f h db j) w db
+
+  pub counted_then : {X : Type 0} (f : Statement → Option X) → IsAlike f → (j : ℕ)
+      → option_and_then f (slice_get (counted w db) j) ≡ option_and_then f (slice_get db j)
+  counted_then {X} f h j =
+      sym (both (slice_get (counted w db) j)) ∙ ap flat (counted_got f h j) ∙ both (slice_get db j)
+    where
+      flat : Option (Option X) → Option X
+      flat o = elim o [ None ↦ None | Some x ↦ x ]
+
+      both : (o : Option Statement) → flat (option_map f o) ≡ option_and_then f o
+      both None = refl
+      both (Some s) = refl
+
+  pub counted_depth : depth (counted w db) ≡ depth db
+  counted_depth = either depth depth_kept w db
+
+  pub counted_stays : stays (counted w db) ≡ stays db
+  counted_stays = either stays stays_kept w db
+
+  pub counted_active : is_active (counted w db) ≡ is_active db
+  counted_active = either is_active is_active_kept w db
+
+  pub counted_names : symbol_names (counted w db) ≡ symbol_names db
+  counted_names = either symbol_names names_kept w db
+
+  pub counted_variable : is_variable_number (counted w db) ≡ is_variable_number db
+  counted_variable = either is_variable_number variable_kept w db
+
+  pub counted_formula : formula_at (counted w db) ≡ formula_at db
+  counted_formula = either formula_at formula_kept w db
+
+  pub counted_label : label_at (counted w db) ≡ label_at db
+  counted_label =
+      fun_ext (λ j. ap (flat_map (λ v. v)) (counted_flat label_words (λ l k xs e ps d. refl) j))
+
+  pub counted_hypotheses : mandatory_hypotheses (counted w db) ≡ mandatory_hypotheses db
+  counted_hypotheses = either mandatory_hypotheses hypotheses_kept w db
+
+  pub counted_pairs : mandatory_pairs (counted w db) ≡ mandatory_pairs db
+  counted_pairs = either mandatory_pairs pairs_kept w db
+
+  pub counted_context : context_at (counted w db) ≡ context_at db
+  counted_context = either context_at context_kept w db
+
+  pub counted_complete : AreComplete db → AreComplete (counted w db)
+  counted_complete h k l =
+      subst (λ (c : ℕ → Context). IsFine (c k) ((c k).rule l)) (sym counted_context) (h k l)
+
+-- a theorem among them was read as it is
+pub theorem_read : (w : Bool) (db : List Statement) (j : ℕ) (l : Token) (k : ℕ) (xs : List Token)
+    → (e : ℕ) (ps : List Token) (d : ℕ)
+    → slice_get (counted w db) j ≡ Some (provable l k xs e ps d)
+    → slice_get db j ≡ Some (provable l k xs e ps d)
+theorem_read false db j l k xs e ps d h = h
+theorem_read true db j l k xs e ps d h = go (slice_get db j) (sym (got_axiom db j) ∙ h)
+  where
+    same : (s : Statement) → as_axiom s ≡ provable l k xs e ps d → s ≡ provable l k xs e ps d
+    same (constants k' xs' d') h = h
+    same (variables k' xs' d') h = h
+    same (disjoint k' xs' d') h = h
+    same (floating l' k' xs' d') h = h
+    same (essential l' k' xs' d') h = h
+    same (axiomatic l' k' xs' d') h = h
+    same (provable l' k' xs' e' ps' d') h = by (is_open_proof ps') h
+      where
+        by : (b : Bool)
+            → elim b [ true ↦ axiomatic l' k' xs' d' | false ↦ provable l' k' xs' e' ps' d' ]
+            ≡ provable l k xs e ps d → provable l' k' xs' e' ps' d' ≡ provable l k xs e ps d
+        by true h = absurd (cc)
+        by false h = h
+    same (opening k') h = h
+    same (closing k') h = h
+
+    go : (o : Option Statement) → option_map as_axiom o ≡ Some (provable l k xs e ps d)
+        → o ≡ Some (provable l k xs e ps d)
+    go None h = absurd (cc)
+    go (Some s) h = let e : as_axiom s ≡ provable l k xs e ps d = cc in ap Some (same s e)
+
+pub theorem_still : (w : Bool) (db : List Statement) (j : ℕ)
+    → list_any is_theorem (statement_at (counted w db) j) ≡ true
+    → list_any is_theorem (statement_at db j) ≡ true
+theorem_still w db j h = let f = found_at (counted w db) is_theorem j h in go f.0 f.1 f.2
+  where
+    go : (s : Statement) → slice_get (counted w db) j ≡ Some s → is_theorem s ≡ true
+        → list_any is_theorem (statement_at db j) ≡ true
+    go (constants k xs d) e t = absurd (true≢false (sym t))
+    go (variables k xs d) e t = absurd (true≢false (sym t))
+    go (disjoint k xs d) e t = absurd (true≢false (sym t))
+    go (floating l k xs d) e t = absurd (true≢false (sym t))
+    go (essential l k xs d) e t = absurd (true≢false (sym t))
+    go (axiomatic l k xs d) e t = absurd (true≢false (sym t))
+    go (provable l k xs q ps d) e t =
+        at_found db is_theorem j (provable l k xs q ps d) (theorem_read w db j l k xs q ps d e) refl
+    go (opening k) e t = absurd (true≢false (sym t))
+    go (closing k) e t = absurd (true≢false (sym t))

@@ -1,0 +1,164 @@
+-- Rows of words read, one word after another.
+use Rattle.std.proofs.Common.{◌≡◌, ℕ, Bool, List, [], ◌∷◌, ◌++◌, Option, Some, None, is_some, refl}
+use Rattle.std.proofs.Common.{sym, ap, ◌∙◌, append_assoc, append-nil, length}
+use Rattle.mm_spec.specs.Roles.{role_of, fault_of}
+use Rattle.mm_spec.specs.Words.{words_of, words_between}
+use Rattle.mm_spec.proofs.WordRunsLaw.{IsNextWord}
+use Rattle.mm_spec.specs.Readings.{Reading, reading, with_tokens, bytes_of}
+use Rattle.mm_spec.specs.Laws.Readings.{go_on}
+use Rattle.mm_spec.specs.declared.Word.{Word}
+use Rattle.mm_spec.specs.declared.Fault.{Fault}
+use Rattle.mm_spec.specs.declared.Role.{Role}
+use Rattle.mm_spec.specs.declared.Role.TheVariants.{Token, Opening, Closing, Comment, Faulty}
+
+with_tokens-push : (ts : List Word) (w : Word) (r : Reading)
+    → with_tokens ts (with_tokens (w ∷ []) r) ≡ with_tokens (ts ++ w ∷ []) r
+with_tokens-push ts w r = rw append_assoc refl
+
+pub reading_token : (text : List ℕ) (ts : List Word) (comment : Option ℕ) (w : Word)
+    → (ws : List Word)
+    → role_of (is_some comment) (bytes_of text w) ≡ Token →
+    with_tokens ts (reading text comment (w ∷ ws))
+    ≡ with_tokens (ts ++ w ∷ []) (reading text comment ws)
+unfolding reading
+reading_token text ts comment w ws role =
+    rw (role, reading) (with_tokens-push ts w (reading text comment ws))
+
+pub reading_opening : (text : List ℕ) (comment : Option ℕ) (w : Word) (ws : List Word)
+    → role_of (is_some comment) (bytes_of text w) ≡ Opening →
+    reading text comment (w ∷ ws) ≡ reading text (Some w.start) ws
+unfolding reading
+reading_opening text comment w ws role = rw (role, reading) refl
+
+pub reading_closing : (text : List ℕ) (comment : Option ℕ) (w : Word) (ws : List Word)
+    → role_of (is_some comment) (bytes_of text w) ≡ Closing →
+    reading text comment (w ∷ ws) ≡ reading text None ws
+unfolding reading
+reading_closing text comment w ws role = rw (role, reading) refl
+
+pub reading_comment : (text : List ℕ) (comment : Option ℕ) (w : Word) (ws : List Word)
+    → role_of (is_some comment) (bytes_of text w) ≡ Comment →
+    reading text comment (w ∷ ws) ≡ reading text comment ws
+unfolding reading
+reading_comment text comment w ws role = rw (role, reading) refl
+
+pub reading_faulty : (text : List ℕ) (comment : Option ℕ) (w : Word) (ws : List Word)
+    → role_of (is_some comment) (bytes_of text w) ≡ Faulty →
+    reading text comment (w ∷ ws)
+    ≡ record {
+      tokens = [];
+      fault = Some (fault_of (is_some comment) w.start (bytes_of text w));
+      comment = comment;
+    }
+unfolding reading
+reading_faulty text comment w ws role = rw (role, reading) refl
+
+pub reading_end : (text : List ℕ) (comment : Option ℕ)
+    → reading text comment [] ≡ record { tokens = []; fault = None; comment = comment }
+unfolding reading
+reading_end text comment = refl
+
+-- What all words give is these tokens and what the words from the place on give, where that comment
+-- is open.
+pub record Reads (text : List ℕ) (ts : List Word) (comment : Option ℕ) (at : ℕ) : Type 0 where
+  pub same : reading text None (words_of text)
+      ≡ with_tokens ts (reading text comment (words_between text at (length text)))
+
+module _ {text : List ℕ} {ts : List Word} {comment : Option ℕ} {at : ℕ} {w : Word} where
+  pub Reads_faulty : (b : Bool) → Reads text ts comment at → IsNextWord text at (length text) w
+      → b ≡ is_some comment → Faulty ≡ role_of b (bytes_of text w) →
+      reading text None (words_of text)
+      ≡ record {
+        tokens = ts;
+        fault = Some (fault_of b w.start (bytes_of text w));
+        comment = comment;
+      }
+  Reads_faulty b reads next e role =
+      reads.same ∙ ap (λ (xs : List Word). with_tokens ts (reading text comment xs)) next.rest
+      ∙ ap (with_tokens ts) (reading_faulty text comment w _ (rw (← e) (sym role)))
+      ∙ rw (append-nil, e) refl
+
+  Reads-next : (us : List Word) (d : Option ℕ) → Reads text ts comment at
+      → IsNextWord text at (length text) w →
+      with_tokens ts (reading text comment (w ∷ words_between text w.end (length text)))
+      ≡ with_tokens us (reading text d (words_between text w.end (length text))) →
+      Reads text us d w.end
+  Reads-next us d reads next step =
+      record {
+        same = reads.same
+            ∙ ap (λ (xs : List Word). with_tokens ts (reading text comment xs)) next.rest ∙ step;
+      }
+
+  pub Reads_token : (b : Bool) → Reads text ts comment at → IsNextWord text at (length text) w
+      → b ≡ is_some comment → Token ≡ role_of b (bytes_of text w) →
+      Reads text (ts ++ w ∷ []) comment w.end
+  Reads_token b reads next e role =
+      Reads-next (ts ++ w ∷ []) comment reads next
+      (reading_token text ts comment w _ (rw (← e) (sym role)))
+
+  pub Reads_opening : (b : Bool) → Reads text ts comment at → IsNextWord text at (length text) w
+      → b ≡ is_some comment → Opening ≡ role_of b (bytes_of text w) →
+      Reads text ts (Some w.start) w.end
+  Reads_opening b reads next e role =
+      Reads-next ts (Some w.start) reads next
+      (ap (with_tokens ts) (reading_opening text comment w _ (rw (← e) (sym role))))
+
+  pub Reads_closing : (b : Bool) → Reads text ts comment at → IsNextWord text at (length text) w
+      → b ≡ is_some comment → Closing ≡ role_of b (bytes_of text w) →
+      Reads text ts None w.end
+  Reads_closing b reads next e role =
+      Reads-next ts None reads next
+      (ap (with_tokens ts) (reading_closing text comment w _ (rw (← e) (sym role))))
+
+  pub Reads_comment : (b : Bool) → Reads text ts comment at → IsNextWord text at (length text) w
+      → b ≡ is_some comment → Comment ≡ role_of b (bytes_of text w) →
+      Reads text ts comment w.end
+  Reads_comment b reads next e role =
+      Reads-next ts comment reads next
+      (ap (with_tokens ts) (reading_comment text comment w _ (rw (← e) (sym role))))
+
+module _ {text : List ℕ} {ts : List Word} {comment : Option ℕ} {at : ℕ} where
+  pub Reads_end : Reads text ts comment at → words_between text at (length text) ≡ []
+      → reading text None (words_of text) ≡ record { tokens = ts; fault = None; comment = comment }
+  Reads_end reads next =
+      reads.same ∙ ap (λ (xs : List Word). with_tokens ts (reading text comment xs)) next
+      ∙ ap (with_tokens ts) (reading_end text comment) ∙ rw append-nil refl
+
+-- ---- one stretch of words after another
+
+pub go_on_with_tokens : (text : List ℕ) (ts ys us : List Word) (f : Option Fault) (c : Option ℕ) →
+    with_tokens ts (go_on text (record { tokens = us; fault = f; comment = c }) ys)
+    ≡ go_on text (record { tokens = ts ++ us; fault = f; comment = c }) ys
+go_on_with_tokens text ts ys us None c = rw append_assoc refl
+go_on_with_tokens text ts ys us (Some f) c = refl
+
+pub reading_one : (text : List ℕ) (c : Option ℕ) (w : Word) (ws : List Word)
+    → role_of (is_some c) (bytes_of text w) ≡ Token →
+    reading text c (w ∷ ws) ≡ with_tokens (w ∷ []) (reading text c ws)
+reading_one text c w ws h = reading_token text [] c w ws h
+
+pub reading_append : (text : List ℕ) (c : Option ℕ) (xs ys : List Word)
+    → reading text c (xs ++ ys) ≡ go_on text (reading text c xs) ys
+reading_append text c [] ys = sym (ap (λ (r : Reading). go_on text r ys) (reading_end text c))
+reading_append text c (x ∷ xs) ys =
+    by (role_of (is_some c) (bytes_of text x)) refl (λ d. reading_append text d xs ys)
+  where
+    by : (r : Role) → role_of (is_some c) (bytes_of text x) ≡ r
+        → ((d : Option ℕ) → reading text d (xs ++ ys) ≡ go_on text (reading text d xs) ys) →
+        reading text c (x ∷ (xs ++ ys)) ≡ go_on text (reading text c (x ∷ xs)) ys
+    by Token h ih = reading_one text c x (xs ++ ys) h ∙ ap (with_tokens (x ∷ [])) (ih c)
+        ∙ go_on_with_tokens text (x ∷ []) ys (reading text c xs).tokens (reading text c xs).fault
+        (reading text c xs).comment
+        ∙ sym (ap (λ (r : Reading). go_on text r ys) (reading_one text c x xs h))
+    by Opening h ih =
+        reading_opening text c x (xs ++ ys) h ∙ ih (Some x.start)
+        ∙ sym (ap (λ (r : Reading). go_on text r ys) (reading_opening text c x xs h))
+    by Closing h ih =
+        reading_closing text c x (xs ++ ys) h ∙ ih None
+        ∙ sym (ap (λ (r : Reading). go_on text r ys) (reading_closing text c x xs h))
+    by Comment h ih =
+        reading_comment text c x (xs ++ ys) h ∙ ih c
+        ∙ sym (ap (λ (r : Reading). go_on text r ys) (reading_comment text c x xs h))
+    by Faulty h ih =
+        reading_faulty text c x (xs ++ ys) h
+        ∙ sym (ap (λ (r : Reading). go_on text r ys) (reading_faulty text c x xs h))

@@ -1,0 +1,387 @@
+-- The table's first stop is the fault of the shape, and where it ends is the fault of the end.
+use Rattle.std.proofs.Common.{◌≡◌, ◌≢◌, ℕ, zero, suc, ◌+◌, ◌<◌, Bool, true, false, List, [], ◌∷◌}
+use Rattle.std.proofs.Common.{◌++◌, Option, Some, None, count_by, flat_map, ◌⊎◌, inl, inr, refl}
+use Rattle.std.proofs.Common.{sym, ap, ◌∙◌, subst, append-nil, append_assoc, arith}
+use Rattle.std.proofs.lemmas.List.{append_cancel_left}
+use Rattle.mm_spec.specs.Text.{Token, Fault, fault, is_label}
+use Rattle.mm_spec.specs.Statement.{Statement, spelled, is_opening, is_closing, IsRow, IsLongestRow}
+use Rattle.mm_spec.specs.Statement.{ShapeFault, FileEndFault, Begins, IsBetween, shape_code}
+use Rattle.mm_spec.specs.Output.{LexedText, TextFault, WordOrEnd}
+use Rattle.mm_spec.specs.Laws.Table.{Class, type_of, equals, close_block, plain, class, Progress}
+use Rattle.mm_spec.specs.Laws.Table.{start, labelled, words, formula, Turn, stop, go, done, turn}
+use Rattle.mm_spec.specs.Laws.Table.{label_turn, statements_of, stop_from, stop_after, rest_from}
+use Rattle.mm_spec.specs.Laws.Table.{rest_after, begins, fault_at_end}
+use Rattle.mm_spec.proofs.FollowedLaw.{State, at_start, at_label, in_symbols, in_formula, in_proof}
+use Rattle.mm_spec.proofs.FollowedLaw.{next, label_at_start, follow, follow_append, no_way_back}
+use Rattle.mm_spec.proofs.FollowedLaw.{row_followed, begins_followed}
+use Rattle.mm_spec.proofs.ShapeLaw.{Reads, Reaches, follow_reads, reads_none, begins_exact}
+use Rattle.mm_spec.proofs.RowLaw.{is_longest, longest_unique, row_read_at_start}
+use Rattle.mm_spec.specs.declared.Code.TheVariants.{OpenStatement, OpenBlock}
+
+abbrev words_state : Bool → ℕ → State
+words_state true d = in_proof d
+words_state false d = in_symbols d
+
+abbrev state_of : Bool → Progress → State
+state_of p (start d) = at_start d
+state_of p (labelled d l) = at_label d
+state_of p (words d make ws) = words_state p d
+state_of p (formula d l k ws) = in_formula d
+
+-- whether the words after the turn are those of a proof
+abbrev proves : Bool → Progress → Class → Bool
+proves p (formula d l k ws) equals = true
+proves p (words d make ws) k = p
+proves p _ k = false
+
+abbrev state_after : Bool → Turn → Option State
+state_after p stop = None
+state_after p (go r) = Some (state_of p r)
+state_after p (done e s) = Some (at_start e)
+
+same_turn : (p : Bool) (r : Progress) (k : Class) (t : Token)
+    → next (state_of p r) k t.word ≡ state_after (proves p r k) (turn r k t)
+same_turn p (start zero) close_block t = refl
+same_turn p (start (suc d)) close_block t = refl
+same_turn p (start d) plain t = by (is_label t.word)
+  where
+    by : (b : Bool) → label_at_start b d ≡ state_after false (label_turn b d t)
+    by true = refl
+    by false = refl
+same_turn p (start d) _ t = refl
+same_turn p (labelled d l) type_of t = refl
+same_turn p (labelled d l) _ t = refl
+same_turn true (words d make ws) plain t = refl
+same_turn true (words d make ws) _ t = refl
+same_turn false (words d make ws) plain t = refl
+same_turn false (words d make ws) _ t = refl
+same_turn p (formula d l k ws) plain t = refl
+same_turn p (formula d l k ws) _ t = refl
+
+follow_one : (p : Bool) (r : Progress) (t : Token) (ts : List Token)
+    → follow (Some (state_of p r)) (t ∷ ts)
+    ≡ follow (state_after (proves p r (class t.word)) (turn r (class t.word) t)) ts
+follow_one p r t ts = ap (λ o. follow o ts) (same_turn p r (class t.word) t)
+
+-- all tokens are expected
+followed : (ts : List Token) (p : Bool) (r : Progress) → stop_from r ts ≡ None
+    → (b : Bool) × (follow (Some (state_of p r)) ts ≡ Some (state_of b (rest_from r ts)))
+followed [] p r e = (p, refl)
+followed (t ∷ ts) p r e =
+    let x =
+    by (proves p r (class t.word)) (turn r (class t.word) t) e (λ q b h. followed ts b q h) in
+    (x.0, follow_one p r t ts ∙ x.1)
+  where
+    by : (b : Bool) (o : Turn)
+        → stop_after o (Some (fault t.at (shape_code (begins r) t.word))) (λ q. stop_from q ts)
+        ≡ None
+        → ((q : Progress) (b : Bool) → stop_from q ts ≡ None
+        → (c : Bool) × (follow (Some (state_of b q)) ts ≡ Some (state_of c (rest_from q ts))))
+        → (c : Bool)
+        × (follow (state_after b o) ts
+        ≡ Some (state_of c (rest_after o (λ q. rest_from q ts) r)))
+    by b stop e on = absurd (cc)
+    by b (go q) e on = on q b e
+    by b (done d s) e on = on (start d) b e
+
+-- the first that is not
+record Stop (r : Progress) (ts : List Token) (f : Fault) : Type 0 where
+  before : List Token
+  first : Token
+  after : List Token
+  splits : ts ≡ before ++ first ∷ after
+  goes : stop_from r before ≡ None
+  stops : turn (rest_from r before) (class first.word) first ≡ stop
+  is : f ≡ fault first.at (shape_code (begins (rest_from r before)) first.word)
+
+some_same : (f g : Fault) → Some f ≡ Some g → g ≡ f
+some_same f g e = cc
+
+stopped : (ts : List Token) (r : Progress) (f : Fault) → stop_from r ts ≡ Some f → Stop r ts f
+stopped [] r f e = absurd (cc)
+stopped (t ∷ ts) r f e = by (turn r (class t.word) t) refl e (λ q h. stopped ts q f h)
+  where
+    here : Option Fault
+    here = Some (fault t.at (shape_code (begins r) t.word))
+
+    by : (o : Turn) → turn r (class t.word) t ≡ o
+        → stop_after o (Some (fault t.at (shape_code (begins r) t.word))) (λ q. stop_from q ts)
+        ≡ Some f → ((q : Progress) → stop_from q ts ≡ Some f → Stop q ts f) → Stop r (t ∷ ts) f
+    by stop o e on =
+        record {
+          before = [];
+          first = t;
+          after = ts;
+          splits = refl;
+          goes = refl;
+          stops = o;
+          is = some_same (fault t.at (shape_code (begins r) t.word)) f e;
+        }
+    by (go q) o e on = let x = on q e in record {
+      before = t ∷ x.before;
+      first = x.first;
+      after = x.after;
+      splits = ap (λ y. t ∷ y) x.splits;
+      goes =
+          ap (λ a. stop_after a (Some (fault t.at (shape_code (begins r) t.word)))
+          (λ q. stop_from q x.before)) o
+          ∙ x.goes;
+      stops =
+          ap (λ a. turn (rest_after a (λ q. rest_from q x.before) r) (class x.first.word) x.first) o
+          ∙ x.stops;
+      is =
+          x.is ∙ ap
+          (λ a. fault x.first.at
+          (shape_code (begins (rest_after a (λ q. rest_from q x.before) r)) x.first.word)) (sym o);
+    }
+    by (done d s) o e on = let x = on (start d) e in record {
+      before = t ∷ x.before;
+      first = x.first;
+      after = x.after;
+      splits = ap (λ y. t ∷ y) x.splits;
+      goes =
+          ap (λ a. stop_after a (Some (fault t.at (shape_code (begins r) t.word)))
+          (λ q. stop_from q x.before)) o
+          ∙ x.goes;
+      stops =
+          ap (λ a. turn (rest_after a (λ q. rest_from q x.before) r) (class x.first.word) x.first) o
+          ∙ x.stops;
+      is =
+          x.is ∙ ap
+          (λ a. fault x.first.at
+          (shape_code (begins (rest_after a (λ q. rest_from q x.before) r)) x.first.word)) (sym o);
+    }
+
+-- a statement begins exactly where the tokens are a row
+between : (ts : List Token) (r : Progress) (b : Bool)
+    → follow (Some (at_start 0)) ts ≡ Some (state_of b r) → begins r ≡ true
+    → (row : List Statement) × IsRow row × (flat_map spelled row ≡ ts)
+between ts (start d) b e h =
+    let x : Reads (at_start d) ts =
+    subst (λ o. Reaches o ts) e (follow_reads ts [] (at_start 0) reads_none) in (
+      x.row,
+      x.balanced.is_row,
+      sym (append-nil (flat_map spelled x.row))
+          ∙ ap (λ p. flat_map spelled x.row ++ p) (sym x.is_part) ∙ sym x.is,
+    )
+between ts (labelled d l) b e h = absurd (cc)
+between ts (words d make ws) b e h = absurd (cc)
+between ts (formula d l k ws) b e h = absurd (cc)
+
+not_between : (ts : List Token) (r : Progress) (b : Bool)
+    → follow (Some (at_start 0)) ts ≡ Some (state_of b r) → begins r ≡ false → ¬ IsBetween ts
+not_between ts r b e h x =
+    let y = row_followed x.0 0 x.1.whole (λ n. let m = x.1.nested n in omega (arith, m)) in
+    no r b (sym e ∙ ap (follow (Some (at_start 0))) (sym x.2) ∙ y.1) h
+  where
+    no : {d : ℕ} (r : Progress) (b : Bool) → Some (state_of b r) ≡ Some (at_start d)
+        → begins r ≡ false → ⊥
+    no (start d) b e h = cc
+    no (labelled d l) b e h = cc
+    no (words d make ws) true e h = cc
+    no (words d make ws) false e h = cc
+    no (formula d l k ws) b e h = cc
+
+pub shape_fault : (ts : List Token) (f : Fault) → stop_from (start 0) ts ≡ Some f → ShapeFault ts f
+shape_fault ts f e =
+    let x = stopped ts (start 0) f e in
+    let y = followed x.before false (start 0) x.goes in
+    record {
+      before = x.before;
+      first = x.first;
+      after = x.after;
+      splits = x.splits;
+      begins = (begins_exact x.before).1 (state_of y.0 (rest_from (start 0) x.before), y.1);
+      no_more = λ m. ended x.before x.first (rest_from (start 0) x.before) y.0 y.1 x.stops m;
+      code =
+          by x.before x.first (rest_from (start 0) x.before) y.0 y.1 x.is
+          (begins (rest_from (start 0) x.before)) refl;
+    }
+  where
+    ended : (before : List Token) (first : Token) (r : Progress) (b : Bool)
+        → follow (Some (at_start 0)) before ≡ Some (state_of b r)
+        → turn r (class first.word) first ≡ stop → ¬ Begins (before ++ first ∷ [])
+    ended before first r b y s m =
+        let q = begins_followed (before ++ first ∷ []) m in
+        let n : None ≡ Some q.0 =
+        sym (ap (state_after (proves b r (class first.word))) s) ∙ sym (follow_one b r first [])
+        ∙ ap (λ o. follow o (first ∷ [])) (sym y)
+        ∙ sym (follow_append before (first ∷ []) (Some (at_start 0))) ∙ q.1 in
+        absurd (cc)
+
+    by : (before : List Token) (first : Token) (r : Progress) (b : Bool)
+        → follow (Some (at_start 0)) before ≡ Some (state_of b r)
+        → f ≡ fault first.at (shape_code (begins r) first.word) → (c : Bool) → begins r ≡ c
+        → (IsBetween before × (f ≡ fault first.at (shape_code true first.word)))
+        ⊎ ((¬ IsBetween before) × (f ≡ fault first.at (shape_code false first.word)))
+    by before first r b y e true h =
+        inl (between before r b y h, e ∙ ap (λ c. fault first.at (shape_code c first.word)) h)
+    by before first r b y e false h =
+        inr (not_between before r b y h, e ∙ ap (λ c. fault first.at (shape_code c first.word)) h)
+
+pub no_shape_fault : (ts : List Token) → stop_from (start 0) ts ≡ None
+    → ¬ ((g : Fault) × ShapeFault ts g)
+no_shape_fault ts e x =
+    let s = x.1 in
+    let y = followed ts false (start 0) e in
+    s.no_more
+    (front (s.before ++ s.first ∷ []) s.after (state_of y.0 (rest_from (start 0) ts))
+    (sym y.1
+    ∙ ap (follow (Some (at_start 0)))
+    (s.splits ∙ sym (append_assoc s.before (s.first ∷ []) s.after))))
+  where
+    front : (us vs : List Token) (q : State) → Some q ≡ follow (Some (at_start 0)) (us ++ vs)
+        → Begins us
+    front us vs q h = by (follow (Some (at_start 0)) us) refl
+      where
+        by : (o : Option State) → follow (Some (at_start 0)) us ≡ o → Begins us
+        by None n =
+            absurd (no_way_back vs q
+            (ap (λ o. follow o vs) (sym n) ∙ sym (follow_append us vs (Some (at_start 0))) ∙ sym h))
+        by (Some r) n = (begins_exact us).1 (r, n)
+
+-- ---- the end
+
+record Ends (ts : List Token) (d : ℕ) : Type 0 where
+  rest : (is_row : IsLongestRow ts (statements_of ts)) → is_row.rest ≡ []
+  count : d + count_by is_closing (statements_of ts) ≡ count_by is_opening (statements_of ts)
+
+ends : (ts : List Token) (d : ℕ) (b : Bool) → follow (Some (at_start 0)) ts ≡ Some (at_start d)
+    → Ends ts d
+ends ts d b e =
+    let x : Reads (at_start d) ts =
+    subst (λ o. Reaches o ts) e (follow_reads ts [] (at_start 0) reads_none) in
+    let whole : ts ≡ flat_map spelled x.row =
+    x.is ∙ ap (λ p. flat_map spelled x.row ++ p) x.is_part ∙ append-nil (flat_map spelled x.row) in
+    let y = row_read_at_start x.row [] x.balanced.is_row in
+    let same : statements_of ts ≡ x.row =
+    ap statements_of (whole ∙ sym (append-nil (flat_map spelled x.row))) ∙ y.2 ∙ append-nil x.row in
+    record {
+      rest =
+          λ r. append_cancel_left (flat_map spelled (statements_of ts)) r.rest []
+          (sym r.splits ∙ whole ∙ ap (flat_map spelled) (sym same)
+          ∙ sym (append-nil (flat_map spelled (statements_of ts))));
+      count =
+          subst (λ z. d + count_by is_closing z ≡ count_by is_opening z)
+          (sym same) x.balanced.count;
+    }
+
+goes_on : (ts : List Token) (r : Progress) (b : Bool)
+    → follow (Some (at_start 0)) ts ≡ Some (state_of b r) → begins r ≡ false
+    → (is_row : IsLongestRow ts (statements_of ts)) → is_row.rest ≢ []
+goes_on ts r b e h x n =
+    not_between ts r b e h (
+      statements_of ts,
+      x.is_row,
+      sym
+          (x.splits ∙ ap (λ y. flat_map spelled (statements_of ts) ++ y) n
+          ∙ append-nil (flat_map spelled (statements_of ts))),
+    )
+
+pub end_fault : (len : ℕ) (ts : List Token) (f : Fault) → stop_from (start 0) ts ≡ None
+    → fault_at_end len (rest_from (start 0) ts) ≡ Some f → FileEndFault len ts f
+end_fault len ts f e h =
+    let y = followed ts false (start 0) e in by (rest_from (start 0) ts) y.0 y.1 h
+  where
+    part : (r : Progress) (b : Bool) → follow (Some (at_start 0)) ts ≡ Some (state_of b r)
+        → begins r ≡ false → Some (fault len OpenStatement) ≡ Some f → FileEndFault len ts f
+    part r b y n h =
+        record {
+          row = statements_of ts;
+          is_row = is_longest ts;
+          code = inl (goes_on ts r b y n (is_longest ts), some_same (fault len OpenStatement) f h);
+        }
+
+    by : (r : Progress) (b : Bool) → follow (Some (at_start 0)) ts ≡ Some (state_of b r)
+        → fault_at_end len r ≡ Some f → FileEndFault len ts f
+    by (start zero) b y h = absurd (cc)
+    by (start (suc d)) b y h =
+        let x = ends ts (suc d) b y in
+        let c = x.count in
+        record {
+          row = statements_of ts;
+          is_row = is_longest ts;
+          code = inr
+              (x.rest (is_longest ts), omega (arith, c), some_same (fault len OpenBlock) f h);
+        }
+    by (labelled d l) b y h = part (labelled d l) b y refl h
+    by (words d make ws) b y h = part (words d make ws) b y refl h
+    by (formula d l k ws) b y h = part (formula d l k ws) b y refl h
+
+pub no_end_fault : (len : ℕ) (ts : List Token) → stop_from (start 0) ts ≡ None
+    → fault_at_end len (rest_from (start 0) ts) ≡ None → (f : Fault) → ¬ FileEndFault len ts f
+no_end_fault len ts e h f x =
+    let y = followed ts false (start 0) e in by (rest_from (start 0) ts) y.0 y.1 h
+  where
+    same : (row : List Statement) (r : IsLongestRow ts row) → statements_of ts ≡ row → Ends ts 0
+        → (r.rest ≡ []) × (count_by is_closing row ≡ count_by is_opening row)
+    same row r e x = (
+      subst (λ row. (r : IsLongestRow ts row) → r.rest ≡ []) e x.rest r,
+      subst (λ z. count_by is_closing z ≡ count_by is_opening z) e
+          (let c = x.count in omega (arith, c)),
+    )
+
+    no : (row : List Statement) (r : IsLongestRow ts row) → Ends ts 0
+        → ((r.rest ≢ []) × (f ≡ fault len OpenStatement))
+        ⊎ ((r.rest ≡ []) × (count_by is_closing row < count_by is_opening row)
+        × (f ≡ fault len OpenBlock))
+        → ⊥
+    no row r x (inl c) = c.0 (same row r (longest_unique ts row r) x).0
+    no row r x (inr c) =
+        let s = (same row r (longest_unique ts row r) x).1 in let l = c.1 in omega (arith, s, l)
+
+    by : (r : Progress) (b : Bool) → follow (Some (at_start 0)) ts ≡ Some (state_of b r)
+        → fault_at_end len r ≡ None → ⊥
+    by (start zero) b y h = no x.row x.is_row (ends ts 0 b y) x.code
+    by (start (suc d)) b y h = cc
+    by (labelled d l) b y h = cc
+    by (words d make ws) b y h = cc
+    by (formula d l k ws) b y h = cc
+
+-- the fault of the text by the table
+abbrev pub first_of : Option Fault → Option Fault → Option Fault
+first_of (Some f) g = Some f
+first_of None g = g
+
+abbrev pub text_fault : ℕ → LexedText → Option Fault
+text_fault len x =
+    first_of (stop_from (start 0) x.tokens)
+    (first_of x.fault (fault_at_end len (rest_from (start 0) x.tokens)))
+
+pub text_fault_is : (len : ℕ) (x : LexedText) (f : Fault) → text_fault len x ≡ Some f
+    → TextFault len x f
+text_fault_is len x f e =
+    by (stop_from (start 0) x.tokens) refl x.fault refl
+    (fault_at_end len (rest_from (start 0) x.tokens)) refl e
+  where
+    by : (a : Option Fault) → stop_from (start 0) x.tokens ≡ a → (b : Option Fault) → x.fault ≡ b
+        → (c : Option Fault) → fault_at_end len (rest_from (start 0) x.tokens) ≡ c
+        → first_of a (first_of b c) ≡ Some f → TextFault len x f
+    by (Some a) p b q c r e = inl (shape_fault x.tokens f (p ∙ e))
+    by None p (Some b) q c r e =
+        inr (
+          no_shape_fault x.tokens p,
+          subst (λ o. WordOrEnd len x.tokens o f) (sym q)
+              (some_same b f e),
+        )
+    by None p None q c r e =
+        inr (
+          no_shape_fault x.tokens p,
+          subst (λ o. WordOrEnd len x.tokens o f) (sym q)
+              (end_fault len x.tokens f p (r ∙ e)),
+        )
+
+pub no_text_fault : (len : ℕ) (x : LexedText) → text_fault len x ≡ None → (f : Fault)
+    → ¬ TextFault len x f
+no_text_fault len x e f t =
+    by (stop_from (start 0) x.tokens) refl x.fault refl
+    (fault_at_end len (rest_from (start 0) x.tokens)) refl e t
+  where
+    by : (a : Option Fault) → stop_from (start 0) x.tokens ≡ a → (b : Option Fault) → x.fault ≡ b
+        → (c : Option Fault) → fault_at_end len (rest_from (start 0) x.tokens) ≡ c
+        → first_of a (first_of b c) ≡ None → ¬ TextFault len x f
+    by (Some a) p b q c r e t = cc
+    by None p (Some b) q c r e t = cc
+    by None p None q c r e (inl s) = no_shape_fault x.tokens p (f, s)
+    by None p None q c r e (inr s) =
+        no_end_fault len x.tokens p (r ∙ e) f (subst (λ o. WordOrEnd len x.tokens o f) q s.1)

@@ -1,0 +1,105 @@
+-- A substitution is found from the `$f` hypotheses, if there is one.
+use Rattle.std.proofs.Common.{◌≡◌, ℕ, Bool, true, false, ◌&&◌, ◌||◌, not, List, [], ◌∷◌, ◌++◌, map}
+use Rattle.std.proofs.Common.{◌==◌, IsTrue, cond, refl, sym, ap, ap₂, ◌∙◌, subst, true≢false}
+use Rattle.std.proofs.Common.{append-nil, bytes_eq, eqb-true}
+use Rattle.std.proofs.lemmas.Slice.Eq.{bytes_eq-Decides}
+use Rattle.std.specs.List.{list_all, list_any, AllByRecursion}
+use Rattle.mm_spec.specs.Laws.Complete.{binds, IsBound, AreBound}
+use Rattle.mm_spec.specs.Derivation.{Formula, Pair, Context, Substitution, substitute, are_apart}
+use Rattle.mm_spec.specs.Laws.Stack.{same, tail, found}
+
+and_left : (a b : Bool) → (a && b) ≡ true → a ≡ true
+and_left true b e = refl
+and_left false b e = e
+
+and_right : (a b : Bool) → (a && b) ≡ true → b ≡ true
+and_right true b e = e
+and_right false b e = absurd (true≢false (sym e))
+
+both : (a b : Bool) → a ≡ true → b ≡ true → (a && b) ≡ true
+both a b e f = ap₂ (λ x y. x && y) e f
+
+pub same_equal : (ps qs : List Formula) → same ps qs ≡ true → ps ≡ qs
+same_equal [] [] e = refl
+same_equal [] (q ∷ qs) e = absurd (true≢false (sym e))
+same_equal (p ∷ ps) [] e = absurd (true≢false (sym e))
+same_equal (p ∷ ps) (q ∷ qs) e =
+    ap₂ (λ x xs. x ∷ xs) ((bytes_eq-Decides p q).0 (and_left (bytes_eq p q) (same ps qs) e))
+    (same_equal ps qs (and_right (bytes_eq p q) (same ps qs) e))
+
+pub equal_same : (ps qs : List Formula) → ps ≡ qs → same ps qs ≡ true
+equal_same ps qs e = subst (λ z. same ps z ≡ true) e (self ps)
+  where
+    self : (xs : List Formula) → same xs xs ≡ true
+    self [] = refl
+    self (x ∷ xs) = both (bytes_eq x x) (same xs xs) ((bytes_eq-Decides x x).1 refl) (self xs)
+
+module _ (c : Context) where
+  binder_value : (σ : Substitution) (x : ℕ) (h : Formula) → binds c x h ≡ true
+      → tail (substitute c σ h) ≡ σ x
+  binder_value σ x [] e = absurd (true≢false (sym e))
+  binder_value σ x (t ∷ []) e = absurd (true≢false (sym e))
+  binder_value σ x (t ∷ y ∷ z ∷ zs) e = absurd (true≢false (sym e))
+  binder_value σ x (t ∷ y ∷ []) e =
+      let rest = and_right (not (c.is_variable t)) (c.is_variable y && (x == y)) e in
+      let variable : c.is_variable y ≡ true = and_left (c.is_variable y) (x == y) rest in
+      let at : x ≡ y = eqb-true x y (and_right (c.is_variable y) (x == y) rest) in
+      let constant : c.is_variable t ≡ false =
+      of_not (c.is_variable t) (and_left (not (c.is_variable t)) (c.is_variable y && (x == y)) e) in
+      ap₂ (λ a b. tail (cond a (σ t) (t ∷ []) ++ (cond b (σ y) (y ∷ []) ++ []))) constant variable
+      ∙ append-nil (σ y) ∙ ap σ (sym at)
+    where
+      of_not : (b : Bool) → not b ≡ true → b ≡ false
+      of_not true e = sym e
+      of_not false e = refl
+
+  pub found_is : (hs : List Formula) (σ : Substitution) (x : ℕ) → IsBound c hs x
+      → found c hs (map (substitute c σ) hs) x ≡ σ x
+  found_is [] σ x e = absurd (true≢false (sym e))
+  found_is (h ∷ hs) σ x e = go (binds c x h) refl e (found_is hs σ x)
+    where
+      go : (b : Bool) → binds c x h ≡ b → (b || list_any (binds c x) hs) ≡ true
+          → (IsBound c hs x → found c hs (map (substitute c σ) hs) x ≡ σ x)
+          → elim b
+          [ true ↦ tail (substitute c σ h) | false ↦ found c hs (map (substitute c σ) hs) x ]
+          ≡ σ x
+      go true is e rest = binder_value σ x h is
+      go false is e rest = rest e
+
+  pub agree : (σ τ : Substitution) (f : Formula)
+      → AllByRecursion (λ x. IsTrue (c.is_variable x) → σ x ≡ τ x) f
+      → substitute c σ f ≡ substitute c τ f
+  agree σ τ [] e = refl
+  agree σ τ (x ∷ f) e = ap₂ (λ u v. u ++ v) (go (c.is_variable x) e.0) (agree σ τ f e.1)
+    where
+      go : (b : Bool) → (IsTrue b → σ x ≡ τ x) → cond b (σ x) (x ∷ []) ≡ cond b (τ x) (x ∷ [])
+      go true e = e refl
+      go false e = refl
+
+  -- the found substitution does to bound formulas what any that matches does
+  module _ (hs : List Formula) (τ : Substitution) where
+    abbrev σ : Substitution
+    σ = found c hs (map (substitute c τ) hs)
+
+    bound_agree : (f : Formula) → AreBound c hs f
+        → AllByRecursion (λ x. IsTrue (c.is_variable x) → σ x ≡ τ x) f
+    bound_agree [] b = tt
+    bound_agree (x ∷ f) b = (λ v. found_is hs τ x (b.0 v), bound_agree f b.1)
+
+    pub found_formula : (f : Formula) → AreBound c hs f → substitute c σ f ≡ substitute c τ f
+    found_formula f b = agree σ τ f (bound_agree f b)
+
+    pub found_all : (fs : List Formula) → AllByRecursion (AreBound c hs) fs
+        → map (substitute c τ) fs ≡ map (substitute c σ) fs
+    found_all [] b = refl
+    found_all (f ∷ fs) b = ap₂ (λ x xs. x ∷ xs) (sym (found_formula f b.0)) (found_all fs b.1)
+
+    pub found_apart : (ps : List Pair)
+        → AllByRecursion (λ p. IsBound c hs p.low × IsBound c hs p.high) ps
+        → list_all (λ p. are_apart c (σ p.low) (σ p.high)) ps
+        ≡ list_all (λ p. are_apart c (τ p.low) (τ p.high)) ps
+    found_apart [] b = refl
+    found_apart (p ∷ ps) b =
+        ap₂ (λ x y. x && y)
+        (ap₂ (are_apart c) (found_is hs τ p.low b.0.0) (found_is hs τ p.high b.0.1))
+        (found_apart ps b.1)
