@@ -3,6 +3,7 @@ use Rattle.std.proofs.Common.{◌≡◌, ℕ, ◌+◌, ◌%◌, ◌^◌, ◌<◌
 use Rattle.std.proofs.Common.{false, cond, Option, None, Some, List, [], ◌∷◌, ◌++◌, get_or, sym}
 use Rattle.std.proofs.Common.{refl, ap, ap₂, ◌∙◌, subst, arith}
 use Rattle.std.proofs.lemmas.Bool.{cases_lt, lt-ltb, le-ltb}
+use Rattle.std.proofs.lemmas.List.{append-nil}
 use mathlib.Core.Option.{none}
 use Rattle.atomic_table.specs.Table.{step, keeps, stepped, Allows}
 use Rattle.mm_board.specs.declared.views.View.{View}
@@ -15,10 +16,6 @@ use Rattle.mm_board.proofs.StepsLaw.{at_claim, at_floor, at_settled, count_is, c
 use Rattle.mm_board.proofs.StepsLaw.{settled_word, glances, draws, draws_none, looks_open, looks_shut}
 use Rattle.mm_board.proofs.StepsLaw.{settling, reporting}
 
-append_none : (l : List ℕ) → l ++ [] ≡ l
-append_none [] = refl
-append_none (x ∷ xs) = ap (λ (t : List ℕ). x ∷ t) (append_none xs)
-
 looked_shut : (v : View) (f : ℕ) (o : Option ℕ) → v.open_number ≡ o → open_after_look o f ≡ o
     → skipped_by_look o f ≡ [] → after_look v f ≡ record v { seen = f }
 looked_shut v f o is kept none_new =
@@ -26,7 +23,7 @@ looked_shut v f o is kept none_new =
     ap (λ (q : Option ℕ). open_after_look q f) is ∙ kept ∙ sym is in
     let q : v.skipped ++ skipped_by_look v.open_number f ≡ v.skipped =
     ap (λ (q : Option ℕ). v.skipped ++ skipped_by_look q f) is
-    ∙ ap (λ (t : List ℕ). v.skipped ++ t) none_new ∙ append_none v.skipped in
+    ∙ ap (λ (t : List ℕ). v.skipped ++ t) none_new ∙ append-nil v.skipped in
     ap₂ (λ (a : Option ℕ) (b : List ℕ). record v { open_number = a; skipped = b; seen = f }) p q
 
 looked_open : (v : View) (f i : ℕ) → v.open_number ≡ Some i → f < i

@@ -8,6 +8,7 @@ use Rattle.std.proofs.lemmas.List.{length-map}
 use Rattle.std.proofs.lemmas.Bool.{cases_order}
 use lib.Bits.{bit_or, bit_xor}
 use lib.Lanes.{zip2, mask_l, top, Each1}
+use mir.Val.{bool_byte}
 
 abbrev pub hit : ℕ → ℕ → ℕ
 hit a b = cond (eqb a b) 255 0
@@ -18,6 +19,10 @@ below a b = cond (ltb a b) 255 0
 abbrev pub upto : (ℕ → Bool) → ℕ → Bool
 upto p zero = true
 upto p (suc n) = p n && upto p n
+
+pub at_most_one : (b : Bool) → bool_byte b ≤ 1
+at_most_one false = omega arith
+at_most_one true = omega arith
 
 both : (a b : Bool) → T (a && b) → T a × T b
 both true b h = (tt, h)

@@ -4,6 +4,7 @@ use Rattle.std.proofs.Common.{◌∷◌, length, refl, sym, ap₂, ◌∙◌, su
 use Rattle.std.proofs.Common.{eqb-true}
 use Rattle.std.specs.List.{list_any, AllByRecursion}
 use Rattle.std.proofs.lemmas.List.Elements.{All-from_recursion}
+use Rattle.std.proofs.Math.Bool.{and_comm}
 use Rattle.mm_spec.specs.Statement.{Statement}
 use Rattle.mm_spec.specs.Derivation.{Pair, is_member, are_disjoint}
 use Rattle.mm_spec.specs.Frame.{symbol_names, is_variable_number, formula_at, mandatory_variables}
@@ -12,12 +13,6 @@ use Rattle.mm_spec.specs.Frame.{pairs_of}
 use Rattle.mm_spec.specs.Citation.{context_at}
 use Rattle.mm_spec.proofs.FindsLaw.{each_filter, each_any}
 use Rattle.mm_check.specs.Arena.{paired}
-
-and_sym : (a b : Bool) → (a && b) ≡ (b && a)
-and_sym true true = refl
-and_sym true false = refl
-and_sym false true = refl
-and_sym false false = refl
 
 eq_sym : (x y : ℕ) → (x == y) ≡ (y == x)
 eq_sym x y = by (x == y) (y == x) refl refl
@@ -38,13 +33,13 @@ module _ (db : List Statement) (k : ℕ) where
       ap₂ (λ a b. not a && b) (eq_sym x y)
       (any_same (λ j. is_member (formula_at db j) x && is_member (formula_at db j) y)
       (λ j. is_member (formula_at db j) y && is_member (formula_at db j) x)
-      (λ j. and_sym (is_member (formula_at db j) x) (is_member (formula_at db j) y))
+      (λ j. and_comm (is_member (formula_at db j) x) (is_member (formula_at db j) y))
       (active_of is_disjoint_statement db k))
 
   pub either_order : (x y : ℕ) → are_disjoint (context_at db k) x y ≡ true
       → are_disjoint (context_at db k) y x ≡ true
   either_order x y h =
-      ap₂ (λ a b. not a || b) (and_sym (is_variable_number db y) (is_variable_number db x))
+      ap₂ (λ a b. not a || b) (and_comm (is_variable_number db y) (is_variable_number db x))
       (ap₂ (λ a b. not a && b) (eq_sym y x) (disjoint_sym y x))
       ∙ h
 

@@ -1,5 +1,5 @@
 -- The numbers of a frame are those of the database.
-use Rattle.std.proofs.Common.{cond, ◌≡◌, ℕ, zero, suc, ◌<◌, ◌≤◌, Bool, true, false, ◌&&◌, ◌||◌}
+use Rattle.std.proofs.Common.{cond, ◌≡◌, ℕ, suc, ◌<◌, ◌≤◌, Bool, true, false, ◌&&◌, ◌||◌}
 use Rattle.std.proofs.Common.{List, [], ◌∷◌, length, Option, None, Some, slice_get, flat_map}
 use Rattle.std.proofs.Common.{nat_lt, refl, sym, subst, All, arith, true≢false}
 use Rattle.std.specs.List.{AllByRecursion, list_any, range_with_len, filter}
@@ -7,12 +7,14 @@ use Rattle.std.proofs.lemmas.List.Elements.{All-from_recursion}
 use Rattle.mm_spec.specs.Text.{Bytes, is_in}
 use Rattle.mm_spec.specs.Statement.{Statement}
 use Rattle.std.proofs.lemmas.List.FromFn.{length-range_with_len}
+use Rattle.std.proofs.lemmas.Option.{slice_get_within}
 use Rattle.mm_spec.specs.Scope.{is_active, active, statement_at, variables_of}
 use Rattle.mm_spec.specs.Derivation.{Pair, is_member}
 use Rattle.mm_spec.specs.Frame.{symbol_names, is_variable_number, is_essential, is_floating}
 use Rattle.mm_spec.specs.Frame.{formula_at, mandatory_variables, mandatory_hypotheses}
 use Rattle.mm_spec.specs.Frame.{mandatory_pairs, disjoint_at, pairs_of}
 use Rattle.mm_spec.proofs.FindsLaw.{is_before, each_filter, each_any, member_filter}
+use Rattle.mm_spec.proofs.BoolLaw.{middle_parts}
 use Rattle.mm_check.specs.Arena.{paired}
 
 weaker : (P Q : ℕ → Type 0) → ((x : ℕ) → P x → Q x) → (xs : List ℕ) → AllByRecursion P xs
@@ -52,12 +54,6 @@ hyps_below db k u = All-from_recursion (λ h. h < length db) (mandatory_hypothes
     (each_any (λ j. is_active db j k ≡ true → j < length db) (range_with_len 0 k)
     (λ j e. let b = is_before db j k e in omega (arith, b)))))
 
-inside : {X : Type 0} (xs : List X) (i : ℕ) (x : X) → slice_get xs i ≡ Some x → i < length xs
-inside [] zero x e = absurd (cc)
-inside [] (suc i) x e = absurd (cc)
-inside (y ∷ xs) zero x e = omega arith
-inside (y ∷ xs) (suc i) x e = let h = inside xs i x e in omega arith
-
 variable_below : (db : List Statement) (x : ℕ) → is_variable_number db x ≡ true
     → x < length (symbol_names db)
 variable_below db x e = by (slice_get (symbol_names db) x) refl e
@@ -66,7 +62,7 @@ variable_below db x e = by (slice_get (symbol_names db) x) refl e
         → elim o [ None ↦ false | Some w ↦ is_in w (flat_map variables_of db) ] ≡ true
         → x < length (symbol_names db)
     by None o e = absurd (true≢false (sym e))
-    by (Some w) o e = inside (symbol_names db) x w o
+    by (Some w) o e = slice_get_within (symbol_names db) x w o
 
 mandatory_below : (db : List Statement) (k x : ℕ) → is_member (mandatory_variables db k) x ≡ true
     → x < length (symbol_names db)
@@ -83,13 +79,6 @@ pairs_below db k ps e =
     Low : Pair → Type 0
     Low p = (p.low < length (symbol_names db)) × (p.high < length (symbol_names db))
 
-    parts : (a b c d : Bool) → (a && b && c && d) ≡ true → (b ≡ true) × (c ≡ true)
-    parts true true true d h = (refl, refl)
-    parts true true false d h = absurd (cc)
-    parts true false true d h = absurd (cc)
-    parts true false false d h = absurd (cc)
-    parts false b c d h = absurd (cc)
-
     in_order : Pair → Bool
     in_order p =
         nat_lt p.low p.high && is_member (mandatory_variables db k) p.low
@@ -99,7 +88,8 @@ pairs_below db k ps e =
     low =
         each_filter Low in_order (pairs_of (length (symbol_names db)))
         (each_any (λ p. in_order p ≡ true → Low p) (pairs_of (length (symbol_names db)))
-        (λ p h. let q = parts (nat_lt p.low p.high) (is_member (mandatory_variables db k) p.low)
+        (λ p h. let q =
+        middle_parts (nat_lt p.low p.high) (is_member (mandatory_variables db k) p.low)
         (is_member (mandatory_variables db k) p.high) (disjoint_at db k p.low p.high) h in
         (mandatory_below db k p.low q.0, mandatory_below db k p.high q.1)))
 

@@ -20,22 +20,12 @@ use Rattle.mm_spec.specs.Statement.{Statement, provable}
 use Rattle.mm_spec.specs.Citation.{context_at, is_theorem}
 use Rattle.mm_proof.specs.Read.{step_at}
 use Rattle.std.specs.Option.{option_map}
+use Rattle.std.proofs.Math.Bool.{or-false}
+use Rattle.std.proofs.lemmas.Bool.{or_left, or_right}
 use Rattle.mm_spec.specs.Output.{is_theorem_at, end_of}
 use Rattle.mm_stmt.specs.Database.{last_place}
 use Rattle.mm_check.specs.Contract.{is_assertion_at, is_labelled_step}
 use Rattle.mm_check.specs.Reached.{Reached, steps_of}
-
-or_false : (a : Bool) → (a || false) ≡ a
-or_false true = refl
-or_false false = refl
-
-or_right : (a b : Bool) → b ≡ true → (a || b) ≡ true
-or_right true b e = refl
-or_right false b e = e
-
-or_kept : (a b : Bool) → a ≡ true → (a || b) ≡ true
-or_kept true b e = refl
-or_kept false b e = cc
 
 or_weak : (a b : Bool) → (b ≡ true → a ≡ true) → (a || b) ≡ (a || false)
 or_weak true b f = refl
@@ -80,7 +70,7 @@ module _ (c : Context) where
       → Within lists old → (a : ℕ) → is_member new a ≡ (is_member old a || is_labelled_step s a)
   adds_member lists old new (label l) h w a =
       ap (λ z. is_member z a) h ∙ list_any-append (λ y. a == y) old (l ∷ [])
-      ∙ ap (λ b. is_member old a || b) (or_false (a == l))
+      ∙ ap (λ b. is_member old a || b) (or-false (a == l))
   adds_member lists old new (marked j) h w a =
       ap (λ z. is_member z a) h.4 ∙ list_any-append (λ y. a == y) old h.1
       ∙ or_weak (is_member old a) (is_member h.1 a)
@@ -114,7 +104,7 @@ next k t done stack ends noted s out then r good made notes =
           (r.plain (s ∷ rest) all (postfix g.0, g.2, h));
       within =
           within_more r.lists (postfix r.row) (postfix g.0) r.within
-          (λ a m. members a ∙ or_kept _ _ m);
+          (λ a m. members a ∙ or_left _ _ m);
       noted_are =
           λ a. notes a
           ∙ ap (λ b. b || (is_labelled_step s a && is_assertion_at k a)) (r.noted_are a)

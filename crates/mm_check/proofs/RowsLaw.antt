@@ -3,7 +3,7 @@ use Rattle.std.proofs.Common.{◌≡◌, ℕ, zero, suc, ◌+◌, ◌<◌, ◌�
 use Rattle.std.proofs.Common.{length, get_or, Some, slice_get, refl, sym, ap, ◌∙◌, subst}
 use Rattle.std.proofs.Common.{append_assoc, append-nil, length-append, arith}
 use Rattle.std.specs.List.{AllZip}
-use Rattle.std.proofs.lemmas.List.{get_or_append_left}
+use Rattle.std.proofs.lemmas.List.{get_or_append_left, same_from_push}
 use Rattle.mm_spec.specs.Derivation.{Formula, Context, Follows, Trees, none, more, tree, formulas}
 use Rattle.mm_spec.specs.Derivation.{postfix, AreDerivations}
 use Rattle.mm_spec.specs.Steps.{Step, label, marked}
@@ -38,18 +38,6 @@ cuts (x ∷ xs) ys (u ∷ us) vs e =
         ⊎ ((k : List ℕ) × (u ∷ us ≡ (x ∷ xs) ++ k) × (ys ≡ k ++ vs))
     by h (inl p) = let e = p.1 in inl (p.0, cc (h, e))
     by h (inr p) = let e = p.1 in inr (p.0, cc (h, e), p.2)
-
--- a list without its last element, and this
-last_parts : (xs ys : List ℕ) (x y : ℕ) → xs ++ x ∷ [] ≡ ys ++ y ∷ [] → (xs ≡ ys) × (x ≡ y)
-last_parts [] [] x y e = (refl, ap (λ l. get_or l 0 0) e)
-last_parts [] (v ∷ ys) x y e = absurd (omega (arith, ap length e, length-append ys (y ∷ [])))
-last_parts (u ∷ xs) [] x y e = absurd (omega (arith, ap length e, length-append xs (x ∷ [])))
-last_parts (u ∷ xs) (v ∷ ys) x y e =
-    let h : u ≡ v = cc in
-    let t : xs ++ x ∷ [] ≡ ys ++ y ∷ [] = cc in
-    let p = last_parts xs ys x y t in
-    let q = p.0 in
-    (cc (h, q), p.1)
 
 -- ---- rows
 
@@ -188,7 +176,7 @@ module _ (c : Context) where
         absurd (omega (arith, ap length p, length-append (postfix row) (l ∷ [])))
     move_label rows n row (more ts k f cs) l d e p here then =
         let q =
-        last_parts (postfix ts ++ postfix cs) (postfix row) k l
+        same_from_push (postfix ts ++ postfix cs) (postfix row) k l
         (append_assoc (postfix ts) (postfix cs) (k ∷ []) ∙ p) in
         let is =
         same_row c fine row (ts ⧺ cs) d (derivations_join ts cs e.0 e.1)

@@ -11,16 +11,12 @@ use Rattle.mm_check.specs.declared.rule.Part.{Part}
 use Rattle.mm_check.specs.Arena.{Arena, symbols_of, text_of, IsIn}
 use Rattle.mm_check.specs.Rule.{told, replaced}
 use Rattle.mm_spec.specs.Laws.Stack.{tail}
-use Rattle.std.proofs.lemmas.Bool.{cases_lt}
+use Rattle.std.proofs.lemmas.Bool.{cases_lt, and_parts}
+use Rattle.std.proofs.Math.Bool.{and-true}
+use Rattle.mm_spec.proofs.BoolLaw.{same_tests}
 
 pub eq_self : (x : ℕ) → nat_eq x x ≡ true
 eq_self x = eq-eqb x x refl
-
--- two tests that tell the same
-pub same_tests : (a b : Bool) → (a ≡ true → b ≡ true) → (b ≡ true → a ≡ true) → a ≡ b
-same_tests true b f g = sym (f refl)
-same_tests false true f g = g refl
-same_tests false false f g = refl
 
 eq_sym : (x y : ℕ) → nat_eq x y ≡ nat_eq y x
 eq_sym x y =
@@ -108,16 +104,12 @@ pub first_is : (xs : List ℕ) (a e s : ℕ) → a < e → e ≤ length xs
     → starts_with nat_eq (slice_range xs a e) (s ∷ []) ≡ nat_eq s (get_or xs a 0)
 first_is xs a e s h l = go (e - a) (drop a xs) (drop_more xs a 0 (omega arith)) (omega arith)
   where
-    and_true : (b : Bool) → (b && true) ≡ b
-    and_true true = refl
-    and_true false = refl
-
     go : (n : ℕ) (ys : List ℕ) → ys ≡ get_or xs a 0 ∷ drop (a + 1) xs → 0 < n
         → starts_with nat_eq (take n ys) (s ∷ []) ≡ nat_eq s (get_or xs a 0)
     go zero ys e p = absurd (omega arith)
     go (suc n) ys e p =
         ap (λ z. starts_with nat_eq (take (suc n) z) (s ∷ [])) e
-        ∙ and_true (nat_eq s (get_or xs a 0))
+        ∙ and-true (nat_eq s (get_or xs a 0))
 
 pub none_is : (xs : List ℕ) (a e s : ℕ) → e ≤ a
     → starts_with nat_eq (slice_range xs a e) (s ∷ []) ≡ false
@@ -133,11 +125,7 @@ fits_in xs a e u h s =
     short : (u ys : List ℕ) → starts_with nat_eq ys u ≡ true → length u ≤ length ys
     short [] ys s = omega arith
     short (x ∷ u) [] s = cc
-    short (x ∷ u) (y ∷ ys) s = let r = short u ys (right (nat_eq x y) _ s) in omega arith
-      where
-        right : (a b : Bool) → (a && b) ≡ true → b ≡ true
-        right true b e = e
-        right false b e = cc
+    short (x ∷ u) (y ∷ ys) s = let r = short u ys (and_parts (nat_eq x y) _ s).1 in omega arith
 
 -- the entry without its first symbol
 pub text_tail : (xs : List ℕ) (a e : ℕ) → a ≤ e
@@ -175,11 +163,7 @@ typed_is l a e t h w =
     let m : min (a + 1) e ≡ a + 1 = omega arith in
     ap₂ (λ u n. bytes_eq u (t ∷ slice_range l n e)) (first_rest l a e h w) m
     ∙ ap (λ b. nat_eq (get_or l a 0) t && b) (bytes_same (slice_range l (a + 1) e))
-    ∙ and_true (nat_eq (get_or l a 0) t)
-  where
-    and_true : (b : Bool) → (b && true) ≡ b
-    and_true true = refl
-    and_true false = refl
+    ∙ and-true (nat_eq (get_or l a 0) t)
 
 pub untyped : (l : List ℕ) (a e t : ℕ) (u : List ℕ) → e ≤ a
     → bytes_eq (slice_range l a e) (t ∷ u) ≡ false

@@ -7,20 +7,17 @@ use Rattle.std.proofs.lemmas.Bool.{le-leb, leb-true, eq-eqb, eqb-true, ne_eqb}
 use Rattle.std.proofs.lemmas.List.Folds.{list_any-append}
 use Rattle.std.specs.List.{list_any}
 use Rattle.std.specs.List.Sorted.{IsPartitionedBy}
+use Rattle.std.proofs.Math.Bool.{and-false, and-true, or-false, or-true}
+use Rattle.std.proofs.lemmas.Bool.{and_parts, false_from_ne_true}
 use Rattle.mm_spec.specs.Statement.{Statement}
 use Rattle.mm_spec.specs.Scope.{statement_at}
 use Rattle.mm_spec.specs.Derivation.{is_member}
 use Rattle.mm_spec.specs.Frame.{is_disjoint_statement, formula_at}
+use Rattle.mm_spec.proofs.BoolLaw.{same_tests}
 use Rattle.mm_outline.specs.Blocks.{Lists, IsBlocks, end_of}
 use Rattle.mm_frame.specs.Pairs.{has_pair, IsBefore, is_before, AreRising}
 use Rattle.mm_frame.specs.DisjointIndex.{has_symbol, is_live, AreKnown, Covers}
-use Rattle.mm_frame.proofs.NestedLaw.{same_tests}
 use Rattle.mm_outline.proofs.StatementsLaw.{is_there}
-use Rattle.mm_frame.proofs.LatestLaw.{and_left, and_right, not_true, or_true, or_false, and_false}
-
-and_true : (b : Bool) → (b && true) ≡ b
-and_true true = refl
-and_true false = refl
 
 -- ---- pairs by their places
 
@@ -38,9 +35,9 @@ has_at (q ∷ qs) x y h = by (nat_eq x q.0 && nat_eq y q.1) refl h (λ k. has_at
     by true e h f = (
       0,
       omega arith,
-      sym (eqb-true x q.0 (and_left (nat_eq x q.0) (nat_eq y q.1) e)),
+      sym (eqb-true x q.0 (and_parts (nat_eq x q.0) (nat_eq y q.1) e).0),
       sym
-          (eqb-true y q.1 (and_right (nat_eq x q.0) (nat_eq y q.1) e)),
+          (eqb-true y q.1 (and_parts (nat_eq x q.0) (nat_eq y q.1) e).1),
     )
     by false e h f = let r = f h in let l = r.1 in (suc r.0, omega (arith, l), r.2, r.3)
 
@@ -53,7 +50,7 @@ at_has (q ∷ qs) zero d h =
 at_has (q ∷ qs) (suc p) d h =
     ap (λ b. (nat_eq (get_or qs p d).0 q.0 && nat_eq (get_or qs p d).1 q.1) || b)
     (at_has qs p d (omega arith))
-    ∙ or_true (nat_eq (get_or qs p d).0 q.0 && nat_eq (get_or qs p d).1 q.1)
+    ∙ or-true (nat_eq (get_or qs p d).0 q.0 && nat_eq (get_or qs p d).1 q.1)
 
 pub rising_at : (ps : List (ℕ × ℕ)) → AreRising ps → (i j : ℕ) (d : ℕ × ℕ) → i < j → j < length ps
     → IsBefore (get_or ps i d).0 (get_or ps i d).1 (get_or ps j d).0 (get_or ps j d).1
@@ -74,16 +71,16 @@ before_is p x y h = by (nat_lt p.0 x) refl h
     by true e h = inl (ltb-true p.0 x e)
     by false e h =
         inr (
-          eqb-true p.0 x (and_left (nat_eq p.0 x) (nat_lt p.1 y) h),
+          eqb-true p.0 x (and_parts (nat_eq p.0 x) (nat_lt p.1 y) h).0,
           ltb-true p.1 y
-              (and_right (nat_eq p.0 x) (nat_lt p.1 y) h),
+              (and_parts (nat_eq p.0 x) (nat_lt p.1 y) h).1,
         )
 
 pub is_before_if : (p : ℕ × ℕ) (x y : ℕ) → IsBefore p.0 p.1 x y → is_before p x y ≡ true
 is_before_if p x y (inl l) = ap (λ b. b || (nat_eq p.0 x && nat_lt p.1 y)) (lt-ltb p.0 x l)
 is_before_if p x y (inr (e, l)) =
     ap (λ b. nat_lt p.0 x || b) (ap₂ (λ a b. a && b) (eq-eqb p.0 x e) (lt-ltb p.1 y l))
-    ∙ or_true (nat_lt p.0 x)
+    ∙ or-true (nat_lt p.0 x)
 
 before_through : (a b c d e f : ℕ) → IsBefore a b c d → IsBefore c d e f → IsBefore a b e f
 before_through a b c d e f (inl l) (inl m) = inl (omega arith)
@@ -110,7 +107,7 @@ lt_next j k = by (cases_order j k)
     by : (j ≡ k) ⊎ ((j < k) ⊎ (k < j)) → nat_lt j (k + 1) ≡ (nat_lt j k || nat_eq j k)
     by (inl e) =
         lt-ltb j (k + 1) (omega (arith, e))
-        ∙ sym (ap (λ b. nat_lt j k || b) (eq-eqb j k e) ∙ or_true (nat_lt j k))
+        ∙ sym (ap (λ b. nat_lt j k || b) (eq-eqb j k e) ∙ or-true (nat_lt j k))
     by (inr (inl l)) =
         lt-ltb j (k + 1) (omega (arith, l)) ∙ sym (ap (λ b. b || nat_eq j k) (lt-ltb j k l))
     by (inr (inr l)) =
@@ -135,7 +132,7 @@ module _ (db : List Statement) (k : ℕ) (old : List (ℕ × ℕ))
       by (inl e) =
           ap₂ (λ a b. (a && has_symbol db x j) || (is_member (formula_at db k) x && b))
           (le-ltb j k (omega (arith, e))) (eq-eqb j k e)
-          ∙ and_true (is_member (formula_at db k) x)
+          ∙ and-true (is_member (formula_at db k) x)
           ∙ sym (ap₂ (λ a b. (a || b) && has_symbol db x j) (le-ltb j k (omega (arith, e)))
           (eq-eqb j k e)
           ∙ ap (has_symbol db x) e ∙ ap (λ b. b && is_member (formula_at db k) x) d)
@@ -143,10 +140,10 @@ module _ (db : List Statement) (k : ℕ) (old : List (ℕ × ℕ))
           ap (λ b. (nat_lt j k && has_symbol db x j) || (is_member (formula_at db k) x && b))
           (ne_eqb j k n)
           ∙ ap (λ b. (nat_lt j k && has_symbol db x j) || b)
-          (and_false (is_member (formula_at db k) x))
-          ∙ or_false (nat_lt j k && has_symbol db x j)
+          (and-false (is_member (formula_at db k) x))
+          ∙ or-false (nat_lt j k && has_symbol db x j)
           ∙ sym (ap (λ b. (nat_lt j k || b) && has_symbol db x j) (ne_eqb j k n)
-          ∙ ap (λ b. b && has_symbol db x j) (or_false (nat_lt j k)))
+          ∙ ap (λ b. b && has_symbol db x j) (or-false (nat_lt j k)))
 
   pub without_disjoint : list_any is_disjoint_statement (statement_at db k) ≡ false → (x j : ℕ)
       → has_pair old x j ≡ (nat_lt j (k + 1) && has_symbol db x j)
@@ -158,12 +155,12 @@ module _ (db : List Statement) (k : ℕ) (old : List (ℕ × ℕ))
       by (inl e) =
           let none : has_symbol db x j
           ≡ false = ap (has_symbol db x) e ∙ ap (λ b. b && is_member (formula_at db k) x) d in
-          ap (λ b. nat_lt j k && b) none ∙ and_false (nat_lt j k)
+          ap (λ b. nat_lt j k && b) none ∙ and-false (nat_lt j k)
           ∙ sym (ap (λ b. (nat_lt j k || nat_eq j k) && b) none
-          ∙ and_false (nat_lt j k || nat_eq j k))
+          ∙ and-false (nat_lt j k || nat_eq j k))
       by (inr n) =
           sym (ap (λ b. (nat_lt j k || b) && has_symbol db x j) (ne_eqb j k n)
-          ∙ ap (λ b. b && has_symbol db x j) (or_false (nat_lt j k)))
+          ∙ ap (λ b. b && has_symbol db x j) (or-false (nat_lt j k)))
 
 pub all_symbols : (db : List Statement) (x j : ℕ)
     → (nat_lt j (length db) && has_symbol db x j) ≡ has_symbol db x j
@@ -174,9 +171,9 @@ all_symbols db x j = by (has_symbol db x j) refl
         ap (λ b. b && true)
         (lt-ltb j (length db)
         (is_there is_disjoint_statement db j
-        (and_left (list_any is_disjoint_statement (statement_at db j))
-        (is_member (formula_at db j) x) e)))
-    by false e = and_false (nat_lt j (length db))
+        (and_parts (list_any is_disjoint_statement (statement_at db j))
+        (is_member (formula_at db j) x) e).0))
+    by false e = and-false (nat_lt j (length db))
 
 pub are_known : (db : List Statement) (b : Lists) → IsBlocks db b → (ps : List (ℕ × ℕ))
     → ((x j : ℕ) → has_pair ps x j ≡ has_symbol db x j) → AreKnown b ps
@@ -186,14 +183,14 @@ are_known db b blocks ps are p l =
     let e = sym (are x j) ∙ at_has ps p (0, 0) l in
     let m =
     is_there is_disjoint_statement db j
-    (and_left (list_any is_disjoint_statement (statement_at db j))
-    (is_member (formula_at db j) x) e) in
+    (and_parts (list_any is_disjoint_statement (statement_at db j))
+    (is_member (formula_at db j) x) e).0 in
     (let c = blocks.count in omega (arith, c, m), blocks.known j m)
 
 -- ---- the way back
 
 pub not_open : (at e f : ℕ) → nat_le at e ≡ false → f ≤ e → nat_le at f ≡ false
-not_open at e f h l = not_true (nat_le at f) (λ t. true≢false (sym (open_too t) ∙ h))
+not_open at e f h l = false_from_ne_true (nat_le at f) (λ t. true≢false (sym (open_too t) ∙ h))
   where
     open_too : nat_le at f ≡ true → nat_le at e ≡ true
     open_too t = let m = leb-true at f t in le-leb at e (omega (arith, m, l))
@@ -290,9 +287,9 @@ module _ (b : Lists) (ps : List (ℕ × ℕ)) (rising : AreRising ps) (x at star
             ⊎ ((y ≡ x) × (has_pair ps x j ≡ true) × (is_live b j at ≡ true))
         only j y true e h = a.only j y e
         only j y false e h =
-            let t = sym (or_false (nat_eq j m && nat_eq y x)) ∙ h in
-            let sj = eqb-true j m (and_left (nat_eq j m) (nat_eq y x) t) in
-            let sy = eqb-true y x (and_right (nat_eq j m) (nat_eq y x) t) in
+            let t = sym (or-false (nat_eq j m && nat_eq y x)) ∙ h in
+            let sj = eqb-true j m (and_parts (nat_eq j m) (nat_eq y x) t).0 in
+            let sy = eqb-true y x (and_parts (nat_eq j m) (nat_eq y x) t).1 in
             inr (
               sy,
               ap₂ (λ u v. has_pair ps u v) (sym s) sj
@@ -314,7 +311,7 @@ module _ (b : Lists) (ps : List (ℕ × ℕ)) (rising : AreRising ps) (x at star
             (ap₂ (λ u v. u && v)
             (eq-eqb (get_or ps p (0, 0)).1 m (ap (λ i. (get_or ps i (0, 0)).1) sp))
             (eq-eqb x x refl))
-            ∙ or_true (has_pair now (get_or ps p (0, 0)).1 x)
+            ∙ or-true (has_pair now (get_or ps p (0, 0)).1 x)
         all p l h e f (inr (inl q)) = absurd (true≢false (sym f ∙ passed p l q))
         all p l h e f (inr (inr q)) =
             longer (get_or ps p (0, 0)).1 x (a.all p (omega (arith, q)) h e f)
@@ -402,14 +399,14 @@ module _ (b : Lists) (ps : List (ℕ × ℕ)) (rising : AreRising ps) (x at star
         forth (inr (s, h, o)) =
             ap (λ c. has_pair old j y || c)
             (ap₂ (λ u v. u && v) (eq-eqb y x s) (ap₂ (λ u v. u && v) h o))
-            ∙ or_true (has_pair old j y)
+            ∙ or-true (has_pair old j y)
 
         found : has_pair ps x j ≡ true → is_live b j at ≡ true → has_pair now j x ≡ true
         found h o =
             let w = has_at ps x j h in
             let p = w.0 in
-            let m = ltb-true j at (and_left (nat_lt j at) (nat_le at (end_of b j)) o) in
-            let r = and_right (nat_lt j at) (nat_le at (end_of b j)) o in
+            let m = ltb-true j at (and_parts (nat_lt j at) (nat_le at (end_of b j)) o).0 in
+            let r = (and_parts (nat_lt j at) (nat_le at (end_of b j)) o).1 in
             let l = inside_if p w.1 w.2 (let e = w.3 in omega (arith, m, e)) in
             there p l w.2 w.3 r (cases_lt p left)
           where
@@ -425,11 +422,11 @@ module _ (b : Lists) (ps : List (ℕ × ℕ)) (rising : AreRising ps) (x at star
             → has_pair now j y ≡ true
         back true e h = a.kept j y e
         back false e h =
-            let s = eqb-true y x (and_left (nat_eq y x) (has_pair ps x j && is_live b j at) h) in
-            let r = and_right (nat_eq y x) (has_pair ps x j && is_live b j at) h in
+            let s = eqb-true y x (and_parts (nat_eq y x) (has_pair ps x j && is_live b j at) h).0 in
+            let r = (and_parts (nat_eq y x) (has_pair ps x j && is_live b j at) h).1 in
             ap (has_pair now j) s
-            ∙ found (and_left (has_pair ps x j) (is_live b j at) r)
-            (and_right (has_pair ps x j) (is_live b j at) r)
+            ∙ found (and_parts (has_pair ps x j) (is_live b j at) r).0
+            (and_parts (has_pair ps x j) (is_live b j at) r).1
 
 -- ---- whether two symbols have one together
 
@@ -450,8 +447,8 @@ module _ (b : Lists) (ps : List (ℕ × ℕ)) (rising : AreRising ps) (x y at : 
     met = λ p q h i e f s o.
         let m =
         ltb-true (get_or ps p (0, 0)).1 at
-        (and_left (nat_lt (get_or ps p (0, 0)).1 at)
-        (nat_le at (end_of b (get_or ps p (0, 0)).1)) o) in (
+        (and_parts (nat_lt (get_or ps p (0, 0)).1 at)
+        (nat_le at (end_of b (get_or ps p (0, 0)).1)) o).0 in (
           inside_if b ps rising x at left l bl al p h e m,
           inside_if b ps rising y at right r br ar q
               i f (omega (arith, m, s)),
@@ -477,8 +474,8 @@ module _ (b : Lists) (ps : List (ℕ × ℕ)) (rising : AreRising ps) (x y at : 
       → is_live b (get_or ps p (0, 0)).1 at ≡ true → ⊥
   closed p c o =
       true≢false
-      (sym (and_right (nat_lt (get_or ps p (0, 0)).1 at)
-      (nat_le at (end_of b (get_or ps p (0, 0)).1)) o)
+      (sym (and_parts (nat_lt (get_or ps p (0, 0)).1 at)
+      (nat_le at (end_of b (get_or ps p (0, 0)).1)) o).1
       ∙ c)
 
   -- the last of the one is of a later statement than the last of the other, or of the same, whose
@@ -548,7 +545,7 @@ module _ (b : Lists) (ps : List (ℕ × ℕ)) (rising : AreRising ps) (x y at : 
       → ((p : ℕ) → p < left → (get_or ps p (0, 0)).0 ≡ x → ⊥)
       ⊎ ((p : ℕ) → p < right → (get_or ps p (0, 0)).0 ≡ y → ⊥)
       → (j : ℕ) → has_pair ps x j ≡ true → has_pair ps y j ≡ true → is_live b j at ≡ false
-  apart_end left right a none j hx hy = not_true (is_live b j at) (λ o.
+  apart_end left right a none j hx hy = false_from_ne_true (is_live b j at) (λ o.
       let w = has_at ps x j hx in
       let v = has_at ps y j hy in
       let m = a.met w.0 v.0 w.1 v.1 w.2 v.2 (w.3 ∙ sym v.3) (ap (λ i. is_live b i at) w.3 ∙ o) in

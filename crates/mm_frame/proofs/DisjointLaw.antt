@@ -4,20 +4,21 @@ use Rattle.std.proofs.Common.{◌≡◌, ◌≢◌, ℕ, suc, ◌+◌, ◌<◌, 
 use Rattle.std.proofs.Common.{List, [], ◌∷◌, ◌++◌, length, get_or, map, nat_eq, nat_lt, nat_le}
 use Rattle.std.proofs.Common.{refl, sym, ap, ap₂, ◌∙◌, arith, true≢false, ◌⊎◌, inl, inr}
 use Rattle.std.proofs.lemmas.Bool.{cases_lt, cases_eq, cases_order, lt-ltb, ltb-true, le-ltb}
-use Rattle.std.proofs.lemmas.Bool.{eq-eqb, eqb-true, ne_eqb}
+use Rattle.std.proofs.lemmas.Bool.{eq-eqb, eqb-true, ne_eqb, and_parts}
 use Rattle.std.proofs.lemmas.List.Folds.{list_any_at, list_any-append}
 use Rattle.std.specs.List.{list_any, range_with_len, filter}
+use Rattle.std.proofs.Math.Bool.{or-false, or-true}
 use Rattle.mm_spec.specs.Statement.{Statement}
 use Rattle.mm_spec.specs.Scope.{statement_at}
 use Rattle.mm_spec.specs.Derivation.{Pair, pair, is_member}
 use Rattle.mm_spec.specs.Frame.{symbol_names, is_disjoint_statement, active_of, formula_at}
 use Rattle.mm_spec.specs.Frame.{mandatory_variables, mandatory_pairs, disjoint_at, pairs_of}
+use Rattle.mm_spec.proofs.BoolLaw.{same_tests}
 use Rattle.mm_outline.specs.Blocks.{Lists, IsBlocks, end_of}
 use Rattle.mm_frame.specs.Latest.{is_on}
 use Rattle.mm_frame.specs.DisjointIndex.{has_symbol, is_live}
 use Rattle.mm_frame.specs.Pairs.{has_pair, IsBefore, AreRising}
-use Rattle.mm_frame.proofs.NestedLaw.{same_tests}
-use Rattle.mm_frame.proofs.LatestLaw.{and_left, and_right, or_true, or_false, member_range}
+use Rattle.mm_frame.proofs.LatestLaw.{member_range}
 use Rattle.mm_frame.proofs.LatestLaw.{active_member, disjoint_local}
 use Rattle.mm_frame.proofs.DisjointIndexLaw.{has_at, at_has, rising_at}
 use Rattle.mm_frame.proofs.HypothesesLaw.{any_witness, any_of, mandatory_named}
@@ -108,15 +109,15 @@ module _ (had : List (ℕ × ℕ)) (rising : AreRising had) (place : ℕ)
           longer_one (inl t) = inl t
           longer_one (inr (t, p, u, v, w)) = inr (t, p, u, omega (arith, v), w)
       only x y false e h =
-          let t = sym (or_false (nat_eq x low && nat_eq y high)) ∙ h in
+          let t = sym (or-false (nat_eq x low && nat_eq y high)) ∙ h in
           let f = b.further in
           inr (
-            eqb-true x low (and_left (nat_eq x low) (nat_eq y high) t),
+            eqb-true x low (and_parts (nat_eq x low) (nat_eq y high) t).0,
             at,
             f,
             omega arith,
             sym
-                (eqb-true y high (and_right (nat_eq x low) (nat_eq y high) t)),
+                (eqb-true y high (and_parts (nat_eq x low) (nat_eq y high) t).1),
           )
 
       all : (p : ℕ) → place < p → p < at + 1 → (p ≡ at) ⊎ (p ≢ at)
@@ -127,7 +128,7 @@ module _ (had : List (ℕ × ℕ)) (rising : AreRising had) (place : ℕ)
           ∙ ap (λ c. has_pair now low (get_or had p (0, 0)).1 || (c || false))
           (ap₂ (λ u v. u && v) (eq-eqb low low refl)
           (eq-eqb (get_or had p (0, 0)).1 high (ap (λ i. (get_or had i (0, 0)).1) e)))
-          ∙ or_true (has_pair now low (get_or had p (0, 0)).1)
+          ∙ or-true (has_pair now low (get_or had p (0, 0)).1)
       all p h m (inr n) = longer low (get_or had p (0, 0)).1 (b.all p h (omega (arith, m, n)))
 
   pub after_end : (at : ℕ) (old now : List (ℕ × ℕ)) → Behind had place at old now
@@ -161,7 +162,7 @@ module _ (had : List (ℕ × ℕ)) (rising : AreRising had) (place : ℕ)
           ap (λ c. has_pair old x y || c)
           (ap₂ (λ u v. u && v) (eq-eqb x low e)
           (ap₂ (λ u v. u && v) there (lt-ltb x y (omega (arith, e, l, s)))))
-          ∙ or_true (has_pair old x y)
+          ∙ or-true (has_pair old x y)
 
       from : (p : ℕ) → p < length had → (get_or had p (0, 0)).0 ≡ j → low < (get_or had p (0, 0)).1
           → (place < p) × (p < at)
@@ -203,10 +204,10 @@ module _ (had : List (ℕ × ℕ)) (rising : AreRising had) (place : ℕ)
           → has_pair now x y ≡ true
       back true e h = b.kept x y e
       back false e h =
-          let s = eqb-true x low (and_left (nat_eq x low) (has_pair had j y && nat_lt x y) h) in
-          let r = and_right (nat_eq x low) (has_pair had j y && nat_lt x y) h in
-          let w = has_at had j y (and_left (has_pair had j y) (nat_lt x y) r) in
-          let l = ltb-true x y (and_right (has_pair had j y) (nat_lt x y) r) in
+          let s = eqb-true x low (and_parts (nat_eq x low) (has_pair had j y && nat_lt x y) h).0 in
+          let r = (and_parts (nat_eq x low) (has_pair had j y && nat_lt x y) h).1 in
+          let w = has_at had j y (and_parts (has_pair had j y) (nat_lt x y) r).0 in
+          let l = ltb-true x y (and_parts (has_pair had j y) (nat_lt x y) r).1 in
           let t = w.3 in
           let i = from w.0 w.1 w.2 (omega (arith, s, l, t)) in
           ap₂ (has_pair now) s (sym t) ∙ b.all w.0 i.0 i.1
@@ -229,8 +230,8 @@ one_more false m q r l y s e = by (cases_eq y s)
         ap₂ (λ c d. (m && (r && l)) || (c && (d && l))) (eq-eqb y s t) (e t) ∙ flip m (r && l)
         ∙ sym (ap (λ c. (m || c) && (r && l)) (eq-eqb y s t))
     by (inr n) =
-        ap (λ c. (m && (r && l)) || (c && (q && l))) (ne_eqb y s n) ∙ or_false (m && (r && l))
-        ∙ sym (ap (λ c. (m || c) && (r && l)) (ne_eqb y s n) ∙ ap (λ c. c && (r && l)) (or_false m))
+        ap (λ c. (m && (r && l)) || (c && (q && l))) (ne_eqb y s n) ∙ or-false (m && (r && l))
+        ∙ sym (ap (λ c. (m || c) && (r && l)) (ne_eqb y s n) ∙ ap (λ c. c && (r && l)) (or-false m))
 
 -- ---- active ones
 
@@ -249,9 +250,9 @@ module _ (db : List Statement) (b : Lists) (blocks : IsBlocks db b) (k : ℕ)
   kind_of_active : (j : ℕ) → is_member (active_of is_disjoint_statement db k) j ≡ true
       → list_any is_disjoint_statement (statement_at db j) ≡ true
   kind_of_active j e =
-      and_left (list_any is_disjoint_statement (statement_at db j)) _
-      (and_right (nat_lt j k) (is_on is_disjoint_statement db j k)
-      (sym (active_member is_disjoint_statement db disjoint_local k j) ∙ e))
+      (and_parts (list_any is_disjoint_statement (statement_at db j)) _
+      (and_parts (nat_lt j k) (is_on is_disjoint_statement db j k)
+      (sym (active_member is_disjoint_statement db disjoint_local k j) ∙ e)).1).0
 
   module _ (ps : List (ℕ × ℕ)) (are : (x j : ℕ) → has_pair ps x j ≡ has_symbol db x j) where
     -- the answer to whether an active `$d` has both
@@ -277,15 +278,15 @@ module _ (db : List Statement) (b : Lists) (blocks : IsBlocks db b) (k : ℕ)
             let ex = sym (are x j) ∙ w.1 in
             let ey = sym (are y j) ∙ w.2 in
             let t =
-            and_left (list_any is_disjoint_statement (statement_at db j))
-            (is_member (formula_at db j) x) ex in
+            (and_parts (list_any is_disjoint_statement (statement_at db j))
+            (is_member (formula_at db j) x) ex).0 in
             any_of (λ i. is_member (formula_at db i) x && is_member (formula_at db i) y)
             (active_of is_disjoint_statement db k) j (sym (live_is j t) ∙ w.3)
             (ap₂ (λ p q. p && q)
-            (and_right (list_any is_disjoint_statement (statement_at db j))
-            (is_member (formula_at db j) x) ex)
-            (and_right (list_any is_disjoint_statement (statement_at db j))
-            (is_member (formula_at db j) y) ey))
+            (and_parts (list_any is_disjoint_statement (statement_at db j))
+            (is_member (formula_at db j) x) ex).1
+            (and_parts (list_any is_disjoint_statement (statement_at db j))
+            (is_member (formula_at db j) y) ey).1)
 
         back : (c : Bool) → r ≡ c
             → list_any (λ j. is_member (formula_at db j) x && is_member (formula_at db j) y)
@@ -301,10 +302,10 @@ module _ (db : List Statement) (b : Lists) (blocks : IsBlocks db b) (k : ℕ)
             let d = kind_of_active j w.1 in
             let ex =
             are x j ∙ ap₂ (λ p q. p && q) d
-            (and_left (is_member (formula_at db j) x) (is_member (formula_at db j) y) w.2) in
+            (and_parts (is_member (formula_at db j) x) (is_member (formula_at db j) y) w.2).0 in
             let ey =
             are y j ∙ ap₂ (λ p q. p && q) d
-            (and_right (is_member (formula_at db j) x) (is_member (formula_at db j) y) w.2) in
+            (and_parts (is_member (formula_at db j) x) (is_member (formula_at db j) y) w.2).1 in
             absurd (true≢false (sym (live_is j d ∙ w.1) ∙ none e j ex ey))
 
     module _ (found : List ℕ) (had : List (ℕ × ℕ))
@@ -336,15 +337,16 @@ module _ (db : List Statement) (b : Lists) (blocks : IsBlocks db b) (k : ℕ)
           × (is_member (active_of is_disjoint_statement db k) j ≡ true)
       had_then j y e =
           let f = sym (had_is j y) ∙ e in
-          let r = and_right (is_member found y) (has_pair ps y j && is_live b j k) f in
-          let s = sym (are y j) ∙ and_left (has_pair ps y j) (is_live b j k) r in
+          let r = (and_parts (is_member found y) (has_pair ps y j && is_live b j k) f).1 in
+          let s = sym (are y j) ∙ (and_parts (has_pair ps y j) (is_live b j k) r).0 in
           let d =
-          and_left (list_any is_disjoint_statement (statement_at db j))
-          (is_member (formula_at db j) y) s in (
-            sym (found_is y) ∙ and_left (is_member found y) (has_pair ps y j && is_live b j k) f,
-            and_right (list_any is_disjoint_statement (statement_at db j))
-                (is_member (formula_at db j) y) s,
-            sym (live_is j d) ∙ and_right (has_pair ps y j) (is_live b j k) r,
+          (and_parts (list_any is_disjoint_statement (statement_at db j))
+          (is_member (formula_at db j) y) s).0 in (
+            sym (found_is y)
+                ∙ (and_parts (is_member found y) (has_pair ps y j && is_live b j k) f).0,
+            (and_parts (list_any is_disjoint_statement (statement_at db j))
+                (is_member (formula_at db j) y) s).1,
+            sym (live_is j d) ∙ (and_parts (has_pair ps y j) (is_live b j k) r).1,
           )
 
       had_if : (j y : ℕ) → is_member vs y ≡ true → is_member (formula_at db j) y ≡ true
@@ -364,13 +366,13 @@ module _ (db : List Statement) (b : Lists) (blocks : IsBlocks db b) (k : ℕ)
           let j = (get_or had w.0 (0, 0)).0 in
           let s =
           eqb-true x (get_or had w.0 (0, 0)).1
-          (and_left (nat_eq x (get_or had w.0 (0, 0)).1) (has_pair had j y && nat_lt x y) w.2) in
+          (and_parts (nat_eq x (get_or had w.0 (0, 0)).1) (has_pair had j y && nat_lt x y) w.2).0 in
           let r =
-          and_right (nat_eq x (get_or had w.0 (0, 0)).1) (has_pair had j y && nat_lt x y) w.2 in
-          let less = and_right (has_pair had j y) (nat_lt x y) r in
+          (and_parts (nat_eq x (get_or had w.0 (0, 0)).1) (has_pair had j y && nat_lt x y) w.2).1 in
+          let less = (and_parts (has_pair had j y) (nat_lt x y) r).1 in
           let l = ltb-true x y less in
           let one = had_then j x (ap (has_pair had j) s ∙ at_has had w.0 (0, 0) w.1) in
-          let other = had_then j y (and_left (has_pair had j y) (nat_lt x y) r) in
+          let other = had_then j y (and_parts (has_pair had j y) (nat_lt x y) r).0 in
           let apart =
           any_of (λ i. is_member (formula_at db i) x && is_member (formula_at db i) y)
           (active_of is_disjoint_statement db k) j one.2 (ap₂ (λ a b. a && b) one.1 other.1) in
@@ -388,29 +390,29 @@ module _ (db : List Statement) (b : Lists) (blocks : IsBlocks db b) (k : ℕ)
           → together x y ≡ true
       back x y e =
           let t =
-          and_left (wanted (pair x y))
-          (is_member (range_with_len 0 count) x && is_member (range_with_len 0 count) y) e in
+          (and_parts (wanted (pair x y))
+          (is_member (range_with_len 0 count) x && is_member (range_with_len 0 count) y) e).0 in
           let abc =
-          and_left (nat_lt x y && is_member vs x && is_member vs y) (disjoint_at db k x y) t in
+          (and_parts (nat_lt x y && is_member vs x && is_member vs y) (disjoint_at db k x y) t).0 in
           let dis =
-          and_right (nat_lt x y && is_member vs x && is_member vs y) (disjoint_at db k x y) t in
-          let ab = and_left (nat_lt x y && is_member vs x) (is_member vs y) abc in
-          let my = and_right (nat_lt x y && is_member vs x) (is_member vs y) abc in
-          let less = and_left (nat_lt x y) (is_member vs x) ab in
-          let mx = and_right (nat_lt x y) (is_member vs x) ab in
+          (and_parts (nat_lt x y && is_member vs x && is_member vs y) (disjoint_at db k x y) t).1 in
+          let ab = (and_parts (nat_lt x y && is_member vs x) (is_member vs y) abc).0 in
+          let my = (and_parts (nat_lt x y && is_member vs x) (is_member vs y) abc).1 in
+          let less = (and_parts (nat_lt x y) (is_member vs x) ab).0 in
+          let mx = (and_parts (nat_lt x y) (is_member vs x) ab).1 in
           let w =
           any_witness (λ i. is_member (formula_at db i) x && is_member (formula_at db i) y)
           (active_of is_disjoint_statement db k)
-          (and_right (not (nat_eq x y))
+          (and_parts (not (nat_eq x y))
           (list_any (λ i. is_member (formula_at db i) x && is_member (formula_at db i) y)
-          (active_of is_disjoint_statement db k)) dis) in
+          (active_of is_disjoint_statement db k)) dis).1 in
           let j = w.0 in
           let hx =
           had_if j x mx
-          (and_left (is_member (formula_at db j) x) (is_member (formula_at db j) y) w.2) w.1 in
+          (and_parts (is_member (formula_at db j) x) (is_member (formula_at db j) y) w.2).0 w.1 in
           let hy =
           had_if j y my
-          (and_right (is_member (formula_at db j) x) (is_member (formula_at db j) y) w.2) w.1 in
+          (and_parts (is_member (formula_at db j) x) (is_member (formula_at db j) y) w.2).1 w.1 in
           let v = has_at had j x hx in
           list_any_at (λ p. nat_eq x p.1 && (has_pair had p.0 y && nat_lt x y)) had v.0 (0, 0) v.1
           (ap₂ (λ a b. a && b) (eq-eqb x (get_or had v.0 (0, 0)).1 (sym v.3))

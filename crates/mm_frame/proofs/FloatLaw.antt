@@ -20,10 +20,12 @@ use Rattle.mm_spec.specs.declared.Fault.{Fault}
 use Rattle.mm_spec.specs.declared.Code.TheVariants.{BadFloating, TypedBefore, OtherTypecode}
 use Rattle.mm_spec.specs.Frame.{symbol_names, place_of, is_variable_number, is_floating, formula_at}
 use Rattle.mm_spec.specs.Frame.{formula_of}
+use Rattle.mm_spec.proofs.FindsLaw.{range_any}
+use Rattle.mm_spec.proofs.FaultlessLaw.{least_none}
 use Rattle.mm_outline.specs.Typed.{has, typed_words}
 use Rattle.mm_frame.specs.Tables.{IsSound, typed_at}
-use Rattle.mm_outline.proofs.FaultlessLaw.{append_none, floating_new, none_least}
-use Rattle.mm_outline.proofs.AmongLaw.{typed_in, any_true, among_active}
+use Rattle.mm_outline.proofs.FaultlessLaw.{append_none, floating_new}
+use Rattle.mm_outline.proofs.AmongLaw.{typed_in, among_active}
 
 -- a word that has a place is there
 pub place_get : (w : Bytes) (ws : List Bytes) → place_of w ws < length ws
@@ -61,7 +63,7 @@ module _ (db : List Statement) (sound : IsSound db) where
   law : (k : ℕ) → k < length db → (s : Statement) → slice_get db k ≡ Some s
       → scope_faults (names_before db k) (depth db k) s ≡ []
   law k h s e =
-      none_least (scope_faults (names_before db k) (depth db k) s)
+      least_none (scope_faults (names_before db k) (depth db k) s)
       (sym (ap
       (λ o. elim o
       [ None ↦ None | Some s ↦ least (scope_faults (names_before db k) (depth db k) s) ]) e)
@@ -225,7 +227,7 @@ module _ (db : List Statement) (sound : IsSound db) where
       ap (λ o. is_in w (flat_map typed_words (list_at o))) f.is
       ∙ ap (λ b. b || false) ((bytes_eq-Decides w f.variable.word).1 (sym same)) in
       true≢false
-      (sym (any_true (λ i. is_active db i k && has db typed_words w i) k 0 j (omega arith)
+      (sym (range_any (λ i. is_active db i k && has db typed_words w i) k 0 j (omega arith)
       (omega arith) (ap₂ (λ a b. a && b) (float_active j v i f k l ∙ e) there))
       ∙ sym (among_active db typed_words w (λ i. is_active db i k) k 0)
       ∙ sym (typed_in w (active_statements db k)) ∙ g.untyped)

@@ -1,15 +1,14 @@
 -- The mandatory variables and hypotheses are those that the walk finds.
-use Rattle.std.proofs.Common.{cond, ◌≡◌, ℕ, zero, suc, ◌+◌, ◌==◌, ◌<◌, ◌≤◌, Bool, true, false, ◌&&◌}
+use Rattle.std.proofs.Common.{cond, ◌≡◌, ℕ, suc, ◌+◌, ◌<◌, ◌≤◌, Bool, true, false, ◌&&◌}
 use Rattle.std.proofs.Common.{◌||◌, not, All, List, [], ◌∷◌, ◌++◌, length, get_or, flat_map, nat_eq}
 use Rattle.std.proofs.Common.{nat_lt, None, Some, refl, sym, ap, ap₂, ◌∙◌, subst, arith, eqb-true}
 use Rattle.std.proofs.Common.{eq-eqb, true≢false, ◌⊎◌, inl, inr}
-use Rattle.std.proofs.lemmas.Bool.{cases_lt, lt-ltb, ltb-true, ne_eqb}
+use Rattle.std.proofs.lemmas.Bool.{cases_lt, lt-ltb, ltb-true, ne_eqb, and_parts}
 use Rattle.std.proofs.lemmas.Option.{slice_get_past}
-use Rattle.std.specs.List.{Contains, dedup, list_any, range_with_len, filter}
-use Rattle.std.specs.List.Sorted.{IsPermutation, IsStrictlyIncreasing}
-use Rattle.std.proofs.lemmas.List.Folds.{Any-from_list_any, list_any_at, list_any-append}
-use Rattle.std.proofs.lemmas.List.Kept.{Contains-dedup_nat, Contains-from_dedup}
-use Rattle.std.proofs.lemmas.List.Sorted.{Contains-permutation, IsPermutation-sym}
+use Rattle.std.specs.List.{list_any, range_with_len, filter}
+use Rattle.std.specs.List.Sorted.{IsStrictlyIncreasing}
+use Rattle.std.proofs.lemmas.List.Folds.{list_any-append}
+use Rattle.std.proofs.Math.Bool.{or-false, or-true}
 use Rattle.mm_spec.specs.Text.{is_in}
 use Rattle.mm_spec.specs.Derivation.{is_member}
 use Rattle.mm_spec.specs.Statement.{Statement}
@@ -17,37 +16,17 @@ use Rattle.mm_spec.specs.Scope.{statement_at, active, is_active, variables_of, s
 use Rattle.mm_spec.specs.Frame.{symbol_names, place_of, is_variable_number, is_essential}
 use Rattle.mm_spec.specs.Frame.{is_floating, active_of, formula_at, mandatory_variables}
 use Rattle.mm_spec.specs.Frame.{mandatory_hypotheses}
+use Rattle.mm_spec.proofs.BoolLaw.{same_tests}
+use Rattle.mm_spec.proofs.ListLaw.{member_at}
 use Rattle.mm_outline.specs.Blocks.{never}
 use Rattle.mm_frame.specs.Latest.{is_on}
 use Rattle.mm_frame.specs.Tables.{IsSound, typed_at}
 use Rattle.mm_frame.specs.Hypotheses.{AreTyped, is_float_of}
 use Rattle.mm_frame.proofs.RisingLaw.{Rising, filter_is}
-use Rattle.mm_frame.proofs.NestedLaw.{same_tests}
-use Rattle.mm_frame.proofs.LatestLaw.{and_left, and_right, or_true, or_false, member_filter}
+use Rattle.mm_frame.proofs.LatestLaw.{member_filter}
 use Rattle.mm_frame.proofs.LatestLaw.{member_range, active_member, essential_local}
 use Rattle.mm_frame.proofs.FloatLaw.{typed_float, floating_typed, formula_is, floating_is}
 use Rattle.mm_frame.proofs.FloatLaw.{typecode_constant, variable_below, float_active}
-
-contains : (xs : List ℕ) (a : ℕ) → is_member xs a ≡ true → Contains xs a
-contains xs a h =
-    let n = Any-from_list_any (λ y. a == y) xs h in
-    let e : a ≡ n.1 = eqb-true a n.1 n.4 in
-    (n.0, n.2, subst (λ z. get_or xs n.0 z ≡ z) (sym e) n.3)
-
-member : (xs : List ℕ) (a : ℕ) → Contains xs a → is_member xs a ≡ true
-member xs a h = list_any_at (λ y. a == y) xs h.0 a h.1 (eq-eqb a (get_or xs h.0 a) (sym h.2))
-
--- what sorting and dropping repeated numbers keeps
-pub sort_and_dedup_same : (xs ys zs : List ℕ) → IsPermutation xs ys → zs ≡ dedup nat_eq ys → (a : ℕ)
-    → is_member zs a ≡ is_member xs a
-sort_and_dedup_same xs ys zs p e a =
-    ap (λ z. is_member z a) e
-    ∙ same_tests _ _
-    (λ h. member xs a
-    (Contains-permutation ys xs a (IsPermutation-sym xs ys p)
-    (Contains-from_dedup nat_eq ys a (contains (dedup nat_eq ys) a h))))
-    (λ h. member (dedup nat_eq ys) a
-    (Contains-dedup_nat ys a (Contains-permutation xs ys a p (contains xs a h))))
 
 -- a list that is strictly rising, by its neighbours
 pub rising_is : (xs : List ℕ) (a : ℕ) → IsStrictlyIncreasing xs
@@ -84,7 +63,7 @@ any_witness q (x ∷ xs) e = by (q x) refl e (any_witness q xs)
         → (v : ℕ) × (is_member (x ∷ xs) v ≡ true) × (q v ≡ true)
     by true h e r = (x, ap (λ b. b || is_member xs x) (eq-eqb x x refl), h)
     by false h e r =
-        let w = r e in (w.0, ap (λ b. nat_eq w.0 x || b) w.1 ∙ or_true (nat_eq w.0 x), w.2)
+        let w = r e in (w.0, ap (λ b. nat_eq w.0 x || b) w.1 ∙ or-true (nat_eq w.0 x), w.2)
 
 pub any_of : (q : ℕ → Bool) (xs : List ℕ) (v : ℕ) → is_member xs v ≡ true → q v ≡ true
     → list_any q xs ≡ true
@@ -95,7 +74,7 @@ any_of q (x ∷ xs) v m e = by (nat_eq v x) refl m (any_of q xs v)
         → (is_member xs v ≡ true → q v ≡ true → list_any q xs ≡ true)
         → (q x || list_any q xs) ≡ true
     by true h m r = ap (λ b. b || list_any q xs) (ap q (sym (eqb-true v x h)) ∙ e)
-    by false h m r = ap (λ b. q x || b) (r m e) ∙ or_true (q x)
+    by false h m r = ap (λ b. q x || b) (r m e) ∙ or-true (q x)
 
 pub same_any : (q : ℕ → Bool) (xs ys : List ℕ) → ((i : ℕ) → is_member xs i ≡ is_member ys i)
     → list_any q xs ≡ list_any q ys
@@ -110,13 +89,6 @@ member_flat f [] x = refl
 member_flat f (j ∷ xs) x =
     list_any-append (nat_eq x) (f j) (flat_map f xs)
     ∙ ap (λ b. is_member (f j) x || b) (member_flat f xs x)
-
-pub member_at : (xs : List ℕ) (k d : ℕ) → k < length xs → is_member xs (get_or xs k d) ≡ true
-member_at [] k d h = absurd (omega arith)
-member_at (x ∷ xs) zero d h = ap (λ b. b || is_member xs x) (eq-eqb x x refl)
-member_at (x ∷ xs) (suc k) d h =
-    ap (λ b. nat_eq (get_or xs k d) x || b) (member_at xs k d (omega arith))
-    ∙ or_true (nat_eq (get_or xs k d) x)
 
 filter_filter : (p q : ℕ → Bool) (xs : List ℕ)
     → filter p (filter q xs) ≡ filter (λ j. q j && p j) xs
@@ -161,7 +133,7 @@ module _ (db : List Statement) (k : ℕ) where
       let j = get_or xs i 0 in
       let e =
       sym (active_member is_essential db essential_local k j) ∙ sym (h j) ∙ member_at xs i 0 l in
-      ltb-true j k (and_left (nat_lt j k) (is_on is_essential db j k) e)
+      ltb-true j k (and_parts (nat_lt j k) (is_on is_essential db j k) e).0
 
   variable_named : (x : ℕ) → is_variable_number db x ≡ true → x < length (symbol_names db)
   variable_named x e = by (cases_lt x (length (symbol_names db)))
@@ -178,11 +150,11 @@ module _ (db : List Statement) (k : ℕ) where
       → x < length (symbol_names db)
   mandatory_named x e =
       variable_named x
-      (and_left (is_variable_number db x)
+      (and_parts (is_variable_number db x)
       (is_member (formula_at db k ++ flat_map (formula_at db) (active_of is_essential db k)) x)
       (sym (member_filter (is_variable_number db)
       (formula_at db k ++ flat_map (formula_at db) (active_of is_essential db k)) x)
-      ∙ e))
+      ∙ e)).0
 
   pub found_below : (xs : List ℕ)
       → ((x : ℕ) → is_member xs x ≡ is_member (mandatory_variables db k) x)
@@ -221,7 +193,7 @@ module _ (db : List Statement) (k : ℕ) where
         && is_member (formula_at db k ++ flat_map (formula_at db) (active_of is_essential db k)) c)
         (typecode_constant db sound j v n x) in
         let yes =
-        sym (or_false (is_member (mandatory_variables db k) v))
+        sym (or-false (is_member (mandatory_variables db k) v))
         ∙ sym (ap (λ b. b || (is_member (mandatory_variables db k) v || false)) no) ∙ both in
         let on = sym (float_active db sound j v n x k l) ∙ a in
         let same = typed.alone j v l (variable_below db sound j v n x) f.1 on in
@@ -242,24 +214,25 @@ module _ (db : List Statement) (k : ℕ) where
         let v = w.0 in
         let t = get_or ts v 0 in
         let same =
-        eqb-true j t (and_left (nat_eq j t) (not (nat_eq t never) && stays db t k) w.2) in
-        let rest = and_right (nat_eq j t) (not (nat_eq t never) && stays db t k) w.2 in
+        eqb-true j t (and_parts (nat_eq j t) (not (nat_eq t never) && stays db t k) w.2).0 in
+        let rest = (and_parts (nat_eq j t) (not (nat_eq t never) && stays db t k) w.2).1 in
         let m = sym (found_is v) ∙ w.1 in
         let s =
         typed.some v (mandatory_named v m)
         (λ z. true≢false
-        (sym (and_left (not (nat_eq t never)) (stays db t k) rest) ∙ ap not (eq-eqb t never z))) in
+        (sym (and_parts (not (nat_eq t never)) (stays db t k) rest).0
+        ∙ ap not (eq-eqb t never z))) in
         let l : j < k = subst (λ i. i < k) (sym same) s.0 in
         let n : j < length db = omega arith in
         let at : typed_at db j ≡ Some v = ap (typed_at db) same ∙ s.1 in
         let x = typed_float db sound j v n at in
         let c = place_of x.typecode.word (symbol_names db) in (
           float_active db sound j v n x k l ∙ ap (λ i. stays db i k) same
-              ∙ and_right (not (nat_eq t never)) (stays db t k) rest,
+              ∙ (and_parts (not (nat_eq t never)) (stays db t k) rest).1,
           floating_is db sound j v n x,
           ap (list_any (is_member (mandatory_variables db k))) (formula_is db sound j v n x)
               ∙ ap (λ b. is_member (mandatory_variables db k) c || (b || false)) m
-              ∙ or_true (is_member (mandatory_variables db k) c),
+              ∙ or-true (is_member (mandatory_variables db k) c),
           l,
         )
 
@@ -297,24 +270,24 @@ module _ (db : List Statement) (k : ℕ) where
             by true m e =
                 let z = sym (essential_is j) ∙ m in
                 let t =
-                and_left (list_any is_essential (statement_at db j))
-                (is_active db j k && nat_lt j k) z in
+                (and_parts (list_any is_essential (statement_at db j))
+                (is_active db j k && nat_lt j k) z).0 in
                 let y =
-                and_right (list_any is_essential (statement_at db j))
-                (is_active db j k && nat_lt j k) z in (
+                (and_parts (list_any is_essential (statement_at db j))
+                (is_active db j k && nat_lt j k) z).1 in (
                   ap₂ (λ a b. a
                       && (b ||
                       (list_any is_floating (statement_at db j)
                       && list_any (is_member (mandatory_variables db k)) (formula_at db j))))
-                      (and_left (is_active db j k) (nat_lt j k) y) t,
-                  ltb-true j k (and_right (is_active db j k) (nat_lt j k) y),
+                      (and_parts (is_active db j k) (nat_lt j k) y).0 t,
+                  ltb-true j k (and_parts (is_active db j k) (nat_lt j k) y).1,
                 )
             by false m e =
                 let f = found_float j e in (
                   ap₂ (λ a b. a && b) f.0
                       (ap (λ b. list_any is_essential (statement_at db j) || b)
                       (ap₂ (λ a b. a && b) f.1 f.2)
-                      ∙ or_true (list_any is_essential (statement_at db j))),
+                      ∙ or-true (list_any is_essential (statement_at db j))),
                   f.3,
                 )
 
@@ -322,10 +295,10 @@ module _ (db : List Statement) (k : ℕ) where
             → (is_member es j || list_any (is_float_of db k ts j) found) ≡ true
         forth j l e =
             by (list_any is_essential (statement_at db j)) refl
-            (and_right (is_active db j k) (wanted j) e)
+            (and_parts (is_active db j k) (wanted j) e).1
           where
             a : is_active db j k ≡ true
-            a = and_left (is_active db j k) (wanted j) e
+            a = (and_parts (is_active db j k) (wanted j) e).0
 
             by : (b : Bool) → list_any is_essential (statement_at db j) ≡ b
                 → (b || (list_any is_floating (statement_at db j)
@@ -338,11 +311,11 @@ module _ (db : List Statement) (k : ℕ) where
             by false t e =
                 ap (λ b. is_member es j || b)
                 (float_found j l
-                (and_left (list_any is_floating (statement_at db j))
-                (list_any (is_member (mandatory_variables db k)) (formula_at db j)) e)
-                (and_right (list_any is_floating (statement_at db j))
-                (list_any (is_member (mandatory_variables db k)) (formula_at db j)) e) a)
-                ∙ or_true (is_member es j)
+                (and_parts (list_any is_floating (statement_at db j))
+                (list_any (is_member (mandatory_variables db k)) (formula_at db j)) e).0
+                (and_parts (list_any is_floating (statement_at db j))
+                (list_any (is_member (mandatory_variables db k)) (formula_at db j)) e).1 a)
+                ∙ or-true (is_member es j)
 
         both : (j : ℕ) → j < k → (is_active db j k && wanted j) ≡ is_member xs j
         both j l =

@@ -8,50 +8,29 @@ use Rattle.std.proofs.lemmas.List.Folds.{list_any-append}
 use Rattle.std.proofs.lemmas.List.{get_or_append_left}
 use Rattle.std.proofs.Math.Seq.{get_or-append_seam}
 use Rattle.std.specs.List.{list_any, range_with_len, filter}
+use Rattle.std.proofs.lemmas.Bool.{and_parts, false_from_ne_true}
+use Rattle.std.proofs.Math.Bool.{and-false, and-true, or-false, or-true}
 use Rattle.mm_spec.specs.Statement.{Statement, constants, variables, disjoint, floating, essential}
 use Rattle.mm_spec.specs.Statement.{axiomatic, provable, opening, closing}
 use Rattle.mm_spec.specs.Scope.{statement_at, is_active, is_active_some, is_active_kind, active}
 use Rattle.mm_spec.specs.Scope.{stays}
 use Rattle.mm_spec.specs.Derivation.{is_member}
 use Rattle.mm_spec.specs.Frame.{active_of, is_essential, is_disjoint_statement}
+use Rattle.mm_spec.proofs.BoolLaw.{same_tests}
 use Rattle.mm_outline.specs.Blocks.{never}
 use Rattle.mm_frame.specs.Latest.{is_on, IsCandidate, IsLatest, IsWalked}
-use Rattle.mm_frame.proofs.NestedLaw.{same_tests, stays_earlier, stays_nested}
-
-pub and_left : (a b : Bool) → (a && b) ≡ true → a ≡ true
-and_left true b e = refl
-and_left false b e = e
-
-pub and_right : (a b : Bool) → (a && b) ≡ true → b ≡ true
-and_right true b e = e
-and_right false b e = absurd (true≢false (sym e))
-
-pub not_true : (a : Bool) → (a ≡ true → ⊥) → a ≡ false
-not_true true f = absurd (f refl)
-not_true false f = refl
-
-pub or_true : (b : Bool) → (b || true) ≡ true
-or_true true = refl
-or_true false = refl
-
-pub or_false : (b : Bool) → (b || false) ≡ b
-or_false true = refl
-or_false false = refl
-
-pub and_false : (b : Bool) → (b && false) ≡ false
-and_false true = refl
-and_false false = refl
+use Rattle.mm_frame.proofs.NestedLaw.{stays_earlier, stays_nested}
 
 -- ---- disjoint_index
 
 pub member_push : (xs : List ℕ) (y i : ℕ)
     → is_member (xs ++ y ∷ []) i ≡ (is_member xs i || nat_eq i y)
 member_push xs y i =
-    list_any-append (nat_eq i) xs (y ∷ []) ∙ ap (λ b. is_member xs i || b) (or_false (nat_eq i y))
+    list_any-append (nat_eq i) xs (y ∷ []) ∙ ap (λ b. is_member xs i || b) (or-false (nat_eq i y))
 
 pub member_filter : (p : ℕ → Bool) (xs : List ℕ) (i : ℕ)
     → is_member (filter p xs) i ≡ (p i && is_member xs i)
-member_filter p [] i = sym (and_false (p i))
+member_filter p [] i = sym (and-false (p i))
 member_filter p (x ∷ xs) i = by (p x) refl (cases_eq i x) (member_filter p xs i)
   where
     by : (b : Bool) → p x ≡ b → (i ≡ x) ⊎ (i ≢ x)
@@ -90,14 +69,15 @@ height last = cond (nat_eq last never) 0 (last + 1)
 module _ (test : Statement → Bool) (db : List Statement) where
   pub on_earlier : (i j k : ℕ) → i ≤ j → j ≤ k → is_on test db i k ≡ true → is_on test db i j ≡ true
   on_earlier i j k h l e =
-      ap₂ (λ a b. a && b) (and_left (list_any test (statement_at db i)) (stays db i k) e)
-      (stays_earlier db i j k h l (and_right (list_any test (statement_at db i)) (stays db i k) e))
+      ap₂ (λ a b. a && b) (and_parts (list_any test (statement_at db i)) (stays db i k) e).0
+      (stays_earlier db i j k h l
+      (and_parts (list_any test (statement_at db i)) (stays db i k) e).1)
 
   pub on_nested : (i j k : ℕ) → i < j → j ≤ k → is_on test db j k ≡ true
       → is_on test db i k ≡ is_on test db i j
   on_nested i j k h l e =
       ap (λ b. list_any test (statement_at db i) && b)
-      (stays_nested db i j k h l (and_right (list_any test (statement_at db j)) (stays db j k) e))
+      (stays_nested db i j k h l (and_parts (list_any test (statement_at db j)) (stays db j k) e).1)
 
   -- a candidate that is not open gives way to the last one active at it
   pub candidate_next : (k last next : ℕ) → IsCandidate test db k last → last ≢ never
@@ -106,8 +86,8 @@ module _ (test : Statement → Bool) (db : List Statement) where
     found =
         λ n. let f = x.found n in let g = c.found ne in (
           (let a = f.0 in let b = g.0 in omega (arith, a, b)),
-          and_left
-              (list_any test (statement_at db next)) (stays db next last) f.1,
+          (and_parts
+              (list_any test (statement_at db next)) (stays db next last) f.1).0,
         );
     after = λ i h o. by i h o (cases_order i last);
   }
@@ -115,15 +95,15 @@ module _ (test : Statement → Bool) (db : List Statement) where
       by : (i : ℕ) → i < k → (next < i) ⊎ (next ≡ never) → (i ≡ last) ⊎ ((i < last) ⊎ (last < i))
           → is_on test db i k ≡ false
       by i h o (inr (inl l)) =
-          not_true (is_on test db i k)
+          false_from_ne_true (is_on test db i k)
           (λ t. true≢false
           (sym (on_earlier i last k (omega arith) (let g = (c.found ne).0 in omega (arith, g)) t)
           ∙ x.after i l o))
       by i h o (inl e) =
           subst (λ i. is_on test db i k ≡ false) (sym e)
-          (not_true (is_on test db last k)
+          (false_from_ne_true (is_on test db last k)
           (λ t. true≢false
-          (sym (and_right (list_any test (statement_at db last)) (stays db last k) t) ∙ out)))
+          (sym (and_parts (list_any test (statement_at db last)) (stays db last k) t).1 ∙ out)))
       by i h o (inr (inr g)) = c.after i h (inl g)
 
   pub candidate_open : (k last : ℕ) → IsCandidate test db k last
@@ -151,8 +131,8 @@ module _ (test : Statement → Bool) (db : List Statement) where
     found =
         λ n. let f = x.found n in (
           (let l = f.0 in omega (arith, l)),
-          and_left (list_any test (statement_at db last))
-              (stays db last k) f.1,
+          (and_parts (list_any test (statement_at db last))
+              (stays db last k) f.1).0,
         );
     after = λ i h o. by i h o (cases_lt i k);
   }
@@ -160,7 +140,7 @@ module _ (test : Statement → Bool) (db : List Statement) where
       by : (i : ℕ) → i < k + 1 → (last < i) ⊎ (last ≡ never) → (i < k) ⊎ (k ≤ i)
           → is_on test db i (k + 1) ≡ false
       by i h o (inl l) =
-          not_true (is_on test db i (k + 1))
+          false_from_ne_true (is_on test db i (k + 1))
           (λ t. true≢false
           (sym (on_earlier i k (k + 1) (omega arith) (omega arith) t) ∙ x.after i l o))
       by i h o (inr g) =
@@ -251,7 +231,7 @@ module _ (test : Statement → Bool) (db : List Statement) where
           by (inr m) =
               let same : i ≡ last = omega arith in
               inl (member_push xs last i ∙ ap (λ b. is_member xs i || b) (eq-eqb i last same)
-              ∙ or_true (is_member xs i))
+              ∙ or-true (is_member xs i))
 
   -- the kinds that are active to the end of their block
   abbrev pub IsLocalTest : Type 0
@@ -273,17 +253,13 @@ module _ (test : Statement → Bool) (db : List Statement) where
           ≡ (l && (list_any test (elim o [ None ↦ [] | Some s ↦ s ∷ [] ]) && b))
       by None true b = refl
       by None false b = refl
-      by (Some s) false b = and_false (test s || false)
+      by (Some s) false b = and-false (test s || false)
       by (Some s) true b = go (test s) refl
         where
-          and_true : (b : Bool) → (b && true) ≡ b
-          and_true true = refl
-          and_true false = refl
-
           go : (t : Bool) → test s ≡ t
               → ((t || false) && (is_active_kind s b && true)) ≡ ((t || false) && b)
           go false e = refl
-          go true e = and_true (is_active_kind s b) ∙ local s b e
+          go true e = and-true (is_active_kind s b) ∙ local s b e
 
   pub walked_end : IsLocalTest → (k : ℕ) (xs : List ℕ) (last : ℕ) → IsWalked test db k xs last
       → last ≡ never → (i : ℕ) → is_member xs i ≡ is_member (active_of test db k) i
@@ -295,8 +271,8 @@ module _ (test : Statement → Bool) (db : List Statement) where
     where
       by : (nat_lt i k && is_on test db i k) ≡ true → (i < k) ⊎ (k ≤ i) → is_member xs i ≡ true
       by t (inr l) =
-          absurd (true≢false (sym (and_left (nat_lt i k) (is_on test db i k) t) ∙ le-ltb i k l))
-      by t (inl l) = go (w.all i l (and_right (nat_lt i k) (is_on test db i k) t))
+          absurd (true≢false (sym (and_parts (nat_lt i k) (is_on test db i k) t).0 ∙ le-ltb i k l))
+      by t (inl l) = go (w.all i l (and_parts (nat_lt i k) (is_on test db i k) t).1)
         where
           go : (is_member xs i ≡ true) ⊎ ((last ≢ never) × (i ≤ last)) → is_member xs i ≡ true
           go (inl m) = m

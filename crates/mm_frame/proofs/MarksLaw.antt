@@ -4,6 +4,7 @@ use Rattle.std.proofs.Common.{◌∷◌, ◌++◌, length, get_or, set, nat_eq, 
 use Rattle.std.proofs.Common.{arith, ◌⊎◌, inl, inr, le_refl}
 use Rattle.std.proofs.lemmas.Bool.{cases_eq, eq-eqb, ne_eqb}
 use Rattle.std.proofs.lemmas.List.{get_or-set_same, get_or-set_other, length-set}
+use Rattle.std.proofs.Math.Bool.{and-false, or-false, or-true}
 use Rattle.mm_spec.specs.Derivation.{is_member}
 use Rattle.mm_frame.specs.Hypotheses.{AreMarks}
 use Rattle.mm_frame.proofs.LatestLaw.{member_push}
@@ -27,23 +28,15 @@ mark_more n stamp seen found s m h = record {
     within x l (inr e) =
         subst (λ v. v ≤ stamp) (sym (get_or-set_other seen s x stamp 0 e)) (m.within x l)
 
-    or_true : (b : Bool) → (b || true) ≡ true
-    or_true true = refl
-    or_true false = refl
-
-    or_false : (b : Bool) → (b || false) ≡ b
-    or_false true = refl
-    or_false false = refl
-
     marked : (x : ℕ) → x < n → (x ≡ s) ⊎ (x ≢ s)
         → nat_eq (get_or (set seen s stamp) x 0) stamp ≡ (is_member found x || nat_eq x s)
     marked x l (inl e) =
         ap (λ x. nat_eq (get_or (set seen s stamp) x 0) stamp) e
         ∙ eq-eqb (get_or (set seen s stamp) s 0) stamp here
-        ∙ sym (ap (λ b. is_member found x || b) (eq-eqb x s e) ∙ or_true (is_member found x))
+        ∙ sym (ap (λ b. is_member found x || b) (eq-eqb x s e) ∙ or-true (is_member found x))
     marked x l (inr e) =
         ap (λ v. nat_eq v stamp) (get_or-set_other seen s x stamp 0 e) ∙ m.marked x l
-        ∙ sym (ap (λ b. is_member found x || b) (ne_eqb x s e) ∙ or_false (is_member found x))
+        ∙ sym (ap (λ b. is_member found x || b) (ne_eqb x s e) ∙ or-false (is_member found x))
 
 -- with a new stamp none is marked
 pub marks_fresh : (n k : ℕ) (seen found : List ℕ) → length seen ≡ n
@@ -66,11 +59,7 @@ noted_new v s x b e = by (cases_eq x s)
     by (inl q) = ap (λ a. b || (a && nat_eq x s)) (sym (ap v q ∙ e))
     by (inr q) =
         ap (λ a. b || a) (ne_eqb x s q)
-        ∙ sym (ap (λ a. b || a) (ap (λ a. v x && a) (ne_eqb x s q) ∙ and_false (v x)))
-      where
-        and_false : (b : Bool) → (b && false) ≡ false
-        and_false true = refl
-        and_false false = refl
+        ∙ sym (ap (λ a. b || a) (ap (λ a. v x && a) (ne_eqb x s q) ∙ and-false (v x)))
 
 pub noted_again : (v m : ℕ → Bool) (s x : ℕ) → m s ≡ true → m x ≡ (m x || (v x && nat_eq x s))
 noted_again v m s x e = by (cases_eq x s)
@@ -92,12 +81,8 @@ noted_not v m s x e = by (cases_eq x s)
     right_false false true = refl
     right_false false false = refl
 
-    or_false : (a : Bool) → a ≡ (a || false)
-    or_false true = refl
-    or_false false = refl
-
     by : (x ≡ s) ⊎ (x ≢ s) → m x ≡ (m x || (v x && nat_eq x s))
-    by (inl q) = or_false (m x) ∙ ap (λ a. m x || (a && nat_eq x s)) (sym (ap v q ∙ e))
+    by (inl q) = sym (or-false (m x)) ∙ ap (λ a. m x || (a && nat_eq x s)) (sym (ap v q ∙ e))
     by (inr q) = right_false (m x) (v x) ∙ ap (λ a. m x || (v x && a)) (sym (ne_eqb x s q))
 
 -- one symbol more in the row

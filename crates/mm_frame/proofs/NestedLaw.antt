@@ -1,16 +1,12 @@
 -- Of two blocks that are open, the one that was opened first stays open for as long as the other.
-use Rattle.std.proofs.Common.{◌≡◌, ℕ, ◌<◌, ◌≤◌, Bool, true, false, List, refl, sym, arith, ◌⊎◌, inl}
+use Rattle.std.proofs.Common.{◌≡◌, ℕ, ◌<◌, ◌≤◌, true, List, arith, ◌⊎◌, inl}
 use Rattle.std.proofs.Common.{inr}
 use Rattle.std.proofs.lemmas.Bool.{cases_lt}
 use Rattle.mm_spec.specs.Statement.{Statement}
 use Rattle.mm_spec.specs.Scope.{depth, stays}
 use Rattle.mm_spec.specs.Laws.Blocks.{InBlock}
 use Rattle.mm_spec.proofs.ActivityLaw.{stays_exact}
-
-pub same_tests : (a b : Bool) → (a ≡ true → b ≡ true) → (b ≡ true → a ≡ true) → a ≡ b
-same_tests true b f g = sym (f refl)
-same_tests false true f g = g refl
-same_tests false false f g = refl
+use Rattle.mm_spec.proofs.BoolLaw.{same_tests}
 
 module _ (db : List Statement) where
   -- what stays open is open before

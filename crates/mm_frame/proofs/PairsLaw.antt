@@ -5,7 +5,7 @@ use Rattle.std.proofs.Common.{ap₂, ◌∙◌, subst, arith, eqb-true, eq-eqb, 
 use Rattle.std.proofs.Common.{nat_cmp}
 use Rattle.std.specs.declared.cmp.Ordering.{Ordering}
 use Rattle.std.specs.declared.cmp.Ordering.TheVariants.{Less, Equal, Greater}
-use Rattle.std.proofs.lemmas.Bool.{cases_order, lt-ltb, le-ltb, ne_eqb}
+use Rattle.std.proofs.lemmas.Bool.{cases_order, lt-ltb, le-ltb, ne_eqb, and_parts}
 use Rattle.std.specs.List.{Contains, dedup, list_any, range_with_len, AllByRecursion, filter}
 use Rattle.std.specs.List.Sorted.{IsPermutation, IsSorted, IsStrictlySortedBy}
 use Rattle.std.specs.Ordering.{ordering_then, is_eq}
@@ -16,11 +16,11 @@ use Rattle.std.proofs.lemmas.List.Folds.{Any-from_list_any, list_any_at, list_an
 use Rattle.std.proofs.lemmas.List.Kept.{IsStrictlySortedBy-dedup, Contains-dedup}
 use Rattle.std.proofs.lemmas.List.Kept.{Contains-from_dedup}
 use Rattle.std.proofs.lemmas.List.Sorted.{Contains-permutation, IsPermutation-sym}
+use Rattle.std.proofs.Math.Bool.{and-false, or-true}
 use Rattle.mm_spec.specs.Derivation.{Pair, pair, is_member}
 use Rattle.mm_spec.specs.Frame.{pairs_of}
+use Rattle.mm_spec.proofs.BoolLaw.{same_tests}
 use Rattle.mm_frame.specs.Pairs.{has_pair, IsBefore, AreRising}
-use Rattle.mm_frame.proofs.NestedLaw.{same_tests}
-use Rattle.mm_frame.proofs.LatestLaw.{and_left, and_right, or_true}
 
 cmp_less : (a b : ℕ) → a < b → nat_cmp a b ≡ Less
 cmp_less a b h = ap (λ t. cond t Less (cond (nat_eq a b) Equal Greater)) (lt-ltb a b h)
@@ -76,8 +76,8 @@ to_rising (p ∷ ps) h = (λ x y e. before ps h.0 x y e, to_rising ps h.1)
         by : (b : Bool) → (nat_eq x q.0 && nat_eq y q.1) ≡ b → (b || has_pair qs x y) ≡ true
             → (has_pair qs x y ≡ true → IsBefore p.0 p.1 x y) → IsBefore p.0 p.1 x y
         by true s e r =
-            let u = eqb-true x q.0 (and_left (nat_eq x q.0) (nat_eq y q.1) s) in
-            let v = eqb-true y q.1 (and_right (nat_eq x q.0) (nat_eq y q.1) s) in
+            let u = eqb-true x q.0 (and_parts (nat_eq x q.0) (nat_eq y q.1) s).0 in
+            let v = eqb-true y q.1 (and_parts (nat_eq x q.0) (nat_eq y q.1) s).1 in
             less_before p.0 p.1 x y
             (ap₂ (λ i j. ordering_then (nat_cmp p.0 i) (nat_cmp p.1 j)) u v ∙ a.0)
         by false s e r = r e
@@ -96,8 +96,8 @@ contains : (ps : List (ℕ × ℕ)) (x y : ℕ) → has_pair ps x y ≡ true →
 contains ps x y h =
     let n = Any-from_list_any (λ p. nat_eq x p.0 && nat_eq y p.1) ps h in
     let q = n.1 in
-    let u = eqb-true x q.0 (and_left (nat_eq x q.0) (nat_eq y q.1) n.4) in
-    let v = eqb-true y q.1 (and_right (nat_eq x q.0) (nat_eq y q.1) n.4) in
+    let u = eqb-true x q.0 (and_parts (nat_eq x q.0) (nat_eq y q.1) n.4).0 in
+    let v = eqb-true y q.1 (and_parts (nat_eq x q.0) (nat_eq y q.1) n.4).1 in
     let e : q ≡ (x, y) = ap₂ (λ (i j : ℕ). (i, j)) (sym u) (sym v) in
     (n.0, n.2, subst (λ (z : ℕ × ℕ). get_or ps n.0 z ≡ z) e n.3)
 
@@ -109,8 +109,8 @@ member ps x y h =
 
 same_equal : (p q : ℕ × ℕ) → same_pair p q ≡ true → p ≡ q
 same_equal p q h =
-    ap₂ (λ (i j : ℕ). (i, j)) (eqb-true p.0 q.0 (and_left (nat_eq p.0 q.0) (nat_eq p.1 q.1) h))
-    (eqb-true p.1 q.1 (and_right (nat_eq p.0 q.0) (nat_eq p.1 q.1) h))
+    ap₂ (λ (i j : ℕ). (i, j)) (eqb-true p.0 q.0 (and_parts (nat_eq p.0 q.0) (nat_eq p.1 q.1) h).0)
+    (eqb-true p.1 q.1 (and_parts (nat_eq p.0 q.0) (nat_eq p.1 q.1) h).1)
 
 pub sort_and_dedup_same : (xs ys zs : List (ℕ × ℕ)) → IsPermutation xs ys → zs ≡ dedup same_pair ys
     → (x y : ℕ) → has_pair zs x y ≡ has_pair xs x y
@@ -166,16 +166,16 @@ split p ps x y e = by (nat_eq x p.low && nat_eq y p.high) refl e
         → ((x ≡ p.low) × (y ≡ p.high)) ⊎ (has ps x y ≡ true)
     by true s e =
         inl (
-          eqb-true x p.low (and_left (nat_eq x p.low) (nat_eq y p.high) s),
+          eqb-true x p.low (and_parts (nat_eq x p.low) (nat_eq y p.high) s).0,
           eqb-true y p.high
-              (and_right (nat_eq x p.low) (nat_eq y p.high) s),
+              (and_parts (nat_eq x p.low) (nat_eq y p.high) s).1,
         )
     by false s e = inr e
 
 after : (p : Pair) (ps : List Pair) (x y : ℕ) → has ps x y ≡ true → has (p ∷ ps) x y ≡ true
 after p ps x y e =
     ap (λ b. (nat_eq x p.low && nat_eq y p.high) || b) e
-    ∙ or_true (nat_eq x p.low && nat_eq y p.high)
+    ∙ or-true (nat_eq x p.low && nat_eq y p.high)
 
 -- two lists in order with the same disjoint_index are one
 pub unique : (ps qs : List Pair) → Sorted ps → Sorted qs → ((x y : ℕ) → has ps x y ≡ has qs x y)
@@ -225,18 +225,14 @@ unique (p ∷ ps) (q ∷ qs) s t h = ap₂ (λ a b. a ∷ b) first (unique ps qs
 
 pub has_filter : (t : Pair → Bool) (ps : List Pair) (x y : ℕ)
     → has (filter t ps) x y ≡ (t (pair x y) && has ps x y)
-has_filter t [] x y = sym (and_false (t (pair x y)))
-  where
-    and_false : (b : Bool) → (b && false) ≡ false
-    and_false true = refl
-    and_false false = refl
+has_filter t [] x y = sym (and-false (t (pair x y)))
 has_filter t (p ∷ ps) x y =
     by (t p) refl (nat_eq x p.low && nat_eq y p.high) refl (has_filter t ps x y)
   where
     at : (nat_eq x p.low && nat_eq y p.high) ≡ true → t (pair x y) ≡ t p
     at s =
-        ap t (ap₂ pair (eqb-true x p.low (and_left (nat_eq x p.low) (nat_eq y p.high) s))
-        (eqb-true y p.high (and_right (nat_eq x p.low) (nat_eq y p.high) s)))
+        ap t (ap₂ pair (eqb-true x p.low (and_parts (nat_eq x p.low) (nat_eq y p.high) s).0)
+        (eqb-true y p.high (and_parts (nat_eq x p.low) (nat_eq y p.high) s).1))
 
     by : (b : Bool) → t p ≡ b → (c : Bool) → (nat_eq x p.low && nat_eq y p.high) ≡ c
         → has (filter t ps) x y ≡ (t (pair x y) && has ps x y)
@@ -255,18 +251,14 @@ sorted_filter t (p ∷ ps) s = by (t p) (sorted_filter t ps s.1)
     by : (b : Bool) → Sorted (filter t ps) → Sorted (cond b (p ∷ filter t ps) (filter t ps))
     by true r = (
       λ x y e. s.0 x y
-          (and_right (t (pair x y)) (has ps x y) (sym (has_filter t ps x y) ∙ e)),
+          (and_parts (t (pair x y)) (has ps x y) (sym (has_filter t ps x y) ∙ e)).1,
       r,
     )
     by false r = r
 
 has_row : (c : ℕ) (xs : List ℕ) (x y : ℕ)
     → has (map (pair c) xs) x y ≡ (nat_eq x c && is_member xs y)
-has_row c [] x y = sym (and_false (nat_eq x c))
-  where
-    and_false : (b : Bool) → (b && false) ≡ false
-    and_false true = refl
-    and_false false = refl
+has_row c [] x y = sym (and-false (nat_eq x c))
 has_row c (z ∷ xs) x y =
     ap (λ b. (nat_eq x c && nat_eq y z) || b) (has_row c xs x y) ∙ by (nat_eq x c)
   where
@@ -319,9 +311,9 @@ sorted_row : (c n a : ℕ) → Sorted (map (pair c) (range_with_len a n))
 sorted_row c zero a = tt
 sorted_row c (suc n) a = (
   λ x y e. let h = sym (has_row c (range_with_len (a + 1) n) x y) ∙ e in
-      let q = eqb-true x c (and_left (nat_eq x c) (is_member (range_with_len (a + 1) n) y) h) in
+      let q = eqb-true x c (and_parts (nat_eq x c) (is_member (range_with_len (a + 1) n) y) h).0 in
       let l = range_low n (a + 1) y
-      (and_right (nat_eq x c) (is_member (range_with_len (a + 1) n) y) h) in
+      (and_parts (nat_eq x c) (is_member (range_with_len (a + 1) n) y) h).1 in
       inr (sym q, omega (arith, l)),
   sorted_row c n (a + 1),
 )
@@ -335,12 +327,12 @@ sorted_rows m (suc n) a =
     (sorted_row a m 0) (sorted_rows m n (a + 1)) (λ p q x y e f.
     let u =
     eqb-true p a
-    (and_left (nat_eq p a) (is_member (range_with_len 0 m) q)
-    (sym (has_row a (range_with_len 0 m) p q) ∙ e)) in
+    (and_parts (nat_eq p a) (is_member (range_with_len 0 m) q)
+    (sym (has_row a (range_with_len 0 m) p q) ∙ e)).0 in
     let l =
     range_low n (a + 1) x
-    (and_left (is_member (range_with_len (a + 1) n) x) (is_member (range_with_len 0 m) y)
-    (sym (has_rows (range_with_len 0 m) (range_with_len (a + 1) n) x y) ∙ f)) in
+    (and_parts (is_member (range_with_len (a + 1) n) x) (is_member (range_with_len 0 m) y)
+    (sym (has_rows (range_with_len 0 m) (range_with_len (a + 1) n) x y) ∙ f)).0 in
     inl (omega (arith, u, l)))
 
 -- all pairs are in order

@@ -2,13 +2,12 @@
 use Rattle.std.proofs.Common.{◌≡◌, ℕ, ◌+◌, ◌-◌, ◌<◌, ◌≤◌, true, false, List, [], ◌∷◌, ◌++◌, length}
 use Rattle.std.proofs.Common.{get_or, slice_range, drop, sym, ap, subst, ◌∙◌, arith, ◌⊎◌, inl, inr}
 use Rattle.std.proofs.Common.{length-append, nat_lt, true≢false}
-use Rattle.std.proofs.lemmas.Bool.{cases_lt, cases_eq, lt-ltb, ltb-true}
+use Rattle.std.proofs.lemmas.Bool.{cases_lt, cases_eq, lt-ltb, ltb-true, false_from_ne_true}
 use Rattle.std.specs.List.Sorted.{IsPartitionedBy, IsPartitionPoint}
 use Rattle.std.proofs.lemmas.List.{get_or_push, get_or_append_left, get_or_past, get_or_default}
 use Rattle.std.proofs.lemmas.List.{get_or-take, get_or-drop, length-take-le, length-drop}
 use Rattle.mm_frame.specs.Pairs.{IsBefore, is_before, AreRising}
 use Rattle.mm_frame.specs.Starts.{IsStart, AreStarts}
-use Rattle.mm_frame.proofs.LatestLaw.{not_true}
 use Rattle.mm_frame.proofs.DisjointIndexLaw.{rising_at, is_before_if, before_is}
 
 -- the starts that the first n pairs tell
@@ -164,7 +163,7 @@ module _ (ps : List (ℕ × ℕ)) (rising : AreRising ps) (x at from to : ℕ) (
     pub after_point : (p : ℕ) → from + n ≤ p → p < length ps
         → is_before (get_or ps p (0, 0)) x at ≡ false
     after_point p l m =
-        not_true (is_before (get_or ps p (0, 0)) x at)
+        false_from_ne_true (is_before (get_or ps p (0, 0)) x at)
         (λ e. never (before_is (get_or ps p (0, 0)) x at e) (cases_lt p to))
       where
         never : IsBefore (get_or ps p (0, 0)).0 (get_or ps p (0, 0)).1 x at → (p < to) ⊎ (to ≤ p)

@@ -1,9 +1,9 @@
 -- The stack is exact in both directions, and the labels determine the row.
-use Rattle.std.proofs.Common.{◌≡◌, ℕ, suc, ◌+◌, ◌-◌, ◌<◌, Bool, true, false, List, [], ◌∷◌, ◌++◌}
-use Rattle.std.proofs.Common.{map, length, take, drop, Option, Some, None, Ok, Err, nat_le, refl}
-use Rattle.std.proofs.Common.{sym, ap, ap₂, ◌∙◌, subst, append-nil, arith, ◌↔◌, le-leb, leb-true}
-use Rattle.std.proofs.Common.{leb}
+use Rattle.std.proofs.Common.{◌≡◌, ℕ, suc, ◌+◌, ◌-◌, true, List, [], ◌∷◌, ◌++◌}
+use Rattle.std.proofs.Common.{map, length, take, drop, Option, Some, None, Ok, Err, nat_le}
+use Rattle.std.proofs.Common.{sym, ap, ap₂, ◌∙◌, subst, append-nil, arith, ◌↔◌, le-leb}
 use Rattle.std.specs.List.{list_all}
+use Rattle.std.proofs.lemmas.Bool.{false_from_ne_true, lt-leb}
 use Rattle.mm_spec.specs.Derivation.{Formula, Rule, hypothesis, assertion, Context, Substitution}
 use Rattle.mm_spec.specs.Derivation.{substitute, are_apart, Trees, none, formulas, postfix}
 use Rattle.mm_spec.specs.Derivation.{AreDerivations}
@@ -18,14 +18,6 @@ use Rattle.mm_spec.proofs.MachineLaw.{Ran, Stopped}
 abbrev pub IsPostfixOfRow : Context → List ℕ → Type 0
 IsPostfixOfRow c labels = (row : Trees) × AreDerivations c row × (postfix row ≡ labels)
 
--- a test that cannot be true, and one whose other side is too large
-is_false : (b : Bool) → ¬ (b ≡ true) → b ≡ false
-is_false true h = absurd (h refl)
-is_false false h = refl
-
-lt-leb_false : (m n : ℕ) → n < m → leb m n ≡ false
-lt-leb_false m n h = is_false (leb m n) (λ e. let le = leb-true m n e in omega (arith, le, h))
-
 module _ (c : Context) where
   -- a step that fails stops the run, for that reason
   pub stops : (r : Option Rule) (es : List Formula) (reason : Reason) → IsGood c r
@@ -38,11 +30,11 @@ module _ (c : Context) where
   stops (Some (hypothesis g)) es unmatched good h = absurd h
   stops (Some (hypothesis g)) es not_apart good h = absurd h
   stops (Some (hypothesis g)) es too_long good h =
-      ap (λ b. pick true true true b (es ++ g ∷ [])) (lt-leb_false (length g) formula_limit h)
+      ap (λ b. pick true true true b (es ++ g ∷ [])) (lt-leb (length g) formula_limit h)
   stops (Some (assertion a)) es too_few good h =
       ap (λ b. apply c a b (take (length es - length a.hypotheses) es)
       (drop (length es - length a.hypotheses) es))
-      (lt-leb_false (length a.hypotheses) (length es) h)
+      (lt-leb (length a.hypotheses) (length es) h)
   stops (Some (assertion a)) es unmatched good h =
       let ps = drop (length es - length a.hypotheses) es in
       let σ = found c a.hypotheses ps in
@@ -50,7 +42,7 @@ module _ (c : Context) where
       ap₂ (λ b m. pick b m apart (nat_le (length (substitute c σ a.formula)) formula_limit)
       (take (length es - length a.hypotheses) es ++ substitute c σ a.formula ∷ []))
       (le-leb (length a.hypotheses) (length es) h.0)
-      (is_false _ (λ e. h.1 σ (same_equal _ _ e)))
+      (false_from_ne_true _ (λ e. h.1 σ (same_equal _ _ e)))
   stops (Some (assertion a)) es not_apart good h =
       let n = length es - length a.hypotheses in
       let ps = drop n es in
@@ -67,7 +59,7 @@ module _ (c : Context) where
       (le-leb (length a.hypotheses) (length es) h.1) (no_other c a ps h.0 good h.2)
       ∙ ap (λ k. pick true true k (nat_le (length (substitute c σ a.formula)) formula_limit)
       (take n es ++ substitute c σ a.formula ∷ [])) (apart
-      ∙ is_false _ h.3)
+      ∙ false_from_ne_true _ h.3)
   stops (Some (assertion a)) es too_long good h =
       let n = length es - length a.hypotheses in
       let ps = drop n es in
@@ -86,7 +78,7 @@ module _ (c : Context) where
       (take n es ++ substitute c σ a.formula ∷ []))
       (le-leb (length a.hypotheses) (length es) h.1) (no_other c a ps h.0 good h.2)
       ∙ ap₂ (λ k s. pick true true k s (take n es ++ substitute c σ a.formula ∷ [])) (apart ∙ h.3)
-      (ap (λ f. nat_le (length f) formula_limit) formula ∙ lt-leb_false _ _ h.4)
+      (ap (λ f. nat_le (length f) formula_limit) formula ∙ lt-leb _ _ h.4)
 
   -- a row of derivations with these labels is what a run finds
   pub row_run : (ls : List ℕ) → AreGood c ls → (row : Trees) → AreDerivations c row

@@ -33,6 +33,7 @@ use Rattle.mm_spec.specs.declared.Code.TheVariants.{IncompleteProof}
 use Rattle.mm_spec.proofs.FindsLaw.{same_word, found_at, inside_of, declares}
 use Rattle.mm_spec.proofs.FaultlessLaw.{least_none, nil_first, nil_second, at_none, when_none}
 use Rattle.mm_spec.proofs.LocalLaw.{scope_fault_front}
+use Rattle.mm_spec.proofs.ListLaw.{get_none}
 use Rattle.mm_laws.proofs.SpellingLaw.{bracketed_is, AreFine, good_letters, item_of, groups_spell}
 use Rattle.mm_laws.proofs.SpellingLaw.{letters_bytes, spelling_unique}
 
@@ -49,11 +50,6 @@ get_append (y ∷ xs) ys (suc n) x e = by (get_append xs ys n x e)
         ⊎ ((i : ℕ) × (suc n ≡ suc (length xs) + i) × (slice_get ys i ≡ Some x))
     by (inl h) = inl h
     by (inr h) = let e = h.1 in inr (h.0, omega arith, h.2)
-
-get_none : {X : Type 0} (xs : List X) (n : ℕ) → slice_get xs n ≡ None → length xs ≤ n
-get_none [] n e = omega arith
-get_none (x ∷ xs) zero e = absurd (cc)
-get_none (x ∷ xs) (suc n) e = let h = get_none xs n e in omega arith
 
 get_only : {X : Type 0} (y x : X) (i : ℕ) → slice_get (y ∷ []) i ≡ Some x → (i ≡ 0) × (y ≡ x)
 get_only y x zero e = (refl, cc)

@@ -23,8 +23,9 @@ use Rattle.mm_spec.specs.declared.Word.{Word}
 use Rattle.mm_spec.proofs.WordRunsLaw.{begins_word_inside, words_between_none, words_between_skips}
 use Rattle.mm_spec.proofs.WordRunsLaw.{words_between_take}
 use Rattle.mm_spec.proofs.WordsLaw.{begins_word_boundary, begins_word_ink, IsWord_is}
+use Rattle.mm_spec.proofs.BitLaw.{shifted}
 use Rattle.mm_lex.specs.Plain.{plain_at, IsPlain}
-use Rattle.mm_lex.proofs.MaskLaw.{all_from, bit_one, none_in, bit_zero, shifted, inside, one_of}
+use Rattle.mm_lex.proofs.MaskLaw.{all_from, bit_one, none_in, bit_zero, inside, one_of}
 use Rattle.mm_lex.proofs.MaskLaw.{zero_of}
 
 -- ---- bytes at which nothing stops

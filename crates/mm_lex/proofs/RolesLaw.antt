@@ -1,7 +1,8 @@
 -- What a word is.
 use Rattle.std.proofs.Common.{◌≡◌, ℕ, zero, suc, ◌+◌, ◌-◌, ◌<◌, ◌≤◌, ◌||◌, ◌&&◌, ◌==◌, Bool, true}
-use Rattle.std.proofs.Common.{false, true≢false, List, [], ◌∷◌, length, drop, get_or, refl, ◌∙◌}
+use Rattle.std.proofs.Common.{false, List, [], ◌∷◌, length, drop, get_or, refl, ◌∙◌}
 use Rattle.std.proofs.Common.{arith}
+use Rattle.std.proofs.lemmas.Bool.{or_parts}
 use Rattle.mm_spec.specs.Roles.{has_mark, is_mark, is_dollar_and, is_token, is_comment_word}
 use Rattle.mm_spec.specs.Roles.{role_of}
 use Rattle.mm_spec.specs.Text.{has_dollar}
@@ -46,21 +47,13 @@ has_mark_no word i low h mark =
 
 -- ---- plain words
 
-no_left : (a b : Bool) → (a || b) ≡ false → a ≡ false
-no_left false b h = refl
-no_left true b h = absurd (true≢false h)
-
-no_right : (a b : Bool) → (a || b) ≡ false → b ≡ false
-no_right false b h = h
-no_right true b h = absurd (true≢false h)
-
 no_mark : (word : List ℕ) → has_dollar word ≡ false → has_mark word ≡ false
 unfolding has_mark is_mark
 no_mark [] h = refl
 no_mark (a ∷ []) h = refl
 no_mark (a ∷ b ∷ word) h =
-    rw (no_left (a == 0x24) (has_dollar (b ∷ word)) h)
-    (no_mark (b ∷ word) (no_right (a == 0x24) (has_dollar (b ∷ word)) h))
+    rw (or_parts (a == 0x24) (has_dollar (b ∷ word)) h).0
+    (no_mark (b ∷ word) (or_parts (a == 0x24) (has_dollar (b ∷ word)) h).1)
 
 and_false : (l x : Bool) → (l && false && x) ≡ false
 and_false true x = refl
@@ -70,7 +63,7 @@ not_closing : (b : ℕ) (word : List ℕ) → has_dollar word ≡ false → is_d
 unfolding is_dollar_and
 not_closing b [] h = refl
 not_closing b (a ∷ word) h =
-    rw (no_left (a == 0x24) (has_dollar word) h)
+    rw (or_parts (a == 0x24) (has_dollar word) h).0
     (and_false (length (a ∷ word) == 2) (get_or word 0 0 == b))
 
 pub plain_token : (word : List ℕ) → IsPlain word → role_of false word ≡ Token

@@ -10,6 +10,7 @@ use Rattle.std.specs.Prelude.{not, is_some, find}
 use Rattle.std.specs.List.{All}
 use Rattle.std.specs.Str.{bytes_eq}
 use Rattle.std.specs.Borrow.{Bor}
+use Rattle.std.proofs.lemmas.Bool.{not-true}
 use Rattle.clap.specs.Texts.{items_of}
 use Rattle.clap.specs.Values.{Accepts, read_as, reading_of}
 use Rattle.clap.specs.Walk.{Rule, Text, is_empty, is_simple_arg, rule_of}
@@ -27,10 +28,6 @@ use Rattle.clap.specs.declared.parser.matches.ArgMatches.{ArgMatches}
 use Rattle.clap.specs.declared.parser.matches.Found.{Found}
 use Rattle.clap.specs.declared.parser.matches.MatchedArg.{MatchedArg}
 use Rattle.clap.proofs.CallerLemmas.{default_present, entry_by_id, same_rules_by_id}
-
-not_not : (b : Bool) → not b ≡ true → b ≡ false
-not_not true h = absurd (true≢false (sym h))
-not_not false h = refl
 
 pub nothing_in : {X : Type 0} (xs : List X) → is_empty xs ≡ true → xs ≡ []
 nothing_in [] h = refl
@@ -73,7 +70,7 @@ simple_parts a h =
       ifs = nothing_in a.default_vals_ifs.items p.0;
       groups = nothing_in a.groups.items p.1;
       val_delim = no_option a.val_delim p.2;
-      global = not_not a.global p.3;
+      global = not-true a.global p.3;
     }
 
 -- the argument at a place, and its rule

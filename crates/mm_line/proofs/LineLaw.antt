@@ -12,6 +12,7 @@ use Rattle.std.specs.Borrow.{Bor}
 use Rattle.std.specs.Str.{bytes_eq}
 use Rattle.std.specs.Str.Parse.{digits_value, without_leading_plus}
 use Rattle.std.specs.String.{string_bytes}
+use Rattle.std.proofs.Math.Bool.{not-not}
 use Rattle.clap.specs.Values.{kind_of}
 use Rattle.clap.specs.Texts.{items_of}
 use Rattle.clap.specs.Matches.{first_value, found_of, one_text}
@@ -133,10 +134,6 @@ first_and_third false b c d h = absurd (true≢false (sym h))
 first_and_third true false c d h = absurd (true≢false (sym h))
 first_and_third true true false d h = absurd (true≢false (sym h))
 
-not_twice : (b : Bool) → not (not b) ≡ b
-not_twice true = refl
-not_twice false = refl
-
 one_of_words : (t : Text) → list_any (λ (w : Text). bytes_eq w t) report_words ≡ true
     → (choice : Choice) × (t ≡ report_word choice)
 one_of_words t h = by (or_cases (bytes_eq (codes "all") t) _ h)
@@ -252,7 +249,7 @@ module _ (names forms : Bor (List (Bor Text))) where
         (ap (λ (a : App). a.top.is_plain) is)
 
     globals : (out-Command c).has_globals ≡ false
-    globals = sym (not_twice (out-Command c).has_globals) ∙ plain.1
+    globals = sym (not-not (out-Command c).has_globals) ∙ plain.1
 
     no_groups : groups_of c ≡ []
     no_groups = nothing_in (out-Command c).groups.items plain.0

@@ -1,7 +1,7 @@
 -- Which words the active statements have.
-use Rattle.std.proofs.Common.{cond, ◌≡◌, ℕ, zero, suc, ◌+◌, ◌<◌, ◌≤◌, Bool, true, false, ◌&&◌, ◌||◌}
+use Rattle.std.proofs.Common.{cond, ◌≡◌, ℕ, zero, suc, ◌+◌, ◌<◌, Bool, true, false, ◌&&◌, ◌||◌}
 use Rattle.std.proofs.Common.{List, [], ◌∷◌, flat_map, map, bytes_eq, refl, sym, ap, ap₂, ◌∙◌}
-use Rattle.std.proofs.Common.{arith, ◌⊎◌, inl, inr, eq-or-lt_of_le}
+use Rattle.std.proofs.Common.{arith}
 use Rattle.std.proofs.lemmas.List.Folds.{list_any-append}
 use Rattle.std.proofs.lemmas.Grind.{flat_map-append}
 use Rattle.std.specs.List.{list_any, range_with_len, filter}
@@ -9,21 +9,6 @@ use Rattle.mm_spec.specs.Text.{Bytes, is_in}
 use Rattle.mm_spec.specs.Statement.{Statement}
 use Rattle.mm_spec.specs.Scope.{Typing, statement_at, typings_of}
 use Rattle.mm_outline.specs.Typed.{has, typed_words}
-
-pub any_true : (q : ℕ → Bool) (n a j : ℕ) → a ≤ j → j < a + n → q j ≡ true
-    → list_any q (range_with_len a n) ≡ true
-any_true q zero a j h l e = absurd (omega arith)
-any_true q (suc n) a j h l e =
-    by (eq-or-lt_of_le h) (λ s. any_true q n (a + 1) j (omega arith) (omega arith) e)
-  where
-    or_right : (b : Bool) → (b || true) ≡ true
-    or_right true = refl
-    or_right false = refl
-
-    by : (a ≡ j) ⊎ (a < j) → (a < j → list_any q (range_with_len (a + 1) n) ≡ true)
-        → (q a || list_any q (range_with_len (a + 1) n)) ≡ true
-    by (inl s) r = ap (λ b. b || list_any q (range_with_len (a + 1) n)) (ap q s ∙ e)
-    by (inr s) r = ap (λ b. q a || b) (r s) ∙ or_right (q a)
 
 pub any_false : (q : ℕ → Bool) (n a : ℕ) → ((j : ℕ) → j < a + n → q j ≡ false)
     → list_any q (range_with_len a n) ≡ false

@@ -1,48 +1,23 @@
 -- What a statement with no fault says of its words.
-use Rattle.std.proofs.Common.{◌≡◌, ℕ, Bool, true, false, Option, None, Some, ◌&&◌, ◌||◌, List, []}
-use Rattle.std.proofs.Common.{◌∷◌, ◌++◌, bytes_eq, refl, sym, ap, ◌∙◌, true≢false}
-use Rattle.std.proofs.lemmas.Slice.Eq.{bytes_eq-Decides}
+use Rattle.std.proofs.Common.{◌≡◌, ℕ, Bool, true, false, Some, ◌&&◌, ◌||◌, List, []}
+use Rattle.std.proofs.Common.{◌∷◌, ◌++◌, refl, true≢false}
 use Rattle.mm_spec.specs.Text.{Bytes, Token, is_in, words, fault}
 use Rattle.mm_spec.specs.declared.Fault.{Fault}
 use Rattle.mm_spec.specs.Scope.{Names}
-use Rattle.mm_spec.specs.Lawful.{at, at_each, when, lesser, least, is_before, constant_codes}
+use Rattle.mm_spec.specs.Lawful.{at, at_each, when, lesser, is_before, constant_codes}
 use Rattle.mm_spec.specs.Lawful.{variable_codes, floating_faults, is_typed, is_typed_otherwise}
-use Rattle.mm_spec.specs.declared.Code.{Code}
 use Rattle.mm_spec.specs.declared.Code.TheVariants.{DeclaredBefore, BadFloating, TypedBefore}
 use Rattle.mm_spec.specs.declared.Code.TheVariants.{OtherTypecode, LabelIsSymbol}
+use Rattle.mm_spec.proofs.FaultlessLaw.{at_none, when_none, each_none}
 
 pub append_none : {X : Type 0} (xs ys : List X) → xs ++ ys ≡ [] → (xs ≡ []) × (ys ≡ [])
 append_none [] ys e = (refl, e)
 append_none (x ∷ xs) ys e = absurd (cc)
 
-pub at_none : (p : ℕ) (cs : List Code) → at p cs ≡ [] → cs ≡ []
-at_none p [] e = refl
-at_none p (c ∷ cs) e = absurd (cc)
-
-pub when_none : (b : Bool) (c : Code) → when b c ≡ [] → b ≡ false
-when_none true c e = absurd (cc)
-when_none false c e = refl
-
 or_none : (a b c : Bool) → (a || b || c) ≡ false → (a ≡ false) × (b ≡ false)
 or_none false false c e = (refl, refl)
 or_none false true c e = absurd (true≢false e)
 or_none true b c e = absurd (true≢false e)
-
--- a symbol with no fault has no code
-each_none : (codes : List Bytes → Bytes → List Code) (e : List Bytes) (ts : List Token)
-    → at_each codes e ts ≡ [] → (w : Bytes) → is_in w (words ts) ≡ true
-    → (earlier : List Bytes) × (codes earlier w ≡ [])
-each_none codes e [] h w i = absurd (true≢false (sym i))
-each_none codes e (t ∷ ts) h w i =
-    let parts = append_none (at t.at (codes e t.word)) (at_each codes (t.word ∷ e) ts) h in
-    by (at_none t.at (codes e t.word) parts.0) (bytes_eq w t.word) refl i
-    (each_none codes (t.word ∷ e) ts parts.1 w)
-  where
-    by : codes e t.word ≡ [] → (b : Bool) → bytes_eq w t.word ≡ b → (b || is_in w (words ts)) ≡ true
-        → (is_in w (words ts) ≡ true → (earlier : List Bytes) × (codes earlier w ≡ []))
-        → (earlier : List Bytes) × (codes earlier w ≡ [])
-    by none true s i r = (e, ap (codes e) ((bytes_eq-Decides w t.word).0 s) ∙ none)
-    by none false s i r = r i
 
 module _ (n : Names) where
   -- a word of a `$c` is new
@@ -116,11 +91,3 @@ lesser_is f g = by (is_before f g)
     by : (b : Bool) → elim b [ true ↦ Some f | false ↦ Some g ] ≡ Some (pick b f g)
     by true = refl
     by false = refl
-
-pub none_least : (fs : List Fault) → least fs ≡ None → fs ≡ []
-none_least [] e = refl
-none_least (f ∷ fs) e = absurd (by (least fs) e)
-  where
-    by : (o : Option Fault) → lesser f o ≡ None → ⊥
-    by None e = cc
-    by (Some g) e = let h : Some (pick (is_before f g) f g) ≡ None = sym (lesser_is f g) ∙ e in cc

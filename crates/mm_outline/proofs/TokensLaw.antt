@@ -1,6 +1,6 @@
 -- The tokens of a text lie in it, rise, and are few; a text that is too long has none, and its
 -- lexical fault.
-use Rattle.std.proofs.Common.{◌≡◌, ℕ, suc, ◌-◌, ◌^◌, ◌<◌, ◌≤◌, ◌==◌, ◌||◌, ◌&&◌, Bool, true, false}
+use Rattle.std.proofs.Common.{◌≡◌, ℕ, ◌-◌, ◌^◌, ◌<◌, ◌≤◌, ◌==◌, ◌||◌, ◌&&◌, Bool, true, false}
 use Rattle.std.proofs.Common.{not, List, [], ◌∷◌, length, map, drop, get_or, slice_index, codes}
 use Rattle.std.proofs.Common.{Option, None, Some, is_some, if◌then◌else◌, ◌⊎◌, inl, inr, refl, sym}
 use Rattle.std.proofs.Common.{ap, ◌∙◌, subst, arith}
@@ -29,6 +29,7 @@ use Rattle.mm_spec.proofs.WordsLaw.{words_of_AreWords}
 use Rattle.mm_spec.proofs.ReadingsLaw.{reading_opening, reading_closing, reading_comment}
 use Rattle.mm_spec.proofs.ReadingsLaw.{reading_faulty, reading_end, reading_one}
 use Rattle.mm_spec.proofs.LexedLaw.{tokens_of_long, lexical_fault_long, tokens_of_read}
+use Rattle.mm_spec.proofs.ListLaw.{pairs_head, pairs_tail}
 use Rattle.mm_outline.specs.Parts.{AreWithin}
 use Rattle.mm_outline.specs.Tokens.{AreTokens}
 use Rattle.mm_outline.specs.Statements.{lexed, end_fault_of}
@@ -68,14 +69,6 @@ all_kept P text c ws =
     tokens_kept (λ vs ts. All P vs → All P ts) (λ vs h. All-nil P)
     (λ w vs ts r h. All-cons P w ts (All-head P w vs h) (r (All-tail P w vs h)))
     (λ w vs ts r h. r (All-tail P w vs h)) text c ws
-
-pairs_head : {X : Type 0} (R : X → X → Type 0) (x : X) (xs : List X) → AllPairs R (x ∷ xs)
-    → All (R x) xs
-pairs_head R x xs p = λ j d h. p 0 (suc j) d (omega arith) (omega arith)
-
-pairs_tail : {X : Type 0} (R : X → X → Type 0) (x : X) (xs : List X) → AllPairs R (x ∷ xs)
-    → AllPairs R xs
-pairs_tail R x xs p = λ i j d l h. p (suc i) (suc j) d (omega arith) (omega arith)
 
 abbrev Later : Word → Word → Type 0
 Later v w = v.end ≤ w.start

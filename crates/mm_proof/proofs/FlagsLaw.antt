@@ -4,7 +4,9 @@ use Rattle.std.proofs.Common.{◌∷◌, ◌++◌, length, get_or, slice_set, re
 use Rattle.std.proofs.Common.{eq-eqb, length-append, true≢false}
 use Rattle.std.proofs.lemmas.List.{get_or-set_same, get_or-set_other, map-append}
 use Rattle.std.proofs.lemmas.List.Folds.{list_any-append}
+use Rattle.std.proofs.lemmas.Bool.{or_right}
 use Rattle.mm_spec.specs.Steps.{marked}
+use Rattle.mm_spec.proofs.BoolLaw.{or_none}
 use Rattle.mm_proof.specs.declared.placed.Placed.{Placed}
 use Rattle.mm_proof.specs.Read.{is_marked, takes_up}
 use Rattle.mm_proof.specs.Flags.{step_by, told_one, told, nothing, AreFlags}
@@ -30,14 +32,6 @@ or_end : (a b : Bool) → (a || (b || false)) ≡ (a || b)
 or_end true b = refl
 or_end false true = refl
 or_end false false = refl
-
-or_true : (a b : Bool) → b ≡ true → (a || b) ≡ true
-or_true true b e = refl
-or_true false b e = e
-
-or_none : (a b : Bool) → b ≡ false → (a || b) ≡ a
-or_none true b e = refl
-or_none false b e = e
 
 one_more : (ps : List Placed) (p : Placed) (i : ℕ)
     → is_marked (told (ps ++ p ∷ [])) i
@@ -65,7 +59,7 @@ flag_more ps qs p q j old more plain takes inside same flag i = by (i == j) refl
         ∙ ap (λ z. z.is_marked)
         (get_or-set_same qs j q nothing
         (let n = ap length more in omega (arith, n, length-append ps (p ∷ []))))
-        ∙ flag ∙ sym (now ∙ or_true (is_marked (told ps) i) (i == j) e)
+        ∙ flag ∙ sym (now ∙ or_right (is_marked (told ps) i) (i == j) e)
     by false e =
         ap (λ z. z.is_marked)
         (get_or-set_other qs j i q nothing (λ h. true≢false (sym (eq-eqb i j h) ∙ e)))

@@ -1,8 +1,8 @@
 -- The first fault of rising words is the least.
-use Rattle.std.proofs.Common.{◌≡◌, ◌∙◌, ◌||◌, ◌&&◌, ◌==◌, ℕ, suc, ◌+◌, ◌<◌, Bool, true, false, List}
+use Rattle.std.proofs.Common.{◌≡◌, ◌∙◌, ◌||◌, ◌&&◌, ◌==◌, ℕ, ◌+◌, ◌<◌, Bool, true, false, List}
 use Rattle.std.proofs.Common.{[], ◌∷◌, ◌++◌, length, take, drop, flat_map, get_or, Option, None}
 use Rattle.std.proofs.Common.{Some, bytes_eq, codes, nat_le, refl, sym, ap, ap₂, subst, arith}
-use Rattle.std.specs.List.{AllPairs, AllByRecursion, All}
+use Rattle.std.specs.List.{AllPairs, AllByRecursion}
 use Rattle.std.proofs.lemmas.Bool.{lt-ltb}
 use Rattle.std.proofs.lemmas.Grind.{flat_map-append}
 use Rattle.std.proofs.lemmas.List.{take-append-drop, drop_more, map-append}
@@ -15,16 +15,9 @@ use Rattle.mm_spec.specs.declared.Code.TheVariants.{IncompleteProof, UnusableLab
 use Rattle.mm_spec.specs.Statement.{Statement}
 use Rattle.mm_spec.specs.Lawful.{least, lesser, is_before}
 use Rattle.mm_spec.specs.NormalProof.{usable, proof_label_faults}
+use Rattle.mm_spec.proofs.ListLaw.{pairs_head, pairs_tail}
 use Rattle.mm_stmt.specs.Parts.{as_tokens, token_of}
 use Rattle.mm_proof.specs.Refused.{word_faults}
-
-pub pairs_head : {X : Type 0} (R : X → X → Type 0) (x : X) (xs : List X) → AllPairs R (x ∷ xs)
-    → All (R x) xs
-pairs_head R x xs p = λ j d h. p 0 (suc j) d (omega arith) (omega arith)
-
-pub pairs_tail : {X : Type 0} (R : X → X → Type 0) (x : X) (xs : List X) → AllPairs R (x ∷ xs)
-    → AllPairs R xs
-pairs_tail R x xs p = λ i j d l h. p (suc i) (suc j) d (omega arith) (omega arith)
 
 pub pairs_back : {X : Type 0} (R : X → X → Type 0) (xs ys : List X) → AllPairs R (xs ++ ys)
     → AllPairs R ys

@@ -7,6 +7,7 @@ use Rattle.std.proofs.Common.{slice_range, get_or, take, drop, true≢false, is_
 use Rattle.std.specs.Result.{IsErrAnd}
 use Rattle.std.proofs.lemmas.List.{drop_more, append-nil}
 use Rattle.std.proofs.lemmas.Bool.{and_parts, le-ltb, lt-ltb}
+use Rattle.std.proofs.lemmas.Option.{slice_get_within}
 use Rattle.mm_spec.specs.declared.Fault.{Fault}
 use Rattle.mm_spec.specs.Text.{Bytes, Token, fault}
 use Rattle.mm_spec.specs.Lawful.{when, at}
@@ -77,12 +78,6 @@ named_within labels marks zero s e = omega arith
 named_within labels marks (suc n) s e =
     by (slice_get labels n) refl (slice_get marks (n - length labels)) refl e
   where
-    some : {X : Type 0} (xs : List X) (n : ℕ) (x : X) → slice_get xs n ≡ Some x → n < length xs
-    some [] zero x e = absurd (cc)
-    some [] (suc n) x e = absurd (cc)
-    some (y ∷ xs) zero x e = omega arith
-    some (y ∷ xs) (suc n) x e = let h = some xs n x e in omega (arith, h)
-
     by : (a : Option ℕ) → slice_get labels n ≡ a → (b : Option ℕ)
         → slice_get marks (n - length labels) ≡ b
         → ◌≡◌ {A = List spec.Step}
@@ -92,8 +87,9 @@ named_within labels marks (suc n) s e =
         ]) (s
         ∷ [])
         → suc n ≤ length labels + length marks
-    by (Some j) p b q e = let h = some labels n j p in omega (arith, h)
-    by None p (Some i) q e = let h = some marks (n - length labels) i q in omega (arith, h)
+    by (Some j) p b q e = let h = slice_get_within labels n j p in omega (arith, h)
+    by None p (Some i) q e =
+        let h = slice_get_within marks (n - length labels) i q in omega (arith, h)
     by None p None q e = absurd (cc)
 
 no_mark : (byte : ℕ) → is_last byte ≡ true → (byte == 90) ≡ false

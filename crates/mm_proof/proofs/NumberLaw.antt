@@ -6,25 +6,10 @@ use Rattle.std.specs.List.{list_all}
 use Rattle.std.proofs.lemmas.Bool.{and_parts, cases_lt}
 use Rattle.mm_spec.specs.CompressedProof.{Letter, letters_from, Group, is_early, is_last}
 use Rattle.std.specs.Result.{OkIff, result_ok}
+use Rattle.std.proofs.lemmas.List.{same_from_push}
 use Rattle.mm_proof.specs.declared.digits.LetterKind.{LetterKind}
 use Rattle.mm_proof.specs.declared.digits.LetterKind.TheVariants.{Early, Last, Mark, Unknown, Other}
 use Rattle.mm_proof.specs.Number.{IsNumber, IsLetter, told}
-
-push_same : (xs ys : List ℕ) (x y : ℕ) → xs ++ x ∷ [] ≡ ys ++ y ∷ [] → (xs ≡ ys) × (x ≡ y)
-push_same [] [] x y e = (refl, cc)
-push_same [] (z ∷ ys) x y e = absurd (empty ys (let t : [] ≡ ys ++ y ∷ [] = cc in t))
-  where
-    empty : (ys : List ℕ) → ¬ ([] ≡ ys ++ y ∷ [])
-    empty [] e = cc
-    empty (z ∷ ys) e = cc
-push_same (z ∷ xs) [] x y e = absurd (empty xs (let t : xs ++ x ∷ [] ≡ [] = cc in t))
-  where
-    empty : (xs : List ℕ) → ¬ (xs ++ x ∷ [] ≡ [])
-    empty [] e = cc
-    empty (z ∷ xs) e = cc
-push_same (v ∷ xs) (w ∷ ys) x y e =
-    let r = push_same xs ys x y (let t : xs ++ x ∷ [] ≡ ys ++ y ∷ [] = cc in t) in
-    let h : v ≡ w = cc in (ap₂ (λ a b. a ∷ b) h r.0, r.1)
 
 abbrev bytes : List Letter → List ℕ
 bytes xs = map (λ x. x.byte) xs
@@ -68,7 +53,7 @@ pub record IsSpelled (bs : List ℕ) (b n : ℕ) : Type 0 where
 
 pub spelled : (bs : List ℕ) (b n : ℕ) → IsNumber (bs ++ b ∷ []) n → IsSpelled bs b n
 spelled bs b n h =
-    let p = push_same (bytes h.group.early) bs h.group.last.byte b h.spelled in
+    let p = same_from_push (bytes h.group.early) bs h.group.last.byte b h.spelled in
     record {
       early = ap (list_all is_early) (sym p.0) ∙ sym (all_bytes h.group.early) ∙ h.early;
       last = ap is_last (sym p.1) ∙ h.last;

@@ -5,6 +5,7 @@ use Rattle.std.proofs.Common.{codes, nat_le, nat_lt, refl, sym, ap, subst, arith
 use Rattle.std.proofs.Common.{eq-eqb}
 use Rattle.std.specs.List.{AllByRecursion}
 use Rattle.std.proofs.lemmas.Bool.{lt-ltb}
+use Rattle.std.proofs.Math.Bool.{or-true}
 use Rattle.mm_spec.specs.Text.{Token, Bytes, fault}
 use Rattle.mm_spec.specs.Codes.{code_number}
 use Rattle.mm_spec.specs.declared.Fault.{Fault}
@@ -151,10 +152,6 @@ letters_rise from end (t ∷ ts) o =
     rise_from from t.at end (letters_from t.at t.word ++ letters_of ts) o.0
     (rise_word t.at end t.word (letters_of ts) (letters_rise (t.at + length t.word) end ts o.2))
 
-or_true : (b : Bool) → (b || true) ≡ true
-or_true true = refl
-or_true false = refl
-
 mark_run : (from place : ℕ) (a b : Bool) → from ≤ place
     → Run from (place + 1) (at place (when a OpenNumber ++ when b MarkBeforeStep))
 mark_run from place true true l = record {
@@ -163,7 +160,7 @@ mark_run from place true true l = record {
   sorted = (
     (
       ap (λ c. nat_lt place place || (c && true)) (eq-eqb place place refl)
-          ∙ or_true (nat_lt place place),
+          ∙ or-true (nat_lt place place),
       tt,
     ),
     (tt, tt),

@@ -16,9 +16,10 @@ use Rattle.mm_spec.specs.Statement.{Statement, provable, spelled}
 use Rattle.mm_spec.specs.Opened.{counted}
 use Rattle.mm_spec.specs.Output.{IsRead, lexed_of}
 use Rattle.mm_spec.proofs.OpenedLaw.{theorem_read}
+use Rattle.mm_spec.proofs.ListLaw.{pairs_head, pairs_tail}
 use Rattle.mm_outline.proofs.TokensLaw.{tokens_rising, tokens_are_words}
 use Rattle.mm_proof.specs.Letters.{InOrder}
-use Rattle.mm_proof.proofs.LeastLaw.{Earlier, pairs_head, pairs_tail, pairs_back}
+use Rattle.mm_proof.proofs.LeastLaw.{Earlier, pairs_back}
 
 -- the words rise, and have bytes
 abbrev Follows : Token → Token → Type 0

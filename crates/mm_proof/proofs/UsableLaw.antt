@@ -2,16 +2,14 @@
 use Rattle.std.proofs.Common.{◌≡◌, ◌∙◌, ◌&&◌, ◌||◌, ℕ, ◌+◌, ◌<◌, Bool, true, false, List, [], ◌∷◌}
 use Rattle.std.proofs.Common.{nat_eq, refl, sym, ap, ap₂, arith, true≢false, eqb-true, eq-eqb}
 use Rattle.std.specs.List.{list_any}
+use Rattle.std.proofs.Math.Bool.{and-false}
 use Rattle.mm_spec.specs.Text.{Bytes}
 use Rattle.mm_spec.specs.Statement.{Statement}
 use Rattle.mm_spec.specs.Scope.{is_active, statement_at}
 use Rattle.mm_spec.specs.NormalProof.{is_labelled, usable}
-use Rattle.mm_spec.proofs.FindsLaw.{is_before, lone}
+use Rattle.mm_spec.proofs.FindsLaw.{is_before}
+use Rattle.mm_spec.proofs.BoolLaw.{lone}
 use Rattle.mm_frame.proofs.RisingLaw.{filter_is}
-
-and_no : (b : Bool) → (b && false) ≡ false
-and_no true = refl
-and_no false = refl
 
 module _ (db : List Statement) (k : ℕ) (w : Bytes) where
   abbrev labelled : ℕ → Bool
@@ -25,7 +23,7 @@ module _ (db : List Statement) (k : ℕ) (w : Bytes) where
 
   pub none_usable : ((j : ℕ) → labelled j ≡ false) → usable db k w ≡ []
   none_usable h =
-      none_passes (λ j. ap (λ b. is_active db j k && b) (h j) ∙ and_no (is_active db j k))
+      none_passes (λ j. ap (λ b. is_active db j k && b) (h j) ∙ and-false (is_active db j k))
 
   pub inactive_usable : (j : ℕ) → ((i : ℕ) → labelled i ≡ true → i ≡ j) → is_active db j k ≡ false
       → usable db k w ≡ []
@@ -34,7 +32,7 @@ module _ (db : List Statement) (k : ℕ) (w : Bytes) where
       by : (i : ℕ) (b : Bool) → labelled i ≡ b → passes i ≡ false
       by i true e =
           ap (λ x. is_active db x k && labelled i) (only i e) ∙ ap (λ b. b && labelled i) a
-      by i false e = ap (λ b. is_active db i k && b) e ∙ and_no (is_active db i k)
+      by i false e = ap (λ b. is_active db i k && b) e ∙ and-false (is_active db i k)
 
   pub active_usable : (j : ℕ) → ((i : ℕ) → labelled i ≡ true → i ≡ j) → labelled j ≡ true
       → is_active db j k ≡ true → usable db k w ≡ j ∷ []
@@ -48,7 +46,7 @@ module _ (db : List Statement) (k : ℕ) (w : Bytes) where
 
       other : (i : ℕ) → nat_eq i j ≡ false → (c : Bool) → labelled i ≡ c → passes i ≡ false
       other i e true l = absurd (true≢false (sym (eq-eqb i j (only i l)) ∙ e))
-      other i e false l = ap (λ b. is_active db i k && b) l ∙ and_no (is_active db i k)
+      other i e false l = ap (λ b. is_active db i k && b) l ∙ and-false (is_active db i k)
 
       by : (i : ℕ) (b : Bool) → nat_eq i j ≡ b → passes i ≡ (b || false)
       by i true e = ap passes (eqb-true i j e) ∙ ap₂ (λ x y. x && y) a l

@@ -3,20 +3,22 @@ use Rattle.std.proofs.Common.{◌≡◌, ℕ, Bool, true, false, cond, ◌||◌,
 use Rattle.std.proofs.Common.{◌≤◌, ◌+◌, ◌*◌, ◌/◌, ◌%◌, ◌-◌, ◌^◌, min, length, map, subst, sym, ap}
 use Rattle.std.proofs.Common.{ap₂, refl, arith, get_or, set, eqb, replicate, bit_and, bit_or, ◌∙◌}
 use Rattle.std.proofs.lemmas.Bool.{cases_eq, cases_lt, eq-eqb, ne_eqb, lt-ltb, le-ltb}
-use Rattle.std.proofs.lemmas.Nat.{same_from_place, mul-add-lt, shr_split, mod_below, pow_pos}
-use Rattle.std.proofs.lemmas.Nat.Bits.{bit_at_and, bit_at_ones, bit_at_cat_high, bit_at-lt}
+use Rattle.std.proofs.lemmas.Nat.{same_from_place, mul-add-lt, pow_pos}
+use Rattle.std.proofs.lemmas.Nat.Bits.{bit_at_and, bit_at_ones, bit_at-lt}
 use Rattle.std.proofs.lemmas.Nat.Bits.{bit_at-zero, and_pow}
 use Rattle.std.proofs.lemmas.List.{get_or-set_same, get_or-set_other, get_or-map, length-set}
 use Rattle.std.proofs.lemmas.Simd.{length-zip2, get_or-zip2, bit_mask_l, get_or-replicate}
 use Rattle.std.proofs.lemmas.Simd.{length-replicate}
 use Rattle.std.proofs.Math.Nat.{mul_comm}
 use Rattle.std.specs.Int.{bit_at}
+use Rattle.std.proofs.lemmas.Bool.{false_from_ne_true}
 use Rattle.mm_rows.specs.Bits.{is_bit, words_for, spot, AreTransposed}
 use Rattle.mm_rows.specs.BitRows.{row_at}
 use Rattle.mm_rows.specs.Blocks.{in_row, IsColumnWord, AreRowBytes, Written}
 use Rattle.mm_rows.proofs.BitLaw.{or_bits}
 use Rattle.mm_rows.proofs.TransposeLaw.{spot_word, spot_bit, row_bit, row_length}
 use lib.Lanes.{zip2, mask_l}
+use Rattle.mm_spec.proofs.BitLaw.{shifted}
 
 -- a bit is that of 2 ^ b alone, where there is one
 bit_of_pow : (n b : ℕ) → cond (eqb (bit_and n (2 ^ b)) (2 ^ b)) 1 0 ≡ bit_at n b
@@ -106,14 +108,6 @@ all_marked across rows bits any w end le h k j lt small one = go (cases_lt (64 *
         absurd (let e : true ≡ false = sym one ∙ no in cc)
 
 -- a bit of a byte of a word
-pub shifted : (n s b : ℕ) → bit_at (n / 2 ^ s) b ≡ bit_at n (s + b)
-shifted n s b =
-    let back : s + b - s ≡ b = omega arith in
-    ap (bit_at (n / 2 ^ s)) (sym back)
-    ∙ sym (bit_at_cat_high (n / 2 ^ s) s (n % 2 ^ s) (s + b) (mod_below n (2 ^ s) (pow_pos s))
-    (omega arith))
-    ∙ ap (λ x. bit_at x (s + b)) (shr_split n s)
-
 pub byte_bit : (n s b : ℕ) → b < 8 → bit_at (bit_and (n / 2 ^ s) 255) b ≡ bit_at n (s + b)
 byte_bit n s b lt =
     let l = bit_at-lt (n / 2 ^ s) b in
@@ -210,11 +204,7 @@ pub no_mark : (rows across : ℕ) (bits : List ℕ) (w j : ℕ)
     → ((k : ℕ) → k < 64 → in_row rows across bits (64 * w + k) j ≡ true → ⊥)
     → IsColumnWord rows across bits w j 0
 no_mark rows across bits w j none k lt =
-    ap (λ x. eqb x 1) (bit_at-zero k) ∙ sym (never _ (none k lt))
-  where
-    never : (b : Bool) → (b ≡ true → ⊥) → b ≡ false
-    never true h = absurd (h refl)
-    never false h = refl
+    ap (λ x. eqb x 1) (bit_at-zero k) ∙ sym (false_from_ne_true _ (none k lt))
 
 -- a word of a column lies within the words
 pub word_within : (columns down j w len : ℕ) → j < columns → w < down → len ≡ columns * down

@@ -1,5 +1,5 @@
 -- Chains of citations, one citation at a time.
-use Rattle.std.proofs.Common.{◌≡◌, ℕ, Bool, true, false, ◌||◌, List, [], ◌⊎◌, inl, inr, ⊎_elim, ◌<◌}
+use Rattle.std.proofs.Common.{◌≡◌, ℕ, true, false, ◌||◌, List, [], ◌⊎◌, inl, inr, ⊎_elim, ◌<◌}
 use Rattle.std.proofs.Common.{◌≤◌, ◌+◌, length, subst, sym, ap, refl, arith, get_or, bit_or}
 use Rattle.std.proofs.Common.{replicate, eqb, take, drop, ◌++◌, ◌-◌, ap₂, ◌/◌, ◌%◌, ◌*◌, ◌∙◌}
 use Rattle.std.proofs.lemmas.Bool.{cases_order, cases_eq, cases_lt}
@@ -16,6 +16,7 @@ use Rattle.std.proofs.Math.Nat.{add-mul}
 use Rattle.mm_cites.specs.Citing.{Citing, Cites, IsRising, IsFileOrder, theorem_at, list_at}
 use Rattle.mm_spec.specs.Chains.{RestsOn}
 use Rattle.mm_spec.proofs.ChainsLaw.{rests_step}
+use Rattle.mm_spec.proofs.BoolLaw.{or_none}
 use Rattle.mm_rows.specs.BitRows.{IsBitRow, IsReady, AreBitRows, row_at}
 
 -- a rising list has a number once
@@ -145,12 +146,8 @@ ored c columns t old from new h same words each =
     let bits = or_bits new old from same (words ∙ sym h.words) each in (
       (λ j lt. Decides-at (is_bit new j) (is_bit old j || is_bit from j) (bits j)
           (Decides-or (is_bit old j) (is_bit from j) ((λ e. e), λ e. e) (h.marks j lt))),
-      λ j le. bits j ∙ or_no (is_bit old j) (is_bit from j) (h.past j le),
+      λ j le. bits j ∙ or_none (is_bit old j) (is_bit from j) (h.past j le),
     )
-  where
-    or_no : (a b : Bool) → b ≡ false → (a || b) ≡ a
-    or_no true b e = refl
-    or_no false b e = e
 
 -- before the first citation
 pub made_none : (c : Citing) (columns cited row : List ℕ) → length row ≡ words_for (length columns)

@@ -4,6 +4,7 @@ use Rattle.std.proofs.Common.{length, map, slice_get, Option, Some, None, refl, 
 use Rattle.std.proofs.Common.{true≢false, bytes_eq, if◌then◌else◌}
 use Rattle.std.specs.List.{list_any, range_with_len, filter}
 use Rattle.std.proofs.lemmas.List.Elements.{filter-append}
+use Rattle.std.proofs.Math.Bool.{or-false}
 use Rattle.mm_spec.specs.Text.{Bytes, Token, words}
 use Rattle.mm_spec.specs.Statement.{Statement, constants, variables, disjoint, floating, essential}
 use Rattle.mm_spec.specs.Statement.{axiomatic, provable, opening, closing, symbols_of}
@@ -13,6 +14,7 @@ use Rattle.mm_spec.specs.Output.{columns, has_typecode, is_column}
 use Rattle.mm_spec.specs.Frame.{symbol_names, place_of}
 use Rattle.mm_spec.proofs.FindsLaw.{found_at, statement_at_is, formula_at_is}
 use Rattle.mm_spec.proofs.FaultlessLaw.{place_get}
+use Rattle.mm_spec.proofs.BoolLaw.{lone}
 use Rattle.mm_stmt.specs.Database.{typecode_of, is_labelled_kind, kind_of}
 
 -- a selection of a selection
@@ -91,15 +93,11 @@ axiom_asserts db j h = by (slice_get db j) h
     shut (opening k) e = absurd (true≢false (sym e))
     shut (closing k) e = absurd (true≢false (sym e))
 
-    open_or : (b : Bool) → (b || false) ≡ true → b ≡ true
-    open_or true e = refl
-    open_or false e = e
-
     by : (o : Option Statement)
         → list_any (is_column None) (elim o [ None ↦ [] | Some s ↦ s ∷ [] ]) ≡ true
         → list_any is_assertion (elim o [ None ↦ [] | Some s ↦ s ∷ [] ]) ≡ true
     by None e = absurd (true≢false (sym e))
-    by (Some s) e = ap (λ b. b || false) (shut s (open_or (is_column None s) e))
+    by (Some s) e = ap (λ b. b || false) (shut s (lone (is_column None s) e))
 
 -- the typecode is compared by its name
 pub typecode_test : (db : List Statement) (k x : ℕ) (v w : Bytes)
@@ -108,10 +106,6 @@ pub typecode_test : (db : List Statement) (k x : ℕ) (v w : Bytes)
     → bytes_eq v w ≡ list_any (has_typecode (Some w)) (statement_at db k)
 typecode_test db k x v w is e n = let f = found_at db is_assertion k is in by f.0 f.1 f.2
   where
-    shut : (b : Bool) → (b || false) ≡ b
-    shut true = refl
-    shut false = refl
-
     -- a statement with a label, by its symbols
     labelled : (s : Statement) → slice_get db k ≡ Some s → is_labelled_kind (kind_of s) ≡ true
         → (xs : List Token) → symbols_of s ≡ xs
@@ -145,7 +139,7 @@ typecode_test db k x v w is e n = let f = found_at db is_assertion k is in by f.
             place_get t.word v (symbol_names db) (ap (slice_get (symbol_names db)) place ∙ n) in
             ap (λ u. bytes_eq u w) word
             ∙ sym (ap (list_any (has_typecode (Some w))) (statement_at_is db k s g)
-            ∙ shut (has_typecode (Some w) s) ∙ test t ts same)
+            ∙ or-false (has_typecode (Some w) s) ∙ test t ts same)
 
     by : (s : Statement) → slice_get db k ≡ Some s → is_assertion s ≡ true
         → bytes_eq v w ≡ list_any (has_typecode (Some w)) (statement_at db k)

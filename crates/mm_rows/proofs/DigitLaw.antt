@@ -13,11 +13,11 @@ use Rattle.std.proofs.lemmas.Simd.{get_or-swz_l_below, get_or_narrower}
 use Rattle.std.specs.Int.{bit_at}
 use Rattle.std.specs.List.{range_with_len}
 use Rattle.mm_spec.specs.Report.{bit_of, mark_at, digit_at, hex_digit}
+use Rattle.mm_spec.proofs.BitLaw.{shifted}
 use Rattle.mm_rows.specs.Bits.{is_bit, words_for, spot, four_at, IsTable}
 use Rattle.mm_rows.specs.BitRows.{marks, row_at}
 use Rattle.mm_rows.specs.Marks.{Marks, mark, row_marks}
 use Rattle.mm_rows.specs.declared.digits.TheConstants.{NUMBERS, DIGITS}
-use Rattle.mm_rows.proofs.BlockLaw.{shifted}
 use Rattle.mm_rows.proofs.TransposeLaw.{row_bit, row_length}
 use Rattle.mm_rows.proofs.TableLaw.{mark_bit}
 use lib.Lanes.{put_chunk, number_l, digits_l}

@@ -1,16 +1,14 @@
 -- The report of citations that is written is that of the definitions.
-use Rattle.std.proofs.Common.{◌≡◌, ℕ, zero, suc, ◌<◌, Bool, true, false, cond, List, [], ◌∷◌}
-use Rattle.std.proofs.Common.{length, map, get_or, All, refl, sym, ap, ◌∙◌, subst, arith, eq-eqb}
+use Rattle.std.proofs.Common.{◌≡◌, ℕ, zero, suc, ◌<◌, Bool, false, cond, List, [], ◌∷◌}
+use Rattle.std.proofs.Common.{length, map, get_or, All, refl, sym, ap, ◌∙◌, subst, arith}
 use Rattle.std.specs.Prelude.{IsTrue, Option}
 use Rattle.std.specs.List.{AllZip, filter, list_any}
 use Rattle.std.specs.List.Sorted.{IsStrictlyIncreasing}
-use Rattle.std.proofs.lemmas.Bool.{or_left, or_right}
 use Rattle.std.proofs.lemmas.List.Kept.{IsStrictlyIncreasing-filter}
 use Rattle.std.proofs.lemmas.List.FromFn.{get_or-map-range_with_len, length-map-range_with_len}
 use Rattle.mm_spec.specs.Text.{Bytes}
 use Rattle.mm_spec.specs.Statement.{Statement}
 use Rattle.mm_spec.specs.Scope.{statement_at}
-use Rattle.mm_spec.specs.Derivation.{is_member}
 use Rattle.mm_spec.specs.Citation.{is_assertion}
 use Rattle.mm_spec.specs.Report.{CitingRow, citation_report}
 use Rattle.mm_spec.specs.Request.{Request}
@@ -19,17 +17,12 @@ use Rattle.mm_spec.specs.declared.Choice.TheVariants.{Citations}
 use Rattle.mm_spec.specs.Output.{AreCited, IsCitingRowOf, theorems, columns, has_typecode, label_at}
 use Rattle.mm_spec.specs.Output.{IsReportOf}
 use Rattle.mm_spec.proofs.FindsLaw.{member_filter, filter_member}
+use Rattle.mm_spec.proofs.ListLaw.{member_at}
 use Rattle.mm_work.specs.Citing.{Citing, theorem_at, list_at}
 use Rattle.mm_work.specs.Judged.{AllCited}
 use Rattle.mm_report.specs.Rows.{listed, citing_row, citing_rows, citation_report_of}
 use Rattle.mm_report.specs.Rows.{AreCitationsOf}
 use Rattle.mm_run.proofs.RowsLaw.{zip-at}
-
-at_member : (xs : List ℕ) (i d : ℕ) → i < length xs → is_member xs (get_or xs i d) ≡ true
-at_member [] i d h = absurd (omega arith)
-at_member (y ∷ xs) zero d h = or_left _ (is_member xs y) (eq-eqb y y refl)
-at_member (y ∷ xs) (suc i) d h =
-    or_right _ (is_member xs (get_or xs i d)) (at_member xs i d (omega arith))
 
 module _ (db : List Statement) (request : Request) (c : Citing)
     (cited : AllCited db request.essential c) where
@@ -39,7 +32,7 @@ module _ (db : List Statement) (request : Request) (c : Citing)
     theorems_are = cited.theorems_are;
     assertions =
         λ i l k d m.
-        ((cited.exact i l (get_or (list_at c i) k d)).0 (at_member (list_at c i) k d m)).0;
+        ((cited.exact i l (get_or (list_at c i) k d)).0 (member_at (list_at c i) k d m)).0;
   }
 
   -- what is listed of a theorem is what it cites

@@ -15,6 +15,8 @@ use Rattle.mm_spec.specs.Lawful.{variable_codes, label_faults, floating_faults}
 use Rattle.mm_spec.specs.declared.Word as place
 use Rattle.mm_spec.specs.declared.Code.TheVariants.{ConstantInBlock, EmptyDeclaration}
 use Rattle.std.specs.Prelude.{nat_lt}
+use Rattle.std.proofs.Math.Bool.{or-false, or-true}
+use Rattle.mm_spec.proofs.FaultlessLaw.{least_none}
 use Rattle.mm_outline.specs.Blocks.{Lists, IsBlocks, never, pushed}
 use Rattle.mm_scope.specs.Judge.{Entry, entry_of, declared_entry, typed_entry}
 use Rattle.mm_scope.specs.WordEntry.{IsEntryOf, is_other, is_constant_entry, is_variable_entry}
@@ -26,7 +28,7 @@ use Rattle.mm_outline.specs.declared.parts.Kind.{Kind}
 use Rattle.mm_outline.specs.declared.parts.Kind.TheVariants as kind
 use Rattle.mm_outline.proofs.BlocksLaw.{blocks_plain, blocks_opening, blocks_closing}
 use Rattle.mm_scope.proofs.JudgeLaw.{bytes_eq_sym}
-use Rattle.mm_outline.proofs.FaultlessLaw.{none_least, append_none, constant_new, variable_new}
+use Rattle.mm_outline.proofs.FaultlessLaw.{append_none, constant_new, variable_new}
 use Rattle.mm_outline.proofs.FaultlessLaw.{floating_new}
 use Rattle.mm_scope.proofs.KnowsLaw.{none_active}
 use Rattle.mm_outline.proofs.AmongLaw.{typed_in}
@@ -157,23 +159,15 @@ module _ (db : List Statement) (few : length db < never) (w : Bytes) where
   labelled_after s m o e =
       in_more db s w label_words ∙ ap (λ b. b || is_in w (label_words s ++ [])) e ∙ by (label_of s)
     where
-      or_false : (b : Bool) → (b || false) ≡ b
-      or_false true = refl
-      or_false false = refl
-
-      or_true : (b : Bool) → (b || true) ≡ true
-      or_true true = refl
-      or_true false = refl
-
       one : (l : Token) (b : Bool) → bytes_eq w l.word ≡ b
           → (is_some o || (b || false)) ≡ is_some (if b then Some m else o)
-      one l true h = or_true (is_some o)
-      one l false h = or_false (is_some o)
+      one l true h = or-true (is_some o)
+      one l false h = or-false (is_some o)
 
       by : (q : Option Token)
           → (is_some o || is_in w (elim q [ None ↦ [] | Some l ↦ l.word ∷ [] ] ++ []))
           ≡ is_some (label_after m q w o)
-      by None = or_false (is_some o)
+      by None = or-false (is_some o)
       by (Some l) =
           one l (bytes_eq w l.word) refl
           ∙ ap (λ b. is_some (if b then Some m else o)) (bytes_eq_sym w l.word)
@@ -231,7 +225,7 @@ keeps_after text ws db look labels b x few k p m e law deep c same number is new
           (sym (after w ∙ ap (λ i. entry_after i (made text ws k p m e) w (entry_of (look w))) n))
           (known_after db few w (made text ws k p m e) (depth db (length db)) (entry_of (look w))
           (x.symbols w)
-          (none_least
+          (least_none
           (scope_faults (names_before db (length db)) (depth db (length db)) (made text ws k p m e))
           law));
       labels_known =
@@ -241,7 +235,7 @@ keeps_after text ws db look labels b x few k p m e law deep c same number is new
           labels_after db s labels names x.labels_are
           (λ w. known w ∙ ap (λ i. label_after i (label_of s) w (labels w)) n)
           (label_unused db labels x.labels_known (depth db (length db)) s
-          (none_least (scope_faults (names_before db (length db)) (depth db (length db)) s) law));
+          (least_none (scope_faults (names_before db (length db)) (depth db (length db)) s) law));
     }
 
 -- two clauses of one result

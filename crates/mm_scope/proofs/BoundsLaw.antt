@@ -6,6 +6,7 @@ use Rattle.std.proofs.Common.{◌∙◌, subst, arith, bytes_eq, length-append, 
 use Rattle.std.proofs.lemmas.List.{length-map}
 use Rattle.std.proofs.lemmas.Option.{slice_get_within}
 use Rattle.std.proofs.lemmas.Grind.{flat_map-append}
+use Rattle.std.proofs.Math.Bool.{or-true}
 use Rattle.mm_spec.specs.Text.{Bytes, Token, token, words, is_in}
 use Rattle.mm_spec.specs.Statement.{Statement, constants, variables, disjoint, floating, essential}
 use Rattle.mm_spec.specs.Statement.{axiomatic, provable, opening, closing, symbols_of, spelled}
@@ -25,10 +26,6 @@ in-get (w ∷ ws) zero d h = ap (λ b. b || is_in w ws) (itself w)
 in-get (w ∷ ws) (suc i) d h =
     ap (λ b. bytes_eq (get_or ws i d) w || b) (in-get ws i d (omega arith))
     ∙ or-true (bytes_eq (get_or ws i d) w)
-  where
-    or-true : (b : Bool) → (b || true) ≡ true
-    or-true true = refl
-    or-true false = refl
 
 -- each symbol of a lawful statement has a name
 pub symbol_known : (db : List Statement) → ((k : ℕ) → k < length db → IsLawful db k) → (k : ℕ)

@@ -4,6 +4,7 @@ use Rattle.std.proofs.Common.{Option, None, Some, bytes_eq, if◌then◌else◌,
 use Rattle.std.proofs.lemmas.Slice.Eq.{bytes_eq-Decides}
 use Rattle.std.proofs.lemmas.List.Folds.{list_any-append}
 use Rattle.std.proofs.lemmas.List.{map-append}
+use Rattle.std.proofs.Math.Bool.{or-false, or-true}
 use Rattle.mm_spec.specs.Text.{is_in, words}
 use Rattle.mm_spec.specs.declared.Word.{Word}
 use Rattle.mm_scope.specs.declared.names.Symbol.{Symbol}
@@ -16,14 +17,6 @@ twice : (v : Bool) (n : ℕ) (w : List ℕ) (e : Option Entry)
     → declared_entry v n w (declared_entry v n w e) ≡ declared_entry v n w e
 twice v n w None = refl
 twice v n w (Some e) = refl
-
-or_false : (b : Bool) → (b || false) ≡ b
-or_false true = refl
-or_false false = refl
-
-or_true : (b : Bool) → (b || true) ≡ true
-or_true true = refl
-or_true false = refl
 
 module _ (text : List ℕ) (ws : List Word) (from i : ℕ) (later : from ≤ i)
     (inside : i < length ws) where
@@ -74,7 +67,7 @@ module _ (text : List ℕ) (ws : List Word) (from i : ℕ) (later : from ≤ i)
           e ∙ ap (λ x. declared_entry v n x (entry_of (cur x))) same
           ∙ ap (declared_entry v n w) (k w) ∙ again (is_in w so_far) (entry_of (old w))
           ∙ ap (λ b. if b then declared_entry v n w (entry_of (old w)) else entry_of (old w))
-          (sym (ap (λ b. is_in w so_far || (b || false)) h ∙ or_true (is_in w so_far)))
+          (sym (ap (λ b. is_in w so_far || (b || false)) h ∙ or-true (is_in w so_far)))
       by false h =
           k w ∙ ap (λ b. if b then declared_entry v n w (entry_of (old w)) else entry_of (old w))
-          (sym (ap (λ b. is_in w so_far || (b || false)) h ∙ or_false (is_in w so_far)))
+          (sym (ap (λ b. is_in w so_far || (b || false)) h ∙ or-false (is_in w so_far)))

@@ -2,11 +2,11 @@
 use Rattle.std.proofs.Common.{◌≡◌, ◌≢◌, ℕ, zero, suc, ◌<◌, ◌≤◌, Bool, true, false, ◌&&◌, ◌||◌, not}
 use Rattle.std.proofs.Common.{List, [], ◌∷◌, length, flat_map, bytes_eq, nat_eq, Option, None, Some}
 use Rattle.std.proofs.Common.{refl, sym, ap, ◌∙◌, arith, ◌⊎◌, inl, inr, le_refl, take_all}
-use Rattle.std.proofs.Common.{true≢false}
 use Rattle.std.proofs.lemmas.List.Folds.{list_any-append}
 use Rattle.std.proofs.lemmas.Option.{slice_get_past}
-use Rattle.std.proofs.lemmas.Bool.{cases_eq}
+use Rattle.std.proofs.lemmas.Bool.{cases_eq, or_parts}
 use Rattle.std.specs.List.{list_any}
+use Rattle.std.proofs.Math.Bool.{and-false}
 use Rattle.mm_spec.specs.Text.{Bytes, is_in}
 use Rattle.mm_spec.specs.Statement.{Statement}
 use Rattle.mm_spec.specs.Scope.{names_before, active_statements, is_active, variables_of}
@@ -24,18 +24,6 @@ use Rattle.mm_scope.proofs.LatestLaw.{latest_is}
 use Rattle.mm_outline.proofs.AmongLaw.{among_active, any_false, typed_in}
 use Rattle.mm_scope.proofs.OpenLaw.{latest_open, declares_local, types_local}
 
-or_left : (a b : Bool) → (a || b) ≡ false → a ≡ false
-or_left false b e = refl
-or_left true b e = e
-
-or_right : (a b : Bool) → (a || b) ≡ false → b ≡ false
-or_right false b e = e
-or_right true b e = absurd (true≢false e)
-
-and_false : (a : Bool) → (a && false) ≡ false
-and_false true = refl
-and_false false = refl
-
 -- a word that no statement has
 has_none : (db : List Statement) (f : Statement → List Bytes) (w : Bytes)
     → is_in w (flat_map f db) ≡ false → (j : ℕ) → has db f w j ≡ false
@@ -43,10 +31,10 @@ has_none [] f w e j = refl
 has_none (s ∷ db) f w e zero =
     let h = sym (list_any-append (bytes_eq w) (f s) (flat_map f db)) ∙ e in
     list_any-append (bytes_eq w) (f s) []
-    ∙ ap (λ b. b || false) (or_left (is_in w (f s)) (is_in w (flat_map f db)) h)
+    ∙ ap (λ b. b || false) (or_parts (is_in w (f s)) (is_in w (flat_map f db)) h).0
 has_none (s ∷ db) f w e (suc j) =
     let h = sym (list_any-append (bytes_eq w) (f s) (flat_map f db)) ∙ e in
-    has_none db f w (or_right (is_in w (f s)) (is_in w (flat_map f db)) h) j
+    has_none db f w (or_parts (is_in w (f s)) (is_in w (flat_map f db)) h).1 j
 
 -- no active statement has it either
 pub none_active : (db : List Statement) (f : Statement → List Bytes) (w : Bytes)
@@ -56,7 +44,7 @@ none_active db f w e =
     among_active db f w (λ j. is_active db j (length db)) (length db) 0
     ∙ any_false (λ j. is_active db j (length db) && has db f w j) (length db) 0
     (λ j l. ap (λ b. is_active db j (length db) && b) (has_none db f w e j)
-    ∙ and_false (is_active db j (length db)))
+    ∙ and-false (is_active db j (length db)))
 
 never_open : (b : Lists) → length b.of ≤ never → is_open_in b.of b.ends never ≡ false
 never_open b h = ap (λ o. is_never (end_in b.ends o)) (slice_get_past b.of never h)

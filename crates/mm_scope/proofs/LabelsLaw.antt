@@ -7,6 +7,7 @@ use Rattle.std.proofs.lemmas.Bool.{cases_lt, cases_order}
 use Rattle.std.proofs.lemmas.Option.{slice_get_past}
 use Rattle.std.proofs.lemmas.Slice.Eq.{bytes_eq-Decides}
 use Rattle.std.specs.List.{list_any}
+use Rattle.std.proofs.Math.Bool.{or-false}
 use Rattle.mm_spec.specs.Text.{Bytes, Token, is_in}
 use Rattle.mm_spec.specs.Statement.{Statement, constants, variables, disjoint, floating, essential}
 use Rattle.mm_spec.specs.Statement.{axiomatic, provable, opening, closing, label_of}
@@ -15,10 +16,11 @@ use Rattle.mm_spec.specs.NormalProof.{is_labelled}
 use Rattle.mm_spec.specs.Lawful.{scope_faults, label_faults, formula_faults, floating_faults, when}
 use Rattle.mm_spec.specs.declared.Code.TheVariants.{LabelIsSymbol, LabelUsedBefore}
 use Rattle.mm_spec.proofs.LocalLaw.{get_front, get_seam}
+use Rattle.mm_spec.proofs.FaultlessLaw.{at_none, when_none}
 use Rattle.mm_scope.specs.WordEntry.{label_after}
 use Rattle.mm_scope.specs.Labels.{AreLabels}
 use Rattle.mm_outline.proofs.StatementsLaw.{is_there}
-use Rattle.mm_outline.proofs.FaultlessLaw.{append_none, at_none, when_none}
+use Rattle.mm_outline.proofs.FaultlessLaw.{append_none}
 
 -- a label that has no fault is new
 label_new : (n : Names) (l : Token) → label_faults n l ≡ [] → is_in l.word n.labels ≡ false
@@ -78,11 +80,7 @@ module _ (db : List Statement) (s : Statement) (find new : List ℕ → Option �
       → list_any (is_labelled w) (statement_at (db ++ s ∷ []) (length db)) ≡ is_labelled w s
   last w =
       ap (λ o. list_any (is_labelled w) (elim o [ None ↦ [] | Some t ↦ t ∷ [] ])) (get_seam db s [])
-      ∙ or_false (is_labelled w s)
-    where
-      or_false : (b : Bool) → (b || false) ≡ b
-      or_false true = refl
-      or_false false = refl
+      ∙ or-false (is_labelled w s)
 
   -- the statement has the label, or the map is the old one there
   here : (w : Bytes) (o : Option Token) → label_of s ≡ o

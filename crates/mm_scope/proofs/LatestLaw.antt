@@ -10,7 +10,8 @@ use Rattle.mm_spec.specs.Scope.{is_active, is_active_some, is_global, is_local, 
 use Rattle.mm_spec.specs.Scope.{depth, stays}
 use Rattle.mm_spec.proofs.LocalLaw.{get_front, get_seam}
 use Rattle.std.proofs.lemmas.Bool.{lt-ltb, cases_lt}
-use Rattle.mm_outline.proofs.AmongLaw.{any_true, any_false, among_active}
+use Rattle.mm_spec.proofs.FindsLaw.{range_any}
+use Rattle.mm_outline.proofs.AmongLaw.{any_false, among_active}
 use Rattle.mm_outline.proofs.BlocksLaw.{stays_last}
 use Rattle.mm_scope.specs.WordEntry.{Latest}
 use Rattle.mm_outline.specs.Typed.{has}
@@ -37,7 +38,7 @@ module _ (db : List Statement) (f : Statement → List Bytes) (w : Bytes) where
           (range_with_len 0 (length db))
           ≡ b
       by true e =
-          any_true (λ j. is_active db j (length db) && has db f w j) (length db) 0 last
+          range_any (λ j. is_active db j (length db) && has db f w j) (length db) 0 last
           (omega arith) (let l = x.before in omega (arith, l)) (ap₂ (λ a b. a && b) e x.there)
       by false e =
           any_false (λ j. is_active db j (length db) && has db f w j) (length db) 0
@@ -120,7 +121,7 @@ module _ (db : List Statement) (s : Statement) where
             → j ≡ length db
         by j h k e (inl l) =
             absurd (true≢false
-            (sym (any_true (λ i. is_active db i (length db) && has db f w i) (length db) 0 j
+            (sym (range_any (λ i. is_active db i (length db) && has db f w i) (length db) 0 j
             (omega arith) (omega arith)
             (ap₂ (λ a b. a && b) (active_mono j l e) (sym (has-front j l) ∙ k)))
             ∙ sym (among_active db f w (λ i. is_active db i (length db)) (length db) 0) ∙ n))

@@ -16,6 +16,7 @@ use Rattle.std.specs.Map.{keys_of, lookup}
 use Rattle.indexmap.specs.IndexMap.{insert_entry}
 use Rattle.mm_spec.specs.Text.{Bytes, Token, is_in, words}
 use Rattle.std.proofs.lemmas.Map.Made.{is_some-lookup}
+use Rattle.std.proofs.Math.Bool.{or-true}
 use Rattle.mm_spec.specs.Statement.{Statement, symbols_of, constants, variables, disjoint, floating}
 use Rattle.mm_spec.specs.Statement.{essential, axiomatic, provable, opening, closing}
 use Rattle.mm_spec.specs.Scope.{constants_of, variables_of}
@@ -145,10 +146,6 @@ same-places ns ms [] h = refl
 same-places ns ms (w ∷ ws) h =
     ap₂ (λ n l. n ∷ l) (h w (ap (λ b. b || is_in w ws) (itself w)))
     (same-places ns ms ws (λ v e. h v (ap (λ b. bytes_eq v w || b) e ∙ or-true (bytes_eq v w))))
-  where
-    or-true : (b : Bool) → (b || true) ≡ true
-    or-true true = refl
-    or-true false = refl
 
 same-maps : (f g : Statement → List ℕ) (xs : List Statement)
     → ((k : ℕ) (t : Statement) → slice_get xs k ≡ Some t → f t ≡ g t)

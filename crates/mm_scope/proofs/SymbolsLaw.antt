@@ -6,12 +6,12 @@ use Rattle.std.proofs.lemmas.List.Recursion.{is_position_or_len}
 use Rattle.std.proofs.lemmas.List.Folds.{list_any-append}
 use Rattle.std.specs.List.{list_any, position_or_len, position}
 use Rattle.std.proofs.lemmas.Slice.Eq.{bytes_eq-Decides}
+use Rattle.std.proofs.Math.Bool.{or-true}
+use Rattle.std.proofs.lemmas.Bool.{or_parts}
 use Rattle.mm_spec.specs.Text.{Bytes, is_in}
 use Rattle.mm_spec.specs.Frame.{first_occurrences, place_of}
+use Rattle.mm_spec.proofs.FindsLaw.{same_word}
 use Rattle.mm_scope.specs.Names.{are_distinct, with_name}
-
-same_word : (v w : Bytes) → bytes_eq v w ≡ true → v ≡ w
-same_word v w h = (bytes_eq-Decides v w).0 h
 
 pub itself : (w : Bytes) → bytes_eq w w ≡ true
 itself w = (bytes_eq-Decides w w).1 refl
@@ -21,10 +21,6 @@ turned true true c = refl
 turned true false c = refl
 turned false true c = refl
 turned false false c = refl
-
-or_true : (b : Bool) → (b || true) ≡ true
-or_true true = refl
-or_true false = refl
 
 -- the word, if it is new
 abbrev pub if_new : Bool → Bytes → List Bytes
@@ -145,7 +141,7 @@ get_in [] (suc s) w h = absurd (let e : None ≡ Some w = h in cc)
 get_in (n ∷ ns) zero w h =
     let e : n ≡ w = (let q : Some n ≡ Some w = h in cc) in
     ap (λ b. b || is_in w ns) (ap (bytes_eq w) e ∙ itself w)
-get_in (n ∷ ns) (suc s) w h = ap (λ b. bytes_eq w n || b) (get_in ns s w h) ∙ or_true (bytes_eq w n)
+get_in (n ∷ ns) (suc s) w h = ap (λ b. bytes_eq w n || b) (get_in ns s w h) ∙ or-true (bytes_eq w n)
 
 -- each name stands once
 pub place_get : (ws e : List Bytes) (s : ℕ) (w : Bytes)
@@ -227,12 +223,6 @@ missing_place w (n ∷ ns) h = by (bytes_eq w n) refl (missing_place w ns)
 list_head : {X : Type 0} {a b : X} → Some a ≡ Some b → a ≡ b
 list_head e = cc
 
-got-in : (ns : List Bytes) (i : ℕ) (w : Bytes) → slice_get ns i ≡ Some w → is_in w ns ≡ true
-got-in [] zero w e = absurd (let q : None ≡ Some w = e in cc)
-got-in [] (suc i) w e = absurd (let q : None ≡ Some w = e in cc)
-got-in (n ∷ ns) zero w e = ap (λ b. b || is_in w ns) (ap (bytes_eq w) (list_head e) ∙ itself w)
-got-in (n ∷ ns) (suc i) w e = ap (λ b. bytes_eq w n || b) (got-in ns i w e) ∙ or_true (bytes_eq w n)
-
 not_there : (a b : Bool) → (not a && b) ≡ true → a ≡ false
 not_there true b e = sym e
 not_there false b e = refl
@@ -256,17 +246,9 @@ place_distinct (n ∷ ns) d (suc i) w e =
         → suc i ≡ elim b [ true ↦ 0 | false ↦ suc (place_of w ns) ]
     by true s r =
         absurd (true≢false
-        (sym (got-in ns i w e) ∙ ap (λ x. is_in x ns) (same_word w n s)
+        (sym (get_in ns i w e) ∙ ap (λ x. is_in x ns) (same_word w n s)
         ∙ not_there (is_in n ns) (are_distinct ns) d))
     by false s r = ap suc r
-
-or_left-false : (a b : Bool) → (a || b) ≡ false → a ≡ false
-or_left-false true b e = e
-or_left-false false b e = refl
-
-or_right-false : (a b : Bool) → (a || b) ≡ false → b ≡ false
-or_right-false true b e = absurd (true≢false e)
-or_right-false false b e = e
 
 distinct-push : (ns : List Bytes) (w : Bytes) → are_distinct ns ≡ true → is_in w ns ≡ false
     → are_distinct (ns ++ w ∷ []) ≡ true
@@ -277,12 +259,12 @@ distinct-push (n ∷ ns) w d h =
     ∙ ap₂ (λ a b. a || (b || false)) (not_there (is_in n ns) (are_distinct ns) d)
     (differ (bytes_eq n w) refl))
     (distinct-push ns w (others_too (is_in n ns) (are_distinct ns) d)
-    (or_right-false (bytes_eq w n) (is_in w ns) h))
+    (or_parts (bytes_eq w n) (is_in w ns) h).1)
   where
     differ : (b : Bool) → bytes_eq n w ≡ b → b ≡ false
     differ true s =
         sym (ap (λ x. bytes_eq x n) (sym (same_word n w s)) ∙ itself n)
-        ∙ or_left-false (bytes_eq w n) (is_in w ns) h
+        ∙ (or_parts (bytes_eq w n) (is_in w ns) h).0
     differ false s = refl
 
 -- a name more, where it is new

@@ -7,6 +7,7 @@ use Rattle.std.proofs.lemmas.Grind.{flat_map-append}
 use Rattle.std.proofs.lemmas.Bool.{ne_eqb}
 use Rattle.std.proofs.lemmas.Slice.Eq.{bytes_eq-Decides}
 use Rattle.std.specs.List.{list_any}
+use Rattle.std.proofs.Math.Bool.{or-false, or-true}
 use Rattle.mm_spec.specs.Text.{Bytes, is_in}
 use Rattle.mm_spec.specs.Statement.{Statement}
 use Rattle.mm_spec.specs.Scope.{Typing, active_statements, variables_of, constants_of, typings_of}
@@ -16,14 +17,6 @@ use Rattle.mm_scope.specs.WordEntry.{IsEntryOf, Latest, typed_by, typecode_by, d
 use Rattle.mm_scope.specs.WordEntry.{is_constant_entry, is_variable_entry}
 use Rattle.mm_outline.specs.Typed.{typed_words}
 use Rattle.mm_scope.proofs.LatestLaw.{latest_stays, latest_new}
-
-or_false : (a : Bool) → (a || false) ≡ a
-or_false true = refl
-or_false false = refl
-
-or_true : (a : Bool) → (a || true) ≡ true
-or_true true = refl
-or_true false = refl
 
 none_other : (c w : Bytes) (ts : List Typing) → is_in w (map (λ t. t.variable) ts ++ []) ≡ false
     → list_any (is_other c w) (ts ++ []) ≡ false
@@ -56,12 +49,12 @@ module _ (db : List Statement) (s : Statement) (w : Bytes) where
   pub in_same : (f : Statement → List Bytes) → is_in w (f s ++ []) ≡ false
       → is_in w (flat_map f (db ++ s ∷ [])) ≡ is_in w (flat_map f db)
   in_same f n =
-      in_more f ∙ ap (λ b. is_in w (flat_map f db) || b) n ∙ or_false (is_in w (flat_map f db))
+      in_more f ∙ ap (λ b. is_in w (flat_map f db) || b) n ∙ or-false (is_in w (flat_map f db))
 
   in_now : (f : Statement → List Bytes) → is_in w (f s ++ []) ≡ true
       → is_in w (flat_map f (db ++ s ∷ [])) ≡ true
   in_now f n =
-      in_more f ∙ ap (λ b. is_in w (flat_map f db) || b) n ∙ or_true (is_in w (flat_map f db))
+      in_more f ∙ ap (λ b. is_in w (flat_map f db) || b) n ∙ or-true (is_in w (flat_map f db))
 
   other_same : (c : Bytes) → is_in w (typed_words s ++ []) ≡ false
       → list_any (is_other c w) (flat_map typings_of (db ++ s ∷ []))
@@ -70,7 +63,7 @@ module _ (db : List Statement) (s : Statement) (w : Bytes) where
       other_more c
       ∙ ap (λ b. list_any (is_other c w) (flat_map typings_of db) || b)
       (none_other c w (typings_of s) n)
-      ∙ or_false (list_any (is_other c w) (flat_map typings_of db))
+      ∙ or-false (list_any (is_other c w) (flat_map typings_of db))
 
   -- the statement says nothing of the word
   pub known_same : (x : Option Entry) → IsEntryOf db w x → is_in w (constants_of s ++ []) ≡ false
@@ -162,7 +155,7 @@ module _ (db : List Statement) (s : Statement) (w : Bytes) where
       now : (d : Bytes) → list_any (is_other d w) (typings_of s ++ []) ≡ not (bytes_eq d c)
       now d =
           ap (λ ts. list_any (is_other d w) (ts ++ [])) is
-          ∙ ap (λ b. (b && not (bytes_eq d c)) || false) self ∙ or_false (not (bytes_eq d c))
+          ∙ ap (λ b. (b && not (bytes_eq d c)) || false) self ∙ or-false (not (bytes_eq d c))
 
       again : (a b y : Bool) → (a && b) ≡ false → ((a && y) || y) ≡ y
       again true b true h = refl

@@ -21,7 +21,7 @@ use Rattle.mm_spec.specs.Laws.Complete.{binds, IsBound, AreBound, IsComplete, Is
 use Rattle.mm_spec.specs.Laws.Complete.{ReadsComplete}
 use Rattle.mm_spec.specs.Output.{LexedText}
 use Rattle.mm_spec.proofs.LocalLaw.{scope_fault_front}
-use Rattle.mm_spec.proofs.FindsLaw.{lone, any_flat_map, any_map, any_filter, member_filter}
+use Rattle.mm_spec.proofs.FindsLaw.{any_flat_map, any_map, any_filter, member_filter}
 use Rattle.mm_spec.proofs.FindsLaw.{filter_member, each_member, each_map, each_any, each_filter}
 use Rattle.mm_spec.proofs.FindsLaw.{inside_of, formula_at_is, found_at, at_found, found_active}
 use Rattle.mm_spec.proofs.FindsLaw.{active_found, same_word, declared, declares, declared_before}
@@ -29,6 +29,7 @@ use Rattle.mm_spec.proofs.FaultlessLaw.{least_none, no_kind, new_constant, new_v
 use Rattle.mm_spec.proofs.FaultlessLaw.{IsKnown, statement_known, floating_typing, typing_floats}
 use Rattle.mm_spec.proofs.FaultlessLaw.{variable_word, member_word, floating_local, essential_local}
 use Rattle.mm_spec.proofs.FaultlessLaw.{still}
+use Rattle.mm_spec.proofs.BoolLaw.{lone, middle_parts}
 
 -- ---- frames
 
@@ -286,15 +287,8 @@ module _ (db : List Statement) (lawful : (k : ℕ) → k < length db → IsLawfu
       → (is_member (mandatory_variables db k) p.low ≡ true)
       × (is_member (mandatory_variables db k) p.high ≡ true)
   of_pair k p h =
-      parts (nat_lt p.low p.high) (is_member (mandatory_variables db k) p.low)
+      middle_parts (nat_lt p.low p.high) (is_member (mandatory_variables db k) p.low)
       (is_member (mandatory_variables db k) p.high) (disjoint_at db k p.low p.high) h
-    where
-      parts : (a b c d : Bool) → (a && b && c && d) ≡ true → (b ≡ true) × (c ≡ true)
-      parts true true true d h = (refl, refl)
-      parts true true false d h = absurd (cc)
-      parts true false true d h = absurd (cc)
-      parts true false false d h = absurd (cc)
-      parts false b c d h = absurd (cc)
 
   module _ (m k : ℕ) (s : Statement) (e : slice_get db k ≡ Some s) (f : has_formula s ≡ true) where
     abbrev frame_hypotheses : List Formula

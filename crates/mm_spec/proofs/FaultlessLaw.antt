@@ -6,6 +6,7 @@ use Rattle.std.proofs.Common.{bytes_eq, eqb-true, lt-ltb}
 use Rattle.std.specs.List.{list_any}
 use Rattle.std.proofs.lemmas.Bool.{or_cases, or_left, or_right, and_parts, and_from, cases_lt}
 use Rattle.std.proofs.lemmas.Slice.Eq.{bytes_eq-Decides}
+use Rattle.std.proofs.lemmas.Bool.{not-false}
 use Rattle.mm_spec.specs.Text.{Bytes, Token, Fault, fault, is_in, words}
 use Rattle.mm_spec.specs.Statement.{Statement, constants, variables, floating, essential, axiomatic}
 use Rattle.mm_spec.specs.Statement.{provable, symbols_of}
@@ -23,7 +24,7 @@ use Rattle.mm_spec.specs.declared.Code.TheVariants.{ConstantInBlock, EmptyDeclar
 use Rattle.mm_spec.specs.declared.Code.TheVariants.{DeclaredBefore, LabelIsSymbol, UndeclaredSymbol}
 use Rattle.mm_spec.specs.declared.Code.TheVariants.{UntypedVariable, BadTypecode, BadFloating}
 use Rattle.mm_spec.proofs.ActivityLaw.{stays_exact}
-use Rattle.mm_spec.proofs.FindsLaw.{lone, any_flat_map, any_map, any_filter, member_filter}
+use Rattle.mm_spec.proofs.FindsLaw.{any_flat_map, any_map, any_filter, member_filter}
 use Rattle.mm_spec.proofs.FindsLaw.{filter_member, each_member, each_map, each_any, each_filter}
 use Rattle.mm_spec.proofs.FindsLaw.{inside_of, formula_at_is, found_at, at_found, found_active}
 use Rattle.mm_spec.proofs.FindsLaw.{active_found, same_word, declared, declares, declared_before}
@@ -59,10 +60,6 @@ at_none p (c ∷ cs) e = absurd (cc)
 pub when_none : (b : Bool) (c : Code) → when b c ≡ [] → b ≡ false
 when_none true c e = absurd (cc)
 when_none false c e = refl
-
-pub not_false : (b : Bool) → not b ≡ false → b ≡ true
-not_false true e = refl
-not_false false e = sym e
 
 first_of_three : (a b c : Bool) → (a || b || c) ≡ false → a ≡ false
 first_of_three true b c e = e
@@ -144,7 +141,7 @@ IsKnown n w = (is_in w n.constants ≡ true) ⊎ (is_typed n w ≡ true)
 
 bits : (c a t : Bool) → not (c || a) ≡ false → (a && not t) ≡ false → (c ≡ true) ⊎ (t ≡ true)
 bits true a t h k = inl refl
-bits false true t h k = inr (not_false t k)
+bits false true t h k = inr (not-false t k)
 bits false false t h k = inl (sym h)
 
 formula_known : (n : Names) (xs : List Token) (end : ℕ) → formula_faults n xs end ≡ [] → (w : Bytes)
@@ -155,7 +152,7 @@ formula_known n (t ∷ ts) end e w m = by (or_cases (bytes_eq w t.word) (is_in w
     by : (bytes_eq w t.word ≡ true) ⊎ (is_in w (words ts) ≡ true) → IsKnown n w
     by (inl h) =
         inl (ap (λ v. is_in v n.constants) (same_word w t.word h)
-        ∙ not_false (is_in t.word n.constants)
+        ∙ not-false (is_in t.word n.constants)
         (when_none (not (is_in t.word n.constants)) BadTypecode
         (at_none t.at (when (not (is_in t.word n.constants)) BadTypecode)
         (nil_first (at t.at (when (not (is_in t.word n.constants)) BadTypecode))

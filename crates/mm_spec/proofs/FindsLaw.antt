@@ -13,12 +13,9 @@ use Rattle.mm_spec.specs.Statement.{Statement}
 use Rattle.mm_spec.specs.Scope.{is_active, active, statement_at}
 use Rattle.mm_spec.specs.Frame.{formula_of, formula_at}
 use Rattle.mm_spec.specs.Derivation.{is_member}
+use Rattle.mm_spec.proofs.BoolLaw.{lone}
 
 -- ---- tests of lists
-
-pub lone : (b : Bool) → (b || false) ≡ true → b ≡ true
-lone true e = refl
-lone false e = e
 
 pub any_flat_map : {X Y : Type 0} (p : Y → Bool) (f : X → List Y) (xs : List X)
     → list_any p (flat_map f xs) ≡ list_any (λ x. list_any p (f x)) xs
@@ -54,7 +51,7 @@ any_range p (suc n) a e =
     by (inl h) on = (a, h)
     by (inr h) on = on h
 
-range_any : (p : ℕ → Bool) (n a i : ℕ) → a ≤ i → i < a + n → p i ≡ true
+pub range_any : (p : ℕ → Bool) (n a i : ℕ) → a ≤ i → i < a + n → p i ≡ true
     → list_any p (range_with_len a n) ≡ true
 range_any p zero a i l h e = absurd (omega arith)
 range_any p (suc n) a i l h e =

@@ -5,6 +5,7 @@ use Rattle.std.proofs.Common.{flat_map, refl, sym, ap, ap₂, ◌∙◌, true≢
 use Rattle.std.proofs.Common.{eqb-true, pred, zero-add}
 use Rattle.std.proofs.lemmas.List.Sums.{sum_by-append}
 use Rattle.std.specs.List.{list_all}
+use Rattle.std.proofs.lemmas.Bool.{and_parts}
 use Rattle.mm_spec.specs.Text.{Bytes, Token, token, has_dollar, is_label, is_label_byte}
 use Rattle.mm_spec.specs.Laws.Table.{Class, constant, variable, disjoint_of, type_of, logical}
 use Rattle.mm_spec.specs.Laws.Table.{axiom_of, theorem_of, equals, dot, open_block, close_block}
@@ -58,14 +59,6 @@ follow_append (t ∷ ts) us (Some q) = follow_append ts us (next q (class t.word
 
 -- ---- whole statements are followed
 
-pub and_first : (a b : Bool) → (a && b) ≡ true → a ≡ true
-and_first true b e = refl
-and_first false b e = e
-
-pub and_second : (a b : Bool) → (a && b) ≡ true → b ≡ true
-and_second true b e = e
-and_second false b e = absurd (true≢false (sym e))
-
 pub plain_word : (w : Bytes) → not (has_dollar w) ≡ true → class w ≡ plain
 plain_word w e = go (has_dollar w) e
   where
@@ -82,9 +75,9 @@ follow_plain : (q : State) → Stays q → (xs : List Token) → is_plain xs ≡
 follow_plain q stays [] e ts = refl
 follow_plain q stays (x ∷ xs) e ts =
     ap (λ k. follow (next q k x.word) (xs ++ ts))
-    (plain_word x.word (and_first (not (has_dollar x.word)) (is_plain xs) e))
+    (plain_word x.word (and_parts (not (has_dollar x.word)) (is_plain xs) e).0)
     ∙ ap (λ o. follow o (xs ++ ts)) (stays x.word)
-    ∙ follow_plain q stays xs (and_second (not (has_dollar x.word)) (is_plain xs) e) ts
+    ∙ follow_plain q stays xs (and_parts (not (has_dollar x.word)) (is_plain xs) e).1 ts
 
 no_dollar : (b : ℕ) → is_label_byte b ≡ true → (b == 36) ≡ false
 no_dollar b e = go (b == 36) refl
@@ -96,8 +89,8 @@ no_dollar b e = go (b == 36) refl
 pub label_plain : (w : Bytes) → is_label w ≡ true → has_dollar w ≡ false
 label_plain [] e = refl
 label_plain (b ∷ w) e =
-    ap₂ (λ x y. x || y) (no_dollar b (and_first (is_label_byte b) (is_label w) e))
-    (label_plain w (and_second (is_label_byte b) (is_label w) e))
+    ap₂ (λ x y. x || y) (no_dollar b (and_parts (is_label_byte b) (is_label w) e).0)
+    (label_plain w (and_parts (is_label_byte b) (is_label w) e).1)
 
 follow_label : (d : ℕ) (l : Token) → is_label l.word ≡ true → (ts : List Token)
     → follow (Some (at_start d)) (l ∷ ts) ≡ follow (Some (at_label d)) ts
@@ -112,7 +105,7 @@ body : (d : ℕ) (xs : List Token) (k : ℕ) → is_plain xs ≡ true
 body d xs k e = follow_plain (in_symbols d) (λ w. refl) xs e (token k (codes "$.") ∷ [])
 
 whole_body : (xs : List Token) → (true && is_plain xs && true) ≡ true → is_plain xs ≡ true
-whole_body xs e = and_first (is_plain xs) true e
+whole_body xs e = (and_parts (is_plain xs) true e).0
 
 -- where a statement leads
 abbrev pub depth_following : Statement → ℕ → ℕ
@@ -126,28 +119,28 @@ statement_followed (constants k xs t) d e h = body d xs t (whole_body xs e)
 statement_followed (variables k xs t) d e h = body d xs t (whole_body xs e)
 statement_followed (disjoint k xs t) d e h = body d xs t (whole_body xs e)
 statement_followed (floating l k xs t) d e h =
-    let f = and_first (is_label l.word && is_plain xs) true e in
-    follow_label d l (and_first (is_label l.word) (is_plain xs) f)
+    let f = (and_parts (is_label l.word && is_plain xs) true e).0 in
+    follow_label d l (and_parts (is_label l.word) (is_plain xs) f).0
     (token k (codes "$f") ∷ (xs ++ token t (codes "$.") ∷ []))
-    ∙ body d xs t (and_second (is_label l.word) (is_plain xs) f)
+    ∙ body d xs t (and_parts (is_label l.word) (is_plain xs) f).1
 statement_followed (essential l k xs t) d e h =
-    let f = and_first (is_label l.word && is_plain xs) true e in
-    follow_label d l (and_first (is_label l.word) (is_plain xs) f)
+    let f = (and_parts (is_label l.word && is_plain xs) true e).0 in
+    follow_label d l (and_parts (is_label l.word) (is_plain xs) f).0
     (token k (codes "$e") ∷ (xs ++ token t (codes "$.") ∷ []))
-    ∙ body d xs t (and_second (is_label l.word) (is_plain xs) f)
+    ∙ body d xs t (and_parts (is_label l.word) (is_plain xs) f).1
 statement_followed (axiomatic l k xs t) d e h =
-    let f = and_first (is_label l.word && is_plain xs) true e in
-    follow_label d l (and_first (is_label l.word) (is_plain xs) f)
+    let f = (and_parts (is_label l.word && is_plain xs) true e).0 in
+    follow_label d l (and_parts (is_label l.word) (is_plain xs) f).0
     (token k (codes "$a") ∷ (xs ++ token t (codes "$.") ∷ []))
-    ∙ body d xs t (and_second (is_label l.word) (is_plain xs) f)
+    ∙ body d xs t (and_parts (is_label l.word) (is_plain xs) f).1
 statement_followed (provable l k xs q ps t) d e h =
-    let f = and_first (is_label l.word && is_plain xs) (is_plain ps) e in
-    follow_label d l (and_first (is_label l.word) (is_plain xs) f)
+    let f = (and_parts (is_label l.word && is_plain xs) (is_plain ps) e).0 in
+    follow_label d l (and_parts (is_label l.word) (is_plain xs) f).0
     (token k (codes "$p") ∷ (xs ++ token q (codes "$=") ∷ (ps ++ token t (codes "$.") ∷ [])))
-    ∙ follow_plain (in_formula d) (λ w. refl) xs (and_second (is_label l.word) (is_plain xs) f)
+    ∙ follow_plain (in_formula d) (λ w. refl) xs (and_parts (is_label l.word) (is_plain xs) f).1
     (token q (codes "$=") ∷ (ps ++ token t (codes "$.") ∷ []))
     ∙ follow_plain (in_proof d) (λ w. refl) ps
-    (and_second (is_label l.word && is_plain xs) (is_plain ps) e) (token t (codes "$.") ∷ [])
+    (and_parts (is_label l.word && is_plain xs) (is_plain ps) e).1 (token t (codes "$.") ∷ [])
 statement_followed (opening k) d e h = refl
 statement_followed (closing k) zero e h = absurd (let x = h refl in omega arith)
 statement_followed (closing k) (suc d) e h = refl
@@ -181,12 +174,12 @@ row_followed (s ∷ row) d w n =
     let first : is_closing s ≡ true → 0 < d = closes_one s d (n 1) in
     let step = counted s d first in
     let rest =
-    row_followed row (depth_following s d) (and_second (is_whole s) (list_all is_whole row) w)
+    row_followed row (depth_following s d) (and_parts (is_whole s) (list_all is_whole row) w).1
     (λ k. fewer (depth_following s d) (take k row) (n (suc k)) step) in (
       rest.0,
       follow_append (spelled s) (flat_map spelled row) (Some (at_start d))
           ∙ ap (λ q. follow q (flat_map spelled row))
-          (statement_followed s d (and_first (is_whole s) (list_all is_whole row) w) first)
+          (statement_followed s d (and_parts (is_whole s) (list_all is_whole row) w).0 first)
           ∙ rest.1,
       total rest.0 (depth_following s d) rest.2 step,
     )

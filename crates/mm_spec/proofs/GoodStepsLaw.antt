@@ -30,6 +30,7 @@ use Rattle.mm_spec.specs.declared.Code.TheVariants.{BadLetter}
 use Rattle.mm_spec.specs.Laws.Stack.{IsGood, AreGoodSteps, IsGoodStep}
 use Rattle.mm_spec.proofs.FindsLaw.{each_any, each_filter, found_at}
 use Rattle.mm_spec.proofs.FaultlessLaw.{nil_first, nil_second, at_none, when_none}
+use Rattle.mm_spec.proofs.ListLaw.{get_none}
 
 abbrev bare : List PlacedStep → List Step
 bare ps = map (λ p. p.step) ps
@@ -52,11 +53,6 @@ each_get P [] zero x h e = absurd (cc)
 each_get P [] (suc n) x h e = absurd (cc)
 each_get P (y ∷ xs) zero x h e = let same : y ≡ x = cc in subst P same h.0
 each_get P (y ∷ xs) (suc n) x h e = each_get P xs n x h.1 e
-
-get_none : {X : Type 0} (xs : List X) (n : ℕ) → slice_get xs n ≡ None → length xs ≤ n
-get_none [] n e = omega arith
-get_none (x ∷ xs) zero e = absurd (cc)
-get_none (x ∷ xs) (suc n) e = let h = get_none xs n e in omega arith
 
 -- ---- labels
 

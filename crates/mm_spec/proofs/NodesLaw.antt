@@ -7,7 +7,7 @@ use Rattle.std.proofs.lemmas.List.Folds.{list_any-append}
 use Rattle.mm_spec.specs.Statement.{Statement}
 use Rattle.mm_spec.specs.Derivation.{Trees, none, more, postfix, is_member}
 use Rattle.mm_spec.specs.Nodes.{size, HasNode, each_place, child_counts, IsNodeLabel}
-use Rattle.mm_spec.proofs.FindsLaw.{lone}
+use Rattle.mm_spec.proofs.BoolLaw.{lone}
 
 -- ---- where each child counts, the labels are those of all nodes
 

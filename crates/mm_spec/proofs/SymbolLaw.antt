@@ -3,7 +3,7 @@ use Rattle.std.proofs.Common.{◌≡◌, ℕ, Bool, true, false, ◌&&◌, ◌||
 use Rattle.std.proofs.Common.{◌∷◌, ◌++◌, flat_map, length, Some, None, slice_get, nat_lt, refl, sym}
 use Rattle.std.proofs.Common.{ap, ◌∙◌, subst, true≢false, arith, bytes_eq}
 use Rattle.std.specs.List.{list_any}
-use Rattle.std.proofs.lemmas.Bool.{or_cases, or_left, or_right, and_parts}
+use Rattle.std.proofs.lemmas.Bool.{or_cases, or_left, or_right, and_parts, not-false}
 use Rattle.std.proofs.lemmas.List.{take_all}
 use Rattle.std.proofs.lemmas.List.Folds.{list_any-append}
 use Rattle.mm_spec.specs.Text.{Bytes, Token, Fault, fault, is_in, words}
@@ -20,7 +20,7 @@ use Rattle.mm_spec.specs.declared.Code.TheVariants.{UndeclaredVariable, Repeated
 use Rattle.mm_spec.proofs.FindsLaw.{any_flat_map, inside_of, found_at, found_active, same_word}
 use Rattle.mm_spec.proofs.FindsLaw.{declares, declared_before}
 use Rattle.mm_spec.proofs.FaultlessLaw.{least_none, nil_first, nil_second, at_none, when_none}
-use Rattle.mm_spec.proofs.FaultlessLaw.{not_false, each_none}
+use Rattle.mm_spec.proofs.FaultlessLaw.{each_none}
 
 -- what is known of a symbol of a statement: a constant, an active variable, or one that the
 -- statement declares
@@ -41,7 +41,7 @@ formula_named n s (t ∷ ts) end e w m = by (or_cases (bytes_eq w t.word) (is_in
     by (inl h) =
         constant
         (ap (λ v. is_in v n.constants) (same_word w t.word h)
-        ∙ not_false (is_in t.word n.constants)
+        ∙ not-false (is_in t.word n.constants)
         (when_none (not (is_in t.word n.constants)) BadTypecode
         (at_none t.at (when (not (is_in t.word n.constants)) BadTypecode)
         (nil_first (at t.at (when (not (is_in t.word n.constants)) BadTypecode))
@@ -52,7 +52,7 @@ formula_named n s (t ∷ ts) end e w m = by (or_cases (bytes_eq w t.word) (is_in
         (nil_second (at t.at (when (not (is_in t.word n.constants)) BadTypecode))
         (at_each (symbol_codes n) [] ts) e) w h in
         go (or_cases (is_in w n.constants) (is_in w n.active_variables)
-        (not_false (is_in w n.constants || is_in w n.active_variables)
+        (not-false (is_in w n.constants || is_in w n.active_variables)
         (when_none (not (is_in w n.constants || is_in w n.active_variables)) UndeclaredSymbol
         (nil_first
         (when (not (is_in w n.constants || is_in w n.active_variables)) UndeclaredSymbol)
@@ -102,7 +102,7 @@ named n d (disjoint k xs e) f w m =
     (nil_second (at e (when (nat_lt (length xs) 2) TooFewVariables))
     (at_each (disjoint_codes n) [] xs) f) w m in
     variable
-    (not_false (is_in w n.active_variables)
+    (not-false (is_in w n.active_variables)
     (when_none (not (is_in w n.active_variables)) UndeclaredVariable
     (nil_first (when (not (is_in w n.active_variables)) UndeclaredVariable)
     (when (is_in w x.0) RepeatedVariable) x.1)))

@@ -4,35 +4,25 @@ use Rattle.std.proofs.Common.{◌==◌, IsTrue, cond, refl, sym, ap, ap₂, ◌�
 use Rattle.std.proofs.Common.{append-nil, bytes_eq, eqb-true}
 use Rattle.std.proofs.lemmas.Slice.Eq.{bytes_eq-Decides}
 use Rattle.std.specs.List.{list_all, list_any, AllByRecursion}
+use Rattle.std.proofs.lemmas.Bool.{and_from, and_parts, not-true}
 use Rattle.mm_spec.specs.Laws.Complete.{binds, IsBound, AreBound}
 use Rattle.mm_spec.specs.Derivation.{Formula, Pair, Context, Substitution, substitute, are_apart}
 use Rattle.mm_spec.specs.Laws.Stack.{same, tail, found}
-
-and_left : (a b : Bool) → (a && b) ≡ true → a ≡ true
-and_left true b e = refl
-and_left false b e = e
-
-and_right : (a b : Bool) → (a && b) ≡ true → b ≡ true
-and_right true b e = e
-and_right false b e = absurd (true≢false (sym e))
-
-both : (a b : Bool) → a ≡ true → b ≡ true → (a && b) ≡ true
-both a b e f = ap₂ (λ x y. x && y) e f
 
 pub same_equal : (ps qs : List Formula) → same ps qs ≡ true → ps ≡ qs
 same_equal [] [] e = refl
 same_equal [] (q ∷ qs) e = absurd (true≢false (sym e))
 same_equal (p ∷ ps) [] e = absurd (true≢false (sym e))
 same_equal (p ∷ ps) (q ∷ qs) e =
-    ap₂ (λ x xs. x ∷ xs) ((bytes_eq-Decides p q).0 (and_left (bytes_eq p q) (same ps qs) e))
-    (same_equal ps qs (and_right (bytes_eq p q) (same ps qs) e))
+    ap₂ (λ x xs. x ∷ xs) ((bytes_eq-Decides p q).0 (and_parts (bytes_eq p q) (same ps qs) e).0)
+    (same_equal ps qs (and_parts (bytes_eq p q) (same ps qs) e).1)
 
 pub equal_same : (ps qs : List Formula) → ps ≡ qs → same ps qs ≡ true
 equal_same ps qs e = subst (λ z. same ps z ≡ true) e (self ps)
   where
     self : (xs : List Formula) → same xs xs ≡ true
     self [] = refl
-    self (x ∷ xs) = both (bytes_eq x x) (same xs xs) ((bytes_eq-Decides x x).1 refl) (self xs)
+    self (x ∷ xs) = and_from (bytes_eq x x) (same xs xs) ((bytes_eq-Decides x x).1 refl) (self xs)
 
 module _ (c : Context) where
   binder_value : (σ : Substitution) (x : ℕ) (h : Formula) → binds c x h ≡ true
@@ -41,17 +31,14 @@ module _ (c : Context) where
   binder_value σ x (t ∷ []) e = absurd (true≢false (sym e))
   binder_value σ x (t ∷ y ∷ z ∷ zs) e = absurd (true≢false (sym e))
   binder_value σ x (t ∷ y ∷ []) e =
-      let rest = and_right (not (c.is_variable t)) (c.is_variable y && (x == y)) e in
-      let variable : c.is_variable y ≡ true = and_left (c.is_variable y) (x == y) rest in
-      let at : x ≡ y = eqb-true x y (and_right (c.is_variable y) (x == y) rest) in
+      let rest = (and_parts (not (c.is_variable t)) (c.is_variable y && (x == y)) e).1 in
+      let variable : c.is_variable y ≡ true = (and_parts (c.is_variable y) (x == y) rest).0 in
+      let at : x ≡ y = eqb-true x y (and_parts (c.is_variable y) (x == y) rest).1 in
       let constant : c.is_variable t ≡ false =
-      of_not (c.is_variable t) (and_left (not (c.is_variable t)) (c.is_variable y && (x == y)) e) in
+      not-true (c.is_variable t)
+      (and_parts (not (c.is_variable t)) (c.is_variable y && (x == y)) e).0 in
       ap₂ (λ a b. tail (cond a (σ t) (t ∷ []) ++ (cond b (σ y) (y ∷ []) ++ []))) constant variable
       ∙ append-nil (σ y) ∙ ap σ (sym at)
-    where
-      of_not : (b : Bool) → not b ≡ true → b ≡ false
-      of_not true e = sym e
-      of_not false e = refl
 
   pub found_is : (hs : List Formula) (σ : Substitution) (x : ℕ) → IsBound c hs x
       → found c hs (map (substitute c σ) hs) x ≡ σ x

@@ -1,11 +1,12 @@
 -- The words of a text from a place on, one after another.
-use Rattle.std.proofs.Common.{◌≡◌, ℕ, zero, suc, ◌+◌, ◌-◌, ◌<◌, ◌≤◌, ◌==◌, ◌||◌, ◌&&◌, Bool, true}
+use Rattle.std.proofs.Common.{◌≡◌, ℕ, zero, suc, ◌+◌, ◌-◌, ◌<◌, ◌≤◌, ◌==◌, Bool, true}
 use Rattle.std.proofs.Common.{false, not, List, [], ◌∷◌, length, drop, get_or, refl, sym, ap, subst}
 use Rattle.std.proofs.Common.{◌∙◌, arith, length-drop, get_or-drop, ne_eqb, ⊎_elim, true≢false}
 use Rattle.std.specs.List.{prefix_len}
 use Rattle.std.proofs.lemmas.List.Sums.{prefix_len_passes, prefix_len_stops, prefix_len-le-length}
 use Rattle.std.proofs.lemmas.List.Sums.{prefix_len-drop_yes}
-use Rattle.std.proofs.lemmas.Bool.{cases_lt}
+use Rattle.std.proofs.lemmas.Bool.{cases_lt, not-false, not-true}
+use Rattle.std.proofs.Math.Bool.{and-false, or-true}
 use Rattle.mm_spec.specs.declared.Word.{Word}
 use Rattle.mm_spec.specs.Bytes.{is_white}
 use Rattle.mm_spec.specs.Words.{white_at, begins_word, word_at, words_between}
@@ -22,22 +23,6 @@ pub record IsNextWord (text : List ℕ) (from to : ℕ) (w : Word) : Type 0 wher
   pub from_here : from ≤ w.start
   pub up_to : w.end ≤ to
   pub rest : words_between text from to ≡ w ∷ words_between text w.end to
-
-pub not_true : (b : Bool) → not b ≡ true → b ≡ false
-not_true true h = cc
-not_true false h = refl
-
-pub or_true : (b : Bool) → (b || true) ≡ true
-or_true true = refl
-or_true false = refl
-
-pub and_false : (b : Bool) → (b && false) ≡ false
-and_false true = refl
-and_false false = refl
-
-pub not_false : (b : Bool) → not b ≡ false → b ≡ true
-not_false true h = refl
-not_false false h = cc
 
 -- where no word begins, the words are those from the next place on
 pub words_between_skip : (text : List ℕ) (i to : ℕ) → i < to → begins_word text i ≡ false
@@ -78,7 +63,7 @@ begins_word_first text zero h ink boundary = rw ink refl
 begins_word_first text (suc i) h ink boundary =
     let before : white_at text i ≡ true = boundary i (omega arith) h ink in
     let e : suc i - 1 ≡ i = omega arith in
-    rw (ink, e, before) (or_true (suc i == 0))
+    rw (ink, e, before) (or-true (suc i == 0))
 
 pub begins_word_white : (text : List ℕ) (i : ℕ) → white_at text i ≡ true
     → begins_word text i ≡ false
@@ -91,7 +76,7 @@ unfolding begins_word
 begins_word_inside text i ink =
     let e : i + 1 - 1 ≡ i = omega arith in
     let apart : (i + 1 == 0) ≡ false = ne_eqb (i + 1) 0 (omega arith) in
-    rw (e, ink, apart) (and_false (not (white_at text (i + 1))))
+    rw (e, ink, apart) (and-false (not (white_at text (i + 1))))
 
 -- the bytes of the word at a place aren't white
 pub word_at_ink : (text : List ℕ) (i j : ℕ) → i ≤ j → j < (word_at text i).end
@@ -102,7 +87,7 @@ word_at_ink text i j le lt =
     let passes : not (is_white (get_or (drop i text) (j - i) 0)) ≡ true =
     prefix_len_passes p (drop i text) (j - i) 0 (omega arith) in
     let e : i + (j - i) ≡ j = omega arith in
-    not_true _
+    not-true _
     (subst (λ (k : ℕ). not (is_white (get_or text k 0)) ≡ true) e (rw get_or-drop at passes))
 
 pub word_at_within : (text : List ℕ) (i : ℕ) → i ≤ length text → (word_at text i).end ≤ length text
@@ -117,7 +102,7 @@ word_at_after text i h =
     let p : ℕ → Bool = λ b. not (is_white b) in
     let stops : not (is_white (get_or (drop i text) (prefix_len p (drop i text)) 0)) ≡ false =
     prefix_len_stops p (drop i text) 0 (omega (arith, length-drop i text)) in
-    not_false _ (rw get_or-drop at stops)
+    not-false _ (rw get_or-drop at stops)
 
 pub word_at_nonempty : (text : List ℕ) (i : ℕ) → i < length text → white_at text i ≡ false
     → i < (word_at text i).end

@@ -13,6 +13,7 @@ use Rattle.mm_spec.specs.Words.{white_at, begins_word, word_at, words_between, w
 use Rattle.mm_spec.proofs.WordRunsLaw.{IsBoundary, words_between_skip, words_between_take}
 use Rattle.mm_spec.proofs.WordRunsLaw.{words_between_none, IsWord_word_at, begins_word_first}
 use Rattle.mm_spec.specs.Laws.Words.{AreWords, IsWord}
+use Rattle.mm_spec.proofs.ListLaw.{pairs_tail}
 
 -- what the test for the beginning of a word says
 pub begins_word_ink : (text : List ℕ) (i : ℕ) → begins_word text i ≡ true → white_at text i ≡ false
@@ -191,10 +192,6 @@ Contains-first : {X : Type 0} (x : X) (xs : List X) (y : X) → Contains (x ∷ 
 Contains-first x xs y (zero, h, e) = inl e
 Contains-first x xs y (suc k, h, e) = inr (k, (omega arith), e)
 
-AllPairs-tail : {X : Type 0} (R : X → X → Type 0) (x : X) (xs : List X) → AllPairs R (x ∷ xs)
-    → AllPairs R xs
-AllPairs-tail R x xs all i j d lt h = all (suc i) (suc j) d (omega arith) (omega arith)
-
 -- what a list contains after its head stands after the head
 after_head : (w : Word) (ws : List Word) → AllPairs EndsBefore (w ∷ ws) → (v : Word)
     → Contains ws v → w.end ≤ v.start
@@ -261,7 +258,7 @@ same_words text (w ∷ ws) (v ∷ vs) are_w are_v rise_w rise_v there back =
     ap (λ (us : List Word). w ∷ us)
     (same_words text ws vs (All-tail (IsWord text) w ws are_w)
     (All-tail (IsWord text) w vs are_v')
-    (AllPairs-tail EndsBefore w ws rise_w) (AllPairs-tail EndsBefore w vs rise_v')
+    (pairs_tail EndsBefore w ws rise_w) (pairs_tail EndsBefore w vs rise_v')
     (same_tail text w ws vs are_w rise_w there') (same_tail text w vs ws are_v' rise_v' back'))
     ∙ ap (λ (x : Word). x ∷ vs) head
 

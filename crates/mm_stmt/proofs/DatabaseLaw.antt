@@ -174,7 +174,3 @@ none_there p [] zero h = refl
 none_there p [] (suc k) h = refl
 none_there p (s ∷ db) zero h = absurd (omega arith)
 none_there p (s ∷ db) (suc k) h = none_there p db k (omega arith)
-
-pub no_and : (b : Bool) → (b && false) ≡ false
-no_and true = refl
-no_and false = refl

@@ -1,6 +1,6 @@
 -- The citations of valid theorems are the database's.
 use Rattle.std.proofs.Common.{◌≡◌, ℕ, zero, suc, ◌+◌, ◌==◌, ◌<◌, ◌≤◌, ◌^◌, Bool, true, ◌⊎◌, inl}
-use Rattle.std.proofs.Common.{inr, List, [], ◌∷◌, length, get_or, refl, sym, ap, ◌∙◌, subst, arith}
+use Rattle.std.proofs.Common.{inr, List, [], ◌∷◌, length, get_or, sym, ap, ◌∙◌, subst, arith}
 use Rattle.std.proofs.Common.{true≢false, eqb-true}
 use Rattle.std.specs.List.{list_any, range_with_len}
 use Rattle.std.proofs.lemmas.Bool.{or_cases, or_left, or_right, cases_lt, eq-eqb}
@@ -13,6 +13,7 @@ use Rattle.mm_spec.specs.Laws.Complete.{AreComplete}
 use Rattle.mm_spec.specs.Output.{theorems, is_theorem_at, AreValid}
 use Rattle.mm_spec.proofs.FindsLaw.{filter_member, found_at, inside_of}
 use Rattle.mm_spec.proofs.CitedLaw.{cites_earlier, proof_theorem}
+use Rattle.mm_spec.proofs.ListLaw.{member_at}
 use Rattle.mm_cites.specs.Citing.{Citing, citing, Cites, IsRising, IsFileOrder}
 use Rattle.mm_cites.proofs.RisingLaw.{filter_rising}
 use Rattle.mm_work.specs.Judged.{IsCited, AreCited, Shows}
@@ -28,12 +29,6 @@ member-at (y ∷ xs) x m = by (or_cases (x == y) (is_member xs x) m) (member-at 
         → (i : ℕ) × (i < suc (length xs)) × (get_or (y ∷ xs) i 0 ≡ x)
     by (inl e) r = (0, omega arith, sym (eqb-true x y e))
     by (inr h) r = let k = r h in (suc k.0, (let l = k.1 in omega (arith, l)), k.2)
-
-at-member : (xs : List ℕ) (i : ℕ) → i < length xs → is_member xs (get_or xs i 0) ≡ true
-at-member [] i h = absurd (omega arith)
-at-member (y ∷ xs) zero h = or_left (y == y) (is_member xs y) (eq-eqb y y refl)
-at-member (y ∷ xs) (suc i) h =
-    or_right (get_or xs i 0 == y) (is_member xs (get_or xs i 0)) (at-member xs i (omega arith))
 
 in-range : (n a x : ℕ) → a ≤ x → x < a + n → is_member (range_with_len a n) x ≡ true
 in-range zero a x l h = absurd (omega arith)
@@ -106,7 +101,7 @@ module _ (db : List Statement) (few : length db < 2 ^ 31) (complete : AreComplet
       earlier =
           λ i k l m. cites_earlier db by_essential (get_or (theorems db) i 0) _
           (((h.each i l).checked.exact (get_or (get_or lists i []) k 0)).0
-          (at-member (get_or lists i []) k m));
+          (member_at (get_or lists i []) k 0 m));
     }
 
     pub shows : Shows db by_essential c
@@ -118,7 +113,7 @@ module _ (db : List Statement) (few : length db < 2 ^ 31) (complete : AreComplet
             let b = get_or l x.place 0 in
             subst (λ y. proof.Cites db by_essential t y) x.cited
             (subst (λ y. proof.Cites db by_essential y b) x.theorem
-            (((h.each x.row x.within).checked.exact b).0 (at-member l x.place x.listed)))
+            (((h.each x.row x.within).checked.exact b).0 (member_at l x.place 0 x.listed)))
 
         from : (t a : ℕ) → proof.Cites db by_essential t a → Cites c t a
         from t a x =

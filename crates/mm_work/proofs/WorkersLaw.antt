@@ -15,19 +15,13 @@ use Rattle.mm_board.specs.declared.views.View.{View}
 use Rattle.mm_board.specs.Records.{times_in, times_open, times_recorded}
 use Rattle.mm_board.specs.Events.{after_join}
 use Rattle.mm_board.specs.Models.{BoardValue, SeatValue, IsSeatOf}
-use Rattle.mm_board.proofs.SumsLaw.{times_in_append}
+use Rattle.mm_board.proofs.SumsLaw.{times_in_append, times_same, times_own}
 use Rattle.mm_work.specs.Judged.{IsCited}
 use Rattle.mm_work.specs.Workers.{theorem_of, AreFindings, IsDone, AreGathered, IsFoundValid}
 use Rattle.mm_work.specs.Workers.{IsFoundFaulty, IsFaultFound}
 use Rattle.mm_work.specs.declared.worker.IndexedFault.{IndexedFault}
 use Rattle.mm_work.specs.declared.worker.Findings.{Findings}
 use Rattle.mm_work.specs.declared.worker.Worked.{Worked}
-
-same_number : (x i : ℕ) → 0 < cond (i == x) 1 0 → i ≡ x
-same_number x i = grind (arith, nat_tests)
-
-own_number : (i : ℕ) → 0 < cond (i == i) 1 0
-own_number i = grind (arith, nat_tests)
 
 -- a number of two lists is one of either
 times-both : (x : ℕ) (l m : List ℕ) → 0 < times_in x (l ++ m)
@@ -49,7 +43,7 @@ times-contains x (y ∷ l) p = go (cases_lt 0 (times_in x l)) (times-contains x 
     go (inr h) r = (
       0,
       omega arith,
-      same_number x y
+      times_same x y
           (let one : times_in x (y ∷ l) ≡ cond (y == x) 1 0 + times_in x l = refl in omega arith),
     )
 
@@ -225,7 +219,7 @@ fresh_drawn n i v w u closed is l above kept = fresh_less n i v u more l unseen 
         by (inr p) = omega (arith, p)
 
     seen : 0 < times_recorded i u
-    seen = let k = kept i in let o = at-open i in let e = own_number i in omega (arith, k, o, e)
+    seen = let k = kept i in let o = at-open i in let e = times_own i in omega (arith, k, o, e)
 
 -- the parts of a list whose elements all have a property
 pub All-front : {X : Type 0} (P : X → Type 0) (l : List X) (x : X) → All P (l ++ x ∷ []) → All P l

@@ -1,14 +1,9 @@
-use Rattle.std.proofs.Common.{◌≤◌, Bool, true, false, ℕ, drop, arith}
+use Rattle.std.proofs.Common.{ℕ, drop, arith}
 use Rattle.std.proofs.lemmas.List.{length-drop}
-use mir.Val.{bool_byte}
 use Rattle.mm_spec.specs.Bytes.{is_white}
 use Rattle.mm_bytes.specs.Masks.{is_bad}
-use Rattle.mm_bytes.proofs.MaskLaw.{has_room}
+use Rattle.mm_bytes.proofs.MaskLaw.{has_room, at_most_one}
 use Rattle.mm_bytes.proofs.classes.class_tail.Goals as goal
-
-at_most_one : (b : Bool) → bool_byte b ≤ 1
-at_most_one false = omega arith
-at_most_one true = omega arith
 
 pub overflow_mul-classes : goal.overflow_mul-classes
 overflow_mul-classes c =

@@ -1,13 +1,10 @@
-use Rattle.std.proofs.Common.{◌≡◌, ◌-◌, ◌≤◌, ◌∙◌, ℕ, Bool, true, false, min, if◌then◌else◌, ap}
+use Rattle.std.proofs.Common.{◌≡◌, ◌-◌, ◌∙◌, ℕ, Bool, true, false, min, if◌then◌else◌, ap}
 use Rattle.std.proofs.Common.{arith}
 use Rattle.std.specs.Int.{bit_at}
 use mir.Val.{bool_byte}
+use Rattle.mm_bytes.proofs.MaskLaw.{at_most_one}
 use Rattle.mm_lex.proofs.BlockLaw.{starts_first, starts_next}
 use Rattle.mm_lex.proofs.blocks.starts_of.Goals as goal
-
-at_most_one : (b : Bool) → bool_byte b ≤ 1
-at_most_one false = omega arith
-at_most_one true = omega arith
 
 chosen : (n : ℕ) (b : Bool) → min (1 - n) (bool_byte b) ≡ (if b then 1 - n else 0)
 chosen n true = omega arith

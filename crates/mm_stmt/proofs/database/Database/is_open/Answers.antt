@@ -2,13 +2,14 @@ use Rattle.std.proofs.Common.{◌≡◌, ◌∙◌, ◌<◌, ◌&&◌, Some, len
 use Rattle.std.proofs.Common.{slice_get}
 use Rattle.std.specs.Option.{option_map}
 use Rattle.std.specs.List.{list_any}
+use Rattle.std.proofs.Math.Bool.{and-false}
 use Rattle.mm_spec.specs.Lexed.{tokens_of as words_of}
 use Rattle.mm_spec.specs.Opened.{is_open}
 use Rattle.mm_spec.proofs.OpenedLaw.{counted_length}
 use Rattle.mm_spec.specs.Scope.{statement_at}
 use Rattle.mm_stmt.specs.Database.{Contents, kind_of}
 use Rattle.mm_stmt.specs.Kinds.{is_theorem_kind, is_axiom_kind}
-use Rattle.mm_stmt.proofs.DatabaseLaw.{has_outline, open_is, none_there, no_and}
+use Rattle.mm_stmt.proofs.DatabaseLaw.{has_outline, open_is, none_there}
 use Rattle.mm_stmt.proofs.database.Database.is_open.Goals as goal
 
 pub returns-then-statement-len : goal.returns-then-statement-len
@@ -19,7 +20,7 @@ returns-then-statement-len g c =
     let at = c.if-statement-len.true in
     sym (ap (λ b. n.with_open && b)
     (none_there is_open n.read c.args.statement (omega (arith, after, len, at)))
-    ∙ no_and n.with_open)
+    ∙ and-false n.with_open)
 
 pub returns : goal.returns
 returns g c =

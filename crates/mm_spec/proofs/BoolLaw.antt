@@ -1,0 +1,24 @@
+-- Tests joined by `||` and `&&`, beyond what the standard library says of them.
+use Rattle.std.proofs.Common.{◌≡◌, Bool, true, false, ◌||◌, ◌&&◌, refl, sym}
+use Rattle.std.proofs.lemmas.Bool.{and_parts}
+
+-- two tests that pass together are the same
+pub same_tests : (a b : Bool) → (a ≡ true → b ≡ true) → (b ≡ true → a ≡ true) → a ≡ b
+same_tests true b f g = sym (f refl)
+same_tests false true f g = g refl
+same_tests false false f g = refl
+
+pub or_none : (a b : Bool) → b ≡ false → (a || b) ≡ a
+or_none true b e = refl
+or_none false b e = e
+
+-- a test that passes with nothing beside it passes by itself
+pub lone : (b : Bool) → (b || false) ≡ true → b ≡ true
+lone true e = refl
+lone false e = e
+
+-- the two inner ones of four tests that all pass
+pub middle_parts : (a b c d : Bool) → (a && b && c && d) ≡ true → (b ≡ true) × (c ≡ true)
+middle_parts a b c d e =
+    let three = (and_parts (a && b && c) d e).0 in
+    ((and_parts a b (and_parts (a && b) c three).0).1, (and_parts (a && b) c three).1)
