@@ -73,7 +73,7 @@ impl<A: Allocator + Copy> Row<A> {
             return Ok(());
         }
         let in_comment = self.comment.is_open();
-        let bytes = &text[word.start as usize..word.end as usize];
+        let bytes = word.bytes(text);
         match role(in_comment, plain, bytes) {
             Role::Token => self.tokens.push(word)?,
             Role::Opening => self.comment = Opened::At(word.start),

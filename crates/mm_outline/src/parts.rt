@@ -149,7 +149,7 @@ fn take_turn(text: &[u8], tokens: &[Word], deep: u32, part: Part, at: u32) -> Tu
     ensures holds { Holds at result }
 {
     let token = tokens[at as usize];
-    let word = &text[token.start as usize..token.end as usize];
+    let word = token.bytes(text);
     let class = classify(word);
     step(part, class, is_label_at(part, word), deep > 0, at)
 }
@@ -196,7 +196,7 @@ fn unexpected(text: &[u8], tokens: &[Word], part: Part, at: u32) -> Fault
         (shape_code (spec_is_start part) (token_at text.now tokens.now at).word) }
 {
     let token = tokens[at as usize];
-    let word = &text[token.start as usize..token.end as usize];
+    let word = token.bytes(text);
     Fault {
         at: token.start,
         code: unexpected_code(is_start(part), word),
@@ -215,7 +215,7 @@ fn next_keyword(text: &[u8], tokens: &[Word], from: u32) -> u32
 {
     for at in from..tokens.len() as u32 {
         let token = tokens[at as usize];
-        if has_dollar(&text[token.start as usize..token.end as usize]) {
+        if has_dollar(token.bytes(text)) {
             return at;
         }
     }

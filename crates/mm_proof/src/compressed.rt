@@ -10,7 +10,7 @@ ghost use Rattle.mm_proof.specs.Read.{read};
 ghost use Rattle.mm_proof.specs.Letters.{InOrder, closed};
 ghost use Rattle.mm_proof.specs.Refused.{StartsWith};
 
-use crate::labels::{bytes, usable_label};
+use crate::labels::usable_label;
 use crate::letters::Progress;
 use crate::placed::{Steps, with_room};
 use crate::refused::{ProofRefused, refused};
@@ -50,7 +50,7 @@ fn read_labels<A: Allocator>(
     let text = database.text();
     for n in 0..words.len() {
         let word = words[n];
-        let label = bytes(text, word);
+        let label = word.bytes(text);
         if label == b")".as_slice() {
             return Ok(n);
         }

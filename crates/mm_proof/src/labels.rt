@@ -1,10 +1,10 @@
 //! The labels of a proof.
 
-ghost use Rattle.std.specs.Prelude.{◌≡◌, ◌<◌, ◌≤◌, length, slice_range};
+ghost use Rattle.std.specs.Prelude.{◌≡◌, ◌<◌, length};
 ghost use Rattle.mm_spec.specs.NormalProof.{usable};
 ghost use Rattle.mm_proof.specs.Refused.{found};
 
-use mm_stmt::{Database, Word};
+use mm_stmt::Database;
 use std::alloc::Allocator;
 
 /// The statement of a label that is usable in the proof of a theorem: that of an active hypothesis
@@ -28,13 +28,4 @@ pub(crate) fn usable_label<A: Allocator>(
             }
         }
     }
-}
-
-/// The bytes of a word.
-pub(crate) fn bytes<'a>(text: &'a [u8], word: Word) -> &'a [u8]
-    requires order { word.start ≤ word.end }
-    requires within { word.end ≤ length text.now }
-    ensures { result.now ≡ slice_range text.now word.start word.end }
-{
-    &text[word.start as usize..word.end as usize]
 }

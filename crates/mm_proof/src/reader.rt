@@ -11,7 +11,7 @@ ghost use Rattle.mm_proof.specs.Read.{Read, read};
 ghost use Rattle.mm_proof.specs.Refused.{Refuses, word_faults};
 
 use crate::compressed::read_compressed;
-use crate::labels::{bytes, usable_label};
+use crate::labels::usable_label;
 use crate::placed::{Step, Steps};
 use crate::refused::{ProofRefused, refused};
 use mm_stmt::{Code, Database, Word};
@@ -43,7 +43,7 @@ fn read_words<A: Allocator>(
 {
     let text = database.text();
     for word in words {
-        let label = bytes(text, *word);
+        let label = word.bytes(text);
         if label == b"?".as_slice() {
             return Err(refused(word.start, Code::IncompleteProof));
         }
@@ -76,7 +76,7 @@ pub fn read_proof<A: Allocator + Copy>(
     let Some((first, rest)) = words.split_first() else {
         return Err(refused(end, Code::EmptyProof));
     };
-    if bytes(database.text(), *first) == b"(".as_slice() {
+    if first.bytes(database.text()) == b"(".as_slice() {
         return read_compressed(alloc, database, theorem, rest, end);
     }
     let mut steps = Steps::none(alloc, theorem, words.len());

@@ -51,7 +51,7 @@ impl<'a, A: Allocator + Copy> Names<'a, A> {
     {
         for at in from..to {
             let word = tokens[at as usize];
-            let (number, _) = self.numbered(&text[word.start as usize..word.end as usize]);
+            let (number, _) = self.numbered(word.bytes(text));
             numbers.push(Sym::new(number as u32))?;
         }
         Ok(())

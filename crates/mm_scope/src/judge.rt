@@ -51,9 +51,7 @@ impl<'a, A: Allocator + Copy> Scope<'a, A> {
         let mut best = None;
         for at in from..to {
             let token = tokens[at as usize];
-            let (number, known) = self
-                .names
-                .numbered(&text[token.start as usize..token.end as usize]);
+            let (number, known) = self.names.numbered(token.bytes(text));
             numbers.push(Sym::new(number as u32))?;
             best = note(best, token.start, self.symbol_code(known));
         }
@@ -86,7 +84,7 @@ impl<'a, A: Allocator + Copy> Scope<'a, A> {
         for at in from..to {
             let repeated = is_repeated(&mut seen, is_short, text, tokens, from, at)?;
             let token = tokens[at as usize];
-            let word = &text[token.start as usize..token.end as usize];
+            let word = token.bytes(text);
             best = note(best, token.start, self.declared_code(kind, word, repeated));
         }
         Ok(best)
@@ -123,9 +121,7 @@ impl<'a, A: Allocator + Copy> Scope<'a, A> {
             return Ok(note(None, tokens[to as usize].start, Some(Code::BadTypecode)));
         }
         let token = tokens[from as usize];
-        let (number, known) = self
-            .names
-            .numbered(&text[token.start as usize..token.end as usize]);
+        let (number, known) = self.names.numbered(token.bytes(text));
         numbers.push(Sym::new(number as u32))?;
         let typecode = note(None, token.start, Self::typecode_code(known));
         let rest = self.symbols_fault(text, tokens, from + 1, to, numbers)?;
@@ -142,11 +138,7 @@ impl<'a, A: Allocator + Copy> Scope<'a, A> {
             → result ≡ least (label_faults n (token_at text.now tokens.now at)) }
     {
         let token = tokens[at as usize];
-        note(
-            None,
-            token.start,
-            self.label_code(&text[token.start as usize..token.end as usize]),
-        )
+        note(None, token.start, self.label_code(token.bytes(text)))
     }
 
     /// The fault of the symbols of a `$f`.
@@ -170,8 +162,8 @@ impl<'a, A: Allocator + Copy> Scope<'a, A> {
         }
         let first = tokens[keyword as usize + 1];
         let second = tokens[keyword as usize + 2];
-        let typecode = &text[first.start as usize..first.end as usize];
-        let variable = &text[second.start as usize..second.end as usize];
+        let typecode = first.bytes(text);
+        let variable = second.bytes(text);
         match self.typing_code(typecode, variable) {
             Some(code) => note(None, second.start, code),
             None => note(
@@ -370,11 +362,11 @@ fn is_among(text: &[u8], tokens: &[Word], from: u32, at: u32) -> bool
         (before_next [] (between text.now tokens.now from at)) }
 {
     let token = tokens[at as usize];
-    let word = &text[token.start as usize..token.end as usize];
+    let word = token.bytes(text);
     let mut found = false;
     for earlier in from..at {
         let other = tokens[earlier as usize];
-        found = word == &text[other.start as usize..other.end as usize] || found;
+        found = word == other.bytes(text) || found;
     }
     found
 }
@@ -407,7 +399,7 @@ fn is_repeated<'a, A: Allocator + Copy>(
         Ok(is_among(text, tokens, from, at))
     } else {
         let token = tokens[at as usize];
-        see(seen, &text[token.start as usize..token.end as usize])
+        see(seen, token.bytes(text))
     }
 }
 

@@ -342,8 +342,7 @@ impl<'a, A: Allocator + Copy> Scope<'a, A> {
         ensures blocks { self.new.blocks ≡ self.old.blocks }
     {
         let token = tokens[keyword as usize - 1];
-        self.names
-            .set_label(&text[token.start as usize..token.end as usize], number)
+        self.names.set_label(token.bytes(text), number)
     }
 
     /// The variable after the typecode at `from` has that type.
@@ -373,8 +372,8 @@ impl<'a, A: Allocator + Copy> Scope<'a, A> {
     {
         let first = tokens[from as usize];
         let second = tokens[from as usize + 1];
-        let typecode = &text[first.start as usize..first.end as usize];
-        let word = &text[second.start as usize..second.end as usize];
+        let typecode = first.bytes(text);
+        let word = second.bytes(text);
         match self.names.symbol(word) {
             Some(old) => {
                 let symbol = Symbol {
@@ -419,7 +418,7 @@ impl<'a, A: Allocator + Copy> Scope<'a, A> {
     {
         for at in from..to {
             let token = tokens[at as usize];
-            let word = &text[token.start as usize..token.end as usize];
+            let word = token.bytes(text);
             let symbol = self.names.declared(is_variable, number, word);
             self.names.set_symbol(word, symbol)?;
         }

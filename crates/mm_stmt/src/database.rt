@@ -150,7 +150,7 @@ impl<'a, A: Allocator> Database<'a, A> {
         let outline = self.outlines[statement as usize];
         if has_label(outline.kind) {
             let word = self.kept.of(statement)[0];
-            Some(&self.text[word.start as usize..word.end as usize])
+            Some(word.bytes(self.text))
         } else {
             None
         }

@@ -18,7 +18,7 @@ fn is_word(text: &[u8], word: Word, name: &[u8]) -> bool
     requires within { word.end ≤ length text.now }
     ensures { result ≡ bytes_eq (token_of text.now word).word name.now }
 {
-    &text[word.start as usize..word.end as usize] == name
+    word.bytes(text) == name
 }
 
 /// Whether these are the words of a proof of which nothing is known: `?`, or `(` `)` `?`.

@@ -27,7 +27,7 @@ fn label_of<'a>(text: &'a [u8], tokens: &[Word], outline: Outline) -> &'a [u8]
     ensures { result.now ≡ (token_at text.now tokens.now (outline.keyword - 1)).word }
 {
     let word = tokens[outline.keyword as usize - 1];
-    &text[word.start as usize..word.end as usize]
+    word.bytes(text)
 }
 
 /// The labels of the theorems, side by side.

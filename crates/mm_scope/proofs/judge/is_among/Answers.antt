@@ -1,4 +1,4 @@
-use Rattle.std.proofs.Common.{◌∙◌, ◌||◌, ap, sym, arith, []}
+use Rattle.std.proofs.Common.{◌∙◌, ◌||◌, ap, ap₂, bytes_eq, sym, arith, []}
 use Rattle.mm_spec.specs.Text.{is_in}
 use Rattle.mm_outline.specs.Parts.{between, token_at}
 use Rattle.mm_scope.specs.Judge.{before_next}
@@ -16,9 +16,10 @@ loop-earlier-preserved c =
     let within = c.requires.within in
     let more = among_more text ws c.args.from i (omega arith) (omega (arith, test, within)) word in
     let before = before_next [] (between text ws c.args.from i) in
+    let same = c.eq.ensures ∙ ap₂ bytes_eq c.bytes-word.ensures c.bytes.ensures in
     elim c.if-eq.branch [
       | then-eq w ↦ w.found-is ∙ w.if-eq.true
-          ∙ ap (λ b. b || is_in word before) (sym w.if-eq.true ∙ c.eq.ensures) ∙ more
+          ∙ ap (λ b. b || is_in word before) (sym w.if-eq.true ∙ same) ∙ more
       | else-eq w ↦ w.found-is ∙ c.loop-earlier.invariant
-          ∙ ap (λ b. b || is_in word before) (sym w.if-eq.false ∙ c.eq.ensures) ∙ more
+          ∙ ap (λ b. b || is_in word before) (sym w.if-eq.false ∙ same) ∙ more
     ]

@@ -10,7 +10,7 @@ pub overflow_cast-number : goal.overflow_cast-number
 overflow_cast-number g c =
     let ns = names_of c.args.self.now.symbols in
     let few = c.requires.few in
-    let le = place_le (token_at c.args.text.now c.args.tokens.now c.loop-at.at).word ns in
+    let le = place_le c.bytes.result.now ns in
     let is = c.numbered-number.ensures.number in
     omega (arith, le, is, few)
 
@@ -29,7 +29,8 @@ loop-at-preserved g c =
     let xs = numbers_in ns (between text ws c.args.from at) in
     c.in_ok-push.ensures.items
     ∙ ap₂ (λ x y. x ++ y ∷ []) c.loop-at.invariant
-    (c.new.ensures ∙ c.numbered-number.ensures.number)
+    (c.new.ensures ∙ c.numbered-number.ensures.number
+    ∙ ap (λ w. place_of w ns) c.bytes.ensures)
     ∙ append_assoc c.args.numbers.now.items xs (place_of (token_at text ws at).word ns ∷ [])
     ∙ ap (λ l. c.args.numbers.now.items ++ l)
     (sym (numbers-more text ws ns c.args.from at (omega arith) (omega arith)))

@@ -1,9 +1,11 @@
-use Rattle.std.proofs.Common.{ap, ◌<◌, ◌≤◌, arith, length, ◌∙◌, ◌≡◌, ◌++◌, []}
+use Rattle.std.proofs.Common.{ap, ap₂, ◌<◌, ◌≤◌, arith, length, ◌∙◌, ◌≡◌, ◌++◌, []}
+use Rattle.std.proofs.Common.{Some, bytes_eq, if◌then◌else◌}
 use Rattle.mm_spec.specs.Text.{words}
 use Rattle.mm_spec.specs.Frame.{first_occurrences}
-use Rattle.mm_outline.specs.Parts.{token_at, between}
+use Rattle.mm_outline.specs.Parts.{between}
 use Rattle.mm_scope.proofs.NumberedLaw.{names_more}
 use Rattle.mm_scope.specs.Names.{find, with_name}
+use Rattle.mm_scope.specs.Judge.{declared_entry, entry_of}
 use Rattle.mm_scope.proofs.DeclaredLaw.{declared_step}
 use Rattle.mm_scope.proofs.names.Scope.declare.Goals as goal
 
@@ -20,13 +22,18 @@ loop-at-preserved g c =
           declared_step c.args.text.now c.args.tokens.now c.args.from c.loop-at.at later inside
           c.args.is_variable c.args.number c.declared-symbol.result
           (find c.args.self.now.names.symbols) (find c.loop-at.self.names.symbols)
-          (find c.set_symbol.new.self.symbols) c.in_ok-set_symbol.ensures.symbols
-          c.declared-symbol.ensures i.symbols;
+          (find c.set_symbol.new.self.symbols)
+          (λ w. c.in_ok-set_symbol.ensures.symbols w
+          ∙ ap (λ b. if bytes_eq b w then Some c.declared-symbol.result else
+          find c.loop-at.self.names.symbols w) c.bytes-word.ensures)
+          (c.declared-symbol.ensures
+          ∙ ap (λ b. declared_entry c.args.is_variable c.args.number b
+          (entry_of (find c.loop-at.self.names.symbols b))) c.bytes-word.ensures)
+          i.symbols;
       blocks = i.blocks;
       names =
           λ d h. c.in_ok-set_symbol.ensures.names
-          ∙ ap (with_name (token_at c.args.text.now c.args.tokens.now c.loop-at.at).word)
-          (i.names d h)
+          ∙ ap₂ with_name c.bytes-word.ensures (i.names d h)
           ∙ names_more c.args.text.now c.args.tokens.now c.args.from c.loop-at.at later inside d;
     }
 

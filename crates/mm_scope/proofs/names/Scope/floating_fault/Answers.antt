@@ -1,8 +1,8 @@
-use Rattle.std.proofs.Common.{◌+◌, ◌∙◌, sym, ap, arith}
+use Rattle.std.proofs.Common.{◌+◌, ◌∙◌, sym, ap, ap₂, arith}
 use Rattle.mm_spec.specs.Lawful.{least, floating_faults}
 use Rattle.mm_scope.specs.Names.{find}
 use Rattle.mm_outline.specs.Parts.{token_at, nth_word}
-use Rattle.mm_scope.specs.Judge.{is_open_in, typing_fault}
+use Rattle.mm_scope.specs.Judge.{is_open_in, typing_code, typing_fault}
 use Rattle.mm_scope.proofs.JudgeLaw.{no_two_between, two_between, typing_is}
 use Rattle.mm_scope.proofs.names.Scope.floating_fault.Goals as goal
 
@@ -23,7 +23,11 @@ returns-in-Some g c = λ n k.
     let within = c.requires.within in
     let at = (nth_word ws c.args.keyword).start in
     c.note-in-Some.ensures
-    ∙ ap (typing_fault at (token_at text ws (c.args.keyword + 2)).at) c.in-Some.ensures
+    ∙ ap (typing_fault at (token_at text ws (c.args.keyword + 2)).at)
+    (c.in-Some.ensures
+    ∙ ap₂ (λ a b. typing_code (is_open_in s.blocks.of.items s.blocks.ends.items) a
+    (find s.names.symbols a) (find s.names.symbols b))
+    c.bytes-typecode.ensures c.bytes-variable.ensures)
     ∙ typing_is n (find s.names.symbols) (find s.names.labels)
     (is_open_in s.blocks.of.items s.blocks.ends.items) k at
     (token_at text ws (c.args.keyword + 1)) (token_at text ws (c.args.keyword + 2))
@@ -39,7 +43,11 @@ returns-in-None g c = λ n k.
     let within = c.requires.within in
     let at = (nth_word ws c.args.keyword).start in
     c.note-in-None.ensures
-    ∙ ap (typing_fault at (token_at text ws (c.args.keyword + 2)).at) c.in-None.ensures
+    ∙ ap (typing_fault at (token_at text ws (c.args.keyword + 2)).at)
+    (c.in-None.ensures
+    ∙ ap₂ (λ a b. typing_code (is_open_in s.blocks.of.items s.blocks.ends.items) a
+    (find s.names.symbols a) (find s.names.symbols b))
+    c.bytes-typecode.ensures c.bytes-variable.ensures)
     ∙ typing_is n (find s.names.symbols) (find s.names.labels)
     (is_open_in s.blocks.of.items s.blocks.ends.items) k at
     (token_at text ws (c.args.keyword + 1)) (token_at text ws (c.args.keyword + 2))

@@ -13,7 +13,7 @@ pub overflow_cast-number : goal.overflow_cast-number
 overflow_cast-number g c =
     let ns = names_of c.args.self.now.names.symbols in
     let few = c.requires.few in
-    let le = place_le (token_at c.args.text.now c.args.tokens.now c.args.from).word ns in
+    let le = place_le c.bytes.result.now ns in
     let is = c.numbered-number.ensures.number in
     omega (arith, le, is, few)
 
@@ -29,7 +29,9 @@ returns-clause-fault g c = λ n k.
     ∙ ap (λ o. merge o c.in_ok-rest.rest)
     (c.note-typecode.ensures
     ∙ ap (fault_at (token_at c.args.text.now c.args.tokens.now c.args.from).at)
-    (c.typecode_code.ensures ∙ ap typecode_code c.numbered-number.ensures.symbol))
+    (c.typecode_code.ensures
+    ∙ ap typecode_code
+    (c.numbered-number.ensures.symbol ∙ ap (find s.names.symbols) c.bytes.ensures)))
     ∙ formula_is n (find s.names.symbols) (find s.names.labels)
     (is_open_in s.blocks.of.items s.blocks.ends.items) k c.args.text.now c.args.tokens.now
     c.args.from c.args.to
@@ -50,7 +52,8 @@ returns-clause-numbers g c =
     ∙ ap (λ l. l ++ numbers_in ns (between text ws (c.args.from + 1) c.args.to))
     (c.in_ok-push.ensures.items
     ∙ ap (λ y. c.args.numbers.now.items ++ y ∷ [])
-    (c.new.ensures ∙ c.numbered-number.ensures.number))
+    (c.new.ensures ∙ c.numbered-number.ensures.number
+    ∙ ap (λ w. place_of w ns) c.bytes.ensures))
     ∙ append_assoc c.args.numbers.now.items (place_of (token_at text ws c.args.from).word ns ∷ [])
     (numbers_in ns (between text ws (c.args.from + 1) c.args.to))
     ∙ ap (λ l. c.args.numbers.now.items ++ l)

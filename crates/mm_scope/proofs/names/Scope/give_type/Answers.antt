@@ -1,12 +1,11 @@
-use Rattle.std.proofs.Common.{◌∙◌, ◌+◌, sym, is_some, ap}
-use Rattle.mm_outline.specs.Parts.{token_at}
+use Rattle.std.proofs.Common.{◌∙◌, sym, is_some, ap}
 use Rattle.mm_scope.specs.Names.{names_of}
 use Rattle.mm_scope.proofs.NumberedLaw.{on_then, with_known, found_known}
 use Rattle.mm_scope.proofs.names.Scope.give_type.Goals as goal
 
 pub returns-in-Some-clause-names : goal.returns-in-Some-clause-names
 returns-in-Some-clause-names g c =
-    let w = (token_at c.args.text.now c.args.tokens.now (c.args.from + 1)).word in
+    let w = c.bytes-word.result.now in
     let m = c.args.self.now.names.symbols in
     on_then c.set_symbol.result c.set_symbol.ensures.names
     (λ h. h ∙ with_known w (names_of m)

@@ -13,7 +13,7 @@ pub overflow_cast-number : goal.overflow_cast-number
 overflow_cast-number g c =
     let ns = names_of c.args.self.now.names.symbols in
     let few = c.requires.few in
-    let le = place_le (token_at c.args.text.now c.args.tokens.now c.loop-at.at).word ns in
+    let le = place_le c.bytes.result.now ns in
     let is = c.numbered-number.ensures.number in
     omega (arith, le, is, few)
 
@@ -32,7 +32,7 @@ loop-at-preserved g c =
           ∙ ap (λ o. merge c.loop-at.best (fault_at (token_at text ws c.loop-at.at).at o))
           (c.symbol_code.ensures
           ∙ ap (symbol_code (is_open_in s.blocks.of.items s.blocks.ends.items))
-          c.numbered-number.ensures.symbol)
+          (c.numbered-number.ensures.symbol ∙ ap (find s.names.symbols) c.bytes.ensures))
           ∙ symbols_more n (find s.names.symbols) (find s.names.labels)
           (is_open_in s.blocks.of.items s.blocks.ends.items) k text ws c.args.from c.loop-at.at
           later inside c.loop-at.best (c.loop-at.invariant.least n k);
@@ -41,7 +41,8 @@ loop-at-preserved g c =
           let xs = numbers_in ns (between text ws c.args.from c.loop-at.at) in
           c.in_ok-push.ensures.items
           ∙ ap₂ (λ x y. x ++ y ∷ []) c.loop-at.invariant.numbered
-          (c.new.ensures ∙ c.numbered-number.ensures.number)
+          (c.new.ensures ∙ c.numbered-number.ensures.number
+          ∙ ap (λ w. place_of w ns) c.bytes.ensures)
           ∙ append_assoc c.args.numbers.now.items xs
           (place_of (token_at text ws c.loop-at.at).word ns ∷ [])
           ∙ ap (λ l. c.args.numbers.now.items ++ l)

@@ -49,7 +49,8 @@ returns-then-has_label g c =
     let first =
     kept_label ws (get_or os k o) c.of.result.now kept label (record { start = 0; end = 0 }) in
     let w = get_or c.of.result.now 0 (record { start = 0; end = 0 }) in
-    subst (λ (n : Contents). Some (take (w.end - w.start) (drop w.start text))
+    ap Some c.bytes.ensures
+    ∙ subst (λ (n : Contents). Some (take (w.end - w.start) (drop w.start text))
     ≡ option_map (λ t. t.word) (option_and_then label_of (slice_get n.statements k)))
     c.self.view_is
     (sym (label_is text ws f.with_open os k o there
@@ -92,8 +93,8 @@ bounds-of-0 g c =
     ∙ kept_at ws os f.kept.words.items f.kept.starts.items c.self.invariant.kept_are k there o in
     kept_some ws (get_or os k o) c.of.result.now kept
 
-pub slice_bounds-result-count : goal.slice_bounds-result-count
-slice_bounds-result-count g c =
+pub bytes-requires-clause-order : goal.bytes-requires-clause-order
+bytes-requires-clause-order g c =
     let f = c.self.inside in
     let text = f.text.now in
     let ws = words_of text in
@@ -116,11 +117,10 @@ slice_bounds-result-count g c =
     let start = ap (λ (w : Word). w.start) first in
     let end = ap (λ (w : Word). w.end) first in
     let order = stands.0 in
-    let within = stands.1 in
     omega (arith, start, end, order)
 
-pub slice_bounds-result-start : goal.slice_bounds-result-start
-slice_bounds-result-start g c =
+pub bytes-requires-clause-within : goal.bytes-requires-clause-within
+bytes-requires-clause-within g c =
     let f = c.self.inside in
     let text = f.text.now in
     let ws = words_of text in
@@ -140,35 +140,6 @@ slice_bounds-result-start g c =
     let stands =
     label_stands text ws (get_or os k o)
     (c.self.invariant.outlines k o there) c.self.invariant.words in
-    let start = ap (λ (w : Word). w.start) first in
     let end = ap (λ (w : Word). w.end) first in
-    let order = stands.0 in
     let within = stands.1 in
-    omega (arith, start, end, order, within)
-
-pub slice_bounds-result-end : goal.slice_bounds-result-end
-slice_bounds-result-end g c =
-    let f = c.self.inside in
-    let text = f.text.now in
-    let ws = words_of text in
-    let os = f.outlines.items in
-    let k = c.args.statement in
-    let o = c.index-outline.result.now in
-    let there : k < length os =
-    has_outline text ws os f.with_open f.fault _ c.self.view_is k c.requires in
-    let kept =
-    c.of.ensures
-    ∙ kept_at ws os f.kept.words.items f.kept.starts.items c.self.invariant.kept_are k there o in
-    let label : is_labelled_kind (get_or os k o).kind ≡ true =
-    ap (λ x. is_labelled_kind x.kind) (sym c.index-outline.ensures) ∙ sym c.has_label.ensures
-    ∙ c.if-has_label.true in
-    let first =
-    kept_label ws (get_or os k o) c.of.result.now kept label (record { start = 0; end = 0 }) in
-    let stands =
-    label_stands text ws (get_or os k o)
-    (c.self.invariant.outlines k o there) c.self.invariant.words in
-    let start = ap (λ (w : Word). w.start) first in
-    let end = ap (λ (w : Word). w.end) first in
-    let order = stands.0 in
-    let within = stands.1 in
-    omega (arith, start, end, order, within)
+    omega (arith, end, within)
