@@ -23,6 +23,7 @@ ghost use Rattle.mm_stmt.specs.Database.{kind_of, last_place, typecode_of};
 ghost use Rattle.mm_stmt.specs.Kinds.{is_axiom_kind, is_theorem_kind};
 
 use crate::kept::{Kept, has_label};
+use crate::near::are_together_near;
 use crate::spaced::SpacedLabels;
 use mm_frame::disjoint_index::{DisjointIndex, are_together};
 use mm_frame::frames::{Frame, Frames};
@@ -157,6 +158,7 @@ impl<'a, A: Allocator> Database<'a, A> {
     }
 
     /// The statement of a label.
+    #[inline(always)]
     pub fn find(&self, label: &[u8]) -> Option<u32>
         ensures some { IfSome result
             (λ k. (k < length self.now.statements)
@@ -253,7 +255,8 @@ impl<'a, A: Allocator> Database<'a, A> {
         ensures { result ≡ disjoint_at self.now.statements statement x y }
     {
         x.number() != y.number()
-            && are_together(&self.blocks, &self.disjoint_index, x, y, statement)
+            && (are_together_near(self, statement, x, y)
+                || are_together(&self.blocks, &self.disjoint_index, x, y, statement))
     }
 
     /// The words of a theorem's proof, those after its `$=`; none where the statement is no

@@ -8,6 +8,7 @@
 mod database;
 mod kept;
 mod kinds;
+mod near;
 mod reader;
 mod spaced;
 

@@ -11,8 +11,8 @@ use Rattle.mm_frame.proofs.DisjointLaw.{together_is}
 use Rattle.mm_stmt.proofs.HeldLaw.{blocks_held}
 use Rattle.mm_stmt.proofs.database.Database.disjoint_at.Goals as goal
 
-pub returns-then-number : goal.returns-then-number
-returns-then-number g c =
+pub returns-else-are_together_near : goal.returns-else-are_together_near
+returns-else-are_together_near g c =
     let f = c.self.inside in
     let db = held f.text.now (words_of f.text.now) f.outlines.items f.with_open in
     let b = lists f.blocks.of.items f.blocks.ends.items f.blocks.open.items in

@@ -1,0 +1,68 @@
+//! The `$d` that stand shortly before a statement: most questions find their answer there.
+
+ghost use Rattle.std.specs.Prelude.{◌≡◌, ◌≤◌, ◌&&◌, length, true};
+ghost use Rattle.std.specs.List.{list_any};
+ghost use Rattle.mm_spec.specs.Derivation.{is_member};
+ghost use Rattle.mm_spec.specs.Frame.{formula_at, is_disjoint_statement, active_of};
+
+use crate::database::Database;
+use mm_outline::parts::Kind;
+use mm_outline::symbol::Sym;
+use std::alloc::Allocator;
+
+/// How many statements are looked at, at most.
+const NEAR: u32 = 16;
+
+/// How many symbols a `$d` has, at most, that is looked at.
+const FEW: usize = 16;
+
+/// Whether it has the symbol. If not, nothing is known.
+#[inline(always)]
+fn has(formula: &[Sym], symbol: Sym) -> bool
+    ensures { result ≡ true → is_member formula.now symbol ≡ true }
+{
+    for other in formula {
+        if other.number() == symbol.number() {
+            return true;
+        }
+    }
+    false
+}
+
+/// Whether some `$d` that stands shortly before the statement, and is active there, has both
+/// symbols. If not, nothing is known. What it costs is bounded, whatever the text.
+pub(crate) fn are_together_near<A: Allocator>(
+    database: &Database<A>,
+    statement: u32,
+    x: Sym,
+    y: Sym,
+) -> bool
+    requires { statement ≤ length database.now.statements }
+    ensures { result ≡ true
+        → list_any
+        (λ j. is_member (formula_at database.now.statements j) x
+        && is_member (formula_at database.now.statements j) y)
+        (active_of is_disjoint_statement database.now.statements statement)
+        ≡ true }
+{
+    let last = statement.saturating_sub(NEAR);
+    let mut left = statement;
+    while left > last {
+        left -= 1;
+        match database.kind(left) {
+            Kind::Disjoint => {
+                let formula = database.formula(left);
+                if formula.len() <= FEW
+                    && has(formula, x)
+                    && has(formula, y)
+                    && database.active_at(left, statement)
+                {
+                    return true;
+                }
+            }
+            Kind::Open | Kind::Close => return false,
+            _ => {}
+        }
+    }
+    false
+}
