@@ -155,7 +155,8 @@ fn lex_inner<A: Allocator + Copy>(
         (λ inner. AreReadings text.now (words_between text.now head tail) (side inner.outside)
         (side inner.inside)) }
 {
-    let mut outside = Row::new(alloc, Opened::Nowhere);
+    // There is at least a byte between two words.
+    let mut outside = Row::with_room(alloc, Opened::Nowhere, (tail - head) / 2 + 1);
     let mut inside = Row::new(alloc, Opened::Before);
     let mut blocks = Blocks::new(text, head);
     while inside.fault.is_none()

@@ -58,6 +58,19 @@ impl<A: Allocator + Copy> Row<A> {
         }
     }
 
+    /// No words yet, in a list with room for so many tokens, unless that much memory is refused: so
+    /// the list needn't be moved as it grows.
+    pub fn with_room(alloc: A, comment: Opened, room: usize) -> Row<A>
+        ensures { (p : ℕ) → seen p (side result) ≡ start (resolved p comment) }
+    {
+        let mut row = Row::new(alloc, comment);
+        match row.tokens.reserve(room) {
+            Ok(()) => {}
+            Err(_) => {}
+        }
+        row
+    }
+
     /// Reads one further word, of which it may be known that it is plain.
     #[inline(always)]
     pub fn read_word(&mut self, text: &[u8], word: Word, plain: bool) -> Result<(), AllocError>
