@@ -12,8 +12,10 @@ use Rattle.mm_board.specs.Events.{open_after_look, skipped_by_look, after_look, 
 use Rattle.mm_board.specs.Events.{open_or_zero, after_report, after_settle}
 use Rattle.mm_board.specs.Table.{MeetsRule, TokenState, StepTells, unchanged_view}
 use Rattle.mm_board.proofs.SumsLaw.{total_le, settles_le}
-use Rattle.mm_board.proofs.StepsLaw.{at_claim, at_floor, at_settled, count_is, claim_word, floor_word}
-use Rattle.mm_board.proofs.StepsLaw.{settled_word, glances, draws, draws_none, looks_open, looks_shut}
+use Rattle.mm_board.proofs.StepsLaw.{at_claim, at_floor, at_settled, count_is, claim_word}
+use Rattle.mm_board.proofs.StepsLaw.{floor_word}
+use Rattle.mm_board.proofs.StepsLaw.{settled_word, glances, draws, draws_none, looks_open}
+use Rattle.mm_board.proofs.StepsLaw.{looks_shut}
 use Rattle.mm_board.proofs.StepsLaw.{settling, reporting}
 
 looked_shut : (v : View) (f : ℕ) (o : Option ℕ) → v.open_number ≡ o → open_after_look o f ≡ o

@@ -39,7 +39,7 @@ any_pair f (q ∷ qs) h = by (f q) refl h (λ k. any_pair f qs k)
 -- ---- the variables after one, in the same statement
 
 -- those up to `at` have been looked at
-pub record Behind (had : List (ℕ × ℕ)) (place at : ℕ) (old now : List (ℕ × ℕ)) : Type 0 where
+pub record AddsLater (had : List (ℕ × ℕ)) (place at : ℕ) (old now : List (ℕ × ℕ)) : Type 0 where
   pub further : place < at
   pub within : at ≤ length had
   pub same : (p : ℕ) → place < p → p < at → (get_or had p (0, 0)).0 ≡ (get_or had place (0, 0)).0
@@ -59,7 +59,7 @@ module _ (had : List (ℕ × ℕ)) (rising : AreRising had) (place : ℕ)
   abbrev low : ℕ
   low = (get_or had place (0, 0)).1
 
-  pub after_start : (old : List (ℕ × ℕ)) → Behind had place (place + 1) old old
+  pub after_start : (old : List (ℕ × ℕ)) → AddsLater had place (place + 1) old old
   after_start old =
       record {
         further = omega arith;
@@ -70,9 +70,9 @@ module _ (had : List (ℕ × ℕ)) (rising : AreRising had) (place : ℕ)
         all = λ p l m. absurd (omega (arith, l, m));
       }
 
-  pub after_next : (at : ℕ) (old now : List (ℕ × ℕ)) → Behind had place at old now
+  pub after_next : (at : ℕ) (old now : List (ℕ × ℕ)) → AddsLater had place at old now
       → at < length had → (get_or had at (0, 0)).0 ≡ j
-      → Behind had place (at + 1) old (now ++ (low, (get_or had at (0, 0)).1) ∷ [])
+      → AddsLater had place (at + 1) old (now ++ (low, (get_or had at (0, 0)).1) ∷ [])
   after_next at old now b l s = record {
     further = let f = b.further in omega (arith, f);
     within = omega (arith, l);
@@ -131,7 +131,7 @@ module _ (had : List (ℕ × ℕ)) (rising : AreRising had) (place : ℕ)
           ∙ or-true (has_pair now low (get_or had p (0, 0)).1)
       all p h m (inr n) = longer low (get_or had p (0, 0)).1 (b.all p h (omega (arith, m, n)))
 
-  pub after_end : (at : ℕ) (old now : List (ℕ × ℕ)) → Behind had place at old now
+  pub after_end : (at : ℕ) (old now : List (ℕ × ℕ)) → AddsLater had place at old now
       → (at < length had → (get_or had at (0, 0)).0 ≢ j)
       → (x y : ℕ)
       → has_pair now x y

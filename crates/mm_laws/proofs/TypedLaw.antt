@@ -19,7 +19,8 @@ use Rattle.mm_spec.specs.Output.{LexedText, IsRead}
 use Rattle.mm_laws.specs.Laws.{WhereRead, IsTyping, VariablesAreTyped, is_in_frame}
 use Rattle.mm_laws.specs.Laws.{VariablesAreMandatory}
 use Rattle.mm_spec.proofs.LocalLaw.{scope_fault_front}
-use Rattle.mm_spec.proofs.FindsLaw.{any_flat_map, any_filter, member_filter, filter_member, found_at}
+use Rattle.mm_spec.proofs.FindsLaw.{any_flat_map, any_filter, member_filter, filter_member}
+use Rattle.mm_spec.proofs.FindsLaw.{found_at}
 use Rattle.mm_spec.proofs.FindsLaw.{at_found, found_active, active_found}
 use Rattle.mm_spec.proofs.FaultlessLaw.{has_formula}
 use Rattle.mm_spec.proofs.CompleteLaw.{Types, is_mandatory, is_mandatory_pair, mandatory_typed}

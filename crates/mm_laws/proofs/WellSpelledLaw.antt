@@ -28,7 +28,8 @@ use Rattle.mm_spec.proofs.FindsLaw.{same_word, is_before}
 use Rattle.mm_spec.proofs.FaultlessLaw.{nil_first, nil_second}
 use Rattle.mm_spec.proofs.LocalLaw.{scope_fault_front}
 use Rattle.mm_laws.proofs.SpellingLaw.{EndsItem, no_early, item_unique, group_number, early_digit}
-use Rattle.mm_laws.proofs.SpellingLaw.{nonempty, parts_of, bracketed_is, bytes_of, AreEarly, item_of}
+use Rattle.mm_laws.proofs.SpellingLaw.{nonempty, parts_of, bracketed_is, bytes_of, AreEarly}
+use Rattle.mm_laws.proofs.SpellingLaw.{item_of}
 use Rattle.mm_laws.proofs.SpellingLaw.{AreFine, groups_spell, letters_bytes, good_proof}
 use Rattle.mm_laws.proofs.SpelledStepsLaw.{count_append, usable_one, all_usable, own_faults}
 

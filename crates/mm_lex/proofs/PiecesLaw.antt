@@ -1,4 +1,4 @@
--- A row of words goes on: by one word, and by words whose readings are known.
+-- A list of words goes on: by one word, and by words whose readings are known.
 use Rattle.std.proofs.Common.{◌≡◌, ℕ, Bool, true, false, List, [], ◌∷◌, ◌++◌, length, Option, Some}
 use Rattle.std.proofs.Common.{None, MatchOption, is_some, refl, sym, ap, subst, ◌∙◌, append-nil}
 use Rattle.std.proofs.Common.{arith}
@@ -6,8 +6,8 @@ use Rattle.mm_spec.specs.declared.Word.{Word}
 use Rattle.mm_spec.specs.declared.Fault.{Fault}
 use Rattle.mm_spec.specs.declared.Role.{Role}
 use Rattle.mm_spec.specs.declared.Role.TheVariants as roles
-use Rattle.mm_lex.specs.declared.rows.Opened.{Opened}
-use Rattle.mm_lex.specs.declared.rows.Opened.TheVariants.{Nowhere, Before, At}
+use Rattle.mm_lex.specs.declared.modes.Opened.{Opened}
+use Rattle.mm_lex.specs.declared.modes.Opened.TheVariants.{Nowhere, Before, At}
 use Rattle.mm_spec.specs.Roles.{role_of, fault_of}
 use Rattle.mm_spec.specs.Readings.{Reading, reading, with_tokens, bytes_of}
 use Rattle.mm_spec.specs.Laws.Readings.{go_on, start}
@@ -185,7 +185,7 @@ pub go_on_done : (text : List ℕ) (all r : Reading) (vs : List Word) → all �
     → vs ≡ [] → all ≡ r
 go_on_done text all r vs e next = e ∙ ap (go_on text r) next ∙ go_on_nil text r
 
--- three rows of words, one after another
+-- three lists of words, one after another
 pub go_on_three : (text : List ℕ) (c : Option ℕ) (first mid last : Reading) (ws vs us : List Word)
     → reading text c ws ≡ first → mid ≡ go_on text first vs → last ≡ go_on text mid us →
     reading text c (ws ++ (vs ++ us)) ≡ last

@@ -1,12 +1,12 @@
 -- The parts of a piece as what they stand for.
 use Rattle.mm_lex.specs.Pieces.{Side, Between}
-use Rattle.mm_lex.specs.declared.rows.Opened.{Opened}
-use Rattle.mm_lex.specs.declared.rows.Opened.TheVariants.{Nowhere, Before, At}
-use Rattle.mm_lex.specs.declared.rows.Row.{Row}
+use Rattle.mm_lex.specs.declared.modes.Opened.{Opened}
+use Rattle.mm_lex.specs.declared.modes.Opened.TheVariants.{Nowhere, Before, At}
+use Rattle.mm_lex.specs.declared.modes.ModeReading.{ModeReading}
 use Rattle.mm_lex.specs.declared.pieces.Inner.{Inner}
 
-abbrev pub side : {A : Type 0} → Row A → Side
-side row = record { tokens = row.tokens.items; fault = row.fault; comment = row.comment }
+abbrev pub side : {A : Type 0} → ModeReading A → Side
+side mode = record { tokens = mode.tokens.items; fault = mode.fault; comment = mode.comment }
 
 abbrev pub between : {A : Type 0} → Inner A → Between
 between inner =
@@ -17,7 +17,7 @@ between inner =
       inside = side inner.inside;
     }
 
--- the comment that is open after a second row of words, where this one was open after the first
+-- the comment that is open after a second list of words, where this one was open after the first
 abbrev pub carried : Opened → Opened → Opened
 carried first Nowhere = Nowhere
 carried first Before = first

@@ -6,10 +6,10 @@ use Rattle.mm_spec.specs.Readings.{Reading, reading}
 use Rattle.mm_spec.specs.declared.Word.{Word}
 use Rattle.mm_spec.specs.declared.Fault.{Fault}
 use Rattle.mm_lex.specs.Stretches.{IsUnbroken, IsBroken}
-use Rattle.mm_lex.specs.declared.rows.Opened.{Opened}
-use Rattle.mm_lex.specs.declared.rows.Opened.TheVariants.{Nowhere, Before, At}
+use Rattle.mm_lex.specs.declared.modes.Opened.{Opened}
+use Rattle.mm_lex.specs.declared.modes.Opened.TheVariants.{Nowhere, Before, At}
 
--- A row of words read in one comment mode: its tokens before the faulty word, the fault of that,
+-- A list of words read in one comment mode: its tokens before the faulty word, the fault of that,
 -- and the comment that is open there, which began nowhere, before the words, or at a place among
 -- them.
 pub record Side : Type 0 where

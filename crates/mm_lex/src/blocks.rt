@@ -111,7 +111,7 @@ pub struct Blocks<'a> {
 
 /// A word. Where it is `plain`, it is known to have printable bytes alone, and no `$`.
 #[derive(Clone, Copy)]
-pub struct Found {
+pub struct FoundWord {
     pub word: Word,
     pub plain: bool,
 }
@@ -166,7 +166,7 @@ impl<'a> Blocks<'a> {
 
     /// The word that begins at `start` in the block at hand, the last one whose beginning was
     /// taken; and the blocks from its end on.
-    fn word_from(self, start: usize) -> (Blocks<'a>, Found)
+    fn word_from(self, start: usize) -> (Blocks<'a>, FoundWord)
         requires from { self.from ≡ start + 1 }
         requires low { self.base ≤ start }
         requires within { start < length self.text.now }
@@ -200,7 +200,7 @@ impl<'a> Blocks<'a> {
             start: start as u32,
             end: end as u32,
         };
-        (blocks, Found { word, plain })
+        (blocks, FoundWord { word, plain })
     }
 
     /// The first further place before `to` at which a word begins; it is taken.
@@ -238,7 +238,7 @@ impl<'a> Blocks<'a> {
 
     /// The first further word that begins before `to`.
     #[inline(always)]
-    pub fn next_word(&mut self, to: usize) -> Option<Found>
+    pub fn next_word(&mut self, to: usize) -> Option<FoundWord>
         requires within { to ≤ length self.old.text.now }
         requires short { length self.old.text.now ≤ TEXT_LIMIT }
         ensures text { self.new.text.now ≡ self.old.text.now }
@@ -259,7 +259,7 @@ impl<'a> Blocks<'a> {
                 start: start as u32,
                 end: (self.base + stop) as u32,
             };
-            return Some(Found { word, plain: true });
+            return Some(FoundWord { word, plain: true });
         }
         let (blocks, found) = self.word_from(start);
         *self = blocks;

@@ -11,9 +11,9 @@ mod bytes;
 mod cuts;
 mod ends;
 mod masks;
+mod modes;
 mod pieces;
 mod roles;
-mod rows;
 mod runs;
 
 use crate::runs::read_text;

@@ -12,7 +12,7 @@ ghost use Rattle.mm_spec.specs.Words.{words_between};
 
 use crate::blocks::Blocks;
 use crate::ends::bounds;
-use crate::rows::{Opened, Row};
+use crate::modes::{ModeReading, Opened};
 use crate::{Code, Fault, Lexed, TEXT_LIMIT, Word};
 use std::alloc::{AllocError, Allocator};
 use std::marker::Model;
@@ -22,8 +22,8 @@ use std::marker::Model;
 pub struct Inner<A: Allocator> {
     pub head: u32,
     pub tail: u32,
-    pub outside: Row<A>,
-    pub inside: Row<A>,
+    pub outside: ModeReading<A>,
+    pub inside: ModeReading<A>,
 }
 
 /// What a stretch of a text tells by itself. Its head goes up to its first white byte, its tail
@@ -95,7 +95,7 @@ impl<A: Allocator> Piece<A> {
     {
         match &self.inner {
             None => &[],
-            Some(inner) => inner.row(inside).tokens.as_slice(),
+            Some(inner) => inner.reading(inside).tokens.as_slice(),
         }
     }
 
@@ -106,7 +106,7 @@ impl<A: Allocator> Piece<A> {
     {
         self.inner
             .as_ref()
-            .and_then(|inner| inner.row(inside).fault)
+            .and_then(|inner| inner.reading(inside).fault)
     }
 
     /// The first reading of the summary of a whole text.
@@ -120,19 +120,19 @@ impl<A: Allocator> Piece<A> {
     {
         // The contract alone speaks of it.
         let _ = text;
-        let row = match self.inner {
+        let reading = match self.inner {
             Some(inner) => inner.outside,
             None => unreachable!("a stretch that begins the text isn't unbroken"),
         };
         Lexed {
-            tokens: row.tokens,
-            fault: fault_of(row.fault, row.comment),
+            tokens: reading.tokens,
+            fault: fault_of(reading.fault, reading.comment),
         }
     }
 }
 
 impl<A: Allocator> Inner<A> {
-    fn row(&self, inside: bool) -> &Row<A>
+    fn reading(&self, inside: bool) -> &ModeReading<A>
         ensures { result.now ≡ (if inside then self.now.inside else self.now.outside) }
     {
         if inside { &self.inside } else { &self.outside }
@@ -156,8 +156,8 @@ fn lex_inner<A: Allocator + Copy>(
         (side inner.inside)) }
 {
     // There is at least a byte between two words.
-    let mut outside = Row::with_room(alloc, Opened::Nowhere, (tail - head) / 2 + 1);
-    let mut inside = Row::new(alloc, Opened::Before);
+    let mut outside = ModeReading::with_room(alloc, Opened::Nowhere, (tail - head) / 2 + 1);
+    let mut inside = ModeReading::new(alloc, Opened::Before);
     let mut blocks = Blocks::new(text, head);
     while inside.fault.is_none()
         && let Some(found) = blocks.next_word(tail)

@@ -92,7 +92,8 @@ module _ (text : List ℕ) (ws : List Word) (d from i : ℕ) (part : Part) where
       → Leads (start d) (tokens_from text ws from) (s ∷ []) (start n) (tokens_from text ws (i + 1))
   goes_done g h s n e =
       leads_then g
-      (subst (λ us. Leads (reading text ws d part i) us (s ∷ []) (start n) (tokens_from text ws (i + 1)))
+      (subst (λ us. Leads (reading text ws d part i) us (s ∷ []) (start n)
+      (tokens_from text ws (i + 1)))
       (sym (tokens_from_one text ws i h)) (leads_done e))
 
   pub goes_stop : Goes text ws d from part i → i < length ws → Turned table.stop → (f : Fault)

@@ -58,18 +58,21 @@ module _ (text : List ℕ) (ws : List Word) (d : ℕ) where
       (tokens_from text ws (i + n))
   passed part zero i t p h e =
       let z : i ≡ i + zero = omega arith in
-      subst (λ k. Leads (reading text ws d part i) (tokens_from text ws i) [] (reading text ws d part k)
+      subst (λ k. Leads (reading text ws d part i) (tokens_from text ws i) []
+      (reading text ws d part k)
       (tokens_from text ws k)) z (leads_none _ _)
   passed part (suc n) i t p h e =
       let there : i < length ws = omega (arith, h) in
-      let first : Leads (reading text ws d part i) (token_at text ws i ∷ tokens_from text ws (i + 1)) []
+      let first : Leads (reading text ws d part i)
+      (token_at text ws i ∷ tokens_from text ws (i + 1)) []
       (reading text ws d part (i + 1)) (tokens_from text ws (i + 1)) = leads_go
       (one part i t p there (e i (omega arith) (omega arith))) in
       let rest =
       passed part n (i + 1) t (part_later part i (i + 1) t (omega arith) p) (omega (arith, h))
       (λ k a b. e k (omega (arith, a)) (omega (arith, b))) in
       let z : (i + 1) + n ≡ i + suc n = omega arith in
-      subst (λ k. Leads (reading text ws d part i) (tokens_from text ws i) [] (reading text ws d part k)
+      subst (λ k. Leads (reading text ws d part i) (tokens_from text ws i) []
+      (reading text ws d part k)
       (tokens_from text ws k)) z
       (leads_then
       (subst (λ us. Leads (reading text ws d part i) us [] (reading text ws d part (i + 1))
@@ -81,6 +84,7 @@ module _ (text : List ℕ) (ws : List Word) (d : ℕ) where
       (tokens_from text ws j)
   passed_upto part i j t p h l e =
       let z : i + (j - i) ≡ j = omega arith in
-      subst (λ k. Leads (reading text ws d part i) (tokens_from text ws i) [] (reading text ws d part k)
+      subst (λ k. Leads (reading text ws d part i) (tokens_from text ws i) []
+      (reading text ws d part k)
       (tokens_from text ws k)) z
       (passed part (j - i) i t p (omega (arith, l, h)) (λ k a b. e k a (omega (arith, b, h))))

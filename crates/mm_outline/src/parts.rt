@@ -3,7 +3,8 @@
 ghost use Rattle.std.specs.Prelude.{◌≡◌, ◌<◌, ◌≤◌, ◌^◌, ℕ, [], length, slice_range, All, false};
 ghost use Rattle.mm_spec.specs.Text.{fault, has_dollar, is_label as spec_is_label};
 ghost use Rattle.mm_spec.specs.Statement.{shape_code};
-ghost use Rattle.mm_outline.specs.NextStatement.{IsNextStatement, Leads, tokens_from, is_start as spec_is_start};
+ghost use Rattle.mm_outline.specs.NextStatement.{IsNextStatement, Leads, tokens_from};
+ghost use Rattle.mm_outline.specs.NextStatement.{is_start as spec_is_start};
 ghost use Rattle.mm_spec.specs.Laws.Table.{class, turn as spec_turn};
 ghost use Rattle.mm_outline.specs.Parts.{IsPart, Holds, AreWithin, reading, token_at, turn_of};
 ghost use Rattle.mm_outline.specs.Parts.{step_of, single_of, AtStart};

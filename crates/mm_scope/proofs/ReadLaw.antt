@@ -45,7 +45,8 @@ module _ (text : List ℕ) (ws : List Word) (len : ℕ) (lexical : Option Fault)
 
   -- an unlawful statement
   pub read_unlawful : (s : Statement) (d : ℕ) (us : List _)
-      → Leads (start deep) (tokens_from text ws at) (s ∷ []) (start d) us → (f : Option Fault) → f ≢ None
+      → Leads (start deep) (tokens_from text ws at) (s ∷ []) (start d) us → (f : Option Fault) → f
+      ≢ None
       → f ≡ least (scope_faults (names_before db (length db)) deep s)
       → IsRead len (lexed text ws lexical) db f
   read_unlawful s d us l f ne e =

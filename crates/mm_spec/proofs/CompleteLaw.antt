@@ -25,7 +25,8 @@ use Rattle.mm_spec.proofs.FindsLaw.{any_flat_map, any_map, any_filter, member_fi
 use Rattle.mm_spec.proofs.FindsLaw.{filter_member, each_member, each_map, each_any, each_filter}
 use Rattle.mm_spec.proofs.FindsLaw.{inside_of, formula_at_is, found_at, at_found, found_active}
 use Rattle.mm_spec.proofs.FindsLaw.{active_found, same_word, declared, declares, declared_before}
-use Rattle.mm_spec.proofs.FaultlessLaw.{least_none, no_kind, new_constant, new_variable, has_formula}
+use Rattle.mm_spec.proofs.FaultlessLaw.{least_none, no_kind, new_constant, new_variable}
+use Rattle.mm_spec.proofs.FaultlessLaw.{has_formula}
 use Rattle.mm_spec.proofs.FaultlessLaw.{IsKnown, statement_known, floating_typing, typing_floats}
 use Rattle.mm_spec.proofs.FaultlessLaw.{variable_word, member_word, floating_local, essential_local}
 use Rattle.mm_spec.proofs.FaultlessLaw.{still}

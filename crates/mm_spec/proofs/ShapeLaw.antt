@@ -17,8 +17,10 @@ use Rattle.mm_spec.specs.Laws.Table.{plain, other, Entry, table, lookup, keyword
 use Rattle.mm_spec.specs.Statement.{Statement, constants, variables, disjoint, floating, essential}
 use Rattle.mm_spec.specs.Statement.{axiomatic, provable, opening, closing, spelled, is_plain}
 use Rattle.mm_spec.specs.Statement.{is_whole, is_opening, is_closing, IsRow, Begins}
-use Rattle.mm_spec.proofs.FollowedLaw.{State, at_label, at_start, begins_followed, depth_following, counted}
-use Rattle.mm_spec.proofs.FollowedLaw.{follow, in_formula, in_proof, in_symbols, label_at_start, next}
+use Rattle.mm_spec.proofs.FollowedLaw.{State, at_label, at_start, begins_followed, depth_following}
+use Rattle.mm_spec.proofs.FollowedLaw.{counted}
+use Rattle.mm_spec.proofs.FollowedLaw.{follow, in_formula, in_proof, in_symbols, label_at_start}
+use Rattle.mm_spec.proofs.FollowedLaw.{next}
 
 -- ---- what is followed begins a row
 

@@ -34,7 +34,8 @@ module _ (names : Names) where
   -- A symbol of `$c` is neither a constant nor a variable before (E13), and no label (E14).
   abbrev pub constant_codes : List Bytes → Bytes → List Code
   constant_codes earlier w =
-      when (is_in w names.constants || is_in w names.all_variables || is_in w earlier) DeclaredBefore
+      when (is_in w names.constants || is_in w names.all_variables || is_in w earlier)
+      DeclaredBefore
       ++ when (is_in w names.labels) LabelIsSymbol
 
   -- A symbol of `$v` is neither a constant nor an active variable (E13), and no label (E14).
@@ -81,7 +82,8 @@ module _ (names : Names) where
   is_typed_otherwise c v =
       list_any (λ t. bytes_eq v t.variable && not (bytes_eq c t.typecode)) names.all_typings
 
-  -- A `$f` has a constant and an active variable (E19), which has no active `$f` (E20) and no earlier
+  -- A `$f` has a constant and an active variable (E19), which has no active `$f` (E20) and no
+  -- earlier
   -- one with another typecode (E21).
   abbrev pub floating_faults : ℕ → List Token → List Fault
   floating_faults keyword (c ∷ v ∷ []) =
@@ -93,7 +95,8 @@ module _ (names : Names) where
       ]
   floating_faults keyword _ = fault keyword BadFloating ∷ []
 
-  -- All faults of a statement, by how many blocks are open before it. A `$c` stands in no block (E11),
+  -- All faults of a statement, by how many blocks are open before it. A `$c` stands in no block
+  -- (E11),
   -- `$c` and `$v` declare something (E12), and a `$d` has two symbols or more (E23).
   abbrev pub scope_faults : ℕ → Statement → List Fault
   scope_faults deep (constants k xs d) =

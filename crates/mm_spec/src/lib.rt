@@ -2,7 +2,8 @@
 //! Appendix B on compressed proofs): the definitions of words, tokens, statements, proofs, faults,
 //! citations, reports and the end of a run, in `specs/`, on which every other crate stands, and the
 //! plain types that go with them. There is no code here but the numbers of codes and the bytes of a
-//! word. What a reader has to believe is the folder `specs/` without `specs/Laws`; the laws that the
+//! word. What a reader has to believe is the folder `specs/` without `specs/Laws`; the laws that
+//! the
 //! definitions obey are in the crate `mm_laws`.
 #![tactic(auto)]
 

@@ -121,7 +121,8 @@ module _ (w : Bool) (db : List Statement) where
           ≡ list_any is_assertion (statement_at db k)
       same k = counted_any w db is_assertion (λ l k xs e ps d. refl) k
 
-  pub members_held : (b : Lists) (ps : List (ℕ × ℕ)) (skips : List ℕ) → IsDisjointIndex db b ps skips
+  pub members_held : (b : Lists) (ps : List (ℕ × ℕ)) (skips : List ℕ) → IsDisjointIndex db b ps
+      skips
       → IsDisjointIndex held_db b ps skips
   members_held b ps skips h = record {
     are =

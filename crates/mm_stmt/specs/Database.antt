@@ -138,7 +138,8 @@ pub record IsDatabase (text : List ℕ) (ws : List Word) (os : List Outline) (wi
       (formula_at (held text ws os with_open) k)
   pub numbered : AreNumbered (held text ws os with_open) f.numbers f.places
   pub frames : AreFrames (held text ws os with_open) f.frame_places f.hyps f.pairs
-  pub disjoint_index_is : IsDisjointIndex (held text ws os with_open) f.blocks f.disjoint_index f.skips
+  pub disjoint_index_is : IsDisjointIndex (held text ws os with_open) f.blocks f.disjoint_index
+      f.skips
   pub kinds_are : f.kinds ≡ map kind_of (held text ws os with_open)
   pub theorems_are : f.theorems ≡ theorems (held text ws os with_open)
   pub axioms_are : f.axioms ≡ columns (held text ws os with_open) None

@@ -19,7 +19,8 @@ returns g c = ok_then c.symbols_of.result c.symbols_of.ensures (λ v e.
     let ps = c.args.disjoint_index.now.pairs.items in
     let found = c.args.found.now in
     e ∙ ap (map (λ p. pair p.0 p.1)) c.deref-2.ensures.value
-    ∙ pairs_are db b c.requires.blocks k h ps c.requires.disjoint_index.are found c.sort_and_dedup.new.pairs.items
+    ∙ pairs_are db b c.requires.blocks k h ps c.requires.disjoint_index.are found
+    c.sort_and_dedup.new.pairs.items
     c.requires.found
     (λ j y. c.sort_and_dedup.ensures.same j y ∙ c.in_ok-add_all_active.ensures j y
     ∙ ap (λ (xs : List (ℕ × ℕ)). has_pair xs j y

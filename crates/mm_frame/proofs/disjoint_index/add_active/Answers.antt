@@ -4,7 +4,8 @@ use Rattle.mm_outline.specs.Blocks.{lists, end_of}
 use Rattle.mm_frame.specs.Pairs.{is_before}
 use Rattle.mm_frame.proofs.DisjointIndexLaw.{added_open, added_closed, added_end}
 use Rattle.mm_frame.proofs.disjoint_index.add_active.Goals as goal
-use Rattle.mm_frame.proofs.disjoint_index.add_active.Goals.{then-is_open_at+in_ok-push, else-is_open_at}
+use Rattle.mm_frame.proofs.disjoint_index.add_active.Goals.{then-is_open_at+in_ok-push}
+use Rattle.mm_frame.proofs.disjoint_index.add_active.Goals.{else-is_open_at}
 
 pub loop-pairs-preserved : goal.loop-pairs-preserved
 loop-pairs-preserved g c =

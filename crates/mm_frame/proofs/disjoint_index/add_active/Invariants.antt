@@ -6,7 +6,8 @@ use Rattle.mm_frame.proofs.disjoint_index.add_active.Given as goal
 abbrev pub invariant-loop-pairs : goal.invariant-loop-pairs
 invariant-loop-pairs g l =
     (l.left ≤ length l.disjoint_index.pairs.items)
-    × Added (lists l.blocks.of.items l.blocks.ends.items l.blocks.open.items) l.disjoint_index.pairs.items
+    × Added (lists l.blocks.of.items l.blocks.ends.items l.blocks.open.items)
+    l.disjoint_index.pairs.items
     l.fn.symbol l.fn.at l.initial.left l.left l.initial.into.items l.into.items
 
 abbrev pub decreases-loop-pairs : goal.decreases-loop-pairs

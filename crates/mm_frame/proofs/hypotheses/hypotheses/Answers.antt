@@ -22,7 +22,8 @@ returns-clause-hyps g c =
     let h = c.requires.assertion in
     let l : k ≤ length db = omega (arith, h) in
     hypotheses_are db k c.requires.sound l ts c.requires.typed c.mandatory.new.found.items
-    c.in_ok-mandatory.ensures.found c.active_essentials.new.into.items c.sort_and_dedup.new.numbers.items
+    c.in_ok-mandatory.ensures.found c.active_essentials.new.into.items
+    c.sort_and_dedup.new.numbers.items
     c.in_ok-active_essentials.ensures c.sort_and_dedup.ensures.rising
     (λ j. c.sort_and_dedup.ensures.same j ∙ c.in_ok-add_floats.ensures j
     ∙ ap (λ xs. is_member c.active_essentials.new.into.items j

@@ -13,5 +13,6 @@ returns-clause-rising g c =
 
 pub returns-clause-same : goal.returns-clause-same
 returns-clause-same g c =
-    sort_and_dedup_same c.args.numbers.now.items c.sort_unstable.new.self.items c.dedup.new.self.items
+    sort_and_dedup_same c.args.numbers.now.items c.sort_unstable.new.self.items
+    c.dedup.new.self.items
     c.sort_unstable.ensures.permutation (dedup_is nat_eq _ _ c.dedup.ensures.filtered)

@@ -6,7 +6,7 @@ use Rattle.mm_lex.specs.Pieces.{seen}
 use Rattle.mm_lex.specs.Inners.{side}
 use Rattle.mm_lex.proofs.pieces.lex_inner.Given as goal
 
--- What all words give is what the rows have read, and go on to with the words from here on.
+-- What all words give is what the two readings have read, and go on to with the words from here on.
 abbrev pub invariant-loop-blocks : goal.invariant-loop-blocks
 invariant-loop-blocks g l = record {
   same : l.blocks.text.now ≡ l.text;
@@ -21,7 +21,7 @@ invariant-loop-blocks g l = record {
 abbrev pub decreases-loop-blocks : goal.decreases-loop-blocks
 decreases-loop-blocks g l = length l.text + 64 - l.blocks.from
 
--- The row inside a comment has read what all words give.
+-- The reading inside a comment has read what all words give.
 abbrev pub invariant-loop-found : goal.invariant-loop-found
 invariant-loop-found g l = record {
   same : l.blocks.text.now ≡ l.text;

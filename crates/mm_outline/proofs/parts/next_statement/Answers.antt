@@ -2,7 +2,8 @@ use Rattle.std.proofs.Common.{◌≡◌, sym, subst, arith, length, ◌+◌, ◌
 use Rattle.mm_spec.specs.Laws.Table.{start}
 use Rattle.mm_outline.specs.Parts.{reading, statement_of, depth_after}
 use Rattle.mm_outline.specs.NextStatement.{tokens_from, Leads}
-use Rattle.mm_outline.proofs.LeadsLaw.{leads_none, leads_then, goes_go, goes_done, goes_stop, goes_end}
+use Rattle.mm_outline.proofs.LeadsLaw.{leads_none, leads_then, goes_go, goes_done, goes_stop}
+use Rattle.mm_outline.proofs.LeadsLaw.{goes_end}
 use Rattle.mm_outline.proofs.parts.next_statement.Goals as goal
 
 pub loop-at-init : goal.loop-at-init
@@ -11,7 +12,8 @@ loop-at-init c =
       part = tt;
       later = omega arith;
       within = c.requires.inside;
-      leads = leads_none (start c.args.deep) (tokens_from c.args.text.now c.args.tokens.now c.args.from);
+      leads = leads_none (start c.args.deep) (tokens_from c.args.text.now c.args.tokens.now
+          c.args.from);
     }
 
 pub loop-at-preserved : goal.loop-at-preserved
@@ -60,7 +62,8 @@ returns-in-Done c =
         later = omega (arith, end, later);
         within = omega (arith, end, test);
         leads = subst
-            (λ k. Leads (start c.args.deep) (tokens_from c.args.text.now c.args.tokens.now c.args.from)
+            (λ k. Leads (start c.args.deep) (tokens_from c.args.text.now c.args.tokens.now
+            c.args.from)
             (statement_of c.args.text.now c.args.tokens.now o ∷ [])
             (start (depth_after o.kind c.args.deep))
             (tokens_from c.args.text.now c.args.tokens.now (k + 1))) (sym end) l;

@@ -27,7 +27,8 @@ take-requires-clause-next g c =
     let one = statement_of text ws o in
     let r = s.invariant.reading in
     let ts = as_tokens text ws in
-    let more = statements_from (start (depth_after o.kind s.deep)) (tokens_from text ws (o.end + 1)) in
+    let more = statements_from (start (depth_after o.kind s.deep))
+    (tokens_from text ws (o.end + 1)) in
     let row : statements_of ts ≡ (db ++ one ∷ []) ++ more =
     r.leads.statements ∙ ap (λ y. db ++ y) c.in-Whole.ensures.1.leads.statements
     ∙ sym (append_assoc db (one ∷ []) more) in

@@ -197,7 +197,8 @@ invariant_of-result g c =
           c.in_ok-variables.ensures.count c.in_ok-variables.ensures.each));
       numbered = numbered_held w db _ _ (rw (sym same) (formulas_numbered _ _ _ kept.formulas));
       frames = frames_held w db _ _ _ (rw (sym tables) c.in_ok-beside.ensures.frames);
-      disjoint_index_is = members_held w db _ _ _ (rw (sym tables) c.in_ok-beside.ensures.disjoint_index);
+      disjoint_index_is = members_held w db _ _ _ (rw (sym tables)
+          c.in_ok-beside.ensures.disjoint_index);
       kinds_are = kinds;
       theorems_are = listed;
       axioms_are =

@@ -6,7 +6,8 @@ use Rattle.mm_scope.specs.WordEntry.{entry_after}
 use Rattle.mm_scope.proofs.TypedLaw.{typed_not, typed_now}
 use Rattle.mm_scope.proofs.names.Scope.add_names.Goals as goal
 
-pub returns-in_ok-give_type-in-Floating-clause-symbols : goal.returns-in_ok-give_type-in-Floating-clause-symbols
+pub returns-in_ok-give_type-in-Floating-clause-symbols :
+    goal.returns-in_ok-give_type-in-Floating-clause-symbols
 returns-in_ok-give_type-in-Floating-clause-symbols g c = λ w.
     let text = c.args.text.now in
     let ws = c.args.tokens.now in

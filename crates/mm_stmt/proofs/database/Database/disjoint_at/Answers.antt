@@ -27,7 +27,8 @@ returns-else-are_together_near g c =
     (together_is db b
     (blocks_held f.with_open
     (statements f.text.now (words_of f.text.now) f.outlines.items) b c.self.invariant.blocks) k
-    within f.disjoint_index.pairs.items c.self.invariant.disjoint_index_is.are c.are_together.result x y
+    within f.disjoint_index.pairs.items c.self.invariant.disjoint_index_is.are
+    c.are_together.result x y
     c.are_together.ensures.found c.are_together.ensures.none
     ∙ sym (ap
     (λ t. not t

@@ -38,7 +38,8 @@ returns g c =
     let frame = frames.each k there in
     record {
       hypotheses =
-          subst (λ (n : Contents). x.hyps.items ≡ mandatory_hypotheses n.statements k) c.self.view_is
+          subst (λ (n : Contents). x.hyps.items ≡ mandatory_hypotheses n.statements k)
+          c.self.view_is
           (ap (λ y. y.hyps.items) at ∙ sym hyps ∙ frame.hypotheses is);
       pairs =
           subst (λ (n : Contents). map (λ p. pair p.0 p.1) x.pairs.items

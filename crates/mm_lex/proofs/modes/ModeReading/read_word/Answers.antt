@@ -4,7 +4,7 @@ use Rattle.mm_lex.specs.Pieces.{seen}
 use Rattle.mm_lex.specs.Inners.{side}
 use Rattle.mm_lex.proofs.PiecesLaw.{none_from, go_on_token, go_on_opening, go_on_closing}
 use Rattle.mm_lex.proofs.PiecesLaw.{go_on_comment, go_on_faulty}
-use Rattle.mm_lex.proofs.rows.Row.read_word.Goals as goal
+use Rattle.mm_lex.proofs.modes.ModeReading.read_word.Goals as goal
 
 pub returns-in_ok-push-in-Token : goal.returns-in_ok-push-in-Token
 returns-in_ok-push-in-Token g c p =

@@ -1,4 +1,4 @@
-//! Rows of words, each read in one comment mode.
+//! Lists of words, each read in one comment mode.
 
 ghost use Rattle.std.specs.Prelude.{◌≡◌, ◌<◌, ◌≤◌, ◌+◌, ℕ, List, [], ◌∷◌, ◌++◌, length, OnOk};
 ghost use Rattle.std.specs.Prelude.{is_some, true};
@@ -13,7 +13,7 @@ use crate::{Fault, TEXT_LIMIT, Word};
 use mm_spec::Role;
 use std::alloc::{AllocError, Allocator};
 
-/// The comment that is open after a row of words: one that began before them, or in them.
+/// The comment that is open after a list of words: one that began before them, or in them.
 #[derive(Clone, Copy, Debug, PartialEq, Eq)]
 pub enum Opened {
     Nowhere,
@@ -39,19 +39,19 @@ impl Opened {
     }
 }
 
-/// A row of words that was read in one comment mode.
+/// A list of words that was read in one comment mode.
 #[derive(Drop)]
-pub struct Row<A: Allocator> {
+pub struct ModeReading<A: Allocator> {
     pub tokens: Vec<Word, A>,
     pub fault: Option<Fault>,
     pub comment: Opened,
 }
 
-impl<A: Allocator + Copy> Row<A> {
-    pub fn new(alloc: A, comment: Opened) -> Row<A>
+impl<A: Allocator + Copy> ModeReading<A> {
+    pub fn new(alloc: A, comment: Opened) -> ModeReading<A>
         ensures { (p : ℕ) → seen p (side result) ≡ start (resolved p comment) }
     {
-        Row {
+        ModeReading {
             tokens: Vec::new(alloc),
             fault: None,
             comment,
@@ -60,15 +60,15 @@ impl<A: Allocator + Copy> Row<A> {
 
     /// No words yet, in a list with room for so many tokens, unless that much memory is refused: so
     /// the list needn't be moved as it grows.
-    pub fn with_room(alloc: A, comment: Opened, room: usize) -> Row<A>
+    pub fn with_room(alloc: A, comment: Opened, room: usize) -> ModeReading<A>
         ensures { (p : ℕ) → seen p (side result) ≡ start (resolved p comment) }
     {
-        let mut row = Row::new(alloc, comment);
-        match row.tokens.reserve(room) {
+        let mut reading = ModeReading::new(alloc, comment);
+        match reading.tokens.reserve(room) {
             Ok(()) => {}
             Err(_) => {}
         }
-        row
+        reading
     }
 
     /// Reads one further word, of which it may be known that it is plain.
@@ -98,7 +98,11 @@ impl<A: Allocator + Copy> Row<A> {
     }
 
     /// Reads further words, whose readings in both modes are known.
-    pub fn read_all(&mut self, outside: &Row<A>, inside: &Row<A>) -> Result<(), AllocError>
+    pub fn read_all(
+        &mut self,
+        outside: &ModeReading<A>,
+        inside: &ModeReading<A>,
+    ) -> Result<(), AllocError>
         ensures { OnOk result
             ((text : List ℕ) (ws : List Word)
             → AreReadings text ws (side outside.now) (side inside.now) →
