@@ -3,9 +3,8 @@
 //! tokens; and it knows the blocks in which statements stand. It promises that what it finds is the
 //! one longest row of whole statements, or what stops it there
 //! (`Rattle.mm_outline.specs.NextStatement.IsNextStatement`), and that a block's end tells whether
-//! a statement in
-//! it is still active (`Rattle.mm_outline.specs.Blocks.IsBlocks`). Whether a statement is lawful is
-//! not its concern.
+//! a statement in it is still active (`Rattle.mm_outline.specs.Blocks.IsBlocks`). Whether a
+//! statement is lawful is not its concern.
 #![tactic(auto)]
 
 pub mod blocks;

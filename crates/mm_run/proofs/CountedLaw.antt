@@ -12,7 +12,7 @@ use Rattle.mm_stmt.specs.Database.{Contents}
 use Rattle.mm_report.specs.Rows.{open_theorems}
 use Rattle.mm_run.specs.Counted.{IsCounted}
 
-told : (d : Known) (w : Bool) (only : Option Bytes) (axioms : List ℕ) → IsCounted w d
+told : (d : Contents) (w : Bool) (only : Option Bytes) (axioms : List ℕ) → IsCounted w d
     → axioms ≡ columns d.statements only
     → open_theorems w d axioms
     ≡ (if w then Some
@@ -24,7 +24,7 @@ told d true only axioms h is =
     ∙ ap (λ db. columns db only) h.statements)
 told d false only axioms h is = refl
 
-pub written : (text : List ℕ) (request : Request) (d : Known) (axioms bytes : List ℕ)
+pub written : (text : List ℕ) (request : Request) (d : Contents) (axioms bytes : List ℕ)
     → IsCounted request.with_open d
     → HasNoFault (length text) (lexed_of text) request.with_open d.read
     → axioms ≡ columns d.statements request.only

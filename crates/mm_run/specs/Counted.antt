@@ -3,6 +3,6 @@ use Rattle.std.specs.Prelude.{◌≡◌, Bool}
 use Rattle.mm_spec.specs.Opened.{counted}
 use Rattle.mm_stmt.specs.Database.{Contents}
 
-pub record IsCounted (with_open : Bool) (d : Known) : Type 0 where
+pub record IsCounted (with_open : Bool) (d : Contents) : Type 0 where
   pub flag : d.with_open ≡ with_open
   pub statements : d.statements ≡ counted with_open d.read

@@ -353,8 +353,7 @@ found_known w es o h k =
     sym (keys_in w (keys_of es)) ∙ sym (is_some-lookup (λ (k : Bor Bytes). bytes_eq w k.now) es)
     ∙ ap is_some h ∙ k
 
--- ---- a statement's symbols, those of a formula as they are judged, the others once they are
--- declared
+-- ---- a statement's symbols: those of a formula as they are judged, the others once declared
 
 pub formula_split : (db : List Statement) (s : Statement)
     → judged (symbol_names db) s ++ unjudged (symbol_names (db ++ s ∷ [])) s

@@ -83,8 +83,7 @@ module _ (names : Names) where
       list_any (λ t. bytes_eq v t.variable && not (bytes_eq c t.typecode)) names.all_typings
 
   -- A `$f` has a constant and an active variable (E19), which has no active `$f` (E20) and no
-  -- earlier
-  -- one with another typecode (E21).
+  -- earlier one with another typecode (E21).
   abbrev pub floating_faults : ℕ → List Token → List Fault
   floating_faults keyword (c ∷ v ∷ []) =
       elim (is_in c.word names.constants && is_in v.word names.active_variables) [
@@ -96,8 +95,7 @@ module _ (names : Names) where
   floating_faults keyword _ = fault keyword BadFloating ∷ []
 
   -- All faults of a statement, by how many blocks are open before it. A `$c` stands in no block
-  -- (E11),
-  -- `$c` and `$v` declare something (E12), and a `$d` has two symbols or more (E23).
+  -- (E11), `$c` and `$v` declare something (E12), and a `$d` has two symbols or more (E23).
   abbrev pub scope_faults : ℕ → Statement → List Fault
   scope_faults deep (constants k xs d) =
       at k (when (nat_lt 0 deep) ConstantInBlock) ++ at d (when (is_empty xs) EmptyDeclaration)

@@ -92,8 +92,7 @@ abbrev pub IsBetween : List Token → Type 0
 IsBetween ts = (row : List Statement) × IsRow row × (flat_map spelled row ≡ ts)
 
 -- What a token is that no row goes on with. Where a statement begins: a `$}` too many (E09),
--- another
--- keyword (E07), or a word that is no label (E06).
+-- another keyword (E07), or a word that is no label (E06).
 abbrev pub first_code : Bytes → Code
 first_code w =
     if bytes_eq w (codes "$}") then UnopenedBlock

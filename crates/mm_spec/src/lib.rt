@@ -3,8 +3,7 @@
 //! citations, reports and the end of a run, in `specs/`, on which every other crate stands, and the
 //! plain types that go with them. There is no code here but the numbers of codes and the bytes of a
 //! word. What a reader has to believe is the folder `specs/` without `specs/Laws`; the laws that
-//! the
-//! definitions obey are in the crate `mm_laws`.
+//! the definitions obey are in the crate `mm_laws`.
 #![tactic(auto)]
 
 mod bytes;

@@ -116,9 +116,8 @@ fn check<'a, A: Allocator + Copy>(
     false
 }
 
-/// Settles or reports the theorem that the seat has drawn: looks whether it is still wanted, and
-/// if so checks
-/// its proof, and then settles or reports it.
+/// Looks whether the theorem that the seat has drawn is still wanted, and if so checks its proof,
+/// and then settles or reports it.
 fn settle_drawn<'a, A: Allocator + Copy>(
     alloc: A,
     database: &Database<'a, A>,
