@@ -50,7 +50,8 @@ impl<'a> Model for Rule<'a> {
 
     ghost Value = { Compiled };
 
-    ghost view = { λ r. compiled r.assertion r.hypotheses.now r.pairs.now r.parts.now r.formula.now };
+    ghost view = { λ r. compiled r.assertion r.hypotheses.now r.pairs.now r.parts.now
+        r.formula.now };
 }
 
 impl<'a> Rule<'a> {

@@ -165,7 +165,8 @@ impl<A: Allocator> Rules<A> {
     pub fn rule(&self, _db: &Database<A>, n: usize) -> Rule<'_>
         requires rules { AreRules _db.now.statements self.now }
         requires stretches { n < length self.now.stretches }
-        ensures assertion { result.assertion ≡ (get_or self.now.stretches n no_stretches).assertion }
+        ensures assertion { result.assertion
+            ≡ (get_or self.now.stretches n no_stretches).assertion }
         ensures rule { IsCompiled _db.now.statements result }
     {
         let stretches = self.stretches[n];

@@ -144,4 +144,5 @@ two_digits n = if length (decimal n) == 1 then 48 ∷ decimal n else decimal n
 abbrev pub refusal : List ℕ → Fault → List ℕ
 refusal text f = let before = take f.at text in
     line (codes "refused " ++ decimal (count_by (λ b. b == 10) before + 1)
-    ++ 58 ∷ (decimal (bytes_after_line_feed before + 1) ++ codes " E" ++ two_digits (code_number f.code)))
+    ++ 58 ∷ (decimal (bytes_after_line_feed before + 1)
+    ++ codes " E" ++ two_digits (code_number f.code)))
