@@ -20,11 +20,11 @@ use Rattle.mm_outline.proofs.StatementsLaw.{get_mapped}
 
 -- ---- symbols are declared
 
-in-get : (ws : List Bytes) (i : ℕ) (d : Bytes) → i < length ws → is_in (get_or ws i d) ws ≡ true
-in-get [] i d h = absurd (omega arith)
-in-get (w ∷ ws) zero d h = ap (λ b. b || is_in w ws) (itself w)
-in-get (w ∷ ws) (suc i) d h =
-    ap (λ b. bytes_eq (get_or ws i d) w || b) (in-get ws i d (omega arith))
+in_get : (ws : List Bytes) (i : ℕ) (d : Bytes) → i < length ws → is_in (get_or ws i d) ws ≡ true
+in_get [] i d h = absurd (omega arith)
+in_get (w ∷ ws) zero d h = ap (λ b. b || is_in w ws) (itself w)
+in_get (w ∷ ws) (suc i) d h =
+    ap (λ b. bytes_eq (get_or ws i d) w || b) (in_get ws i d (omega arith))
     ∙ or-true (bytes_eq (get_or ws i d) w)
 
 -- each symbol of a lawful statement has a name
@@ -47,7 +47,7 @@ symbols_known db law k l s e =
     omega (arith, h, length-map ws (λ w. place_of w (symbol_names db))) in
     let w = get_or ws i [] in
     let known : is_in w (symbol_names db) ≡ true =
-    symbol_known db law k l s e w (in-get ws i [] inside) in
+    symbol_known db law k l s e w (in_get ws i [] inside) in
     let place =
     slice_get_within (symbol_names db) (place_of w (symbol_names db)) w
     (place_in (symbol_names db) w known) in
@@ -59,42 +59,42 @@ symbols_known db law k l s e =
 within : (t u : Token) (xs : List Token) → length xs ≤ length (t ∷ (xs ++ u ∷ []))
 within t u xs = omega (arith, length-append xs (u ∷ []))
 
-labelled-within : (l t u : Token) (xs : List Token) → length xs ≤ length (l ∷ t ∷ (xs ++ u ∷ []))
-labelled-within l t u xs = omega (arith, length-append xs (u ∷ []))
+labelled_within : (l t u : Token) (xs : List Token) → length xs ≤ length (l ∷ t ∷ (xs ++ u ∷ []))
+labelled_within l t u xs = omega (arith, length-append xs (u ∷ []))
 
 -- a statement's symbols are among its tokens
-symbols-spelled : (s : Statement) → length (symbols_of s) ≤ length (spelled s)
-symbols-spelled (constants k xs d) = within (token k (codes "$c")) (token d (codes "$.")) xs
-symbols-spelled (variables k xs d) = within (token k (codes "$v")) (token d (codes "$.")) xs
-symbols-spelled (disjoint k xs d) = within (token k (codes "$d")) (token d (codes "$.")) xs
-symbols-spelled (floating l k xs d) =
-    labelled-within l (token k (codes "$f")) (token d (codes "$.")) xs
-symbols-spelled (essential l k xs d) =
-    labelled-within l (token k (codes "$e")) (token d (codes "$.")) xs
-symbols-spelled (axiomatic l k xs d) =
-    labelled-within l (token k (codes "$a")) (token d (codes "$.")) xs
-symbols-spelled (provable l k xs e ps d) =
+symbols_spelled : (s : Statement) → length (symbols_of s) ≤ length (spelled s)
+symbols_spelled (constants k xs d) = within (token k (codes "$c")) (token d (codes "$.")) xs
+symbols_spelled (variables k xs d) = within (token k (codes "$v")) (token d (codes "$.")) xs
+symbols_spelled (disjoint k xs d) = within (token k (codes "$d")) (token d (codes "$.")) xs
+symbols_spelled (floating l k xs d) =
+    labelled_within l (token k (codes "$f")) (token d (codes "$.")) xs
+symbols_spelled (essential l k xs d) =
+    labelled_within l (token k (codes "$e")) (token d (codes "$.")) xs
+symbols_spelled (axiomatic l k xs d) =
+    labelled_within l (token k (codes "$a")) (token d (codes "$.")) xs
+symbols_spelled (provable l k xs e ps d) =
     after l (token k (codes "$p")) (token e (codes "$=")) xs (ps ++ token d (codes "$.") ∷ [])
   where
     after : (l t u : Token) (xs ys : List Token) → length xs ≤ length (l ∷ t ∷ (xs ++ u ∷ ys))
     after l t u xs ys = omega (arith, length-append xs (u ∷ ys))
-symbols-spelled (opening k) = omega arith
-symbols-spelled (closing k) = omega arith
+symbols_spelled (opening k) = omega arith
+symbols_spelled (closing k) = omega arith
 
-declared-spelled : (s : Statement) → length (constants_of s ++ variables_of s) ≤ length (spelled s)
-declared-spelled (constants k xs d) =
+declared_spelled : (s : Statement) → length (constants_of s ++ variables_of s) ≤ length (spelled s)
+declared_spelled (constants k xs d) =
     let a = length-append (words xs) [] in let b = length-map xs (λ t. t.word) in
-    let w = symbols-spelled (constants k xs d) in omega (arith, a, b, w)
-declared-spelled (variables k xs d) =
-    let b = length-map xs (λ t. t.word) in let w = symbols-spelled (variables k xs d) in
+    let w = symbols_spelled (constants k xs d) in omega (arith, a, b, w)
+declared_spelled (variables k xs d) =
+    let b = length-map xs (λ t. t.word) in let w = symbols_spelled (variables k xs d) in
     omega (arith, b, w)
-declared-spelled (disjoint k xs d) = omega arith
-declared-spelled (floating l k xs d) = omega arith
-declared-spelled (essential l k xs d) = omega arith
-declared-spelled (axiomatic l k xs d) = omega arith
-declared-spelled (provable l k xs e ps d) = omega arith
-declared-spelled (opening k) = omega arith
-declared-spelled (closing k) = omega arith
+declared_spelled (disjoint k xs d) = omega arith
+declared_spelled (floating l k xs d) = omega arith
+declared_spelled (essential l k xs d) = omega arith
+declared_spelled (axiomatic l k xs d) = omega arith
+declared_spelled (provable l k xs e ps d) = omega arith
+declared_spelled (opening k) = omega arith
+declared_spelled (closing k) = omega arith
 
 shorter : {X Y : Type 0} (f : Statement → List X) (g : Statement → List Y)
     → ((s : Statement) → length (f s) ≤ length (g s)) → (xs : List Statement)
@@ -110,9 +110,9 @@ front f xs ys =
     let a = ap length (flat_map-append f xs ys) in
     let b = length-append (flat_map f xs) (flat_map f ys) in omega (arith, a, b)
 
-first-shorter : (e ws : List Bytes) → length (first_occurrences e ws) ≤ length ws
-first-shorter e [] = omega arith
-first-shorter e (w ∷ ws) = by (is_in w e) (first-shorter e ws) (first-shorter (w ∷ e) ws)
+first_shorter : (e ws : List Bytes) → length (first_occurrences e ws) ≤ length ws
+first_shorter e [] = omega arith
+first_shorter e (w ∷ ws) = by (is_in w e) (first_shorter e ws) (first_shorter (w ∷ e) ws)
   where
     by : (b : Bool) → length (first_occurrences e ws) ≤ length ws
         → length (first_occurrences (w ∷ e) ws) ≤ length ws
@@ -137,8 +137,8 @@ module _ (ts rest : List Token) (row : List Statement) (splits : ts ≡ flat_map
   -- the symbols are no more than the tokens
   pub few_symbols : length (symbol_names db) ≤ length ts
   few_symbols =
-      let a = first-shorter [] (flat_map (λ s. constants_of s ++ variables_of s) db) in
-      let b = shorter (λ s. constants_of s ++ variables_of s) spelled declared-spelled db in
+      let a = first_shorter [] (flat_map (λ s. constants_of s ++ variables_of s) db) in
+      let b = shorter (λ s. constants_of s ++ variables_of s) spelled declared_spelled db in
       let c = spelled-few in
       omega (arith, a, b, c)
 
@@ -149,6 +149,6 @@ module _ (ts rest : List Token) (row : List Statement) (splits : ts ≡ flat_map
       shorter (formula_of all) spelled
       (λ s. subst (λ n. n ≤ length (spelled s))
       (sym (length-map (words (symbols_of s)) (λ w. place_of w (symbol_names all))
-      ∙ length-map (symbols_of s) (λ t. t.word))) (symbols-spelled s)) db in
+      ∙ length-map (symbols_of s) (λ t. t.word))) (symbols_spelled s)) db in
       let c = spelled-few in
       omega (arith, a, c)

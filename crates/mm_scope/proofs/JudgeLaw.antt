@@ -57,14 +57,14 @@ three f g h = by (is_before f g) refl (is_before g h) refl
         lesser_is g h ∙ ap (λ c. Some (pick c g h)) b
         ∙ sym (lesser_is f h ∙ ap (λ c. Some (pick c f h)) (trans_false f g h a b))
 
-merge-none : (a : Option Fault) → merge a None ≡ a
-merge-none None = refl
-merge-none (Some f) = refl
+merge_none : (a : Option Fault) → merge a None ≡ a
+merge_none None = refl
+merge_none (Some f) = refl
 
 pub merge_assoc : (a b c : Option Fault) → merge (merge a b) c ≡ merge a (merge b c)
 merge_assoc None b c = refl
 merge_assoc (Some f) None c = refl
-merge_assoc (Some f) (Some g) None = merge-none (lesser f (Some g))
+merge_assoc (Some f) (Some g) None = merge_none (lesser f (Some g))
 merge_assoc (Some f) (Some g) (Some h) = three f g h
 
 pub least_append : (xs ys : List Fault) → least (xs ++ ys) ≡ merge (least xs) (least ys)
@@ -185,10 +185,10 @@ declared_code_is n look labels is_open k kind e w p = by kind
         ∙ two_codes p (not (is_active is_open (look w)))
         (is_in w e) UndeclaredVariable RepeatedVariable refl
 
-before_next-snoc : (e : List Bytes) (xs : List Token) (t : Token)
+before_next_snoc : (e : List Bytes) (xs : List Token) (t : Token)
     → before_next e (xs ++ t ∷ []) ≡ t.word ∷ before_next e xs
-before_next-snoc e [] t = refl
-before_next-snoc e (x ∷ xs) t = before_next-snoc (x.word ∷ e) xs t
+before_next_snoc e [] t = refl
+before_next_snoc e (x ∷ xs) t = before_next_snoc (x.word ∷ e) xs t
 
 pub bytes_eq_sym : (a b : Bytes) → bytes_eq a b ≡ bytes_eq b a
 bytes_eq_sym a b = by (bytes_eq a b) refl (bytes_eq b a) refl
@@ -233,7 +233,7 @@ pub seen_more : (text : List ℕ) (ws : List place.Word) (from i : ℕ) → from
 seen_more text ws from i h l old new u e w =
     let t = token_at text ws i in
     let xs = between text ws from i in
-    ap is_some (u w) ∙ by (bytes_eq t.word w) refl ∙ ap (is_in w) (sym (before_next-snoc [] xs t))
+    ap is_some (u w) ∙ by (bytes_eq t.word w) refl ∙ ap (is_in w) (sym (before_next_snoc [] xs t))
     ∙ ap (λ ys. is_in w (before_next [] ys)) (sym (between_more text ws from i h l))
   where
     by : (b : Bool) → bytes_eq (token_at text ws i).word w ≡ b
@@ -252,7 +252,7 @@ pub among_more : (text : List ℕ) (ws : List place.Word) (from i : ℕ) → fro
     → (bytes_eq w (token_at text ws i).word || is_in w (before_next [] (between text ws from i)))
     ≡ is_in w (before_next [] (between text ws from (i + 1)))
 among_more text ws from i h l w =
-    ap (is_in w) (sym (before_next-snoc [] (between text ws from i) (token_at text ws i)))
+    ap (is_in w) (sym (before_next_snoc [] (between text ws from i) (token_at text ws i)))
     ∙ ap (λ ys. is_in w (before_next [] ys)) (sym (between_more text ws from i h l))
 
 pub between_first : (text : List ℕ) (ws : List place.Word) (i j : ℕ) → i < j → j ≤ length ws
@@ -328,9 +328,9 @@ no_two n keyword (a ∷ []) h = refl
 no_two n keyword (a ∷ b ∷ []) h = absurd (h refl)
 no_two n keyword (a ∷ b ∷ c ∷ xs) h = refl
 
-pub length-between : (text : List ℕ) (ws : List place.Word) (i j : ℕ) → i ≤ j → j ≤ length ws
+pub length_between : (text : List ℕ) (ws : List place.Word) (i j : ℕ) → i ≤ j → j ≤ length ws
     → length (between text ws i j) ≡ j - i
-length-between text ws i j h l =
+length_between text ws i j h l =
     length-map (take (j - i) (drop i ws)) (token_of text)
     ∙ length-take-le (j - i) (drop i ws) (omega (arith, length-drop i ws))
 
@@ -340,7 +340,7 @@ pub no_two_between : (n : Names) (keyword : ℕ) (text : List ℕ) (ws : List pl
     ≡ least (floating_faults n keyword (between text ws (k + 1) j))
 no_two_between n keyword text ws k j h l ne =
     no_two n keyword (between text ws (k + 1) j)
-    (λ e. ne (let m = length-between text ws (k + 1) j (omega arith) l in omega (arith, m, e, h)))
+    (λ e. ne (let m = length_between text ws (k + 1) j (omega arith) l in omega (arith, m, e, h)))
 
 pub two_between : (text : List ℕ) (ws : List place.Word) (k j : ℕ) → j ≤ length ws → j - k ≡ 3
     → between text ws (k + 1) j ≡ token_at text ws (k + 1) ∷ token_at text ws (k + 2) ∷ []
@@ -373,7 +373,7 @@ pub constants_is : (n : Names) (deep kw end : ℕ) (text : List ℕ) (ws : List 
 constants_is n deep kw end text ws k j h l =
     let xs = between text ws (k + 1) j in
     let c : j - k - 1 ≡ length xs =
-    (let m = length-between text ws (k + 1) j (omega arith) l in omega (arith, m)) in
+    (let m = length_between text ws (k + 1) j (omega arith) l in omega (arith, m)) in
     let first = at kw (when (nat_lt 0 deep) ConstantInBlock) in
     let second = at end (when (is_empty n xs) EmptyDeclaration) in
     ap₂ (λ a b. merge (merge a (fault_at end (first_code b EmptyDeclaration None)))
@@ -395,7 +395,7 @@ pub variables_is : (n : Names) (deep kw end : ℕ) (text : List ℕ) (ws : List 
 variables_is n deep kw end text ws k j h l =
     let xs = between text ws (k + 1) j in
     let c : j - k - 1 ≡ length xs =
-    (let m = length-between text ws (k + 1) j (omega arith) l in omega (arith, m)) in
+    (let m = length_between text ws (k + 1) j (omega arith) l in omega (arith, m)) in
     ap (λ b. merge (fault_at end (first_code b EmptyDeclaration None))
     (least (at_each (variable_codes n) [] xs))) (ap (λ m. nat_eq m 0) c
     ∙ empty_count n xs)

@@ -4,7 +4,7 @@ use Rattle.std.proofs.Common.{length, take, flat_map, bytes_eq, Option, None, So
 use Rattle.std.proofs.Common.{if◌then◌else◌, IsTrue, refl, sym, ap, ◌∙◌, subst, arith, ◌⊎◌, inl}
 use Rattle.std.proofs.Common.{inr, length-append, true≢false, le_refl, take_all}
 use Rattle.std.proofs.lemmas.Bool.{cases_lt, cases_order}
-use Rattle.std.proofs.lemmas.Option.{slice_get_past}
+use Rattle.std.proofs.lemmas.Option.{same_Some, slice_get_past}
 use Rattle.std.proofs.lemmas.Slice.Eq.{bytes_eq-Decides}
 use Rattle.std.specs.List.{list_any}
 use Rattle.std.proofs.Math.Bool.{or-false}
@@ -35,29 +35,17 @@ label_new n l h =
 pub label_fresh : (n : Names) (d : ℕ) (s : Statement) → scope_faults n d s ≡ [] → (l : Token)
     → label_of s ≡ Some l → is_in l.word n.labels ≡ false
 label_fresh n d (floating m k xs e) h l q =
-    subst (λ (t : Token). is_in t.word n.labels ≡ false) (same q)
+    subst (λ (t : Token). is_in t.word n.labels ≡ false) (same_Some m l q)
     (label_new n m (append_none (label_faults n m) (floating_faults n k xs) h).0)
-  where
-    same : {a b : Token} → Some a ≡ Some b → a ≡ b
-    same s = cc
 label_fresh n d (essential m k xs e) h l q =
-    subst (λ (t : Token). is_in t.word n.labels ≡ false) (same q)
+    subst (λ (t : Token). is_in t.word n.labels ≡ false) (same_Some m l q)
     (label_new n m (append_none (label_faults n m) (formula_faults n xs e) h).0)
-  where
-    same : {a b : Token} → Some a ≡ Some b → a ≡ b
-    same s = cc
 label_fresh n d (axiomatic m k xs e) h l q =
-    subst (λ (t : Token). is_in t.word n.labels ≡ false) (same q)
+    subst (λ (t : Token). is_in t.word n.labels ≡ false) (same_Some m l q)
     (label_new n m (append_none (label_faults n m) (formula_faults n xs e) h).0)
-  where
-    same : {a b : Token} → Some a ≡ Some b → a ≡ b
-    same s = cc
 label_fresh n d (provable m k xs p ps e) h l q =
-    subst (λ (t : Token). is_in t.word n.labels ≡ false) (same q)
+    subst (λ (t : Token). is_in t.word n.labels ≡ false) (same_Some m l q)
     (label_new n m (append_none (label_faults n m) (formula_faults n xs p) h).0)
-  where
-    same : {a b : Token} → Some a ≡ Some b → a ≡ b
-    same s = cc
 label_fresh n d (constants k xs e) h l q = absurd (cc)
 label_fresh n d (variables k xs e) h l q = absurd (cc)
 label_fresh n d (disjoint k xs e) h l q = absurd (cc)
@@ -105,16 +93,13 @@ module _ (db : List Statement) (s : Statement) (find new : List ℕ → Option �
     only = λ w j k e f. only w j k e f (cases_lt j (length db)) (cases_lt k (length db));
   }
     where
-      some_same : {p q : ℕ} → Some p ≡ Some q → p ≡ q
-      some_same q = cc
-
       found : (w : Bytes) (k : ℕ) → new w ≡ Some k
           → ((is_labelled w s ≡ true) × (new w ≡ Some (length db)))
           ⊎ ((is_labelled w s ≡ false) × (new w ≡ find w))
           → (k < length (db ++ s ∷ []))
           × IsTrue (list_any (is_labelled w) (statement_at (db ++ s ∷ []) k))
       found w k e (inl (p, q)) =
-          let same = some_same (sym q ∙ e) in (
+          let same = same_Some (length db) k (sym q ∙ e) in (
             omega (arith, same, length-append db (s ∷ [])),
             (ap (λ i. list_any (is_labelled w) (statement_at (db ++ s ∷ []) i)) (sym same)
                 ∙ last w ∙ p),

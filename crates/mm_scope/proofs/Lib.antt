@@ -6,6 +6,7 @@ pub mod WordEntryLaw
 pub mod KnowsLaw
 pub mod LabelsLaw
 pub mod LatestLaw
+pub mod LongestLaw
 pub mod NumberedLaw
 pub mod OpenLaw
 pub mod ReadLaw

@@ -2,7 +2,7 @@
 use Rattle.std.proofs.Common.{Result, Ok, Err, OnOk, is_some, ◌≡◌, ℕ, zero, suc, ◌+◌, ◌-◌, ◌<◌, ◌≤◌}
 use Rattle.std.proofs.Common.{Bool, true, false, ◌||◌, List, [], ◌∷◌, ◌++◌, length, map, flat_map}
 use Rattle.std.proofs.Common.{take, drop, get_or, slice_get, slice_range, Option, None, Some}
-use Rattle.std.proofs.Common.{bytes_eq, Bor, if◌then◌else◌, refl, sym, ap, ap₂, ◌∙◌, subst, arith}
+use Rattle.std.proofs.Common.{bytes_eq, if◌then◌else◌, refl, sym, ap, ap₂, ◌∙◌, subst, arith}
 use Rattle.std.proofs.Common.{true≢false, ◌⊎◌, inl, inr, append_assoc, append-nil, length-append}
 use Rattle.std.proofs.Common.{take_all, le_refl}
 use Rattle.std.proofs.lemmas.List.{map-append, length-map, take_more, get_or_push}
@@ -13,7 +13,7 @@ use Rattle.std.proofs.lemmas.Option.{slice_get_within, slice_get-get_or}
 use Rattle.std.proofs.Math.Seq.{drop-append_seam, take-append_seam}
 use Rattle.std.specs.Option.{option_map}
 use Rattle.std.specs.Map.{keys_of, lookup}
-use Rattle.indexmap.specs.IndexMap.{insert_entry}
+use Rattle.indexmap.specs.IndexMap.{IndexMap, insert_entry, keys}
 use Rattle.mm_spec.specs.Text.{Bytes, Token, is_in, words}
 use Rattle.std.proofs.lemmas.Map.Made.{is_some-lookup}
 use Rattle.std.proofs.Math.Bool.{or-true}
@@ -27,45 +27,46 @@ use Rattle.mm_spec.specs.declared.Word as place
 use Rattle.mm_outline.specs.Numbered.{AreNumbered}
 use Rattle.mm_outline.specs.Parts.{between, token_at}
 use Rattle.mm_outline.proofs.TurnsLaw.{between_more, between_none}
-use Rattle.mm_scope.specs.Names.{with_name}
+use Rattle.mm_scope.specs.declared.name.Name.{Name}
+use Rattle.mm_scope.specs.Names.{find, names_of, with_name}
 use Rattle.mm_scope.specs.Formulas.{AreFormulas, numbers_in, judged, unjudged}
-use Rattle.mm_scope.proofs.SymbolsLaw.{first_added, if_new, itself, keys_in}
+use Rattle.mm_scope.proofs.SymbolsLaw.{first_added, if_new, itself, keys_in, missing_place}
 use Rattle.mm_scope.proofs.BoundsLaw.{symbol_known}
 
 -- ---- one name more
 
 -- the keys of a map with one entry more
-pub names_inserted : {V : Type 0} (es : List (Bor Bytes × V)) (k : Bor Bytes) (v : V)
-    → map (λ x. x.now) (keys_of (insert_entry (λ (a b : Bor Bytes). bytes_eq a.now b.now) es k v))
-    ≡ with_name k.now (map (λ x. x.now) (keys_of es))
+pub names_inserted : {V : Type 0} (es : List (Name × V)) (k : Name) (v : V)
+    → map (λ x. x.bytes.now) (keys_of (insert_entry (λ (a b : Name). bytes_eq a.bytes.now b.bytes.now) es k v))
+    ≡ with_name k.bytes.now (map (λ x. x.bytes.now) (keys_of es))
 names_inserted [] k v = refl
-names_inserted (e ∷ es) k v = by (bytes_eq k.now e.0.now) (names_inserted es k v)
+names_inserted (e ∷ es) k v = by (bytes_eq k.bytes.now e.0.bytes.now) (names_inserted es k v)
   where
     ns : List Bytes
-    ns = map (λ x. x.now) (keys_of es)
+    ns = map (λ x. x.bytes.now) (keys_of es)
 
     after : (b : Bool)
-        → map (λ x. x.now)
-        (keys_of (insert_entry (λ (a b : Bor Bytes). bytes_eq a.now b.now) es k v))
-        ≡ (if b then ns else (ns ++ k.now ∷ []))
-        → e.0.now
-        ∷ map (λ x. x.now)
-        (keys_of (insert_entry (λ (a b : Bor Bytes). bytes_eq a.now b.now) es k v))
-        ≡ (if b then (e.0.now ∷ ns) else ((e.0.now ∷ ns) ++ k.now ∷ []))
-    after true h = ap (λ l. e.0.now ∷ l) h
-    after false h = ap (λ l. e.0.now ∷ l) h
+        → map (λ x. x.bytes.now)
+        (keys_of (insert_entry (λ (a b : Name). bytes_eq a.bytes.now b.bytes.now) es k v))
+        ≡ (if b then ns else (ns ++ k.bytes.now ∷ []))
+        → e.0.bytes.now
+        ∷ map (λ x. x.bytes.now)
+        (keys_of (insert_entry (λ (a b : Name). bytes_eq a.bytes.now b.bytes.now) es k v))
+        ≡ (if b then (e.0.bytes.now ∷ ns) else ((e.0.bytes.now ∷ ns) ++ k.bytes.now ∷ []))
+    after true h = ap (λ l. e.0.bytes.now ∷ l) h
+    after false h = ap (λ l. e.0.bytes.now ∷ l) h
 
     by : (b : Bool)
-        → map (λ x. x.now)
-        (keys_of (insert_entry (λ (a b : Bor Bytes). bytes_eq a.now b.now) es k v))
-        ≡ with_name k.now ns
-        → map (λ x. x.now)
+        → map (λ x. x.bytes.now)
+        (keys_of (insert_entry (λ (a b : Name). bytes_eq a.bytes.now b.bytes.now) es k v))
+        ≡ with_name k.bytes.now ns
+        → map (λ x. x.bytes.now)
         (keys_of
         (if b then ((e.0, v) ∷ es) else
-        (e ∷ insert_entry (λ (a b : Bor Bytes). bytes_eq a.now b.now) es k v)))
-        ≡ (if b || is_in k.now ns then (e.0.now ∷ ns) else ((e.0.now ∷ ns) ++ k.now ∷ []))
+        (e ∷ insert_entry (λ (a b : Name). bytes_eq a.bytes.now b.bytes.now) es k v)))
+        ≡ (if b || is_in k.bytes.now ns then (e.0.bytes.now ∷ ns) else ((e.0.bytes.now ∷ ns) ++ k.bytes.now ∷ []))
     by true h = refl
-    by false h = after (is_in k.now ns) h
+    by false h = after (is_in k.bytes.now ns) h
 
 -- the names of what is declared, with one word more
 pub names_declared : (d : List Bytes) (w : Bytes)
@@ -97,12 +98,12 @@ place_front w (n ∷ ns) more h = by (bytes_eq w n) refl (place_front w ns more)
     by false e r = ap suc (r (sym (ap (λ b. b || is_in w ns) e) ∙ h))
 
 -- what more words add
-more-names : (d ws : List Bytes)
+more_names : (d ws : List Bytes)
     → (more : List Bytes) × (first_occurrences [] (d ++ ws) ≡ first_occurrences [] d ++ more)
-more-names d [] =
+more_names d [] =
     ([], ap (first_occurrences []) (append-nil d) ∙ sym (append-nil (first_occurrences [] d)))
-more-names d (w ∷ ws) =
-    let r = more-names (d ++ w ∷ []) ws in
+more_names d (w ∷ ws) =
+    let r = more_names (d ++ w ∷ []) ws in
     let b = is_in w (first_occurrences [] d) in (
       if_new b w ++ r.0,
       ap (first_occurrences []) (sym (append_assoc d (w ∷ []) ws)) ∙ r.1
@@ -113,9 +114,9 @@ more-names d (w ∷ ws) =
 abbrev pub declared : List Statement → List Bytes
 declared db = flat_map (λ s. constants_of s ++ variables_of s) db
 
-declared-next : (db : List Statement) (s : Statement)
+declared_next : (db : List Statement) (s : Statement)
     → declared (db ++ s ∷ []) ≡ declared db ++ (constants_of s ++ variables_of s)
-declared-next db s =
+declared_next db s =
     flat_map-append (λ s. constants_of s ++ variables_of s) db (s ∷ [])
     ∙ ap (λ l. declared db ++ l) (append-nil (constants_of s ++ variables_of s))
 
@@ -123,36 +124,36 @@ declared-next db s =
 pub names_next : (db : List Statement) (s : Statement) (ns : List Bytes)
     → ns ≡ first_occurrences [] (declared db ++ (constants_of s ++ variables_of s))
     → ns ≡ symbol_names (db ++ s ∷ [])
-names_next db s ns h = h ∙ ap (first_occurrences []) (sym (declared-next db s))
+names_next db s ns h = h ∙ ap (first_occurrences []) (sym (declared_next db s))
 
-names-grow : (db : List Statement) (s : Statement)
+names_grow : (db : List Statement) (s : Statement)
     → (more : List Bytes) × (symbol_names (db ++ s ∷ []) ≡ symbol_names db ++ more)
-names-grow db s =
-    let r = more-names (declared db) (constants_of s ++ variables_of s) in
-    (r.0, ap (first_occurrences []) (declared-next db s) ∙ r.1)
+names_grow db s =
+    let r = more_names (declared db) (constants_of s ++ variables_of s) in
+    (r.0, ap (first_occurrences []) (declared_next db s) ∙ r.1)
 
 pub names_stay : (db : List Statement) (s : Statement) → constants_of s ++ variables_of s ≡ []
     → symbol_names (db ++ s ∷ []) ≡ symbol_names db
 names_stay db s h =
     ap (first_occurrences [])
-    (declared-next db s ∙ ap (λ l. declared db ++ l) h ∙ append-nil (declared db))
+    (declared_next db s ∙ ap (λ l. declared db ++ l) h ∙ append-nil (declared db))
 
 -- ---- formulas keep their numbers
 
-same-places : (ns ms : List Bytes) (ws : List Bytes)
+same_places : (ns ms : List Bytes) (ws : List Bytes)
     → ((w : Bytes) → is_in w ws ≡ true → place_of w ns ≡ place_of w ms)
     → map (λ w. place_of w ns) ws ≡ map (λ w. place_of w ms) ws
-same-places ns ms [] h = refl
-same-places ns ms (w ∷ ws) h =
+same_places ns ms [] h = refl
+same_places ns ms (w ∷ ws) h =
     ap₂ (λ n l. n ∷ l) (h w (ap (λ b. b || is_in w ws) (itself w)))
-    (same-places ns ms ws (λ v e. h v (ap (λ b. bytes_eq v w || b) e ∙ or-true (bytes_eq v w))))
+    (same_places ns ms ws (λ v e. h v (ap (λ b. bytes_eq v w || b) e ∙ or-true (bytes_eq v w))))
 
-same-maps : (f g : Statement → List ℕ) (xs : List Statement)
+same_maps : (f g : Statement → List ℕ) (xs : List Statement)
     → ((k : ℕ) (t : Statement) → slice_get xs k ≡ Some t → f t ≡ g t)
     → flat_map f xs ≡ flat_map g xs
-same-maps f g [] h = refl
-same-maps f g (x ∷ xs) h =
-    ap₂ (λ a b. a ++ b) (h 0 x refl) (same-maps f g xs (λ k t e. h (suc k) t e))
+same_maps f g [] h = refl
+same_maps f g (x ∷ xs) h =
+    ap₂ (λ a b. a ++ b) (h 0 x refl) (same_maps f g xs (λ k t e. h (suc k) t e))
 
 module _ (db : List Statement) (lawful : (k : ℕ) → k < length db → scope_fault db k ≡ None)
     (s : Statement) where
@@ -162,8 +163,8 @@ module _ (db : List Statement) (lawful : (k : ℕ) → k < length db → scope_f
   formula-kept : (k : ℕ) (t : Statement) → slice_get db k ≡ Some t
       → formula_of all t ≡ formula_of db t
   formula-kept k t e =
-      let g = names-grow db s in
-      same-places (symbol_names all) (symbol_names db) (words (symbols_of t))
+      let g = names_grow db s in
+      same_places (symbol_names all) (symbol_names db) (words (symbols_of t))
       (λ w h. ap (place_of w) g.1
       ∙ place_front w (symbol_names db) g.0
       (symbol_known db lawful k (slice_get_within db k t e) t e w h))
@@ -171,7 +172,7 @@ module _ (db : List Statement) (lawful : (k : ℕ) → k < length db → scope_f
   front-kept : (j : ℕ)
       → flat_map (formula_of all) (take j db) ≡ flat_map (formula_of db) (take j db)
   front-kept j =
-      same-maps (formula_of all) (formula_of db) (take j db)
+      same_maps (formula_of all) (formula_of db) (take j db)
       (λ k t e. formula-kept k t
       (ap (λ l. slice_get l k) (sym (take-append-drop j db))
       ∙ get_front (take j db) (drop j db) k (slice_get_within (take j db) k t e) ∙ e))
@@ -284,26 +285,35 @@ module _ (db : List Statement) (numbers places : List ℕ) (f : AreFormulas db n
 
 -- ---- what a map says of a name
 
-pub map_len : {V : Type 0} (es : List (Bor Bytes × V))
-    → length es ≡ length (map (λ x. x.now) (keys_of es))
-map_len es = sym (length-map (keys_of es) (λ x. x.now) ∙ length-map es (λ e. e.0))
+pub map_len : {V : Type 0} (es : List (Name × V))
+    → length es ≡ length (map (λ x. x.bytes.now) (keys_of es))
+map_len es = sym (length-map (keys_of es) (λ x. x.bytes.now) ∙ length-map es (λ e. e.0))
+
+-- the number of a name that the map doesn't have
+pub missing_number : {V S : Type 0} (w : Bytes) (m : IndexMap Name V S) → find m w ≡ None
+    → length m.entries ≡ place_of w (names_of m)
+missing_number w m h =
+    map_len m.entries
+    ∙ missing_place w (names_of m)
+    (sym (keys_in w (keys m)) ∙ sym (is_some-lookup (λ k. bytes_eq w k.bytes.now) m.entries)
+    ∙ ap is_some h)
 
 -- ---- words numbered one by one
 
-pub numbers-more : (text : List ℕ) (ws : List place.Word) (ns : List Bytes) (from i : ℕ) → from ≤ i
+pub numbers_more : (text : List ℕ) (ws : List place.Word) (ns : List Bytes) (from i : ℕ) → from ≤ i
     → i < length ws
     → numbers_in ns (between text ws from (i + 1))
     ≡ numbers_in ns (between text ws from i) ++ place_of (token_at text ws i).word ns ∷ []
-numbers-more text ws ns from i l h =
+numbers_more text ws ns from i l h =
     ap (numbers_in ns) (between_more text ws from i l h)
     ∙ ap (map (λ w. place_of w ns))
     (map-append (λ (t : Token). t.word) (between text ws from i) (token_at text ws i ∷ []))
     ∙ map-append (λ (w : Bytes). place_of w ns) (words (between text ws from i))
     ((token_at text ws i).word ∷ [])
 
-pub numbers-none : (text : List ℕ) (ws : List place.Word) (ns : List Bytes) (from : ℕ)
+pub numbers_none : (text : List ℕ) (ws : List place.Word) (ns : List Bytes) (from : ℕ)
     → [] ≡ numbers_in ns (between text ws from from)
-numbers-none text ws ns from = ap (numbers_in ns) (between_none text ws from)
+numbers_none text ws ns from = ap (numbers_in ns) (between_none text ws from)
 
 -- a name's place
 pub place_le : (w : Bytes) (ns : List Bytes) → place_of w ns ≤ length ns
@@ -346,11 +356,11 @@ on_then (Ok a) h f = f h
 on_then (Err e) h f = tt
 
 -- a name that the map has
-pub found_known : {V : Type 0} (w : Bytes) (es : List (Bor Bytes × V)) (o : Option V)
-    → lookup (λ (k : Bor Bytes). bytes_eq w k.now) es ≡ o → is_some o ≡ true
-    → is_in w (map (λ x. x.now) (keys_of es)) ≡ true
+pub found_known : {V : Type 0} (w : Bytes) (es : List (Name × V)) (o : Option V)
+    → lookup (λ (k : Name). bytes_eq w k.bytes.now) es ≡ o → is_some o ≡ true
+    → is_in w (map (λ x. x.bytes.now) (keys_of es)) ≡ true
 found_known w es o h k =
-    sym (keys_in w (keys_of es)) ∙ sym (is_some-lookup (λ (k : Bor Bytes). bytes_eq w k.now) es)
+    sym (keys_in w (keys_of es)) ∙ sym (is_some-lookup (λ (k : Name). bytes_eq w k.bytes.now) es)
     ∙ ap is_some h ∙ k
 
 -- ---- a statement's symbols: those of a formula as they are judged, the others once declared
@@ -374,7 +384,7 @@ formula_split db (closing k) = refl
 pub names_shorter : (db : List Statement) (s : Statement)
     → length (symbol_names db) ≤ length (symbol_names (db ++ s ∷ []))
 names_shorter db s =
-    let g = names-grow db s in let n = ap length g.1 in
+    let g = names_grow db s in let n = ap length g.1 in
     let m = length-append (symbol_names db) g.0 in omega (arith, n, m)
 
 pub taken_numbers : (db : List Statement) (s : Statement) (numbers mid more : List ℕ)
@@ -388,19 +398,19 @@ taken_numbers db s numbers mid more before after b a m n =
     ∙ ap (λ l. numbers ++ l) (ap₂ (λ x y. judged x s ++ unjudged y s) b a ∙ formula_split db s)
 
 -- the name of an entry
-pub name_at : {V : Type 0} (es : List (Bor Bytes × V)) (i : ℕ) (k : Bor Bytes) (v : V) (w : Bytes)
-    → slice_get es i ≡ Some (k, v) → slice_get (map (λ x. x.now) (keys_of es)) i ≡ Some w
-    → k.now ≡ w
+pub name_at : {V : Type 0} (es : List (Name × V)) (i : ℕ) (k : Name) (v : V) (w : Bytes)
+    → slice_get es i ≡ Some (k, v) → slice_get (map (λ x. x.bytes.now) (keys_of es)) i ≡ Some w
+    → k.bytes.now ≡ w
 name_at [] zero k v w h e = absurd (let q : None ≡ Some w = e in cc)
 name_at [] (suc i) k v w h e = absurd (let q : None ≡ Some w = e in cc)
 name_at (x ∷ es) zero k v w h e =
-    let p : Some x ≡ Some (k, v) = h in let q : Some x.0.now ≡ Some w = e in
-    let r : x ≡ (k, v) = cc in let s : x.0.now ≡ w = cc in ap (λ y. y.0.now) (sym r) ∙ s
+    let p : Some x ≡ Some (k, v) = h in let q : Some x.0.bytes.now ≡ Some w = e in
+    let r : x ≡ (k, v) = cc in let s : x.0.bytes.now ≡ w = cc in ap (λ y. y.0.bytes.now) (sym r) ∙ s
 name_at (x ∷ es) (suc i) k v w h e = name_at es i k v w h e
 
-pub got_name : {V : Type 0} (es : List (Bor Bytes × V)) (i : ℕ) (k : Bor Bytes) (v : V)
-    → slice_get es i ≡ Some (k, v) → slice_get (map (λ x. x.now) (keys_of es)) i ≡ Some k.now
+pub got_name : {V : Type 0} (es : List (Name × V)) (i : ℕ) (k : Name) (v : V)
+    → slice_get es i ≡ Some (k, v) → slice_get (map (λ x. x.bytes.now) (keys_of es)) i ≡ Some k.bytes.now
 got_name [] zero k v h = absurd (let q : None ≡ Some (k, v) = h in cc)
 got_name [] (suc i) k v h = absurd (let q : None ≡ Some (k, v) = h in cc)
-got_name (x ∷ es) zero k v h = ap (option_map (λ y. y.0.now)) h
+got_name (x ∷ es) zero k v h = ap (option_map (λ y. y.0.bytes.now)) h
 got_name (x ∷ es) (suc i) k v h = got_name es i k v h

@@ -161,9 +161,9 @@ inside_block text ws db deep at r s d us l e =
     not_both (axiomatic l k xs d) e = refl
     not_both (provable l k xs q ps d) e = refl
 
-less_one-is : (d : ℕ) → d - 1 ≡ less_one d
-less_one-is zero = omega arith
-less_one-is (suc d) = omega arith
+less_one_is : (d : ℕ) → d - 1 ≡ less_one d
+less_one_is zero = omega arith
+less_one_is (suc d) = omega arith
 
 after_le : (k : Kind) (d at end : ℕ) → d ≤ at → at ≤ end → depth_after k d ≤ end + 1
 after_le kind.Open d at end h l = omega arith
@@ -179,7 +179,7 @@ depth_is text ws db b x few kind.Open w m e =
     (let y = depth_opening db (made text ws kind.Open w m e) b x few refl refl in omega (arith, y))
 depth_is text ws db b x few kind.Close w m e =
     sym (depth_closing db (made text ws kind.Close w m e) b x few refl refl
-    ∙ less_one-is (depth db (length db)))
+    ∙ less_one_is (depth db (length db)))
 depth_is text ws db b x few kind.Constants w m e =
     sym (depth_plain db (made text ws kind.Constants w m e) b x few refl refl)
 depth_is text ws db b x few kind.Variables w m e =

@@ -1,7 +1,7 @@
 -- Symbols in the order of their first declarations.
 use Rattle.std.proofs.Common.{nat_lt, ◌≡◌, ℕ, zero, suc, ◌+◌, Bool, true, false, ◌||◌, ◌&&◌, not}
 use Rattle.std.proofs.Common.{List, [], ◌∷◌, ◌++◌, length, slice_get, Some, None, bytes_eq, refl}
-use Rattle.std.proofs.Common.{sym, ap, ap₂, ◌∙◌, arith, true≢false, if◌then◌else◌, map, Bor, cond}
+use Rattle.std.proofs.Common.{sym, ap, ap₂, ◌∙◌, arith, true≢false, if◌then◌else◌, map, cond}
 use Rattle.std.proofs.lemmas.List.Recursion.{is_position_or_len}
 use Rattle.std.proofs.lemmas.List.Folds.{list_any-append}
 use Rattle.std.specs.List.{list_any, position_or_len, position}
@@ -11,6 +11,7 @@ use Rattle.std.proofs.lemmas.Bool.{or_parts}
 use Rattle.mm_spec.specs.Text.{Bytes, is_in}
 use Rattle.mm_spec.specs.Frame.{first_occurrences, place_of}
 use Rattle.mm_spec.proofs.FindsLaw.{same_word}
+use Rattle.mm_scope.specs.declared.name.Name.{Name}
 use Rattle.mm_scope.specs.Names.{are_distinct, with_name}
 
 pub itself : (w : Bytes) → bytes_eq w w ≡ true
@@ -93,11 +94,11 @@ in_first (v ∷ ws) e w h =
         ∙ ap (λ b. b || is_in w (first_occurrences (v ∷ e) ws)) s
         ∙ t (ap₂ (λ a b. a || b) s h) ∙ sym (ap (λ b. b || is_in w ws) s)
 
-not-first : (ws e : List Bytes) (w : Bytes) → is_in w e ≡ true
+not_first : (ws e : List Bytes) (w : Bytes) → is_in w e ≡ true
     → is_in w (first_occurrences e ws) ≡ false
-not-first [] e w h = refl
-not-first (v ∷ ws) e w h =
-    by (not-first ws e w h) (not-first ws (v ∷ e) w) (is_in v e) refl (bytes_eq w v) refl
+not_first [] e w h = refl
+not_first (v ∷ ws) e w h =
+    by (not_first ws e w h) (not_first ws (v ∷ e) w) (is_in v e) refl (bytes_eq w v) refl
   where
     by : is_in w (first_occurrences e ws) ≡ false
         → (is_in w (v ∷ e) ≡ true → is_in w (first_occurrences (v ∷ e) ws) ≡ false) → (b : Bool)
@@ -177,34 +178,34 @@ place_get (v ∷ ws) e s w h =
         ap (place_of w) (first_step e v ws false k)
         ∙ head (first_occurrences (v ∷ e) ws) s
         (sym (ap (λ l. slice_get l s) (first_step e v ws false k)) ∙ q)
-        (not-first ws (v ∷ e) v (ap (λ b. b || is_in v e) (itself v))) g
+        (not_first ws (v ∷ e) v (ap (λ b. b || is_in v e) (itself v))) g
 
 -- where the code finds a name
-pub place_position : (w : Bytes) (ks : List (Bor Bytes))
-    → position_or_len (λ k. bytes_eq w k.now) ks ≡ place_of w (map (λ k. k.now) ks)
+pub place_position : (w : Bytes) (ks : List (Name))
+    → position_or_len (λ k. bytes_eq w k.bytes.now) ks ≡ place_of w (map (λ k. k.bytes.now) ks)
 place_position w ks =
-    sym (is_position_or_len (λ (xs : List (Bor Bytes)). place_of w (map (λ k. k.now) xs))
-    (λ k. bytes_eq w k.now) refl
-    (λ x xs. step (bytes_eq w x.now) (place_of w (map (λ k. k.now) xs))) ks)
+    sym (is_position_or_len (λ (xs : List (Name)). place_of w (map (λ k. k.bytes.now) xs))
+    (λ k. bytes_eq w k.bytes.now) refl
+    (λ x xs. step (bytes_eq w x.bytes.now) (place_of w (map (λ k. k.bytes.now) xs))) ks)
   where
     step : (b : Bool) (n : ℕ) → elim b [ true ↦ 0 | false ↦ suc n ] ≡ cond b 0 (1 + n)
     step true n = refl
     step false n = omega arith
 
-pub keys_in : (w : Bytes) (ks : List (Bor Bytes))
-    → list_any (λ k. bytes_eq w k.now) ks ≡ is_in w (map (λ k. k.now) ks)
+pub keys_in : (w : Bytes) (ks : List (Name))
+    → list_any (λ k. bytes_eq w k.bytes.now) ks ≡ is_in w (map (λ k. k.bytes.now) ks)
 keys_in w [] = refl
-keys_in w (k ∷ ks) = ap (λ b. bytes_eq w k.now || b) (keys_in w ks)
+keys_in w (k ∷ ks) = ap (λ b. bytes_eq w k.bytes.now || b) (keys_in w ks)
 
 -- the place of a name that is found, and of one that is not
-pub found_place : (w : Bytes) (ks : List (Bor Bytes)) (n : ℕ)
-    → position (λ k. bytes_eq w k.now) ks ≡ Some n → n ≡ place_of w (map (λ k. k.now) ks)
+pub found_place : (w : Bytes) (ks : List (Name)) (n : ℕ)
+    → position (λ k. bytes_eq w k.bytes.now) ks ≡ Some n → n ≡ place_of w (map (λ k. k.bytes.now) ks)
 found_place w ks n h =
-    by (nat_lt (position_or_len (λ k. bytes_eq w k.now) ks) (length ks)) h ∙ place_position w ks
+    by (nat_lt (position_or_len (λ k. bytes_eq w k.bytes.now) ks) (length ks)) h ∙ place_position w ks
   where
-    by : (b : Bool) → cond b (Some (position_or_len (λ k. bytes_eq w k.now) ks)) None ≡ Some n
-        → n ≡ position_or_len (λ k. bytes_eq w k.now) ks
-    by true e = let q : Some (position_or_len (λ k. bytes_eq w k.now) ks) ≡ Some n = e in cc
+    by : (b : Bool) → cond b (Some (position_or_len (λ k. bytes_eq w k.bytes.now) ks)) None ≡ Some n
+        → n ≡ position_or_len (λ k. bytes_eq w k.bytes.now) ks
+    by true e = let q : Some (position_or_len (λ k. bytes_eq w k.bytes.now) ks) ≡ Some n = e in cc
     by false e = let q : None ≡ Some n = e in cc
 
 pub missing_place : (w : Bytes) (ns : List Bytes) → is_in w ns ≡ false → length ns ≡ place_of w ns
@@ -250,15 +251,15 @@ place_distinct (n ∷ ns) d (suc i) w e =
         ∙ not_there (is_in n ns) (are_distinct ns) d))
     by false s r = ap suc r
 
-distinct-push : (ns : List Bytes) (w : Bytes) → are_distinct ns ≡ true → is_in w ns ≡ false
+distinct_push : (ns : List Bytes) (w : Bytes) → are_distinct ns ≡ true → is_in w ns ≡ false
     → are_distinct (ns ++ w ∷ []) ≡ true
-distinct-push [] w d h = refl
-distinct-push (n ∷ ns) w d h =
+distinct_push [] w d h = refl
+distinct_push (n ∷ ns) w d h =
     ap₂ (λ a b. not a && b)
     (list_any-append (bytes_eq n) ns (w ∷ [])
     ∙ ap₂ (λ a b. a || (b || false)) (not_there (is_in n ns) (are_distinct ns) d)
     (differ (bytes_eq n w) refl))
-    (distinct-push ns w (others_too (is_in n ns) (are_distinct ns) d)
+    (distinct_push ns w (others_too (is_in n ns) (are_distinct ns) d)
     (or_parts (bytes_eq w n) (is_in w ns) h).1)
   where
     differ : (b : Bool) → bytes_eq n w ≡ b → b ≡ false
@@ -274,4 +275,4 @@ distinct_with w ns d = by (is_in w ns) refl
   where
     by : (b : Bool) → is_in w ns ≡ b → are_distinct (if b then ns else (ns ++ w ∷ [])) ≡ true
     by true h = d
-    by false h = distinct-push ns w d h
+    by false h = distinct_push ns w d h

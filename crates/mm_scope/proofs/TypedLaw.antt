@@ -8,7 +8,7 @@ use Rattle.mm_scope.specs.declared.names.Symbol.{Symbol}
 use Rattle.mm_outline.specs.Parts.{between, token_at}
 use Rattle.mm_scope.specs.Judge.{Entry, entry_of, typed_entry}
 use Rattle.mm_scope.specs.WordEntry.{typed_after}
-use Rattle.mm_scope.proofs.JudgeLaw.{two_between, length-between}
+use Rattle.mm_scope.proofs.JudgeLaw.{two_between, length_between}
 
 other_length : (n : ℕ) (xs : List Token) (w : List ℕ) (x : Option Entry) → length xs ≢ 2
     → typed_after n xs w x ≡ x
@@ -23,7 +23,7 @@ module _ (text : List ℕ) (ws : List Word) (k j : ℕ) (l : j ≤ length ws) wh
       → typed_after n (between text ws (k + 1) j) w x ≡ x
   typed_not n w x h ne =
       other_length n (between text ws (k + 1) j) w x
-      (λ e. ne (let m = length-between text ws (k + 1) j (omega arith) l in omega (arith, m, e, h)))
+      (λ e. ne (let m = length_between text ws (k + 1) j (omega arith) l in omega (arith, m, e, h)))
 
   -- two symbols
   pub typed_now : j - k ≡ 3 → (n : ℕ) (old mid new : List ℕ → Option Symbol)

@@ -1,15 +1,20 @@
 -- The names that the code knows.
-use Rattle.std.specs.Prelude.{ℕ, Bool, true, false, ◌&&◌, not, List, Option, None, Some, bytes_eq}
-use Rattle.std.specs.Prelude.{map, [], ◌∷◌, ◌++◌, if◌then◌else◌}
-use denote.Ref.{Bor}
+use Rattle.std.specs.Prelude.{◌≡◌, ◌<◌, ℕ, Bool, true, false, ◌&&◌, not, List, Option, None, Some}
+use Rattle.std.specs.Prelude.{bytes_eq, length, map, [], ◌∷◌, ◌++◌, if◌then◌else◌}
 use Rattle.indexmap.specs.IndexMap.{IndexMap, get_by, keys}
 use Rattle.mm_spec.specs.Text.{is_in}
+use Rattle.mm_scope.specs.declared.name.Name.{Name}
 use Rattle.mm_scope.specs.declared.names.Symbol.{Symbol}
 
 -- what the map has for a word
 module _ {V S : Type 0} where
-  abbrev pub find : IndexMap (Bor (List ℕ)) V S → List ℕ → Option V
-  find m w = get_by (λ k. bytes_eq w k.now) m
+  abbrev pub find : IndexMap Name V S → List ℕ → Option V
+  find m w = get_by (λ k. bytes_eq w k.bytes.now) m
+
+-- no name of the map is longer
+module _ {V S : Type 0} where
+  abbrev pub AreNoLonger : IndexMap Name V S → ℕ → Type 0
+  AreNoLonger m n = (w : List ℕ) → n < length w → find m w ≡ None
 
 abbrev pub is_constant_in : Option Symbol → Bool
 is_constant_in None = false
@@ -21,8 +26,8 @@ is_variable_in (Some s) = s.is_variable
 
 -- the names that the map has, in order
 module _ {V S : Type 0} where
-  abbrev pub names_of : IndexMap (Bor (List ℕ)) V S → List (List ℕ)
-  names_of m = map (λ k. k.now) (keys m)
+  abbrev pub names_of : IndexMap Name V S → List (List ℕ)
+  names_of m = map (λ k. k.bytes.now) (keys m)
 
 -- the names with one more, where it is new
 abbrev pub with_name : List ℕ → List (List ℕ) → List (List ℕ)

@@ -15,6 +15,7 @@ ghost use Rattle.mm_outline.specs.Parts.{statement_of};
 ghost use Rattle.mm_scope.specs.Judge.{merge as spec_merge, fault_at, is_open_in, declared_codes};
 ghost use Rattle.mm_scope.specs.Judge.{list_fault, before_next, Knows};
 
+use crate::name::Name;
 use crate::names::{Map, Scope};
 use indexmap::IndexMap;
 use mm_outline::parts::{Kind, Outline};
@@ -413,7 +414,7 @@ fn see<'a, A: Allocator + Copy>(
         ((w : List ℕ)
         → find seen.new w ≡ (if bytes_eq word.now w then Some 0 else find seen.old w)) }
 {
-    let old = seen.insert(word, 0)?;
+    let old = seen.insert(Name { bytes: word }, 0)?;
     Ok(old.is_some())
 }
 

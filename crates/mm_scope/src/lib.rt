@@ -7,5 +7,6 @@
 
 pub mod formulas;
 pub mod judge;
+pub mod name;
 pub mod names;
 pub mod reading;

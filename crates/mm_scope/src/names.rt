@@ -5,11 +5,12 @@ ghost use Rattle.std.specs.Prelude.{ℕ, List, [], is_some, Some, None, if◌the
 ghost use Rattle.std.specs.Option.{option_map};
 ghost use Rattle.mm_spec.specs.Frame.{place_of};
 ghost use Rattle.mm_spec.specs.Text.{is_in};
-ghost use Rattle.mm_scope.specs.Names.{find, names_of, with_name, are_distinct};
+ghost use Rattle.mm_scope.specs.Names.{find, names_of, with_name, are_distinct, AreNoLonger};
 ghost use Rattle.mm_scope.specs.Judge.{is_open_in, is_active_symbol, is_typed_symbol, symbol_code};
 ghost use Rattle.mm_scope.specs.Judge.{label_code, typecode_code, floating_code, declared_code};
 ghost use Rattle.mm_scope.specs.Judge.{typing_code};
 
+use crate::name::Name;
 use indexmap::IndexMap;
 use mm_outline::blocks::{Blocks, NEVER};
 use mm_outline::parts::Kind;
@@ -27,7 +28,7 @@ pub struct Symbol<'a> {
     pub typecode: &'a [u8],
 }
 
-pub type Map<'a, V, A> = IndexMap<&'a [u8], V, BuildHasherDefault<FoldHasher>, A>;
+pub type Map<'a, V, A> = IndexMap<Name<'a>, V, BuildHasherDefault<FoldHasher>, A>;
 
 /// How many guesses there are.
 const GUESSES: usize = 2048;
@@ -44,7 +45,14 @@ pub struct Names<'a, A: Allocator> {
     /// guess is looked at before it is believed; so the usual symbol is found by comparing it with
     /// one name.
     guesses: Vec<usize, A>,
+    /// How many bytes the longest symbol has. A longer word is none, and isn't hashed to find that
+    /// out; so a very long one is hashed once, where it is declared.
+    longest_symbol: usize,
+    /// The same of labels.
+    longest_label: usize,
     ghost distinct: { are_distinct (names_of symbols) ≡ true },
+    ghost symbols_no_longer: { AreNoLonger symbols longest_symbol },
+    ghost labels_no_longer: { AreNoLonger labels longest_label },
 }
 
 /// Which guess is made for a word.
@@ -77,6 +85,8 @@ pub(crate) fn no_names<'a, A: Allocator + Copy>(alloc: A) -> Result<Names<'a, A>
         symbols: IndexMap::new(alloc),
         labels: IndexMap::new(alloc),
         guesses,
+        longest_symbol: 0,
+        longest_label: 0,
     })
 }
 
@@ -89,7 +99,7 @@ impl<'a, A: Allocator + Copy> Names<'a, A> {
     {
         let guess = *self.guesses.get(guess_of(word))?;
         let (name, symbol) = self.symbols.get_index(guess)?;
-        if *name == word {
+        if name.bytes == word {
             Some((guess, symbol))
         } else {
             None
@@ -126,7 +136,10 @@ impl<'a, A: Allocator + Copy> Names<'a, A> {
         ensures number { result.0 ≡ place_of word.now (names_of self.now.symbols) }
         ensures symbol { option_map (λ s. s.now) result.1 ≡ find self.now.symbols word.now }
     {
-        match self.symbols.get_full(word) {
+        if word.len() > self.longest_symbol {
+            return (self.symbols.len(), None);
+        }
+        match self.symbols.get_full(Name { bytes: word }) {
             Some((number, _, symbol)) => (number, Some(symbol)),
             None => (self.symbols.len(), None),
         }
@@ -136,7 +149,7 @@ impl<'a, A: Allocator + Copy> Names<'a, A> {
     pub(crate) fn is_label(&self, word: &[u8]) -> bool
         ensures { result ≡ is_some (find self.now.labels word.now) }
     {
-        self.labels.get(word).is_some()
+        word.len() <= self.longest_label && self.labels.get(Name { bytes: word }).is_some()
     }
 
     /// The symbol with that name from now on.
@@ -154,8 +167,9 @@ impl<'a, A: Allocator + Copy> Names<'a, A> {
         ensures names { OnOk result
             (names_of self.new.symbols ≡ with_name word.now (names_of self.old.symbols)) }
     {
-        let (number, _) = self.symbols.insert_full(word, symbol)?;
+        let (number, _) = self.symbols.insert_full(Name { bytes: word }, symbol)?;
         note_guess(&mut self.guesses, word, number);
+        self.longest_symbol = self.longest_symbol.max(word.len());
         Ok(())
     }
 
@@ -167,7 +181,8 @@ impl<'a, A: Allocator + Copy> Names<'a, A> {
             ≡ (if bytes_eq word.now w then Some statement else find self.old.labels w)) }
         ensures symbols { OnOk result (self.new.symbols ≡ self.old.symbols) }
     {
-        self.labels.insert(word, statement)?;
+        self.labels.insert(Name { bytes: word }, statement)?;
+        self.longest_label = self.longest_label.max(word.len());
         Ok(())
     }
 }

@@ -30,6 +30,7 @@ use mm_frame::frames::{Frame, Frames};
 use mm_outline::blocks::Blocks;
 use mm_outline::parts::{Kind, Outline};
 use mm_outline::symbol::Sym;
+use mm_scope::name::Name;
 use mm_scope::names::{Map, Symbol};
 use mm_spec::{Fault, Word};
 use std::alloc::Allocator;
@@ -171,7 +172,7 @@ impl<'a, A: Allocator> Database<'a, A> {
             ((j : ℕ)
             → list_any (is_labelled label.now) (statement_at self.now.statements j) ≡ false) }
     {
-        self.labels.get(label).copied()
+        self.labels.get(Name { bytes: label }).copied()
     }
 
     /// The symbols of a statement, the typecode first where it has one; none where it is `${` or
@@ -212,7 +213,7 @@ impl<'a, A: Allocator> Database<'a, A> {
         ensures { slice_get (symbol_names self.now.statements) symbol ≡ Some result.now }
     {
         match self.symbols.get_index(symbol.number() as usize) {
-            Some((name, _)) => *name,
+            Some((name, _)) => name.bytes,
             None => unreachable!("each symbol has a name"),
         }
     }

@@ -3,7 +3,7 @@ use Rattle.mm_spec.specs.Frame.{place_of}
 use Rattle.mm_outline.specs.Parts.{between, token_at}
 use Rattle.mm_scope.specs.Formulas.{numbers_in}
 use Rattle.mm_scope.specs.Names.{names_of}
-use Rattle.mm_scope.proofs.NumberedLaw.{place_le, numbers-more, numbers-none}
+use Rattle.mm_scope.proofs.NumberedLaw.{place_le, numbers_more, numbers_none}
 use Rattle.mm_scope.proofs.names.Names.number_all.Goals as goal
 
 pub overflow_cast-number : goal.overflow_cast-number
@@ -18,7 +18,7 @@ pub loop-at-init : goal.loop-at-init
 loop-at-init g c =
     sym (append-nil _)
     ∙ ap (λ l. c.args.numbers.now.items ++ l)
-    (numbers-none c.args.text.now c.args.tokens.now (names_of c.args.self.now.symbols) c.args.from)
+    (numbers_none c.args.text.now c.args.tokens.now (names_of c.args.self.now.symbols) c.args.from)
 
 pub loop-at-preserved : goal.loop-at-preserved
 loop-at-preserved g c =
@@ -33,4 +33,4 @@ loop-at-preserved g c =
     ∙ ap (λ w. place_of w ns) c.bytes.ensures)
     ∙ append_assoc c.args.numbers.now.items xs (place_of (token_at text ws at).word ns ∷ [])
     ∙ ap (λ l. c.args.numbers.now.items ++ l)
-    (sym (numbers-more text ws ns c.args.from at (omega arith) (omega arith)))
+    (sym (numbers_more text ws ns c.args.from at (omega arith) (omega arith)))

@@ -6,7 +6,7 @@ use Rattle.mm_outline.specs.Parts.{token_at, between}
 use Rattle.mm_scope.specs.Judge.{merge, fault_at, is_open_in, symbol_code}
 use Rattle.mm_scope.specs.Names.{find, names_of}
 use Rattle.mm_scope.proofs.JudgeLaw.{symbols_more}
-use Rattle.mm_scope.proofs.NumberedLaw.{numbers-more, place_le}
+use Rattle.mm_scope.proofs.NumberedLaw.{numbers_more, place_le}
 use Rattle.mm_scope.proofs.names.Scope.symbols_fault.Goals as goal
 
 pub overflow_cast-number : goal.overflow_cast-number
@@ -46,5 +46,5 @@ loop-at-preserved g c =
           ∙ append_assoc c.args.numbers.now.items xs
           (place_of (token_at text ws c.loop-at.at).word ns ∷ [])
           ∙ ap (λ l. c.args.numbers.now.items ++ l)
-          (sym (numbers-more text ws ns c.args.from c.loop-at.at later inside)));
+          (sym (numbers_more text ws ns c.args.from c.loop-at.at later inside)));
     }
