@@ -35,9 +35,9 @@ module _ {M : Type 1} {𝓤 : Ura M} (𝓛 : Logic 𝓤) (at_mem : Memory → SP
     (κ : Lft) (q : Share) (c : ℕ × ℕ) where
   open 𝓛 use {H, A}
 
-  pub Tick-goes : ent 𝓤 (sep 𝓤 (sem 𝓛 (hidden_shr Calls κ tt c.0 c.1)) (A.lft κ q))
+  pub Tick_goes : ent 𝓤 (sep 𝓤 (sem 𝓛 (hidden_shr Calls κ tt c.0 c.1)) (A.lft κ q))
       ((Tick 𝓛 at_mem run).pre (at_tick 𝓛 at_mem run κ q c))
-  Tick-goes =
+  Tick_goes =
       qed 𝓛 (‵ (hidden_shr Calls κ tt c.0 c.1) ∷ ‵ (flft κ q) ∷ []) ∵ feq_i ! (List Val)
       (vptr c.0 c.1 ∷ []) (vptr c.0 c.1 ∷ []) refl $ fjoin ! $
       nothing ! $ move ! (1 ∷ []) $ fjoin ! $ nothing ! $ move !
@@ -47,9 +47,9 @@ module _ {M : Type 1} {𝓤 : Ura M} (𝓛 : Logic 𝓤) (at_mem : Memory → SP
   abbrev pub Gave : Val → Bool → SProp 𝓤
   Gave v b = guard 𝓤 (v ≡ vbool b) (A.lft κ q)
 
-  pub Tick-gives : (v : Val)
+  pub Tick_gives : (v : Val)
       → ent 𝓤 ((Tick 𝓛 at_mem run).post (at_tick 𝓛 at_mem run κ q c) v) (H.⇛ (ex 𝓤 (Gave v)))
-  Tick-gives v =
+  Tick_gives v =
       qed 𝓛 (types.Kit.raw ((Tick 𝓛 at_mem run).post (at_tick 𝓛 at_mem run κ q c) v) ∷ []) ∵
       updating ! $
       use1 𝓛 (later

@@ -2,7 +2,7 @@
 
 use crate::calls::{ended, plan_of};
 use crate::ends::{Failing, Stop, Stopping};
-use crate::texts::{FIRST, FIRST_REPORT};
+use crate::texts::{FIRST_REPORT, FIRST_TEXT};
 use mm_plan::Cutting;
 use mm_run::RunEnd;
 use mm_spec::Choice;
@@ -31,7 +31,7 @@ fn reads<R: Threads + Wait + Sync>(
     let plan = plan_of(Cutting::Count(3), 2, Choice::All);
     let mut written = Vec::new(alloc);
     let mut from = Failing {
-        text: FIRST,
+        text: FIRST_TEXT,
         fails_at,
         kind,
         calls: 0,
@@ -89,7 +89,7 @@ fn a_write_that_fails_is_not_tried_again(rt: HostRuntime) {
     ] {
         for room in 0..FIRST_REPORT.len() {
             let want = (RunEnd::WriteFailed, &FIRST_REPORT[..room], room + 1);
-            assert!(&rt; writes(&rt, rt.alloc(), FIRST, room, stop, want));
+            assert!(&rt; writes(&rt, rt.alloc(), FIRST_TEXT, room, stop, want));
         }
         for room in 0..OPEN_REFUSAL.len() {
             let want = (RunEnd::WriteFailed, &OPEN_REFUSAL[..room], room + 1);
@@ -103,5 +103,5 @@ fn a_writer_that_takes_one_byte_a_call_has_the_whole(rt: HostRuntime) {
     let stop = Stop::TakesNothing;
     let room = FIRST_REPORT.len();
     let want = (RunEnd::Accepted, FIRST_REPORT, room);
-    assert!(&rt; writes(&rt, rt.alloc(), FIRST, room, stop, want));
+    assert!(&rt; writes(&rt, rt.alloc(), FIRST_TEXT, room, stop, want));
 }

@@ -1,7 +1,7 @@
 //! Texts that are cut short, and texts that are made to do harm.
 
 use crate::calls::{ended, plan_of};
-use crate::texts::{BASE, FIRST, FIRST_REPORT};
+use crate::texts::{BASE, FIRST_REPORT, FIRST_TEXT};
 use mm_plan::Cutting;
 use mm_run::RunEnd;
 use mm_spec::{Choice, Code, Fault};
@@ -49,8 +49,8 @@ fn end_of(beginning: &[u8]) -> RunEnd {
 
 #[test]
 fn a_text_that_is_cut_short(rt: HostRuntime) {
-    for len in 0..FIRST.len() + 1 {
-        let text = &FIRST[..len];
+    for len in 0..FIRST_TEXT.len() + 1 {
+        let text = &FIRST_TEXT[..len];
         let (end, _) = run_on(&rt, rt.alloc(), Cutting::Count(3), text);
         assert!(&rt; end == Some(end_of(text)));
     }
@@ -67,7 +67,7 @@ fn refusals_of_texts_that_are_cut_short(rt: HostRuntime) {
         (170, FIRST_REPORT),
     ];
     for (len, output) in rows {
-        let (_, written) = run_on(&rt, rt.alloc(), Cutting::Count(3), &FIRST[..len]);
+        let (_, written) = run_on(&rt, rt.alloc(), Cutting::Count(3), &FIRST_TEXT[..len]);
         assert_eq!(rt; written.as_slice(), output);
     }
 }

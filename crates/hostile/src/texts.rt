@@ -2,7 +2,7 @@
 
 /// Symbols and formulas of a conditional, its first axiom, and a theorem that rests on one of the
 /// two axioms.
-pub(crate) const FIRST: &[u8] =
+pub(crate) const FIRST_TEXT: &[u8] =
     b"$c wff |- ( -> ) $.\n$v p q $.\nwp $f wff p $.\nwq $f wff q $.\nwi $a wff ( p -> q ) $.\nax-1 $a |- ( p -> ( q -> p ) ) $.\nwi2 $p wff ( p -> ( q -> p ) ) $= wp wq wp wi wi $.\n";
 
 pub(crate) const FIRST_REPORT: &[u8] =

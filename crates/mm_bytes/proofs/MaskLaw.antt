@@ -1,9 +1,9 @@
 -- A mask that is computed lane by lane is held to a predicate at each of the 256 bytes.
-use Rattle.std.proofs.Common.{◌≡◌, ℕ, zero, suc, ◌%◌, ◌^◌, ◌<◌, ◌≤◌, ltb, Bool, true, false, cond}
-use Rattle.std.proofs.Common.{eqb, ◌&&◌, T, List, [], ◌∷◌, map, length, refl, sym, ap, ap₂, ◌∙◌}
-use Rattle.std.proofs.Common.{arith, subst, ◌⊎◌, inl, inr, not-suc-le-zero, w8, Fits}
-use Rattle.std.proofs.lemmas.Simd.{mask_l-mod, mask_l-lt, zip2_of_maps}
-use Rattle.std.proofs.Math.Pow.{pow_mono}
+use Rattle.std.proofs.Common.{◌≡◌, ℕ, zero, suc, ◌+◌, ◌*◌, ◌%◌, ◌^◌, ◌<◌, ◌≤◌, ltb, Bool}
+use Rattle.std.proofs.Common.{true, false, cond, eqb, ◌&&◌, T, List, [], ◌∷◌, ◌++◌, map}
+use Rattle.std.proofs.Common.{replicate, length, refl, sym, ap, ap₂, ◌∙◌, arith, subst, ◌⊎◌, inl}
+use Rattle.std.proofs.Common.{inr, not-suc-le-zero, w8, Fits}
+use Rattle.std.proofs.lemmas.Simd.{mask_l-mod, zip2_of_maps}
 use Rattle.std.proofs.lemmas.List.{length-map}
 use Rattle.std.proofs.lemmas.Bool.{cases_order}
 use lib.Bits.{bit_or, bit_xor}
@@ -75,10 +75,10 @@ pub one_of : (f g : ℕ → ℕ) (v : List ℕ) {a b : List ℕ} → a ≡ map f
     → zip2 bit_xor a b ≡ map (λ x. bit_xor (f x) (g x)) v
 one_of f g v p q = zip2_of_maps bit_xor f g v p q
 
--- A mask of fewer than 64 bytes has room for one more.
-pub has_room : (p : ℕ → Bool) (bytes : List ℕ) → length bytes < 64 → mask_l (map p bytes) < 2 ^ 63
-has_room p bytes short =
-    let few : length (map p bytes) ≤ 63 = omega (arith, length-map bytes p) in
-    let low = mask_l-lt (map p bytes) in
-    let high : 2 ^ length (map p bytes) ≤ 2 ^ 63 = pow_mono few in
-    omega (arith, low, high)
+-- The bytes behind others add nothing to their mask where they aren't in the set.
+pub mask_padded : (p : ℕ → Bool) (bytes : List ℕ) (n b : ℕ) → p b ≡ false
+    → mask_l (map p (bytes ++ replicate n b)) ≡ mask_l (map p bytes)
+mask_padded p [] zero b out = refl
+mask_padded p [] (suc n) b out = rw (out, mask_padded p [] n b out) refl
+mask_padded p (x ∷ bytes) n b out =
+    ap (λ m. cond (p x) 1 0 + 2 * m) (mask_padded p bytes n b out)

@@ -1,6 +1,6 @@
 //! The classes of up to 64 bytes.
 
-ghost use Rattle.std.specs.Prelude.{◌≡◌, ◌==◌, ◌<◌, length};
+ghost use Rattle.std.specs.Prelude.{◌≡◌, ◌==◌, ◌<◌, ◌-◌, ◌++◌, length, replicate};
 ghost use Rattle.mm_spec.specs.Bytes.{is_white, is_printable};
 ghost use Rattle.mm_bytes.specs.Masks.{is_bad, mask};
 
@@ -34,14 +34,7 @@ pub fn class_tail(bytes: &[u8]) -> Classes
     ensures white { result.white ≡ mask is_white bytes.now }
     ensures bad { result.bad ≡ mask is_bad bytes.now }
 {
-    let mut classes = Classes { white: 0, bad: 0 };
-    let mut at = bytes.len();
-    while at > 0 {
-        at -= 1;
-        classes.white = 2 * classes.white + u64::from(is_white(bytes[at]));
-        classes.bad = 2 * classes.bad + u64::from(is_bad(bytes[at]));
-    }
-    classes
+    class_block(&padded(bytes))
 }
 
 /// The dollar signs among 64 bytes, a bit each: bit i is byte i.
@@ -56,19 +49,18 @@ pub fn dollars_tail(bytes: &[u8]) -> u64
     requires { length bytes.now < 64 }
     ensures { result ≡ mask (λ b. b == 0x24) bytes.now }
 {
-    let mut dollars = 0;
-    let mut at = bytes.len();
-    while at > 0 {
-        at -= 1;
-        dollars = 2 * dollars + u64::from(is_dollar(bytes[at]));
-    }
-    dollars
+    dollars_block(&padded(bytes))
 }
 
-fn is_dollar(b: u8) -> bool
-    ensures { result ≡ (b == 0x24) }
+/// Less than 64 bytes, made 64 by `a`, which is neither white nor bad nor a dollar sign.
+#[inline(always)]
+fn padded(bytes: &[u8]) -> [u8; 64]
+    requires { length bytes.now < 64 }
+    ensures { result ≡ bytes.now ++ replicate (64 - length bytes.now) 0x61 }
 {
-    b == b'$'
+    let mut block = [b'a'; 64];
+    block[..bytes.len()].copy_from_slice(bytes);
+    block
 }
 
 #[tactic(auto, unfolding(mm_spec::specs::Bytes::is_white))]

@@ -248,6 +248,15 @@ module _ (own kept : List ℕ) (es : List Span) (h : IsStack own kept es) where
 
 -- ---- the formula on top becomes a kept one
 
+-- what is so once it has been moved
+pub record IsMoved (own kept : List ℕ) (es : List Span) (own' kept' : List ℕ) (es' : List Span)
+    (m : Span) : Type 0 where
+  pub is_stack : IsStack own' kept' es'
+  pub says : texts (arena own' kept') es' ≡ texts (arena own kept) es
+  pub moves : Moves own kept own' kept'
+  pub is_kept : IsKept kept' m
+  pub on_top : text_of (arena [] kept') m ≡ top (texts (arena own kept) es)
+
 module _ (own kept : List ℕ) (es : List Span) (last : ℕ) (e : Span)
     (is_last : last + 1 ≡ length es) (is : e ≡ get_or es last nothing)
     (h : IsStack own kept es) where
@@ -352,8 +361,8 @@ module _ (own kept : List ℕ) (es : List Span) (last : ℕ) (e : Span)
         (new_text ∙ moved_is)
         ∙ sym last_top
 
-    pub moves : Moves own kept cut_own (kept ++ moved)
-    moves = record {
+    moves_all : Moves own kept cut_own (kept ++ moved)
+    moves_all = record {
       more = moved;
       kept_is = refl;
       known =
@@ -365,22 +374,17 @@ module _ (own kept : List ℕ) (es : List Span) (last : ℕ) (e : Span)
     }
 
     -- the same by the values that the code has
-    module _ (own' kept' : List ℕ) (m : Span) (cut : own' ≡ cut_own)
-        (grown : kept' ≡ kept ++ moved) (made : m ≡ entry') where
-      pub stack_here : IsStack own' kept' (slice_set es last m)
-      stack_here = rw (cut, grown, made) moved_stack
-
-      pub texts_here : texts (arena own' kept') (slice_set es last m) ≡ texts (arena own kept) es
-      texts_here = rw (cut, grown, made) moved_texts
-
-      pub kept_here : IsKept kept' m
-      kept_here = rw (grown, made) new_kept
-
-      pub text_here : text_of (arena [] kept') m ≡ top (texts (arena own kept) es)
-      text_here = rw (grown, made) new_text_is
-
-      pub moves_here : Moves own kept own' kept'
-      moves_here = rw (cut, grown) moves
+    pub moved_here : (own' kept' : List ℕ) (m : Span) → own' ≡ cut_own → kept' ≡ kept ++ moved
+        → m ≡ entry' → IsMoved own kept es own' kept' (slice_set es last m) m
+    moved_here own' kept' m cut grown made =
+        rw (cut, grown, made)
+        (record {
+          is_stack = moved_stack;
+          says = moved_texts;
+          moves = moves_all;
+          is_kept = new_kept;
+          on_top = new_text_is;
+        })
 
 -- nothing moves
 pub no_move : (own kept : List ℕ) → Moves own kept own kept

@@ -6,6 +6,7 @@ use Rattle.std.proofs.Common.{append_assoc, slice_get, length-append}
 use Rattle.std.specs.List.{AllByRecursion, list_any}
 use Rattle.std.proofs.lemmas.List.{drop_more, take-append-drop, take_more, map-append}
 use Rattle.std.proofs.lemmas.List.Folds.{list_any-append}
+use Rattle.std.proofs.lemmas.Option.{same_Some}
 use Rattle.mm_spec.specs.Text.{fault}
 use Rattle.mm_spec.specs.declared.Code.{Code}
 use Rattle.mm_spec.specs.declared.Code.TheVariants.{NotOneEntry}
@@ -47,10 +48,7 @@ within_at : (lists : List (List ℕ)) (all then : List ℕ) (j : ℕ) → Within
     → slice_get lists j ≡ Some then → (a : ℕ) → is_member then a ≡ true → is_member all a ≡ true
 within_at [] all then j w e a h = cc
 within_at (l ∷ lists) all then zero w e a h =
-    w.0 a (subst (λ x. is_member x a ≡ true) (sym (some_same l then e)) h)
-  where
-    some_same : (x y : List ℕ) → Some x ≡ Some y → x ≡ y
-    some_same x y e = cc
+    w.0 a (subst (λ x. is_member x a ≡ true) (sym (same_Some l then e)) h)
 within_at (l ∷ lists) all then (suc j) w e a h = within_at lists all then j w.1 e a h
 
 within_more : (lists : List (List ℕ)) (old new : List ℕ) → Within lists old

@@ -83,10 +83,10 @@ pub length_all_parts : (parts : List Part) (j : ℕ) (more : List Hypothesis)
 length_all_parts parts j [] = refl
 length_all_parts parts j (a ∷ more) = ap suc (length_all_parts parts (suc j) more)
 
-map-drop : (xs : Arena) (n : ℕ) (es : List Span) → drop n (texts xs es) ≡ texts xs (drop n es)
-map-drop xs zero es = refl
-map-drop xs (suc n) [] = refl
-map-drop xs (suc n) (e ∷ es) = map-drop xs n es
+map_drop : (xs : Arena) (n : ℕ) (es : List Span) → drop n (texts xs es) ≡ texts xs (drop n es)
+map_drop xs zero es = refl
+map_drop xs (suc n) [] = refl
+map_drop xs (suc n) (e ∷ es) = map_drop xs n es
 
 -- the step of an assertion, by the tests that the code makes
 pub judged : (k : List Statement) (t : ℕ) (c : Compiled) (xs : Arena) (stack premises : List Span)
@@ -128,7 +128,7 @@ judged k t c xs stack premises rule fits top inside many b1 b2 e1 e2 =
     ∙ ap (replaced xs premises) (sym rule.formula_is) in
     ap₂ (λ b i. apply (context_at k t) a b (take i es) (drop i es)) enough n
     ∙ ap (λ z. apply (context_at k t) a true (take m es) z)
-    (map-drop xs m stack ∙ ap (texts xs) (sym top))
+    (map_drop xs m stack ∙ ap (texts xs) (sym top))
     ∙ ap₂ (λ x y. pick true x y
     (nat_le (length (substitute (context_at k t) σ' a.formula)) formula_limit)
     (take m es ++ substitute (context_at k t) σ' a.formula ∷ [])) (ap (same ps) h

@@ -58,24 +58,24 @@ drop_nil : (k : ℕ) → drop {A = ℕ} k [] ≡ []
 drop_nil zero = refl
 drop_nil (suc k) = refl
 
-drop-take : (k n : ℕ) (ys : List ℕ) → drop k (take n ys) ≡ take (n - k) (drop k ys)
-drop-take zero n ys = let e : n ≡ n - 0 = omega arith in ap (λ m. take m ys) e
-drop-take (suc k) zero ys =
+drop_take : (k n : ℕ) (ys : List ℕ) → drop k (take n ys) ≡ take (n - k) (drop k ys)
+drop_take zero n ys = let e : n ≡ n - 0 = omega arith in ap (λ m. take m ys) e
+drop_take (suc k) zero ys =
     let e : 0 ≡ 0 - suc k = omega arith in let P : ℕ → List ℕ = λ m. take m (drop (suc k) ys) in
     drop_nil (suc k) ∙ ap P e
-drop-take (suc k) (suc n) [] = go (suc n - suc k)
+drop_take (suc k) (suc n) [] = go (suc n - suc k)
   where
     go : (m : ℕ) → [] ≡ take {A = ℕ} m []
     go zero = refl
     go (suc m) = refl
-drop-take (suc k) (suc n) (y ∷ ys) =
-    let e : n - k ≡ suc n - suc k = omega arith in drop-take k n ys ∙ ap (λ m. take m (drop k ys)) e
+drop_take (suc k) (suc n) (y ∷ ys) =
+    let e : n - k ≡ suc n - suc k = omega arith in drop_take k n ys ∙ ap (λ m. take m (drop k ys)) e
 
 -- a stretch without its first symbols
 pub rest_of : (xs : List ℕ) (a e k : ℕ) → drop k (slice_range xs a e) ≡ slice_range xs (a + k) e
 rest_of xs a e k =
     let n : (e - a) - k ≡ e - (a + k) = omega arith in
-    drop-take k (e - a) (drop a xs) ∙ ap₂ (λ m ys. take m ys) n (drop-drop k a xs)
+    drop_take k (e - a) (drop a xs) ∙ ap₂ (λ m ys. take m ys) n (drop-drop k a xs)
 
 pub length_text : (a : Arena) (p : Span) → IsIn a p → length (text_of a p) ≡ p.end - p.start
 length_text a p h =

@@ -28,55 +28,55 @@ begins from ends zero = from
 begins from [] (suc i) = from
 begins from (e ∷ ends) (suc i) = begins e ends i
 
-begins-suc : (from : ℕ) (ends : List ℕ) (i : ℕ) → i < length ends
+begins_suc : (from : ℕ) (ends : List ℕ) (i : ℕ) → i < length ends
     → begins from ends (suc i) ≡ get_or ends i 0
-begins-suc from [] i l = absurd (omega arith)
-begins-suc from (e ∷ ends) zero l = refl
-begins-suc from (e ∷ ends) (suc i) l = begins-suc e ends i (omega arith)
+begins_suc from [] i l = absurd (omega arith)
+begins_suc from (e ∷ ends) zero l = refl
+begins_suc from (e ∷ ends) (suc i) l = begins_suc e ends i (omega arith)
 
-begins-start : (ends : List ℕ) (i : ℕ) → i < length ends → begins 0 ends i ≡ start_of ends i
-begins-start ends zero l = refl
-begins-start ends (suc i) l = begins-suc 0 ends i (omega arith)
+begins_start : (ends : List ℕ) (i : ℕ) → i < length ends → begins 0 ends i ≡ start_of ends i
+begins_start ends zero l = refl
+begins_start ends (suc i) l = begins_suc 0 ends i (omega arith)
 
-begins-rise : (from : ℕ) (ends : List ℕ) (len i : ℕ) → AreEnds from ends len → i < length ends
+begins_rise : (from : ℕ) (ends : List ℕ) (len i : ℕ) → AreEnds from ends len → i < length ends
     → begins from ends i ≤ get_or ends i 0
-begins-rise from [] len i h l = absurd (omega arith)
-begins-rise from (e ∷ ends) len zero h l = h.0
-begins-rise from (e ∷ ends) len (suc i) h l = begins-rise e ends len i h.1 (omega arith)
+begins_rise from [] len i h l = absurd (omega arith)
+begins_rise from (e ∷ ends) len zero h l = h.0
+begins_rise from (e ∷ ends) len (suc i) h l = begins_rise e ends len i h.1 (omega arith)
 
-begins-cut : (from : ℕ) (ends numbers : List ℕ) (i : ℕ) → i < length ends
+begins_cut : (from : ℕ) (ends numbers : List ℕ) (i : ℕ) → i < length ends
     → get_or (cut_at from ends numbers) i []
     ≡ slice_range numbers (begins from ends i) (get_or ends i 0)
-begins-cut from [] numbers i l = absurd (omega arith)
-begins-cut from (e ∷ ends) numbers zero l = refl
-begins-cut from (e ∷ ends) numbers (suc i) l = begins-cut e ends numbers i (omega arith)
+begins_cut from [] numbers i l = absurd (omega arith)
+begins_cut from (e ∷ ends) numbers zero l = refl
+begins_cut from (e ∷ ends) numbers (suc i) l = begins_cut e ends numbers i (omega arith)
 
 pub starts_rise : (ends : List ℕ) (len i : ℕ) → AreEnds 0 ends len → i < length ends
     → start_of ends i ≤ get_or ends i 0
 starts_rise ends len i h l =
-    subst (λ (b : ℕ). b ≤ get_or ends i 0) (begins-start ends i l) (begins-rise 0 ends len i h l)
+    subst (λ (b : ℕ). b ≤ get_or ends i 0) (begins_start ends i l) (begins_rise 0 ends len i h l)
 
 pub cut_at_index : (ends numbers : List ℕ) (i : ℕ) → i < length ends
     → get_or (cut_at 0 ends numbers) i [] ≡ slice_range numbers (start_of ends i) (get_or ends i 0)
 cut_at_index ends numbers i l =
-    begins-cut 0 ends numbers i l
-    ∙ ap (λ (b : ℕ). slice_range numbers b (get_or ends i 0)) (begins-start ends i l)
+    begins_cut 0 ends numbers i l
+    ∙ ap (λ (b : ℕ). slice_range numbers b (get_or ends i 0)) (begins_start ends i l)
 
 -- one list more
-range-left : (xs ys : List ℕ) (a b : ℕ) → a ≤ b → b ≤ length xs
+range_left : (xs ys : List ℕ) (a b : ℕ) → a ≤ b → b ≤ length xs
     → slice_range (xs ++ ys) a b ≡ slice_range xs a b
-range-left xs ys zero b l m =
+range_left xs ys zero b l m =
     let e : b - 0 ≡ b = omega arith in
     ap (λ n. take n (xs ++ ys)) e ∙ take-append-le b xs ys m ∙ sym (ap (λ n. take n xs) e)
-range-left [] ys (suc a) b l m = absurd (omega arith)
-range-left (x ∷ xs) ys (suc a) zero l m = absurd (omega arith)
-range-left (x ∷ xs) ys (suc a) (suc b) l m =
+range_left [] ys (suc a) b l m = absurd (omega arith)
+range_left (x ∷ xs) ys (suc a) zero l m = absurd (omega arith)
+range_left (x ∷ xs) ys (suc a) (suc b) l m =
     let e : suc b - suc a ≡ b - a = omega arith in
-    ap (λ n. take n (drop a (xs ++ ys))) e ∙ range-left xs ys a b (omega arith) (omega arith)
+    ap (λ n. take n (drop a (xs ++ ys))) e ∙ range_left xs ys a b (omega arith) (omega arith)
     ∙ sym (ap (λ n. take n (drop a xs)) e)
 
-range-last : (xs ys : List ℕ) → slice_range (xs ++ ys) (length xs) (length xs + length ys) ≡ ys
-range-last xs ys =
+range_last : (xs ys : List ℕ) → slice_range (xs ++ ys) (length xs) (length xs + length ys) ≡ ys
+range_last xs ys =
     let e : length xs + length ys - length xs ≡ length ys = omega arith in
     ap₂ (λ n (zs : List ℕ). take n zs) e (dropped xs) ∙ whole ys
   where
@@ -92,10 +92,10 @@ pub cut_at_more : (from : ℕ) (ends xs ys : List ℕ) → AreEnds from ends (le
     → cut_at from (ends ++ (length xs + length ys) ∷ []) (xs ++ ys) ≡ cut_at from ends xs ++ ys ∷ []
 cut_at_more from [] xs ys h =
     ap (λ (l : List ℕ). l ∷ [])
-    (ap (λ (a : ℕ). slice_range (xs ++ ys) a (length xs + length ys)) h ∙ range-last xs ys)
+    (ap (λ (a : ℕ). slice_range (xs ++ ys) a (length xs + length ys)) h ∙ range_last xs ys)
 cut_at_more from (e ∷ ends) xs ys h =
     ap₂ (λ (l : List ℕ) (ls : List (List ℕ)). l ∷ ls)
-    (range-left xs ys from e h.0 (first_within e ends (length xs) h.1))
+    (range_left xs ys from e h.0 (first_within e ends (length xs) h.1))
     (cut_at_more e ends xs ys h.1)
 
 pub ends_more : (from : ℕ) (ends : List ℕ) (len more : ℕ) → AreEnds from ends len

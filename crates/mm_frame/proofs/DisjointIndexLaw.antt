@@ -217,6 +217,28 @@ covers_more b ps first middle q some c d s l p m n = by (cases_lt p first)
     by (inl h) = let r = d p m (omega (arith, h)) in let e = r.1 in (r.0 ∙ s, omega (arith, e, l))
     by (inr h) = c p h n
 
+-- ---- what stands before a place
+
+-- so many pairs stand before that of the symbol and the place
+pub record Parted (ps : List (ℕ × ℕ)) (x at start : ℕ) : Type 0 where
+  pub within : start ≤ length ps
+  pub before : (p : ℕ) → p < start → is_before (get_or ps p (0, 0)) x at ≡ true
+  pub after : (p : ℕ) → start ≤ p → p < length ps → is_before (get_or ps p (0, 0)) x at ≡ false
+
+-- the same by the values that the code has
+module _ (qs ps : List (ℕ × ℕ)) (y x : ℕ) (same : qs ≡ ps) (is : y ≡ x) where
+  pub parted_here : (at start : ℕ) → start ≤ length qs
+      → ((p : ℕ) → p < start → is_before (get_or qs p (0, 0)) y at ≡ true)
+      → ((p : ℕ) → start ≤ p → p < length qs → is_before (get_or qs p (0, 0)) y at ≡ false)
+      → Parted ps x at start
+  parted_here at start w b a = rw (← same, ← is) (record { within = w; before = b; after = a })
+
+  pub symbol_here : (p : ℕ) → (get_or qs p (0, 0)).0 ≡ y → (get_or ps p (0, 0)).0 ≡ x
+  symbol_here p e = rw (← same, ← is) e
+
+  pub no_symbol_here : (p : ℕ) → (get_or qs p (0, 0)).0 ≢ y → (get_or ps p (0, 0)).0 ≢ x
+  no_symbol_here p n = rw (← same, ← is) n
+
 -- ---- what is added of one symbol
 
 -- those from `left` on have been looked at
@@ -230,23 +252,22 @@ pub record Added (b : Lists) (ps : List (ℕ × ℕ)) (x at start left : ℕ)
       → nat_le at (end_of b (get_or ps p (0, 0)).1) ≡ true
       → has_pair now (get_or ps p (0, 0)).1 x ≡ true
 
-module _ (b : Lists) (ps : List (ℕ × ℕ)) (rising : AreRising ps) (x at start : ℕ)
-    (within : start ≤ length ps)
-    (before : (p : ℕ) → p < start → is_before (get_or ps p (0, 0)) x at ≡ true)
-    (after : (p : ℕ) → start ≤ p → p < length ps → is_before (get_or ps p (0, 0)) x at ≡ false)
-  where
-    pub added_start : (old : List (ℕ × ℕ)) → Added b ps x at start start old old
-    added_start old =
-        record {
-          inside = omega arith;
-          kept = λ j y e. e;
-          only = λ j y e. inl e;
-          all = λ p l m. absurd (omega (arith, l, m));
-        }
+pub added_start : (b : Lists) (ps : List (ℕ × ℕ)) (x at start : ℕ) (old : List (ℕ × ℕ))
+    → Added b ps x at start start old old
+added_start b ps x at start old =
+    record {
+      inside = omega arith;
+      kept = λ j y e. e;
+      only = λ j y e. inl e;
+      all = λ p l m. absurd (omega (arith, l, m));
+    }
 
+module _ (b : Lists) (ps : List (ℕ × ℕ)) (rising : AreRising ps) (x at start : ℕ)
+    (parted : Parted ps x at start)
+  where
     -- before the place, where the symbol is that
     pub sooner : (p : ℕ) → p < start → (get_or ps p (0, 0)).0 ≡ x → (get_or ps p (0, 0)).1 < at
-    sooner p l e = by (before_is (get_or ps p (0, 0)) x at (before p l))
+    sooner p l e = by (before_is (get_or ps p (0, 0)) x at (parted.before p l))
       where
         by : IsBefore (get_or ps p (0, 0)).0 (get_or ps p (0, 0)).1 x at
             → (get_or ps p (0, 0)).1 < at
@@ -293,7 +314,7 @@ module _ (b : Lists) (ps : List (ℕ × ℕ)) (rising : AreRising ps) (x at star
             inr (
               sy,
               ap₂ (λ u v. has_pair ps u v) (sym s) sj
-                  ∙ at_has ps (left - 1) (0, 0) (omega (arith, here, within)),
+                  ∙ at_has ps (left - 1) (0, 0) (let w = parted.within in omega (arith, here, w)),
               ap₂ (λ u v. u && v)
                   (ap (λ j. nat_lt j at) sj ∙ lt-ltb m at (sooner (left - 1) here s))
                   (ap (λ j. nat_le at (end_of b j)) sj ∙ o),
@@ -347,7 +368,7 @@ module _ (b : Lists) (ps : List (ℕ × ℕ)) (rising : AreRising ps) (x at star
     none_left left i n p l e = by (cases_eq p (left - 1))
       where
         below : (q : ℕ) → q < start → (get_or ps q (0, 0)).0 ≤ x
-        below q h = low (before_is (get_or ps q (0, 0)) x at (before q h))
+        below q h = low (before_is (get_or ps q (0, 0)) x at (parted.before q h))
           where
             low : IsBefore (get_or ps q (0, 0)).0 (get_or ps q (0, 0)).1 x at
                 → (get_or ps q (0, 0)).0 ≤ x
@@ -364,9 +385,10 @@ module _ (b : Lists) (ps : List (ℕ × ℕ)) (rising : AreRising ps) (x at star
         by : (p ≡ left - 1) ⊎ (p ≢ left - 1) → ⊥
         by (inl s) = n (omega (arith, l)) (sym (ap (λ i. (get_or ps i (0, 0)).0) s) ∙ e)
         by (inr t) =
+            let w = parted.within in
             let u =
             above (rising_at ps rising p (left - 1) (0, 0) (omega (arith, l, t))
-            (omega (arith, l, i, within))) in
+            (omega (arith, l, i, w))) in
             let v = below (left - 1) (omega (arith, l, i)) in
             n (omega (arith, l)) (omega (arith, u, v))
 
@@ -380,7 +402,7 @@ module _ (b : Lists) (ps : List (ℕ × ℕ)) (rising : AreRising ps) (x at star
         by (inl h) = h
         by (inr h) =
             absurd (true≢false
-            (sym (is_before_if (get_or ps p (0, 0)) x at (inr (e, m))) ∙ after p h l))
+            (sym (is_before_if (get_or ps p (0, 0)) x at (inr (e, m))) ∙ parted.after p h l))
 
     pub added_end : (left : ℕ) (old now : List (ℕ × ℕ)) → Added b ps x at start left old now
         → (0 < left → (get_or ps (left - 1) (0, 0)).0 ≢ x)
@@ -449,8 +471,8 @@ module _ (b : Lists) (ps : List (ℕ × ℕ)) (rising : AreRising ps) (x y at : 
         ltb-true (get_or ps p (0, 0)).1 at
         (and_parts (nat_lt (get_or ps p (0, 0)).1 at)
         (nat_le at (end_of b (get_or ps p (0, 0)).1)) o).0 in (
-          inside_if b ps rising x at left l bl al p h e m,
-          inside_if b ps rising y at right r br ar q
+          inside_if b ps rising x at left (record { within = l; before = bl; after = al }) p h e m,
+          inside_if b ps rising y at right (record { within = r; before = br; after = ar }) q
               i f (omega (arith, m, s)),
         );
   }

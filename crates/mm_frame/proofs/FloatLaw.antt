@@ -7,6 +7,7 @@ use Rattle.std.proofs.lemmas.Bool.{lt-ltb}
 use Rattle.std.proofs.lemmas.List.{take-append-drop}
 use Rattle.std.proofs.lemmas.List.Folds.{list_any-append}
 use Rattle.std.proofs.lemmas.Grind.{flat_map-append}
+use Rattle.std.proofs.lemmas.Option.{same_Some}
 use Rattle.std.proofs.lemmas.Slice.Eq.{bytes_eq-Decides}
 use Rattle.std.specs.List.{list_any}
 use Rattle.mm_spec.specs.Text.{Bytes, Token, is_in, fault}
@@ -21,10 +22,10 @@ use Rattle.mm_spec.specs.declared.Code.TheVariants.{BadFloating, TypedBefore, Ot
 use Rattle.mm_spec.specs.Frame.{symbol_names, place_of, is_variable_number, is_floating, formula_at}
 use Rattle.mm_spec.specs.Frame.{formula_of}
 use Rattle.mm_spec.proofs.FindsLaw.{range_any}
-use Rattle.mm_spec.proofs.FaultlessLaw.{least_none}
+use Rattle.mm_spec.proofs.FaultlessLaw.{append_none, least_none}
 use Rattle.mm_outline.specs.Typed.{has, typed_words}
 use Rattle.mm_frame.specs.Tables.{IsSound, typed_at}
-use Rattle.mm_outline.proofs.FaultlessLaw.{append_none, floating_new}
+use Rattle.mm_outline.proofs.FaultlessLaw.{floating_new}
 use Rattle.mm_outline.proofs.AmongLaw.{typed_in, among_active}
 
 -- a word that has a place is there
@@ -120,13 +121,10 @@ module _ (db : List Statement) (sound : IsSound db) where
         variable = x;
         dot = d;
         is = e;
-        number = some_same f;
+        number = same_Some _ _ f;
         untyped = (floating_new (names_before db k) a c x n).1;
         constant = constant_there (names_before db k) a c x n;
       }
-    where
-      some_same : {p q : ℕ} → Some p ≡ Some q → p ≡ q
-      some_same s = cc
 
   pub typed_float : (k v : ℕ) → k < length db → typed_at db k ≡ Some v → IsFloat db k v
   typed_float k v h e = by (slice_get db k) refl e
@@ -218,7 +216,7 @@ module _ (db : List Statement) (sound : IsSound db) where
       let bj = subst (λ n. n < length (symbol_names db)) (sym f.number) (variable_below j v i f) in
       let bk = subst (λ n. n < length (symbol_names db)) (sym g.number) (variable_below k v h g) in
       let same =
-      some_same
+      same_Some _ _
       (sym (place_get f.variable.word (symbol_names db) bj)
       ∙ ap (slice_get (symbol_names db)) (f.number ∙ sym g.number)
       ∙ place_get g.variable.word (symbol_names db) bk) in
@@ -231,6 +229,3 @@ module _ (db : List Statement) (sound : IsSound db) where
       (omega arith) (ap₂ (λ a b. a && b) (float_active j v i f k l ∙ e) there))
       ∙ sym (among_active db typed_words w (λ i. is_active db i k) k 0)
       ∙ sym (typed_in w (active_statements db k)) ∙ g.untyped)
-    where
-      some_same : {p q : Bytes} → Some p ≡ Some q → p ≡ q
-      some_same s = cc

@@ -5,6 +5,7 @@ use Rattle.std.proofs.Common.{inl, inr, length-append}
 use Rattle.std.proofs.lemmas.Bool.{cases_lt, cases_eq}
 use Rattle.std.proofs.lemmas.List.{get_or-set_same, get_or-set_other, length-set}
 use Rattle.std.proofs.lemmas.List.{get_or_append_left}
+use Rattle.std.proofs.lemmas.Option.{same_Some}
 use Rattle.std.proofs.Math.Seq.{get_or-append_seam}
 use Rattle.std.specs.List.{list_any}
 use Rattle.mm_spec.specs.Statement.{Statement}
@@ -61,9 +62,6 @@ typed_some db sound k v ts few t e = record {
     here : get_or (set ts v k) v 0 ≡ k
     here = get_or-set_same ts v k 0 below
 
-    some_same : {p q : ℕ} → Some p ≡ Some q → p ≡ q
-    some_same s = cc
-
     some : (u : ℕ) → u < length (symbol_names db) → get_or (set ts v k) u 0 ≢ never
         → (u ≡ v) ⊎ (u ≢ v)
         → (get_or (set ts v k) u 0 < k + 1) × (typed_at db (get_or (set ts v k) u 0) ≡ Some u)
@@ -87,7 +85,7 @@ typed_some db sound k v ts few t e = record {
         ∙ t.alone j u m l is (stays_earlier db j k (k + 1) (omega arith) (omega arith) on)
     alone j u h l is on (inr m) q =
         let same : k ≡ j = omega arith in
-        let s = some_same (sym is ∙ sym (ap (typed_at db) same) ∙ e) in
+        let s = same_Some _ _ (sym is ∙ sym (ap (typed_at db) same) ∙ e) in
         ap (λ i. get_or (set ts v k) i 0) s ∙ here ∙ same
 
 -- ---- the frames

@@ -54,21 +54,21 @@ comment_word_is_no_closing word h = by (closes_comment word) refl
     by false e = e
 
 -- what each class is read as
-role-token : (word : List ℕ) → is_token word ≡ true → role_of false word ≡ roles.Token
+role_token : (word : List ℕ) → is_token word ≡ true → role_of false word ≡ roles.Token
 unfolding role_of
-role-token word h = rw h refl
+role_token word h = rw h refl
 
-role-opening : (word : List ℕ) → opens_comment word ≡ true → role_of false word ≡ roles.Opening
+role_opening : (word : List ℕ) → opens_comment word ≡ true → role_of false word ≡ roles.Opening
 unfolding role_of
-role-opening word h = rw (opening_is_no_token word h, h) refl
+role_opening word h = rw (opening_is_no_token word h, h) refl
 
-role-closing : (word : List ℕ) → closes_comment word ≡ true → role_of true word ≡ roles.Closing
+role_closing : (word : List ℕ) → closes_comment word ≡ true → role_of true word ≡ roles.Closing
 unfolding role_of
-role-closing word h = rw h refl
+role_closing word h = rw h refl
 
-role-comment : (word : List ℕ) → is_comment_word word ≡ true → role_of true word ≡ roles.Comment
+role_comment : (word : List ℕ) → is_comment_word word ≡ true → role_of true word ≡ roles.Comment
 unfolding role_of
-role-comment word h = rw (comment_word_is_no_closing word h, h) refl
+role_comment word h = rw (comment_word_is_no_closing word h, h) refl
 
 -- the roles outside a comment, and those inside
 data Outside (word : List ℕ) : Type 0 where
@@ -101,35 +101,35 @@ inside word = by (closes_comment word) (is_comment_word word) refl refl
 
 -- ---- a well-begun row is read as its tokens and its open comment
 
-reading-comment_words : (text : List ℕ) (p : ℕ) (ws us : List Word) → AreCommentWords text ws
+reading_comment_words : (text : List ℕ) (p : ℕ) (ws us : List Word) → AreCommentWords text ws
     → reading text (Some p) (ws ++ us) ≡ reading text (Some p) us
-reading-comment_words text p [] us all = refl
-reading-comment_words text p (w ∷ ws) us (h, all) =
-    reading_comment text (Some p) w (ws ++ us) (role-comment _ h)
-    ∙ reading-comment_words text p ws us all
+reading_comment_words text p [] us all = refl
+reading_comment_words text p (w ∷ ws) us (h, all) =
+    reading_comment text (Some p) w (ws ++ us) (role_comment _ h)
+    ∙ reading_comment_words text p ws us all
 
-reading-items : (text : List ℕ) (items : List Item) → AllByRecursion (IsItem text) items →
+reading_items : (text : List ℕ) (items : List Item) → AllByRecursion (IsItem text) items →
     reading text None (flat_map words_in items)
     ≡ record { tokens = flat_map tokens_in items; fault = None; comment = None }
-reading-items text [] all = reading_end text None
-reading-items text (Single w ∷ items) (h, all) =
-    reading_one text None w _ (role-token _ h)
-    ∙ ap (with_tokens (w ∷ [])) (reading-items text items all)
-reading-items text (Comment o ws c ∷ items) (h, all) =
-    reading_opening text None o _ (role-opening _ h.0)
+reading_items text [] all = reading_end text None
+reading_items text (Single w ∷ items) (h, all) =
+    reading_one text None w _ (role_token _ h)
+    ∙ ap (with_tokens (w ∷ [])) (reading_items text items all)
+reading_items text (Comment o ws c ∷ items) (h, all) =
+    reading_opening text None o _ (role_opening _ h.0)
     ∙ ap (reading text (Some o.start)) (append_assoc ws (c ∷ []) (flat_map words_in items))
-    ∙ reading-comment_words text o.start ws (c ∷ flat_map words_in items) h.1
-    ∙ reading_closing text (Some o.start) c _ (role-closing _ h.2)
-    ∙ reading-items text items all
+    ∙ reading_comment_words text o.start ws (c ∷ flat_map words_in items) h.1
+    ∙ reading_closing text (Some o.start) c _ (role_closing _ h.2)
+    ∙ reading_items text items all
 
-reading-rest : (text : List ℕ) (rest : Rest) → IsRest text rest
+reading_rest : (text : List ℕ) (rest : Rest) → IsRest text rest
     → reading text None (words_open rest)
     ≡ record { tokens = []; fault = None; comment = option_map (λ p. p.0.start) rest }
-reading-rest text None all = reading_end text None
-reading-rest text (Some (o, ws)) all =
-    reading_opening text None o ws (role-opening _ all.0)
+reading_rest text None all = reading_end text None
+reading_rest text (Some (o, ws)) all =
+    reading_opening text None o ws (role_opening _ all.0)
     ∙ ap (reading text (Some o.start)) (sym (append-nil ws))
-    ∙ reading-comment_words text o.start ws [] all.1
+    ∙ reading_comment_words text o.start ws [] all.1
     ∙ reading_end text (Some o.start)
 
 pub IsWellBegun_reading : (text : List ℕ) (ws ts : List Word) (c : Option ℕ)
@@ -139,21 +139,21 @@ IsWellBegun_reading text ws ts c begun =
     ap (reading text None) begun.words
     ∙ reading_append text None (flat_map words_in begun.items) (words_open begun.rest)
     ∙ ap (λ (r : Reading). go_on text r (words_open begun.rest))
-    (reading-items text begun.items begun.are_items)
-    ∙ ap (with_tokens (flat_map tokens_in begun.items)) (reading-rest text begun.rest begun.is_rest)
+    (reading_items text begun.items begun.are_items)
+    ∙ ap (with_tokens (flat_map tokens_in begun.items)) (reading_rest text begun.rest begun.is_rest)
     ∙ rw (append-nil, begun.same_tokens, begun.same_comment) refl
 
 -- ---- a reading without a fault is of a well-begun row
 
-AreCommentWords-push : (text : List ℕ) (ws : List Word) (w : Word) → AreCommentWords text ws
+AreCommentWords_push : (text : List ℕ) (ws : List Word) (w : Word) → AreCommentWords text ws
     → is_comment_word (bytes_of text w) ≡ true → AreCommentWords text (ws ++ w ∷ [])
-AreCommentWords-push text [] w all h = (h, tt)
-AreCommentWords-push text (v ∷ ws) w (first, all) h = (first, AreCommentWords-push text ws w all h)
+AreCommentWords_push text [] w all h = (h, tt)
+AreCommentWords_push text (v ∷ ws) w (first, all) h = (first, AreCommentWords_push text ws w all h)
 
-IsWellBegun-cons : (text : List ℕ) (item : Item) (ws ts : List Word) (c : Option ℕ)
+IsWellBegun_cons : (text : List ℕ) (item : Item) (ws ts : List Word) (c : Option ℕ)
     → IsItem text item → IsWellBegun text ws ts c
     → IsWellBegun text (words_in item ++ ws) (tokens_in item ++ ts) c
-IsWellBegun-cons text item ws ts c is begun = record {
+IsWellBegun_cons text item ws ts c is begun = record {
   items = item ∷ begun.items;
   rest = begun.rest;
   are_items = (is, begun.are_items);
@@ -206,7 +206,7 @@ both text (w ∷ ws) = record {
         → Begun text (w ∷ ws) (reading text None (w ∷ ws))
     by_out (token h role) ih =
         subst (Begun text (w ∷ ws)) (sym (reading_one text None w ws role))
-        (λ e. IsWellBegun-cons text (Single w) ws _ _ h (ih.out e))
+        (λ e. IsWellBegun_cons text (Single w) ws _ _ h (ih.out e))
     by_out (opening h role) ih =
         subst (Begun text (w ∷ ws)) (sym (reading_opening text None w ws role))
         (ih.within w [] h tt)
@@ -222,13 +222,13 @@ both text (w ∷ ws) = record {
         (λ e. subst
         (λ (vs : List Word). IsWellBegun text (o ∷ vs) (reading text None ws).tokens
         (reading text None ws).comment) (append_assoc us (w ∷ []) ws)
-        (IsWellBegun-cons text (Comment o us w) ws _ _ (h, all, end) (ih.out e)))
+        (IsWellBegun_cons text (Comment o us w) ws _ _ (h, all, end) (ih.out e)))
     by_within o us h all (comment in_it role) ih =
         subst (Begun text (o ∷ (us ++ w ∷ ws)))
         (sym (reading_comment text (Some o.start) w ws role))
         (subst (λ (vs : List Word). Begun text (o ∷ vs) (reading text (Some o.start) ws))
         (append_assoc us (w ∷ []) ws)
-        (ih.within o (us ++ w ∷ []) h (AreCommentWords-push text us w all in_it)))
+        (ih.within o (us ++ w ∷ []) h (AreCommentWords_push text us w all in_it)))
     by_within o us h all (Inside.neither role) ih =
         subst (Begun text (o ∷ (us ++ w ∷ ws))) (sym (reading_faulty text (Some o.start) w ws role))
         (λ e. absurd cc)
@@ -249,11 +249,11 @@ abbrev SplitIf : List ℕ → Option ℕ → List Word → Fault → Reading →
 SplitIf text c ws f r = r.fault ≡ Some f → Split text c ws f r
 
 -- one word further in front, which leads from the comment c to d
-split-cons : (text : List ℕ) (c d : Option ℕ) (x : Word) (xs : List Word) (f : Fault) (r : Reading)
+split_cons : (text : List ℕ) (c d : Option ℕ) (x : Word) (xs : List Word) (f : Fault) (r : Reading)
     →
     ((us : List Word) → reading text c (x ∷ us) ≡ reading text d us) → Split text d xs f r
     → Split text c (x ∷ xs) f r
-split-cons text c d x xs f r step s = record {
+split_cons text c d x xs f r step s = record {
   before = x ∷ s.before;
   w = s.w;
   after = s.after;
@@ -284,14 +284,14 @@ split_at text c (x ∷ xs) f =
         })
     by roles.Opening h ih =
         subst (SplitIf text c (x ∷ xs) f) (sym (reading_opening text c x xs h))
-        (λ e. split-cons text c (Some x.start) x xs f _ (λ us. reading_opening text c x us h)
+        (λ e. split_cons text c (Some x.start) x xs f _ (λ us. reading_opening text c x us h)
         (ih (Some x.start) e))
     by roles.Closing h ih =
         subst (SplitIf text c (x ∷ xs) f) (sym (reading_closing text c x xs h))
-        (λ e. split-cons text c None x xs f _ (λ us. reading_closing text c x us h) (ih None e))
+        (λ e. split_cons text c None x xs f _ (λ us. reading_closing text c x us h) (ih None e))
     by roles.Comment h ih =
         subst (SplitIf text c (x ∷ xs) f) (sym (reading_comment text c x xs h))
-        (λ e. split-cons text c c x xs f _ (λ us. reading_comment text c x us h) (ih c e))
+        (λ e. split_cons text c c x xs f _ (λ us. reading_comment text c x us h) (ih c e))
     by roles.Faulty h ih =
         subst (SplitIf text c (x ∷ xs) f) (sym (reading_faulty text c x xs h)) (λ e.
         record {

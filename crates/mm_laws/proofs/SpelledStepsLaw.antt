@@ -31,7 +31,7 @@ use Rattle.mm_laws.specs.Laws.{StepsAreLabels}
 use Rattle.mm_spec.specs.declared.Code.TheVariants.{LabelIsSymbol, LabelUsedBefore, UnusableLabel}
 use Rattle.mm_spec.specs.declared.Code.TheVariants.{IncompleteProof}
 use Rattle.mm_spec.proofs.FindsLaw.{same_word, found_at, inside_of, declares}
-use Rattle.mm_spec.proofs.FaultlessLaw.{least_none, nil_first, nil_second, at_none, when_none}
+use Rattle.mm_spec.proofs.FaultlessLaw.{least_none, append_none, at_none, when_none}
 use Rattle.mm_spec.proofs.LocalLaw.{scope_fault_front}
 use Rattle.mm_spec.proofs.ListLaw.{get_none}
 use Rattle.mm_laws.proofs.SpellingLaw.{bracketed_is, AreFine, good_letters, item_of, groups_spell}
@@ -300,11 +300,11 @@ label_new : (n : KnownNames) (l : Token) → lawful.label_faults n l ≡ []
     → is_in l.word n.labels ≡ false
 label_new n l h =
     when_none (is_in l.word n.labels) LabelUsedBefore
-    (nil_second (when (is_in l.word n.constants || is_in l.word n.all_variables) LabelIsSymbol)
+    (append_none (when (is_in l.word n.constants || is_in l.word n.all_variables) LabelIsSymbol)
     (when (is_in l.word n.labels) LabelUsedBefore)
     (at_none l.at
     (when (is_in l.word n.constants || is_in l.word n.all_variables) LabelIsSymbol
-    ++ when (is_in l.word n.labels) LabelUsedBefore) h))
+    ++ when (is_in l.word n.labels) LabelUsedBefore) h)).1
 
 new_word : (n : KnownNames) (l : Token) (w : Bytes) → bytes_eq l.word w ≡ true
     → lawful.label_faults n l ≡ [] → is_in w n.labels ≡ false
@@ -313,13 +313,13 @@ new_word n l w e h = ap (λ v. is_in v n.labels) (sym (same_word l.word w e)) �
 label_fresh : (n : KnownNames) (d : ℕ) (s : Statement) (w : Bytes) → scope_faults n d s ≡ []
     → is_labelled w s ≡ true → is_in w n.labels ≡ false
 label_fresh n d (floating l k xs e) w h m =
-    new_word n l w m (nil_first (lawful.label_faults n l) (floating_faults n k xs) h)
+    new_word n l w m (append_none (lawful.label_faults n l) (floating_faults n k xs) h).0
 label_fresh n d (essential l k xs e) w h m =
-    new_word n l w m (nil_first (lawful.label_faults n l) (formula_faults n xs e) h)
+    new_word n l w m (append_none (lawful.label_faults n l) (formula_faults n xs e) h).0
 label_fresh n d (axiomatic l k xs e) w h m =
-    new_word n l w m (nil_first (lawful.label_faults n l) (formula_faults n xs e) h)
+    new_word n l w m (append_none (lawful.label_faults n l) (formula_faults n xs e) h).0
 label_fresh n d (provable l k xs p ps e) w h m =
-    new_word n l w m (nil_first (lawful.label_faults n l) (formula_faults n xs p) h)
+    new_word n l w m (append_none (lawful.label_faults n l) (formula_faults n xs p) h).0
 label_fresh n d _ w h m = absurd (true≢false (sym m))
 
 labelled_word : (s : Statement) (w : Bytes) → is_labelled w s ≡ true
@@ -432,10 +432,10 @@ module _ (db : List Statement) (law : (k : ℕ) → k < length db → IsLawful d
     all_usable (t ∷ ts) e =
         let one =
         usable_one t
-        (nil_first (proof_label_faults db k t) (flat_map (proof_label_faults db k) ts) e) in
+        (append_none (proof_label_faults db k t) (flat_map (proof_label_faults db k) ts) e).0 in
         let rest =
         all_usable ts
-        (nil_second (proof_label_faults db k t) (flat_map (proof_label_faults db k) ts) e) in
+        (append_none (proof_label_faults db k t) (flat_map (proof_label_faults db k) ts) e).1 in
         (one.0 ∷ rest.0, (one.2, rest.1), ap₂ (λ xs ys. xs ++ ys) one.1 rest.2)
 
     -- ---- proofs
@@ -451,8 +451,8 @@ module _ (db : List Statement) (law : (k : ℕ) → k < length db → IsLawful d
     normal_labels (t ∷ ts) e =
         let own : List Fault = own_faults t (bytes_eq t.word (codes "?")) in
         let more : List Fault = flat_map (λ u. own_faults u (bytes_eq u.word (codes "?"))) ts in
-        ap₂ (λ xs ys. xs ++ ys) (by (bytes_eq t.word (codes "?")) (nil_first own more e))
-        (normal_labels ts (nil_second own more e))
+        ap₂ (λ xs ys. xs ++ ys) (by (bytes_eq t.word (codes "?")) (append_none own more e).0)
+        (normal_labels ts (append_none own more e).1)
       where
         by : (b : Bool) → own_faults t b ≡ [] → proof_label_faults db k t ≡ []
         by true h = absurd (cc)
@@ -465,13 +465,13 @@ module _ (db : List Statement) (law : (k : ℕ) → k < length db → IsLawful d
     labels_are (t ∷ ts) e =
         let one =
         usable_one t
-        (nil_first (proof_label_faults db k t) (flat_map (proof_label_faults db k) ts) e) in
+        (append_none (proof_label_faults db k t) (flat_map (proof_label_faults db k) ts) e).0 in
         subst (λ js. AllZip (λ u s. (j : ℕ) × (s ≡ label j) × IsUsable db k u.word j) (t ∷ ts)
         (map (λ p. p.step) (map (λ j. placed t.at (label j)) js ++ normal_steps db k ts)))
         (sym one.1) (
           (one.0, refl, one.2),
           labels_are ts
-              (nil_second (proof_label_faults db k t) (flat_map (proof_label_faults db k) ts) e),
+              (append_none (proof_label_faults db k t) (flat_map (proof_label_faults db k) ts) e).1,
         )
 
     normal_are : (end : ℕ) (t : Token) (ts : List Token) → reading_faults db k end (t ∷ ts) ≡ []
@@ -511,12 +511,12 @@ module _ (db : List Statement) (law : (k : ℕ) → k < length db → IsLawful d
         let many = length (mandatory_hypotheses db k) + length labels in
         let js =
         all_usable labels
-        (nil_first (flat_map (proof_label_faults db k) labels)
-        (letter_faults many end (letters_of letters)) f) in
+        (append_none (flat_map (proof_label_faults db k) labels)
+        (letter_faults many end (letters_of letters)) f).0 in
         let good =
         good_letters many end (letters_of letters)
-        (nil_second (flat_map (proof_label_faults db k) labels)
-        (letter_faults many end (letters_of letters)) f) in
+        (append_none (flat_map (proof_label_faults db k) labels)
+        (letter_faults many end (letters_of letters)) f).1 in
         let gs = (groups [] (letters_of letters)).0 in
         let read : Spells (letters_in letters) (map item_of gs) =
         subst (λ bs. Spells bs (map item_of gs)) (letters_bytes letters)

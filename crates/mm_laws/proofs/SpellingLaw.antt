@@ -24,7 +24,7 @@ use Rattle.mm_laws.specs.Laws.{PartsAreUnique, SpellingIsUnique, ProofsAreSpelle
 use Rattle.mm_spec.specs.declared.Code.TheVariants.{OpenBrackets, OpenNumber, MarkBeforeStep}
 use Rattle.mm_spec.specs.declared.Code.TheVariants.{NumberTooLarge, IncompleteProof, BadLetter}
 use Rattle.mm_spec.proofs.FindsLaw.{same_word}
-use Rattle.mm_spec.proofs.FaultlessLaw.{nil_first, nil_second, at_none, when_none}
+use Rattle.mm_spec.proofs.FaultlessLaw.{append_none, at_none, when_none}
 
 -- ---- one spelling
 
@@ -298,37 +298,37 @@ fine_of (g ∷ gs) many marks count f =
         let none =
         when_none (nat_lt (many + marks) (value g)) NumberTooLarge
         (at_none (starts_at g) (when (nat_lt (many + marks) (value g)) NumberTooLarge)
-        (nil_first (first true false) (second false) f)) in
+        (append_none (first true false) (second false) f).0) in
         inl (
           p,
           ltb-false (many + marks) (value g) none,
           on
-              (nil_second (first true false) (second false) f),
+              (append_none (first true false) (second false) f).1,
         )
     by false p true q f on marking =
         let codes =
         at_none g.last.at
         (when (nat_lt 0 (length g.early)) OpenNumber ++ when (count == 0) MarkBeforeStep)
-        (nil_first (first false true) (second true) f) in
+        (append_none (first false true) (second true) f).0 in
         let open_none =
         when_none (nat_lt 0 (length g.early)) OpenNumber
-        (nil_first (when (nat_lt 0 (length g.early)) OpenNumber)
-        (when (count == 0) MarkBeforeStep) codes) in
+        (append_none (when (nat_lt 0 (length g.early)) OpenNumber)
+        (when (count == 0) MarkBeforeStep) codes).0 in
         let none =
         eqb-false count 0
         (when_none (count == 0) MarkBeforeStep
-        (nil_second (when (nat_lt 0 (length g.early)) OpenNumber)
-        (when (count == 0) MarkBeforeStep) codes)) in
+        (append_none (when (nat_lt 0 (length g.early)) OpenNumber)
+        (when (count == 0) MarkBeforeStep) codes).1) in
         inr (
           p,
           eqb-true g.last.byte 90 q,
           no_length g.early open_none,
           omega arith,
           marking
-              (nil_second (first false true) (second true) f),
+              (append_none (first false true) (second true) f).1,
         )
     by false p false q f on marking =
-        absurd (other (g.last.byte == 63) (nil_first (first false false) (second false) f))
+        absurd (other (g.last.byte == 63) (append_none (first false false) (second false) f).0)
 
 pub early_digit : (b : ℕ) → is_early b ≡ true → IsEarlyDigit b (b - 84)
 early_digit b e =
@@ -482,14 +482,14 @@ good_letters many end [] e = absurd (cc)
 good_letters many end (x ∷ xs) e = record {
   fine =
       fine_of (groups [] (x ∷ xs)).0 many 0 0
-      (nil_first (group_faults many 0 0 (groups [] (x ∷ xs)).0)
-      (at end (when (nat_lt 0 (length (groups [] (x ∷ xs)).1)) OpenNumber)) e);
+      (append_none (group_faults many 0 0 (groups [] (x ∷ xs)).0)
+      (at end (when (nat_lt 0 (length (groups [] (x ∷ xs)).1)) OpenNumber)) e).0;
   whole =
       no_length (groups [] (x ∷ xs)).1
       (when_none (nat_lt 0 (length (groups [] (x ∷ xs)).1)) OpenNumber
       (at_none end (when (nat_lt 0 (length (groups [] (x ∷ xs)).1)) OpenNumber)
-      (nil_second (group_faults many 0 0 (groups [] (x ∷ xs)).0)
-      (at end (when (nat_lt 0 (length (groups [] (x ∷ xs)).1)) OpenNumber)) e)));
+      (append_none (group_faults many 0 0 (groups [] (x ∷ xs)).0)
+      (at end (when (nat_lt 0 (length (groups [] (x ∷ xs)).1)) OpenNumber)) e).1));
   some = λ n. cc;
 }
 
@@ -505,8 +505,8 @@ pub good_proof : (db : List Statement) (k end : ℕ) (t : Token) (ts : List Toke
     → t.word ≡ codes "(" → reading_faults db k end (t ∷ ts) ≡ [] → IsGoodProof db k ts
 good_proof db k end t ts opens f =
     by (bracketed ts).letters refl
-    (nil_second (flat_map (proof_label_faults db k) (bracketed ts).labels)
-    (rest (bracketed ts).letters) compressed)
+    (append_none (flat_map (proof_label_faults db k) (bracketed ts).labels)
+    (rest (bracketed ts).letters) compressed).1
   where
     many : ℕ
     many = length (mandatory_hypotheses db k) + length (bracketed ts).labels
@@ -534,8 +534,8 @@ good_proof db k end t ts opens f =
         record {
           letters = letters;
           is = e;
-          usable = nil_first (flat_map (proof_label_faults db k) (bracketed ts).labels)
-              (rest (bracketed ts).letters) compressed;
+          usable = (append_none (flat_map (proof_label_faults db k) (bracketed ts).labels)
+              (rest (bracketed ts).letters) compressed).0;
           good = good_letters many end (letters_of letters) g;
         }
 

@@ -25,7 +25,7 @@ use Rattle.mm_laws.specs.Laws.{WhereRead, CompressedIsExact, NormalIsExact}
 use Rattle.mm_spec.specs.declared.Code.TheVariants.{OpenNumber, MarkBeforeStep, NumberTooLarge}
 use Rattle.mm_spec.specs.declared.Code.TheVariants.{UnusableLabel, IncompleteProof, BadLetter}
 use Rattle.mm_spec.proofs.FindsLaw.{same_word, is_before}
-use Rattle.mm_spec.proofs.FaultlessLaw.{nil_first, nil_second}
+use Rattle.mm_spec.proofs.FaultlessLaw.{append_none}
 use Rattle.mm_spec.proofs.LocalLaw.{scope_fault_front}
 use Rattle.mm_laws.proofs.SpellingLaw.{EndsItem, no_early, item_unique, group_number, early_digit}
 use Rattle.mm_laws.proofs.SpellingLaw.{nonempty, parts_of, bracketed_is, bytes_of, AreEarly}
@@ -503,9 +503,9 @@ module _ (db : List Statement) (law : (k : ℕ) → k < length db → IsLawful d
   to_words [] f = tt
   to_words (t ∷ ts) f = (
     by (bytes_eq t.word (codes "?")) refl
-        (nil_first (faults_of_word t) (flat_map faults_of_word ts) f),
+        (append_none (faults_of_word t) (flat_map faults_of_word ts) f).0,
     to_words ts
-        (nil_second (faults_of_word t) (flat_map faults_of_word ts) f),
+        (append_none (faults_of_word t) (flat_map faults_of_word ts) f).1,
   )
     where
       by : (b : Bool) → bytes_eq t.word (codes "?") ≡ b → own_faults db law k t b ≡ []

@@ -40,9 +40,9 @@ plain_byte false false false w b d = absurd (true≢false b)
 plain_byte true p d w b e = absurd (true≢false w)
 plain_byte w p true v b e = absurd (true≢false e)
 
-first-zero : (p : ℕ → Bool) (bytes : List ℕ) (i : ℕ) → i < 64 → i < length bytes → (m : ℕ)
+first_zero : (p : ℕ → Bool) (bytes : List ℕ) (i : ℕ) → i < 64 → i < length bytes → (m : ℕ)
     → m ≡ mask p (take 64 bytes) → bit_at m i ≡ 0 → p (get_or bytes i 0) ≡ false
-first-zero p bytes i low within m is none =
+first_zero p bytes i low within m is none =
     let same : 0 + i ≡ i = omega arith in
     subst (λ (k : ℕ). p (get_or bytes k 0) ≡ false) same
     (bit_zero p bytes 0 i low (omega arith) (ap (λ (n : ℕ). bit_at n i) (sym is) ∙ none))
@@ -58,7 +58,7 @@ module _ (bytes : List ℕ) (white bad dollars : ℕ) (w : white ≡ mask is_whi
       neither (bit_at (bit_or white bad) i) (bit_at dollars i)
       (sym (bit_at_or (bit_or white bad) dollars i) ∙ none) in
       let inner = neither (bit_at white i) (bit_at bad i) (sym (bit_at_or white bad i) ∙ outer.0) in
-      first-zero is_white bytes i low within white w inner.0
+      first_zero is_white bytes i low within white w inner.0
 
   pub stops_plain : (i : ℕ) → i < 64 → i < length bytes
       → bit_at (bit_or (bit_or white bad) dollars) i ≡ 0 → plain_at bytes i ≡ true
@@ -70,9 +70,9 @@ module _ (bytes : List ℕ) (white bad dollars : ℕ) (w : white ≡ mask is_whi
       let inner = neither (bit_at white i) (bit_at bad i) (sym (bit_at_or white bad i) ∙ outer.0) in
       plain_byte (is_white (get_or bytes i 0)) (is_printable (get_or bytes i 0))
       (get_or bytes i 0 == 36)
-      (first-zero is_white bytes i low within white w inner.0)
-      (first-zero is_bad bytes i low within bad b inner.1)
-      (first-zero (λ x. x == 36) bytes i low within dollars d outer.1)
+      (first_zero is_white bytes i low within white w inner.0)
+      (first_zero is_bad bytes i low within bad b inner.1)
+      (first_zero (λ x. x == 36) bytes i low within dollars d outer.1)
 
 -- bytes after a place
 
@@ -182,59 +182,59 @@ module _ (text : List ℕ) (base white starts : ℕ) (first : Bool)
     (at_first : bit_at starts 0 ≡ (if first then 1 - bit_at white 0 else 0))
     (at_next : (i : ℕ) → i + 1 < 64
     → bit_at starts (i + 1) ≡ min (1 - bit_at white (i + 1)) (bit_at white i)) where
-  white-bit : (i : ℕ) → i < 64 → base + i < length text
+  white_bit : (i : ℕ) → i < 64 → base + i < length text
       → bit_at white i ≡ cond (white_at text (base + i)) 1 0
   unfolding white_at
-  white-bit i lt within =
+  white_bit i lt within =
       ap (λ (m : ℕ). bit_at m i) is ∙ bit_mask_l (map is_white (take 64 (drop base text))) i
       ∙ ap (λ (b : Bool). cond b 1 0) (inside is_white text base i lt within)
 
-  begins-first : base < length text → bit_at starts 0 ≡ cond (begins_word text base) 1 0
+  begins_first : base < length text → bit_at starts 0 ≡ cond (begins_word text base) 1 0
   unfolding begins_word
-  begins-first within =
+  begins_first within =
       let same : base + 0 ≡ base = omega arith in
       let here : bit_at white 0 ≡ cond (white_at text base) 1 0 =
       subst (λ (k : ℕ). bit_at white 0 ≡ cond (white_at text k) 1 0) same
-      (white-bit 0 (omega arith) (omega arith)) in
+      (white_bit 0 (omega arith) (omega arith)) in
       at_first ∙ ap (λ (n : ℕ). if first then 1 - n else 0) here
       ∙ zero_first (white_at text base) first
       ∙ ap (λ (b : Bool). cond (not (white_at text base) && b) 1 0) before
 
-  begins-next : (i : ℕ) → i + 1 < 64 → base + (i + 1) < length text
+  begins_next : (i : ℕ) → i + 1 < 64 → base + (i + 1) < length text
       → bit_at starts (i + 1) ≡ cond (begins_word text (base + (i + 1))) 1 0
   unfolding begins_word
-  begins-next i lt within =
+  begins_next i lt within =
       let none : (base + (i + 1) == 0) ≡ false =
       ne_eqb (base + (i + 1)) 0 (λ e. omega (arith, e)) in
       let same : base + i ≡ base + (i + 1) - 1 = omega arith in
       at_next i lt
-      ∙ ap₂ (λ (m n : ℕ). min (1 - m) n) (white-bit (i + 1) lt within)
-      (white-bit i (omega arith) (omega arith))
+      ∙ ap₂ (λ (m n : ℕ). min (1 - m) n) (white_bit (i + 1) lt within)
+      (white_bit i (omega arith) (omega arith))
       ∙ one_before (white_at text (base + (i + 1))) (white_at text (base + i))
       ∙ rw (none, same) refl
 
-  begins-bit : (i : ℕ) → i < 64 → base + i < length text
+  begins_bit : (i : ℕ) → i < 64 → base + i < length text
       → bit_at starts i ≡ cond (begins_word text (base + i)) 1 0
-  begins-bit i lt within =
+  begins_bit i lt within =
       ⊎_elim {C = bit_at starts i ≡ cond (begins_word text (base + i)) 1 0}
       (λ low. let same : i - 1 + 1 ≡ i = omega arith in
       subst (λ (k : ℕ). bit_at starts k ≡ cond (begins_word text (base + k)) 1 0) same
-      (begins-next (i - 1) (omega arith) (omega arith)))
+      (begins_next (i - 1) (omega arith) (omega arith)))
       (λ zero. let none : 0 ≡ i = omega arith in
       let same : base ≡ base + 0 = omega arith in
       subst (λ (k : ℕ). bit_at starts k ≡ cond (begins_word text (base + k)) 1 0) none
-      (begins-first (omega arith) ∙ ap (λ (k : ℕ). cond (begins_word text k) 1 0) same))
+      (begins_first (omega arith) ∙ ap (λ (k : ℕ). cond (begins_word text k) 1 0) same))
       (cases_lt 0 i)
 
   pub begins_one : (i : ℕ) → i < 64 → base + i < length text → bit_at starts i ≡ 1
       → begins_word text (base + i) ≡ true
   begins_one i lt within one =
-      one_of (begins_word text (base + i)) (sym (begins-bit i lt within) ∙ one)
+      one_of (begins_word text (base + i)) (sym (begins_bit i lt within) ∙ one)
 
   pub begins_zero : (i : ℕ) → i < 64 → base + i < length text → bit_at starts i ≡ 0
       → begins_word text (base + i) ≡ false
   begins_zero i lt within none =
-      zero_of (begins_word text (base + i)) (sym (begins-bit i lt within) ∙ none)
+      zero_of (begins_word text (base + i)) (sym (begins_bit i lt within) ∙ none)
 
 -- ---- a word goes on
 

@@ -7,8 +7,8 @@ use Rattle.std.proofs.Math.Nat.{mul-le-mul_left, mul_comm}
 use Rattle.std.proofs.lemmas.List.FromFn.{get_or-map-range_with_len, length-map-range_with_len}
 use Rattle.mm_lex.specs.Places.{cut_text, IsCutText}
 
-div-mono : (x y k : ℕ) → 0 < k → x ≤ y → x / k ≤ y / k
-div-mono x y k pos le =
+div_mono : (x y k : ℕ) → 0 < k → x ≤ y → x / k ≤ y / k
+div_mono x y k pos le =
     (le-div_iff_mul-le pos).1 (let h = div-mul-le_self x k in omega (arith, h, le))
 
 pub equal_cuts : (len count : ℕ) → 0 < count
@@ -27,7 +27,7 @@ equal_cuts len count some =
           subst (λ x. x ≤ get_or (map f (range_with_len 0 (count - 1))) (i + 1) 0)
           (sym (at i (omega arith)))
           (subst (λ x. f i ≤ x) (sym (at (i + 1) l))
-          (div-mono (len * (i + 1)) (len * (i + 1 + 1)) count some m));
+          (div_mono (len * (i + 1)) (len * (i + 1 + 1)) count some m));
       within = λ i h.
           let l : i < count - 1 = omega (arith, h, n) in
           let m = mul-le-mul_left {m = i + 1} {n = count} len (omega arith) in

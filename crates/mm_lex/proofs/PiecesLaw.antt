@@ -2,6 +2,7 @@
 use Rattle.std.proofs.Common.{◌≡◌, ℕ, Bool, true, false, List, [], ◌∷◌, ◌++◌, length, Option, Some}
 use Rattle.std.proofs.Common.{None, MatchOption, is_some, refl, sym, ap, subst, ◌∙◌, append-nil}
 use Rattle.std.proofs.Common.{arith}
+use Rattle.std.proofs.lemmas.Option.{same_Some}
 use Rattle.mm_spec.specs.declared.Word.{Word}
 use Rattle.mm_spec.specs.declared.Fault.{Fault}
 use Rattle.mm_spec.specs.declared.Role.{Role}
@@ -107,11 +108,11 @@ go_on_append text r xs ys = by r.tokens r.fault r.comment
         (reading text c xs).comment
     by ts (Some f) c = refl
 
-resolved-carried : (p x : ℕ) (c d : Opened) → resolved p c ≡ Some x
+resolved_carried : (p x : ℕ) (c d : Opened) → resolved p c ≡ Some x
     → resolved p (carried c d) ≡ resolved x d
-resolved-carried p x c Nowhere h = refl
-resolved-carried p x c Before h = h
-resolved-carried p x c (At q) h = refl
+resolved_carried p x c Nowhere h = refl
+resolved_carried p x c Before h = h
+resolved_carried p x c (At q) h = refl
 
 -- The words go on inside a comment.
 pub go_on_inside : (text : List ℕ) (ws : List Word) (p : ℕ) (r next : Side) (items : List Word)
@@ -128,19 +129,16 @@ go_on_inside text ws p r next items readings none is_open e =
     let all : go_on text (seen p r) ws
     ≡ with_tokens r.tokens (reading text (resolved p r.comment) ws) = go_on_none text
     (seen p r) ws none in
-    rw (e, resolved-carried p opened.0 r.comment next.comment opened.1)
+    rw (e, resolved_carried p opened.0 r.comment next.comment opened.1)
     (sym (all ∙ ap (λ (c : Option ℕ). with_tokens r.tokens (reading text c ws)) opened.1
     ∙ ap (with_tokens r.tokens) (readings opened.0)))
 
 -- The words go on outside. No comment from before them can be open after them.
 
-some_same : (m n : ℕ) → Some m ≡ Some n → m ≡ n
-some_same m n e = cc
-
 not_before : (x : Option ℕ) (d : Opened) → ((q : ℕ) → x ≡ resolved q d) → (c : Opened)
     → carried c d ≡ d
 not_before x Nowhere h c = refl
-not_before x Before h c = absurd (omega (arith, some_same 0 1 (sym (h 0) ∙ h 1)))
+not_before x Before h c = absurd (omega (arith, same_Some 0 1 (sym (h 0) ∙ h 1)))
 not_before x (At q) h c = refl
 
 pub go_on_outside : (text : List ℕ) (ws : List Word) (p : ℕ) (r next : Side) (items : List Word)

@@ -49,9 +49,9 @@ boundary_tail {text} {from} {to} {head} {tail} s i e h ink =
     s.tail_begins (grind (arith, s.no_tail)) i e (grind (arith, s.some_white, s.no_tail, s.no_head))
 
 -- a run without a white byte between two places over which no word goes on
-run-is-word : (text : List ℕ) (p q : ℕ) → p < q → q ≤ length text → IsBoundary text p
+run_is_word : (text : List ℕ) (p q : ℕ) → p < q → q ≤ length text → IsBoundary text p
     → IsBoundary text q → NoWhite text p q → IsWord text (record { start = p; end = q })
-run-is-word text p q lt le bp bq ink = record {
+run_is_word text p q lt le bp bq ink = record {
   nonempty = lt;
   within = le;
   no_white = ink;
@@ -77,7 +77,7 @@ pub words_between_run : (text : List ℕ) (p q : ℕ) → q ≤ length text → 
 words_between_run text p q le bp bq ink =
     ⊎_elim {C = words_between text p q ≡ joined_word p q}
     (λ lt.
-    let word = run-is-word text p q lt le bp bq ink in
+    let word = run_is_word text p q lt le bp bq ink in
     let n : ℕ = q - (p + 1) in
     words_between_take text p q lt (IsWord_begins word)
     ∙ ap (λ (w : Word). w ∷ words_between text (p + 1) q) (IsWord_is word)

@@ -20,8 +20,8 @@ module _ (db : List Statement) (s : Statement) where
   abbrev more : List Statement
   more = db ++ s ∷ []
 
-  length-more : length more ≡ length db + 1
-  length-more = length-append db (s ∷ [])
+  length_more : length more ≡ length db + 1
+  length_more = length-append db (s ∷ [])
 
   pub depth_front : (i : ℕ) → i ≤ length db → depth more i ≡ depth db i
   depth_front i h =
@@ -37,7 +37,7 @@ module _ (db : List Statement) (s : Statement) where
       ≡ (count_by is_opening db + cond (is_opening s) 1 0) -
       (count_by is_closing db + cond (is_closing s) 1 0)
   depth_last =
-      let l : length more ≤ length db + 1 = omega (arith, length-more) in
+      let l : length more ≤ length db + 1 = omega (arith, length_more) in
       ap₂ (λ a b. a - b)
       (ap (count_by is_opening) (take_all (length db + 1) more l) ∙ count_end is_opening db s)
       (ap (count_by is_closing) (take_all (length db + 1) more l) ∙ count_end is_closing db s)
@@ -55,8 +55,8 @@ module _ (db : List Statement) (s : Statement) where
       same_all (depth more j) (depth db j) (depth more) (depth db) (k - j) (j + 1)
       (depth_front j (omega arith)) (λ i m. depth_front i (omega arith))
 
-  stays-here : (j : ℕ) → stays more j j ≡ true
-  stays-here j =
+  stays_here : (j : ℕ) → stays more j j ≡ true
+  stays_here j =
       let n : j - j ≡ 0 = omega arith in
       ap (λ m. list_all (λ i. nat_le (depth more j) (depth more i)) (range_with_len (j + 1) m)) n
 
@@ -79,7 +79,7 @@ module _ (db : List Statement) (s : Statement) where
       subst (λ n. stays more (length db) n
       ≡ (stays more (length db) (length db) && nat_le (depth more (length db)) (depth more n)))
       e (stays_more more (length db) (length db) (le_refl (length db)))
-      ∙ ap₂ (λ a b. a && nat_le b (depth more (length db + 1))) (stays-here (length db))
+      ∙ ap₂ (λ a b. a && nat_le b (depth more (length db + 1))) (stays_here (length db))
       (depth_front (length db) (le_refl (length db)))
 
 pub blocks_none : IsBlocks [] no_blocks
@@ -105,16 +105,16 @@ module _ (db : List Statement) (s : Statement) (b : Lists) (x : IsBlocks db b)
   t : ℕ
   t = top b.open_blocks
 
-  abbrev of-more : List ℕ
-  of-more = b.of ++ top b.open_blocks ∷ []
+  abbrev of_more : List ℕ
+  of_more = b.of ++ top b.open_blocks ∷ []
 
-  of-front : (j : ℕ) → j < length db → get_or of-more j 0 ≡ get_or b.of j 0
-  of-front j h =
+  of_front : (j : ℕ) → j < length db → get_or of_more j 0 ≡ get_or b.of j 0
+  of_front j h =
       get_or_append_left b.of (top b.open_blocks ∷ []) 0 j (let c = x.count in omega (arith, c, h))
 
-  of-last : get_or of-more (length db) 0 ≡ top b.open_blocks
-  of-last =
-      subst (λ n. get_or of-more n 0 ≡ top b.open_blocks) x.count
+  of_last : get_or of_more (length db) 0 ≡ top b.open_blocks
+  of_last =
+      subst (λ n. get_or of_more n 0 ≡ top b.open_blocks) x.count
       (get_or-append_seam b.of (top b.open_blocks) [] 0)
 
   -- where a statement is: an old one or the new one
@@ -124,16 +124,16 @@ module _ (db : List Statement) (s : Statement) (b : Lists) (x : IsBlocks db b)
     where
       by : (j < length db) ⊎ (length db ≤ j) → P j
       by (inl l) = old j l
-      by (inr l) = let e : length db ≡ j = omega (arith, length-more db s) in subst P e new
+      by (inr l) = let e : length db ≡ j = omega (arith, length_more db s) in subst P e new
 
-  top-opened : top b.open_blocks < length b.ends
-  top-opened = let k = x.stack in x.opened (length b.open_blocks - 1) (omega (arith, k))
+  top_opened : top b.open_blocks < length b.ends
+  top_opened = let k = x.stack in x.opened (length b.open_blocks - 1) (omega (arith, k))
 
-  top-still : get_or b.ends (top b.open_blocks) 0 ≡ never
-  top-still = let k = x.stack in x.still (length b.open_blocks - 1) (omega (arith, k))
+  top_still : get_or b.ends (top b.open_blocks) 0 ≡ never
+  top_still = let k = x.stack in x.still (length b.open_blocks - 1) (omega (arith, k))
 
-  top-at : top b.open_blocks ≡ get_or b.open_blocks (depth db (length db)) 0
-  top-at =
+  top_at : top b.open_blocks ≡ get_or b.open_blocks (depth db (length db)) 0
+  top_at =
       let k = x.stack in
       let e : length b.open_blocks - 1 ≡ depth db (length db) = omega (arith, k) in
       ap (λ n. get_or b.open_blocks n 0) e
@@ -167,31 +167,31 @@ module _ (db : List Statement) (s : Statement) (b : Lists) (x : IsBlocks db b)
       new : IsOpen (top b.open_blocks) (depth db (length db))
           ⊎ IsClosed (top b.open_blocks) (depth db (length db))
 
-    grown : Grows → IsBlocks (more db s) (lists of-more ends opens)
+    grown : Grows → IsBlocks (more db s) (lists of_more ends opens)
     grown g = record {
       count =
           let c = x.count in
-          omega (arith, c, length-more db s, length-append b.of (top b.open_blocks ∷ []));
-      few = let m = g.few-more in omega (arith, m, length-more db s);
+          omega (arith, c, length_more db s, length-append b.of (top b.open_blocks ∷ []));
+      few = let m = g.few-more in omega (arith, m, length_more db s);
       nested = g.nested;
-      stack = rw (length-more db s) g.stack;
+      stack = rw (length_more db s) g.stack;
       known =
-          λ j h. either {P = λ j. get_or of-more j 0 < length ends} j h
-          (λ i l. rw (of-front i l)
+          λ j h. either {P = λ j. get_or of_more j 0 < length ends} j h
+          (λ i l. rw (of_front i l)
           (let k = x.known i l in let m = g.longer in omega (arith, k, m)))
-          (rw of-last (let k = top-opened in let m = g.longer in omega (arith, k, m)));
+          (rw of_last (let k = top_opened in let m = g.longer in omega (arith, k, m)));
       opened = g.opened;
       still = g.still;
       rising = g.rising;
       at =
-          λ j h e. either {P = λ j. get_or ends (get_or of-more j 0) 0 ≡ never
+          λ j h e. either {P = λ j. get_or ends (get_or of_more j 0) 0 ≡ never
           → (depth (more db s) j ≤ depth (more db s) (length (more db s)))
-          × (get_or opens (depth (more db s) j) 0 ≡ get_or of-more j 0)} j h at-old
+          × (get_or opens (depth (more db s) j) 0 ≡ get_or of_more j 0)} j h at-old
           (at-new g.new) e;
       ended = ended;
       bounds =
-          λ j h. either {P = λ j. (get_or ends (get_or of-more j 0) 0 ≡ never)
-          ⊎ (get_or ends (get_or of-more j 0) 0 < length (more db s))} j h bounds-old
+          λ j h. either {P = λ j. (get_or ends (get_or of_more j 0) 0 ≡ never)
+          ⊎ (get_or ends (get_or of_more j 0) 0 < length (more db s))} j h bounds-old
           (bounds-new g.new);
     }
       where
@@ -200,51 +200,51 @@ module _ (db : List Statement) (s : Statement) (b : Lists) (x : IsBlocks db b)
 
         at-new : IsOpen (top b.open_blocks) (depth db (length db))
             ⊎ IsClosed (top b.open_blocks) (depth db (length db))
-            → get_or ends (get_or of-more (length db) 0) 0 ≡ never
+            → get_or ends (get_or of_more (length db) 0) 0 ≡ never
             → (depth (more db s) (length db) ≤ depth (more db s) (length (more db s)))
-            × (get_or opens (depth (more db s) (length db)) 0 ≡ get_or of-more (length db) 0)
+            × (get_or opens (depth (more db s) (length db)) 0 ≡ get_or of_more (length db) 0)
         at-new (inl o) e =
-            rw (length-more db s, depth_front db s (length db) (le_refl (length db)), of-last)
+            rw (length_more db s, depth_front db s (length db) (le_refl (length db)), of_last)
             (o.1, o.2)
         at-new (inr c) e =
             absurd (let f : get_or ends (top b.open_blocks) 0
-            ≡ never = ap (λ k. get_or ends k 0) (sym of-last) ∙ e in omega (arith, f, c.0, few))
+            ≡ never = ap (λ k. get_or ends k 0) (sym of_last) ∙ e in omega (arith, f, c.0, few))
 
-        at-old : (j : ℕ) → j < length db → get_or ends (get_or of-more j 0) 0 ≡ never
+        at-old : (j : ℕ) → j < length db → get_or ends (get_or of_more j 0) 0 ≡ never
             → (depth (more db s) j ≤ depth (more db s) (length (more db s)))
-            × (get_or opens (depth (more db s) j) 0 ≡ get_or of-more j 0)
-        at-old j h e = by (g.becomes j h) (ap (λ k. get_or ends k 0) (sym (of-front j h)) ∙ e)
+            × (get_or opens (depth (more db s) j) 0 ≡ get_or of_more j 0)
+        at-old j h e = by (g.becomes j h) (ap (λ k. get_or ends k 0) (sym (of_front j h)) ∙ e)
           where
             by : Becomes j → get_or ends (get_or b.of j 0) 0 ≡ never
                 → (depth (more db s) j ≤ depth (more db s) (length (more db s)))
-                × (get_or opens (depth (more db s) j) 0 ≡ get_or of-more j 0)
+                × (get_or opens (depth (more db s) j) 0 ≡ get_or of_more j 0)
             by (inl (f, inl o)) e =
-                rw (length-more db s, depth_front db s j (omega (arith, h)), of-front j h)
+                rw (length_more db s, depth_front db s j (omega (arith, h)), of_front j h)
                 (o.1, o.2)
             by (inl (f, inr c)) e = absurd (omega (arith, c.0, few, e))
             by (inr p) e = absurd (omega (arith, p.0, p.1, few, e))
 
         bounds-new : IsOpen (top b.open_blocks) (depth db (length db))
             ⊎ IsClosed (top b.open_blocks) (depth db (length db))
-            → (get_or ends (get_or of-more (length db) 0) 0 ≡ never)
-            ⊎ (get_or ends (get_or of-more (length db) 0) 0 < length (more db s))
-        bounds-new (inl o) = inl (ap (λ k. get_or ends k 0) of-last ∙ o.0)
-        bounds-new (inr c) = inr (rw of-last (omega (arith, c.0, length-more db s)))
+            → (get_or ends (get_or of_more (length db) 0) 0 ≡ never)
+            ⊎ (get_or ends (get_or of_more (length db) 0) 0 < length (more db s))
+        bounds-new (inl o) = inl (ap (λ k. get_or ends k 0) of_last ∙ o.0)
+        bounds-new (inr c) = inr (rw of_last (omega (arith, c.0, length_more db s)))
 
         bounds-old : (j : ℕ) → j < length db
-            → (get_or ends (get_or of-more j 0) 0 ≡ never)
-            ⊎ (get_or ends (get_or of-more j 0) 0 < length (more db s))
+            → (get_or ends (get_or of_more j 0) 0 ≡ never)
+            ⊎ (get_or ends (get_or of_more j 0) 0 < length (more db s))
         bounds-old j h = by (g.becomes j h)
           where
             by : Becomes j
-                → (get_or ends (get_or of-more j 0) 0 ≡ never)
-                ⊎ (get_or ends (get_or of-more j 0) 0 < length (more db s))
-            by (inl (f, inl o)) = inl (ap (λ k. get_or ends k 0) (of-front j h) ∙ o.0)
-            by (inl (f, inr c)) = inr (rw (of-front j h) (omega (arith, c.0, length-more db s)))
-            by (inr p) = inr (rw (of-front j h) (omega (arith, p.0, p.1, length-more db s)))
+                → (get_or ends (get_or of_more j 0) 0 ≡ never)
+                ⊎ (get_or ends (get_or of_more j 0) 0 < length (more db s))
+            by (inl (f, inl o)) = inl (ap (λ k. get_or ends k 0) (of_front j h) ∙ o.0)
+            by (inl (f, inr c)) = inr (rw (of_front j h) (omega (arith, c.0, length_more db s)))
+            by (inr p) = inr (rw (of_front j h) (omega (arith, p.0, p.1, length_more db s)))
 
         ended : (j k : ℕ) → j < k → k ≤ length (more db s)
-            → stays (more db s) j k ≡ nat_le k (end_of (lists of-more ends opens) j)
+            → stays (more db s) j k ≡ nat_le k (end_of (lists of_more ends opens) j)
         ended j k h l = by (cases_lt (length db) k)
           where
             old : j < length db → k ≤ length db → Becomes j
@@ -295,27 +295,27 @@ module _ (db : List Statement) (s : Statement) (b : Lists) (x : IsBlocks db b)
 
             at-last : (j < length db) ⊎ (length db ≤ j) → k ≡ length db + 1
                 → stays (more db s) j (length db + 1)
-                ≡ nat_le (length db + 1) (end_of (lists of-more ends opens) j)
+                ≡ nat_le (length db + 1) (end_of (lists of_more ends opens) j)
             at-last (inl i) e =
                 stays_last db s j i ∙ last i (g.becomes j i)
-                ∙ ap (λ q. nat_le (length db + 1) (get_or ends q 0)) (sym (of-front j i))
+                ∙ ap (λ q. nat_le (length db + 1) (get_or ends q 0)) (sym (of_front j i))
             at-last (inr i) e =
                 let same : length db ≡ j = omega (arith, h, e, i) in
                 subst (λ j. stays (more db s) j (length db + 1)
-                ≡ nat_le (length db + 1) (end_of (lists of-more ends opens) j)) same
+                ≡ nat_le (length db + 1) (end_of (lists of_more ends opens) j)) same
                 (stays_new db s ∙ fresh g.new
-                ∙ ap (λ q. nat_le (length db + 1) (get_or ends q 0)) (sym of-last))
+                ∙ ap (λ q. nat_le (length db + 1) (get_or ends q 0)) (sym of_last))
 
             by : (length db < k) ⊎ (k ≤ length db)
-                → stays (more db s) j k ≡ nat_le k (end_of (lists of-more ends opens) j)
+                → stays (more db s) j k ≡ nat_le k (end_of (lists of_more ends opens) j)
             by (inl m) =
-                let e : k ≡ length db + 1 = omega (arith, l, m, length-more db s) in
-                subst (λ k. stays (more db s) j k ≡ nat_le k (end_of (lists of-more ends opens) j))
+                let e : k ≡ length db + 1 = omega (arith, l, m, length_more db s) in
+                subst (λ k. stays (more db s) j k ≡ nat_le k (end_of (lists of_more ends opens) j))
                 (sym e) (at-last (cases_lt j (length db)) e)
             by (inr m) =
                 let i : j < length db = omega arith in
                 stays_front db s j k h m ∙ x.ended j k h m ∙ old i m (g.becomes j i)
-                ∙ ap (λ q. nat_le k (get_or ends q 0)) (sym (of-front j i))
+                ∙ ap (λ q. nat_le k (get_or ends q 0)) (sym (of_front j i))
 
   -- the count of blocks after the statement
   pub depth_plain : is_opening s ≡ false → is_closing s ≡ false
@@ -366,7 +366,7 @@ module _ (db : List Statement) (s : Statement) (b : Lists) (x : IsBlocks db b)
         still = x.still;
         rising = x.rising;
         becomes = λ j h. by j h (x.bounds j h);
-        new = inl (top-still, omega (arith, d), sym top-at);
+        new = inl (top_still, omega (arith, d), sym top_at);
       })
     where
       by : (j : ℕ) → j < length db → (end_of b j ≡ never) ⊎ (end_of b j < length db)
@@ -401,12 +401,12 @@ module _ (db : List Statement) (s : Statement) (b : Lists) (x : IsBlocks db b)
         becomes = λ j h. by j h (x.bounds j h);
         new =
             inl (
-              ends-front (top b.open_blocks) top-opened
-                  ∙ top-still,
+              ends-front (top b.open_blocks) top_opened
+                  ∙ top_still,
               omega (arith, d),
               opens-front (depth db (length db))
                   (let k = x.stack in omega (arith, k))
-                  ∙ sym top-at,
+                  ∙ sym top_at,
             );
       })
     where
@@ -500,7 +500,7 @@ module _ (db : List Statement) (s : Statement) (b : Lists) (x : IsBlocks db b)
         becomes = λ j h. by j h (x.bounds j h);
         new =
             inr (
-              get_or-set_same b.ends (top b.open_blocks) (length b.of) 0 top-opened
+              get_or-set_same b.ends (top b.open_blocks) (length b.of) 0 top_opened
                   ∙ x.count,
               omega (arith, d, deep),
             );
@@ -539,7 +539,7 @@ module _ (db : List Statement) (s : Statement) (b : Lists) (x : IsBlocks db b)
                 e,
                 inr (
                   ap (λ k. get_or ends k 0) q
-                      ∙ get_or-set_same b.ends (top b.open_blocks) (length b.of) 0 top-opened
+                      ∙ get_or-set_same b.ends (top b.open_blocks) (length b.of) 0 top_opened
                       ∙ x.count,
                   last (cases_lt (depth db j) (depth db (length db))),
                 ),
@@ -550,13 +550,13 @@ module _ (db : List Statement) (s : Statement) (b : Lists) (x : IsBlocks db b)
               last (inl l) =
                   absurd (let k = x.stack in
                   let r = x.rising (depth db j) (depth db (length db)) l (omega (arith, k)) in
-                  omega (arith, r, y.1, q, top-at))
+                  omega (arith, r, y.1, q, top_at))
               last (inr l) = let d = depth_closing o c in omega (arith, d, deep, l)
           go (inr q) y =
               let k = x.stack in
               let d = depth_closing o c in
               let ne : depth db j ≢ depth db (length db) =
-              λ z. q (sym y.1 ∙ ap (λ i. get_or b.open_blocks i 0) z ∙ sym top-at) in
+              λ z. q (sym y.1 ∙ ap (λ i. get_or b.open_blocks i 0) z ∙ sym top_at) in
               let l = y.0 in
               let below : depth db j < depth db (length db) = omega (arith, l, ne) in
               inl (
@@ -574,6 +574,6 @@ module _ (db : List Statement) (s : Statement) (b : Lists) (x : IsBlocks db b)
           inr (
             l,
             get_or-set_other b.ends (top b.open_blocks) (get_or b.of j 0) (length b.of) 0
-                (λ q. let e : end_of b j ≡ never = ap (λ k. get_or b.ends k 0) q ∙ top-still in
+                (λ q. let e : end_of b j ≡ never = ap (λ k. get_or b.ends k 0) q ∙ top_still in
                 omega (arith, e, l, few)),
           )

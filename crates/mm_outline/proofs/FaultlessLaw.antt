@@ -8,11 +8,7 @@ use Rattle.mm_spec.specs.Lawful.{at, at_each, when, lesser, is_before, constant_
 use Rattle.mm_spec.specs.Lawful.{variable_codes, floating_faults, is_typed, is_typed_otherwise}
 use Rattle.mm_spec.specs.declared.Code.TheVariants.{DeclaredBefore, BadFloating, TypedBefore}
 use Rattle.mm_spec.specs.declared.Code.TheVariants.{OtherTypecode, LabelIsSymbol}
-use Rattle.mm_spec.proofs.FaultlessLaw.{at_none, when_none, each_none}
-
-pub append_none : {X : Type 0} (xs ys : List X) → xs ++ ys ≡ [] → (xs ≡ []) × (ys ≡ [])
-append_none [] ys e = (refl, e)
-append_none (x ∷ xs) ys e = absurd (cc)
+use Rattle.mm_spec.proofs.FaultlessLaw.{append_none, at_none, when_none, each_none}
 
 or_none : (a b c : Bool) → (a || b || c) ≡ false → (a ≡ false) × (b ≡ false)
 or_none false false c e = (refl, refl)

@@ -18,10 +18,10 @@ use Rattle.mm_spec.proofs.BoolLaw.{lone}
 use Rattle.mm_stmt.specs.Database.{typecode_of, is_labelled_kind, kind_of}
 
 -- a selection of a selection
-pub filter-filter : (p q r : ℕ → Bool) (xs : List ℕ) → ((x : ℕ) → r x ≡ (p x && q x))
+pub filter_filter : (p q r : ℕ → Bool) (xs : List ℕ) → ((x : ℕ) → r x ≡ (p x && q x))
     → filter q (filter p xs) ≡ filter r xs
-filter-filter p q r [] h = refl
-filter-filter p q r (x ∷ xs) h = by (p x) (h x) (filter-filter p q r xs h)
+filter_filter p q r [] h = refl
+filter_filter p q r (x ∷ xs) h = by (p x) (h x) (filter_filter p q r xs h)
   where
     by : (a : Bool) → r x ≡ (a && q x) → filter q (filter p xs) ≡ filter r xs
         → filter q (cond a (x ∷ filter p xs) (filter p xs))
@@ -35,17 +35,17 @@ pub filter_snoc : (p : ℕ → Bool) (xs : List ℕ) (x : ℕ)
 filter_snoc p xs x = filter-append p xs (x ∷ [])
 
 -- an axiom is a column where it has the typecode
-column-split : (only : Option Bytes) (s : Statement)
+column_split : (only : Option Bytes) (s : Statement)
     → is_column only s ≡ (is_column None s && has_typecode only s)
-column-split only (axiomatic l k xs d) = refl
-column-split only (constants k xs d) = refl
-column-split only (variables k xs d) = refl
-column-split only (disjoint k xs d) = refl
-column-split only (floating l k xs d) = refl
-column-split only (essential l k xs d) = refl
-column-split only (provable l k xs e ps d) = refl
-column-split only (opening k) = refl
-column-split only (closing k) = refl
+column_split only (axiomatic l k xs d) = refl
+column_split only (constants k xs d) = refl
+column_split only (variables k xs d) = refl
+column_split only (disjoint k xs d) = refl
+column_split only (floating l k xs d) = refl
+column_split only (essential l k xs d) = refl
+column_split only (provable l k xs e ps d) = refl
+column_split only (opening k) = refl
+column_split only (closing k) = refl
 
 pub columns_split : (only : Option Bytes) (db : List Statement) (j : ℕ)
     → list_any (is_column only) (statement_at db j)
@@ -64,14 +64,14 @@ columns_split only db j = by (slice_get db j)
         && list_any (has_typecode only) (elim o [ None ↦ [] | Some s ↦ s ∷ [] ]))
     by None = refl
     by (Some s) =
-        ap (λ b. b || false) (column-split only s) ∙ shut (is_column None s) (has_typecode only s)
+        ap (λ b. b || false) (column_split only s) ∙ shut (is_column None s) (has_typecode only s)
 
 -- the columns are the axioms with the typecode
 pub columns_are : (only : Option Bytes) (db : List Statement)
     → filter (λ j. list_any (has_typecode only) (statement_at db j)) (columns db None)
     ≡ columns db only
 columns_are only db =
-    filter-filter (λ j. list_any (is_column None) (statement_at db j))
+    filter_filter (λ j. list_any (is_column None) (statement_at db j))
     (λ j. list_any (has_typecode only) (statement_at db j))
     (λ j. list_any (is_column only) (statement_at db j)) (range_with_len 0 (length db))
     (columns_split only db)

@@ -15,7 +15,7 @@ const NOWHERE: u32 = 4_294_967_295;
 /// `NOWHERE`: so a statement is found by one look.
 #[derive(Drop)]
 pub(crate) struct Places<'a, A: Allocator> {
-    list: &'a [u32],
+    statements: &'a [u32],
     places: Vec<u32, A>,
 }
 
@@ -26,44 +26,46 @@ impl<'a, A: Allocator> Model for Places<'a, A> {
 
     ghost Value = { List ℕ };
 
-    ghost view = { λ p. p.list.now };
+    ghost view = { λ p. p.statements.now };
 
-    ghost invariant = { λ p. IsRising p.list.now × ArePlaces p.list.now p.places.items };
+    ghost invariant = { λ p.
+        IsRising p.statements.now × ArePlaces p.statements.now p.places.items };
 }
 
 /// How many statements there are up to the last of a rising list.
-fn count_to_last(list: &[u32]) -> usize
-    requires { IsRising list.now }
-    ensures { (i : ℕ) → i < length list.now → slice_index list.now i < result }
+fn count_to_last(statements: &[u32]) -> usize
+    requires { IsRising statements.now }
+    ensures { (i : ℕ) → i < length statements.now → slice_index statements.now i < result }
 {
-    match list.last() {
+    match statements.last() {
         Some(last) => *last as usize + 1,
         None => 0,
     }
 }
 
 /// Notes the places of a rising list, where none is known.
-fn note_places(list: &[u32], places: &mut [u32])
-    requires rising { IsRising list.now }
-    requires room { (i : ℕ) → i < length list.now → slice_index list.now i < length places.old }
+fn note_places(statements: &[u32], places: &mut [u32])
+    requires rising { IsRising statements.now }
+    requires room { (i : ℕ) → i < length statements.now
+        → slice_index statements.now i < length places.old }
     requires none { (s : ℕ) → s < length places.old → slice_index places.old s ≡ 4294967295 }
-    ensures { ArePlaces list.now places.new }
+    ensures { ArePlaces statements.now places.new }
 {
-    for (place, statement) in list.iter().enumerate() {
+    for (place, statement) in statements.iter().enumerate() {
         places[*statement as usize] = place as u32;
     }
 }
 
 impl<'a, A: Allocator + Copy> Places<'a, A> {
     /// The places of a rising list.
-    pub(crate) fn new(alloc: A, list: &'a [u32]) -> Result<Places<'a, A>, AllocError>
-        requires { IsRising list.now }
-        ensures { IfOk result (λ p. p ≡ list.now) }
+    pub(crate) fn new(alloc: A, statements: &'a [u32]) -> Result<Places<'a, A>, AllocError>
+        requires { IsRising statements.now }
+        ensures { IfOk result (λ p. p ≡ statements.now) }
     {
         let mut places = Vec::new(alloc);
-        places.resize(count_to_last(list), NOWHERE)?;
-        note_places(list, &mut places);
-        Ok(Places { list, places })
+        places.resize(count_to_last(statements), NOWHERE)?;
+        note_places(statements, &mut places);
+        Ok(Places { statements, places })
     }
 }
 
@@ -72,7 +74,7 @@ impl<'a, A: Allocator> Places<'a, A> {
     pub(crate) fn words(&self) -> usize
         ensures { result ≡ words_for (length self.now) }
     {
-        self.list.len().div_ceil(64)
+        self.statements.len().div_ceil(64)
     }
 
     /// Where a statement stands in the list.

@@ -22,7 +22,7 @@ use Rattle.mm_work.specs.Citing.{Citing, theorem_at, list_at}
 use Rattle.mm_work.specs.Judged.{AllCited}
 use Rattle.mm_report.specs.Rows.{listed, citing_row, citing_rows, citation_report_of}
 use Rattle.mm_report.specs.Rows.{AreCitationsOf}
-use Rattle.mm_run.proofs.RowsLaw.{zip-at}
+use Rattle.mm_run.proofs.RowsLaw.{zip_of_each}
 
 module _ (db : List Statement) (request : Request) (c : Citing)
     (cited : AllCited db request.essential c) where
@@ -36,9 +36,9 @@ module _ (db : List Statement) (request : Request) (c : Citing)
   }
 
   -- what is listed of a theorem is what it cites
-  are-cited : (i : ℕ) → i < length c.theorems
+  are_cited : (i : ℕ) → i < length c.theorems
       → AreCited db request (theorem_at c i) (listed db request.only (list_at c i))
-  are-cited i l = record {
+  are_cited i l = record {
     rising = IsStrictlyIncreasing-filter is_chosen (list_at c i) (cited.rising i l);
     cited = λ a. (
       λ e. let p = member_filter is_chosen (list_at c i) a e in ((cited.exact i l a).0 p.1, p.0),
@@ -49,14 +49,14 @@ module _ (db : List Statement) (request : Request) (c : Citing)
       is_chosen : ℕ → Bool
       is_chosen a = list_any (has_typecode request.only) (statement_at db a)
 
-  citing-rows-are : AllZip (IsCitingRowOf db request) (theorems db)
+  citing_rows_are : AllZip (IsCitingRowOf db request) (theorems db)
       (citing_rows db request.only c (map (label_at db) (theorems db)))
-  citing-rows-are =
+  citing_rows_are =
       let names = map (label_at db) (theorems db) in
       let f = λ (i : ℕ). citing_row db request.only c (get_or names i []) i in
       let s = ap (λ (ts : List ℕ). length ts) cited.theorems_are in
       let n = length-map-range_with_len f 0 (length c.theorems) in
-      zip-at (IsCitingRowOf db request) (theorems db) (citing_rows db request.only c names) 0 (f 0)
+      zip_of_each (IsCitingRowOf db request) (theorems db) (citing_rows db request.only c names) 0 (f 0)
       (omega (arith, n, s))
       (λ i l.
       let inside : i < length c.theorems = omega (arith, s, l) in
@@ -67,7 +67,7 @@ module _ (db : List Statement) (request : Request) (c : Citing)
           listed db request.only (list_at c i),
           subst
               (λ t. AreCited db request t (listed db request.only (list_at c i)))
-              (ap (λ ts. get_or ts i 0) cited.theorems_are) (are-cited i inside),
+              (ap (λ ts. get_or ts i 0) cited.theorems_are) (are_cited i inside),
           refl,
         ),
       ))
@@ -87,7 +87,7 @@ module _ (db : List Statement) (request : Request) (c : Citing)
       subst (λ (o : Choice). IsReportOf o db opened request
       (citation_report_of db opened request.form request.only axioms c)) (sym choice) (
         citing_rows db request.only c (map (label_at db) (theorems db)),
-        citing-rows-are,
+        citing_rows_are,
         ap
             (λ (l : List ℕ). citation_report request.form opened (length l)
             (citing_rows db request.only c (map (label_at db) (theorems db)))) is,

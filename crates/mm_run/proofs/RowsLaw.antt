@@ -18,14 +18,14 @@ use Rattle.mm_report.specs.Rows.{row_of, rows_of, marks_of, report_of}
 use Rattle.mm_work.specs.Judged.{AllCited, Shows}
 
 -- two lists agree at each place
-pub zip-at : {A B : Type 0} (R : A → B → Type 0) (xs : List A) (ys : List B) (d : A) (e : B)
+pub zip_of_each : {A B : Type 0} (R : A → B → Type 0) (xs : List A) (ys : List B) (d : A) (e : B)
     → length xs ≡ length ys → ((i : ℕ) → i < length xs → R (get_or xs i d) (get_or ys i e))
     → AllZip R xs ys
-zip-at R [] [] d e n h = tt
-zip-at R [] (y ∷ ys) d e n h = absurd (omega (arith, n))
-zip-at R (x ∷ xs) [] d e n h = absurd (omega (arith, n))
-zip-at R (x ∷ xs) (y ∷ ys) d e n h =
-    (h 0 (omega arith), zip-at R xs ys d e (omega (arith, n)) (λ i l. h (suc i) (omega arith)))
+zip_of_each R [] [] d e n h = tt
+zip_of_each R [] (y ∷ ys) d e n h = absurd (omega (arith, n))
+zip_of_each R (x ∷ xs) [] d e n h = absurd (omega (arith, n))
+zip_of_each R (x ∷ xs) (y ∷ ys) d e n h =
+    (h 0 (omega arith), zip_of_each R xs ys d e (omega (arith, n)) (λ i l. h (suc i) (omega arith)))
 
 decides : {P Q : Type 0} (b : Bool) → Decides b P → P ↔ Q → Decides b Q
 decides b h e = ((λ t. e.0 (h.0 t)), (λ q. h.1 (e.1 q)))
@@ -33,13 +33,13 @@ decides b h e = ((λ t. e.0 (h.0 t)), (λ q. h.1 (e.1 q)))
 module _ (db : List Statement) (request : Request) (c : Citing) (m : Marks)
     (same : c.theorems ≡ theorems db) (shows : Shows db request.essential c)
     (h : IsMatrix c (columns db request.only) m) where
-  marks-zip : (i : ℕ) → i < length (theorems db)
+  marks_zip : (i : ℕ) → i < length (theorems db)
       → AllZip (λ a b. Decides b (proof.RestsOn db request.essential (get_or (theorems db) i 0) a))
       (columns db request.only) (marks_of m i)
-  marks-zip i l =
+  marks_zip i l =
       let n = length-map-range_with_len (mark m i) 0 m.columns in
       let w = h.columns_are in
-      zip-at (λ a b. Decides b (proof.RestsOn db request.essential (get_or (theorems db) i 0) a))
+      zip_of_each (λ a b. Decides b (proof.RestsOn db request.essential (get_or (theorems db) i 0) a))
       (columns db request.only) (marks_of m i) 0 false (omega (arith, n, w))
       (λ j k.
       let inside : i < length c.theorems = subst (λ (ts : List ℕ). i < length ts) (sym same) l in
@@ -64,12 +64,12 @@ module _ (db : List Statement) (request : Request) (c : Citing) (m : Marks)
       let r = h.rows in
       let s = ap (λ (ts : List ℕ). length ts) same in
       let n = length-map-range_with_len f 0 m.rows in
-      zip-at (IsRowOf db request) (theorems db) (rows_of m names) 0 (f 0) (omega (arith, n, r, s))
+      zip_of_each (IsRowOf db request) (theorems db) (rows_of m names) 0 (f 0) (omega (arith, n, r, s))
       (λ i l.
       subst (λ (x : Row). IsRowOf db request (get_or (theorems db) i 0) x)
       (sym (get_or-map-range_with_len f 0 m.rows i i (f 0) (omega (arith, r, s, l))
       (omega arith)))
-      (mapped (theorems db) i l, marks-zip i l))
+      (mapped (theorems db) i l, marks_zip i l))
     where
       mapped : (ts : List ℕ) (i : ℕ) → i < length ts
           → get_or (map (label_at db) ts) i [] ≡ label_at db (get_or ts i 0)

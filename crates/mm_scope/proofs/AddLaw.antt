@@ -16,7 +16,7 @@ use Rattle.mm_spec.specs.declared.Word as place
 use Rattle.mm_spec.specs.declared.Code.TheVariants.{ConstantInBlock, EmptyDeclaration}
 use Rattle.std.specs.Prelude.{nat_lt}
 use Rattle.std.proofs.Math.Bool.{or-false, or-true}
-use Rattle.mm_spec.proofs.FaultlessLaw.{least_none}
+use Rattle.mm_spec.proofs.FaultlessLaw.{append_none, least_none}
 use Rattle.mm_outline.specs.Blocks.{Lists, IsBlocks, never, pushed}
 use Rattle.mm_scope.specs.Judge.{Entry, entry_of, declared_entry, typed_entry}
 use Rattle.mm_scope.specs.WordEntry.{IsEntryOf, is_other, is_constant_entry, is_variable_entry}
@@ -28,8 +28,7 @@ use Rattle.mm_outline.specs.declared.parts.Kind.{Kind}
 use Rattle.mm_outline.specs.declared.parts.Kind.TheVariants as kind
 use Rattle.mm_outline.proofs.BlocksLaw.{blocks_plain, blocks_opening, blocks_closing}
 use Rattle.mm_scope.proofs.JudgeLaw.{bytes_eq_sym}
-use Rattle.mm_outline.proofs.FaultlessLaw.{append_none, constant_new, variable_new}
-use Rattle.mm_outline.proofs.FaultlessLaw.{floating_new}
+use Rattle.mm_outline.proofs.FaultlessLaw.{constant_new, floating_new, variable_new}
 use Rattle.mm_scope.proofs.KnowsLaw.{none_active}
 use Rattle.mm_outline.proofs.AmongLaw.{typed_in}
 use Rattle.mm_scope.proofs.LabelsLaw.{labels_after, label_unused}

@@ -16,11 +16,10 @@ use Rattle.mm_spec.specs.NormalProof.{is_labelled}
 use Rattle.mm_spec.specs.Lawful.{scope_faults, label_faults, formula_faults, floating_faults, when}
 use Rattle.mm_spec.specs.declared.Code.TheVariants.{LabelIsSymbol, LabelUsedBefore}
 use Rattle.mm_spec.proofs.LocalLaw.{get_front, get_seam}
-use Rattle.mm_spec.proofs.FaultlessLaw.{at_none, when_none}
+use Rattle.mm_spec.proofs.FaultlessLaw.{append_none, at_none, when_none}
 use Rattle.mm_scope.specs.WordEntry.{label_after}
 use Rattle.mm_scope.specs.Labels.{AreLabels}
 use Rattle.mm_outline.proofs.StatementsLaw.{is_there}
-use Rattle.mm_outline.proofs.FaultlessLaw.{append_none}
 
 -- a label that has no fault is new
 label_new : (n : Names) (l : Token) → label_faults n l ≡ [] → is_in l.word n.labels ≡ false

@@ -45,13 +45,9 @@ least_none (f ∷ fs) e = absurd (by (least fs) e)
     by None e = cc
     by (Some g) e = two g (is_before f g) e
 
-pub nil_first : {X : Type 0} (xs ys : List X) → xs ++ ys ≡ [] → xs ≡ []
-nil_first [] ys e = refl
-nil_first (x ∷ xs) ys e = absurd (cc)
-
-pub nil_second : {X : Type 0} (xs ys : List X) → xs ++ ys ≡ [] → ys ≡ []
-nil_second [] ys e = e
-nil_second (x ∷ xs) ys e = absurd (cc)
+pub append_none : {X : Type 0} (xs ys : List X) → xs ++ ys ≡ [] → (xs ≡ []) × (ys ≡ [])
+append_none [] ys e = (refl, e)
+append_none (x ∷ xs) ys e = absurd (cc)
 
 pub at_none : (p : ℕ) (cs : List Code) → at p cs ≡ [] → cs ≡ []
 at_none p [] e = refl
@@ -78,7 +74,7 @@ each_none codes e [] n w m = absurd (true≢false (sym m))
 each_none codes e (t ∷ ts) n w m =
     by (or_cases (bytes_eq w t.word) (is_in w (words ts)) m)
     (λ h. each_none codes (t.word ∷ e) ts
-    (nil_second (at t.at (codes e t.word)) (at_each codes (t.word ∷ e) ts) n) w h)
+    (append_none (at t.at (codes e t.word)) (at_each codes (t.word ∷ e) ts) n).1 w h)
   where
     by : (bytes_eq w t.word ≡ true) ⊎ (is_in w (words ts) ≡ true)
         → (is_in w (words ts) ≡ true → (earlier : List Bytes) × (codes earlier w ≡ []))
@@ -87,7 +83,7 @@ each_none codes e (t ∷ ts) n w m =
       e,
       ap (codes e) (same_word w t.word h)
           ∙ at_none t.at (codes e t.word)
-          (nil_first (at t.at (codes e t.word)) (at_each codes (t.word ∷ e) ts) n),
+          (append_none (at t.at (codes e t.word)) (at_each codes (t.word ∷ e) ts) n).0,
     )
     by (inr h) on = on h
 
@@ -103,14 +99,14 @@ pub new_constant : (n : Names) (d : ℕ) (s : Statement) (w : Bytes) → scope_f
 new_constant n d (constants k xs e) w f m =
     let x =
     each_none (constant_codes n) [] xs
-    (nil_second
+    (append_none
     (at k (when (nat_lt 0 d) ConstantInBlock) ++ at e (when (is_empty n xs) EmptyDeclaration))
-    (at_each (constant_codes n) [] xs) f) w m in
+    (at_each (constant_codes n) [] xs) f).1 w m in
     second_of_three (is_in w n.constants) (is_in w n.all_variables) (is_in w x.0)
     (when_none _ DeclaredBefore
-    (nil_first
+    (append_none
     (when (is_in w n.constants || is_in w n.all_variables || is_in w x.0) DeclaredBefore)
-    (when (is_in w n.labels) LabelIsSymbol) x.1))
+    (when (is_in w n.labels) LabelIsSymbol) x.1).0)
 new_constant n d _ w f m = absurd (true≢false (sym m))
 
 pub new_variable : (n : Names) (d : ℕ) (s : Statement) (w : Bytes) → scope_faults n d s ≡ []
@@ -118,13 +114,13 @@ pub new_variable : (n : Names) (d : ℕ) (s : Statement) (w : Bytes) → scope_f
 new_variable n d (variables k xs e) w f m =
     let x =
     each_none (variable_codes n) [] xs
-    (nil_second (at e (when (is_empty n xs) EmptyDeclaration)) (at_each (variable_codes n) [] xs) f)
-    w m in
+    (append_none (at e (when (is_empty n xs) EmptyDeclaration))
+    (at_each (variable_codes n) [] xs) f).1 w m in
     first_of_three (is_in w n.constants) (is_in w n.active_variables) (is_in w x.0)
     (when_none _ DeclaredBefore
-    (nil_first
+    (append_none
     (when (is_in w n.constants || is_in w n.active_variables || is_in w x.0) DeclaredBefore)
-    (when (is_in w n.labels) LabelIsSymbol) x.1))
+    (when (is_in w n.labels) LabelIsSymbol) x.1).0)
 new_variable n d _ w f m = absurd (true≢false (sym m))
 
 -- ---- formulas
@@ -155,30 +151,30 @@ formula_known n (t ∷ ts) end e w m = by (or_cases (bytes_eq w t.word) (is_in w
         ∙ not-false (is_in t.word n.constants)
         (when_none (not (is_in t.word n.constants)) BadTypecode
         (at_none t.at (when (not (is_in t.word n.constants)) BadTypecode)
-        (nil_first (at t.at (when (not (is_in t.word n.constants)) BadTypecode))
-        (at_each (symbol_codes n) [] ts) e))))
+        (append_none (at t.at (when (not (is_in t.word n.constants)) BadTypecode))
+        (at_each (symbol_codes n) [] ts) e).0)))
     by (inr h) =
         let x =
         each_none (symbol_codes n) [] ts
-        (nil_second (at t.at (when (not (is_in t.word n.constants)) BadTypecode))
-        (at_each (symbol_codes n) [] ts) e) w h in
+        (append_none (at t.at (when (not (is_in t.word n.constants)) BadTypecode))
+        (at_each (symbol_codes n) [] ts) e).1 w h in
         let first =
         when (not (is_in w n.constants || is_in w n.active_variables)) UndeclaredSymbol in
         let second = when (is_in w n.active_variables && not (is_typed n w)) UntypedVariable in
         bits (is_in w n.constants) (is_in w n.active_variables) (is_typed n w)
         (when_none (not (is_in w n.constants || is_in w n.active_variables)) UndeclaredSymbol
-        (nil_first first second x.1))
+        (append_none first second x.1).0)
         (when_none (is_in w n.active_variables && not (is_typed n w)) UntypedVariable
-        (nil_second first second x.1))
+        (append_none first second x.1).1)
 
 pub statement_known : (n : Names) (d : ℕ) (s : Statement) → has_formula s ≡ true
     → scope_faults n d s ≡ [] → (w : Bytes) → is_in w (words (symbols_of s)) ≡ true → IsKnown n w
 statement_known n d (essential l k xs e) h f w m =
-    formula_known n xs e (nil_second (label_faults n l) (formula_faults n xs e) f) w m
+    formula_known n xs e (append_none (label_faults n l) (formula_faults n xs e) f).1 w m
 statement_known n d (axiomatic l k xs e) h f w m =
-    formula_known n xs e (nil_second (label_faults n l) (formula_faults n xs e) f) w m
+    formula_known n xs e (append_none (label_faults n l) (formula_faults n xs e) f).1 w m
 statement_known n d (provable l k xs e ps q) h f w m =
-    formula_known n xs e (nil_second (label_faults n l) (formula_faults n xs e) f) w m
+    formula_known n xs e (append_none (label_faults n l) (formula_faults n xs e) f).1 w m
 statement_known n d _ h f w m = absurd (true≢false (sym h))
 
 -- a `$f` has a constant and a variable
@@ -194,7 +190,7 @@ pub record IsTyping (n : Names) (s : Statement) : Type 0 where
 pub floating_typing : (n : Names) (d : ℕ) (s : Statement) → is_floating s ≡ true
     → scope_faults n d s ≡ [] → IsTyping n s
 floating_typing n d (floating l k xs e) h f =
-    by xs (nil_second (label_faults n l) (floating_faults n k xs) f)
+    by xs (append_none (label_faults n l) (floating_faults n k xs) f).1
   where
     by : (xs : List Token) → floating_faults n k xs ≡ [] → IsTyping n (floating l k xs e)
     by [] g = absurd (cc)

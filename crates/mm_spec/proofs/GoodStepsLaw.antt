@@ -29,7 +29,7 @@ use Rattle.mm_spec.specs.declared.Code.TheVariants.{NumberTooLarge, UnusableLabe
 use Rattle.mm_spec.specs.declared.Code.TheVariants.{BadLetter}
 use Rattle.mm_spec.specs.Laws.Stack.{IsGood, AreGoodSteps, IsGoodStep}
 use Rattle.mm_spec.proofs.FindsLaw.{each_any, each_filter, found_at}
-use Rattle.mm_spec.proofs.FaultlessLaw.{nil_first, nil_second, at_none, when_none}
+use Rattle.mm_spec.proofs.FaultlessLaw.{append_none, at_none, when_none}
 use Rattle.mm_spec.proofs.ListLaw.{get_none}
 
 abbrev bare : List PlacedStep → List Step
@@ -88,9 +88,9 @@ each_usable : (db : List Statement) (k : ℕ) (ts : List Token)
 each_usable db k [] e = omega arith
 each_usable db k (t ∷ ts) e =
     by (usable db k t.word)
-    (nil_first (proof_label_faults db k t) (flat_map (proof_label_faults db k) ts) e)
+    (append_none (proof_label_faults db k t) (flat_map (proof_label_faults db k) ts) e).0
     (each_usable db k ts
-    (nil_second (proof_label_faults db k t) (flat_map (proof_label_faults db k) ts) e))
+    (append_none (proof_label_faults db k t) (flat_map (proof_label_faults db k) ts) e).1)
   where
     more : List ℕ
     more = flat_map (λ t. usable db k t.word) ts
@@ -293,11 +293,11 @@ module _ (db : List Statement) (k : ℕ)
           let none =
           when_none (nat_lt (many + length marks) (value g)) NumberTooLarge
           (at_none (starts_at g) (when (nat_lt (many + length marks) (value g)) NumberTooLarge)
-          (nil_first (first true false) (second false) f)) in
+          (append_none (first true false) (second false) f).0) in
           let s =
           number_good labels marks count many (value g) l m h (positive _ g.last.byte low)
           (ltb-false (many + length marks) (value g) none) in
-          let next = on (nil_second (first true false) (second false) f) in
+          let next = on (append_none (first true false) (second false) f).1 in
           let one : suc count ≡ count + 1 = omega arith in
           subst (λ ss. AreGoodSteps (context_at db k) count
           (bare (map (placed (starts_at g)) ss ++ group_steps labels marks (count + 1) gs)))
@@ -311,20 +311,20 @@ module _ (db : List Statement) (k : ℕ)
           let codes =
           at_none g.last.at
           (when (nat_lt 0 (length g.early)) OpenNumber ++ when (count == 0) MarkBeforeStep)
-          (nil_first (first false true) (second true) f) in
+          (append_none (first false true) (second true) f).0 in
           let none =
           eqb-false count 0
           (when_none (count == 0) MarkBeforeStep
-          (nil_second (when (nat_lt 0 (length g.early)) OpenNumber)
-          (when (count == 0) MarkBeforeStep) codes)) in
-          marking (omega arith) (nil_second (first false true) (second true) f)
+          (append_none (when (nat_lt 0 (length g.early)) OpenNumber)
+          (when (count == 0) MarkBeforeStep) codes).1) in
+          marking (omega arith) (append_none (first false true) (second true) f).1
       by false p false q f on marking =
-          absurd (other (g.last.byte == 63) (nil_first (first false false) (second false) f))
+          absurd (other (g.last.byte == 63) (append_none (first false false) (second false) f).0)
 
   compressed_good : (end : ℕ) (p : Compressed) → compressed_faults db k end p ≡ []
       → AreGoodSteps (context_at db k) 0 (bare (compressed_steps db k p))
   compressed_good end p f =
-      by p.letters (nil_second (flat_map (proof_label_faults db k) p.labels) (rest p.letters) f)
+      by p.letters (append_none (flat_map (proof_label_faults db k) p.labels) (rest p.letters) f).1
     where
       labels : List ℕ
       labels = mandatory_hypotheses db k ++ flat_map (λ t. usable db k t.word) p.labels
@@ -355,7 +355,7 @@ module _ (db : List Statement) (k : ℕ)
             length-append (mandatory_hypotheses db k)
                 (flat_map (λ t. usable db k t.word) p.labels),
             each_usable db k p.labels
-                (nil_first (flat_map (proof_label_faults db k) p.labels) (rest p.letters) f),
+                (append_none (flat_map (proof_label_faults db k) p.labels) (rest p.letters) f).0,
           )
 
       lettered : (xs : List Letter) → letter_faults many end xs ≡ []
@@ -363,8 +363,8 @@ module _ (db : List Statement) (k : ℕ)
       lettered [] e = tt
       lettered (x ∷ xs) e =
           groups_good (groups [] (x ∷ xs)).0 labels [] many 0 good tt enough
-          (nil_first (group_faults many 0 0 (groups [] (x ∷ xs)).0)
-          (at end (when (nat_lt 0 (length (groups [] (x ∷ xs)).1)) OpenNumber)) e)
+          (append_none (group_faults many 0 0 (groups [] (x ∷ xs)).0)
+          (at end (when (nat_lt 0 (length (groups [] (x ∷ xs)).1)) OpenNumber)) e).0
 
       by : (o : Option (List Token)) → rest o ≡ [] → AreGoodSteps (context_at db k) 0 (bare (out o))
       by None e = tt

@@ -1,6 +1,6 @@
 -- Lists: their later elements, their ends, and what they have as members.
-use Rattle.std.proofs.Common.{◌≡◌, ℕ, zero, suc, ◌==◌, ◌<◌, ◌≤◌, true, List, [], ◌∷◌, ◌++◌, length}
-use Rattle.std.proofs.Common.{get_or, slice_get, None, nat_eq, eqb-true, eq-eqb, refl, sym, ap}
+use Rattle.std.proofs.Common.{◌≡◌, ℕ, zero, suc, ◌==◌, ◌<◌, ◌≤◌, true, List, [], ◌∷◌, length}
+use Rattle.std.proofs.Common.{get_or, slice_get, None, nat_eq, eqb-true, eq-eqb, sym, ap}
 use Rattle.std.proofs.Common.{◌∙◌, subst, arith}
 use Rattle.std.specs.List.{All, AllPairs, Contains, dedup}
 use Rattle.std.specs.List.Sorted.{IsPermutation}

@@ -63,8 +63,8 @@ module _ (db more : List Statement) where
       (same_all (depth (db ++ more) j) (depth db j) (depth (db ++ more)) (depth db) (k - j) (j + 1)
       (depth_front j (omega arith)) (λ i m. depth_front i (omega arith)))
 
-  active-front : (k : ℕ) → k ≤ length db → active_statements (db ++ more) k ≡ active_statements db k
-  active-front k l =
+  active_front : (k : ℕ) → k ≤ length db → active_statements (db ++ more) k ≡ active_statements db k
+  active_front k l =
       same_filter (λ j. is_active (db ++ more) j k) (λ j. is_active db j k)
       (statement_at (db ++ more)) (statement_at db) k 0
       (λ i h. is_active_front i k (omega arith) l)
@@ -73,7 +73,7 @@ module _ (db more : List Statement) where
   pub names_front : (k : ℕ) → k ≤ length db → names_before (db ++ more) k ≡ names_before db k
   names_front k l =
       let t = take-append-le k db more l in
-      let a = active-front k l in
+      let a = active_front k l in
       ap₂ (λ xs ys. names xs ys) t a
     where
       names : List Statement → List Statement → Names

@@ -11,7 +11,7 @@ use Rattle.mm_spec.specs.Derivation.{Formula, Frame, Rule, hypothesis, assertion
 use Rattle.mm_spec.specs.Derivation.{Substitution, substitute, are_apart, Matches, KeepsApart}
 use Rattle.mm_spec.specs.Derivation.{Follows, Trees, none, more, formulas, postfix, AreDerivations}
 use Rattle.mm_spec.specs.Limits.{formula_limit}
-use Rattle.mm_spec.specs.Valid.{Reason, too_few, unmatched, not_apart, too_long, Fails}
+use Rattle.mm_spec.specs.Valid.{Reason, Fails}
 use Rattle.mm_spec.proofs.UnifyLaw.{same_equal, equal_same, found_formula, found_all, found_apart}
 use Rattle.mm_spec.specs.Laws.Stack.{found, same, pick, apply, step, IsGood}
 use Rattle.mm_spec.specs.Laws.Complete.{IsComplete}

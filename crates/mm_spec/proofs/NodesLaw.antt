@@ -1,7 +1,6 @@
 -- Nodes that count, as members of lists of labels.
 use Rattle.std.proofs.Common.{◌≡◌, ℕ, ◌==◌, Bool, true, false, ◌⊎◌, inl, inr, ◌↔◌, List, [], ◌∷◌}
 use Rattle.std.proofs.Common.{◌++◌, refl, sym, ◌∙◌, subst, true≢false, eqb-true, eq-eqb}
-use Rattle.std.specs.List.{list_any}
 use Rattle.std.proofs.lemmas.Bool.{or_cases, or_left, or_right}
 use Rattle.std.proofs.lemmas.List.Folds.{list_any-append}
 use Rattle.mm_spec.specs.Statement.{Statement}

@@ -1,6 +1,6 @@
 -- What counts as an axiom has the label, the symbols, the scope and the frame that it has as a
 -- theorem.
-use Rattle.std.proofs.Common.{◌≡◌, ℕ, zero, suc, ◌+◌, ◌-◌, ◌<◌, Bool, true, false, ◌&&◌, ◌||◌, not}
+use Rattle.std.proofs.Common.{◌≡◌, ℕ, zero, suc, ◌+◌, ◌-◌, Bool, true, false, ◌&&◌, ◌||◌, not}
 use Rattle.std.proofs.Common.{◌==◌, List, [], ◌∷◌, ◌++◌, map, take, length, flat_map, count_by}
 use Rattle.std.proofs.Common.{Option, Some, None, slice_get, nat_le, nat_lt, refl, sym, ap, ap₂}
 use Rattle.std.proofs.Common.{◌∙◌, subst, cond, true≢false}
@@ -12,9 +12,9 @@ use Rattle.std.proofs.lemmas.List.Folds.{flat_map-map}
 use Rattle.std.proofs.lemmas.List.Sums.{sum_by-cons}
 use Rattle.mm_spec.specs.Text.{Bytes, Token, is_in, words}
 use Rattle.mm_spec.specs.Statement.{Statement, constants, variables, disjoint, floating, essential}
-use Rattle.mm_spec.specs.Statement.{axiomatic, provable, opening, closing, label_of, symbols_of}
+use Rattle.mm_spec.specs.Statement.{axiomatic, provable, opening, closing, symbols_of}
 use Rattle.mm_spec.specs.Statement.{is_opening, is_closing}
-use Rattle.mm_spec.specs.Opened.{is_open_proof, is_open, as_axiom, counted}
+use Rattle.mm_spec.specs.Opened.{is_open_proof, as_axiom, counted}
 use Rattle.mm_spec.specs.Scope.{depth, is_active, is_active_kind, is_active_some, active}
 use Rattle.mm_spec.specs.Scope.{statement_at, label_words, constants_of, variables_of, stays}
 use Rattle.mm_spec.specs.Derivation.{Formula, Pair, Frame, Context, Rule, hypothesis, assertion}
@@ -24,8 +24,7 @@ use Rattle.mm_spec.specs.Frame.{is_variable_number, is_floating, is_essential}
 use Rattle.mm_spec.specs.Frame.{is_disjoint_statement, active_of, mandatory_variables}
 use Rattle.mm_spec.specs.Frame.{mandatory_hypotheses, mandatory_pairs, disjoint_at, pairs_of}
 use Rattle.mm_spec.specs.Frame.{frame_at}
-use Rattle.mm_spec.specs.NormalProof.{is_labelled}
-use Rattle.mm_spec.specs.Citation.{rule_of, rule_at, context_at, is_assertion, is_theorem}
+use Rattle.mm_spec.specs.Citation.{rule_of, rule_at, context_at, is_theorem}
 use Rattle.mm_spec.specs.Laws.Complete.{IsFine, AreComplete}
 use Rattle.mm_spec.specs.Output.{label_at}
 use Rattle.mm_spec.proofs.FindsLaw.{any_map, found_at, at_found}

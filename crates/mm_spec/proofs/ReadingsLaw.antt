@@ -11,9 +11,9 @@ use Rattle.mm_spec.specs.declared.Fault.{Fault}
 use Rattle.mm_spec.specs.declared.Role.{Role}
 use Rattle.mm_spec.specs.declared.Role.TheVariants.{Token, Opening, Closing, Comment, Faulty}
 
-with_tokens-push : (ts : List Word) (w : Word) (r : Reading)
+with_tokens_push : (ts : List Word) (w : Word) (r : Reading)
     → with_tokens ts (with_tokens (w ∷ []) r) ≡ with_tokens (ts ++ w ∷ []) r
-with_tokens-push ts w r = rw append_assoc refl
+with_tokens_push ts w r = rw append_assoc refl
 
 pub reading_token : (text : List ℕ) (ts : List Word) (comment : Option ℕ) (w : Word)
     → (ws : List Word)
@@ -22,7 +22,7 @@ pub reading_token : (text : List ℕ) (ts : List Word) (comment : Option ℕ) (w
     ≡ with_tokens (ts ++ w ∷ []) (reading text comment ws)
 unfolding reading
 reading_token text ts comment w ws role =
-    rw (role, reading) (with_tokens-push ts w (reading text comment ws))
+    rw (role, reading) (with_tokens_push ts w (reading text comment ws))
 
 pub reading_opening : (text : List ℕ) (comment : Option ℕ) (w : Word) (ws : List Word)
     → role_of (is_some comment) (bytes_of text w) ≡ Opening →
@@ -78,12 +78,12 @@ module _ {text : List ℕ} {ts : List Word} {comment : Option ℕ} {at : ℕ} {w
       ∙ ap (with_tokens ts) (reading_faulty text comment w _ (rw (← e) (sym role)))
       ∙ rw (append-nil, e) refl
 
-  Reads-next : (us : List Word) (d : Option ℕ) → Reads text ts comment at
+  Reads_next : (us : List Word) (d : Option ℕ) → Reads text ts comment at
       → IsNextWord text at (length text) w →
       with_tokens ts (reading text comment (w ∷ words_between text w.end (length text)))
       ≡ with_tokens us (reading text d (words_between text w.end (length text))) →
       Reads text us d w.end
-  Reads-next us d reads next step =
+  Reads_next us d reads next step =
       record {
         same = reads.same
             ∙ ap (λ (xs : List Word). with_tokens ts (reading text comment xs)) next.rest ∙ step;
@@ -93,28 +93,28 @@ module _ {text : List ℕ} {ts : List Word} {comment : Option ℕ} {at : ℕ} {w
       → b ≡ is_some comment → Token ≡ role_of b (bytes_of text w) →
       Reads text (ts ++ w ∷ []) comment w.end
   Reads_token b reads next e role =
-      Reads-next (ts ++ w ∷ []) comment reads next
+      Reads_next (ts ++ w ∷ []) comment reads next
       (reading_token text ts comment w _ (rw (← e) (sym role)))
 
   pub Reads_opening : (b : Bool) → Reads text ts comment at → IsNextWord text at (length text) w
       → b ≡ is_some comment → Opening ≡ role_of b (bytes_of text w) →
       Reads text ts (Some w.start) w.end
   Reads_opening b reads next e role =
-      Reads-next ts (Some w.start) reads next
+      Reads_next ts (Some w.start) reads next
       (ap (with_tokens ts) (reading_opening text comment w _ (rw (← e) (sym role))))
 
   pub Reads_closing : (b : Bool) → Reads text ts comment at → IsNextWord text at (length text) w
       → b ≡ is_some comment → Closing ≡ role_of b (bytes_of text w) →
       Reads text ts None w.end
   Reads_closing b reads next e role =
-      Reads-next ts None reads next
+      Reads_next ts None reads next
       (ap (with_tokens ts) (reading_closing text comment w _ (rw (← e) (sym role))))
 
   pub Reads_comment : (b : Bool) → Reads text ts comment at → IsNextWord text at (length text) w
       → b ≡ is_some comment → Comment ≡ role_of b (bytes_of text w) →
       Reads text ts comment w.end
   Reads_comment b reads next e role =
-      Reads-next ts comment reads next
+      Reads_next ts comment reads next
       (ap (with_tokens ts) (reading_comment text comment w _ (rw (← e) (sym role))))
 
 module _ {text : List ℕ} {ts : List Word} {comment : Option ℕ} {at : ℕ} where

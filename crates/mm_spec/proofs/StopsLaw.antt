@@ -3,6 +3,7 @@ use Rattle.std.proofs.Common.{◌≡◌, ◌≢◌, ℕ, zero, suc, ◌+◌, ◌
 use Rattle.std.proofs.Common.{◌++◌, Option, Some, None, count_by, flat_map, ◌⊎◌, inl, inr, refl}
 use Rattle.std.proofs.Common.{sym, ap, ◌∙◌, subst, append-nil, append_assoc, arith}
 use Rattle.std.proofs.lemmas.List.{append_cancel_left}
+use Rattle.std.proofs.lemmas.Option.{same_Some}
 use Rattle.mm_spec.specs.Text.{Token, Fault, fault, is_label}
 use Rattle.mm_spec.specs.Statement.{Statement, spelled, is_opening, is_closing, IsRow, IsLongestRow}
 use Rattle.mm_spec.specs.Statement.{ShapeFault, FileEndFault, Begins, IsBetween, shape_code}
@@ -94,9 +95,6 @@ record Stop (r : Progress) (ts : List Token) (f : Fault) : Type 0 where
   stops : turn (rest_from r before) (class first.word) first ≡ stop
   is : f ≡ fault first.at (shape_code (begins (rest_from r before)) first.word)
 
-some_same : (f g : Fault) → Some f ≡ Some g → g ≡ f
-some_same f g e = cc
-
 stopped : (ts : List Token) (r : Progress) (f : Fault) → stop_from r ts ≡ Some f → Stop r ts f
 stopped [] r f e = absurd (cc)
 stopped (t ∷ ts) r f e = by (turn r (class t.word) t) refl e (λ q h. stopped ts q f h)
@@ -115,7 +113,7 @@ stopped (t ∷ ts) r f e = by (turn r (class t.word) t) refl e (λ q h. stopped 
           splits = refl;
           goes = refl;
           stops = o;
-          is = some_same (fault t.at (shape_code (begins r) t.word)) f e;
+          is = sym (same_Some (fault t.at (shape_code (begins r) t.word)) f e);
         }
     by (go q) o e on = let x = on q e in record {
       before = t ∷ x.before;
@@ -289,7 +287,7 @@ end_fault len ts f e h =
         record {
           row = statements_of ts;
           is_row = is_longest ts;
-          code = inl (goes_on ts r b y n (is_longest ts), some_same (fault len OpenStatement) f h);
+          code = inl (goes_on ts r b y n (is_longest ts), sym (same_Some (fault len OpenStatement) f h));
         }
 
     by : (r : Progress) (b : Bool) → follow (Some (at_start 0)) ts ≡ Some (state_of b r)
@@ -302,7 +300,7 @@ end_fault len ts f e h =
           row = statements_of ts;
           is_row = is_longest ts;
           code = inr
-              (x.rest (is_longest ts), omega (arith, c), some_same (fault len OpenBlock) f h);
+              (x.rest (is_longest ts), omega (arith, c), sym (same_Some (fault len OpenBlock) f h));
         }
     by (labelled d l) b y h = part (labelled d l) b y refl h
     by (words d make ws) b y h = part (words d make ws) b y refl h
@@ -362,7 +360,7 @@ text_fault_is len x f e =
         inr (
           no_shape_fault x.tokens p,
           subst (λ o. WordOrEnd len x.tokens o f) (sym q)
-              (some_same b f e),
+              (sym (same_Some b f e)),
         )
     by None p None q c r e =
         inr (

@@ -19,7 +19,7 @@ use Rattle.mm_spec.specs.declared.Code.TheVariants.{BadFloating, TooFewVariables
 use Rattle.mm_spec.specs.declared.Code.TheVariants.{UndeclaredVariable, RepeatedVariable}
 use Rattle.mm_spec.proofs.FindsLaw.{any_flat_map, inside_of, found_at, found_active, same_word}
 use Rattle.mm_spec.proofs.FindsLaw.{declares, declared_before}
-use Rattle.mm_spec.proofs.FaultlessLaw.{least_none, nil_first, nil_second, at_none, when_none}
+use Rattle.mm_spec.proofs.FaultlessLaw.{least_none, append_none, at_none, when_none}
 use Rattle.mm_spec.proofs.FaultlessLaw.{each_none}
 
 -- what is known of a symbol of a statement: a constant, an active variable, or one that the
@@ -44,19 +44,19 @@ formula_named n s (t ∷ ts) end e w m = by (or_cases (bytes_eq w t.word) (is_in
         ∙ not-false (is_in t.word n.constants)
         (when_none (not (is_in t.word n.constants)) BadTypecode
         (at_none t.at (when (not (is_in t.word n.constants)) BadTypecode)
-        (nil_first (at t.at (when (not (is_in t.word n.constants)) BadTypecode))
-        (at_each (symbol_codes n) [] ts) e))))
+        (append_none (at t.at (when (not (is_in t.word n.constants)) BadTypecode))
+        (at_each (symbol_codes n) [] ts) e).0)))
     by (inr h) =
         let x =
         each_none (symbol_codes n) [] ts
-        (nil_second (at t.at (when (not (is_in t.word n.constants)) BadTypecode))
-        (at_each (symbol_codes n) [] ts) e) w h in
+        (append_none (at t.at (when (not (is_in t.word n.constants)) BadTypecode))
+        (at_each (symbol_codes n) [] ts) e).1 w h in
         go (or_cases (is_in w n.constants) (is_in w n.active_variables)
         (not-false (is_in w n.constants || is_in w n.active_variables)
         (when_none (not (is_in w n.constants || is_in w n.active_variables)) UndeclaredSymbol
-        (nil_first
+        (append_none
         (when (not (is_in w n.constants || is_in w n.active_variables)) UndeclaredSymbol)
-        (when (is_in w n.active_variables && not (is_typed n w)) UntypedVariable) x.1))))
+        (when (is_in w n.active_variables && not (is_typed n w)) UntypedVariable) x.1).0)))
       where
         go : (is_in w n.constants ≡ true) ⊎ (is_in w n.active_variables ≡ true) → IsNamed n s w
         go (inl c) = constant c
@@ -99,25 +99,25 @@ named n d (variables k xs e) f w m = own m
 named n d (disjoint k xs e) f w m =
     let x =
     each_none (disjoint_codes n) [] xs
-    (nil_second (at e (when (nat_lt (length xs) 2) TooFewVariables))
-    (at_each (disjoint_codes n) [] xs) f) w m in
+    (append_none (at e (when (nat_lt (length xs) 2) TooFewVariables))
+    (at_each (disjoint_codes n) [] xs) f).1 w m in
     variable
     (not-false (is_in w n.active_variables)
     (when_none (not (is_in w n.active_variables)) UndeclaredVariable
-    (nil_first (when (not (is_in w n.active_variables)) UndeclaredVariable)
-    (when (is_in w x.0) RepeatedVariable) x.1)))
+    (append_none (when (not (is_in w n.active_variables)) UndeclaredVariable)
+    (when (is_in w x.0) RepeatedVariable) x.1).0))
 named n d (floating l k xs e) f w m =
     floating_named n (floating l k xs e) k xs
-    (nil_second (label_faults n l) (floating_faults n k xs) f) w m
+    (append_none (label_faults n l) (floating_faults n k xs) f).1 w m
 named n d (essential l k xs e) f w m =
     formula_named n (essential l k xs e) xs e
-    (nil_second (label_faults n l) (formula_faults n xs e) f) w m
+    (append_none (label_faults n l) (formula_faults n xs e) f).1 w m
 named n d (axiomatic l k xs e) f w m =
     formula_named n (axiomatic l k xs e) xs e
-    (nil_second (label_faults n l) (formula_faults n xs e) f) w m
+    (append_none (label_faults n l) (formula_faults n xs e) f).1 w m
 named n d (provable l k xs e ps q) f w m =
     formula_named n (provable l k xs e ps q) xs e
-    (nil_second (label_faults n l) (formula_faults n xs e) f) w m
+    (append_none (label_faults n l) (formula_faults n xs e) f).1 w m
 named n d (opening k) f w m = absurd (true≢false (sym m))
 named n d (closing k) f w m = absurd (true≢false (sym m))
 
@@ -125,9 +125,9 @@ abbrev pub declared_words : Statement → List Bytes
 declared_words s = constants_of s ++ variables_of s
 
 module _ (db : List Statement) where
-  constants-declared : (w : Bytes) → is_in w (flat_map constants_of db) ≡ true
+  constants_declared : (w : Bytes) → is_in w (flat_map constants_of db) ≡ true
       → is_in w (flat_map declared_words db) ≡ true
-  constants-declared w h =
+  constants_declared w h =
       any_flat_map (bytes_eq w) declared_words db
       ∙ go db (sym (any_flat_map (bytes_eq w) constants_of db) ∙ h)
     where
@@ -151,9 +151,9 @@ module _ (db : List Statement) where
               or_right (is_in w (declared_words x)) (list_any (λ s. is_in w (declared_words s)) xs)
               (on k)
 
-  own-declared : (i : ℕ) (s : Statement) (w : Bytes) → slice_get db i ≡ Some s
+  own_declared : (i : ℕ) (s : Statement) (w : Bytes) → slice_get db i ≡ Some s
       → is_in w (declared_words s) ≡ true → is_in w (flat_map declared_words db) ≡ true
-  own-declared i s w e m =
+  own_declared i s w e m =
       subst (λ (l : List Statement). is_in w (flat_map declared_words l) ≡ true)
       (take_all (length db) db (omega arith))
       (declares declared_words db (length db) i s w e (inside_of db i s e) m)
@@ -171,7 +171,7 @@ module _ (db : List Statement) where
       ∙ law)) w m)
     where
       by : IsNamed (names_before db k) s w → is_in w (flat_map declared_words db) ≡ true
-      by (constant h) = constants-declared w (declared_before constants_of db k w h)
+      by (constant h) = constants_declared w (declared_before constants_of db k w h)
       by (variable h) =
           let f =
           found_active db k (λ i. list_any (λ s. is_in w (variables_of s)) (statement_at db i))
@@ -179,7 +179,7 @@ module _ (db : List Statement) where
           ∙ any_flat_map (λ s. is_in w (variables_of s)) (statement_at db) (active db k))
           ∙ h) in
           let g = found_at db (λ s. is_in w (variables_of s)) f.0 f.2 in
-          own-declared f.0 g.0 w g.1
+          own_declared f.0 g.0 w g.1
           (list_any-append (bytes_eq w) (constants_of g.0) (variables_of g.0)
           ∙ or_right (is_in w (constants_of g.0)) (is_in w (variables_of g.0)) g.2)
-      by (own h) = own-declared k s w e h
+      by (own h) = own_declared k s w e h

@@ -24,15 +24,15 @@ split zero row = (row, none)
 split (suc n) none = (none, none)
 split (suc n) (more ts l f cs) = let p = split n ts in (p.0, more p.1 l f cs)
 
-split-join : (ts cs : Trees) → split (count cs) (ts ⧺ cs) ≡ (ts, cs)
-split-join ts none = refl
-split-join ts (more cs l f ds) =
-    ap {A = Trees × Trees} {B = Trees × Trees} (λ p. (p.0, more p.1 l f ds)) (split-join ts cs)
+split_join : (ts cs : Trees) → split (count cs) (ts ⧺ cs) ≡ (ts, cs)
+split_join ts none = refl
+split_join ts (more cs l f ds) =
+    ap {A = Trees × Trees} {B = Trees × Trees} (λ p. (p.0, more p.1 l f ds)) (split_join ts cs)
 
-count-formulas : (cs : Trees) → length (formulas cs) ≡ count cs
-count-formulas none = refl
-count-formulas (more cs l f ds) =
-    omega (arith, length-append (formulas cs) (f ∷ []), count-formulas cs)
+count_formulas : (cs : Trees) → length (formulas cs) ≡ count cs
+count_formulas none = refl
+count_formulas (more cs l f ds) =
+    omega (arith, length-append (formulas cs) (f ∷ []), count_formulas cs)
 
 module _ (c : Context) where
   arity : Option Rule → ℕ
@@ -81,12 +81,12 @@ module _ (c : Context) where
       let regroup : (p ++ (q ++ l ∷ [])) ++ ls ≡ p ++ (q ++ l ∷ ls) =
       append_assoc p (q ++ l ∷ []) ls ∙ ap (λ x. p ++ x) (append_assoc q (l ∷ []) ls) in
       let n : arity (c.rule l) ≡ count cs =
-      sym (follows_arity (c.rule l) (formulas cs) f d.2) ∙ count-formulas cs in
+      sym (follows_arity (c.rule l) (formulas cs) f d.2) ∙ count_formulas cs in
       ap (λ x. build x base) regroup
       ∙ builds ts d.0 outer.0 (q ++ l ∷ ls) base
       ∙ builds cs d.1 inner.0 (l ∷ ls) (base ⧺ ts)
       ∙ ap (λ x. build ls (grow l x))
-      (ap (λ k. split k ((base ⧺ ts) ⧺ cs)) n ∙ split-join (base ⧺ ts) cs)
+      (ap (λ k. split k ((base ⧺ ts) ⧺ cs)) n ∙ split_join (base ⧺ ts) cs)
       ∙ ap (λ g. build ls (more (base ⧺ ts) l g cs))
       (follows_result (c.rule l) (formulas cs) f inner.1.0 d.2)
 

@@ -122,10 +122,10 @@ IsWord_word_at text i h ink boundary = record {
   white_after = word_at_after text i;
 }
 
-word_at-is : (text : List ℕ) (i e : ℕ) → e ≡ (word_at text i).end
+word_at_is : (text : List ℕ) (i e : ℕ) → e ≡ (word_at text i).end
     → word_at text i ≡ record { start = i; end = e }
 unfolding word_at
-word_at-is text i e h = ap (λ (x : ℕ). let w : Word = record { start = i; end = x } in w) (sym h)
+word_at_is text i e h = ap (λ (x : ℕ). let w : Word = record { start = i; end = x } in w) (sym h)
 
 -- no other word begins in it
 inside : (text : List ℕ) (i e j : ℕ) → e ≡ (word_at text i).end → i + 1 ≤ j → j < e
@@ -136,9 +136,9 @@ inside text i e j h a b =
     (begins_word_inside text (j - 1) (word_at_ink text i (j - 1) (omega arith) (omega arith)))
 
 -- a word that begins before a place over which no word goes on ends there at the latest
-word_at-up_to : (text : List ℕ) (i e to : ℕ) → i < to → to ≤ length text → IsBoundary text to
+word_at_up_to : (text : List ℕ) (i e to : ℕ) → i < to → to ≤ length text → IsBoundary text to
     → e ≡ (word_at text i).end → e ≤ length text → e ≤ to
-word_at-up_to text i e to h le boundary at_end within =
+word_at_up_to text i e to h le boundary at_end within =
     ⊎_elim {C = e ≤ to}
     (λ over.
     let here : white_at text to ≡ false = word_at_ink text i to (omega arith) (omega arith) in
@@ -154,11 +154,11 @@ pub next_is : (text : List ℕ) (i e to : ℕ) → i < to → to ≤ length text
     let w : Word = record { start = i; end = e } in
     IsWord text w × (e ≤ to) × (words_between text i to ≡ w ∷ words_between text e to)
 next_is text i e to h within ink boundary end at_end =
-    let whole : word_at text i ≡ record { start = i; end = e } = word_at-is text i e at_end in
+    let whole : word_at text i ≡ record { start = i; end = e } = word_at_is text i e at_end in
     let word : IsWord text (word_at text i) = IsWord_word_at text i (omega arith) ink boundary in
     let le : e ≤ length text = omega (arith, word_at_within text i) in
     let lt : i < e = omega (arith, word_at_nonempty text i (omega arith) ink) in
-    let up_to : e ≤ to = word_at-up_to text i e to h within end at_end le in (
+    let up_to : e ≤ to = word_at_up_to text i e to h within end at_end le in (
       subst (IsWord text) whole word,
       up_to,
       words_between_take text i to h (begins_word_first text i (omega arith) ink boundary)

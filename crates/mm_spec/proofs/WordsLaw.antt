@@ -6,6 +6,7 @@ use Rattle.std.proofs.Common.{eqb-true}
 use Rattle.std.specs.List.{prefix_len, All, AllPairs, Contains}
 use Rattle.std.proofs.lemmas.List.Sums.{prefix_len_is}
 use Rattle.std.proofs.lemmas.List.Elements.{All-nil, All-cons, All-weaker, All-tail, All-contains}
+use Rattle.std.proofs.lemmas.List.Kept.{AllPairs-cons}
 use Rattle.std.proofs.lemmas.Bool.{and_parts, or_cases, cases_lt, cases_eq, not-true}
 use Rattle.mm_spec.specs.declared.Word.{Word}
 use Rattle.mm_spec.specs.Bytes.{is_white}
@@ -62,9 +63,9 @@ IsWord_is {text} {w} word =
     let e : w.start + prefix_len p (drop w.start text) ≡ w.end = omega (arith, word.nonempty) in
     ap (λ (x : ℕ). let v : Word = record { start = w.start; end = x } in v) e
 
-word_at-start : (text : List ℕ) (i : ℕ) → (word_at text i).start ≡ i
+word_at_start : (text : List ℕ) (i : ℕ) → (word_at text i).start ≡ i
 unfolding word_at
-word_at-start text i = refl
+word_at_start text i = refl
 
 -- two words don't overlap
 pub IsWord_apart : {text : List ℕ} {v w : Word} → IsWord text v → IsWord text w → v.start < w.start
@@ -78,18 +79,11 @@ IsWord_apart {text} {v} {w} one other h =
     (λ le. le)
     (cases_lt w.start v.end)
 
-Contains-head : {X : Type 0} (x : X) (xs : List X) → Contains (x ∷ xs) x
-Contains-head x xs = (0, (omega arith), refl)
+Contains_head : {X : Type 0} (x : X) (xs : List X) → Contains (x ∷ xs) x
+Contains_head x xs = (0, (omega arith), refl)
 
-Contains-tail : {X : Type 0} (x y : X) (xs : List X) → Contains xs y → Contains (x ∷ xs) y
-Contains-tail x y xs (k, h, e) = (suc k, (omega arith), e)
-
-AllPairs-cons : {X : Type 0} (R : X → X → Type 0) (x : X) (xs : List X) → All (R x) xs
-    → AllPairs R xs → AllPairs R (x ∷ xs)
-AllPairs-cons R x xs first rest zero zero d lt h = absurd (omega arith)
-AllPairs-cons R x xs first rest zero (suc j) d lt h = first j d (omega arith)
-AllPairs-cons R x xs first rest (suc i) zero d lt h = absurd (omega arith)
-AllPairs-cons R x xs first rest (suc i) (suc j) d lt h = rest i j d (omega arith) (omega arith)
+Contains_tail : {X : Type 0} (x y : X) (xs : List X) → Contains xs y → Contains (x ∷ xs) y
+Contains_tail x y xs (k, h, e) = (suc k, (omega arith), e)
 
 -- a place either begins a word or doesn't, and what that says of the words
 pub words_between_cases : (text : List ℕ) (i to : ℕ) → i < to →
@@ -105,9 +99,9 @@ words_between_cases text i to h = by (begins_word text i) refl
     by true e = inl (e, words_between_take text i to h e)
     by false e = inr (e, words_between_skip text i to h e)
 
-IsWord-here : (text : List ℕ) (i : ℕ) → i < length text → begins_word text i ≡ true
+IsWord_here : (text : List ℕ) (i : ℕ) → i < length text → begins_word text i ≡ true
     → IsWord text (word_at text i)
-IsWord-here text i h begins =
+IsWord_here text i h begins =
     IsWord_word_at text i h (begins_word_ink text i begins) (begins_word_boundary text i begins)
 
 abbrev IsWordFrom : List ℕ → ℕ → Word → Type 0
@@ -125,7 +119,7 @@ words_between_each text low (suc n) i to e le lo =
     ⊎_elim {C = All (IsWordFrom text low) (words_between text i to)}
     (λ taken. subst (All (IsWordFrom text low)) (sym taken.1)
     (All-cons (IsWordFrom text low) _ _
-    (IsWord-here text i (omega arith) taken.0, (omega (arith, word_at-start text i))) rest))
+    (IsWord_here text i (omega arith) taken.0, (omega (arith, word_at_start text i))) rest))
     (λ skipped. subst (All (IsWordFrom text low)) (sym skipped.1) rest)
     (words_between_cases text i to (omega arith))
 
@@ -139,13 +133,13 @@ words_between_all text (suc n) i to e w word low high =
     (sym (words_between_take text i to (omega arith)
     (ap (begins_word text) (sym same) ∙ IsWord_begins word)))
     (subst (λ (v : Word). Contains (v ∷ words_between text (i + 1) to) w)
-    (sym (IsWord_is word) ∙ ap (word_at text) same) (Contains-head w _)))
+    (sym (IsWord_is word) ∙ ap (word_at text) same) (Contains_head w _)))
     (λ apart.
     let rest : Contains (words_between text (i + 1) to) w =
     words_between_all text n (i + 1) to (omega arith) w word (omega arith) high in
     ⊎_elim {C = Contains (words_between text i to) w}
     (λ taken. subst (λ (ws : List Word). Contains ws w) (sym taken.1)
-    (Contains-tail (word_at text i) w _ rest))
+    (Contains_tail (word_at text i) w _ rest))
     (λ skipped. subst (λ (ws : List Word). Contains ws w) (sym skipped.1) rest)
     (words_between_cases text i to (omega arith)))
     (cases_eq w.start i)
@@ -167,8 +161,8 @@ words_between_rising text (suc n) i to e le =
     (λ taken. subst (AllPairs EndsBefore) (sym taken.1)
     (AllPairs-cons EndsBefore (word_at text i) _
     (All-weaker (IsWordFrom text (i + 1)) (EndsBefore (word_at text i))
-    (λ w from. IsWord_apart (IsWord-here text i (omega arith) taken.0) from.0
-    (omega (arith, from.1, word_at-start text i))) _ each)
+    (λ w from. IsWord_apart (IsWord_here text i (omega arith) taken.0) from.0
+    (omega (arith, from.1, word_at_start text i))) _ each)
     rest))
     (λ skipped. subst (AllPairs EndsBefore) (sym skipped.1) rest)
     (words_between_cases text i to (omega arith))
@@ -187,10 +181,10 @@ words_of_AreWords text = record {
 
 -- ---- two rising lists of the same words are one list
 
-Contains-first : {X : Type 0} (x : X) (xs : List X) (y : X) → Contains (x ∷ xs) y
+Contains_first : {X : Type 0} (x : X) (xs : List X) (y : X) → Contains (x ∷ xs) y
     → (x ≡ y) ⊎ Contains xs y
-Contains-first x xs y (zero, h, e) = inl e
-Contains-first x xs y (suc k, h, e) = inr (k, (omega arith), e)
+Contains_first x xs y (zero, h, e) = inl e
+Contains_first x xs y (suc k, h, e) = inr (k, (omega arith), e)
 
 -- what a list contains after its head stands after the head
 after_head : (w : Word) (ws : List Word) → AllPairs EndsBefore (w ∷ ws) → (v : Word)
@@ -216,11 +210,11 @@ same_head text w v ws vs are_w are_v rise_w rise_v there back =
     (λ after.
     let a : v.end ≤ w.start = after_head v vs rise_v w later in
     let b : w.end ≤ v.start = after_head w ws rise_w v after in
-    let m : w.start < w.end = nonempty_in text (w ∷ ws) are_w w (Contains-head w ws) in
-    let n : v.start < v.end = nonempty_in text (v ∷ vs) are_v v (Contains-head v vs) in
+    let m : w.start < w.end = nonempty_in text (w ∷ ws) are_w w (Contains_head w ws) in
+    let n : v.start < v.end = nonempty_in text (v ∷ vs) are_v v (Contains_head v vs) in
     absurd (omega arith))
-    (Contains-first w ws v (back v (Contains-head v vs))))
-    (Contains-first v vs w (there w (Contains-head w ws)))
+    (Contains_first w ws v (back v (Contains_head v vs))))
+    (Contains_first v vs w (there w (Contains_head w ws)))
 
 -- what is in the tail is in the other tail
 same_tail : (text : List ℕ) (w : Word) (ws vs : List Word) → All (IsWord text) (w ∷ ws)
@@ -230,10 +224,10 @@ same_tail text w ws vs are rise there u has =
     (λ same.
     let a : w.end ≤ u.start = after_head w ws rise u has in
     let b : w.end ≤ w.start = subst (λ (x : Word). w.end ≤ x.start) (sym same) a in
-    let m : w.start < w.end = nonempty_in text (w ∷ ws) are w (Contains-head w ws) in
+    let m : w.start < w.end = nonempty_in text (w ∷ ws) are w (Contains_head w ws) in
     absurd (omega arith))
     (λ h. h)
-    (Contains-first w vs u (there u (Contains-tail w u ws has)))
+    (Contains_first w vs u (there u (Contains_tail w u ws has)))
 
 empty_contains : (w : Word) → Contains {X = Word} [] w → ⊥
 empty_contains w (k, h, e) = omega arith
@@ -242,9 +236,9 @@ same_words : (text : List ℕ) (ws vs : List Word) → All (IsWord text) ws → 
     → AllPairs EndsBefore ws → AllPairs EndsBefore vs → SameIn ws vs → SameIn vs ws → ws ≡ vs
 same_words text [] [] are_w are_v rise_w rise_v there back = refl
 same_words text [] (v ∷ vs) are_w are_v rise_w rise_v there back =
-    absurd (empty_contains v (back v (Contains-head v vs)))
+    absurd (empty_contains v (back v (Contains_head v vs)))
 same_words text (w ∷ ws) [] are_w are_v rise_w rise_v there back =
-    absurd (empty_contains w (there w (Contains-head w ws)))
+    absurd (empty_contains w (there w (Contains_head w ws)))
 same_words text (w ∷ ws) (v ∷ vs) are_w are_v rise_w rise_v there back =
     let head : w ≡ v = same_head text w v ws vs are_w are_v rise_w rise_v there back in
     let there' : SameIn (w ∷ ws) (w ∷ vs) =

@@ -1,5 +1,5 @@
 -- How a run ends: what was read and written, by what it answers (this project's own).
-use Rattle.std.specs.Prelude.{◌≡◌, ℕ, ◌+◌, Bool, List, length, take, Option, ◌⊎◌}
+use Rattle.std.specs.Prelude.{◌≡◌, ℕ, ◌+◌, List, length, take, Option, ◌⊎◌}
 use Rattle.std.specs.Io.KnownBytes.{Consumes, Appends, Keeps, IsAtEnd}
 use Rattle.mm_spec.specs.Limits.{text_limit}
 use Rattle.mm_spec.specs.Report.{refusal}

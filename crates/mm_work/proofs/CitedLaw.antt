@@ -19,10 +19,10 @@ use Rattle.mm_cites.proofs.RisingLaw.{filter_rising}
 use Rattle.mm_work.specs.Judged.{IsCited, AreCited, Shows}
 
 -- a member stands at some place
-member-at : (xs : List ℕ) (x : ℕ) → is_member xs x ≡ true
+member_place : (xs : List ℕ) (x : ℕ) → is_member xs x ≡ true
     → (i : ℕ) × (i < length xs) × (get_or xs i 0 ≡ x)
-member-at [] x m = absurd (true≢false (sym m))
-member-at (y ∷ xs) x m = by (or_cases (x == y) (is_member xs x) m) (member-at xs x)
+member_place [] x m = absurd (true≢false (sym m))
+member_place (y ∷ xs) x m = by (or_cases (x == y) (is_member xs x) m) (member_place xs x)
   where
     by : ((x == y) ≡ true) ⊎ (is_member xs x ≡ true)
         → (is_member xs x ≡ true → (i : ℕ) × (i < length xs) × (get_or xs i 0 ≡ x))
@@ -30,10 +30,10 @@ member-at (y ∷ xs) x m = by (or_cases (x == y) (is_member xs x) m) (member-at 
     by (inl e) r = (0, omega arith, sym (eqb-true x y e))
     by (inr h) r = let k = r h in (suc k.0, (let l = k.1 in omega (arith, l)), k.2)
 
-in-range : (n a x : ℕ) → a ≤ x → x < a + n → is_member (range_with_len a n) x ≡ true
-in-range zero a x l h = absurd (omega arith)
-in-range (suc n) a x l h =
-    by (cases_lt a x) (λ k. in-range n (a + 1) x (omega (arith, k)) (omega arith))
+in_range : (n a x : ℕ) → a ≤ x → x < a + n → is_member (range_with_len a n) x ≡ true
+in_range zero a x l h = absurd (omega arith)
+in_range (suc n) a x l h =
+    by (cases_lt a x) (λ k. in_range n (a + 1) x (omega (arith, k)) (omega arith))
   where
     by : (a < x) ⊎ (x ≤ a) → (a < x → is_member (range_with_len (a + 1) n) x ≡ true)
         → is_member (range_with_len a (suc n)) x ≡ true
@@ -42,14 +42,14 @@ in-range (suc n) a x l h =
         or_left (x == a) (is_member (range_with_len (a + 1) n) x) (eq-eqb x a (omega arith))
 
 -- a theorem stands in the list of theorems
-theorem-place : (db : List Statement) (t : ℕ) → is_theorem_at db t ≡ true
+theorem_place : (db : List Statement) (t : ℕ) → is_theorem_at db t ≡ true
     → (i : ℕ) × (i < length (theorems db)) × (get_or (theorems db) i 0 ≡ t)
-theorem-place db t h =
+theorem_place db t h =
     let f = found_at db is_theorem t h in
-    member-at (theorems db) t
+    member_place (theorems db) t
     (filter_member (λ j. list_any is_theorem (statement_at db j))
     (range_with_len 0 (length db)) t h
-    (in-range (length db) 0 t (omega arith)
+    (in_range (length db) 0 t (omega arith)
     (let l = inside_of db t f.0 f.1 in omega (arith, l))))
 
 -- a theorem with citations is valid
@@ -65,7 +65,7 @@ module _ (db : List Statement) (few : length db < 2 ^ 31) (complete : AreComplet
   pub valid_before : (i : ℕ) → ((n : ℕ) → n < i → IsValid db (get_or (theorems db) n 0))
       → i < length (theorems db) → AreValid db (get_or (theorems db) i 0)
   valid_before i h l j k th =
-      let p = theorem-place db j th in
+      let p = theorem_place db j th in
       by p.0 p.1 p.2 (cases_lt p.0 i)
     where
       by : (n : ℕ) → n < length (theorems db) → get_or (theorems db) n 0 ≡ j → (n < i) ⊎ (i ≤ n)
@@ -86,7 +86,7 @@ module _ (db : List Statement) (few : length db < 2 ^ 31) (complete : AreComplet
       → AreCited db by_essential (theorems db) (length (theorems db)) lists
       → AreValid db (length db)
   all_valid by_essential lists h j k th =
-      let p = theorem-place db j th in
+      let p = theorem_place db j th in
       subst (λ t. IsValid db t) p.2 (cited_valid db by_essential _ _ (h.each p.0 p.1))
 
   module _ (by_essential : Bool) (lists : List (List ℕ))
@@ -117,12 +117,12 @@ module _ (db : List Statement) (few : length db < 2 ^ 31) (complete : AreComplet
 
         from : (t a : ℕ) → proof.Cites db by_essential t a → Cites c t a
         from t a x =
-            let p = theorem-place db t (proof_theorem db t x.1 x.2) in
+            let p = theorem_place db t (proof_theorem db t x.1 x.2) in
             let l = get_or lists p.0 [] in
             let m : is_member l a ≡ true =
             ((h.each p.0 p.1).checked.exact a).1
             (subst (λ y. proof.Cites db by_essential y a) (sym p.2) x) in
-            let q = member-at l a m in
+            let q = member_place l a m in
             record {
               row = p.0;
               place = q.0;

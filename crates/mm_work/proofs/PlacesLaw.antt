@@ -163,19 +163,19 @@ module _ {A : Type 0} (db : List Statement) (by_essential : Bool) (fs : List (Fi
   found_there e =
       ap (λ n. get_or fs n e) worker ∙ get_or_from_slice_get fs h.worker h.found e h.found_is
 
-  are-found : AreFindings db by_essential h.found
-  are-found =
+  are_found : AreFindings db by_essential h.found
+  are_found =
       subst (λ (f : Findings A). AreFindings db by_essential f) (found_there h.found)
       (found p.worker h.found worker_within)
 
-  place-within : p.place < length h.found.valid.items
-  place-within = subst (λ (q : Whereabouts). q.place < length h.found.valid.items) (sym is)
+  place_within : p.place < length h.found.valid.items
+  place_within = subst (λ (q : Whereabouts). q.place < length h.found.valid.items) (sym is)
       h.noted.within
 
   pub list_within : (f : Findings A) → f ≡ h.found → p.place < length f.cites
   list_within f e =
       subst (λ (g : Findings A). p.place < length g.cites) (sym e)
-      (subst (λ n. p.place < n) (sym are-found.count) place-within)
+      (subst (λ n. p.place < n) (sym are_found.count) place_within)
 
   pub list_cited : (f : Findings A) (list : List ℕ) → f ≡ h.found → list ≡ get_or f.cites p.place []
       → IsCited db by_essential (theorem_of db k) list
@@ -184,7 +184,7 @@ module _ {A : Type 0} (db : List Statement) (by_essential : Bool) (fs : List (Fi
       ap (λ (q : Whereabouts). get_or h.found.valid.items q.place 0) is ∙ h.noted.index_is in
       let one =
       subst (λ i. IsCited db by_essential (theorem_of db i) (get_or h.found.cites p.place [])) index
-      (are-found.each p.place place-within) in
+      (are_found.each p.place place_within) in
       subst (λ (xs : List ℕ). IsCited db by_essential (theorem_of db k) xs)
       (sym (l ∙ ap (λ (g : Findings A). get_or g.cites p.place []) e)) one
 

@@ -24,18 +24,18 @@ use Rattle.mm_work.specs.declared.worker.Findings.{Findings}
 use Rattle.mm_work.specs.declared.worker.Worked.{Worked}
 
 -- a number of two lists is one of either
-times-both : (x : ℕ) (l m : List ℕ) → 0 < times_in x (l ++ m)
+times_both : (x : ℕ) (l m : List ℕ) → 0 < times_in x (l ++ m)
     → (0 < times_in x l) ⊎ (0 < times_in x m)
-times-both x l m p = go (cases_lt 0 (times_in x l))
+times_both x l m p = go (cases_lt 0 (times_in x l))
   where
     go : (0 < times_in x l) ⊎ (times_in x l ≤ 0) → (0 < times_in x l) ⊎ (0 < times_in x m)
     go (inl h) = inl h
     go (inr h) = let a = times_in_append x l m in inr (omega arith)
 
 -- a number that stands in a list is an element of it
-times-contains : (x : ℕ) (l : List ℕ) → 0 < times_in x l → Contains l x
-times-contains x [] p = absurd (omega arith)
-times-contains x (y ∷ l) p = go (cases_lt 0 (times_in x l)) (times-contains x l)
+times_contains : (x : ℕ) (l : List ℕ) → 0 < times_in x l → Contains l x
+times_contains x [] p = absurd (omega arith)
+times_contains x (y ∷ l) p = go (cases_lt 0 (times_in x l)) (times_contains x l)
   where
     go : (0 < times_in x l) ⊎ (times_in x l ≤ 0) → (0 < times_in x l → Contains l x)
         → Contains (y ∷ l) x
@@ -94,18 +94,18 @@ fresh zero v = 0
 fresh (suc n) v = cond (times_recorded n v == 0) 1 0 + fresh n v
 
 -- a number more in the record
-fresh-fewer : (a b : ℕ) → a ≤ b → cond (b == 0) 1 0 ≤ cond (a == 0) 1 0
-fresh-fewer a b = grind (arith, nat_tests)
+fresh_fewer : (a b : ℕ) → a ≤ b → cond (b == 0) 1 0 ≤ cond (a == 0) 1 0
+fresh_fewer a b = grind (arith, nat_tests)
 
-fresh-le : (n : ℕ) (v w : View) → ((x : ℕ) → times_recorded x v ≤ times_recorded x w)
+fresh_le : (n : ℕ) (v w : View) → ((x : ℕ) → times_recorded x v ≤ times_recorded x w)
     → fresh n w ≤ fresh n v
-fresh-le zero v w h = omega arith
-fresh-le (suc n) v w h =
-    let r = fresh-le n v w h in
-    let o = fresh-fewer (times_recorded n v) (times_recorded n w) (h n) in omega (arith, r, o)
+fresh_le zero v w h = omega arith
+fresh_le (suc n) v w h =
+    let r = fresh_le n v w h in
+    let o = fresh_fewer (times_recorded n v) (times_recorded n w) (h n) in omega (arith, r, o)
 
-fresh-one : (a b : ℕ) → a ≡ 0 → 0 < b → cond (b == 0) 1 0 < cond (a == 0) 1 0
-fresh-one a b = grind (arith, nat_tests)
+fresh_one : (a b : ℕ) → a ≡ 0 → 0 < b → cond (b == 0) 1 0 < cond (a == 0) 1 0
+fresh_one a b = grind (arith, nat_tests)
 
 pub fresh_less : (n i : ℕ) (v w : View) → ((x : ℕ) → times_recorded x v ≤ times_recorded x w)
     → i < n → times_recorded i v ≡ 0 → 0 < times_recorded i w → fresh n w < fresh n v
@@ -114,13 +114,13 @@ fresh_less (suc n) i v w h l z p = go (cases_lt i n) (λ b. fresh_less n i v w h
   where
     go : (i < n) ⊎ (n ≤ i) → (i < n → fresh n w < fresh n v) → fresh (suc n) w < fresh (suc n) v
     go (inl b) f =
-        let r = f b in let o = fresh-fewer (times_recorded n v) (times_recorded n w) (h n) in
+        let r = f b in let o = fresh_fewer (times_recorded n v) (times_recorded n w) (h n) in
         omega (arith, r, o)
     go (inr b) f =
         let e : i ≡ n = omega (arith, l, b) in
-        let r = fresh-le n v w h in
+        let r = fresh_le n v w h in
         let o =
-        fresh-one (times_recorded n v) (times_recorded n w)
+        fresh_one (times_recorded n v) (times_recorded n w)
         (subst (λ k. times_recorded k v ≡ 0) e z) (subst (λ k. 0 < times_recorded k w) e p) in
         omega (arith, r, o)
 
@@ -142,7 +142,7 @@ module _ {A : Type 0} (home : BoardValue) (database : Contents) (by_essential : 
             λ i p. (
               w.found,
               (0, omega arith, refl),
-              times-contains i w.found.valid.items
+              times_contains i w.found.valid.items
                   (subst (λ (l : List ℕ). 0 < times_in i l) t.settled p),
             );
         reported = λ i p. (w.found, (0, omega arith, refl), t.reported i p);
@@ -163,11 +163,11 @@ module _ {A : Type 0} (home : BoardValue) (database : Contents) (by_essential : 
         found = All-push (AreFindings database.statements by_essential) fs w.found h.found t.found;
         settled =
             λ i p. valid i
-            (times-both i s.view.settled w.seat.view.settled
+            (times_both i s.view.settled w.seat.view.settled
             (subst (λ (l : List ℕ). 0 < times_in i l) (ap (λ (v : View). v.settled) is) p));
         reported =
             λ i p. faulty i
-            (times-both i s.view.reported w.seat.view.reported
+            (times_both i s.view.reported w.seat.view.reported
             (subst (λ (l : List ℕ). 0 < times_in i l) (ap (λ (v : View). v.reported) is) p));
       }
     where
@@ -179,7 +179,7 @@ module _ {A : Type 0} (home : BoardValue) (database : Contents) (by_essential : 
           let t = d.tells short in (
             w.found,
             Contains-push fs w.found,
-            times-contains i w.found.valid.items
+            times_contains i w.found.valid.items
                 (subst (λ (l : List ℕ). 0 < times_in i l) t.settled p),
           )
 
@@ -222,13 +222,13 @@ fresh_drawn n i v w u closed is l above kept = fresh_less n i v u more l unseen 
     seen = let k = kept i in let o = at-open i in let e = times_own i in omega (arith, k, o, e)
 
 -- the parts of a list whose elements all have a property
-pub All-front : {X : Type 0} (P : X → Type 0) (l : List X) (x : X) → All P (l ++ x ∷ []) → All P l
-All-front P l x h =
+pub All_front : {X : Type 0} (P : X → Type 0) (l : List X) (x : X) → All P (l ++ x ∷ []) → All P l
+All_front P l x h =
     λ k d lt. let r = h k d (let n = length-append l (x ∷ []) in omega (arith, n, lt)) in
     rw (sym (get_or_append_left l (x ∷ []) d k lt)) r
 
-pub All-last : {X : Type 0} (P : X → Type 0) (l : List X) (x : X) → All P (l ++ x ∷ []) → P x
-All-last P l x h =
+pub All_last : {X : Type 0} (P : X → Type 0) (l : List X) (x : X) → All P (l ++ x ∷ []) → P x
+All_last P l x h =
     let r = h (length l) x (let n = length-append l (x ∷ []) in omega (arith, n)) in
     rw (sym (last l x)) r
   where

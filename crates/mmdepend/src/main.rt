@@ -19,17 +19,32 @@ use std::io::{ErrorKind, Write};
 use std::process::ExitCode;
 use std::rt::Env;
 
-/// The words of the command line, or the status with which the program ends without them, and a
-/// message.
-fn given_words<R: Env + AllocGlobal>(rt: &R) -> Result<Vec<String>, (u8, &'static str)> {
+/// How the program ends where it can't have the words of its command line.
+struct NoWords {
+    status: u8,
+    message: &'static str,
+}
+
+const OUT_OF_MEMORY: NoWords = NoWords {
+    status: 4,
+    message: "out of memory",
+};
+
+const NOT_UTF8: NoWords = NoWords {
+    status: 2,
+    message: "a word of the command line isn't UTF-8",
+};
+
+/// The words of the command line.
+fn given_words<R: Env + AllocGlobal>(rt: &R) -> Result<Vec<String>, NoWords> {
     match env::args(rt) {
         Ok(words) => match words.collect::<Vec<String>>(rt.alloc()) {
             Ok(words) => Ok(words),
-            Err(_) => Err((4, "out of memory")),
+            Err(_) => Err(OUT_OF_MEMORY),
         },
         Err(error) => match error.kind() {
-            ErrorKind::OutOfMemory => Err((4, "out of memory")),
-            _ => Err((2, "a word of the command line isn't UTF-8")),
+            ErrorKind::OutOfMemory => Err(OUT_OF_MEMORY),
+            _ => Err(NOT_UTF8),
         },
     }
 }
@@ -46,7 +61,7 @@ fn main(rt: HostRuntime) -> ExitCode {
             &mut rt.stdout(),
             &mut errors,
         )),
-        Err((status, message)) => {
+        Err(NoWords { status, message }) => {
             let _ = writeln!(errors, "mmdepend: {message}");
             ExitCode::from(status)
         }

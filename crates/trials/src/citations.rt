@@ -1,6 +1,6 @@
 //! What a proof cites: the assertions of all its nodes, or those of its essential nodes alone.
 
-use crate::texts::{BASE, CLOSE, CONSEQUENT, DETACHMENT, FIRST, joined, through_a_theorem};
+use crate::texts::{BASE, CLOSE, CONSEQUENT, DETACHMENT, FIRST_TEXT, joined, through_a_theorem};
 use mm_check::check;
 use mm_lex::{Cuts, lex};
 use mm_proof::read_proof;
@@ -77,8 +77,8 @@ fn theorems_and_roots_are_essential(rt: HostRuntime) -> Result<(), AllocError> {
     let two = through_a_theorem(alloc)?;
     assert!(&rt; is_cited(&rt, alloc, &two, false, &[b"wi", b"a1i"])?);
     assert!(&rt; is_cited(&rt, alloc, &two, true, &[b"a1i"])?);
-    assert!(&rt; is_cited(&rt, alloc, FIRST, false, &[b"wi"])?);
-    assert!(&rt; is_cited(&rt, alloc, FIRST, true, &[b"wi"])?);
+    assert!(&rt; is_cited(&rt, alloc, FIRST_TEXT, false, &[b"wi"])?);
+    assert!(&rt; is_cited(&rt, alloc, FIRST_TEXT, true, &[b"wi"])?);
     Ok(())
 }
 

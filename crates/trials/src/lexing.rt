@@ -8,7 +8,7 @@ use std::alloc::{AllocError, Allocator};
 use std::thread::{self, Threads};
 
 /// Tokens, comments and a comment that stays open.
-const MIXED: &[u8] = b"$c a $( $c b $) xy $. $( z $) $( $d";
+const TEXT_WITH_COMMENTS: &[u8] = b"$c a $( $c b $) xy $. $( z $) $( $d";
 
 /// The text of the table of stretches.
 const SMALL: &[u8] = b"ab $( c $) d";
@@ -76,13 +76,13 @@ fn gives_places(rt: HostRuntime) -> Result<(), AllocError> {
 /// The text cut twice at each place, with an empty piece between, gives what the whole text does.
 #[test]
 fn lexes_every_cut(rt: HostRuntime) -> Result<(), AllocError> {
-    let whole = in_pieces(&rt, rt.alloc(), MIXED, 1)?;
+    let whole = in_pieces(&rt, rt.alloc(), TEXT_WITH_COMMENTS, 1)?;
     assert_eq!(rt; whole.tokens.len(), 4);
     assert_eq!(rt; whole.fault, fault(30, Code::OpenComment));
-    for place in 0..=MIXED.len() as u32 {
+    for place in 0..=TEXT_WITH_COMMENTS.len() as u32 {
         let places = vec![in rt.alloc(); place, place]?;
-        if let Ok(cuts) = Cuts::from_places(places, MIXED.len()) {
-            let lexed = lex(&rt, rt.alloc(), MIXED, &cuts)?;
+        if let Ok(cuts) = Cuts::from_places(places, TEXT_WITH_COMMENTS.len()) {
+            let lexed = lex(&rt, rt.alloc(), TEXT_WITH_COMMENTS, &cuts)?;
             assert_eq!(rt; lexed.tokens.as_slice(), whole.tokens.as_slice());
             assert_eq!(rt; lexed.fault, whole.fault);
         }

@@ -4,7 +4,7 @@ use std::alloc::{AllocError, Global};
 
 /// The symbols and formulas of a conditional, its first axiom, and a theorem that rests on one of
 /// the two axioms.
-pub(crate) const FIRST: &[u8] =
+pub(crate) const FIRST_TEXT: &[u8] =
     b"$c wff |- ( -> ) $.\n$v p q $.\nwp $f wff p $.\nwq $f wff q $.\nwi $a wff ( p -> q ) $.\nax-1 $a |- ( p -> ( q -> p ) ) $.\nwi2 $p wff ( p -> ( q -> p ) ) $= wp wq wp wi wi $.\n";
 
 /// The report on it.

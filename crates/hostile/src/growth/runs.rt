@@ -5,7 +5,7 @@ use crate::calls::{ended, plan_of};
 use crate::ends::Noting;
 use crate::heap::Refusing;
 use crate::texts::{
-    BASE, COMPRESSED, COMPRESSED_REPORT, DISJOINT, DISJOINT_REPORT, FIRST, FIRST_REPORT,
+    BASE, COMPRESSED, COMPRESSED_REPORT, DISJOINT, DISJOINT_REPORT, FIRST_REPORT, FIRST_TEXT,
     NOT_DISJOINT, NOT_DISJOINT_REFUSAL, THROUGH, THROUGH_REPORT, TWO_FAULTS, TWO_FAULTS_REFUSAL,
 };
 use mm_plan::Cutting;
@@ -89,7 +89,7 @@ fn refused_in_turn<R: Abort + Threads + Wait + Sync>(
 #[test]
 fn a_run_without_memory_writes_nothing(rt: HostRuntime) {
     let rows = [
-        (FIRST, FIRST_REPORT),
+        (FIRST_TEXT, FIRST_REPORT),
         (THROUGH, THROUGH_REPORT),
         (COMPRESSED, COMPRESSED_REPORT),
         (NOT_DISJOINT, NOT_DISJOINT_REFUSAL),

@@ -2,7 +2,7 @@
 
 use super::{MOST, met};
 use crate::heap::Refusing;
-use crate::texts::{FIRST, THROUGH};
+use crate::texts::{FIRST_TEXT, THROUGH};
 use mm_lex::{Cuts, Lexed, Piece, Word, join, lex, lex_piece};
 use mm_stmt::{Database, read};
 use std::alloc::{AllocError, Allocator, Global};
@@ -61,8 +61,12 @@ fn a_piece_without_memory(rt: HostRuntime) {
     let heap = Refusing::new(rt.alloc());
     for number in 1..MOST {
         heap.refuse(number);
-        let refused = met(&rt, &heap, is_beginning(lex_piece(&heap, FIRST, 0, PLACE)));
-        assert!(&rt; is_beginning(lex_piece(&heap, FIRST, 0, PLACE)) == Some(true));
+        let refused = met(
+            &rt,
+            &heap,
+            is_beginning(lex_piece(&heap, FIRST_TEXT, 0, PLACE)),
+        );
+        assert!(&rt; is_beginning(lex_piece(&heap, FIRST_TEXT, 0, PLACE)) == Some(true));
         if !refused {
             assert!(&rt; number > 1);
             return;
@@ -92,12 +96,12 @@ fn joined(
     heap: &Refusing<Global>,
     number: Option<u64>,
 ) -> Result<Result<Piece<&Refusing<Global>>, AllocError>, AllocError> {
-    let first = lex_piece(heap, FIRST, 0, PLACE)?;
-    let second = lex_piece(heap, FIRST, PLACE, 170)?;
+    let first = lex_piece(heap, FIRST_TEXT, 0, PLACE)?;
+    let second = lex_piece(heap, FIRST_TEXT, PLACE, 170)?;
     if let Some(number) = number {
         heap.refuse(number);
     }
-    Ok(join(heap, FIRST, first, second))
+    Ok(join(heap, FIRST_TEXT, first, second))
 }
 
 #[test]
@@ -130,11 +134,11 @@ fn is_lexed<A: Allocator>(answer: Result<Lexed<A>, AllocError>) -> Option<bool> 
 #[test]
 fn lexing_without_memory(rt: HostRuntime) -> Result<(), AllocError> {
     let heap = Refusing::new(rt.alloc());
-    let cuts = Cuts::equal(&heap, FIRST.len(), 3)?;
+    let cuts = Cuts::equal(&heap, FIRST_TEXT.len(), 3)?;
     for number in 1..MOST {
         heap.refuse(number);
-        let refused = met(&rt, &heap, is_lexed(lex(&rt, &heap, FIRST, &cuts)));
-        assert!(&rt; is_lexed(lex(&rt, &heap, FIRST, &cuts)) == Some(true));
+        let refused = met(&rt, &heap, is_lexed(lex(&rt, &heap, FIRST_TEXT, &cuts)));
+        assert!(&rt; is_lexed(lex(&rt, &heap, FIRST_TEXT, &cuts)) == Some(true));
         if !refused {
             assert!(&rt; number > 1);
             return Ok(());

@@ -6,12 +6,12 @@ use super::words::{Word, Words};
 use std::alloc::Global;
 
 /// The letters that end a number, and those before them.
-const LAST: [Word; 20] = [
+const LAST_LETTERS: [Word; 20] = [
     b"A", b"B", b"C", b"D", b"E", b"F", b"G", b"H", b"I", b"J", b"K", b"L", b"M", b"N", b"O", b"P",
     b"Q", b"R", b"S", b"T",
 ];
 
-const EARLIER: [Word; 5] = [b"U", b"V", b"W", b"X", b"Y"];
+const EARLIER_LETTERS: [Word; 5] = [b"U", b"V", b"W", b"X", b"Y"];
 
 /// The place of a word among words, if it stands there.
 fn place_of(words: &[Word], word: Word) -> Option<usize> {
@@ -21,9 +21,9 @@ fn place_of(words: &[Word], word: Word) -> Option<usize> {
 /// The letters of the number that is one more than this, which is below 120.
 fn add_number(into: &mut Words, below: usize) {
     if 20 <= below {
-        into.add(EARLIER[(below / 20 - 1) % 5]);
+        into.add(EARLIER_LETTERS[(below / 20 - 1) % 5]);
     }
-    into.add(LAST[below % 20]);
+    into.add(LAST_LETTERS[below % 20]);
 }
 
 /// The mandatory hypotheses of a theorem whose proof has these labels, and then the other labels,

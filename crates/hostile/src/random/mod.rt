@@ -28,7 +28,7 @@ use words::text_of;
 const TEXTS: usize = 2000;
 
 /// Numbers of workers, and of pieces. Large ones are rare, since they cost many threads.
-const NUMBERS: [u32; 24] = [
+const WORKERS_OR_PIECES: [u32; 24] = [
     1, 1, 1, 1, 1, 1, 1, 1, 2, 2, 2, 2, 2, 2, 2, 2, 3, 3, 3, 3, 4, 4, 7, 33,
 ];
 
@@ -42,7 +42,7 @@ const CODES: [u8; 37] = [
 /// Cuts by chance: so many equal pieces, or some places, of which the last may be past the end.
 fn cuts_by(alloc: Global, len: usize, chance: &mut Chance) -> Cutting<Global> {
     if chance.once_in(2) {
-        return Cutting::Count(NUMBERS[chance.below(24)]);
+        return Cutting::Count(WORKERS_OR_PIECES[chance.below(24)]);
     }
     let mut places = Vec::new(alloc);
     let mut place = 0usize;
@@ -64,7 +64,7 @@ fn run_by<R: Threads + Wait + Sync>(
     chance: &mut Chance,
 ) -> (Option<RunEnd>, Vec<u8>) {
     let cuts = cuts_by(alloc, text.len(), chance);
-    let plan = plan_of(cuts, NUMBERS[chance.below(24)], choice);
+    let plan = plan_of(cuts, WORKERS_OR_PIECES[chance.below(24)], choice);
     let mut written = Vec::new(alloc);
     let end = ended(rt, alloc, &plan, &mut text, &mut written);
     (end, written)

@@ -1,7 +1,7 @@
 //! How runs end, wherever the text is cut.
 
 use crate::runs::writes;
-use crate::texts::{FIRST, FIRST_REPORT, NOTHING_REPORT};
+use crate::texts::{FIRST_REPORT, FIRST_TEXT, NOTHING_REPORT};
 use mm_plan::Cutting;
 use mm_run::RunEnd;
 use mm_spec::{Code, Fault};
@@ -20,7 +20,7 @@ fn first_theorem_is_reported(rt: HostRuntime) {
             &rt,
             alloc,
             Cutting::Count(4),
-            FIRST,
+            FIRST_TEXT,
             RunEnd::Accepted,
             FIRST_REPORT
         )
@@ -46,7 +46,7 @@ fn every_cut_gives_the_same_report(rt: HostRuntime) -> Result<(), AllocError> {
     let alloc = rt.alloc();
     for place in 1..170 {
         let cuts = places(alloc, &[place])?;
-        assert!(&rt; writes(&rt, alloc, cuts, FIRST, RunEnd::Accepted, FIRST_REPORT));
+        assert!(&rt; writes(&rt, alloc, cuts, FIRST_TEXT, RunEnd::Accepted, FIRST_REPORT));
     }
     Ok(())
 }
@@ -82,7 +82,7 @@ fn spaces_in_front_change_nothing(rt: HostRuntime) -> Result<(), AllocError> {
     for count in [22, 23, 24] {
         let mut text = Vec::new(alloc);
         text.extend_from_slice(&spaces[..count])?;
-        text.extend_from_slice(&FIRST[..169])?;
+        text.extend_from_slice(&FIRST_TEXT[..169])?;
         assert!(&rt;
             writes(
                 &rt,
@@ -101,7 +101,7 @@ fn spaces_in_front_change_nothing(rt: HostRuntime) -> Result<(), AllocError> {
 fn bad_byte_is_refused_at_its_place(rt: HostRuntime) -> Result<(), AllocError> {
     let alloc = rt.alloc();
     let mut text = Vec::new(alloc);
-    text.extend_from_slice(&FIRST[..162])?;
+    text.extend_from_slice(&FIRST_TEXT[..162])?;
     text.extend_from_slice(b"\x80 $.\n")?;
     let end = RunEnd::Refused(Fault {
         at: 162,
@@ -124,7 +124,7 @@ fn bad_byte_is_refused_at_its_place(rt: HostRuntime) -> Result<(), AllocError> {
 fn proof_fault_comes_before_a_later_bad_byte(rt: HostRuntime) -> Result<(), AllocError> {
     let alloc = rt.alloc();
     let mut text = Vec::new(alloc);
-    text.extend_from_slice(&FIRST[..163])?;
+    text.extend_from_slice(&FIRST_TEXT[..163])?;
     text.extend_from_slice(b" $.\n\x80\n")?;
     let end = RunEnd::Refused(Fault {
         at: 164,

@@ -3,7 +3,7 @@
 
 use super::plan;
 use crate::texts::{
-    BASE, CLOSE, CONSEQUENT, DETACHMENT, FIRST, FIRST_REPORT, consequent, joined, seventy,
+    BASE, CLOSE, CONSEQUENT, DETACHMENT, FIRST_REPORT, FIRST_TEXT, consequent, joined, seventy,
     through_a_theorem,
 };
 use mm_plan::{Cutting, Plan};
@@ -72,7 +72,7 @@ fn what_builds_formulas_is_no_logical_citation(rt: HostRuntime) -> Result<(), Al
 #[test]
 fn the_root_is_essential(rt: HostRuntime) {
     let alloc = rt.alloc();
-    assert!(&rt; gives(&rt, alloc, &logical(Choice::All), FIRST, FIRST_REPORT));
+    assert!(&rt; gives(&rt, alloc, &logical(Choice::All), FIRST_TEXT, FIRST_REPORT));
 }
 
 #[test]
@@ -103,7 +103,7 @@ fn four_columns_are_a_digit(rt: HostRuntime) -> Result<(), AllocError> {
     let alloc = rt.alloc();
     let plan = second_form(Choice::Matrix);
     let first = b"mmdepend 2\naxioms 2\ntheorems 1\nmatrix\nwi2:8\nend\n".as_slice();
-    assert!(&rt; gives(&rt, alloc, &plan, FIRST, first));
+    assert!(&rt; gives(&rt, alloc, &plan, FIRST_TEXT, first));
     let one = b"mmdepend 2\naxioms 3\ntheorems 1\nmatrix\na1i:e\nend\n".as_slice();
     assert!(&rt; gives(&rt, alloc, &plan, &consequent(alloc)?, one));
     let seventy_columns =
@@ -127,7 +127,15 @@ fn direct_citations_stand_in_file_order(rt: HostRuntime) -> Result<(), AllocErro
     let nothing = b"mmdepend 1\naxioms 0\ntheorems 0\ncitations\nend\n".as_slice();
     assert!(&rt; gives(&rt, alloc, &plan, b"", nothing));
     let first = b"mmdepend 2\naxioms 2\ntheorems 1\ncitations\nwi2:1:wi\nend\n".as_slice();
-    assert!(&rt; gives(&rt, alloc, &second_form(Choice::Citations), FIRST, first));
+    assert!(&rt;
+        gives(
+            &rt,
+            alloc,
+            &second_form(Choice::Citations),
+            FIRST_TEXT,
+            first
+        )
+    );
     Ok(())
 }
 

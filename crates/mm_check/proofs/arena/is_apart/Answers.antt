@@ -18,4 +18,4 @@ constant_apart k t s e (x ∷ v) =
 pub returns-then-not-is_variable-clause-value : goal.returns-then-not-is_variable-clause-value
 returns-then-not-is_variable-clause-value g c =
     sym (constant_apart c.args.db.now.statements c.args.theorem c.args.s
-    (sym c.is_variable.ensures ∙ c.if-not-is_variable.true) c.args.v.now)
+    (sym c.is_variable.ensures ∙ c.if-not-is_variable.true) c.args.others.now)

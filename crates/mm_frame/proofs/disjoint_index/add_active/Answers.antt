@@ -1,8 +1,8 @@
-use Rattle.std.proofs.Common.{◌≡◌, ℕ, ◌-◌, ◌<◌, ◌≤◌, ◌++◌, ◌∷◌, [], List, length, get_or, nat_le}
-use Rattle.std.proofs.Common.{true, false, sym, subst, ap, ap₂, ◌∙◌, arith}
+use Rattle.std.proofs.Common.{◌≡◌, ℕ, ◌-◌, ◌≤◌, ◌++◌, ◌∷◌, [], List, length, get_or, nat_le}
+use Rattle.std.proofs.Common.{true, false, sym, subst, ap₂, ◌∙◌, arith}
 use Rattle.mm_outline.specs.Blocks.{lists, end_of}
-use Rattle.mm_frame.specs.Pairs.{is_before}
-use Rattle.mm_frame.proofs.DisjointIndexLaw.{added_open, added_closed, added_end}
+use Rattle.mm_frame.proofs.DisjointIndexLaw.{added_open, added_closed, added_end, parted_here}
+use Rattle.mm_frame.proofs.DisjointIndexLaw.{symbol_here, no_symbol_here}
 use Rattle.mm_frame.proofs.disjoint_index.add_active.Goals as goal
 use Rattle.mm_frame.proofs.disjoint_index.add_active.Goals.{then-is_open_at+in_ok-push}
 use Rattle.mm_frame.proofs.disjoint_index.add_active.Goals.{else-is_open_at}
@@ -17,24 +17,10 @@ loop-pairs-preserved g c =
     let start = c.count_before-left.result in
     let left = c.loop-pairs.left in
     let v = c.as_slice-pairs.ensures.value in
-    let before : (p : ℕ) → p < start → is_before (get_or ps p (0, 0)) x at ≡ true =
-    subst (λ (y : ℕ). (p : ℕ) → p < start → is_before (get_or ps p (0, 0)) y at ≡ true)
-    c.number.ensures
-    (subst (λ (qs : List (ℕ × ℕ)). (p : ℕ) → p < start
-    → is_before (get_or qs p (0, 0)) c.number.result at ≡ true) v
-    c.count_before-left.ensures.before) in
-    let after : (p : ℕ) → start ≤ p → p < length ps → is_before (get_or ps p (0, 0)) x at ≡ false =
-    subst (λ (y : ℕ). (p : ℕ) → start ≤ p → p < length ps
-    → is_before (get_or ps p (0, 0)) y at ≡ false) c.number.ensures
-    (subst (λ (qs : List (ℕ × ℕ)). (p : ℕ) → start ≤ p → p < length qs
-    → is_before (get_or qs p (0, 0)) c.number.result at ≡ false) v
-    c.count_before-left.ensures.after) in
-    let within : start ≤ length ps =
-    subst (λ (qs : List (ℕ × ℕ)). start ≤ length qs) v c.count_before-left.ensures.within in
+    let of = c.count_before-left.ensures in
+    let parted = parted_here _ ps _ x v c.number.ensures at start of.within of.before of.after in
     let here = c.ends_with.ensures.some c.loop-pairs-test.true in
-    let has : (get_or ps (left - 1) (0, 0)).0 ≡ x =
-    sym (ap (λ (qs : List (ℕ × ℕ)). (get_or qs (left - 1) (0, 0)).0) v) ∙ here.1
-    ∙ c.number-in-loop-pairs.ensures in
+    let has = symbol_here _ ps _ x v c.number-in-loop-pairs.ensures (left - 1) here.1 in
     let less = c.back-left.ensures.less in
     let known = c.loop-pairs.invariant.0 in
     let fits : c.back-left.result ≤ length ps = omega (arith, less, known) in
@@ -51,14 +37,14 @@ loop-pairs-preserved g c =
             fits,
             rw w.into-is
                 (rw item
-                (added_open b ps c.requires.rising x at start within before after left
+                (added_open b ps c.requires.rising x at start parted left
                 c.back-left.result c.args.into.now.items c.loop-pairs.into.items
                 c.loop-pairs.invariant.1 here.0 has is_open less c.back-left.ensures.passed)),
           )
       | else-is_open_at w ↦ (
         fits,
         rw w.into-is
-            (added_closed b ps c.requires.rising x at start within before after left
+            (added_closed b ps c.requires.rising x at start parted left
             c.back-left.result c.args.into.now.items c.loop-pairs.into.items
             c.loop-pairs.invariant.1
             here.0 (subst
@@ -77,23 +63,9 @@ returns g c =
     let start = c.count_before-left.result in
     let left = c.loop-pairs.left in
     let v = c.as_slice-pairs.ensures.value in
-    let before : (p : ℕ) → p < start → is_before (get_or ps p (0, 0)) x at ≡ true =
-    subst (λ (y : ℕ). (p : ℕ) → p < start → is_before (get_or ps p (0, 0)) y at ≡ true)
-    c.number.ensures
-    (subst (λ (qs : List (ℕ × ℕ)). (p : ℕ) → p < start
-    → is_before (get_or qs p (0, 0)) c.number.result at ≡ true) v
-    c.count_before-left.ensures.before) in
-    let after : (p : ℕ) → start ≤ p → p < length ps → is_before (get_or ps p (0, 0)) x at ≡ false =
-    subst (λ (y : ℕ). (p : ℕ) → start ≤ p → p < length ps
-    → is_before (get_or ps p (0, 0)) y at ≡ false) c.number.ensures
-    (subst (λ (qs : List (ℕ × ℕ)). (p : ℕ) → start ≤ p → p < length qs
-    → is_before (get_or qs p (0, 0)) c.number.result at ≡ false) v
-    c.count_before-left.ensures.after) in
-    let within : start ≤ length ps =
-    subst (λ (qs : List (ℕ × ℕ)). start ≤ length qs) v c.count_before-left.ensures.within in
+    let of = c.count_before-left.ensures in
+    let parted = parted_here _ ps _ x v c.number.ensures at start of.within of.before of.after in
     let none = c.ends_with.ensures.none c.loop-pairs-test.false in
-    added_end b ps c.requires.rising x at start within before after left c.args.into.now.items
+    added_end b ps c.requires.rising x at start parted left c.args.into.now.items
     c.loop-pairs.into.items c.loop-pairs.invariant.1
-    (λ h e. none h
-    (ap (λ (qs : List (ℕ × ℕ)). (get_or qs (left - 1) (0, 0)).0) v ∙ e
-    ∙ sym c.number-in-loop-pairs.ensures))
+    (λ h. no_symbol_here _ ps _ x v c.number-in-loop-pairs.ensures (left - 1) (none h))

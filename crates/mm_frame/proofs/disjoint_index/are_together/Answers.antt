@@ -2,9 +2,9 @@ use Rattle.std.proofs.Common.{◌≡◌, ◌≢◌, ℕ, ◌-◌, ◌<◌, ◌�
 use Rattle.std.proofs.Common.{nat_le, sym, subst, ap, ap₂, ◌∙◌, arith, inl, inr, ◌⊎◌}
 use Rattle.std.proofs.lemmas.Bool.{cases_lt, lt-ltb}
 use Rattle.mm_outline.specs.Blocks.{lists, end_of}
-use Rattle.mm_frame.specs.Pairs.{has_pair, is_before}
+use Rattle.mm_frame.specs.Pairs.{has_pair}
 use Rattle.mm_frame.proofs.DisjointIndexLaw.{apart_left, apart_right, apart_end, none_left, sooner}
-use Rattle.mm_frame.proofs.DisjointIndexLaw.{at_has}
+use Rattle.mm_frame.proofs.DisjointIndexLaw.{at_has, parted_here, symbol_here, no_symbol_here}
 use Rattle.mm_frame.proofs.disjoint_index.are_together.Goals as goal
 use Rattle.mm_frame.proofs.disjoint_index.are_together.Goals.{else-one-other-via-then-one-other+else-is_open_at}
 use Rattle.mm_frame.proofs.disjoint_index.are_together.Goals.{else-one-other-via-else-one-other}
@@ -21,28 +21,12 @@ returns-then-is_open_at-clause-found g c =
     let right = c.loop-pairs.right in
     let start = c.count_before-left.result in
     let v = c.as_slice-pairs.ensures.value in
-    let before : (p : ℕ) → p < start → is_before (get_or ps p (0, 0)) x at ≡ true =
-    subst (λ (y : ℕ). (p : ℕ) → p < start → is_before (get_or ps p (0, 0)) y at ≡ true)
-    c.number.ensures
-    (subst (λ (qs : List (ℕ × ℕ)). (p : ℕ) → p < start
-    → is_before (get_or qs p (0, 0)) c.number.result at ≡ true) v
-    c.count_before-left.ensures.before) in
-    let after : (p : ℕ) → start ≤ p → p < length ps → is_before (get_or ps p (0, 0)) x at ≡ false =
-    subst (λ (y : ℕ). (p : ℕ) → start ≤ p → p < length ps
-    → is_before (get_or ps p (0, 0)) y at ≡ false) c.number.ensures
-    (subst (λ (qs : List (ℕ × ℕ)). (p : ℕ) → start ≤ p → p < length qs
-    → is_before (get_or qs p (0, 0)) c.number.result at ≡ false) v
-    c.count_before-left.ensures.after) in
-    let within : start ≤ length ps =
-    subst (λ (qs : List (ℕ × ℕ)). start ≤ length qs) v c.count_before-left.ensures.within in
+    let of = c.count_before-left.ensures in
+    let parted = parted_here _ ps _ x v c.number.ensures at start of.within of.before of.after in
     let one = c.ends_with.ensures.some c.loop-pairs-test.true in
     let other = c.ends_with-in-loop-pairs.ensures.some c.if-ends_with.true in
-    let has_x : (get_or ps (left - 1) (0, 0)).0 ≡ x =
-    sym (ap (λ (qs : List (ℕ × ℕ)). (get_or qs (left - 1) (0, 0)).0) v) ∙ one.1
-    ∙ c.number-in-loop-pairs.ensures in
-    let has_y : (get_or ps (right - 1) (0, 0)).0 ≡ y =
-    sym (ap (λ (qs : List (ℕ × ℕ)). (get_or qs (right - 1) (0, 0)).0) v) ∙ other.1
-    ∙ c.number-in-loop-pairs-2.ensures in
+    let has_x = symbol_here _ ps _ x v c.number-in-loop-pairs.ensures (left - 1) one.1 in
+    let has_y = symbol_here _ ps _ y v c.number-in-loop-pairs-2.ensures (right - 1) other.1 in
     let same : (get_or ps (left - 1) (0, 0)).1 ≡ (get_or ps (right - 1) (0, 0)).1 =
     subst (λ (qs : List (ℕ × ℕ)). (get_or qs (left - 1) (0, 0)).1
     ≡ (get_or qs (right - 1) (0, 0)).1) v c.if-one-other.true in
@@ -64,7 +48,7 @@ returns-then-is_open_at-clause-found g c =
       ap₂ (has_pair ps) (sym has_y) same ∙ at_has ps (right - 1) (0, 0) known_too,
       ap₂ (λ p q. p && q)
           (lt-ltb j at
-          (sooner b ps c.requires.rising x at start within before after (left - 1) inside has_x))
+          (sooner b ps c.requires.rising x at start parted (left - 1) inside has_x))
           is_open,
     )
 
@@ -78,9 +62,7 @@ loop-pairs-preserved-then-one-other-2 g c =
     let v = c.as_slice-pairs.ensures.value in
     let one = c.ends_with.ensures.some c.loop-pairs-test.true in
     let other = c.ends_with-in-loop-pairs.ensures.some c.if-ends_with.true in
-    let has_x : (get_or ps (left - 1) (0, 0)).0 ≡ c.args.x =
-    sym (ap (λ (qs : List (ℕ × ℕ)). (get_or qs (left - 1) (0, 0)).0) v) ∙ one.1
-    ∙ c.number-in-loop-pairs.ensures in
+    let has_x = symbol_here _ ps _ c.args.x v c.number-in-loop-pairs.ensures (left - 1) one.1 in
     let less : (get_or ps (left - 1) (0, 0)).1 < (get_or ps (right - 1) (0, 0)).1 =
     subst (λ (qs : List (ℕ × ℕ)). (get_or qs (left - 1) (0, 0)).1
     < (get_or qs (right - 1) (0, 0)).1) v c.if-one-other-2.true in
@@ -108,9 +90,8 @@ loop-pairs-preserved g c =
     let v = c.as_slice-pairs.ensures.value in
     let one = c.ends_with.ensures.some c.loop-pairs-test.true in
     let other = c.ends_with-in-loop-pairs.ensures.some c.if-ends_with.true in
-    let has_y : (get_or ps (right - 1) (0, 0)).0 ≡ c.args.y =
-    sym (ap (λ (qs : List (ℕ × ℕ)). (get_or qs (right - 1) (0, 0)).0) v) ∙ other.1
-    ∙ c.number-in-loop-pairs-2.ensures in
+    let has_y =
+    symbol_here _ ps _ c.args.y v c.number-in-loop-pairs-2.ensures (right - 1) other.1 in
     let no_less : (get_or ps (right - 1) (0, 0)).1 ≤ (get_or ps (left - 1) (0, 0)).1 =
     subst (λ (qs : List (ℕ × ℕ)). (get_or qs (right - 1) (0, 0)).1
     ≤ (get_or qs (left - 1) (0, 0)).1) v c.if-one-other-2.false in
@@ -149,28 +130,14 @@ returns-else-ends_with-clause-none g c =
     let start = c.count_before-right.result in
     let right = c.loop-pairs.right in
     let v = c.as_slice-pairs.ensures.value in
-    let before : (p : ℕ) → p < start → is_before (get_or ps p (0, 0)) y at ≡ true =
-    subst (λ (y : ℕ). (p : ℕ) → p < start → is_before (get_or ps p (0, 0)) y at ≡ true)
-    c.number-2.ensures
-    (subst (λ (qs : List (ℕ × ℕ)). (p : ℕ) → p < start
-    → is_before (get_or qs p (0, 0)) c.number-2.result at ≡ true) v
-    c.count_before-right.ensures.before) in
-    let after : (p : ℕ) → start ≤ p → p < length ps → is_before (get_or ps p (0, 0)) y at ≡ false =
-    subst (λ (y : ℕ). (p : ℕ) → start ≤ p → p < length ps
-    → is_before (get_or ps p (0, 0)) y at ≡ false) c.number-2.ensures
-    (subst (λ (qs : List (ℕ × ℕ)). (p : ℕ) → start ≤ p → p < length qs
-    → is_before (get_or qs p (0, 0)) c.number-2.result at ≡ false) v
-    c.count_before-right.ensures.after) in
-    let within : start ≤ length ps =
-    subst (λ (qs : List (ℕ × ℕ)). start ≤ length qs) v c.count_before-right.ensures.within in
+    let of = c.count_before-right.ensures in
+    let parted = parted_here _ ps _ y v c.number-2.ensures at start of.within of.before of.after in
     let none = c.ends_with-in-loop-pairs.ensures.none c.if-ends_with.false in
     λ e. apart_end b ps c.requires.rising c.args.x y at c.loop-pairs.left right
     c.loop-pairs.invariant.4
-    (inr (none_left b ps c.requires.rising y at start within before after right
+    (inr (none_left b ps c.requires.rising y at start parted right
     c.loop-pairs.invariant.1
-    (λ h f. none h
-    (ap (λ (qs : List (ℕ × ℕ)). (get_or qs (right - 1) (0, 0)).0) v ∙ f
-    ∙ sym c.number-in-loop-pairs-2.ensures))))
+    (λ h. no_symbol_here _ ps _ y v c.number-in-loop-pairs-2.ensures (right - 1) (none h))))
 
 pub returns-after-loop-pairs-clause-none : goal.returns-after-loop-pairs-clause-none
 returns-after-loop-pairs-clause-none g c =
@@ -182,25 +149,11 @@ returns-after-loop-pairs-clause-none g c =
     let start = c.count_before-left.result in
     let left = c.loop-pairs.left in
     let v = c.as_slice-pairs.ensures.value in
-    let before : (p : ℕ) → p < start → is_before (get_or ps p (0, 0)) x at ≡ true =
-    subst (λ (y : ℕ). (p : ℕ) → p < start → is_before (get_or ps p (0, 0)) y at ≡ true)
-    c.number.ensures
-    (subst (λ (qs : List (ℕ × ℕ)). (p : ℕ) → p < start
-    → is_before (get_or qs p (0, 0)) c.number.result at ≡ true) v
-    c.count_before-left.ensures.before) in
-    let after : (p : ℕ) → start ≤ p → p < length ps → is_before (get_or ps p (0, 0)) x at ≡ false =
-    subst (λ (y : ℕ). (p : ℕ) → start ≤ p → p < length ps
-    → is_before (get_or ps p (0, 0)) y at ≡ false) c.number.ensures
-    (subst (λ (qs : List (ℕ × ℕ)). (p : ℕ) → start ≤ p → p < length qs
-    → is_before (get_or qs p (0, 0)) c.number.result at ≡ false) v
-    c.count_before-left.ensures.after) in
-    let within : start ≤ length ps =
-    subst (λ (qs : List (ℕ × ℕ)). start ≤ length qs) v c.count_before-left.ensures.within in
+    let of = c.count_before-left.ensures in
+    let parted = parted_here _ ps _ x v c.number.ensures at start of.within of.before of.after in
     let none = c.ends_with.ensures.none c.loop-pairs-test.false in
     λ e. apart_end b ps c.requires.rising x c.args.y at left c.loop-pairs.right
     c.loop-pairs.invariant.4
-    (inl (none_left b ps c.requires.rising x at start within before after left
+    (inl (none_left b ps c.requires.rising x at start parted left
     c.loop-pairs.invariant.0
-    (λ h f. none h
-    (ap (λ (qs : List (ℕ × ℕ)). (get_or qs (left - 1) (0, 0)).0) v ∙ f
-    ∙ sym c.number-in-loop-pairs.ensures))))
+    (λ h. no_symbol_here _ ps _ x v c.number-in-loop-pairs.ensures (left - 1) (none h))))

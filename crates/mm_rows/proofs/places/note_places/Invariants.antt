@@ -4,4 +4,4 @@ use Rattle.mm_rows.proofs.places.note_places.Given as goal
 
 abbrev pub invariant-loop-place : goal.invariant-loop-place
 invariant-loop-place l =
-    (length l.places ≡ length l.initial.places) × ArePlacesOf l.list l.place l.places
+    (length l.places ≡ length l.initial.places) × ArePlacesOf l.statements l.place l.places

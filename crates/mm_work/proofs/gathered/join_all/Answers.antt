@@ -2,7 +2,7 @@ use Rattle.std.proofs.Common.{◌∙◌, ◌++◌, ◌∷◌, [], All, List, sym
 use Rattle.mm_work.specs.Workers.{IsDone, AreGathered}
 use Rattle.mm_work.specs.declared.worker.Findings.{Findings}
 use Rattle.mm_work.specs.declared.worker.Worked.{Worked}
-use Rattle.mm_work.proofs.WorkersLaw.{gathered_first, gathered_more, All-front, All-last}
+use Rattle.mm_work.proofs.WorkersLaw.{gathered_first, gathered_more, All_front, All_last}
 use Rattle.mm_work.proofs.gathered.join_all.Goals as goal
 
 pub loop-other-init : goal.loop-other-init
@@ -23,14 +23,14 @@ loop-other-init g c =
 pub join-requires-clause-other_home : goal.join-requires-clause-other_home
 join-requires-clause-other_home g c =
     let P = λ (w : Worked _). IsDone c.args.board.now c.args.database.now c.args.essential w in
-    (All-last P c.pop.new.self.items c.in-Some.other
+    (All_last P c.pop.new.self.items c.in-Some.other
     (subst (λ (l : List (Worked _)). All P l) c.in-Some.ensures.items
     c.loop-other.invariant.others)).at
 
 pub join-requires-clause-closed : goal.join-requires-clause-closed
 join-requires-clause-closed g c =
     let P = λ (w : Worked _). IsDone c.args.board.now c.args.database.now c.args.essential w in
-    (All-last P c.pop.new.self.items c.in-Some.other
+    (All_last P c.pop.new.self.items c.in-Some.other
     (subst (λ (l : List (Worked _)). All P l) c.in-Some.ensures.items
     c.loop-other.invariant.others)).closed
 
@@ -49,6 +49,6 @@ loop-other-preserved g c =
           (sym c.in_ok-push-2.ensures.items)
           (gathered_more home c.args.database.now c.args.essential c.loop-other.seat c.join.new.seat
           c.loop-other.all.items c.in-Some.other c.loop-other.invariant.gathered
-          (All-last P _ _ all) c.if-found-2.false c.join.ensures.home c.join.ensures.joined);
-      others = All-front P _ _ all;
+          (All_last P _ _ all) c.if-found-2.false c.join.ensures.home c.join.ensures.joined);
+      others = All_front P _ _ all;
     }

@@ -41,7 +41,7 @@ use denote.Triple.Call.{calls_at}
 use Rattle.std.proofs.alloc.Calls.{Al, α, seen, Answer, answer_val, Answer-typed, Answer-Ok}
 use Rattle.std.proofs.alloc.Calls.{Answer-err, takes_key, Takes, at_takes, Answered, Takes-goes}
 use Rattle.std.proofs.alloc.Calls.{Takes-gives, answers}
-use Rattle.hostile.proofs.TicksLaw.{Tick, at_tick, Tick-goes, Tick-gives}
+use Rattle.hostile.proofs.TicksLaw.{Tick, at_tick, Tick_goes, Tick_gives}
 use Rattle.hostile.proofs.heap.tick.Symbol as c_sym
 use Rattle.hostile.proofs.heap.tick.Met as c_met
 use Rattle.hostile.specs.contracts.heap.Refusing as wrapper
@@ -116,11 +116,11 @@ module _ (Z : Al) {M : Type 1} {𝓤 : Ura M} (𝓛 : Logic 𝓤) (at_mem : Memo
         ((tt, tt), ((tt, record { fits = fn }), ((tt, record { fits = fa }), tt))) $
         sets ! (addr ! (through ! refl (fld ! refl (stop !)))) refl (tt, tt) $
         use2 𝓛 (raw ((Tick 𝓛 at_mem run).pre (at_tick 𝓛 at_mem run κ₁ q₁ c)))
-        (Tick-goes 𝓛 at_mem run κ₁ q₁ c) $
+        (Tick_goes 𝓛 at_mem run κ₁ q₁ c) $
         calls_at ! (fm_of 𝓤 H 𝓛.laws 𝓣) (Tick 𝓛 at_mem run) kn (at_tick 𝓛 at_mem run κ₁ q₁ c)
         (and_then ! (get ! refl) (no_more !)) (λ u.
         use1 𝓛 (later (some (λ (x : Bool). given (u ≡ vbool x) (‵ (flft κ₁ q₁)))))
-        (Tick-gives 𝓛 at_mem run κ₁ q₁ c u) $ await ! tt $ pick !
+        (Tick_gives 𝓛 at_mem run κ₁ q₁ c u) $ await ! tt $ pick !
         (λ x. learn ! (λ eu. lands_as ! eu refl (tt, tt) $
         first ! $ branches ! (get ! refl)
         (λ t. sets ! (agg ! (no_more !)) refl (tt, tt) $ sets !
