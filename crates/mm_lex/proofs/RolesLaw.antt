@@ -47,7 +47,7 @@ has_mark_no word i low h mark =
 
 -- ---- plain words
 
-no_mark : (word : List ℕ) → has_dollar word ≡ false → has_mark word ≡ false
+pub no_mark : (word : List ℕ) → has_dollar word ≡ false → has_mark word ≡ false
 unfolding has_mark is_mark
 no_mark [] h = refl
 no_mark (a ∷ []) h = refl

@@ -12,11 +12,17 @@ use crate::bytes::is_printable;
 use crate::{Code, Fault};
 use mm_spec::Role;
 
+/// Whether all bytes are printable. A word may be as long as the text, so the loop goes to its end
+/// in any case: then it is compiled to look at many bytes at once.
 #[tactic(auto, unfolding(mm_spec::specs::Roles::is_clean))]
 fn is_clean(word: &[u8]) -> bool
     ensures { result ≡ is_clean word.now }
 {
-    word.iter().all(|b| is_printable(*b))
+    let mut clean = true;
+    for b in word {
+        clean = is_printable(*b) && clean;
+    }
+    clean
 }
 
 #[inline(always)]
@@ -52,6 +58,9 @@ fn is_mark(first: u8, second: u8) -> bool
 fn has_mark(word: &[u8]) -> bool
     ensures { result ≡ has_mark word.now }
 {
+    if !has_dollar(word) {
+        return false;
+    }
     for i in 1..word.len() {
         if is_mark(word[i - 1], word[i]) {
             return true;
