@@ -75,7 +75,7 @@ pub one_of : (f g : ℕ → ℕ) (v : List ℕ) {a b : List ℕ} → a ≡ map f
     → zip2 bit_xor a b ≡ map (λ x. bit_xor (f x) (g x)) v
 one_of f g v p q = zip2_of_maps bit_xor f g v p q
 
--- The bytes behind others add nothing to their mask where they aren't in the set.
+-- The bytes after others add nothing to their mask where they aren't in the set.
 pub mask_padded : (p : ℕ → Bool) (bytes : List ℕ) (n b : ℕ) → p b ≡ false
     → mask_l (map p (bytes ++ replicate n b)) ≡ mask_l (map p bytes)
 mask_padded p [] zero b out = refl
