@@ -8,7 +8,7 @@
 //! statement that isn't true, and the prover refuses each, since the law's proof doesn't give it: a
 //! premise says less, two arguments change places, or a definition that the law stands on says
 //! something else. Each clause has one, named after the mistake. Small texts for which the
-//! definitions are worked out stand in `proofs/` (`Examples`, `Vectors`, `Outputs`).
+//! definitions are worked out stand in `proofs/` (`ExamplesLaw`, `VectorsLaw`, `OutputsLaw`).
 #![tactic(auto)]
 
 ghost use Rattle.std.specs.Prelude.{◌≡◌, ◌↔◌, ℕ, Bool, List, None};
