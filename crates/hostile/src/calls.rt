@@ -1,4 +1,4 @@
-//! The calls whose arguments say what is asked for, each in one place.
+//! The calls whose arguments form a request, each in one place.
 
 ghost use Rattle.std.specs.Prelude.{◌≡◌, ◌≤◌, [], IfOk, IsTrue};
 ghost use Rattle.mm_spec.specs.Citation.{steps_at, reading_faults_at};
@@ -18,8 +18,8 @@ use std::io::{Read, Write};
 use std::sync::Wait;
 use std::thread::Threads;
 
-/// What a run is asked to do: cut the text in this way, check proofs by so many workers, and write
-/// these sections.
+/// A plan that cuts the text in this way, checks proofs with `workers` workers, and writes these
+/// sections.
 pub(crate) fn plan_of<A: Allocator>(cuts: Cutting<A>, workers: u32, choice: Choice) -> Plan<A> {
     Plan {
         cuts,
@@ -32,7 +32,7 @@ pub(crate) fn plan_of<A: Allocator>(cuts: Cutting<A>, workers: u32, choice: Choi
     }
 }
 
-/// How a run ends; `None` where the plan isn't lawful.
+/// How a run ends; `None` if the plan isn't lawful.
 pub(crate) fn ended<R: Threads + Wait + Sync, A: Allocator + Copy + Send + Sync, I: Read, O: Write>(
     rt: &R,
     alloc: A,
@@ -61,7 +61,7 @@ pub(crate) fn checked<A: Allocator + Copy>(
     check(alloc, database, theorem, steps, false)
 }
 
-/// The same by a checker.
+/// The same, by a checker that is given.
 pub(crate) fn checked_by<A: Allocator + Copy>(
     checker: &mut Checker<'_, A>,
     alloc: A,
@@ -78,7 +78,7 @@ pub(crate) fn checked_by<A: Allocator + Copy>(
     checker.check(alloc, database, theorem, steps, false)
 }
 
-/// What all theorems cite, or the fault of the first proof that has one, by so many workers.
+/// What all theorems cite, or the fault of the first proof that has one, by `workers` workers.
 pub(crate) fn all_checked<R: Threads + Wait + Sync, A: Allocator + Copy + Send + Sync>(
     rt: &R,
     alloc: A,

@@ -1,15 +1,15 @@
-//! Readers and writers that fail, and a writer that notes growths of memory.
+//! Readers and writers that fail, and a writer that records growths of memory.
 
 use crate::heap::Refusing;
 use std::alloc::Global;
 use std::io::{self, ErrorKind, Read, Write};
 
-/// A reader that gives at most ten bytes a call. One of its calls fails; those after it give bytes
-/// again.
+/// A reader that returns at most ten bytes a call. One of its calls fails; those after it return
+/// bytes again.
 #[derive(Drop)]
 pub(crate) struct Failing<'t> {
     pub text: &'t [u8],
-    /// Which call fails, the first being 1; none where it is 0.
+    /// Which call fails: 1 for the first one, 0 for none.
     pub fails_at: usize,
     pub kind: ErrorKind,
     pub calls: usize,
@@ -28,15 +28,15 @@ impl Read for Failing<'_> {
     }
 }
 
-/// How a write ends that takes no byte.
+/// What a write that takes no byte returns.
 #[derive(Clone, Copy)]
 pub(crate) enum Stop {
     Fails(ErrorKind),
     TakesNothing,
 }
 
-/// A writer that takes one byte a call. After so many bytes one call takes none; those after it
-/// take bytes again.
+/// A writer that takes one byte a call. After a given number of bytes one call takes none; those
+/// after it take bytes again.
 #[derive(Drop)]
 pub(crate) struct Stopping {
     pub taken: Vec<u8>,
@@ -69,8 +69,8 @@ impl Write for Stopping {
     }
 }
 
-/// A writer that keeps what it takes, and what an allocator had counted at its first call and at
-/// its last.
+/// A writer that keeps what it takes, and the count of an allocator at its first call and at its
+/// last.
 #[derive(Drop)]
 pub(crate) struct Noting<'h> {
     heap: &'h Refusing<Global>,
@@ -91,7 +91,7 @@ impl<'h> Noting<'h> {
         }
     }
 
-    /// Whether no memory was asked for between the first write and the last.
+    /// Whether no memory was requested between the first write and the last.
     pub(crate) fn no_growth_between(&self) -> bool {
         self.first == self.last
     }

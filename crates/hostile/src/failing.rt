@@ -1,4 +1,4 @@
-//! Runs whose reader fails or gives little, and runs whose writer fails or takes little.
+//! Runs whose reader fails or returns few bytes, and runs whose writer fails or takes few bytes.
 
 use crate::calls::{ended, plan_of};
 use crate::ends::{Failing, Stop, Stopping};
@@ -16,11 +16,11 @@ const OPEN: &[u8] = b"$c a";
 
 const OPEN_REFUSAL: &[u8] = b"refused 1:5 E08\n";
 
-/// How many calls it takes to read the first text and to be told of its end.
+/// How many calls it takes to read the first text to its end.
 const READS: usize = 18;
 
-/// Whether a run on the first text, whose reader fails at that call, ends so and writes this, and
-/// the reader was called so often.
+/// Whether a run on the first text, whose reader fails at that call, has this end, writes this
+/// output, and calls the reader that often.
 fn reads<R: Threads + Wait + Sync>(
     rt: &R,
     alloc: Global,
@@ -40,8 +40,8 @@ fn reads<R: Threads + Wait + Sync>(
     end == Some(want.0) && written.as_slice() == want.1 && from.calls == want.2
 }
 
-// A read that is interrupted fails like any other. A reader gives bytes again after the call that
-// failed, so a second try would show.
+// An interrupted read fails like any other. The reader returns bytes again after the call that
+// failed, so a second try would be noticed.
 #[test]
 fn a_read_that_fails_is_not_tried_again(rt: HostRuntime) {
     for kind in [
@@ -58,8 +58,8 @@ fn a_read_that_fails_is_not_tried_again(rt: HostRuntime) {
     }
 }
 
-/// Whether a run on the text, whose writer takes so many bytes before a call that takes none, ends
-/// so and writes this, and the writer was called so often.
+/// Whether a run on the text, whose writer takes that many bytes before a call that takes none, has
+/// this end, writes this output, and calls the writer that often.
 fn writes<R: Threads + Wait + Sync>(
     rt: &R,
     alloc: Global,
@@ -79,7 +79,7 @@ fn writes<R: Threads + Wait + Sync>(
     end == Some(want.0) && to.taken.as_slice() == want.1 && to.calls == want.2
 }
 
-// A writer takes bytes again after the call that took none, so a second try would show.
+// The writer takes bytes again after the call that took none, so a second try would be noticed.
 #[test]
 fn a_write_that_fails_is_not_tried_again(rt: HostRuntime) {
     for stop in [

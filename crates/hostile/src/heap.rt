@@ -3,16 +3,15 @@
 use std::alloc::{AllocError, Allocator};
 use std::sync::atomic::{AtomicU64, Ordering};
 
-/// So many growths are left where none is to be refused: more than any test takes.
+/// How many growths are left if none is to be refused: more than any test has.
 const MANY: u64 = 0x4000_0000_0000_0000;
 
-/// It hands on what it is asked to another allocator, but for one growth of memory, which it
-/// refuses. A `&` to it is lent to a call, and so to the call's threads: a growth of any of them
-/// counts.
+/// An allocator that passes each call on to another one, except for one growth of memory, which it
+/// refuses. A call gets a `&` to it, and so do the call's threads: a growth of any of them counts.
 pub struct Refusing<B: Allocator> {
     inner: B,
-    /// How many growths there are up to the refused one. From there on it goes below 0, and so
-    /// begins again at the top.
+    /// How many growths there are up to the refused one. After that it goes below 0, and so wraps
+    /// to the greatest number.
     left: AtomicU64,
 }
 
@@ -25,7 +24,7 @@ impl<B: Allocator> Refusing<B> {
         }
     }
 
-    /// Refuses the growth of this number from here on, the next one being number 1, and no other.
+    /// From here on refuses only the growth of this number; the next one is number 1.
     pub(crate) fn refuse(&self, number: u64) {
         self.left.store(number, Ordering::SeqCst);
     }
@@ -35,7 +34,7 @@ impl<B: Allocator> Refusing<B> {
         self.left.store(MANY, Ordering::SeqCst);
     }
 
-    /// A number that each growth changes, and nothing else.
+    /// A number that each growth changes, and that nothing else changes.
     pub(crate) fn count(&self) -> u64 {
         self.left.load(Ordering::SeqCst)
     }
@@ -53,7 +52,7 @@ impl<B: Allocator> Drop for Refusing<B> {
     }
 }
 
-/// Counts a growth, and says whether it is the one that is refused.
+/// Counts a growth, and returns whether it is the one to refuse.
 fn tick(left: &AtomicU64) -> bool {
     left.fetch_sub(1, Ordering::SeqCst) == 1
 }

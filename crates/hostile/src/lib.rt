@@ -1,7 +1,7 @@
-//! What becomes of the layers where something fails, and of texts that are made to do harm: growths
-//! of memory that are refused, reads and writes that fail, texts that are cut short, and texts made
-//! by chance. It has an allocator that refuses, and else tests alone; they are tests of public
-//! calls. It is no part of the program, and promises nothing.
+//! Tests of what can go wrong: allocations that are refused, reads and writes that fail, truncated
+//! and malicious texts, and random texts. Apart from an allocator that refuses allocations, this
+//! crate has only tests, which use public calls. It isn't part of the program, and promises
+//! nothing.
 #![tactic(auto)]
 
 #[cfg(test)]

@@ -1,4 +1,4 @@
-//! Texts that are cut short, and texts that are made to do harm.
+//! Truncated texts, and malicious ones.
 
 use crate::calls::{ended, plan_of};
 use crate::texts::{BASE, FIRST_REPORT, FIRST_TEXT};
@@ -10,7 +10,7 @@ use std::fmt::Write;
 use std::sync::Wait;
 use std::thread::Threads;
 
-/// The beginnings of the first text that are accepted, by their lengths.
+/// The lengths of the prefixes of the first text that are accepted.
 const ACCEPTED: [usize; 15] = [
     0, 19, 20, 29, 30, 44, 45, 59, 60, 83, 84, 117, 118, 169, 170,
 ];
@@ -35,7 +35,7 @@ fn refused(at: usize, code: Code) -> RunEnd {
     })
 }
 
-/// How a run has to end on a beginning of the first text.
+/// How a run on a prefix of the first text has to end.
 fn end_of(beginning: &[u8]) -> RunEnd {
     let len = beginning.len();
     if ACCEPTED.contains(&len) {
@@ -72,7 +72,7 @@ fn refusals_of_texts_that_are_cut_short(rt: HostRuntime) {
     }
 }
 
-/// These bytes, so many spaces, and a byte that stands in no text.
+/// These bytes, the given number of spaces, and a byte that no text may have.
 fn spaced(alloc: Global, front: &[u8], spaces: u32) -> Result<Vec<u8>, AllocError> {
     let mut text = front.to_vec(alloc)?;
     for _ in 0..spaces {
@@ -82,8 +82,8 @@ fn spaced(alloc: Global, front: &[u8], spaces: u32) -> Result<Vec<u8>, AllocErro
     Ok(text)
 }
 
-/// Asserts that a byte after so many spaces is refused at that place, with cuts before and after
-/// it.
+/// Asserts that a bad byte after the given number of spaces is refused at its place, with cuts
+/// before and after it.
 fn bad_byte_at<R: Threads + Wait + Sync>(
     rt: &R,
     alloc: Global,

@@ -1,4 +1,4 @@
-//! Texts that several tests read, and what a run writes of them.
+//! Texts that several tests read, and what a run writes for them.
 
 /// Symbols and formulas of a conditional, its first axiom, and a theorem that rests on one of the
 /// two axioms.
@@ -19,16 +19,16 @@ pub(crate) const THROUGH: &[u8] =
 pub(crate) const THROUGH_REPORT: &[u8] =
     b"mmdepend 1\naxioms 3\ntheorems 2\nmatrix\na1i:111\na2:111\ncounts\na1i:3\na2:3\nusage\nwi:2:a1i a2\nax-1:2:a1i a2\nax-mp:2:a1i a2\nend\n";
 
-/// The first of these theorems alone, its proof in compressed form with a step that is marked and
-/// taken up again.
+/// Only the first of these theorems, its proof in compressed form with a step that is marked and
+/// repeated.
 pub(crate) const COMPRESSED: &[u8] =
     b"$c wff |- ( -> ) $.\n$v p q $.\nwp $f wff p $.\nwq $f wff q $.\nwi $a wff ( p -> q ) $.\nax-1 $a |- ( p -> ( q -> p ) ) $.\n${ min $e |- p $. maj $e |- ( p -> q ) $. ax-mp $a |- q $. $}\n${ h $e |- p $. a1i $p |- ( q -> p ) $= ( wi ax-1 ax-mp ) AZBADCGBEF $. $}\n";
 
 pub(crate) const COMPRESSED_REPORT: &[u8] =
     b"mmdepend 1\naxioms 3\ntheorems 1\nmatrix\na1i:111\ncounts\na1i:3\nusage\nwi:1:a1i\nax-1:1:a1i\nax-mp:1:a1i\nend\n";
 
-/// A theorem whose proof puts variables that aren't disjoint for two that have to be: E36 at column
-/// 31 of line 8.
+/// A theorem whose proof replaces two variables that have to be disjoint by two that aren't: E36 at
+/// column 31 of line 8.
 pub(crate) const NOT_DISJOINT: &[u8] =
     b"$c wff |- ( -> ) $.\n$v p q $.\nwp $f wff p $.\nwq $f wff q $.\nwi $a wff ( p -> q ) $.\nax-1 $a |- ( p -> ( q -> p ) ) $.\n${ $d p q $. ax-d $a |- ( p -> q ) $. $}\nbad $p |- ( p -> q ) $= wp wq ax-d $.\n";
 

@@ -1,7 +1,8 @@
-//! How fast a text is read as tokens: `lexing FILE PIECES` writes the bytes, the tokens, and the
-//! nanoseconds of a plain loop over the bytes that keeps each word, and of `lex` in so many equal
-//! pieces (0: `lex` isn't called). Without words it does nothing. `bench/lexing` runs it; it is no
-//! part of the program, and promises nothing.
+//! How fast a text is read as tokens: `lexing FILE PIECES` writes the number of bytes, of tokens
+//! that `lex` finds, and of words that a plain loop over the bytes keeps; then the nanoseconds of
+//! the loop and of `lex`. The text is read in PIECES equal pieces. `lex` isn't called if PIECES is
+//! 0, and the loop runs only if it is 1. Without arguments the program does nothing. `bench/lexing`
+//! runs it. It isn't part of `mmdepend`, and promises nothing.
 #![tactic(auto)]
 
 use anyhow::Result;
@@ -15,7 +16,7 @@ fn is_white(b: u8) -> bool {
     matches!(b, b'\t' | b'\n' | 0x0C | b'\r' | b' ')
 }
 
-/// The words of a text, byte by byte; none where it is too long.
+/// The words of a text, found byte by byte; no words if the text is too long.
 fn words(alloc: Global, text: &[u8]) -> Result<Vec<Word>, AllocError> {
     let mut words = Vec::new(alloc);
     if text.len() > 0x7FFF_FFFF {
@@ -38,7 +39,7 @@ fn words(alloc: Global, text: &[u8]) -> Result<Vec<Word>, AllocError> {
     Ok(words)
 }
 
-/// The number of tokens of a text that is read in so many pieces.
+/// The number of tokens of a text that is read in the given number of pieces.
 fn tokens<R: Threads + Sync>(
     rt: &R,
     alloc: Global,

@@ -23,11 +23,11 @@ IsSettledWord v x =
     (claim floor : ℕ) × (views : List View) × BoardRule v.count claim floor x views
     × IsAmong views v
 
--- what a claim answers that found c at a board of n numbers
+-- what a claim that found c answers, at a board of n numbers
 abbrev pub claim_answer : ℕ → ℕ → Option ℕ
 claim_answer n c = if nat_lt c n then Some c else None
 
--- a claim that found c: c is open where it is below n, and else the seat is over
+-- a claim that found c: c is open if it is below the count, and otherwise the seat is over
 abbrev pub after_claim : View → ℕ → View
 after_claim v c =
     if nat_lt c v.count then record v { open_number = Some c } else record v { over = true }
@@ -37,7 +37,7 @@ abbrev pub open_after_look : Option ℕ → ℕ → Option ℕ
 open_after_look None f = None
 open_after_look (Some i) f = if nat_lt f i then None else Some i
 
--- the numbers that a look skips which found f: an open number above f
+-- the numbers that a look that found f skips: an open number above f
 abbrev pub skipped_by_look : Option ℕ → ℕ → List ℕ
 skipped_by_look None f = []
 skipped_by_look (Some i) f = if nat_lt f i then i ∷ [] else []
@@ -81,8 +81,8 @@ abbrev pub new_seat_view : View → View
 new_seat_view v =
     record v { share = 1; open_number = None; settled = []; reported = []; skipped = [] }
 
--- a join: records and shares are added, the lesser `seen` is kept, and the seat is over where
--- either was. The second seat has nothing open
+-- a join: records and shares are added, the lesser `seen` is kept, and the seat is over if either
+-- was. The second seat has nothing open
 abbrev pub after_join : View → View → View
 after_join v w = record {
   count = v.count;

@@ -24,7 +24,7 @@ pub record KeepsTable (table : TableId) (key count : ℕ) : Type 0 where
   pub key_is : key ≡ count
   pub small : count ≤ 2147483648
 
--- what runs of a seat agrees with its view, and its token has no slot
+-- the fields that a seat has at run time agree with its view, and its token has no slot
 pub record ShowsView (view : View) (slots : List (ℕ × Unit {0})) (share : ℕ)
     (open_number : Option ℕ) (seen : ℕ) (over : Bool) : Type 0 where
   pub share_is : share ≡ view.share

@@ -18,22 +18,22 @@ first_view n =
       over = false;
     }
 
--- how often x stands in the list
+-- how often x occurs in the list
 abbrev pub times_in : ℕ → List ℕ → ℕ
 times_in x [] = 0
 times_in x (y ∷ ys) = (if y == x then 1 else 0) + times_in x ys
 
--- 1 where x is the open number, and else 0
+-- 1 if x is the open number, otherwise 0
 abbrev pub times_open : ℕ → Option ℕ → ℕ
 times_open x None = 0
 times_open x (Some i) = if i == x then 1 else 0
 
--- how often x stands in the seat's record
+-- how often x occurs in the seat's record
 abbrev pub times_recorded : ℕ → View → ℕ
 times_recorded x v =
     times_open x v.open_number + times_in x v.settled + times_in x v.reported + times_in x v.skipped
 
--- 1 where a number is open, and else 0
+-- 1 if a number is open, otherwise 0
 abbrev pub open_count : Option ℕ → ℕ
 open_count None = 0
 open_count (Some i) = 1

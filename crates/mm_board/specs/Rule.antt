@@ -13,23 +13,23 @@ abbrev pub total : (View → ℕ) → List View → ℕ
 total f [] = 0
 total f (v ∷ vs) = f v + total f vs
 
--- how often x stands as reported, over the records of all seats
+-- how often x occurs as reported, over the records of all seats
 abbrev pub times_reported : List View → ℕ → ℕ
 times_reported views x = total (λ v. times_in x v.reported) views
 
--- how often x stands as skipped, over the records of all seats
+-- how often x occurs as skipped, over the records of all seats
 abbrev pub times_skipped : List View → ℕ → ℕ
 times_skipped views x = total (λ v. times_in x v.skipped) views
 
--- how many numbers stand as settled, over the records of all seats
+-- how many numbers are settled, over the records of all seats
 abbrev pub settled_count : List View → ℕ
 settled_count views = total (λ v. length v.settled) views
 
--- 1 where x is below n, and else 0
+-- 1 if x is below n, otherwise 0
 abbrev pub once_below : ℕ → ℕ → ℕ
 once_below x n = if nat_lt x n then 1 else 0
 
--- the share of a seat that is over, and else 0
+-- the share of the seat if it is over, otherwise 0
 abbrev pub over_share : View → ℕ
 over_share v = if v.over then v.share else 0
 
@@ -37,7 +37,7 @@ over_share v = if v.over then v.share else 0
 abbrev pub IsCountOrReported : ℕ → List View → ℕ → Type 0
 IsCountOrReported n views x = (x ≡ n) ⊎ (0 < times_reported views x)
 
--- the least reported number, or n where none is
+-- the least reported number, or n if there is none
 pub record IsLeastReported (n : ℕ) (views : List View) (x : ℕ) : Type 0 where
   pub at_most : x ≤ n
   pub lowest : (y : ℕ) → 0 < times_reported views y → x ≤ y
@@ -47,20 +47,20 @@ pub record IsLeastReported (n : ℕ) (views : List View) (x : ℕ) : Type 0 wher
 abbrev pub IsAmong : List View → View → Type 0
 IsAmong views v = (seat : ℕ) × (get_elem? views seat ≡ some v)
 
--- what the rule asks of one seat, at the claim word and the floor word
+-- what the rule requires of one seat, at the claim word and the floor word
 pub record SeatRule (n : ℕ) (views : List View) (claim_word floor_word : ℕ)
     (v : View) : Type 0 where
   pub count : 0 < v.share → v.count ≡ n
   -- what it has seen is at least the floor, and is n or reported
   pub floor : 0 < v.share → floor_word ≤ v.seen
   pub seen : 0 < v.share → IsCountOrReported n views v.seen
-  -- it is over only where the claim word is above n
+  -- it is over only if the claim word is above n
   pub over : v.over ≡ true → n < claim_word
   pub spent : v.share ≡ 0 → HasEmptyRecord v
 
 -- the rule, of the claim word, the floor word, the settled word and the views of all seats
 pub record BoardRule (n claim_word floor_word settled_word : ℕ) (views : List View) : Type 0 where
-  -- each number below both the claim word and n stands in one record, once, and no other number in
+  -- each number below both the claim word and n is in one record, once, and no other number is in
   -- any
   pub once : (x : ℕ) → total (times_recorded x) views ≡ once_below x (min claim_word n)
   -- so all records have that many numbers (it follows from `once`, and spares a count of them)

@@ -1,4 +1,4 @@
--- How the rule and the events lie on an atomic table, whose words are the claim word, the floor
+-- How the rule and the events apply to an atomic table, whose words are the claim word, the floor
 -- word and the settled word.
 use Rattle.std.specs.Prelude.{◌≡◌, ℕ, length, slice_index}
 use Rattle.atomic_table.specs.Table.{State, Me, Step}

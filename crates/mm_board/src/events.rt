@@ -2,7 +2,8 @@
 use crate::views::View;
 use atomic_table::{Join, Play, Split, TableRule};
 
-/// The rule of the three words and the views of all seats, for a board of so many numbers.
+/// The rule of the three words and the views of all seats. The table's key is the count of the
+/// board's numbers.
 pub struct RuledTable;
 
 impl TableRule<(), View, u32> for RuledTable {
@@ -44,7 +45,7 @@ impl Play<(), View> for SettleEvent {
     ghost then = { StepTells IsSettledWord after_settle };
 }
 
-/// Lowers the floor word to a number, where it is above that.
+/// Lowers the floor word to a number, if the word is above it.
 pub struct ReportEvent;
 
 impl Play<(), View> for ReportEvent {
@@ -54,7 +55,7 @@ impl Play<(), View> for ReportEvent {
     ghost then = { StepTells IsFloorWord after_report };
 }
 
-/// Cuts a seat of share 1 off another.
+/// Splits a seat of share 1 off another.
 pub struct SplitEvent;
 
 impl Split<View> for SplitEvent {
@@ -65,7 +66,7 @@ impl Split<View> for SplitEvent {
     ghost right = { new_seat_view };
 }
 
-/// Makes one seat of two.
+/// Joins two seats into one.
 pub struct JoinEvent;
 
 impl Join<View> for JoinEvent {
@@ -76,8 +77,8 @@ impl Join<View> for JoinEvent {
     ghost spent = { spent_view };
 }
 
-/// Reads the claim word and leaves the view as it is. A joined seat learns by it what the rule
-/// says of the two records together, since a join itself tells nothing.
+/// Reads the claim word and leaves the view as it is. A joined seat learns from it what the rule
+/// says of the two records together, since a join itself says nothing.
 pub struct JoinedRead;
 
 impl Play<(), View> for JoinedRead {

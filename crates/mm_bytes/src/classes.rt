@@ -10,9 +10,9 @@ use std::simd::prelude::*;
 /// The classes of up to 64 bytes, a bit each: bit i is byte i.
 #[derive(Clone, Copy, PartialEq, Eq, Debug)]
 pub struct Classes {
-    /// The white bytes: tab, line feed, form feed, carriage return and space.
+    /// The white-space bytes: tab, line feed, form feed, carriage return and space.
     pub white: u64,
-    /// The bytes that are neither white nor printable.
+    /// The bytes that are neither white space nor printable.
     pub bad: u64,
 }
 
@@ -52,7 +52,7 @@ pub fn dollars_tail(bytes: &[u8]) -> u64
     dollars_block(&padded(bytes))
 }
 
-/// Less than 64 bytes, made 64 by `a`, which is neither white nor bad nor a dollar sign.
+/// Fewer than 64 bytes, padded to 64 with `a`, which is neither white space nor bad nor `$`.
 #[inline(always)]
 fn padded(bytes: &[u8]) -> [u8; 64]
     requires { length bytes.now < 64 }

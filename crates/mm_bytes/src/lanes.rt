@@ -27,7 +27,7 @@ pub fn bad_mask(v: u8x64) -> u64
         | v.simd_eq(u8x64::splat(0x0C))
         | v.simd_eq(u8x64::splat(b'\r'));
     let unprintable = v.simd_lt(u8x64::splat(b'!')) | v.simd_gt(u8x64::splat(b'~'));
-    // White bytes are unprintable, so what is left is one and not the other.
+    // White space is unprintable, so this leaves the unprintable bytes that aren't white space.
     (unprintable ^ white).to_bitmask()
 }
 

@@ -1,7 +1,7 @@
-//! The classes of bytes, and counts of them, 64 at a time by lanes. This layer knows bytes and no
-//! text. It promises that masks, the first bad byte and the number of line feeds are their plain
-//! definitions (`Rattle.mm_bytes.specs.Masks`) for every length. Nothing here takes memory or
-//! refuses anything.
+//! The classes of bytes, and counts of them, 64 at a time by lanes. This layer knows bytes, not
+//! texts. It promises that the masks, the first bad byte and the number of line feeds agree with
+//! their plain definitions (`Rattle.mm_bytes.specs.Masks`) for every length. It allocates no
+//! memory, and none of its calls fails.
 #![tactic(auto)]
 
 mod classes;

@@ -1,4 +1,4 @@
-//! Bytes of any number, in blocks of 64 and a rest.
+//! Any number of bytes, in blocks of 64 and a rest.
 
 ghost use Rattle.std.specs.Prelude.{◌≡◌, ◌==◌, count_by};
 ghost use Rattle.std.specs.List.{position};
@@ -8,7 +8,7 @@ use crate::classes::is_bad;
 use crate::lanes::{bad_mask, lf_mask};
 use std::simd::prelude::*;
 
-/// The place of the first byte that is neither white nor printable.
+/// The place of the first byte that is neither white space nor printable.
 pub fn first_bad(bytes: &[u8]) -> Option<usize>
     ensures { result ≡ position is_bad bytes.now }
 {

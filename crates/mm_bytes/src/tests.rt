@@ -1,4 +1,4 @@
-//! Byte rows, and every length about a few blocks.
+//! Rows of bytes, of every length up to a few blocks.
 
 use crate::{Classes, class_block, class_tail, count_lf, dollars_block, dollars_tail, first_bad};
 use std::alloc::AllocError;

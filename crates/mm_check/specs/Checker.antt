@@ -4,7 +4,8 @@ use Rattle.mm_spec.specs.Statement.{Statement}
 use Rattle.mm_spec.specs.Frame.{symbol_names}
 use Rattle.mm_check.specs.Rule.{Lists, AreRules}
 
--- a checker, by how many symbols it and its compiler of rules know, and the rules that it was lent
+-- a checker: how many symbols it knows, how many its compiler of rules knows, and the rules that it
+-- borrows
 pub record Made : Type 0 where
   pub width : ℕ
   pub compiler : ℕ
@@ -13,7 +14,7 @@ pub record Made : Type 0 where
 abbrev pub made : ℕ → ℕ → Lists → Made
 made width compiler rules = record { width = width; compiler = compiler; rules = rules }
 
--- the checker is one for the theorems of the database
+-- the checker is made for the theorems of the database
 unfoldable pub IsMadeFor : List Statement → Made → Type 0
 IsMadeFor k m =
     (m.width ≡ length (symbol_names k)) × (m.compiler ≡ length (symbol_names k)) × AreRules k

@@ -25,7 +25,8 @@ cited t cites = record { theorem = t; cites = cites }
 abbrev pub is_assertion_at : List Statement → ℕ → Bool
 is_assertion_at db a = list_any is_assertion (statement_at db a)
 
--- the theorem has a proof, and these are the assertions that it cites, rising, each once
+-- the theorem has a proof, and these are the assertions that it cites, in ascending order, each
+-- once
 pub record IsChecked (db : List Statement) (by_essential : Bool) (t : ℕ)
     (cites : List ℕ) : Type 0 where
   pub derivation : Trees
@@ -33,17 +34,17 @@ pub record IsChecked (db : List Statement) (by_essential : Bool) (t : ℕ)
   pub rising : IsStrictlyIncreasing cites
   pub exact : (a : ℕ) → Decides (is_member cites a) (Cites db by_essential t a)
 
--- a fault is the fault of the theorem's proof
+-- if the refusal is a fault, it is the fault of the theorem's proof
 abbrev pub Refuses : List Statement → ℕ → CheckRefused → Type 0
 Refuses db t (Faulty f) = ProofFault db t (end_of (slice_get db t)) f
 Refuses db t Memory = Unit {0}
 
--- a fault is the fault of one of these steps
+-- if the refusal is a fault, it is the fault of one of these steps
 abbrev pub StepRefuses : List Statement → ℕ → List PlacedStep → CheckRefused → Type 0
 StepRefuses db t steps (Faulty f) = StepFault (context_at db t) steps f
 StepRefuses db t steps Memory = Unit {0}
 
--- the label of a step is below a number
+-- if the step is a label, it is less than the number
 abbrev pub labels : Step → ℕ → Type 0
 labels (label l) n = l < n
 labels (marked j) n = Unit {0}
@@ -53,7 +54,7 @@ abbrev pub is_labelled_step : Step → ℕ → Bool
 is_labelled_step (label l) a = a == l
 is_labelled_step (marked j) a = false
 
--- a label that stands for something, or a marked step whose formula is kept
+-- the step is a label that stands for something, or a marked step whose formula is kept
 abbrev pub IsReady : Context → List ℕ → Step → Type 0
 IsReady c marks (label l) = IsGood c (c.rule l)
 IsReady c marks (marked j) = Contains marks j

@@ -1,5 +1,4 @@
--- The flags of entries and of steps, while the steps of a proof are gone through from the last to
--- the first.
+-- The flags of entries and of steps, during a pass over the steps of a proof from last to first.
 use Rattle.std.specs.Prelude.{ℕ, Bool, true, ◌&&◌, List, [], map, slice_set, if◌then◌else◌}
 use Rattle.std.specs.List.{list_any}
 use Rattle.mm_spec.specs.Statement.{Statement}
@@ -8,18 +7,19 @@ use Rattle.mm_spec.specs.Frame.{is_essential, mandatory_hypotheses}
 use Rattle.mm_spec.specs.Steps.{Step, label, marked}
 use Rattle.mm_check.specs.Contract.{is_assertion_at}
 
--- for each mandatory hypothesis of an assertion, whether its entry is essential, by whether the
--- assertion's node is
+-- for each mandatory hypothesis of an assertion, whether its entry is essential; `b` says whether
+-- the assertion's node is
 abbrev pub child_flags : List Statement → Bool → ℕ → List Bool
 child_flags db b l =
     map (λ h. b && list_any is_essential (statement_at db h)) (mandatory_hypotheses db l)
 
--- the flags of the entries that a step takes from the stack, by whether what it puts is essential
+-- the flags of the entries that a step takes from the stack; `b` says whether the entry that it
+-- pushes is essential
 abbrev pub taken_flags : List Statement → Bool → Step → List Bool
 taken_flags db b (label l) = if is_assertion_at db l then child_flags db b l else []
 taken_flags db b (marked j) = []
 
--- the flags of the earlier steps, by whether what the step puts is essential
+-- the flags of the earlier steps; `b` says whether the entry that the step pushes is essential
 abbrev pub wanted_flags : Bool → Step → List Bool → List Bool
 wanted_flags b (label l) wanted = wanted
 wanted_flags b (marked j) wanted = if b then slice_set wanted j true else wanted

@@ -12,8 +12,8 @@ use Rattle.mm_proof.specs.Read.{is_marked}
 use Rattle.mm_check.specs.State.{State}
 use Rattle.mm_check.specs.Contract.{is_assertion_at}
 
--- A row of derivations stands after the steps: its formulas are the entries, the ends are the last
--- formulas of the earlier rows, and its assertions were noted.
+-- After the steps there is a row of derivations: its formulas are the entries, the ends are the
+-- last formulas of the earlier rows, and its assertions were noted.
 pub record Reached (k : List Statement) (t : ℕ) (done : List Step) (stack ends : List Formula)
     (noted : List ℕ) : Type 0 where
   pub row : Trees
@@ -32,12 +32,12 @@ pub record Reached (k : List Statement) (t : ℕ) (done : List Step) (stack ends
 abbrev pub steps_of : List PlacedStep → List Step
 steps_of steps = map (λ s. s.step) steps
 
--- marked formulas are those that their steps ended with
+-- the marked formulas are those with which their steps ended
 abbrev pub Agree : List Formula → List ℕ → List Formula → Type 0
 Agree ends marks formulas = AllZip (λ j f. slice_get ends j ≡ Some f) marks formulas
 
--- The state after the first steps: their entries, and each of them that is marked with its
--- formula.
+-- The state after the first `i` steps: the entries, and the marked ones among these steps with
+-- their formulas.
 pub record Ran (k : List Statement) (t : ℕ) (steps : List PlacedStep) (i : ℕ) (s : State)
     (noted : List ℕ) : Type 0 where
   pub ends : List Formula

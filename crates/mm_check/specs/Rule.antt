@@ -1,4 +1,4 @@
--- What an assertion asks and gives, by the places of its hypotheses.
+-- What an assertion requires and what it yields, in terms of the places of its hypotheses.
 use Rattle.std.specs.Prelude.{◌≡◌, ℕ, suc, ◌<◌, ◌≤◌, true, List, [], ◌∷◌, map, flat_map, length}
 use Rattle.std.specs.Prelude.{get_or, slice_range, All, if◌then◌else◌}
 use Rattle.mm_spec.specs.Statement.{Statement}
@@ -16,39 +16,39 @@ use Rattle.mm_check.specs.declared.rule.Hypothesis.TheVariants.{Floating, Essent
 use Rattle.mm_check.specs.Arena.{Arena, nothing, rest, text_of}
 use Rattle.mm_check.specs.Contract.{is_assertion_at}
 
--- the place of the first hypothesis `$f` of a variable
+-- the place of the first `$f` of a variable among the hypotheses
 abbrev pub first : List Statement → List Formula → ℕ → ℕ
 first k [] x = 0
 first k (h ∷ hs) x = if binds (context_at k 0) x h then 0 else suc (first k hs x)
 
--- a constant, or a variable by the place of its `$f`
+-- a symbol as a part: a constant, or a variable given by the place of its `$f`
 abbrev pub part_of : List Statement → List Formula → ℕ → Part
 part_of k hs s = if is_variable_number k s then Variable (first k hs s) else Constant s
 
 abbrev pub parts_of : List Statement → List Formula → Formula → List Part
 parts_of k hs f = map (part_of k hs) f
 
--- the parts of the hypothesis of a number
+-- the parts of hypothesis `j`
 abbrev pub hypothesis_parts : List Part → ℕ → Hypothesis → List Part
 hypothesis_parts parts j (Floating t) = Constant t ∷ Variable j ∷ []
 hypothesis_parts parts j (Essential s) = slice_range parts s.start s.end
 
--- the parts of hypotheses, numbered from a number on
+-- the parts of hypotheses that are numbered from `j` on
 abbrev pub all_parts : List Part → ℕ → List Hypothesis → List (List Part)
 all_parts parts j [] = []
 all_parts parts j (a ∷ more) = hypothesis_parts parts j a ∷ all_parts parts (suc j) more
 
--- what the hypothesis asks stands in a list of so many parts
+-- what the hypothesis requires is in a list of `n` parts
 abbrev pub IsHypothesisIn : ℕ → Hypothesis → Type 0
 IsHypothesisIn n (Floating t) = Unit {0}
 IsHypothesisIn n (Essential s) = (s.start ≤ s.end) × (s.end ≤ n)
 
--- a variable is one of so many hypotheses
+-- if the part is a variable, its place is one of `n` hypotheses
 abbrev pub IsBelow : ℕ → Part → Type 0
 IsBelow n (Constant s) = Unit {0}
 IsBelow n (Variable j) = j < n
 
--- a constant is one of so many symbols
+-- if the part is a constant, it is one of `n` symbols
 abbrev pub IsKnown : ℕ → Part → Type 0
 IsKnown n (Constant s) = s < n
 IsKnown n (Variable j) = Unit {0}
@@ -71,7 +71,7 @@ compiled k hypotheses pairs parts formula =
           formula;
     }
 
--- it is the frame of its assertion, with each variable by the place of its `$f`
+-- the rule is the frame of its assertion, with each variable given by the place of its `$f`
 pub record IsCompiled (k : List Statement) (c : Compiled) : Type 0 where
   pub is_assertion : is_assertion_at k c.assertion ≡ true
   pub complete : IsComplete (context_at k 0) (frame_at k c.assertion)
@@ -92,7 +92,7 @@ pub record IsCompiled (k : List Statement) (c : Compiled) : Type 0 where
   pub formula_is : c.formula
       ≡ parts_of k (frame_at k c.assertion).hypotheses (frame_at k c.assertion).formula
 
--- what stands for the variable of a hypothesis, by the entries of the hypotheses
+-- what replaces the variable of hypothesis `j`; `es` are the entries of the hypotheses
 abbrev pub stands : Arena → List Span → ℕ → List ℕ
 stands a es j = text_of a (rest (get_or es j nothing))
 
@@ -104,7 +104,7 @@ told a es (Variable j) = stands a es j
 abbrev pub replaced : Arena → List Span → List Part → Formula
 replaced a es f = flat_map (told a es) f
 
--- each variable that has a `$f` stands with the place of its first one
+-- for each variable that has a `$f`, the list has the place of the first one
 abbrev pub AreFirstNumbers : List Statement → List Formula → List ℕ → Type 0
 AreFirstNumbers k hs places = (x : ℕ) → IsBound (context_at k 0) hs x → get_or places x 0 ≡ first k
     hs x
@@ -118,7 +118,7 @@ abbrev pub ArePairs : List Statement → List Formula → List (ℕ × ℕ) → 
 ArePairs k hs ps =
     All (λ (p : ℕ × ℕ). IsBound (context_at k 0) hs p.0 × IsBound (context_at k 0) hs p.1) ps
 
--- what makes rules: how many symbols it knows, and the rule that it made last
+-- a compiler of rules: how many symbols it knows, and the rule that it compiled last
 pub record CompilerState : Type 0 where
   pub width : ℕ
   pub rule : Compiled
@@ -126,7 +126,7 @@ pub record CompilerState : Type 0 where
 abbrev pub compiler_state : ℕ → Compiled → CompilerState
 compiler_state width rule = record { width = width; rule = rule }
 
--- the rules of a database, in lists that have what all rules have
+-- the rules of a database: a list of their stretches, and the lists that all rules share
 pub record Lists : Type 0 where
   pub stretches : List RuleStretches
   pub hypotheses : List Hypothesis
@@ -161,12 +161,12 @@ rule_at l s =
     compiled s.assertion (stretch_of l.hypotheses s.hypotheses) (stretch_of l.pairs s.pairs)
     (stretch_of l.parts s.parts) (stretch_of l.parts s.formula)
 
--- a stretch of so many elements
+-- a stretch of `n` elements
 pub record IsStretch (n : ℕ) (s : Stretch) : Type 0 where
   pub rising : s.start ≤ s.end
   pub within : s.end ≤ n
 
--- in the stretches stands the rule of an assertion of the database
+-- the rule of an assertion of the database is in the stretches
 pub record HasRule (k : List Statement) (l : Lists) (s : RuleStretches) : Type 0 where
   pub hypotheses : IsStretch (length l.hypotheses) s.hypotheses
   pub pairs : IsStretch (length l.pairs) s.pairs
@@ -180,12 +180,12 @@ AreRules k l = All (HasRule k l) l.stretches
 abbrev pub no_stretches : RuleStretches
 no_stretches = rule_stretches 0 (stretch 0 0) (stretch 0 0) (stretch 0 0) (stretch 0 0)
 
--- the number is that of the rule of an assertion
+-- `n` is the number of the rule of assertion `a`
 pub record IsRuleNumber (l : Lists) (n a : ℕ) : Type 0 where
   pub inside : n < length l.stretches
   pub is : (get_or l.stretches n no_stretches).assertion ≡ a
 
--- it is the rule of an assertion
+-- the rule is that of assertion `a`
 pub record IsRuleOf (k : List Statement) (c : Compiled) (a : ℕ) : Type 0 where
   pub compiled : IsCompiled k c
   pub is : c.assertion ≡ a

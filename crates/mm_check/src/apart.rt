@@ -12,15 +12,15 @@ use mm_stmt::{Database, Sym};
 use std::alloc::{AllocError, Allocator};
 use std::marker::Model;
 
-/// How many pairs are kept at most, and how many slots tell where one stands.
+/// How many pairs are kept at most, and the number of slots that say where a pair is.
 const SLOTS: usize = 1_024;
 
-/// Pairs of symbols that are disjoint at a theorem, the lower first: those of its frame, and those
-/// that were looked up.
+/// Pairs of symbols that are disjoint at a theorem, the lower symbol first: those of its frame, and
+/// those that were looked up.
 #[derive(Drop)]
 pub struct Apart<A: Allocator> {
     pairs: Vec<(Sym, Sym), A>,
-    /// Where a pair may stand among them.
+    /// For each slot, where its pair may be in `pairs`.
     slots: Vec<u32, A>,
 }
 
@@ -50,7 +50,7 @@ impl<A: Allocator> Apart<A> {
         })
     }
 
-    /// Whether a pair is among them, the lower symbol first.
+    /// Whether the pair, with the lower symbol first, is in `pairs` where its slot says.
     #[inline(always)]
     fn has_pair(&self, low: Sym, high: Sym) -> bool
         ensures { result ≡ true
@@ -78,7 +78,7 @@ impl<A: Allocator> Apart<A> {
         }
     }
 
-    /// Keeps a pair of disjoint symbols, the lower first, as far as there is room.
+    /// Keeps a pair of disjoint symbols, the lower first, if there is room for it.
     fn keep_pair(&mut self, _db: &Database<A>, _theorem: u32, low: Sym, high: Sym)
         requires apart { AreApart _db.now.statements _theorem self.old }
         requires disjoint { are_disjoint (context_at _db.now.statements _theorem) low high ≡ true }
@@ -93,7 +93,7 @@ impl<A: Allocator> Apart<A> {
         }
     }
 
-    /// Keeps two disjoint symbols.
+    /// Keeps a pair of disjoint symbols, given in either order.
     pub fn keep(&mut self, db: &Database<A>, theorem: u32, s: Sym, t: Sym)
         requires apart { AreApart db.now.statements theorem self.old }
         requires disjoint { are_disjoint (context_at db.now.statements theorem) s t ≡ true }
@@ -106,7 +106,7 @@ impl<A: Allocator> Apart<A> {
         }
     }
 
-    /// Forgets all pairs, and keeps those of a theorem's frame.
+    /// Forgets all pairs, then keeps those of a theorem's frame.
     pub fn restart(&mut self, db: &Database<A>, theorem: u32)
         requires { is_assertion_at db.now.statements theorem ≡ true }
         ensures { AreApart db.now.statements theorem self.new }

@@ -1,4 +1,4 @@
-//! How the rule of an assertion is made.
+//! Compiling the rule of an assertion.
 
 ghost use Rattle.std.specs.Prelude.{◌≡◌, ◌<◌, ◌^◌, ◌++◌, ◌∷◌, [], ℕ, All, length, map, drop};
 ghost use Rattle.std.specs.Prelude.{nat_eq, get_or, slice_set, true, false, IfSome, IfNone, OnOk};
@@ -22,7 +22,8 @@ use mm_stmt::{Database, Sym};
 use std::alloc::{AllocError, Allocator};
 use std::marker::Model;
 
-/// The variable of a hypothesis `$f`.
+/// The variable of a hypothesis that has the form of a `$f`: a constant and a variable. `None` for
+/// any other hypothesis.
 fn variable_of<A: Allocator>(db: &Database<A>, h: u32) -> Option<Sym>
     requires { h < length db.now.statements }
     ensures some { IfSome result
@@ -58,7 +59,7 @@ fn number_of(numbers: &[u32], s: Sym) -> u32
     numbers[s.number() as usize]
 }
 
-/// Notes for each variable of a hypothesis `$f` the number of the first one.
+/// Sets the number of each variable that has a `$f` to the place of its first one in `hyps`.
 fn number_variables<A: Allocator>(db: &Database<A>, hyps: &[u32], numbers: &mut [u32])
     requires width { length numbers.old ≡ length (symbol_names db.now.statements) }
     requires hyps { All (λ h. h < length db.now.statements) hyps.now }
@@ -94,7 +95,7 @@ fn compile_symbol<A: Allocator>(db: &Database<A>, _hyps: &[u32], numbers: &[u32]
     }
 }
 
-/// Puts the parts of a formula after the others of a list.
+/// Appends the parts of a formula to `parts`.
 fn compile_formula<A: Allocator>(
     db: &Database<A>,
     hyps: &[u32],
@@ -119,7 +120,7 @@ fn compile_formula<A: Allocator>(
     Ok(())
 }
 
-/// Whether a hypothesis of a number is the first `$f` of its variable.
+/// Whether hypothesis `j`, which has this formula, is the first `$f` of its variable.
 fn is_first<A: Allocator>(
     db: &Database<A>,
     _hyps: &[u32],
@@ -144,7 +145,7 @@ fn is_first<A: Allocator>(
         && number_of(numbers, formula[1]) as usize == j
 }
 
-/// Makes what the hypotheses ask.
+/// Builds what the hypotheses require.
 fn compile_hypotheses<A: Allocator>(
     db: &Database<A>,
     hyps: &[u32],
@@ -187,7 +188,7 @@ fn compile_hypotheses<A: Allocator>(
     Ok(())
 }
 
-/// Makes the mandatory pairs of disjoint variables.
+/// Builds the mandatory pairs of disjoint variables.
 fn compile_pairs<A: Allocator>(
     _db: &Database<A>,
     _hyps: &[u32],
@@ -221,7 +222,7 @@ fn compile_pairs<A: Allocator>(
     Ok(())
 }
 
-/// What makes rules, one at a time, with the memory of those that it made before.
+/// Compiles rules, one at a time. It reuses the memory of the rules that it compiled before.
 #[derive(Drop)]
 pub struct RuleCompiler<A: Allocator> {
     /// The assertion of the last rule.
@@ -245,7 +246,7 @@ impl<A: Allocator> Model for RuleCompiler<A> {
 }
 
 impl<A: Allocator> RuleCompiler<A> {
-    /// A compiler of the rules of a database.
+    /// A compiler for the rules of a database.
     pub fn new(alloc: A, db: &Database<A>) -> Result<Self, AllocError>
     where
         A: Copy,
@@ -261,7 +262,7 @@ impl<A: Allocator> RuleCompiler<A> {
         })
     }
 
-    /// The rule that was made last.
+    /// The rule that was compiled last.
     pub fn rule(&self) -> Rule<'_>
         ensures { result ≡ self.now.rule }
     {
@@ -274,7 +275,7 @@ impl<A: Allocator> RuleCompiler<A> {
         }
     }
 
-    /// Makes the rule of an assertion.
+    /// Compiles the rule of assertion `k`.
     pub fn make(&mut self, db: &Database<A>, k: u32) -> Result<(), AllocError>
         requires assertion { is_assertion_at db.now.statements k ≡ true }
         requires complete { IsComplete (context_at db.now.statements 0)

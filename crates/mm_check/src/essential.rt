@@ -1,4 +1,4 @@
-//! The assertions that essential nodes of a proof have as their labels.
+//! The assertions that are the labels of essential nodes of a proof.
 
 ghost use Rattle.std.specs.Prelude.{◌≡◌, ◌<◌, ◌++◌, ◌∷◌, ◌||◌, ◌&&◌, [], ℕ, length, replicate};
 ghost use Rattle.std.specs.Prelude.{true, false, Decides, OnOk};
@@ -21,14 +21,13 @@ use mm_proof::{Step, Steps};
 use mm_stmt::Database;
 use std::alloc::{AllocError, Allocator};
 
-/// Which entries and which steps are essential, while the steps of a proof are gone through from
-/// the last to the first. It is kept from proof to proof for its memory.
+/// Which entries and which steps are essential, during a pass over the steps of a proof from last
+/// to first. It is kept from proof to proof so that its memory is reused.
 #[derive(Drop)]
 pub struct Flags<A: Allocator> {
-    /// Of each entry that stands on the stack after a step, from the lowest to the top: whether it
-    /// is essential.
+    /// For each entry on the stack after a step, from bottom to top: whether it is essential.
     waiting: Vec<bool, A>,
-    /// Of each step: whether an essential later one takes up the subproof that it ended.
+    /// For each step: whether an essential later step repeats the subproof that it ended.
     wanted: Vec<bool, A>,
 }
 
@@ -44,8 +43,8 @@ impl<A: Allocator> Flags<A> {
         }
     }
 
-    /// Leaves those of the noted assertions that are cited: all, or the labels of essential nodes
-    /// alone.
+    /// Leaves in `noted` the assertions that are cited: all, or with `essential` only the labels of
+    /// essential nodes.
     pub fn choose(
         &mut self,
         db: &Database<A>,
@@ -83,7 +82,7 @@ impl<A: Allocator> Flags<A> {
     }
 }
 
-/// One entry, which is essential, and so many steps that none takes up.
+/// Resets the flags to one entry, which is essential, and `count` steps that no step repeats.
 fn restart<A: Allocator>(
     count: usize,
     waiting: &mut Vec<bool, A>,
@@ -98,7 +97,7 @@ fn restart<A: Allocator>(
     wanted.resize(count, false)
 }
 
-/// Takes the flag on top.
+/// Pops the top flag.
 fn pop_flag<A: Allocator>(waiting: &mut Vec<bool, A>) -> bool
     requires { 0 < length waiting.old.items }
     ensures { waiting.old.items ≡ waiting.new.items ++ result ∷ [] }
@@ -118,8 +117,8 @@ fn flag_for<A: Allocator>(db: &Database<A>, h: u32, is_essential: bool) -> bool
     is_essential && is_essential_hypothesis(db, h)
 }
 
-/// Puts a flag on top for each child of a node with an assertion's label, by whether the node is
-/// essential.
+/// Pushes a flag for each child of a node whose label is assertion `k`. `is_essential` says whether
+/// the node is essential.
 fn push_flags<A: Allocator>(
     db: &Database<A>,
     k: u32,
@@ -136,8 +135,9 @@ fn push_flags<A: Allocator>(
     Ok(())
 }
 
-/// Undoes a step, whose own flag was taken: puts the flags of the entries that it took. Where the
-/// step is essential, its assertion is noted, or the step whose subproof it takes up is wanted.
+/// Undoes a step whose own flag was popped: pushes the flags of the entries that the step took. If
+/// the step is essential, notes its assertion, or sets `wanted` for the step whose subproof it
+/// repeats.
 fn undo<A: Allocator>(
     db: &Database<A>,
     step: Step,
@@ -179,9 +179,9 @@ fn undo<A: Allocator>(
     Ok(())
 }
 
-/// Notes the assertions of essential nodes, in one pass back over the steps: so at each step it is
-/// known whether the entry that it put is essential, and whether an essential later step takes its
-/// subproof up.
+/// Notes the assertions of essential nodes, in one pass over the steps from last to first. So when
+/// the pass reaches a step, the flags say whether the entry that it pushed is essential, and
+/// whether an essential later step repeats its subproof.
 fn walk_back<A: Allocator>(
     db: &Database<A>,
     theorem: u32,

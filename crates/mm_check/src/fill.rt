@@ -1,4 +1,4 @@
-//! Formulas that are written over others, in a list that has room for most.
+//! Writing formulas over earlier ones, in a list that has room for most formulas.
 
 ghost use Rattle.std.specs.Prelude.{◌≡◌, ◌≤◌, ◌++◌, ◌∷◌, [], All, length, take, IfSome};
 ghost use Rattle.mm_spec.specs.Limits.{formula_limit};
@@ -10,7 +10,7 @@ use crate::rule::Part;
 use mm_spec::FORMULA_LIMIT;
 use mm_stmt::Sym;
 
-/// Writes a symbol in a place, and tells the next one; none where there is no room.
+/// Writes a symbol at place `at` and returns the next place; `None` if there is no room.
 #[inline(always)]
 fn put_symbol(s: Sym, list: &mut [Sym], at: usize) -> Option<usize>
     requires { at ≤ length list.old }
@@ -24,8 +24,8 @@ fn put_symbol(s: Sym, list: &mut [Sym], at: usize) -> Option<usize>
     Some(at + 1)
 }
 
-/// Writes symbols from a place on, and tells the next one; none where there is no room. One is
-/// written without a copy.
+/// Writes symbols from place `at` on and returns the place after them; `None` if there is no room.
+/// A single symbol is written without a copy.
 #[inline(always)]
 fn put_text(text: &[Sym], list: &mut [Sym], at: usize) -> Option<usize>
     requires { at ≤ length list.old }
@@ -43,8 +43,8 @@ fn put_text(text: &[Sym], list: &mut [Sym], at: usize) -> Option<usize>
     Some(end)
 }
 
-/// Writes a formula with its variables replaced at the head of a list, and tells how long it is;
-/// none where there is no room or it is longer than the limit.
+/// Writes a formula with its variables replaced at the start of a list and returns its length;
+/// `None` if there is no room or if it is longer than the limit.
 #[inline(always)]
 pub fn fill(
     symbols: &Symbols,

@@ -1,4 +1,4 @@
-//! What is asked of the database.
+//! Queries to the database.
 
 ghost use Rattle.std.specs.Prelude.{◌≡◌, ◌<◌, ◌^◌, ℕ, All, length, map, true};
 ghost use Rattle.std.specs.List.{list_any};

@@ -12,8 +12,8 @@ use mm_proof::Step;
 use mm_stmt::Database;
 use std::alloc::{AllocError, Allocator};
 
-/// Whether a number stands among the noted ones where it is said to. Of one that doesn't, nothing
-/// is known.
+/// Whether `k` is in `noted` at the index that `places` gives for it. If it isn't, it may still be
+/// in `noted`.
 fn is_noted(places: &[u32], noted: &[u32], k: u32) -> bool
     ensures { result ≡ true → is_member noted.now k ≡ true }
 {
@@ -25,7 +25,7 @@ fn is_noted(places: &[u32], noted: &[u32], k: u32) -> bool
     place < noted.len() && noted[place] == k
 }
 
-/// Notes the assertion that a step applies, unless it stands where the places say.
+/// Notes the assertion that a step applies, unless it is in `noted` where `places` says.
 pub fn cite<A: Allocator>(
     db: &Database<A>,
     step: Step,
@@ -51,7 +51,7 @@ pub fn cite<A: Allocator>(
     Ok(())
 }
 
-/// Puts the numbers in rising order, each once.
+/// Sorts the numbers in ascending order and removes duplicates.
 pub fn sort_and_dedup<A: Allocator>(noted: &mut Vec<u32, A>)
     ensures rising { IsStrictlyIncreasing noted.new.items }
     ensures same { (a : ℕ) → is_member noted.new.items a ≡ is_member noted.old.items a }

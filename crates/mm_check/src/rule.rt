@@ -1,4 +1,4 @@
-//! What an assertion asks and gives, by the places of its hypotheses.
+//! What an assertion requires and what it yields, in terms of the places of its hypotheses.
 
 ghost use Rattle.std.specs.Prelude.{◌≡◌};
 
@@ -14,32 +14,33 @@ pub enum Part {
     Variable(u32),
 }
 
-/// From one place of a list up to another.
+/// A stretch of a list: from place `start` up to, but not including, place `end`.
 #[derive(Clone, Copy, PartialEq, Eq, Debug, Drop)]
 pub struct Stretch {
     pub start: usize,
     pub end: usize,
 }
 
-/// What a mandatory hypothesis asks of its premise.
+/// What a mandatory hypothesis requires of its premise.
 #[derive(Clone, Copy, PartialEq, Eq, Debug, Drop)]
 pub enum Hypothesis {
-    /// The typecode, where it is the first `$f` of its variable.
+    /// The typecode, if the hypothesis is the first `$f` of its variable.
     Floating(Sym),
-    /// The symbols, by a stretch of the rule's parts.
+    /// Otherwise the symbols, as a stretch of the rule's parts.
     Essential(Stretch),
 }
 
-/// What an assertion asks and gives: its frame, with each variable by the place of its `$f`.
+/// What an assertion requires and yields: its frame, with each variable given by the place of its
+/// `$f`.
 #[derive(Drop)]
 pub struct Rule<'a> {
-    /// The assertion, by its statement.
+    /// The number of the assertion's statement.
     pub assertion: u32,
     /// The mandatory hypotheses, in order.
     pub hypotheses: &'a [Hypothesis],
     /// The mandatory pairs of disjoint variables.
     pub pairs: &'a [(u32, u32)],
-    /// The symbols of the hypotheses that are no first `$f` of a variable.
+    /// The symbols of those hypotheses that aren't the first `$f` of a variable.
     pub parts: &'a [Part],
     /// The symbols of the assertion's formula.
     pub formula: &'a [Part],
@@ -55,7 +56,7 @@ impl<'a> Model for Rule<'a> {
 }
 
 impl<'a> Rule<'a> {
-    /// What the mandatory hypotheses ask, in order.
+    /// What the mandatory hypotheses require, in order.
     pub fn hypotheses(&self) -> &'a [Hypothesis]
         ensures { result.now ≡ self.now.hypotheses }
     {

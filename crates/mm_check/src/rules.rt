@@ -13,7 +13,7 @@ use mm_stmt::Database;
 use std::alloc::{AllocError, Allocator};
 use std::marker::Model;
 
-/// How many hypotheses, pairs and symbols the rules may have together before no more are made: so
+/// Once the rules have this many hypotheses, pairs and symbols together, no more rules are made. So
 /// frames that are much longer than the text aren't all held.
 const HELD: usize = 8_388_608;
 
@@ -27,8 +27,7 @@ pub struct RuleStretches {
     pub formula: Stretch,
 }
 
-/// The rules of the assertions of a database, as far as they are held: what the workers read
-/// together.
+/// The rules of the assertions of a database, as far as they are held. The workers share them.
 #[derive(Drop)]
 pub struct Rules<A: Allocator> {
     stretches: Vec<RuleStretches, A>,
@@ -36,7 +35,7 @@ pub struct Rules<A: Allocator> {
     pairs: Vec<(u32, u32), A>,
     /// The symbols of hypotheses and of formulas.
     parts: Vec<Part, A>,
-    /// For each statement the number that its rule may have.
+    /// For each statement, the number that its rule may have; `find` verifies it.
     numbers: Vec<u32, A>,
 }
 
@@ -48,7 +47,7 @@ impl<A: Allocator> Model for Rules<A> {
     ghost view = { λ r. lists r.stretches.items r.hypotheses.items r.pairs.items r.parts.items };
 }
 
-/// Puts elements after the others of a list, and tells where they stand.
+/// Appends elements to a list and returns the stretch that they occupy.
 fn put<T: Copy, A: Allocator>(list: &mut Vec<T, A>, more: &[T]) -> Result<Stretch, AllocError>
     ensures items { OnOk result (list.new.items ≡ list.old.items ++ more.now) }
     ensures start { IfOk result (λ s. s.start ≡ length list.old.items) }
@@ -78,7 +77,7 @@ impl<A: Allocator> Rules<A> {
         }
     }
 
-    /// The rules of the assertions of a database. It is refused where memory is.
+    /// The rules of the assertions of a database. Fails only if out of memory.
     pub fn new(alloc: A, database: &Database<A>) -> Result<Self, AllocError>
     where
         A: Copy,
@@ -93,7 +92,7 @@ impl<A: Allocator> Rules<A> {
         Ok(rules)
     }
 
-    /// Makes the rule of a statement and holds it, if that is an assertion and there is room.
+    /// Compiles and holds the rule of statement `k`, if this is an assertion and there is room.
     fn hold(
         &mut self,
         db: &Database<A>,
@@ -117,7 +116,7 @@ impl<A: Allocator> Rules<A> {
         self.add(db, compiler.rule())
     }
 
-    /// Whether one more rule is held.
+    /// Whether there is room for one more rule.
     fn has_room(&self) -> bool {
         let held = self.hypotheses.len().saturating_add(self.pairs.len());
         held.saturating_add(self.parts.len()) < HELD
@@ -145,7 +144,7 @@ impl<A: Allocator> Rules<A> {
         Ok(())
     }
 
-    /// The number of an assertion's rule, if that is held.
+    /// The number of an assertion's rule; `None` if the rule isn't held.
     pub fn find(&self, k: u32) -> Option<usize>
         ensures { IfSome result (λ n. IsRuleNumber self.now n k) }
     {
@@ -161,7 +160,7 @@ impl<A: Allocator> Rules<A> {
         }
     }
 
-    /// The rule of a number.
+    /// The rule with number `n`.
     pub fn rule(&self, _db: &Database<A>, n: usize) -> Rule<'_>
         requires rules { AreRules _db.now.statements self.now }
         requires stretches { n < length self.now.stretches }

@@ -15,12 +15,12 @@ theorem_at c i = slice_index c.theorems i
 abbrev pub list_at : Citing → ℕ → List ℕ
 list_at c i = slice_index_or c.cites i []
 
--- few statements, each above the one before it
+-- fewer than 2^31 statements, each greater than the one before it
 pub record IsRising (xs : List ℕ) : Type 0 where
   pub few : length xs < 2 ^ 31
   pub rises : (i j : ℕ) → i < j → j < length xs → slice_index xs i < slice_index xs j
 
--- a theorem cites what is earlier than it
+-- the theorems are in file order, and each has a list, which has only statements before its own
 pub record IsFileOrder (c : Citing) : Type 0 where
   pub rising : IsRising c.theorems
   pub each : length c.cites ≡ length c.theorems

@@ -1,4 +1,4 @@
-//! Lists of numbers, one after the other.
+//! Lists of numbers, concatenated.
 
 ghost use Rattle.std.specs.Prelude.{◌≡◌, ◌<◌, ◌++◌, ◌∷◌, [], OnOk, OnErr, length, slice_index_or};
 ghost use Rattle.std.specs.Prelude.{slice_range, ◌≤◌};
@@ -8,8 +8,8 @@ use std::alloc::{AllocError, Allocator};
 use std::marker::Model;
 
 /// A growing row of lists of numbers, as the layer that checks proofs keeps them: what each theorem
-/// cites, in the order in which the theorems were found valid. They stand one after the other in
-/// one list, with the place at which each ends, so a short list costs no memory of its own.
+/// cites, in the order in which the theorems were found valid. The lists are concatenated into one,
+/// with the place where each ends, so a short list costs no allocation of its own.
 #[derive(Drop)]
 pub struct Lists<A: Allocator> {
     numbers: Vec<u32, A>,
@@ -27,7 +27,7 @@ impl<A: Allocator> Model for Lists<A> {
     ghost invariant = { λ l. AreEnds 0 l.ends.items (length l.numbers.items) };
 }
 
-/// Where the list of this index begins.
+/// Where the list with this index begins.
 fn start(ends: &[usize], index: usize) -> usize
     requires { index < length ends.now }
     ensures { result ≡ start_of ends.now index }
@@ -38,7 +38,7 @@ fn start(ends: &[usize], index: usize) -> usize
     }
 }
 
-/// A part of a list.
+/// The numbers from place `from` up to, but not including, place `to`.
 fn part(numbers: &[u32], from: usize, to: usize) -> &[u32]
     requires from { from ≤ to }
     requires to { to ≤ length numbers.now }
@@ -60,7 +60,7 @@ impl<A: Allocator> Lists<A> {
         }
     }
 
-    /// Puts a list after the others. It is refused only where memory is, and changes nothing then.
+    /// Appends a list. Fails only if out of memory, and then changes nothing.
     pub fn push(&mut self, list: &[u32]) -> Result<(), AllocError>
         ensures ok { OnOk result (self.new ≡ self.old ++ list.now ∷ []) }
         ensures err { OnErr result (self.new ≡ self.old) }
@@ -76,7 +76,7 @@ impl<A: Allocator> Lists<A> {
         }
     }
 
-    /// The list of this index, from 0.
+    /// The list with this index, counted from 0.
     pub fn get(&self, index: usize) -> &[u32]
         requires { index < length self.now }
         ensures { result.now ≡ slice_index_or self.now index [] }

@@ -13,7 +13,7 @@ abbrev pub has_symbol : List Statement → ℕ → ℕ → Bool
 has_symbol db x j =
     list_any is_disjoint_statement (statement_at db j) && is_member (formula_at db j) x
 
--- statement j stands before k, and its block is open there
+-- statement j is before k, and its block is open there
 abbrev pub is_live : Lists → ℕ → ℕ → Bool
 is_live b j k = nat_lt j k && nat_le k (end_of b j)
 
@@ -24,15 +24,16 @@ AreKnown b ps =
     → ((get_or ps p (0, 0)).1 < length b.of)
     × (get_or b.of (get_or ps p (0, 0)).1 0 < length b.ends)
 
--- one pair has the symbol of another, and a block that ends no later
+-- pair p has the symbol of pair q, and a block that ends no later
 abbrev pub IsCovered : Lists → ℕ × ℕ → ℕ × ℕ → Type 0
 IsCovered b p q = (p.0 ≡ q.0) × (end_of b p.1 ≤ end_of b q.1)
 
--- from each pair a way back over pairs that it covers
+-- the pairs with the indices from `first` to q are covered by the pair with index q
 abbrev pub Covers : Lists → List (ℕ × ℕ) → ℕ → ℕ → Type 0
 Covers b ps first q =
     (p : ℕ) → first ≤ p → p ≤ q → IsCovered b (get_or ps p (0, 0)) (get_or ps q (0, 0))
 
+-- for each pair an index from which on it covers the pairs up to it
 pub record AreSkips (b : Lists) (ps : List (ℕ × ℕ)) (skips : List ℕ) : Type 0 where
   pub count : length skips ≡ length ps
   pub within : (q : ℕ) → q < length ps → get_or skips q 0 ≤ q

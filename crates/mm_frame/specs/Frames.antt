@@ -7,14 +7,14 @@ use Rattle.mm_spec.specs.Derivation.{Pair}
 use Rattle.mm_spec.specs.Frame.{mandatory_hypotheses, mandatory_pairs}
 use Rattle.mm_spec.specs.Citation.{is_assertion}
 
--- the frame of an assertion; nothing is asked where there is none
+-- the frame of an assertion; nothing is required if statement k isn't one
 pub record IsFrame (db : List Statement) (k : ℕ) (hyps : List ℕ) (pairs : List Pair) : Type 0 where
   pub hypotheses : list_any is_assertion (statement_at db k) ≡ true
       → hyps ≡ mandatory_hypotheses db k
   pub disjoint : list_any is_assertion (statement_at db k) ≡ true → pairs ≡ mandatory_pairs db k
 
--- the frames of the assertions among the first k statements: for each statement the place of its
--- own, where it is one
+-- the frames of the assertions among the first k statements, and for each statement the place of
+-- its frame, if it is an assertion
 pub record AreFramesUpTo (db : List Statement) (k : ℕ) (places : List ℕ) (hyps : List (List ℕ))
     (pairs : List (List Pair)) : Type 0 where
   pub count : length places ≡ k

@@ -1,4 +1,4 @@
--- What a walk over the statements keeps of symbols.
+-- What a walk over the statements keeps for symbols.
 use Rattle.std.specs.Prelude.{◌≡◌, ◌≢◌, ℕ, ◌<◌, ◌≤◌, Bool, true, ◌&&◌, not, List, length}
 use Rattle.std.specs.Prelude.{slice_index, nat_eq, Some}
 use Rattle.mm_spec.specs.Statement.{Statement}

@@ -12,22 +12,22 @@ module _ (test : Statement → Bool) (db : List Statement) where
   abbrev pub is_on : ℕ → ℕ → Bool
   is_on j k = list_any test (statement_at db j) && stays db j k
 
-  -- no later one is active; it may be none
+  -- no statement of the kind after `last` is active at k; `last` may be `never`, for none
   pub record IsCandidate (k last : ℕ) : Type 0 where
     pub found : last ≢ never → (last < k) × (list_any test (statement_at db last) ≡ true)
     pub after : (i : ℕ) → i < k → (last < i) ⊎ (last ≡ never) → is_on i k ≡ false
 
-  -- and it is active
+  -- the same, and `last` is active at k
   pub record IsLatest (k last : ℕ) : Type 0 where
     pub found : last ≢ never → (last < k) × (is_on last k ≡ true)
     pub after : (i : ℕ) → i < k → (last < i) ⊎ (last ≡ never) → is_on i k ≡ false
 
-  -- at each statement and at the end
+  -- the last one that is active at each statement and at the end
   pub record AreLatest (lasts : List ℕ) : Type 0 where
     pub count : length lasts ≡ length db + 1
     pub each : (k : ℕ) → k ≤ length db → IsLatest k (slice_index lasts k)
 
-  -- those that are active at k and after the last one are listed
+  -- the list has only ones that are active at k, and all of these that are after `last`
   pub record IsWalked (k : ℕ) (xs : List ℕ) (last : ℕ) : Type 0 where
     pub found : last ≢ never → (last < k) × (is_on last k ≡ true)
     pub only : (i : ℕ) → is_member xs i ≡ true → (i < k) × (is_on i k ≡ true)

@@ -1,12 +1,12 @@
 -- Where the pairs of each symbol begin.
 use Rattle.std.specs.Prelude.{ℕ, ◌<◌, ◌≤◌, List, length, get_or}
 
--- so many pairs are of symbols before x, and all after them are of x or a later one
+-- the first `start` pairs are of symbols before x, and all after them are of x or a later symbol
 pub record IsStart (ps : List (ℕ × ℕ)) (x start : ℕ) : Type 0 where
   pub within : start ≤ length ps
   pub before : (p : ℕ) → p < start → (get_or ps p (0, 0)).0 < x
   pub after : (p : ℕ) → start ≤ p → p < length ps → x ≤ (get_or ps p (0, 0)).0
 
--- the starts of all symbols; past the last of these there are no pairs
+-- the starts of all symbols; symbols past the end of the list have no pairs
 abbrev pub AreStarts : List (ℕ × ℕ) → List ℕ → Type 0
 AreStarts ps starts = (x : ℕ) → IsStart ps x (get_or starts x (length ps))

@@ -1,4 +1,4 @@
-//! The last active `$e` at each statement: from it the others are found, since blocks are nested.
+//! The last active `$e` at each statement. The others are found from it, since blocks are nested.
 
 ghost use Rattle.std.specs.Prelude.{◌≡◌, ◌<◌, ◌≤◌, ℕ, IfOk, OnOk, length, slice_index};
 ghost use Rattle.mm_spec.specs.Derivation.{is_member};
@@ -9,7 +9,7 @@ use crate::tables::Tables;
 use mm_outline::blocks::NEVER;
 use std::alloc::{AllocError, Allocator};
 
-/// The last one that is active, from a candidate on.
+/// Returns the last `$e` that is active at `at`, or `NEVER`. Goes back from the candidate `first`.
 fn last_open<A: Allocator>(tables: &Tables<A>, latest: &[u32], first: u32, at: u32) -> u32
     requires at { at ≤ length tables.now }
     requires long { at ≤ length latest.now }
@@ -25,7 +25,7 @@ fn last_open<A: Allocator>(tables: &Tables<A>, latest: &[u32], first: u32, at: u
     last
 }
 
-/// For each statement and for the end the last `$e` that is active there, or `NEVER`.
+/// Returns, for each statement and for the end, the last `$e` that is active there, or `NEVER`.
 pub(crate) fn latest_essentials<A: Allocator + Copy>(
     alloc: A,
     tables: &Tables<A>,
@@ -46,7 +46,7 @@ pub(crate) fn latest_essentials<A: Allocator + Copy>(
     Ok(latest)
 }
 
-/// The `$e` that are active, in some order.
+/// Lists the `$e` that are active at `at`, in some order. Replaces what `into` has.
 pub(crate) fn active_essentials<A: Allocator>(
     tables: &Tables<A>,
     latest: &[u32],

@@ -15,7 +15,7 @@ use mm_outline::blocks::Blocks;
 use mm_outline::symbol::Sym;
 use std::alloc::{AllocError, Allocator};
 
-/// Adds the pairs of the variable at a place and those after it that stand in the same statement.
+/// Appends the pairs of the variable at `place` and those after it that are in the same statement.
 fn add_later_pairs<A: Allocator>(
     had: &[(u32, u32)],
     place: usize,
@@ -38,7 +38,8 @@ fn add_later_pairs<A: Allocator>(
     Ok(())
 }
 
-/// Adds all pairs of variables that stand in the same statement, the lower first.
+/// Appends all pairs of variables that are in the same statement, the lower variable first. `had`
+/// has statements, each paired with variables that it has.
 fn add_together<A: Allocator>(
     had: &[(u32, u32)],
     pairs: &mut Vec<(u32, u32), A>,
@@ -56,7 +57,7 @@ fn add_together<A: Allocator>(
     Ok(())
 }
 
-/// Adds the `$d` that are active at a place, each with those of the symbols that it has.
+/// Appends the `$d` that are active at `at`, each paired with those of the symbols that it has.
 fn add_all_active<A: Allocator>(
     blocks: &Blocks<A>,
     disjoint_index: &DisjointIndex<A>,
@@ -86,7 +87,7 @@ fn add_all_active<A: Allocator>(
     Ok(())
 }
 
-/// The pairs by their symbols.
+/// Returns the pairs of numbers as pairs of symbols.
 fn symbols_of<A: Allocator + Copy>(
     alloc: A,
     pairs: &[(u32, u32)],
@@ -101,9 +102,9 @@ fn symbols_of<A: Allocator + Copy>(
     Ok(symbols)
 }
 
-/// The mandatory pairs of an assertion, by its mandatory variables. This costs a step for each
-/// active `$d` of each of them, and one for each pair in each of these. The two lists are taken for
-/// these, and what they had is let go.
+/// Returns the mandatory pairs of an assertion, by its mandatory variables `found`. The cost is one
+/// step for each active `$d` of each of these variables, and one for each pair in each of these
+/// `$d`. `had` and `together` are filled with these; what they had before is removed.
 pub(crate) fn pairs_of<A: Allocator + Copy>(
     alloc: A,
     tables: &Tables<A>,
@@ -125,7 +126,7 @@ pub(crate) fn pairs_of<A: Allocator + Copy>(
     ensures { IfOk result
         (λ v. map (λ p. pair p.0 p.1) v.items ≡ mandatory_pairs tables.now assertion) }
 {
-    // The contract alone speaks of it.
+    // Only the contract needs the tables.
     let _ = tables;
     had.clear();
     add_all_active(blocks, disjoint_index, found, assertion, had)?;

@@ -1,5 +1,5 @@
-//! The `$d` statements by their variables: what a question costs depends on the `$d` of the
-//! variables that it names, not on all that are active.
+//! The `$d` statements by their variables. The cost of a lookup depends on the `$d` of the
+//! variables that it names, and not on all that are active.
 
 ghost use Rattle.std.specs.Prelude.{◌≡◌, ◌≢◌, ◌<◌, ◌≤◌, ◌+◌, ◌-◌, ◌&&◌, ◌||◌, ℕ, IfOk, OnOk};
 ghost use Rattle.std.specs.Prelude.{length, get_or, nat_eq, nat_lt, nat_le, true, false};
@@ -19,18 +19,18 @@ use std::alloc::{AllocError, Allocator};
 /// The `$d` statements by their variables.
 #[derive(Drop)]
 pub struct DisjointIndex<A: Allocator> {
-    /// Each variable with each `$d` that has it, rising.
+    /// Each variable with each `$d` that has it, in ascending order.
     pub pairs: Vec<(u32, u32), A>,
-    /// For each of these an earlier one, or itself: from there up to it all are of its variable,
-    /// and of blocks that end no later than its own. So where its block is closed, all these are
-    /// passed over at once.
+    /// For each pair the index of an earlier one, or its own. All pairs from there up to it have
+    /// its variable, and their blocks end no later than its own. So if its block is closed, all of
+    /// them are skipped at once.
     pub skips: Vec<usize, A>,
-    /// For each symbol up to the last that has pairs, how many pairs are of symbols before it.
+    /// For each symbol up to the last that has pairs, the number of pairs of symbols before it.
     starts: Vec<usize, A>,
     ghost starts_are: { AreStarts pairs.items starts.items },
 }
 
-/// Puts the pairs in order, each once.
+/// Sorts the pairs, and removes duplicates.
 pub(crate) fn sort_and_dedup<A: Allocator>(pairs: &mut Vec<(u32, u32), A>)
     ensures rising { AreRising pairs.new.items }
     ensures same { (x y : ℕ) → has_pair pairs.new.items x y ≡ has_pair pairs.old.items x y }
@@ -39,7 +39,7 @@ pub(crate) fn sort_and_dedup<A: Allocator>(pairs: &mut Vec<(u32, u32), A>)
     pairs.dedup();
 }
 
-/// Adds each symbol with the statement.
+/// Appends each symbol, paired with the statement.
 fn add_symbols<A: Allocator>(
     symbols: &[Sym],
     statement: u32,
@@ -56,7 +56,7 @@ fn add_symbols<A: Allocator>(
     Ok(())
 }
 
-/// Each variable with each `$d` that has it.
+/// Returns each variable with each `$d` that has it, in ascending order.
 fn pairs_by_symbol<A: Allocator + Copy>(
     alloc: A,
     tables: &Tables<A>,
@@ -74,7 +74,7 @@ fn pairs_by_symbol<A: Allocator + Copy>(
     Ok(pairs)
 }
 
-/// Whether a pair has the symbol of another, and a block that ends no later.
+/// Whether `pair` has the symbol of the pair `by`, and a block that ends no later.
 fn is_covered<A: Allocator>(blocks: &Blocks<A>, pair: (u32, u32), by: (u32, u32)) -> bool
     requires pair { (pair.1 < length blocks.now.of.items)
         × (get_or blocks.now.of.items pair.1 0 < length blocks.now.ends.items) }
@@ -89,7 +89,7 @@ fn is_covered<A: Allocator>(blocks: &Blocks<A>, pair: (u32, u32), by: (u32, u32)
     pair.0 == by.0 && blocks.end_of(pair.1) <= blocks.end_of(by.1)
 }
 
-/// For each pair how far back all are covered by it.
+/// Returns for each pair the index from which on all pairs up to it are covered by it.
 fn skips_of<A: Allocator + Copy>(
     alloc: A,
     blocks: &Blocks<A>,
@@ -113,7 +113,7 @@ fn skips_of<A: Allocator + Copy>(
     Ok(skips)
 }
 
-/// For each symbol up to the last that has pairs, how many pairs are of symbols before it.
+/// Returns for each symbol up to the last that has pairs the number of pairs of symbols before it.
 fn starts_of<A: Allocator + Copy>(
     alloc: A,
     pairs: &[(u32, u32)],
@@ -130,7 +130,7 @@ fn starts_of<A: Allocator + Copy>(
     Ok(starts)
 }
 
-/// The `$d` statements by their variables.
+/// Returns the index of the `$d` statements by their variables.
 pub(crate) fn disjoint_index_of<A: Allocator + Copy>(
     alloc: A,
     tables: &Tables<A>,
@@ -153,7 +153,7 @@ pub(crate) fn disjoint_index_of<A: Allocator + Copy>(
     })
 }
 
-/// How many pairs are of symbols before a symbol.
+/// Returns the number of pairs of symbols before a symbol.
 fn start_of(pairs: &[(u32, u32)], starts: &[usize], symbol: usize) -> usize
     requires { AreStarts pairs.now starts.now }
     ensures { IsStart pairs.now symbol result }
@@ -164,7 +164,7 @@ fn start_of(pairs: &[(u32, u32)], starts: &[usize], symbol: usize) -> usize
     }
 }
 
-/// How many pairs stand before that of the symbol and the place.
+/// Returns the number of pairs before the pair of `symbol` and `at`.
 fn count_before(pairs: &[(u32, u32)], starts: &[usize], symbol: u32, at: u32) -> usize
     requires rising { AreRising pairs.now }
     requires starts { AreStarts pairs.now starts.now }
@@ -183,7 +183,7 @@ fn count_before(pairs: &[(u32, u32)], starts: &[usize], symbol: u32, at: u32) ->
     from + earlier
 }
 
-/// Whether the last of so many pairs, if there is one, has the symbol.
+/// Whether the last of the first `left` pairs, if there is one, has the symbol.
 fn ends_with(pairs: &[(u32, u32)], left: usize, symbol: u32) -> bool
     requires { left ≤ length pairs.now }
     ensures some { result ≡ true → (0 < left) × ((get_or pairs.now (left - 1) (0, 0)).0 ≡ symbol) }
@@ -192,8 +192,8 @@ fn ends_with(pairs: &[(u32, u32)], left: usize, symbol: u32) -> bool
     left > 0 && pairs[left - 1].0 == symbol
 }
 
-/// How many pairs are left without the last of so many: it is passed over, and with it what it
-/// covers where its block is closed.
+/// Returns how many of the first `left` pairs remain after the last of them is skipped. If its
+/// block is closed at `at`, the pairs that it covers are skipped with it.
 fn back<A: Allocator>(
     blocks: &Blocks<A>,
     disjoint_index: &DisjointIndex<A>,
@@ -222,7 +222,7 @@ fn back<A: Allocator>(
     }
 }
 
-/// Adds the `$d` that are active at a place and have the symbol, each with the symbol.
+/// Appends the `$d` that are active at `at` and have the symbol, each paired with the symbol.
 pub(crate) fn add_active<A: Allocator>(
     blocks: &Blocks<A>,
     disjoint_index: &DisjointIndex<A>,
@@ -259,7 +259,7 @@ pub(crate) fn add_active<A: Allocator>(
     Ok(())
 }
 
-/// Whether a `$d` that is active at a place has both symbols.
+/// Whether a `$d` that is active at `at` has both symbols.
 #[inline(never)]
 pub fn are_together<A: Allocator>(
     blocks: &Blocks<A>,

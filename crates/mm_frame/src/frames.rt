@@ -24,11 +24,12 @@ use std::alloc::{AllocError, Allocator};
 pub struct Frame<A: Allocator> {
     /// The mandatory hypotheses, by their statements, in order of appearance.
     pub hyps: Vec<u32, A>,
-    /// The mandatory pairs of disjoint variables: the lower symbol first, rising, each once.
+    /// The mandatory pairs of disjoint variables: the lower symbol first, in ascending order, each
+    /// once.
     pub pairs: Vec<(Sym, Sym), A>,
 }
 
-/// The value so many times.
+/// Returns a list that has `value` the given number of times.
 fn filled<A: Allocator + Copy>(alloc: A, value: u32, count: u32) -> Result<Vec<u32, A>, AllocError>
     ensures count { IfOk result (λ v. length v.items ≡ count) }
     ensures each { IfOk result (λ v. (i : ℕ) → i < count → slice_index v.items i ≡ value) }
@@ -40,7 +41,7 @@ fn filled<A: Allocator + Copy>(alloc: A, value: u32, count: u32) -> Result<Vec<u
     Ok(all)
 }
 
-/// The variable of a `$f` has that type from here on.
+/// Notes the statement, if it is a `$f`, as the last `$f` of its variable.
 fn give_type<A: Allocator>(tables: &Tables<A>, statement: u32, typed: &mut Vec<u32, A>)
     requires sound { IsSound tables.now }
     requires statement { statement < length tables.now }
@@ -52,16 +53,16 @@ fn give_type<A: Allocator>(tables: &Tables<A>, statement: u32, typed: &mut Vec<u
     }
 }
 
-/// The frames of assertions, one after the other, and for each statement how many stand before it:
-/// that is the place of its own, where it is an assertion.
+/// The frames of the assertions in file order, and for each statement the number of frames before
+/// it, which is the place of its own frame if it is an assertion.
 #[derive(Drop)]
 pub struct Frames<A: Allocator> {
     pub list: Vec<Frame<A>, A>,
     pub places: Vec<u32, A>,
 }
 
-/// Lists that one assertion uses after another: the marks of the symbols, the variables, the
-/// hypotheses, and the active `$d` of the variables.
+/// Lists that are reused for each assertion: the marks of the symbols, the variables, the
+/// hypotheses, the active `$d` of the variables, and the pairs of variables in these `$d`.
 #[derive(Drop)]
 struct Scratch<A: Allocator> {
     seen: Vec<u32, A>,
@@ -71,7 +72,7 @@ struct Scratch<A: Allocator> {
     together: Vec<(u32, u32), A>,
 }
 
-/// The numbers, in a list that has room for no more.
+/// Returns the numbers in a list without spare capacity.
 fn copied<A: Allocator + Copy>(alloc: A, numbers: &[u32]) -> Result<Vec<u32, A>, AllocError>
     ensures { IfOk result (λ v. v.items ≡ numbers.now) }
 {
@@ -80,7 +81,7 @@ fn copied<A: Allocator + Copy>(alloc: A, numbers: &[u32]) -> Result<Vec<u32, A>,
     Ok(own)
 }
 
-/// The frame of an assertion.
+/// Returns the frame of an assertion.
 fn frame_of<A: Allocator + Copy>(
     alloc: A,
     tables: &Tables<A>,
@@ -129,7 +130,7 @@ fn frame_of<A: Allocator + Copy>(
     Ok(Frame { hyps, pairs })
 }
 
-/// Adds the frame of a statement, where it is an assertion.
+/// Appends the place of a statement's frame, and the frame if the statement is an assertion.
 fn add_frame<A: Allocator + Copy>(
     alloc: A,
     tables: &Tables<A>,
@@ -178,7 +179,7 @@ fn add_frame<A: Allocator + Copy>(
     Ok(())
 }
 
-/// The frames of the assertions.
+/// Returns the frames of the assertions.
 pub(crate) fn frames_of<A: Allocator + Copy>(
     alloc: A,
     tables: &Tables<A>,
@@ -231,7 +232,7 @@ pub struct Beside<A: Allocator> {
     pub frames: Frames<A>,
 }
 
-/// All that is kept beside lawful statements.
+/// Returns all that is kept beside lawful statements.
 pub fn gather<A: Allocator + Copy>(
     alloc: A,
     tables: &Tables<A>,

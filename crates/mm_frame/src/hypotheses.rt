@@ -17,7 +17,7 @@ use mm_outline::blocks::NEVER;
 use mm_outline::symbol::Sym;
 use std::alloc::{AllocError, Allocator};
 
-/// Marks and lists a variable, unless it is marked.
+/// Marks and lists a symbol if it is a variable and isn't marked yet.
 fn mark<A: Allocator>(
     tables: &Tables<A>,
     symbol: Sym,
@@ -112,7 +112,7 @@ fn mandatory<A: Allocator>(
     Ok(())
 }
 
-/// Adds the active `$f` statements of the variables.
+/// Appends the active `$f` statements of the variables.
 fn add_floats<A: Allocator>(
     tables: &Tables<A>,
     typed: &[u32],
@@ -140,7 +140,7 @@ fn add_floats<A: Allocator>(
     Ok(())
 }
 
-/// Puts the numbers in rising order, each once.
+/// Sorts the numbers in ascending order, and removes duplicates.
 fn sort_and_dedup<A: Allocator>(numbers: &mut Vec<u32, A>)
     ensures rising { IsStrictlyIncreasing numbers.new.items }
     ensures same { (a : ℕ) → is_member numbers.new.items a ≡ is_member numbers.old.items a }
@@ -149,7 +149,8 @@ fn sort_and_dedup<A: Allocator>(numbers: &mut Vec<u32, A>)
     numbers.dedup();
 }
 
-/// The mandatory hypotheses of an assertion, and its mandatory variables, which are marked.
+/// Lists the mandatory hypotheses of an assertion in `hyps` and its mandatory variables in `found`,
+/// and marks these variables. Replaces what the two lists have.
 pub(crate) fn hypotheses<A: Allocator>(
     tables: &Tables<A>,
     essentials: &[u32],

@@ -1,7 +1,7 @@
-//! Frames. This layer knows lawful statements with their blocks and the numbers of their symbols,
-//! and finds for each assertion its mandatory hypotheses and its mandatory pairs of disjoint
-//! variables, and which `$d` have a variable. It promises that frames are those of the definitions
-//! (`Rattle.mm_frame.specs.Frames.AreFrames`).
+//! Frames. This layer knows lawful statements with their blocks and the numbers of their symbols.
+//! It finds for each assertion the mandatory hypotheses and the mandatory pairs of disjoint
+//! variables, and for each variable the `$d` that contain it. It promises that frames are those of
+//! the definitions (`Rattle.mm_frame.specs.Frames.AreFrames`).
 #![tactic(auto)]
 
 pub mod active;

@@ -1,5 +1,5 @@
 //! The statements of a text with their blocks and the numbers of their symbols: what a walk over
-//! them asks.
+//! them requires.
 
 ghost use Rattle.std.specs.Prelude.{All, ◌≡◌, ◌<◌, ◌≤◌, ◌^◌, ℕ, List, length};
 ghost use Rattle.std.specs.List.{list_any};
@@ -19,7 +19,7 @@ use mm_spec::Word;
 use std::alloc::Allocator;
 use std::marker::Model;
 
-/// The statements, lent, with what is known of them.
+/// The statements, borrowed, with what is known of them.
 #[derive(Drop)]
 pub struct Tables<'s, A: Allocator> {
     text: &'s [u8],
@@ -48,7 +48,7 @@ impl<'s, A: Allocator> Model for Tables<'s, A> {
 }
 
 impl<'s, A: Allocator> Tables<'s, A> {
-    /// The tables of lawful statements.
+    /// Returns the tables of lawful statements.
     pub fn new(
         text: &'s [u8],
         tokens: &'s [Word],
@@ -79,7 +79,7 @@ impl<'s, A: Allocator> Tables<'s, A> {
         }
     }
 
-    /// How many statements there are.
+    /// Returns the number of statements.
     pub(crate) fn len(&self) -> u32
         ensures len { result ≡ length self.now }
         ensures sound { IsSound self.now }
@@ -87,7 +87,7 @@ impl<'s, A: Allocator> Tables<'s, A> {
         self.outlines.len() as u32
     }
 
-    /// How many symbols there are.
+    /// Returns the number of symbols.
     pub(crate) fn symbol_count(&self) -> u32
         ensures count { result ≡ length (symbol_names self.now) }
         ensures few { result < 2 ^ 31 }
@@ -139,7 +139,7 @@ impl<'s, A: Allocator> Tables<'s, A> {
         }
     }
 
-    /// The symbols of a statement.
+    /// Returns the symbols of a statement.
     pub(crate) fn formula(&self, statement: u32) -> &[Sym]
         requires { statement < length self.now }
         ensures formula { result.now ≡ formula_at self.now statement }
@@ -150,7 +150,7 @@ impl<'s, A: Allocator> Tables<'s, A> {
         &self.numbers[from..to]
     }
 
-    /// The variable that a `$f` types.
+    /// Returns the variable that a `$f` types, or `None` if the statement isn't a `$f`.
     pub(crate) fn typed(&self, statement: u32) -> Option<Sym>
         requires { statement < length self.now }
         ensures { result ≡ typed_at self.now statement }

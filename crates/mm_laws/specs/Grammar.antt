@@ -13,7 +13,7 @@ pub data Item : Type 0 where
   Single : Word → Item
   Comment : Word → List Word → Word → Item
 
--- an open comment at the end: `$(` and words, or none
+-- a comment that is open at the end: `$(` and words, or none
 abbrev pub Rest : Type 0
 Rest = Option (Word × List Word)
 
@@ -42,8 +42,8 @@ abbrev pub tokens_in : Item → List Word
 tokens_in (Single w) = w ∷ []
 tokens_in (Comment o ws c) = []
 
--- The words are a row of tokens and comments, at whose end a comment may be open; these are the
--- tokens, and there that comment begins.
+-- The words are a row of tokens and comments, at whose end a comment may be open. `tokens` are the
+-- tokens, and `comment` is the place where that comment begins, if there is one.
 pub record IsWellBegun (text : List ℕ) (ws : List Word) (tokens : List Word)
     (comment : Option ℕ) : Type 0 where
   pub items : List Item
@@ -54,8 +54,8 @@ pub record IsWellBegun (text : List ℕ) (ws : List Word) (tokens : List Word)
   pub same_tokens : tokens ≡ flat_map tokens_in items
   pub same_comment : comment ≡ option_map (λ p. p.0.start) rest
 
--- w is the first word such that the words up to it aren't well begun: those before it are, with
--- these tokens and that open comment, and with it they aren't.
+-- w is the first word such that the words up to and including it aren't well begun: those before it
+-- are, with these tokens and this open comment, and with it they aren't.
 pub record IsFaulty (text : List ℕ) (ws : List Word) (w : Word) (tokens : List Word)
     (comment : Option ℕ) : Type 0 where
   pub before : List Word

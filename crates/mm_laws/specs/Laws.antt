@@ -21,7 +21,7 @@ use Rattle.mm_spec.specs.Request.{Request}
 use Rattle.mm_spec.specs.Output.{LexedText, IsRead, ProofFault, end_of, is_theorem_at, FirstFault}
 use Rattle.mm_spec.specs.Output.{HasNoFault, IsOutput}
 
--- what holds at each place of the statements that are read of any text
+-- P holds at each place k of the statements that are read from any text
 abbrev pub WhereRead : (List Statement → ℕ → Type 0) → Type 0
 WhereRead P =
     (len : ℕ) (x : LexedText) (db : List Statement) (fault : Option Fault) → IsRead len x db fault
@@ -40,26 +40,26 @@ VariablesAreTyped db k = IsTrue (list_any is_assertion (statement_at db k))
     → (x : ℕ) → IsTrue (is_member (mandatory_variables db k) x)
     → (j : ℕ) × IsTrue (is_member (mandatory_hypotheses db k) j) × IsTyping db j x
 
--- whether a symbol stands in the frame of statement k: in its formula, in a mandatory hypothesis,
+-- whether a symbol occurs in the frame of statement k: in its formula, in a mandatory hypothesis,
 -- or in a mandatory pair
 abbrev pub is_in_frame : List Statement → ℕ → ℕ → Bool
 is_in_frame db k x = is_member (formula_at db k) x
     || (list_any (λ j. is_member (formula_at db j) x) (mandatory_hypotheses db k)
     || list_any (λ p. (x == p.low) || (x == p.high)) (mandatory_pairs db k))
 
--- the mandatory variables of an assertion are the variables that stand in its frame
+-- the mandatory variables of an assertion are the variables that occur in its frame
 abbrev pub VariablesAreMandatory : List Statement → ℕ → Type 0
 VariablesAreMandatory db k = IsTrue (list_any is_assertion (statement_at db k)) → (x : ℕ)
     → IsTrue (is_member (mandatory_variables db k) x)
     ↔ (IsTrue (is_variable_number db x) × IsTrue (is_in_frame db k x))
 
--- the same labels, the same row of derivations
+-- rows of derivations with the same labels in postfix order are the same
 abbrev pub LabelsDetermine : List Statement → ℕ → Type 0
 LabelsDetermine db k =
     (r s : Trees) → AreDerivations (context_at db k) r → AreDerivations (context_at db k) s
     → postfix r ≡ postfix s → r ≡ s
 
--- a theorem has one derivation at most
+-- a theorem has at most one proof
 abbrev pub ProofIsUnique : List Statement → ℕ → Type 0
 ProofIsUnique db k = (d e : Trees) → IsProof db k d → IsProof db k e → d ≡ e
 
@@ -76,49 +76,49 @@ IsNeverBoth db k = (f : Fault) → IsValid db k → ¬ IsFaultOf db k f
 abbrev pub FaultIsUnique : List Statement → ℕ → Type 0
 FaultIsUnique db k = (f g : Fault) → IsFaultOf db k f → IsFaultOf db k g → f ≡ g
 
--- what is written for a text is one
+-- a text has at most one output for a request
 abbrev pub OutputIsUnique : Type 0
 OutputIsUnique =
     (text : List ℕ) (request : Request) (a b : List ℕ) → IsOutput text request a
     → IsOutput text request b → a ≡ b
 
--- reading gives something
+-- the text is read: as some statements, with a fault or without one
 abbrev pub IsReadable : ℕ → LexedText → Type 0
 IsReadable len x = (db : List Statement) × (fault : Option Fault) × IsRead len x db fault
 
--- there is a first fault, or none at all
+-- the text has a first fault, or none at all
 abbrev pub IsSoundOrFaulty : ℕ → LexedText → (with_open : Bool) → Type 0
 IsSoundOrFaulty len x with_open =
     ((f : Fault) × FirstFault len x with_open f)
     ⊎ ((db : List Statement) × HasNoFault len x with_open db)
 
--- one of the two truth values tells whether it holds
+-- one of the two truth values says whether P holds
 abbrev pub IsDecided : Type 0 → Type 0
 IsDecided P = (mark : Bool) × Decides mark P
 
--- where there is no fault, each cell is marked or not
+-- if there is no fault, each cell is marked or not
 abbrev pub AreDecided : ℕ → LexedText → (with_open : Bool) → Type 0
 AreDecided len x with_open =
     (db : List Statement) → HasNoFault len x with_open db → (by_essential : Bool) (t a : ℕ)
     → IsDecided (RestsOn (counted with_open db) by_essential t a)
 
--- something is written for each text
+-- each text has an output for each request
 abbrev pub OutputExists : Type 0
 OutputExists = (text : List ℕ) (request : Request) → (bytes : List ℕ) × IsOutput text request bytes
 
--- the words of a compressed proof part in one way
+-- the words of a compressed proof split into labels and letters in only one way
 abbrev pub PartsAreUnique : Type 0
 PartsAreUnique =
     (ts labels letters others more : List Token) → IsCompressed ts labels letters
     → IsCompressed ts others more → (labels ≡ others) × (letters ≡ more)
 
--- letters spell one row of items at most
+-- letters spell at most one row of items
 abbrev pub SpellingIsUnique : Type 0
 SpellingIsUnique =
     (letters : List ℕ) (items others : List Item) → Spells letters items → Spells letters others
     → items ≡ others
 
--- the letters of a proof spell some items
+-- the letters of a compressed proof spell a row of items, which isn't empty
 pub record IsSpelledOut (ts : List Token) : Type 0 where
   pub labels : List Token
   pub letters : List Token
@@ -127,7 +127,7 @@ pub record IsSpelledOut (ts : List Token) : Type 0 where
   pub spelled : Spells (letters_in letters) items
   pub some : items ≢ []
 
--- where reading finds no fault in a proof that begins with `(`, its letters spell some items
+-- if reading finds no fault in a proof that begins with `(`, its letters spell some items
 abbrev pub ProofsAreSpelled : Type 0
 ProofsAreSpelled =
     (db : List Statement) (k end : ℕ) (t : Token) (ts : List Token) → t.word ≡ codes "("
@@ -137,7 +137,7 @@ ProofsAreSpelled =
 abbrev pub bare_steps : List Statement → ℕ → List Token → List Step
 bare_steps db k ts = map (λ s. s.step) (steps db k ts)
 
--- the steps of a compressed proof are what the items say that its letters spell
+-- the steps of a compressed proof are those that the items name which its letters spell
 abbrev pub StepsAreNamed : List Statement → ℕ → Type 0
 StepsAreNamed db k =
     (end : ℕ) (ts labels letters : List Token) (items : List Item) → reading_faults db k end ts ≡ []
@@ -145,7 +145,7 @@ StepsAreNamed db k =
     → (js : List ℕ) × AllZip (λ t j. IsUsable db k t.word j) labels js
     × AreSteps (mandatory_hypotheses db k) js items (bare_steps db k ts)
 
--- items and labels say one row of steps at most
+-- hypotheses, labels and items name at most one row of steps
 abbrev pub NamedStepsAreUnique : Type 0
 NamedStepsAreUnique =
     (hypotheses labels : List ℕ) (items : List Item) (ss others : List Step)
@@ -159,18 +159,18 @@ StepsAreLabels db k =
     → AllZip (λ u s. (j : ℕ) × (s ≡ label j) × IsUsable db k u.word j) (t ∷ ts)
     (bare_steps db k (t ∷ ts))
 
--- where there is no fault, each theorem has a wave, and no other
+-- if there is no fault, each theorem has exactly one wave
 abbrev pub HaveWaves : ℕ → LexedText → (with_open : Bool) → Type 0
 HaveWaves len x with_open =
     (db : List Statement) → HasNoFault len x with_open db → (by_essential : Bool) (t : ℕ)
     → (n : ℕ) × IsWave (counted with_open db) by_essential t n
     × ((m : ℕ) → IsWave (counted with_open db) by_essential t m → m ≡ n)
 
--- what a theorem cites by the essential nodes of its proof, it cites
+-- what a theorem cites by the essential nodes of its proof, it cites by all nodes too
 abbrev pub EssentialIsCited : Type 0
 EssentialIsCited = (db : List Statement) (t a : ℕ) → Cites db true t a → Cites db false t a
 
--- without the flag each label of an assertion is cited
+-- without the flag a theorem cites exactly the assertions in the postfix list of its proof
 abbrev pub EachLabelIsCited : Type 0
 EachLabelIsCited =
     (db : List Statement) (t a : ℕ)
@@ -178,22 +178,21 @@ EachLabelIsCited =
     ↔ (IsTrue (list_any is_assertion (statement_at db a)) × (d : Trees) × IsProof db t d
     × IsTrue (is_member (postfix d) a))
 
--- reading finds no fault in a compressed proof that is well formed, and in no other
+-- reading finds no fault in exactly the compressed proofs that are well formed
 abbrev pub CompressedIsExact : List Statement → ℕ → Type 0
 CompressedIsExact db k =
     (end : ℕ) (t : Token) (ts : List Token) → t.word ≡ codes "("
     → (reading_faults db k end (t ∷ ts) ≡ []) ↔ IsWellSpelled db k (t ∷ ts)
 
--- reading finds no fault in a normal proof of which each word is a label that can be used, and in
--- no other
+-- reading finds no fault in exactly the normal proofs of usable labels, none of them `?`
 abbrev pub NormalIsExact : List Statement → ℕ → Type 0
 NormalIsExact db k = (end : ℕ) (t : Token) (ts : List Token) → t.word ≢ codes "("
     → (reading_faults db k end (t ∷ ts) ≡ [])
     ↔ AllByRecursion (λ u. (u.word ≢ codes "?") × ((j : ℕ) × IsUsable db k u.word j)) (t ∷ ts)
 
--- The words of a compressed proof are well formed, and say these steps: its labels in brackets are
--- those of statements js, and the steps are what its letters spell over these and the mandatory
--- hypotheses.
+-- The words of a compressed proof are well formed, and say these steps: the labels in brackets are
+-- those of the statements js, and the steps are what the numbers name that the letters spell, given
+-- these statements and the mandatory hypotheses.
 pub record SaysCompressed (db : List Statement) (k : ℕ) (ts : List Token)
     (ss : List Step) : Type 0 where
   pub well_spelled : IsWellSpelled db k ts
@@ -201,7 +200,8 @@ pub record SaysCompressed (db : List Statement) (k : ℕ) (ts : List Token)
   pub labels : AllZip (λ t j. IsUsable db k t.word j) well_spelled.labels js
   pub steps : AreSteps (mandatory_hypotheses db k) js well_spelled.items ss
 
--- each word of a normal proof is the label of a statement that can be used, and the steps are those
+-- each word of a normal proof is a usable label and none is `?`, and the steps are the statements
+-- with these labels
 abbrev pub SaysNormal : List Statement → ℕ → List Token → List Step → Type 0
 SaysNormal db k ts ss =
     AllZip (λ u s. (u.word ≢ codes "?") × ((j : ℕ) × (s ≡ label j) × IsUsable db k u.word j)) ts ss
@@ -223,7 +223,7 @@ pub record IsProved (db : List Statement) (k : ℕ) : Type 0 where
   pub derivation : Trees
   pub derives : Derives (context_at db k) steps (formula_at db k) derivation
 
--- the theorems of which that is so are the valid ones
+-- a theorem is valid exactly if this holds for it
 abbrev pub ValidOnTheMeaning : List Statement → ℕ → Type 0
 ValidOnTheMeaning db k = IsTrue (is_theorem_at db k) → IsValid db k ↔ IsProved db k
 
@@ -234,7 +234,7 @@ NumbersHaveOneSpelling =
     → (letters : List ℕ) × IsNumber letters n
     × ((others : List ℕ) → IsNumber others n → others ≡ letters)
 
--- where the letters of a number become more
+-- the first and the last numbers of one letter, two and three, and the first of four
 abbrev pub BookNumbers : Type 0
 BookNumbers =
     IsNumber (codes "A") 1 × IsNumber (codes "T") 20 × IsNumber (codes "UA") 21

@@ -1,5 +1,5 @@
--- What the letters of a compressed proof spell, and which steps its numbers name, as the book tells
--- it: no reading from left to right, only what stands where (Metamath book, Appendix B).
+-- What the letters of a compressed proof spell, and which steps its numbers name, as the book says
+-- it: by what is where, without a reading from left to right (Metamath book, Appendix B).
 use Rattle.std.specs.Prelude.{◌≡◌, ◌≢◌, ℕ, ◌+◌, ◌*◌, ◌^◌, ◌≤◌, Bool, true, false, List, [], ◌∷◌}
 use Rattle.std.specs.Prelude.{◌++◌, length, Some, slice_get, flat_map, count_by, ◌⊎◌, codes, IsTrue}
 use Rattle.std.specs.List.{list_any, AllByRecursion}
@@ -29,16 +29,16 @@ pub record IsLastDigit (letter digit : ℕ) : Type 0 where
   pub most : digit ≤ 20
   pub code : letter ≡ 64 + digit
 
--- earlier digits in base 5: each is worth itself times 5 to the power of how many letters stand
--- after it
+-- earlier digits in base 5: each is worth its own value times 5 to the power of the number of
+-- letters after it
 abbrev pub AreEarlyDigits : List ℕ → ℕ → Type 0
 AreEarlyDigits [] n = n ≡ 0
 AreEarlyDigits (letter ∷ letters) n =
     (digit : ℕ) × (rest : ℕ) × IsEarlyDigit letter digit × AreEarlyDigits letters rest
     × (n ≡ digit * 5 ^ length letters + rest)
 
--- the letters of a number: any earlier digits, and a last one; the value is that of the earlier
--- times 20, plus the last
+-- the letters of a number: any number of earlier digits, then a last one; the value is that of the
+-- earlier digits times 20, plus the last digit
 pub record IsNumber (letters : List ℕ) (n : ℕ) : Type 0 where
   pub early : List ℕ
   pub last : ℕ
@@ -54,14 +54,14 @@ abbrev pub IsSpelled : List ℕ → Item → Type 0
 IsSpelled letters (number n) = IsNumber letters n
 IsSpelled letters mark = letters ≡ 90 ∷ []
 
--- the letters are those of the items, one item after the other
+-- the letters are those of the items, concatenated
 abbrev pub Spells : List ℕ → List Item → Type 0
 Spells letters [] = letters ≡ []
 Spells letters (item ∷ items) =
     (first : List ℕ) × (rest : List ℕ) × (letters ≡ first ++ rest) × IsSpelled first item
     × Spells rest items
 
--- the letters in words, whatever white space is between these
+-- the letters of the words, whatever white space is between the words
 abbrev pub letters_in : List Token → List ℕ
 letters_in ts = flat_map (λ t. t.word) ts
 
@@ -84,7 +84,7 @@ abbrev pub is_mark : Item → Bool
 is_mark (number n) = false
 is_mark mark = true
 
--- Mark k stands just after step i, both from 0 on: k marks are before it, and the steps 0 to i.
+-- Mark k marks step i, both counted from 0: before it are k marks and the steps 0 to i.
 pub record IsMark (items : List Item) (k i : ℕ) : Type 0 where
   pub before : List Item
   pub after : List Item
@@ -101,8 +101,8 @@ Names hypotheses labels before n (label j) =
 Names hypotheses labels before n (marked i) =
     (k : ℕ) × (n ≡ length hypotheses + length labels + (k + 1)) × IsMark before k i
 
--- There are as many steps as numbers. A number with i numbers before it is step i, from 0 on: what
--- it names.
+-- There are as many steps as numbers. The number with i numbers before it is step i, counted from
+-- 0: the step is what it names.
 pub record AreSteps (hypotheses labels : List ℕ) (items : List Item)
     (steps : List Step) : Type 0 where
   pub count : length steps ≡ count_by is_number items
@@ -110,7 +110,7 @@ pub record AreSteps (hypotheses labels : List ℕ) (items : List Item)
       → (s : Step) × (slice_get steps (count_by is_number before) ≡ Some s)
       × Names hypotheses labels before n s
 
--- the one statement that is active at k and has the label
+-- j is the only statement that is active at k and has the label
 pub record IsUsable (db : List Statement) (k : ℕ) (w : Bytes) (j : ℕ) : Type 0 where
   pub active : IsTrue (is_active db j k)
   pub labelled : IsTrue (list_any (is_labelled w) (statement_at db j))
@@ -119,18 +119,18 @@ pub record IsUsable (db : List Statement) (k : ℕ) (w : Bytes) (j : ℕ) : Type
 
 -- ---- what is well formed
 
--- a number is at most the hypotheses, the labels and the marks before it
+-- each number is at most `many`, the number of hypotheses and labels, plus the marks before it
 abbrev pub NumbersName : ℕ → List Item → Type 0
 NumbersName many items =
     (before after : List Item) (n : ℕ) → items ≡ before ++ number n ∷ after
     → n ≤ many + count_by is_mark before
 
--- a mark stands after a number
+-- before each mark there is a number
 abbrev pub MarksFollow : List Item → Type 0
 MarksFollow items =
     (before after : List Item) → items ≡ before ++ mark ∷ after → 1 ≤ count_by is_number before
 
--- a compressed proof as it should be
+-- a well-formed compressed proof
 pub record IsWellSpelled (db : List Statement) (k : ℕ) (ts : List Token) : Type 0 where
   pub labels : List Token
   pub letters : List Token

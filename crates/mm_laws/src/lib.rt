@@ -1,14 +1,14 @@
-//! What the definitions of `mm_spec` mean, as laws over them. Nothing runs here: each function has
-//! an empty body, and its contract is a law, in the subject's own words. The words of the laws that
-//! no definition needs are in `specs/`: the grammar of tokens and comments, what the letters of a
-//! proof spell, and the statements of the laws. No other crate stands on this one, so that nothing
-//! waits for the laws, and a program is built without them.
+//! What the definitions of `mm_spec` mean, stated as laws. Nothing runs here: each function has an
+//! empty body, and its contract is a law, in the terms of the subject. The terms that only laws use
+//! are in `specs/`: the grammar of tokens and comments, what the letters of a proof spell, and the
+//! statements of the laws. No other crate depends on this one, so nothing waits for the laws, and
+//! the program is built without them.
 //!
-//! No wrong body can be made of an empty one. So the edits of `must-fail` turn a clause into a
-//! statement that isn't true, and the prover refuses each, since the law's proof doesn't give it: a
-//! premise says less, two arguments change places, or a definition that the law stands on says
-//! something else. Each clause has one, named after the mistake. Small texts for which the
-//! definitions are worked out stand in `proofs/` (`ExamplesLaw`, `VectorsLaw`, `OutputsLaw`).
+//! An empty body can't be made wrong. So the edits of `must-fail` turn a clause into a statement
+//! that isn't true, and the prover refuses each, since the law's proof doesn't prove it: a premise
+//! says less, two arguments are exchanged, or a definition on which the law depends says something
+//! else. Each clause has one edit, named after the mistake. Small texts for which the definitions
+//! are worked out are in `proofs/` (`ExamplesLaw`, `VectorsLaw`, `OutputsLaw`).
 #![tactic(auto)]
 
 ghost use Rattle.std.specs.Prelude.{◌≡◌, ◌↔◌, ℕ, Bool, List, None};
@@ -39,15 +39,15 @@ ghost use Rattle.mm_laws.specs.Laws.{StepsAreNamed, NamedStepsAreUnique, StepsAr
 ghost use Rattle.mm_laws.specs.Laws.{ValidOnTheMeaning};
 ghost use Rattle.mm_laws.specs.Laws.{NumbersHaveOneSpelling, BookNumbers};
 
-/// The words of a text are its longest runs of bytes that aren't white, in order, and no other list
-/// is.
+/// The words of a text are its longest runs of bytes that aren't white space, in order, and no
+/// other list is the list of these runs.
 pub fn words_are_the_longest_runs()
     ensures are { (text : List ℕ) → AreWords text (words_of text) }
     ensures only { (text : List ℕ) (ws : List Word) → AreWords text ws → ws ≡ words_of text }
 {}
 
 /// A reading follows the grammar of tokens and comments, up to the first word with which the words
-/// don't.
+/// no longer follow it.
 pub fn a_reading_follows_the_grammar()
     ensures { (text : List ℕ) (ws : List Word) → IsReading text ws (reading text None ws) }
 {}
@@ -57,54 +57,56 @@ pub fn tokens_are_those_of_the_grammar()
     ensures { (text : List ℕ) → IsLexed text (tokens_of text) (lexical_fault text) }
 {}
 
-/// The statements of a text are the longest row of whole statements, with no `$}` too many, at the
-/// beginning of its tokens, and no other row is.
+/// The statements of a text are the longest row of complete statements, without a `$}` too many, at
+/// the beginning of its tokens, and no other row is the longest.
 pub fn statements_are_the_longest_row()
     ensures are { (tokens : List Token) → IsLongestRow tokens (statements_of tokens) }
     ensures only { (tokens : List Token) (row : List Statement) → IsLongestRow tokens row
         → row ≡ statements_of tokens }
 {}
 
-/// The block of a statement is open at a later place exactly where no place between is less deep.
+/// The block of statement j is open at a later statement k exactly if no statement after j, up to
+/// k, is less deep than j.
 pub fn a_block_is_open_where_none_is_less_deep()
     ensures { (db : List Statement) (j k : ℕ) → j ≤ k → IsTrue (stays db j k) ↔ InBlock db j k }
 {}
 
-/// Each variable of a frame of what is read has a `$f` among the frame's mandatory hypotheses:
-/// lawful statements have an active `$f` for each variable of their formulas. The first clause says
-/// so of what a label stands for, where a hypothesis is known by its form alone; the second speaks
-/// of statements. The variables of a frame are the mandatory variables: those of the formula, of
-/// the mandatory hypotheses and of the mandatory pairs.
+/// Each variable in the frame of an assertion that is read has a `$f` among the frame's mandatory
+/// hypotheses: lawful statements have an active `$f` for each variable of their formulas. The first
+/// clause says this of what a label stands for, where a hypothesis is recognised only by its form;
+/// the second says it of statements. The third says that the mandatory variables are the variables
+/// of the frame: those of the formula, of the mandatory hypotheses and of the mandatory pairs.
 pub fn lawful_statements_have_complete_frames()
     ensures complete { (len : ℕ) (x : LexedText) → ReadsComplete len x }
     ensures typed { WhereRead VariablesAreTyped }
     ensures mandatory { WhereRead VariablesAreMandatory }
 {}
 
-/// A derivation is known by its labels in postfix order, and a theorem has one proof at most.
+/// The labels in postfix order determine a derivation, and a theorem has at most one proof.
 pub fn labels_determine_a_derivation()
     ensures labels { WhereRead LabelsDetermine }
     ensures proof { WhereRead ProofIsUnique }
 {}
 
-/// Each theorem is valid, or its proof has a fault; never both, and it has one fault at most.
+/// Each theorem is valid, or its proof has a fault, but never both; and it has at most one fault.
 pub fn theorems_are_valid_or_faulty()
     ensures one_holds { WhereRead IsValidOrFaulty }
     ensures never_both { WhereRead IsNeverBoth }
     ensures one_fault { WhereRead FaultIsUnique }
 {}
 
-/// There is at most one output of a text.
+/// Each text has at most one output for each request.
 pub fn output_is_unique()
     ensures { OutputIsUnique }
 {}
 
-/// Each text is read: there are lawful statements, and what stops after them, if anything does.
+/// Each text is read: it has lawful statements, and the fault that stops the reading after them, if
+/// there is one.
 pub fn every_text_is_read()
     ensures { (len : ℕ) (x : LexedText) → IsReadable len x }
 {}
 
-/// Each text has a first fault, or it has none and all its proofs are valid; so too where open
+/// Each text has a first fault, or it has none and all its proofs are valid. The same holds if open
 /// theorems count as axioms.
 pub fn texts_are_sound_or_faulty()
     ensures { (len : ℕ) (x : LexedText) (with_open : Bool) → IsSoundOrFaulty len x with_open }
@@ -115,13 +117,13 @@ pub fn cells_are_decided()
     ensures { (len : ℕ) (x : LexedText) (with_open : Bool) → AreDecided len x with_open }
 {}
 
-/// There is an output of each text, for each choice of columns and sections.
+/// Each text has an output for each request.
 pub fn output_exists()
     ensures { OutputExists }
 {}
 
-/// The words of a compressed proof part in one way into labels and letters. Letters spell one row
-/// of numbers and marks at most, and where reading finds no fault in a compressed proof, its
+/// The words of a compressed proof split into labels and letters in only one way. Letters spell at
+/// most one row of numbers and marks, and if reading finds no fault in a compressed proof, its
 /// letters spell one.
 pub fn letters_spell_one_row()
     ensures parts { PartsAreUnique }
@@ -137,8 +139,8 @@ pub fn steps_are_what_is_named()
     ensures normal { WhereRead StepsAreLabels }
 {}
 
-/// A theorem cites, by all nodes of its proof, each assertion that is the label of one; and by the
-/// essential nodes nothing that it doesn't cite by all.
+/// By all nodes of its proof, a theorem cites exactly the assertions whose labels the nodes have.
+/// By the essential nodes it cites nothing that it doesn't cite by all.
 pub fn essential_citations_are_citations()
     ensures all { EachLabelIsCited }
     ensures some { EssentialIsCited }
@@ -156,8 +158,8 @@ pub fn well_formed_proofs_are_read()
 {}
 
 /// A theorem is valid if the words of its proof are well formed and say steps that stand for a
-/// derivation of its formula, and else not. What the words say is told by what letters spell and
-/// labels name: no reading from left to right is named.
+/// derivation of its formula, and otherwise not. What the words say is stated in terms of what
+/// letters spell and labels name: the law names no reading from left to right.
 pub fn valid_theorems_are_those_proved()
     ensures { WhereRead ValidOnTheMeaning }
 {}

@@ -1,4 +1,4 @@
--- The parts of a piece as what they stand for.
+-- What the parts of a piece stand for.
 use Rattle.mm_lex.specs.Pieces.{Side, Between}
 use Rattle.mm_lex.specs.declared.modes.Opened.{Opened}
 use Rattle.mm_lex.specs.declared.modes.Opened.TheVariants.{Nowhere, Before, At}
@@ -17,7 +17,8 @@ between inner =
       inside = side inner.inside;
     }
 
--- the comment that is open after a second list of words, where this one was open after the first
+-- the comment that is open after two lists of words: `first` says which is open after the first
+-- list, the other argument which is open after the second list alone
 abbrev pub carried : Opened → Opened → Opened
 carried first Nowhere = Nowhere
 carried first Before = first

@@ -1,4 +1,4 @@
--- What a stretch of a text tells by itself, in both comment modes.
+-- What is known from a stretch of a text alone, in both comment modes.
 use Rattle.std.specs.Prelude.{◌≡◌, ℕ, Bool, List, [], Option, Some, None, MatchOption}
 use Rattle.std.specs.Prelude.{if◌then◌else◌}
 use Rattle.mm_spec.specs.Words.{words_between}
@@ -9,23 +9,22 @@ use Rattle.mm_lex.specs.Stretches.{IsUnbroken, IsBroken}
 use Rattle.mm_lex.specs.declared.modes.Opened.{Opened}
 use Rattle.mm_lex.specs.declared.modes.Opened.TheVariants.{Nowhere, Before, At}
 
--- A list of words read in one comment mode: its tokens before the faulty word, the fault of that,
--- and the comment that is open there, which began nowhere, before the words, or at a place among
--- them.
+-- A list of words read in one comment mode: its tokens before the first faulty word, the fault of
+-- that word, and the comment that is open there: none, one that began before the words, or one that
+-- began at a place among them.
 pub record Side : Type 0 where
   pub tokens : List Word
   pub fault : Option Fault
   pub comment : Opened
 
--- what lies between the place at which a head ends and that at which a tail begins, read outside a
--- comment and inside one
+-- what is between the end of a head and the beginning of a tail, read outside and inside a comment
 pub record Between : Type 0 where
   pub head : ℕ
   pub tail : ℕ
   pub outside : Side
   pub inside : Side
 
--- a stretch between two places, and what lies between its head and its tail, unless it is unbroken
+-- a stretch between two places, and what is between its head and its tail, unless it is unbroken
 pub record Stretch : Type 0 where
   pub from : ℕ
   pub to : ℕ
@@ -36,13 +35,13 @@ stretch from to between = record { from = from; to = to; between = between }
 
 -- ---- the summary of a stretch
 
--- the open comment, where the one from before the words began at the place p
+-- the place of the open comment, if the one from before the words began at the place p
 abbrev pub resolved : ℕ → Opened → Option ℕ
 resolved p Nowhere = None
 resolved p Before = Some p
 resolved p (At q) = Some q
 
--- what a side has read, where the comment from before the words began at the place p
+-- what a side has read, if the comment from before the words began at the place p
 abbrev pub seen : ℕ → Side → Reading
 seen p s = record { tokens = s.tokens; fault = s.fault; comment = resolved p s.comment }
 
@@ -52,7 +51,7 @@ pub record AreReadings (text : List ℕ) (ws : List Word) (outside inside : Side
   pub out : (p : ℕ) → reading text None ws ≡ seen p outside
   pub within : (p : ℕ) → reading text (Some p) ws ≡ seen p inside
 
--- head and tail of a stretch are known by its white bytes, and the words between them are read
+-- head and tail of a stretch are known by its white space, and the words between them are read
 pub record IsBetween (text : List ℕ) (from to : ℕ) (b : Between) : Type 0 where
   pub broken : IsBroken text from to b.head b.tail
   pub readings : AreReadings text (words_between text b.head b.tail) b.outside b.inside
@@ -61,7 +60,7 @@ pub record IsBetween (text : List ℕ) (from to : ℕ) (b : Between) : Type 0 wh
 abbrev pub IsSummary : List ℕ → Stretch → Type 0
 IsSummary text s = MatchOption s.between (IsUnbroken text s.from s.to) (IsBetween text s.from s.to)
 
--- ---- what is asked of it
+-- ---- what its calls return
 
 abbrev pub head_of : Stretch → Word
 head_of s = record { start = s.from; end = elim s.between [ None ↦ s.from | Some b ↦ b.head ] }

@@ -1,24 +1,23 @@
--- What is known of the words of a text from a stretch of it alone, and how two neighbours join.
+-- What is known of the words of a text from one stretch alone, and how adjacent stretches join.
 use Rattle.std.specs.Prelude.{◌≡◌, ℕ, ◌+◌, ◌<◌, ◌≤◌, true, false, List, [], ◌∷◌, length, nat_lt}
 use Rattle.std.specs.Prelude.{if◌then◌else◌}
 use Rattle.mm_spec.specs.Words.{white_at}
 use Rattle.mm_spec.specs.declared.Word.{Word}
 
--- no white byte from the one place up to the other
+-- no byte from `from` up to `to` is white space
 abbrev pub NoWhite : List ℕ → ℕ → ℕ → Type 0
 NoWhite text from to = (i : ℕ) → from ≤ i → i < to → white_at text i ≡ false
 
--- A stretch without a white byte, neither of whose ends is the text's: a part of a word, or
--- nothing.
+-- A stretch without white space that touches neither end of the text: a part of a word, or empty.
 pub record IsUnbroken (text : List ℕ) (from to : ℕ) : Type 0 where
   pub first : 0 < from
   pub order : from ≤ to
   pub last : to < length text
   pub no_white : NoWhite text from to
 
--- Any other stretch. Its head goes from its beginning up to `head`, the first white byte, or there
--- is none at the text's beginning. Its tail goes from `tail`, after the last white byte, to its
--- end, or there is none at the text's end.
+-- Any other stretch. Its head goes from its beginning up to `head`, the first white-space byte; it
+-- is empty if the stretch begins the text. Its tail goes from `tail`, after the last white-space
+-- byte, to its end; it is empty if the stretch ends the text.
 pub record IsBroken (text : List ℕ) (from to head tail : ℕ) : Type 0 where
   pub from_head : from ≤ head
   pub order : head ≤ tail
@@ -32,6 +31,6 @@ pub record IsBroken (text : List ℕ) (from to head tail : ℕ) : Type 0 where
   pub some_white : 0 < from → to < length text → head < tail
   pub tail_begins : to < length text → (i : ℕ) → i + 1 ≡ tail → from ≤ i → white_at text i ≡ true
 
--- the word that the tail of one stretch and the head of the next make up, if there is one
+-- the word that the tail of one stretch and the head of the next form together, if there is one
 abbrev pub joined_word : ℕ → ℕ → List Word
 joined_word tail head = if nat_lt tail head then record { start = tail; end = head } ∷ [] else []

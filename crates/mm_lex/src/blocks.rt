@@ -16,7 +16,7 @@ use crate::masks::first_one;
 use crate::{TEXT_LIMIT, Word};
 use mm_bytes::{Classes, class_block, class_tail, dollars_block, dollars_tail};
 
-/// The classes of the first 64 bytes, or of all where they are fewer.
+/// The classes of the first 64 bytes, or of all if there are fewer.
 #[inline(always)]
 pub fn classes_of(bytes: &[u8]) -> Classes
     ensures white { result.white ≡ mask is_white (take 64 bytes.now) }
@@ -28,7 +28,7 @@ pub fn classes_of(bytes: &[u8]) -> Classes
     }
 }
 
-/// The dollar signs among the first 64 bytes, or among all where they are fewer.
+/// The dollar signs among the first 64 bytes, or among all if there are fewer.
 #[inline(always)]
 fn dollars_of(bytes: &[u8]) -> u64
     ensures { result ≡ mask (λ b. b == 0x24) (take 64 bytes.now) }
@@ -39,11 +39,11 @@ fn dollars_of(bytes: &[u8]) -> u64
     }
 }
 
-/// The first 64 bytes of some, or all where they are fewer, a bit each.
+/// Masks with a bit for each of the first 64 bytes, or for each byte if there are fewer.
 #[derive(Clone, Copy)]
 struct Marks {
     white: u64,
-    /// White bytes, bad ones and dollar signs: what ends a word, or keeps it from being plain.
+    /// White space, bad bytes and dollar signs: what ends a word, or keeps it from being plain.
     stops: u64,
 }
 
@@ -63,7 +63,7 @@ fn marks_of(bytes: &[u8]) -> Marks
     }
 }
 
-/// The zeros of a mask that stand after a one, the first one where `first` says so.
+/// The zero bits of a mask that follow a one bit. Bit 0, if it is zero, is among them if `first`.
 #[inline(always)]
 fn starts_of(white: u64, first: bool) -> u64
     ensures first { bit_at result 0 ≡ (if first then 1 - bit_at white 0 else 0) }
@@ -73,7 +73,7 @@ fn starts_of(white: u64, first: bool) -> u64
     !white & (white << 1 | u64::from(first))
 }
 
-/// Whether a word may begin at the place: there is a white byte before it, or nothing.
+/// Whether a word may begin at the place: before it there is a white-space byte, or nothing.
 #[inline(always)]
 #[tactic(auto, unfolding(mm_spec::specs::Words::white_at))]
 fn may_begin(text: &[u8], at: usize) -> bool
@@ -83,16 +83,16 @@ fn may_begin(text: &[u8], at: usize) -> bool
     at == 0 || is_white(text[at - 1])
 }
 
-/// A text, the block of it at hand, and where in that further words begin.
+/// A text, its current block, and where further words begin in that block.
 #[derive(Clone, Copy)]
 pub struct Blocks<'a> {
     text: &'a [u8],
-    /// The words that begin before this place are done with.
+    /// The words that begin before this place have been taken or left out.
     from: usize,
     base: usize,
     white: u64,
     stops: u64,
-    /// Where words begin, from `from` on. Bits after the text's end tell nothing.
+    /// Where words begin, from `from` on. Bits after the text's end mean nothing.
     starts: u64,
     ghost within: { base ≤ length text.now },
     ghost low: { base ≤ from },
@@ -109,7 +109,7 @@ pub struct Blocks<'a> {
         → bit_at starts i ≡ 0 → begins_word text.now (base + i) ≡ false },
 }
 
-/// A word. Where it is `plain`, it is known to have printable bytes alone, and no `$`.
+/// A word. If `plain` is true, it is known to have only printable bytes, and no `$`.
 #[derive(Clone, Copy)]
 pub struct FoundWord {
     pub word: Word,
@@ -135,7 +135,7 @@ impl<'a> Blocks<'a> {
         }
     }
 
-    /// The words of a text that begin at a place from `from` on.
+    /// The words of a text that begin at `from` or after it.
     pub fn new(text: &'a [u8], from: usize) -> Blocks<'a>
         requires { from ≤ length text.now }
         ensures text { result.text.now ≡ text.now }
@@ -153,7 +153,7 @@ impl<'a> Blocks<'a> {
         }
     }
 
-    /// Goes on to the next block.
+    /// Continues with the next block.
     #[inline(always)]
     fn turn(&mut self)
         requires { self.old.base + 64 ≤ length self.old.text.now }
@@ -164,8 +164,8 @@ impl<'a> Blocks<'a> {
         *self = Blocks::at(self.text, self.base + 64);
     }
 
-    /// The word that begins at `start` in the block at hand, the last one whose beginning was
-    /// taken; and the blocks from its end on.
+    /// The word that begins at `start`, and the blocks from its end on. `start` is in the current
+    /// block, and is the beginning that was taken last.
     fn word_from(self, start: usize) -> (Blocks<'a>, FoundWord)
         requires from { self.from ≡ start + 1 }
         requires low { self.base ≤ start }
@@ -203,7 +203,7 @@ impl<'a> Blocks<'a> {
         (blocks, FoundWord { word, plain })
     }
 
-    /// The first further place before `to` at which a word begins; it is taken.
+    /// Takes the first further place before `to` at which a word begins.
     #[inline(always)]
     fn next_start(&mut self, to: usize) -> Option<usize>
         requires within { to ≤ length self.old.text.now }
@@ -236,7 +236,7 @@ impl<'a> Blocks<'a> {
         Some(start)
     }
 
-    /// The first further word that begins before `to`.
+    /// Takes the first further word that begins before `to`.
     #[inline(always)]
     pub fn next_word(&mut self, to: usize) -> Option<FoundWord>
         requires within { to ≤ length self.old.text.now }

@@ -1,4 +1,4 @@
-//! White and printable bytes.
+//! White-space bytes and printable bytes.
 
 ghost use Rattle.std.specs.Prelude.{◌≡◌};
 ghost use Rattle.mm_spec.specs.Bytes.{is_printable, is_white};

@@ -9,7 +9,7 @@ use std::alloc::{AllocError, Allocator};
 use std::marker::Model;
 use thiserror::Error;
 
-/// Why places are no cuts of a text.
+/// Why the given places aren't cuts of a text.
 #[derive(Clone, Copy, Debug, PartialEq, Eq, Drop, Error)]
 pub enum CutsFault {
     /// A place is less than the one before it.
@@ -20,8 +20,8 @@ pub enum CutsFault {
     PastEnd,
 }
 
-/// The places at which a text of a given length is cut, byte offsets from 0: rising, and none above
-/// the length. Between two equal places there is an empty piece.
+/// The places at which a text of a given length is cut, byte offsets from 0: none is less than the
+/// one before it, and none is above the length. Between two equal places there is an empty piece.
 #[derive(Drop)]
 pub struct Cuts<A: Allocator> {
     places: Vec<u32, A>,
@@ -38,7 +38,7 @@ impl<A: Allocator> Model for Cuts<A> {
 
 impl<A: Allocator + Copy> Cuts<A> {
     /// Cuts a text of `len` bytes, at most 2,147,483,648, into `count` pieces, 1 to 65,536, whose
-    /// lengths differ by at most one byte. Refused only where memory is.
+    /// lengths differ by at most one byte. Fails only if out of memory.
     pub fn equal(alloc: A, len: usize, count: u32) -> Result<Cuts<A>, AllocError>
         requires len { len ≤ 2 ^ 31 }
         requires some { 0 < count }
@@ -54,9 +54,9 @@ impl<A: Allocator + Copy> Cuts<A> {
         Ok(Cuts { places, len })
     }
 
-    /// Cuts a text of `len` bytes at these places. It takes no memory, and a refusal drops the
-    /// list: `NotRising` where a place is less than the one before it, else `PastEnd` where one is
-    /// above `len`.
+    /// Cuts a text of `len` bytes at the given places, without allocating memory. Fails with
+    /// `NotRising` if a place is less than the one before it, otherwise with `PastEnd` if one is
+    /// above `len`; then the list is dropped.
     pub fn from_places(places: Vec<u32, A>, len: usize) -> Result<Cuts<A>, CutsFault>
         ensures ok { IfOk result (λ c. c ≡ cut_text places.items len) }
         ensures err { IfErr result (λ e. IsRefused e (cut_text places.items len)) }
@@ -82,7 +82,7 @@ impl<A: Allocator + Copy> Cuts<A> {
         self.places.as_slice()
     }
 
-    /// The length of the texts that they cut.
+    /// The length of the texts that these places cut.
     pub fn text_len(&self) -> usize
         ensures len { result ≡ self.now.len }
         ensures cuts { IsCutText self.now }

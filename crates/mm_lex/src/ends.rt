@@ -1,5 +1,5 @@
-//! Where the head of a stretch ends and its tail begins. Of a long word, blocks of 64 bytes are
-//! passed over.
+//! Where the head of a stretch ends and its tail begins. Whole blocks of 64 bytes without white
+//! space are skipped.
 
 ghost use Rattle.std.specs.Prelude.{◌≡◌, ◌<◌, ◌≤◌, ◌+◌, true, ℕ, length, MatchOption};
 ghost use Rattle.mm_lex.specs.Stretches.{NoWhite, IsBroken, IsUnbroken};
@@ -8,7 +8,7 @@ ghost use Rattle.mm_spec.specs.Words.{white_at};
 use crate::blocks::classes_of;
 use crate::bytes::is_white;
 
-/// The place of the first white byte from `from` on, or `to`.
+/// The place of the first white-space byte from `from` on, or `to` if there is none before it.
 #[tactic(auto, unfolding(mm_spec::specs::Words::white_at))]
 fn first_white(text: &[u8], from: usize, to: usize) -> usize
     requires order { from ≤ to }
@@ -28,7 +28,7 @@ fn first_white(text: &[u8], from: usize, to: usize) -> usize
     place
 }
 
-/// The place after the last white byte before `to`, or `from`.
+/// The place after the last white-space byte before `to`, or `from` if there is none after it.
 #[tactic(auto, unfolding(mm_spec::specs::Words::white_at))]
 fn after_white(text: &[u8], from: usize, to: usize) -> usize
     requires order { from ≤ to }
@@ -48,8 +48,8 @@ fn after_white(text: &[u8], from: usize, to: usize) -> usize
     place
 }
 
-/// The places between which the words of a stretch are known to lie; none for a stretch inside a
-/// word.
+/// The places between which the words of a stretch are known: the end of its head and the beginning
+/// of its tail. `None` if the stretch is unbroken.
 pub fn bounds(text: &[u8], from: usize, to: usize) -> Option<(usize, usize)>
     requires order { from ≤ to }
     requires within { to ≤ length text.now }

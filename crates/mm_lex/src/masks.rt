@@ -3,7 +3,7 @@
 ghost use Rattle.std.specs.Prelude.{◌≡◌, ◌<◌, ◌≤◌, ℕ};
 ghost use Rattle.std.specs.Int.{bit_at};
 
-/// The first place from `from` on whose bit is 1; 64 where there is none.
+/// The first place from `from` on whose bit is 1; 64 if there is none.
 #[inline(always)]
 pub fn first_one(mask: u64, from: usize) -> usize
     requires { from < 64 }

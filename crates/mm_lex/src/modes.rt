@@ -13,7 +13,7 @@ use crate::{Fault, TEXT_LIMIT, Word};
 use mm_spec::Role;
 use std::alloc::{AllocError, Allocator};
 
-/// The comment that is open after a list of words: one that began before them, or in them.
+/// The comment that is open after a list of words: none, or one that began before them or in them.
 #[derive(Clone, Copy, Debug, PartialEq, Eq)]
 pub enum Opened {
     Nowhere,
@@ -28,7 +28,7 @@ impl Opened {
         !matches!(self, Opened::Nowhere)
     }
 
-    /// The comment that is open after these words and the ones before them.
+    /// The comment that is open after these words, if `before` is open after the ones before them.
     fn after(self, before: Opened) -> Opened
         ensures { result ≡ carried before self }
     {
@@ -58,8 +58,8 @@ impl<A: Allocator + Copy> ModeReading<A> {
         }
     }
 
-    /// No words yet, in a list with room for so many tokens, unless that much memory is refused: so
-    /// the list needn't be moved as it grows.
+    /// A reading of no words yet. Its list has room for `room` tokens if there is that much memory,
+    /// so that it needn't be moved as it grows.
     pub fn with_room(alloc: A, comment: Opened, room: usize) -> ModeReading<A>
         ensures { (p : ℕ) → seen p (side result) ≡ start (resolved p comment) }
     {
@@ -71,7 +71,7 @@ impl<A: Allocator + Copy> ModeReading<A> {
         reading
     }
 
-    /// Reads one further word, of which it may be known that it is plain.
+    /// Reads one further word. If `plain` is true, the word is known to be plain.
     #[inline(always)]
     pub fn read_word(&mut self, text: &[u8], word: Word, plain: bool) -> Result<(), AllocError>
         requires order { word.start ≤ word.end }
@@ -97,7 +97,7 @@ impl<A: Allocator + Copy> ModeReading<A> {
         Ok(())
     }
 
-    /// Reads further words, whose readings in both modes are known.
+    /// Reads further words, given their readings in both modes.
     pub fn read_all(
         &mut self,
         outside: &ModeReading<A>,

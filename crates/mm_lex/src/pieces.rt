@@ -1,4 +1,4 @@
-//! Stretches of a text, each read for both comment modes, and how neighbours join.
+//! Stretches of a text, each read in both comment modes, and how adjacent stretches are joined.
 
 ghost use Rattle.std.specs.Prelude.{◌≡◌, ◌<◌, ◌≤◌, ◌+◌, ℕ, List, ◌++◌, length, IfOk, not, is_some};
 ghost use Rattle.std.specs.Prelude.{if◌then◌else◌};
@@ -17,7 +17,7 @@ use crate::{Code, Fault, Lexed, TEXT_LIMIT, Word};
 use std::alloc::{AllocError, Allocator};
 use std::marker::Model;
 
-/// What lies between the head and the tail of a stretch, read outside a comment and inside one.
+/// What is between the head and the tail of a stretch, read outside a comment and inside one.
 #[derive(Drop)]
 pub struct Inner<A: Allocator> {
     pub head: u32,
@@ -26,11 +26,11 @@ pub struct Inner<A: Allocator> {
     pub inside: ModeReading<A>,
 }
 
-/// What a stretch of a text tells by itself. Its head goes up to its first white byte, its tail
-/// begins after its last one: parts of words, or words, of which the stretch doesn't know. The
-/// words between them were read twice, as those of a text and as those of a comment. A stretch
-/// without a white byte that touches neither end of the text is unbroken: a part of a word, or
-/// nothing.
+/// The summary of a stretch of a text: what is known from the stretch alone. Its head goes up to
+/// its first white-space byte, and its tail begins after its last one. Each may be a part of a word
+/// or a whole word; the stretch alone doesn't show which. The words between them were read twice,
+/// once as words of the text and once as words of a comment. A stretch without white space that
+/// touches neither end of the text is unbroken: a part of a word, or empty.
 #[derive(Drop)]
 pub struct Piece<A: Allocator> {
     from: u32,
@@ -59,15 +59,15 @@ impl<A: Allocator> Piece<A> {
         self.to
     }
 
-    /// Whether it lies inside a word, or is empty, and touches neither end of the text.
+    /// Whether it is a part of a word, or empty, and touches neither end of the text.
     pub fn unbroken(&self) -> bool
         ensures { result ≡ not (is_some self.now.between) }
     {
         self.inner.is_none()
     }
 
-    /// Its bytes before the first white one, which may end a word of the stretch before it; empty,
-    /// at `from`, where there are none or where it is unbroken or begins the text.
+    /// Its bytes before the first white space, which may end a word of the stretch before it.
+    /// Empty, at `from`, if there are none, or if the stretch is unbroken or begins the text.
     pub fn head(&self) -> Word
         ensures { result ≡ head_of self.now }
     {
@@ -77,8 +77,8 @@ impl<A: Allocator> Piece<A> {
         }
     }
 
-    /// Its bytes after the last white one, which may begin a word of the stretch after it; empty,
-    /// at `to`, where there are none or where it is unbroken or ends the text.
+    /// Its bytes after the last white space, which may begin a word of the stretch after it. Empty,
+    /// at `to`, if there are none, or if the stretch is unbroken or ends the text.
     pub fn tail(&self) -> Word
         ensures { result ≡ tail_of self.now }
     {
@@ -88,8 +88,8 @@ impl<A: Allocator> Piece<A> {
         }
     }
 
-    /// The tokens between head and tail up to the first faulty word, as they are where a comment is
-    /// open after the head (`inside`), or where none is.
+    /// The tokens between head and tail up to the first faulty word: if `inside`, those that are
+    /// there if a comment is open after the head, otherwise those that are there if none is.
     pub fn tokens(&self, inside: bool) -> &[Word]
         ensures { result.now ≡ tokens_in_mode inside self.now }
     {
@@ -99,8 +99,8 @@ impl<A: Allocator> Piece<A> {
         }
     }
 
-    /// The fault of the first faulty word between head and tail in the same mode. That a comment
-    /// stays open is none.
+    /// The fault of the first faulty word between head and tail, in the same mode. That a comment
+    /// stays open isn't a fault here.
     pub fn fault(&self, inside: bool) -> Option<Fault>
         ensures { result ≡ fault_in_mode inside self.now }
     {
@@ -109,7 +109,7 @@ impl<A: Allocator> Piece<A> {
             .and_then(|inner| inner.reading(inside).fault)
     }
 
-    /// The first reading of the summary of a whole text.
+    /// The tokens and the lexical fault of a whole text, by its reading outside a comment.
     pub(crate) fn into_lexed(self, text: &[u8]) -> Lexed<A>
         requires short { length text.now ≤ TEXT_LIMIT }
         requires summary { IsSummary text.now self }
@@ -118,7 +118,7 @@ impl<A: Allocator> Piece<A> {
         ensures tokens { result.tokens.items ≡ tokens_of text.now }
         ensures fault { result.fault ≡ lexical_fault text.now }
     {
-        // The contract alone speaks of it.
+        // Only the contract needs the text.
         let _ = text;
         let reading = match self.inner {
             Some(inner) => inner.outside,
@@ -177,8 +177,8 @@ fn lex_inner<A: Allocator + Copy>(
     })
 }
 
-/// The summary of the stretch of a text from the one place up to the other, read for both comment
-/// modes that may hold after its head. Refused only where memory is.
+/// The summary of the stretch of a text from `from` up to `to`, read in both comment modes, since
+/// either may hold after its head. Fails only if out of memory.
 pub fn lex_piece<A: Allocator + Copy>(
     alloc: A,
     text: &[u8],
@@ -203,7 +203,7 @@ pub fn lex_piece<A: Allocator + Copy>(
     })
 }
 
-/// What lies between the head of the one stretch and the tail of the next.
+/// What is between the head of one stretch and the tail of the next.
 fn join_inner<A: Allocator + Copy>(
     text: &[u8],
     before: Inner<A>,
@@ -239,8 +239,8 @@ fn join_inner<A: Allocator + Copy>(
     })
 }
 
-/// The summary of two neighbouring stretches of one text together. The second one's tokens are
-/// appended to those of the first. Refused only where memory is; both are dropped then.
+/// The summary of two adjacent stretches of one text together. The tokens of the second are
+/// appended to those of the first. Fails only if out of memory; then both are dropped.
 pub fn join<A: Allocator + Copy>(
     _alloc: A,
     text: &[u8],
@@ -267,7 +267,7 @@ pub fn join<A: Allocator + Copy>(
     Ok(Piece { from, to, inner })
 }
 
-/// A faulty word decides, and else a comment that is open at the end.
+/// The fault of a faulty word if there is one, otherwise that of a comment open at the end.
 fn fault_of(fault: Option<Fault>, comment: Opened) -> Option<Fault>
     ensures { result ≡ fault_in fault (resolved 0 comment) }
 {

@@ -12,8 +12,8 @@ use crate::bytes::is_printable;
 use crate::{Code, Fault};
 use mm_spec::Role;
 
-/// Whether all bytes are printable. A word may be as long as the text, so the loop goes to its end
-/// in any case: then it is compiled to look at many bytes at once.
+/// Whether all bytes are printable. A word may be as long as the text, so the loop always goes to
+/// the end of the word: it is then compiled to examine many bytes at once.
 #[tactic(auto, unfolding(mm_spec::specs::Roles::is_clean))]
 fn is_clean(word: &[u8]) -> bool
     ensures { result ≡ is_clean word.now }
@@ -54,7 +54,7 @@ fn is_mark(first: u8, second: u8) -> bool
     first == b'$' && (second == b'(' || second == b')')
 }
 
-/// Whether `$(` or `$)` stands in the word.
+/// Whether `$(` or `$)` occurs in the word.
 fn has_mark(word: &[u8]) -> bool
     ensures { result ≡ has_mark word.now }
 {
@@ -83,7 +83,7 @@ fn is_comment_word(word: &[u8]) -> bool
     is_clean(word) && !has_mark(word)
 }
 
-/// What a word is, of which it may be known that it is plain.
+/// What a word is. If `plain` is true, the word is known to be plain.
 #[inline(always)]
 pub fn role(in_comment: bool, plain: bool, word: &[u8]) -> Role
     requires { plain ≡ true → IsPlain word.now }

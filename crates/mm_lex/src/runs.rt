@@ -1,4 +1,4 @@
-//! A text read in runs of neighbouring pieces, each run on a thread.
+//! A text read in runs of adjacent pieces, each run on a thread.
 
 ghost use Rattle.std.specs.Prelude.{◌≡◌, ◌<◌, ◌≤◌, ◌+◌, ℕ, length, vec_len, slice_index_or, IfOk};
 ghost use Rattle.std.specs.Prelude.{Result};
@@ -11,7 +11,7 @@ use crate::pieces::{Piece, join, lex_piece};
 use std::alloc::{AllocError, Allocator};
 use std::thread::{self, Threads};
 
-/// The most runs in which the pieces of a text are taken.
+/// The maximum number of runs into which the pieces of a text are grouped.
 const RUNS: usize = 64;
 
 /// Where piece `index` begins, and the one before it ends.
@@ -26,7 +26,7 @@ fn cut_at(text: &[u8], places: &[u32], index: usize) -> usize
     }
 }
 
-/// The first piece of run `index`, where `count` pieces are taken in so many runs, the longer ones
+/// The first piece of run `index`, if `count` pieces are grouped into `runs` runs, the longer ones
 /// first.
 fn run_start(count: usize, runs: usize, index: usize) -> usize
     requires some { 0 < runs }
@@ -36,7 +36,7 @@ fn run_start(count: usize, runs: usize, index: usize) -> usize
     index * (count / runs) + index.min(count % runs)
 }
 
-/// The summaries of the pieces from `first` up to `after`, read one by one and joined.
+/// The summary of the pieces from `first` up to `after`, which are read and joined one by one.
 fn read_run<A: Allocator + Copy>(
     alloc: A,
     text: &[u8],
@@ -64,7 +64,7 @@ fn read_run<A: Allocator + Copy>(
     Ok(run)
 }
 
-/// The summary of run `index` of so many.
+/// The summary of run `index` of `runs`.
 fn run_at<A: Allocator + Copy>(
     alloc: A,
     text: &[u8],
@@ -112,7 +112,7 @@ fn read_runs<R: Threads + Sync, A: Allocator + Copy + Send + Sync>(
     )
 }
 
-/// The summary of a text that is cut at these places.
+/// The summary of a text that is cut at the given places.
 pub fn read_text<R: Threads + Sync, A: Allocator + Copy + Send + Sync>(
     rt: &R,
     alloc: A,

@@ -1,4 +1,4 @@
--- What is known of the entries that clap found: their texts have passed the tests of the command.
+-- What is known of the entries that clap found: their texts passed the tests of the command.
 use Rattle.std.specs.Prelude.{◌≡◌, ◌≢◌, List, [], Some, codes, pos}
 use Rattle.clap.specs.Lexer.{without_minus}
 use Rattle.clap.specs.Matches.{first_value, found_of, one_text}
@@ -40,7 +40,7 @@ pub record Finds (words : List Text) (m : ArgMatches) : Type 0 where
   pub report : HasReport m
   pub form : HasForm m
 
--- the refusal is for an error of this kind
+-- the refusal that an error of this kind leads to
 abbrev pub IsFor : ErrorKind → LineRefused → Type 0
 IsFor kind (Help text) = IsAsking kind
 IsFor kind (Bad text) = (¬ IsAsking kind) × (kind ≢ OutOfMemory)

@@ -1,6 +1,6 @@
--- The command line: which words the command takes, and what a line says. Both are as `clap` states
--- them: `matches_of` is what it finds in the words, `fault_of` the kinds of error that the words
--- may have.
+-- The command line: which words the command accepts, and what a line says. Both are as `clap`
+-- states them: `matches_of` is what it finds in the words, and `fault_of` the kinds of error that
+-- the words may have.
 use Rattle.std.specs.Prelude.{◌≡◌, ℕ, Bool, true, false, ◌⊎◌, List, [], ◌∷◌, map, Option, Some}
 use Rattle.std.specs.Prelude.{None, codes, pos, ⊤}
 use Rattle.std.specs.Option.{option_map}
@@ -45,7 +45,7 @@ report_words = map report_word (All ∷ Matrix ∷ Counts ∷ Usage ∷ Citation
 abbrev pub form_words : List Text
 form_words = map form_word (One ∷ Two ∷ [])
 
--- an option with a whole number from 1 to 64, 4 where it isn't given
+-- an option with a whole number from 1 to 64, 4 by default
 abbrev pub number_rule : Text → Rule
 number_rule id = record (new_rule id) {
   long = Some id;
@@ -63,7 +63,7 @@ only_rule =
       value_names = 1;
     }
 
--- an option with one of these words, or with the first one where it isn't given
+-- an option with one of the given words; the second argument is its default
 abbrev pub word_rule : Text → Text → Bor (List (Bor Text)) → Rule
 word_rule id first names = record (new_rule id) {
   long = Some id;
@@ -79,7 +79,7 @@ report_rule names = word_rule (codes "report") (codes "all") names
 abbrev pub form_rule : Bor (List (Bor Text)) → Rule
 form_rule names = word_rule (codes "form") (codes "1") names
 
--- the rules of `--report` and `--form`, wherever their words lie
+-- the rules of `--report` and `--form`, wherever in memory their words are
 abbrev pub IsReportRule : Rule → Type 0
 IsReportRule rule =
     (names : Bor (List (Bor Text))) × (map (λ n. n.now) names.now ≡ report_words)
@@ -128,8 +128,7 @@ pub record IsCommand (app : App) : Type 0 where
 abbrev pub number_of : Text → List Row → Option ℕ
 number_of id rows = option_map (λ t. digits_value 10 (without_leading_plus t)) (one_of id rows)
 
--- a flag is set where its entry is the word for that, and isn't where it is the other word, or
--- where there is none
+-- a flag is set if its entry is `true`, and not set if its entry is `false` or it has none
 abbrev pub IsFlag : Option Text → Bool → Type 0
 IsFlag entry set =
     (entry ≡ None → set ≡ false) × (entry ≡ Some (codes "true") → set ≡ true)
@@ -152,17 +151,17 @@ abbrev pub Says : List Text → Line → Type 0
 Says words line =
     (app : App) × IsCommand app × (fault_of app words ≡ []) × IsLine (matches_of app words) line
 
--- the command doesn't take the words, for a fault of which this holds
+-- the command doesn't accept the words, and the fault satisfies the predicate
 abbrev pub Faults : List Text → (ErrorKind → Type 0) → Type 0
 Faults words P =
     (app : App) × IsCommand app × (takes app words ≡ false) × (kind : ErrorKind)
     × IsAmong kind (fault_of app words) × P kind
 
--- a text is asked for, that of help or of the version
+-- help or the version is requested
 abbrev pub IsAsking : ErrorKind → Type 0
 IsAsking kind = (kind ≡ DisplayHelp) ⊎ (kind ≡ DisplayVersion)
 
--- A text is asked for, or the words have another fault. Nothing is said where memory ran out.
+-- Help or the version is requested, or the words have another fault. Nothing is said of `Memory`.
 abbrev pub Refuses : List Text → LineRefused → Type 0
 Refuses words (Help text) = Faults words IsAsking
 Refuses words (Bad text) = Faults words (λ kind. ¬ IsAsking kind)

@@ -3,8 +3,8 @@
 use mm_plan::Plan;
 use std::alloc::{AllocError, Global};
 
-/// What the words of a command line say: what the run is asked to do, and the file that it reads,
-/// the standard input where it is `None`.
+/// What the words of a command line say: what the run is requested to do, and the file that it
+/// reads (`None`: standard input).
 #[derive(Drop)]
 pub struct Line {
     pub plan: Plan<Global>,
@@ -14,11 +14,11 @@ pub struct Line {
 /// Why there is no line.
 #[derive(Drop)]
 pub enum LineRefused {
-    /// Help or the version is asked for, and this is its text.
+    /// Help or the version is requested, and this is its text.
     Help(String),
-    /// The words have a fault, which this text tells.
+    /// The words have a fault, and this text says which.
     Bad(String),
-    /// Memory was refused.
+    /// Out of memory.
     Memory,
 }
 

@@ -21,16 +21,16 @@ static REPORTS: [&str; 5] = ["all", "matrix", "counts", "usage", "citations"];
 
 static FORMS: [&str; 2] = ["1", "2"];
 
-/// The program's version, and the toolchain with which it was proved, as `rt version` tells it.
+/// The program's version, and the toolchain with which it was proved (the line of `rt version`).
 const VERSION: &str = "0.1.0, proved with rattle-kit-13b logic dac8208d650f15bf";
 
-/// What stands at the end of the help.
+/// The last lines of the help.
 const AFTER: &str = "\
 The standard output gets the report, or one line with the first fault and its place.
 Status: 0 accepted, 1 refused, 2 invalid command line, 3 reading or writing failed,
 4 out of memory. For 2 to 4 the standard error says why.";
 
-/// An option with a whole number from 1 to 64, 4 where it isn't given.
+/// An option with a whole number from 1 to 64, 4 by default.
 fn number<'a>(alloc: Global, name: &'a str, help: &'a str) -> Arg<'a>
     ensures { rule_of result ≡ number_rule name.entry.now }
 {
@@ -80,7 +80,7 @@ fn form<'a>(alloc: Global) -> Arg<'a>
         .help("Write the matrix as a digit for each column, or for each four")
 }
 
-/// The flag that takes citations from the logical part of proofs alone.
+/// The flag that counts as citations only what the logical part of a proof applies.
 fn essential<'a>(alloc: Global) -> Arg<'a>
     ensures { rule_of result ≡ flag_rule (codes "essential") }
 {
@@ -90,7 +90,7 @@ fn essential<'a>(alloc: Global) -> Arg<'a>
         .help("Count what the logical part of a proof cites, and not what builds its formulas")
 }
 
-/// The flag that counts theorems without a proof as axioms.
+/// The flag that counts a theorem whose proof is `?` as an axiom.
 fn open_theorems<'a>(alloc: Global) -> Arg<'a>
     ensures { rule_of result ≡ flag_rule (codes "open") }
 {
@@ -129,7 +129,7 @@ fn command<'a>(alloc: Global) -> Result<Command<'a>, AllocError>
         .arg(file(alloc))
 }
 
-/// Why clap refused the words.
+/// Turns an error of clap into a refusal.
 fn refused(alloc: Global, error: &Error) -> Result<LineRefused, AllocError>
     ensures { IfOk result (IsFor (kind_of error.now)) }
 {
@@ -152,7 +152,7 @@ fn parsed<'a, S: AsStr>(alloc: Global, words: &'a [S]) -> Result<ArgMatches<'a>,
     }
 }
 
-/// The number that an option has.
+/// The number that was given for an option, or its default.
 fn number_in(matches: &ArgMatches<'_>, option: &str) -> u32
     requires { HasNumber matches.now option.now }
     ensures number { option_map (λ t. digits_value 10 (without_leading_plus t))
@@ -167,7 +167,7 @@ fn number_in(matches: &ArgMatches<'_>, option: &str) -> u32
     }
 }
 
-/// What `--report` asks for.
+/// The sections that `--report` requests.
 fn choice_in(matches: &ArgMatches<'_>) -> Choice
     requires { HasReport matches.now }
     ensures { first_value (found_of matches.now) (codes "report") ≡ Some (report_word result) }
@@ -181,7 +181,7 @@ fn choice_in(matches: &ArgMatches<'_>) -> Choice
     }
 }
 
-/// What `--form` asks for.
+/// The form that `--form` requests.
 fn form_in(matches: &ArgMatches<'_>) -> Form
     requires { HasForm matches.now }
     ensures { first_value (found_of matches.now) (codes "form") ≡ Some (form_word result) }
@@ -192,7 +192,7 @@ fn form_in(matches: &ArgMatches<'_>) -> Form
     }
 }
 
-/// A copy of the text that an argument has, if it has one.
+/// Copies the text that was given for an argument, if any.
 fn text_in(
     alloc: Global,
     matches: &ArgMatches<'_>,
@@ -207,8 +207,9 @@ fn text_in(
     }
 }
 
-/// Reads the words of a command line, of which the first is the program's name. `Help` and `Bad`
-/// come only where the command doesn't take the words.
+/// Reads the words of a command line; the first one is the program's name. `Help` comes only if
+/// help or the version is requested, `Bad` only if the command doesn't accept the words, and
+/// `Memory` only if out of memory.
 pub fn line<S: AsStr>(alloc: Global, words: &[S]) -> Result<Line, LineRefused>
     ensures says { IfOk result (λ l. Says (map S.text words.now) l) }
     ensures refuses { IfErr result (λ e. Refuses (map S.text words.now) e) }

@@ -1,4 +1,4 @@
--- The blocks in which statements stand.
+-- The blocks in which statements are.
 use Rattle.std.specs.Prelude.{◌≡◌, ℕ, ◌+◌, ◌-◌, ◌<◌, ◌≤◌, List, [], ◌∷◌, ◌++◌, length, take}
 use Rattle.std.specs.Prelude.{slice_set, slice_index, get_or, nat_le, count_by, ◌⊎◌}
 use Rattle.mm_spec.specs.Statement.{Statement, is_opening, is_closing}

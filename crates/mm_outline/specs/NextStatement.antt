@@ -1,4 +1,4 @@
--- How reading goes on, and what is found where a statement begins.
+-- How reading continues, and what is found where a statement should begin.
 use Rattle.std.specs.Prelude.{◌≡◌, ℕ, ◌+◌, ◌<◌, ◌≤◌, Bool, true, false, List, [], ◌∷◌, ◌++◌, length}
 use Rattle.std.specs.Prelude.{drop, None, Some}
 use Rattle.mm_spec.specs.Text.{Token}
@@ -11,7 +11,7 @@ use Rattle.mm_outline.specs.declared.parts.Part.TheVariants.{Start}
 use Rattle.mm_outline.specs.declared.parts.NextStatement.{NextStatement}
 use Rattle.mm_outline.specs.declared.parts.NextStatement.TheVariants.{Whole, Stopped, Ended}
 
--- From r on, us give these statements and then what vs give from q on.
+-- Read from r on, the tokens us give the statements of row, and then what vs give read from q on.
 pub record Leads (r : Progress) (us : List Token) (row : List Statement) (q : Progress)
     (vs : List Token) : Type 0 where
   pub statements : statements_from r us ≡ row ++ statements_from q vs

@@ -4,8 +4,8 @@ use Rattle.std.specs.Prelude.{slice_index, get_or}
 use Rattle.mm_spec.specs.Statement.{Statement}
 use Rattle.mm_spec.specs.Frame.{symbol_names, is_variable_number, formula_at}
 
--- the symbols of each statement, one after the other: those of statement k from place k up to
--- place k + 1
+-- `numbers` are the symbols of all statements, concatenated: those of statement k from place k of
+-- `places` up to place k + 1
 pub record AreNumbered (db : List Statement) (numbers places : List ℕ) : Type 0 where
   pub count : length places ≡ length db + 1
   pub order : (k : ℕ) → k < length db → slice_index places k ≤ slice_index places (k + 1)

@@ -34,7 +34,7 @@ class_of Close = table.close_block
 class_of Plain = table.plain
 class_of Other = table.other
 
--- the words stand in the text
+-- the words are within the text
 abbrev pub AreWithin : List ℕ → List Word → Type 0
 AreWithin text ws = All (λ w. (w.start ≤ w.end) × (w.end ≤ length text)) ws
 
@@ -55,7 +55,7 @@ token_at text ws i = token_of text (nth_word ws i)
 abbrev pub between : List ℕ → List Word → ℕ → ℕ → List Token
 between text ws i j = as_tokens text (slice_range ws i j)
 
--- what the turns of the code are
+-- what the turns in the code are
 abbrev pub outline : Kind → ℕ → ℕ → ℕ → Outline
 outline kind keyword middle end =
     record { kind = kind; keyword = keyword; middle = middle; end = end }
@@ -90,7 +90,7 @@ abbrev pub less_one : ℕ → ℕ
 less_one zero = zero
 less_one (suc d) = d
 
--- how deep it is after a statement
+-- how many blocks are open after a statement, if d are open before it
 abbrev pub depth_after : Kind → ℕ → ℕ
 depth_after kind.Open d = suc d
 depth_after kind.Close d = less_one d
@@ -141,12 +141,12 @@ module _ (text : List ℕ) (ws : List Word) where
   turn_of d i (Go part) = table.go (reading d part (i + 1))
   turn_of d i (Done o) = table.done (depth_after o.kind d) (statement_of o)
 
--- where nothing has been read
+-- P holds if nothing has been read
 abbrev pub AtStart : Part → Type 0 → Type 0
 AtStart Start P = P
 AtStart _ P = Unit {0}
 
--- a kind of statements of words
+-- the kind of a statement that has words, and no `$=`
 abbrev pub HasWords : Kind → Type 0
 HasWords kind.Theorem = ⊥
 HasWords kind.Open = ⊥
@@ -160,7 +160,7 @@ HasLabel kind.Axiom k = 0 < k
 HasLabel kind.Theorem k = 0 < k
 HasLabel _ k = Unit {0}
 
--- where the parts stand before token i
+-- where the parts of a statement are, before token i
 abbrev pub IsPart : Part → ℕ → Type 0
 IsPart Start i = Unit {0}
 IsPart (Labelled l) i = l + 1 ≡ i
@@ -168,7 +168,7 @@ IsPart (Words kind k) i = HasWords kind × HasLabel kind k × (k < i)
 IsPart (Formula k) i = (0 < k) × (k < i)
 IsPart (Proof k e) i = (0 < k) × (k < e) × (e < i)
 
--- a statement of words has its last token after its keyword
+-- a statement other than `${` and `$}` has its `$=`, or without one its end, after its keyword
 abbrev pub IsRising : Kind → ℕ → ℕ → Type 0
 IsRising kind.Open k m = Unit {0}
 IsRising kind.Close k m = Unit {0}
@@ -187,7 +187,7 @@ IsOutline o =
     HasLabel o.kind o.keyword × IsRising o.kind o.keyword o.middle × (o.keyword ≤ o.middle)
     × (o.middle ≤ o.end) × HasEnd o.kind o.keyword o.middle o.end
 
--- what a turn at token i leaves
+-- what holds after a turn at token i
 abbrev pub Holds : ℕ → Turn → Type 0
 Holds i Stop = Unit {0}
 Holds i (Go part) = IsPart part (i + 1)

@@ -1,4 +1,4 @@
--- The statements of a text by their outlines, and what stands at its end.
+-- The statements of a text by their outlines, and the fault at its end.
 use Rattle.std.specs.Prelude.{ℕ, zero, suc, Bool, true, false, List, map, Option, None, Some}
 use Rattle.mm_spec.specs.Statement.{Statement}
 use Rattle.mm_spec.specs.Output.{LexedText}

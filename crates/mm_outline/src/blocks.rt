@@ -1,4 +1,4 @@
-//! The blocks in which statements stand.
+//! The blocks in which statements are.
 
 ghost use Rattle.std.specs.Prelude.{◌≡◌, ◌<◌, ◌≤◌, ◌^◌, ◌++◌, ◌∷◌, [], ◌-◌, length, OnOk, IfOk};
 ghost use Rattle.std.specs.Prelude.{All, vec_len, nat_le, slice_index, get_or};
@@ -19,7 +19,7 @@ pub struct Blocks<A: Allocator> {
     pub open: Vec<u32, A>,
 }
 
-/// No statement yet, in the outermost block.
+/// The blocks before the first statement: the outermost one alone, which is open.
 pub fn no_blocks<A: Allocator + Copy>(alloc: A) -> Result<Blocks<A>, AllocError>
     ensures { IfOk result (λ b. lists b.of.items b.ends.items b.open.items ≡ no_blocks) }
 {
@@ -32,7 +32,7 @@ pub fn no_blocks<A: Allocator + Copy>(alloc: A) -> Result<Blocks<A>, AllocError>
 }
 
 impl<A: Allocator> Blocks<A> {
-    /// One statement more.
+    /// Appends a statement.
     pub fn push(&mut self, kind: Kind) -> Result<(), AllocError>
         requires some { 0 < vec_len self.old.open }
         requires known { All (λ b. b < vec_len self.old.ends) self.old.open.items }
@@ -60,7 +60,7 @@ impl<A: Allocator> Blocks<A> {
         Ok(())
     }
 
-    /// The end of the block of the statement.
+    /// The end of the block of the statement: the number of its `$}`, or `NEVER`.
     pub fn end_of(&self, statement: u32) -> u32
         requires inside { statement < vec_len self.now.of }
         requires known { slice_index self.now.of.items statement < vec_len self.now.ends }

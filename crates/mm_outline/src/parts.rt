@@ -27,8 +27,8 @@ pub enum Kind {
     Close,
 }
 
-/// Where a statement stands among the tokens: its keyword, its `$=` (where it has none, its last
-/// token), and its last token.
+/// Where a statement is among the tokens: the numbers of its keyword, of its `$=` (if it has none,
+/// of its last token), and of its last token.
 #[derive(Clone, Copy, Debug, PartialEq, Eq)]
 pub struct Outline {
     pub kind: Kind,
@@ -37,8 +37,8 @@ pub struct Outline {
     pub end: u32,
 }
 
-/// What of a statement has been read: nothing, the label, words after the keyword, those of a
-/// `$p`, those after its `$=`.
+/// What has been read of a statement: nothing, the label, words after the keyword, words after the
+/// keyword of a `$p`, or words after its `$=`.
 #[derive(Clone, Copy, Debug, PartialEq, Eq)]
 pub enum Part {
     Start,
@@ -56,7 +56,7 @@ pub enum Turn {
     Done(Outline),
 }
 
-/// What a token of that class does at `at`.
+/// What a token of the class `class` does at `at`.
 fn step(part: Part, class: Class, is_label: bool, is_inside: bool, at: u32) -> Turn
     ensures { result ≡ step_of part class is_label is_inside at }
 {
@@ -129,7 +129,7 @@ fn single(kind: Kind, at: u32) -> Turn
     })
 }
 
-/// Whether the word is a label, where a label may stand.
+/// Whether the word is a label, in a place where a label is expected.
 fn is_label_at(part: Part, word: &[u8]) -> bool
     ensures { AtStart part (result ≡ spec_is_label word.now) }
 {
@@ -155,8 +155,8 @@ fn take_turn(text: &[u8], tokens: &[Word], deep: u32, part: Part, at: u32) -> Tu
     step(part, class, is_label_at(part, word), deep > 0, at)
 }
 
-/// What stands where a statement should begin: a whole one, a token that is not expected, or the
-/// end, after part of one.
+/// What is found where a statement should begin: a complete statement, a token that is not
+/// expected, or the end of the tokens, with what was read of a statement before it.
 #[derive(Clone, Copy, Debug, PartialEq, Eq)]
 pub enum NextStatement {
     Whole(Outline),
@@ -204,7 +204,7 @@ fn unexpected(text: &[u8], tokens: &[Word], part: Part, at: u32) -> Fault
     }
 }
 
-/// The first token from `from` on that has a `$`, or the end where none has.
+/// The first token from `from` on that has a `$`, or the end of the tokens if none has.
 fn next_keyword(text: &[u8], tokens: &[Word], from: u32) -> u32
     requires tokens { AreTokens text.now tokens.now }
     requires limit { length tokens.now < 2 ^ 31 }
@@ -223,7 +223,7 @@ fn next_keyword(text: &[u8], tokens: &[Word], from: u32) -> u32
     tokens.len() as u32
 }
 
-/// Where reading goes on: words after a keyword are passed over, up to the next keyword.
+/// Where reading continues: words after a keyword are skipped, up to the next keyword.
 fn pass_words(text: &[u8], tokens: &[Word], part: Part, at: u32) -> u32
     requires tokens { AreTokens text.now tokens.now }
     requires limit { length tokens.now < 2 ^ 31 }
@@ -242,7 +242,7 @@ fn pass_words(text: &[u8], tokens: &[Word], part: Part, at: u32) -> u32
     }
 }
 
-/// What stands from the token `from` on.
+/// Reads the next statement, from the token `from` on; `deep` blocks are open before it.
 pub fn next_statement(text: &[u8], tokens: &[Word], deep: u32, from: u32) -> NextStatement
     requires tokens { AreTokens text.now tokens.now }
     requires limit { length tokens.now < 2 ^ 31 }

@@ -18,7 +18,7 @@ impl Model for Sym {
 }
 
 impl Sym {
-    /// The symbol of that number.
+    /// The symbol with the given number.
     pub fn new(number: u32) -> Sym
         ensures { result ≡ number }
     {

@@ -25,7 +25,7 @@ pub enum Class {
     Other,
 }
 
-/// Whether the token has a `$`: its first byte tells.
+/// Whether the token contains a `$`, which its first byte shows.
 #[inline(always)]
 pub fn has_dollar(token: &[u8]) -> bool
     requires { TellsByFirst token.now }
@@ -79,7 +79,7 @@ fn is_label_byte(byte: u8) -> bool
         || byte == 46
 }
 
-/// Whether the word has a label's bytes alone.
+/// Whether the word consists only of bytes that a label may have.
 pub fn is_label(word: &[u8]) -> bool
     ensures { result ≡ spec_is_label word.now }
 {

@@ -1,4 +1,4 @@
--- Plans that a run takes.
+-- The plans that a run accepts.
 use Rattle.std.specs.Prelude.{ℕ, ◌+◌, ◌<◌, ◌≤◌, List, length, slice_index, Option}
 use Rattle.std.specs.Option.{option_map}
 use Rattle.std.specs.String.{string_bytes}
@@ -24,7 +24,7 @@ module _ {A : Type 0} where
   abbrev pub only_of : Plan A → Option Bytes
   only_of p = option_map string_bytes p.only
 
-  -- what a plan asks of the report
+  -- what a plan requests of the report
   abbrev pub request_of : Plan A → Request
   request_of p =
       record {

@@ -1,7 +1,7 @@
-//! What a run is asked to do. This crate knows the fields of a plan and which plans a run takes:
-//! where a text is cut into pieces, how many workers check the proofs, and the columns and sections
-//! of the report. It promises that `is_lawful` answers for exactly those plans that are lawful by
-//! the definitions in `specs/`. It reads no text and takes no memory.
+//! What a run is requested to do. This crate knows the fields of a plan and which plans a run
+//! accepts: where the text is cut into pieces, how many workers check the proofs, and which columns
+//! and sections the report has. It promises that `is_lawful` is true for exactly the plans that are
+//! lawful by the definitions in `specs/`. It reads no text and allocates no memory.
 #![tactic(auto)]
 
 ghost use Rattle.std.specs.Prelude.{◌≡◌, ◌↔◌, IsTrue, length};
@@ -11,18 +11,18 @@ ghost use Rattle.mm_plan.specs.Plans.{IsLawful, IsLawfulCutting, RisesTo, only_o
 use mm_spec::{Choice, Form};
 use std::alloc::Allocator;
 
-/// Where a text is cut into pieces: into so many of about the same length, or at these places, byte
-/// offsets from 0, of which those past the text's end are dropped.
+/// Where a text is cut into pieces: into the given number of pieces of about the same length, or at
+/// the given places, which are byte offsets from 0. Places past the text's end are dropped.
 #[derive(Drop)]
 pub enum Cutting<A: Allocator> {
     Count(u32),
     Places(Vec<u32, A>),
 }
 
-/// What a run is asked to do: how the text is cut, how many workers check the proofs, the typecode
-/// of the axioms that are columns (all axioms where it is `None`), the sections of the report, the
-/// form of its matrix, and whether a theorem rests on what the essential nodes of proofs cite, and
-/// not on what builds formulas alone. Neither the cuts nor the workers change what is written.
+/// What a run is requested to do: how the text is cut, how many workers check the proofs, the
+/// typecode of the axioms that are columns (`None`: all axioms), the sections of the report, the
+/// form of its matrix, whether only the essential nodes of a proof count as citations, and whether
+/// open theorems count as axioms. The cuts and the workers don't change what is written.
 #[derive(Drop)]
 pub struct Plan<A: Allocator> {
     pub cuts: Cutting<A>,
@@ -58,8 +58,8 @@ impl<A: Allocator> Cutting<A> {
 }
 
 impl<A: Allocator> Plan<A> {
-    /// Whether a run takes the plan: 1 to 64 pieces, or places none of which is less than the one
-    /// before it, and 1 to 64 workers.
+    /// Whether a run accepts the plan: it has 1 to 64 pieces, or places none of which is less than
+    /// the one before it, and 1 to 64 workers.
     pub fn is_lawful(&self) -> bool
         ensures { IsTrue result ↔ IsLawful self.now }
     {

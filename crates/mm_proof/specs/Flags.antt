@@ -1,4 +1,4 @@
--- The steps as they are kept.
+-- The steps as they are stored.
 use Rattle.std.specs.Prelude.{ℕ, ◌≡◌, false, List, get_or, map}
 use Rattle.mm_spec.specs.Steps as spec
 use Rattle.mm_spec.specs.Steps.{PlacedStep, placed, label, marked}
@@ -14,7 +14,7 @@ step_by Marked n = marked n
 abbrev pub told_one : Placed → PlacedStep
 told_one p = placed p.at (step_by p.kind p.number)
 
--- the steps that are told by what is kept
+-- the steps that the stored ones stand for
 abbrev pub told : List Placed → List PlacedStep
 told ps = map told_one ps
 
@@ -22,6 +22,6 @@ told ps = map told_one ps
 abbrev pub nothing : Placed
 nothing = record { at = 0; number = 0; kind = Label; is_marked = false }
 
--- each step's flag tells whether it is marked, and none beyond is
+-- each step's flag says whether the step is marked, and past the last step none is
 abbrev pub AreFlags : List Placed → Type 0
 AreFlags ps = (i : ℕ) → (get_or ps i nothing).is_marked ≡ is_marked (told ps) i

@@ -12,8 +12,8 @@ use Rattle.mm_proof.specs.declared.letters.Begun.{Begun}
 use Rattle.mm_proof.specs.declared.placed.Step.{Step}
 use Rattle.mm_proof.specs.declared.refused.ProofRefused.{ProofRefused}
 
--- the labels that have numbers, the steps that were marked, the number whose last letter is
--- missing, and the steps
+-- the theorem, the labels that have numbers, the steps that were marked, the number whose last
+-- letter hasn't been read yet, and the steps
 pub record State : Type 0 where
   pub theorem : ℕ
   pub labels : List ℕ
@@ -25,7 +25,7 @@ abbrev pub state : ℕ → List ℕ → List ℕ → Option Begun → List Place
 state t labels marks number steps =
     record { theorem = t; labels = labels; marks = marks; number = number; steps = steps }
 
--- the same, but for the number
+-- the same state, except for the number
 abbrev pub with_number : State → Option Begun → State
 with_number s number = state s.theorem s.labels s.marks number s.steps
 
@@ -36,15 +36,16 @@ letter at byte = record { at = at; byte = byte }
 abbrev pub early_value : List Letter → ℕ
 early_value early = fold (λ n x. 5 * n + (x.byte - 84)) 0 early
 
--- the number that has begun has these early letters: their first place and their value
+-- the number that has begun consists of these early letters: it has the place of the first and the
+-- value of all
 abbrev pub Begins : Option Begun → List Letter → Type 0
 Begins None early = early ≡ []
 Begins (Some b) early =
     (first : Letter) × (more : List Letter) × (early ≡ first ∷ more) × (b.at ≡ first.at)
     × (b.value ≡ told (early_value early))
 
--- Of all letters these are left to be read: the steps of all are those so far and those of what is
--- left, and the faults of all are faults of what is left.
+-- Of the letters `all`, the letters `left` are left to be read. The steps of `all` are the steps so
+-- far and those of `left`, and the faults of `all` are those of `left`.
 pub record Continues (s : State) (all left : List Letter) : Type 0 where
   pub early : List Letter
   pub begins : Begins s.number early
@@ -59,12 +60,12 @@ pub record StandsAt (s : State) (at : ℕ) : Type 0 where
   pub few : length s.steps ≤ at
   pub earlier : All (λ j. j < length s.steps) s.marks
 
--- these letters lead from one state to the other
+-- these letters lead from the state `old` to the state `new`
 abbrev pub Reads : State → List Letter → State → Type 0
 Reads old xs new =
     (all left : List Letter) → Continues old all (xs ++ left) → Continues new all left
 
--- these letters have a fault, and it is the first
+-- these letters have a fault, which is the first fault of all letters
 abbrev pub Stops : State → List Letter → ProofRefused → Type 0
 Stops old xs e =
     (all left : List Letter) → Continues old all (xs ++ left)
@@ -80,7 +81,8 @@ abbrev pub named : Option Step → List spec.Step
 named None = []
 named (Some s) = step_of s ∷ []
 
--- each token is a word after the one before it, from the place on, and none goes past the end
+-- from place `from` on, each token is a word that isn't empty and doesn't begin before the end of
+-- the one before it, and none goes past `end`
 abbrev pub InOrder : ℕ → List Token → ℕ → Type 0
 InOrder from [] end = from ≤ end
 InOrder from (t ∷ ts) end =

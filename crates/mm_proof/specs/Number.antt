@@ -5,7 +5,7 @@ use Rattle.mm_spec.specs.CompressedProof.{Group, is_early, is_last, value}
 use Rattle.mm_proof.specs.declared.digits.LetterKind.{LetterKind}
 use Rattle.mm_proof.specs.declared.digits.LetterKind.TheVariants.{Early, Last, Mark, Unknown, Other}
 
--- the word is early letters and a last one after them, which have this value
+-- the word consists of early letters followed by a last one, and has this value
 pub record IsNumber (word : List ℕ) (n : ℕ) : Type 0 where
   pub group : Group
   pub spelled : map (λ x. x.byte) group.early ++ group.last.byte ∷ [] ≡ word
@@ -22,6 +22,6 @@ IsLetter b Unknown = b ≡ 63
 IsLetter b Other =
     (is_early b ≡ false) × (is_last b ≡ false) × ((b == 90) ≡ false) × ((b == 63) ≡ false)
 
--- a number as far as it can be told: above the greatest of 64 bits all are alike
+-- a number as 64 bits hold it: all that are above the greatest 64-bit number become that number
 abbrev pub told : ℕ → ℕ
 told n = min n 18446744073709551615

@@ -20,16 +20,16 @@ step_of (Marked j) = marked j
 abbrev pub step_at : List PlacedStep → ℕ → PlacedStep
 step_at steps i = get_or steps i (placed 0 (label 0))
 
--- whether a step takes up the subproof that the step of a number ended
+-- whether a step repeats the subproof that step `i` ended
 abbrev pub takes_up : ℕ → spec.Step → Bool
 takes_up i (label l) = false
 takes_up i (marked j) = i == j
 
--- whether some step takes up the subproof that the step of a number ended
+-- whether some step repeats the subproof that step `i` ended
 abbrev pub is_marked : List PlacedStep → ℕ → Bool
 is_marked steps i = list_any (λ s. takes_up i s.step) steps
 
--- a marked step takes up one before it, where there are so many
+-- a marked step repeats the subproof of one of the `n` steps before it
 abbrev pub IsEarlier : spec.Step → ℕ → Type 0
 IsEarlier (label l) n = Unit {0}
 IsEarlier (marked j) n = j < n

@@ -10,22 +10,22 @@ use Rattle.mm_spec.specs.declared.Code.TheVariants.{IncompleteProof}
 use Rattle.mm_proof.specs.declared.refused.ProofRefused.{ProofRefused}
 use Rattle.mm_proof.specs.declared.refused.ProofRefused.TheVariants.{Fault as Faulty, Memory}
 
--- a fault is the first of these
+-- if the refusal is a fault, it is the first of these
 abbrev pub Refuses : List Fault → ProofRefused → Type 0
 Refuses faults (Faulty f) = least faults ≡ Some f
 Refuses faults Memory = Unit {0}
 
--- a fault is the one with which these begin
+-- if the refusal is a fault, these begin with it
 abbrev pub StartsWith : List Fault → ProofRefused → Type 0
 StartsWith faults (Faulty f) = (more : List Fault) × (faults ≡ f ∷ more)
 StartsWith faults Memory = Unit {0}
 
--- the number that was found, if one was
+-- the number that was found, if any, as a list
 abbrev pub found : Option ℕ → List ℕ
 found None = []
 found (Some j) = j ∷ []
 
--- the fault of a word of a normal proof
+-- the fault of a word of a normal proof, if it has one
 abbrev pub word_faults : List Statement → ℕ → Token → List Fault
 word_faults db k u =
     elim (bytes_eq u.word (codes "?"))

@@ -17,7 +17,8 @@ use crate::refused::{ProofRefused, refused};
 use mm_stmt::{Code, Database, Word};
 use std::alloc::Allocator;
 
-/// Reads the labels in brackets, up to the `)`, and tells how many there are.
+/// Reads the labels in brackets, up to the `)`, and returns how many there are. Their statements
+/// are appended to `labels`.
 fn read_labels<A: Allocator>(
     database: &Database<A>,
     theorem: u32,
@@ -62,10 +63,10 @@ fn read_labels<A: Allocator>(
     Err(refused(end, Code::OpenBrackets))
 }
 
-/// For how many labels there is room at first, at least.
+/// The minimum number of labels for which room is reserved at first.
 const FEWEST_LABELS: usize = 64;
 
-/// How many letters these words have, or some more, where they end at that place.
+/// An upper bound of the number of letters that the words have, if they end at place `end`.
 fn letters_room(words: &[Word], end: u32) -> usize {
     match words.first() {
         Some(first) => end.saturating_sub(first.start) as usize,
@@ -73,7 +74,7 @@ fn letters_room(words: &[Word], end: u32) -> usize {
     }
 }
 
-/// Reads the words of a compressed proof after its `(`. The proof ends at that place.
+/// Reads the words of a compressed proof after its `(`. The proof ends at place `end`.
 pub(crate) fn read_compressed<A: Allocator + Copy>(
     alloc: A,
     database: &Database<A>,

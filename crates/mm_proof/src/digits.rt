@@ -6,7 +6,7 @@ ghost use Rattle.mm_proof.specs.Number.{IsNumber, IsLetter, told};
 /// What a byte after the brackets of a compressed proof is (Metamath book, Appendix B).
 #[derive(Clone, Copy, Debug, PartialEq, Eq)]
 pub(crate) enum LetterKind {
-    /// `U` to `Y`: a digit 1 to 5 of a number that goes on.
+    /// `U` to `Y`: a digit 1 to 5 of a number that continues.
     Early(u64),
     /// `A` to `T`: the last digit of a number, 1 to 20.
     Last(u64),
@@ -35,15 +35,16 @@ pub(crate) fn letter_of(byte: u8) -> LetterKind
     }
 }
 
-/// A number with one digit more, or the greatest of 64 bits where it is above that.
+/// A number with one more digit, `base * number + digit`, or the greatest 64-bit number if that is
+/// smaller.
 pub(crate) fn with_digit(number: u64, base: u64, digit: u64) -> u64
     ensures { result ≡ told (base * number + digit) }
 {
     number.saturating_mul(base).saturating_add(digit)
 }
 
-/// The value of a number in letters: any number of `U` to `Y`, and after them one of `A` to `T`.
-/// It is `None` for any other word, and for a value above 4,294,967,295.
+/// The value of a number in letters: any number of letters `U` to `Y`, followed by one of `A` to
+/// `T`. It is `None` for any other word, and for a value above 4,294,967,295.
 pub fn number(letters: &[u8]) -> Option<u32>
     ensures some { IfSome result (λ n. IsNumber letters.now n) }
     ensures none { IfNone result ((n : ℕ) → IsNumber letters.now n → 4294967295 < n) }

@@ -7,8 +7,8 @@ ghost use Rattle.mm_proof.specs.Refused.{found};
 use mm_stmt::Database;
 use std::alloc::Allocator;
 
-/// The statement of a label that is usable in the proof of a theorem: that of an active hypothesis
-/// or of an earlier assertion.
+/// The statement of a label, if the label is usable in the proof of `theorem`: if it is the label
+/// of an active hypothesis or of an earlier assertion.
 #[inline(always)]
 pub(crate) fn usable_label<A: Allocator>(
     database: &Database<A>,

@@ -21,19 +21,19 @@ use mm_stmt::{Code, Word};
 use std::alloc::{AllocError, Allocator};
 use std::marker::Model;
 
-/// For how many marks there is room at first: most proofs have fewer.
+/// The number of marks for which room is reserved at first. Most proofs have fewer.
 const ROOM: usize = 64;
 
-/// A number whose last letter has not come yet.
+/// A number whose last letter hasn't been read yet.
 #[derive(Clone, Copy)]
 pub(crate) struct Begun {
     /// The place of its first letter.
     at: u32,
-    /// The value of its letters so far, or the greatest of 64 bits where it is above that.
+    /// The value of its letters so far, or the greatest 64-bit number if that is smaller.
     value: u64,
 }
 
-/// A number with one digit more, whose letter stands at that place.
+/// A number with one more digit, whose letter is at place `at`.
 fn begun_by(number: Option<Begun>, at: u32, base: u64, digit: u64) -> Begun
     requires { digit ≤ 20 }
     ensures at { result.at ≡ (begun_at number at).at }
@@ -48,8 +48,8 @@ fn begun_by(number: Option<Begun>, at: u32, base: u64, digit: u64) -> Begun
     }
 }
 
-/// What the letters so far stand for, but for a number whose last letter has not come yet: that one
-/// is passed along, so that it stays in registers.
+/// What the letters so far stand for, except for a number whose last letter hasn't been read yet.
+/// That number is passed as an argument, so that it stays in registers.
 #[derive(Drop)]
 pub(crate) struct Progress<A: Allocator> {
     /// The statements whose labels have numbers: the theorem's mandatory hypotheses, and those in
@@ -70,7 +70,8 @@ impl<A: Allocator> Model for Progress<A> {
 }
 
 impl<A: Allocator> Progress<A> {
-    /// No letters yet, of no more than so many, where these labels have numbers.
+    /// No letters read yet, of at most `most` letters. `labels` has the statements whose labels
+    /// have numbers.
     pub(crate) fn none(alloc: A, theorem: u32, labels: Vec<u32, A>, most: usize) -> Self
     where
         A: Copy,
@@ -90,8 +91,8 @@ impl<A: Allocator> Progress<A> {
         self.steps
     }
 
-    /// The step that a number names, by its value, or by the greatest of 64 bits where it is above
-    /// that.
+    /// The step that a number names, if it names one. `value` is the number's value, or the
+    /// greatest 64-bit number if that is smaller.
     fn named(&self, value: u64) -> Option<Step>
         requires { 0 < value }
         ensures step { (n : ℕ) → value ≡ told n
@@ -115,7 +116,7 @@ impl<A: Allocator> Progress<A> {
         }
     }
 
-    /// Adds the step of a number that ends, which is a label or an earlier step.
+    /// Appends the step of a number that ends. The step is a label or an earlier step.
     fn add_step(&mut self, at: u32, step: Step) -> Result<(), AllocError>
         requires earlier { IsEarlier (step_of step) (length self.old.steps) }
         ensures { OnOk result
@@ -167,7 +168,7 @@ impl<A: Allocator> Progress<A> {
         Ok(())
     }
 
-    /// Reads a letter, and tells the number that is open after it.
+    /// Reads a letter, and returns the number that is open after it.
     fn read(
         &mut self,
         number: Option<Begun>,
@@ -201,7 +202,7 @@ impl<A: Allocator> Progress<A> {
         }
     }
 
-    /// Reads the letters of a word, and tells the number that is open after it.
+    /// Reads the letters of a word, and returns the number that is open after it.
     fn read_word(
         &mut self,
         number: Option<Begun>,
@@ -227,7 +228,7 @@ impl<A: Allocator> Progress<A> {
         Ok(begun)
     }
 
-    /// Reads all letters, which end at that place.
+    /// Reads all letters, which end at place `end`.
     pub(crate) fn read_all(
         &mut self,
         text: &[u8],

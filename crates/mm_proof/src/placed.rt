@@ -11,21 +11,21 @@ use std::marker::Model;
 /// A step of a proof.
 #[derive(Clone, Copy, Debug, PartialEq, Eq)]
 pub enum Step {
-    /// The label of a statement, by its number: a hypothesis or an assertion.
+    /// The label of a hypothesis or an assertion, by the number of its statement.
     Label(u32),
-    /// The subproof that an earlier step ended, by the number of that step, from 0.
+    /// The subproof that an earlier step ended, by the number of that step, counted from 0.
     Marked(u32),
 }
 
-/// What the number of a step is that of.
+/// What the number of a step refers to.
 #[derive(Clone, Copy, Drop)]
 enum Kind {
     Label,
     Marked,
 }
 
-/// A step with its place, and whether it is marked. (With a `Step` within it would take a third
-/// more memory.)
+/// A step with its place, and whether it is marked. (With a `Step` as a field, it would take a
+/// third more memory.)
 #[derive(Clone, Copy, Drop)]
 struct Placed {
     at: u32,
@@ -34,11 +34,11 @@ struct Placed {
     is_marked: bool,
 }
 
-/// For how many steps there is room at first, at most: those of a common proof are fewer.
+/// The maximum number of steps for which room is reserved at first. A common proof has fewer.
 const MOST_ROOM: usize = 4096;
 
-/// No elements yet, in a list with room for so many, where memory isn't refused: so it needn't
-/// grow.
+/// An empty list, with room for `room` elements, so that it doesn't have to grow. If it runs out of
+/// memory, the list has no such room.
 pub(crate) fn with_room<T, A: Allocator>(alloc: A, room: usize) -> Vec<T, A>
     ensures { result.items ≡ [] }
 {
@@ -50,7 +50,7 @@ pub(crate) fn with_room<T, A: Allocator>(alloc: A, room: usize) -> Vec<T, A>
     list
 }
 
-/// The steps of a theorem's proof, by their numbers from 0, each with its place.
+/// The steps of a theorem's proof, numbered from 0, each with its place.
 #[derive(Drop)]
 pub struct Steps<A: Allocator> {
     theorem: u32,
@@ -69,7 +69,7 @@ impl<A: Allocator> Model for Steps<A> {
 }
 
 impl<A: Allocator> Steps<A> {
-    /// No steps, of a proof that has no more than so many.
+    /// No steps yet, of a proof that has at most `most` steps.
     pub(crate) fn none(alloc: A, theorem: u32, most: usize) -> Self
         ensures { result ≡ read theorem [] }
     {
@@ -77,7 +77,8 @@ impl<A: Allocator> Steps<A> {
         Steps { theorem, steps }
     }
 
-    /// One step more, which takes up the subproof of an earlier one if it is a marked one.
+    /// Appends a step. If it is `Step::Marked`, it repeats the subproof of an earlier step, which
+    /// is then marked.
     pub(crate) fn push(&mut self, at: u32, step: Step) -> Result<(), AllocError>
         requires { IsEarlier (step_of step) (length self.old.steps) }
         ensures ok { OnOk result
@@ -103,7 +104,7 @@ impl<A: Allocator> Steps<A> {
         Ok(())
     }
 
-    /// The theorem, by its statement.
+    /// The number of the theorem's statement.
     pub fn theorem(&self) -> u32
         ensures { result ≡ self.now.theorem }
     {
@@ -117,7 +118,7 @@ impl<A: Allocator> Steps<A> {
         self.steps.len()
     }
 
-    /// A step.
+    /// Step `i`.
     pub fn step(&self, i: usize) -> Step
         requires { i < length self.now.steps }
         ensures { step_of result ≡ (step_at self.now.steps i).step }
@@ -129,7 +130,7 @@ impl<A: Allocator> Steps<A> {
         }
     }
 
-    /// Whether a step is marked: some step takes up the subproof that it ended.
+    /// Whether step `i` is marked: some step repeats the subproof that it ended.
     pub fn is_marked(&self, i: usize) -> bool
         requires { i < length self.now.steps }
         ensures { result ≡ marked_in self.now.steps i }
@@ -137,8 +138,8 @@ impl<A: Allocator> Steps<A> {
         self.steps[i].is_marked
     }
 
-    /// The place of a step, a byte offset from 0: that of its label, or in a compressed proof of
-    /// its number's first letter.
+    /// The place of step `i`, a byte offset from 0: that of its label, or in a compressed proof
+    /// that of its number's first letter.
     pub fn place(&self, i: usize) -> u32
         requires { i < length self.now.steps }
         ensures { result ≡ (step_at self.now.steps i).at }

@@ -55,9 +55,8 @@ fn read_words<A: Allocator>(
     Ok(())
 }
 
-/// Reads the proof of a theorem, which is the number of a `$p`. It is refused with its first
-/// reading fault (E31 to E33, E41 to E45), whose place is a byte offset from 0, or where memory is
-/// refused.
+/// Reads the proof of `theorem`, the number of a `$p` statement. Fails with the first reading fault
+/// (E31 to E33, E41 to E45), whose place is a byte offset from 0, or if it runs out of memory.
 pub fn read_proof<A: Allocator + Copy>(
     alloc: A,
     database: &Database<A>,

@@ -7,12 +7,12 @@ ghost use Rattle.mm_proof.specs.declared.refused.ProofRefused.TheVariants.{Fault
 use mm_stmt::{Code, Fault};
 use std::alloc::{AllocError, AllocFailed};
 
-/// Why a proof has no steps.
+/// Why no steps were read from a proof.
 #[derive(Drop)]
 pub enum ProofRefused {
     /// Its first reading fault.
     Fault(Fault),
-    /// Memory was refused.
+    /// Out of memory.
     Memory,
 }
 

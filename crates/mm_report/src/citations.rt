@@ -25,7 +25,7 @@ use mm_stmt::Database;
 use std::alloc::Allocator;
 use std::io::Write;
 
-/// How many of the cited assertions are listed.
+/// Returns the number of cited assertions that are listed.
 fn listed_count<D: Allocator>(database: &Database<'_, D>, only: Option<&[u8]>, cited: &[u32]) -> u64
     requires { All
         (λ a. list_any is_assertion (statement_at database.now.statements a) ≡ true) cited.now }
@@ -42,7 +42,7 @@ fn listed_count<D: Allocator>(database: &Database<'_, D>, only: Option<&[u8]>, c
     count
 }
 
-/// Sends a label after those before it, if there are any.
+/// Sends a label, after a space if others are before it.
 fn send_next<W: Write>(sink: &mut Sink, to: &mut W, label: &[u8], is_first: bool)
     ensures { Sent (W.contents to.old) (W.contents to.new) sink.old sink.new
         (next_label is_first label.now) }
@@ -123,7 +123,7 @@ fn send_citation_lines<W: Write, D: Allocator, C: Allocator>(
     }
 }
 
-/// Sends the report, where there are so many columns.
+/// Sends the report. `axioms` is the number of columns.
 fn send_citations<W: Write, D: Allocator, C: Allocator>(
     sink: &mut Sink,
     to: &mut W,
@@ -155,11 +155,12 @@ fn send_citations<W: Write, D: Allocator, C: Allocator>(
     send_line(sink, to, b"end");
 }
 
-/// Writes the report of what each theorem of a database cites in its own proof, in file order;
-/// where a typecode is chosen, of what has that typecode, axioms and theorems alike. The columns
-/// are those of this typecode, and the citations those of this database. With the flag it tells how
-/// many columns are open theorems. It takes no memory. `WriteFailed` comes where a write failed, or
-/// took nothing of a piece that was not empty; then a beginning of the report has been written.
+/// Writes the report of what each theorem of a database cites in its own proof, in file order. If
+/// `only` is a typecode, it lists only what has that typecode, axioms and theorems alike. `chosen`
+/// has the columns of this typecode, and `citations` are those of this database. If `with_open` is
+/// set, the report says how many columns are open theorems. It allocates no memory. Returns
+/// `WriteFailed` if a write failed or accepted no byte of a piece that wasn't empty; then a prefix
+/// of the report has been written.
 pub fn write_citations<'a, W: Write, A: Allocator, C: Allocator, D: Allocator>(
     to: &mut W,
     database: &Database<'a, D>,

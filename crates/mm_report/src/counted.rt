@@ -1,4 +1,4 @@
-//! How many columns are open theorems.
+//! The number of columns that are open theorems.
 
 ghost use Rattle.std.specs.Prelude.{◌≡◌, ◌&&◌, count_by, length};
 ghost use Rattle.std.specs.List.{list_any};
@@ -10,7 +10,7 @@ use mm_rows::Columns;
 use mm_stmt::Database;
 use std::alloc::Allocator;
 
-/// How many of the columns are open theorems, if these are to be told.
+/// Returns the number of columns that are open theorems, or `None` if `with_open` isn't set.
 pub(crate) fn open_theorems<A: Allocator, D: Allocator>(
     database: &Database<'_, D>,
     chosen: &Columns<A>,

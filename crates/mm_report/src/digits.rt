@@ -11,10 +11,10 @@ use mm_rows::Matrix;
 use std::alloc::Allocator;
 use std::io::Write;
 
-/// How many words of marks are written at a time.
+/// The number of words of marks that are written at a time.
 const WORDS: u32 = 32;
 
-/// How many digits these words have.
+/// The number of digits of these words.
 const DIGITS: usize = 16 * WORDS as usize;
 
 /// Sends a theorem's digits, those of some words at a time.
@@ -35,7 +35,7 @@ pub(crate) fn send_digits<W: Write, A: Allocator>(
         let count = (words - word).min(WORDS);
         let part = &mut digits[..16 * count as usize];
         matrix.write_digits(i, word, part);
-        // The last word may have columns past the last one.
+        // The last word may extend past the last column.
         let left = matrix.columns().div_ceil(4) - 16 * word;
         sink.send(to, &part[..left.min(16 * count) as usize]);
         word += count;

@@ -35,14 +35,14 @@ impl<'d, 'a, D: Allocator> TheoremLabels<'d, 'a, D> {
         TheoremLabels { database }
     }
 
-    /// How many there are.
+    /// Returns the number of labels.
     pub fn len(&self) -> usize
         ensures { result ≡ length self.now }
     {
         self.database.theorems().len()
     }
 
-    /// A label.
+    /// Returns the label of the theorem with this index in file order.
     pub fn label(&self, index: u32) -> &'a [u8]
         requires { index < length self.now }
         ensures { result.now ≡ slice_index_or self.now index [] }
@@ -50,7 +50,7 @@ impl<'d, 'a, D: Allocator> TheoremLabels<'d, 'a, D> {
         label_of(self.database, self.database.theorems()[index as usize])
     }
 
-    /// The labels from the one number up to the other, each after a space.
+    /// Returns the labels with indices from `from` up to `to`, each after a space.
     pub fn spaced(&self, from: u32, to: u32) -> &'d [u8]
         requires order { from ≤ to }
         requires within { to ≤ length self.now }
@@ -93,14 +93,14 @@ impl<'d, 'a, D: Allocator> ColumnLabels<'d, 'a, D> {
         }
     }
 
-    /// How many there are.
+    /// Returns the number of labels.
     pub fn len(&self) -> usize
         ensures { result ≡ length self.now }
     {
         self.statements.len()
     }
 
-    /// A label.
+    /// Returns the label of the column with this index.
     pub fn label(&self, index: u32) -> &'a [u8]
         requires { index < length self.now }
         ensures { result.now ≡ slice_index_or self.now index [] }
@@ -109,7 +109,7 @@ impl<'d, 'a, D: Allocator> ColumnLabels<'d, 'a, D> {
     }
 }
 
-/// The label of a statement.
+/// Returns the label of a statement, which is empty if it has none.
 pub(crate) fn label_of<'a, D: Allocator>(database: &Database<'a, D>, statement: u32) -> &'a [u8]
     requires { statement < length database.now.statements }
     ensures { result.now ≡ label_at database.now.statements statement }

@@ -7,18 +7,18 @@ use Rattle.mm_cites.specs.Citing.{Citing, Cites, theorem_at, list_at}
 use Rattle.mm_rows.specs.Bits.{is_bit, words_for, spot}
 use Rattle.mm_rows.specs.Marks.{Marks}
 
--- the bits of statement t: on which columns it rests, and nothing past the last column
+-- the bits of statement t: which columns it rests on, and nothing past the last column
 pub record IsBitRow (c : Citing) (columns : List ℕ) (t : ℕ) (row : List ℕ) : Type 0 where
   pub words : length row ≡ words_for (length columns)
   pub marks : (j : ℕ) → j < length columns
       → Decides (is_bit row j) (RestsOn (Cites c) t (slice_index columns j))
   pub past : (j : ℕ) → length columns ≤ j → is_bit row j ≡ false
 
--- the words of row r, of so many words a row
+-- the words of row r, if a row has `width` words
 abbrev pub row_at : List ℕ → ℕ → ℕ → List ℕ
 row_at bits width r = slice_range bits (r * width) (r * width + width)
 
--- among all words, those of the theorems that theorem i cites are known
+-- among the words of all rows, those of the theorems that theorem i cites are known
 abbrev pub IsReady : Citing → List ℕ → List ℕ → ℕ → Type 0
 IsReady c columns bits i =
     (r k : ℕ) → r < length c.theorems → k < length (list_at c i)

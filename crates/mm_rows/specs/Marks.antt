@@ -5,7 +5,7 @@ use Rattle.std.specs.List.{range_with_len}
 use Rattle.mm_spec.specs.Chains.{RestsOn}
 use Rattle.mm_cites.specs.Citing.{Citing, Cites, theorem_at}
 
--- so many rows and columns, and for each row whether it is marked in each column
+-- the numbers of rows and columns, and for each row whether it is marked in each column
 pub record Marks : Type 0 where
   pub rows : ℕ
   pub columns : ℕ
@@ -19,18 +19,18 @@ mark m i j = slice_index_or (slice_index_or m.cells i []) j false
 abbrev pub row_marks : Marks → ℕ → List Bool
 row_marks m i = map (mark m i) (range_with_len 0 m.columns)
 
--- above a number, if there is one
+-- k is above the number, if one is given
 abbrev pub IsAbove : Option ℕ → ℕ → Type 0
 IsAbove None k = Unit {0}
 IsAbove (Some i) k = i < k
 
--- the first number above another, or of all
+-- the first number above the given one, or of all numbers if none is given
 abbrev pub start_of : Option ℕ → ℕ
 start_of None = 0
 start_of (Some i) = i + 1
 
--- a table of the theorems and the columns, with a mark where a chain of citations leads from the
--- one to the other
+-- a table of the theorems and the columns, in which a cell is marked exactly if a chain of
+-- citations leads from the theorem to the column
 pub record IsMatrix (c : Citing) (columns : List ℕ) (m : Marks) : Type 0 where
   pub rows : m.rows ≡ length c.theorems
   pub columns_are : m.columns ≡ length columns

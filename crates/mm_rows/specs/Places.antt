@@ -1,8 +1,8 @@
--- Where the statements of a list stand in it, by statement.
+-- The places of statements in a list, by statement.
 use Rattle.std.specs.Prelude.{◌≡◌, ◌≢◌, ℕ, ◌<◌, List, length, slice_index, get_or}
 
--- for each statement its place among the first n of a list, or the greatest of 32 bits where it has
--- none
+-- for each statement its place among the first n of a list, or the greatest number of 32 bits if it
+-- has none
 pub record ArePlacesOf (list : List ℕ) (n : ℕ) (places : List ℕ) : Type 0 where
   pub known : (s : ℕ) → get_or places s 4294967295 ≢ 4294967295
       → (get_or places s 4294967295 < n) × (slice_index list (get_or places s 4294967295) ≡ s)

@@ -27,7 +27,7 @@ impl<A: Allocator> Model for Columns<A> {
     ghost invariant = { λ c. IsRising c.statements.items };
 }
 
-/// Whether an assertion has the typecode, where one is chosen.
+/// Whether an assertion has the chosen typecode. True if `only` is `None`.
 pub fn is_chosen<'a, D: Allocator>(
     database: &Database<'a, D>,
     only: Option<&[u8]>,
@@ -48,8 +48,8 @@ pub fn is_chosen<'a, D: Allocator>(
 }
 
 impl<A: Allocator + Copy> Columns<A> {
-    /// The axioms of the database whose typecode is `only`, or all of them; a typecode that nothing
-    /// has gives no columns. Refused only where memory is.
+    /// Returns the axioms of the database whose typecode is `only`, or all axioms if it is `None`.
+    /// A typecode that nothing has gives no columns. Fails only if out of memory.
     pub fn new<'a, D: Allocator>(
         alloc: A,
         database: &Database<'a, D>,
@@ -70,7 +70,7 @@ impl<A: Allocator + Copy> Columns<A> {
 }
 
 impl<A: Allocator> Columns<A> {
-    /// The statements of the columns.
+    /// Returns the statements of the columns.
     pub fn statements(&self) -> &[u32]
         ensures statements { result.now ≡ self.now }
         ensures rising { IsRising self.now }
@@ -78,7 +78,7 @@ impl<A: Allocator> Columns<A> {
         self.statements.as_slice()
     }
 
-    /// How many columns there are.
+    /// Returns the number of columns.
     pub fn len(&self) -> u32
         ensures len { result ≡ length self.now }
         ensures rising { IsRising self.now }
@@ -86,7 +86,7 @@ impl<A: Allocator> Columns<A> {
         self.statements.len() as u32
     }
 
-    /// The statement of a column.
+    /// Returns the statement of a column.
     pub fn statement(&self, column: u32) -> u32
         requires { column < length self.now }
         ensures { result ≡ slice_index self.now column }

@@ -1,5 +1,5 @@
 //! Rows of marks as hexadecimal digits: a digit has four columns, the first of them as its highest
-//! bit. A word has 16 digits, which are made side by side.
+//! bit. The 16 digits of a word are computed at once, by lanes.
 
 ghost use Rattle.std.specs.Prelude.{◌≡◌, ◌<◌, ◌*◌, ◌/◌, ◌%◌, ℕ, length, slice_index};
 ghost use Rattle.mm_spec.specs.Report.{hex_digit};
@@ -7,14 +7,14 @@ ghost use Rattle.mm_rows.specs.Bits.{four_at};
 
 use std::simd::prelude::*;
 
-/// The number of four columns, by what they are as the lowest bits of a word: there the first
-/// column is the lowest bit.
+/// The number of four columns, indexed by the same columns as the lowest bits of a word, where the
+/// first column is the lowest bit.
 const NUMBERS: [u8; 16] = [0, 8, 4, 12, 2, 10, 6, 14, 1, 9, 5, 13, 3, 11, 7, 15];
 
 /// The same numbers as hexadecimal digits.
 const DIGITS: [u8; 16] = *b"084c2a6e195d3b7f";
 
-/// The number of the four columns of digit k of a word.
+/// Returns the number of the four columns of digit k of a word.
 pub fn number(word: u64, k: usize) -> u8
     requires { k < 16 }
     ensures { result ≡ four_at word k }
@@ -22,7 +22,7 @@ pub fn number(word: u64, k: usize) -> u8
     NUMBERS[((word >> (4 * k)) & 15) as usize]
 }
 
-/// The digits of a word. A byte has two of them, its lower half the first.
+/// Returns the digits of a word. A byte has two of them, the first in its lower half.
 #[inline(always)]
 fn word_digits(word: u64) -> u8x16
     ensures length { length result ≡ 16 }

@@ -1,4 +1,4 @@
-//! Where statements stand in a rising list of statements.
+//! The places of statements in an ascending list of statements.
 
 ghost use Rattle.std.specs.Prelude.{◌≡◌, ◌<◌, ℕ, length, slice_index, IfOk, IfSome, IfNone};
 ghost use Rattle.mm_cites.specs.Citing.{IsRising};
@@ -11,8 +11,8 @@ use std::marker::Model;
 /// The place of a statement that isn't in the list.
 const NOWHERE: u32 = 4_294_967_295;
 
-/// A rising list of statements, and for each statement up to its last one the place there, or
-/// `NOWHERE`: so a statement is found by one look.
+/// An ascending list of statements, and for each statement up to the last one in the list its place
+/// there, or `NOWHERE`. So a statement is found in one step.
 #[derive(Drop)]
 pub(crate) struct Places<'a, A: Allocator> {
     statements: &'a [u32],
@@ -32,7 +32,7 @@ impl<'a, A: Allocator> Model for Places<'a, A> {
         IsRising p.statements.now × ArePlaces p.statements.now p.places.items };
 }
 
-/// How many statements there are up to the last of a rising list.
+/// Returns the number of statements up to the last one in an ascending list.
 fn count_to_last(statements: &[u32]) -> usize
     requires { IsRising statements.now }
     ensures { (i : ℕ) → i < length statements.now → slice_index statements.now i < result }
@@ -43,7 +43,7 @@ fn count_to_last(statements: &[u32]) -> usize
     }
 }
 
-/// Notes the places of a rising list, where none is known.
+/// Notes the places of the statements of an ascending list. `places` must have none yet.
 fn note_places(statements: &[u32], places: &mut [u32])
     requires rising { IsRising statements.now }
     requires room { (i : ℕ) → i < length statements.now
@@ -57,7 +57,7 @@ fn note_places(statements: &[u32], places: &mut [u32])
 }
 
 impl<'a, A: Allocator + Copy> Places<'a, A> {
-    /// The places of a rising list.
+    /// Returns the places of the statements of an ascending list.
     pub(crate) fn new(alloc: A, statements: &'a [u32]) -> Result<Places<'a, A>, AllocError>
         requires { IsRising statements.now }
         ensures { IfOk result (λ p. p ≡ statements.now) }
@@ -70,14 +70,14 @@ impl<'a, A: Allocator + Copy> Places<'a, A> {
 }
 
 impl<'a, A: Allocator> Places<'a, A> {
-    /// How many words have a bit for each statement of the list.
+    /// Returns the number of words that have a bit for each statement of the list.
     pub(crate) fn words(&self) -> usize
         ensures { result ≡ words_for (length self.now) }
     {
         self.statements.len().div_ceil(64)
     }
 
-    /// Where a statement stands in the list.
+    /// Returns the place of a statement in the list, or `None` if it isn't there.
     pub(crate) fn find(&self, statement: u32) -> Option<usize>
         ensures rising { IsRising self.now }
         ensures some { IfSome result (λ i. (i < length self.now)

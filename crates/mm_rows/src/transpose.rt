@@ -1,6 +1,6 @@
 //! Rows of bits as columns, a block of 64 rows at a time: block w has the rows from `64 * w` on,
-//! and makes word w of each column. So a word of a column is written once, where a mark at a time
-//! would fetch it again for each of its bits.
+//! and makes word w of each column. So a word of a column is written once. Writing one mark at a
+//! time would fetch the word again for each of its bits.
 
 ghost use Rattle.std.specs.Prelude.{◌≡◌, ◌<◌, ◌≤◌, ◌+◌, ◌*◌, ℕ, length, slice_index, IfOk, true};
 ghost use Rattle.std.specs.Prelude.{false};
@@ -29,7 +29,7 @@ fn mark_columns(any: &mut [u64], bits: &[u64], rows: usize, w: usize)
     }
 }
 
-/// Byte `at` of each row of block w; zeros past the last row.
+/// Returns byte `at` of each row of block w, and zeros past the last row.
 fn row_bytes(bits: &[u64], across: usize, rows: usize, w: usize, at: usize) -> [u8; 64]
     requires size { length bits.now ≡ rows * across }
     requires few_rows { rows < 2147483648 }
@@ -46,7 +46,7 @@ fn row_bytes(bits: &[u64], across: usize, rows: usize, w: usize, at: usize) -> [
     bytes
 }
 
-/// Bit `b` of each of 64 bytes.
+/// Returns bit `b` of each of 64 bytes.
 #[inline(always)]
 fn lane_bits(bytes: u8x64, b: usize) -> u64
     requires { b < 8 }
@@ -56,7 +56,7 @@ fn lane_bits(bytes: u8x64, b: usize) -> u64
     (bytes & bit).simd_eq(bit).to_bitmask()
 }
 
-/// Writes what block w makes of the columns of byte `at`.
+/// Writes the words that block w makes of the columns of byte `at`.
 fn write_columns(
     transposed: &mut [u64],
     bits: &[u64],
@@ -75,14 +75,14 @@ fn write_columns(
     let bytes = u8x64::from_array(row_bytes(bits, columns.div_ceil(64), rows, w, at));
     for j in 8 * at..(8 * at + 8).min(columns) {
         let word = lane_bits(bytes, j % 8);
-        // A column in which the block has no mark is zero there, and isn't fetched.
+        // If the block has no mark in a column, the word is zero already and isn't fetched.
         if word != 0 {
             transposed[j * down + w] = word;
         }
     }
 }
 
-/// Writes what block w makes of each column; `any` is a row to work in.
+/// Writes the word that block w makes of each column. `any` is a row for its own use.
 fn transpose_block(
     transposed: &mut [u64],
     bits: &[u64],
@@ -105,7 +105,7 @@ fn transpose_block(
     }
 }
 
-/// Writes what each block makes of each column.
+/// Writes the words that all blocks make of each column.
 fn transpose_blocks(
     transposed: &mut [u64],
     bits: &[u64],
@@ -124,7 +124,7 @@ fn transpose_blocks(
     }
 }
 
-/// The columns of a table of bits.
+/// Returns the columns of a table of bits.
 pub fn transpose<A: Allocator + Copy>(
     alloc: A,
     bits: &[u64],

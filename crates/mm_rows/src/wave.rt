@@ -20,7 +20,7 @@ use rayon::prelude::*;
 use std::alloc::{AllocError, Allocator};
 use std::thread::Threads;
 
-/// The wave of a theorem, where those of the theorems before it are known.
+/// Returns the wave of a theorem. `waves` has those of the theorems before it.
 fn next_wave<A: Allocator>(
     citations: &Citations<A>,
     theorems: &Places<A>,
@@ -43,7 +43,7 @@ fn next_wave<A: Allocator>(
     wave
 }
 
-/// The waves of all theorems, by the places of these.
+/// Returns the waves of all theorems. `theorems` has the places of the theorems.
 fn waves_of<A: Allocator + Copy>(
     alloc: A,
     citations: &Citations<A>,
@@ -60,7 +60,8 @@ fn waves_of<A: Allocator + Copy>(
     Ok(waves)
 }
 
-/// For each theorem the number of citations in the longest chain from it through theorems alone.
+/// Returns for each theorem the number of citations in the longest chain from it that runs through
+/// theorems only.
 pub fn waves<A: Allocator + Copy>(
     alloc: A,
     citations: &Citations<A>,
@@ -71,7 +72,7 @@ pub fn waves<A: Allocator + Copy>(
     waves_of(alloc, citations, &theorems)
 }
 
-/// The rows of all theorems, those of the lowest wave first.
+/// Returns the rows of all theorems, those of the lowest wave first.
 fn by_wave<A: Allocator + Copy>(alloc: A, waves: &[u32]) -> Result<Vec<u32, A>, AllocError>
     requires { length waves.now < 2147483648 }
     ensures { IfOk result (λ v. IsByWave waves.now v.items) }
@@ -92,7 +93,7 @@ fn by_wave<A: Allocator + Copy>(alloc: A, waves: &[u32]) -> Result<Vec<u32, A>, 
     Ok(rows)
 }
 
-/// Where the wave of a row ends, among rows by wave.
+/// Returns where the wave of the row at `from` ends, in a list of rows by wave.
 fn wave_end(waves: &[u32], rows: &[u32], from: usize) -> usize
     requires known { All (λ r. r < length waves.now) rows.now }
     requires from { from < length rows.now }
@@ -120,7 +121,7 @@ fn store(bits: &mut [u64], width: usize, i: u32, row: &[u64])
     bits[at..at + width].copy_from_slice(row);
 }
 
-/// The bits of some rows, in their order, made side by side.
+/// Returns the bits of some rows, in the order of `rows`. They are computed in parallel.
 fn bit_rows<R: Threads + Sync, A: Allocator + Copy + Send + Sync>(
     rt: &R,
     alloc: A,
@@ -159,7 +160,7 @@ fn bit_rows<R: Threads + Sync, A: Allocator + Copy + Send + Sync>(
         .collect(rt, alloc)
 }
 
-/// Fills in some rows, none of which needs another, side by side.
+/// Fills in some rows, none of which needs another, in parallel.
 fn fill_side_by_side<R: Threads + Sync, A: Allocator + Copy + Send + Sync>(
     rt: &R,
     alloc: A,
@@ -189,7 +190,7 @@ fn fill_side_by_side<R: Threads + Sync, A: Allocator + Copy + Send + Sync>(
     Ok(())
 }
 
-/// Fills in some rows, none of which needs another, one after the other.
+/// Fills in some rows, none of which needs another, one by one.
 fn fill_in_turn<A: Allocator>(
     citations: &Citations<A>,
     theorems: &Places<A>,
@@ -210,7 +211,7 @@ fn fill_in_turn<A: Allocator>(
     }
 }
 
-/// The fewest rows for which threads are worth their start.
+/// The minimum number of rows for which it is worth starting threads.
 const FEWEST_FOR_THREADS: usize = 512;
 
 /// Fills in the rows of one wave.
@@ -276,7 +277,7 @@ fn fill_waves<R: Threads + Sync, A: Allocator + Copy + Send + Sync>(
     Ok(())
 }
 
-/// The rows of all theorems.
+/// Returns the rows of all theorems.
 fn all_rows<R: Threads + Sync, A: Allocator + Copy + Send + Sync>(
     rt: &R,
     alloc: A,
@@ -296,8 +297,8 @@ fn all_rows<R: Threads + Sync, A: Allocator + Copy + Send + Sync>(
     Ok(bits)
 }
 
-/// On which columns each theorem rests. The rows are made wave by wave, those of a wave by several
-/// threads where they are many.
+/// Returns the table of the columns that each theorem rests on. The rows are computed wave by wave,
+/// those of a wave with many theorems by several threads.
 pub fn matrix<R: Threads + Sync, A: Allocator + Copy + Send + Sync>(
     rt: &R,
     alloc: A,

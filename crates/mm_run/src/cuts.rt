@@ -1,4 +1,4 @@
-//! The cuts of a text that a plan asks for.
+//! The cuts of a text that a plan requests.
 
 ghost use Rattle.std.specs.Prelude.{◌≡◌, ◌<◌, ◌≤◌, ◌^◌, ℕ, IfOk, length, slice_index};
 ghost use Rattle.mm_plan.specs.Plans.{IsLawfulCutting};
@@ -20,8 +20,8 @@ fn within(places: &[u32], len: usize) -> usize
     places.len()
 }
 
-/// The cuts of a text of this length, at most 2,147,483,648 bytes; places past its end are dropped.
-/// Refused only where memory is.
+/// Returns the cuts of a text of `len` bytes, at most 2,147,483,648. Places past its end are
+/// dropped. Fails only if out of memory.
 pub fn cuts_of<A: Allocator + Copy>(
     cutting: &Cutting<A>,
     alloc: A,

@@ -6,14 +6,14 @@ ghost use Rattle.mm_spec.specs.Ends.{Gave, reading_limit};
 use std::alloc::{AllocError, Allocator};
 use std::io::Read;
 
-/// The most bytes that are read: one more than a text may have, so that a longer text is seen to be
-/// too long.
+/// The most bytes that are read: one more than a text may have, so that a text that is too long is
+/// recognised.
 pub const READING_LIMIT: usize = 2_147_483_648;
 
-/// How many bytes are asked for at a time.
+/// How many bytes are requested at a time.
 const PIECE: usize = 65536;
 
-/// Why a text was not read.
+/// Why a text was not read: a read failed, or out of memory.
 #[derive(Clone, Copy, PartialEq, Eq, Debug)]
 pub enum ReadRefused {
     Failed,
@@ -31,8 +31,8 @@ impl From<AllocError> for ReadRefused {
     }
 }
 
-/// Reads to the end, or to the limit. A read that answers an error of any kind is a failure and is
-/// not tried again.
+/// Reads to the end or to the limit. A read that returns an error of any kind is a failure, and
+/// isn't repeated.
 pub fn read_all<R: Read, A: Allocator>(
     from: &mut R,
     text: &mut Vec<u8, A>,

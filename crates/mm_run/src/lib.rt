@@ -1,8 +1,8 @@
-//! A run: from the bytes of a database to its report, or to its refusal. This layer knows how the
-//! layers below it follow one another: the text is read to its end, cut and lexed, its statements
-//! are read, their proofs checked, and only then is anything written. `run` promises that the bytes
-//! written are those that the text and the choice of report define (`IsOutput` in
-//! `Rattle.mm_spec.specs.Output`), for every lawful plan and whatever the reader gives.
+//! A run: from the bytes of a database to its report or its refusal. This layer calls the layers
+//! below it in order: it reads the text to its end, cuts and lexes it, reads its statements and
+//! checks their proofs, and only then writes anything. `run` promises that the bytes written are
+//! those that the text and the request define (`IsOutput` in `Rattle.mm_spec.specs.Output`), for
+//! every lawful plan and whatever the reader gives.
 #![tactic(auto)]
 
 mod cuts;
@@ -21,10 +21,9 @@ use std::io::{Read, Write};
 use std::sync::Wait;
 use std::thread::Threads;
 
-/// Reads a text to its end and writes what it and the plan's choice of report define: the refusal
-/// of its first fault, or its report. A text is no longer read once it is too long. Nothing was
-/// written where reading failed or memory was refused; a beginning of the output where writing
-/// failed.
+/// Reads a text to its end and writes its output: the refusal for its first fault, or the report
+/// that the plan requests. Reading stops once the text is too long. On `ReadFailed` and `NoMemory`
+/// nothing was written; on `WriteFailed` a prefix of the output was.
 pub fn run<R: Threads + Wait + Sync, A: Allocator + Copy + Send + Sync, I: Read, O: Write>(
     rt: &R,
     alloc: A,

@@ -1,4 +1,4 @@
-//! What is written of a text: its report, or its refusal.
+//! What is written for a text: its report or its refusal.
 
 ghost use Rattle.std.specs.Prelude.{◌≡◌, ◌<◌, ◌≤◌, ◌^◌, ℕ, List, IfOk, length};
 ghost use Rattle.mm_spec.specs.declared.Choice.TheVariants as choices;
@@ -30,7 +30,7 @@ fn refuse<A: Allocator, W: Write>(text: &[u8], fault: Fault, plan: &Plan<A>, to:
     ensures { Answers result text.now (request_of plan.now) (W.contents to.old)
         (W.contents to.new) }
 {
-    // The contract alone speaks of it.
+    // Only the contract needs the plan.
     let _ = plan.workers;
     match write_refusal(to, text, &fault) {
         Ok(()) => RunEnd::Refused(fault),
@@ -38,8 +38,7 @@ fn refuse<A: Allocator, W: Write>(text: &[u8], fault: Fault, plan: &Plan<A>, to:
     }
 }
 
-/// Writes the report of what each theorem of a database without a fault cites. No table is made for
-/// it.
+/// Writes the report of what each theorem cites, for a database without a fault. It needs no table.
 fn report_citations<'a, A: Allocator + Copy, W: Write>(
     alloc: A,
     database: &Database<'a, A>,
@@ -72,7 +71,7 @@ fn report_citations<'a, A: Allocator + Copy, W: Write>(
     }
 }
 
-/// Writes the report of what each theorem of a database without a fault rests on.
+/// Writes the report of what each theorem rests on, for a database without a fault.
 fn report_rests<'a, R: Threads + Sync, A: Allocator + Copy + Send + Sync, W: Write>(
     rt: &R,
     alloc: A,
@@ -132,7 +131,7 @@ fn report<'a, R: Threads + Sync, A: Allocator + Copy + Send + Sync, W: Write>(
     }
 }
 
-/// The database of a text: cut as the plan says, lexed and read. Refused for memory alone.
+/// Cuts a text as the plan says, lexes and reads it. Fails only if out of memory.
 fn database_of<'a, R: Threads + Sync, A: Allocator + Copy + Send + Sync>(
     rt: &R,
     alloc: A,
@@ -151,8 +150,8 @@ fn database_of<'a, R: Threads + Sync, A: Allocator + Copy + Send + Sync>(
     read(alloc, text, lexed, plan.with_open)
 }
 
-/// Writes what the text and the choice of report define: the refusal of the first fault, or the
-/// report.
+/// Writes the output of a text: the refusal for its first fault, or the report that the plan
+/// requests.
 pub fn answer<R: Threads + Wait + Sync, A: Allocator + Copy + Send + Sync, W: Write>(
     rt: &R,
     alloc: A,

@@ -1,4 +1,4 @@
--- The symbols of statements by their numbers, one statement's after another's.
+-- The symbols of statements by their numbers, concatenated.
 use Rattle.std.specs.Prelude.{◌≡◌, ℕ, ◌+◌, ◌≤◌, List, [], length, map, flat_map, take, get_or}
 use Rattle.mm_spec.specs.Text.{Bytes, Token, words}
 use Rattle.mm_spec.specs.Statement.{Statement, constants, variables, disjoint, floating, essential}
@@ -24,7 +24,7 @@ unjudged names (disjoint k xs d) = numbers_in names xs
 unjudged names (floating l k xs d) = numbers_in names xs
 unjudged names _ = []
 
--- the symbols of all statements, and where those of each begin; last, where they all end
+-- the symbols of all statements; where those of each begin, and where they all end
 pub record AreFormulas (db : List Statement) (numbers places : List ℕ) : Type 0 where
   pub numbers_are : numbers ≡ flat_map (formula_of db) db
   pub count : length places ≡ length db + 1

@@ -123,13 +123,13 @@ declared_codes n Constants = constant_codes n
 declared_codes n Variables = variable_codes n
 declared_codes n _ = disjoint_codes n
 
--- the words before the next: those of the tokens, the last one first, and those before them
+-- the words before the next one: those of the tokens, the last one first, then those before them
 abbrev pub before_next : List (List ℕ) → List Token → List (List ℕ)
 before_next e [] = e
 before_next e (t ∷ ts) = before_next (t.word ∷ e) ts
 
--- the fault of a `$c`, `$v` or `$d` as a whole, with its depth, its keyword, its end and how many
--- symbols it has
+-- the fault of a `$c`, `$v` or `$d` as a whole, by its depth, the places of its keyword and its
+-- end, and the number of its symbols
 abbrev pub list_fault : Kind → ℕ → ℕ → ℕ → ℕ → Option Fault
 list_fault Constants deep keyword end count =
     merge (fault_at keyword (first_code (nat_lt 0 deep) ConstantInBlock None))
@@ -148,7 +148,7 @@ abbrev pub typing_fault : ℕ → ℕ → Option (Option Code) → Option Fault
 typing_fault keyword place None = Some (fault keyword BadFloating)
 typing_fault keyword place (Some code) = fault_at place code
 
--- what is known of a symbol, without where it stands
+-- what is known of a symbol, with its typecode as bytes
 pub record Entry : Type 0 where
   pub is_variable : Bool
   pub declared : ℕ
@@ -162,12 +162,12 @@ abbrev pub entry_of : Option Symbol → Option Entry
 entry_of None = None
 entry_of (Some s) = Some (entry s.is_variable s.declared s.typed s.typecode.now)
 
--- after its declaration by a statement
+-- the entry after the symbol's declaration by a statement
 abbrev pub declared_entry : Bool → ℕ → List ℕ → Option Entry → Option Entry
 declared_entry v number w None = Some (entry v number never w)
 declared_entry v number w (Some e) = Some (entry v number e.typed e.typecode)
 
--- after a `$f`
+-- the entry after a `$f`
 abbrev pub typed_entry : ℕ → List ℕ → Option Entry → Option Entry
 typed_entry number c None = None
 typed_entry number c (Some e) = Some (entry e.is_variable e.declared number c)

@@ -15,7 +15,7 @@ use Rattle.mm_scope.specs.WordEntry.{IsEntryOf}
 use Rattle.mm_scope.specs.Labels.{AreLabels}
 use Rattle.mm_scope.specs.declared.names.Symbol.{Symbol}
 
--- the code knows what stands before the next statement
+-- the code knows what is before the next statement
 pub record Keeps (db : List Statement) (look : List ℕ → Option Symbol) (labels : List ℕ → Option ℕ)
     (b : Lists) : Type 0 where
   pub blocks : IsBlocks db b
@@ -48,7 +48,7 @@ module _ {A : Type 0} where
     places = r.formulas.places.items;
   }
 
--- a statement that may stand after lawful ones
+-- a statement that may follow lawful ones
 pub record MayTake (db : List Statement) (deep : ℕ) (s : Statement) : Type 0 where
   pub lawful : (k : ℕ) → k < length db → scope_fault db k ≡ None
   pub few : length db < 2 ^ 31

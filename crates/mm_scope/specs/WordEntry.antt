@@ -53,7 +53,7 @@ pub record IsEntryOf (db : List Statement) (w : Bytes) (x : Option Entry) : Type
       → list_any (is_other c w) (flat_map typings_of db)
       ≡ (not (nat_eq (typed_by x) never) && not (bytes_eq c (typecode_by x)))
 
--- the entry of a word after statement n, and the statement of a label
+-- the entry of a word after statement n, and the statement of a label after it
 abbrev pub typed_after : ℕ → List Token → Bytes → Option Entry → Option Entry
 typed_after n (c ∷ v ∷ []) w x = if bytes_eq v.word w then typed_entry n c.word x else x
 typed_after n _ w x = x

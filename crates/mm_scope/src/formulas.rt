@@ -12,15 +12,15 @@ use mm_outline::symbol::Sym;
 use mm_spec::Word;
 use std::alloc::{AllocError, Allocator};
 
-/// The symbols of all statements, one statement's after another's: those of statement k from
-/// `places[k]` up to `places[k + 1]`.
+/// The symbols of all statements, concatenated: those of statement k are from `places[k]` up to
+/// `places[k + 1]`.
 #[derive(Drop)]
 pub struct Formulas<A: Allocator> {
     pub numbers: Vec<Sym, A>,
     pub places: Vec<u32, A>,
 }
 
-/// Those of no statement.
+/// Returns the symbols of no statements.
 pub(crate) fn no_formulas<A: Allocator + Copy>(alloc: A) -> Result<Formulas<A>, AllocError>
     ensures { IfOk result (λ f. AreFormulas [] f.numbers.items f.places.items) }
 {
@@ -31,7 +31,7 @@ pub(crate) fn no_formulas<A: Allocator + Copy>(alloc: A) -> Result<Formulas<A>, 
 }
 
 impl<'a, A: Allocator + Copy> Names<'a, A> {
-    /// Adds the numbers of the symbols whose words stand from `from` up to `to` to the others.
+    /// Appends the numbers of the symbols of the tokens from `from` up to `to`.
     fn number_all(
         &self,
         text: &[u8],
@@ -57,7 +57,7 @@ impl<'a, A: Allocator + Copy> Names<'a, A> {
         Ok(())
     }
 
-    /// For each symbol, by its number, whether it is a variable.
+    /// Returns for each symbol, by its number, whether it is a variable.
     pub fn variables(&self, alloc: A) -> Result<Vec<bool, A>, AllocError>
         ensures count { IfOk result (λ v. length v.items ≡ length (names_of self.now.symbols)) }
         ensures each { IfOk result
@@ -77,8 +77,8 @@ impl<'a, A: Allocator + Copy> Names<'a, A> {
 }
 
 impl<'a, A: Allocator + Copy> Scope<'a, A> {
-    /// Adds the numbers of the symbols of a `$c`, `$v`, `$d` or `$f` to the others; those of a
-    /// formula are added as it is judged.
+    /// Appends the numbers of the symbols of a `$c`, `$v`, `$d` or `$f`. Those of a formula are
+    /// appended when it is judged.
     pub(crate) fn number_others(
         &self,
         text: &[u8],

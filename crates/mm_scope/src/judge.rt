@@ -1,4 +1,4 @@
-//! The faults of a statement that comes next.
+//! The faults of the next statement.
 
 ghost use Rattle.std.specs.Prelude.{◌≡◌, ◌<◌, ◌≤◌, ◌++◌, [], length, OnOk, IfOk, ◌^◌, map};
 ghost use Rattle.std.specs.Prelude.{◌+◌, ◌-◌, ℕ, List, is_some, Some, if◌then◌else◌, bytes_eq};
@@ -24,8 +24,8 @@ use mm_spec::{Code, Fault, Word};
 use std::alloc::{AllocError, Allocator};
 
 impl<'a, A: Allocator + Copy> Scope<'a, A> {
-    /// The first fault of the symbols of a formula after its typecode, whose numbers are added to
-    /// the others.
+    /// Returns the first fault of the symbols of a formula after its typecode, and appends their
+    /// numbers.
     fn symbols_fault(
         &self,
         text: &[u8],
@@ -59,7 +59,7 @@ impl<'a, A: Allocator + Copy> Scope<'a, A> {
         Ok(best)
     }
 
-    /// The first fault of the symbols of `$c`, `$v` or `$d`.
+    /// Returns the first fault of the symbols of a `$c`, `$v` or `$d`.
     fn declared_fault(
         &self,
         alloc: A,
@@ -91,8 +91,8 @@ impl<'a, A: Allocator + Copy> Scope<'a, A> {
         Ok(best)
     }
 
-    /// The first fault of a formula, which ends at the token `to`. The numbers of its symbols are
-    /// added to the others.
+    /// Returns the first fault of a formula, which ends at the token `to`, and appends the numbers
+    /// of its symbols.
     fn formula_fault(
         &self,
         text: &[u8],
@@ -129,7 +129,7 @@ impl<'a, A: Allocator + Copy> Scope<'a, A> {
         Ok(merge(typecode, rest))
     }
 
-    /// The fault of a label.
+    /// Returns the fault of the label at the token `at`.
     fn label_fault(&self, text: &[u8], tokens: &[Word], at: u32) -> Option<Fault>
         requires words { AreWithin text.now tokens.now }
         requires within { at < length tokens.now }
@@ -142,7 +142,7 @@ impl<'a, A: Allocator + Copy> Scope<'a, A> {
         note(None, token.start, self.label_code(token.bytes(text)))
     }
 
-    /// The fault of the symbols of a `$f`.
+    /// Returns the fault of the symbols of a `$f`.
     fn floating_fault(&self, text: &[u8], tokens: &[Word], keyword: u32, to: u32) -> Option<Fault>
         requires words { AreWithin text.now tokens.now }
         requires order { keyword < to }
@@ -175,7 +175,7 @@ impl<'a, A: Allocator + Copy> Scope<'a, A> {
         }
     }
 
-    /// The fault of a `$c`, `$v` or `$d` as a whole.
+    /// Returns the fault of a `$c`, `$v` or `$d` as a whole.
     fn list_fault(
         &self,
         tokens: &[Word],
@@ -231,8 +231,8 @@ impl<'a, A: Allocator + Copy> Scope<'a, A> {
         }
     }
 
-    /// The least fault of a statement that comes next. The numbers of the symbols of a `$e`, `$a`
-    /// or `$p` are added to the others.
+    /// Returns the least fault of the next statement, and appends the numbers of the symbols of a
+    /// `$e`, `$a` or `$p`. `deep` is the number of blocks that are open.
     pub(crate) fn fault(
         &self,
         alloc: A,
@@ -276,8 +276,8 @@ impl<'a, A: Allocator + Copy> Scope<'a, A> {
         }
     }
 
-    /// The least fault of a label and a formula. The numbers of the formula's symbols are added to
-    /// the others.
+    /// Returns the least fault of a label and a formula, and appends the numbers of the formula's
+    /// symbols.
     fn labelled(
         &self,
         text: &[u8],
@@ -310,7 +310,7 @@ impl<'a, A: Allocator + Copy> Scope<'a, A> {
         Ok(merge(label, formula))
     }
 
-    /// The least fault of a `$c`, `$v` or `$d`.
+    /// Returns the least fault of a `$c`, `$v` or `$d`.
     fn declared(
         &self,
         alloc: A,
@@ -339,7 +339,7 @@ impl<'a, A: Allocator + Copy> Scope<'a, A> {
     }
 }
 
-/// The lesser of two faults, if any.
+/// Returns the lesser of two faults, if any.
 fn merge(best: Option<Fault>, fault: Option<Fault>) -> Option<Fault>
     ensures { result ≡ spec_merge best fault }
 {
@@ -349,11 +349,11 @@ fn merge(best: Option<Fault>, fault: Option<Fault>) -> Option<Fault>
     }
 }
 
-/// In a list of at most so many words each is compared with those before it; those of a longer one
-/// are kept in a map.
+/// In a list of at most this many words, each word is compared with those before it. The words of a
+/// longer list are kept in a map.
 const FEW: u32 = 16;
 
-/// Whether the word at `at` stands among those from `from` on before it.
+/// Whether the word at `at` is among the words before it, from `from` on.
 fn is_among(text: &[u8], tokens: &[Word], from: u32, at: u32) -> bool
     requires words { AreWithin text.now tokens.now }
     requires order { from ≤ at }
@@ -372,8 +372,8 @@ fn is_among(text: &[u8], tokens: &[Word], from: u32, at: u32) -> bool
     found
 }
 
-/// Whether the word at `at` of a list that begins at `from` stands twice so far. The words of a
-/// list that isn't short are seen, one after the other.
+/// Whether the word at `at` of a list that begins at `from` occurs earlier in the list. If the list
+/// isn't short, `seen` has the words before `at`, and the call adds the one at `at`.
 fn is_repeated<'a, A: Allocator + Copy>(
     seen: &mut Map<'a, u32, A>,
     is_short: bool,
@@ -404,7 +404,7 @@ fn is_repeated<'a, A: Allocator + Copy>(
     }
 }
 
-/// Whether the word was seen, and sees it.
+/// Returns whether the word is in `seen`, and adds it.
 fn see<'a, A: Allocator + Copy>(
     seen: &mut Map<'a, u32, A>,
     word: &'a [u8],
@@ -418,7 +418,8 @@ fn see<'a, A: Allocator + Copy>(
     Ok(old.is_some())
 }
 
-/// The fault, or one at that place with that code, if it is before it.
+/// Returns the lesser of two faults, if any: `best`, and the one with `code` at `at`. The place
+/// decides, and at the same place the number of the code.
 #[inline(always)]
 fn note(best: Option<Fault>, at: u32, code: Option<Code>) -> Option<Fault>
     ensures { result ≡ spec_merge best (fault_at at code) }

@@ -1,7 +1,7 @@
 //! What is lawful. This layer knows labels, symbols and their scope: it goes over the tokens once,
-//! judges each statement by the names before it, and keeps the statements up to the first that
-//! isn't whole and lawful, with their blocks, their labels and their symbols by number. It promises
-//! that these are the statements that the definition of reading gives, with the fault after them
+//! judges each statement by the names before it, and keeps the statements up to the first malformed
+//! or unlawful one, with their blocks, their labels and their symbols by number. It promises that
+//! these are the statements that the definition of reading gives, with the fault after them
 //! (`Rattle.mm_spec.specs.Output.IsRead`).
 #![tactic(auto)]
 

@@ -8,7 +8,7 @@ ghost use Rattle.std.proofs.Common.{ap};
 use indexmap::Equivalent;
 use std::hash::{Hash, Hasher};
 
-/// The bytes of a label or a symbol, which stand in the text. They are hashed all at once, where a
+/// The bytes of a label or a symbol, borrowed from the text. They are hashed all at once, whereas a
 /// slice is hashed byte by byte.
 #[derive(Clone, Copy)]
 pub struct Name<'a> {

@@ -18,8 +18,8 @@ use mm_spec::Code;
 use std::alloc::{AllocError, Allocator};
 use std::hash::{BuildHasherDefault, FoldHasher};
 
-/// What is known of a symbol: a constant, or a variable with its last declaration and its last
-/// `$f`, whose typecode is kept.
+/// What is known of a symbol: a constant, or a variable with its last declaration, its last `$f`
+/// and the typecode of this `$f`.
 #[derive(Clone, Copy, Drop)]
 pub struct Symbol<'a> {
     pub is_variable: bool,
@@ -30,10 +30,10 @@ pub struct Symbol<'a> {
 
 pub type Map<'a, V, A> = IndexMap<Name<'a>, V, BuildHasherDefault<FoldHasher>, A>;
 
-/// How many guesses there are.
+/// The number of guesses.
 const GUESSES: usize = 2048;
 
-/// A guess that wasn't made.
+/// Stands for a guess that hasn't been made.
 const NO_GUESS: usize = 18_446_744_073_709_551_615;
 
 /// The symbols and the labels.
@@ -42,20 +42,19 @@ pub struct Names<'a, A: Allocator> {
     pub symbols: Map<'a, Symbol<'a>, A>,
     pub labels: Map<'a, u32, A>,
     /// The numbers of symbols, by the first byte, the last byte and the length of their names. A
-    /// guess is looked at before it is believed; so the usual symbol is found by comparing it with
-    /// one name.
+    /// guess is verified before use, so the usual symbol is found by comparing it with one name.
     guesses: Vec<usize, A>,
-    /// How many bytes the longest symbol has. A longer word is none, and isn't hashed to find that
-    /// out; so a very long one is hashed once, where it is declared.
+    /// The length of the longest symbol in bytes. A longer word is no symbol, and isn't hashed to
+    /// find that out; so a very long symbol is hashed once, when it is declared.
     longest_symbol: usize,
-    /// The same of labels.
+    /// The same for labels.
     longest_label: usize,
     ghost distinct: { are_distinct (names_of symbols) ≡ true },
     ghost symbols_no_longer: { AreNoLonger symbols longest_symbol },
     ghost labels_no_longer: { AreNoLonger labels longest_label },
 }
 
-/// Which guess is made for a word.
+/// Returns the index of the guess for a word.
 fn guess_of(word: &[u8]) -> usize {
     match (word.first(), word.last()) {
         (Some(first), Some(last)) => {
@@ -65,7 +64,7 @@ fn guess_of(word: &[u8]) -> usize {
     }
 }
 
-/// The guess for words as this one is the symbol's number, unless there is one for them.
+/// Sets the guess for words such as `word` to `number`, unless a guess for them has been made.
 fn note_guess<A: Allocator>(guesses: &mut Vec<usize, A>, word: &[u8], number: usize) {
     if let Some(guess) = guesses.get_mut(guess_of(word)) {
         if *guess == NO_GUESS {
@@ -74,7 +73,7 @@ fn note_guess<A: Allocator>(guesses: &mut Vec<usize, A>, word: &[u8], number: us
     }
 }
 
-/// No names yet.
+/// Returns names without symbols and labels.
 pub(crate) fn no_names<'a, A: Allocator + Copy>(alloc: A) -> Result<Names<'a, A>, AllocError>
     ensures symbols { IfOk result (λ n. (w : List ℕ) → find n.symbols w ≡ None) }
     ensures labels { IfOk result (λ n. (w : List ℕ) → find n.labels w ≡ None) }
@@ -91,7 +90,7 @@ pub(crate) fn no_names<'a, A: Allocator + Copy>(alloc: A) -> Result<Names<'a, A>
 }
 
 impl<'a, A: Allocator + Copy> Names<'a, A> {
-    /// The symbol that is guessed, and its number, where the guess is right.
+    /// Returns the number of the guessed symbol and the symbol, if the guess is right.
     #[inline(always)]
     fn guessed(&self, word: &[u8]) -> Option<(usize, &Symbol<'a>)>
         ensures number { IfSome result (λ p. p.0 ≡ place_of word.now (names_of self.now.symbols)) }
@@ -106,7 +105,7 @@ impl<'a, A: Allocator + Copy> Names<'a, A> {
         }
     }
 
-    /// What is known of the symbol.
+    /// Returns what is known of a word as a symbol, or `None` if it isn't a symbol.
     pub(crate) fn symbol(&self, word: &[u8]) -> Option<Symbol<'a>>
         ensures { result ≡ find self.now.symbols word.now }
     {
@@ -114,8 +113,8 @@ impl<'a, A: Allocator + Copy> Names<'a, A> {
         known
     }
 
-    /// The symbol's number, in the order of first declarations, and what is known of it. Where it
-    /// is none, the number is how many symbols there are.
+    /// Returns the symbol's number, in the order of first declarations, and what is known of it. If
+    /// the word isn't a symbol, returns the count of symbols and `None`.
     #[inline(always)]
     pub(crate) fn numbered(&self, word: &[u8]) -> (usize, Option<Symbol<'a>>)
         ensures number { result.0 ≡ place_of word.now (names_of self.now.symbols) }
@@ -131,7 +130,7 @@ impl<'a, A: Allocator + Copy> Names<'a, A> {
         }
     }
 
-    /// The same, by the word's hash, with the symbol lent.
+    /// Returns the same as `numbered`, with the symbol borrowed. Finds it by the word's hash.
     fn looked_up(&self, word: &[u8]) -> (usize, Option<&Symbol<'a>>)
         ensures number { result.0 ≡ place_of word.now (names_of self.now.symbols) }
         ensures symbol { option_map (λ s. s.now) result.1 ≡ find self.now.symbols word.now }
@@ -152,7 +151,7 @@ impl<'a, A: Allocator + Copy> Names<'a, A> {
         word.len() <= self.longest_label && self.labels.get(Name { bytes: word }).is_some()
     }
 
-    /// The symbol with that name from now on.
+    /// Sets the entry of the symbol with this name. A new symbol gets the next number.
     pub(crate) fn set_symbol(
         &mut self,
         word: &'a [u8],
@@ -173,7 +172,7 @@ impl<'a, A: Allocator + Copy> Names<'a, A> {
         Ok(())
     }
 
-    /// The label with that statement from now on.
+    /// Sets the statement of a label.
     pub(crate) fn set_label(&mut self, word: &'a [u8], statement: u32) -> Result<(), AllocError>
         ensures labels { OnOk result
             ((w : List ℕ)
@@ -195,7 +194,7 @@ pub struct Scope<'a, A: Allocator> {
 }
 
 impl<'a, A: Allocator + Copy> Scope<'a, A> {
-    /// Whether the statement's block is open here.
+    /// Whether the statement is known and its block is still open.
     fn is_open(&self, statement: u32) -> bool
         ensures { result
             ≡ is_open_in self.now.blocks.of.items self.now.blocks.ends.items statement }
@@ -209,7 +208,7 @@ impl<'a, A: Allocator + Copy> Scope<'a, A> {
         }
     }
 
-    /// Whether it is an active variable.
+    /// Whether the symbol is an active variable.
     fn is_active(&self, symbol: Symbol<'a>) -> bool
         ensures { result
             ≡ is_active_symbol
@@ -218,7 +217,7 @@ impl<'a, A: Allocator + Copy> Scope<'a, A> {
         symbol.is_variable && self.is_open(symbol.declared)
     }
 
-    /// Whether it has an active `$f`.
+    /// Whether the symbol has an active `$f`.
     fn is_typed(&self, symbol: Symbol<'a>) -> bool
         ensures { result
             ≡ is_typed_symbol
@@ -227,8 +226,8 @@ impl<'a, A: Allocator + Copy> Scope<'a, A> {
         self.is_open(symbol.typed)
     }
 
-    /// What is wrong with a word of which that is known as a symbol of a formula after its
-    /// typecode.
+    /// Returns what is wrong with a word as a symbol of a formula after the typecode. `known` is
+    /// what is known of the word.
     pub(crate) fn symbol_code(&self, known: Option<Symbol<'a>>) -> Option<Code>
         ensures { result
             ≡ symbol_code
@@ -250,7 +249,7 @@ impl<'a, A: Allocator + Copy> Scope<'a, A> {
         }
     }
 
-    /// What is wrong with the word as a label.
+    /// Returns what is wrong with a word as a label.
     pub(crate) fn label_code(&self, word: &[u8]) -> Option<Code>
         ensures { result
             ≡ label_code (find self.now.names.symbols word.now)
@@ -265,7 +264,7 @@ impl<'a, A: Allocator + Copy> Scope<'a, A> {
         }
     }
 
-    /// What is wrong with a word of which that is known as a typecode.
+    /// Returns what is wrong with a word as a typecode. `known` is what is known of the word.
     pub(crate) fn typecode_code(known: Option<Symbol<'a>>) -> Option<Code>
         ensures { result ≡ typecode_code known.entry }
     {
@@ -281,7 +280,7 @@ impl<'a, A: Allocator + Copy> Scope<'a, A> {
         }
     }
 
-    /// What is wrong with the typecode for the variable of a `$f`.
+    /// Returns what is wrong with the typecode for the variable of a `$f`.
     pub(crate) fn floating_code(&self, typecode: &[u8], symbol: Symbol<'a>) -> Option<Code>
         ensures { result
             ≡ floating_code
@@ -297,7 +296,8 @@ impl<'a, A: Allocator + Copy> Scope<'a, A> {
         }
     }
 
-    /// What is wrong with the word as a symbol of `$c`, `$v` or `$d`.
+    /// Returns what is wrong with a word as a symbol of a `$c`, `$v` or `$d`. `repeated` says
+    /// whether it occurs earlier in the statement.
     pub(crate) fn declared_code(&self, kind: Kind, word: &[u8], repeated: bool) -> Option<Code>
         ensures { result
             ≡ declared_code
@@ -332,8 +332,8 @@ impl<'a, A: Allocator + Copy> Scope<'a, A> {
         }
     }
 
-    /// What is wrong with a constant as the type of an active variable; None where they are not
-    /// these.
+    /// Returns what is wrong with a constant as the type of an active variable, or `None` if the
+    /// two words aren't a constant and an active variable.
     pub(crate) fn typing_code(&self, typecode: &[u8], variable: &[u8]) -> Option<Option<Code>>
         ensures { result
             ≡ typing_code

@@ -1,4 +1,4 @@
-//! The reading of statements, one after the other.
+//! The reading of statements, one by one.
 
 ghost use Rattle.std.specs.Prelude.{◌≡◌, ◌<◌, ◌≤◌, ◌^◌, ◌++◌, ◌∷◌, [], List, None, All, length};
 ghost use Rattle.std.specs.Prelude.{OnOk, IfOk, ◌≢◌};
@@ -26,8 +26,8 @@ use mm_outline::parts::{Kind, NextStatement, Outline, Part, next_statement};
 use mm_spec::{Code, Fault, Word};
 use std::alloc::{AllocError, Allocator};
 
-/// The lawful statements of a text by their outlines, the names and the symbols by number after
-/// them, and what stopped the reading.
+/// The lawful statements of a text as outlines, the names after them, their symbols by number, and
+/// the fault that stopped the reading, if any.
 #[derive(Drop)]
 pub struct Outlined<'a, A: Allocator> {
     pub outlines: Vec<Outline, A>,
@@ -36,7 +36,7 @@ pub struct Outlined<'a, A: Allocator> {
     pub fault: Option<Fault>,
 }
 
-/// How many blocks are open after a statement.
+/// Returns the number of blocks that are open after a statement.
 fn depth_after(kind: Kind, deep: u32) -> u32
     requires { deep < 2 ^ 31 }
     ensures { result ≡ depth_after kind deep }
@@ -48,7 +48,7 @@ fn depth_after(kind: Kind, deep: u32) -> u32
     }
 }
 
-/// No names yet.
+/// Returns the names and blocks before the first statement: none.
 fn no_scope<'a, A: Allocator + Copy>(alloc: A) -> Result<Scope<'a, A>, AllocError>
     ensures keeps { IfOk result
         (λ s. Keeps [] (find_in s.names.symbols) (find_in s.names.labels)
@@ -60,7 +60,7 @@ fn no_scope<'a, A: Allocator + Copy>(alloc: A) -> Result<Scope<'a, A>, AllocErro
     Ok(Scope { names, blocks })
 }
 
-/// The fault at the end of a text.
+/// Returns the fault at the end of a text.
 fn end_fault(lexical: Option<Fault>, text: &[u8], part: Part, deep: u32) -> Option<Fault>
     requires short { lexical ≡ None → length text.now < 2 ^ 31 }
     ensures { result ≡ end_fault_of lexical (length text.now) part deep }
@@ -86,7 +86,7 @@ fn end_fault(lexical: Option<Fault>, text: &[u8], part: Part, deep: u32) -> Opti
     }
 }
 
-/// Nothing read yet.
+/// Returns what there is before the first statement is read.
 fn nothing<'a, A: Allocator + Copy>(alloc: A) -> Result<Outlined<'a, A>, AllocError>
     ensures { IfOk result
         (λ r. (r.outlines.items ≡ []) × (r.fault ≡ None) × IsKept [] (kept_by r)) }
@@ -102,7 +102,7 @@ fn nothing<'a, A: Allocator + Copy>(alloc: A) -> Result<Outlined<'a, A>, AllocEr
 }
 
 impl<'a, A: Allocator + Copy> Outlined<'a, A> {
-    /// Takes a statement more where it is lawful; else its fault is noted, and all else stays.
+    /// Adds the next statement if it is lawful. Otherwise notes its fault and changes nothing else.
     fn take(
         &mut self,
         alloc: A,
@@ -207,7 +207,7 @@ pub fn outline<'a, A: Allocator + Copy>(
 }
 
 impl<'a, A: Allocator + Copy> Names<'a, A> {
-    /// What is known of the symbol after a declaration.
+    /// Returns what is known of the symbol after its declaration by the statement `number`.
     fn declared(&self, is_variable: bool, number: u32, word: &'a [u8]) -> Symbol<'a>
         ensures { entry_of (Some result)
             ≡ declared_entry is_variable number word.entry.now
@@ -231,7 +231,7 @@ impl<'a, A: Allocator + Copy> Names<'a, A> {
 }
 
 impl<'a, A: Allocator + Copy> Scope<'a, A> {
-    /// The names after one lawful statement more.
+    /// Adds the block and the names of the next lawful statement.
     pub(crate) fn add(
         &mut self,
         text: &'a [u8],
@@ -273,7 +273,7 @@ impl<'a, A: Allocator + Copy> Scope<'a, A> {
         self.add_names(text, tokens, outline, number)
     }
 
-    /// The names of a statement.
+    /// Adds the names of the statement `number`.
     fn add_names(
         &mut self,
         text: &'a [u8],
@@ -321,7 +321,7 @@ impl<'a, A: Allocator + Copy> Scope<'a, A> {
         Ok(())
     }
 
-    /// The label before the keyword is that of the statement.
+    /// Makes the label before the keyword that of the statement `number`.
     fn give_label(
         &mut self,
         text: &'a [u8],
@@ -345,7 +345,7 @@ impl<'a, A: Allocator + Copy> Scope<'a, A> {
         self.names.set_label(token.bytes(text), number)
     }
 
-    /// The variable after the typecode at `from` has that type.
+    /// Gives the variable after the typecode at `from` that type, by the `$f` `number`.
     fn give_type(
         &mut self,
         text: &'a [u8],
@@ -388,7 +388,7 @@ impl<'a, A: Allocator + Copy> Scope<'a, A> {
         }
     }
 
-    /// The words from `from` up to `to` are declared by the statement.
+    /// Declares the words from `from` up to `to`, by the statement `number`.
     fn declare(
         &mut self,
         text: &'a [u8],

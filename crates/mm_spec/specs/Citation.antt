@@ -51,21 +51,20 @@ is_assertion (provable l k xs e ps d) = true
 is_assertion (axiomatic l k xs d) = true
 is_assertion _ = false
 
--- a derivation that is the proof of theorem k
+-- d is a proof of theorem k: a derivation of its formula for which the steps of its proof stand
 abbrev pub IsProof : List Statement → ℕ → Trees → Type 0
 IsProof db k d = Derives (context_at db k) (map (λ s. s.step) (steps_at db k)) (formula_at db k) d
 
 abbrev pub IsValid : List Statement → ℕ → Type 0
 IsValid db k = (reading_faults_at db k ≡ []) × (d : Trees) × IsProof db k d
 
--- a theorem cites an assertion that is the label of a node of its proof, or with the flag of an
--- essential one
+-- theorem t cites assertion a: a is the label of a node of a proof of t, or with the flag of an
+-- essential node
 abbrev pub Cites : List Statement → (by_essential : Bool) → ℕ → ℕ → Type 0
 Cites db by_essential t a =
     IsTrue (list_any is_assertion (statement_at db a)) × (d : Trees) × IsProof db t d
     × IsNodeLabel db by_essential d a
 
--- the cell of a theorem and an axiom is marked: a chain of citations leads from the one to the
--- other
+-- a chain of citations leads from t to a: the cell of theorem t and axiom a is marked
 abbrev pub RestsOn : List Statement → (by_essential : Bool) → ℕ → ℕ → Type 0
 RestsOn db by_essential t a = chain.RestsOn (Cites db by_essential) t a

@@ -1,5 +1,5 @@
--- The numbers by which users know the codes of faults (this project's own). At one place of a
--- statement the lowest decides.
+-- The numbers by which users know the codes of faults (this project's own). Among the faults of a
+-- statement at the same place, the lowest number decides.
 use Rattle.std.specs.Prelude.{ℕ}
 use Rattle.mm_spec.specs.declared.Code.{Code}
 use Rattle.mm_spec.specs.declared.Code.TheVariants as code

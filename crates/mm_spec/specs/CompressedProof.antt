@@ -1,5 +1,5 @@
--- A compressed proof: labels in brackets, and after them numbers and marks in letters, which white
--- space may break anywhere (Metamath book, Appendix B).
+-- A compressed proof: labels in brackets, and after them letters, which spell numbers and marks;
+-- white space may occur between any two letters (Metamath book, Appendix B).
 use Rattle.std.specs.Prelude.{ℕ, zero, suc, ◌+◌, ◌-◌, ◌*◌, Bool, true, false, ◌&&◌, List, [], ◌∷◌}
 use Rattle.std.specs.Prelude.{◌++◌, map, length, Option, Some, None, nat_lt, nat_le, ◌==◌, bytes_eq}
 use Rattle.std.specs.Prelude.{flat_map, slice_get, codes, fold}
@@ -13,7 +13,7 @@ use Rattle.mm_spec.specs.declared.Code.TheVariants.{EmptyProof, IncompleteProof,
 use Rattle.mm_spec.specs.declared.Code.TheVariants.{BadLetter, OpenNumber, MarkBeforeStep}
 use Rattle.mm_spec.specs.declared.Code.TheVariants.{NumberTooLarge}
 
--- a compressed proof: the labels in brackets, and what stands after them, if they are closed
+-- a compressed proof: the labels in brackets, and the words after the `)`, if there is one
 pub record Compressed : Type 0 where
   pub labels : List Token
   pub letters : Option (List Token)
@@ -45,7 +45,7 @@ is_early b = nat_le 85 b && nat_le b 89
 abbrev pub is_last : ℕ → Bool
 is_last b = nat_le 65 b && nat_le b 84
 
--- the groups, after an open run of early letters, and the run that is left
+-- the groups, after the run `early` of early letters, and the run that is left at the end
 abbrev pub groups : List Letter → List Letter → List Group × List Letter
 groups early [] = ([], early)
 groups early (x ∷ xs) = elim (is_early x.byte) [
@@ -60,7 +60,7 @@ value g = fold (λ n x. 5 * n + (x.byte - 84)) 0 g.early * 20 + (g.last.byte - 6
 abbrev pub starts_at : Group → ℕ
 starts_at g = elim g.early [ [] ↦ g.last.at | x ∷ xs ↦ x.at ]
 
--- what a number stands for, by the labels that have numbers and the steps that were marked
+-- what a number stands for: first the labels are numbered, from 1 on, then the marked steps
 abbrev pub step_of : List ℕ → List ℕ → ℕ → List Step
 step_of labels marks zero = []
 step_of labels marks (suc n) = elim (slice_get labels n) [
@@ -68,7 +68,7 @@ step_of labels marks (suc n) = elim (slice_get labels n) [
   | None ↦ elim (slice_get marks (n - length labels)) [ Some i ↦ marked i ∷ [] | None ↦ [] ]
 ]
 
--- the steps of the groups, after so many steps and marks
+-- the steps of the groups; `count` steps come before them, of which `marks` are marked
 abbrev pub group_steps : List ℕ → List ℕ → ℕ → List Group → List PlacedStep
 group_steps labels marks count [] = []
 group_steps labels marks count (g ∷ gs) = elim (is_last g.last.byte) [
@@ -77,9 +77,9 @@ group_steps labels marks count (g ∷ gs) = elim (is_last g.last.byte) [
   | false ↦ group_steps labels (marks ++ (count - 1) ∷ []) count gs
 ]
 
--- The fault of a group, by how many labels have numbers and how many marks and numbers stand before
--- it: a number above all that have a meaning (E45), a `Z` within a number (E43) or before the first
--- one (E44), a `?` (E32), another byte (E42).
+-- The fault of a group: a number above all that have a meaning (E45), a `Z` within a number (E43)
+-- or before the first one (E44), a `?` (E32), another byte (E42). `labels` says how many labels
+-- have numbers, `marks` how many `Z` come before the group, and `count` how many other groups do.
 abbrev pub group_fault : ℕ → ℕ → ℕ → Group → List Fault
 group_fault labels marks count g = elim (is_last g.last.byte) [
   | true ↦ at (starts_at g) (when (nat_lt (labels + marks) (value g)) NumberTooLarge)
@@ -99,7 +99,7 @@ group_faults labels marks count (g ∷ gs) =
       | false ↦ group_faults labels marks (count + 1) gs
     ]
 
--- the faults of letters: there are none (E31), or the last number has no last digit (E43)
+-- the faults of letters: there are none (E31), faults of groups, no last digit at the end (E43)
 abbrev pub letter_faults : ℕ → ℕ → List Letter → List Fault
 letter_faults labels end [] = fault end EmptyProof ∷ []
 letter_faults labels end (x ∷ xs) = let g = groups [] (x ∷ xs) in
@@ -108,7 +108,7 @@ letter_faults labels end (x ∷ xs) = let g = groups [] (x ∷ xs) in
 abbrev pub letters_of : List Token → List Letter
 letters_of ts = flat_map (λ t. letters_from t.at t.word) ts
 
--- the faults of a compressed proof: of its labels, open brackets (E41), and of its letters
+-- the faults of a compressed proof: those of its labels, a missing `)` (E41), those of its letters
 abbrev pub compressed_faults : List Statement → ℕ → ℕ → Compressed → List Fault
 compressed_faults db k end p = flat_map (proof_label_faults db k) p.labels ++ elim p.letters [
   | None ↦ fault end OpenBrackets ∷ []

@@ -1,4 +1,4 @@
--- How a run ends: what was read and written, by what it answers (this project's own).
+-- How a run ends: what was read and written, for each answer (this project's own).
 use Rattle.std.specs.Prelude.{◌≡◌, ℕ, ◌+◌, List, length, take, Option, ◌⊎◌}
 use Rattle.std.specs.Io.KnownBytes.{Consumes, Appends, Keeps, IsAtEnd}
 use Rattle.mm_spec.specs.Limits.{text_limit}
@@ -19,9 +19,10 @@ abbrev pub Gave : Option (List ℕ) → Option (List ℕ) → List ℕ → Type 
 Gave before after text =
     Consumes before after text × (IsAtEnd after ⊎ (length text ≡ reading_limit))
 
--- What is written for a text. It has no fault where it is accepted, and its output is written; else
--- the first fault is the one that is answered, and its refusal is written. Where a write failed, a
--- beginning of the output is written. Of a text that was read, none answers that reading failed.
+-- What was written for a text that was read. `Accepted`: the text has no fault, and its output was
+-- written. `Refused`: the fault is its first one, and the refusal for it was written.
+-- `WriteFailed`: a prefix of its output was written. `NoMemory`: nothing was written. `ReadFailed`
+-- isn't an answer for such a text.
 abbrev pub Answers : RunEnd → List ℕ → Request → (held holds : Option (List ℕ)) → Type 0
 Answers Accepted text request held holds =
     ((db : List Statement) × HasNoFault (length text) (lexed_of text) request.with_open db)
@@ -34,8 +35,8 @@ Answers WriteFailed text request held holds =
 Answers ReadFailed text request held holds = ⊥
 Answers NoMemory text request held holds = Keeps held holds
 
--- The bytes written are those of the text that was read; none where reading failed or memory was
--- refused.
+-- The bytes written are those for the text that was read. If reading failed or memory ran out,
+-- nothing was written.
 abbrev pub Ends : RunEnd → Request → (before after held holds : Option (List ℕ)) → Type 0
 Ends ReadFailed request before after held holds = Keeps held holds
 Ends NoMemory request before after held holds = Keeps held holds

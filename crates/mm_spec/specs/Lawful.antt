@@ -1,5 +1,5 @@
--- The rules on symbols, labels and scope (Metamath book, section 4.1.3), by the faults of a
--- statement that breaks them (codes, places and their order: this project's own).
+-- The rules on symbols, labels and scope (Metamath book, section 4.1.3), each with the fault of a
+-- statement that breaks it (codes, places and their order: this project's own).
 use Rattle.std.specs.Prelude.{◌≡◌, ℕ, Bool, true, false, ◌&&◌, ◌||◌, not, List, [], ◌∷◌, ◌++◌, map}
 use Rattle.std.specs.Prelude.{length, Option, Some, None, nat_lt, nat_le, ◌==◌, bytes_eq, slice_get}
 use Rattle.std.specs.List.{list_any}
@@ -16,7 +16,7 @@ use Rattle.mm_spec.specs.declared.Code.TheVariants.{RepeatedVariable}
 use Rattle.mm_spec.specs.declared.Code.{Code}
 use Rattle.mm_spec.specs.Codes.{code_number}
 
--- the code, where the test holds
+-- the code if the test holds, otherwise none
 abbrev pub when : Bool → Code → List Code
 when true code = code ∷ []
 when false code = []
@@ -24,38 +24,41 @@ when false code = []
 abbrev pub at : ℕ → List Code → List Fault
 at place codes = map (fault place) codes
 
--- the codes at each symbol, by the words of the statement before it
+-- the faults at each symbol; `codes` takes the words before it in the statement, and the symbol
 abbrev pub at_each : (List Bytes → Bytes → List Code) → List Bytes → List Token → List Fault
 at_each codes earlier [] = []
 at_each codes earlier (t ∷ ts) =
     at t.at (codes earlier t.word) ++ at_each codes (t.word ∷ earlier) ts
 
 module _ (names : Names) where
-  -- A symbol of `$c` is neither a constant nor a variable before (E13), and no label (E14).
+  -- A symbol of a `$c` wasn't declared before, as a constant or a variable or in this `$c` (E13),
+  -- and is no earlier label (E14).
   abbrev pub constant_codes : List Bytes → Bytes → List Code
   constant_codes earlier w =
       when (is_in w names.constants || is_in w names.all_variables || is_in w earlier)
       DeclaredBefore
       ++ when (is_in w names.labels) LabelIsSymbol
 
-  -- A symbol of `$v` is neither a constant nor an active variable (E13), and no label (E14).
+  -- A symbol of a `$v` is neither a constant nor an active variable, nor declared before in this
+  -- `$v` (E13), and is no earlier label (E14).
   abbrev pub variable_codes : List Bytes → Bytes → List Code
   variable_codes earlier w =
       when (is_in w names.constants || is_in w names.active_variables || is_in w earlier)
       DeclaredBefore
       ++ when (is_in w names.labels) LabelIsSymbol
 
-  -- A symbol of `$d` is an active variable (E24), and stands there once (E25).
+  -- A symbol of a `$d` is an active variable (E24), and doesn't occur before in this `$d` (E25).
   abbrev pub disjoint_codes : List Bytes → Bytes → List Code
   disjoint_codes earlier w =
       when (not (is_in w names.active_variables)) UndeclaredVariable
       ++ when (is_in w earlier) RepeatedVariable
 
-  -- a variable has an active `$f`
+  -- whether a variable has an active `$f`
   abbrev pub is_typed : Bytes → Bool
   is_typed w = list_any (λ t. bytes_eq w t.variable) names.active_typings
 
-  -- A symbol after the typecode is a constant or an active variable (E18), which has a `$f` (E22).
+  -- A symbol after the typecode is a constant or an active variable (E18), and if it is a variable,
+  -- it has an active `$f` (E22).
   abbrev pub symbol_codes : List Bytes → Bytes → List Code
   symbol_codes earlier w =
       when (not (is_in w names.constants || is_in w names.active_variables)) UndeclaredSymbol
@@ -65,13 +68,13 @@ module _ (names : Names) where
   is_empty [] = true
   is_empty (t ∷ ts) = false
 
-  -- A formula, which ends at a place, begins with a constant (E17).
+  -- A formula, which ends at `end`, begins with a constant (E17).
   abbrev pub formula_faults : List Token → ℕ → List Fault
   formula_faults [] end = fault end BadTypecode ∷ []
   formula_faults (t ∷ ts) end =
       at t.at (when (not (is_in t.word names.constants)) BadTypecode) ++ at_each symbol_codes [] ts
 
-  -- A label is no symbol (E14), and was not used before (E15).
+  -- A label is no symbol that was declared before (E14), and was not used before (E15).
   abbrev pub label_faults : Token → List Fault
   label_faults l =
       at l.at (when (is_in l.word names.constants || is_in l.word names.all_variables) LabelIsSymbol
@@ -94,8 +97,8 @@ module _ (names : Names) where
       ]
   floating_faults keyword _ = fault keyword BadFloating ∷ []
 
-  -- All faults of a statement, by how many blocks are open before it. A `$c` stands in no block
-  -- (E11), `$c` and `$v` declare something (E12), and a `$d` has two symbols or more (E23).
+  -- All faults of a statement, before which `deep` blocks are open. A `$c` is in no block (E11),
+  -- `$c` and `$v` declare something (E12), and a `$d` has two symbols or more (E23).
   abbrev pub scope_faults : ℕ → Statement → List Fault
   scope_faults deep (constants k xs d) =
       at k (when (nat_lt 0 deep) ConstantInBlock) ++ at d (when (is_empty xs) EmptyDeclaration)
@@ -111,7 +114,7 @@ module _ (names : Names) where
   scope_faults deep (opening k) = []
   scope_faults deep (closing k) = []
 
--- the fault of the lesser place, and at one place that of the lower code
+-- whether f decides over g: its place is less, or the places are equal and its code isn't higher
 abbrev pub is_before : Fault → Fault → Bool
 is_before f g =
     nat_lt f.at g.at || ((f.at == g.at) && nat_le (code_number f.code) (code_number g.code))
@@ -124,7 +127,7 @@ abbrev pub least : List Fault → Option Fault
 least [] = None
 least (f ∷ fs) = lesser f (least fs)
 
--- the fault of statement k among the statements, if it is not lawful
+-- the fault of statement k, if it is not lawful
 abbrev pub scope_fault : List Statement → ℕ → Option Fault
 scope_fault db k =
     elim (slice_get db k)

@@ -1,4 +1,4 @@
--- What no output needs: for the laws, for lemmas, and for the contracts of single layers.
+-- Definitions on which no output depends: for laws, lemmas and the contracts of single layers.
 pub mod Words
 pub mod Readings
 pub mod Table

@@ -8,7 +8,7 @@ use Rattle.mm_spec.specs.declared.Fault.{Fault}
 use Rattle.mm_spec.specs.declared.Code.TheVariants.{TextTooLong, OpenComment}
 use Rattle.mm_spec.specs.Limits.{text_limit}
 
--- a faulty word decides, and else a comment that is open at the end (E03)
+-- the fault of a faulty word if there is one, otherwise that of a comment open at the end (E03)
 abbrev pub fault_in : Option Fault → Option ℕ → Option Fault
 fault_in (Some f) comment = Some f
 fault_in None (Some at) = Some (record { at = at; code = OpenComment })
@@ -18,7 +18,7 @@ unfoldable pub tokens_of : List ℕ → List Word
 tokens_of text =
     if nat_lt text_limit (length text) then [] else (reading text None (words_of text)).tokens
 
--- the first fault of bytes and words; a text that is too long has that alone (E00)
+-- the first fault of bytes and words; a text that is too long has only that fault (E00)
 unfoldable pub lexical_fault : List ℕ → Option Fault
 lexical_fault text =
     if nat_lt text_limit (length text) then Some (record { at = 0; code = TextTooLong })

@@ -1,4 +1,4 @@
--- The nodes of a proof, and the essential ones among them (this project's own, after the words of
+-- The nodes of a proof, and the essential ones among them (this project's own, with the terms of
 -- metamath.exe).
 use Rattle.std.specs.Prelude.{◌≡◌, ℕ, suc, Bool, true, false, ◌||◌, ◌⊎◌, not, List, Some, None}
 use Rattle.std.specs.Prelude.{slice_get, IsTrue}
@@ -8,13 +8,13 @@ use Rattle.mm_spec.specs.Scope.{statement_at}
 use Rattle.mm_spec.specs.Frame.{is_essential, mandatory_hypotheses}
 use Rattle.mm_spec.specs.Derivation.{Trees, none, more}
 
--- how many trees stand in a row
+-- how many trees a row has
 abbrev pub size : Trees → ℕ
 size none = 0
 size (more ts l f cs) = suc (size ts)
 
--- Some node that counts has this label: a root whose place in the row counts, or a node below such
--- a root that counts there. Child n of a node with label l counts if `counts l n`.
+-- Some node that counts has this label. The root at place n of the row counts if `place n`; child n
+-- of a node that counts and has label l counts if `counts l n`. Places are counted from 0.
 abbrev pub HasNode : (ℕ → ℕ → Bool) → (ℕ → Bool) → Trees → ℕ → Type 0
 HasNode counts place none a = ⊥
 HasNode counts place (more ts l f cs) a =
@@ -30,11 +30,11 @@ is_essential_place db l n =
     elim (slice_get (mandatory_hypotheses db l) n)
     [ None ↦ false | Some j ↦ list_any is_essential (statement_at db j) ]
 
--- which children count: all, or those for a `$e` alone
+-- whether child n of a node with label l counts: with the flag only one for a `$e`, otherwise each
 abbrev pub child_counts : List Statement → (essential : Bool) → ℕ → ℕ → Bool
 child_counts db essential l n = not essential || is_essential_place db l n
 
--- A node of the tree has this label, or an essential node: the root, or the child of an essential
--- node for a `$e`.
+-- Some node of the tree has this label; with the flag, some essential node. The root is essential,
+-- and so is each child of an essential node that is for a `$e`.
 abbrev pub IsNodeLabel : List Statement → (essential : Bool) → Trees → ℕ → Type 0
 IsNodeLabel db essential d a = HasNode (child_counts db essential) each_place d a

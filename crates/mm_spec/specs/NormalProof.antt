@@ -12,22 +12,22 @@ use Rattle.mm_spec.specs.declared.Code.TheVariants.{EmptyProof, IncompleteProof,
 abbrev pub is_labelled : Bytes → Statement → Bool
 is_labelled w s = elim (label_of s) [ None ↦ false | Some l ↦ bytes_eq l.word w ]
 
--- the statement of a usable label: an active hypothesis or an earlier assertion
+-- the statement with this label, if it is usable: an active hypothesis or an earlier assertion
 abbrev pub usable : List Statement → ℕ → Bytes → List ℕ
 usable db k w =
     filter (λ j. is_active db j k && list_any (is_labelled w) (statement_at db j))
     (range_with_len 0 k)
 
--- a normal proof
+-- the steps of a normal proof
 abbrev pub normal_steps : List Statement → ℕ → List Token → List PlacedStep
 normal_steps db k ts = flat_map (λ t. map (λ j. placed t.at (label j)) (usable db k t.word)) ts
 
--- a word that is no usable label (E33)
+-- a word that isn't a usable label (E33)
 abbrev pub proof_label_faults : List Statement → ℕ → Token → List Fault
 proof_label_faults db k t =
     elim (usable db k t.word) [ [] ↦ fault t.at UnusableLabel ∷ [] | j ∷ js ↦ [] ]
 
--- a proof without words (E31), a `?` (E32), and words that are no usable labels
+-- a proof without words (E31), a `?` (E32), and words that aren't usable labels (E33)
 abbrev pub normal_faults : List Statement → ℕ → ℕ → List Token → List Fault
 normal_faults db k end [] = fault end EmptyProof ∷ []
 normal_faults db k end (t ∷ ts) =

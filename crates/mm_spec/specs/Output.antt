@@ -22,16 +22,18 @@ use Rattle.std.specs.List.Sorted.{IsStrictlyIncreasing}
 use Rattle.mm_spec.specs.declared.Choice.{Choice}
 use Rattle.mm_spec.specs.declared.Choice.TheVariants.{Citations}
 
--- the words of a text up to its first faulty word, as tokens, and that fault
+-- the tokens of a text up to its lexical fault, and that fault
 pub record LexedText : Type 0 where
   pub tokens : List Token
   pub fault : Option Fault
 
--- a fault of bytes, words or shape
+-- the lexical fault, or if there is none, the fault at the end of the text
 abbrev pub WordOrEnd : ℕ → List Token → Option Fault → Fault → Type 0
 WordOrEnd len ts (Some g) f = f ≡ g
 WordOrEnd len ts None f = FileEndFault len ts f
 
+-- the fault of bytes, words or shape: the first fault of shape among the tokens, or if there is
+-- none, the lexical fault or that of the end
 abbrev pub TextFault : ℕ → LexedText → Fault → Type 0
 TextFault len x f =
     ShapeFault x.tokens f
@@ -44,8 +46,8 @@ Stops len x row db (s ∷ rest) fault = (fault ≢ None) × (scope_fault row (le
 Stops len x row db [] None = (f : Fault) → ¬ TextFault len x f
 Stops len x row db [] (Some f) = TextFault len x f
 
--- What reading gives: the statements up to the first malformed or unlawful one, and what is
--- wrong there, if the text goes on or ends within one.
+-- What reading gives: the statements up to the first malformed or unlawful one, and the fault that
+-- stops the reading there, if there is one.
 pub record IsRead (len : ℕ) (x : LexedText) (db : List Statement)
     (fault : Option Fault) : Type 0 where
   pub row : List Statement
@@ -55,7 +57,8 @@ pub record IsRead (len : ℕ) (x : LexedText) (db : List Statement)
   pub lawful : (k : ℕ) → k < length db → IsLawful row k
   pub stops : Stops len x row db rest fault
 
--- the fault of theorem k's proof, which ends at a place
+-- the fault of theorem k's proof, which ends at `end`: the least fault of its reading, or if there
+-- is none, the fault of a step or of the end
 abbrev pub ProofFault : List Statement → ℕ → ℕ → Fault → Type 0
 ProofFault db k end f = (least (reading_faults_at db k) ≡ Some f)
     ⊎ ((reading_faults_at db k ≡ [])
@@ -77,24 +80,25 @@ AreValid db k = (j : ℕ) → j < k → IsTrue (is_theorem_at db j) → IsValid 
 abbrev pub AllAreValid : List Statement → Type 0
 AllAreValid db = AreValid db (length db)
 
--- the first theorem whose proof has a fault, and that fault
+-- k is the first theorem whose proof has a fault, and f is that fault
 abbrev pub FirstProofFault : List Statement → ℕ → Fault → Type 0
 FirstProofFault db k f =
     IsTrue (is_theorem_at db k) × AreValid db k × ProofFault db k (end_of (slice_get db k)) f
 
--- The first faulty statement decides: a theorem that was read, or else what stopped the reading.
--- With the flag open theorems count as axioms, so they have no proof that could be faulty.
+-- The first faulty statement decides: the first theorem read whose proof has a fault, or if there
+-- is none, the fault that stopped the reading. With the flag open theorems count as axioms, so they
+-- have no proof that could be faulty.
 abbrev pub FirstFault : ℕ → LexedText → (with_open : Bool) → Fault → Type 0
 FirstFault len x with_open f =
     (db : List Statement) × (fault : Option Fault) × IsRead len x db fault
     × (((k : ℕ) × FirstProofFault (counted with_open db) k f)
     ⊎ (AllAreValid (counted with_open db) × (fault ≡ Some f)))
 
--- what is sound from its first byte to its last
+-- the whole text is read without a fault, as the statements db, and all theorems are valid
 abbrev pub HasNoFault : ℕ → LexedText → (with_open : Bool) → List Statement → Type 0
 HasNoFault len x with_open db = IsRead len x db None × AllAreValid (counted with_open db)
 
--- the numbers of the theorems, and of the axioms with a typecode, if one is chosen
+-- the numbers of the theorems
 abbrev pub theorems : List Statement → List ℕ
 theorems db = filter (λ j. list_any is_theorem (statement_at db j)) (range_with_len 0 (length db))
 
@@ -106,6 +110,7 @@ abbrev pub is_column : Option Bytes → Statement → Bool
 is_column only (axiomatic l k xs d) = has_typecode only (axiomatic l k xs d)
 is_column only _ = false
 
+-- the numbers of the axioms, or of those with the typecode if one is chosen
 abbrev pub columns : List Statement → Option Bytes → List ℕ
 columns db only =
     filter (λ j. list_any (is_column only) (statement_at db j)) (range_with_len 0 (length db))
@@ -113,15 +118,15 @@ columns db only =
 abbrev pub label_at : List Statement → ℕ → Bytes
 label_at db j = flat_map (λ w. w) (flat_map label_words (statement_at db j))
 
--- a row is that of a theorem: its label, and a mark where it rests on the column's axiom
+-- r is the row of theorem t: its label, and for each column whether t rests on that axiom
 abbrev pub IsRowOf : List Statement → Request → ℕ → Row → Type 0
 IsRowOf db request t r =
     (r.label ≡ label_at db t)
     × AllZip (λ a mark. Decides mark (RestsOn db request.essential t a))
     (columns db request.only) r.marks
 
--- the assertions of this list are those that the theorem cites, with the typecode if one is chosen,
--- in file order
+-- the list has exactly the assertions that the theorem cites and that have the typecode, if one is
+-- chosen, in file order
 pub record AreCited (db : List Statement) (request : Request) (t : ℕ) (list : List ℕ) : Type 0 where
   pub rising : IsStrictlyIncreasing list
   pub cited : (a : ℕ)
@@ -129,7 +134,7 @@ pub record AreCited (db : List Statement) (request : Request) (t : ℕ) (list : 
       (Cites db request.essential t a
       × IsTrue (list_any (has_typecode request.only) (statement_at db a)))
 
--- a row of citations is that of a theorem: its label, and the labels of what it cites
+-- r is the row of citations of theorem t: its label, and the labels of what it cites
 abbrev pub IsCitingRowOf : List Statement → Request → ℕ → CitingRow → Type 0
 IsCitingRowOf db request t r =
     (r.label ≡ label_at db t)
@@ -142,8 +147,8 @@ open_columns db request =
     (count_by (λ a. list_any is_open (statement_at db a)) (columns (counted true db) request.only))
     else None
 
--- the report of a database in which so many columns are open theorems: of what its theorems cite,
--- or of what they rest on
+-- the report on a database: on what its theorems cite, or on what they rest on; `open_theorems`
+-- says how many columns are open theorems, if these count as axioms
 abbrev pub IsReportOf : Choice → List Statement → (open_theorems : Option ℕ) → Request → List ℕ
     → Type 0
 IsReportOf Citations db open_theorems request bytes =
@@ -154,7 +159,7 @@ IsReportOf choice db open_theorems request bytes =
     × (bytes
     ≡ report request.form open_theorems (map (label_at db) (columns db request.only)) rows choice)
 
--- the words of a text up to its first faulty one, with that fault
+-- the tokens of a text with their places, up to its lexical fault, and that fault
 abbrev pub lexed_of : List ℕ → LexedText
 lexed_of text =
     record {
@@ -162,7 +167,7 @@ lexed_of text =
       fault = lexical_fault text;
     }
 
--- what is written for a text
+-- the output of a text: the refusal for its first fault, or if it has none, the report requested
 abbrev pub IsOutput : List ℕ → Request → List ℕ → Type 0
 IsOutput text request bytes =
     ((f : Fault) × FirstFault (length text) (lexed_of text) request.with_open f

@@ -9,8 +9,8 @@ use Rattle.mm_spec.specs.declared.Role.TheVariants.{Token, Opening, Closing, Com
 abbrev pub bytes_of : List ℕ → Word → List ℕ
 bytes_of text w = slice_range text w.start w.end
 
--- What a row of words gives: the tokens before its faulty word, the fault of that, or all tokens;
--- and the place of the comment that is open there.
+-- What a row of words gives: the tokens before its first faulty word and the fault of that word, or
+-- all its tokens if no word is faulty; and the place of the comment that is open there, if one is.
 pub record Reading : Type 0 where
   pub tokens : List Word
   pub fault : Option Fault
@@ -19,7 +19,7 @@ pub record Reading : Type 0 where
 abbrev pub with_tokens : List Word → Reading → Reading
 with_tokens ts r = record r { tokens = ts ++ r.tokens }
 
--- the words read in order, from a place where this comment is open, or none
+-- the words read in order; `comment` is the place of the comment open before them, if one is
 unfoldable pub reading : List ℕ → Option ℕ → List Word → Reading
 reading text comment [] = record { tokens = []; fault = None; comment = comment }
 reading text comment (w ∷ ws) = elim (role_of (is_some comment) (bytes_of text w)) [

@@ -11,12 +11,12 @@ use Rattle.mm_spec.specs.declared.Form.TheVariants.{One, Two}
 use Rattle.mm_spec.specs.declared.Choice.{Choice}
 use Rattle.mm_spec.specs.declared.Choice.TheVariants.{All, Matrix, Counts, Usage}
 
--- a theorem: its label, and for each column whether it is marked
+-- the row of a theorem: its label, and for each column whether it is marked
 pub record Row : Type 0 where
   pub label : Bytes
   pub marks : List Bool
 
--- a theorem: its label, and the labels of what its proof cites
+-- the row of a theorem: its label, and the labels of what its proof cites
 pub record CitingRow : Type 0 where
   pub label : Bytes
   pub cited : List Bytes
@@ -31,7 +31,7 @@ abbrev pub digit_of : Bool → ℕ
 digit_of true = 49
 digit_of false = 48
 
--- past the last column nothing is marked
+-- whether column n is marked; after the last column none is
 abbrev pub mark_at : ℕ → List Bool → Bool
 mark_at n [] = false
 mark_at zero (b ∷ bs) = b
@@ -41,7 +41,7 @@ abbrev pub bit_of : Bool → ℕ
 bit_of true = 1
 bit_of false = 0
 
--- the number of columns 4i to 4i + 3, the first of them as the highest bit
+-- the number that columns 4i to 4i + 3 make, the first of them as the highest bit
 abbrev pub digit_at : ℕ → List Bool → ℕ
 digit_at i marks =
     8 * bit_of (mark_at (4 * i) marks) + 4 * bit_of (mark_at (4 * i + 1) marks)
@@ -66,13 +66,13 @@ count_line r = line (r.label ++ 58 ∷ decimal (count_by (λ b. b) r.marks))
 abbrev pub users : ℕ → List Row → List Row
 users column rows = filter (λ r. mark_at column r.marks) rows
 
--- the labels, with spaces between them
+-- the labels, separated by spaces
 abbrev pub joined : List Bytes → List ℕ
 joined [] = []
 joined (l ∷ []) = l
 joined (l ∷ m ∷ ls) = l ++ 32 ∷ joined (m ∷ ls)
 
--- a label, and how many labels follow, and these
+-- a label, the number of the labels that follow, and these labels
 abbrev pub list_line : Bytes → List Bytes → List ℕ
 list_line label labels = line (label ++ 58 ∷ (decimal (length labels) ++ 58 ∷ joined labels))
 
@@ -102,19 +102,19 @@ abbrev pub version : Form → ℕ
 version One = 1
 version Two = 2
 
--- how many open theorems there are, if these count as axioms
+-- the line that says how many columns are open theorems, if these count as axioms
 abbrev pub open_line : Option ℕ → List ℕ
 open_line None = []
 open_line (Some n) = heading (codes "open") n
 
--- the first lines: the version, how many columns there are, how many of them are open theorems if
--- these count as axioms, and how many theorems there are
+-- the first lines: the version, the number of columns, how many of them are open theorems if these
+-- count as axioms, and the number of theorems
 abbrev pub head : Form → ℕ → Option ℕ → ℕ → List ℕ
 head form axioms open_theorems theorems =
     heading (codes "mmdepend") (version form) ++ heading (codes "axioms") axioms
     ++ open_line open_theorems ++ heading (codes "theorems") theorems
 
--- the report on columns with these labels and on these rows
+-- the report with these labels of columns and these rows
 abbrev pub report : Form → Option ℕ → List Bytes → List Row → Choice → List ℕ
 report form open_theorems columns rows choice =
     head form (length columns) open_theorems (length rows)
@@ -123,13 +123,13 @@ report form open_theorems columns rows choice =
     ++ section (has choice Usage) (codes "usage") (usage_lines rows 0 columns)
     ++ line (codes "end")
 
--- the report of citations, where there are so many columns
+-- the report of citations; `axioms` is the number of columns
 abbrev pub citation_report : Form → Option ℕ → ℕ → List CitingRow → List ℕ
 citation_report form open_theorems axioms rows =
     head form axioms open_theorems (length rows)
     ++ section true (codes "citations") (flat_map citation_line rows) ++ line (codes "end")
 
--- how many bytes stand after the last line feed
+-- how many bytes there are after the last line feed, with n before these bytes
 abbrev pub after_line_feed_from : ℕ → List ℕ → ℕ
 after_line_feed_from n [] = n
 after_line_feed_from n (b ∷ bs) = after_line_feed_from (if b == 10 then 0 else n + 1) bs
@@ -140,7 +140,7 @@ bytes_after_line_feed bytes = after_line_feed_from 0 bytes
 abbrev pub two_digits : ℕ → List ℕ
 two_digits n = if length (decimal n) == 1 then 48 ∷ decimal n else decimal n
 
--- the refusal of a text for a fault
+-- the refusal of a text for a fault, by line, column and code
 abbrev pub refusal : List ℕ → Fault → List ℕ
 refusal text f = let before = take f.at text in
     line (codes "refused " ++ decimal (count_by (λ b. b == 10) before + 1)

@@ -1,17 +1,17 @@
--- What a report is asked for (this project's own).
+-- What is requested of a report (this project's own).
 use Rattle.std.specs.Prelude.{Bool, Option}
 use Rattle.mm_spec.specs.Text.{Bytes}
 use Rattle.mm_spec.specs.declared.Choice.{Choice}
 use Rattle.mm_spec.specs.declared.Form.{Form}
 
 pub record Request : Type 0 where
-  -- the typecode of the axioms that are columns, if one is chosen
+  -- the typecode of the axioms that are columns and of the citations listed, if one is chosen
   pub only : Option Bytes
   -- the sections
   pub choice : Choice
   -- how the matrix is written
   pub form : Form
-  -- whether a theorem cites by the essential nodes of its proof alone
+  -- whether a theorem cites only by the essential nodes of its proof
   pub essential : Bool
   -- whether open theorems count as axioms
   pub with_open : Bool

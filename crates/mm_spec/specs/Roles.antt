@@ -26,7 +26,7 @@ is_keyword word = list_any (λ b. is_dollar_and b word) (codes "cvfedap=.{}[]")
 unfoldable pub is_mark : ℕ → ℕ → Bool
 is_mark a b = a == 0x24 && (b == 0x28 || b == 0x29)
 
--- `$(` or `$)` stands in it
+-- whether `$(` or `$)` occurs in it
 unfoldable pub has_mark : List ℕ → Bool
 has_mark [] = false
 has_mark (a ∷ []) = false
@@ -48,15 +48,15 @@ closes_comment word = is_dollar_and 0x29 word
 unfoldable pub is_comment_word : List ℕ → Bool
 is_comment_word word = is_clean word && not (has_mark word)
 
--- what a word is, inside a comment or outside
+-- what a word is: outside a comment (false), and inside one (true)
 unfoldable pub role_of : Bool → List ℕ → Role
 role_of false word =
     if is_token word then Token else (if opens_comment word then Opening else Faulty)
 role_of true word =
     if closes_comment word then Closing else (if is_comment_word word then Comment else Faulty)
 
--- The fault of a faulty word that begins at the place: its first bad byte where it has one (E01);
--- else a mark inside a comment (E02), or a dollar sign outside (E04).
+-- The fault of a faulty word that begins at the place: its first bad byte if it has one (E01);
+-- otherwise a mark inside a comment (E02), or a dollar sign outside one (E04).
 unfoldable pub fault_of : Bool → ℕ → List ℕ → Fault
 fault_of in_comment at word = elim (position (λ b. not (is_printable b)) word) [
   | Some i ↦ record { at = at + i; code = BadByte }

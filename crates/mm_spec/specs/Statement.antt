@@ -1,5 +1,5 @@
--- Statements and their spelling (Metamath book, section 4.1.3). What is no front of a row of
--- statements, and the faults of a text's shape, are this project's own.
+-- Statements and their spelling (Metamath book, section 4.1.3). The test whether tokens begin a row
+-- of statements, and the faults of a text's shape, are this project's own.
 use Rattle.std.specs.Prelude.{◌≡◌, ℕ, ◌≤◌, ◌<◌, ◌≢◌, Bool, true, false, ◌&&◌, not, List, [], ◌∷◌}
 use Rattle.std.specs.Prelude.{◌++◌, take, Option, Some, None, codes, count_by, flat_map, ◌⊎◌}
 use Rattle.std.specs.Prelude.{bytes_eq, if◌then◌else◌, IsTrue, ◌||◌}
@@ -65,7 +65,7 @@ abbrev pub is_closing : Statement → Bool
 is_closing (closing k) = true
 is_closing _ = false
 
--- the words of a statement but for its keywords and its label
+-- words of a statement other than its label and keywords: none contains a `$`
 abbrev pub is_plain : List Token → Bool
 is_plain ts = list_all (λ t. not (has_dollar t.word)) ts
 
@@ -73,11 +73,11 @@ abbrev pub has_label : Option Token → Bool
 has_label None = true
 has_label (Some l) = is_label l.word
 
--- a label where one belongs, and words without `$` between the keywords
+-- a complete statement: a label where one belongs, and words without `$` between the keywords
 abbrev pub is_whole : Statement → Bool
 is_whole s = has_label (label_of s) && is_plain (symbols_of s) && is_plain (proof_of s)
 
--- a row of whole statements, no front of which has more `$}` than `${`
+-- a row of complete statements, no prefix of which has more `$}` than `${`
 pub record IsRow (row : List Statement) : Type 0 where
   pub whole : IsTrue (list_all is_whole row)
   pub nested : (n : ℕ) → count_by is_closing (take n row) ≤ count_by is_opening (take n row)
@@ -87,26 +87,26 @@ abbrev pub Begins : List Token → Type 0
 Begins ts =
     (row : List Statement) × IsRow row × (more : List Token) × (flat_map spelled row ≡ ts ++ more)
 
--- the tokens are a row, so that the next one begins a statement
+-- the tokens spell a row, so the next one begins a statement
 abbrev pub IsBetween : List Token → Type 0
 IsBetween ts = (row : List Statement) × IsRow row × (flat_map spelled row ≡ ts)
 
--- What a token is that no row goes on with. Where a statement begins: a `$}` too many (E09),
--- another keyword (E07), or a word that is no label (E06).
+-- The code for a token with which no row continues. At the beginning of a statement: `$}` without
+-- an open block (E09), another keyword (E07), or a word that isn't a label (E06).
 abbrev pub first_code : Bytes → Code
 first_code w =
     if bytes_eq w (codes "$}") then UnopenedBlock
     else if has_dollar w then UnexpectedToken
     else BadLabel
 
--- anywhere `$[` and `$]` (E05); within a statement each other token (E07)
+-- `$[` and `$]` anywhere (E05); any other token within a statement (E07)
 abbrev pub shape_code : Bool → Bytes → Code
 shape_code between w =
     if bytes_eq w (codes "$[") || bytes_eq w (codes "$]") then Inclusion
     else if between then first_code w
     else UnexpectedToken
 
--- the first token such that no row begins with the tokens up to it
+-- the fault at the first token such that no row begins with the tokens up to and including it
 pub record ShapeFault (tokens : List Token) (f : Fault) : Type 0 where
   pub before : List Token
   pub first : Token
@@ -125,8 +125,8 @@ pub record IsLongestRow (tokens : List Token) (row : List Statement) : Type 0 wh
   pub longest : (s : Statement) (more : List Token) → IsRow (row ++ s ∷ [])
       → ¬ (rest ≡ spelled s ++ more)
 
--- The fault at the end of a text of so many bytes that has no other fault of its shape: part of a
--- statement is left (E08), or a block is open (E10).
+-- The fault at the end of a text of `len` bytes that has no other fault of shape: after the longest
+-- row part of a statement is left (E08), or nothing is left and a block is open (E10).
 pub record FileEndFault (len : ℕ) (tokens : List Token) (f : Fault) : Type 0 where
   pub row : List Statement
   pub is_row : IsLongestRow tokens row

@@ -1,8 +1,8 @@
 -- The steps of a proof (Metamath book, section 4.1.4 and Appendix B).
 use Rattle.std.specs.Prelude.{ℕ}
 
--- A step of a proof: a label, by the number of its statement, or the subproof that an earlier step
--- ended.
+-- A step of a proof: a label, given by the number of its statement, or the subproof that an earlier
+-- step ended, given by the number of that step.
 pub data Step : Type 0 where
   label : ℕ → Step
   marked : ℕ → Step

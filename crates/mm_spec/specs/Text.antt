@@ -9,7 +9,7 @@ use Rattle.mm_spec.specs.declared.Code.{Code}
 abbrev pub Bytes : Type 0
 Bytes = List ℕ
 
--- a word where it stands: the place of its first byte
+-- a word with its place, which is that of its first byte
 pub record Token : Type 0 where
   pub at : ℕ
   pub word : Bytes
@@ -20,7 +20,7 @@ token at word = record { at = at; word = word }
 abbrev pub fault : ℕ → Code → Fault
 fault at code = record { at = at; code = code }
 
--- words as a set
+-- whether the word is among the words
 abbrev pub is_in : Bytes → List Bytes → Bool
 is_in w ws = list_any (bytes_eq w) ws
 
@@ -28,7 +28,7 @@ is_in w ws = list_any (bytes_eq w) ws
 abbrev pub words : List Token → List Bytes
 words ts = map (λ t. t.word) ts
 
--- a word with a `$` in it
+-- whether the word contains a `$`
 abbrev pub has_dollar : Bytes → Bool
 has_dollar w = list_any (λ b. b == 0x24) w
 

@@ -12,25 +12,25 @@ use Rattle.mm_spec.specs.declared.Code.TheVariants.{TooFewEntries, UnmatchedHypo
 use Rattle.mm_spec.specs.declared.Code.TheVariants.{NotOneEntry, OtherFormula, FormulaTooLong}
 use Rattle.mm_spec.specs.declared.Code.{Code}
 
--- the labels of the last tree
+-- x is the postfix list of the last tree
 abbrev pub IsLastTree : Trees → List ℕ → Type 0
 IsLastTree none x = ⊥
 IsLastTree (more ts l f cs) x = x ≡ postfix cs ++ l ∷ []
 
 module _ (c : Context) where
-  -- the labels are the postfix list of a row of derivations, of which x is the last
+  -- the labels are the postfix list of a row of derivations, and x is that of its last tree
   abbrev pub EndsIn : List ℕ → List ℕ → Type 0
   EndsIn labels x = (row : Trees) × AreDerivations c row × (postfix row ≡ labels) × IsLastTree row x
 
-  -- A step adds its label to the plain list, or the subtree that an earlier step ended. The plain
-  -- lists after each step so far are known.
+  -- A step appends its label to the plain list, or the postfix list of the tree that an earlier
+  -- step ended. `lists` has the plain list after each step so far.
   abbrev pub Adds : List (List ℕ) → List ℕ → Step → List ℕ → Type 0
   Adds lists old (label l) new = new ≡ old ++ l ∷ []
   Adds lists old (marked j) new =
       (then : List ℕ) × (x : List ℕ) × (slice_get lists j ≡ Some then) × EndsIn then x
       × (new ≡ old ++ x)
 
-  -- the plain list that the steps stand for, after those so far
+  -- `all` is the plain list after the steps, `old` the one before them
   abbrev pub Plain : List (List ℕ) → List ℕ → List Step → List ℕ → Type 0
   Plain lists old [] all = all ≡ old
   Plain lists old (s ∷ steps) all =
@@ -39,12 +39,12 @@ module _ (c : Context) where
   abbrev pub IsPlain : List Step → List ℕ → Type 0
   IsPlain steps labels = Plain [] [] steps labels
 
-  -- a derivation whose postfix list is the plain proof, of a formula
+  -- d is one tree, a derivation of the formula, and the steps stand for its postfix list
   abbrev pub Derives : List Step → Formula → Trees → Type 0
   Derives steps f d =
       (l : ℕ) × (cs : Trees) × (d ≡ tree l f cs) × AreDerivations c d × IsPlain steps (postfix d)
 
-  -- the entries of the last n roots
+  -- the last n entries
   abbrev pub last_of : ℕ → List Formula → List Formula
   last_of n entries = drop (length entries - n) entries
 
@@ -59,7 +59,7 @@ code_of not_apart = NotDisjoint
 code_of too_long = FormulaTooLong
 
 module _ (c : Context) where
-  -- a label's step fails after a row with these formulas, and the reason is the first that holds
+  -- the step of a label fails after a row with these formulas, by the first reason that holds
   abbrev pub Fails : Option Rule → List Formula → Reason → Type 0
   Fails (Some (hypothesis g)) entries too_long = formula_limit < length g
   Fails (Some (assertion a)) entries too_few = length entries < length a.hypotheses
@@ -79,8 +79,8 @@ module _ (c : Context) where
   StepFails (label l) entries reason = Fails (c.rule l) entries reason
   StepFails (marked j) entries reason = ⊥
 
-  -- The steps before it stand for the postfix list of a row of derivations, and the step fails
-  -- after that row.
+  -- The fault of a step: the steps before it stand for the postfix list of a row of derivations,
+  -- and the step fails after that row.
   pub record StepFault (steps : List PlacedStep) (f : Fault) : Type 0 where
     pub before : List PlacedStep
     pub first : PlacedStep
@@ -93,12 +93,13 @@ module _ (c : Context) where
     pub fails : StepFails first.step (formulas row) reason
     pub is : f ≡ fault first.at (code_of reason)
 
-  -- All steps stand for the postfix list of a row of derivations, which isn't one tree (E37) or has
-  -- another formula (E38).
+  -- a row with these formulas isn't one tree (E37), or is one with another formula (E38)
   abbrev pub IsEndCode : List Formula → Formula → Code → Type 0
   IsEndCode (g ∷ []) formula code = (g ≢ formula) × (code ≡ OtherFormula)
   IsEndCode _ formula code = code ≡ NotOneEntry
 
+  -- The fault at the end: all steps stand for the postfix list of a row of derivations, which isn't
+  -- one tree with the theorem's formula.
   pub record ProofEndFault (steps : List PlacedStep) (formula : Formula) (end : ℕ)
       (f : Fault) : Type 0 where
     pub row : Trees

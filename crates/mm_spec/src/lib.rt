@@ -1,9 +1,9 @@
 //! What Metamath databases mean (Metamath book, second edition: sections 4.1.1 to 4.1.4, and
-//! Appendix B on compressed proofs): the definitions of words, tokens, statements, proofs, faults,
-//! citations, reports and the end of a run, in `specs/`, on which every other crate stands, and the
-//! plain types that go with them. There is no code here but the numbers of codes and the bytes of a
-//! word. What a reader has to believe is the folder `specs/` without `specs/Laws`; the laws that
-//! the definitions obey are in the crate `mm_laws`.
+//! Appendix B on compressed proofs). The folder `specs/` defines words, tokens, statements, proofs,
+//! faults, citations, reports and the end of a run; every crate except `mm_board` depends on it.
+//! The plain types that go with the definitions are declared here. There is no code except the
+//! numbers of codes and the bytes of a word. What a reader has to believe is the folder `specs/`
+//! without `specs/Laws`; the laws that the definitions obey are in the crate `mm_laws`.
 #![tactic(auto)]
 
 mod bytes;
@@ -18,8 +18,8 @@ pub const TEXT_LIMIT: usize = 2_147_483_647;
 /// of the definitions.
 pub const FORMULA_LIMIT: usize = 1_048_576;
 
-/// A word of a text by its places, byte offsets from 0: the bytes from `start` up to `end`, `end`
-/// excluded.
+/// A word of a text by its places, which are byte offsets from 0: the bytes from `start` up to, but
+/// not including, `end`.
 #[derive(Clone, Copy, Debug, PartialEq, Eq)]
 pub struct Word {
     pub start: u32,
@@ -41,14 +41,14 @@ pub enum Role {
     Faulty,
 }
 
-/// Which sections a report has, of matrix, counts, usage and citations; each report has its first
-/// lines and its last one.
+/// Which of the sections matrix, counts, usage and citations a report has. Every report also has
+/// its first lines and its last line.
 #[derive(Clone, Copy, Debug, PartialEq, Eq)]
 pub enum Choice {
     /// Matrix, counts and usage, in this order.
     All,
-    /// A row for each theorem: its label, and a digit for each column, 1 where the theorem rests on
-    /// that axiom.
+    /// A row for each theorem: its label, and digits that say for each column whether the theorem
+    /// rests on that axiom (`Form`).
     Matrix,
     /// A line for each theorem: its label, and the number of columns on whose axioms it rests.
     Counts,
@@ -65,7 +65,7 @@ pub enum Choice {
 pub enum Form {
     /// A digit for each column, 0 or 1.
     One,
-    /// A hexadecimal digit for each four columns, the first of them as its highest bit.
+    /// A hexadecimal digit for every four columns, the first of them as its highest bit.
     Two,
 }
 
@@ -85,9 +85,9 @@ pub enum RunEnd {
     Refused(Fault),
     /// A read failed; nothing was written.
     ReadFailed,
-    /// A write failed or took nothing; a beginning of the output was written.
+    /// A write failed or accepted no byte; a prefix of the output was written.
     WriteFailed,
-    /// A growth of memory was refused; nothing was written.
+    /// Out of memory; nothing was written.
     NoMemory,
 }
 
@@ -103,26 +103,26 @@ pub struct Lexed<A: Allocator> {
 pub enum Code {
     /// E00: the text is longer than 2,147,483,647 bytes. At 0.
     TextTooLong,
-    /// E01: a byte that is neither white nor printable, in comments too. At the word's first such
-    /// byte.
+    /// E01: a byte that is neither white space nor printable, in comments too. At the word's first
+    /// such byte.
     BadByte,
-    /// E02: in a comment a word that contains `$(` or `$)` and is not `$)`. At the word.
+    /// E02: in a comment, a word that contains `$(` or `$)` and is not `$)`. At the word.
     MarkInComment,
     /// E03: a comment is open at the end of the file. At its `$(`.
     OpenComment,
-    /// E04: outside comments a word that contains `$` and is no keyword, or is `$)`. At the word.
+    /// E04: outside comments, a word that contains `$` and is no keyword, or is `$)`. At the word.
     StrayDollar,
-    /// E05: `$[` or `$]`, wherever it stands. At the token.
+    /// E05: `$[` or `$]`, wherever it occurs. At the token.
     Inclusion,
-    /// E06: where a statement begins, a word without `$` that is no label. At the word.
+    /// E06: at the beginning of a statement, a word without `$` that is no label. At the word.
     BadLabel,
     /// E07: any other token that is not expected. At the token.
     UnexpectedToken,
     /// E08: the file ends within a statement. At the end of the file.
     OpenStatement,
-    /// E09: `$}` with no open block. At the `$}`.
+    /// E09: `$}` without an open block. At the `$}`.
     UnopenedBlock,
-    /// E10: the file ends between statements with a block open. At the end of the file.
+    /// E10: the file ends between statements while a block is open. At the end of the file.
     OpenBlock,
     /// E11: a `$c` in a block. At the `$c`.
     ConstantInBlock,
@@ -130,7 +130,7 @@ pub enum Code {
     EmptyDeclaration,
     /// E13: a symbol that may not be declared again. At the symbol.
     DeclaredBefore,
-    /// E14: a symbol and a label that are alike. At the one that comes later.
+    /// E14: a symbol and a label that are equal. At the one that comes later.
     LabelIsSymbol,
     /// E15: a label that was used before. At the label.
     LabelUsedBefore,
@@ -139,11 +139,11 @@ pub enum Code {
     BadTypecode,
     /// E18: a symbol of a formula that is neither a constant nor an active variable. At the symbol.
     UndeclaredSymbol,
-    /// E19: a `$f` of other than a constant and an active variable. At the `$f`.
+    /// E19: a `$f` of anything other than a constant and an active variable. At the `$f`.
     BadFloating,
     /// E20: a `$f` of a variable that has an active `$f`. At the variable.
     TypedBefore,
-    /// E21: a `$f` of a variable to which an earlier one gave another typecode. At the variable.
+    /// E21: a `$f` of a variable to which an earlier `$f` gave another typecode. At the variable.
     OtherTypecode,
     /// E22: a variable of a formula without an active `$f`. At the symbol.
     UntypedVariable,
@@ -151,22 +151,22 @@ pub enum Code {
     TooFewVariables,
     /// E24: a symbol of a `$d` that is no active variable. At the symbol.
     UndeclaredVariable,
-    /// E25: a symbol that stands twice in a `$d`. At the second.
+    /// E25: a symbol that occurs twice in a `$d`. At the second occurrence.
     RepeatedVariable,
     /// E31: a proof without words, or a compressed one without letters. At the `$.`.
     EmptyProof,
     /// E32: a proof with a `?`. At the `?`.
     IncompleteProof,
-    /// E33: a word that is no label of an active hypothesis or an earlier assertion. At the word.
+    /// E33: a word that isn't the label of an active hypothesis or earlier assertion. At the word.
     UnusableLabel,
-    /// E34: fewer entries than the assertion has mandatory hypotheses. At the step.
+    /// E34: the stack has fewer entries than the assertion has mandatory hypotheses. At the step.
     TooFewEntries,
-    /// E35: entries that are not the hypotheses under one substitution. At the step.
+    /// E35: no substitution turns the mandatory hypotheses into the last entries. At the step.
     UnmatchedHypotheses,
     /// E36: a pair of disjoint variables is replaced by expressions that are not disjoint. At the
     /// step.
     NotDisjoint,
-    /// E37: at the end of the proof there is not exactly one entry. At the `$.`.
+    /// E37: at the end of the proof the stack doesn't have exactly one entry. At the `$.`.
     NotOneEntry,
     /// E38: at the end of the proof the entry is not the theorem's formula. At the `$.`.
     OtherFormula,

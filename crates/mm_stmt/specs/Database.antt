@@ -1,4 +1,4 @@
--- What a database of statements is to those who read it, and what its fields keep.
+-- What a database of statements is to its callers, and what its fields keep.
 use Rattle.std.specs.Prelude.{◌≡◌, ℕ, ◌<◌, ◌^◌, Bool, List, length, map, slice_get, if◌then◌else◌}
 use Rattle.std.specs.Prelude.{All, Option, None}
 use Rattle.std.specs.List.{list_any}
@@ -25,8 +25,8 @@ use Rattle.mm_outline.specs.declared.parts.Kind.{Kind}
 use Rattle.mm_outline.specs.declared.parts.Kind.TheVariants as kind
 use Rattle.mm_outline.specs.declared.parts.Outline.{Outline}
 
--- A text, its statements up to the first malformed or unlawful one, as they were read and as
--- they count, and what is wrong there. With the flag open theorems count as axioms.
+-- A text; its statements up to the first malformed or unlawful one, as they were read and as they
+-- count; and the fault there. If `with_open` is set, open theorems count as axioms.
 pub record Contents : Type 0 where
   pub text : List ℕ
   pub read : List Statement
@@ -123,7 +123,7 @@ fields kept starts b f ns vs xs ps fs hs ds ms ks os ts cs bs ss =
 abbrev pub held : List ℕ → List Word → List Outline → Bool → List Statement
 held text ws os with_open = counted with_open (statements text ws os)
 
--- the fields are those of the statements, and these are the reading of the text
+-- the fields are those of the statements, and the statements are the reading of the text
 pub record IsDatabase (text : List ℕ) (ws : List Word) (os : List Outline) (with_open : Bool)
     (fault : Option Fault) (f : Fields) : Type 0 where
   pub words : AreWithin text ws

@@ -4,7 +4,7 @@ use Rattle.std.specs.Prelude.{◌≡◌, ℕ, ◌+◌, ◌≤◌, List, ◌∷�
 abbrev pub spaced : List (List ℕ) → List ℕ
 spaced labels = flat_map (λ label. 32 ∷ label) labels
 
--- the labels side by side, and where each begins; after them, where they all end
+-- the labels side by side; where each begins, and where they all end
 pub record AreSpaced (labels : List (List ℕ)) (bytes starts : List ℕ) : Type 0 where
   pub bytes_are : bytes ≡ spaced labels
   pub count : length starts ≡ length labels + 1

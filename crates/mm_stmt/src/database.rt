@@ -1,4 +1,4 @@
-//! The database of a text: its statements, and what is asked of them.
+//! The database of a text: its statements, and the calls that read them.
 
 ghost use Rattle.std.specs.Prelude.{◌≡◌, ◌<◌, ◌≤◌, ◌^◌, ◌+◌, ◌&&◌, ◌∷◌, ℕ, Bool, List, Option};
 ghost use Rattle.std.specs.Prelude.{Some, None, IfSome, IfNone, IsTrue, All, length, map, flat_map};
@@ -85,14 +85,14 @@ impl<'a, A: Allocator> Model for Database<'a, A> {
 }
 
 impl<'a, A: Allocator> Database<'a, A> {
-    /// The text.
+    /// Returns the text.
     pub fn text(&self) -> &'a [u8]
         ensures { result.now ≡ self.now.text }
     {
         self.text
     }
 
-    /// What is wrong after the statements: the first fault of words, shape, symbols, labels or
+    /// Returns the fault after the statements: the first fault of words, shape, symbols, labels or
     /// scope.
     pub fn fault(&self) -> Option<Fault>
         ensures { result ≡ self.now.fault }
@@ -100,7 +100,7 @@ impl<'a, A: Allocator> Database<'a, A> {
         self.fault
     }
 
-    /// How many statements there are.
+    /// Returns the number of statements.
     pub fn len(&self) -> u32
         ensures len { result ≡ length self.now.statements }
         ensures small { result < 2 ^ 31 }
@@ -112,8 +112,8 @@ impl<'a, A: Allocator> Database<'a, A> {
         self.outlines.len() as u32
     }
 
-    /// Which of the nine shapes a statement has; where open theorems count as axioms, theirs is an
-    /// axiom's.
+    /// Returns which of the nine shapes a statement has. An open theorem has the kind of an axiom,
+    /// if open theorems count as axioms.
     pub fn kind(&self, statement: u32) -> Kind
         requires { statement < length self.now.statements }
         ensures { option_map kind_of (slice_get self.now.statements statement) ≡ Some result }
@@ -133,7 +133,7 @@ impl<'a, A: Allocator> Database<'a, A> {
         counts_otherwise(outline.kind, self.kind(statement))
     }
 
-    /// The place of a statement's last token, a byte offset from 0.
+    /// Returns the place of a statement's last token, a byte offset from 0.
     pub fn end_at(&self, statement: u32) -> u32
         requires { statement < length self.now.statements }
         ensures { option_map last_place (slice_get self.now.statements statement) ≡ Some result }
@@ -142,7 +142,7 @@ impl<'a, A: Allocator> Database<'a, A> {
         kept[kept.len() - 1].start
     }
 
-    /// The label of a statement that has one.
+    /// Returns the label of a statement, or `None` if it has none.
     pub fn label(&self, statement: u32) -> Option<&'a [u8]>
         requires { statement < length self.now.statements }
         ensures { option_copied result
@@ -158,7 +158,7 @@ impl<'a, A: Allocator> Database<'a, A> {
         }
     }
 
-    /// The statement of a label.
+    /// Returns the statement that has the label, or `None` if there is none.
     #[inline(always)]
     pub fn find(&self, label: &[u8]) -> Option<u32>
         ensures some { IfSome result
@@ -175,8 +175,8 @@ impl<'a, A: Allocator> Database<'a, A> {
         self.labels.get(Name { bytes: label }).copied()
     }
 
-    /// The symbols of a statement, the typecode first where it has one; none where it is `${` or
-    /// `$}`.
+    /// Returns the symbols of a statement, the typecode first if it has one. A `${` or `$}` has no
+    /// symbols.
     pub fn formula(&self, statement: u32) -> &[Sym]
         requires { statement < length self.now.statements }
         ensures formula { result.now ≡ formula_at self.now.statements statement }
@@ -187,7 +187,7 @@ impl<'a, A: Allocator> Database<'a, A> {
         &self.numbers[from..to]
     }
 
-    /// The typecode of a `$f`, `$e`, `$a` or `$p`.
+    /// Returns the typecode of a `$f`, `$e`, `$a` or `$p`, and `None` for other statements.
     pub fn typecode(&self, statement: u32) -> Option<Sym>
         requires { statement < length self.now.statements }
         ensures typecode { result ≡ typecode_of self.now.statements statement }
@@ -200,14 +200,14 @@ impl<'a, A: Allocator> Database<'a, A> {
         }
     }
 
-    /// How many symbols there are: their numbers are those below.
+    /// Returns the number of symbols. The number of each symbol is less than this.
     pub fn symbol_count(&self) -> u32
         ensures count { result ≡ length (symbol_names self.now.statements) }
     {
         self.variables.len() as u32
     }
 
-    /// The name of a symbol.
+    /// Returns the name of a symbol.
     pub fn name(&self, symbol: Sym) -> &'a [u8]
         requires { symbol < length (symbol_names self.now.statements) }
         ensures { slice_get (symbol_names self.now.statements) symbol ≡ Some result.now }
@@ -226,8 +226,8 @@ impl<'a, A: Allocator> Database<'a, A> {
         self.variables[symbol.number() as usize]
     }
 
-    /// Whether a statement is active at another, or at the end, which is `len()`; never where it is
-    /// `${` or `$}`.
+    /// Whether a statement is active at the statement `at`, or at the end, which is `len()`. A `${`
+    /// or `$}` is never active.
     pub fn active_at(&self, statement: u32, at: u32) -> bool
         requires statement { statement < length self.now.statements }
         requires at { at ≤ length self.now.statements }
@@ -237,7 +237,7 @@ impl<'a, A: Allocator> Database<'a, A> {
         statement < at && is_active_kind(kind, self.blocks.is_open_at(statement, at))
     }
 
-    /// The frame of an assertion.
+    /// Returns the frame of an assertion.
     pub fn frame(&self, assertion: u32) -> &Frame<A>
         requires { list_any is_assertion (statement_at self.now.statements assertion) ≡ true }
         ensures hypotheses { result.now.hyps.items
@@ -249,8 +249,8 @@ impl<'a, A: Allocator> Database<'a, A> {
         &self.frames.list[place as usize]
     }
 
-    /// Whether a `$d` that is active at the statement, or at the end, has both variables; never a
-    /// variable and itself.
+    /// Whether a `$d` that is active at the statement, or at the end, has both variables. Always
+    /// false for a variable and itself.
     pub fn disjoint_at(&self, statement: u32, x: Sym, y: Sym) -> bool
         requires { statement ≤ length self.now.statements }
         ensures { result ≡ disjoint_at self.now.statements statement x y }
@@ -260,8 +260,8 @@ impl<'a, A: Allocator> Database<'a, A> {
                 || are_together(&self.blocks, &self.disjoint_index, x, y, statement))
     }
 
-    /// The words of a theorem's proof, those after its `$=`; none where the statement is no
-    /// theorem.
+    /// Returns the words of a theorem's proof, those after its `$=`, and no words if the statement
+    /// isn't a theorem.
     pub fn proof_words(&self, statement: u32) -> &[Word]
         requires { statement < length self.now.statements }
         ensures words { option_map proof_of (slice_get self.now.statements statement)
@@ -278,8 +278,8 @@ impl<'a, A: Allocator> Database<'a, A> {
         }
     }
 
-    /// The theorems, in file order: the `$p` statements, but for open theorems where these count as
-    /// axioms.
+    /// Returns the theorems, in file order: the `$p` statements, without open theorems if these
+    /// count as axioms.
     pub fn theorems(&self) -> &[u32]
         ensures theorems { result.now ≡ theorems self.now.statements }
         ensures few { length self.now.statements < 2 ^ 31 }
@@ -287,7 +287,7 @@ impl<'a, A: Allocator> Database<'a, A> {
         self.theorems.as_slice()
     }
 
-    /// The axioms, in file order: the `$a` statements, and open theorems where these count as
+    /// Returns the axioms, in file order: the `$a` statements, and open theorems if these count as
     /// axioms.
     pub fn axioms(&self) -> &[u32]
         ensures axioms { result.now ≡ columns self.now.statements None }
@@ -296,8 +296,8 @@ impl<'a, A: Allocator> Database<'a, A> {
         self.axioms.as_slice()
     }
 
-    /// The labels of the theorems from the one number in `theorems` up to the other, each after a
-    /// space.
+    /// Returns the labels of the theorems with indices in `theorems` from `from` up to `to`, each
+    /// after a space.
     pub fn spaced_labels(&self, from: u32, to: u32) -> &[u8]
         requires order { from ≤ to }
         requires within { to ≤ length (theorems self.now.statements) }
@@ -311,7 +311,7 @@ impl<'a, A: Allocator> Database<'a, A> {
     }
 }
 
-/// Whether a statement counts as an axiom and is none.
+/// Whether a statement is a theorem and counts as an axiom, by what it is and what it counts as.
 fn counts_otherwise(is: Kind, counts_as: Kind) -> bool
     ensures { result ≡ (is_theorem_kind is && is_axiom_kind counts_as) }
 {
@@ -324,7 +324,7 @@ fn counts_otherwise(is: Kind, counts_as: Kind) -> bool
     }
 }
 
-/// Whether a statement of that kind is active, by whether its block is open.
+/// Whether a statement of this kind is active. `is_open` says whether its block is open.
 fn is_active_kind(kind: Kind, is_open: bool) -> bool
     ensures { result ≡ active_kind kind is_open }
 {

@@ -1,4 +1,4 @@
-//! The words of statements that are asked for again.
+//! The words of statements that are needed again.
 
 ghost use Rattle.std.specs.Prelude.{◌≡◌, ◌<◌, ◌≤◌, ◌+◌, ◌++◌, All, IfOk, OnOk, length, slice_index};
 ghost use Rattle.std.specs.Prelude.{slice_range, vec_len};
@@ -9,9 +9,9 @@ use mm_outline::parts::{Kind, Outline};
 use mm_spec::Word;
 use std::alloc::{AllocError, Allocator};
 
-/// Of each statement its label, the words of its proof and its last token, one statement's after
-/// another's: those of statement k from `starts[k]` up to `starts[k + 1]`. The other tokens are
-/// needed no more once statements are read, and are let go.
+/// The label of each statement, the words of its proof and its last token, concatenated. Those of
+/// statement k are from `starts[k]` up to `starts[k + 1]`. The other tokens are no longer needed
+/// once the statements are read, and are freed.
 #[derive(Drop)]
 pub struct Kept<A: Allocator> {
     pub words: Vec<Word, A>,
@@ -19,7 +19,7 @@ pub struct Kept<A: Allocator> {
 }
 
 impl<A: Allocator> Kept<A> {
-    /// Those of a statement.
+    /// Returns the kept words of a statement.
     pub(crate) fn of(&self, statement: u32) -> &[Word]
         requires inside { statement + 1 < vec_len self.now.starts }
         requires order { slice_index self.now.starts.items statement
@@ -46,7 +46,7 @@ pub(crate) fn has_label(kind: Kind) -> bool
     }
 }
 
-/// Adds those of a statement.
+/// Appends the kept words of a statement.
 fn keep<A: Allocator>(
     tokens: &[Word],
     outline: Outline,
@@ -67,7 +67,7 @@ fn keep<A: Allocator>(
     Ok(())
 }
 
-/// Those of all statements.
+/// Returns the kept words of all statements.
 pub(crate) fn keep_all<A: Allocator + Copy>(
     alloc: A,
     tokens: &[Word],

@@ -1,5 +1,5 @@
-//! What each statement counts as: what it is, but an axiom where it is an open theorem and these
-//! count as axioms.
+//! What each statement counts as: an open theorem as an axiom, if open theorems count as axioms,
+//! and any other statement as what it is.
 
 ghost use Rattle.std.specs.Prelude.{◌≡◌, ◌<◌, ◌≤◌, ◌^◌, All, IfOk, bytes_eq, length, map};
 ghost use Rattle.mm_spec.specs.Opened.{counted, is_open_proof as spec_is_open_proof};
@@ -12,7 +12,7 @@ use mm_outline::parts::{Kind, Outline};
 use mm_spec::Word;
 use std::alloc::{AllocError, Allocator};
 
-/// Whether the word is this one.
+/// Whether the bytes of `word` are `name`.
 fn is_word(text: &[u8], word: Word, name: &[u8]) -> bool
     requires order { word.start ≤ word.end }
     requires within { word.end ≤ length text.now }
@@ -21,7 +21,7 @@ fn is_word(text: &[u8], word: Word, name: &[u8]) -> bool
     word.bytes(text) == name
 }
 
-/// Whether these are the words of a proof of which nothing is known: `?`, or `(` `)` `?`.
+/// Whether these are the words of an open theorem's proof: `?`, or `(` `)` `?`.
 fn is_open_proof(text: &[u8], words: &[Word]) -> bool
     requires { AreWithin text.now words.now }
     ensures { result ≡ spec_is_open_proof (as_tokens text.now words.now) }
@@ -37,7 +37,7 @@ fn is_open_proof(text: &[u8], words: &[Word]) -> bool
     }
 }
 
-/// What the statement of an outline counts as.
+/// Returns what the statement of an outline counts as.
 fn counted_kind(text: &[u8], tokens: &[Word], outline: Outline, with_open: bool) -> Kind
     requires words { AreWithin text.now tokens.now }
     requires outline { IsOutline outline }
@@ -57,7 +57,7 @@ fn counted_kind(text: &[u8], tokens: &[Word], outline: Outline, with_open: bool)
     }
 }
 
-/// What each statement counts as.
+/// Returns what each statement counts as.
 pub(crate) fn kinds_of<A: Allocator + Copy>(
     alloc: A,
     text: &[u8],
@@ -96,7 +96,7 @@ fn is_axiom(kind: Kind) -> bool
     }
 }
 
-/// The theorems, in file order.
+/// Returns the numbers of the theorems, in file order.
 pub(crate) fn theorems_of<A: Allocator + Copy>(
     alloc: A,
     kinds: &[Kind],
@@ -113,7 +113,7 @@ pub(crate) fn theorems_of<A: Allocator + Copy>(
     Ok(all)
 }
 
-/// The axioms, in file order.
+/// Returns the numbers of the axioms, in file order.
 pub(crate) fn axioms_of<A: Allocator + Copy>(
     alloc: A,
     kinds: &[Kind],

@@ -1,4 +1,4 @@
-//! The `$d` that stand shortly before a statement: most questions find their answer there.
+//! The `$d` shortly before a statement, which answer most calls of `disjoint_at`.
 
 ghost use Rattle.std.specs.Prelude.{◌≡◌, ◌≤◌, ◌&&◌, length, true};
 ghost use Rattle.std.specs.List.{list_any};
@@ -10,13 +10,13 @@ use mm_outline::parts::Kind;
 use mm_outline::symbol::Sym;
 use std::alloc::Allocator;
 
-/// How many statements are looked at, at most.
+/// The maximum number of statements that are examined.
 const NEAR: u32 = 16;
 
-/// How many symbols a `$d` has, at most, that is looked at.
+/// The maximum number of symbols of a `$d` that is examined.
 const FEW: usize = 16;
 
-/// Whether it has the symbol. If not, nothing is known.
+/// Whether `formula` has the symbol. A result of false promises nothing.
 #[inline(always)]
 fn has(formula: &[Sym], symbol: Sym) -> bool
     ensures { result ≡ true → is_member formula.now symbol ≡ true }
@@ -29,8 +29,8 @@ fn has(formula: &[Sym], symbol: Sym) -> bool
     false
 }
 
-/// Whether some `$d` that stands shortly before the statement, and is active there, has both
-/// symbols. If not, nothing is known. What it costs is bounded, whatever the text.
+/// Whether some `$d` that is shortly before the statement, and active there, has both symbols. A
+/// result of false promises nothing. The cost is bounded, whatever the text.
 pub(crate) fn are_together_near<A: Allocator>(
     database: &Database<A>,
     statement: u32,

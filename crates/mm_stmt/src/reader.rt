@@ -15,10 +15,10 @@ use mm_scope::reading::outline;
 use mm_spec::Lexed;
 use std::alloc::{AllocError, Allocator};
 
-/// The statements of a text before its first fault of words, shape, symbols, labels or scope, and
-/// that fault (sections 4.1 and 4.2 of the Metamath book). With the flag open theorems, those whose
-/// proof is `?` or `( ) ?`, count as axioms. The tokens and the fault are those of this text; it is
-/// refused for memory alone.
+/// Reads the statements of a text before its first fault of words, shape, symbols, labels or scope,
+/// and that fault (sections 4.1 and 4.2 of the Metamath book). `lexed` has the tokens and the
+/// lexical fault of `text`. If `with_open` is set, open theorems, whose proof is `?` or `( ) ?`,
+/// count as axioms. Fails only if out of memory.
 pub fn read<'a, A: Allocator + Copy>(
     alloc: A,
     text: &'a [u8],

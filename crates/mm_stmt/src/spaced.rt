@@ -10,8 +10,8 @@ use mm_outline::parts::Outline;
 use mm_spec::Word;
 use std::alloc::{AllocError, Allocator};
 
-/// The labels of the theorems, each after a space: that of the theorem with index i from
-/// `starts[i]` up to `starts[i + 1]`. So the labels of theorems that follow one another are one
+/// The labels of the theorems, each after a space. The label of the theorem with index i, with its
+/// space, is from `starts[i]` up to `starts[i + 1]`. So the labels of adjacent theorems are one
 /// slice.
 #[derive(Drop)]
 pub struct SpacedLabels<A: Allocator> {
@@ -19,7 +19,7 @@ pub struct SpacedLabels<A: Allocator> {
     pub starts: Vec<usize, A>,
 }
 
-/// The label of a statement that has one.
+/// Returns the label of a statement that has one.
 fn label_of<'a>(text: &'a [u8], tokens: &[Word], outline: Outline) -> &'a [u8]
     requires words { AreWithin text.now tokens.now }
     requires label { 0 < outline.keyword }
@@ -30,7 +30,7 @@ fn label_of<'a>(text: &'a [u8], tokens: &[Word], outline: Outline) -> &'a [u8]
     word.bytes(text)
 }
 
-/// The labels of the theorems, side by side.
+/// Returns the labels of the theorems, side by side.
 pub fn spaced_labels_of<A: Allocator + Copy>(
     alloc: A,
     text: &[u8],

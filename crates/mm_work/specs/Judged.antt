@@ -21,7 +21,7 @@ pub record IsCited (db : List Statement) (by_essential : Bool) (t : ℕ)
   pub read : reading_faults_at db t ≡ []
   pub checked : IsChecked db by_essential t cites
 
--- the first theorems are valid, with these citations
+-- the first `n` theorems are valid, with these citations
 pub record AreCited (db : List Statement) (by_essential : Bool) (ts : List ℕ) (n : ℕ)
     (lists : List (List ℕ)) : Type 0 where
   pub count : length lists ≡ n
@@ -32,8 +32,8 @@ pub record AreCited (db : List Statement) (by_essential : Bool) (ts : List ℕ) 
 pub record Shows (db : List Statement) (by_essential : Bool) (c : Citing) : Type 0 where
   pub same : (t a : ℕ) → Cites c t a ↔ proof.Cites db by_essential t a
 
--- all theorems are valid, and these are their citations, each list rising and each assertion in it
--- once
+-- all theorems are valid, and these are their citations, each list in ascending order, with each
+-- assertion once
 pub record AllCited (db : List Statement) (by_essential : Bool) (c : Citing) : Type 0 where
   pub theorems_are : c.theorems ≡ theorems db
   pub valid : AreValid db (length db)
@@ -50,7 +50,7 @@ IsFirstFault db f = (k : ℕ) × FirstProofFault db k f
 abbrev pub HasFault : List Statement → ℕ → Fault → Type 0
 HasFault db t f = ProofFault db t (end_of (slice_get db t)) f
 
--- a fault is that of the theorem's proof
+-- if the refusal is a fault, it is that of the theorem's proof
 abbrev pub Faults : List Statement → ℕ → VerifyRefused → Type 0
 Faults db t (FaultOf f) = HasFault db t f
 Faults db t Memory = Unit {0}

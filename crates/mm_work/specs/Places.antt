@@ -3,7 +3,8 @@ use Rattle.std.specs.Prelude.{◌≡◌, ℕ, ◌<◌, List, Some, length, slice
 use Rattle.mm_work.specs.declared.merge.Whereabouts.{Whereabouts}
 use Rattle.mm_work.specs.declared.worker.Findings.{Findings}
 
--- among the places, that of index i is with this worker, who found these proofs valid
+-- the place for index i is with this worker, which found the proofs with the indices `valid` to be
+-- valid
 pub record IsNoted (places : List Whereabouts) (worker : ℕ) (valid : List ℕ) (i : ℕ) : Type 0 where
   pub place : Whereabouts
   pub place_is : slice_get places i ≡ Some place
@@ -11,7 +12,7 @@ pub record IsNoted (places : List Whereabouts) (worker : ℕ) (valid : List ℕ)
   pub within : place.place < length valid
   pub index_is : slice_index valid place.place ≡ i
 
--- among the places, that of index i is with one of the workers
+-- the place for index i is with one of the workers
 module _ {A : Type 0} where
   pub record HasPlace (places : List Whereabouts) (fs : List (Findings A)) (i : ℕ) : Type 0 where
     pub worker : ℕ

@@ -14,7 +14,7 @@ use Rattle.mm_work.specs.declared.worker.IndexedFault.{IndexedFault}
 use Rattle.mm_work.specs.declared.worker.Findings.{Findings}
 use Rattle.mm_work.specs.declared.worker.Worked.{Worked}
 
--- the theorem of this index
+-- the theorem with this index
 abbrev pub theorem_of : List Statement → ℕ → ℕ
 theorem_of db i = slice_index (theorems db) i
 
@@ -24,13 +24,13 @@ IsFaultFound db None = Unit {0}
 IsFaultFound db (Some g) =
     (g.index < length (theorems db)) × HasFault db (theorem_of db g.index) g.fault
 
--- the theorem, by its index, in whose proof a fault was found, if there is one
+-- the index of the theorem in whose proof a fault was found, if there is one
 abbrev pub faulty_index : Option IndexedFault → Option ℕ
 faulty_index g = option_map (λ f. f.index) g
 
 module _ {A : Type 0} where
-  -- what a worker found is so: the proofs that it found valid are, with these citations, and the
-  -- fault is that of its theorem
+  -- what a worker found is right: the proofs that it found valid are valid, with these citations,
+  -- and the fault is that of its theorem
   pub record AreFindings (db : List Statement) (by_essential : Bool) (f : Findings A) : Type 0 where
     pub count : length f.cites ≡ length f.valid.items
     pub known : All (λ i. i < length (theorems db)) f.valid.items
@@ -39,15 +39,15 @@ module _ {A : Type 0} where
         (slice_index_or f.cites k [])
     pub faulty : IsFaultFound db f.faulty
 
-  -- the numbers that a seat has settled are those of the proofs that were found valid, and what it
-  -- has reported is the fault
+  -- the numbers that a seat has settled are the indices of the proofs that were found valid, and
+  -- what it has reported is the index of the fault
   pub record Tells (db : List Statement) (by_essential : Bool) (v : View)
       (f : Findings A) : Type 0 where
     pub found : AreFindings db by_essential f
     pub settled : v.settled ≡ f.valid.items
     pub reported : (i : ℕ) → 0 < times_in i v.reported → faulty_index f.faulty ≡ Some i
 
-  -- the same where no growth of memory was refused
+  -- the same if the worker didn't run out of memory
   abbrev pub TellsUnlessShort : List Statement → Bool → View → Findings A → Type 0
   TellsUnlessShort db by_essential v f = f.short_of_memory ≡ false → Tells db by_essential v f
 
@@ -60,7 +60,7 @@ pub record IsReady (home : BoardValue) (seat : SeatValue) : Type 0 where
   pub none_reported : seat.view.reported ≡ []
 
 module _ {A : Type 0} where
-  -- a worker that drew until no number was left, or that was short of memory
+  -- a worker that drew until no number was left, or that ran out of memory
   pub record IsDone (home : BoardValue) (database : Contents) (by_essential : Bool)
       (w : Worked A) : Type 0 where
     pub at : IsSeatOf home w.seat
@@ -68,16 +68,16 @@ module _ {A : Type 0} where
     pub over : w.found.short_of_memory ≡ false → w.seat.view.over ≡ true
     pub tells : TellsUnlessShort database.statements by_essential w.seat.view w.found
 
-  -- one of the workers found the proof of the theorem of this index valid
+  -- one of the workers found the proof of the theorem with this index valid
   abbrev pub IsFoundValid : List (Findings A) → ℕ → Type 0
   IsFoundValid fs i = (f : Findings A) × Contains fs f × Contains f.valid.items i
 
-  -- one of the workers found a fault in the proof of the theorem of this index
+  -- one of the workers found a fault in the proof of the theorem with this index
   abbrev pub IsFoundFaulty : List (Findings A) → ℕ → Type 0
   IsFoundFaulty fs i = (f : Findings A) × Contains fs f × (faulty_index f.faulty ≡ Some i)
 
-  -- the workers' seats were joined to this one, none was short of memory, and this is what they
-  -- found
+  -- the workers' seats were joined to this one, none of them ran out of memory, and this is what
+  -- they found
   pub record AreGathered (home : BoardValue) (db : List Statement) (by_essential : Bool)
       (seat : SeatValue) (fs : List (Findings A)) : Type 0 where
     pub at : IsSeatOf home seat

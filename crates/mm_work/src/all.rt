@@ -1,4 +1,4 @@
-//! All proofs, by workers.
+//! Checking all proofs by workers.
 
 ghost use Rattle.std.specs.Prelude.{◌≡◌, ◌≤◌, IfOk};
 ghost use Rattle.mm_work.specs.Judged.{Judges};
@@ -18,12 +18,13 @@ use std::thread::Threads;
 /// The share of a board's only seat.
 const WHOLE: u32 = 64;
 
-/// Checks the proofs of all theorems by this many workers, 1 to 64, of which the calling thread is
-/// the first: what each theorem cites, with `essential` by the essential nodes of its proof alone,
-/// or the fault of the first proof that has one, its place a byte offset from 0. Each worker passes
-/// the gate between the claim of a theorem and its look at it. A thread that can't be started
-/// changes no answer: where one took its seat with it, the calling thread checks all proofs anew,
-/// in file order and without the gate. Refused only where memory is, to whichever worker.
+/// Checks the proofs of all theorems by `workers` workers, 1 to 64; the calling thread is the
+/// first. Returns what each theorem cites, with `essential` only by the essential nodes of its
+/// proof, or the fault of the first proof that has one, whose place is a byte offset from 0. Each
+/// worker passes the gate between its claim of a theorem and its look. A thread that can't be
+/// started doesn't change the answer: if it took its seat with it, the calling thread checks all
+/// proofs again, in file order and without the gate. Fails only if out of memory, in whichever
+/// worker.
 pub fn check_all<'d, R: Threads + Wait + Sync, A: Allocator + Copy + Send + Sync, G: Gate>(
     rt: &R,
     alloc: A,

@@ -1,14 +1,14 @@
 //! What a worker passes between its claim and its look.
 
 /// A gate that each worker passes after each successful claim, before it looks whether the theorem
-/// is still wanted. Tests see by it that workers are under way at the same time.
+/// is still wanted. With it, tests make sure that workers run at the same time.
 pub trait Gate: Sync {
-    /// A worker, 0 for the calling thread, has drawn a theorem, by its index among the theorems,
-    /// from 0.
+    /// Called when a worker has drawn a theorem. `worker` is 0 for the calling thread; `theorem` is
+    /// an index among the theorems, counted from 0.
     fn enter(&self, worker: u32, theorem: u32);
 }
 
-/// The gate that stands open: it does nothing.
+/// The gate that is always open: it does nothing.
 #[derive(Clone, Copy, Debug)]
 pub struct Open;
 

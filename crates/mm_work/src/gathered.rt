@@ -15,8 +15,8 @@ use std::sync::Wait;
 use std::thread;
 use std::thread::{Promise, Threads};
 
-/// What a thread promises of what it hands back: that it worked at this board, on the theorems of
-/// this database, and by essential nodes alone where that is so.
+/// What a thread promises about the result that it returns: that it worked at this board, on the
+/// theorems of this database, with this flag for essential nodes.
 #[derive(Clone, Copy)]
 pub(crate) struct AtBoard<'a, 'd, A: Allocator>(&'a Board<A>, &'a Database<'d, A>, bool);
 
@@ -26,14 +26,14 @@ impl<'a, 'd, A: Allocator> Promise<Worked<A>> for AtBoard<'a, 'd, A> {
     ghost kept_by = { λ p r. IsDone p.0.now p.1.now p.2 r };
 }
 
-/// What the workers found, and the seat that took in theirs.
+/// What the workers found, and the seat that absorbed theirs.
 #[derive(Drop)]
 pub(crate) struct Gathered<A: Allocator> {
     pub seat: Seat,
     pub found: Vec<Findings<A>, A>,
 }
 
-/// A seat for one more worker; none where the seat has no share to give.
+/// A seat for one more worker; `None` if the seat has no share to give.
 fn split<A: Allocator>(board: &Board<A>, seat: &mut Seat) -> Option<Seat>
     requires { IsReady board.now seat.old }
     ensures own { IsReady board.now seat.new }
@@ -43,8 +43,8 @@ fn split<A: Allocator>(board: &Board<A>, seat: &mut Seat) -> Option<Seat>
     board.split(seat).ok()
 }
 
-/// Takes in the seats of the others. It is refused where a worker was short of memory, or where
-/// there is none for the list.
+/// Joins the seats of `others` to that of `own`, and lists what all workers found. Fails if a
+/// worker ran out of memory, or if there is none for the list.
 fn join_all<'d, A: Allocator + Copy>(
     alloc: A,
     database: &Database<'d, A>,
@@ -58,7 +58,7 @@ fn join_all<'d, A: Allocator + Copy>(
     ensures { IfOk result
         (λ g. AreGathered board.now database.now.statements essential g.seat g.found.items) }
 {
-    // The contract alone speaks of these.
+    // Only the contract uses these.
     let _ = database;
     let _ = essential;
     let Worked { mut seat, found } = own;
@@ -81,9 +81,9 @@ fn join_all<'d, A: Allocator + Copy>(
     Ok(Gathered { seat, found: all })
 }
 
-/// Has all theorems checked by this many workers. The calling thread is worker 0; each further one
-/// has a thread, as far as threads can be had, and a seat that was split off for it, which is lost
-/// where no thread could be started.
+/// Has all theorems checked by `workers` workers. The calling thread is worker 0. Each further
+/// worker has a seat that was split off for it, and a thread of its own. If the thread can't be
+/// started, its seat is lost.
 pub(crate) fn work_all<'d, R: Threads + Wait + Sync, A: Allocator + Copy + Send + Sync, G: Gate>(
     rt: &R,
     alloc: A,

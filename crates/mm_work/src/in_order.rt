@@ -1,4 +1,4 @@
-//! All proofs by the calling thread alone.
+//! Checking all proofs on the calling thread alone.
 
 ghost use Rattle.std.specs.Prelude.{◌≡◌, IfOk, length};
 ghost use Rattle.mm_check.specs.Rule.{AreRules};
@@ -12,7 +12,7 @@ use mm_cites::{Citations, Lists};
 use mm_stmt::Database;
 use std::alloc::{AllocError, Allocator};
 
-/// The answer where all proofs are valid, from what each theorem cites, in file order.
+/// The answer if all proofs are valid. `lists` has what each theorem cites, in file order.
 pub(crate) fn valid<'a, A: Allocator + Copy>(
     alloc: A,
     database: &Database<'a, A>,
@@ -25,7 +25,7 @@ pub(crate) fn valid<'a, A: Allocator + Copy>(
 {
     // The proof needs the clauses of `len`.
     let _ = database.len();
-    // The contract alone speaks of it.
+    // Only the contract uses it.
     let _ = essential;
     let theorems = database.theorems().to_vec(alloc)?;
     Ok(Judged::Valid(Citations::new(theorems, lists)))

@@ -1,4 +1,4 @@
-//! What the workers found, put together in the order of the theorems.
+//! Combining what the workers found, in the order of the theorems.
 
 ghost use Rattle.std.specs.Prelude.{◌≡◌, ◌<◌, ◌≤◌, ◌⊎◌, ℕ, All, IfOk, length, slice_get};
 ghost use Rattle.mm_spec.specs.Output.{theorems};
@@ -12,8 +12,8 @@ use mm_spec::Fault;
 use mm_stmt::Database;
 use std::alloc::{AllocError, Allocator};
 
-/// Where the citations of a theorem are: with which worker, and at which place among the theorems
-/// that it found valid.
+/// Where the citations of a theorem are: which worker has them, and at which place among the
+/// theorems that this worker found valid.
 #[derive(Clone, Copy)]
 pub(crate) struct Whereabouts {
     pub worker: usize,
@@ -73,7 +73,7 @@ pub(crate) fn merge<'d, A: Allocator + Copy>(
         (λ lists. AreCited database.now.statements essential (theorems database.now.statements)
         (length (theorems database.now.statements)) lists) }
 {
-    // The contract alone speaks of it.
+    // Only the contract uses it.
     let _ = essential;
     let places = places(alloc, found, database.theorems().len())?;
     let mut lists = Lists::new(alloc);
@@ -83,7 +83,7 @@ pub(crate) fn merge<'d, A: Allocator + Copy>(
     Ok(lists)
 }
 
-/// The fault of the theorem of this index.
+/// The fault of the theorem with this index.
 pub(crate) fn fault_of<'d, A: Allocator>(
     database: &Database<'d, A>,
     essential: bool,
@@ -94,7 +94,7 @@ pub(crate) fn fault_of<'d, A: Allocator>(
     requires faulty { IsFoundFaulty found.now index }
     ensures { HasFault database.now.statements (theorem_of database.now.statements index) result }
 {
-    // The contract alone speaks of these.
+    // Only the contract uses these.
     let _ = database;
     let _ = essential;
     for one in found {

@@ -16,12 +16,12 @@ use std::alloc::Allocator;
 pub(crate) enum VerifyRefused {
     /// It has this fault.
     Fault(Fault),
-    /// Memory was refused.
+    /// Out of memory.
     Memory,
 }
 
-/// Reads and checks the proof of a theorem: what it cites, or by its essential nodes alone, or its
-/// fault.
+/// Reads and checks the proof of a theorem. Returns what it cites, with `essential` only by its
+/// essential nodes, or why it wasn't found valid.
 pub(crate) fn verify<'a, A: Allocator + Copy>(
     alloc: A,
     database: &Database<'a, A>,

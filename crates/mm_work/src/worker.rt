@@ -19,7 +19,7 @@ use mm_spec::Fault;
 use mm_stmt::Database;
 use std::alloc::{AllocError, Allocator};
 
-/// The fault of a theorem's proof, and the theorem by its index.
+/// The fault of a theorem's proof, and the theorem's index.
 #[derive(Clone, Copy)]
 pub(crate) struct IndexedFault {
     pub index: u32,
@@ -29,19 +29,19 @@ pub(crate) struct IndexedFault {
 /// What a worker found.
 #[derive(Drop)]
 pub(crate) struct Findings<A: Allocator> {
-    /// The theorems whose proofs are valid, by their indices, in the order in which they were
-    /// checked.
+    /// The indices of the theorems whose proofs are valid, in the order in which they were checked.
     pub valid: Vec<u32, A>,
     /// What each of these cites.
     pub cites: Lists<A>,
-    /// The fault of a proof that isn't valid. After its report the worker skips all that it draws.
+    /// The fault of a proof that isn't valid. After reporting it the worker skips all that it
+    /// draws.
     pub faulty: Option<IndexedFault>,
-    /// Whether a growth of memory was refused. Then the rest is of no worth.
+    /// Whether the worker ran out of memory. Then the other fields are meaningless.
     pub short_of_memory: bool,
 }
 
 impl<A: Allocator> Findings<A> {
-    /// Nothing yet.
+    /// Nothing found yet.
     fn new(alloc: A) -> Findings<A>
     where
         A: Copy,
@@ -77,8 +77,8 @@ pub(crate) struct Worked<A: Allocator> {
     pub found: Findings<A>,
 }
 
-/// Checks the proof of a theorem, by its index, and keeps what comes of it. Whether the proof is
-/// valid and what it cites is kept.
+/// Checks the proof of the theorem with this index, and keeps the result. Returns whether the proof
+/// is valid and what it cites was kept.
 fn check<'a, A: Allocator + Copy>(
     alloc: A,
     database: &Database<'a, A>,
@@ -161,7 +161,7 @@ fn settle_drawn<'a, A: Allocator + Copy>(
     }
 }
 
-/// The work of one worker: draws theorems until none is left, and judges each.
+/// The work of one worker: draws theorems until none is left, and skips, settles or reports each.
 pub(crate) fn work<'a, A: Allocator + Copy, G: Gate>(
     alloc: A,
     database: &Database<'a, A>,

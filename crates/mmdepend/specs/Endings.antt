@@ -1,4 +1,4 @@
--- How the program ends: what the words ask for, what is read and written, the message and the
+-- How the program ends: what the words request, what is read and written, the message and the
 -- status.
 use Rattle.std.specs.Prelude.{◌++◌, ℕ, List, [], ◌∷◌, take, codes, Option, Some, None, IsSome}
 use Rattle.std.specs.Prelude.{bytes_eq, if◌then◌else◌}
@@ -18,11 +18,11 @@ use Rattle.mmdepend.specs.declared.ending.Ending.{Ending}
 use Rattle.mmdepend.specs.declared.ending.Ending.TheVariants.{Ran, Helped, HelpFailed, Misread}
 use Rattle.mmdepend.specs.declared.ending.Ending.TheVariants.{NotOpened, NoMemory}
 
--- the text is written, or a beginning of it where writing failed
+-- a prefix of the text was written, or the whole text
 abbrev pub Begins : (held holds : Option (List ℕ)) → List ℕ → Type 0
 Begins held holds text = (k : ℕ) × Appends held holds (take k text)
 
--- the file that is opened: none where no file is named, and none for `-`
+-- the file that is opened: `None` if no file is named, or if it is `-`
 abbrev pub opened_name : Option (List ℕ) → Option (List ℕ)
 opened_name None = None
 opened_name (Some name) = if bytes_eq name (codes "-") then None else Some name
@@ -30,9 +30,9 @@ opened_name (Some name) = if bytes_eq name (codes "-") then None else Some name
 abbrev pub opens : Line → Option (List ℕ)
 opens line = opened_name (option_map string_bytes line.file)
 
--- An opened file is of a type File, of which this is what there is still to read.
+-- `remaining` is what is still to be read of an opened file.
 module _ {File : Type 0} (remaining : File → Option (List ℕ)) where
-  -- A run reads the standard input where no file is opened. Where one is, it reads that, and the
+  -- A run reads standard input if no file is opened. If a file is opened, it reads that, and
   -- standard input stays as it was.
   abbrev pub Runs : {X : Type 0} → Option X → RunEnd → Line
       → (before after held holds : Option (List ℕ)) → Type 0
@@ -43,8 +43,8 @@ module _ {File : Type 0} (remaining : File → Option (List ℕ)) where
       × ((opened read : File)
       × Ends end (request_of line.plan) (remaining opened) (remaining read) held holds)
 
-  -- what the words ask for, by the ending, and what is read from the standard input and written to
-  -- the output
+  -- what the words say, according to the ending, and what is read from standard input and written
+  -- to the output
   abbrev pub IsEndingOf : List Text → Ending → (before after held holds : Option (List ℕ)) → Type 0
   IsEndingOf words (Ran end) before after held holds =
       (line : Line) × Says words line × Runs (opens line) end line before after held holds
@@ -84,7 +84,7 @@ run_message_of ReadFailed = message (codes "reading failed")
 run_message_of WriteFailed = message (codes "writing failed")
 run_message_of RunNoMemory = message (codes "out of memory")
 
--- what is told on standard error
+-- the message on standard error
 abbrev pub message_of : Ending → List ℕ
 message_of (Ran end) = run_message_of end
 message_of (Helped text) = []

@@ -8,17 +8,17 @@ use mm_run::RunEnd;
 /// How the program ends.
 #[derive(Drop)]
 pub enum Ending {
-    /// The database was read, and the run ended so.
+    /// There was a run, and it ended in this way.
     Ran(RunEnd),
-    /// This text of help, or of the version, was written.
+    /// This text was written: that of the help or of the version.
     Helped(String),
-    /// Writing this text failed; a beginning of it was written.
+    /// Writing this text failed; a prefix of it was written.
     HelpFailed(String),
-    /// The words have a fault, which this text tells.
+    /// The words have a fault, and this text says which.
     Misread(String),
-    /// The file wasn't opened.
+    /// The file couldn't be opened.
     NotOpened,
-    /// Memory for the words was refused.
+    /// Out of memory while the words were read.
     NoMemory,
 }
 
@@ -31,8 +31,8 @@ const WRITING_FAILED: &[u8] = b"mmdepend: writing failed\n";
 const OUT_OF_MEMORY: &[u8] = b"mmdepend: out of memory\n";
 
 impl Ending {
-    /// The status: 0 for a report or help, 1 for a refusal, 2 for words that aren't a command line,
-    /// 3 where the file wasn't opened or reading or writing failed, 4 where memory ran out.
+    /// The status: 0 for a report, help or the version, 1 for a refusal, 2 for an invalid command
+    /// line, 3 if the file couldn't be opened or reading or writing failed, 4 if out of memory.
     pub fn status(&self) -> u8
         ensures { result ≡ status_of self.now }
     {
@@ -47,7 +47,7 @@ impl Ending {
         }
     }
 
-    /// What is told on standard error.
+    /// The message on standard error.
     pub fn message(&self) -> &[u8]
         ensures { result.now ≡ message_of self.now }
     {

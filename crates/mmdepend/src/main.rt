@@ -1,8 +1,8 @@
-//! The program `mmdepend`: reads a Metamath database, verifies every proof, and reports on which
-//! axioms each theorem rests, or refuses the database for its first fault. `status` is the program
-//! over a reader and two writers: the words of the command line are read (`line`), the file that
-//! they name is opened, and `run` is called; what it promises is what is written, the message on
-//! standard error, and the status.
+//! The program `mmdepend`: it reads a Metamath database, verifies every proof, and reports on which
+//! axioms each theorem rests, or refuses the database for its first fault. `status` is the whole
+//! program, given a reader and two writers: it reads the words of the command line (`line`), opens
+//! the file that they name, and calls `run`. It promises what is written, the message on standard
+//! error, and the status.
 #![tactic(auto)]
 
 mod ending;
@@ -19,7 +19,7 @@ use std::io::{ErrorKind, Write};
 use std::process::ExitCode;
 use std::rt::Env;
 
-/// How the program ends where it can't have the words of its command line.
+/// How the program ends if it can't get the words of its command line.
 struct NoWords {
     status: u8,
     message: &'static str,
@@ -49,7 +49,7 @@ fn given_words<R: Env + AllocGlobal>(rt: &R) -> Result<Vec<String>, NoWords> {
     }
 }
 
-/// Hands the words, the standard input and the two outputs to `status`.
+/// Passes the words, standard input and the two outputs to `status`.
 fn main(rt: HostRuntime) -> ExitCode {
     let mut errors = rt.stderr();
     match given_words(&rt) {

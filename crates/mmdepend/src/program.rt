@@ -1,4 +1,4 @@
-//! The program over a reader and two writers.
+//! The program, given a reader and two writers.
 
 ghost use Rattle.std.specs.Prelude.{◌≡◌, IsTrue, map, option_map};
 ghost use Rattle.std.specs.Io.KnownBytes.{Appends};
@@ -17,8 +17,8 @@ use std::rt::Files;
 use std::sync::Wait;
 use std::thread::Threads;
 
-/// Writes the text, or a beginning of it where writing failed, and says whether it was written
-/// whole.
+/// Writes the text and returns `true`, or returns `false` after a failed write, when a prefix of
+/// the text was written.
 fn put<W: Write>(to: &mut W, text: &[u8]) -> bool
     ensures whole { IsTrue result → Appends (W.contents to.old) (W.contents to.new) text.now }
     ensures beginning { Begins (W.contents to.old) (W.contents to.new) text.now }
@@ -29,7 +29,7 @@ fn put<W: Write>(to: &mut W, text: &[u8]) -> bool
     }
 }
 
-/// The file that is opened; none where the standard input is read, as where `-` is named.
+/// The file to open; `None` if standard input is read, which `-` names too.
 fn opened_file(line: &Line) -> Option<&str>
     ensures { option_map (λ name. name.now) result ≡ opens line.now }
 {
@@ -45,7 +45,7 @@ fn opened_file(line: &Line) -> Option<&str>
     }
 }
 
-/// Reads the words, opens the file that they name, and runs; or writes help or the version.
+/// Reads the words, opens the file that they name, and calls `run`; or writes help or the version.
 fn end<S: AsStr, R: Threads + Wait + Files + Sync, I: Read, O: Write>(
     rt: &R,
     alloc: Global,
@@ -77,9 +77,9 @@ fn end<S: AsStr, R: Threads + Wait + Files + Sync, I: Read, O: Write>(
     }
 }
 
-/// The whole program over a reader and two writers. The words, of which the first is the program's
-/// name, are read first; then the file that they name is opened, and its bytes are read in place of
-/// the input's. Answers the status.
+/// The whole program, given a reader and two writers; returns the status. It reads the words first,
+/// of which the first one is the program's name. If they name a file other than `-`, it opens that
+/// and reads its bytes instead of those of `input`.
 pub fn status<S: AsStr, R: Threads + Wait + Files + Sync, I: Read, O: Write, E: Write>(
     rt: &R,
     alloc: Global,

@@ -1,4 +1,5 @@
-//! Tests of the program: its statuses, its messages, and what it writes where an end fails.
+//! Tests of the program: its statuses, its messages, and what it writes if a reader or a writer
+//! fails.
 
 use crate::{LineRefused, line, status};
 use std::alloc::Global;
@@ -26,8 +27,8 @@ impl Read for Failing {
     }
 }
 
-/// A writer that takes one byte a call, so many of them, and then none: its calls fail, or take
-/// nothing.
+/// A writer that takes one byte a call, up to a given number of bytes. After that its calls fail or
+/// take nothing.
 #[derive(Drop)]
 struct Closing {
     left: usize,
@@ -59,7 +60,7 @@ impl Write for Closing {
     }
 }
 
-/// The text for which the words are refused, and whether it is help.
+/// The text with which the words are refused, and whether it is help.
 fn refusal(alloc: Global, words: &[&str]) -> Option<(bool, String)> {
     match line(alloc, words) {
         Err(LineRefused::Help(text)) => Some((true, text)),
@@ -128,7 +129,7 @@ fn words_that_are_no_line(rt: HostRuntime) {
     }
 }
 
-// Where a file is named the standard input isn't read, so that one that fails changes nothing.
+// If a file is named, standard input isn't read, so one that fails changes nothing.
 #[test]
 fn files_that_cannot_be_opened_or_read(rt: HostRuntime) {
     let unopened = b"mmdepend: cannot open the file\n".as_slice();
@@ -152,8 +153,8 @@ fn a_file_is_read_in_place_of_the_input(rt: HostRuntime) -> Result<(), Fail> {
     Ok(())
 }
 
-/// Whether the program, on these words and the first text, tells that writing failed, with an
-/// output that takes so many bytes.
+/// Whether the program, on these words and the first text, says that writing failed, with an output
+/// that takes the given number of bytes.
 fn stops<R: Threads + Wait + Files + Sync + AllocGlobal>(
     rt: &R,
     words: &[&str],
@@ -193,7 +194,7 @@ fn a_message_that_cannot_be_written_leaves_the_status(rt: HostRuntime) {
     }
 }
 
-// What fails first decides, and the status tells of it though nothing else can.
+// What fails first decides. The status says so even if nothing else can.
 #[test]
 fn both_outputs_closed(rt: HostRuntime) {
     for words in [["mmdepend"].as_slice(), &["mmdepend", "--help"]] {

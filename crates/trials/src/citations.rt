@@ -9,8 +9,7 @@ use mm_stmt::{Database, read};
 use std::alloc::{AllocError, Global};
 use std::thread::Threads;
 
-/// A rule with a hypothesis that is a formula itself, so that a step can stand for its `$f` and for
-/// its `$e`.
+/// A rule whose `$e` has the form of a `$f`, so that one step can be the premise for either.
 const WEAK: &[u8] = b"${ e1 $e wff p $. ax-w $a wff p $. $}\n";
 
 /// Whether the statements are those of the labels.
@@ -26,8 +25,8 @@ fn are_labelled(database: &Database<Global>, statements: &[u32], labels: &[&[u8]
     true
 }
 
-/// Whether the proof of a text's last theorem is valid and cites the assertions of these labels
-/// alone.
+/// Whether the proof of a text's last theorem is valid and cites exactly the assertions with these
+/// labels.
 fn is_cited<R: Threads + Sync>(
     rt: &R,
     alloc: Global,

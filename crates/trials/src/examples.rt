@@ -1,5 +1,5 @@
-//! Each fault of words and statements by its smallest example, and texts that come close to one.
-//! The layers that find these faults and whole runs are tested by the same examples.
+//! The smallest example of each fault of words and statements, and texts that come close to one.
+//! The tests of the layers that find these faults and those of whole runs use the same examples.
 
 use crate::texts::NOTHING_REPORT;
 
@@ -7,8 +7,8 @@ use crate::texts::NOTHING_REPORT;
 #[derive(Clone, Copy)]
 pub(crate) struct Example {
     pub text: &'static [u8],
-    /// How many tokens stand before a fault of words, and else how many statements before the fault
-    /// or the end.
+    /// For a fault of words, the number of tokens before it; otherwise the number of statements
+    /// before the fault or the end.
     pub before: usize,
     /// The fault's place, a byte offset from 0, and the number of its code.
     pub fault: Option<(u32, u8)>,
@@ -42,7 +42,7 @@ fn sound(text: &'static [u8], before: usize) -> Example {
     }
 }
 
-/// Faults of bytes and words, each after so many tokens.
+/// Faults of bytes and words, each with the number of tokens before it.
 pub(crate) fn words() -> [Example; 6] {
     [
         faulty(b"$c a\x07 $.", 1, 4, 1, b"refused 1:5 E01\n"),
@@ -54,7 +54,7 @@ pub(crate) fn words() -> [Example; 6] {
     ]
 }
 
-/// Faults of the shape of statements and of the end, each after so many statements.
+/// Faults of the shape of statements and of the end, each with the number of statements before it.
 pub(crate) fn shapes() -> [Example; 7] {
     [
         faulty(b"$[ set.mm $]", 0, 0, 5, b"refused 1:1 E05\n"),
@@ -67,7 +67,7 @@ pub(crate) fn shapes() -> [Example; 7] {
     ]
 }
 
-/// Faults of symbols, labels and scope, each after so many statements.
+/// Faults of symbols, labels and scope, each with the number of statements before it.
 pub(crate) fn scopes() -> [Example; 18] {
     [
         faulty(b"$c a $. ${ $c b $. $}", 2, 11, 11, b"refused 1:12 E11\n"),

@@ -29,7 +29,7 @@ fn place_and_number<A: Allocator>(lexed: &Lexed<A>) -> Option<(u32, u8)> {
     }
 }
 
-/// The text in so many equal pieces.
+/// The reading of the text in the given number of equal pieces.
 fn in_pieces<R: Threads + Sync, A: Allocator + Copy + Send + Sync>(
     rt: &R,
     alloc: A,
@@ -90,7 +90,7 @@ fn lexes_every_cut(rt: HostRuntime) -> Result<(), AllocError> {
     Ok(())
 }
 
-/// Two words and a bad byte at every place about two blocks.
+/// Two words and a bad byte at every place in and near two blocks.
 #[test]
 fn lexes_at_every_place(rt: HostRuntime) -> Result<(), AllocError> {
     let spaces = [b' '; 130];

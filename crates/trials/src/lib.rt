@@ -1,6 +1,6 @@
-//! Tests of the layers below the program, of runs and of command lines, by their public calls. They
-//! stand apart from the crates that they test, since a crate's own tests are proved with the whole
-//! crate once more. It is no part of the program, and promises nothing.
+//! Tests of the layers below the program, of runs and of command lines, through their public calls.
+//! They are in a crate of their own, since a crate with tests is proved a second time with them.
+//! This crate isn't part of the program, and promises nothing.
 #![tactic(auto)]
 
 #[cfg(test)]

@@ -9,7 +9,7 @@ use std::alloc::Global;
 const HELP: &str =
     "Verifies a Metamath database and reports on which axioms each theorem rests\n\nUsage: mmdepend [OPTIONS] [FILE]\n\nArguments:\n  [FILE]  The database; without it, or where it is -, the standard input is read\n\nOptions:\n      --workers <N>    Check the proofs by N threads, 1 to 64 [default: 4]\n      --pieces <N>     Read the text in N pieces, 1 to 64 [default: 4]\n      --only <T>       Report on the axioms of typecode T alone, such as '|-'\n      --report <PART>  Write this part of the report [default: all] [possible values: all, matrix, counts, usage, citations]\n      --form <N>       Write the matrix as a digit for each column, or for each four [default: 1] [possible values: 1, 2]\n      --essential      Count what the logical part of a proof cites, and not what builds its formulas\n      --open           Count a theorem whose proof is ? as an axiom\n  -h, --help           Print help\n  -V, --version        Print version\n\nThe standard output gets the report, or one line with the first fault and its place.\nStatus: 0 accepted, 1 refused, 2 invalid command line, 3 reading or writing failed,\n4 out of memory. For 2 to 4 the standard error says why.\n";
 
-/// What the words are refused for: the text, and whether it is help.
+/// The text with which the words are refused, and whether it is help.
 fn refusal(alloc: Global, words: &[&str]) -> Option<(bool, String)> {
     match line(alloc, words) {
         Err(LineRefused::Help(text)) => Some((true, text)),
@@ -18,7 +18,7 @@ fn refusal(alloc: Global, words: &[&str]) -> Option<(bool, String)> {
     }
 }
 
-/// The counts of a line's plan: pieces and workers.
+/// The numbers of pieces and of workers of a line's plan.
 fn counts(line: &Line) -> Option<(u32, u32)> {
     match &line.plan.cuts {
         Cutting::Count(pieces) => Some((*pieces, line.plan.workers)),
@@ -26,7 +26,7 @@ fn counts(line: &Line) -> Option<(u32, u32)> {
     }
 }
 
-/// Whether the words say this.
+/// Whether the words are accepted with these values.
 fn says(
     alloc: Global,
     words: &[&str],

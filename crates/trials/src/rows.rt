@@ -10,7 +10,7 @@ use std::alloc::{AllocError, Global};
 use std::sync::Wait;
 use std::thread::Threads;
 
-/// Words with some bits set, no two alike.
+/// Words with some bits set, all different.
 fn words() -> [u64; 33] {
     let mut all = [0u64; 33];
     let mut word = 0x9E37_79B9_7F4A_7C15u64;
@@ -67,7 +67,7 @@ fn table_of<R: Threads + Wait + Sync>(
     }
 }
 
-/// Whether a row of 70 columns has these digits, one by one.
+/// Whether `digit` returns these digits for a row of 70 columns.
 fn has_digits(table: &Matrix<Global>, row: u32, digits: &[u8; 18]) -> bool {
     if table.rows() <= row || table.columns() != 70 {
         return false;
@@ -80,7 +80,7 @@ fn has_digits(table: &Matrix<Global>, row: u32, digits: &[u8; 18]) -> bool {
     true
 }
 
-/// Whether the two words of such a row are written as these digits.
+/// Whether `write_digits` writes the two words of such a row as these digits.
 fn writes_digits(table: &Matrix<Global>, row: u32, digits: &[u8; 32]) -> bool {
     if table.rows() <= row || table.columns() != 70 {
         return false;

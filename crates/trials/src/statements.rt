@@ -8,7 +8,7 @@ use std::alloc::{AllocError, Global};
 use std::rt::HostRuntime;
 use std::thread::Threads;
 
-/// The place and the number of the fault of a text, and how many statements stand before it.
+/// The place and the number of the fault of a text, and how many statements are before it.
 fn stops<R: Threads + Sync>(
     rt: &R,
     alloc: Global,
@@ -42,8 +42,8 @@ fn stops_where_a_statement_is_at_fault(rt: HostRuntime) -> Result<(), AllocError
     Ok(())
 }
 
-/// The labels of the theorems with the indices from the one up to the other; none where there are
-/// not so many.
+/// The labels of the theorems with indices from `from` up to `to`; no labels if there are fewer
+/// theorems.
 fn labels_between<R: Threads + Sync>(
     rt: &R,
     alloc: Global,

@@ -22,7 +22,7 @@ pub(crate) const DETACHMENT: &[u8] =
 /// A theorem with a hypothesis, up to its proof, which begins at column 41.
 pub(crate) const CONSEQUENT: &[u8] = b"${ h $e |- p $. a1i $p |- ( q -> p ) $= ";
 
-/// What stands after the proof of that theorem.
+/// What follows the proof of that theorem.
 pub(crate) const CLOSE: &[u8] = b" $. $}\n";
 
 /// The proof of that theorem, and the report on it.
@@ -44,7 +44,7 @@ pub(crate) const SHORT: &[u8] = b"short $p wff p $= wq $.\n";
 pub(crate) const NOTHING_REPORT: &[u8] =
     b"mmdepend 1\naxioms 0\ntheorems 0\nmatrix\ncounts\nusage\nend\n";
 
-/// The parts, one after the other.
+/// The parts, concatenated.
 pub(crate) fn joined(alloc: Global, parts: &[&[u8]]) -> Result<Vec<u8>, AllocError> {
     let mut text = Vec::new(alloc);
     for part in parts {

@@ -1,4 +1,4 @@
-//! Databases whose proofs are checked by one worker and by more, and gates at which workers wait
+//! Databases whose proofs are checked by one worker and by several, and gates at which workers wait
 //! for one another.
 
 ghost use Rattle.std.specs.Prelude.{◌≤◌};
@@ -21,7 +21,7 @@ const MANY: u32 = 3000;
 /// The bytes of one of its theorems.
 const LINE: u32 = 54;
 
-/// The turns after which a worker no longer waits at the gate.
+/// The number of turns after which a worker stops waiting at the gate.
 const MOST_TURNS: u32 = 10_000_000;
 
 /// A database of 3,000 theorems, all with the same formula. The proofs of some of them lack their
@@ -62,7 +62,7 @@ fn judged<R: Threads + Wait + Sync, G: Gate>(
     check_all(rt, alloc, &database, workers, essential, gate)
 }
 
-/// Whether the first fault is this one.
+/// Whether the first fault has this place and code.
 fn is_refused(judged: &Judged<Global>, at: u32, code: Code) -> bool {
     match judged {
         Judged::Valid(_) => false,
@@ -139,14 +139,14 @@ fn the_first_fault_of_many_theorems(rt: HostRuntime) -> Result<(), AllocError> {
     Ok(())
 }
 
-/// A gate at which each worker's first call waits until all workers have come, but not longer than
-/// a number of turns.
+/// A gate at which each worker's first call waits until all workers have come, for at most
+/// `MOST_TURNS` turns.
 struct Meeting {
     /// A bit for each worker.
     all: u64,
-    /// The bits of those that have come.
+    /// The bits of the workers that have come.
     come: AtomicU64,
-    /// How many no longer waited.
+    /// How many workers stopped waiting.
     gave_up: AtomicU64,
 }
 

@@ -1,4 +1,4 @@
-//! The calls by which proofs are read and checked, on the first theorem of a database with two.
+//! The calls that read and check proofs, on the first theorem of a database with two.
 
 ghost use Rattle.std.specs.Prelude.{◌≡◌, [], IfSome, IsTrue};
 ghost use Rattle.mm_spec.specs.Citation.{steps_at, reading_faults_at};
@@ -56,8 +56,8 @@ fn are_steps<A: Allocator>(answer: Result<Steps<A>, ProofRefused>) -> Option<boo
     }
 }
 
-/// Refuses each growth of reading that proof in turn. Whether a reading met no refusal at last, and
-/// not at once.
+/// Refuses each growth of reading that proof in turn. Returns whether the last reading met no
+/// refusal, and the first one did.
 fn read_in_turn<'h, R: Abort>(
     rt: &R,
     heap: &'h Refusing<Global>,
@@ -114,7 +114,7 @@ fn are_rules<A: Allocator>(answer: Result<Rules<A>, AllocError>) -> Option<bool>
     }
 }
 
-/// Refuses each growth of making all rules in turn.
+/// Refuses each growth of compiling all rules in turn.
 fn rules_in_turn<'h, R: Abort>(
     rt: &R,
     heap: &'h Refusing<Global>,
@@ -147,7 +147,7 @@ fn is_made<A: Allocator>(answer: Result<Checker<A>, AllocError>) -> Option<bool>
     }
 }
 
-/// Refuses each growth of making a checker in turn.
+/// Refuses each growth of creating a checker in turn.
 fn made_in_turn<'h, R: Abort>(
     rt: &R,
     heap: &'h Refusing<Global>,
@@ -200,8 +200,8 @@ fn checked_in_turn<'h, R: Abort>(
     false
 }
 
-/// Refuses a growth of a checker's first check, and uses the checker again. Whether the growth
-/// came; `None` where there is no checker.
+/// Refuses a growth of a checker's first check, and uses the checker again. Returns whether there
+/// was such a growth; `None` if there is no checker.
 fn checker_refused<'h, R: Abort>(
     rt: &R,
     heap: &'h Refusing<Global>,
@@ -248,7 +248,7 @@ fn checkers_in_turn<'h, R: Abort>(
     false
 }
 
-/// Both on the first theorem.
+/// The two functions above, on the first theorem.
 fn first_checked<'h, R: Abort>(
     rt: &R,
     heap: &'h Refusing<Global>,

@@ -1,4 +1,4 @@
-//! The calls by which rows are made, of the database with two theorems.
+//! The calls that compute rows, on the database with two theorems.
 
 use super::proofs::database_of;
 use super::{MOST, met};
@@ -32,8 +32,8 @@ fn are_waves<A: Allocator>(answer: Result<Vec<u32, A>, AllocError>) -> Option<bo
     }
 }
 
-/// Refuses each growth in turn. Whether a call met no refusal at last, and not at once; so too
-/// below.
+/// Refuses each growth in turn. Returns whether the last call met no refusal, and the first one
+/// did; the functions below return the same.
 fn waves_in_turn<'h, R: Abort>(
     rt: &R,
     heap: &'h Refusing<Global>,

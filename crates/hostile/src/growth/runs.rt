@@ -16,8 +16,8 @@ use std::process::Abort;
 use std::sync::Wait;
 use std::thread::Threads;
 
-/// Whether a run wrote this output whole, and took no memory while it wrote; `None` where it had no
-/// memory. Then it wrote nothing.
+/// Whether a run wrote exactly this output, and allocated nothing while it wrote. `None` if it ran
+/// out of memory and wrote nothing.
 fn answer<R: Threads + Wait + Sync>(
     rt: &R,
     alloc: Global,
@@ -34,7 +34,7 @@ fn answer<R: Threads + Wait + Sync>(
     Some(is_end(end) && to.taken.as_slice() == output && to.no_growth_between())
 }
 
-/// Whether a run came to an output's end.
+/// Whether a run ended as one that wrote its output.
 fn is_end(end: Option<RunEnd>) -> bool {
     match end {
         Some(RunEnd::Accepted | RunEnd::Refused(_)) => true,
@@ -42,8 +42,8 @@ fn is_end(end: Option<RunEnd>) -> bool {
     }
 }
 
-/// Asserts that a run whose growth of that number is refused has no memory or writes this output,
-/// and that the run after it writes the output. Whether the growth came.
+/// Asserts that a run whose growth of that number is refused runs out of memory or writes this
+/// output, and that the run after it writes the output. Returns whether the growth came.
 fn refused_at<R: Abort + Threads + Wait + Sync>(
     rt: &R,
     heap: &Refusing<Global>,
@@ -60,8 +60,8 @@ fn refused_at<R: Abort + Threads + Wait + Sync>(
     refused
 }
 
-/// Refuses a growth of a run, until a run meets no refusal: the first one, and then each that comes
-/// so many after it.
+/// Refuses the first growth of a run, in the next run the one that is `step` after it, and so on,
+/// until a run meets no refusal.
 fn refused_in_turn<R: Abort + Threads + Wait + Sync>(
     rt: &R,
     alloc: Global,
@@ -101,8 +101,8 @@ fn a_run_without_memory_writes_nothing(rt: HostRuntime) {
     }
 }
 
-/// A database of so many theorems. Its report is written in several pieces, and its rows are made
-/// by several threads.
+/// A database of `count` theorems. Its report is written in several pieces, and several threads
+/// compute its rows.
 fn many(alloc: Global, count: u32) -> Result<Vec<u8>, AllocError> {
     let mut text = BASE.to_vec(alloc)?;
     for number in 0..count {
@@ -115,7 +115,7 @@ fn many(alloc: Global, count: u32) -> Result<Vec<u8>, AllocError> {
     Ok(text)
 }
 
-/// What a run writes of the text.
+/// What a run writes for the text.
 fn output_of<R: Threads + Wait + Sync>(rt: &R, alloc: Global, mut text: &[u8]) -> Vec<u8> {
     let plan = plan_of(Cutting::Count(1), 1, Choice::All);
     let mut written = Vec::new(alloc);

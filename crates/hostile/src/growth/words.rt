@@ -1,4 +1,4 @@
-//! The calls by which a text becomes statements.
+//! The calls that turn a text into statements.
 
 use super::{MOST, met};
 use crate::heap::Refusing;
@@ -8,7 +8,7 @@ use mm_stmt::{Database, read};
 use std::alloc::{AllocError, Allocator, Global};
 use std::thread::Threads;
 
-/// The tokens of the first text.
+/// How many tokens the first text has.
 const TOKENS: usize = 62;
 
 /// Where that text is cut, in the middle of a word.
@@ -41,7 +41,7 @@ fn equal_cuts_without_memory(rt: HostRuntime) {
     assert!(&rt; false);
 }
 
-/// Whether this is the summary of the first text's beginning.
+/// Whether this is the summary of the first stretch of the first text.
 fn is_beginning<A: Allocator>(answer: Result<Piece<A>, AllocError>) -> Option<bool> {
     match answer {
         Ok(piece) => Some(
@@ -90,8 +90,8 @@ fn is_summary<A: Allocator>(answer: Result<Piece<A>, AllocError>) -> Option<bool
     }
 }
 
-/// The two parts of the first text, each read with memory, and joined, with a growth of that
-/// refused. Both parts are gone where it is.
+/// Reads the two parts of the first text with memory, and joins them with a growth refused. If the
+/// join fails, both parts are dropped.
 fn joined(
     heap: &Refusing<Global>,
     number: Option<u64>,
@@ -161,8 +161,8 @@ fn is_read<A: Allocator>(answer: Result<Database<'_, A>, AllocError>) -> Option<
     }
 }
 
-/// The statements of that text, its tokens read with memory, with a growth refused in reading the
-/// statements. The tokens are gone where it is.
+/// Reads the tokens of that text with memory, and its statements with a growth refused. If that
+/// fails, the tokens are dropped.
 fn statements<'h, R: Threads + Sync>(
     rt: &R,
     heap: &'h Refusing<Global>,

@@ -1,8 +1,8 @@
-//! Numbers by chance.
+//! Pseudorandom numbers.
 
 ghost use Rattle.std.specs.Prelude.{◌<◌};
 
-/// Numbers that look as if they came by chance, always the same from the same beginning.
+/// A source of pseudorandom numbers; the same seed always gives the same numbers.
 #[derive(Drop)]
 pub(crate) struct Chance {
     state: u64,
@@ -13,7 +13,7 @@ impl Chance {
         Chance { state: seed }
     }
 
-    /// A number below this one.
+    /// A number below `count`.
     pub(crate) fn below(&mut self, count: usize) -> usize
         requires { 0 < count }
         ensures { result < count }
@@ -26,7 +26,7 @@ impl Chance {
         mixed as usize % count
     }
 
-    /// Whether a thing happens that happens once in so many times.
+    /// Returns `true` once in `count` times, on average.
     pub(crate) fn once_in(&mut self, count: usize) -> bool
         requires { 0 < count }
     {

@@ -1,9 +1,9 @@
-//! Texts that are changed by chance.
+//! Random changes of texts.
 
 use super::chance::Chance;
 use super::words::{Word, Words};
 
-/// What is put into texts: words that stand in few texts, and statements with a fault.
+/// What is inserted into texts: words that occur in few texts, and statements with a fault.
 const ODD: [Word; 54] = [
     b"$c",
     b"$v",
@@ -61,7 +61,7 @@ const ODD: [Word; 54] = [
     b"x1 $p wff p $= ( ) UZA $.",
 ];
 
-/// Faults of compressed proofs that no other change makes often.
+/// Theorems with faults of compressed proofs that the other changes rarely cause.
 const LETTERS: [Word; 2] = [b"x1 $p wff p $= ( ) ZA $.", b"x1 $p wff p $= ( ) B $."];
 
 fn odd_by(chance: &mut Chance) -> Word {
@@ -72,8 +72,8 @@ fn odd_by(chance: &mut Chance) -> Word {
     }
 }
 
-/// Where a statement begins: after the next end of a statement or block from this place on, or at
-/// the end.
+/// Where a statement begins: after the first end of a statement or block at or after this place, or
+/// at the end.
 fn beginning_from(words: &[Word], from: usize) -> usize {
     for (at, word) in words.iter().enumerate() {
         if from <= at && (*word == b"$.".as_slice() || *word == b"$}".as_slice()) {
@@ -83,15 +83,15 @@ fn beginning_from(words: &[Word], from: usize) -> usize {
     words.len()
 }
 
-/// Puts a word at this place, or at the end where there is none.
+/// Inserts a word at this place, which may be the end. Does nothing if there is no such place.
 fn put(words: &mut Words, word: Word, at: usize) {
     if at <= words.list.len() {
         let _ = words.list.insert(at, word);
     }
 }
 
-/// Changes one word: it is dropped, doubled, replaced or moved after the next one, or a word is
-/// put before it.
+/// Changes one word: drops, doubles or replaces it, swaps it with the next one, or inserts one
+/// before it or where the next statement begins.
 fn change(words: &mut Words, chance: &mut Chance) {
     let count = words.list.len();
     if count == 0 {

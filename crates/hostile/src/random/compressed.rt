@@ -5,7 +5,7 @@ use super::formulas::FLOATING;
 use super::words::{Word, Words};
 use std::alloc::Global;
 
-/// The letters that end a number, and those before them.
+/// The letters that end a number; the next list has those before them.
 const LAST_LETTERS: [Word; 20] = [
     b"A", b"B", b"C", b"D", b"E", b"F", b"G", b"H", b"I", b"J", b"K", b"L", b"M", b"N", b"O", b"P",
     b"Q", b"R", b"S", b"T",
@@ -13,12 +13,12 @@ const LAST_LETTERS: [Word; 20] = [
 
 const EARLIER_LETTERS: [Word; 5] = [b"U", b"V", b"W", b"X", b"Y"];
 
-/// The place of a word among words, if it stands there.
+/// The place of a word among words, if it is one of them.
 fn place_of(words: &[Word], word: Word) -> Option<usize> {
     words.iter().position(|other| *other == word)
 }
 
-/// The letters of the number that is one more than this, which is below 120.
+/// Appends the letters of the number `below + 1`, which is at most 120.
 fn add_number(into: &mut Words, below: usize) {
     if 20 <= below {
         into.add(EARLIER_LETTERS[(below / 20 - 1) % 5]);
@@ -45,8 +45,8 @@ fn numbered(alloc: Global, proof: &[Word], hypothesis: Word) -> (Words, Words) {
     (hypotheses, others)
 }
 
-/// The proof with these labels as a compressed one. Some of its steps are marked, and hypotheses
-/// that were marked are taken up again.
+/// The proof with these labels in compressed form. Some of its steps are marked, and marked
+/// hypotheses are repeated.
 pub(crate) fn compressed(
     alloc: Global,
     proof: &[Word],
@@ -73,7 +73,7 @@ pub(crate) fn compressed(
     written
 }
 
-/// A step for the label: its number, or that of a mark at a step with the same label.
+/// Appends a step for the label: its number, or that of a mark at a step with the same label.
 fn add_step(
     written: &mut Words,
     numbers: &mut Words,

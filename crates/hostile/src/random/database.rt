@@ -1,4 +1,4 @@
-//! Databases by chance whose proofs are valid.
+//! Random databases whose proofs are valid.
 
 use super::chance::Chance;
 use super::compressed::compressed;
@@ -6,8 +6,8 @@ use super::formulas::{ALL, Choice, Formula, conditional, formula_by};
 use super::words::{Word, Words};
 use std::alloc::Global;
 
-/// Symbols, axioms and a theorem that others cite. Each line is a word, but for the last one's
-/// proof.
+/// Symbols, axioms and a theorem that others cite. Each line is one word, except for the proof of
+/// the last one.
 const HEAD: [Word; 10] = [
     b"$c wff |- ( -> ) $.",
     b"$v p q r $.",
@@ -68,8 +68,8 @@ fn instance(alloc: Global, chance: &mut Chance) -> Theorem {
     }
 }
 
-/// A conditional whose second part is the hypothesis: by the theorem, or by detachment as the
-/// theorem itself.
+/// A conditional whose second part is the hypothesis, proved by the theorem of the head, or by
+/// detachment as that theorem is.
 fn consequent(alloc: Global, label: Word, chance: &mut Chance) -> Theorem {
     let first = formula_by(alloc, ALL, chance);
     let second = formula_by(alloc, ALL, chance);
@@ -95,7 +95,7 @@ fn consequent(alloc: Global, label: Word, chance: &mut Chance) -> Theorem {
     }
 }
 
-/// A conditional of formulas without a common variable.
+/// A conditional of two formulas without a common variable.
 fn apart(alloc: Global, chance: &mut Chance) -> Theorem {
     let first = formula_by(alloc, Choice { first: 0, count: 1 }, chance);
     let second = formula_by(alloc, Choice { first: 1, count: 1 }, chance);
@@ -112,7 +112,7 @@ fn apart(alloc: Global, chance: &mut Chance) -> Theorem {
     }
 }
 
-/// The theorem's statement, with its proof in one of the two forms.
+/// Appends the theorem's statement, with its proof in normal or in compressed form.
 fn add_statement(
     alloc: Global,
     words: &mut Words,
@@ -132,7 +132,7 @@ fn add_statement(
     words.add(b"$.");
 }
 
-/// The theorem in a block of its own, with what it asks for.
+/// Appends the theorem in a block of its own, with its hypothesis and its `$d`.
 fn add_theorem(
     alloc: Global,
     words: &mut Words,
@@ -153,7 +153,7 @@ fn add_theorem(
     words.add(b"$}");
 }
 
-/// A theorem by chance.
+/// A random theorem.
 fn theorem_by(alloc: Global, hypothesis: Word, chance: &mut Chance) -> Theorem {
     match chance.below(5) {
         0 => syntax(alloc, chance),
@@ -163,7 +163,7 @@ fn theorem_by(alloc: Global, hypothesis: Word, chance: &mut Chance) -> Theorem {
     }
 }
 
-/// A database with up to six theorems more than its head has.
+/// A database with the head and up to six more theorems.
 pub(crate) fn database_by(alloc: Global, chance: &mut Chance) -> Words {
     let mut words = Words::new(alloc);
     words.add_all(&HEAD);

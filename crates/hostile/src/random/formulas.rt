@@ -1,4 +1,4 @@
-//! Formulas by chance, with the proofs that they are formulas.
+//! Random formulas, with the proofs that they are formulas.
 
 use super::chance::Chance;
 use super::words::{Word, Words};
@@ -16,7 +16,7 @@ pub(crate) struct Formula {
     pub proof: Words,
 }
 
-/// Which variables a formula may have: those with the numbers from the first on, so many.
+/// Which variables a formula may have: `count` of them, from the number `first` on.
 #[derive(Clone, Copy)]
 pub(crate) struct Choice {
     pub first: usize,
@@ -32,7 +32,7 @@ fn add_variable(formula: &mut Formula, choice: Choice, chance: &mut Chance) {
     formula.proof.add(FLOATING[number % 3]);
 }
 
-/// A variable, or a conditional of two.
+/// Appends a variable, or a conditional of two.
 fn add_small(formula: &mut Formula, choice: Choice, chance: &mut Chance) {
     if chance.once_in(2) {
         return add_variable(formula, choice, chance);
@@ -45,7 +45,7 @@ fn add_small(formula: &mut Formula, choice: Choice, chance: &mut Chance) {
     formula.proof.add(b"wi");
 }
 
-/// A formula of up to four variables, of these.
+/// A formula with up to four occurrences of these variables.
 pub(crate) fn formula_by(alloc: Global, choice: Choice, chance: &mut Chance) -> Formula {
     let mut formula = Formula {
         symbols: Words::new(alloc),

@@ -1,6 +1,5 @@
-//! Texts by chance: databases whose proofs are valid, and such databases with changes. Each is run
-//! with other cuts, other numbers of workers and other sections, and what is written has to be the
-//! same.
+//! Random texts: databases whose proofs are valid, and such databases with changes. Each is run
+//! with several cuts, numbers of workers and sections, and the output has to be the same.
 
 ghost use Rattle.std.specs.Prelude.{◌≤◌, length};
 
@@ -32,14 +31,14 @@ const WORKERS_OR_PIECES: [u32; 24] = [
     1, 1, 1, 1, 1, 1, 1, 1, 2, 2, 2, 2, 2, 2, 2, 2, 3, 3, 3, 3, 4, 4, 7, 33,
 ];
 
-/// The numbers of the codes of faults, but for that of a text of more than 2,147,483,647 bytes (0)
+/// The numbers of the codes of faults, without that of a text of more than 2,147,483,647 bytes (0)
 /// and that of a formula of more than 1,048,576 symbols (39).
 const CODES: [u8; 37] = [
     1, 2, 3, 4, 5, 6, 7, 8, 9, 10, 11, 12, 13, 14, 15, 17, 18, 19, 20, 21, 22, 23, 24, 25, 31, 32,
     33, 34, 35, 36, 37, 38, 41, 42, 43, 44, 45,
 ];
 
-/// Cuts by chance: so many equal pieces, or some places, of which the last may be past the end.
+/// Random cuts: into equal pieces, or at some places, of which the last may be past the end.
 fn cuts_by(alloc: Global, len: usize, chance: &mut Chance) -> Cutting<Global> {
     if chance.once_in(2) {
         return Cutting::Count(WORKERS_OR_PIECES[chance.below(24)]);
@@ -55,7 +54,7 @@ fn cuts_by(alloc: Global, len: usize, chance: &mut Chance) -> Cutting<Global> {
     Cutting::Places(places)
 }
 
-/// How a run ends and what it writes, with cuts and workers by chance.
+/// How a run ends and what it writes, with random cuts and a random number of workers.
 fn run_by<R: Threads + Wait + Sync>(
     rt: &R,
     alloc: Global,
@@ -82,7 +81,7 @@ fn run_plainly<R: Threads + Wait + Sync>(
     (end, written)
 }
 
-/// The bytes of the first three lines, which stand before the sections.
+/// The number of bytes of the first three lines, which are before the sections.
 fn head_of(report: &[u8]) -> usize
     ensures { result ≤ length report.now }
 {
@@ -98,7 +97,7 @@ fn head_of(report: &[u8]) -> usize
     report.len()
 }
 
-/// A section of a report that has it alone.
+/// The section of a report that has only one.
 fn section_of(report: &[u8]) -> &[u8] {
     let end = report.len().saturating_sub(b"end\n".len());
     let head = head_of(report).min(end);
@@ -117,8 +116,8 @@ fn has_sections(report: &[u8], sections: [&[u8]; 3]) -> bool {
     rest == b"end\n".as_slice()
 }
 
-/// Asserts that a report's sections are those of reports that have one of them, with the same first
-/// lines.
+/// Asserts that a report's sections are those of the reports that have one of them each, with the
+/// same first lines.
 fn same_sections<R: Abort + Threads + Wait + Sync>(
     rt: &R,
     alloc: Global,
@@ -136,7 +135,7 @@ fn same_sections<R: Abort + Threads + Wait + Sync>(
     }
 }
 
-/// Runs a text in several ways, asserts that all write the same, and tells how they end.
+/// Runs a text in several ways, asserts that all write the same, and returns how they end.
 fn judged<R: Abort + Threads + Wait + Sync>(
     rt: &R,
     alloc: Global,
@@ -155,7 +154,7 @@ fn judged<R: Abort + Threads + Wait + Sync>(
     end
 }
 
-/// A text by chance, and whether it was left unchanged.
+/// A random text, and whether it is an unchanged database.
 fn text_by(alloc: Global, chance: &mut Chance) -> (Vec<u8>, bool) {
     let mut words = database_by(alloc, chance);
     let is_unchanged = chance.once_in(4);
@@ -170,7 +169,7 @@ fn text_by(alloc: Global, chance: &mut Chance) -> (Vec<u8>, bool) {
     (text, is_unchanged)
 }
 
-/// How often texts were accepted, and each fault that they had.
+/// How many texts were accepted, and each fault that texts had.
 #[derive(Drop)]
 struct Tally {
     accepted: usize,
@@ -190,8 +189,8 @@ impl Tally {
     }
 }
 
-// The same texts each time. An unchanged database is valid, so it has to be accepted; the changed
-// ones have each fault that a short text can have.
+// The texts are the same each time. An unchanged database is valid, so it has to be accepted. Among
+// the changed ones is each fault that a short text can have.
 #[test]
 fn texts_by_chance_have_one_answer(rt: HostRuntime) {
     let mut tally = Tally {

@@ -3,10 +3,10 @@
 use super::chance::Chance;
 use std::alloc::Global;
 
-/// A word of a text. What is put into a text at once is one too.
+/// A word of a text, or several that are inserted together.
 pub(crate) type Word = &'static [u8];
 
-/// Words, one after the other. Words for which there is no memory are left out.
+/// A list of words. A word for which there is no memory is left out.
 #[derive(Drop)]
 pub(crate) struct Words {
     pub list: Vec<Word>,
@@ -30,7 +30,7 @@ impl Words {
     }
 }
 
-/// What may stand between two words.
+/// What may be between two words.
 const BETWEEN: [Word; 8] = [
     b" ",
     b" ",
@@ -50,7 +50,7 @@ fn is_letter(word: Word) -> bool {
     }
 }
 
-/// The text of the words. Letters of proofs mostly stand side by side.
+/// The text of the words. Between letters of a proof there is mostly no space.
 pub(crate) fn text_of(alloc: Global, words: &Words, chance: &mut Chance) -> Vec<u8> {
     let mut text = Vec::new(alloc);
     let mut before: Word = b"";

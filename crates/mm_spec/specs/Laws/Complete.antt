@@ -1,5 +1,5 @@
 -- A frame is complete if its hypotheses bind each of its variables (this project's own, for a law).
--- A frame knows its hypotheses as formulas, so a `$f` is known here by its form alone; a law of
+-- A frame has its hypotheses as formulas, so here a `$f` is recognised only by its form; a law of
 -- `mm_laws` says that there is a `$f`.
 use Rattle.std.specs.Prelude.{ℕ, Bool, false, ◌&&◌, not, List, [], ◌∷◌, Option, Some, None, ◌==◌}
 use Rattle.std.specs.Prelude.{IsTrue}
@@ -25,7 +25,7 @@ module _ (c : Context) where
   abbrev pub AreBound : List Formula → Formula → Type 0
   AreBound hs f = AllByRecursion (λ x. IsTrue (c.is_variable x) → IsBound hs x) f
 
-  -- the hypotheses bind each variable that stands in the frame
+  -- the hypotheses bind each variable that occurs in the frame
   pub record IsComplete (a : Frame) : Type 0 where
     pub hypotheses : AllByRecursion (AreBound a.hypotheses) a.hypotheses
     pub formula : AreBound a.hypotheses a.formula
@@ -37,12 +37,12 @@ module _ (c : Context) where
   IsFine (Some (hypothesis g)) = Unit {0}
   IsFine (Some (assertion a)) = IsComplete a
 
--- what a label stands for asks for no variable that its hypotheses don't have
+-- the frame of each assertion for which a label stands is complete
 abbrev pub AreComplete : List Statement → Type 0
 AreComplete db = (k l : ℕ) → IsFine (context_at db k) ((context_at db k).rule l)
 
--- The frames of all that is read are complete: a lawful `$e`, `$a` or `$p` has an active `$f` for
--- each of its variables.
+-- The frames of everything that is read are complete: a lawful `$e`, `$a` or `$p` has an active
+-- `$f` for each of its variables.
 abbrev pub ReadsComplete : ℕ → LexedText → Type 0
 ReadsComplete len x =
     (db : List Statement) (fault : Option Fault) → IsRead len x db fault → AreComplete db

@@ -1,5 +1,5 @@
--- The stack of a proof's check (Metamath book, section 4.1.4): its entries are formulas, and each
--- step is tried on them. For lemmas and for the contracts of the checker.
+-- The stack used to check a proof (Metamath book, section 4.1.4): its entries are formulas, and
+-- each step changes them or fails. For lemmas and for the contracts of the checker.
 use Rattle.std.specs.Prelude.{◌≡◌, ℕ, suc, ◌-◌, ◌<◌, Bool, true, false, ◌&&◌, List, [], ◌∷◌, ◌++◌}
 use Rattle.std.specs.Prelude.{map, length, take, drop, Option, Some, None, Result, Ok, Err, nat_le}
 use Rattle.std.specs.Prelude.{bytes_eq, slice_get}
@@ -12,7 +12,7 @@ use Rattle.mm_spec.specs.Steps.{Step, label, marked}
 use Rattle.mm_spec.specs.Valid.{Reason, too_few, unmatched, not_apart, too_long}
 use Rattle.mm_spec.specs.Laws.Complete.{binds, IsComplete}
 
--- two lists of formulas are equal
+-- whether two lists of formulas are equal
 abbrev pub same : List Formula → List Formula → Bool
 same [] [] = true
 same [] (q ∷ qs) = false
@@ -29,12 +29,12 @@ top [] = []
 top (f ∷ []) = f
 top (f ∷ g ∷ fs) = top (g ∷ fs)
 
--- the formula of the last tree
+-- g is the formula of the last tree
 abbrev pub HasLast : Trees → Formula → Type 0
 HasLast none g = ⊥
 HasLast (more ts l f cs) g = f ≡ g
 
--- the entries after a step, by its four tests
+-- the entries after a step, or the reason why it fails: the first of its four tests that fails
 abbrev pub pick : Bool → Bool → Bool → Bool → List Formula → Result (List Formula) Reason
 pick false matched apart short out = Err too_few
 pick true false apart short out = Err unmatched
@@ -43,13 +43,14 @@ pick true true true false out = Err too_long
 pick true true true true out = Ok out
 
 module _ (c : Context) where
-  -- what stands for a variable in the premises: what its `$f` has there
+  -- what replaces a variable: the premise for its `$f`, without the typecode
   abbrev pub found : List Formula → List Formula → Substitution
   found [] ps x = []
   found (h ∷ hs) [] x = []
   found (h ∷ hs) (p ∷ ps) x = elim (binds c x h) [ true ↦ tail p | false ↦ found hs ps x ]
 
-  -- an assertion's step, by what is below its premises and by these
+  -- the step of an assertion; `premises` are the entries that it takes, `below` the entries below
+  -- them, and `enough` says whether there are enough entries
   abbrev pub apply : Frame → Bool → List Formula → List Formula → Result (List Formula) Reason
   apply a enough below premises = let σ = found a.hypotheses premises in
       pick enough (same premises (map (substitute c σ) a.hypotheses))
@@ -64,23 +65,24 @@ module _ (c : Context) where
   step (Some (assertion a)) es = let n = length es - length a.hypotheses in
       apply a (nat_le (length a.hypotheses) (length es)) (take n es) (drop n es)
 
-  -- what a label stands for is at hand, and binds its variables
+  -- the label stands for something, and the frame is complete if that is an assertion
   abbrev pub IsGood : Option Rule → Type 0
   IsGood None = ⊥
   IsGood (Some (hypothesis g)) = Unit {0}
   IsGood (Some (assertion a)) = IsComplete c a
 
-  -- the formula after a step is that of the last tree of what the steps up to it stand for
+  -- f is the formula of the last tree of a row of derivations whose postfix list is the labels: the
+  -- formula after the steps that stand for these labels
   abbrev pub Leaves : List ℕ → Formula → Type 0
   Leaves labels f = (row : Trees) × AreDerivations c row × (postfix row ≡ labels) × HasLast row f
 
-  -- the entries after a step; ends are the formulas after the steps so far
+  -- the entries after a step; `ends` has the last entry after each step so far
   abbrev pub step_entries : Step → List Formula → List Formula → Result (List Formula) Reason
   step_entries (label l) ends es = step (c.rule l) es
   step_entries (marked j) ends es =
       elim (slice_get ends j) [ None ↦ Ok es | Some f ↦ Ok (es ++ f ∷ []) ]
 
-  -- a label that stands for something, and an earlier step
+  -- the step is a label that stands for something, or names one of the n earlier steps
   abbrev pub IsGoodStep : ℕ → Step → Type 0
   IsGoodStep n (label l) = IsGood (c.rule l)
   IsGoodStep n (marked j) = j < n

@@ -1,5 +1,5 @@
--- What is expected of a token, the statements of a list of tokens, and the fault of its shape: the
--- table is this project's own, and its statements are those of the Metamath book, section 4.1.3.
+-- What is expected token by token, the statements of a list of tokens, and the fault of its shape.
+-- The table is this project's own; its statements are those of the Metamath book, section 4.1.3.
 use Rattle.std.specs.Prelude.{ℕ, zero, suc, Bool, true, false, List, [], ◌∷◌, ◌++◌, codes, bytes_eq}
 use Rattle.std.specs.Prelude.{Option, None, Some}
 use Rattle.mm_spec.specs.Text.{Bytes, Token, Fault, fault, has_dollar, is_label}
@@ -36,7 +36,7 @@ keyword w = lookup table w
 abbrev pub class : Bytes → Class
 class w = elim (has_dollar w) [ true ↦ keyword w | false ↦ plain ]
 
--- what of a statement has been read, with so many blocks open
+-- what has been read of a statement; `deep` is the number of open blocks
 pub data Progress : Type 0 where
   start : (deep : ℕ) → Progress
   labelled : (deep : ℕ) (label : Token) → Progress
@@ -79,7 +79,7 @@ after stop on = []
 after (go r) on = on r
 after (done d s) on = s ∷ on (start d)
 
--- the whole statements from there on
+-- the complete statements from there on
 abbrev pub statements_from : Progress → List Token → List Statement
 statements_from r [] = []
 statements_from r (t ∷ ts) = after (turn r (class t.word) t) (λ q. statements_from q ts)
@@ -109,12 +109,12 @@ rest_after stop on r = r
 rest_after (go q) on r = on q
 rest_after (done d s) on r = on (start d)
 
--- what has been read where all tokens are expected
+-- what has been read after all tokens, or before the first one that is not expected
 abbrev pub rest_from : Progress → List Token → Progress
 rest_from r [] = r
 rest_from r (t ∷ ts) = rest_after (turn r (class t.word) t) (λ q. rest_from q ts) r
 
--- the fault at the end of a text of so many bytes
+-- the fault at the end of a text of `len` bytes
 abbrev pub fault_at_end : ℕ → Progress → Option Fault
 fault_at_end len (start zero) = None
 fault_at_end len (start (suc d)) = Some (fault len OpenBlock)

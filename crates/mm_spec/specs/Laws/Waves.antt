@@ -1,5 +1,5 @@
--- The wave of a theorem (this project's own): how far it is, at the longest, from what it cites at
--- last.
+-- The wave of a theorem (this project's own): the number of citations in the longest chain from it
+-- that runs through theorems only.
 use Rattle.std.specs.Prelude.{ℕ, Bool, List, IsTrue}
 use Rattle.std.specs.List.{list_any}
 use Rattle.mm_spec.specs.Statement.{Statement}
@@ -10,6 +10,6 @@ use Rattle.mm_spec.specs.Laws.Chains as chain
 abbrev pub IsTheorem : List Statement → ℕ → Type 0
 IsTheorem db b = IsTrue (list_any is_theorem (statement_at db b))
 
--- the longest chain of citations from t through theorems alone has so many
+-- the longest chain of citations from t through theorems only has n citations
 abbrev pub IsWave : List Statement → (by_essential : Bool) → ℕ → ℕ → Type 0
 IsWave db by_essential t n = chain.IsWave (Cites db by_essential) (IsTheorem db) t n

@@ -1,11 +1,11 @@
--- What the words of a text are: its longest runs of bytes that aren't white (Metamath book, section
--- 4.1.1). The law is `words_are_the_longest_runs`.
+-- What the words of a text are: its longest runs of bytes that aren't white space (Metamath book,
+-- section 4.1.1). The law is `words_are_the_longest_runs`.
 use Rattle.std.specs.Prelude.{◌≡◌, ℕ, ◌+◌, ◌<◌, ◌≤◌, true, false, List, length}
 use Rattle.std.specs.List.{All, AllPairs, Contains}
 use Rattle.mm_spec.specs.Words.{white_at}
 use Rattle.mm_spec.specs.declared.Word.{Word}
 
--- From start up to end no byte is white, and neither end can be moved outward.
+-- From start up to end no byte is white space, and neither end can be moved outward.
 pub record IsWord (text : List ℕ) (w : Word) : Type 0 where
   pub nonempty : w.start < w.end
   pub within : w.end ≤ length text
@@ -13,7 +13,7 @@ pub record IsWord (text : List ℕ) (w : Word) : Type 0 where
   pub white_before : (i : ℕ) → i + 1 ≡ w.start → white_at text i ≡ true
   pub white_after : w.end < length text → white_at text w.end ≡ true
 
--- ws has each word of the text, nothing else, and rises.
+-- ws has each word of the text and nothing else, in ascending order.
 pub record AreWords (text : List ℕ) (ws : List Word) : Type 0 where
   pub rising : AllPairs (λ v w. v.end ≤ w.start) ws
   pub each : All (IsWord text) ws

@@ -53,7 +53,7 @@ fn is_valid<R: Threads + Wait + Sync>(
     }
 }
 
-/// Whether the proof has this fault, so many bytes after its beginning.
+/// Whether the proof has this fault, `offset` bytes after its beginning.
 fn is_faulty<R: Threads + Wait + Sync>(
     rt: &R,
     alloc: Global,

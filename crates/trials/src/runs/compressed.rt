@@ -1,4 +1,4 @@
-//! Compressed proofs: what is read, each fault, and a formula that doubles with each step.
+//! Compressed proofs: how they are read, each fault, and a formula that doubles with each step.
 
 use crate::runs::prints;
 use crate::texts::{BASE, CLOSE, CONSEQUENT, CONSEQUENT_REPORT, DETACHMENT, joined};

@@ -1,4 +1,4 @@
-//! Each fault by its smallest example, with the line that it gives (the examples of
+//! The smallest example of each fault, with the line that is written for it (the examples of
 //! `docs/FAULTS.md`), and theorems that rest on one another.
 
 use crate::examples::{scopes, shapes, words};

@@ -1,4 +1,4 @@
-//! Tests of runs: what is written of a text, and how the run ends.
+//! Tests of runs: what is written for a text, and how the run ends.
 
 mod checking;
 mod compressed;
@@ -28,7 +28,7 @@ fn plan(cuts: Cutting<Global>) -> Plan<Global> {
     }
 }
 
-/// Whether a run on the text ends so and writes these bytes.
+/// Whether a run on the text has this end and writes these bytes.
 fn writes<R: Threads + Wait + Sync>(
     rt: &R,
     alloc: Global,

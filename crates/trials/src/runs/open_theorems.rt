@@ -1,4 +1,4 @@
-//! Theorems without a proof, as axioms.
+//! Open theorems, counted as axioms.
 
 use super::plan;
 use crate::texts::{BASE, DETACHMENT, joined};
@@ -31,7 +31,7 @@ fn open_plan(choice: Choice) -> Plan<Global> {
     plan
 }
 
-/// Whether a run by the plan ends so and writes these bytes.
+/// Whether a run by the plan has this end and writes these bytes.
 fn ends<R: Threads + Wait + Sync>(
     rt: &R,
     alloc: Global,

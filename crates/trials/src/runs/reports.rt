@@ -1,4 +1,4 @@
-//! What reports show: the sections and columns that are chosen, and rows of more than one word.
+//! What reports show: the chosen sections and columns, and rows of more than one word.
 
 use super::plan;
 use crate::texts::{BASE, add_number, consequent, joined, seventy, through_a_theorem};
