@@ -9,7 +9,7 @@ export LC_ALL=C
 
 recipe=${0##*/}
 # The program: $MMDEPEND, or the one of the repository in which the recipes are.
-program=${MMDEPEND:-$(dirname "$(readlink -f "$0")")/../../mmdepend}
+program=${MMDEPEND:-$(dirname "$(readlink -f "$0")")/../mmdepend}
 
 # fail MESSAGE: ends the recipe with one line on standard error.
 fail() {
