@@ -1,24 +1,78 @@
-# shellcheck shell=sh disable=SC2154
+# shellcheck shell=sh disable=SC2154,SC2034
 # What the recipes share; each sources this file after it has set `usage` to its usage line.
 #
 # It reads the options, which the usage line names, and shifts them away. It makes the folder $room, which is removed at
-# the end, and defines the functions below. Status 2 is that of every failure; nothing is on standard output then.
+# the end, and defines the functions below. A recipe puts its answer into $room/answer, and ends with `answer` (status 0)
+# or `verdict` (status 1 where the answer has a line). However else it ends, the status is 2; then nothing was written to
+# standard output, or not the whole answer, and standard error has at least one line.
 
 set -eu
 export LC_ALL=C
+exec 3>&2
 
 recipe=${0##*/}
-# The program: $MMDEPEND, or the one of the repository in which the recipes are.
-program=${MMDEPEND:-$(dirname "$(readlink -f "$0")")/../mmdepend}
+here=$(dirname "$(readlink -f "$0")")
+# The program: $MMDEPEND, or the one beside the folder in which the recipes are.
+program=${MMDEPEND:-$here/../mmdepend}
+
+# How the recipe ends: its status once that is certain, and whether standard error was told why there is no answer.
+ending=
+told=
+room=
+
+# leave: the end of every recipe, however it came. What tools wrote to standard error is in $room/told.
+leave() {
+    status=$?
+    trap - EXIT
+    why=
+    if [ -n "$room" ]; then
+        why=$(tail -n 1 "$room/told" 2>/dev/null) || why=
+        rm -rf "$room"
+    fi
+    [ -z "$ending" ] || exit "$ending"
+    [ -n "$told" ] || printf '%s: %s\n' "$recipe" "${why:-ended with status $status}" >&3 || :
+    exit 2
+}
+
+# make_room: makes the temporary folder, and sees to it that it goes.
+make_room() {
+    room=$(mktemp -d 2>/dev/null) || fail "no temporary folder can be made"
+    : >"$room/told" || fail "nothing can be written to the temporary folder"
+    exec 2>"$room/told"
+}
+
+# tell MESSAGE: one line on standard error.
+tell() {
+    told=yes
+    printf '%s\n' "$1" >&3 || :
+}
 
 # fail MESSAGE: ends the recipe with one line on standard error.
 fail() {
-    printf '%s: %s\n' "$recipe" "$1" >&2
+    tell "$recipe: $1"
     exit 2
+}
+
+# fail_as_told NAME: the same with what a tool told about a file.
+fail_as_told() {
+    fail "$1: $(tail -n 1 "$room/told")"
 }
 
 bad_usage() {
     fail "usage: $usage"
+}
+
+# answer: writes the answer.
+answer() {
+    cat "$room/answer" || fail "the answer can't be written"
+    ending=0
+}
+
+# verdict: writes the answer to a check, each line of which is a failure.
+verdict() {
+    cat "$room/answer" || fail "the answer can't be written"
+    ending=0
+    [ ! -s "$room/answer" ] || ending=1
 }
 
 # number WORD: ends the recipe unless the word is a whole number from 1 to 999999.
@@ -28,13 +82,10 @@ number() {
     esac
 }
 
-# make_room: makes the temporary folder, and sees to it that it goes.
-make_room() {
-    room=$(mktemp -d) || exit 2
-    trap 'rm -rf "$room"' EXIT
-    trap 'exit 129' HUP
-    trap 'exit 130' INT
-    trap 'exit 143' TERM
+# python ARG..: runs Python, which finds what the recipes in it share.
+python() {
+    command -v python3 >/dev/null || fail "this recipe needs python3"
+    PYTHONPATH=$here PYTHONDONTWRITEBYTECODE=1 python3 "$@"
 }
 
 # opening FILE: the first line of a file, or as much of it as tells a report from a database.
@@ -66,30 +117,65 @@ file_of() {
 }
 
 # run NAME FILE REPORT SECTION: runs the program over the database and puts its report into a file; NAME is what
-# messages call the database.
+# messages call the database. Citations are listed whatever their typecode.
 run() {
     command -v "$program" >/dev/null || fail "there is no program $program"
     # The repository's script builds the program here, where it isn't built.
-    "$program" --help >/dev/null || fail "$program can't be run"
+    "$program" --help >/dev/null 2>&3 || fail "$program can't be run"
+    typecode=$only
+    [ "$4" != citations ] || typecode=
     status=0
-    "$program" ${only:+"--only=$only"} ${essential:+--essential} ${with_open:+--open} --report "$4" "$2" >"$3" 2>"$room/told" || status=$?
+    "$program" ${typecode:+"--only=$typecode"} ${essential:+--essential} ${with_open:+--open} --report "$4" "$2" \
+        >"$3" 2>"$room/said" || status=$?
     case $status in
         0) ;;
-        1) refused "$1" "$3" ;;
+        1)
+            if [ -z "$proofs_may_be_wrong" ] || ! grep -Eq ' E[34].$' "$3"; then refused "$1" "$3" "$2"; fi
+            ;;
         *)
-            told=$(tail -n 1 "$room/told" | sed 's/^mmdepend: //')
-            fail "$1: ${told:-the program ended with status $status}"
+            said=$(tail -n 1 "$room/said" | sed 's/^mmdepend: //')
+            fail "$1: ${said:-the program ended with status $status}"
             ;;
     esac
 }
 
-# refused NAME REPORT: ends the recipe with the refusal, as compilers write their messages.
+# refused NAME REPORT [FILE]: ends the recipe with two lines: the refusal, as compilers write their messages, and what it
+# means. If the database is at hand, its file, the second line names the statement.
 refused() {
     grep -Eqx 'refused [0-9]+:[0-9]+ E[0-9]+' "$2" || fail "$1: a refusal that isn't whole"
-    sed "s/^refused \(.*\) \(E.*\)\$/\1: refused \2/" "$2" | while IFS= read -r line; do
-        printf '%s:%s\n' "$1" "$line" >&2
-    done
+    read -r _ place code <"$2"
+    tell "$1:$place: refused $code"
+    where=
+    if [ -n "${3:-}" ] && [ "$code" != E00 ]; then
+        where=$(statement_at "${place%:*}" "${place#*:}" "$3") || where=
+    fi
+    meaning=$(awk -F '\t' -v code="$code" '$1 == code { print $2 "; " $3 }' "$here/faults") || meaning=
+    tell "$1: ${where:+$where: }${meaning:-this code is unknown to the recipes}"
     exit 2
+}
+
+# statement_at LINE COLUMN FILE: which statement of a database has this place.
+statement_at() {
+    head -n "$1" "$3" | tr '\t\f\r' '   ' | awk -v line="$1" -v column="$2" '
+        # One token; the last one of all is the one at the place.
+        function take(token, last) {
+            if (in_comment) { in_comment = token != "$)"; return }
+            if (token == "$(") { in_comment = 1; return }
+            if (first == "") first = token
+            if (!last && (token == "$." || token == "${" || token == "$}")) first = ""
+        }
+        NR < line { for (i = 1; i <= NF; i++) take($i, 0); next }
+        {
+            rest = substr($0, column)
+            sub(/ .*/, "", rest)
+            n = split(substr($0, 1, column - 1) rest, words, " ")
+            for (i = 1; i <= n; i++) take(words[i], i == n && rest != "")
+        }
+        END {
+            if (first ~ /^[A-Za-z0-9._-]+$/) print "in \047" first "\047"
+            else if (first ~ /^[$][cvd]$/) print "in a " first " statement"
+        }
+    '
 }
 
 # of_typecode: says which axioms the columns of a database are, where they aren't all.
@@ -97,82 +183,142 @@ of_typecode() {
     if [ "$kind" = database ] && [ -n "$only" ]; then printf " of typecode '%s'" "$only"; fi
 }
 
-# section NAME REPORT SECTION OUTPUT: writes the lines of a section of the report, without its heading, once the report
-# was found to be whole. Of `usage`, the lines of axioms that begin with $begin alone.
-section() {
-    [ "$(head -n 1 "$2")" = 'mmdepend 1' ] || fail "$1: a report of another form than 1"
-    [ "$(tail -c 5 "$2" && echo .)" = "$(printf '\nend\n.')" ] || fail "$1: the report is cut off"
+# sections NAME REPORT PLACE SECTION..: makes PLACE.SECTION of each section named: its lines, without the heading. The file
+# has a whole report, or several, one after the other. Of `usage`, the lines of axioms that begin with $begin alone.
+sections() {
+    name=$1 report=$2 place=$3
+    shift 3
+    case $(opening "$report") in 'mmdepend 1') ;; *) fail "$name: a report of another form than 1" ;; esac
+    [ "$(tail -c 5 "$report" && echo .)" = "$(printf '\nend\n.')" ] || fail "$name: the report is cut off"
     status=0
-    section=$3 begin=$begin awk -F: '
-        NR == 2 && /^axioms [0-9]+$/ { axioms = substr($0, 8) + 0; next }
-        NR == 3 && /^open [0-9]+$/ { more = 1; next }
-        NR == 3 + more && /^theorems [0-9]+$/ { theorems = substr($0, 10) + 0; next }
-        NR < 4 + more { if (NR > 1) damaged = 1; next }
-        !/:/ { inside = $0 "" == ENVIRON["section"]; found += inside; next }
-        inside {
-            lines++
-            if (ENVIRON["section"] == "usage" && NF != 3) damaged = 1
-            if (ENVIRON["section"] == "citations" && (NF != 3 || split($3, words, " ") != $2 + 0)) damaged = 1
-            if (ENVIRON["section"] == "counts" && NF != 2) damaged = 1
-            if (ENVIRON["section"] == "matrix" && (NF != 2 || length($2) != axioms)) damaged = 1
-            if (ENVIRON["section"] != "usage" || index($1, ENVIRON["begin"]) == 1) print
+    place=$place wanted=$* begin=$begin awk -F: '
+        BEGIN {
+            n = split(ENVIRON["wanted"], words, " ")
+            for (i = 1; i <= n; i++) {
+                out[words[i]] = ENVIRON["place"] "." words[i]
+                printf "" >out[words[i]]
+            }
+            begin = ENVIRON["begin"]
+        }
+        # The end of a section: it has to have all its lines.
+        function close_section() {
+            if (part != "" && lines != (part == "usage" ? axioms : theorems)) damaged = 1
+            part = ""
+            lines = 0
+        }
+        # head is the number of the first line of a report that comes next: 1 to 4, or 5 inside.
+        head < 2 {
+            if ($0 != "mmdepend 1") { if (/^mmdepend [0-9]+$/) form = 1; else damaged = 1; exit }
+            head = 2
+            next
+        }
+        head == 2 { if (!/^axioms [0-9]+$/) { damaged = 1; exit } axioms = substr($0, 8) + 0; head = 3; next }
+        head == 3 && /^open [0-9]+$/ { head = 4; next }
+        head < 5 {
+            if (!/^theorems [0-9]+$/) { damaged = 1; exit }
+            theorems = substr($0, 10) + 0
+            head = 5
+            if (axioms + theorems == 0) empty = 1
+            next
+        }
+        !/:/ {
+            close_section()
+            if ($0 == "end") { head = 1; next }
+            part = $0
+            if (part in out) { if (found[part]++) twice = part; if (axioms == 0) without = 1 }
+            next
+        }
+        { lines++ }
+        part in out {
+            if (part == "usage") { if (NF != 3) damaged = 1 }
+            else if (part == "citations") { if (NF != 3 || split($3, words, " ") != $2 + 0) damaged = 1 }
+            else if (part == "counts") { if (NF != 2) damaged = 1 }
+            else if (part == "matrix") { if (NF != 2 || length($2) != axioms) damaged = 1 }
+            if (part != "usage" || begin == "" || index($1, begin) == 1) print >out[part]
         }
         END {
-            if (damaged) exit 4
-            if (axioms + theorems == 0) exit 5
-            if (ENVIRON["section"] == "") exit 0
-            if (axioms == 0) exit 6
-            if (!found) exit 3
-            if (found > 1 || lines + 0 != (ENVIRON["section"] == "usage" ? axioms : theorems)) exit 4
+            if (form) exit 7
+            if (damaged || head != 1) exit 4
+            if (empty) exit 5
+            if (without) exit 6
+            for (part in out) {
+                if (!found[part]) { print part; exit 3 }
+                if (found[part] > 1) { print part; exit 8 }
+            }
         }
-    ' "$2" >"$4" || status=$?
+    ' "$report" >"$room/part" || status=$?
     case $status in
         0) ;;
-        3) fail "$1: the report has no section '$3'" ;;
-        4) fail "$1: the report is damaged" ;;
-        5) fail "$1: has neither axioms nor theorems" ;;
-        6) fail "$1: has no axiom$(of_typecode)" ;;
-        *) fail "$1: can't be read" ;;
+        3) fail "$name: the report has no section '$(cat "$room/part")'" ;;
+        4) fail "$name: the report is damaged" ;;
+        5) fail "$name: has neither axioms nor theorems" ;;
+        6) fail "$name: has no axiom$(of_typecode)" ;;
+        7) fail "$name: a report of another form than 1" ;;
+        8) fail "$name: the section '$(cat "$room/part")' is there twice" ;;
+        *) fail "$name: can't be read, or the temporary folder is full" ;;
     esac
-    if [ "$3" = usage ] && [ -n "$begin" ] && [ ! -s "$4" ]; then
-        fail "$1: has no axiom that begins with '$begin'"
+    if [ -n "$begin" ] && [ -f "$place.usage" ] && [ ! -s "$place.usage" ]; then
+        fail "$name: has no axiom that begins with '$begin'"
     fi
 }
 
-# take FILE NAME SECTION...: makes $room/NAME.SECTION of each section named. FILE is a database, over which the program
-# is run, or a report that it wrote. The section `citations` is never in one report with the others.
-take() {
-    from=$1
-    name=$2
-    shift 2
-    file_of "$from" "$name"
+# open_source FILE NAME: puts into `file` the database or the report, and into `kind` which of them it is.
+open_source() {
+    file_of "$1" "$2"
     if is_report "$file"; then
         kind=report
-        [ -z "$chosen" ] || fail "$from: a report is as it was made, so $chosen wants a database"
-        if [ "$(opening "$file" | cut -c 1-7)" = refused ]; then refused "$from" "$file"; fi
-        report=$file
+        [ -z "$chosen" ] || fail "$1: a report is as it was made, so $chosen wants a database"
+        case $(opening "$file") in refused*) refused "$1" "$file" ;; esac
     else
         kind=database
-        report=$room/$name.report
-        case $# in
-            0) run "$from" "$file" "$report" counts ;;
-            1) run "$from" "$file" "$report" "$1" ;;
-            *) run "$from" "$file" "$report" all ;;
-        esac
     fi
     # The columns of a report aren't known, so it can't stand beside a database.
-    [ "${taken:=$kind}" = "$kind" ] || fail "$from: a $kind beside a $taken; both have to be one or the other"
-    [ "$#" -gt 0 ] || section "$from" "$report" '' /dev/null
+    [ "${taken:=$kind}" = "$kind" ] || fail "$1: a $kind beside a $taken; both have to be one or the other"
+}
+
+# take FILE NAME SECTION..: makes $room/NAME.SECTION of each section named. FILE is a database, over which the program is
+# run, or a report that it wrote.
+take() {
+    from=$1
+    as=$2
+    shift 2
+    open_source "$from" "$as"
+    if [ "$kind" = report ]; then
+        sections "$from" "$file" "$room/$as" "$@"
+        return 0
+    fi
+    # The section `citations` is never in one report with the others.
+    rows=
+    cites=
     for part; do
-        section "$from" "$report" "$part" "$room/$name.$part"
+        case $part in
+            citations) cites=$part ;;
+            *) rows="$rows $part" ;;
+        esac
     done
-    rm -f "$room/$name.report"
+    if [ -n "$rows" ] || [ -z "$cites" ]; then
+        case $rows in
+            '') run "$from" "$file" "$room/report" counts ;;
+            ' '*' '*) run "$from" "$file" "$room/report" all ;;
+            *) run "$from" "$file" "$room/report" "${rows# }" ;;
+        esac
+        # shellcheck disable=SC2086
+        sections "$from" "$room/report" "$room/$as" $rows
+    fi
+    if [ -n "$cites" ]; then
+        run "$from" "$file" "$room/report" citations
+        sections "$from" "$room/report" "$room/$as" citations
+    fi
+    rm -f "$room/report"
 }
 
 # take_database FILE NAME SECTION...: the same of a database alone.
 take_database() {
     file_of "$1" "$2"
-    if is_report "$file"; then fail "$1: a report, where the database is wanted"; fi
+    if is_report "$file"; then
+        case $(opening "$file") in refused*) refused "$1" "$file" ;; esac
+        fail "$1: a report, where the database is wanted"
+    fi
     take "$@"
 }
 
@@ -192,18 +338,40 @@ take_citations() {
     take "$1" db citations
 }
 
-# cited FILE LABEL: ends the recipe unless a theorem cites the label, or it is one of a theorem.
-cited() {
-    label=$2 awk -F: '
-        $1 "" == ENVIRON["label"] || index(" " $3 " ", " " ENVIRON["label"] " ") { found = 1; exit }
-        END { exit !found }
-    ' "$room/db.citations" || fail "$1: has no theorem '$2', and none that cites it"
+# is_cited NAME LABEL: whether a theorem cites the label.
+is_cited() {
+    label=$2 awk -F: 'index(" " $3 " ", " " ENVIRON["label"] " ") { found = 1; exit } END { exit !found }' \
+        "$room/$1.citations"
 }
 
-# cited_axiom FILE LABEL: ends the recipe unless a theorem cites the label, and it is none of a theorem.
+# is_uncited_axiom FILE NAME LABEL: whether a label that has no line in the citations and that no theorem cites is one of
+# an axiom. No line of the citations is of an axiom, so this looks at the lines of `usage`.
+is_uncited_axiom() {
+    if [ ! -f "$room/$2.usage" ]; then
+        file_of "$1" "$2"
+        if [ "$kind" = report ]; then
+            grep -q -x usage "$file" ||
+                fail "$1: has no theorem '$3', and none that cites it; the section 'usage' would tell whether it is an axiom"
+            sections "$1" "$file" "$room/$2" usage
+        else
+            run "$1" "$file" "$room/report" usage
+            sections "$1" "$room/report" "$room/$2" usage
+        fi
+    fi
+    has "$2.usage" "$3"
+}
+
+# cited FILE LABEL: ends the recipe unless the label is one of an axiom or a theorem.
+cited() {
+    if ! has db.citations "$2" && ! is_cited db "$2" && ! is_uncited_axiom "$1" db "$2"; then
+        fail "$1: has neither a theorem nor an axiom '$2'"
+    fi
+}
+
+# cited_axiom FILE LABEL: ends the recipe unless the label is one of an axiom.
 cited_axiom() {
-    cited "$1" "$2"
     if has db.citations "$2"; then fail "$1: '$2' is a theorem, where an axiom is wanted"; fi
+    if ! is_cited db "$2" && ! is_uncited_axiom "$1" db "$2"; then fail "$1: has no axiom '$2'"; fi
 }
 
 # theorem FILE NAME.SECTION LABEL: ends the recipe unless the label is one of a theorem.
@@ -211,35 +379,90 @@ theorem() {
     has "$2" "$3" || fail "$1: has no theorem '$3'"
 }
 
-# list FILE: puts the labels of a list, one a line, into $room/list. Lines may end in CR and LF.
-list() {
-    file_of "$1" list
-    tr ' \t\f\r' '[\n*]' <"$file" | sed '/^$/d' >"$room/list"
-    [ -s "$room/list" ] || fail "$1: the list is empty"
+# graph [THEOREM [AXIOM]]: makes $room/graph of $room/db.citations: lines `theorem T`, `axiom A` and `cites T L`. If a
+# theorem is given, what it rests on through citations, from it downwards; if an axiom is, only what rests on that.
+graph() {
+    theorem=${1:-} axiom=${2:-} awk -F: '
+        function show(label, i, n, words) {
+            print "theorem", label
+            n = split(cited[label], words, " ")
+            for (i = 1; i <= n; i++) {
+                if (axiom != "" && !(words[i] in rests)) continue
+                if (!(words[i] in cited) && !(words[i] in reached)) print "axiom", words[i]
+                reached[words[i]]
+                print "cites", label, words[i]
+            }
+        }
+        BEGIN {
+            theorem = ENVIRON["theorem"]
+            axiom = ENVIRON["axiom"]
+            if (axiom != "") rests[axiom]
+        }
+        {
+            order[++theorems] = $1
+            cited[$1] = $3
+            if (axiom != "") {
+                n = split($3, words, " ")
+                for (i = 1; i <= n; i++) if (words[i] in rests) rests[$1]
+            }
+        }
+        theorem != "" && $1 "" == theorem { exit }
+        END {
+            if (theorem == "") { for (t = 1; t <= theorems; t++) show(order[t]); exit }
+            reached[theorem]
+            for (t = theorems; t > 0; t--) if (order[t] in reached) show(order[t])
+        }
+    ' "$room/db.citations" >"$room/graph"
 }
 
-# all_in LIST FILE NAME.SECTION KIND: ends the recipe unless each label of $room/list has a line in the section.
+# list FILE NAME: puts the labels of a list into $room/NAME, each after the number of its line. Lines may end in CR and LF;
+# what follows a # is a comment.
+list() {
+    file_of "$1" "$2"
+    awk '{ sub(/#.*/, ""); gsub(/[\f\r]/, " "); n = split($0, words, " "); for (i = 1; i <= n; i++) print NR, words[i] }' \
+        "$file" >"$room/$2"
+}
+
+# filled FILE NAME: ends the recipe if this list is empty.
+filled() {
+    [ -s "$room/$2" ] || fail "$1: the list is empty"
+}
+
+# all_in LIST NAME FILE NAME.SECTION KIND: ends the recipe unless each label of the list has a line in the section, and
+# tells each that has none, with its line.
 all_in() {
-    awk -F: 'NR == FNR { known[$1]; next } !($0 in known) { print; exit }' "$room/$3" "$room/list" >"$room/unknown"
-    [ ! -s "$room/unknown" ] || fail "$1: '$(cat "$room/unknown")' is no $4 of $2"
+    awk 'NR == FNR { split($0, part, ":"); known[part[1]]; next } !($2 in known)' "$room/$4" "$room/$2" >"$room/unknown"
+    [ -s "$room/unknown" ] || return 0
+    while read -r line label; do
+        tell "$1:$line: '$label' is no $5 of $3"
+    done <"$room/unknown"
+    exit 2
 }
 
 # The options. Each is taken by the recipes whose usage line names it. $chosen is the last one that says what is reported.
 only='|-'
 begin=
 essential=
-# Set by a recipe that counts theorems without a proof as axioms.
 with_open=
+allow=
+png=
 chosen=
+# Set by a recipe that also takes a database whose first fault is one of a proof, E31 to E45.
+proofs_may_be_wrong=
+trap leave EXIT
+trap 'ending=129; exit' HUP
+trap 'ending=130; exit' INT
+trap 'ending=143; exit' TERM
 while [ "$#" -gt 0 ]; do
     option=$1
     case $option in
         --help)
-            printf 'usage: %s\n' "$usage"
-            exit 0
+            printf 'usage: %s\n' "$usage" 2>/dev/null || fail "the answer can't be written"
+            ending=0
+            exit
             ;;
-        --all | --only | --begin | --essential)
-            case $usage in *"$option"*) ;; *) bad_usage ;; esac
+        --all | --only | --begin | --essential | --open | --allow | --png)
+            case $usage in *"$option "* | *"$option]"*) ;; *) bad_usage ;; esac
             ;;
         --)
             shift
@@ -249,24 +472,21 @@ while [ "$#" -gt 0 ]; do
         *) break ;;
     esac
     shift
-    if [ "$option" = --all ]; then
-        only=
-        chosen=$option
-        continue
-    fi
-    if [ "$option" = --essential ]; then
-        essential=$option
-        chosen=$option
-        continue
-    fi
-    if [ -z "${1:-}" ]; then bad_usage; fi
-    if [ "$option" = --only ]; then
-        only=$1
-        chosen=$option
-    else
-        begin=$1
-    fi
-    shift
+    case $option in
+        --all) only='' chosen=$option ;;
+        --essential) essential=$option chosen=$option ;;
+        --open) with_open=$option chosen=$option ;;
+        --png) png=$option ;;
+        *)
+            if [ -z "${1:-}" ]; then bad_usage; fi
+            case $option in
+                --only) only=$1 chosen=$option ;;
+                --begin) begin=$1 ;;
+                --allow) allow=$1 ;;
+            esac
+            shift
+            ;;
+    esac
 done
 
 make_room

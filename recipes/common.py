@@ -1,0 +1,160 @@
+"""What the recipes in Python share: the statements and headers of a database, and the graph of a section `citations`.
+
+A recipe ends by `sys.exit(message)` where it can't answer; the shell makes that its one line on standard error.
+"""
+
+import re
+
+WORD = re.compile(r"\s*(\S+)")
+OPEN_PROOF = re.compile(r"\$=\s+(?:\(\s+\)\s+)?\?\s+\$\.")
+# The marks of headers, from the outermost level inwards.
+MARKS = ["####", "#*#*", "=-=-", "-.-."]
+HEADER = re.compile(r"\$\([ \t\r]*\n(" + "|".join(map(re.escape, MARKS)) + ")")
+
+
+def text_of(path):
+    """The text of a database, a character for each byte."""
+    with open(path, encoding="latin-1", newline="") as file:
+        return file.read()
+
+
+def comments(text):
+    """The first place of each comment, and the one after its last."""
+    first = text.find("$(")
+    while first >= 0:
+        last = text.find("$)", first)
+        last = len(text) if last < 0 else last + 2
+        yield first, last
+        first = text.find("$(", last)
+
+
+def without_comments(text):
+    """The text with a space for each byte of a comment, so that places stay."""
+    parts = []
+    place = 0
+    for first, last in comments(text):
+        parts += [text[place:first], " " * (last - first)]
+        place = last
+    return "".join(parts) + text[place:]
+
+
+def word_before(bare, place):
+    """Where the last word before a place begins, and the word."""
+    wide = 64
+    while True:
+        first = max(0, place - wide)
+        words = bare[first:place].split()
+        if len(words) > 1 or first == 0:
+            return bare.rfind(words[-1], first, place), words[-1]
+        wide *= 2
+
+
+def assertions(bare):
+    """Each `$a` and `$p` statement: the place of its label, the label, `axiom`, `theorem` or `open`, and the typecode."""
+    for key in re.finditer(r"\$[ap]\s", bare):
+        place, label = word_before(bare, key.start())
+        kind = "axiom"
+        if key[0][1] == "p":
+            proof = bare.find("$=", key.end())
+            kind = "open" if OPEN_PROOF.match(bare, proof) else "theorem"
+        yield place, label, kind, WORD.match(bare, key.end())[1]
+
+
+def headers(text):
+    """Each header: its place, its level from 0 and its title. It is a comment whose second line begins with a mark; the
+    title is what stands before the next line that begins with it."""
+    for first, last in comments(text):
+        header = HEADER.match(text, first)
+        if not header:
+            continue
+        lines = text[header.start(1) : last].split("\n")
+        start = next((i for i, line in enumerate(lines) if not line.startswith(header[1])), len(lines))
+        end = next((i for i in range(start, len(lines)) if lines[i].startswith(header[1])), None)
+        if end is not None:
+            yield first, MARKS.index(header[1]), " ".join(" ".join(lines[start:end]).split())
+
+
+def rows(path):
+    """The lines of a section, each as its fields."""
+    with open(path, encoding="latin-1") as file:
+        for line in file:
+            yield line.rstrip("\n").split(":")
+
+
+class Graph:
+    """The citations of a database. Nodes are numbers; those of theorems rise in file order."""
+
+    def __init__(self, path):
+        self.labels = []
+        self.number = {}
+        self.theorems = []
+        self.cites = {}
+        for label, _, cited in rows(path):
+            cites = [self.node(word) for word in cited.split()]
+            theorem = self.node(label)
+            self.theorems.append(theorem)
+            self.cites[theorem] = cites
+        self.users = [[] for _ in self.labels]
+        for theorem, cites in self.cites.items():
+            for cited in cites:
+                self.users[cited].append(theorem)
+
+    def node(self, label):
+        """The number of a label, which gets one where it has none."""
+        if label not in self.number:
+            self.number[label] = len(self.labels)
+            self.labels.append(label)
+        return self.number[label]
+
+    def far(self, label):
+        """For each theorem that rests on an axiom, by its node, the number of citations of a shortest chain; and the axiom."""
+        axiom = self.number.get(label)
+        if axiom is None or axiom in self.cites:
+            return {}
+        far = {axiom: 0}
+        edge = [axiom]
+        long = 0
+        while edge:
+            long += 1
+            further = []
+            for node in edge:
+                for user in self.users[node]:
+                    if user not in far:
+                        far[user] = long
+                        further.append(user)
+            edge = further
+        return far
+
+    def next_on(self, far, node):
+        """What a node cites next on a shortest chain; of several the one that is cited first."""
+        return next(cited for cited in self.cites[node] if far.get(cited) == far[node] - 1)
+
+
+class Reasons:
+    """Of the theorems of one graph that rest on an axiom, and don't in another one, why: the first citation on a shortest
+    chain that the other one hasn't; the last one if it has all, since the axiom is a theorem there."""
+
+    def __init__(self, graph, other, axiom):
+        self.graph, self.other = graph, other
+        self.far = graph.far(axiom)
+        self.known = {}
+
+    def is_shared(self, node, cited):
+        """Whether the other graph has this citation."""
+        labels, other = self.graph.labels, self.other
+        there = other.cites.get(other.number.get(labels[node]), [])
+        return other.number.get(labels[cited]) in there
+
+    def why(self, node):
+        """The labels of what cites and of what it cites."""
+        passed = []
+        while node not in self.known:
+            passed.append(node)
+            cited = self.graph.next_on(self.far, node)
+            if not self.is_shared(node, cited) or not self.far[cited]:
+                self.known[node] = f"{self.graph.labels[node]} {self.graph.labels[cited]}"
+                break
+            node = cited
+        for other in passed:
+            self.known[other] = self.known[node]
+        return self.known[node]
