@@ -1,0 +1,458 @@
+// The matrix as a picture: theorems down, axioms across, chapters as bands at the left. It can be zoomed and pointed at.
+
+/** Counts of marks are kept for blocks of this many rows, so that the whole matrix is drawn without looking at each mark. */
+const BLOCK = 16;
+const SHADES = 64;
+const HEADER = 10; // the height of the band that shows the groups of the columns
+
+/** What is counted once of the matrix. */
+class Counts {
+    constructor(model) {
+        const rows = model.theorems.length;
+        const columns = model.axioms.length;
+        this.columns = columns;
+        this.blocks = Math.ceil(rows / BLOCK);
+        // above[b * columns + c]: how many marks column c has above block b.
+        this.above = new Uint32Array((this.blocks + 1) * columns);
+        // Of each theorem the number of its axioms in each group.
+        this.byGroup = GROUPS.map(() => new Uint16Array(rows));
+        this.totals = new Uint16Array(rows);
+        for (let block = 0; block < this.blocks; block++) {
+            const here = (block + 1) * columns;
+            this.above.copyWithin(here, here - columns, here);
+            for (let row = block * BLOCK; row < Math.min(rows, (block + 1) * BLOCK); row++) this.addRow(model, row, here);
+        }
+    }
+
+    addRow(model, row, here) {
+        const { bits, words, groupOf } = model;
+        for (let word = 0; word < words; word++) {
+            let left = bits[row * words + word];
+            while (left !== 0) {
+                const column = word * 32 + 31 - Math.clz32(left & -left);
+                left &= left - 1;
+                this.above[here + column]++;
+                this.byGroup[groupOf[column]][row]++;
+                this.totals[row]++;
+            }
+        }
+    }
+}
+
+/** Cuts a stretch of cells into bins: one for each dot, or one for each cell where a cell is larger than a dot. */
+class Bins {
+    constructor(from, to, cells, dots) {
+        this.low = Math.max(0, Math.floor(from));
+        this.high = Math.min(cells, Math.ceil(to));
+        this.scale = dots / (to - from);
+        this.areCells = this.scale >= 1;
+        this.number = this.areCells ? this.high - this.low : dots;
+        this.ofDot = new Int32Array(dots);
+        for (let dot = 0; dot < dots; dot++) {
+            const cell = Math.floor(from + (dot + 0.5) / this.scale);
+            this.ofDot[dot] = this.areCells ? Math.min(this.number - 1, Math.max(0, cell - this.low)) : dot;
+        }
+        this.from = from;
+        this.dots = dots;
+    }
+
+    of(cell) {
+        if (this.areCells) return cell - this.low;
+        return Math.min(this.dots - 1, Math.max(0, Math.floor((cell - this.from) * this.scale)));
+    }
+}
+
+class Picture {
+    constructor(model, counts, colours, onPoint, onOpen) {
+        this.model = model;
+        this.counts = counts;
+        this.colours = colours;
+        this.onPoint = onPoint;
+        this.onOpen = onOpen;
+        this.rows = model.theorems.length;
+        this.bandsByLevel = new Map();
+        this.canvas = element("canvas", {
+            class: "picture",
+            tabindex: 0,
+            role: "application",
+            "aria-roledescription": "zoomable picture",
+            "aria-label": "Marks of theorems, downwards, by axioms, across",
+            "aria-describedby": "picture-keys",
+        });
+        this.pen = this.canvas.getContext("2d");
+        this.fingers = new Map();
+        this.pointed = null;
+        this.listen();
+    }
+
+    /** Shows these columns, in this order. */
+    setColumns(columns) {
+        this.order = columns;
+        this.places = new Int32Array(this.model.axioms.length).fill(-1);
+        columns.forEach((column, place) => (this.places[column] = place));
+        this.pointed = null;
+        this.showAll();
+    }
+
+    showAll() {
+        this.view = { top: 0, bottom: this.rows, left: 0, right: this.order.length };
+        this.refresh();
+    }
+
+    get isWhole() {
+        const { top, bottom, left, right } = this.view;
+        return bottom - top >= this.rows && right - left >= this.order.length;
+    }
+
+    /** Draws at the next frame. */
+    refresh() {
+        if (this.waiting) return;
+        this.waiting = true;
+        requestAnimationFrame(() => {
+            this.waiting = false;
+            if (this.canvas.isConnected) this.draw();
+        });
+    }
+
+    /** Fits the picture into its place on the page. */
+    measure() {
+        const width = this.canvas.clientWidth;
+        const height = this.canvas.clientHeight;
+        this.ratio = Math.min(2, window.devicePixelRatio || 1);
+        this.gutter = width < 520 ? 12 : 190;
+        this.canvas.width = Math.round(width * this.ratio);
+        this.canvas.height = Math.round(height * this.ratio);
+        this.wide = Math.max(1, this.canvas.width - Math.round(this.gutter * this.ratio));
+        this.high = Math.max(1, this.canvas.height - Math.round(HEADER * this.ratio));
+    }
+
+    draw() {
+        const began = performance.now();
+        this.measure();
+        this.pen.clearRect(0, 0, this.canvas.width, this.canvas.height);
+        if (this.rows > 0 && this.order.length > 0) {
+            const { top, bottom, left, right } = this.view;
+            const down = new Bins(top, bottom, this.rows, this.high);
+            const across = new Bins(left, right, this.order.length, this.wide);
+            const image = this.paint(down, across, this.countMarks(down, across));
+            this.pen.putImageData(image, this.canvas.width - this.wide, this.canvas.height - this.high);
+            this.drawGroups(across);
+            this.drawBands();
+            this.drawCross();
+        }
+        this.canvas.style.touchAction = this.isWhole ? "pan-y" : "none";
+        // Read by the test of the page.
+        this.canvas.dataset.drawn = (performance.now() - began).toFixed(1);
+    }
+
+    /** How many marks each bin has, and how many cells. */
+    countMarks(down, across) {
+        const marks = new Uint32Array(down.number * across.number);
+        const tall = new Uint32Array(down.number);
+        const broad = new Uint32Array(across.number);
+        for (let place = across.low; place < across.high; place++) broad[across.of(place)]++;
+        if (down.scale <= 1 / BLOCK) this.countBlocks(down, across, marks, tall);
+        else this.countRows(down, across, marks, tall);
+        return { marks, tall, broad };
+    }
+
+    countBlocks(down, across, marks, tall) {
+        const { above, columns, blocks } = this.counts;
+        const bins = new Int32Array(across.high - across.low);
+        for (let place = across.low; place < across.high; place++) bins[place - across.low] = across.of(place);
+        for (let bin = 0; bin < down.number; bin++) {
+            const first = Math.min(blocks, Math.round((down.from + bin / down.scale) / BLOCK));
+            const end = Math.min(blocks, Math.round((down.from + (bin + 1) / down.scale) / BLOCK));
+            tall[bin] = Math.min(this.rows, end * BLOCK) - first * BLOCK;
+            for (let index = 0; index < bins.length; index++) {
+                const column = this.order[across.low + index];
+                marks[bin * across.number + bins[index]] += above[end * columns + column] - above[first * columns + column];
+            }
+        }
+    }
+
+    countRows(down, across, marks, tall) {
+        const { bits, words } = this.model;
+        const bins = new Int32Array(this.model.axioms.length).fill(-1);
+        for (let place = across.low; place < across.high; place++) bins[this.order[place]] = across.of(place);
+        for (let row = down.low; row < down.high; row++) {
+            const bin = down.of(row);
+            tall[bin]++;
+            for (let word = 0; word < words; word++) {
+                let left = bits[row * words + word];
+                while (left !== 0) {
+                    const place = bins[word * 32 + 31 - Math.clz32(left & -left)];
+                    left &= left - 1;
+                    if (place >= 0) marks[bin * across.number + place]++;
+                }
+            }
+        }
+    }
+
+    /** The dots: the more of its cells are marked, the stronger is a bin. One mark is enough to be seen. */
+    paint(down, across, { marks, tall, broad }) {
+        const image = this.pen.createImageData(this.wide, this.high);
+        const dots = new Uint32Array(image.data.buffer);
+        const ramps = this.ramps();
+        const rampOf = [];
+        for (let place = across.low; place < across.high; place++) {
+            rampOf[across.of(place)] ??= ramps[this.model.groupOf[this.order[place]]];
+        }
+        const line = new Uint32Array(across.number);
+        let lineOf = -1;
+        for (let y = 0; y < this.high; y++) {
+            const bin = down.ofDot[y];
+            if (bin !== lineOf) {
+                for (let index = 0; index < across.number; index++) {
+                    const number = marks[bin * across.number + index];
+                    const share = number / (tall[bin] * broad[index]);
+                    const shade = number === 0 ? 0 : Math.min(SHADES - 1, Math.ceil(Math.sqrt(share) * (SHADES - 1)));
+                    line[index] = (rampOf[index] ?? ramps[0])[shade];
+                }
+                lineOf = bin;
+            }
+            for (let x = 0; x < this.wide; x++) dots[y * this.wide + x] = line[across.ofDot[x]];
+        }
+        return image;
+    }
+
+    /** For each group the shades from the background to its colour, as numbers for the image. */
+    ramps() {
+        const ground = this.colours.parts("--picture-ground");
+        return GROUPS.map((group) => {
+            const full = this.colours.parts(`--group-${group.key}`);
+            return Uint32Array.from({ length: SHADES }, (_, shade) => {
+                const weight = shade === 0 ? 0 : 0.22 + (0.78 * shade) / (SHADES - 1);
+                const [red, green, blue] = full.map((value, index) => Math.round(ground[index] + (value - ground[index]) * weight));
+                return ((255 << 24) | (blue << 16) | (green << 8) | red) >>> 0;
+            });
+        });
+    }
+
+    drawGroups(across) {
+        const left = this.canvas.width - this.wide;
+        for (let x = 0; x < this.wide; x++) {
+            const place = Math.min(this.order.length - 1, Math.floor(across.from + (x + 0.5) / across.scale));
+            this.pen.fillStyle = this.colours.of(`--group-${GROUPS[this.model.groupOf[this.order[place]]].key}`);
+            this.pen.fillRect(left + x, 0, 1, Math.round((HEADER - 3) * this.ratio));
+        }
+    }
+
+    /** The bands of the chapters: of the finest level of which not too many are in view. */
+    bands() {
+        const levels = [...new Set(this.model.chapters.list.map((chapter) => chapter.level))].sort();
+        let bands = this.bandsAt(this.model.chapters.bandLevel);
+        for (const level of levels) {
+            if (level <= this.model.chapters.bandLevel) continue;
+            const finer = this.bandsAt(level);
+            if (finer.length > Math.max(8, this.high / this.ratio / 22)) break;
+            bands = finer;
+        }
+        return bands;
+    }
+
+    bandsAt(level) {
+        if (!this.bandsByLevel.has(level)) this.bandsByLevel.set(level, this.model.stretches(level));
+        const { top, bottom } = this.view;
+        return this.bandsByLevel.get(level).filter((band) => band.endRow > top && band.firstRow < bottom);
+    }
+
+    drawBands() {
+        const pen = this.pen;
+        const gutter = this.canvas.width - this.wide;
+        const head = this.canvas.height - this.high;
+        const size = Math.round(12 * this.ratio);
+        pen.font = `${size}px system-ui, sans-serif`;
+        pen.textBaseline = "middle";
+        this.bands().forEach((band, index) => {
+            const from = Math.max(head, this.yOf(band.firstRow));
+            const to = Math.min(this.canvas.height, this.yOf(band.endRow));
+            pen.fillStyle = this.colours.of(index % 2 ? "--band-odd" : "--band-even");
+            pen.fillRect(0, from, gutter - 3 * this.ratio, to - from);
+            pen.fillStyle = this.colours.of("--band-line");
+            pen.fillRect(0, Math.round(from), this.canvas.width, 1);
+            if (to - from < size * 1.2 || this.gutter < 100) return;
+            pen.fillStyle = this.colours.of("--text");
+            pen.fillText(this.fitted(band.title, gutter - 14 * this.ratio), 5 * this.ratio, (from + to) / 2);
+        });
+    }
+
+    /** A text, cut to a width. */
+    fitted(text, width) {
+        if (this.pen.measureText(text).width <= width) return text;
+        let length = text.length;
+        while (length > 1 && this.pen.measureText(`${text.slice(0, length)}…`).width > width) length--;
+        return `${text.slice(0, length).trimEnd()}…`;
+    }
+
+    /** A cross at the cell that is pointed at. */
+    drawCross() {
+        if (!this.pointed) return;
+        const { row, place } = this.pointed;
+        const left = this.canvas.width - this.wide;
+        const head = this.canvas.height - this.high;
+        const x = (this.xOf(place) + this.xOf(place + 1)) / 2;
+        const y = (this.yOf(row) + this.yOf(row + 1)) / 2;
+        this.pen.strokeStyle = this.colours.of("--cross");
+        this.pen.lineWidth = this.ratio;
+        this.pen.beginPath();
+        if (x >= left && x <= this.canvas.width) {
+            this.pen.moveTo(x, head);
+            this.pen.lineTo(x, this.canvas.height);
+        }
+        if (y >= head && y <= this.canvas.height) {
+            this.pen.moveTo(left, y);
+            this.pen.lineTo(this.canvas.width, y);
+        }
+        this.pen.stroke();
+    }
+
+    yOf(row) {
+        const { top, bottom } = this.view;
+        return this.canvas.height - this.high + ((row - top) / (bottom - top)) * this.high;
+    }
+
+    xOf(place) {
+        const { left, right } = this.view;
+        return this.canvas.width - this.wide + ((place - left) / (right - left)) * this.wide;
+    }
+
+    /** Zooms so that one point of the picture, by its shares of height and width, stays where it is. */
+    zoom(factor, down = 0.5, across = 0.5) {
+        const { top, bottom, left, right } = this.view;
+        const stretch = (low, high, share, cells) => {
+            const length = Math.min(cells, Math.max(Math.min(cells, 6), (high - low) / factor));
+            return shifted(low + (high - low) * share - length * share, length, cells);
+        };
+        [this.view.top, this.view.bottom] = stretch(top, bottom, down, this.rows);
+        [this.view.left, this.view.right] = stretch(left, right, across, this.order.length);
+        this.refresh();
+    }
+
+    /** Moves by shares of height and width. */
+    move(down, across) {
+        const { top, bottom, left, right } = this.view;
+        const height = bottom - top;
+        const width = right - left;
+        [this.view.top, this.view.bottom] = shifted(top + down * height, height, this.rows);
+        [this.view.left, this.view.right] = shifted(left + across * width, width, this.order.length);
+        this.refresh();
+    }
+
+    /** Points at a cell and says which it is; the view follows. */
+    point(row, place) {
+        this.pointed = {
+            row: Math.min(this.rows - 1, Math.max(0, Math.floor(row))),
+            place: Math.min(this.order.length - 1, Math.max(0, Math.floor(place))),
+        };
+        const { top, bottom, left, right } = this.view;
+        const { row: at, place: over } = this.pointed;
+        if (at < top || at >= bottom) this.move((at + 0.5 - (top + bottom) / 2) / (bottom - top), 0);
+        if (over < left || over >= right) this.move(0, (over + 0.5 - (left + right) / 2) / (right - left));
+        this.onPoint(at, this.order[over]);
+        this.refresh();
+    }
+
+    /** The shares of height and width at which an event is. */
+    shares(event) {
+        const box = this.canvas.getBoundingClientRect();
+        return {
+            down: Math.min(0.9999, Math.max(0, (event.clientY - box.top - HEADER) / (box.height - HEADER))),
+            across: Math.min(0.9999, Math.max(0, (event.clientX - box.left - this.gutter) / (box.width - this.gutter))),
+        };
+    }
+
+    pointAt(event) {
+        const { down, across } = this.shares(event);
+        const { top, bottom, left, right } = this.view;
+        this.point(top + down * (bottom - top), left + across * (right - left));
+    }
+
+    listen() {
+        const canvas = this.canvas;
+        canvas.addEventListener("keydown", (event) => this.onKey(event));
+        canvas.addEventListener("focus", () => {
+            if (!this.pointed && this.isUsable) this.point(this.view.top, this.view.left);
+        });
+        canvas.addEventListener(
+            "wheel",
+            (event) => {
+                // The wheel scrolls the page until the picture is taken up, or a key says that the picture is meant.
+                if (document.activeElement !== canvas && !event.ctrlKey) return;
+                event.preventDefault();
+                const { down, across } = this.shares(event);
+                this.zoom(Math.exp(-event.deltaY / 400), down, across);
+            },
+            { passive: false },
+        );
+        canvas.addEventListener("dblclick", (event) => {
+            const { down, across } = this.shares(event);
+            this.zoom(event.shiftKey ? 1 / 3 : 3, down, across);
+        });
+        canvas.addEventListener("pointerdown", (event) => {
+            canvas.setPointerCapture(event.pointerId);
+            this.fingers.set(event.pointerId, event);
+            if (this.isUsable) this.pointAt(event);
+        });
+        canvas.addEventListener("pointermove", (event) => this.onMove(event));
+        for (const name of ["pointerup", "pointercancel"]) {
+            canvas.addEventListener(name, (event) => this.fingers.delete(event.pointerId));
+        }
+        new ResizeObserver(() => this.refresh()).observe(canvas);
+    }
+
+    get isUsable() {
+        return this.rows > 0 && this.order.length > 0;
+    }
+
+    /** One finger or the mouse moves the picture, two fingers zoom it, the mouse alone points. */
+    onMove(event) {
+        if (!this.isUsable) return;
+        const before = this.fingers.get(event.pointerId);
+        if (!before) {
+            this.pointAt(event);
+            return;
+        }
+        const old = this.shares(before);
+        const now = this.shares(event);
+        if (this.fingers.size === 1) this.move(old.down - now.down, old.across - now.across);
+        if (this.fingers.size === 2) {
+            const [other] = [...this.fingers.values()].filter((finger) => finger.pointerId !== event.pointerId);
+            const far = (finger) => Math.max(20, Math.hypot(finger.clientX - other.clientX, finger.clientY - other.clientY));
+            const middle = this.shares(other);
+            this.zoom(far(event) / far(before), (now.down + middle.down) / 2, (now.across + middle.across) / 2);
+        }
+        this.fingers.set(event.pointerId, event);
+    }
+
+    onKey(event) {
+        if (!this.isUsable || event.altKey || event.metaKey || event.ctrlKey) return;
+        const steps = { ArrowUp: [-1, 0], ArrowDown: [1, 0], ArrowLeft: [0, -1], ArrowRight: [0, 1] };
+        const pages = { PageUp: -0.5, PageDown: 0.5 };
+        const { top, bottom, left, right } = this.view;
+        const at = this.pointed ?? { row: top, place: left };
+        const down = (at.row + 0.5 - top) / (bottom - top);
+        const across = (at.place + 0.5 - left) / (right - left);
+        if (event.key in steps) {
+            const [dy, dx] = steps[event.key];
+            const far = event.shiftKey ? 20 : 1;
+            const tall = Math.max(1, Math.ceil((bottom - top) / (this.high / this.ratio / 2))) * far;
+            const broad = Math.max(1, Math.ceil((right - left) / (this.wide / this.ratio / 2))) * far;
+            this.point(at.row + dy * tall, at.place + dx * broad);
+        } else if (event.key in pages) {
+            this.move(pages[event.key], 0);
+            this.point(at.row + pages[event.key] * (bottom - top), at.place);
+        } else if (event.key === "+" || event.key === "=") this.zoom(1.5, down, across);
+        else if (event.key === "-") this.zoom(1 / 1.5, down, across);
+        else if (event.key === "0") this.showAll();
+        else if (event.key === "Enter") this.onOpen(at.row, this.order[at.place], event.shiftKey);
+        else return;
+        event.preventDefault();
+    }
+}
+
+/** A stretch of this length among the cells, as near to its place as it fits. */
+function shifted(low, length, cells) {
+    const start = Math.min(cells - length, Math.max(0, low));
+    return [start, start + length];
+}

@@ -1,0 +1,140 @@
+// How many axioms each theorem rests on, over the file: for each stretch of theorems the mean, by groups, and the most.
+
+class Plot {
+    constructor(model, counts, colours, onPoint, onOpen) {
+        this.model = model;
+        this.counts = counts;
+        this.colours = colours;
+        this.onPoint = onPoint;
+        this.onOpen = onOpen;
+        this.rows = model.theorems.length;
+        this.most = 1;
+        for (const total of counts.totals) this.most = Math.max(this.most, total);
+        this.pointed = -1;
+        this.canvas = element("canvas", {
+            class: "plot",
+            tabindex: 0,
+            role: "application",
+            "aria-roledescription": "plot",
+            "aria-label": "Number of axioms of each theorem, over the file",
+            "aria-describedby": "plot-keys",
+        });
+        this.pen = this.canvas.getContext("2d");
+        this.canvas.addEventListener("pointermove", (event) => this.pointAt(event));
+        this.canvas.addEventListener("pointerdown", (event) => this.pointAt(event));
+        this.canvas.addEventListener("dblclick", () => this.pointed >= 0 && this.onOpen(this.pointed));
+        this.canvas.addEventListener("keydown", (event) => this.onKey(event));
+        new ResizeObserver(() => this.refresh()).observe(this.canvas);
+    }
+
+    refresh() {
+        if (this.waiting) return;
+        this.waiting = true;
+        requestAnimationFrame(() => {
+            this.waiting = false;
+            if (this.canvas.isConnected) this.draw();
+        });
+    }
+
+    /** The rows of a dot. */
+    rowsAt(x) {
+        const first = Math.floor((x * this.rows) / this.wide);
+        return [first, Math.max(first + 1, Math.floor(((x + 1) * this.rows) / this.wide))];
+    }
+
+    draw() {
+        this.ratio = Math.min(2, window.devicePixelRatio || 1);
+        this.left = Math.round(40 * this.ratio);
+        this.canvas.width = Math.round(this.canvas.clientWidth * this.ratio);
+        this.canvas.height = Math.round(this.canvas.clientHeight * this.ratio);
+        this.wide = Math.max(1, this.canvas.width - this.left);
+        if (this.rows === 0) return;
+        this.drawBands();
+        this.drawScale();
+        for (let x = 0; x < this.wide; x++) this.drawDot(x);
+        this.drawPointed();
+    }
+
+    drawBands() {
+        this.model.stretches(this.model.chapters.bandLevel).forEach((band, index) => {
+            if (index % 2 === 0) return;
+            const from = this.left + (band.firstRow / this.rows) * this.wide;
+            const to = this.left + (band.endRow / this.rows) * this.wide;
+            this.pen.fillStyle = this.colours.of("--band-even");
+            this.pen.fillRect(from, 0, to - from, this.canvas.height);
+        });
+    }
+
+    yOf(number) {
+        return this.canvas.height - 1 - (number / this.most) * (this.canvas.height - 10 * this.ratio);
+    }
+
+    drawScale() {
+        const step = [1, 2, 5, 10, 20, 50, 100, 200, 500, 1000, 2000, 5000, 10000].find((size) => this.most / size <= 5) ?? this.most;
+        this.pen.font = `${Math.round(11 * this.ratio)}px system-ui, sans-serif`;
+        this.pen.textAlign = "right";
+        this.pen.textBaseline = "middle";
+        for (let number = 0; number <= this.most; number += step) {
+            const y = Math.round(this.yOf(number));
+            this.pen.fillStyle = this.colours.of("--band-line");
+            this.pen.fillRect(this.left, y, this.wide, 1);
+            this.pen.fillStyle = this.colours.of("--muted");
+            this.pen.fillText(String(number), this.left - 6 * this.ratio, Math.min(y, this.canvas.height - 7 * this.ratio));
+        }
+    }
+
+    drawDot(x) {
+        const [first, end] = this.rowsAt(x);
+        let below = 0;
+        for (const group of [Group.axiom, Group.logic, Group.definition, Group.open, Group.syntax]) {
+            let sum = 0;
+            for (let row = first; row < end; row++) sum += this.counts.byGroup[group][row];
+            if (sum === 0) continue;
+            const mean = sum / (end - first);
+            const from = this.yOf(below + mean);
+            this.pen.fillStyle = this.colours.of(`--group-${GROUPS[group].key}`);
+            this.pen.fillRect(this.left + x, from, 1, Math.max(1, this.yOf(below) - from));
+            below += mean;
+        }
+        this.pen.fillStyle = this.colours.of("--muted");
+        this.pen.fillRect(this.left + x, this.yOf(this.counts.totals[this.heaviest(first, end)]), 1, Math.ceil(this.ratio));
+    }
+
+    drawPointed() {
+        if (this.pointed < 0) return;
+        const x = this.left + (this.pointed / this.rows) * this.wide;
+        this.pen.fillStyle = this.colours.of("--cross");
+        this.pen.fillRect(x, 0, this.ratio, this.canvas.height);
+    }
+
+    /** The theorem of a stretch that rests on most axioms. */
+    heaviest(first, end) {
+        let best = first;
+        for (let row = first; row < end; row++) if (this.counts.totals[row] > this.counts.totals[best]) best = row;
+        return best;
+    }
+
+    point(x) {
+        this.pointed = this.heaviest(...this.rowsAt(Math.min(this.wide - 1, Math.max(0, Math.floor(x)))));
+        this.onPoint(this.pointed);
+        this.refresh();
+    }
+
+    pointAt(event) {
+        if (this.rows === 0) return;
+        const box = this.canvas.getBoundingClientRect();
+        this.point((event.clientX - box.left) * this.ratio - this.left);
+    }
+
+    onKey(event) {
+        const step = { ArrowLeft: -1, ArrowRight: 1, PageUp: -40, PageDown: 40 }[event.key];
+        if (this.rows === 0 || event.altKey || event.metaKey || event.ctrlKey) return;
+        if (step) {
+            const far = Math.max(1, Math.round(2 * this.ratio)) * step * (event.shiftKey ? 10 : 1);
+            this.at = Math.min(this.wide - 1, Math.max(0, (this.at ?? 0) + far));
+            this.point(this.at);
+        } else if (event.key === "Enter" && this.pointed >= 0) this.onOpen(this.pointed);
+        else return;
+        event.preventDefault();
+    }
+}
