@@ -19,6 +19,8 @@ ABBREVIATIONS = frozenset(
     "viz. vol. vs.".split()
 )
 SENTENCE_END = re.compile(r"[.!?][)\"'_]*$")
+# Control bytes, signs without width, marks of direction, and halves of signs.
+UNSEEN = re.compile("[\x00-\x1f\x7f-\x9f\xad\u061c\u200b-\u200f\u2028-\u202e\u2060-\u206f\ud800-\udfff\ufeff]")
 LONGEST_SENTENCE = 500
 LONGEST_TITLE = 160
 
@@ -49,15 +51,17 @@ class Database:
 
 
 def visible(text):
-    """The text with every byte that no screen shows replaced by a sign for it."""
-    return "".join(
-        chr(0x2400 + ord(sign)) if ord(sign) < 0x20
-        else "\u2421" if ord(sign) == 0x7F
-        else "\ufffd" if 0x80 <= ord(sign) < 0xA0 or 0xD800 <= ord(sign) < 0xE000 or sign in "\u2028\u2029\ufeff"
-        else "\ufffd" if 0x200B <= ord(sign) <= 0x200F or 0x202A <= ord(sign) <= 0x202E or 0x2066 <= ord(sign) <= 0x2069
-        else sign
-        for sign in text
-    )  # fmt: skip
+    """The text with every sign that no screen shows, or that turns the direction of others, replaced by one for it."""
+    if text.isascii() and text.isprintable():
+        return text
+    return UNSEEN.sub(lambda match: sign_for(ord(match[0])), text)
+
+
+def sign_for(number):
+    """What is shown in place of a sign that isn't seen."""
+    if number < 0x20:
+        return chr(0x2400 + number)
+    return "\u2421" if number == 0x7F else "\ufffd"
 
 
 def shortened(text, longest):

@@ -81,7 +81,11 @@ def pack_citations(assertions, cited):
         for number in numbers:
             if number < expected or number >= assertions:
                 raise Failed("the citations of the report aren't in the order of the text")
-            gaps.add(number - expected)
+            gap = number - expected
+            if gap < 0x80:
+                gaps.append(gap)
+            else:
+                gaps.add(gap)
             expected = number + 1
     return lengths, gaps
 
