@@ -3,7 +3,10 @@
 A recipe ends by `sys.exit(message)` where it can't answer; the shell makes that its one line on standard error.
 """
 
-import re
+import functools, gc, re
+
+# Recipes end before anything would have to be collected.
+gc.disable()
 
 WORD = re.compile(r"\s*(\S+)")
 OPEN_PROOF = re.compile(r"\$=\s+(?:\(\s+\)\s+)?\?\s+\$\.")
@@ -85,26 +88,30 @@ class Graph:
     """The citations of a database. Nodes are numbers; those of theorems rise in file order."""
 
     def __init__(self, path):
-        self.labels = []
-        self.number = {}
-        self.theorems = []
+        self.number = number = {}
         self.cites = {}
         for label, _, cited in rows(path):
-            cites = [self.node(word) for word in cited.split()]
-            theorem = self.node(label)
-            self.theorems.append(theorem)
-            self.cites[theorem] = cites
-        self.users = [[] for _ in self.labels]
+            words = cited.split(" ") if cited else []
+            cites = list(map(number.get, words))
+            if None in cites:
+                cites = [number.setdefault(word, len(number)) for word in words]
+            self.cites[number.setdefault(label, len(number))] = cites
+        self.labels = list(number)
+        self.theorems = list(self.cites)
+
+    @functools.cached_property
+    def users(self):
+        """For each node, the theorems that cite it."""
+        users = [[] for _ in self.labels]
         for theorem, cites in self.cites.items():
             for cited in cites:
-                self.users[cited].append(theorem)
+                users[cited].append(theorem)
+        return users
 
-    def node(self, label):
-        """The number of a label, which gets one where it has none."""
-        if label not in self.number:
-            self.number[label] = len(self.labels)
-            self.labels.append(label)
-        return self.number[label]
+    @functools.cache
+    def same(self, other):
+        """For each node, the one of another graph with its label, or None."""
+        return [other.number.get(label) for label in self.labels]
 
     def far(self, label):
         """For each theorem that rests on an axiom, by its node, the number of citations of a shortest chain; and the axiom."""
@@ -127,7 +134,11 @@ class Graph:
 
     def next_on(self, far, node):
         """What a node cites next on a shortest chain; of several the one that is cited first."""
-        return next(cited for cited in self.cites[node] if far.get(cited) == far[node] - 1)
+        long = far[node] - 1
+        for cited in self.cites[node]:
+            if far.get(cited) == long:
+                return cited
+        raise AssertionError
 
 
 class Reasons:
@@ -136,25 +147,22 @@ class Reasons:
 
     def __init__(self, graph, other, axiom):
         self.graph, self.other = graph, other
+        self.same = graph.same(other)
         self.far = graph.far(axiom)
         self.known = {}
 
-    def is_shared(self, node, cited):
-        """Whether the other graph has this citation."""
-        labels, other = self.graph.labels, self.other
-        there = other.cites.get(other.number.get(labels[node]), [])
-        return other.number.get(labels[cited]) in there
-
     def why(self, node):
         """The labels of what cites and of what it cites."""
+        known, same, far = self.known, self.same, self.far
         passed = []
-        while node not in self.known:
+        while node not in known:
             passed.append(node)
-            cited = self.graph.next_on(self.far, node)
-            if not self.is_shared(node, cited) or not self.far[cited]:
-                self.known[node] = f"{self.graph.labels[node]} {self.graph.labels[cited]}"
+            cited = self.graph.next_on(far, node)
+            shared = same[cited] in self.other.cites.get(same[node], ())
+            if not shared or not far[cited]:
+                known[node] = f"{self.graph.labels[node]} {self.graph.labels[cited]}"
                 break
             node = cited
         for other in passed:
-            self.known[other] = self.known[node]
-        return self.known[node]
+            known[other] = known[node]
+        return known[node]

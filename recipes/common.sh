@@ -82,10 +82,11 @@ number() {
     esac
 }
 
-# python ARG..: runs Python, which finds what the recipes in it share.
+# python ARG..: runs Python, which finds what the recipes in it share. Without a buffer it would take a write that stopped
+# short for a whole one.
 python() {
     command -v python3 >/dev/null || fail "this recipe needs python3"
-    PYTHONPATH=$here PYTHONDONTWRITEBYTECODE=1 python3 "$@"
+    PYTHONPATH=$here PYTHONDONTWRITEBYTECODE=1 PYTHONUNBUFFERED='' python3 "$@"
 }
 
 # opening FILE: the first line of a file, or as much of it as tells a report from a database.
@@ -379,40 +380,54 @@ theorem() {
     has "$2" "$3" || fail "$1: has no theorem '$3'"
 }
 
-# graph [THEOREM [AXIOM]]: makes $room/graph of $room/db.citations: lines `theorem T`, `axiom A` and `cites T L`. If a
-# theorem is given, what it rests on through citations, from it downwards; if an axiom is, only what rests on that.
+# graph FORM [THEOREM [AXIOM]]: writes the graph of $room/db.citations as `dot` or `graphml`. If a theorem is given, what it
+# rests on through citations, from it downwards; if an axiom is, only what rests on that. Labels have no quotation marks,
+# and no signs that mean something in XML.
 graph() {
-    theorem=${1:-} axiom=${2:-} awk -F: '
-        function show(label, i, n, words) {
-            print "theorem", label
-            n = split(cited[label], words, " ")
+    form=$1 theorem=${2:-} axiom=${3:-} awk -F: '
+        function axiom_node(label) {
+            if (dot) print "  \"" label "\" [shape=box];"
+            else print "<node id=\"" label "\"><data key=\"kind\">axiom</data></node>"
+        }
+        # A theorem with its citations. In DOT, one without an arrow has a line of its own.
+        function show(label, list, i, n, words, shown) {
+            if (!dot) print "<node id=\"" label "\"><data key=\"kind\">theorem</data></node>"
+            n = split(list, words, " ")
             for (i = 1; i <= n; i++) {
                 if (axiom != "" && !(words[i] in rests)) continue
-                if (!(words[i] in cited) && !(words[i] in reached)) print "axiom", words[i]
+                shown = 1
+                if (!(words[i] in theorems) && !(words[i] in reached)) axiom_node(words[i])
                 reached[words[i]]
-                print "cites", label, words[i]
+                if (dot) print "  \"" label "\" -> \"" words[i] "\";"
+                else print "<edge source=\"" label "\" target=\"" words[i] "\"/>"
             }
+            if (dot && !shown && !(label in cited)) print "  \"" label "\";"
         }
         BEGIN {
+            dot = ENVIRON["form"] == "dot"
             theorem = ENVIRON["theorem"]
             axiom = ENVIRON["axiom"]
             if (axiom != "") rests[axiom]
+            if (theorem != "") reached[theorem]
         }
-        {
-            order[++theorems] = $1
-            cited[$1] = $3
-            if (axiom != "") {
+        # First the theorems, and what is cited at all or rests on the axiom.
+        FNR == NR {
+            theorems[$1]
+            order[FNR] = $1
+            if (theorem == "" || axiom != "") {
                 n = split($3, words, " ")
-                for (i = 1; i <= n; i++) if (words[i] in rests) rests[$1]
+                for (i = 1; i <= n; i++) {
+                    if (theorem == "") cited[words[i]]
+                    else if (words[i] in rests) rests[$1]
+                }
             }
+            if (theorem != "") list[$1] = $3
+            if (theorem != "" && $1 "" == theorem) { last = FNR; exit }
+            next
         }
-        theorem != "" && $1 "" == theorem { exit }
-        END {
-            if (theorem == "") { for (t = 1; t <= theorems; t++) show(order[t]); exit }
-            reached[theorem]
-            for (t = theorems; t > 0; t--) if (order[t] in reached) show(order[t])
-        }
-    ' "$room/db.citations" >"$room/graph"
+        { show($1, $3) }
+        END { for (t = last; t > 0; t--) if (order[t] in reached) show(order[t], list[order[t]]) }
+    ' "$room/db.citations" "$room/db.citations"
 }
 
 # list FILE NAME: puts the labels of a list into $room/NAME, each after the number of its line. Lines may end in CR and LF;
@@ -457,7 +472,7 @@ while [ "$#" -gt 0 ]; do
     option=$1
     case $option in
         --help)
-            printf 'usage: %s\n' "$usage" 2>/dev/null || fail "the answer can't be written"
+            printf 'usage: %s\n' "$usage" | cat 2>/dev/null || fail "the answer can't be written"
             ending=0
             exit
             ;;
