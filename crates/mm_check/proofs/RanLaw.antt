@@ -14,7 +14,7 @@ use Rattle.mm_spec.specs.Steps.{Step, label, marked, PlacedStep, placed}
 use Rattle.mm_spec.specs.Statement.{Statement}
 use Rattle.mm_spec.specs.Citation.{context_at}
 use Rattle.mm_spec.specs.Laws.Stack.{AreGoodSteps, IsGoodStep, step_entries, top}
-use Rattle.mm_proof.specs.Read.{step_at, is_marked, takes_up}
+use Rattle.mm_steps.specs.Read.{step_at, is_marked, takes_up}
 use Rattle.mm_check.specs.State.{State, state, with_mark}
 use Rattle.mm_check.specs.Contract.{is_assertion_at, is_labelled_step, IsReady}
 use Rattle.mm_check.specs.Reached.{Reached, Ran, Agree, steps_of}
@@ -176,3 +176,8 @@ all_ran k t steps i s noted l r = (
   subst (λ z. Reached k t (steps_of z) s.stack r.ends noted)
       (take_all i steps l) r.reached,
 )
+
+-- what a step says of its assertion, where it has the label
+pub cited_there : (l b a : Bool) → (l ≡ true → b ≡ a) → (l && b) ≡ (l && a)
+cited_there true b a h = h refl
+cited_there false b a h = refl

@@ -8,7 +8,7 @@ use Rattle.mm_spec.specs.Valid.{Plain}
 use Rattle.mm_spec.specs.Laws.Stack.{Leaves}
 use Rattle.mm_spec.specs.Statement.{Statement}
 use Rattle.mm_spec.specs.Citation.{context_at}
-use Rattle.mm_proof.specs.Read.{is_marked}
+use Rattle.mm_steps.specs.Read.{is_marked}
 use Rattle.mm_check.specs.State.{State}
 use Rattle.mm_check.specs.Contract.{is_assertion_at}
 

@@ -223,7 +223,6 @@ fn compile_pairs<A: Allocator>(
 }
 
 /// Compiles rules, one at a time. It reuses the memory of the rules that it compiled before.
-#[derive(Drop)]
 pub struct RuleCompiler<A: Allocator> {
     /// The assertion of the last rule.
     assertion: u32,
@@ -233,6 +232,20 @@ pub struct RuleCompiler<A: Allocator> {
     formula: Vec<Part, A>,
     /// A number for each symbol, with no meaning between calls.
     numbers: Vec<u32, A>,
+}
+
+/// Lets all fields go in one call, so that a proof has one step for it at each exit.
+impl<A: Allocator> Drop for RuleCompiler<A> {
+    fn drop(self) {
+        let Self {
+            assertion: _,
+            hypotheses: _,
+            pairs: _,
+            parts: _,
+            formula: _,
+            numbers: _,
+        } = self;
+    }
 }
 
 impl<A: Allocator> Model for RuleCompiler<A> {

@@ -9,7 +9,7 @@ ghost use Rattle.mm_spec.specs.Derivation.{Trees, is_member};
 ghost use Rattle.mm_spec.specs.Citation.{context_at, steps_at, IsProof, Cites};
 ghost use Rattle.mm_spec.specs.Laws.Complete.{AreComplete};
 ghost use Rattle.mm_spec.specs.Laws.Stack.{AreGoodSteps};
-ghost use Rattle.mm_proof.specs.Read.{step_of, IsEarlier};
+ghost use Rattle.mm_steps.specs.Read.{step_of, IsEarlier};
 ghost use Rattle.mm_check.specs.Contract.{is_assertion_at, is_labelled_step, labels};
 ghost use Rattle.mm_check.specs.Flags.{child_flags, taken_flags, wanted_flags};
 ghost use Rattle.mm_check.specs.Reached.{steps_of};
@@ -17,7 +17,7 @@ ghost use Rattle.mm_check.specs.Reached.{steps_of};
 use crate::frames::{hyps, is_assertion, is_essential_hypothesis};
 use crate::machine::empty;
 use crate::noted::cite;
-use mm_proof::{Step, Steps};
+use mm_steps::{Step, Steps};
 use mm_stmt::Database;
 use std::alloc::{AllocError, Allocator};
 

@@ -1,6 +1,7 @@
 //! Writing formulas over earlier ones, in a list that has room for most formulas.
 
-ghost use Rattle.std.specs.Prelude.{◌≡◌, ◌≤◌, ◌++◌, ◌∷◌, [], All, length, take, IfSome};
+ghost use Rattle.std.specs.Prelude.{◌≡◌, ◌<◌, ◌≤◌, ◌+◌, ◌*◌, ◌++◌, ◌∷◌, [], All, length, take};
+ghost use Rattle.std.specs.Prelude.{IfSome};
 ghost use Rattle.mm_spec.specs.Limits.{formula_limit};
 ghost use Rattle.mm_check.specs.Arena.{IsIn};
 ghost use Rattle.mm_check.specs.Rule.{IsBelow, replaced};
@@ -10,37 +11,63 @@ use crate::rule::Part;
 use mm_spec::FORMULA_LIMIT;
 use mm_stmt::Sym;
 
-/// Writes a symbol at place `at` and returns the next place; `None` if there is no room.
+/// Writes a symbol at place `at`.
 #[inline(always)]
-fn put_symbol(s: Sym, list: &mut [Sym], at: usize) -> Option<usize>
-    requires { at ≤ length list.old }
-    ensures within { IfSome result (λ n. n ≤ length list.new) }
-    ensures is { IfSome result (λ n. take n list.new ≡ take at list.old ++ s ∷ []) }
+fn put_symbol(s: Sym, list: &mut [Sym], at: usize)
+    requires { at < length list.old }
+    ensures same { length list.new ≡ length list.old }
+    ensures is { take (at + 1) list.new ≡ take at list.old ++ s ∷ [] }
 {
-    if at >= list.len() {
-        return None;
-    }
     list[at] = s;
-    Some(at + 1)
 }
 
-/// Writes symbols from place `at` on and returns the place after them; `None` if there is no room.
-/// A single symbol is written without a copy.
+/// Writes symbols from place `at` on.
 #[inline(always)]
-fn put_text(text: &[Sym], list: &mut [Sym], at: usize) -> Option<usize>
-    requires { at ≤ length list.old }
-    ensures within { IfSome result (λ n. n ≤ length list.new) }
-    ensures is { IfSome result (λ n. take n list.new ≡ take at list.old ++ text.now) }
+fn put_all(text: &[Sym], list: &mut [Sym], at: usize)
+    requires { at + length text.now ≤ length list.old }
+    ensures same { length list.new ≡ length list.old }
+    ensures is { take (at + length text.now) list.new ≡ take at list.old ++ text.now }
 {
-    if text.len() == 1 {
-        return put_symbol(text[0], list, at);
-    }
-    if text.len() > list.len() - at {
-        return None;
-    }
     let end = at + text.len();
     list[at..end].copy_from_slice(text);
-    Some(end)
+}
+
+/// The same, by a copy of the first `width` symbols and one of the last. These overlap if there are
+/// fewer than twice as many. With a constant `width`, a copy is a few instructions and no call.
+#[inline(always)]
+fn put_ends(text: &[Sym], list: &mut [Sym], at: usize, width: usize)
+    requires many { width ≤ length text.now }
+    requires few { length text.now ≤ 2 * width }
+    requires room { at + length text.now ≤ length list.old }
+    ensures same { length list.new ≡ length list.old }
+    ensures is { take (at + length text.now) list.new ≡ take at list.old ++ text.now }
+{
+    let left = text.len() - width;
+    put_all(&text[..width], list, at);
+    put_all(&text[left..], list, at + left);
+}
+
+/// Writes what replaces a variable from place `at` on. It mostly is short.
+#[inline(always)]
+fn put_text(text: &[Sym], list: &mut [Sym], at: usize)
+    requires { at + length text.now ≤ length list.old }
+    ensures same { length list.new ≡ length list.old }
+    ensures is { take (at + length text.now) list.new ≡ take at list.old ++ text.now }
+{
+    let count = text.len();
+    if count <= 1 {
+        if count == 1 {
+            put_symbol(text[0], list, at);
+        }
+    } else if count <= 4 {
+        put_ends(text, list, at, 2);
+    } else if count <= 8 {
+        put_ends(text, list, at, 4);
+    } else if count <= 16 {
+        put_ends(text, list, at, 8);
+    } else {
+        put_all(text, list, at);
+    }
 }
 
 /// Writes a formula with its variables replaced at the start of a list and returns its length;
@@ -60,12 +87,23 @@ pub fn fill(
         (λ n. take n list.new ≡ replaced symbols.now premises.now formula.now) }
 {
     let mut at = 0;
+    // What is left of the list, if each part that is to come takes one place.
+    let mut room = list.len().checked_sub(formula.len())?;
     for part in formula {
         match *part {
             Part::Variable(j) => {
-                at = put_text(symbols.text(span_of(symbols, premises, j)), list, at)?;
+                let text = symbols.text(span_of(symbols, premises, j));
+                if text.len() > room + 1 {
+                    return None;
+                }
+                put_text(text, list, at);
+                room = room + 1 - text.len();
+                at += text.len();
             }
-            Part::Constant(s) => at = put_symbol(s, list, at)?,
+            Part::Constant(s) => {
+                put_symbol(s, list, at);
+                at += 1;
+            }
         }
     }
     if at > FORMULA_LIMIT {

@@ -1,14 +1,14 @@
 //! The assertions that were noted as cited.
 
-ghost use Rattle.std.specs.Prelude.{◌≡◌, ◌&&◌, ◌||◌, ℕ, length, true, OnOk};
+ghost use Rattle.std.specs.Prelude.{◌≡◌, ◌==◌, ◌&&◌, ◌||◌, ℕ, length, true, OnOk};
 ghost use Rattle.std.specs.List.Sorted.{IsStrictlyIncreasing};
 ghost use Rattle.mm_spec.specs.Derivation.{is_member};
-ghost use Rattle.mm_proof.specs.Read.{step_of};
+ghost use Rattle.mm_steps.specs.Read.{step_of};
 ghost use Rattle.mm_check.specs.Contract.{is_assertion_at, labels, is_labelled_step};
 
 use crate::frames::is_assertion;
 use crate::numbers::put_number;
-use mm_proof::Step;
+use mm_steps::Step;
 use mm_stmt::Database;
 use std::alloc::{AllocError, Allocator};
 
@@ -25,7 +25,21 @@ fn is_noted(places: &[u32], noted: &[u32], k: u32) -> bool
     place < noted.len() && noted[place] == k
 }
 
-/// Notes the assertion that a step applies, unless it is in `noted` where `places` says.
+/// Notes a statement, unless it is in `noted` where `places` says.
+#[inline(always)]
+fn note<A: Allocator>(k: u32, noted: &mut Vec<u32, A>, places: &mut [u32]) -> Result<(), AllocError>
+    ensures { OnOk result
+        ((a : ℕ)
+        → is_member noted.new.items a ≡ (is_member noted.old.items a || (a == k))) }
+{
+    if !is_noted(places, noted, k) {
+        put_number(places, k as usize, noted.len());
+        noted.push(k)?;
+    }
+    Ok(())
+}
+
+/// Notes the assertion that a step applies.
 pub fn cite<A: Allocator>(
     db: &Database<A>,
     step: Step,
@@ -40,12 +54,29 @@ pub fn cite<A: Allocator>(
         || (is_labelled_step (step_of step) a && is_assertion_at db.now.statements a))) }
 {
     if let Step::Label(k) = step {
-        let is_cited = is_assertion(db, k);
+        if is_assertion(db, k) {
+            note(k, noted, places)?;
+        }
+    }
+    Ok(())
+}
+
+/// Notes the statement that a step names, if it is cited.
+#[inline(always)]
+pub fn cite_if<A: Allocator>(
+    step: Step,
+    is_cited: bool,
+    noted: &mut Vec<u32, A>,
+    places: &mut [u32],
+) -> Result<(), AllocError>
+    ensures { OnOk result
+        ((a : ℕ)
+        → is_member noted.new.items a
+        ≡ (is_member noted.old.items a || (is_labelled_step (step_of step) a && is_cited))) }
+{
+    if let Step::Label(k) = step {
         if is_cited {
-            if !is_noted(places, noted, k) {
-                put_number(places, k as usize, noted.len());
-                noted.push(k)?;
-            }
+            note(k, noted, places)?;
         }
     }
     Ok(())

@@ -6,7 +6,7 @@ use mm_stmt::Sym;
 use std::marker::Model;
 
 /// A symbol of a formula of a frame.
-#[derive(Clone, Copy, PartialEq, Eq, Debug, Drop)]
+#[derive(Clone, Copy, Drop)]
 pub enum Part {
     /// A constant.
     Constant(Sym),
@@ -15,14 +15,14 @@ pub enum Part {
 }
 
 /// A stretch of a list: from place `start` up to, but not including, place `end`.
-#[derive(Clone, Copy, PartialEq, Eq, Debug, Drop)]
+#[derive(Clone, Copy, Drop)]
 pub struct Stretch {
     pub start: usize,
     pub end: usize,
 }
 
 /// What a mandatory hypothesis requires of its premise.
-#[derive(Clone, Copy, PartialEq, Eq, Debug, Drop)]
+#[derive(Clone, Copy, Drop)]
 pub enum Hypothesis {
     /// The typecode, if the hypothesis is the first `$f` of its variable.
     Floating(Sym),

@@ -28,7 +28,6 @@ pub struct RuleStretches {
 }
 
 /// The rules of the assertions of a database, as far as they are held. The workers share them.
-#[derive(Drop)]
 pub struct Rules<A: Allocator> {
     stretches: Vec<RuleStretches, A>,
     hypotheses: Vec<Hypothesis, A>,
@@ -37,6 +36,19 @@ pub struct Rules<A: Allocator> {
     parts: Vec<Part, A>,
     /// For each statement, the number that its rule may have; `find` verifies it.
     numbers: Vec<u32, A>,
+}
+
+/// Lets all fields go in one call, so that a proof has one step for it at each exit.
+impl<A: Allocator> Drop for Rules<A> {
+    fn drop(self) {
+        let Self {
+            stretches: _,
+            hypotheses: _,
+            pairs: _,
+            parts: _,
+            numbers: _,
+        } = self;
+    }
 }
 
 impl<A: Allocator> Model for Rules<A> {

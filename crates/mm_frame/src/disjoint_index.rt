@@ -17,7 +17,6 @@ use mm_outline::symbol::Sym;
 use std::alloc::{AllocError, Allocator};
 
 /// The `$d` statements by their variables.
-#[derive(Drop)]
 pub struct DisjointIndex<A: Allocator> {
     /// Each variable with each `$d` that has it, in ascending order.
     pub pairs: Vec<(u32, u32), A>,
@@ -28,6 +27,17 @@ pub struct DisjointIndex<A: Allocator> {
     /// For each symbol up to the last that has pairs, the number of pairs of symbols before it.
     starts: Vec<usize, A>,
     ghost starts_are: { AreStarts pairs.items starts.items },
+}
+
+/// Lets all fields go in one call, so that a proof has one step for it at each exit.
+impl<A: Allocator> Drop for DisjointIndex<A> {
+    fn drop(self) {
+        let Self {
+            pairs: _,
+            skips: _,
+            starts: _,
+        } = self;
+    }
 }
 
 /// Sorts the pairs, and removes duplicates.

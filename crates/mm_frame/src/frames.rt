@@ -55,21 +55,39 @@ fn give_type<A: Allocator>(tables: &Tables<A>, statement: u32, typed: &mut Vec<u
 
 /// The frames of the assertions in file order, and for each statement the number of frames before
 /// it, which is the place of its own frame if it is an assertion.
-#[derive(Drop)]
 pub struct Frames<A: Allocator> {
     pub list: Vec<Frame<A>, A>,
     pub places: Vec<u32, A>,
 }
 
+/// Lets all fields go in one call, so that a proof has one step for it at each exit.
+impl<A: Allocator> Drop for Frames<A> {
+    fn drop(self) {
+        let Self { list: _, places: _ } = self;
+    }
+}
+
 /// Lists that are reused for each assertion: the marks of the symbols, the variables, the
 /// hypotheses, the active `$d` of the variables, and the pairs of variables in these `$d`.
-#[derive(Drop)]
 struct Scratch<A: Allocator> {
     seen: Vec<u32, A>,
     found: Vec<Sym, A>,
     hyps: Vec<u32, A>,
     had: Vec<(u32, u32), A>,
     together: Vec<(u32, u32), A>,
+}
+
+/// Lets all fields go in one call, so that a proof has one step for it at each exit.
+impl<A: Allocator> Drop for Scratch<A> {
+    fn drop(self) {
+        let Self {
+            seen: _,
+            found: _,
+            hyps: _,
+            had: _,
+            together: _,
+        } = self;
+    }
 }
 
 /// Returns the numbers in a list without spare capacity.

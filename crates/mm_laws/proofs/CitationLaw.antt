@@ -1,6 +1,6 @@
 -- Citations by all nodes of a proof, and by the essential ones.
 use Rattle.std.proofs.Common.{true}
-use Rattle.mm_laws.specs.Laws.{EssentialIsCited, EachLabelIsCited}
+use Rattle.mm_laws.specs.Laws.Citations.{EssentialIsCited, EachLabelIsCited}
 use Rattle.mm_spec.proofs.NodesLaw.{label_member, all_labels}
 
 pub essential_is_cited : EssentialIsCited

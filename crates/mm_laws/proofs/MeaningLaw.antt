@@ -15,9 +15,12 @@ use Rattle.mm_spec.specs.Proof.{steps, reading_faults}
 use Rattle.mm_spec.specs.Valid.{Derives}
 use Rattle.mm_spec.specs.Citation.{context_at, is_theorem, IsValid}
 use Rattle.mm_laws.specs.Spelling.{AreSteps, IsUsable}
-use Rattle.mm_laws.specs.Laws.{WhereRead, bare_steps, StepsAreNamed, StepsAreLabels}
-use Rattle.mm_laws.specs.Laws.{CompressedIsExact, NormalIsExact, SaysCompressed, SaysNormal, Says}
-use Rattle.mm_laws.specs.Laws.{IsProved, ValidOnTheMeaning}
+use Rattle.mm_laws.specs.Laws.Read.{WhereRead}
+use Rattle.mm_laws.specs.Laws.BareSteps.{bare_steps}
+use Rattle.mm_laws.specs.Laws.NamedSteps.{StepsAreNamed, StepsAreLabels}
+use Rattle.mm_laws.specs.Laws.WellFormed.{CompressedIsExact, NormalIsExact}
+use Rattle.mm_laws.specs.Laws.Meaning.{SaysCompressed, SaysNormal, Says}
+use Rattle.mm_laws.specs.Laws.Meaning.{IsProved, ValidOnTheMeaning}
 use Rattle.mm_spec.proofs.FindsLaw.{same_word}
 use Rattle.mm_laws.proofs.SpelledStepsLaw.{steps_named, steps_labels, steps_unique}
 use Rattle.mm_laws.proofs.WellSpelledLaw.{compressed_exact, normal_exact}

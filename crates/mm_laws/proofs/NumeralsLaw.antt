@@ -5,7 +5,7 @@ use Rattle.std.proofs.Common.{arith, length-append}
 use Rattle.std.proofs.Math.Nat.{pow-succ'}
 use Rattle.mm_spec.specs.CompressedProof.{letters_from}
 use Rattle.mm_laws.specs.Spelling.{IsEarlyDigit, AreEarlyDigits, IsNumber}
-use Rattle.mm_laws.specs.Laws.{NumbersHaveOneSpelling, BookNumbers}
+use Rattle.mm_laws.specs.Laws.Numerals.{NumbersHaveOneSpelling, BookNumbers}
 use Rattle.mm_laws.proofs.SpellingLaw.{group_number}
 
 -- ---- one earlier digit more at the end

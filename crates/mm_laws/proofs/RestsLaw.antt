@@ -18,7 +18,7 @@ use Rattle.mm_spec.specs.Output.{IsCitingRowOf}
 use Rattle.mm_spec.specs.Text.{Bytes}
 use Rattle.std.specs.List.Sorted.{IsStrictlyIncreasing}
 use Rattle.mm_laws.proofs.RisingListsLaw.{list_of}
-use Rattle.mm_laws.specs.Laws.{IsDecided}
+use Rattle.mm_laws.specs.Laws.Cells.{IsDecided}
 use Rattle.mm_spec.proofs.ChainsLaw.{rests_step}
 use Rattle.mm_spec.proofs.FindsLaw.{found_at, inside_of}
 use Rattle.mm_spec.proofs.CitedLaw.{cites_earlier, proof_theorem, proof_unique}

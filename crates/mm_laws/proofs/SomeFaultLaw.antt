@@ -10,7 +10,7 @@ use Rattle.mm_spec.specs.Citation.{IsValid}
 use Rattle.mm_spec.specs.Laws.Complete.{AreComplete}
 use Rattle.mm_spec.specs.Output.{LexedText, IsRead, ProofFault, end_of, is_theorem_at, AreValid}
 use Rattle.mm_spec.specs.Output.{AllAreValid, FirstProofFault}
-use Rattle.mm_laws.specs.Laws.{IsSoundOrFaulty}
+use Rattle.mm_laws.specs.Laws.FirstFaults.{IsSoundOrFaulty}
 use Rattle.mm_spec.specs.Opened.{counted}
 use Rattle.mm_spec.proofs.CompleteLaw.{reads_complete}
 use Rattle.mm_spec.proofs.OpenedLaw.{counted_complete}

@@ -8,7 +8,9 @@ use Rattle.mm_spec.specs.declared.Choice.{Choice}
 use Rattle.mm_spec.specs.declared.Choice.TheVariants.{All, Matrix, Counts, Usage, Citations}
 use Rattle.mm_spec.specs.Output.{LexedText, lexed_of, theorems, AllAreValid, open_columns}
 use Rattle.mm_spec.specs.Output.{IsReportOf, IsOutput}
-use Rattle.mm_laws.specs.Laws.{IsSoundOrFaulty, AreDecided, OutputExists}
+use Rattle.mm_laws.specs.Laws.FirstFaults.{IsSoundOrFaulty}
+use Rattle.mm_laws.specs.Laws.Cells.{AreDecided}
+use Rattle.mm_laws.specs.Laws.SomeOutput.{OutputExists}
 use Rattle.mm_spec.specs.Opened.{counted}
 use Rattle.mm_spec.proofs.CompleteLaw.{reads_complete}
 use Rattle.mm_spec.proofs.OpenedLaw.{counted_complete}

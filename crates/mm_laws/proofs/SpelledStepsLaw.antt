@@ -26,8 +26,10 @@ use Rattle.mm_spec.specs.CompressedProof.{compressed_faults, compressed_steps}
 use Rattle.mm_spec.specs.Proof.{steps, reading_faults}
 use Rattle.mm_laws.specs.Spelling.{Item, number, mark, is_number, is_mark, Spells, letters_in}
 use Rattle.mm_laws.specs.Spelling.{IsCompressed, IsMark, Names, AreSteps, IsUsable}
-use Rattle.mm_laws.specs.Laws.{WhereRead, bare_steps, StepsAreNamed, NamedStepsAreUnique}
-use Rattle.mm_laws.specs.Laws.{StepsAreLabels}
+use Rattle.mm_laws.specs.Laws.Read.{WhereRead}
+use Rattle.mm_laws.specs.Laws.BareSteps.{bare_steps}
+use Rattle.mm_laws.specs.Laws.NamedSteps.{StepsAreNamed, NamedStepsAreUnique}
+use Rattle.mm_laws.specs.Laws.NamedSteps.{StepsAreLabels}
 use Rattle.mm_spec.specs.declared.Code.TheVariants.{LabelIsSymbol, LabelUsedBefore, UnusableLabel}
 use Rattle.mm_spec.specs.declared.Code.TheVariants.{IncompleteProof}
 use Rattle.mm_spec.proofs.FindsLaw.{same_word, found_at, inside_of, declares}

@@ -20,7 +20,7 @@ use Rattle.mm_spec.specs.CompressedProof.{starts_at, group_faults, letter_faults
 use Rattle.mm_spec.specs.Proof.{reading_faults}
 use Rattle.mm_laws.specs.Spelling.{Item, number, mark, IsEarlyDigit, IsLastDigit, AreEarlyDigits}
 use Rattle.mm_laws.specs.Spelling.{IsNumber, IsSpelled, Spells, letters_in}
-use Rattle.mm_laws.specs.Laws.{PartsAreUnique, SpellingIsUnique, ProofsAreSpelled}
+use Rattle.mm_laws.specs.Laws.Letters.{PartsAreUnique, SpellingIsUnique, ProofsAreSpelled}
 use Rattle.mm_spec.specs.declared.Code.TheVariants.{OpenBrackets, OpenNumber, MarkBeforeStep}
 use Rattle.mm_spec.specs.declared.Code.TheVariants.{NumberTooLarge, IncompleteProof, BadLetter}
 use Rattle.mm_spec.proofs.FindsLaw.{same_word}

@@ -8,8 +8,10 @@ use Rattle.mm_spec.specs.Frame.{formula_at}
 use Rattle.mm_spec.specs.Citation.{context_at, steps_at, reading_faults_at, IsValid}
 use Rattle.mm_spec.specs.Laws.Complete.{AreComplete}
 use Rattle.mm_spec.specs.Output.{ProofFault}
-use Rattle.mm_laws.specs.Laws.{WhereRead, LabelsDetermine, ProofIsUnique, IsValidOrFaulty}
-use Rattle.mm_laws.specs.Laws.{IsNeverBoth, FaultIsUnique}
+use Rattle.mm_laws.specs.Laws.Read.{WhereRead}
+use Rattle.mm_laws.specs.Laws.Derivations.{LabelsDetermine, ProofIsUnique}
+use Rattle.mm_laws.specs.Laws.Faults.{IsValidOrFaulty}
+use Rattle.mm_laws.specs.Laws.Faults.{IsNeverBoth, FaultIsUnique}
 use Rattle.mm_spec.proofs.CheckedLaw.{same_row}
 use Rattle.mm_spec.proofs.CitedLaw.{proof_unique}
 use Rattle.mm_spec.proofs.CompleteLaw.{reads_complete}

@@ -16,8 +16,9 @@ use Rattle.mm_spec.specs.Derivation.{Pair, is_member}
 use Rattle.mm_spec.specs.Citation.{is_assertion}
 use Rattle.mm_spec.specs.declared.Fault.{Fault}
 use Rattle.mm_spec.specs.Output.{LexedText, IsRead}
-use Rattle.mm_laws.specs.Laws.{WhereRead, IsTyping, VariablesAreTyped, is_in_frame}
-use Rattle.mm_laws.specs.Laws.{VariablesAreMandatory}
+use Rattle.mm_laws.specs.Laws.Read.{WhereRead}
+use Rattle.mm_laws.specs.Laws.Frames.{IsTyping, VariablesAreTyped, is_in_frame}
+use Rattle.mm_laws.specs.Laws.Frames.{VariablesAreMandatory}
 use Rattle.mm_spec.proofs.LocalLaw.{scope_fault_front}
 use Rattle.mm_spec.proofs.FindsLaw.{any_flat_map, any_filter, member_filter, filter_member}
 use Rattle.mm_spec.proofs.FindsLaw.{found_at}

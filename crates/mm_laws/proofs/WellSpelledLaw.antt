@@ -21,7 +21,8 @@ use Rattle.mm_spec.specs.Proof.{reading_faults}
 use Rattle.mm_laws.specs.Spelling.{Item, number, mark, is_number, is_mark, IsEarlyDigit}
 use Rattle.mm_laws.specs.Spelling.{IsLastDigit, AreEarlyDigits, IsNumber, Spells, letters_in}
 use Rattle.mm_laws.specs.Spelling.{IsUsable, IsWellSpelled}
-use Rattle.mm_laws.specs.Laws.{WhereRead, CompressedIsExact, NormalIsExact}
+use Rattle.mm_laws.specs.Laws.Read.{WhereRead}
+use Rattle.mm_laws.specs.Laws.WellFormed.{CompressedIsExact, NormalIsExact}
 use Rattle.mm_spec.specs.declared.Code.TheVariants.{OpenNumber, MarkBeforeStep, NumberTooLarge}
 use Rattle.mm_spec.specs.declared.Code.TheVariants.{UnusableLabel, IncompleteProof, BadLetter}
 use Rattle.mm_spec.proofs.FindsLaw.{same_word, is_before}

@@ -14,7 +14,7 @@ use mm_spec::Role;
 use std::alloc::{AllocError, Allocator};
 
 /// The comment that is open after a list of words: none, or one that began before them or in them.
-#[derive(Clone, Copy, Debug, PartialEq, Eq)]
+#[derive(Clone, Copy)]
 pub enum Opened {
     Nowhere,
     Before,

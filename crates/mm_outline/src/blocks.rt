@@ -12,11 +12,21 @@ pub const NEVER: u32 = 4_294_967_295;
 
 /// The block of each statement, the end of each block, and the blocks that are open, the outermost
 /// first.
-#[derive(Drop)]
 pub struct Blocks<A: Allocator> {
     pub of: Vec<u32, A>,
     pub ends: Vec<u32, A>,
     pub open: Vec<u32, A>,
+}
+
+/// Lets all fields go in one call, so that a proof has one step for it at each exit.
+impl<A: Allocator> Drop for Blocks<A> {
+    fn drop(self) {
+        let Self {
+            of: _,
+            ends: _,
+            open: _,
+        } = self;
+    }
 }
 
 /// The blocks before the first statement: the outermost one alone, which is open.

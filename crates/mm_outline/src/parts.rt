@@ -29,7 +29,7 @@ pub enum Kind {
 
 /// Where a statement is among the tokens: the numbers of its keyword, of its `$=` (if it has none,
 /// of its last token), and of its last token.
-#[derive(Clone, Copy, Debug, PartialEq, Eq)]
+#[derive(Clone, Copy)]
 pub struct Outline {
     pub kind: Kind,
     pub keyword: u32,
@@ -39,7 +39,7 @@ pub struct Outline {
 
 /// What has been read of a statement: nothing, the label, words after the keyword, words after the
 /// keyword of a `$p`, or words after its `$=`.
-#[derive(Clone, Copy, Debug, PartialEq, Eq)]
+#[derive(Clone, Copy)]
 pub enum Part {
     Start,
     Labelled(u32),
@@ -49,7 +49,7 @@ pub enum Part {
 }
 
 /// What a token does.
-#[derive(Clone, Copy, Debug, PartialEq, Eq)]
+#[derive(Clone, Copy)]
 pub enum Turn {
     Stop,
     Go(Part),
@@ -157,7 +157,7 @@ fn take_turn(text: &[u8], tokens: &[Word], deep: u32, part: Part, at: u32) -> Tu
 
 /// What is found where a statement should begin: a complete statement, a token that is not
 /// expected, or the end of the tokens, with what was read of a statement before it.
-#[derive(Clone, Copy, Debug, PartialEq, Eq)]
+#[derive(Clone, Copy)]
 pub enum NextStatement {
     Whole(Outline),
     Stopped(Fault),

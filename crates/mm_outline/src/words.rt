@@ -8,7 +8,7 @@ ghost use Rattle.mm_outline.specs.Parts.{class_of};
 ghost use Rattle.mm_outline.specs.Tokens.{TellsByFirst};
 
 /// What a word may be in a statement.
-#[derive(Clone, Copy, Debug, PartialEq, Eq)]
+#[derive(Clone, Copy)]
 pub enum Class {
     Constant,
     Variable,

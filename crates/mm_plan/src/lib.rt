@@ -23,7 +23,6 @@ pub enum Cutting<A: Allocator> {
 /// typecode of the axioms that are columns (`None`: all axioms), the sections of the report, the
 /// form of its matrix, whether only the essential nodes of a proof count as citations, and whether
 /// open theorems count as axioms. The cuts and the workers don't change what is written.
-#[derive(Drop)]
 pub struct Plan<A: Allocator> {
     pub cuts: Cutting<A>,
     pub workers: u32,
@@ -32,6 +31,21 @@ pub struct Plan<A: Allocator> {
     pub form: Form,
     pub essential: bool,
     pub with_open: bool,
+}
+
+/// Lets all fields go in one call, so that a proof has one step for it at each exit.
+impl<A: Allocator> Drop for Plan<A> {
+    fn drop(self) {
+        let Self {
+            cuts: _,
+            workers: _,
+            only: _,
+            choice: _,
+            form: _,
+            essential: _,
+            with_open: _,
+        } = self;
+    }
 }
 
 /// Whether no place is less than the one before it.

@@ -16,7 +16,7 @@ use Rattle.mm_spec.specs.CompressedProof.{compressed_steps, letter_faults, lette
 use Rattle.mm_spec.specs.CompressedProof.{group_steps}
 use Rattle.mm_stmt.specs.Parts.{as_tokens, token_of}
 use Rattle.mm_spec.specs.Steps.{PlacedStep}
-use Rattle.mm_proof.specs.Read.{read}
+use Rattle.mm_steps.specs.Read.{read}
 use Rattle.mm_proof.specs.Letters.{InOrder, closed}
 
 -- a compressed proof with further labels before it

@@ -2,7 +2,6 @@ pub mod UsableLaw
 pub mod LeastLaw
 pub mod RisingLaw
 pub mod ReadLaw
-pub mod FlagsLaw
 pub mod TheoremsLaw
 pub mod NumberLaw
 pub mod LettersLaw

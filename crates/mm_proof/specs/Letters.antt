@@ -6,10 +6,10 @@ use Rattle.mm_spec.specs.Steps as spec
 use Rattle.mm_spec.specs.Steps.{PlacedStep}
 use Rattle.mm_spec.specs.CompressedProof.{Compressed, Letter, groups, group_steps, group_faults}
 use Rattle.mm_proof.specs.Number.{told}
-use Rattle.mm_proof.specs.Read.{step_of}
+use Rattle.mm_steps.specs.Read.{step_of}
 use Rattle.mm_proof.specs.Refused.{StartsWith}
 use Rattle.mm_proof.specs.declared.letters.Begun.{Begun}
-use Rattle.mm_proof.specs.declared.placed.Step.{Step}
+use Rattle.mm_steps.specs.declared.placed.Step.{Step}
 use Rattle.mm_proof.specs.declared.refused.ProofRefused.{ProofRefused}
 
 -- the theorem, the labels that have numbers, the steps that were marked, the number whose last

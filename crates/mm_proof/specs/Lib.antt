@@ -1,5 +1,4 @@
-pub mod Read
-pub mod Flags
+pub use Rattle.mm_steps.specs.Read
 pub mod Refused
 pub mod Number
 pub mod Letters

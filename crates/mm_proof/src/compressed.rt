@@ -6,14 +6,15 @@ ghost use Rattle.mm_spec.specs.NormalProof.{usable, proof_label_faults};
 ghost use Rattle.mm_spec.specs.CompressedProof.{bracketed, compressed_faults, compressed_steps};
 ghost use Rattle.mm_spec.specs.Output.{is_theorem_at};
 ghost use Rattle.mm_stmt.specs.Parts.{as_tokens, AreWithin};
-ghost use Rattle.mm_proof.specs.Read.{read};
+ghost use Rattle.mm_steps.specs.Read.{read};
 ghost use Rattle.mm_proof.specs.Letters.{InOrder, closed};
 ghost use Rattle.mm_proof.specs.Refused.{StartsWith};
 
 use crate::labels::usable_label;
 use crate::letters::Progress;
-use crate::placed::{Steps, with_room};
 use crate::refused::{ProofRefused, refused};
+use crate::room::with_room;
+use mm_steps::Steps;
 use mm_stmt::{Code, Database, Word};
 use std::alloc::Allocator;
 

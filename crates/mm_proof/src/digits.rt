@@ -4,7 +4,7 @@ ghost use Rattle.std.specs.Prelude.{◌≡◌, ◌+◌, ◌*◌, ◌<◌, ◌≤
 ghost use Rattle.mm_proof.specs.Number.{IsNumber, IsLetter, told};
 
 /// What a byte after the brackets of a compressed proof is (Metamath book, Appendix B).
-#[derive(Clone, Copy, Debug, PartialEq, Eq)]
+#[derive(Clone, Copy)]
 pub(crate) enum LetterKind {
     /// `U` to `Y`: a digit 1 to 5 of a number that continues.
     Early(u64),
@@ -37,10 +37,18 @@ pub(crate) fn letter_of(byte: u8) -> LetterKind
 
 /// A number with one more digit, `base * number + digit`, or the greatest 64-bit number if that is
 /// smaller.
+#[inline(always)]
 pub(crate) fn with_digit(number: u64, base: u64, digit: u64) -> u64
+    requires base { base ≤ 20 }
+    requires digit { digit ≤ 20 }
     ensures { result ≡ told (base * number + digit) }
 {
-    number.saturating_mul(base).saturating_add(digit)
+    // For a small number nothing can wrap.
+    if number <= 0x7fff_ffff {
+        base * number + digit
+    } else {
+        number.saturating_mul(base).saturating_add(digit)
+    }
 }
 
 /// The value of a number in letters: any number of letters `U` to `Y`, followed by one of `A` to

@@ -7,7 +7,7 @@ ghost use Rattle.mm_spec.specs.CompressedProof.{letters_from, letters_of, letter
 ghost use Rattle.mm_spec.specs.CompressedProof.{group_steps};
 ghost use Rattle.mm_spec.specs.CompressedProof as compressed;
 ghost use Rattle.mm_stmt.specs.Parts.{as_tokens, AreWithin};
-ghost use Rattle.mm_proof.specs.Read.{read, step_of, IsEarlier};
+ghost use Rattle.mm_steps.specs.Read.{read, step_of, IsEarlier};
 ghost use Rattle.mm_proof.specs.Number.{IsLetter, told};
 ghost use Rattle.mm_proof.specs.declared.digits.LetterKind.TheVariants.{Last};
 ghost use Rattle.mm_proof.specs.Letters.{State, state, letter, StandsAt, with_number, Reads, Stops};
@@ -15,8 +15,9 @@ ghost use Rattle.mm_proof.specs.Letters.{begun_at, named, InOrder};
 ghost use Rattle.mm_proof.specs.Refused.{StartsWith};
 
 use crate::digits::{LetterKind, letter_of, with_digit};
-use crate::placed::{Step, Steps, with_room};
 use crate::refused::{ProofRefused, refused};
+use crate::room::with_room;
+use mm_steps::{Step, Steps};
 use mm_stmt::{Code, Word};
 use std::alloc::{AllocError, Allocator};
 use std::marker::Model;
@@ -35,7 +36,8 @@ pub(crate) struct Begun {
 
 /// A number with one more digit, whose letter is at place `at`.
 fn begun_by(number: Option<Begun>, at: u32, base: u64, digit: u64) -> Begun
-    requires { digit ≤ 20 }
+    requires base { base ≤ 20 }
+    requires digit { digit ≤ 20 }
     ensures at { result.at ≡ (begun_at number at).at }
     ensures value { result.value ≡ told (base * (begun_at number at).value + digit) }
 {

@@ -11,12 +11,12 @@ mod compressed;
 mod digits;
 mod labels;
 mod letters;
-mod placed;
 mod reader;
 mod refused;
+mod room;
 
 pub use digits::number;
+pub use mm_steps::{Step, Steps};
 pub use mm_stmt::{Code, Fault};
-pub use placed::{Step, Steps};
 pub use reader::read_proof;
 pub use refused::ProofRefused;

@@ -1,12 +1,14 @@
--- Digits sent one piece after the other.
-use Rattle.std.proofs.Common.{◌≡◌, ℕ, ◌+◌, ◌++◌, length, map, ap, ◌∙◌, sym, arith}
+-- Digits and cells sent one piece after the other.
+use Rattle.std.proofs.Common.{◌≡◌, ◌<◌, ℕ, ◌+◌, ◌++◌, length, map, ap, ◌∙◌, sym, arith, false}
+use Rattle.std.proofs.Common.{zero-add}
 use Rattle.std.specs.List.{range_with_len}
-use Rattle.std.proofs.lemmas.List.{map-append, length-map}
-use Rattle.std.proofs.lemmas.List.FromFn.{length-range_with_len}
-use Rattle.mm_spec.specs.Report.{digit_at, hex_digit}
+use Rattle.std.proofs.lemmas.List.{map-append, length-map, ext_get_or, get_or-map}
+use Rattle.std.proofs.lemmas.List.FromFn.{length-range_with_len, get_or-map-range_with_len}
+use Rattle.mm_spec.specs.Report.{digit_at, hex_digit, digit_of, mark_at}
 use Rattle.mm_rows.specs.Marks.{Marks, mark, row_marks}
 use Rattle.mm_report.specs.Rows.{marks_of}
 use Rattle.mm_report.proofs.SentLaw.{range_append}
+use Rattle.mm_report.proofs.UserLaw.{mark_at_range}
 
 -- how digit k of a row is written
 abbrev pub digit_text : Marks → ℕ → ℕ → ℕ
@@ -25,3 +27,24 @@ digits_append f from n both e =
 pub row_long : (m : Marks) (i : ℕ) → length (marks_of m i) ≡ m.columns
 row_long m i =
     length-map (range_with_len 0 m.columns) (mark m i) ∙ length-range_with_len 0 m.columns
+
+-- how column j of a row is written
+abbrev pub cell_text : Marks → ℕ → ℕ → ℕ
+cell_text m i j = digit_of (mark_at j (row_marks m i))
+
+-- all cells of a row
+pub cells_are : (m : Marks) (i : ℕ)
+    → map (cell_text m i) (range_with_len 0 m.columns) ≡ map digit_of (marks_of m i)
+cells_are m i =
+    ext_get_or 0 (map (cell_text m i) (range_with_len 0 m.columns)) (map digit_of (marks_of m i))
+    (long ∙ sym (length-map (marks_of m i) digit_of ∙ row_long m i))
+    (λ k lt. let less : k < m.columns = omega (arith, lt, long) in
+    let within : k < length (marks_of m i) = omega (arith, less, row_long m i) in
+    get_or-map-range_with_len (cell_text m i) 0 m.columns k k 0 less (zero-add k)
+    ∙ ap digit_of (mark_at_range (mark m i) 0 m.columns k less ∙ ap (mark m i) (zero-add k))
+    ∙ sym (get_or-map digit_of (marks_of m i) k false 0 within
+    ∙ ap digit_of (get_or-map-range_with_len (mark m i) 0 m.columns k k false less (zero-add k))))
+  where
+    long : length (map (cell_text m i) (range_with_len 0 m.columns)) ≡ m.columns
+    long =
+        length-map (range_with_len 0 m.columns) (cell_text m i) ∙ length-range_with_len 0 m.columns

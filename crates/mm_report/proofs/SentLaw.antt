@@ -6,11 +6,11 @@ use Rattle.std.proofs.Common.{cond, sum, zero, suc, zero-add, add-zero}
 use Rattle.std.specs.Io.KnownBytes.{Appends}
 use Rattle.std.proofs.KnownBytes.{Appends-nil, Appends-trans}
 use Rattle.std.proofs.Math.Seq.{take-append-add, take-append_seam}
-use Rattle.std.proofs.lemmas.List.{take-append-le, take_min, take_all, append-nil, map-append}
+use Rattle.std.proofs.lemmas.List.{take-append-le, take_min, take_all, append-nil}
 use Rattle.std.proofs.lemmas.Bool.{cases_Bool, agree_below_at, lt-ltb, le-ltb}
 use Rattle.std.specs.Fmt.{digits}
 use Rattle.std.specs.Prelude.{Result, Ok, Err, OnOk, OnErr}
-use Rattle.mm_spec.specs.Report.{two_digits, digit_of}
+use Rattle.mm_spec.specs.Report.{two_digits}
 use Rattle.mm_report.specs.Sent.{Pending, pending, Sent}
 use Rattle.std.specs.List.{range_with_len}
 use Rattle.std.proofs.lemmas.List.Sums.{sum-map}
@@ -171,16 +171,6 @@ range_append b (suc a) n =
     ap (range_with_len b) more
     ∙ ap (λ r. b ∷ r)
     (range_append (b + 1) a n ∙ ap (λ m. range_with_len (b + 1) a ++ range_with_len m n) after)
-
--- some cells, and those after them
-pub cells_append : (f : ℕ → Bool) (a n : ℕ)
-    → map digit_of (map f (range_with_len 0 (a + n)))
-    ≡ map digit_of (map f (range_with_len 0 a)) ++ map digit_of (map f (range_with_len a n))
-cells_append f a n =
-    ap (λ r. map digit_of (map f r))
-    (range_append 0 a n ∙ ap (λ m. range_with_len 0 a ++ range_with_len m n) (zero-add a))
-    ∙ ap (map digit_of) (map-append f (range_with_len 0 a) (range_with_len a n))
-    ∙ map-append digit_of (map f (range_with_len 0 a)) (map f (range_with_len a n))
 
 -- all was written
 pub sent_all : (a b c : Option (List ℕ)) (s t : Pending) (x : List ℕ)

@@ -44,7 +44,7 @@ count_more p n =
     ∙ sum_by-map-range_with_len_more (λ x. cond (p x) 1 0) (λ x. x) 0 n n (zero-add n)
     ∙ ap (λ xs. count_by p xs + cond (p n) 1 0) (map-id (range_with_len 0 n))
 
-mark_at_range : (f : ℕ → Bool) (a k n : ℕ) → n < k
+pub mark_at_range : (f : ℕ → Bool) (a k n : ℕ) → n < k
     → mark_at n (map f (range_with_len a k)) ≡ f (a + n)
 mark_at_range f a zero n lt = absurd (omega arith)
 mark_at_range f a (suc k) zero lt = ap f (sym (add-zero a))

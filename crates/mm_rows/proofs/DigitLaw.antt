@@ -194,7 +194,7 @@ bit_is x lt = go (cases_eq x 0)
 module _ (m : Marks) (rows columns : ℕ) (words : List ℕ) (view : m ≡ marks rows columns words)
     (t : IsTable rows columns words) where
   -- a bit of a row is a mark, and nothing is marked past the last column
-  row_mark : (i j : ℕ) → i < rows → j < 64 * words_for columns
+  pub row_mark : (i j : ℕ) → i < rows → j < 64 * words_for columns
       → is_bit (row_at words (words_for columns) i) j
       ≡ mark_at j (row_marks (marks rows columns words) i)
   row_mark i j lt within =

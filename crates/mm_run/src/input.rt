@@ -14,7 +14,7 @@ pub const READING_LIMIT: usize = 2_147_483_648;
 const PIECE: usize = 65536;
 
 /// Why a text was not read: a read failed, or out of memory.
-#[derive(Clone, Copy, PartialEq, Eq, Debug)]
+#[derive(Clone, Copy)]
 pub enum ReadRefused {
     Failed,
     Memory,

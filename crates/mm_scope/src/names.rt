@@ -37,7 +37,6 @@ const GUESSES: usize = 2048;
 const NO_GUESS: usize = 18_446_744_073_709_551_615;
 
 /// The symbols and the labels.
-#[derive(Drop)]
 pub struct Names<'a, A: Allocator> {
     pub symbols: Map<'a, Symbol<'a>, A>,
     pub labels: Map<'a, u32, A>,
@@ -52,6 +51,19 @@ pub struct Names<'a, A: Allocator> {
     ghost distinct: { are_distinct (names_of symbols) ≡ true },
     ghost symbols_no_longer: { AreNoLonger symbols longest_symbol },
     ghost labels_no_longer: { AreNoLonger labels longest_label },
+}
+
+// By hand, so that a function that lets names go calls this, and isn't proved to let go each field.
+impl<'a, A: Allocator> Drop for Names<'a, A> {
+    fn drop(self) {
+        let Self {
+            symbols: _,
+            labels: _,
+            guesses: _,
+            longest_symbol: _,
+            longest_label: _,
+        } = self;
+    }
 }
 
 /// Returns the index of the guess for a word.

@@ -28,12 +28,23 @@ use std::alloc::{AllocError, Allocator};
 
 /// The lawful statements of a text as outlines, the names after them, their symbols by number, and
 /// the fault that stopped the reading, if any.
-#[derive(Drop)]
 pub struct Outlined<'a, A: Allocator> {
     pub outlines: Vec<Outline, A>,
     pub scope: Scope<'a, A>,
     pub formulas: Formulas<A>,
     pub fault: Option<Fault>,
+}
+
+// By hand, so that a function that lets this go calls it, and isn't proved to let go each field.
+impl<'a, A: Allocator> Drop for Outlined<'a, A> {
+    fn drop(self) {
+        let Self {
+            outlines: _,
+            scope: _,
+            formulas: _,
+            fault: _,
+        } = self;
+    }
 }
 
 /// Returns the number of blocks that are open after a statement.

@@ -1,6 +1,6 @@
 -- What the outline of a statement says of it.
 use Rattle.std.proofs.Common.{◌≡◌, ℕ, zero, suc, ◌+◌, ◌-◌, ◌<◌, ◌≤◌, Bool, true, false, ◌&&◌, List}
-use Rattle.std.proofs.Common.{[], ◌∷◌, length, map, get_or, slice_get, Option, Some, None, refl}
+use Rattle.std.proofs.Common.{[], ◌∷◌, length, get_or, slice_get, Option, Some, None, refl}
 use Rattle.std.proofs.Common.{sym, ap, ◌∙◌, subst, arith, if◌then◌else◌}
 use Rattle.std.specs.Option.{option_map, option_and_then}
 use Rattle.std.specs.List.{list_any}
@@ -20,7 +20,6 @@ use Rattle.mm_stmt.specs.Kinds.{counted_as, is_theorem_kind, is_axiom_kind}
 use Rattle.mm_stmt.proofs.KindsLaw.{own_kind, still_theorem, open_made, proof_made}
 use Rattle.mm_spec.specs.Opened.{as_axiom, is_open}
 use Rattle.mm_spec.proofs.OpenedLaw.{got_axiom, counted_got, counted_then, counted_length}
-use Rattle.mm_outline.proofs.ActiveLaw.{get_map}
 use Rattle.mm_outline.specs.declared.parts.Kind.{Kind}
 use Rattle.mm_outline.specs.declared.parts.Kind.TheVariants as kind
 use Rattle.mm_outline.specs.declared.parts.Outline.{Outline}

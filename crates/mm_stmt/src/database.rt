@@ -22,16 +22,15 @@ ghost use Rattle.mm_outline.specs.Statements.{active_kind};
 ghost use Rattle.mm_stmt.specs.Database.{kind_of, last_place, typecode_of};
 ghost use Rattle.mm_stmt.specs.Kinds.{is_axiom_kind, is_theorem_kind};
 
-use crate::kept::{Kept, has_label};
+use crate::found::Found;
+use crate::kept::has_label;
 use crate::near::are_together_near;
-use crate::spaced::SpacedLabels;
-use mm_frame::disjoint_index::{DisjointIndex, are_together};
-use mm_frame::frames::{Frame, Frames};
-use mm_outline::blocks::Blocks;
-use mm_outline::parts::{Kind, Outline};
+use mm_frame::disjoint_index::are_together;
+use mm_frame::frames::Frame;
+use mm_outline::parts::Kind;
 use mm_outline::symbol::Sym;
 use mm_scope::name::Name;
-use mm_scope::names::{Map, Symbol};
+use mm_scope::reading::Outlined;
 use mm_spec::{Fault, Word};
 use std::alloc::Allocator;
 use std::marker::Model;
@@ -41,22 +40,9 @@ use std::marker::Model;
 #[derive(Drop)]
 pub struct Database<'a, A: Allocator> {
     pub(crate) text: &'a [u8],
-    pub(crate) kept: Kept<A>,
-    pub(crate) outlines: Vec<Outline, A>,
     pub(crate) with_open: bool,
-    pub(crate) fault: Option<Fault>,
-    pub(crate) blocks: Blocks<A>,
-    pub(crate) labels: Map<'a, u32, A>,
-    pub(crate) symbols: Map<'a, Symbol<'a>, A>,
-    pub(crate) variables: Vec<bool, A>,
-    pub(crate) numbers: Vec<Sym, A>,
-    pub(crate) places: Vec<u32, A>,
-    pub(crate) frames: Frames<A>,
-    pub(crate) disjoint_index: DisjointIndex<A>,
-    pub(crate) kinds: Vec<Kind, A>,
-    pub(crate) theorems: Vec<u32, A>,
-    pub(crate) axioms: Vec<u32, A>,
-    pub(crate) spaced: SpacedLabels<A>,
+    pub(crate) read: Outlined<'a, A>,
+    pub(crate) found: Found<A>,
 }
 
 impl<'a, A: Allocator> Model for Database<'a, A> {
@@ -71,17 +57,22 @@ impl<'a, A: Allocator> Model for Database<'a, A> {
     ghost Value = { Contents };
 
     ghost view = { λ d. contents d.text.now
-        (statements d.text.now (words_of d.text.now) d.outlines.items) d.with_open d.fault };
+        (statements d.text.now (words_of d.text.now) d.read.outlines.items) d.with_open
+        d.read.fault };
 
     ghost invariant = { λ d. IsDatabase d.text.now
-        (words_of d.text.now) d.outlines.items d.with_open d.fault
-        (fields d.kept.words.items d.kept.starts.items
-        (lists d.blocks.of.items d.blocks.ends.items d.blocks.open.items) (find d.labels)
-        (names_of d.symbols) d.variables.items d.numbers.items d.places.items
-        d.frames.places.items (map (λ f. f.hyps.items) d.frames.list.items)
-        (map (λ f. map (λ p. pair p.0 p.1) f.pairs.items) d.frames.list.items)
-        d.disjoint_index.pairs.items d.disjoint_index.skips.items d.kinds.items d.theorems.items
-        d.axioms.items d.spaced.bytes.items d.spaced.starts.items) };
+        (words_of d.text.now) d.read.outlines.items d.with_open d.read.fault
+        (fields d.found.kept.words.items d.found.kept.starts.items
+        (lists d.read.scope.blocks.of.items d.read.scope.blocks.ends.items
+        d.read.scope.blocks.open.items) (find d.read.scope.names.labels)
+        (names_of d.read.scope.names.symbols) d.found.variables.items
+        d.read.formulas.numbers.items d.read.formulas.places.items
+        d.found.beside.frames.places.items
+        (map (λ f. f.hyps.items) d.found.beside.frames.list.items)
+        (map (λ f. map (λ p. pair p.0 p.1) f.pairs.items) d.found.beside.frames.list.items)
+        d.found.beside.disjoint_index.pairs.items d.found.beside.disjoint_index.skips.items
+        d.found.listed.kinds.items d.found.listed.theorems.items d.found.listed.axioms.items
+        d.found.listed.spaced.bytes.items d.found.listed.spaced.starts.items) };
 }
 
 impl<'a, A: Allocator> Database<'a, A> {
@@ -97,7 +88,7 @@ impl<'a, A: Allocator> Database<'a, A> {
     pub fn fault(&self) -> Option<Fault>
         ensures { result ≡ self.now.fault }
     {
-        self.fault
+        self.read.fault
     }
 
     /// Returns the number of statements.
@@ -109,7 +100,7 @@ impl<'a, A: Allocator> Database<'a, A> {
         ensures counted { self.now.statements ≡ counted self.now.with_open self.now.read }
         ensures complete { AreComplete self.now.statements }
     {
-        self.outlines.len() as u32
+        self.read.outlines.len() as u32
     }
 
     /// Returns which of the nine shapes a statement has. An open theorem has the kind of an axiom,
@@ -118,7 +109,7 @@ impl<'a, A: Allocator> Database<'a, A> {
         requires { statement < length self.now.statements }
         ensures { option_map kind_of (slice_get self.now.statements statement) ≡ Some result }
     {
-        self.kinds[statement as usize]
+        self.found.listed.kinds[statement as usize]
     }
 
     /// Whether there is such a statement and it is an open theorem that counts as an axiom.
@@ -129,7 +120,7 @@ impl<'a, A: Allocator> Database<'a, A> {
         if statement >= self.len() {
             return false;
         }
-        let outline = self.outlines[statement as usize];
+        let outline = self.read.outlines[statement as usize];
         counts_otherwise(outline.kind, self.kind(statement))
     }
 
@@ -138,7 +129,7 @@ impl<'a, A: Allocator> Database<'a, A> {
         requires { statement < length self.now.statements }
         ensures { option_map last_place (slice_get self.now.statements statement) ≡ Some result }
     {
-        let kept = self.kept.of(statement);
+        let kept = self.found.kept.of(statement);
         kept[kept.len() - 1].start
     }
 
@@ -149,9 +140,9 @@ impl<'a, A: Allocator> Database<'a, A> {
             ≡ option_map (λ t. t.word)
             (option_and_then label_of (slice_get self.now.statements statement)) }
     {
-        let outline = self.outlines[statement as usize];
+        let outline = self.read.outlines[statement as usize];
         if has_label(outline.kind) {
-            let word = self.kept.of(statement)[0];
+            let word = self.found.kept.of(statement)[0];
             Some(word.bytes(self.text))
         } else {
             None
@@ -172,7 +163,8 @@ impl<'a, A: Allocator> Database<'a, A> {
             ((j : ℕ)
             → list_any (is_labelled label.now) (statement_at self.now.statements j) ≡ false) }
     {
-        self.labels.get(Name { bytes: label }).copied()
+        let names = &self.read.scope.names;
+        names.labels.get(Name { bytes: label }).copied()
     }
 
     /// Returns the symbols of a statement, the typecode first if it has one. A `${` or `$}` has no
@@ -182,9 +174,9 @@ impl<'a, A: Allocator> Database<'a, A> {
         ensures formula { result.now ≡ formula_at self.now.statements statement }
         ensures known { All (λ s. s < length (symbol_names self.now.statements)) result.now }
     {
-        let from = self.places[statement as usize] as usize;
-        let to = self.places[statement as usize + 1] as usize;
-        &self.numbers[from..to]
+        let from = self.read.formulas.places[statement as usize] as usize;
+        let to = self.read.formulas.places[statement as usize + 1] as usize;
+        &self.read.formulas.numbers[from..to]
     }
 
     /// Returns the typecode of a `$f`, `$e`, `$a` or `$p`, and `None` for other statements.
@@ -204,7 +196,7 @@ impl<'a, A: Allocator> Database<'a, A> {
     pub fn symbol_count(&self) -> u32
         ensures count { result ≡ length (symbol_names self.now.statements) }
     {
-        self.variables.len() as u32
+        self.found.variables.len() as u32
     }
 
     /// Returns the name of a symbol.
@@ -212,7 +204,8 @@ impl<'a, A: Allocator> Database<'a, A> {
         requires { symbol < length (symbol_names self.now.statements) }
         ensures { slice_get (symbol_names self.now.statements) symbol ≡ Some result.now }
     {
-        match self.symbols.get_index(symbol.number() as usize) {
+        let names = &self.read.scope.names;
+        match names.symbols.get_index(symbol.number() as usize) {
             Some((name, _)) => name.bytes,
             None => unreachable!("each symbol has a name"),
         }
@@ -223,7 +216,7 @@ impl<'a, A: Allocator> Database<'a, A> {
         requires { symbol < length (symbol_names self.now.statements) }
         ensures { result ≡ is_variable_number self.now.statements symbol }
     {
-        self.variables[symbol.number() as usize]
+        self.found.variables[symbol.number() as usize]
     }
 
     /// Whether a statement is active at the statement `at`, or at the end, which is `len()`. A `${`
@@ -233,8 +226,8 @@ impl<'a, A: Allocator> Database<'a, A> {
         requires at { at ≤ length self.now.statements }
         ensures { result ≡ is_active self.now.statements statement at }
     {
-        let kind = self.outlines[statement as usize].kind;
-        statement < at && is_active_kind(kind, self.blocks.is_open_at(statement, at))
+        let kind = self.read.outlines[statement as usize].kind;
+        statement < at && is_active_kind(kind, self.read.scope.blocks.is_open_at(statement, at))
     }
 
     /// Returns the frame of an assertion.
@@ -245,8 +238,8 @@ impl<'a, A: Allocator> Database<'a, A> {
         ensures pairs { map (λ p. pair p.0 p.1) result.now.pairs.items
             ≡ mandatory_pairs self.now.statements assertion }
     {
-        let place = self.frames.places[assertion as usize];
-        &self.frames.list[place as usize]
+        let place = self.found.beside.frames.places[assertion as usize];
+        &self.found.beside.frames.list[place as usize]
     }
 
     /// Whether a `$d` that is active at the statement, or at the end, has both variables. Always
@@ -257,7 +250,13 @@ impl<'a, A: Allocator> Database<'a, A> {
     {
         x.number() != y.number()
             && (are_together_near(self, statement, x, y)
-                || are_together(&self.blocks, &self.disjoint_index, x, y, statement))
+                || are_together(
+                    &self.read.scope.blocks,
+                    &self.found.beside.disjoint_index,
+                    x,
+                    y,
+                    statement,
+                ))
     }
 
     /// Returns the words of a theorem's proof, those after its `$=`, and no words if the statement
@@ -268,10 +267,10 @@ impl<'a, A: Allocator> Database<'a, A> {
             ≡ Some (as_tokens self.now.text result.now) }
         ensures within { AreWithin self.now.text result.now }
     {
-        let outline = self.outlines[statement as usize];
+        let outline = self.read.outlines[statement as usize];
         match self.kind(statement) {
             Kind::Theorem => {
-                let kept = self.kept.of(statement);
+                let kept = self.found.kept.of(statement);
                 &kept[1..kept.len() - 1]
             }
             _ => &[],
@@ -284,7 +283,7 @@ impl<'a, A: Allocator> Database<'a, A> {
         ensures theorems { result.now ≡ theorems self.now.statements }
         ensures few { length self.now.statements < 2 ^ 31 }
     {
-        self.theorems.as_slice()
+        self.found.listed.theorems.as_slice()
     }
 
     /// Returns the axioms, in file order: the `$a` statements, and open theorems if these count as
@@ -293,7 +292,7 @@ impl<'a, A: Allocator> Database<'a, A> {
         ensures axioms { result.now ≡ columns self.now.statements None }
         ensures few { length self.now.statements < 2 ^ 31 }
     {
-        self.axioms.as_slice()
+        self.found.listed.axioms.as_slice()
     }
 
     /// Returns the labels of the theorems with indices in `theorems` from `from` up to `to`, each
@@ -305,9 +304,9 @@ impl<'a, A: Allocator> Database<'a, A> {
             ≡ flat_map (λ k. 32 ∷ label_at self.now.statements k)
             (slice_range (theorems self.now.statements) from to) }
     {
-        let begin = self.spaced.starts[from as usize];
-        let end = self.spaced.starts[to as usize];
-        &self.spaced.bytes[begin..end]
+        let begin = self.found.listed.spaced.starts[from as usize];
+        let end = self.found.listed.spaced.starts[to as usize];
+        &self.found.listed.spaced.bytes[begin..end]
     }
 }
 

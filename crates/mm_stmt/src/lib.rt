@@ -6,8 +6,10 @@
 #![tactic(auto)]
 
 mod database;
+mod found;
 mod kept;
 mod kinds;
+mod listed;
 mod near;
 mod reader;
 mod spaced;

@@ -6,11 +6,7 @@ ghost use Rattle.mm_spec.specs.Opened.{counted};
 ghost use Rattle.mm_spec.specs.Output.{IsRead, lexed_of};
 
 use crate::database::Database;
-use crate::kept::keep_all;
-use crate::kinds::{axioms_of, kinds_of, theorems_of};
-use crate::spaced::spaced_labels_of;
-use mm_frame::frames::gather;
-use mm_frame::tables::Tables;
+use crate::found::found_in;
 use mm_scope::reading::outline;
 use mm_spec::Lexed;
 use std::alloc::{AllocError, Allocator};
@@ -34,46 +30,13 @@ pub fn read<'a, A: Allocator + Copy>(
     ensures counted { IfOk result
         (λ database. database.statements ≡ counted with_open database.read) }
 {
-    let words = lexed.tokens;
-    let read = outline(alloc, text, &words, lexed.fault)?;
-    let names = read.scope.names;
-    let blocks = read.scope.blocks;
-    let variables = names.variables(alloc)?;
-    let beside = gather(
-        alloc,
-        &Tables::new(
-            text,
-            &words,
-            &read.outlines,
-            &blocks,
-            &read.formulas.numbers,
-            &read.formulas.places,
-            &variables,
-        ),
-        &blocks,
-    )?;
-    let kinds = kinds_of(alloc, text, &words, &read.outlines, with_open)?;
-    let theorems = theorems_of(alloc, &kinds)?;
-    let axioms = axioms_of(alloc, &kinds)?;
-    let spaced = spaced_labels_of(alloc, text, &words, &read.outlines, &theorems)?;
-    let kept = keep_all(alloc, &words, &read.outlines)?;
+    let tokens = lexed.tokens.as_slice();
+    let read = outline(alloc, text, tokens, lexed.fault)?;
+    let found = found_in(alloc, text, tokens, &read, with_open)?;
     Ok(Database {
         text,
-        kept,
-        outlines: read.outlines,
         with_open,
-        fault: read.fault,
-        blocks,
-        labels: names.labels,
-        symbols: names.symbols,
-        variables,
-        numbers: read.formulas.numbers,
-        places: read.formulas.places,
-        frames: beside.frames,
-        disjoint_index: beside.disjoint_index,
-        kinds,
-        theorems,
-        axioms,
-        spaced,
+        read,
+        found,
     })
 }

@@ -2,7 +2,7 @@
 
 ghost use Rattle.std.specs.Prelude.{◌≡◌, ◌<◌, ◌≤◌, ◌-◌, All, IfOk, IsTrue, length, map};
 ghost use Rattle.mm_spec.specs.Output.{is_theorem_at, label_at};
-ghost use Rattle.mm_outline.specs.Parts.{AreWithin, IsOutline, token_at};
+ghost use Rattle.mm_outline.specs.Parts.{AreWithin, IsOutline};
 ghost use Rattle.mm_outline.specs.Statements.{statements};
 ghost use Rattle.mm_stmt.specs.Spaced.{AreSpaced};
 
@@ -19,13 +19,15 @@ pub struct SpacedLabels<A: Allocator> {
     pub starts: Vec<usize, A>,
 }
 
-/// Returns the label of a statement that has one.
-fn label_of<'a>(text: &'a [u8], tokens: &[Word], outline: Outline) -> &'a [u8]
+/// Returns the label of a theorem.
+fn label_of<'a>(text: &'a [u8], tokens: &[Word], outlines: &[Outline], theorem: u32) -> &'a [u8]
     requires words { AreWithin text.now tokens.now }
-    requires label { 0 < outline.keyword }
-    requires within { outline.keyword ≤ length tokens.now }
-    ensures { result.now ≡ (token_at text.now tokens.now (outline.keyword - 1)).word }
+    requires outlines { All (λ o. IsOutline o × (o.end < length tokens.now)) outlines.now }
+    requires theorem { IsTrue
+        (is_theorem_at (statements text.now tokens.now outlines.now) theorem) }
+    ensures { result.now ≡ label_at (statements text.now tokens.now outlines.now) theorem }
 {
+    let outline = outlines[theorem as usize];
     let word = tokens[outline.keyword as usize - 1];
     word.bytes(text)
 }
@@ -53,7 +55,7 @@ pub fn spaced_labels_of<A: Allocator + Copy>(
     for theorem in theorems {
         starts.push(bytes.len())?;
         bytes.push(b' ')?;
-        bytes.extend_from_slice(label_of(text, tokens, outlines[*theorem as usize]))?;
+        bytes.extend_from_slice(label_of(text, tokens, outlines, *theorem))?;
     }
     starts.push(bytes.len())?;
     Ok(SpacedLabels { bytes, starts })

@@ -27,7 +27,6 @@ pub(crate) struct IndexedFault {
 }
 
 /// What a worker found.
-#[derive(Drop)]
 pub(crate) struct Findings<A: Allocator> {
     /// The indices of the theorems whose proofs are valid, in the order in which they were checked.
     pub valid: Vec<u32, A>,
@@ -38,6 +37,18 @@ pub(crate) struct Findings<A: Allocator> {
     pub faulty: Option<IndexedFault>,
     /// Whether the worker ran out of memory. Then the other fields are meaningless.
     pub short_of_memory: bool,
+}
+
+/// Lets all fields go in one call, so that a proof has one step for it at each exit.
+impl<A: Allocator> Drop for Findings<A> {
+    fn drop(self) {
+        let Self {
+            valid: _,
+            cites: _,
+            faulty: _,
+            short_of_memory: _,
+        } = self;
+    }
 }
 
 impl<A: Allocator> Findings<A> {

@@ -3,7 +3,7 @@
 ghost use Rattle.std.specs.Prelude.{◌≡◌, [], IfSome, IsTrue};
 ghost use Rattle.mm_spec.specs.Citation.{steps_at, reading_faults_at};
 ghost use Rattle.mm_spec.specs.Output.{is_theorem_at};
-ghost use Rattle.mm_proof.specs.Read.{read};
+ghost use Rattle.mm_steps.specs.Read.{read};
 
 use super::{MOST, met};
 use crate::calls::{all_checked, checked, checked_by};

@@ -1,5 +1,4 @@
 use Rattle.std.proofs.Common.{◌≡◌, map, take}
-use Rattle.mm_outline.specs.Statements.{statements}
 use Rattle.mm_stmt.specs.Database.{kind_of, held}
 use Rattle.mm_stmt.proofs.kinds.kinds_of.Given as goal
 

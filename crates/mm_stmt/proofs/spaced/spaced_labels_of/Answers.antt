@@ -1,12 +1,20 @@
-use Rattle.std.proofs.Common.{◌≡◌, ◌∙◌, ◌+◌, ◌++◌, ◌∷◌, [], length, map, take, get_or, sym, ap}
+use Rattle.std.proofs.Common.{◌≡◌, ◌∙◌, ◌+◌, ◌++◌, ◌∷◌, [], length, map, take, get_or, ap}
 use Rattle.std.proofs.Common.{arith, append_assoc}
 use Rattle.std.proofs.lemmas.List.{take_more, map-append}
 use Rattle.mm_spec.specs.Output.{label_at}
-use Rattle.mm_outline.specs.Parts.{outline}
 use Rattle.mm_outline.specs.Statements.{statements}
-use Rattle.mm_outline.specs.declared.parts.Kind.TheVariants.{Constants}
-use Rattle.mm_stmt.proofs.SpacedLaw.{spaced_more, theorem_label}
+use Rattle.mm_stmt.proofs.SpacedLaw.{spaced_more}
 use Rattle.mm_stmt.proofs.spaced.spaced_labels_of.Goals as goal
+
+pub label_of-requires-clause-words : goal.label_of-requires-clause-words
+label_of-requires-clause-words g c = c.requires.words
+
+pub label_of-requires-clause-outlines : goal.label_of-requires-clause-outlines
+label_of-requires-clause-outlines g c = c.requires.outlines
+
+pub label_of-requires-clause-theorem : goal.label_of-requires-clause-theorem
+label_of-requires-clause-theorem g c =
+    c.requires.theorems c.loop-theorem.theorem-index 0 (omega arith)
 
 pub loop-theorem-preserved : goal.loop-theorem-preserved
 loop-theorem-preserved g c =
@@ -22,10 +30,7 @@ loop-theorem-preserved g c =
     let starts = c.loop-theorem.starts.items in
     let more : map name (take (i + 1) ks) ≡ before ++ name k ∷ [] =
     ap (map name) (take_more ks i 0 (omega arith)) ∙ map-append name (take i ks) (k ∷ []) in
-    let label : c.label_of.result.now ≡ name k =
-    c.label_of.ensures
-    ∙ sym (theorem_label text ws os k (outline Constants 0 0 0)
-    (c.requires.theorems i 0 (omega arith))) in
+    let label : c.label_of.result.now ≡ name k = c.label_of.ensures in
     let longer : c.extend_from_slice.new.self.items ≡ bytes ++ 32 ∷ name k =
     c.in_ok-extend_from_slice.ensures.items
     ∙ ap (λ l. l ++ c.label_of.result.now) c.in_ok-push-2.ensures.items

@@ -18,18 +18,18 @@ returns-then-statement-at g c =
     let f = c.self.inside in
     let text = f.text.now in
     let ws = words_of f.text.now in
-    let os = f.outlines.items in
+    let os = f.read.outlines.items in
     let j = c.args.statement in
     let k = c.args.at in
     let o = c.index.result.now in
-    let b = lists f.blocks.of.items f.blocks.ends.items f.blocks.open.items in
+    let b = lists f.read.scope.blocks.of.items f.read.scope.blocks.ends.items f.read.scope.blocks.open.items in
     let count : length (held text ws os f.with_open) ≡ length os =
     counted_length f.with_open (statements text ws os) ∙ length-map os (statement_of text ws) in
     let within : k ≤ length os =
     subst (λ n. k ≤ n) count
     (subst (λ n. k ≤ length n.statements) (sym c.self.view_is) c.requires.at) in
     let there : j < length os =
-    has_outline text ws os f.with_open f.fault _ c.self.view_is j c.requires.statement in
+    has_outline text ws os f.with_open f.read.fault _ c.self.view_is j c.requires.statement in
     let law = active_is text ws os b c.self.invariant.blocks j k there within o in
     let test : (nat_lt j k && active_kind (get_or os j o).kind (nat_le k (end_of b j)))
     ≡ active_kind o.kind (nat_le k (end_of b j)) =

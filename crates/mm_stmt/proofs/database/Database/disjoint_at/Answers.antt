@@ -14,8 +14,8 @@ use Rattle.mm_stmt.proofs.database.Database.disjoint_at.Goals as goal
 pub returns-else-are_together_near : goal.returns-else-are_together_near
 returns-else-are_together_near g c =
     let f = c.self.inside in
-    let db = held f.text.now (words_of f.text.now) f.outlines.items f.with_open in
-    let b = lists f.blocks.of.items f.blocks.ends.items f.blocks.open.items in
+    let db = held f.text.now (words_of f.text.now) f.read.outlines.items f.with_open in
+    let b = lists f.read.scope.blocks.of.items f.read.scope.blocks.ends.items f.read.scope.blocks.open.items in
     let k = c.args.statement in
     let x = c.args.x in
     let y = c.args.y in
@@ -26,8 +26,8 @@ returns-else-are_together_near g c =
     subst (λ (n : Contents). c.are_together.result ≡ disjoint_at n.statements k x y) c.self.view_is
     (together_is db b
     (blocks_held f.with_open
-    (statements f.text.now (words_of f.text.now) f.outlines.items) b c.self.invariant.blocks) k
-    within f.disjoint_index.pairs.items c.self.invariant.disjoint_index_is.are
+    (statements f.text.now (words_of f.text.now) f.read.outlines.items) b c.self.invariant.blocks) k
+    within f.found.beside.disjoint_index.pairs.items c.self.invariant.disjoint_index_is.are
     c.are_together.result x y
     c.are_together.ensures.found c.are_together.ensures.none
     ∙ sym (ap

@@ -14,32 +14,32 @@ pub of-kept-requires : goal.of-kept-requires
 of-kept-requires g c =
     let f = c.self.inside in
     let ws = words_of f.text.now in
-    let os = f.outlines.items in
+    let os = f.read.outlines.items in
     let k = c.args.statement in
     let there : k < length os =
-    has_outline f.text.now ws os f.with_open f.fault _ c.self.view_is k c.requires in
+    has_outline f.text.now ws os f.with_open f.read.fault _ c.self.view_is k c.requires in
     let kept = c.self.invariant.kept_are in
     record {
       inside =
-          (let n = kept_inside ws os f.kept.words.items f.kept.starts.items kept k there in
-          let m = f.kept.starts.ok.0 in omega (arith, n, m));
-      order = kept_order ws os f.kept.words.items f.kept.starts.items kept k there;
+          (let n = kept_inside ws os f.found.kept.words.items f.found.kept.starts.items kept k there in
+          let m = f.found.kept.starts.ok.0 in omega (arith, n, m));
+      order = kept_order ws os f.found.kept.words.items f.found.kept.starts.items kept k there;
       within =
-          (let n = kept_within ws os f.kept.words.items f.kept.starts.items kept k there in
-          let m = f.kept.words.ok.0 in omega (arith, n, m));
+          (let n = kept_within ws os f.found.kept.words.items f.found.kept.starts.items kept k there in
+          let m = f.found.kept.words.ok.0 in omega (arith, n, m));
     }
 
 pub overflow_sub-result : goal.overflow_sub-result
 overflow_sub-result g c =
     let f = c.self.inside in
     let ws = words_of f.text.now in
-    let os = f.outlines.items in
+    let os = f.read.outlines.items in
     let k = c.args.statement in
     let there : k < length os =
-    has_outline f.text.now ws os f.with_open f.fault _ c.self.view_is k c.requires in
+    has_outline f.text.now ws os f.with_open f.read.fault _ c.self.view_is k c.requires in
     let kept =
     c.of-kept.ensures
-    ∙ kept_at ws os f.kept.words.items f.kept.starts.items c.self.invariant.kept_are k there
+    ∙ kept_at ws os f.found.kept.words.items f.found.kept.starts.items c.self.invariant.kept_are k there
     (outline Constants 0 0 0) in
     kept_some ws (get_or os k (outline Constants 0 0 0)) c.of-kept.result.now kept
 
@@ -48,14 +48,14 @@ returns g c =
     let f = c.self.inside in
     let text = f.text.now in
     let ws = words_of text in
-    let os = f.outlines.items in
+    let os = f.read.outlines.items in
     let k = c.args.statement in
     let d = outline Constants 0 0 0 in
     let there : k < length os =
-    has_outline text ws os f.with_open f.fault _ c.self.view_is k c.requires in
+    has_outline text ws os f.with_open f.read.fault _ c.self.view_is k c.requires in
     let kept =
     c.of-kept.ensures
-    ∙ kept_at ws os f.kept.words.items f.kept.starts.items c.self.invariant.kept_are k there d in
+    ∙ kept_at ws os f.found.kept.words.items f.found.kept.starts.items c.self.invariant.kept_are k there d in
     let last =
     kept_last ws (get_or os k d) c.of-kept.result.now kept (record { start = 0; end = 0 }) in
     subst (λ (n : Contents). option_map last_place (slice_get n.statements k)
@@ -68,13 +68,13 @@ pub bounds-kept-kept : goal.bounds-kept-kept
 bounds-kept-kept g c =
     let f = c.self.inside in
     let ws = words_of f.text.now in
-    let os = f.outlines.items in
+    let os = f.read.outlines.items in
     let k = c.args.statement in
     let there : k < length os =
-    has_outline f.text.now ws os f.with_open f.fault _ c.self.view_is k c.requires in
+    has_outline f.text.now ws os f.with_open f.read.fault _ c.self.view_is k c.requires in
     let kept =
     c.of-kept.ensures
-    ∙ kept_at ws os f.kept.words.items f.kept.starts.items c.self.invariant.kept_are k there
+    ∙ kept_at ws os f.found.kept.words.items f.found.kept.starts.items c.self.invariant.kept_are k there
     (outline Constants 0 0 0) in
     let some = kept_some ws (get_or os k (outline Constants 0 0 0)) c.of-kept.result.now kept in
     omega (arith, some)

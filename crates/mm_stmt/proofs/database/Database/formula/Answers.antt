@@ -14,19 +14,19 @@ use Rattle.mm_stmt.proofs.database.Database.formula.Goals as goal
 pub returns-clause-known : goal.returns-clause-known
 returns-clause-known g c =
     let f = c.self.inside in
-    let db = held f.text.now (words_of f.text.now) f.outlines.items f.with_open in
-    let xs = f.numbers.items in
-    let ps = f.places.items in
+    let db = held f.text.now (words_of f.text.now) f.read.outlines.items f.with_open in
+    let xs = f.read.formulas.numbers.items in
+    let ps = f.read.formulas.places.items in
     let k = c.args.statement in
     let a = c.index.result.now in
     let b = c.index-2.result.now in
     let n = c.self.invariant.numbered in
-    let there : k < length f.outlines.items =
+    let there : k < length f.read.outlines.items =
     has_outline f.text.now
-    (words_of f.text.now) f.outlines.items f.with_open f.fault _ c.self.view_is k c.requires in
-    let count : length db ≡ length f.outlines.items =
-    counted_length f.with_open (statements f.text.now (words_of f.text.now) f.outlines.items)
-    ∙ length-map f.outlines.items (statement_of f.text.now (words_of f.text.now)) in
+    (words_of f.text.now) f.read.outlines.items f.with_open f.read.fault _ c.self.view_is k c.requires in
+    let count : length db ≡ length f.read.outlines.items =
+    counted_length f.with_open (statements f.text.now (words_of f.text.now) f.read.outlines.items)
+    ∙ length-map f.read.outlines.items (statement_of f.text.now (words_of f.text.now)) in
     let inside : k < length db = omega (arith, there, count) in
     let m = n.count in
     let first : get_or ps k 0 ≡ a =

@@ -14,10 +14,10 @@ use Rattle.mm_stmt.proofs.database.Database.frame.Goals as goal
 pub returns : goal.returns
 returns g c =
     let f = c.self.inside in
-    let db = held f.text.now (words_of f.text.now) f.outlines.items f.with_open in
+    let db = held f.text.now (words_of f.text.now) f.read.outlines.items f.with_open in
     let k = c.args.assertion in
-    let fs = f.frames.list.items in
-    let ps = f.frames.places.items in
+    let fs = f.found.beside.frames.list.items in
+    let ps = f.found.beside.frames.places.items in
     let frames = c.self.invariant.frames in
     let x = c.index.result.now in
     let is =

@@ -27,11 +27,11 @@ returns g c =
     let f = c.self.inside in
     let text = f.text.now in
     let ws = words_of f.text.now in
-    let os = f.outlines.items in
+    let os = f.read.outlines.items in
     let k = c.args.statement in
     let o = c.index-outline.result.now in
     let there : k < length os =
-    has_outline text ws os f.with_open f.fault _ c.self.view_is k
+    has_outline text ws os f.with_open f.read.fault _ c.self.view_is k
     (let l = c.if-statement-len.false in let n = c.len.ensures.len in omega (arith, l, n)) in
     let same : get_or os k o ≡ o = sym c.index-outline.ensures in
     let kind =

@@ -15,19 +15,19 @@ pub of-requires : goal.of-requires
 of-requires g c =
     let f = c.self.inside in
     let ws = words_of f.text.now in
-    let os = f.outlines.items in
+    let os = f.read.outlines.items in
     let k = c.args.statement in
     let there : k < length os =
-    has_outline f.text.now ws os f.with_open f.fault _ c.self.view_is k c.requires in
+    has_outline f.text.now ws os f.with_open f.read.fault _ c.self.view_is k c.requires in
     let kept = c.self.invariant.kept_are in
     record {
       inside =
-          (let n = kept_inside ws os f.kept.words.items f.kept.starts.items kept k there in
-          let m = f.kept.starts.ok.0 in omega (arith, n, m));
-      order = kept_order ws os f.kept.words.items f.kept.starts.items kept k there;
+          (let n = kept_inside ws os f.found.kept.words.items f.found.kept.starts.items kept k there in
+          let m = f.found.kept.starts.ok.0 in omega (arith, n, m));
+      order = kept_order ws os f.found.kept.words.items f.found.kept.starts.items kept k there;
       within =
-          (let n = kept_within ws os f.kept.words.items f.kept.starts.items kept k there in
-          let m = f.kept.words.ok.0 in omega (arith, n, m));
+          (let n = kept_within ws os f.found.kept.words.items f.found.kept.starts.items kept k there in
+          let m = f.found.kept.words.ok.0 in omega (arith, n, m));
     }
 
 pub returns-then-has_label : goal.returns-then-has_label
@@ -35,17 +35,17 @@ returns-then-has_label g c =
     let f = c.self.inside in
     let text = f.text.now in
     let ws = words_of text in
-    let os = f.outlines.items in
+    let os = f.read.outlines.items in
     let k = c.args.statement in
     let o = c.index-outline.result.now in
     let there : k < length os =
-    has_outline text ws os f.with_open f.fault _ c.self.view_is k c.requires in
+    has_outline text ws os f.with_open f.read.fault _ c.self.view_is k c.requires in
     let same : get_or os k o ≡ o = sym c.index-outline.ensures in
     let label : is_labelled_kind (get_or os k o).kind ≡ true =
     ap (λ x. is_labelled_kind x.kind) same ∙ sym c.has_label.ensures ∙ c.if-has_label.true in
     let kept =
     c.of.ensures
-    ∙ kept_at ws os f.kept.words.items f.kept.starts.items c.self.invariant.kept_are k there o in
+    ∙ kept_at ws os f.found.kept.words.items f.found.kept.starts.items c.self.invariant.kept_are k there o in
     let first =
     kept_label ws (get_or os k o) c.of.result.now kept label (record { start = 0; end = 0 }) in
     let w = get_or c.of.result.now 0 (record { start = 0; end = 0 }) in
@@ -63,11 +63,11 @@ returns-else-has_label g c =
     let f = c.self.inside in
     let text = f.text.now in
     let ws = words_of f.text.now in
-    let os = f.outlines.items in
+    let os = f.read.outlines.items in
     let k = c.args.statement in
     let o = c.index-outline.result.now in
     let there : k < length os =
-    has_outline text ws os f.with_open f.fault _ c.self.view_is k c.requires in
+    has_outline text ws os f.with_open f.read.fault _ c.self.view_is k c.requires in
     let same : get_or os k o ≡ o = sym c.index-outline.ensures in
     let label : is_labelled_kind o.kind ≡ false = sym c.has_label.ensures ∙ c.if-has_label.false in
     subst (λ (n : Contents). None
@@ -83,14 +83,14 @@ bounds-of-0 g c =
     let f = c.self.inside in
     let text = f.text.now in
     let ws = words_of text in
-    let os = f.outlines.items in
+    let os = f.read.outlines.items in
     let k = c.args.statement in
     let o = c.index-outline.result.now in
     let there : k < length os =
-    has_outline text ws os f.with_open f.fault _ c.self.view_is k c.requires in
+    has_outline text ws os f.with_open f.read.fault _ c.self.view_is k c.requires in
     let kept =
     c.of.ensures
-    ∙ kept_at ws os f.kept.words.items f.kept.starts.items c.self.invariant.kept_are k there o in
+    ∙ kept_at ws os f.found.kept.words.items f.found.kept.starts.items c.self.invariant.kept_are k there o in
     kept_some ws (get_or os k o) c.of.result.now kept
 
 pub bytes-requires-clause-order : goal.bytes-requires-clause-order
@@ -98,14 +98,14 @@ bytes-requires-clause-order g c =
     let f = c.self.inside in
     let text = f.text.now in
     let ws = words_of text in
-    let os = f.outlines.items in
+    let os = f.read.outlines.items in
     let k = c.args.statement in
     let o = c.index-outline.result.now in
     let there : k < length os =
-    has_outline text ws os f.with_open f.fault _ c.self.view_is k c.requires in
+    has_outline text ws os f.with_open f.read.fault _ c.self.view_is k c.requires in
     let kept =
     c.of.ensures
-    ∙ kept_at ws os f.kept.words.items f.kept.starts.items c.self.invariant.kept_are k there o in
+    ∙ kept_at ws os f.found.kept.words.items f.found.kept.starts.items c.self.invariant.kept_are k there o in
     let label : is_labelled_kind (get_or os k o).kind ≡ true =
     ap (λ x. is_labelled_kind x.kind) (sym c.index-outline.ensures) ∙ sym c.has_label.ensures
     ∙ c.if-has_label.true in
@@ -124,14 +124,14 @@ bytes-requires-clause-within g c =
     let f = c.self.inside in
     let text = f.text.now in
     let ws = words_of text in
-    let os = f.outlines.items in
+    let os = f.read.outlines.items in
     let k = c.args.statement in
     let o = c.index-outline.result.now in
     let there : k < length os =
-    has_outline text ws os f.with_open f.fault _ c.self.view_is k c.requires in
+    has_outline text ws os f.with_open f.read.fault _ c.self.view_is k c.requires in
     let kept =
     c.of.ensures
-    ∙ kept_at ws os f.kept.words.items f.kept.starts.items c.self.invariant.kept_are k there o in
+    ∙ kept_at ws os f.found.kept.words.items f.found.kept.starts.items c.self.invariant.kept_are k there o in
     let label : is_labelled_kind (get_or os k o).kind ≡ true =
     ap (λ x. is_labelled_kind x.kind) (sym c.index-outline.ensures) ∙ sym c.has_label.ensures
     ∙ c.if-has_label.true in

@@ -11,7 +11,7 @@ use Rattle.mm_stmt.proofs.database.Database.len.Goals as goal
 pub returns-clause-complete : goal.returns-clause-complete
 returns-clause-complete g c =
     let f = c.self.inside in
-    let db = statements f.text.now (words_of f.text.now) f.outlines.items in
+    let db = statements f.text.now (words_of f.text.now) f.read.outlines.items in
     subst (λ (n : Contents). AreComplete n.statements) c.self.view_is
     (counted_complete f.with_open db
-    (reads_complete (length f.text.now) (lexed_of f.text.now) db f.fault c.self.invariant.read))
+    (reads_complete (length f.text.now) (lexed_of f.text.now) db f.read.fault c.self.invariant.read))

@@ -7,7 +7,7 @@ use Rattle.mm_stmt.proofs.database.Database.name.Goals as goal
 
 pub returns : goal.returns
 returns g c =
-    let m = c.self.inside.symbols in
+    let m = c.self.inside.read.scope.names.symbols in
     ap (λ n. slice_get n c.args.symbol)
     (sym (c.self.invariant.symbols.names_are
     ∙ ap (λ (v : Contents). symbol_names v.statements) c.self.view_is))

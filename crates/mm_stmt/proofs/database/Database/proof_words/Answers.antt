@@ -1,4 +1,4 @@
-use Rattle.std.proofs.Common.{◌≡◌, ◌∙◌, ◌<◌, ◌≤◌, ◌-◌, ◌+◌, drop, length, get_or, true, [], Some}
+use Rattle.std.proofs.Common.{◌≡◌, ◌∙◌, ◌<◌, ◌≤◌, ◌-◌, ◌+◌, drop, length, get_or, true, Some}
 use Rattle.std.proofs.Common.{sym, ap, subst, slice_get, slice_range, arith}
 use Rattle.std.proofs.lemmas.List.Elements.{All-take, All-drop}
 use Rattle.std.specs.Option.{option_map}
@@ -17,19 +17,19 @@ pub of-kept-requires : goal.of-kept-requires
 of-kept-requires g c =
     let f = c.self.inside in
     let ws = words_of f.text.now in
-    let os = f.outlines.items in
+    let os = f.read.outlines.items in
     let k = c.args.statement in
     let there : k < length os =
-    has_outline f.text.now ws os f.with_open f.fault _ c.self.view_is k c.requires in
+    has_outline f.text.now ws os f.with_open f.read.fault _ c.self.view_is k c.requires in
     let kept = c.self.invariant.kept_are in
     record {
       inside =
-          (let n = kept_inside ws os f.kept.words.items f.kept.starts.items kept k there in
-          let m = f.kept.starts.ok.0 in omega (arith, n, m));
-      order = kept_order ws os f.kept.words.items f.kept.starts.items kept k there;
+          (let n = kept_inside ws os f.found.kept.words.items f.found.kept.starts.items kept k there in
+          let m = f.found.kept.starts.ok.0 in omega (arith, n, m));
+      order = kept_order ws os f.found.kept.words.items f.found.kept.starts.items kept k there;
       within =
-          (let n = kept_within ws os f.kept.words.items f.kept.starts.items kept k there in
-          let m = f.kept.words.ok.0 in omega (arith, n, m));
+          (let n = kept_within ws os f.found.kept.words.items f.found.kept.starts.items kept k there in
+          let m = f.found.kept.words.ok.0 in omega (arith, n, m));
     }
 
 pub overflow_sub-result : goal.overflow_sub-result
@@ -37,11 +37,11 @@ overflow_sub-result g c =
     let f = c.self.inside in
     let text = f.text.now in
     let ws = words_of text in
-    let os = f.outlines.items in
+    let os = f.read.outlines.items in
     let k = c.args.statement in
     let o = c.index-outline.result.now in
     let there : k < length os =
-    has_outline text ws os f.with_open f.fault _ c.self.view_is k c.requires in
+    has_outline text ws os f.with_open f.read.fault _ c.self.view_is k c.requires in
     let theorem : (get_or os k o).kind ≡ Theorem =
     theorem_outline text ws f.with_open os k o there
     (subst (λ (n : Contents). option_map kind_of (slice_get n.statements k) ≡ Some Theorem)
@@ -49,7 +49,7 @@ overflow_sub-result g c =
     let label : is_labelled_kind (get_or os k o).kind ≡ true = ap is_labelled_kind theorem in
     let kept =
     c.of-kept.ensures
-    ∙ kept_at ws os f.kept.words.items f.kept.starts.items c.self.invariant.kept_are k there o in
+    ∙ kept_at ws os f.found.kept.words.items f.found.kept.starts.items c.self.invariant.kept_are k there o in
     kept_some ws (get_or os k o) c.of-kept.result.now kept
 
 pub slice_bounds-result-count : goal.slice_bounds-result-count
@@ -57,11 +57,11 @@ slice_bounds-result-count g c =
     let f = c.self.inside in
     let text = f.text.now in
     let ws = words_of text in
-    let os = f.outlines.items in
+    let os = f.read.outlines.items in
     let k = c.args.statement in
     let o = c.index-outline.result.now in
     let there : k < length os =
-    has_outline text ws os f.with_open f.fault _ c.self.view_is k c.requires in
+    has_outline text ws os f.with_open f.read.fault _ c.self.view_is k c.requires in
     let theorem : (get_or os k o).kind ≡ Theorem =
     theorem_outline text ws f.with_open os k o there
     (subst (λ (n : Contents). option_map kind_of (slice_get n.statements k) ≡ Some Theorem)
@@ -69,7 +69,7 @@ slice_bounds-result-count g c =
     let label : is_labelled_kind (get_or os k o).kind ≡ true = ap is_labelled_kind theorem in
     let kept =
     c.of-kept.ensures
-    ∙ kept_at ws os f.kept.words.items f.kept.starts.items c.self.invariant.kept_are k there o in
+    ∙ kept_at ws os f.found.kept.words.items f.found.kept.starts.items c.self.invariant.kept_are k there o in
     let long = kept_long ws (get_or os k o) c.of-kept.result.now kept label in
     omega (arith, long)
 
@@ -78,11 +78,11 @@ slice_bounds-result-start g c =
     let f = c.self.inside in
     let text = f.text.now in
     let ws = words_of text in
-    let os = f.outlines.items in
+    let os = f.read.outlines.items in
     let k = c.args.statement in
     let o = c.index-outline.result.now in
     let there : k < length os =
-    has_outline text ws os f.with_open f.fault _ c.self.view_is k c.requires in
+    has_outline text ws os f.with_open f.read.fault _ c.self.view_is k c.requires in
     let theorem : (get_or os k o).kind ≡ Theorem =
     theorem_outline text ws f.with_open os k o there
     (subst (λ (n : Contents). option_map kind_of (slice_get n.statements k) ≡ Some Theorem)
@@ -90,7 +90,7 @@ slice_bounds-result-start g c =
     let label : is_labelled_kind (get_or os k o).kind ≡ true = ap is_labelled_kind theorem in
     let kept =
     c.of-kept.ensures
-    ∙ kept_at ws os f.kept.words.items f.kept.starts.items c.self.invariant.kept_are k there o in
+    ∙ kept_at ws os f.found.kept.words.items f.found.kept.starts.items c.self.invariant.kept_are k there o in
     let long = kept_long ws (get_or os k o) c.of-kept.result.now kept label in
     omega (arith, long)
 
@@ -99,11 +99,11 @@ returns-in-Theorem-clause-words g c =
     let f = c.self.inside in
     let text = f.text.now in
     let ws = words_of text in
-    let os = f.outlines.items in
+    let os = f.read.outlines.items in
     let k = c.args.statement in
     let o = c.index-outline.result.now in
     let there : k < length os =
-    has_outline text ws os f.with_open f.fault _ c.self.view_is k c.requires in
+    has_outline text ws os f.with_open f.read.fault _ c.self.view_is k c.requires in
     let theorem : (get_or os k o).kind ≡ Theorem =
     theorem_outline text ws f.with_open os k o there
     (subst (λ (n : Contents). option_map kind_of (slice_get n.statements k) ≡ Some Theorem)
@@ -114,7 +114,7 @@ returns-in-Theorem-clause-words g c =
     let label : is_labelled_kind (get_or os k o).kind ≡ true = ap is_labelled_kind theorem in
     let kept =
     c.of-kept.ensures
-    ∙ kept_at ws os f.kept.words.items f.kept.starts.items c.self.invariant.kept_are k there o in
+    ∙ kept_at ws os f.found.kept.words.items f.found.kept.starts.items c.self.invariant.kept_are k there o in
     let proof = kept_proof ws (get_or os k o) c.of-kept.result.now kept label in
     subst (λ (n : Contents). option_map proof_of (slice_get n.statements k)
     ≡ Some (as_tokens n.text
@@ -127,11 +127,11 @@ returns-in-Theorem-clause-within g c =
     let f = c.self.inside in
     let text = f.text.now in
     let ws = words_of text in
-    let os = f.outlines.items in
+    let os = f.read.outlines.items in
     let k = c.args.statement in
     let o = c.index-outline.result.now in
     let there : k < length os =
-    has_outline text ws os f.with_open f.fault _ c.self.view_is k c.requires in
+    has_outline text ws os f.with_open f.read.fault _ c.self.view_is k c.requires in
     let theorem : (get_or os k o).kind ≡ Theorem =
     theorem_outline text ws f.with_open os k o there
     (subst (λ (n : Contents). option_map kind_of (slice_get n.statements k) ≡ Some Theorem)
@@ -139,7 +139,7 @@ returns-in-Theorem-clause-within g c =
     let label : is_labelled_kind (get_or os k o).kind ≡ true = ap is_labelled_kind theorem in
     let kept =
     c.of-kept.ensures
-    ∙ kept_at ws os f.kept.words.items f.kept.starts.items c.self.invariant.kept_are k there o in
+    ∙ kept_at ws os f.found.kept.words.items f.found.kept.starts.items c.self.invariant.kept_are k there o in
     let proof = kept_proof ws (get_or os k o) c.of-kept.result.now kept label in
     let x = get_or os k o in
     subst (λ (n : Contents). AreWithin n.text

@@ -1,7 +1,6 @@
 use Rattle.std.proofs.Common.{◌≡◌, ◌∙◌, ◌≤◌, length, slice_range, flat_map, ◌∷◌, sym, ap, subst}
 use Rattle.mm_spec.specs.Lexed.{tokens_of as words_of}
 use Rattle.mm_spec.specs.Output.{theorems, label_at}
-use Rattle.mm_outline.specs.Statements.{statements}
 use Rattle.mm_stmt.specs.Database.{held, Contents}
 use Rattle.mm_stmt.proofs.SpacedLaw.{theorems_between}
 use Rattle.mm_stmt.proofs.database.Database.spaced_labels.Goals as goal
@@ -13,8 +12,8 @@ slice_bounds-result-count g c =
     subst (λ (n : Contents). c.args.to ≤ length (theorems n.statements))
     (sym c.self.view_is) c.requires.within in
     (theorems_between
-    (held f.text.now (words_of f.text.now) f.outlines.items f.with_open) f.spaced.bytes.items
-    f.spaced.starts.items c.self.invariant.spaced c.args.from c.args.to _ _ c.requires.order
+    (held f.text.now (words_of f.text.now) f.read.outlines.items f.with_open) f.found.listed.spaced.bytes.items
+    f.found.listed.spaced.starts.items c.self.invariant.spaced c.args.from c.args.to _ _ c.requires.order
     within c.index-begin.ensures c.index-end.ensures).order
 
 pub slice_bounds-result-start : goal.slice_bounds-result-start
@@ -28,8 +27,8 @@ slice_bounds-result-end g c =
     (sym c.self.view_is) c.requires.within in
     let are =
     theorems_between
-    (held f.text.now (words_of f.text.now) f.outlines.items f.with_open) f.spaced.bytes.items
-    f.spaced.starts.items c.self.invariant.spaced c.args.from c.args.to _ _ c.requires.order within
+    (held f.text.now (words_of f.text.now) f.read.outlines.items f.with_open) f.found.listed.spaced.bytes.items
+    f.found.listed.spaced.starts.items c.self.invariant.spaced c.args.from c.args.to _ _ c.requires.order within
     c.index-begin.ensures c.index-end.ensures in
     subst (λ l. c.index-end.result.now ≤ length l) (sym c.deref.ensures.value) are.within
 
@@ -41,8 +40,8 @@ returns g c =
     (sym c.self.view_is) c.requires.within in
     let are =
     theorems_between
-    (held f.text.now (words_of f.text.now) f.outlines.items f.with_open) f.spaced.bytes.items
-    f.spaced.starts.items c.self.invariant.spaced c.args.from c.args.to _ _ c.requires.order within
+    (held f.text.now (words_of f.text.now) f.read.outlines.items f.with_open) f.found.listed.spaced.bytes.items
+    f.found.listed.spaced.starts.items c.self.invariant.spaced c.args.from c.args.to _ _ c.requires.order within
     c.index-begin.ensures c.index-end.ensures in
     subst (λ
     (n : Contents). slice_range c.deref.result.now c.index-begin.result.now c.index-end.result.now

@@ -1,5 +1,0 @@
-use Rattle.mm_laws.proofs.SomeOutputLaw.{cells_decided}
-use Rattle.mm_laws.proofs.cells_are_decided.Goals as goal
-
-pub returns : goal.returns
-returns c = cells_decided

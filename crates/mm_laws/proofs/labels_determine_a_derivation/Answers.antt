@@ -1,5 +1,0 @@
-use Rattle.mm_laws.proofs.TheoremLaw.{labels_determine, one_proof}
-use Rattle.mm_laws.proofs.labels_determine_a_derivation.Goals as goal
-
-pub returns : goal.returns
-returns c = record { labels = labels_determine; proof = one_proof }

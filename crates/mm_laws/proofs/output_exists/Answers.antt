@@ -1,5 +1,0 @@
-use Rattle.mm_laws.proofs.SomeOutputLaw.{output_exists}
-use Rattle.mm_laws.proofs.output_exists.Goals as goal
-
-pub returns : goal.returns
-returns c = output_exists

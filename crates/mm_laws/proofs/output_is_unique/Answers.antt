@@ -1,5 +1,0 @@
-use Rattle.mm_laws.proofs.OneOutputLaw.{output_unique}
-use Rattle.mm_laws.proofs.output_is_unique.Goals as goal
-
-pub returns : goal.returns
-returns c = output_unique

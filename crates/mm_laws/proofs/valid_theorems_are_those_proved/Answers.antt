@@ -1,5 +1,0 @@
-use Rattle.mm_laws.proofs.MeaningLaw.{valid_on_the_meaning}
-use Rattle.mm_laws.proofs.valid_theorems_are_those_proved.Goals as goal
-
-pub returns : goal.returns
-returns c = valid_on_the_meaning

@@ -1,5 +1,0 @@
-use Rattle.mm_laws.proofs.WellSpelledLaw.{compressed_exact, normal_exact}
-use Rattle.mm_laws.proofs.well_formed_proofs_are_read.Goals as goal
-
-pub returns : goal.returns
-returns c = record { compressed = compressed_exact; normal = normal_exact }

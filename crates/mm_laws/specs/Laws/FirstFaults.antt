@@ -1,0 +1,11 @@
+-- A text has a first fault or none. (This project's own.)
+use Rattle.std.specs.Prelude.{ℕ, Bool, List, ◌⊎◌}
+use Rattle.mm_spec.specs.declared.Fault.{Fault}
+use Rattle.mm_spec.specs.Statement.{Statement}
+use Rattle.mm_spec.specs.Output.{LexedText, FirstFault, HasNoFault}
+
+-- the text has a first fault, or none at all
+abbrev pub IsSoundOrFaulty : ℕ → LexedText → (with_open : Bool) → Type 0
+IsSoundOrFaulty len x with_open =
+    ((f : Fault) × FirstFault len x with_open f)
+    ⊎ ((db : List Statement) × HasNoFault len x with_open db)

@@ -1,0 +1,50 @@
+-- What it is for a theorem to be proved, by the words of its proof. (This project's own.)
+use Rattle.std.specs.Prelude.{◌≡◌, ◌≢◌, ◌↔◌, ℕ, List, [], ◌∷◌, Some, ◌⊎◌, IsTrue, slice_get, codes}
+use Rattle.std.specs.List.{AllZip}
+use Rattle.mm_spec.specs.Text.{Token}
+use Rattle.mm_spec.specs.Statement.{Statement, provable}
+use Rattle.mm_spec.specs.Derivation.{Trees}
+use Rattle.mm_spec.specs.Frame.{formula_at, mandatory_hypotheses}
+use Rattle.mm_spec.specs.Steps.{Step, label}
+use Rattle.mm_spec.specs.Proof.{steps}
+use Rattle.mm_spec.specs.Valid.{Derives}
+use Rattle.mm_laws.specs.Spelling.{IsUsable, IsWellSpelled, AreSteps}
+use Rattle.mm_spec.specs.Citation.{context_at, IsValid}
+use Rattle.mm_spec.specs.Output.{is_theorem_at}
+
+-- The words of a compressed proof are well formed, and say these steps: the labels in brackets are
+-- those of the statements js, and the steps are what the numbers name that the letters spell, given
+-- these statements and the mandatory hypotheses.
+pub record SaysCompressed (db : List Statement) (k : ℕ) (ts : List Token)
+    (ss : List Step) : Type 0 where
+  pub well_spelled : IsWellSpelled db k ts
+  pub js : List ℕ
+  pub labels : AllZip (λ t j. IsUsable db k t.word j) well_spelled.labels js
+  pub steps : AreSteps (mandatory_hypotheses db k) js well_spelled.items ss
+
+-- each word of a normal proof is a usable label and none is `?`, and the steps are the statements
+-- with these labels
+abbrev pub SaysNormal : List Statement → ℕ → List Token → List Step → Type 0
+SaysNormal db k ts ss =
+    AllZip (λ u s. (u.word ≢ codes "?") × ((j : ℕ) × (s ≡ label j) × IsUsable db k u.word j)) ts ss
+
+-- the words of a proof are well formed, and say these steps
+abbrev pub Says : List Statement → ℕ → List Token → List Step → Type 0
+Says db k [] ss = ⊥
+Says db k (t ∷ ts) ss = ((t.word ≡ codes "(") × SaysCompressed db k (t ∷ ts) ss)
+    ⊎ ((t.word ≢ codes "(") × SaysNormal db k (t ∷ ts) ss)
+
+-- the words of the proof of a theorem
+abbrev pub proof_words : List Statement → ℕ → List Token
+proof_words db k = elim (slice_get db k) [ Some (provable l p xs e ps d) ↦ ps | _ ↦ [] ]
+
+-- the words of its proof say steps that stand for a derivation of its formula
+pub record IsProved (db : List Statement) (k : ℕ) : Type 0 where
+  pub steps : List Step
+  pub said : Says db k (proof_words db k) steps
+  pub derivation : Trees
+  pub derives : Derives (context_at db k) steps (formula_at db k) derivation
+
+-- a theorem is valid exactly if this holds for it
+abbrev pub ValidOnTheMeaning : List Statement → ℕ → Type 0
+ValidOnTheMeaning db k = IsTrue (is_theorem_at db k) → IsValid db k ↔ IsProved db k

@@ -1,0 +1,18 @@
+//! Frames.
+
+ghost use Rattle.std.specs.Prelude.{ℕ};
+ghost use Rattle.mm_spec.specs.Output.{LexedText};
+ghost use Rattle.mm_spec.specs.Laws.Complete.{ReadsComplete};
+ghost use Rattle.mm_laws.specs.Laws.Read.{WhereRead};
+ghost use Rattle.mm_laws.specs.Laws.Frames.{VariablesAreTyped, VariablesAreMandatory};
+
+/// Each variable in the frame of an assertion that is read has a `$f` among the frame's mandatory
+/// hypotheses: lawful statements have an active `$f` for each variable of their formulas. The first
+/// clause says this of what a label stands for, where a hypothesis is recognised only by its form;
+/// the second says it of statements. The third says that the mandatory variables are the variables
+/// of the frame: those of the formula, of the mandatory hypotheses and of the mandatory pairs.
+pub fn lawful_statements_have_complete_frames()
+    ensures complete { (len : ℕ) (x : LexedText) → ReadsComplete len x }
+    ensures typed { WhereRead VariablesAreTyped }
+    ensures mandatory { WhereRead VariablesAreMandatory }
+{}

@@ -1,0 +1,18 @@
+//! The reading of a text, and its first fault.
+
+ghost use Rattle.std.specs.Prelude.{ℕ, Bool};
+ghost use Rattle.mm_spec.specs.Output.{LexedText};
+ghost use Rattle.mm_laws.specs.Laws.SomeReading.{IsReadable};
+ghost use Rattle.mm_laws.specs.Laws.FirstFaults.{IsSoundOrFaulty};
+
+/// Each text is read: it has lawful statements, and the fault that stops the reading after them, if
+/// there is one.
+pub fn every_text_is_read()
+    ensures { (len : ℕ) (x : LexedText) → IsReadable len x }
+{}
+
+/// Each text has a first fault, or it has none and all its proofs are valid. The same holds if open
+/// theorems count as axioms.
+pub fn texts_are_sound_or_faulty()
+    ensures { (len : ℕ) (x : LexedText) (with_open : Bool) → IsSoundOrFaulty len x with_open }
+{}

@@ -1,0 +1,22 @@
+//! The statements of a text, and their blocks.
+
+ghost use Rattle.std.specs.Prelude.{◌≡◌, ◌↔◌, ℕ, List, ◌≤◌, IsTrue};
+ghost use Rattle.mm_spec.specs.Text.{Token};
+ghost use Rattle.mm_spec.specs.Statement.{Statement, IsLongestRow};
+ghost use Rattle.mm_spec.specs.Scope.{stays};
+ghost use Rattle.mm_spec.specs.Laws.Table.{statements_of};
+ghost use Rattle.mm_spec.specs.Laws.Blocks.{InBlock};
+
+/// The statements of a text are the longest row of complete statements, without a `$}` too many, at
+/// the beginning of its tokens, and no other row is the longest.
+pub fn statements_are_the_longest_row()
+    ensures are { (tokens : List Token) → IsLongestRow tokens (statements_of tokens) }
+    ensures only { (tokens : List Token) (row : List Statement) → IsLongestRow tokens row
+        → row ≡ statements_of tokens }
+{}
+
+/// The block of statement j is open at a later statement k exactly if no statement after j, up to
+/// k, is less deep than j.
+pub fn a_block_is_open_where_none_is_less_deep()
+    ensures { (db : List Statement) (j k : ℕ) → j ≤ k → IsTrue (stays db j k) ↔ InBlock db j k }
+{}

@@ -1,0 +1,17 @@
+use Rattle.std.proofs.Common.{◌≤◌, ◌-◌, ◌*◌, map, min}
+use Rattle.std.specs.List.{range_with_len}
+use Rattle.std.specs.Int.{div_ceil}
+use Rattle.mm_report.specs.Sent.{Sent}
+use Rattle.mm_report.proofs.DigitLaw.{cell_text}
+use Rattle.mm_report.proofs.cells.send_cells.Given as goal
+
+abbrev pub invariant-loop-word : goal.invariant-loop-word
+invariant-loop-word g l = record {
+  within : l.word ≤ div_ceil l.matrix.columns 64;
+  sent : Sent (g.W.Write.contents l.fn.to) (g.W.Write.contents l.to) l.fn.sink l.sink
+      (map (cell_text l.matrix l.i)
+      (range_with_len 0 (min (64 * l.word) l.matrix.columns)));
+}
+
+abbrev pub decreases-loop-word : goal.decreases-loop-word
+decreases-loop-word g l = l.words - l.word

@@ -1,0 +1,54 @@
+use Rattle.std.proofs.Common.{◌≡◌, ◌++◌, ◌∷◌, [], ◌<◌, false, length, refl, sym, ap, ◌∙◌, arith}
+use Rattle.std.proofs.Common.{get_or, subst, length-append}
+use Rattle.std.proofs.lemmas.List.{get_or_default, length-map}
+use Rattle.mm_spec.specs.Steps.{placed}
+use Rattle.mm_steps.specs.declared.placed.Placed.{Placed}
+use Rattle.mm_steps.specs.declared.placed.Kind.TheVariants.{Marked}
+use Rattle.mm_steps.specs.Read.{read, step_of, IsEarlier}
+use Rattle.mm_steps.specs.Flags.{told, told_one, nothing}
+use Rattle.mm_steps.proofs.FlagsLaw.{flag_more, told_set, told_more}
+use Rattle.mm_steps.proofs.placed.Steps.push.Goals as goal
+
+pub invariant_of-self-in-Marked : goal.invariant_of-self-in-Marked
+invariant_of-self-in-Marked g c =
+    let ps = c.self.inside.steps.items in
+    let qs = c.push-in-Marked.new.self.items in
+    let j = c.in-Marked.number in
+    let now = c.index_mut.result.now in
+    let p : Placed = record { at = c.args.at; number = j; kind = Marked; is_marked = false } in
+    let more : qs ≡ ps ++ p ∷ [] = c.in_ok-push-in-Marked.ensures.items in
+    let early : j < length c.args.self.now.steps =
+    subst (λ s. IsEarlier (step_of s) (length c.args.self.now.steps)) c.in-Marked.is c.requires in
+    let long : length c.args.self.now.steps ≡ length ps =
+    ap (λ r. length r.steps) (sym c.self.view_is) ∙ length-map ps told_one in
+    let inside : j < length qs =
+    let n = ap length more in omega (arith, early, long, n, length-append ps (p ∷ [])) in
+    let there : now ≡ get_or qs j nothing =
+    c.index_mut.ensures.value ∙ sym (get_or_default qs j nothing now inside) in
+    flag_more ps qs p _ j c.self.invariant more refl refl (omega (arith, early, long))
+    (ap told_one there) refl
+
+pub returns-in_ok-push-in-Marked : goal.returns-in_ok-push-in-Marked
+returns-in_ok-push-in-Marked g c =
+    let ps = c.self.inside.steps.items in
+    let qs = c.push-in-Marked.new.self.items in
+    let j = c.in-Marked.number in
+    let now = c.index_mut.result.now in
+    let p : Placed = record { at = c.args.at; number = j; kind = Marked; is_marked = false } in
+    let more : qs ≡ ps ++ p ∷ [] = c.in_ok-push-in-Marked.ensures.items in
+    let early : j < length c.args.self.now.steps =
+    subst (λ s. IsEarlier (step_of s) (length c.args.self.now.steps)) c.in-Marked.is c.requires in
+    let long : length c.args.self.now.steps ≡ length ps =
+    ap (λ r. length r.steps) (sym c.self.view_is) ∙ length-map ps told_one in
+    let inside : j < length qs =
+    let n = ap length more in omega (arith, early, long, n, length-append ps (p ∷ [])) in
+    let there : now ≡ get_or qs j nothing =
+    c.index_mut.ensures.value ∙ sym (get_or_default qs j nothing now inside) in
+    record {
+      ok =
+          ap (read c.self.inside.theorem)
+          (told_set qs j _ (ap told_one there) ∙ ap told more ∙ told_more ps p
+          ∙ ap (λ s. told ps ++ placed c.args.at (step_of s) ∷ []) (sym c.in-Marked.is))
+          ∙ ap (λ r. read r.theorem (r.steps ++ placed c.args.at (step_of c.args.step) ∷ []))
+          c.self.view_is;
+    }

@@ -1,0 +1,27 @@
+-- The steps as they are stored.
+use Rattle.std.specs.Prelude.{ℕ, ◌≡◌, false, List, get_or, map}
+use Rattle.mm_spec.specs.Steps as spec
+use Rattle.mm_spec.specs.Steps.{PlacedStep, placed, label, marked}
+use Rattle.mm_steps.specs.declared.placed.Placed.{Placed}
+use Rattle.mm_steps.specs.declared.placed.Kind.{Kind}
+use Rattle.mm_steps.specs.declared.placed.Kind.TheVariants.{Label, Marked}
+use Rattle.mm_steps.specs.Read.{is_marked}
+
+abbrev pub step_by : Kind → ℕ → spec.Step
+step_by Label n = label n
+step_by Marked n = marked n
+
+abbrev pub told_one : Placed → PlacedStep
+told_one p = placed p.at (step_by p.kind p.number)
+
+-- the steps that the stored ones stand for
+abbrev pub told : List Placed → List PlacedStep
+told ps = map told_one ps
+
+-- no step
+abbrev pub nothing : Placed
+nothing = record { at = 0; number = 0; kind = Label; is_marked = false }
+
+-- each step's flag says whether the step is marked, and past the last step none is
+abbrev pub AreFlags : List Placed → Type 0
+AreFlags ps = (i : ℕ) → (get_or ps i nothing).is_marked ≡ is_marked (told ps) i

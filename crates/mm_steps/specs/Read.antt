@@ -1,0 +1,35 @@
+-- The steps of a proof that was read.
+use Rattle.std.specs.Prelude.{ℕ, ◌<◌, ◌==◌, Bool, false, List, get_or}
+use Rattle.std.specs.List.{list_any}
+use Rattle.mm_spec.specs.Steps as spec
+use Rattle.mm_spec.specs.Steps.{PlacedStep, placed, label, marked}
+use Rattle.mm_steps.specs.declared.placed.Step.{Step}
+use Rattle.mm_steps.specs.declared.placed.Step.TheVariants.{Label, Marked}
+
+pub record Read : Type 0 where
+  pub theorem : ℕ
+  pub steps : List PlacedStep
+
+abbrev pub read : ℕ → List PlacedStep → Read
+read t steps = record { theorem = t; steps = steps }
+
+abbrev pub step_of : Step → spec.Step
+step_of (Label k) = label k
+step_of (Marked j) = marked j
+
+abbrev pub step_at : List PlacedStep → ℕ → PlacedStep
+step_at steps i = get_or steps i (placed 0 (label 0))
+
+-- whether a step repeats the subproof that step `i` ended
+abbrev pub takes_up : ℕ → spec.Step → Bool
+takes_up i (label l) = false
+takes_up i (marked j) = i == j
+
+-- whether some step repeats the subproof that step `i` ended
+abbrev pub is_marked : List PlacedStep → ℕ → Bool
+is_marked steps i = list_any (λ s. takes_up i s.step) steps
+
+-- a marked step repeats the subproof of one of the `n` steps before it
+abbrev pub IsEarlier : spec.Step → ℕ → Type 0
+IsEarlier (label l) n = Unit {0}
+IsEarlier (marked j) n = j < n

@@ -1,0 +1,60 @@
+use Rattle.std.proofs.Common.{◌≡◌, ◌∙◌, ℕ, List, All, IsTrue, map, sym, ap, subst}
+use Rattle.mm_spec.specs.Output.{theorems, is_theorem_at, label_at}
+use Rattle.mm_spec.specs.Opened.{counted}
+use Rattle.mm_spec.proofs.OpenedLaw.{counted_label, theorem_still}
+use Rattle.mm_outline.specs.Statements.{statements}
+use Rattle.mm_stmt.specs.Spaced.{AreSpaced}
+use Rattle.mm_stmt.proofs.KindsLaw.{theorems_by_kind, axioms_by_kind, kinds_few}
+use Rattle.mm_stmt.proofs.SpacedLaw.{theorems_are}
+use Rattle.mm_stmt.proofs.listed.list_all.Goals as goal
+
+pub theorems_of-requires : goal.theorems_of-requires
+theorems_of-requires g c =
+    kinds_few c.args.text.now c.args.tokens.now c.args.outlines.now c.args.with_open
+    c.deref.result.now (c.deref.ensures.value ∙ c.in_ok-kinds.ensures) c.requires.few
+
+pub axioms_of-requires : goal.axioms_of-requires
+axioms_of-requires g c =
+    kinds_few c.args.text.now c.args.tokens.now c.args.outlines.now c.args.with_open
+    c.deref-2.result.now (c.deref-2.ensures.value ∙ c.in_ok-kinds.ensures) c.requires.few
+
+pub spaced_labels_of-requires-clause-theorems : goal.spaced_labels_of-requires-clause-theorems
+spaced_labels_of-requires-clause-theorems g c =
+    let w = c.args.with_open in
+    let db = statements c.args.text.now c.args.tokens.now c.args.outlines.now in
+    let listed =
+    c.deref-3.ensures.value ∙ c.in_ok-theorems.ensures
+    ∙ theorems_by_kind (counted w db) c.deref.result.now
+    (c.deref.ensures.value ∙ c.in_ok-kinds.ensures) in
+    subst (λ (ks : List ℕ). All (λ k. IsTrue (is_theorem_at db k)) ks) (sym listed)
+    (λ i d l. theorem_still w db _ (theorems_are (counted w db) i d l))
+
+pub returns-clause-theorems : goal.returns-clause-theorems
+returns-clause-theorems g c =
+    c.in_ok-theorems.ensures
+    ∙ theorems_by_kind
+    (counted c.args.with_open
+    (statements c.args.text.now c.args.tokens.now c.args.outlines.now)) c.deref.result.now
+    (c.deref.ensures.value ∙ c.in_ok-kinds.ensures)
+
+pub returns-clause-axioms : goal.returns-clause-axioms
+returns-clause-axioms g c =
+    c.in_ok-axioms.ensures
+    ∙ axioms_by_kind
+    (counted c.args.with_open
+    (statements c.args.text.now c.args.tokens.now c.args.outlines.now)) c.deref-2.result.now
+    (c.deref-2.ensures.value ∙ c.in_ok-kinds.ensures)
+
+pub returns-clause-spaced : goal.returns-clause-spaced
+returns-clause-spaced g c =
+    let w = c.args.with_open in
+    let db = statements c.args.text.now c.args.tokens.now c.args.outlines.now in
+    let spaced = c.in_ok-spaced.spaced in
+    let listed : c.deref-3.result.now ≡ theorems (counted w db) =
+    c.deref-3.ensures.value ∙ c.in_ok-theorems.ensures
+    ∙ theorems_by_kind (counted w db) c.deref.result.now
+    (c.deref.ensures.value ∙ c.in_ok-kinds.ensures) in
+    subst (λ (labels : List (List ℕ)). AreSpaced labels spaced.bytes.items spaced.starts.items)
+    (ap (map (label_at db)) listed
+    ∙ ap (λ (f : ℕ → List ℕ). map f (theorems (counted w db))) (sym (counted_label w db)))
+    c.in_ok-spaced.ensures
