@@ -1,7 +1,7 @@
 """What the page shows of a database beside marks and citations: formulas, hypotheses, comments, chapters and lines.
 
-The program has accepted the text before it is read here, so nothing is judged: every statement is whole, and each byte is
-white space or printable ASCII.
+The program has accepted the text before it is read here, so nothing is judged: every statement is whole, and each byte
+is white space or printable ASCII.
 """
 
 import re
@@ -15,8 +15,8 @@ HEADING = re.compile(
 )
 # Words that end in a full stop and seldom end a sentence.
 ABBREVIATIONS = frozenset(
-    "ax. ca. cf. ch. chap. cor. def. dr. e.g. eq. ex. fig. i.e. lem. no. p. pp. prop. ref. resp. sec. st. th. thm. thms. "
-    "viz. vol. vs.".split()
+    "ax. ca. cf. ch. chap. cor. def. dr. e.g. eq. ex. fig. i.e. lem. no. p. pp. prop. ref. resp. sec. st. th. thm. "
+    "thms. viz. vol. vs.".split()
 )
 SENTENCE_END = re.compile(r"[.!?][)\"'_]*$")
 # Control bytes, signs without width, marks of direction, and halves of signs.

@@ -49,10 +49,20 @@ class Numbers {
 
 /** All numbers of a block. */
 function numbersOf(block) {
-    const reader = new Numbers(block);
-    const numbers = [];
-    while (!reader.isOver) numbers.push(reader.next());
-    return Uint32Array.from(numbers);
+    let size = 0;
+    for (let place = 0; place < block.length; place++) size += block[place] < 0x80 ? 1 : 0;
+    const numbers = new Uint32Array(size);
+    let place = 0;
+    for (let index = 0; index < size; index++) {
+        let byte = block[place++];
+        let number = byte & 0x7f;
+        for (let shift = 7; byte >= 0x80; shift += 7) {
+            byte = block[place++];
+            number |= (byte & 0x7f) << shift;
+        }
+        numbers[index] = number;
+    }
+    return numbers;
 }
 
 /** Lists of numbers that stand one behind the other: list i is `items` from `starts[i]` to `starts[i + 1]`. */
@@ -66,24 +76,54 @@ class Lists {
         return this.items.subarray(this.starts[index], this.starts[index + 1]);
     }
 
-    lengthOf(index) {
-        return this.starts[index + 1] - this.starts[index];
-    }
-
     /** Lists of rising numbers, of which the lengths and the gaps are given. */
     static fromGaps(lengths, gaps) {
-        const sizes = numbersOf(lengths);
-        const starts = startsOf(sizes);
-        const items = new Uint32Array(starts[sizes.length]);
-        const reader = new Numbers(gaps);
-        for (let index = 0; index < sizes.length; index++) {
-            let expected = 0;
-            for (let place = starts[index]; place < starts[index + 1]; place++) {
-                items[place] = expected + reader.next();
-                expected = items[place] + 1;
-            }
+        const starts = startsOf(numbersOf(lengths));
+        const items = numbersOf(gaps);
+        for (let list = 0; list + 1 < starts.length; list++) {
+            for (let place = starts[list] + 1; place < starts[list + 1]; place++) items[place] += items[place - 1] + 1;
         }
         return new Lists(starts, items);
+    }
+}
+
+/** The lines of a text, cut out when they are asked for. */
+class Texts {
+    constructor(block, size) {
+        this.text = textOf(block);
+        this.size = size;
+        this.starts = new Uint32Array(size + 1);
+        let place = 0;
+        for (let line = 1; line < size; line++) {
+            place = this.text.indexOf("\n", place) + 1;
+            this.starts[line] = place;
+        }
+        this.starts[size] = this.text.length + 1;
+    }
+
+    at(line) {
+        return this.text.slice(this.starts[line], this.starts[line + 1] - 1);
+    }
+
+    /** The line in which a place of the text is; it isn't above a known one. */
+    lineAt(place, known = 0) {
+        let low = known;
+        let high = this.size;
+        while (high - low > 1) {
+            const middle = (low + high) >>> 1;
+            if (this.starts[middle] <= place) low = middle;
+            else high = middle;
+        }
+        return low;
+    }
+
+    /** The line that is just this text, or undefined. */
+    find(line) {
+        if (this.size === 0 || line.includes("\n")) return undefined;
+        if (this.at(0) === line) return 0;
+        if (this.text.endsWith(`\n${line}`)) return this.size - 1;
+        const place = this.text.indexOf(`\n${line}\n`) + 1;
+        return place === 0 ? undefined : this.lineAt(place);
     }
 }
 

@@ -44,18 +44,30 @@ class Elements {
 
     address(number) {
         const isTheorem = this.model.kinds[number] === Kind.theorem;
-        return `#${isTheorem ? "theorem" : "axiom"}=${this.model.labels[number]}`;
+        return `#${isTheorem ? "theorem" : "axiom"}=${this.model.labels.at(number)}`;
     }
 
     /** A link to an assertion, with the colour of its group. */
     link(number, attributes = {}) {
         const column = this.model.columnOf[number];
-        const group = column < 0 ? (this.model.rowOf[number] < 0 ? "none" : "theorem") : GROUPS[this.model.groupOf[column]].key;
+        const colour = column < 0 ? "" : ` of-${this.model.groupKey(column)}`;
         return element(
             "a",
-            { href: this.address(number), class: `label of-${group}`, ...attributes },
-            this.model.labels[number],
+            { href: this.address(number), class: `label${colour}`, ...attributes },
+            this.model.labels.at(number),
         );
+    }
+
+    /** A bar that shows a part of a whole. */
+    bar(part, whole, classes = "") {
+        const filled = element("span");
+        filled.style.width = `${(100 * part) / Math.max(1, whole)}%`;
+        return element("span", { class: `bar ${classes}` }, filled);
+    }
+
+    /** A small remark. */
+    hint(text, attributes = {}) {
+        return element("p", { class: "hint", ...attributes }, text);
     }
 
     /** A formula, its variables in the colours of their typecodes. */
@@ -96,7 +108,7 @@ class Elements {
                 }
             }
             if (words[index] === "~" && index + 1 < words.length) {
-                const number = this.model.numberOf.get(words[index + 1]);
+                const number = this.model.labels.find(words[index + 1]);
                 if (number !== undefined) {
                     put(this.link(number));
                     index++;
@@ -122,11 +134,11 @@ class Elements {
         else {
             given.forEach((index, place) => {
                 if (place > 0) made.append(element("span", { class: "sign" }, " & "));
-                made.append(this.formula(this.model.hypothesisFormulas[index]));
+                made.append(this.formula(this.model.hypothesisFormulas.at(index)));
             });
         }
         if (given.length > 0) made.append(element("span", { class: "sign" }, " => "));
-        const formula = this.formula(this.model.formulas[number]);
+        const formula = this.formula(this.model.formulas.at(number));
         formula.classList.add("said");
         made.append(formula);
         return made;
@@ -172,6 +184,13 @@ class Elements {
         return made;
     }
 
+    /** What can be opened, with a name and how many it has. */
+    foldOf(name, number, make, isOpen = false) {
+        const title = element("span", { class: "title" }, name);
+        const size = element("span", { class: "number" }, count(number));
+        return this.fold([title, " ", size], make, isOpen);
+    }
+
     /** Theorems by the chapters in which they are: a fold for each that has some. */
     byChapter(numbers) {
         const made = element("div", { class: "chapters" });
@@ -181,14 +200,12 @@ class Elements {
             while (to < numbers.length && numbers[to] < stretch.end) to++;
             if (to === from) continue;
             const part = numbers.slice(from, to);
-            const bar = element("span", { class: "bar" }, element("span", {}));
-            bar.firstChild.style.width = `${Math.max(1, (100 * part.length) / stretch.theorems)}%`;
             const title = [
                 element("span", { class: "path" }, ...stretch.path.slice(0, -1).map((name) => `${name} › `)),
                 element("span", { class: "title" }, stretch.title),
                 " ",
                 element("span", { class: "number" }, `${count(part.length)} of ${count(stretch.theorems)}`),
-                bar,
+                this.bar(part.length, stretch.theorems),
             ];
             made.append(this.fold(title, () => this.labels(part, 1000)));
             from = to;

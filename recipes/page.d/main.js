@@ -1,7 +1,7 @@
 // Starts the page, and shows the view that the address names.
 
 /** How many of what was found are shown. */
-const SHOWN = 40;
+const SHOWN = 30;
 
 class Page {
     constructor(model) {
@@ -9,7 +9,9 @@ class Page {
         this.main = document.getElementById("main");
         this.elements = new Elements(model);
         this.overview = new Overview(model, this.elements, (number) => this.go(number));
-        this.views = new Views(model, this.elements, this.overview.colours, (axiom, others) => this.keepTicks(axiom, others));
+        this.views = new Views(model, this.elements, this.overview.colours, (axiom, others) => {
+            this.keepTicks(axiom, others);
+        });
         this.input = document.getElementById("search");
         this.results = document.getElementById("results");
         this.found = document.getElementById("found");
@@ -24,7 +26,7 @@ class Page {
 
     /** Ticked axioms stand in the address, so that it can be passed on. */
     keepTicks(axiom, others) {
-        const more = others.length > 0 ? `&with=${others.map((number) => this.model.labels[number]).join(",")}` : "";
+        const more = others.length > 0 ? `&with=${others.map((number) => this.model.labels.at(number)).join(",")}` : "";
         history.replaceState(null, "", `${this.elements.address(axiom)}${more}`);
     }
 
@@ -33,11 +35,11 @@ class Page {
         const words = new URLSearchParams(window.location.hash.slice(1));
         const wanted = words.get("theorem") ?? words.get("axiom");
         if (wanted === null) return { number: null };
-        const number = this.model.numberOf.get(wanted);
+        const number = this.model.labels.find(wanted);
         if (number === undefined) return { wanted };
         const others = (words.get("with") ?? "")
             .split(",")
-            .map((label) => this.model.numberOf.get(label))
+            .map((label) => this.model.labels.find(label))
             .filter((other) => other !== undefined)
             .map((other) => this.model.columnOf[other])
             .filter((column) => column >= 0);
@@ -56,7 +58,7 @@ class Page {
             parts = this.overview.render();
         } else {
             parts = model.rowOf[number] >= 0 ? this.views.theorem(number) : this.views.axiom(number, others);
-            name = `${model.labels[number]} — ${name}`;
+            name = `${model.labels.at(number)} — ${name}`;
         }
         this.main.replaceChildren(...parts);
         this.main.setAttribute("aria-busy", "false");
@@ -70,7 +72,7 @@ class Page {
     notFound(wanted) {
         return [
             element("h1", { tabindex: -1 }, "Not found"),
-            element("p", {}, "This database has no theorem and no axiom with the label ", element("code", {}, wanted), "."),
+            element("p", {}, "This database has neither a theorem nor an axiom ", element("code", {}, wanted), "."),
             element("p", {}, element("a", { href: "#" }, "To the overview")),
         ];
     }
@@ -119,15 +121,17 @@ class Page {
         this.results.replaceChildren(...best.map((item, index) => this.result(item, index, words)));
         this.results.hidden = best.length === 0;
         this.input.setAttribute("aria-expanded", String(best.length > 0));
-        this.found.textContent =
-            words === "" ? "" : total > best.length ? `${count(total)} found, ${count(best.length)} shown` : `${count(total)} found`;
+        const more = total > best.length ? `, ${count(best.length)} shown` : "";
+        this.found.textContent = words === "" ? "" : `${count(total)} found${more}`;
         // Read by the test of the page.
         this.input.dataset.took = (performance.now() - began).toFixed(1);
     }
 
     result({ number, where }, index, words) {
-        const label = this.model.labels[number];
-        const text = where === "comment" ? this.model.comments[number] : this.model.formulas[number];
+        const label = this.model.labels.at(number);
+        const isLabel = where === "label";
+        const isComment = where === "comment";
+        const text = around((isComment ? this.model.comments : this.model.formulas).at(number), isLabel ? "" : words);
         return element(
             "li",
             {
@@ -138,9 +142,9 @@ class Page {
                 onclick: () => this.choose(index),
                 onpointermove: () => this.activate(index),
             },
-            element("span", { class: "label" }, ...marked(label, where === "label" ? words : "")),
+            element("span", { class: "label" }, ...marked(label, isLabel ? words : "")),
             element("span", { class: "kind" }, this.model.kindName(number).toLowerCase()),
-            element(where === "comment" ? "span" : "code", { class: "text" }, ...marked(text, where === "label" ? "" : words)),
+            element(isComment ? "span" : "code", { class: "text" }, ...marked(text, isLabel ? "" : words)),
         );
     }
 
@@ -193,15 +197,26 @@ class Page {
 
     fillFooter() {
         const { facts } = this.model;
-        const options = [facts.only && `--only ${facts.only}`, facts.essential && "--essential", facts.open !== null && "--open"];
+        const options = [];
+        if (facts.only) options.push(`--only ${facts.only}`);
+        if (facts.essential) options.push("--essential");
+        if (facts.open !== null) options.push("--open");
         document.getElementById("made").append(
             `Made by ${facts.maker} from ${facts.file}, ${counted(facts.bytes, "byte")}`,
-            options.some(Boolean) ? `, with ${options.filter(Boolean).join(" ")}` : "",
+            options.length > 0 ? `, with ${options.join(" ")}` : "",
             ". SHA-256 of the database: ",
             element("code", {}, facts.sha256),
             ".",
         );
     }
+}
+
+/** As much of a text as fits into a line, with the words that were found in it. */
+function around(text, words) {
+    const at = words === "" ? 0 : text.toLowerCase().indexOf(words);
+    const from = at > 50 ? at - 30 : 0;
+    const piece = text.slice(from, from + 200);
+    return `${from > 0 ? "…" : ""}${piece}${from + 200 < text.length ? "…" : ""}`;
 }
 
 /** A text in which the words that were found are marked. */

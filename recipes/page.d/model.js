@@ -19,13 +19,9 @@ class Model {
         this.facts = JSON.parse(textOf(blocks.get("facts")));
         this.kinds = blocks.get("kinds");
         this.size = this.kinds.length;
-        this.labelText = textOf(blocks.get("labels"));
-        this.formulaText = textOf(blocks.get("formulas"));
-        this.commentText = textOf(blocks.get("comments"));
-        this.labels = linesOf(this.labelText, this.size);
-        this.formulas = linesOf(this.formulaText, this.size);
-        this.comments = linesOf(this.commentText, this.size);
-        this.numberOf = new Map(this.labels.map((label, number) => [label, number]));
+        this.labels = new Texts(blocks.get("labels"), this.size);
+        this.formulas = new Texts(blocks.get("formulas"), this.size);
+        this.comments = new Texts(blocks.get("comments"), this.size);
         this.lines = numbersOf(blocks.get("lines"));
         for (let number = 1; number < this.size; number++) this.lines[number] += this.lines[number - 1];
         this.typecodeOf = new Map(this.facts.variables);
@@ -76,26 +72,19 @@ class Model {
     }
 
     readHypotheses(blocks) {
-        const formulas = textOf(blocks.get("hypothesis-formulas"));
-        this.hypothesisLabels = linesOf(textOf(blocks.get("hypothesis-labels")));
-        this.hypothesisFormulas = linesOf(formulas);
-        const sizes = numbersOf(blocks.get("hypothesis-lengths"));
-        const starts = startsOf(sizes);
-        const items = new Uint32Array(starts[sizes.length]);
-        const gaps = new Numbers(blocks.get("hypothesis-gaps"));
+        const starts = startsOf(numbersOf(blocks.get("hypothesis-lengths")));
+        const items = numbersOf(blocks.get("hypothesis-gaps"));
         let first = 0;
-        for (let index = 0; index < sizes.length; index++) {
+        for (let index = 0; index + 1 < starts.length; index++) {
             for (let place = starts[index]; place < starts[index + 1]; place++) {
-                const gap = gaps.next();
-                if (place > starts[index]) {
-                    items[place] = items[place - 1] + 1 + gap;
-                } else {
-                    first += gap % 2 ? -(gap + 1) / 2 : gap / 2;
-                    items[place] = first;
-                }
+                const gap = items[place];
+                if (place > starts[index]) items[place] = items[place - 1] + 1 + gap;
+                else items[place] = first += gap % 2 ? -(gap + 1) / 2 : gap / 2;
             }
         }
         this.hypotheses = new Lists(starts, items);
+        this.hypothesisLabels = new Texts(blocks.get("hypothesis-labels"), this.facts.hypotheses);
+        this.hypothesisFormulas = new Texts(blocks.get("hypothesis-formulas"), this.facts.hypotheses);
     }
 
     /** The rows of the matrix, `words` numbers of 32 bits each; column c is bit c % 32 of number c / 32. */
@@ -118,12 +107,12 @@ class Model {
     }
 
     putIntoGroups() {
-        const codes = Array.from(this.axioms, (number) => firstWord(this.formulas[number]));
+        const codes = Array.from(this.axioms, (number) => firstWord(this.formulas.at(number)));
         const hasLogic = codes.includes("|-");
         this.groupOf = new Uint8Array(this.axioms.length);
         this.groupSizes = GROUPS.map(() => 0);
         this.axioms.forEach((number, column) => {
-            const label = this.labels[number];
+            const label = this.labels.at(number);
             let group = codes[column] === "|-" || !hasLogic ? Group.logic : Group.syntax;
             if (label.startsWith("ax-")) group = Group.axiom;
             if (label.startsWith("df-")) group = Group.definition;
@@ -138,6 +127,14 @@ class Model {
             this.groups[Group.logic].one = "Axiom";
             if (!hasLogic) this.groups[Group.logic].hint = "all of them";
         }
+    }
+
+    labelOfColumn(column) {
+        return this.labels.at(this.axioms[column]);
+    }
+
+    groupKey(column) {
+        return GROUPS[this.groupOf[column]].key;
     }
 
     isMarked(row, column) {
@@ -168,7 +165,10 @@ class Model {
         for (const column of columns) {
             const shift = column & 31;
             let place = column >>> 5;
-            for (let row = 0; row < falls.length; row++, place += this.words) falls[row] |= (this.bits[place] >>> shift) & 1;
+            for (let row = 0; row < falls.length; row++) {
+                falls[row] |= (this.bits[place] >>> shift) & 1;
+                place += this.words;
+            }
         }
         return falls;
     }
@@ -186,14 +186,17 @@ class Model {
     }
 
     turnCitations() {
+        const { starts: from, items: cited } = this.cited;
         const sizes = new Uint32Array(this.size);
-        for (const number of this.cited.items) sizes[number]++;
+        for (let place = 0; place < cited.length; place++) sizes[cited[place]]++;
         const starts = startsOf(sizes);
         const free = starts.slice();
-        const items = new Uint32Array(this.cited.items.length);
-        this.theorems.forEach((theorem, row) => {
-            for (const number of this.cited.of(row)) items[free[number]++] = theorem;
-        });
+        const items = new Uint32Array(cited.length);
+        for (let row = 0; row < this.theorems.length; row++) {
+            for (let place = from[row]; place < from[row + 1]; place++) {
+                items[free[cited[place]]++] = this.theorems[row];
+            }
+        }
         return new Lists(starts, items);
     }
 
@@ -227,11 +230,6 @@ class Model {
         const column = this.columnOf[number];
         return column < 0 ? "Axiom" : this.groups[this.groupOf[column]].one;
     }
-}
-
-/** The lines of a text. A text of no lines and one of an empty line are the same, so their number may be given. */
-function linesOf(text, number) {
-    return number === 0 || (number === undefined && text === "") ? [] : text.split("\n");
 }
 
 function firstWord(text) {
@@ -295,7 +293,7 @@ class Chapters {
             if (last.end > last.first) stretches.push(last);
             path = path.filter((other) => other.level < chapter.level);
             path = [...path, chapter];
-            last = { title: chapter.title, path: path.map((other) => other.title), first: chapter.first, end: this.size };
+            last = { ...chapter, path: path.map((other) => other.title), end: this.size };
         }
         if (last.path.length === 0) last.title = "The whole file";
         if (last.end > last.first) stretches.push(last);

@@ -85,13 +85,22 @@ class Overview {
         return element("div", {}, ...facts);
     }
 
-    /** The columns of a group, in the order that is chosen. */
+    /** The columns of a group, or all of them. */
+    columnsOf(group) {
+        const { model } = this;
+        return Array.from(model.axioms.keys()).filter((column) => group === "all" || model.groupKey(column) === group);
+    }
+
+    /** The columns of the picture, in the order that is chosen. */
     chosenColumns() {
-        const columns = Array.from(this.model.axioms.keys()).filter(
-            (column) => this.group === "all" || GROUPS[this.model.groupOf[column]].key === this.group,
-        );
-        if (this.sorting === "users") columns.sort((one, other) => this.model.usersOf[other] - this.model.usersOf[one] || one - other);
-        return columns;
+        const columns = this.columnsOf(this.group);
+        return this.sorting === "users" ? this.byUsers(columns) : columns;
+    }
+
+    /** Columns with the most users first. */
+    byUsers(columns) {
+        const { usersOf } = this.model;
+        return columns.sort((one, other) => usersOf[other] - usersOf[one] || one - other);
     }
 
     groupChoice(id, label, onChoice, chosen) {
@@ -112,7 +121,8 @@ class Overview {
     }
 
     pictureSection() {
-        const told = element("p", { class: "told", id: "picture-told", role: "status" }, "Point at the picture, or move the cross with the arrow keys.");
+        const told = element("p", { class: "told", id: "picture-told", role: "status" });
+        told.textContent = "Point at the picture, or move the cross with the arrow keys.";
         this.picture = new Picture(
             this.model,
             this.counts,
@@ -130,9 +140,11 @@ class Overview {
             element(
                 "p",
                 { class: "hint", id: "picture-keys" },
-                "Theorems go down and axioms across, both in file order; a dot is the stronger, the more of its cells are marked. ",
+                "Theorems go down and axioms across, both in file order. ",
+                "The more of the cells of a dot are marked, the stronger it is. ",
                 "Double-click, pinch, or + and − zoom; drag moves; the arrow keys move the cross (with Shift, far), ",
-                "Enter opens its theorem, Shift+Enter its axiom, 0 shows all. The wheel zooms once the picture has the focus.",
+                "Enter opens its theorem, Shift+Enter its axiom, 0 shows all. ",
+                "The wheel zooms once the picture has the focus.",
             ),
             element(
                 "div",
@@ -182,7 +194,8 @@ class Overview {
     }
 
     plotSection() {
-        const told = element("p", { class: "told", id: "plot-told", role: "status" }, "Point at the plot, or use the arrow keys.");
+        const told = element("p", { class: "told", id: "plot-told", role: "status" });
+        told.textContent = "Point at the plot, or use the arrow keys.";
         this.plot = new Plot(
             this.model,
             this.counts,
@@ -197,7 +210,8 @@ class Overview {
             element(
                 "p",
                 { class: "hint", id: "plot-keys" },
-                "From the first theorem of the file, at the left, to the last: coloured, the mean by groups; the line above, the most. ",
+                "From the first theorem of the file, at the left, to the last: ",
+                "coloured, the mean by groups; the dots above, the most. ",
                 "The table of chapters below has the numbers. The arrow keys move, Enter opens the theorem.",
             ),
             this.plot.canvas,
@@ -221,24 +235,23 @@ class Overview {
         const body = element("tbody");
         const more = element("div");
         const fill = (group, all) => {
-            const columns = Array.from(this.model.axioms.keys())
-                .filter((column) => group === "all" || GROUPS[this.model.groupOf[column]].key === group)
-                .sort((one, other) => this.model.usersOf[other] - this.model.usersOf[one] || one - other);
+            const columns = this.byUsers(this.columnsOf(group));
             const shown = all ? columns : columns.slice(0, 40);
             body.replaceChildren(...shown.map((column) => this.axiomRow(column)));
             more.replaceChildren();
             if (shown.length === columns.length) return;
-            more.append(
-                element("button", { type: "button", class: "more", onclick: () => fill(group, true) }, `Show all ${count(columns.length)}`),
-            );
+            const button = element("button", { type: "button", class: "more", onclick: () => fill(group, true) });
+            button.textContent = `Show all ${count(columns.length)}`;
+            more.append(button);
         };
         const first = this.model.groups.find((_, index) => this.model.groupSizes[index] > 0).key;
         fill(first, false);
+        const choice = this.groupChoice("axioms-group", "Show", (group) => fill(group, false), first);
         return element(
             "section",
             { "aria-labelledby": "axioms-heading" },
             element("h2", { id: "axioms-heading" }, "Axioms by how many theorems rest on them"),
-            element("div", { class: "controls" }, this.groupChoice("axioms-group", "Show", (group) => fill(group, false), first)),
+            element("div", { class: "controls" }, choice),
             element(
                 "div",
                 { class: "wide", role: "region", "aria-labelledby": "axioms-heading", tabindex: 0 },
@@ -267,21 +280,22 @@ class Overview {
     axiomRow(column) {
         const number = this.model.axioms[column];
         const users = this.model.usersOf[column];
-        const bar = element("span", { class: `bar of-${GROUPS[this.model.groupOf[column]].key}` }, element("span", {}));
-        bar.firstChild.style.width = `${(100 * users) / Math.max(1, this.model.theorems.length)}%`;
+        const all = this.model.theorems.length;
+        const bar = this.elements.bar(users, all, `of-${this.model.groupKey(column)}`);
         return element(
             "tr",
             {},
             element("th", { scope: "row" }, this.elements.link(number)),
             element("td", { class: "right" }, count(users)),
-            element("td", { class: "share" }, bar, element("span", { class: "hint" }, percent(users, this.model.theorems.length))),
+            element("td", { class: "share" }, bar, element("span", { class: "hint" }, percent(users, all))),
             element("td", {}, this.elements.whole(number)),
         );
     }
 
     chapterSection() {
         const { model } = this;
-        const rows = model.listStretches.filter((stretch) => stretch.theorems > 0).map((stretch) => this.chapterRow(stretch));
+        const stretches = model.listStretches.filter((stretch) => stretch.theorems > 0);
+        const rows = stretches.map((stretch) => this.chapterRow(stretch));
         return element(
             "section",
             { "aria-labelledby": "chapters-heading" },

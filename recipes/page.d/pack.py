@@ -1,7 +1,7 @@
 """Packs what the page shows into blocks of bytes; decode.js and model.js read them.
 
-A number is written seven bits at a time, the lowest first; each byte but the last has its highest bit set. A text has one
-line for each entry. Every block is deflated and written in base64, so nothing in it can end an element of the page.
+A number is written seven bits at a time, the lowest first; each byte but the last has its highest bit set. A text has
+one line for each entry. Every block is deflated and written in base64, so nothing in it can end an element of the page.
 """
 
 import base64
@@ -151,6 +151,7 @@ def pack(database, report, about):
     facts = {
         **about,
         "open": report.open,
+        "hypotheses": len(database.hypotheses),
         "chapters": chapters_of(database),
         "variables": [[visible(name), visible(code)] for name, code in database.variables.items()],
     }

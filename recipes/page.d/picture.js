@@ -1,6 +1,7 @@
-// The matrix as a picture: theorems down, axioms across, chapters as bands at the left. It can be zoomed and pointed at.
+// The matrix as a picture: theorems down, axioms across, chapters as bands at the left. It can be zoomed, and pointed
+// at.
 
-/** Counts of marks are kept for blocks of this many rows, so that the whole matrix is drawn without looking at each mark. */
+/** Counts of marks are kept for blocks of this many rows, so that the whole is drawn without each mark. */
 const BLOCK = 16;
 const SHADES = 64;
 const HEADER = 10; // the height of the band that shows the groups of the columns
@@ -20,7 +21,8 @@ class Counts {
         for (let block = 0; block < this.blocks; block++) {
             const here = (block + 1) * columns;
             this.above.copyWithin(here, here - columns, here);
-            for (let row = block * BLOCK; row < Math.min(rows, (block + 1) * BLOCK); row++) this.addRow(model, row, here);
+            const end = Math.min(rows, (block + 1) * BLOCK);
+            for (let row = block * BLOCK; row < end; row++) this.addRow(model, row, here);
         }
     }
 
@@ -71,6 +73,7 @@ class Picture {
         this.onOpen = onOpen;
         this.rows = model.theorems.length;
         this.bandsByLevel = new Map();
+        this.fittedTitles = new Map();
         this.canvas = element("canvas", {
             class: "picture",
             tabindex: 0,
@@ -120,8 +123,13 @@ class Picture {
         const height = this.canvas.clientHeight;
         this.ratio = Math.min(2, window.devicePixelRatio || 1);
         this.gutter = width < 520 ? 12 : 190;
-        this.canvas.width = Math.round(width * this.ratio);
-        this.canvas.height = Math.round(height * this.ratio);
+        const dotsAcross = Math.round(width * this.ratio);
+        const dotsDown = Math.round(height * this.ratio);
+        if (this.canvas.width !== dotsAcross || this.canvas.height !== dotsDown) {
+            this.canvas.width = dotsAcross;
+            this.canvas.height = dotsDown;
+            this.fittedTitles.clear();
+        }
         this.wide = Math.max(1, this.canvas.width - Math.round(this.gutter * this.ratio));
         this.high = Math.max(1, this.canvas.height - Math.round(HEADER * this.ratio));
     }
@@ -166,7 +174,8 @@ class Picture {
             tall[bin] = Math.min(this.rows, end * BLOCK) - first * BLOCK;
             for (let index = 0; index < bins.length; index++) {
                 const column = this.order[across.low + index];
-                marks[bin * across.number + bins[index]] += above[end * columns + column] - above[first * columns + column];
+                const number = above[end * columns + column] - above[first * columns + column];
+                marks[bin * across.number + bins[index]] += number;
             }
         }
     }
@@ -223,7 +232,8 @@ class Picture {
             const full = this.colours.parts(`--group-${group.key}`);
             return Uint32Array.from({ length: SHADES }, (_, shade) => {
                 const weight = shade === 0 ? 0 : 0.22 + (0.78 * shade) / (SHADES - 1);
-                const [red, green, blue] = full.map((value, index) => Math.round(ground[index] + (value - ground[index]) * weight));
+                const mixed = full.map((value, index) => Math.round(ground[index] + (value - ground[index]) * weight));
+                const [red, green, blue] = mixed;
                 return ((255 << 24) | (blue << 16) | (green << 8) | red) >>> 0;
             });
         });
@@ -233,7 +243,7 @@ class Picture {
         const left = this.canvas.width - this.wide;
         for (let x = 0; x < this.wide; x++) {
             const place = Math.min(this.order.length - 1, Math.floor(across.from + (x + 0.5) / across.scale));
-            this.pen.fillStyle = this.colours.of(`--group-${GROUPS[this.model.groupOf[this.order[place]]].key}`);
+            this.pen.fillStyle = this.colours.of(`--group-${this.model.groupKey(this.order[place])}`);
             this.pen.fillRect(left + x, 0, 1, Math.round((HEADER - 3) * this.ratio));
         }
     }
@@ -277,12 +287,15 @@ class Picture {
         });
     }
 
-    /** A text, cut to a width. */
+    /** A text, cut to the width of the gutter. */
     fitted(text, width) {
-        if (this.pen.measureText(text).width <= width) return text;
-        let length = text.length;
-        while (length > 1 && this.pen.measureText(`${text.slice(0, length)}…`).width > width) length--;
-        return `${text.slice(0, length).trimEnd()}…`;
+        if (!this.fittedTitles.has(text)) {
+            let length = text.length;
+            const cut = () => (length === text.length ? text : `${text.slice(0, length).trimEnd()}…`);
+            while (length > 1 && this.pen.measureText(cut()).width > width) length--;
+            this.fittedTitles.set(text, cut());
+        }
+        return this.fittedTitles.get(text);
     }
 
     /** A cross at the cell that is pointed at. */
@@ -418,7 +431,9 @@ class Picture {
         if (this.fingers.size === 1) this.move(old.down - now.down, old.across - now.across);
         if (this.fingers.size === 2) {
             const [other] = [...this.fingers.values()].filter((finger) => finger.pointerId !== event.pointerId);
-            const far = (finger) => Math.max(20, Math.hypot(finger.clientX - other.clientX, finger.clientY - other.clientY));
+            const far = ({ clientX, clientY }) => {
+                return Math.max(20, Math.hypot(clientX - other.clientX, clientY - other.clientY));
+            };
             const middle = this.shares(other);
             this.zoom(far(event) / far(before), (now.down + middle.down) / 2, (now.across + middle.across) / 2);
         }

@@ -70,7 +70,8 @@ class Plot {
     }
 
     drawScale() {
-        const step = [1, 2, 5, 10, 20, 50, 100, 200, 500, 1000, 2000, 5000, 10000].find((size) => this.most / size <= 5) ?? this.most;
+        const sizes = [1, 2, 5, 10, 20, 50, 100, 200, 500, 1000, 2000, 5000, 10000];
+        const step = sizes.find((size) => this.most / size <= 5) ?? this.most;
         this.pen.font = `${Math.round(11 * this.ratio)}px system-ui, sans-serif`;
         this.pen.textAlign = "right";
         this.pen.textBaseline = "middle";
@@ -79,7 +80,8 @@ class Plot {
             this.pen.fillStyle = this.colours.of("--band-line");
             this.pen.fillRect(this.left, y, this.wide, 1);
             this.pen.fillStyle = this.colours.of("--muted");
-            this.pen.fillText(String(number), this.left - 6 * this.ratio, Math.min(y, this.canvas.height - 7 * this.ratio));
+            const middle = Math.min(y, this.canvas.height - 7 * this.ratio);
+            this.pen.fillText(String(number), this.left - 6 * this.ratio, middle);
         }
     }
 
@@ -97,7 +99,8 @@ class Plot {
             below += mean;
         }
         this.pen.fillStyle = this.colours.of("--muted");
-        this.pen.fillRect(this.left + x, this.yOf(this.counts.totals[this.heaviest(first, end)]), 1, Math.ceil(this.ratio));
+        const most = this.counts.totals[this.heaviest(first, end)];
+        this.pen.fillRect(this.left + x, this.yOf(most), 1, Math.ceil(this.ratio));
     }
 
     drawPointed() {

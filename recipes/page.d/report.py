@@ -80,7 +80,7 @@ def version(program):
 
 
 def head_of(lines, report):
-    """Reads the first lines, up to that of the theorems; the answer is how many lines, axioms and theorems there are."""
+    """Reads the first lines, up to that of the theorems, and says how many lines, axioms and theorems there are."""
     if lines[0] not in (b"mmdepend 1", b"mmdepend 2"):
         raise Failed("a report of another form than 1 or 2")
     if lines[-2:] != [b"end", b""]:

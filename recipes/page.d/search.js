@@ -3,51 +3,42 @@
 /** How well a text was found, the best first. */
 const FOUND_IN = ["label", "label", "label", "formula", "comment"];
 
-/** A text of lines, searched without regard to case. */
+/** The lines of a text, searched without regard to case. */
 class Lines {
-    constructor(text, size) {
-        this.text = text.toLowerCase();
-        this.starts = new Uint32Array(size + 1);
-        let place = 0;
-        for (let line = 1; line < size; line++) {
-            place = this.text.indexOf("\n", place) + 1;
-            this.starts[line] = place;
-        }
-        this.starts[size] = this.text.length + 1;
-        this.size = size;
+    constructor(texts) {
+        this.texts = texts;
+        this.text = texts.text.toLowerCase();
     }
 
     /** The lines in which the words stand, in order; each with the place of the words in it. */
     eachWith(words, visit) {
+        const { starts, size } = this.texts;
         let line = 0;
         let place = this.text.indexOf(words);
-        while (place >= 0 && line < this.size) {
-            line = this.lineAt(place, line);
-            visit(line, place - this.starts[line], this.starts[line + 1] - this.starts[line] - 1);
+        while (place >= 0 && line < size) {
+            line = this.texts.lineAt(place, line);
+            visit(line, place - starts[line], starts[line + 1] - starts[line] - 1);
             line++;
-            place = line < this.size ? this.text.indexOf(words, this.starts[line]) : -1;
+            place = line < size ? this.text.indexOf(words, starts[line]) : -1;
         }
     }
+}
 
-    /** The line in which a place is, which isn't above a known one. */
-    lineAt(place, known) {
-        let low = known;
-        let high = this.size;
-        while (high - low > 1) {
-            const middle = (low + high) >>> 1;
-            if (this.starts[middle] <= place) low = middle;
-            else high = middle;
-        }
-        return low;
-    }
+/** Puts what was found among the best of its kind: the shorter text first, of which more was typed. */
+function keep(best, item, limit) {
+    if (best.length === limit && item.order >= best[limit - 1].order) return;
+    let place = best.length;
+    while (place > 0 && best[place - 1].order > item.order) place--;
+    best.splice(place, 0, item);
+    if (best.length > limit) best.pop();
 }
 
 class Search {
     constructor(model) {
         this.size = model.size;
-        this.labels = new Lines(model.labelText, model.size);
-        this.formulas = new Lines(model.formulaText, model.size);
-        this.comments = new Lines(model.commentText, model.size);
+        this.labels = new Lines(model.labels);
+        this.formulas = new Lines(model.formulas);
+        this.comments = new Lines(model.comments);
     }
 
     /** What is found for a text as it was typed: how many assertions, and the best of them. */
@@ -61,7 +52,7 @@ class Search {
             if (seen[number]) return;
             seen[number] = 1;
             total++;
-            tiers[tier].push({ number, order, tier });
+            keep(tiers[tier], { number, order, tier }, limit);
         };
         this.labels.eachWith(words, (number, place, length) => {
             take(length === words.length ? 0 : place === 0 ? 1 : 2, number, length);
@@ -70,9 +61,6 @@ class Search {
         this.comments.eachWith(words, (number) => take(4, number, 0));
         const best = [];
         for (const tier of tiers) {
-            if (best.length >= limit) break;
-            // The shortest text is the one of which most was typed.
-            tier.sort((one, other) => one.order - other.order || one.number - other.number);
             best.push(...tier.slice(0, limit - best.length));
         }
         return { words, total, best: best.map(({ number, tier }) => ({ number, where: FOUND_IN[tier] })) };

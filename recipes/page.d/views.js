@@ -18,9 +18,9 @@ class Views {
             element(
                 "li",
                 { class: "line" },
-                element("span", { class: "label" }, model.hypothesisLabels[index]),
+                element("span", { class: "label" }, model.hypothesisLabels.at(index)),
                 " ",
-                elements.formula(model.hypothesisFormulas[index]),
+                elements.formula(model.hypothesisFormulas.at(index)),
             ),
         );
         const parts = [
@@ -28,11 +28,11 @@ class Views {
                 "div",
                 { class: "title" },
                 element("p", { class: "kind" }, model.kindName(number)),
-                element("h1", { tabindex: -1 }, model.labels[number]),
+                element("h1", { tabindex: -1 }, model.labels.at(number)),
                 this.neighbours(number),
             ),
         ];
-        if (model.comments[number]) parts.push(elements.comment(model.comments[number]));
+        if (model.comments.at(number)) parts.push(elements.comment(model.comments.at(number)));
         if (hypotheses.length > 0) {
             parts.push(
                 element(
@@ -44,7 +44,7 @@ class Views {
             );
         }
         parts.push(
-            element("div", { class: "statement", id: "statement" }, elements.formula(model.formulas[number])),
+            element("div", { class: "statement", id: "statement" }, elements.formula(model.formulas.at(number))),
             this.place(number),
         );
         return parts;
@@ -59,12 +59,13 @@ class Views {
         const at = row >= 0 ? row : column;
         const name = row >= 0 ? "theorem" : "axiom";
         const nav = element("nav", { class: "neighbours", "aria-label": `Neighbouring ${name}s` });
-        if (at > 0) {
-            nav.append(this.elements.link(list[at - 1], { rel: "prev", "aria-label": `Previous ${name}: ${this.model.labels[list[at - 1]]}` }));
-        }
-        if (at + 1 < list.length) {
-            nav.append(this.elements.link(list[at + 1], { rel: "next", "aria-label": `Next ${name}: ${this.model.labels[list[at + 1]]}` }));
-        }
+        const put = (other, rel, which) => {
+            if (other === undefined) return;
+            const told = `${which} ${name}: ${this.model.labels.at(other)}`;
+            nav.append(this.elements.link(other, { rel, "aria-label": told }));
+        };
+        put(list[at - 1], "prev", "Previous");
+        put(list[at + 1], "next", "Next");
         return nav;
     }
 
@@ -140,8 +141,9 @@ class Views {
         this.model.groups.forEach((group, index) => {
             const part = byGroup[index];
             if (part.length === 0) return;
-            const fold = this.elements.fold(
-                [element("span", { class: "title" }, group.name), " ", element("span", { class: "number" }, count(part.length))],
+            const fold = this.elements.foldOf(
+                group.name,
+                part.length,
                 () => element("ul", { class: "lines" }, ...part.map((column) => this.axiomLine(number, column))),
                 index !== Group.syntax || part.length === columns.length,
             );
@@ -155,13 +157,10 @@ class Views {
     /** An axiom on which a theorem rests, with a button that shows why. */
     axiomLine(theorem, column) {
         const axiom = this.model.axioms[column];
-        const label = this.model.labels[axiom];
+        const label = this.model.labelOfColumn(column);
         const place = element("div", { id: `why-${column}`, class: "why" });
-        const button = element(
-            "button",
-            { type: "button", class: "ask", "aria-expanded": "false", "aria-controls": place.id, "aria-label": `Why ${label}?` },
-            "why",
-        );
+        const states = { "aria-expanded": "false", "aria-controls": place.id, "aria-label": `Why ${label}?` };
+        const button = element("button", { type: "button", class: "ask", ...states }, "why");
         button.addEventListener("click", () => {
             const isOpen = button.getAttribute("aria-expanded") === "true";
             button.setAttribute("aria-expanded", String(!isOpen));
@@ -175,7 +174,7 @@ class Views {
     chain(theorem, axiom) {
         const chain = this.model.chain(theorem, axiom);
         return [
-            element("p", { class: "hint" }, `A shortest chain, ${counted(chain.length - 1, "citation")}; each cites the next:`),
+            this.elements.hint(`A shortest chain, ${counted(chain.length - 1, "citation")}; each cites the next:`),
             element("ol", { class: "lines chain" }, ...chain.map((number) => this.elements.line(number))),
         ];
     }
@@ -194,7 +193,7 @@ class Views {
             "section",
             { id: "avoids", "aria-labelledby": "avoids-heading" },
             element("h2", { id: "avoids-heading" }, `Does without ${count(avoided.length)}`),
-            element("p", { class: "hint" }, `The ${name} that stand before it and on which it doesn't rest.`),
+            this.elements.hint(`The ${name} that stand before it and on which it doesn't rest.`),
             avoided.length > 0 ? this.elements.labels(avoided) : "",
         );
     }
@@ -213,8 +212,9 @@ class Views {
         for (const [name, list] of parts) {
             if (list.length === 0) continue;
             made.append(
-                this.elements.fold(
-                    [element("span", { class: "title" }, name), " ", element("span", { class: "number" }, count(list.length))],
+                this.elements.foldOf(
+                    name,
+                    list.length,
                     () => element("ul", { class: "lines" }, ...list.map((other) => this.elements.line(other))),
                     true,
                 ),
@@ -229,7 +229,9 @@ class Views {
             "section",
             { id: "cited-by", "aria-labelledby": "cited-by-heading" },
             element("h2", { id: "cited-by-heading" }, `Cited by ${count(citers.length)}`),
-            citers.length > 0 ? this.elements.labels(citers) : element("p", { class: "hint" }, "No proof of this database cites it."),
+            citers.length > 0
+                ? this.elements.labels(citers)
+                : this.elements.hint("No proof of this database cites it."),
         );
     }
 
@@ -237,15 +239,10 @@ class Views {
     axiom(number, others) {
         const column = this.model.columnOf[number];
         if (column < 0) {
-            return [
-                ...this.head(number),
-                element(
-                    "p",
-                    { class: "note" },
-                    `This page has the marks of typecode ${this.model.facts.only} alone, so it doesn't tell what rests on ${this.model.labels[number]}.`,
-                ),
-                this.citedBy(number),
-            ];
+            const { only } = this.model.facts;
+            const label = this.model.labels.at(number);
+            const note = `This page has only the marks of typecode ${only}; it doesn't tell what rests on ${label}.`;
+            return [...this.head(number), element("p", { class: "note" }, note), this.citedBy(number)];
         }
         return [...this.head(number), this.users(number, column), this.dropping(column, others), this.citedBy(number)];
     }
@@ -253,16 +250,14 @@ class Views {
     users(number, column) {
         const users = this.model.usersOf[column];
         const all = this.model.theorems.length;
-        const bar = element("span", { class: `bar large of-${GROUPS[this.model.groupOf[column]].key}` }, element("span", {}));
-        bar.firstChild.style.width = `${(100 * users) / Math.max(1, all)}%`;
+        const bar = this.elements.bar(users, all, `large of-${this.model.groupKey(column)}`);
+        const list = () => this.elements.byChapter(this.theoremsWhere(this.model.restsOnAny([column]), 1));
         return element(
             "section",
             { id: "users", "aria-labelledby": "users-heading" },
             element("h2", { id: "users-heading" }, `${counted(users, "theorem rests", "theorems rest")} on it`),
             element("p", {}, `Of ${counted(all, "theorem")}, ${percent(users, all)}. `, bar),
-            users > 0
-                ? this.elements.fold("Which, by chapter", () => this.elements.byChapter(this.theoremsWhere(this.model.restsOnAny([column]), 1)))
-                : "",
+            users > 0 ? this.elements.fold("Which, by chapter", list) : "",
         );
     }
 
@@ -280,13 +275,17 @@ class Views {
         const list = element("ul", { class: "ticks", id: "ticks" });
         const told = element("p", { class: "hint", role: "status", id: "ticks-told" });
         const tick = (other) => {
-            const label = this.model.labels[this.model.axioms[other]];
+            const label = this.model.labelOfColumn(other);
             const box = element("input", { type: "checkbox", value: label, id: `tick-${other}` });
             box.checked = ticked.has(other);
             box.addEventListener("change", () => {
                 if (box.checked) ticked.add(other);
                 else ticked.delete(other);
-                this.onTick(this.model.axioms[column], [...ticked].filter((one) => one !== column).map((one) => this.model.axioms[one]));
+                const more = [...ticked].filter((one) => one !== column);
+                this.onTick(
+                    this.model.axioms[column],
+                    more.map((one) => this.model.axioms[one]),
+                );
                 show();
             });
             return element(
@@ -296,7 +295,7 @@ class Views {
                     "label",
                     { for: box.id },
                     box,
-                    element("span", { class: `label of-${GROUPS[this.model.groupOf[other]].key}` }, label),
+                    element("span", { class: `label of-${this.model.groupKey(other)}` }, label),
                     " ",
                     element("span", { class: "hint" }, count(this.model.usersOf[other])),
                 ),
@@ -316,15 +315,16 @@ class Views {
             const others = this.candidates(words).filter((other) => other !== column && !ticked.has(other));
             const kept = [...ticked].filter((other) => other !== column).sort((one, other) => one - other);
             list.replaceChildren(...[...kept, ...others.slice(0, OFFERED)].map(tick));
+            const all = counted(others.length, "axiom");
             told.textContent =
-                others.length > OFFERED ? `${count(OFFERED)} of ${count(others.length)} shown: type to find others.` : `${counted(others.length, "axiom")} shown.`;
+                others.length > OFFERED ? `${count(OFFERED)} of ${all} shown: type to find others.` : `${all} shown.`;
         };
         offer();
         show();
         return element(
             "section",
             { id: "dropping", "aria-labelledby": "dropping-heading" },
-            element("h2", { id: "dropping-heading" }, `If ${this.model.labels[this.model.axioms[column]]} is dropped`),
+            element("h2", { id: "dropping-heading" }, `If ${this.model.labelOfColumn(column)} is dropped`),
             element(
                 "fieldset",
                 {},
@@ -341,7 +341,7 @@ class Views {
     candidates(words) {
         const found = [];
         for (let column = 0; column < this.model.axioms.length; column++) {
-            if (this.model.labels[this.model.axioms[column]].toLowerCase().includes(words)) found.push(column);
+            if (this.model.labelOfColumn(column).toLowerCase().includes(words)) found.push(column);
         }
         return found.sort((one, other) => this.model.groupOf[one] - this.model.groupOf[other] || one - other);
     }
@@ -351,14 +351,11 @@ class Views {
         const falls = this.model.restsOnAny(columns);
         const fallen = this.theoremsWhere(falls, 1);
         const left = this.theoremsWhere(falls, 0);
-        const names = [...columns].sort((one, other) => one - other).map((column) => this.model.labels[this.model.axioms[column]]);
-        const bar = element("span", { class: "bar large of-fallen" }, element("span", {}));
-        bar.firstChild.style.width = `${(100 * fallen.length) / Math.max(1, falls.length)}%`;
+        const inOrder = [...columns].sort((one, other) => one - other);
+        const names = inOrder.map((column) => this.model.labelOfColumn(column));
+        const number = `${count(fallen.length)} of ${counted(falls.length, "theorem")}`;
         const fold = (id, name, numbers) => {
-            const made = this.elements.fold(
-                [element("span", { class: "title" }, name), " ", element("span", { class: "number" }, count(numbers.length))],
-                () => this.elements.byChapter(numbers),
-            );
+            const made = this.elements.foldOf(name, numbers.length, () => this.elements.byChapter(numbers));
             made.id = id;
             return made;
         };
@@ -367,9 +364,9 @@ class Views {
                 "p",
                 { class: "verdict", role: "status", id: "verdict" },
                 `Without ${names.join(", ")}: `,
-                element("strong", {}, `${count(fallen.length)} of ${counted(falls.length, "theorem")} ${fallen.length === 1 ? "falls" : "fall"}`),
+                element("strong", {}, `${number} ${fallen.length === 1 ? "falls" : "fall"}`),
                 `, ${count(left.length)} ${left.length === 1 ? "is" : "are"} left. `,
-                bar,
+                this.elements.bar(fallen.length, falls.length, "large of-fallen"),
             ),
             fold("fallen", "What falls, by chapter", fallen),
             fold("left", "What is left, by chapter", left),
