@@ -12,6 +12,10 @@ function element(name, attributes = {}, ...children) {
     return made;
 }
 
+/** Symbols that a browser would break inside, such as |->, and up to which length they are kept in one line. */
+const BREAKABLE = /[-/?].|[|]./;
+const LONGEST_WHOLE = 12;
+
 /** With more hypotheses than this only their number stands in a line. */
 const MOST_GIVEN = 3;
 
@@ -76,12 +80,14 @@ class Elements {
         let plain = "";
         text.split(" ").forEach((symbol, index) => {
             if (index > 0) plain += " ";
-            const code = this.model.typecodeOf.get(symbol);
-            if (code === undefined || index === 0) {
+            const code = index > 0 ? this.model.typecodeOf.get(symbol) : undefined;
+            const isSplit = BREAKABLE.test(symbol) && symbol.length <= LONGEST_WHOLE;
+            if (code === undefined && !isSplit) {
                 plain += symbol;
                 return;
             }
-            made.append(plain, element("span", { class: this.colourOf.get(code) }, symbol));
+            const colour = code === undefined ? "" : this.colourOf.get(code);
+            made.append(plain, element("span", { class: isSplit ? `${colour} unbroken`.trim() : colour }, symbol));
             plain = "";
         });
         made.append(plain);

@@ -63,7 +63,8 @@ class Page {
         this.main.replaceChildren(...parts);
         this.main.setAttribute("aria-busy", "false");
         document.title = name;
-        document.getElementById("home").toggleAttribute("aria-current", number === null && wanted === undefined);
+        if (number === null) document.getElementById("home").setAttribute("aria-current", "page");
+        else document.getElementById("home").removeAttribute("aria-current");
         if (isFirst) return;
         window.scrollTo(0, 0);
         this.main.querySelector("h1").focus({ preventScroll: true });
