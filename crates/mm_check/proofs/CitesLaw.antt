@@ -8,7 +8,7 @@ use Rattle.mm_spec.specs.Laws.Complete.{AreComplete}
 use Rattle.mm_spec.specs.Citation.{IsProof, Cites}
 use Rattle.mm_spec.proofs.CitedLaw.{proof_unique}
 use Rattle.mm_spec.proofs.NodesLaw.{all_labels}
-use Rattle.mm_check.specs.Contract.{is_assertion_at}
+use Rattle.mm_rule.specs.Assertions.{is_assertion_at}
 
 -- the assertions among the labels of the proof are what the theorem cites
 pub all_cited : (db : List Statement) (t : ℕ) (d : Trees) (cites : List ℕ) → AreComplete db

@@ -15,8 +15,9 @@ use Rattle.mm_spec.specs.Statement.{Statement}
 use Rattle.mm_spec.specs.Citation.{context_at}
 use Rattle.mm_spec.specs.Laws.Stack.{AreGoodSteps, IsGoodStep, step_entries, top}
 use Rattle.mm_steps.specs.Read.{step_at, is_marked, takes_up}
-use Rattle.mm_check.specs.State.{State, state, with_mark}
-use Rattle.mm_check.specs.Contract.{is_assertion_at, is_labelled_step, IsReady}
+use Rattle.mm_machine.specs.State.{State, state, with_mark}
+use Rattle.mm_rule.specs.Assertions.{is_assertion_at}
+use Rattle.mm_check.specs.Contract.{is_labelled_step, IsReady}
 use Rattle.mm_check.specs.Reached.{Reached, Ran, Agree, steps_of}
 use Rattle.mm_check.proofs.ReachLaw.{starts, next_here, good_here}
 

@@ -20,7 +20,8 @@ use Rattle.mm_spec.specs.Citation.{context_at, rule_at, steps_at, IsProof, Cites
 use Rattle.mm_spec.specs.Laws.Stack.{IsGood, AreGoodSteps, IsGoodStep}
 use Rattle.mm_spec.proofs.CitedLaw.{proof_unique}
 use Rattle.mm_steps.specs.Read.{step_at, IsEarlier}
-use Rattle.mm_check.specs.Contract.{is_assertion_at, is_labelled_step}
+use Rattle.mm_rule.specs.Assertions.{is_assertion_at}
+use Rattle.mm_check.specs.Contract.{is_labelled_step}
 use Rattle.mm_check.specs.Flags.{child_flags, taken_flags, wanted_flags}
 use Rattle.mm_check.specs.Reached.{steps_of}
 use Rattle.mm_check.proofs.CompilerStateLaw.{assertion_rule, hypothesis_rule}

@@ -2,7 +2,7 @@
 use Rattle.std.specs.Prelude.{◌≡◌, ℕ, List, length}
 use Rattle.mm_spec.specs.Statement.{Statement}
 use Rattle.mm_spec.specs.Frame.{symbol_names}
-use Rattle.mm_check.specs.Rule.{Lists, AreRules}
+use Rattle.mm_rules.specs.Rules.{Lists, AreRules}
 
 -- a checker: how many symbols it knows, how many its compiler of rules knows, and the rules that it
 -- borrows

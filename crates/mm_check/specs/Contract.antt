@@ -21,10 +21,6 @@ pub record Cited : Type 0 where
 abbrev pub cited : ℕ → List ℕ → Cited
 cited t cites = record { theorem = t; cites = cites }
 
--- whether a statement is an assertion
-abbrev pub is_assertion_at : List Statement → ℕ → Bool
-is_assertion_at db a = list_any is_assertion (statement_at db a)
-
 -- the theorem has a proof, and these are the assertions that it cites, in ascending order, each
 -- once
 pub record IsChecked (db : List Statement) (by_essential : Bool) (t : ℕ)

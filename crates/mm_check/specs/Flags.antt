@@ -5,7 +5,7 @@ use Rattle.mm_spec.specs.Statement.{Statement}
 use Rattle.mm_spec.specs.Scope.{statement_at}
 use Rattle.mm_spec.specs.Frame.{is_essential, mandatory_hypotheses}
 use Rattle.mm_spec.specs.Steps.{Step, label, marked}
-use Rattle.mm_check.specs.Contract.{is_assertion_at}
+use Rattle.mm_rule.specs.Assertions.{is_assertion_at}
 
 -- for each mandatory hypothesis of an assertion, whether its entry is essential; `b` says whether
 -- the assertion's node is

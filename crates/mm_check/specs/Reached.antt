@@ -9,8 +9,8 @@ use Rattle.mm_spec.specs.Laws.Stack.{Leaves}
 use Rattle.mm_spec.specs.Statement.{Statement}
 use Rattle.mm_spec.specs.Citation.{context_at}
 use Rattle.mm_steps.specs.Read.{is_marked}
-use Rattle.mm_check.specs.State.{State}
-use Rattle.mm_check.specs.Contract.{is_assertion_at}
+use Rattle.mm_machine.specs.State.{State}
+use Rattle.mm_rule.specs.Assertions.{is_assertion_at}
 
 -- After the steps there is a row of derivations: its formulas are the entries, the ends are the
 -- last formulas of the earlier rows, and its assertions were noted.

@@ -10,13 +10,13 @@ ghost use Rattle.mm_spec.specs.Citation.{context_at, steps_at, IsProof, Cites};
 ghost use Rattle.mm_spec.specs.Laws.Complete.{AreComplete};
 ghost use Rattle.mm_spec.specs.Laws.Stack.{AreGoodSteps};
 ghost use Rattle.mm_steps.specs.Read.{step_of, IsEarlier};
-ghost use Rattle.mm_check.specs.Contract.{is_assertion_at, is_labelled_step, labels};
+ghost use Rattle.mm_rule.specs.Assertions.{is_assertion_at};
+ghost use Rattle.mm_check.specs.Contract.{is_labelled_step, labels};
 ghost use Rattle.mm_check.specs.Flags.{child_flags, taken_flags, wanted_flags};
 ghost use Rattle.mm_check.specs.Reached.{steps_of};
 
-use crate::frames::{hyps, is_assertion, is_essential_hypothesis};
-use crate::machine::empty;
 use crate::noted::cite;
+use mm_rule::{empty, hyps, is_assertion, is_essential_hypothesis};
 use mm_steps::{Step, Steps};
 use mm_stmt::Database;
 use std::alloc::{AllocError, Allocator};

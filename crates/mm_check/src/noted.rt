@@ -4,10 +4,10 @@ ghost use Rattle.std.specs.Prelude.{◌≡◌, ◌==◌, ◌&&◌, ◌||◌, ℕ
 ghost use Rattle.std.specs.List.Sorted.{IsStrictlyIncreasing};
 ghost use Rattle.mm_spec.specs.Derivation.{is_member};
 ghost use Rattle.mm_steps.specs.Read.{step_of};
-ghost use Rattle.mm_check.specs.Contract.{is_assertion_at, labels, is_labelled_step};
+ghost use Rattle.mm_rule.specs.Assertions.{is_assertion_at};
+ghost use Rattle.mm_check.specs.Contract.{labels, is_labelled_step};
 
-use crate::frames::is_assertion;
-use crate::numbers::put_number;
+use mm_rule::{is_assertion, put_number};
 use mm_steps::Step;
 use mm_stmt::Database;
 use std::alloc::{AllocError, Allocator};

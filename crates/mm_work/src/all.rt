@@ -9,7 +9,7 @@ use crate::in_order::{check_in_order, valid};
 use crate::judged::Judged;
 use crate::merge::{fault_of, merge};
 use mm_board::Board;
-use mm_check::Rules;
+use mm_rules::Rules;
 use mm_stmt::Database;
 use std::alloc::{AllocError, Allocator};
 use std::sync::Wait;

@@ -2,13 +2,13 @@
 
 ghost use Rattle.std.specs.Prelude.{◌≡◌, ◌<◌, ◌≤◌, All, IfNone, IfOk, IfSome, false, length};
 ghost use Rattle.mm_spec.specs.Output.{theorems};
-ghost use Rattle.mm_check.specs.Rule.{AreRules};
+ghost use Rattle.mm_rules.specs.Rules.{AreRules};
 ghost use Rattle.mm_work.specs.Workers.{IsReady, IsDone, AreGathered};
 
 use crate::gate::Gate;
 use crate::worker::{Findings, Worked, work};
 use mm_board::{Board, Seat};
-use mm_check::Rules;
+use mm_rules::Rules;
 use mm_stmt::Database;
 use std::alloc::{AllocError, Allocator};
 use std::sync::Wait;

@@ -1,14 +1,15 @@
 //! Checking all proofs on the calling thread alone.
 
 ghost use Rattle.std.specs.Prelude.{◌≡◌, IfOk, length};
-ghost use Rattle.mm_check.specs.Rule.{AreRules};
+ghost use Rattle.mm_rules.specs.Rules.{AreRules};
 ghost use Rattle.mm_work.specs.Judged.{Judges, AreCited};
 ghost use Rattle.mm_spec.specs.Output.{theorems};
 
 use crate::judged::Judged;
 use crate::proof::{VerifyRefused, verify};
-use mm_check::{Checker, Rules};
+use mm_check::Checker;
 use mm_cites::{Citations, Lists};
+use mm_rules::Rules;
 use mm_stmt::Database;
 use std::alloc::{AllocError, Allocator};
 

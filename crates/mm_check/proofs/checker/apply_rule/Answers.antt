@@ -1,7 +1,7 @@
 use Rattle.std.proofs.Common.{◌≡◌, Ok, subst}
-use Rattle.mm_check.specs.State.{applied}
-use Rattle.mm_check.specs.Stops.{Stops}
-use Rattle.mm_check.proofs.FollowLaw.{on_ok, on_err}
+use Rattle.mm_machine.specs.State.{applied}
+use Rattle.mm_machine.specs.Stops.{Stops}
+use Rattle.mm_machine.proofs.FollowLaw.{on_ok, on_err}
 use Rattle.mm_check.proofs.checker.apply_rule.Goals as goal
 
 pub returns-clause-made : goal.returns-clause-made

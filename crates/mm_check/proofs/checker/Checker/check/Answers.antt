@@ -4,8 +4,8 @@ use Rattle.mm_spec.specs.Citation.{context_at}
 use Rattle.mm_spec.specs.Laws.Stack.{AreGoodSteps}
 use Rattle.mm_spec.proofs.GoodStepsLaw.{good_steps}
 use Rattle.mm_check.specs.Reached.{steps_of}
-use Rattle.mm_check.specs.State.{State}
-use Rattle.mm_check.specs.Rule.{Lists, AreRules}
+use Rattle.mm_machine.specs.State.{State}
+use Rattle.mm_rules.specs.Rules.{Lists, AreRules}
 use Rattle.mm_check.specs.Checker.{Made, made, IsMadeFor}
 use Rattle.mm_check.proofs.checker.Checker.check.Goals as goal
 

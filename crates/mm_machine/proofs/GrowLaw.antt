@@ -1,0 +1,150 @@
+-- The lists of symbols grow and are cut, and the entries stay.
+use Rattle.std.proofs.Common.{◌≡◌, ℕ, zero, suc, ◌-◌, ◌<◌, ◌≤◌, List, [], ◌∷◌, ◌++◌, length, take}
+use Rattle.std.proofs.Common.{drop, get_or, slice_range, refl, ap, ap₂, ◌∙◌, arith, All}
+use Rattle.std.proofs.Common.{length-append, length-drop}
+use Rattle.std.specs.List.{AllByRecursion}
+use Rattle.std.proofs.lemmas.List.{drop-append-le, take-append-le, drop_at, take_all, take_at}
+use Rattle.std.proofs.lemmas.List.Elements.{All-from_recursion, recursion_from_All, All-weaker}
+use Rattle.std.proofs.lemmas.List.Elements.{All-take, All-append, All-drop, All-nil}
+use Rattle.mm_machine.specs.declared.arena.Span.{Span}
+use Rattle.mm_machine.specs.declared.arena.Store.{Store}
+use Rattle.mm_machine.specs.declared.arena.Store.TheVariants.{Own, Kept}
+use Rattle.mm_rule.specs.declared.rule.Part.{Part}
+use Rattle.mm_rule.specs.declared.rule.Part.TheVariants.{Constant, Variable}
+use Rattle.mm_machine.specs.Arena.{Arena, arena, symbols_of, span, nothing, rest, text_of, IsIn}
+use Rattle.mm_rule.specs.Rule.{IsKnown}
+use Rattle.mm_rule.proofs.SliceLaw.{stretch_more}
+use Rattle.mm_machine.specs.Replaced.{told, replaced}
+use Rattle.mm_machine.specs.State.{texts, made_of, IsKept}
+
+-- an entry of the one arena that is one of the other, of the same formula
+pub record Stays (a b : Arena) (e : Span) : Type 0 where
+  pub inside : IsIn b e
+  pub same : text_of b e ≡ text_of a e
+
+pub all_stay : (a b : Arena) (es : List Span) → ((e : Span) → IsIn a e → Stays a b e)
+    → All (IsIn a) es → AllByRecursion (Stays a b) es
+all_stay a b es each h = go es (recursion_from_All (IsIn a) es h)
+  where
+    go : (es : List Span) → AllByRecursion (IsIn a) es → AllByRecursion (Stays a b) es
+    go [] h = tt
+    go (e ∷ es) h = (each e h.0, go es h.1)
+
+pub stay_inside : (a b : Arena) (es : List Span) → AllByRecursion (Stays a b) es → All (IsIn b) es
+stay_inside a b es h = All-from_recursion (IsIn b) es (go es h)
+  where
+    go : (es : List Span) → AllByRecursion (Stays a b) es → AllByRecursion (IsIn b) es
+    go [] h = tt
+    go (e ∷ es) h = (h.0.inside, go es h.1)
+
+pub stay_texts : (a b : Arena) (es : List Span) → AllByRecursion (Stays a b) es
+    → texts b es ≡ texts a es
+stay_texts a b [] h = refl
+stay_texts a b (e ∷ es) h = ap₂ (λ u us. u ∷ us) h.0.same (stay_texts a b es h.1)
+
+-- more own symbols
+pub own_more : (own kept more : List ℕ) (e : Span) → IsIn (arena own kept) e
+    → Stays (arena own kept) (arena (own ++ more) kept) e
+own_more own kept more e h = by e.store e.start e.end h.rising h.within
+  where
+    by : (p : Store) (s t : ℕ) → s ≤ t → t ≤ length (symbols_of (arena own kept) p)
+        → Stays (arena own kept) (arena (own ++ more) kept) (span p s t)
+    by Own s t r w =
+        record {
+          inside = record { rising = r; within = omega (arith, w, length-append own more) };
+          same = stretch_more own more s t r w;
+        }
+    by Kept s t r w = record { inside = record { rising = r; within = w }; same = refl }
+
+-- more kept symbols
+pub kept_more : (own kept more : List ℕ) (e : Span) → IsIn (arena own kept) e
+    → Stays (arena own kept) (arena own (kept ++ more)) e
+kept_more own kept more e h = by e.store e.start e.end h.rising h.within
+  where
+    by : (p : Store) (s t : ℕ) → s ≤ t → t ≤ length (symbols_of (arena own kept) p)
+        → Stays (arena own kept) (arena own (kept ++ more)) (span p s t)
+    by Own s t r w = record { inside = record { rising = r; within = w }; same = refl }
+    by Kept s t r w =
+        record {
+          inside = record { rising = r; within = omega (arith, w, length-append kept more) };
+          same = stretch_more kept more s t r w;
+        }
+
+-- a kept entry whatever the own symbols are
+pub kept_in : (own kept : List ℕ) (e : Span) → IsKept kept e → IsIn (arena own kept) e
+kept_in own kept e h = by e.store h.store
+  where
+    by : (p : Store) → p ≡ Kept → IsIn (arena own kept) (span p e.start e.end)
+    by Own q = absurd (cc)
+    by Kept q = record { rising = h.rising; within = h.within }
+
+pub kept_text : (own other kept : List ℕ) (e : Span) → IsKept kept e
+    → text_of (arena own kept) e ≡ text_of (arena other kept) e
+kept_text own other kept e h = by e.store h.store
+  where
+    by : (p : Store) → p ≡ Kept
+        → text_of (arena own kept) (span p e.start e.end)
+        ≡ text_of (arena other kept) (span p e.start e.end)
+    by Own q = absurd (cc)
+    by Kept q = refl
+
+pub kept_all_in : (own kept : List ℕ) (es : List Span) → All (IsKept kept) es
+    → All (IsIn (arena own kept)) es
+kept_all_in own kept es h = All-weaker (IsKept kept) (IsIn (arena own kept)) (kept_in own kept) es h
+
+pub kept_all_more : (kept more : List ℕ) (es : List Span) → All (IsKept kept) es
+    → All (IsKept (kept ++ more)) es
+kept_all_more kept more es h =
+    All-weaker (IsKept kept) (IsKept (kept ++ more))
+    (λ e i. record {
+      store = i.store;
+      rising = i.rising;
+      within = omega (arith, i.within, length-append kept more);
+    }) es h
+
+pub text_new : (own kept f : List ℕ) → text_of (arena (own ++ f) kept) (made_of own f) ≡ f
+text_new own kept f =
+    ap (take (length (own ++ f) - length own)) (drop_at own f (length own) refl)
+    ∙ take_all (length (own ++ f) - length own) f (omega (arith, length-append own f))
+
+pub new_in : (own kept f : List ℕ) → IsIn (arena (own ++ f) kept) (made_of own f)
+new_in own kept f = record { rising = omega (arith, length-append own f); within = omega arith }
+
+pub texts_push : (a : Arena) (es : List Span) (e : Span)
+    → texts a (es ++ e ∷ []) ≡ texts a es ++ text_of a e ∷ []
+texts_push a [] e = refl
+texts_push a (x ∷ es) e = ap (λ z. text_of a x ∷ z) (texts_push a es e)
+
+pub texts_take : (a : Arena) (n : ℕ) (es : List Span) → texts a (take n es) ≡ take n (texts a es)
+texts_take a zero es = refl
+texts_take a (suc n) [] = refl
+texts_take a (suc n) (e ∷ es) = ap (λ z. text_of a e ∷ z) (texts_take a n es)
+
+-- an entry's formula is of symbols of the database
+pub text_known : (n : ℕ) (a : Arena) (e : Span) → All (λ s. s < n) a.own → All (λ s. s < n) a.kept
+    → All (λ s. s < n) (text_of a e)
+text_known n a e ho hk =
+    All-take (λ s. s < n) (e.end - e.start) (drop e.start (symbols_of a e.store))
+    (All-drop (λ s. s < n) e.start (symbols_of a e.store) (list e.store))
+  where
+    list : (p : Store) → All (λ s. s < n) (symbols_of a p)
+    list Own = ho
+    list Kept = hk
+
+-- what parts say is of symbols of the database
+pub replaced_known : (n : ℕ) (a : Arena) (es : List Span) (f : List Part) → All (λ s. s < n) a.own
+    → All (λ s. s < n) a.kept → All (IsKnown n) f → All (λ s. s < n) (replaced a es f)
+replaced_known n a es f ho hk hf = go f (recursion_from_All (IsKnown n) f hf)
+  where
+    span : (p : Part) → IsKnown n p → All (λ s. s < n) (told a es p)
+    span (Variable j) h = text_known n a (rest (get_or es j nothing)) ho hk
+    span (Constant s) h = All-from_recursion (λ s. s < n) (s ∷ []) (h, tt)
+
+    go : (f : List Part) → AllByRecursion (IsKnown n) f → All (λ s. s < n) (replaced a es f)
+    go [] h = All-nil (λ s. s < n)
+    go (p ∷ f) h = All-append (λ s. s < n) _ _ (span p h.0) (go f h.1)
+
+-- a table written back
+pub written : {X : Type 0} (new old : List X) (n : ℕ) → length new ≡ n
+    → take n (new ++ drop (length new) old) ≡ new
+written new old n h = take_at new (drop (length new) old) n h

@@ -1,0 +1,10 @@
+pub mod FillLaw
+pub mod FollowLaw
+pub mod GrowLaw
+pub mod KeepLaw
+pub mod LongerLaw
+pub mod MarksLaw
+pub mod PlacedLaw
+pub mod RuleTestLaw
+pub mod StoresLaw
+pub mod StretchLaw

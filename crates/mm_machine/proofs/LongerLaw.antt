@@ -1,0 +1,25 @@
+-- Parts with their variables replaced are as long as their beginning and more.
+use Rattle.std.proofs.Common.{◌≡◌, ℕ, zero, suc, ◌+◌, ◌<◌, ◌≤◌, List, [], ◌∷◌, length, take, get_or}
+use Rattle.std.proofs.Common.{ap, ◌∙◌, arith, length-append}
+use Rattle.mm_machine.specs.declared.arena.Span.{Span}
+use Rattle.mm_rule.specs.declared.rule.Part.{Part}
+use Rattle.mm_machine.specs.Arena.{Arena}
+use Rattle.mm_machine.specs.Replaced.{told, replaced}
+
+module _ (a : Arena) (es : List Span) where
+  pub longer : (f : List Part) (i : ℕ) (p : Part) (u : List ℕ) → i < length f → get_or f i p ≡ p
+      → told a es p ≡ u → length (replaced a es (take i f)) + length u ≤ length (replaced a es f)
+  longer [] i p u h e is = absurd (omega arith)
+  longer (q ∷ f) zero p u h e is =
+      let here : length (told a es q) ≡ length u =
+      ap (λ z. length (told a es z)) e ∙ ap length is in
+      omega (arith, here, length-append (told a es q) (replaced a es f))
+  longer (q ∷ f) (suc i) p u h e is =
+      let r = longer f i p u (omega arith) e is in
+      omega (
+        arith,
+        r,
+        length-append (told a es q) (replaced a es f),
+        length-append (told a es q)
+            (replaced a es (take i f)),
+      )

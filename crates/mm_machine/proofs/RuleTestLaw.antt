@@ -1,0 +1,181 @@
+-- What stands for the variables by the entries of their hypotheses is what the substitution of the
+-- definitions does.
+use Rattle.std.proofs.Common.{◌≡◌, ℕ, zero, suc, ◌-◌, ◌<◌, ◌≤◌, Bool, true, false, ◌&&◌, List, []}
+use Rattle.std.proofs.Common.{◌∷◌, ◌++◌, length, take, drop, map, get_or, nat_le, refl, sym, ap}
+use Rattle.std.proofs.Common.{ap₂, ◌∙◌, arith, All, cond, IsTrue, le-leb, Err, length-drop}
+use Rattle.std.proofs.lemmas.List.{length-map}
+use Rattle.std.proofs.lemmas.List.Elements.{All-get_or, All-drop}
+use Rattle.std.proofs.lemmas.Bool.{lt-leb}
+use Rattle.mm_spec.specs.Valid.{too_few}
+use Rattle.std.specs.List.{list_all, AllByRecursion}
+use Rattle.mm_spec.specs.Derivation.{Formula, Pair, Substitution, substitute, are_apart}
+use Rattle.mm_spec.specs.Limits.{formula_limit}
+use Rattle.mm_spec.specs.Laws.Stack.{found, tail, same, apply, pick}
+use Rattle.mm_spec.specs.Laws.Complete.{IsBound, AreBound}
+use Rattle.mm_machine.specs.declared.arena.Span.{Span}
+use Rattle.mm_rule.specs.declared.rule.Hypothesis.{Hypothesis}
+use Rattle.mm_rule.specs.declared.rule.Part.{Part}
+use Rattle.mm_rule.specs.declared.rule.Part.TheVariants.{Constant, Variable}
+use Rattle.mm_spec.specs.Statement.{Statement}
+use Rattle.mm_spec.specs.Frame.{is_variable_number, frame_at}
+use Rattle.mm_spec.specs.Citation.{context_at}
+use Rattle.mm_machine.specs.Arena.{Arena, symbols_of, nothing, text_of, IsIn}
+use Rattle.mm_rule.specs.Rule.{first, parts_of, all_parts, Compiled, IsCompiled}
+use Rattle.mm_machine.specs.Replaced.{stands, told}
+use Rattle.mm_machine.specs.Replaced.{replaced}
+use Rattle.mm_machine.specs.State.{texts, applied}
+use Rattle.mm_rule.proofs.FirstLaw.{first_below, found_first}
+use Rattle.mm_machine.proofs.StretchLaw.{text_tail}
+
+text_at : (xs : Arena) (es : List Span) (j : ℕ) → j < length es
+    → text_of xs (get_or es j nothing) ≡ get_or (texts xs es) j []
+text_at xs [] j h = absurd (omega arith)
+text_at xs (e ∷ es) zero h = refl
+text_at xs (e ∷ es) (suc j) h = text_at xs es j (omega arith)
+
+module _ (k : List Statement) (t : ℕ) (hs : List Formula) (xs : Arena) (es : List Span)
+    (inside : All (IsIn xs) es) (count : length es ≡ length hs) where
+  abbrev pub σ : Substitution
+  σ = found (context_at k t) hs (texts xs es)
+
+  pub stands_is : (x : ℕ) → IsBound (context_at k t) hs x → stands xs es (first k hs x) ≡ σ x
+  stands_is x b =
+      let j = first k hs x in
+      let below : j < length hs = first_below k hs x b in
+      let here : IsIn xs (get_or es j nothing) =
+      All-get_or (IsIn xs) es j nothing (omega (arith, below, count)) inside in
+      let many : length (texts xs es) ≡ length hs = length-map es (text_of xs) ∙ count in
+      text_tail (symbols_of xs (get_or es j nothing).store) (get_or es j nothing).start
+      (get_or es j nothing).end here.rising
+      ∙ ap tail (text_at xs es j (omega (arith, below, count)))
+      ∙ sym (found_first k t hs (texts xs es) x many b)
+
+  pub one_same : (f : Formula) → AreBound (context_at k t) hs f
+      → replaced xs es (parts_of k hs f) ≡ substitute (context_at k t) σ f
+  one_same [] b = refl
+  one_same (s ∷ f) b = ap₂ (λ u v. u ++ v) (go (is_variable_number k s) b.0) (one_same f b.1)
+    where
+      go : (v : Bool) → (IsTrue v → IsBound (context_at k t) hs s)
+          → told xs es (cond v (Variable (first k hs s)) (Constant s)) ≡ cond v (σ s) (s ∷ [])
+      go true h = stands_is s (h refl)
+      go false h = refl
+
+  pub all_same : (fs : List Formula) → AllByRecursion (AreBound (context_at k t) hs) fs
+      → map (replaced xs es) (map (parts_of k hs) fs) ≡ map (substitute (context_at k t) σ) fs
+  all_same [] b = refl
+  all_same (f ∷ fs) b = ap₂ (λ u us. u ∷ us) (one_same f b.0) (all_same fs b.1)
+
+  abbrev pub apart : ℕ × ℕ → Bool
+  apart p = are_apart (context_at k t) (stands xs es p.0) (stands xs es p.1)
+
+  pub apart_same : (pairs : List Pair)
+      → AllByRecursion
+      (λ p. IsBound (context_at k t) hs p.low × IsBound (context_at k t) hs p.high) pairs
+      → list_all apart (map (λ (p : Pair). (first k hs p.low, first k hs p.high)) pairs)
+      ≡ list_all (λ p. are_apart (context_at k t) (σ p.low) (σ p.high)) pairs
+  apart_same [] b = refl
+  apart_same (p ∷ pairs) b =
+      ap₂ (λ u v. u && v)
+      (ap₂ (are_apart (context_at k t)) (stands_is p.low b.0.0) (stands_is p.high b.0.1))
+      (apart_same pairs b.1)
+
+pub length_all_parts : (parts : List Part) (j : ℕ) (more : List Hypothesis)
+    → length (all_parts parts j more) ≡ length more
+length_all_parts parts j [] = refl
+length_all_parts parts j (a ∷ more) = ap suc (length_all_parts parts (suc j) more)
+
+map_drop : (xs : Arena) (n : ℕ) (es : List Span) → drop n (texts xs es) ≡ texts xs (drop n es)
+map_drop xs zero es = refl
+map_drop xs (suc n) [] = refl
+map_drop xs (suc n) (e ∷ es) = map_drop xs n es
+
+-- the step of an assertion, by the tests that the code makes
+pub judged : (k : List Statement) (t : ℕ) (c : Compiled) (xs : Arena) (stack premises : List Span)
+    → IsCompiled k c → length c.hypotheses ≤ length stack
+    → premises ≡ drop (length stack - length c.hypotheses) stack → All (IsIn xs) premises
+    → length premises ≡ length c.hypotheses → (b1 b2 : Bool)
+    → b1 ≡ same (texts xs premises) (map (replaced xs premises) (all_parts c.parts 0 c.hypotheses))
+    → b2 ≡ list_all
+    (λ (p : ℕ × ℕ). are_apart (context_at k t) (stands xs premises p.0) (stands xs premises p.1))
+    c.pairs
+    → applied k t c.assertion (texts xs stack)
+    ≡ pick true b1 b2 (nat_le (length (replaced xs premises c.formula)) formula_limit)
+    (take (length stack - length c.hypotheses) (texts xs stack) ++ replaced xs premises c.formula ∷
+    [])
+judged k t c xs stack premises rule fits top inside many b1 b2 e1 e2 =
+    let a = frame_at k c.assertion in
+    let hs = a.hypotheses in
+    let es = texts xs stack in
+    let m = length stack - length c.hypotheses in
+    let long : length es ≡ length stack = length-map stack (text_of xs) in
+    let hypotheses : length c.hypotheses ≡ length hs =
+    sym (length_all_parts c.parts 0 c.hypotheses) ∙ ap length rule.hypotheses_are
+    ∙ length-map hs (parts_of k hs) in
+    let n : length es - length hs ≡ m = omega (arith, long, hypotheses) in
+    let enough : nat_le (length hs) (length es) ≡ true =
+    le-leb _ _ (omega (arith, long, hypotheses, fits)) in
+    let count : length premises ≡ length hs = many ∙ hypotheses in
+    let ps = texts xs premises in
+    let σ' : Substitution = σ k t hs xs premises inside count in
+    let h : map (substitute (context_at k t) σ') hs
+    ≡ map (replaced xs premises) (all_parts c.parts 0 c.hypotheses) = sym
+    (all_same k t hs xs premises inside count hs rule.complete.hypotheses)
+    ∙ ap (map (replaced xs premises)) (sym rule.hypotheses_are) in
+    let p : list_all (λ p. are_apart (context_at k t) (σ' p.low) (σ' p.high)) a.pairs ≡ b2 =
+    sym (apart_same k t hs xs premises inside count a.pairs rule.complete.pairs)
+    ∙ ap (list_all (apart k t hs xs premises inside count)) (sym rule.pairs_are) ∙ sym e2 in
+    let f : substitute (context_at k t) σ' a.formula ≡ replaced xs premises c.formula =
+    sym (one_same k t hs xs premises inside count a.formula rule.complete.formula)
+    ∙ ap (replaced xs premises) (sym rule.formula_is) in
+    ap₂ (λ b i. apply (context_at k t) a b (take i es) (drop i es)) enough n
+    ∙ ap (λ z. apply (context_at k t) a true (take m es) z)
+    (map_drop xs m stack ∙ ap (texts xs) (sym top))
+    ∙ ap₂ (λ x y. pick true x y
+    (nat_le (length (substitute (context_at k t) σ' a.formula)) formula_limit)
+    (take m es ++ substitute (context_at k t) σ' a.formula ∷ [])) (ap (same ps) h
+    ∙ sym e1) p
+    ∙ ap (λ z. pick true b1 b2 (nat_le (length z) formula_limit) (take m es ++ z ∷ [])) f
+
+-- the same by the values that the code has
+pub judged_at : (k : List Statement) (t : ℕ) (c : Compiled) (xs : Arena)
+    → (stack premises : List Span) (n below : ℕ)
+    → IsCompiled k c → n ≡ length c.hypotheses → n ≤ length stack → below ≡ length stack - n
+    → premises ≡ drop below stack → All (IsIn xs) stack → (ps : List (ℕ × ℕ)) → ps ≡ c.pairs
+    → (b1 b2 : Bool)
+    → b1 ≡ same (texts xs premises) (map (replaced xs premises) (all_parts c.parts 0 c.hypotheses))
+    → b2 ≡ list_all
+    (λ (p : ℕ × ℕ). are_apart (context_at k t) (stands xs premises p.0) (stands xs premises p.1)) ps
+    → applied k t c.assertion (texts xs stack)
+    ≡ pick true b1 b2 (nat_le (length (replaced xs (drop below stack) c.formula)) formula_limit)
+    (take below (texts xs stack) ++ replaced xs (drop below stack) c.formula ∷ [])
+judged_at k t c xs stack premises n below rule count fits at top all ps ps_are b1 b2 e1 e2 =
+    let here : below ≡ length stack - length c.hypotheses = omega (arith, at, count) in
+    let many : length (drop below stack) ≡ length c.hypotheses =
+    omega (arith, at, count, fits, length-drop below stack) in
+    judged k t c xs stack (drop below stack) rule (omega (arith, count, fits))
+    (ap (λ b. drop b stack) here) (All-drop (IsIn xs) below stack all) many b1 b2
+    (e1 ∙ ap (λ z. same (texts xs z) (map (replaced xs z) (all_parts c.parts 0 c.hypotheses))) top)
+    (e2 ∙ ap
+    (λ z. list_all
+    (λ (p : ℕ × ℕ). are_apart (context_at k t) (stands xs z p.0) (stands xs z p.1)) ps) top
+    ∙ ap (λ z. list_all
+    (λ (p : ℕ × ℕ). are_apart (context_at k t) (stands xs (drop below stack) p.0)
+    (stands xs (drop below stack) p.1)) z) ps_are)
+    ∙ ap (λ b. pick true b1 b2
+    (nat_le (length (replaced xs (drop below stack) c.formula)) formula_limit)
+    (take b (texts xs stack) ++ replaced xs (drop below stack) c.formula ∷ [])) (sym here)
+
+-- too few entries
+pub few_at : (k : List Statement) (t : ℕ) (c : Compiled) (xs : Arena) (stack : List Span)
+    → IsCompiled k c → length stack < length c.hypotheses
+    → applied k t c.assertion (texts xs stack) ≡ Err too_few
+few_at k t c xs stack rule few =
+    let a = frame_at k c.assertion in
+    let es = texts xs stack in
+    let long : length es ≡ length stack = length-map stack (text_of xs) in
+    let hypotheses : length c.hypotheses ≡ length a.hypotheses =
+    sym (length_all_parts c.parts 0 c.hypotheses) ∙ ap length rule.hypotheses_are
+    ∙ length-map a.hypotheses (parts_of k a.hypotheses) in
+    let n = length es - length a.hypotheses in
+    ap (λ b. apply (context_at k t) a b (take n es) (drop n es))
+    (lt-leb (length a.hypotheses) (length es) (omega (arith, long, hypotheses, few)))

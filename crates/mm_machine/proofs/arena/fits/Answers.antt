@@ -1,0 +1,85 @@
+use Rattle.std.proofs.Common.{◌≡◌, ◌≤◌, ◌<◌, ◌+◌, ◌-◌, ◌&&◌, true, false, sym, ap, ◌∙◌, arith}
+use Rattle.std.proofs.Common.{get_or, slice_range, nat_eq, eq-eqb, eqb-true, length, ◌∷◌, []}
+use Rattle.std.specs.List.{starts_with}
+use Rattle.std.proofs.lemmas.List.{get_or_default}
+use Rattle.std.proofs.lemmas.Bool.{not-false}
+use Rattle.mm_machine.specs.Arena.{symbols_of, text_of}
+use Rattle.mm_machine.specs.Replaced.{told}
+use Rattle.mm_machine.proofs.StretchLaw.{one_more, rest_fits, first_is, fits_in, length_text}
+use Rattle.mm_machine.proofs.arena.fits.Goals.{in-Variable+else-not-begins}
+use Rattle.mm_machine.proofs.arena.fits.Goals.{in-Constant+else-at-premise+else-ne}
+use Rattle.mm_machine.proofs.arena.fits.Goals as goal
+
+pub returns-then-not-begins : goal.returns-then-not-begins
+returns-then-not-begins c =
+    let arena = c.args.symbols.now in
+    let xs = symbols_of arena c.args.premise.store in
+    let es = c.args.premises.now in
+    let w = c.args.wanted.now in
+    let i = c.loop-part.part-index in
+    let a = c.loop-part.at in
+    let e = c.args.premise.end in
+    let p = c.span_of-span.result in
+    let inside : i < length w = c.loop-part-test.true in
+    let is : told arena es c.part-item.result ≡ text_of arena p =
+    ap (told arena es) c.in-Variable.is ∙ sym (ap (text_of arena) c.span_of-span.ensures.span) in
+    let no : starts_with nat_eq (slice_range xs a e) (text_of arena p) ≡ false =
+    sym c.begins.ensures.value ∙ c.if-not-begins.true in
+    sym (c.loop-part.invariant.left
+    ∙ one_more arena es xs w i a e inside c.part-item.result (text_of arena p)
+    (sym c.part-item.is) is
+    ∙ ap (λ b. b && rest_fits arena es xs w i a e inside (length (text_of arena p))) no)
+
+pub loop-part-preserved : goal.loop-part-preserved
+loop-part-preserved c =
+    let arena = c.args.symbols.now in
+    let xs = symbols_of arena c.args.premise.store in
+    let es = c.args.premises.now in
+    let w = c.args.wanted.now in
+    let i = c.loop-part.part-index in
+    let a = c.loop-part.at in
+    let e = c.args.premise.end in
+    let inside : i < length w = c.loop-part-test.true in
+    elim c.match-part.branch [
+      | in-Variable+else-not-begins b ↦
+          let p = b.span_of-span.result in
+          let is : told arena es c.part-item.result ≡ text_of arena p =
+          ap (told arena es) b.in-Variable.is
+          ∙ sym (ap (text_of arena) b.span_of-span.ensures.span) in
+          let yes : starts_with nat_eq (slice_range xs a e) (text_of arena p) ≡ true =
+          sym b.begins.ensures.value ∙ b.if-not-begins.false in
+          let upto : a + length (text_of arena p) ≤ e =
+          fits_in xs a e (text_of arena p) c.loop-part.invariant.upto yes in
+          let long : length (text_of arena p) ≡ p.end - p.start =
+          length_text arena p b.span_of-span.ensures.inside in
+          rw b.at-is (record {
+            from = omega (arith, c.loop-part.invariant.from);
+            upto = omega (arith, upto, long);
+            left =
+                c.loop-part.invariant.left
+                ∙ one_more arena es xs w i a e inside c.part-item.result (text_of arena p)
+                (sym c.part-item.is) is
+                ∙ ap (λ z. z && rest_fits arena es xs w i a e inside (length (text_of arena p))) yes
+                ∙ ap (rest_fits arena es xs w i a e inside) long;
+          })
+      | in-Constant+else-at-premise+else-ne b ↦
+          let s = b.in-Constant.s in
+          let short : a < e = b.if-at-premise.false in
+          let top : e ≤ length xs = c.requires.premise.within in
+          let r = b.index-list-at.result in
+          let here : r ≡ get_or xs a 0 =
+          b.index-list-at.is ∙ ap (λ z. get_or z a r) c.list-list.ensures
+          ∙ get_or_default xs a r 0 (omega (arith, short, top)) in
+          let same_symbol : r ≡ s = eqb-true r s (not-false _ (sym b.ne.ensures ∙ b.if-ne.false)) in
+          let yes : starts_with nat_eq (slice_range xs a e) (s ∷ []) ≡ true =
+          first_is xs a e s short top ∙ eq-eqb s (get_or xs a 0) (sym same_symbol ∙ here) in
+          rw b.at-is (record {
+            from = omega (arith, c.loop-part.invariant.from);
+            upto = omega arith;
+            left =
+                c.loop-part.invariant.left
+                ∙ one_more arena es xs w i a e inside c.part-item.result (s ∷ [])
+                (sym c.part-item.is) (ap (told arena es) b.in-Constant.is)
+                ∙ ap (λ z. z && rest_fits arena es xs w i a e inside 1) yes;
+          })
+    ]

@@ -1,0 +1,40 @@
+use Rattle.std.proofs.Common.{◌≡◌, ℕ, zero, suc, ◌<◌, Bool, ◌&&◌, true, false, List, [], ◌∷◌, All}
+use Rattle.std.proofs.Common.{length, subst, ap, ap₂, sym, ◌∙◌, arith, get_or}
+use Rattle.std.specs.List.{list_all}
+use Rattle.std.proofs.Math.Bool.{and-false}
+use Rattle.mm_spec.specs.Derivation.{are_apart}
+use Rattle.mm_spec.specs.Citation.{context_at}
+use Rattle.mm_spec.specs.Frame.{symbol_names}
+use Rattle.mm_machine.specs.Arena.{text_of}
+use Rattle.mm_machine.specs.Replaced.{stands}
+use Rattle.mm_machine.proofs.GrowLaw.{text_known}
+use Rattle.mm_machine.proofs.arena.pairs_apart.Goals as goal
+
+-- a pair that fails
+fails_at : (test : ℕ × ℕ → Bool) (ps : List (ℕ × ℕ)) (i : ℕ) → i < length ps
+    → test (get_or ps i (0, 0)) ≡ false → list_all test ps ≡ false
+fails_at test [] i h e = absurd (omega arith)
+fails_at test (q ∷ ps) zero h e = ap (λ b. b && list_all test ps) e
+fails_at test (q ∷ ps) (suc i) h e =
+    ap (λ b. test q && b) (fails_at test ps i (omega arith) e) ∙ and-false (test q)
+
+pub returns-then-not-are_apart-clause-value : goal.returns-then-not-are_apart-clause-value
+returns-then-not-are_apart-clause-value g c =
+    let k = context_at c.args.db.now.statements c.args.theorem in
+    let xs = c.args.symbols.now in
+    let es = c.args.premises.now in
+    let p = get_or c.args.pairs.now c.loop-pair.pair-index (0, 0) in
+    let fails : are_apart k (stands xs es p.0) (stands xs es p.1) ≡ false =
+    ap₂ (are_apart k) (sym (c.text-first.ensures ∙ ap (text_of xs) c.span_of.ensures.span))
+    (sym (c.text-second.ensures ∙ ap (text_of xs) c.span_of-in-loop-pair.ensures.span))
+    ∙ sym c.are_apart.ensures.value ∙ c.if-not-are_apart.true in
+    sym (fails_at
+    (λ (q : ℕ × ℕ). are_apart k (stands xs es q.0) (stands xs es q.1)) c.args.pairs.now
+    c.loop-pair.pair-index c.loop-pair-test.true fails)
+
+pub are_apart-requires-clause-second : goal.are_apart-requires-clause-second
+are_apart-requires-clause-second g c =
+    let n = length (symbol_names c.args.db.now.statements) in
+    subst (All (λ s. s < n)) (sym c.text-second.ensures)
+    (text_known n c.args.symbols.now c.span_of-in-loop-pair.result c.requires.own
+    c.requires.kept)

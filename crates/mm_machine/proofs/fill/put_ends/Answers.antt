@@ -1,0 +1,19 @@
+use Rattle.std.proofs.Common.{◌-◌, arith, ap, length, refl}
+use Rattle.std.proofs.lemmas.List.{length-take-le, length-drop, take_rest}
+use Rattle.mm_machine.proofs.FillLaw.{put_twice}
+use Rattle.mm_machine.proofs.fill.put_ends.Goals as goal
+
+pub returns-clause-is : goal.returns-clause-is
+returns-clause-is c =
+    let text = c.args.text.now in
+    let w = c.args.width in
+    let many = c.requires.many in
+    let few = c.requires.few in
+    let room = c.requires.room in
+    let end = take_rest text (length text - w) in
+    let long = ap length end in
+    let dropped = length-drop (length text - w) text in
+    put_twice c.args.list.now c.put_all.new.list c.put_all-2.new.list text _ _ c.args.at w _
+    (omega (arith, many)) (omega (arith, few)) (omega (arith, room)) refl end
+    (length-take-le w text many) (omega (arith, long, dropped, many)) c.put_all.ensures.is
+    c.put_all-2.ensures.is

@@ -1,0 +1,28 @@
+use Rattle.std.proofs.Common.{◌<◌, length, ap, sym, subst, arith}
+use Rattle.std.proofs.lemmas.List.Elements.{All-get_or}
+use Rattle.mm_machine.specs.State.{IsKept}
+use Rattle.mm_machine.proofs.FollowLaw.{repeat_stack}
+use Rattle.mm_machine.proofs.machine.Machine.repeat.Goals as goal
+
+pub invariant_of-self-2 : goal.invariant_of-self-2
+invariant_of-self-2 g c =
+    let i = c.self.invariant in
+    let e = c.index.result.now in
+    let inside : c.find-n.result < length c.self.inside.marked.items =
+    let n = ap length c.deref.ensures.value in omega (arith, c.find-n.ensures.below, i.count, n) in
+    let kept : IsKept c.self.inside.kept.items e =
+    subst (IsKept c.self.inside.kept.items) (sym c.index.ensures)
+    (All-get_or
+    (IsKept c.self.inside.kept.items) c.self.inside.marked.items c.find-n.result e inside
+    i.marked_in) in
+    record {
+      known_own = i.known_own;
+      known_kept = i.known_kept;
+      is_stack =
+          rw c.in_ok-push.ensures.items
+          (repeat_stack c.self.inside.own.items c.self.inside.kept.items c.self.inside.stack.items
+          i.is_stack e kept);
+      marked_in = i.marked_in;
+      rising = i.rising;
+      count = i.count;
+    }

@@ -1,0 +1,80 @@
+use Rattle.std.proofs.Common.{◌≡◌, ◌+◌, ◌-◌, ◌++◌, length, get_or, slice_range, slice_set, sym}
+use Rattle.std.proofs.Common.{ap, ap₂, ◌∙◌, arith, rules}
+use Rattle.std.proofs.lemmas.List.{get_or_default}
+use Rattle.mm_machine.specs.declared.arena.Store.TheVariants.{Kept}
+use Rattle.mm_machine.specs.Arena.{span, nothing}
+use Rattle.mm_machine.proofs.FollowLaw.{kept_top, kept_top_is, IsMoved, moved_here, no_move}
+use Rattle.mm_machine.proofs.machine.keep.Given.{Over}
+use Rattle.mm_machine.proofs.machine.keep.Goals as goal
+
+pub returns-in_err-extend_from_slice-in-Own-clause-moved :
+    goal.returns-in_err-extend_from_slice-in-Own-clause-moved
+returns-in_err-extend_from_slice-in-Own-clause-moved g c =
+    rw c.in_err-extend_from_slice-in-Own.ensures.items
+    (no_move c.args.own.now.items c.args.kept.now.items)
+
+pub returns-in-Kept-clause-moved : goal.returns-in-Kept-clause-moved
+returns-in-Kept-clause-moved g c = no_move c.args.own.now.items c.args.kept.now.items
+
+pub returns-in-Kept-clause-made : goal.returns-in-Kept-clause-made
+returns-in-Kept-clause-made g c =
+    let own = c.args.own.now.items in
+    let kept = c.args.kept.now.items in
+    let es = c.args.stack.now.items in
+    let last = c.len-last.result - 1 in
+    let e = c.index-entry.result.now in
+    let long : c.len-last.result ≡ length es = search rules in
+    let is_last : last + 1 ≡ length es = omega (arith, long, c.requires.entry) in
+    let is : e ≡ get_or es last nothing =
+    c.index-entry.ensures ∙ sym (get_or_default es last nothing e (omega (arith, is_last))) in (
+      kept_top own kept es last e is_last is c.requires.stack c.in-Kept.is,
+      kept_top_is own kept es
+          last e is_last is c.requires.stack c.in-Kept.is,
+    )
+
+-- the formula on top is an own one, and has been moved
+moved : (g : Over) (c : goal.After-stack-1 g)
+    → IsMoved c.args.own.now.items c.args.kept.now.items c.args.stack.now.items
+    c.truncate.new.self.items c.extend_from_slice.new.self.items
+    (slice_set c.args.stack.now.items (c.len-last.result - 1)
+    (span Kept c.len-start.result c.len.result))
+    (span Kept c.len-start.result c.len.result)
+moved g c =
+    let own = c.args.own.now.items in
+    let kept = c.args.kept.now.items in
+    let es = c.args.stack.now.items in
+    let last = c.len-last.result - 1 in
+    let e = c.index-entry.result.now in
+    let long : c.len-last.result ≡ length es = search rules in
+    let is_last : last + 1 ≡ length es = omega (arith, long, c.requires.entry) in
+    let is : e ≡ get_or es last nothing =
+    c.index-entry.ensures ∙ sym (get_or_default es last nothing e (omega (arith, is_last))) in
+    let more = slice_range own e.start e.end in
+    let grown : c.extend_from_slice.new.self.items ≡ kept ++ more =
+    c.in_ok-extend_from_slice-in-Own.ensures.items
+    ∙ ap (λ z. kept ++ slice_range z e.start e.end) c.deref.ensures.value in
+    let start : c.len-start.result ≡ length kept = search rules in
+    let end : c.len.result ≡ length c.extend_from_slice.new.self.items = search rules in
+    let made : span Kept c.len-start.result c.len.result
+    ≡ span Kept (length kept) (length (kept ++ more)) = ap₂ (span Kept) start
+    (end ∙ ap length grown) in
+    moved_here own kept es last e is_last is c.requires.stack c.in-Own.is c.truncate.new.self.items
+    c.extend_from_slice.new.self.items
+    (span Kept c.len-start.result c.len.result) c.truncate.ensures.items grown made
+
+pub returns-in_ok-extend_from_slice-in-Own-clause-stack :
+    goal.returns-in_ok-extend_from_slice-in-Own-clause-stack
+returns-in_ok-extend_from_slice-in-Own-clause-stack g c = (moved g c).is_stack
+
+pub returns-in_ok-extend_from_slice-in-Own-clause-texts :
+    goal.returns-in_ok-extend_from_slice-in-Own-clause-texts
+returns-in_ok-extend_from_slice-in-Own-clause-texts g c = (moved g c).says
+
+pub returns-in_ok-extend_from_slice-in-Own-clause-moved :
+    goal.returns-in_ok-extend_from_slice-in-Own-clause-moved
+returns-in_ok-extend_from_slice-in-Own-clause-moved g c = (moved g c).moves
+
+pub returns-in_ok-extend_from_slice-in-Own-clause-made :
+    goal.returns-in_ok-extend_from_slice-in-Own-clause-made
+returns-in_ok-extend_from_slice-in-Own-clause-made g c =
+    ((moved g c).is_kept, (moved g c).on_top)

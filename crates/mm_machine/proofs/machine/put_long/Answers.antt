@@ -1,0 +1,66 @@
+use Rattle.std.proofs.Common.{◌≡◌, ◌<◌, All, Ok, [], ◌∷◌, ◌++◌, length, take, nat_le, sym, ap, ◌∙◌}
+use Rattle.mm_spec.specs.Frame.{symbol_names}
+use Rattle.mm_machine.specs.Arena.{arena}
+use Rattle.mm_machine.specs.State.{texts, applied}
+use Rattle.mm_spec.specs.Limits.{formula_limit}
+use Rattle.mm_machine.proofs.PlacedLaw.{placed, made_known, too_long_here, same_formula}
+use Rattle.mm_machine.proofs.machine.put_long.Given.{Over}
+use Rattle.mm_machine.proofs.machine.put_long.Goals as goal
+use Rattle.mm_machine.proofs.machine.put_long.Goals.{After-put}
+
+-- the formula that was made has known symbols, and is what the step says
+made_here : (g : Over) (c : After-put g)
+    → All (λ s. s < length (symbol_names c.args._db.now.statements)) c.deref-in-Ok-true.result.now
+    × (applied c.args._db.now.statements c.args._theorem c.args.rule.now.assertion
+    (texts (arena c.args.own.now.items c.args.kept.now) c.args.stack.now.items)
+    ≡ Ok (take c.args.below
+    (texts (arena c.args.own.now.items c.args.kept.now) c.args.stack.now.items)
+    ++ c.deref-in-Ok-true.result.now ∷ []))
+made_here g c =
+    let k = c.args._db.now.statements in
+    let own = c.args.own.now.items in
+    let stack = c.args.stack.now.items in
+    let made = c.deref-in-Ok-true.result.now in
+    let first =
+    c.deref-in-Ok-true.ensures.value ∙ c.in-Ok-true.ensures.made c.in-Ok-true.field-0-test in
+    let same =
+    same_formula k c.args._theorem c.args.rule.now own c.args.kept.now stack c.args.below
+    c.as_slice.result.now c.deref.result.now c.formula.result.now c.as_slice.ensures.value
+    c.deref.ensures.value c.formula.ensures in (
+      made_known k c.args._theorem c.args.rule.now own c.args.kept.now stack c.args.below made
+          c.requires.judged (first ∙ same) c.requires.rule c.requires.known_own
+          c.requires.known_kept,
+      placed k c.args._theorem c.args.rule.now own c.args.kept.now stack c.args.below made
+          c.requires.judged (first ∙ same)
+          (ap (λ z. nat_le (length z) formula_limit) first ∙ sym c.in-Ok-true.ensures.short
+          ∙ c.in-Ok-true.field-0-test),
+    )
+
+pub returns-in-Err-put-clause-known_own : goal.returns-in-Err-put-clause-known_own
+returns-in-Err-put-clause-known_own g c =
+    let made = made_here g (goal.at.returns-in-Err-put-clause-known_own g c).After-put in
+    c.put.ensures.known_own _ c.requires.known_own made.0
+
+pub returns-in-Ok-clause-known_own : goal.returns-in-Ok-clause-known_own
+returns-in-Ok-clause-known_own g c =
+    let made = made_here g (goal.at.returns-in-Ok-clause-known_own g c).After-put in
+    c.put.ensures.known_own _ c.requires.known_own made.0
+
+pub returns-in-Ok-false-clause-stopped : goal.returns-in-Ok-false-clause-stopped
+returns-in-Ok-false-clause-stopped g c =
+    let k = c.args._db.now.statements in
+    let own = c.args.own.now.items in
+    let stack = c.args.stack.now.items in
+    let same =
+    same_formula k c.args._theorem c.args.rule.now own c.args.kept.now stack c.args.below
+    c.as_slice.result.now c.deref.result.now c.formula.result.now c.as_slice.ensures.value
+    c.deref.ensures.value c.formula.ensures in
+    too_long_here k c.args._theorem c.args.rule.now own c.args.kept.now stack c.args.below
+    c.requires.judged
+    (ap (λ z. nat_le (length z) formula_limit) (sym same) ∙ sym c.in-Ok-false.ensures.short
+    ∙ c.in-Ok-false.field-0-test)
+
+pub returns-in-Ok-clause-made : goal.returns-in-Ok-clause-made
+returns-in-Ok-clause-made g c =
+    (made_here g (goal.at.returns-in-Ok-clause-made g c).After-put).1
+    ∙ ap Ok (sym c.in-Ok.ensures.stack)

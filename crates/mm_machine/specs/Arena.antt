@@ -1,0 +1,42 @@
+-- Formulas as stretches of two lists of symbols.
+use Rattle.std.specs.Prelude.{◌≡◌, ℕ, ◌+◌, ◌≤◌, true, All, List, length, slice_range, map, min}
+use Rattle.mm_spec.specs.Statement.{Statement}
+use Rattle.mm_spec.specs.Derivation.{Formula, Pair, pair, are_disjoint}
+use Rattle.mm_spec.specs.Citation.{context_at}
+use Rattle.mm_machine.specs.declared.arena.Span.{Span}
+use Rattle.mm_machine.specs.declared.arena.Store.{Store}
+use Rattle.mm_machine.specs.declared.arena.Store.TheVariants.{Own, Kept}
+
+-- the symbols of the formulas that only the stack holds, and those of the marked formulas
+pub record Arena : Type 0 where
+  pub own : List ℕ
+  pub kept : List ℕ
+
+abbrev pub arena : List ℕ → List ℕ → Arena
+arena own kept = record { own = own; kept = kept }
+
+abbrev pub symbols_of : Arena → Store → List ℕ
+symbols_of a Own = a.own
+symbols_of a Kept = a.kept
+
+abbrev pub span : Store → ℕ → ℕ → Span
+span p s e = record { store = p; start = s; end = e }
+
+abbrev pub nothing : Span
+nothing = span Own 0 0
+
+abbrev pub text_of : Arena → Span → Formula
+text_of a e = slice_range (symbols_of a e.store) e.start e.end
+
+-- the entry is a stretch of its list
+pub record IsIn (a : Arena) (e : Span) : Type 0 where
+  pub rising : e.start ≤ e.end
+  pub within : e.end ≤ length (symbols_of a e.store)
+
+-- the entry without its first symbol
+abbrev pub rest : Span → Span
+rest e = span e.store (min (e.start + 1) e.end) e.end
+
+-- each of the pairs of symbols is disjoint at the theorem
+abbrev pub AreApart : List Statement → ℕ → List (ℕ × ℕ) → Type 0
+AreApart k t ps = All (λ (p : ℕ × ℕ). are_disjoint (context_at k t) p.0 p.1 ≡ true) ps

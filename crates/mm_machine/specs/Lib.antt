@@ -1,0 +1,4 @@
+pub mod Arena
+pub mod Replaced
+pub mod State
+pub mod Stops

@@ -1,0 +1,19 @@
+-- The parts of a rule, with each variable replaced.
+use Rattle.std.specs.Prelude.{ℕ, List, [], ◌∷◌, get_or, flat_map}
+use Rattle.mm_spec.specs.Derivation.{Formula}
+use Rattle.mm_rule.specs.declared.rule.Part.{Part}
+use Rattle.mm_rule.specs.declared.rule.Part.TheVariants.{Constant, Variable}
+use Rattle.mm_machine.specs.declared.arena.Span.{Span}
+use Rattle.mm_machine.specs.Arena.{Arena, nothing, rest, text_of}
+
+-- what replaces the variable of hypothesis `j`; `es` are the entries of the hypotheses
+abbrev pub stands : Arena → List Span → ℕ → List ℕ
+stands a es j = text_of a (rest (get_or es j nothing))
+
+abbrev pub told : Arena → List Span → Part → List ℕ
+told a es (Constant s) = s ∷ []
+told a es (Variable j) = stands a es j
+
+-- the parts with each variable replaced
+abbrev pub replaced : Arena → List Span → List Part → Formula
+replaced a es f = flat_map (told a es) f

@@ -1,0 +1,106 @@
+-- The entries of a proof in progress.
+use Rattle.std.specs.Prelude.{ℕ, ◌<◌, ◌≤◌, ◌≡◌, ◌+◌, ◌++◌, ◌∷◌, Bool, true, false, List, [], map}
+use Rattle.std.specs.Prelude.{take, drop, length, get_or, All, Result, Ok, Err, Some, nat_le}
+use Rattle.mm_spec.specs.Statement.{Statement}
+use Rattle.mm_spec.specs.Derivation.{Formula, assertion}
+use Rattle.mm_spec.specs.Limits.{formula_limit}
+use Rattle.mm_spec.specs.Valid.{Reason as SpecReason, too_few, unmatched, not_apart, too_long}
+use Rattle.mm_spec.specs.Frame.{frame_at}
+use Rattle.mm_spec.specs.Citation.{context_at}
+use Rattle.mm_spec.specs.Laws.Stack.{step, pick, top}
+use Rattle.mm_machine.specs.declared.arena.Span.{Span}
+use Rattle.mm_machine.specs.declared.arena.Reason.{Reason}
+use Rattle.mm_machine.specs.declared.arena.Reason.TheVariants.{TooFew, Unmatched, NotApart, TooLong}
+use Rattle.mm_machine.specs.declared.arena.Store.TheVariants.{Own, Kept}
+use Rattle.mm_machine.specs.Arena.{Arena, arena, span, text_of, IsIn}
+use Rattle.mm_rule.specs.Rule.{Compiled}
+use Rattle.mm_machine.specs.Replaced.{replaced}
+
+-- the formulas of the entries, the marked steps so far, the formulas with which they ended, and how
+-- many symbols there are
+pub record State : Type 0 where
+  pub stack : List Formula
+  pub marks : List ℕ
+  pub formulas : List Formula
+  pub width : ℕ
+
+abbrev pub state : List Formula → List ℕ → List Formula → ℕ → State
+state stack marks formulas width =
+    record { stack = stack; marks = marks; formulas = formulas; width = width }
+
+-- the state after step `i`, whose formula is kept if the step is marked
+abbrev pub with_mark : Bool → ℕ → State → State
+with_mark false i s = s
+with_mark true i s = state s.stack (s.marks ++ i ∷ []) (s.formulas ++ top s.stack ∷ []) s.width
+
+abbrev pub texts : Arena → List Span → List Formula
+texts a es = map (text_of a) es
+
+-- The entries' own formulas follow one another without gaps, from place `from` to place `to`. So no
+-- other symbols are held for them.
+abbrev pub Follow : ℕ → List Span → ℕ → Type 0
+Follow from [] to = from ≡ to
+Follow from (e ∷ es) to =
+    elim e.store
+    [ Own ↦ (e.start ≡ from) × (from ≤ e.end) × Follow e.end es to | Kept ↦ Follow from es to ]
+
+-- where the first of the entries' own formulas begins
+abbrev pub first_own : List Span → ℕ → ℕ
+first_own [] end = end
+first_own (e ∷ es) end = elim e.store [ Own ↦ e.start | Kept ↦ first_own es end ]
+
+-- the entries are stretches of the symbols
+pub record IsStack (own kept : List ℕ) (es : List Span) : Type 0 where
+  pub inside : All (IsIn (arena own kept)) es
+  pub follow : Follow 0 es (length own)
+
+-- the entry of a formula that was appended to the own ones
+abbrev pub made_of : List ℕ → Formula → Span
+made_of own f = span Own (length own) (length (own ++ f))
+
+-- own symbols became kept ones, and some were removed
+pub record Moves (own kept own' kept' : List ℕ) : Type 0 where
+  pub more : List ℕ
+  pub kept_is : kept' ≡ kept ++ more
+  pub known : (w : ℕ) → All (λ s. s < w) own → All (λ s. s < w) more × All (λ s. s < w) own'
+
+-- the entry is a stretch of the marked formulas
+pub record IsKept (kept : List ℕ) (e : Span) : Type 0 where
+  pub store : e.store ≡ Kept
+  pub rising : e.start ≤ e.end
+  pub within : e.end ≤ length kept
+
+abbrev pub IsRising : List ℕ → Type 0
+IsRising ns = (a b : ℕ) → a ≤ b → b < length ns → get_or ns a 0 ≤ get_or ns b 0
+
+-- all symbols are less than `width`, and the lists fit together
+pub record IsMachine (own kept : List ℕ) (es : List Span) (marks : List ℕ) (marked : List Span)
+    (width : ℕ) : Type 0 where
+  pub known_own : All (λ s. s < width) own
+  pub known_kept : All (λ s. s < width) kept
+  pub is_stack : IsStack own kept es
+  pub marked_in : All (IsKept kept) marked
+  pub rising : IsRising marks
+  pub count : length marks ≤ length marked
+
+abbrev pub reason_of : Reason → SpecReason
+reason_of TooFew = too_few
+reason_of Unmatched = unmatched
+reason_of NotApart = not_apart
+reason_of TooLong = too_long
+
+-- the entries after the step of an assertion
+abbrev pub applied : List Statement → ℕ → ℕ → List Formula → Result (List Formula) SpecReason
+applied k t a es = step (context_at k t) (Some (assertion (frame_at k a))) es
+
+-- what a test of a rule says: how many entries stay below the formula that the step pushes if it is
+-- short enough, or why the step fails
+abbrev pub TestsRule : List Statement → ℕ → Compiled → Arena → List Span → Result ℕ Reason → Type 0
+TestsRule k t c symbols stack (Ok below) =
+    (length stack ≡ below + length c.hypotheses)
+    × (applied k t c.assertion (texts symbols stack)
+    ≡ pick true true true
+    (nat_le (length (replaced symbols (drop below stack) c.formula)) formula_limit)
+    (take below (texts symbols stack) ++ replaced symbols (drop below stack) c.formula ∷ []))
+TestsRule k t c symbols stack (Err reason) =
+    applied k t c.assertion (texts symbols stack) ≡ Err (reason_of reason)

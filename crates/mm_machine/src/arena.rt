@@ -1,0 +1,417 @@
+//! Formulas as stretches of two lists of symbols, and the tests of an assertion's step on them.
+
+ghost use Rattle.std.specs.Prelude.{◌≡◌, ◌<◌, ◌≤◌, ℕ, All, length, slice_range, bytes_eq, nat_eq};
+ghost use Rattle.std.specs.Prelude.{map, List, OnOk, OnErr, IfOk, true, ◌++◌, ◌∷◌, nat_le, get_or};
+ghost use Rattle.std.specs.Prelude.{◌+◌};
+ghost use Rattle.std.specs.List.{starts_with, list_all};
+ghost use Rattle.mm_spec.specs.Derivation.{are_apart as apart_lists, is_apart as apart_symbol};
+ghost use Rattle.mm_spec.specs.Derivation.{are_disjoint as disjoint_pair};
+ghost use Rattle.mm_spec.specs.Limits.{formula_limit};
+ghost use Rattle.mm_spec.specs.Frame.{symbol_names};
+ghost use Rattle.mm_spec.specs.Citation.{context_at};
+ghost use Rattle.mm_spec.specs.Laws.Stack.{same};
+ghost use Rattle.mm_machine.specs.Arena.{nothing, rest, symbols_of, text_of, IsIn, AreApart};
+ghost use Rattle.mm_rule.specs.Rule.{IsHypothesisIn, IsBelow, IsCompiled, all_parts};
+ghost use Rattle.mm_machine.specs.Replaced.{stands};
+ghost use Rattle.mm_machine.specs.Replaced.{replaced};
+ghost use Rattle.mm_machine.specs.State.{TestsRule};
+
+use crate::apart::Apart;
+use mm_rule::{Hypothesis, Part, Rule};
+use mm_spec::FORMULA_LIMIT;
+use mm_stmt::{Database, Sym};
+use std::alloc::{AllocError, Allocator};
+use std::marker::Model;
+
+/// The list that contains a formula.
+#[derive(Clone, Copy, PartialEq, Eq, Drop)]
+pub enum Store {
+    /// The list of the formulas that only the stack holds.
+    Own,
+    /// The list of the marked formulas.
+    Kept,
+}
+
+/// A stretch of one of the lists of symbols.
+#[derive(Clone, Copy, Drop)]
+pub struct Span {
+    pub store: Store,
+    pub start: usize,
+    pub end: usize,
+}
+
+/// The lists of symbols.
+#[derive(Drop)]
+pub struct Symbols<'a> {
+    pub own: &'a [Sym],
+    pub kept: &'a [Sym],
+}
+
+impl<'a> Model for Symbols<'a> {
+    ghost use Rattle.mm_machine.specs.Arena.{Arena, arena};
+
+    ghost Value = { Arena };
+
+    ghost view = { λ s. arena s.own.now s.kept.now };
+}
+
+impl<'a> Symbols<'a> {
+    /// One of the lists.
+    fn list(&self, store: Store) -> &'a [Sym]
+        ensures { result.now ≡ symbols_of self.now store }
+    {
+        match store {
+            Store::Own => self.own,
+            Store::Kept => self.kept,
+        }
+    }
+
+    /// The formula of an entry.
+    pub fn text(&self, span: Span) -> &'a [Sym]
+        requires { IsIn self.now span }
+        ensures { result.now ≡ text_of self.now span }
+    {
+        &self.list(span.store)[span.start..span.end]
+    }
+}
+
+/// Why a step isn't a step of a derivation.
+#[derive(Clone, Copy, Drop)]
+pub enum Reason {
+    TooFew,
+    Unmatched,
+    NotApart,
+    TooLong,
+}
+
+/// Whether the stretch of list `store` from place `from` to place `to` begins with the formula of
+/// an entry.
+fn begins(symbols: &Symbols, store: Store, from: usize, to: usize, span: Span) -> bool
+    requires order { from ≤ to }
+    requires within { to ≤ length (symbols_of symbols.now store) }
+    requires span { IsIn symbols.now span }
+    ensures value { result
+        ≡ starts_with nat_eq (slice_range (symbols_of symbols.now store) from to)
+        (text_of symbols.now span) }
+{
+    if span.store == store && span.start == from {
+        return span.end <= to;
+    }
+    symbols.list(store)[from..to].starts_with(symbols.text(span))
+}
+
+/// An entry without its first symbol.
+fn rest_of(span: Span) -> Span
+    requires { span.start ≤ span.end }
+    ensures { result ≡ rest span }
+{
+    let end = span.end;
+    Span {
+        store: span.store,
+        start: if span.start < end {
+            span.start + 1
+        } else {
+            end
+        },
+        end,
+    }
+}
+
+/// What replaces the variable of hypothesis `j`.
+pub fn span_of(_symbols: &Symbols, premises: &[Span], j: u32) -> Span
+    requires index { j < length premises.now }
+    requires premises { All (IsIn _symbols.now) premises.now }
+    ensures span { result ≡ rest (get_or premises.now j nothing) }
+    ensures inside { IsIn _symbols.now result }
+{
+    rest_of(premises[j as usize])
+}
+
+/// Whether an entry is the wanted formula with its variables replaced.
+#[inline(always)]
+fn fits(symbols: &Symbols, premises: &[Span], wanted: &[Part], premise: Span) -> bool
+    requires premises { All (IsIn symbols.now) premises.now }
+    requires wanted { All (IsBelow (length premises.now)) wanted.now }
+    requires premise { IsIn symbols.now premise }
+    ensures { result
+        ≡ bytes_eq (text_of symbols.now premise)
+        (replaced symbols.now premises.now wanted.now) }
+{
+    let list = symbols.list(premise.store);
+    let mut at = premise.start;
+    for part in wanted {
+        match *part {
+            Part::Variable(j) => {
+                let span = span_of(symbols, premises, j);
+                if !begins(symbols, premise.store, at, premise.end, span) {
+                    return false;
+                }
+                at += span.end - span.start;
+            }
+            Part::Constant(s) => {
+                if at >= premise.end || list[at] != s {
+                    return false;
+                }
+                at += 1;
+            }
+        }
+    }
+    at == premise.end
+}
+
+/// Whether an entry begins with the typecode.
+fn is_typed(symbols: &Symbols, typecode: Sym, premise: Span) -> bool
+    requires premise { IsIn symbols.now premise }
+    ensures { result
+        ≡ bytes_eq (text_of symbols.now premise)
+        (typecode ∷ text_of symbols.now (rest premise)) }
+{
+    premise.start < premise.end && symbols.list(premise.store)[premise.start] == typecode
+}
+
+/// Whether each entry is what its hypothesis requires, with the variables replaced.
+#[inline(always)]
+fn all_fit(symbols: &Symbols, rule: &Rule, premises: &[Span]) -> bool
+    requires premises { All (IsIn symbols.now) premises.now }
+    requires count { length premises.now ≡ length rule.now.hypotheses }
+    requires hypotheses { All (IsHypothesisIn (length rule.now.parts)) rule.now.hypotheses }
+    requires parts { All (IsBelow (length premises.now)) rule.now.parts }
+    ensures { result
+        ≡ same (map (text_of symbols.now) premises.now)
+        (map (replaced symbols.now premises.now) (all_parts rule.now.parts 0 rule.now.hypotheses)) }
+{
+    for (j, hypothesis) in rule.hypotheses.iter().enumerate() {
+        let is_one = match *hypothesis {
+            Hypothesis::Floating(typecode) => is_typed(symbols, typecode, premises[j]),
+            Hypothesis::Essential(at) => fits(
+                symbols,
+                premises,
+                &rule.parts[at.start..at.end],
+                premises[j],
+            ),
+        };
+        if !is_one {
+            return false;
+        }
+    }
+    true
+}
+
+/// Whether two symbols are disjoint at the theorem: they aren't both variables, or an active `$d`
+/// has both. The first pairs that are found to be disjoint are kept in `apart`.
+fn are_disjoint<A: Allocator>(
+    db: &Database<A>,
+    theorem: u32,
+    s: Sym,
+    t: Sym,
+    apart: &mut Apart<A>,
+) -> bool
+    requires theorem { theorem < length db.now.statements }
+    requires s { s < length (symbol_names db.now.statements) }
+    requires t { t < length (symbol_names db.now.statements) }
+    requires apart { AreApart db.now.statements theorem apart.old }
+    ensures value { result ≡ disjoint_pair (context_at db.now.statements theorem) s t }
+    ensures apart { AreApart db.now.statements theorem apart.new }
+{
+    if apart.has(db, theorem, s, t) {
+        return true;
+    }
+    if !are_disjoint_by(db, theorem, s, t) {
+        return false;
+    }
+    apart.keep(db, theorem, s, t);
+    true
+}
+
+/// The same, without `apart`.
+fn are_disjoint_by<A: Allocator>(db: &Database<A>, theorem: u32, s: Sym, t: Sym) -> bool
+    requires theorem { theorem < length db.now.statements }
+    requires s { s < length (symbol_names db.now.statements) }
+    requires t { t < length (symbol_names db.now.statements) }
+    ensures { result ≡ disjoint_pair (context_at db.now.statements theorem) s t }
+{
+    !(db.is_variable(s) && db.is_variable(t)) || (!(s == t) && db.disjoint_at(theorem, s, t))
+}
+
+/// Whether a symbol is disjoint from each of the others.
+fn is_apart<A: Allocator>(
+    db: &Database<A>,
+    theorem: u32,
+    s: Sym,
+    others: &[Sym],
+    apart: &mut Apart<A>,
+) -> bool
+    requires theorem { theorem < length db.now.statements }
+    requires s { s < length (symbol_names db.now.statements) }
+    requires others { All (λ s. s < length (symbol_names db.now.statements)) others.now }
+    requires apart { AreApart db.now.statements theorem apart.old }
+    ensures value { result ≡ apart_symbol (context_at db.now.statements theorem) s others.now }
+    ensures apart { AreApart db.now.statements theorem apart.new }
+{
+    if !db.is_variable(s) {
+        return true;
+    }
+    for t in others {
+        if db.is_variable(*t) && !are_disjoint(db, theorem, s, *t, apart) {
+            return false;
+        }
+    }
+    true
+}
+
+/// Whether each variable of `first` is disjoint from each variable of `second`.
+fn are_apart<A: Allocator>(
+    db: &Database<A>,
+    theorem: u32,
+    first: &[Sym],
+    second: &[Sym],
+    apart: &mut Apart<A>,
+) -> bool
+    requires theorem { theorem < length db.now.statements }
+    requires first { All (λ s. s < length (symbol_names db.now.statements)) first.now }
+    requires second { All (λ s. s < length (symbol_names db.now.statements)) second.now }
+    requires apart { AreApart db.now.statements theorem apart.old }
+    ensures value { result
+        ≡ apart_lists (context_at db.now.statements theorem) first.now second.now }
+    ensures apart { AreApart db.now.statements theorem apart.new }
+{
+    for s in first {
+        if !is_apart(db, theorem, *s, second, apart) {
+            return false;
+        }
+    }
+    true
+}
+
+/// Whether for each pair of variables, each variable in what replaces the first is disjoint from
+/// each variable in what replaces the second.
+fn pairs_apart<A: Allocator>(
+    db: &Database<A>,
+    theorem: u32,
+    symbols: &Symbols,
+    premises: &[Span],
+    pairs: &[(u32, u32)],
+    apart: &mut Apart<A>,
+) -> bool
+    requires theorem { theorem < length db.now.statements }
+    requires premises { All (IsIn symbols.now) premises.now }
+    requires own { All (λ s. s < length (symbol_names db.now.statements)) symbols.now.own }
+    requires kept { All (λ s. s < length (symbol_names db.now.statements)) symbols.now.kept }
+    requires pairs { All
+        (λ (p : ℕ × ℕ). (p.0 < length premises.now) × (p.1 < length premises.now)) pairs.now }
+    requires apart { AreApart db.now.statements theorem apart.old }
+    ensures value { result
+        ≡ list_all
+        (λ (p : ℕ × ℕ). apart_lists (context_at db.now.statements theorem)
+        (stands symbols.now premises.now p.0) (stands symbols.now premises.now p.1)) pairs.now }
+    ensures apart { AreApart db.now.statements theorem apart.new }
+{
+    for pair in pairs {
+        let first = symbols.text(span_of(symbols, premises, pair.0));
+        let second = symbols.text(span_of(symbols, premises, pair.1));
+        if !are_apart(db, theorem, first, second, apart) {
+            return false;
+        }
+    }
+    true
+}
+
+/// Appends the symbols of a formula to a list. If there are two, they are pushed one by one, which
+/// is faster than a copy.
+#[inline(always)]
+pub fn append<A: Allocator>(formula: &[Sym], list: &mut Vec<Sym, A>) -> Result<(), AllocError>
+    ensures all { OnOk result (list.new.items ≡ list.old.items ++ formula.now) }
+    ensures none { OnErr result (list.new.items ≡ list.old.items) }
+{
+    let start = list.len();
+    if formula.len() == 2 {
+        list.push(formula[0])?;
+        match list.push(formula[1]) {
+            Ok(()) => Ok(()),
+            Err(_) => {
+                list.truncate(start);
+                Err(AllocError)
+            }
+        }
+    } else {
+        list.extend_from_slice(formula)
+    }
+}
+
+/// Appends what replaces a variable to a list. A single symbol is pushed without a copy.
+fn append_text<A: Allocator>(text: &[Sym], list: &mut Vec<Sym, A>) -> Result<(), AllocError>
+    ensures { OnOk result (list.new.items ≡ list.old.items ++ text.now) }
+{
+    if text.len() == 1 {
+        list.push(text[0])?;
+        Ok(())
+    } else {
+        list.extend_from_slice(text)
+    }
+}
+
+/// Builds a formula with its variables replaced in `made`, and returns whether its length is within
+/// the limit. Only then is it complete.
+pub fn build<A: Allocator>(
+    symbols: &Symbols,
+    premises: &[Span],
+    formula: &[Part],
+    made: &mut Vec<Sym, A>,
+) -> Result<bool, AllocError>
+    requires premises { All (IsIn symbols.now) premises.now }
+    requires formula { All (IsBelow (length premises.now)) formula.now }
+    ensures short { IfOk result
+        (λ b. b ≡ nat_le (length (replaced symbols.now premises.now formula.now)) formula_limit) }
+    ensures made { IfOk result
+        (λ b. b ≡ true → made.new.items ≡ replaced symbols.now premises.now formula.now) }
+{
+    made.clear();
+    for part in formula {
+        match *part {
+            Part::Variable(j) => {
+                append_text(symbols.text(span_of(symbols, premises, j)), made)?;
+                if made.len() > FORMULA_LIMIT {
+                    return Ok(false);
+                }
+            }
+            Part::Constant(s) => made.push(s)?,
+        }
+    }
+    Ok(made.len() <= FORMULA_LIMIT)
+}
+
+/// Tests an assertion's step on the entries of the stack, except for the length of its formula.
+/// Returns how many of the entries stay, or why the step fails.
+#[inline(always)]
+pub fn test_rule<A: Allocator>(
+    db: &Database<A>,
+    theorem: u32,
+    rule: &Rule,
+    symbols: &Symbols,
+    stack: &[Span],
+    apart: &mut Apart<A>,
+) -> Result<usize, Reason>
+    requires theorem { theorem < length db.now.statements }
+    requires rule { IsCompiled db.now.statements rule.now }
+    requires own { All (λ s. s < length (symbol_names db.now.statements)) symbols.now.own }
+    requires kept { All (λ s. s < length (symbol_names db.now.statements)) symbols.now.kept }
+    requires stack { All (IsIn symbols.now) stack.now }
+    requires apart { AreApart db.now.statements theorem apart.old }
+    ensures apart { AreApart db.now.statements theorem apart.new }
+    ensures judged { TestsRule db.now.statements theorem rule.now symbols.now stack.now result }
+{
+    let hypotheses = rule.hypotheses();
+    if stack.len() < hypotheses.len() {
+        return Err(Reason::TooFew);
+    }
+    let below = stack.len() - hypotheses.len();
+    let premises = &stack[below..];
+    if !all_fit(symbols, rule, premises) {
+        return Err(Reason::Unmatched);
+    }
+    let pairs = rule.pairs();
+    if !pairs_apart(db, theorem, symbols, premises, pairs, apart) {
+        return Err(Reason::NotApart);
+    }
+    Ok(below)
+}

@@ -1,0 +1,21 @@
+//! The entries of a proof in progress. This layer holds them as stretches of two lists of symbols:
+//! one for the formulas that only the stack holds, and one for those of marked steps. It holds no
+//! other formulas. It performs a step: it pushes the formula of a hypothesis, repeats a marked one,
+//! or applies a rule, whose premises it tests and takes away. It promises that the entries after a
+//! step are those of the definitions (`Rattle.mm_machine.specs.State`), and that it refuses a step
+//! only for the reason for which the definitions refuse it.
+//!
+//! A caller makes a [`Machine`] once, and begins each proof with [`Machine::restart`] and
+//! [`Apart::restart`].
+//!
+//! A parameter whose name begins with `_` is used only by the contracts.
+#![tactic(auto)]
+
+mod apart;
+mod arena;
+mod fill;
+mod machine;
+
+pub use apart::Apart;
+pub use arena::Reason;
+pub use machine::{Machine, Stopped};

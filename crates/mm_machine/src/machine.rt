@@ -1,0 +1,446 @@
+//! The entries of a proof in progress, and the steps on them.
+
+ghost use Rattle.std.specs.Prelude.{◌≡◌, ◌<◌, ◌≤◌, ◌++◌, ◌∷◌, ◌≢◌, [], ℕ, All, List, length, map};
+ghost use Rattle.std.specs.Prelude.{get_or, take, drop, true, IfOk, IfErr, IfSome, IfNone, OnOk};
+ghost use Rattle.std.specs.Prelude.{OnErr, Ok, vec_len};
+ghost use Rattle.std.specs.List.{Contains};
+ghost use Rattle.mm_spec.specs.Statement.{Statement};
+ghost use Rattle.mm_spec.specs.Frame.{symbol_names};
+ghost use Rattle.mm_machine.specs.Arena.{arena, text_of, AreApart};
+ghost use Rattle.mm_rule.specs.Rule.{IsCompiled};
+ghost use Rattle.mm_spec.specs.Laws.Stack.{top};
+ghost use Rattle.mm_machine.specs.State.{State, state, with_mark, applied, texts, made_of};
+ghost use Rattle.mm_machine.specs.State.{first_own as first_own_of, TestsRule, Moves, IsKept};
+ghost use Rattle.mm_machine.specs.State.{IsMachine};
+ghost use Rattle.mm_machine.specs.State.{IsStack, IsRising};
+ghost use Rattle.mm_machine.specs.Stops.{Stops};
+
+use crate::apart::Apart;
+use crate::arena::{Reason, Span, Store, Symbols, append, build, test_rule};
+use crate::fill::fill;
+use mm_rule::{Rule, empty, put_number, zeros};
+use mm_stmt::{Database, Sym};
+use std::alloc::{AllocError, Allocator};
+use std::marker::Model;
+
+/// The number of slots that say where marks are. The slot of a mark is its number modulo this.
+const SLOTS: usize = 4_096;
+
+/// The maximum number of symbols of a short formula.
+const SHORT: usize = 1_024;
+
+/// Why a step wasn't performed.
+#[derive(Drop)]
+pub enum Stopped {
+    Fault(Reason),
+    Memory,
+}
+
+/// The entries, and the formulas of the marked steps so far. An entry's formula is in `own` and is
+/// removed with the entry, or it is that of a marked step and is in `kept`. So the only symbols
+/// held are those of the stack and of the marked formulas.
+pub struct Machine<A: Allocator> {
+    own: Vec<Sym, A>,
+    kept: Vec<Sym, A>,
+    stack: Vec<Span, A>,
+    marks: Vec<usize, A>,
+    marked: Vec<Span, A>,
+    /// Where a mark may be in `marks`, by its number modulo the number of slots.
+    slots: Vec<u32, A>,
+    /// Where the formula of a step is built if it is short.
+    short: Vec<Sym, A>,
+    /// Where it is built otherwise.
+    made: Vec<Sym, A>,
+    /// How many symbols there are.
+    width: usize,
+}
+
+/// Lets all fields go in one call, so that a proof has one step for it at each exit.
+impl<A: Allocator> Drop for Machine<A> {
+    fn drop(self) {
+        let Self {
+            own: _,
+            kept: _,
+            stack: _,
+            marks: _,
+            marked: _,
+            slots: _,
+            short: _,
+            made: _,
+            width: _,
+        } = self;
+    }
+}
+
+impl<A: Allocator> Model for Machine<A> {
+    ghost use Rattle.std.specs.Prelude.{length, []};
+    ghost use Rattle.mm_machine.specs.Arena.{arena};
+    ghost use Rattle.mm_machine.specs.State.{State, state, texts, IsMachine};
+
+    ghost Value = { State };
+
+    ghost view = { λ m. state
+        (texts (arena m.own.items m.kept.items) m.stack.items) m.marks.items
+        (texts (arena [] m.kept.items) m.marked.items) m.width };
+
+    ghost invariant = { λ m. IsMachine m.own.items m.kept.items m.stack.items m.marks.items
+        m.marked.items m.width };
+}
+
+/// The index of `number` among `numbers`, which are in ascending order: where the slots say, or
+/// otherwise by binary search.
+fn find(numbers: &[usize], number: usize, slots: &[u32]) -> usize
+    requires rising { IsRising numbers.now }
+    requires present { Contains numbers.now number }
+    ensures below { result < length numbers.now }
+    ensures is { get_or numbers.now result 0 ≡ number }
+{
+    let slot = number % SLOTS;
+    if slot < slots.len() {
+        let place = slots[slot] as usize;
+        if place < numbers.len() && numbers[place] == number {
+            return place;
+        }
+    }
+    match numbers.binary_search(&number) {
+        Ok(n) => n,
+        Err(n) => n,
+    }
+}
+
+impl<A: Allocator> Machine<A> {
+    /// A machine without entries, for `width` symbols.
+    pub fn new(alloc: A, width: usize) -> Result<Self, AllocError>
+    where
+        A: Copy,
+        ensures { IfOk result (λ m. m ≡ state [] [] [] width) }
+    {
+        let slots = zeros(alloc, SLOTS)?;
+        let mut short = Vec::with_capacity(alloc, SHORT)?;
+        short.resize(SHORT, Sym::new(0))?;
+        Ok(Machine {
+            own: Vec::new(alloc),
+            kept: Vec::new(alloc),
+            stack: Vec::new(alloc),
+            marks: Vec::new(alloc),
+            marked: Vec::new(alloc),
+            slots,
+            short,
+            made: Vec::new(alloc),
+            width,
+        })
+    }
+
+    /// Removes all entries and marks, and keeps the memory of the lists, except that of long ones.
+    pub fn restart(&mut self)
+        ensures { self.new ≡ state [] [] [] self.old.width }
+    {
+        empty(&mut self.own);
+        empty(&mut self.kept);
+        empty(&mut self.stack);
+        empty(&mut self.marks);
+        empty(&mut self.marked);
+        empty(&mut self.made);
+    }
+
+    /// Pushes a formula.
+    pub fn push(&mut self, formula: &[Sym]) -> Result<(), AllocError>
+        requires { All (λ s. s < self.old.width) formula.now }
+        ensures ok { OnOk result
+            (self.new
+            ≡ state (self.old.stack ++ formula.now ∷ []) self.old.marks self.old.formulas
+            self.old.width) }
+        ensures width { self.new.width ≡ self.old.width }
+    {
+        add(formula, &mut self.own, &mut self.stack)
+    }
+
+    /// Pushes the formula of the earlier, marked step `j` again.
+    pub fn repeat(&mut self, j: u32) -> Result<(), AllocError>
+        requires { Contains self.old.marks j }
+        ensures ok { OnOk result
+            ((n : ℕ) × (n < length self.old.formulas) × (n < length self.old.marks)
+            × (get_or self.old.marks n 0 ≡ j)
+            × (self.new
+            ≡ state (self.old.stack ++ get_or self.old.formulas n [] ∷ []) self.old.marks
+            self.old.formulas self.old.width)) }
+        ensures width { self.new.width ≡ self.old.width }
+    {
+        let n = find(&self.marks, j as usize, &self.slots);
+        self.stack.push(self.marked[n])?;
+        Ok(())
+    }
+
+    /// Keeps the top formula, with which step number `step` ended.
+    pub fn mark(&mut self, step: usize) -> Result<(), AllocError>
+        requires entry { 0 < length self.old.stack }
+        requires later { All (λ j. j < step) self.old.marks }
+        ensures ok { OnOk result (self.new ≡ with_mark true step self.old) }
+        ensures width { self.new.width ≡ self.old.width }
+    {
+        let made = keep(&mut self.own, &mut self.kept, &mut self.stack)?;
+        self.marked.push(made)?;
+        put_number(&mut self.slots, step % SLOTS, self.marks.len());
+        self.marks.push(step)?;
+        Ok(())
+    }
+
+    /// Performs the step of an assertion.
+    #[inline(always)]
+    pub fn apply(
+        &mut self,
+        db: &Database<A>,
+        theorem: u32,
+        rule: &Rule,
+        apart: &mut Apart<A>,
+    ) -> Result<(), Stopped>
+        requires theorem { theorem < length db.now.statements }
+        requires rule { IsCompiled db.now.statements rule.now }
+        requires width { self.old.width ≡ length (symbol_names db.now.statements) }
+        requires apart { AreApart db.now.statements theorem apart.old }
+        ensures apart { AreApart db.now.statements theorem apart.new }
+        ensures made { OnOk result
+            (applied db.now.statements theorem rule.now.assertion self.old.stack
+            ≡ Ok self.new.stack) }
+        ensures marks { OnOk result (self.new.marks ≡ self.old.marks) }
+        ensures formulas { OnOk result (self.new.formulas ≡ self.old.formulas) }
+        ensures entry { OnOk result (0 < length self.new.stack) }
+        ensures width { self.new.width ≡ self.old.width }
+        ensures stopped { IfErr result
+            (λ e. Stops e
+            (applied db.now.statements theorem rule.now.assertion self.old.stack)) }
+    {
+        put_judged(
+            db,
+            theorem,
+            rule,
+            &mut self.own,
+            &self.kept,
+            &mut self.stack,
+            &mut self.short,
+            &mut self.made,
+            apart,
+        )
+    }
+
+    /// The formula of the only entry; `None` if there isn't exactly one.
+    pub fn only(&self) -> Option<&[Sym]>
+        ensures some { IfSome result (λ f. self.now.stack ≡ f.now ∷ []) }
+        ensures none { IfNone result (length self.now.stack ≢ 1) }
+    {
+        if self.stack.len() == 1 {
+            let symbols = Symbols {
+                own: &self.own,
+                kept: &self.kept,
+            };
+            Some(symbols.text(self.stack[0]))
+        } else {
+            None
+        }
+    }
+}
+
+/// Pushes a formula, whose symbols are appended to `own`.
+#[inline(always)]
+fn add<A: Allocator>(
+    formula: &[Sym],
+    own: &mut Vec<Sym, A>,
+    stack: &mut Vec<Span, A>,
+) -> Result<(), AllocError>
+    ensures own { OnOk result (own.new.items ≡ own.old.items ++ formula.now) }
+    ensures stack { OnOk result
+        (stack.new.items ≡ stack.old.items ++ made_of own.old.items formula.now ∷ []) }
+    ensures same_own { OnErr result (own.new.items ≡ own.old.items) }
+    ensures same_stack { OnErr result (stack.new.items ≡ stack.old.items) }
+{
+    let start = own.len();
+    append(formula, own)?;
+    let made = Span {
+        store: Store::Own,
+        start,
+        end: own.len(),
+    };
+    match stack.push(made) {
+        Ok(()) => Ok(()),
+        Err(_) => {
+            own.truncate(start);
+            Err(AllocError)
+        }
+    }
+}
+
+/// Where the first of the entries' own formulas begins; `end` if there is none.
+fn first_own(stack: &[Span], end: usize) -> usize
+    ensures { result ≡ first_own_of stack.now end }
+{
+    for entry in stack {
+        match entry.store {
+            Store::Own => return entry.start,
+            Store::Kept => {}
+        }
+    }
+    end
+}
+
+/// Removes the entries from index `below` on from the stack, and their own formulas from `own`.
+fn cut<A: Allocator>(below: usize, own: &mut Vec<Sym, A>, stack: &mut Vec<Span, A>)
+    requires { below ≤ vec_len stack.old }
+    ensures stack { stack.new.items ≡ take below stack.old.items }
+    ensures own { own.new.items
+        ≡ take (first_own_of (drop below stack.old.items) (length own.old.items)) own.old.items }
+{
+    let end = first_own(&stack[below..], own.len());
+    stack.truncate(below);
+    own.truncate(end);
+}
+
+/// Moves the top formula to the kept ones, unless it is there already, and returns its stretch.
+fn keep<A: Allocator>(
+    own: &mut Vec<Sym, A>,
+    kept: &mut Vec<Sym, A>,
+    stack: &mut Vec<Span, A>,
+) -> Result<Span, AllocError>
+    requires entry { 0 < length stack.old.items }
+    requires stack { IsStack own.old.items kept.old.items stack.old.items }
+    ensures stack { IsStack own.new.items kept.new.items stack.new.items }
+    ensures texts { texts (arena own.new.items kept.new.items) stack.new.items
+        ≡ texts (arena own.old.items kept.old.items) stack.old.items }
+    ensures moved { Moves own.old.items kept.old.items own.new.items kept.new.items }
+    ensures made { IfOk result
+        (λ e. IsKept kept.new.items e
+        × (text_of (arena [] kept.new.items) e
+        ≡ top (texts (arena own.old.items kept.old.items) stack.old.items))) }
+{
+    let last = stack.len() - 1;
+    let entry = stack[last];
+    match entry.store {
+        Store::Kept => Ok(entry),
+        Store::Own => {
+            let start = kept.len();
+            kept.extend_from_slice(&own[entry.start..entry.end])?;
+            own.truncate(entry.start);
+            let moved = Span {
+                store: Store::Kept,
+                start,
+                end: kept.len(),
+            };
+            stack[last] = moved;
+            Ok(moved)
+        }
+    }
+}
+
+/// Tests the step of an assertion, and replaces the entries that it takes by its formula.
+#[inline(always)]
+fn put_judged<A: Allocator>(
+    db: &Database<A>,
+    theorem: u32,
+    rule: &Rule,
+    own: &mut Vec<Sym, A>,
+    kept: &[Sym],
+    stack: &mut Vec<Span, A>,
+    short: &mut [Sym],
+    made: &mut Vec<Sym, A>,
+    apart: &mut Apart<A>,
+) -> Result<(), Stopped>
+    requires theorem { theorem < length db.now.statements }
+    requires rule { IsCompiled db.now.statements rule.now }
+    requires stack { IsStack own.old.items kept.now stack.old.items }
+    requires known_own { All (λ s. s < length (symbol_names db.now.statements)) own.old.items }
+    requires known_kept { All (λ s. s < length (symbol_names db.now.statements)) kept.now }
+    requires apart { AreApart db.now.statements theorem apart.old }
+    ensures apart { AreApart db.now.statements theorem apart.new }
+    ensures stack { IsStack own.new.items kept.now stack.new.items }
+    ensures known_own { All (λ s. s < length (symbol_names db.now.statements)) own.new.items }
+    ensures made { OnOk result
+        (applied db.now.statements theorem rule.now.assertion
+        (texts (arena own.old.items kept.now) stack.old.items)
+        ≡ Ok (texts (arena own.new.items kept.now) stack.new.items)) }
+    ensures entry { OnOk result (0 < length stack.new.items) }
+    ensures stopped { IfErr result
+        (λ e. Stops e
+        (applied db.now.statements theorem rule.now.assertion
+        (texts (arena own.old.items kept.now) stack.old.items))) }
+{
+    let symbols = Symbols {
+        own: own.as_slice(),
+        kept,
+    };
+    match test_rule(db, theorem, rule, &symbols, stack, apart) {
+        Err(reason) => Err(Stopped::Fault(reason)),
+        Ok(below) => match fill(&symbols, &stack[below..], rule.formula(), short) {
+            Some(n) => match put(below, &short[..n], own, kept, stack) {
+                Err(_) => Err(Stopped::Memory),
+                Ok(()) => Ok(()),
+            },
+            None => put_long(db, theorem, rule, below, own, kept, stack, made),
+        },
+    }
+}
+
+/// The same for a step that was tested: builds its formula in a list that grows.
+#[inline(never)]
+fn put_long<A: Allocator>(
+    _db: &Database<A>,
+    _theorem: u32,
+    rule: &Rule,
+    below: usize,
+    own: &mut Vec<Sym, A>,
+    kept: &[Sym],
+    stack: &mut Vec<Span, A>,
+    made: &mut Vec<Sym, A>,
+) -> Result<(), Stopped>
+    requires rule { IsCompiled _db.now.statements rule.now }
+    requires judged { TestsRule _db.now.statements _theorem rule.now
+        (arena own.old.items kept.now) stack.old.items (Ok below) }
+    requires stack { IsStack own.old.items kept.now stack.old.items }
+    requires known_own { All (λ s. s < length (symbol_names _db.now.statements)) own.old.items }
+    requires known_kept { All (λ s. s < length (symbol_names _db.now.statements)) kept.now }
+    ensures stack { IsStack own.new.items kept.now stack.new.items }
+    ensures known_own { All (λ s. s < length (symbol_names _db.now.statements)) own.new.items }
+    ensures made { OnOk result
+        (applied _db.now.statements _theorem rule.now.assertion
+        (texts (arena own.old.items kept.now) stack.old.items)
+        ≡ Ok (texts (arena own.new.items kept.now) stack.new.items)) }
+    ensures entry { OnOk result (0 < length stack.new.items) }
+    ensures stopped { IfErr result
+        (λ e. Stops e
+        (applied _db.now.statements _theorem rule.now.assertion
+        (texts (arena own.old.items kept.now) stack.old.items))) }
+{
+    let symbols = Symbols {
+        own: own.as_slice(),
+        kept,
+    };
+    match build(&symbols, &stack[below..], rule.formula(), made) {
+        Err(_) => Err(Stopped::Memory),
+        Ok(false) => Err(Stopped::Fault(Reason::TooLong)),
+        Ok(true) => match put(below, made, own, kept, stack) {
+            Err(_) => Err(Stopped::Memory),
+            Ok(()) => Ok(()),
+        },
+    }
+}
+
+/// Replaces the entries from index `below` on by a formula.
+#[inline(always)]
+fn put<A: Allocator>(
+    below: usize,
+    made: &[Sym],
+    own: &mut Vec<Sym, A>,
+    _kept: &[Sym],
+    stack: &mut Vec<Span, A>,
+) -> Result<(), AllocError>
+    requires below { below ≤ vec_len stack.old }
+    requires is_stack { IsStack own.old.items _kept.now stack.old.items }
+    ensures is_stack { IsStack own.new.items _kept.now stack.new.items }
+    ensures known_own { (w : ℕ) → All (λ s. s < w) own.old.items → All (λ s. s < w) made.now
+        → All (λ s. s < w) own.new.items }
+    ensures stack { OnOk result
+        (texts (arena own.new.items _kept.now) stack.new.items
+        ≡ take below (texts (arena own.old.items _kept.now) stack.old.items) ++ made.now ∷ []) }
+    ensures entry { OnOk result (0 < length stack.new.items) }
+{
+    cut(below, own, stack);
+    add(made, own, stack)
+}

@@ -1,0 +1,4 @@
+pub mod DisjointLaw
+pub mod FirstLaw
+pub mod FrameLaw
+pub mod SliceLaw

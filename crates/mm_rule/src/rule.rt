@@ -1,0 +1,79 @@
+//! What an assertion requires and what it yields, in terms of the places of its hypotheses.
+
+ghost use Rattle.std.specs.Prelude.{◌≡◌};
+
+use mm_stmt::Sym;
+use std::marker::Model;
+
+/// A symbol of a formula of a frame.
+#[derive(Clone, Copy, Drop)]
+pub enum Part {
+    /// A constant.
+    Constant(Sym),
+    /// A variable, by the number of its `$f` among the mandatory hypotheses, from 0.
+    Variable(u32),
+}
+
+/// A stretch of a list: from place `start` up to, but not including, place `end`.
+#[derive(Clone, Copy, Drop)]
+pub struct Stretch {
+    pub start: usize,
+    pub end: usize,
+}
+
+/// What a mandatory hypothesis requires of its premise.
+#[derive(Clone, Copy, Drop)]
+pub enum Hypothesis {
+    /// The typecode, if the hypothesis is the first `$f` of its variable.
+    Floating(Sym),
+    /// Otherwise the symbols, as a stretch of the rule's parts.
+    Essential(Stretch),
+}
+
+/// What an assertion requires and yields: its frame, with each variable given by the place of its
+/// `$f`.
+#[derive(Drop)]
+pub struct Rule<'a> {
+    /// The number of the assertion's statement.
+    pub assertion: u32,
+    /// The mandatory hypotheses, in order.
+    pub hypotheses: &'a [Hypothesis],
+    /// The mandatory pairs of disjoint variables.
+    pub pairs: &'a [(u32, u32)],
+    /// The symbols of those hypotheses that aren't the first `$f` of a variable.
+    pub parts: &'a [Part],
+    /// The symbols of the assertion's formula.
+    pub formula: &'a [Part],
+}
+
+impl<'a> Model for Rule<'a> {
+    ghost use Rattle.mm_rule.specs.Rule.{Compiled, compiled};
+
+    ghost Value = { Compiled };
+
+    ghost view = { λ r. compiled r.assertion r.hypotheses.now r.pairs.now r.parts.now
+        r.formula.now };
+}
+
+impl<'a> Rule<'a> {
+    /// What the mandatory hypotheses require, in order.
+    pub fn hypotheses(&self) -> &'a [Hypothesis]
+        ensures { result.now ≡ self.now.hypotheses }
+    {
+        self.hypotheses
+    }
+
+    /// The mandatory pairs of disjoint variables.
+    pub fn pairs(&self) -> &'a [(u32, u32)]
+        ensures { result.now ≡ self.now.pairs }
+    {
+        self.pairs
+    }
+
+    /// The symbols of the assertion's formula.
+    pub fn formula(&self) -> &'a [Part]
+        ensures { result.now ≡ self.now.formula }
+    {
+        self.formula
+    }
+}

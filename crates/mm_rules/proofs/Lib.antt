@@ -1,0 +1,3 @@
+pub mod CompleteLaw
+pub mod RuleLaw
+pub mod RulesLaw

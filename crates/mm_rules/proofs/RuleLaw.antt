@@ -1,0 +1,272 @@
+-- Rules as they are made.
+use Rattle.std.proofs.Common.{◌≡◌, ℕ, suc, ◌+◌, ◌-◌, ◌<◌, Bool, true, false, List, [], ◌∷◌, ◌++◌}
+use Rattle.std.proofs.Common.{length, take, map, get_or, slice_range, refl, sym, ap, ap₂, ◌∙◌}
+use Rattle.std.proofs.Common.{subst, arith, All, cond, length-append}
+use Rattle.std.specs.List.{AllByRecursion}
+use Rattle.std.proofs.lemmas.List.{take_more, take_all, drop_at, length-map}
+use Rattle.std.proofs.lemmas.List.Elements.{All-from_recursion, recursion_from_All}
+use Rattle.mm_spec.specs.Statement.{Statement}
+use Rattle.mm_spec.specs.Derivation.{Formula, Pair}
+use Rattle.mm_spec.specs.Laws.Complete.{IsBound, AreBound, IsComplete}
+use Rattle.mm_spec.specs.Citation.{context_at}
+use Rattle.mm_spec.specs.Frame.{symbol_names, is_variable_number, formula_at, frame_at}
+use Rattle.mm_spec.specs.Frame.{mandatory_hypotheses, mandatory_pairs}
+use Rattle.mm_rule.specs.declared.rule.Part.{Part}
+use Rattle.mm_rule.specs.declared.rule.Part.TheVariants.{Constant, Variable}
+use Rattle.mm_rule.specs.declared.rule.Hypothesis.{Hypothesis}
+use Rattle.mm_rule.specs.declared.rule.Hypothesis.TheVariants.{Floating, Essential}
+use Rattle.mm_rule.specs.declared.rule.Stretch.{Stretch}
+use Rattle.mm_rule.specs.Rule.{first, parts_of, hypothesis_parts, all_parts, IsHypothesisIn}
+use Rattle.mm_rule.specs.Rule.{IsBelow, IsKnown}
+use Rattle.mm_rule.specs.Rule.{compiled, IsCompiled}
+use Rattle.mm_rules.specs.Rules.{AreCovered, ArePairs}
+use Rattle.mm_rule.specs.Assertions.{paired}
+use Rattle.mm_rule.specs.Assertions.{is_assertion_at}
+use Rattle.mm_rule.proofs.FirstLaw.{first_below}
+use Rattle.mm_rule.proofs.SliceLaw.{stretch_more}
+
+pub map_push : {X Y : Type 0} (f : X → Y) (xs : List X) (x : X)
+    → map f (xs ++ x ∷ []) ≡ map f xs ++ f x ∷ []
+map_push f [] x = refl
+map_push f (y ∷ xs) x = ap (λ z. f y ∷ z) (map_push f xs x)
+
+-- one element more
+pub map_take_more : {X Y : Type 0} (f : X → Y) (xs : List X) (i : ℕ) (d : X) → i < length xs
+    → map f (take (i + 1) xs) ≡ map f (take i xs) ++ f (get_or xs i d) ∷ []
+map_take_more f xs i d h = ap (map f) (take_more xs i d h) ∙ map_push f (take i xs) (get_or xs i d)
+
+all_parts_push : (parts : List Part) (n : ℕ) (xs : List Hypothesis) (a : Hypothesis)
+    → all_parts parts n (xs ++ a ∷ [])
+    ≡ all_parts parts n xs ++ hypothesis_parts parts (n + length xs) a ∷ []
+all_parts_push parts n [] a =
+    let e : n ≡ n + 0 = omega arith in ap (λ m. hypothesis_parts parts m a ∷ []) e
+all_parts_push parts n (x ∷ xs) a =
+    let e : suc n + length xs ≡ n + suc (length xs) = omega arith in
+    ap (λ z. hypothesis_parts parts n x ∷ z)
+    (all_parts_push parts (suc n) xs a
+    ∙ ap (λ m. all_parts parts (suc n) xs ++ hypothesis_parts parts m a ∷ []) e)
+
+-- more parts after
+one_grow : (parts more : List Part) (n : ℕ) (a : Hypothesis) → IsHypothesisIn (length parts) a
+    → hypothesis_parts (parts ++ more) n a ≡ hypothesis_parts parts n a
+one_grow parts more n (Floating t) h = refl
+one_grow parts more n (Essential s) h = stretch_more parts more s.start s.end h.0 h.1
+
+all_parts_grow : (parts more : List Part) (n : ℕ) (xs : List Hypothesis)
+    → AllByRecursion (IsHypothesisIn (length parts)) xs
+    → all_parts (parts ++ more) n xs ≡ all_parts parts n xs
+all_parts_grow parts more n [] h = refl
+all_parts_grow parts more n (a ∷ xs) h =
+    ap₂ (λ u us. u ∷ us) (one_grow parts more n a h.0) (all_parts_grow parts more (suc n) xs h.1)
+
+is_asked_more : (m n : ℕ) (a : Hypothesis) → IsHypothesisIn m a → IsHypothesisIn (m + n) a
+is_asked_more m n (Floating t) h = tt
+is_asked_more m n (Essential s) h = (h.0, let l = h.1 in omega (arith, l))
+
+are_asked_more : (m n : ℕ) (xs : List Hypothesis) → AllByRecursion (IsHypothesisIn m) xs
+    → AllByRecursion (IsHypothesisIn (m + n)) xs
+are_asked_more m n [] h = tt
+are_asked_more m n (a ∷ xs) h = (is_asked_more m n a h.0, are_asked_more m n xs h.1)
+
+pushed : {X : Type 0} (P : X → Type 0) (xs : List X) (x : X) → AllByRecursion P xs → P x
+    → AllByRecursion P (xs ++ x ∷ [])
+pushed P [] x h p = (p, tt)
+pushed P (y ∷ xs) x h p = (h.0, pushed P xs x h.1 p)
+
+-- what one hypothesis more asks: a typecode
+pub typed_more : (parts : List Part) (xs : List Hypothesis) (j t : ℕ) (us : List (List Part))
+    → length xs ≡ j → all_parts parts 0 xs ≡ us
+    → all_parts parts 0 (xs ++ Floating t ∷ []) ≡ us ++ (Constant t ∷ Variable j ∷ []) ∷ []
+typed_more parts xs j t us n e =
+    let at : 0 + length xs ≡ j = omega (arith, n) in
+    all_parts_push parts 0 xs (Floating t)
+    ∙ ap₂ (λ u m. u ++ hypothesis_parts parts m (Floating t) ∷ []) e at
+
+pub typed_within : (n : ℕ) (xs : List Hypothesis) (t : ℕ) → All (IsHypothesisIn n) xs
+    → All (IsHypothesisIn n) (xs ++ Floating t ∷ [])
+typed_within n xs t h =
+    All-from_recursion (IsHypothesisIn n) _
+    (pushed (IsHypothesisIn n) xs (Floating t) (recursion_from_All (IsHypothesisIn n) xs h) tt)
+
+-- or the parts of its formula
+module _ (parts more : List Part) (xs : List Hypothesis) (s : Stretch)
+    (from : s.start ≡ length parts)
+    (to : s.end ≡ length (parts ++ more)) (h : All (IsHypothesisIn (length parts)) xs) where
+  stretch_is : slice_range (parts ++ more) s.start s.end ≡ more
+  stretch_is =
+      ap₂ (λ a b. slice_range (parts ++ more) a b) from to
+      ∙ ap (take (length (parts ++ more) - length parts)) (drop_at parts more (length parts) refl)
+      ∙ take_all (length (parts ++ more) - length parts) more
+      (omega (arith, length-append parts more))
+
+  pub essential_more : (us : List (List Part)) → all_parts parts 0 xs ≡ us
+      → all_parts (parts ++ more) 0 (xs ++ Essential s ∷ []) ≡ us ++ more ∷ []
+  essential_more us e =
+      all_parts_push (parts ++ more) 0 xs (Essential s)
+      ∙ ap₂ (λ u z. u ++ z ∷ [])
+      (all_parts_grow parts more 0 xs (recursion_from_All (IsHypothesisIn (length parts)) xs h) ∙ e)
+      stretch_is
+
+  pub essential_within : All (IsHypothesisIn (length (parts ++ more))) (xs ++ Essential s ∷ [])
+  essential_within =
+      let n : length parts + length more ≡ length (parts ++ more) =
+      omega (arith, length-append parts more) in
+      All-from_recursion (IsHypothesisIn (length (parts ++ more))) _
+      (pushed (IsHypothesisIn (length (parts ++ more))) xs (Essential s)
+      (subst (λ m. AllByRecursion (IsHypothesisIn m) xs) n
+      (are_asked_more (length parts) (length more) xs
+      (recursion_from_All (IsHypothesisIn (length parts)) xs h)))
+      (omega (arith, from, to, length-append parts more), omega (arith, to)))
+
+module _ (k : List Statement) (hs : List Formula) where
+  pub parts_below : (f : Formula) → AreCovered k hs f → All (IsBelow (length hs)) (parts_of k hs f)
+  parts_below f h =
+      All-from_recursion (IsBelow (length hs)) (parts_of k hs f)
+      (go f (recursion_from_All
+      (λ x. is_variable_number k x ≡ true → IsBound (context_at k 0) hs x) f h))
+    where
+      one : (s : ℕ) (v : Bool) → (v ≡ true → IsBound (context_at k 0) hs s)
+          → IsBelow (length hs) (cond v (Variable (first k hs s)) (Constant s))
+      one s true b = first_below k hs s (b refl)
+      one s false b = tt
+
+      go : (f : Formula)
+          → AllByRecursion (λ x. is_variable_number k x ≡ true → IsBound (context_at k 0) hs x) f
+          → AllByRecursion (IsBelow (length hs)) (parts_of k hs f)
+      go [] h = tt
+      go (s ∷ f) h = (one s (is_variable_number k s) h.0, go f h.1)
+
+  pub parts_known : (n : ℕ) (f : Formula) → All (λ s. s < n) f → All (IsKnown n) (parts_of k hs f)
+  parts_known n f h =
+      All-from_recursion (IsKnown n) (parts_of k hs f) (go f (recursion_from_All (λ s. s < n) f h))
+    where
+      one : (s : ℕ) (v : Bool) → s < n → IsKnown n (cond v (Variable (first k hs s)) (Constant s))
+      one s true l = tt
+      one s false l = l
+
+      go : (f : Formula) → AllByRecursion (λ s. s < n) f
+          → AllByRecursion (IsKnown n) (parts_of k hs f)
+      go [] h = tt
+      go (s ∷ f) h = (one s (is_variable_number k s) h.0, go f h.1)
+
+  pub covered : (f : Formula) → AreBound (context_at k 0) hs f → AreCovered k hs f
+  covered f h =
+      All-from_recursion (λ x. is_variable_number k x ≡ true → IsBound (context_at k 0) hs x) f h
+
+  pub covered_all : (hyps : List ℕ)
+      → AllByRecursion (AreBound (context_at k 0) hs) (map (formula_at k) hyps)
+      → All (λ h. AreCovered k hs (formula_at k h)) hyps
+  covered_all hyps h = All-from_recursion (λ h. AreCovered k hs (formula_at k h)) hyps (go hyps h)
+    where
+      go : (hyps : List ℕ) → AllByRecursion (AreBound (context_at k 0) hs) (map (formula_at k) hyps)
+          → AllByRecursion (λ h. AreCovered k hs (formula_at k h)) hyps
+      go [] h = tt
+      go (x ∷ xs) h = (covered (formula_at k x) h.0, go xs h.1)
+
+  abbrev Both : Pair → Type 0
+  Both p = IsBound (context_at k 0) hs p.low × IsBound (context_at k 0) hs p.high
+
+  pub pairs_covered : (ps : List (ℕ × ℕ)) → AllByRecursion Both (paired ps) → ArePairs k hs ps
+  pairs_covered ps h =
+      All-from_recursion
+      (λ (p : ℕ × ℕ). IsBound (context_at k 0) hs p.0 × IsBound (context_at k 0) hs p.1) ps
+      (go ps h)
+    where
+      go : (ps : List (ℕ × ℕ)) → AllByRecursion Both (paired ps)
+          → AllByRecursion
+          (λ (p : ℕ × ℕ). IsBound (context_at k 0) hs p.0 × IsBound (context_at k 0) hs p.1) ps
+      go [] h = tt
+      go (p ∷ ps) h = (h.0, go ps h.1)
+
+  pairs_below : (ps : List Pair) → AllByRecursion Both ps
+      → All (λ (p : ℕ × ℕ). (p.0 < length hs) × (p.1 < length hs))
+      (map {B = ℕ × ℕ} (λ (p : Pair). (first k hs p.low, first k hs p.high)) ps)
+  pairs_below ps h =
+      All-from_recursion (λ (p : ℕ × ℕ). (p.0 < length hs) × (p.1 < length hs)) _ (go ps h)
+    where
+      go : (ps : List Pair) → AllByRecursion Both ps
+          → AllByRecursion (λ (p : ℕ × ℕ). (p.0 < length hs) × (p.1 < length hs))
+          (map {B = ℕ × ℕ} (λ (p : Pair). (first k hs p.low, first k hs p.high)) ps)
+      go [] h = tt
+      go (p ∷ ps) h = ((first_below k hs p.low h.0.0, first_below k hs p.high h.0.1), go ps h.1)
+
+  pairs_same : (ps : List (ℕ × ℕ))
+      → map {B = ℕ × ℕ} (λ (p : ℕ × ℕ). (first k hs p.0, first k hs p.1)) ps
+      ≡ map {B = ℕ × ℕ} (λ (p : Pair). (first k hs p.low, first k hs p.high)) (paired ps)
+  pairs_same [] = refl
+  pairs_same (p ∷ ps) = ap (λ z. (first k hs p.0, first k hs p.1) ∷ z) (pairs_same ps)
+
+-- what was made is the rule of the assertion
+module _ (k : List Statement) (a : ℕ) (is : is_assertion_at k a ≡ true)
+    (complete : IsComplete (context_at k 0) (frame_at k a)) where
+  abbrev frame_hyps : List Formula
+  frame_hyps = map (formula_at k) (mandatory_hypotheses k a)
+
+  rule_is : (from : List (ℕ × ℕ)) (f : Formula) (hypotheses : List Hypothesis)
+      (pairs : List (ℕ × ℕ))
+      → (parts formula : List Part)
+      → paired from ≡ mandatory_pairs k a → f ≡ formula_at k a
+      → All (λ s. s < length (symbol_names k)) f
+      → all_parts parts 0 hypotheses ≡ map (parts_of k frame_hyps) frame_hyps
+      → length hypotheses ≡ length (mandatory_hypotheses k a) → All (IsHypothesisIn (length parts))
+      hypotheses
+      → All (IsBelow (length (mandatory_hypotheses k a))) parts
+      → pairs ≡ map {B = ℕ × ℕ}
+      (λ (p : ℕ × ℕ). (first k frame_hyps p.0, first k frame_hyps p.1)) from
+      → formula ≡ parts_of k frame_hyps f → IsCompiled k (compiled a hypotheses pairs parts formula)
+  rule_is from f hypotheses pairs parts formula pairs_is f_is known made count within below
+      pairs_made
+      formula_made =
+      let same : length hypotheses ≡ length frame_hyps =
+      count ∙ sym (length-map (mandatory_hypotheses k a) (formula_at k)) in
+      let pairs_are : pairs
+      ≡ map {B = ℕ × ℕ} (λ (p : Pair). (first k frame_hyps p.low, first k frame_hyps p.high))
+      (mandatory_pairs k a) = pairs_made
+      ∙ pairs_same k frame_hyps from
+      ∙ ap (map {B = ℕ × ℕ}
+      (λ (p : Pair). (first k frame_hyps p.low, first k frame_hyps p.high))) pairs_is in
+      let formula_are : formula ≡ parts_of k frame_hyps (formula_at k a) =
+      formula_made ∙ ap (parts_of k frame_hyps) f_is in
+      record {
+        is_assertion = is;
+        complete = complete;
+        within = within;
+        parts_in = subst (λ n. All (IsBelow n) parts) (sym count) below;
+        pairs_in =
+            rw (pairs_are, same) (pairs_below k frame_hyps (mandatory_pairs k a) complete.pairs);
+        formula_in =
+            rw (formula_are, same)
+            (parts_below k frame_hyps (formula_at k a)
+            (covered k frame_hyps (formula_at k a) complete.formula));
+        formula_known =
+            rw formula_made (parts_known k frame_hyps (length (symbol_names k)) f known);
+        hypotheses_are = made;
+        pairs_are = pairs_are;
+        formula_is = formula_are;
+      }
+
+  pub made_rule : (hyps : List ℕ) (from : List (ℕ × ℕ)) (f : Formula) (hypotheses : List Hypothesis)
+      → (pairs : List (ℕ × ℕ)) (parts formula : List Part)
+      → hyps ≡ mandatory_hypotheses k a → paired from ≡ mandatory_pairs k a → f ≡ formula_at k a
+      → All (λ s. s < length (symbol_names k)) f
+      → all_parts parts 0 hypotheses
+      ≡ map (parts_of k (map (formula_at k) hyps)) (map (formula_at k) hyps)
+      → length hypotheses ≡ length hyps → All (IsHypothesisIn (length parts)) hypotheses
+      → All (IsBelow (length hyps)) parts
+      → pairs ≡ map {B = ℕ × ℕ}
+      (λ (p : ℕ × ℕ).
+      (first k (map (formula_at k) hyps) p.0, first k (map (formula_at k) hyps) p.1)) from
+      → formula ≡ parts_of k (map (formula_at k) hyps) f
+      → IsCompiled k (compiled a hypotheses pairs parts formula)
+  made_rule hyps from f hypotheses pairs parts formula hyps_is pairs_is f_is known made count within
+      below pairs_made formula_made =
+      rule_is from f hypotheses pairs parts formula pairs_is f_is known
+      (subst (λ h. all_parts parts 0 hypotheses
+      ≡ map (parts_of k (map (formula_at k) h)) (map (formula_at k) h)) hyps_is made)
+      (count ∙ ap length hyps_is) within
+      (subst (λ h. All (IsBelow (length h)) parts) hyps_is below)
+      (subst (λ h. pairs
+      ≡ map {B = ℕ × ℕ}
+      (λ (p : ℕ × ℕ). (first k (map (formula_at k) h) p.0, first k (map (formula_at k) h) p.1))
+      from) hyps_is pairs_made)
+      (subst (λ h. formula ≡ parts_of k (map (formula_at k) h) f) hyps_is formula_made)

@@ -1,0 +1,50 @@
+use Rattle.std.proofs.Common.{◌++◌, map, sym, ap, ◌∙◌, subst}
+use Rattle.std.specs.List.{AllByRecursion}
+use Rattle.mm_spec.specs.Derivation.{Pair}
+use Rattle.mm_spec.specs.Frame.{formula_at, mandatory_pairs}
+use Rattle.mm_spec.specs.Citation.{context_at, is_assertion}
+use Rattle.mm_spec.specs.Laws.Complete.{IsBound, AreBound}
+use Rattle.mm_outline.proofs.StatementsLaw.{is_there}
+use Rattle.mm_rule.specs.Rule.{parts_of}
+use Rattle.mm_rules.proofs.RuleLaw.{covered_all, pairs_covered, made_rule}
+use Rattle.mm_rules.proofs.compile.RuleCompiler.make.Goals as goal
+
+pub compile_hypotheses-requires-clause-bound : goal.compile_hypotheses-requires-clause-bound
+compile_hypotheses-requires-clause-bound g c =
+    let k = c.args.db.now.statements in
+    covered_all k (map (formula_at k) c.hyps-hyps.result.now) c.hyps-hyps.result.now
+    (subst (λ h. AllByRecursion (AreBound (context_at k 0) (map (formula_at k) h))
+    (map (formula_at k) h)) (sym c.hyps-hyps.ensures.are) c.requires.complete.hypotheses)
+
+pub compile_pairs-requires-clause-bound : goal.compile_pairs-requires-clause-bound
+compile_pairs-requires-clause-bound g c =
+    let k = c.args.db.now.statements in
+    let bound =
+    subst (λ h. AllByRecursion
+    (λ (p : Pair). IsBound (context_at k 0) (map (formula_at k) h) p.low
+    × IsBound (context_at k 0) (map (formula_at k) h) p.high) (mandatory_pairs k c.args.k))
+    (sym c.hyps-hyps.ensures.are) c.requires.complete.pairs in
+    pairs_covered k (map (formula_at k) c.hyps-hyps.result.now) c.pairs.result.now
+    (subst (AllByRecursion
+    (λ (p : Pair). IsBound (context_at k 0) (map (formula_at k) c.hyps-hyps.result.now) p.low
+    × IsBound (context_at k 0) (map (formula_at k) c.hyps-hyps.result.now) p.high))
+    (sym c.pairs.ensures.are) bound)
+
+pub formula-requires : goal.formula-requires
+formula-requires g c = is_there is_assertion c.args.db.now.statements c.args.k c.requires.assertion
+
+pub returns-clause-made : goal.returns-clause-made
+returns-clause-made g c =
+    let k = c.args.db.now.statements in
+    let hyps = c.hyps-hyps.result.now in
+    let f = c.formula.result.now in
+    let hypotheses = c.in_ok-compile_hypotheses.ensures in
+    made_rule k c.args.k c.requires.assertion c.requires.complete hyps c.pairs.result.now f
+    c.compile_hypotheses.new.hypotheses.items c.compile_pairs.new.pairs.items
+    c.compile_hypotheses.new.parts.items c.compile_formula.new.parts.items
+    c.hyps-hyps.ensures.are c.pairs.ensures.are c.formula.ensures.formula
+    c.formula.ensures.known hypotheses.hypotheses hypotheses.count hypotheses.within
+    hypotheses.parts
+    c.in_ok-compile_pairs.ensures
+    (c.in_ok-compile_formula.ensures
+    ∙ ap (λ z. z ++ parts_of k (map (formula_at k) hyps) f) c.empty-4.ensures)

@@ -1,0 +1,74 @@
+use Rattle.std.proofs.Common.{◌≡◌, ◌<◌, ◌+◌, ◌++◌, ◌∷◌, [], All, map, take, get_or, length, sym, ap}
+use Rattle.std.proofs.Common.{◌∙◌, subst, arith, length-append}
+use Rattle.std.proofs.lemmas.List.{get_or_default, length-map}
+use Rattle.mm_rule.specs.declared.rule.Part.TheVariants.{Constant, Variable}
+use Rattle.mm_rule.specs.declared.rule.Hypothesis.TheVariants.{Floating, Essential}
+use Rattle.mm_rule.specs.declared.rule.Stretch.{Stretch}
+use Rattle.std.proofs.lemmas.List.Elements.{All-append}
+use Rattle.mm_spec.specs.Frame.{formula_at}
+use Rattle.mm_rule.specs.Rule.{parts_of, IsBelow}
+use Rattle.mm_rules.specs.Rules.{AreCovered}
+use Rattle.mm_rules.proofs.RuleLaw.{map_take_more, map_push, typed_more, typed_within}
+use Rattle.mm_rules.proofs.RuleLaw.{essential_more, essential_within, parts_below}
+use Rattle.mm_rules.proofs.compile.compile_hypotheses.Goals.{then-is_first+in_ok-push}
+use Rattle.mm_rules.proofs.compile.compile_hypotheses.Goals.{else-is_first+in_ok-compile_formula+in_ok-push-2}
+use Rattle.mm_rules.proofs.compile.compile_hypotheses.Goals as goal
+
+pub loop-j-preserved : goal.loop-j-preserved
+loop-j-preserved g c =
+    let k = c.args.db.now.statements in
+    let hyps = c.args.hyps.now in
+    let hs = map (formula_at k) hyps in
+    let v = c.loop-j.invariant in
+    let j = c.loop-j.j in
+    let hypotheses = c.loop-j.hypotheses.items in
+    let parts = c.loop-j.parts.items in
+    let inside : j < length hyps = c.loop-j-test.true in
+    let h = get_or hyps j 0 in
+    let f = c.formula-formula.result.now in
+    let is : f ≡ formula_at k h = c.formula-formula.ensures.formula in
+    let us = map (parts_of k hs) (map (formula_at k) (take j hyps)) in
+    let next : map (parts_of k hs) (map (formula_at k) (take (j + 1) hyps))
+    ≡ us ++ parts_of k hs f ∷ [] =
+    ap (map (parts_of k hs)) (map_take_more (formula_at k) hyps j 0 inside)
+    ∙ map_push (parts_of k hs) (map (formula_at k) (take j hyps)) (formula_at k h)
+    ∙ ap (λ z. us ++ parts_of k hs z ∷ []) (sym is) in
+    let covered : AreCovered k hs f =
+    subst (AreCovered k hs) (sym is) (c.requires.bound j 0 inside) in
+    elim c.if-is_first.branch [
+      | then-is_first+in_ok-push w ↦
+          let t = w.index-formula-0.result in
+          let first = c.is_first.ensures w.if-is_first.true in
+          let typecode : get_or f 0 0 ≡ t =
+          get_or_default f 0 0 t first.0 ∙ sym w.index-formula-0.is in
+          let one : parts_of k hs f ≡ Constant t ∷ Variable j ∷ [] =
+          first.1 ∙ ap (λ z. Constant z ∷ Variable j ∷ []) typecode in
+          rw (w.hypotheses-is, w.parts-is, w.in_ok-push.ensures.items) (record {
+            made =
+                typed_more parts hypotheses j t us v.count v.made ∙ ap (λ z. us ++ z ∷ []) (sym one)
+                ∙ sym next;
+            count = omega (arith, v.count, length-append hypotheses (Floating t ∷ []));
+            within = typed_within (length parts) hypotheses t v.within;
+            below = v.below;
+          })
+      | else-is_first+in_ok-compile_formula+in_ok-push-2 w ↦
+          let more = parts_of k hs f in
+          let s : Stretch = record { start = w.len-start.result; end = w.len.result } in
+          let start : w.len-start.result ≡ length parts = omega (arith, w.len-start.ensures) in
+          let to : w.len.result ≡ length (parts ++ more) =
+          let n = ap length w.in_ok-compile_formula.ensures in omega (arith, w.len.ensures, n) in
+          rw (
+            w.hypotheses-is,
+            w.parts-is,
+            w.in_ok-push-2.ensures.items,
+            w.in_ok-compile_formula.ensures,
+          ) (record {
+            made = essential_more parts more hypotheses s start to v.within us v.made ∙ sym next;
+            count = omega (arith, v.count, length-append hypotheses (Essential s ∷ []));
+            within = essential_within parts more hypotheses s start to v.within;
+            below =
+                All-append (IsBelow (length hyps)) parts more v.below
+                (subst (λ n. All (IsBelow n) more) (length-map hyps (formula_at k))
+                (parts_below k hs f covered));
+          })
+    ]

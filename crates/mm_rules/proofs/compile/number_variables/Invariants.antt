@@ -1,0 +1,15 @@
+use Rattle.std.proofs.Common.{◌≡◌, ◌≤◌, length, drop, map}
+use Rattle.mm_spec.specs.Frame.{symbol_names, formula_at}
+use Rattle.mm_rule.proofs.FirstLaw.{PlacedFrom}
+use Rattle.mm_rules.proofs.compile.number_variables.Given as goal
+
+abbrev pub invariant-loop-j : goal.invariant-loop-j
+invariant-loop-j g l = record {
+  upto : l.j ≤ length l.hyps;
+  width : length l.numbers ≡ length (symbol_names l.db.statements);
+  placed : PlacedFrom l.db.statements l.j
+      (map (formula_at l.db.statements) (drop l.j l.hyps)) l.numbers;
+}
+
+abbrev pub decreases-loop-j : goal.decreases-loop-j
+decreases-loop-j g l = l.j

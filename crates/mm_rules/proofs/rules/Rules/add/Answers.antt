@@ -1,0 +1,25 @@
+use Rattle.std.proofs.Common.{sym, subst}
+use Rattle.mm_rules.specs.Rules.{Lists, AreRules, rule_stretches}
+use Rattle.mm_rule.specs.Rule.{Compiled, IsCompiled}
+use Rattle.mm_rules.proofs.RulesLaw.{added_at}
+use Rattle.mm_rules.proofs.rules.Rules.add.Goals as goal
+
+pub returns : goal.returns
+returns g c =
+    let k = c.args._db.now.statements in
+    let i = c.self.inside in
+    let r = c.rule.inside in
+    let a = c.in_ok-hypotheses in
+    let p = c.in_ok-pairs in
+    let q = c.in_ok-parts in
+    let f = c.in_ok-formula in
+    added_at k i.stretches.items c.push.new.self.items i.hypotheses.items r.hypotheses.now
+    c.put.new.list.items
+    i.pairs.items r.pairs.now c.put-2.new.list.items i.parts.items r.parts.now r.formula.now
+    c.put-3.new.list.items c.put-4.new.list.items
+    (rule_stretches r.assertion a.hypotheses p.pairs q.parts f.formula)
+    c.in_ok-push.ensures.items a.ensures.items p.ensures.items q.ensures.items f.ensures.items
+    a.ensures.start a.ensures.end p.ensures.start p.ensures.end q.ensures.start q.ensures.end
+    f.ensures.start f.ensures.end
+    (subst (λ (z : Compiled). IsCompiled k z) (sym c.rule.view_is) c.requires.rule)
+    (subst (λ (z : Lists). AreRules k z) (sym c.self.view_is) c.requires.rules)

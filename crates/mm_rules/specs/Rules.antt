@@ -1,0 +1,101 @@
+-- The rules of a database, and how they are made of its frames.
+use Rattle.std.specs.Prelude.{◌≡◌, ℕ, suc, ◌<◌, ◌≤◌, true, List, [], ◌∷◌, map, flat_map, length}
+use Rattle.std.specs.Prelude.{get_or, slice_range, All, if◌then◌else◌}
+use Rattle.mm_spec.specs.Statement.{Statement}
+use Rattle.mm_spec.specs.Derivation.{Formula}
+use Rattle.mm_spec.specs.Laws.Complete.{binds, IsBound, IsComplete}
+use Rattle.mm_spec.specs.Citation.{context_at}
+use Rattle.mm_spec.specs.Frame.{is_variable_number, symbol_names, frame_at}
+use Rattle.mm_rule.specs.declared.rule.Part.{Part}
+use Rattle.mm_rule.specs.declared.rule.Part.TheVariants.{Constant, Variable}
+use Rattle.mm_rule.specs.declared.rule.Hypothesis.{Hypothesis}
+use Rattle.mm_rule.specs.declared.rule.Stretch.{Stretch}
+use Rattle.mm_rules.specs.declared.rules.RuleStretches.{RuleStretches}
+use Rattle.mm_rule.specs.declared.rule.Hypothesis.TheVariants.{Floating, Essential}
+use Rattle.mm_rule.specs.Rule.{Compiled, compiled, IsCompiled, first}
+
+-- for each variable that has a `$f`, the list has the place of the first one
+abbrev pub AreFirstNumbers : List Statement → List Formula → List ℕ → Type 0
+AreFirstNumbers k hs places = (x : ℕ) → IsBound (context_at k 0) hs x → get_or places x 0 ≡ first k
+    hs x
+
+-- each variable of the formula has a `$f`
+abbrev pub AreCovered : List Statement → List Formula → Formula → Type 0
+AreCovered k hs f = All (λ x. is_variable_number k x ≡ true → IsBound (context_at k 0) hs x) f
+
+-- each variable of the pairs has a `$f`
+abbrev pub ArePairs : List Statement → List Formula → List (ℕ × ℕ) → Type 0
+ArePairs k hs ps =
+    All (λ (p : ℕ × ℕ). IsBound (context_at k 0) hs p.0 × IsBound (context_at k 0) hs p.1) ps
+
+-- a compiler of rules: how many symbols it knows, and the rule that it compiled last
+pub record CompilerState : Type 0 where
+  pub width : ℕ
+  pub rule : Compiled
+
+abbrev pub compiler_state : ℕ → Compiled → CompilerState
+compiler_state width rule = record { width = width; rule = rule }
+
+-- the rules of a database: a list of their stretches, and the lists that all rules share
+pub record Lists : Type 0 where
+  pub stretches : List RuleStretches
+  pub hypotheses : List Hypothesis
+  pub pairs : List (ℕ × ℕ)
+  pub parts : List Part
+
+abbrev pub lists : List RuleStretches → List Hypothesis → List (ℕ × ℕ) → List Part → Lists
+lists stretches hypotheses pairs parts =
+    record { stretches = stretches; hypotheses = hypotheses; pairs = pairs; parts = parts }
+
+abbrev pub rule_stretches : ℕ → Stretch → Stretch → Stretch → Stretch → RuleStretches
+rule_stretches k hypotheses pairs parts formula =
+    record {
+      assertion = k;
+      hypotheses = hypotheses;
+      pairs = pairs;
+      parts = parts;
+      formula =
+          formula;
+    }
+
+abbrev pub stretch : ℕ → ℕ → Stretch
+stretch start end = record { start = start; end = end }
+
+module _ {X : Type 0} where
+  abbrev pub stretch_of : List X → Stretch → List X
+  stretch_of xs s = slice_range xs s.start s.end
+
+-- the rule in these stretches
+abbrev pub rule_at : Lists → RuleStretches → Compiled
+rule_at l s =
+    compiled s.assertion (stretch_of l.hypotheses s.hypotheses) (stretch_of l.pairs s.pairs)
+    (stretch_of l.parts s.parts) (stretch_of l.parts s.formula)
+
+-- a stretch of `n` elements
+pub record IsStretch (n : ℕ) (s : Stretch) : Type 0 where
+  pub rising : s.start ≤ s.end
+  pub within : s.end ≤ n
+
+-- the rule of an assertion of the database is in the stretches
+pub record HasRule (k : List Statement) (l : Lists) (s : RuleStretches) : Type 0 where
+  pub hypotheses : IsStretch (length l.hypotheses) s.hypotheses
+  pub pairs : IsStretch (length l.pairs) s.pairs
+  pub parts : IsStretch (length l.parts) s.parts
+  pub formula : IsStretch (length l.parts) s.formula
+  pub compiled : IsCompiled k (rule_at l s)
+
+abbrev pub AreRules : List Statement → Lists → Type 0
+AreRules k l = All (HasRule k l) l.stretches
+
+abbrev pub no_stretches : RuleStretches
+no_stretches = rule_stretches 0 (stretch 0 0) (stretch 0 0) (stretch 0 0) (stretch 0 0)
+
+-- `n` is the number of the rule of assertion `a`
+pub record IsRuleNumber (l : Lists) (n a : ℕ) : Type 0 where
+  pub inside : n < length l.stretches
+  pub is : (get_or l.stretches n no_stretches).assertion ≡ a
+
+-- the rule is that of assertion `a`
+pub record IsRuleOf (k : List Statement) (c : Compiled) (a : ℕ) : Type 0 where
+  pub compiled : IsCompiled k c
+  pub is : c.assertion ≡ a
