@@ -3,7 +3,7 @@
 A recipe ends by `sys.exit(message)` where it can't answer; the shell makes that its one line on standard error.
 """
 
-import functools, gc, re
+import functools, gc, re, sys
 
 # Recipes end before anything would have to be collected.
 gc.disable()
@@ -90,8 +90,10 @@ class Graph:
     def __init__(self, path):
         self.number = number = {}
         self.cites = {}
-        for label, _, cited in rows(path):
+        for label, count, cited in rows(path):
             words = cited.split(" ") if cited else []
+            if len(words) != int(count):
+                sys.exit("the report is damaged")
             cites = list(map(number.get, words))
             if None in cites:
                 cites = [number.setdefault(word, len(number)) for word in words]
@@ -132,14 +134,6 @@ class Graph:
             edge = further
         return far
 
-    def next_on(self, far, node):
-        """What a node cites next on a shortest chain; of several the one that is cited first."""
-        long = far[node] - 1
-        for cited in self.cites[node]:
-            if far.get(cited) == long:
-                return cited
-        raise AssertionError
-
 
 class Reasons:
     """Of the theorems of one graph that rest on an axiom, and don't in another one, why: the first citation on a shortest
@@ -154,12 +148,16 @@ class Reasons:
     def why(self, node):
         """The labels of what cites and of what it cites."""
         known, same, far = self.known, self.same, self.far
+        here, there = self.graph.cites, self.other.cites
         passed = []
         while node not in known:
             passed.append(node)
-            cited = self.graph.next_on(far, node)
-            shared = same[cited] in self.other.cites.get(same[node], ())
-            if not shared or not far[cited]:
+            # What is next on a shortest chain: of several the one that is cited first.
+            long = far[node] - 1
+            for cited in here[node]:
+                if far.get(cited) == long:
+                    break
+            if not long or same[cited] not in there.get(same[node], ()):
                 known[node] = f"{self.graph.labels[node]} {self.graph.labels[cited]}"
                 break
             node = cited

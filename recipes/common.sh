@@ -185,14 +185,15 @@ of_typecode() {
 }
 
 # sections NAME REPORT PLACE SECTION..: makes PLACE.SECTION of each section named: its lines, without the heading. The file
-# has a whole report, or several, one after the other. Of `usage`, the lines of axioms that begin with $begin alone.
+# has a whole report, or several, one after the other. Of `usage`, the lines of axioms that begin with $begin alone. If
+# $for_python is set, these are without the theorems, and it is left to Python to count the words of `citations`.
 sections() {
     name=$1 report=$2 place=$3
     shift 3
     case $(opening "$report") in 'mmdepend 1') ;; *) fail "$name: a report of another form than 1" ;; esac
     [ "$(tail -c 5 "$report" && echo .)" = "$(printf '\nend\n.')" ] || fail "$name: the report is cut off"
     status=0
-    place=$place wanted=$* begin=$begin awk -F: '
+    place=$place wanted=$* begin=$begin alone=$for_python awk -F: '
         BEGIN {
             n = split(ENVIRON["wanted"], words, " ")
             for (i = 1; i <= n; i++) {
@@ -200,6 +201,7 @@ sections() {
                 printf "" >out[words[i]]
             }
             begin = ENVIRON["begin"]
+            alone = ENVIRON["alone"] != ""
         }
         # The end of a section: it has to have all its lines.
         function close_section() {
@@ -232,10 +234,11 @@ sections() {
         { lines++ }
         part in out {
             if (part == "usage") { if (NF != 3) damaged = 1 }
-            else if (part == "citations") { if (NF != 3 || split($3, words, " ") != $2 + 0) damaged = 1 }
+            else if (part == "citations") { if (NF != 3 || !alone && split($3, words, " ") != $2 + 0) damaged = 1 }
             else if (part == "counts") { if (NF != 2) damaged = 1 }
             else if (part == "matrix") { if (NF != 2 || length($2) != axioms) damaged = 1 }
-            if (part != "usage" || begin == "" || index($1, begin) == 1) print >out[part]
+            if (part != "usage") print >out[part]
+            else if (begin == "" || index($1, begin) == 1) print (alone ? $1 "::" : $0) >out[part]
         }
         END {
             if (form) exit 7
@@ -462,6 +465,7 @@ with_open=
 allow=
 png=
 chosen=
+for_python=
 # Set by a recipe that also takes a database whose first fault is one of a proof, E31 to E45.
 proofs_may_be_wrong=
 trap leave EXIT
