@@ -1,7 +1,7 @@
 """What the page shows of a database beside marks and citations: formulas, hypotheses, comments, chapters and lines.
 
-The program has accepted the text before it is read here, so nothing is judged: every statement is whole, and each byte
-is white space or printable ASCII.
+Nothing is judged here, that is the program's work: in a text that it accepts every statement is whole, and each byte is
+white space or printable ASCII. What comes of other texts isn't used.
 """
 
 import re
@@ -178,6 +178,6 @@ def read_database(text):
         if not in_proof:
             more = piece[1:].split() if number else piece.split()
             if more:
-                words = words + more
+                words += more
                 words_from, words_to = start, offset - 1
     return database

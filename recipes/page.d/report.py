@@ -2,7 +2,6 @@
 
 import re
 import subprocess
-import threading
 
 
 class Refused(Exception):
@@ -45,27 +44,6 @@ def run(program, words, text):
         raise Refused(f"{match[1].decode()}: refused {match[2].decode()}")
     told = done.stderr.decode("latin-1").strip().split("\n")[-1].removeprefix("mmdepend: ")
     raise Failed(told or f"the program ended with status {done.returncode}")
-
-
-def run_both(program, first, second, text):
-    """Two reports of the same text, made at the same time."""
-    ends = [None, None]
-
-    def keep(number, words):
-        try:
-            ends[number] = run(program, words, text)
-        except (Refused, Failed) as error:
-            ends[number] = error
-
-    threads = [threading.Thread(target=keep, args=job) for job in enumerate((first, second))]
-    for thread in threads:
-        thread.start()
-    for thread in threads:
-        thread.join()
-    for end in ends:
-        if isinstance(end, Exception):
-            raise end
-    return ends
 
 
 def version(program):
