@@ -5,7 +5,12 @@ import subprocess
 
 
 class Refused(Exception):
-    """The program refused the database. The message has the place and the code, as compilers write them."""
+    """The program refused the database: the place of the fault, as line and column, and its code."""
+
+    def __init__(self, place, code):
+        super().__init__(place, code)
+        self.place = place
+        self.code = code
 
 
 class Failed(Exception):
@@ -41,7 +46,7 @@ def run(program, words, text):
         match = re.fullmatch(rb"refused ([0-9]+:[0-9]+) (E[0-9]+)\n", done.stdout)
         if not match:
             raise Failed("a refusal that isn't whole")
-        raise Refused(f"{match[1].decode()}: refused {match[2].decode()}")
+        raise Refused(match[1].decode(), match[2].decode())
     told = done.stderr.decode("latin-1").strip().split("\n")[-1].removeprefix("mmdepend: ")
     raise Failed(told or f"the program ended with status {done.returncode}")
 
