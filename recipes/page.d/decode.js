@@ -108,7 +108,12 @@ class Texts {
     /** The line in which a place of the text is; it isn't above a known one. */
     lineAt(place, known = 0) {
         let low = known;
-        let high = this.size;
+        let step = 1; // larger each time, since it is often one of the next lines
+        while (low + step < this.size && this.starts[low + step] <= place) {
+            low += step;
+            step *= 2;
+        }
+        let high = Math.min(this.size, low + step);
         while (high - low > 1) {
             const middle = (low + high) >>> 1;
             if (this.starts[middle] <= place) low = middle;

@@ -1,7 +1,7 @@
 // Starts the page, and shows the view that the address names.
 
 /** How many of what was found are shown. */
-const SHOWN = 30;
+const SHOWN = 24;
 
 class Page {
     constructor(model) {
