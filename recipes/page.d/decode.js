@@ -31,10 +31,6 @@ class Numbers {
         this.place = 0;
     }
 
-    get isOver() {
-        return this.place >= this.block.length;
-    }
-
     next() {
         let number = 0;
         let scale = 1;

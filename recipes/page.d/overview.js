@@ -61,8 +61,7 @@ class Overview {
             element(
                 "p",
                 { class: "lead" },
-                `${counted(model.theorems.length, "theorem")}, each with the axioms on which it rests: `,
-                `${counted(model.axioms.length, "axiom and definition", "axioms and definitions")} in all.`,
+                `${counted(model.theorems.length, "theorem")}, which rest on ${counted(model.axioms.length, "axiom")}:`,
             ),
             element(
                 "ul",
