@@ -8,8 +8,9 @@
 //! that isn't true, and the prover refuses each, since the law's proof doesn't prove it: a premise
 //! says less, two arguments are exchanged, or a definition on which the law depends says something
 //! else. Each clause has one edit, named after the mistake. Each law's statement is in a file of
-//! its own, so that a change of one is tried without the others being read again. Small texts for which the definitions
-//! are worked out are in `proofs/` (`ExamplesLaw`, `VectorsLaw`, `OutputsLaw`).
+//! its own, so that a change of one is tried without the others being read again. Small texts for
+//! which the definitions are worked out are in `proofs/` (`ExamplesLaw`, `VectorsLaw`,
+//! `OutputsLaw`).
 #![tactic(auto)]
 
 mod cells;

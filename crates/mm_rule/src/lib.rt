@@ -1,8 +1,8 @@
 //! What an assertion requires of a proof that applies it, and what it yields. This layer knows the
-//! rule of an assertion: its frame, in which a variable is the number of its `$f` among the mandatory
-//! hypotheses, so that the premises of a step are the substitution and no table by symbols is
-//! needed. It also asks the database what a step asks most often: whether a statement is an
-//! assertion, and which hypotheses and pairs its frame has. `IsCompiled` in
+//! rule of an assertion: its frame, in which a variable is the number of its `$f` among the
+//! mandatory hypotheses, so that the premises of a step are the substitution and no table by
+//! symbols is needed. It also asks the database what a step asks most often: whether a statement is
+//! an assertion, and which hypotheses and pairs its frame has. `IsCompiled` in
 //! `Rattle.mm_rule.specs.Rule` says when a rule is that of an assertion. Rules are made in
 //! `mm_rules` and applied in `mm_machine`, which are proved side by side.
 #![tactic(auto)]
