@@ -53,7 +53,7 @@ pub struct Names<'a, A: Allocator> {
     ghost labels_no_longer: { AreNoLonger labels longest_label },
 }
 
-// By hand, so that a function that lets names go calls this, and isn't proved to let go each field.
+/// Lets all fields go in one call, so that a proof has one step for it at each exit.
 impl<'a, A: Allocator> Drop for Names<'a, A> {
     fn drop(self) {
         let Self {

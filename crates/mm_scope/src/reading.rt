@@ -35,7 +35,7 @@ pub struct Outlined<'a, A: Allocator> {
     pub fault: Option<Fault>,
 }
 
-// By hand, so that a function that lets this go calls it, and isn't proved to let go each field.
+/// Lets all fields go in one call, so that a proof has one step for it at each exit.
 impl<'a, A: Allocator> Drop for Outlined<'a, A> {
     fn drop(self) {
         let Self {
@@ -316,20 +316,20 @@ impl<'a, A: Allocator + Copy> Scope<'a, A> {
     {
         let from = outline.keyword + 1;
         match outline.kind {
-            Kind::Constants => self.declare(text, tokens, false, from, outline.middle, number)?,
-            Kind::Variables => self.declare(text, tokens, true, from, outline.middle, number)?,
+            Kind::Constants => self.declare(text, tokens, false, from, outline.middle, number),
+            Kind::Variables => self.declare(text, tokens, true, from, outline.middle, number),
             Kind::Floating => {
                 self.give_label(text, tokens, outline.keyword, number)?;
                 if outline.middle - outline.keyword == 3 {
                     self.give_type(text, tokens, from, number)?;
                 }
+                Ok(())
             }
-            Kind::Essential => self.give_label(text, tokens, outline.keyword, number)?,
-            Kind::Axiom => self.give_label(text, tokens, outline.keyword, number)?,
-            Kind::Theorem => self.give_label(text, tokens, outline.keyword, number)?,
-            _ => {}
+            Kind::Essential | Kind::Axiom | Kind::Theorem => {
+                self.give_label(text, tokens, outline.keyword, number)
+            }
+            _ => Ok(()),
         }
-        Ok(())
     }
 
     /// Makes the label before the keyword that of the statement `number`.

@@ -67,11 +67,13 @@ impl<A: Allocator> Steps<A> {
     }
 
     /// Appends a step, whose place is a byte offset from 0. If it is `Step::Marked`, it repeats the
-    /// subproof of an earlier step, which is then marked. Fails only if out of memory.
+    /// subproof of an earlier step, which is then marked. Fails only if out of memory, and then
+    /// nothing was appended.
     pub fn push(&mut self, at: u32, step: Step) -> Result<(), AllocError>
         requires { IsEarlier (step_of step) (length self.old.steps) }
         ensures ok { OnOk result
             (self.new ≡ read self.old.theorem (self.old.steps ++ placed at (step_of step) ∷ [])) }
+        ensures err { OnErr result (self.new ≡ self.old) }
     {
         match step {
             Step::Label(number) => self.steps.push(Placed {

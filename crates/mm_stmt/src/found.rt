@@ -23,12 +23,23 @@ use std::alloc::{AllocError, Allocator};
 
 /// For each symbol whether it is a variable; the frames and the `$d` by variables; the lists of
 /// statements as they count; and the words that are needed again.
-#[derive(Drop)]
 pub struct Found<A: Allocator> {
     pub variables: Vec<bool, A>,
     pub beside: Beside<A>,
     pub listed: Listed<A>,
     pub kept: Kept<A>,
+}
+
+/// Lets all fields go in one call, so that a proof has one step for it at each exit.
+impl<A: Allocator> Drop for Found<A> {
+    fn drop(self) {
+        let Self {
+            variables: _,
+            beside: _,
+            listed: _,
+            kept: _,
+        } = self;
+    }
 }
 
 /// Returns the frames and the `$d` of the lawful statements that were read.
