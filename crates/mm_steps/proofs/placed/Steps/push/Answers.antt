@@ -28,8 +28,8 @@ invariant_of-self-in-Marked g c =
     flag_more ps qs p _ j c.self.invariant more refl refl (omega (arith, early, long))
     (ap told_one there) refl
 
-pub returns-in_ok-push-in-Marked : goal.returns-in_ok-push-in-Marked
-returns-in_ok-push-in-Marked g c =
+pub returns-in_ok-push-in-Marked-clause-ok : goal.returns-in_ok-push-in-Marked-clause-ok
+returns-in_ok-push-in-Marked-clause-ok g c =
     let ps = c.self.inside.steps.items in
     let qs = c.push-in-Marked.new.self.items in
     let j = c.in-Marked.number in
@@ -44,11 +44,8 @@ returns-in_ok-push-in-Marked g c =
     let n = ap length more in omega (arith, early, long, n, length-append ps (p ∷ [])) in
     let there : now ≡ get_or qs j nothing =
     c.index_mut.ensures.value ∙ sym (get_or_default qs j nothing now inside) in
-    record {
-      ok =
-          ap (read c.self.inside.theorem)
-          (told_set qs j _ (ap told_one there) ∙ ap told more ∙ told_more ps p
-          ∙ ap (λ s. told ps ++ placed c.args.at (step_of s) ∷ []) (sym c.in-Marked.is))
-          ∙ ap (λ r. read r.theorem (r.steps ++ placed c.args.at (step_of c.args.step) ∷ []))
-          c.self.view_is;
-    }
+    ap (read c.self.inside.theorem)
+    (told_set qs j _ (ap told_one there) ∙ ap told more ∙ told_more ps p
+    ∙ ap (λ s. told ps ++ placed c.args.at (step_of s) ∷ []) (sym c.in-Marked.is))
+    ∙ ap (λ r. read r.theorem (r.steps ++ placed c.args.at (step_of c.args.step) ∷ []))
+    c.self.view_is
