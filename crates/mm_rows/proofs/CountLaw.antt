@@ -1,5 +1,5 @@
 -- How many bits of a row are set.
-use Rattle.std.proofs.Common.{◌≡◌, ℕ, zero, suc, Bool, false, List, ◌⊎◌, inl, inr, ◌<◌, ◌≤◌, ◌+◌}
+use Rattle.std.proofs.Common.{◌≡◌, ℕ, zero, suc, Bool, true, false, List, min, ◌⊎◌, inl, inr, ◌<◌, ◌≤◌, ◌+◌}
 use Rattle.std.proofs.Common.{◌*◌, ◌/◌, ◌%◌, ◌-◌, ◌^◌, length, sym, ap, ap₂, refl, arith, get_or}
 use Rattle.std.proofs.Common.{eqb, take, map, sum, cond, count_by, count_ones, ◌∙◌, zero-add}
 use Rattle.std.proofs.lemmas.Bool.{cases_eq}
@@ -52,6 +52,22 @@ tally_add p n (suc m) =
     let a = tally_more p (n + m) in
     let b = tally_more (λ k. p (n + k)) m in
     ap (tally p) e ∙ omega (arith, i, a, b)
+
+tally_within : (p : ℕ → Bool) (n : ℕ) → tally p n ≤ n
+tally_within p zero = omega arith
+tally_within p (suc n) =
+    let rest = tally_within p n in let more = tally_more p n in
+    omega (arith, rest, more, one_at_most (p n))
+  where
+    one_at_most : (b : Bool) → cond b 1 0 ≤ 1
+    one_at_most true = omega arith
+    one_at_most false = omega arith
+
+-- a count that a u64 holds is told as it is
+pub all_counted : (p : ℕ → Bool) (n result : ℕ) → n < 2 ^ 64
+    → result ≡ min (tally p n) (2 ^ 64 - 1)
+    → result ≡ tally p n
+all_counted p n result few is = let within = tally_within p n in omega (arith, few, is, within)
 
 no_ones : count_ones 0 ≡ 0
 no_ones = let l = ones_le_self 0 in omega (arith, l)

@@ -1,10 +1,8 @@
 -- A count by lanes is the sum of the counts.
-use Rattle.std.proofs.Common.{◌≡◌, ◌≤◌, ◌<◌, ◌^◌, ℕ, ◌+◌, ◌*◌, All, List, [], ◌∷◌, length, get_or}
-use Rattle.std.proofs.Common.{map, take, drop, count_ones, ap, sym, subst, ◌∙◌, refl, arith}
-use Rattle.std.proofs.lemmas.List.{drop-drop, length-take-le, length-drop, get_or-take, get_or-drop}
-use Rattle.std.proofs.lemmas.List.{get_or_default}
-use Rattle.std.proofs.lemmas.List.Sums.{sum_by-take-drop, sum_by-le}
-use Rattle.std.proofs.lemmas.Nat.{ones-le}
+use Rattle.std.proofs.Common.{◌≡◌, ◌≤◌, ℕ, ◌+◌, List, [], ◌∷◌, length}
+use Rattle.std.proofs.Common.{map, take, drop, count_ones, ap, refl, arith}
+use Rattle.std.proofs.lemmas.List.{drop-drop}
+use Rattle.std.proofs.lemmas.List.Sums.{sum_by-take-drop}
 use Rattle.std.specs.List.{fold, sum_by}
 use lib.Lanes.{fold_l}
 use borrow.Rule.Simd.Lanes.{act1, act2}
@@ -40,21 +38,3 @@ eight_more row at fits =
     let rest = sum_by-take-drop count_ones (drop at row) 8 in
     let same = ap (sum_by count_ones) (drop-drop 8 at row) in
     omega (arith, whole, longer, rest, same)
-
-pub few_in_eight : (row : List ℕ) (at : ℕ) → ((k : ℕ) → get_or row k 0 < 2 ^ 64)
-    → at + 8 ≤ length row → sum_by count_ones (take 8 (drop at row)) ≤ 512
-few_in_eight row at fits long =
-    let e = length-take-le 8 (drop at row) (let d = length-drop at row in omega (arith, d, long)) in
-    let l = sum_by-le count_ones 64 (take 8 (drop at row)) (λ k d lt. small k d lt) in
-    let f = ap (λ n. n * 64) e in
-    omega (arith, l, f)
-  where
-    small : All (λ x. count_ones x ≤ 64) (take 8 (drop at row))
-    small k d lt =
-        let e =
-        length-take-le 8 (drop at row) (let d = length-drop at row in omega (arith, d, long)) in
-        let m = length-drop at row in
-        let is =
-        get_or-take 8 (drop at row) k d (omega (arith, lt, e)) ∙ get_or-drop at row k d
-        ∙ get_or_default row (at + k) d 0 (omega (arith, lt, e, long)) in
-        subst (λ x. count_ones x ≤ 64) (sym is) (ones-le 64 (get_or row (at + k) 0) (fits (at + k)))

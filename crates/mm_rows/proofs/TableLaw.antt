@@ -1,7 +1,7 @@
 -- What is read off a table.
 use Rattle.std.proofs.Common.{◌≡◌, ℕ, Bool, true, false, List, [], get_or, ◌⊎◌, inl, inr, ◌<◌, ◌≤◌}
 use Rattle.std.proofs.Common.{◌+◌, ◌*◌, ◌/◌, length, subst, sym, ap, ap₂, refl, arith, Option, Some}
-use Rattle.std.proofs.Common.{None, count_by, ◌∙◌}
+use Rattle.std.proofs.Common.{None, count_by, ◌∙◌, ◌-◌, ◌^◌, min}
 use Rattle.std.proofs.lemmas.Bool.{cases_lt}
 use Rattle.std.proofs.lemmas.List.FromFn.{get_or-map-range_with_len}
 use Rattle.std.specs.List.{range_with_len}
@@ -10,7 +10,7 @@ use Rattle.mm_cites.specs.Citing.{Citing, IsRising}
 use Rattle.mm_rows.specs.BitRows.{cells_of, marks, row_at, AreBitRows}
 use Rattle.mm_rows.specs.Marks.{Marks, mark, IsAbove, start_of, IsMatrix}
 use Rattle.mm_rows.proofs.TransposeLaw.{row_bit, row_length, row_past, row_end, spot_within}
-use Rattle.mm_rows.proofs.CountLaw.{tally, tally_agree, row_ones}
+use Rattle.mm_rows.proofs.CountLaw.{tally, tally_agree, all_counted, row_ones}
 
 -- within a table a mark is its bit
 pub mark_bit : (rows columns : ℕ) (bits : List ℕ) (i j : ℕ) → i < rows → j < columns
@@ -54,12 +54,15 @@ module _ (m : Marks) (rows columns : ℕ) (words transposed : List ℕ)
       ∙ sym (ap (λ x. mark x i j) view)
 
   pub counted : (i result : ℕ) (part : List ℕ) → i < m.rows
-      → part ≡ row_at words (words_for columns) i → result ≡ tally (is_bit part) (64 * length part)
+      → part ≡ row_at words (words_for columns) i
+      → result ≡ min (tally (is_bit part) (64 * length part)) (2 ^ 64 - 1)
       → result ≡ count_by (λ j. mark m i j) (range_with_len 0 m.columns)
   counted i result part lt is e =
       let lt' = subst (λ (x : Marks). i < x.rows) view lt in
+      let few = t.few_columns in
+      let wide = ap length is ∙ row_length words (words_for columns) i rows lt' t.size in
       subst (λ (x : Marks). result ≡ tally (λ j. mark x i j) x.columns) (sym view)
-      (e ∙ ap (λ xs. tally (is_bit xs) (64 * length xs)) is
+      (all_counted (is_bit part) (64 * length part) result (omega (arith, few, wide)) e ∙ ap (λ xs. tally (is_bit xs) (64 * length xs)) is
       ∙ row_ones words (words_for columns) i rows columns lt' t.size (omega arith)
       (λ j le l. t.past i j lt' le l)
       ∙ tally_agree (λ j. is_bit words (spot (words_for columns) i j))
@@ -67,13 +70,15 @@ module _ (m : Marks) (rows columns : ℕ) (words transposed : List ℕ)
       (λ j l. sym (mark_bit rows columns words i j lt' l)))
 
   pub counted_down : (j result : ℕ) (part : List ℕ) → j < m.columns
-      → part ≡ row_at transposed (words_for rows) j → result ≡ tally (is_bit part)
-      (64 * length part)
+      → part ≡ row_at transposed (words_for rows) j
+      → result ≡ min (tally (is_bit part) (64 * length part)) (2 ^ 64 - 1)
       → result ≡ count_by (λ i. mark m i j) (range_with_len 0 m.rows)
   counted_down j result part lt is e =
       let lt' = subst (λ (x : Marks). j < x.columns) view lt in
+      let few = t.few_rows in
+      let wide = ap length is ∙ row_length transposed (words_for rows) j columns lt' a.size in
       subst (λ (x : Marks). result ≡ tally (λ i. mark x i j) x.rows) (sym view)
-      (e ∙ ap (λ xs. tally (is_bit xs) (64 * length xs)) is
+      (all_counted (is_bit part) (64 * length part) result (omega (arith, few, wide)) e ∙ ap (λ xs. tally (is_bit xs) (64 * length xs)) is
       ∙ row_ones transposed (words_for rows) j columns rows lt' a.size (omega arith)
       (λ i le l. a.past i j le l lt')
       ∙ tally_agree (λ i. is_bit transposed (spot (words_for rows) j i))

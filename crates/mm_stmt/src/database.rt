@@ -102,9 +102,10 @@ impl<'a, A: Allocator> Database<'a, A> {
         self.read.fault
     }
 
-    /// Returns the number of statements.
+    /// Returns the number of statements, at most that of the text's bytes.
     pub fn len(&self) -> u32
         ensures len { result ≡ length self.now.statements }
+        ensures few { result ≤ length self.now.text }
         ensures small { result < 2 ^ 31 }
         ensures read { IsRead (length self.now.text)
             (lexed_of self.now.text) self.now.read self.now.fault }

@@ -1,0 +1,49 @@
+-- A text has no more statements than bytes.
+use Rattle.std.proofs.Common.{ℕ, ◌≤◌, List, [], ◌∷◌, flat_map, length, Option, ap, arith}
+use Rattle.std.proofs.Common.{length-append}
+use Rattle.std.proofs.lemmas.List.{length-map}
+use Rattle.mm_spec.specs.declared.Fault.{Fault}
+use Rattle.mm_spec.specs.Lexed.{tokens_of}
+use Rattle.mm_spec.specs.Statement.{Statement, constants, variables, disjoint, floating, essential}
+use Rattle.mm_spec.specs.Statement.{axiomatic, provable, opening, closing, spelled}
+use Rattle.mm_spec.specs.Output.{IsRead, lexed_of}
+use Rattle.mm_outline.specs.Parts.{token_of}
+use Rattle.mm_outline.proofs.TokensLaw.{tokens_few}
+
+-- a statement has a token
+one_token : (s : Statement) → 1 ≤ length (spelled s)
+one_token (constants k xs d) = omega arith
+one_token (variables k xs d) = omega arith
+one_token (disjoint k xs d) = omega arith
+one_token (floating l k xs d) = omega arith
+one_token (essential l k xs d) = omega arith
+one_token (axiomatic l k xs d) = omega arith
+one_token (provable l k xs e ps d) = omega arith
+one_token (opening k) = omega arith
+one_token (closing k) = omega arith
+
+-- a row has no more statements than tokens
+tokens_suffice : (row : List Statement) → length row ≤ length (flat_map spelled row)
+tokens_suffice [] = omega arith
+tokens_suffice (s ∷ row) =
+    let one = one_token s in let rest = tokens_suffice row in
+    omega (arith, one, rest, length-append (spelled s) (flat_map spelled row))
+
+pub statements_few : (text : List ℕ) (db : List Statement) (fault : Option Fault)
+    → IsRead (length text) (lexed_of text) db fault → length db ≤ length text
+statements_few text db fault r =
+    let row = tokens_suffice r.row in
+    let tokens = ap length r.is_row.splits in
+    let statements = ap length r.splits in
+    let mapped = length-map (tokens_of text) (token_of text) in
+    let few = tokens_few text in
+    omega (
+      arith,
+      row,
+      tokens,
+      statements,
+      mapped,
+      few,
+      length-append (flat_map spelled r.row) r.is_row.rest,
+      length-append db r.rest,
+    )
