@@ -1,4 +1,5 @@
 pub mod ReaderLaw
+pub mod ReadLaw
 pub mod ExamplesLaw
 pub mod VectorsLaw
 pub mod OutputsLaw
@@ -7,6 +8,7 @@ pub mod ExactLaw
 pub mod ExcludedLaw
 pub mod JudgedLaw
 pub mod OneOutputLaw
+pub mod LongTextLaw
 pub mod TheoremLaw
 pub mod TypedLaw
 pub mod SomeReadingLaw

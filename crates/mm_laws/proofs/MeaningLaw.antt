@@ -8,6 +8,7 @@ use Rattle.std.proofs.lemmas.Slice.Eq.{bytes_eq-Decides}
 use Rattle.mm_spec.specs.Text.{Token}
 use Rattle.mm_spec.specs.declared.Fault.{Fault}
 use Rattle.mm_spec.specs.Statement.{Statement, provable}
+use Rattle.mm_spec.specs.Opened.{counted}
 use Rattle.mm_spec.specs.Frame.{mandatory_hypotheses, formula_at}
 use Rattle.mm_spec.specs.Derivation.{Trees}
 use Rattle.mm_spec.specs.Steps.{Step, PlacedStep, label}
@@ -190,8 +191,8 @@ module _ (db : List Statement) (k : ℕ) where
         from m p = let v = m (p.steps, p.said, (p.derivation, p.derives)) in (v.0, v.1.0, v.1.1)
 
 pub valid_on_the_meaning : WhereRead ValidOnTheMeaning
-valid_on_the_meaning len x db fault r k =
-    let named = steps_named len x db fault r k in
-    let labelled = steps_labels len x db fault r k in
-    valid_means db k named labelled (compressed_exact len x db fault r k)
-    (normal_exact len x db fault r k)
+valid_on_the_meaning len x db fault r w k =
+    let named = steps_named len x db fault r w k in
+    let labelled = steps_labels len x db fault r w k in
+    valid_means (counted w db) k named labelled (compressed_exact len x db fault r w k)
+    (normal_exact len x db fault r w k)

@@ -14,8 +14,9 @@ use Rattle.mm_spec.specs.Statement.{Statement, floating, essential, axiomatic, p
 use Rattle.mm_spec.specs.Scope.{Names as KnownNames, names_before, depth, is_active, statement_at}
 use Rattle.mm_spec.specs.Scope.{label_words}
 use Rattle.mm_spec.specs.Lawful.{when, at, floating_faults, formula_faults, scope_faults, least}
-use Rattle.mm_spec.specs.Lawful.{scope_fault, IsLawful}
+use Rattle.mm_spec.specs.Lawful.{IsLawful}
 use Rattle.mm_spec.specs.Lawful as lawful
+use Rattle.mm_spec.specs.Opened.{counted}
 use Rattle.mm_spec.specs.Frame.{mandatory_hypotheses}
 use Rattle.mm_spec.specs.Steps.{Step, PlacedStep, placed, label, marked}
 use Rattle.mm_spec.specs.NormalProof.{is_labelled, usable, proof_label_faults, normal_faults}
@@ -24,6 +25,7 @@ use Rattle.mm_spec.specs.CompressedProof.{bracketed, letters_of, Group, is_last,
 use Rattle.mm_spec.specs.CompressedProof.{starts_at, step_of, group_steps, letter_faults}
 use Rattle.mm_spec.specs.CompressedProof.{compressed_faults, compressed_steps}
 use Rattle.mm_spec.specs.Proof.{steps, reading_faults}
+use Rattle.mm_spec.specs.Output.{LexedText, IsRead}
 use Rattle.mm_laws.specs.Spelling.{Item, number, mark, is_number, is_mark, Spells, letters_in}
 use Rattle.mm_laws.specs.Spelling.{IsCompressed, IsMark, Names, AreSteps, IsUsable}
 use Rattle.mm_laws.specs.Laws.Read.{WhereRead}
@@ -34,8 +36,9 @@ use Rattle.mm_spec.specs.declared.Code.TheVariants.{LabelIsSymbol, LabelUsedBefo
 use Rattle.mm_spec.specs.declared.Code.TheVariants.{IncompleteProof}
 use Rattle.mm_spec.proofs.FindsLaw.{same_word, found_at, inside_of, declares}
 use Rattle.mm_spec.proofs.FaultlessLaw.{least_none, append_none, at_none, when_none}
-use Rattle.mm_spec.proofs.LocalLaw.{scope_fault_front}
+use Rattle.mm_spec.proofs.OpenedLaw.{counted_any}
 use Rattle.mm_spec.proofs.ListLaw.{get_none}
+use Rattle.mm_laws.proofs.ReadLaw.{lawful_read}
 use Rattle.mm_laws.proofs.SpellingLaw.{bracketed_is, AreFine, good_letters, item_of, groups_spell}
 use Rattle.mm_laws.proofs.SpellingLaw.{letters_bytes, spelling_unique}
 
@@ -359,6 +362,13 @@ one_in_range test one (suc n) a = by (test a) refl (one_in_range test one n (a +
     by false e (inl h) = inl h
     by false e (inr h) = let l = h.3 in inr (h.0, h.1, h.2, omega arith)
 
+abbrev pub HasLabel : List Statement → Bytes → ℕ → Type 0
+HasLabel db w j = list_any (is_labelled w) (statement_at db j) ≡ true
+
+-- a label is that of one statement
+abbrev pub LabelsDiffer : List Statement → Type 0
+LabelsDiffer db = (w : Bytes) (i j : ℕ) → HasLabel db w i → HasLabel db w j → i ≡ j
+
 module _ (db : List Statement) (law : (k : ℕ) → k < length db → IsLawful db k) where
   faultless : (k : ℕ) (s : Statement) → slice_get db k ≡ Some s
       → scope_faults (names_before db k) (depth db k) s ≡ []
@@ -370,10 +380,7 @@ module _ (db : List Statement) (law : (k : ℕ) → k < length db → IsLawful d
       judged o =
           elim o [ None ↦ None | Some s ↦ least (scope_faults (names_before db k) (depth db k) s) ]
 
-  abbrev HasLabel : Bytes → ℕ → Type 0
-  HasLabel w j = list_any (is_labelled w) (statement_at db j) ≡ true
-
-  apart : (w : Bytes) (i j : ℕ) → i < j → HasLabel w i → HasLabel w j → ⊥
+  apart : (w : Bytes) (i j : ℕ) → i < j → HasLabel db w i → HasLabel db w j → ⊥
   apart w i j l h k =
       let s = found_at db (is_labelled w) i h in
       let t = found_at db (is_labelled w) j k in
@@ -381,8 +388,7 @@ module _ (db : List Statement) (law : (k : ℕ) → k < length db → IsLawful d
       label_fresh (names_before db j) (depth db j) t.0 w (faultless j t.0 t.1) t.2 in
       true≢false (sym (declares label_words db j i s.0 w s.1 l (labelled_word s.0 w s.2)) ∙ fresh)
 
-  -- a label is that of one statement
-  label_once : (w : Bytes) (i j : ℕ) → HasLabel w i → HasLabel w j → i ≡ j
+  label_once : LabelsDiffer db
   label_once w i j h k = by (cases_order i j)
     where
       by : (i ≡ j) ⊎ ((i < j) ⊎ (j < i)) → i ≡ j
@@ -390,6 +396,18 @@ module _ (db : List Statement) (law : (k : ℕ) → k < length db → IsLawful d
       by (inr (inl l)) = absurd (apart w i j l h k)
       by (inr (inr l)) = absurd (apart w j i l k h)
 
+-- the labels of what is read differ, as it counts
+pub labels_differ : (len : ℕ) (x : LexedText) (db : List Statement) (fault : Option Fault)
+    → IsRead len x db fault → (with_open : Bool) → LabelsDiffer (counted with_open db)
+labels_differ len x db fault r with_open w i j h u =
+    label_once db (lawful_read len x db fault r) w i j (sym (same i) ∙ h) (sym (same j) ∙ u)
+  where
+    same : (j : ℕ)
+        → list_any (is_labelled w) (statement_at (counted with_open db) j)
+        ≡ list_any (is_labelled w) (statement_at db j)
+    same = counted_any with_open db (is_labelled w) (λ l k xs e ps d. refl)
+
+module _ (db : List Statement) (differ : LabelsDiffer db) where
   module _ (k : ℕ) where
     pub usable_one : (t : Token) → proof_label_faults db k t ≡ []
         → (j : ℕ) × (usable db k t.word ≡ j ∷ []) × IsUsable db k t.word j
@@ -400,7 +418,7 @@ module _ (db : List Statement) (law : (k : ℕ) → k < length db → IsLawful d
 
         once : (i j : ℕ) → test i ≡ true → test j ≡ true → i ≡ j
         once i j h u =
-            label_once t.word i j
+            differ t.word i j
             (and_parts (is_active db i k) (list_any (is_labelled t.word) (statement_at db i)) h).1
             (and_parts (is_active db j k) (list_any (is_labelled t.word) (statement_at db j)) u).1
 
@@ -423,7 +441,7 @@ module _ (db : List Statement) (law : (k : ℕ) → k < length db → IsLawful d
               record {
                 active = p.0;
                 labelled = p.1;
-                only = λ i a b. label_once t.word i h.0 b p.1;
+                only = λ i a b. differ t.word i h.0 b p.1;
               },
             )
 
@@ -597,16 +615,12 @@ module _ (db : List Statement) (law : (k : ℕ) → k < length db → IsLawful d
         steps_are = ap out begins ∙ ap (compressed_steps db k) parts
 
 pub steps_named : WhereRead StepsAreNamed
-steps_named len x db fault r k =
-    compressed_are db
-    (λ k h. sym (scope_fault_front db r.rest k h) ∙ ap (λ row. scope_fault row k) (sym r.splits)
-    ∙ r.lawful k h) k
+steps_named len x db fault r w k =
+    compressed_are (counted w db) (labels_differ len x db fault r w) k
 
 pub steps_labels : WhereRead StepsAreLabels
-steps_labels len x db fault r k =
-    normal_are db
-    (λ k h. sym (scope_fault_front db r.rest k h) ∙ ap (λ row. scope_fault row k) (sym r.splits)
-    ∙ r.lawful k h) k
+steps_labels len x db fault r w k =
+    normal_are (counted w db) (labels_differ len x db fault r w) k
 
 -- ---- no other steps
 

@@ -6,6 +6,7 @@ use Rattle.mm_spec.specs.Statement.{Statement}
 use Rattle.mm_spec.specs.Lawful.{least, lesser, is_before}
 use Rattle.mm_spec.specs.Frame.{formula_at}
 use Rattle.mm_spec.specs.Citation.{context_at, steps_at, reading_faults_at, IsValid}
+use Rattle.mm_spec.specs.Opened.{counted}
 use Rattle.mm_spec.specs.Laws.Complete.{AreComplete}
 use Rattle.mm_spec.specs.Output.{ProofFault}
 use Rattle.mm_laws.specs.Laws.Read.{WhereRead}
@@ -14,8 +15,8 @@ use Rattle.mm_laws.specs.Laws.Faults.{IsValidOrFaulty}
 use Rattle.mm_laws.specs.Laws.Faults.{IsNeverBoth, FaultIsUnique}
 use Rattle.mm_spec.proofs.CheckedLaw.{same_row}
 use Rattle.mm_spec.proofs.CitedLaw.{proof_unique}
-use Rattle.mm_spec.proofs.CompleteLaw.{reads_complete}
 use Rattle.mm_spec.proofs.GoodStepsLaw.{good_steps}
+use Rattle.mm_laws.proofs.ReadLaw.{frames_complete}
 use Rattle.mm_laws.proofs.JudgedLaw.{Judged, judged, valid, step_fault, end_fault}
 use Rattle.mm_laws.proofs.OneOutputLaw.{proof_fault_unique, valid_no_fault}
 
@@ -51,16 +52,20 @@ module _ (db : List Statement) (fine : AreComplete db) (k : ℕ) where
       by (f ∷ fs) e = let g = least_some f fs in inr (g.0, inl (ap least e ∙ g.1))
 
 pub labels_determine : WhereRead LabelsDetermine
-labels_determine len x db fault r k = same_row (context_at db k) (reads_complete len x db fault r k)
+labels_determine len x db fault r w k =
+    same_row (context_at (counted w db) k) (frames_complete len x db fault r w k)
 
 pub one_proof : WhereRead ProofIsUnique
-one_proof len x db fault r k = proof_unique db (reads_complete len x db fault r) k
+one_proof len x db fault r w k = proof_unique (counted w db) (frames_complete len x db fault r w) k
 
 pub one_holds : WhereRead IsValidOrFaulty
-one_holds len x db fault r k t = valid_or_faulty db (reads_complete len x db fault r) k _
+one_holds len x db fault r w k t =
+    valid_or_faulty (counted w db) (frames_complete len x db fault r w) k _
 
 pub never_both : WhereRead IsNeverBoth
-never_both len x db fault r k f = valid_no_fault db (reads_complete len x db fault r) k _ f
+never_both len x db fault r w k f =
+    valid_no_fault (counted w db) (frames_complete len x db fault r w) k _ f
 
 pub one_fault : WhereRead FaultIsUnique
-one_fault len x db fault r k = proof_fault_unique db (reads_complete len x db fault r) k _
+one_fault len x db fault r w k =
+    proof_fault_unique (counted w db) (frames_complete len x db fault r w) k _

@@ -1,31 +1,32 @@
 -- Each mandatory variable of an assertion has a mandatory `$f`, and the variables of its frame are
 -- the mandatory ones.
 use Rattle.std.proofs.Common.{◌≡◌, ℕ, ◌==◌, ◌<◌, Bool, true, ◌&&◌, ◌||◌, ◌⊎◌, inl, inr, List}
-use Rattle.std.proofs.Common.{Option, [], ◌∷◌, ◌++◌, length, flat_map, refl, sym, ap, ◌∙◌}
+use Rattle.std.proofs.Common.{[], ◌∷◌, ◌++◌, length, flat_map, refl, sym, ap, ap₂, ◌∙◌}
 use Rattle.std.proofs.Common.{true≢false, eqb-true, eq-eqb, IsTrue}
 use Rattle.std.specs.List.{list_any}
 use Rattle.std.proofs.lemmas.Bool.{or_cases, or_left, or_right, and_parts, and_from}
 use Rattle.std.proofs.lemmas.List.Folds.{list_any-append}
 use Rattle.mm_spec.specs.Statement.{Statement, axiomatic, provable}
 use Rattle.mm_spec.specs.Scope.{is_active, active, statement_at}
-use Rattle.mm_spec.specs.Lawful.{scope_fault, IsLawful}
+use Rattle.mm_spec.specs.Opened.{counted}
+use Rattle.mm_spec.specs.Lawful.{IsLawful}
 use Rattle.mm_spec.specs.Frame.{symbol_names, formula_at, is_variable_number, is_floating}
 use Rattle.mm_spec.specs.Frame.{is_essential, active_of, mandatory_variables, mandatory_hypotheses}
 use Rattle.mm_spec.specs.Frame.{mandatory_pairs, pairs_of}
-use Rattle.mm_spec.specs.Derivation.{Pair, is_member}
+use Rattle.mm_spec.specs.Derivation.{Formula, Pair, is_member}
 use Rattle.mm_spec.specs.Citation.{is_assertion}
-use Rattle.mm_spec.specs.declared.Fault.{Fault}
-use Rattle.mm_spec.specs.Output.{LexedText, IsRead}
 use Rattle.mm_laws.specs.Laws.Read.{WhereRead}
 use Rattle.mm_laws.specs.Laws.Frames.{IsTyping, VariablesAreTyped, is_in_frame}
 use Rattle.mm_laws.specs.Laws.Frames.{VariablesAreMandatory}
-use Rattle.mm_spec.proofs.LocalLaw.{scope_fault_front}
 use Rattle.mm_spec.proofs.FindsLaw.{any_flat_map, any_filter, member_filter, filter_member}
 use Rattle.mm_spec.proofs.FindsLaw.{found_at}
 use Rattle.mm_spec.proofs.FindsLaw.{at_found, found_active, active_found}
 use Rattle.mm_spec.proofs.FaultlessLaw.{has_formula}
 use Rattle.mm_spec.proofs.CompleteLaw.{Types, is_mandatory, is_mandatory_pair, mandatory_typed}
 use Rattle.mm_spec.proofs.CompleteLaw.{type_mandatory, of_formula, of_hypothesis, of_pair}
+use Rattle.mm_spec.proofs.OpenedLaw.{counted_any, counted_variable, counted_formula}
+use Rattle.mm_spec.proofs.OpenedLaw.{counted_mandatory, counted_hypotheses, counted_pairs}
+use Rattle.mm_laws.proofs.ReadLaw.{lawful_read}
 
 -- an assertion has a formula
 has_one : (s : Statement) → is_assertion s ≡ true → has_formula s ≡ true
@@ -43,13 +44,6 @@ some_passes {X} p (x ∷ xs) e = by (or_cases (p x) (list_any p xs) e) (some_pas
         → (y : X) × (p y ≡ true)
     by (inl h) more = (x, h)
     by (inr h) more = more h
-
--- what is read is lawful
-lawful_read : (len : ℕ) (x : LexedText) (db : List Statement) (fault : Option Fault)
-    → IsRead len x db fault → (k : ℕ) → k < length db → IsLawful db k
-lawful_read len x db fault r k h =
-    sym (scope_fault_front db r.rest k h) ∙ ap (λ row. scope_fault row k) (sym r.splits)
-    ∙ r.lawful k h
 
 module _ (db : List Statement) (lawful : (k : ℕ) → k < length db → IsLawful db k) (k : ℕ) where
   abbrev IsMandatory : ℕ → Type 0
@@ -167,10 +161,66 @@ module _ (db : List Statement) (lawful : (k : ℕ) → k < length db → IsLawfu
       by (inl g) = of_formula db lawful k x g v
       by (inr g) = more (or_cases (in_hypotheses x) (in_pairs x) g)
 
+-- ---- the statements as they count
+
+module _ (w : Bool) (db : List Statement) (k : ℕ) where
+  assertion_counted : list_any is_assertion (statement_at (counted w db) k)
+      ≡ list_any is_assertion (statement_at db k)
+  assertion_counted = counted_any w db is_assertion (λ l k xs e ps d. refl) k
+
+  mandatory_counted : (x : ℕ)
+      → is_member (mandatory_variables (counted w db) k) x
+      ≡ is_member (mandatory_variables db k) x
+  mandatory_counted x = ap (λ (f : ℕ → List ℕ). is_member (f k) x) (counted_mandatory w db)
+
+  hypothesis_counted : (j : ℕ)
+      → is_member (mandatory_hypotheses (counted w db) k) j
+      ≡ is_member (mandatory_hypotheses db k) j
+  hypothesis_counted j = ap (λ (f : ℕ → List ℕ). is_member (f k) j) (counted_hypotheses w db)
+
+  variable_counted : (x : ℕ) → is_variable_number (counted w db) x ≡ is_variable_number db x
+  variable_counted x = ap (λ (f : ℕ → Bool). f x) (counted_variable w db)
+
+  frame_counted : (x : ℕ) → is_in_frame (counted w db) k x ≡ is_in_frame db k x
+  frame_counted x =
+      ap₂ (λ (f : ℕ → Formula) (h : ℕ → List ℕ). is_member (f k) x
+      || (list_any (λ j. is_member (f j) x) (h k)
+      || list_any (λ p. (x == p.low) || (x == p.high)) (mandatory_pairs (counted w db) k)))
+      (counted_formula w db) (counted_hypotheses w db)
+      ∙ ap (λ (p : ℕ → List Pair). is_member (formula_at db k) x
+      || (list_any (λ j. is_member (formula_at db j) x) (mandatory_hypotheses db k)
+      || list_any (λ p. (x == p.low) || (x == p.high)) (p k))) (counted_pairs w db)
+
+  typing_counted : (j x : ℕ) → IsTyping db j x → IsTyping (counted w db) j x
+  typing_counted j x t = record {
+    floats = counted_any w db is_floating (λ l k xs e ps d. refl) j ∙ t.floats;
+    typecode = t.typecode;
+    is = ap (λ (f : ℕ → Formula). f j) (counted_formula w db) ∙ t.is;
+    constant = variable_counted t.typecode ∙ t.constant;
+  }
+
+  typed_counted : VariablesAreTyped db k → VariablesAreTyped (counted w db) k
+  typed_counted h a x m =
+      let t = h (sym assertion_counted ∙ a) x (sym (mandatory_counted x) ∙ m) in
+      (t.0, hypothesis_counted t.0 ∙ t.1, typing_counted t.0 x t.2)
+
+  framed_counted : VariablesAreMandatory db k → VariablesAreMandatory (counted w db) k
+  framed_counted h a x =
+      let same = h (sym assertion_counted ∙ a) x in (
+        λ m.
+            let p = same.0 (sym (mandatory_counted x) ∙ m) in
+            (variable_counted x ∙ p.0, frame_counted x ∙ p.1),
+        λ p.
+            mandatory_counted x
+            ∙ same.1 (sym (variable_counted x) ∙ p.0, sym (frame_counted x) ∙ p.1),
+      )
+
 pub variables_typed : WhereRead VariablesAreTyped
-variables_typed len x db fault r k = typed db (lawful_read len x db fault r) k
+variables_typed len x db fault r w k =
+    typed_counted w db k (typed db (lawful_read len x db fault r) k)
 
 pub variables_mandatory : WhereRead VariablesAreMandatory
-variables_mandatory len x db fault r k assertion v =
+variables_mandatory len x db fault r w k =
     let law = lawful_read len x db fault r in
-    (to_frame db law k v, λ p. from_frame db law k v p.0 p.1)
+    framed_counted w db k
+    (λ assertion v. (to_frame db law k v, λ p. from_frame db law k v p.0 p.1))

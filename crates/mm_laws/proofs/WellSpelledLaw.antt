@@ -11,7 +11,8 @@ use Rattle.mm_spec.specs.Text.{Token, fault}
 use Rattle.mm_spec.specs.declared.Fault.{Fault}
 use Rattle.mm_spec.specs.Statement.{Statement}
 use Rattle.mm_spec.specs.Scope.{is_active, statement_at}
-use Rattle.mm_spec.specs.Lawful.{when, at, IsLawful, scope_fault}
+use Rattle.mm_spec.specs.Lawful.{when, at}
+use Rattle.mm_spec.specs.Opened.{counted}
 use Rattle.mm_spec.specs.Frame.{mandatory_hypotheses}
 use Rattle.mm_spec.specs.NormalProof.{is_labelled, usable, proof_label_faults, normal_faults}
 use Rattle.mm_spec.specs.CompressedProof.{bracketed, Letter, letters_of, Group, is_early, is_last}
@@ -27,12 +28,12 @@ use Rattle.mm_spec.specs.declared.Code.TheVariants.{OpenNumber, MarkBeforeStep, 
 use Rattle.mm_spec.specs.declared.Code.TheVariants.{UnusableLabel, IncompleteProof, BadLetter}
 use Rattle.mm_spec.proofs.FindsLaw.{same_word, is_before}
 use Rattle.mm_spec.proofs.FaultlessLaw.{append_none}
-use Rattle.mm_spec.proofs.LocalLaw.{scope_fault_front}
 use Rattle.mm_laws.proofs.SpellingLaw.{EndsItem, no_early, item_unique, group_number, early_digit}
 use Rattle.mm_laws.proofs.SpellingLaw.{nonempty, parts_of, bracketed_is, bytes_of, AreEarly}
 use Rattle.mm_laws.proofs.SpellingLaw.{item_of}
 use Rattle.mm_laws.proofs.SpellingLaw.{AreFine, groups_spell, letters_bytes, good_proof}
-use Rattle.mm_laws.proofs.SpelledStepsLaw.{count_append, usable_one, all_usable, own_faults}
+use Rattle.mm_laws.proofs.SpelledStepsLaw.{count_append, LabelsDiffer, labels_differ}
+use Rattle.mm_laws.proofs.SpelledStepsLaw.{usable_one, all_usable, own_faults}
 
 -- ---- items of which nothing is wrong, from the left
 
@@ -405,7 +406,7 @@ each_usable db k (t ∷ ts) (j ∷ js) h = ((j, h.0), each_usable db k ts js h.1
 
 -- ---- proofs
 
-module _ (db : List Statement) (law : (k : ℕ) → k < length db → IsLawful db k) (k end : ℕ) where
+module _ (db : List Statement) (differ : LabelsDiffer db) (k end : ℕ) where
   to_well : (t : Token) (ts : List Token) → t.word ≡ codes "("
       → reading_faults db k end (t ∷ ts) ≡ [] → IsWellSpelled db k (t ∷ ts)
   to_well t ts opens f =
@@ -417,7 +418,7 @@ module _ (db : List Statement) (law : (k : ℕ) → k < length db → IsLawful d
       subst (λ bs. Spells bs items) (letters_bytes p.letters)
       (groups_spell (letters_of p.letters) [] many 0 0 tt p.good.fine p.good.whole) in
       let right = right_of_fine (groups [] (letters_of p.letters)).0 many 0 0 p.good.fine in
-      let js = all_usable db law k (bracketed ts).labels p.usable in
+      let js = all_usable db differ k (bracketed ts).labels p.usable in
       let same : (bracketed ts).labels ≡ parts.labels =
       ap (λ b. b.labels)
       (ap bracketed parts.are
@@ -498,7 +499,7 @@ module _ (db : List Statement) (law : (k : ℕ) → k < length db → IsLawful d
   IsPlainWord u = (u.word ≢ codes "?") × ((j : ℕ) × IsUsable db k u.word j)
 
   abbrev faults_of_word : Token → List Fault
-  faults_of_word u = own_faults db law k u (bytes_eq u.word (codes "?"))
+  faults_of_word u = own_faults db differ k u (bytes_eq u.word (codes "?"))
 
   to_words : (ts : List Token) → flat_map faults_of_word ts ≡ [] → AllByRecursion IsPlainWord ts
   to_words [] f = tt
@@ -509,11 +510,11 @@ module _ (db : List Statement) (law : (k : ℕ) → k < length db → IsLawful d
         (append_none (faults_of_word t) (flat_map faults_of_word ts) f).1,
   )
     where
-      by : (b : Bool) → bytes_eq t.word (codes "?") ≡ b → own_faults db law k t b ≡ []
+      by : (b : Bool) → bytes_eq t.word (codes "?") ≡ b → own_faults db differ k t b ≡ []
           → IsPlainWord t
       by true e h = absurd (cc)
       by false e h =
-          let one = usable_one db law k t h in
+          let one = usable_one db differ k t h in
           ((λ w. true≢false (sym ((bytes_eq-Decides t.word (codes "?")).1 w) ∙ e)), (one.0, one.2))
 
   from_words : (ts : List Token) → AllByRecursion IsPlainWord ts → flat_map faults_of_word ts ≡ []
@@ -521,7 +522,7 @@ module _ (db : List Statement) (law : (k : ℕ) → k < length db → IsLawful d
   from_words (t ∷ ts) h =
       ap₂ (λ xs ys. xs ++ ys) (by (bytes_eq t.word (codes "?")) refl) (from_words ts h.1)
     where
-      by : (b : Bool) → bytes_eq t.word (codes "?") ≡ b → own_faults db law k t b ≡ []
+      by : (b : Bool) → bytes_eq t.word (codes "?") ≡ b → own_faults db differ k t b ≡ []
       by true e = absurd (h.0.0 (same_word t.word (codes "?") e))
       by false e = usable_faultless db k t h.0.1.0 h.0.1.1
 
@@ -539,19 +540,16 @@ module _ (db : List Statement) (law : (k : ℕ) → k < length db → IsLawful d
       by false e = refl
 
 pub normal_exact : WhereRead NormalIsExact
-normal_exact len x db fault r k end t ts ne =
-    let law =
-    λ (k : ℕ) (h : k < length db). sym (scope_fault_front db r.rest k h)
-    ∙ ap (λ row. scope_fault row k) (sym r.splits) ∙ r.lawful k h in (
-      (λ f. to_words db law k end (t ∷ ts) (sym (normal_read db law k end t ts ne) ∙ f)),
-      λ h.
-          normal_read db law k end t ts ne
-          ∙ from_words db law k end (t ∷ ts) h,
+normal_exact len x db fault r w k end t ts ne =
+    let differ = labels_differ len x db fault r w in
+    let faults = normal_read (counted w db) differ k end t ts ne in (
+      (λ f. to_words (counted w db) differ k end (t ∷ ts) (sym faults ∙ f)),
+      λ h. faults ∙ from_words (counted w db) differ k end (t ∷ ts) h,
     )
 
 pub compressed_exact : WhereRead CompressedIsExact
-compressed_exact len x db fault r k end t ts opens =
-    let law =
-    λ (k : ℕ) (h : k < length db). sym (scope_fault_front db r.rest k h)
-    ∙ ap (λ row. scope_fault row k) (sym r.splits) ∙ r.lawful k h in
-    (to_well db law k end t ts opens, from_well db law k end t ts opens)
+compressed_exact len x db fault r w k end t ts opens =
+    let differ = labels_differ len x db fault r w in (
+      to_well (counted w db) differ k end t ts opens,
+      from_well (counted w db) differ k end t ts opens,
+    )

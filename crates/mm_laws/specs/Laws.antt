@@ -15,3 +15,4 @@ pub mod Citations
 pub mod WellFormed
 pub mod Meaning
 pub mod Numerals
+pub mod LongTexts

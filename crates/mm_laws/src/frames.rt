@@ -1,10 +1,8 @@
 //! Frames.
 
-ghost use Rattle.std.specs.Prelude.{ℕ};
-ghost use Rattle.mm_spec.specs.Output.{LexedText};
-ghost use Rattle.mm_spec.specs.Laws.Complete.{ReadsComplete};
 ghost use Rattle.mm_laws.specs.Laws.Read.{WhereRead};
-ghost use Rattle.mm_laws.specs.Laws.Frames.{VariablesAreTyped, VariablesAreMandatory};
+ghost use Rattle.mm_laws.specs.Laws.Frames.{FramesAreComplete, VariablesAreTyped};
+ghost use Rattle.mm_laws.specs.Laws.Frames.{VariablesAreMandatory};
 
 /// Each variable in the frame of an assertion that is read has a `$f` among the frame's mandatory
 /// hypotheses: lawful statements have an active `$f` for each variable of their formulas. The first
@@ -12,7 +10,7 @@ ghost use Rattle.mm_laws.specs.Laws.Frames.{VariablesAreTyped, VariablesAreManda
 /// the second says it of statements. The third says that the mandatory variables are the variables
 /// of the frame: those of the formula, of the mandatory hypotheses and of the mandatory pairs.
 pub fn lawful_statements_have_complete_frames()
-    ensures complete { (len : ℕ) (x : LexedText) → ReadsComplete len x }
+    ensures complete { WhereRead FramesAreComplete }
     ensures typed { WhereRead VariablesAreTyped }
     ensures mandatory { WhereRead VariablesAreMandatory }
 {}

@@ -11,6 +11,9 @@
 //! its own, so that a change of one is tried without the others being read again. Small texts for
 //! which the definitions are worked out are in `proofs/` (`ExamplesLaw`, `VectorsLaw`,
 //! `OutputsLaw`).
+//!
+//! A law of what is read (`WhereRead`) holds of the statements as they count: with open theorems as
+//! axioms, and without.
 #![tactic(auto)]
 
 mod cells;
@@ -32,7 +35,7 @@ pub use derivations::labels_determine_a_derivation;
 pub use frames::lawful_statements_have_complete_frames;
 pub use letters::{letters_spell_one_row, numbers_have_one_spelling};
 pub use meaning::{valid_theorems_are_those_proved, well_formed_proofs_are_read};
-pub use outputs::{output_exists, output_is_unique};
+pub use outputs::{long_texts_have_one_output, output_exists, output_is_unique};
 pub use readings::{every_text_is_read, texts_are_sound_or_faulty};
 pub use statements::{a_block_is_open_where_none_is_less_deep, statements_are_the_longest_row};
 pub use steps::steps_are_what_is_named;

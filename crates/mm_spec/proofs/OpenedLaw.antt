@@ -329,6 +329,9 @@ module _ (w : Bool) (db : List Statement) where
   counted_label =
       fun_ext (λ j. ap (flat_map (λ v. v)) (counted_flat label_words (λ l k xs e ps d. refl) j))
 
+  pub counted_mandatory : mandatory_variables (counted w db) ≡ mandatory_variables db
+  counted_mandatory = either mandatory_variables mandatory_kept w db
+
   pub counted_hypotheses : mandatory_hypotheses (counted w db) ≡ mandatory_hypotheses db
   counted_hypotheses = either mandatory_hypotheses hypotheses_kept w db
 

@@ -6,7 +6,6 @@ use Rattle.mm_spec.specs.Statement.{Statement, provable}
 use Rattle.mm_spec.specs.Derivation.{Trees}
 use Rattle.mm_spec.specs.Frame.{formula_at, mandatory_hypotheses}
 use Rattle.mm_spec.specs.Steps.{Step, label}
-use Rattle.mm_spec.specs.Proof.{steps}
 use Rattle.mm_spec.specs.Valid.{Derives}
 use Rattle.mm_laws.specs.Spelling.{IsUsable, IsWellSpelled, AreSteps}
 use Rattle.mm_spec.specs.Citation.{context_at, IsValid}
