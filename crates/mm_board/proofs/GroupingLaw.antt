@@ -1,17 +1,18 @@
 -- A split and a join keep the rule: the words stay, and so do the totals over all seats.
 use Rattle.std.proofs.Common.{◌≡◌, ℕ, ◌+◌, ◌-◌, ◌<◌, ◌≤◌, ◌⊎◌, ◌||◌, inl, inr, min, Bool, true}
 use Rattle.std.proofs.Common.{false, cond, Option, None, List, [], ◌∷◌, ◌++◌, length, length-append}
-use Rattle.std.proofs.Common.{get_or, set, sym, refl, ap, ◌∙◌, subst, arith}
+use Rattle.std.proofs.Common.{get_or, set, sym, refl, ap, ◌∙◌, subst, arith, append_assoc}
 use Rattle.std.proofs.lemmas.Bool.{cases_lt}
 use mathlib.Core.Option.{some}
 use lib.ListN.{get_elem?}
-use Rattle.atomic_table.specs.Table.{Splits, Joins}
+use Rattle.atomic_table.specs.Table.{State, Splits, Joins}
 use Rattle.atomic_table.proofs.Lists.{at_set, at_snoc}
 use Rattle.mm_board.specs.declared.views.View.{View}
 use Rattle.mm_board.specs.Records.{times_in, times_open, times_recorded, open_count, record_length}
 use Rattle.mm_board.specs.Rule.{total, times_reported, times_skipped, settled_count, over_share}
 use Rattle.mm_board.specs.Rule.{IsCountOrReported, SeatRule, BoardRule}
-use Rattle.mm_board.specs.Events.{after_split, new_seat_view, after_join, spent_view}
+use Rattle.mm_board.specs.Events.{after_split, new_seat_view, KeepsTheRest, after_join}
+use Rattle.mm_board.specs.Events.{spent_view}
 use Rattle.mm_board.specs.Table.{MeetsRule}
 use Rattle.mm_board.proofs.SumsLaw.{total_set, total_snoc, times_in_append}
 
@@ -133,6 +134,28 @@ glued : (g : View → ℕ) (views : List View) (id : ℕ) (v : View) (other : �
 glued g views id v other w at at_other =
     let t = total_set g views id v (after_join v w) at in
     let t' = total_set g (set views id (after_join v w)) other w spent_view at_other in omega arith
+
+at_middle : (before after : List View) (v : View)
+    → get_elem? (before ++ v ∷ after) (length before) ≡ some v
+at_middle [] after v = refl
+at_middle (u ∷ before) after v = at_middle before after v
+
+set_middle : (before after : List View) (v w : View)
+    → set (before ++ v ∷ after) (length before) w ≡ before ++ w ∷ after
+set_middle [] after v w = refl
+set_middle (u ∷ before) after v w = ap (λ l. u ∷ l) (set_middle before after v w)
+
+-- a split changes two views, and nothing else has to change
+pub split_keeps : (n : ℕ) (v : View) → 1 < v.share
+    → KeepsTheRest n v (after_split v) (new_seat_view v)
+split_keeps n v more c f d before after r =
+    let s : State (Unit {0}) View =
+    record { words = c ∷ f ∷ d ∷ []; homes = []; views = before ++ v ∷ after } in
+    let same =
+    ap (λ l. l ++ new_seat_view v ∷ []) (set_middle before after v (after_split v))
+    ∙ append_assoc before (after_split v ∷ after) (new_seat_view v ∷ []) in
+    subst (BoardRule n c f d) same
+    (splits n (length before) v more s (refl, r) (at_middle before after v)).1
 
 pub joins : (n id : ℕ) (v : View) (other : ℕ) (w : View) → w.open_number ≡ None → 0 < v.share
     → 0 < w.share → Joins (MeetsRule n) id v other w (after_join v w) spent_view

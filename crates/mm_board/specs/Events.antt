@@ -81,6 +81,14 @@ abbrev pub new_seat_view : View → View
 new_seat_view v =
     record v { share = 1; open_number = None; settled = []; reported = []; skipped = [] }
 
+-- The view v of a seat becomes w, and a new seat has the view u; nothing else changes: whatever the
+-- words and the views of all other seats are, the rule holds of the same words and views.
+abbrev pub KeepsTheRest : ℕ → View → View → View → Type 0
+KeepsTheRest n v w u =
+    (claim_word floor_word settled_word : ℕ) (before after : List View)
+    → BoardRule n claim_word floor_word settled_word (before ++ v ∷ after)
+    → BoardRule n claim_word floor_word settled_word (before ++ w ∷ (after ++ u ∷ []))
+
 -- a join: records and shares are added, the lesser `seen` is kept, and the seat is over if either
 -- was. The second seat has nothing open
 abbrev pub after_join : View → View → View
