@@ -1,11 +1,10 @@
 //! What a proof cites: the assertions of all its nodes, or those of its essential nodes alone.
 
+use crate::databases::database_of;
 use crate::texts::{BASE, CLOSE, CONSEQUENT, DETACHMENT, FIRST_TEXT, joined, through_a_theorem};
 use mm_check::check;
-use mm_lex::{Cuts, lex};
 use mm_proof::read_proof;
-use mm_spec::TEXT_LIMIT;
-use mm_stmt::{Database, read};
+use mm_stmt::Database;
 use std::alloc::{AllocError, Global};
 use std::thread::Threads;
 
@@ -34,12 +33,7 @@ fn is_cited<R: Threads + Sync>(
     essential: bool,
     labels: &[&[u8]],
 ) -> Result<bool, AllocError> {
-    if text.len() > TEXT_LIMIT {
-        return Ok(false);
-    }
-    let cuts = Cuts::equal(alloc, text.len(), 1)?;
-    let lexed = lex(rt, alloc, text, &cuts)?;
-    let database = read(alloc, text, lexed, false)?;
+    let database = database_of(rt, alloc, text, false)?;
     let theorems = database.theorems();
     if theorems.is_empty() {
         return Ok(false);

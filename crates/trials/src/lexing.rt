@@ -3,8 +3,11 @@
 ghost use Rattle.std.specs.Prelude.{◌<◌, ◌≤◌};
 
 use crate::examples::words;
+use crate::texts::through_a_theorem;
 use mm_lex::{Code, Cuts, Fault, Lexed, Piece, Word, join, lex, lex_piece};
-use std::alloc::{AllocError, Allocator};
+use mm_spec::TEXT_LIMIT;
+use std::alloc::{AllocError, Allocator, Global};
+use std::process::Abort;
 use std::thread::{self, Threads};
 
 /// Tokens, comments and a comment that stays open.
@@ -12,6 +15,9 @@ const TEXT_WITH_COMMENTS: &[u8] = b"$c a $( $c b $) xy $. $( z $) $( $d";
 
 /// The text of the table of stretches.
 const SMALL: &[u8] = b"ab $( c $) d";
+
+/// How many tokens the text with two theorems has.
+const THROUGH_TOKENS: usize = 120;
 
 fn fault(at: u32, code: Code) -> Option<Fault> {
     Some(Fault { at, code })
@@ -73,20 +79,50 @@ fn gives_places(rt: HostRuntime) -> Result<(), AllocError> {
     Ok(())
 }
 
-/// The text cut twice at each place, with an empty piece between, gives what the whole text does.
+/// Asserts that the text, cut twice at each place, with an empty piece between, is read as it is when
+/// it is whole.
+fn every_cut_is_read_alike<R: Abort + Threads + Sync>(
+    rt: &R,
+    alloc: Global,
+    text: &[u8],
+    whole: &Lexed<Global>,
+) -> Result<(), AllocError> {
+    if text.len() > TEXT_LIMIT {
+        return Err(AllocError);
+    }
+    for place in 0..=text.len() as u32 {
+        let places = vec![in alloc; place, place]?;
+        match Cuts::from_places(places, text.len()) {
+            Ok(cuts) => {
+                let lexed = lex(rt, alloc, text, &cuts)?;
+                assert_eq!(rt; lexed.tokens.as_slice(), whole.tokens.as_slice());
+                assert_eq!(rt; lexed.fault, whole.fault);
+            }
+            Err(_) => assert!(rt; false),
+        }
+    }
+    Ok(())
+}
+
 #[test]
 fn lexes_every_cut(rt: HostRuntime) -> Result<(), AllocError> {
     let whole = in_pieces(&rt, rt.alloc(), TEXT_WITH_COMMENTS, 1)?;
     assert_eq!(rt; whole.tokens.len(), 4);
     assert_eq!(rt; whole.fault, fault(30, Code::OpenComment));
-    for place in 0..=TEXT_WITH_COMMENTS.len() as u32 {
-        let places = vec![in rt.alloc(); place, place]?;
-        if let Ok(cuts) = Cuts::from_places(places, TEXT_WITH_COMMENTS.len()) {
-            let lexed = lex(&rt, rt.alloc(), TEXT_WITH_COMMENTS, &cuts)?;
-            assert_eq!(rt; lexed.tokens.as_slice(), whole.tokens.as_slice());
-            assert_eq!(rt; lexed.fault, whole.fault);
-        }
-    }
+    every_cut_is_read_alike(&rt, rt.alloc(), TEXT_WITH_COMMENTS, &whole)
+}
+
+/// Two theorems, cut at each place, and into many more pieces than they have bytes.
+#[test]
+fn lexes_theorems_in_pieces(rt: HostRuntime) -> Result<(), AllocError> {
+    let text = through_a_theorem(rt.alloc())?;
+    let whole = in_pieces(&rt, rt.alloc(), &text, 1)?;
+    assert_eq!(rt; whole.tokens.len(), THROUGH_TOKENS);
+    assert_eq!(rt; whole.fault, None);
+    every_cut_is_read_alike(&rt, rt.alloc(), &text, &whole)?;
+    let lexed = in_pieces(&rt, rt.alloc(), &text, 65536)?;
+    assert_eq!(rt; lexed.tokens.as_slice(), whole.tokens.as_slice());
+    assert_eq!(rt; lexed.fault, None);
     Ok(())
 }
 

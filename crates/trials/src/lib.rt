@@ -4,7 +4,11 @@
 #![tactic(auto)]
 
 #[cfg(test)]
+mod bytes;
+#[cfg(test)]
 mod citations;
+#[cfg(test)]
+mod databases;
 #[cfg(test)]
 mod examples;
 #[cfg(test)]

@@ -1,10 +1,8 @@
 //! Rows of bits, and tables of marks as digits.
 
+use crate::databases::database_of;
 use crate::texts::seventy;
-use mm_lex::{Cuts, lex};
 use mm_rows::{Columns, Matrix, matrix, ones, or_row};
-use mm_spec::TEXT_LIMIT;
-use mm_stmt::read;
 use mm_work::{Judged, Open, check_all};
 use std::alloc::{AllocError, Global};
 use std::sync::Wait;
@@ -54,12 +52,7 @@ fn table_of<R: Threads + Wait + Sync>(
     alloc: Global,
     text: &[u8],
 ) -> Result<Matrix<Global>, AllocError> {
-    if text.len() > TEXT_LIMIT {
-        return Err(AllocError);
-    }
-    let cuts = Cuts::equal(alloc, text.len(), 1)?;
-    let lexed = lex(rt, alloc, text, &cuts)?;
-    let database = read(alloc, text, lexed, false)?;
+    let database = database_of(rt, alloc, text, false)?;
     let columns = Columns::new(alloc, &database, None)?;
     match check_all(rt, alloc, &database, 1, false, &Open)? {
         Judged::Valid(citations) => matrix(rt, alloc, &citations, &columns),

@@ -1,10 +1,11 @@
-ghost use Rattle.std.specs.Prelude.{◌≤◌, length};
+//! Where statements stop, and what the calls of a database answer.
 
+use crate::databases::database_of;
 use crate::examples::{scopes, shapes};
-use mm_lex::{Cuts, lex};
-use mm_spec::TEXT_LIMIT;
-use mm_stmt::read;
+use mm_rule::is_assertion;
+use mm_stmt::{Database, Kind, Sym, Word};
 use std::alloc::{AllocError, Global};
+use std::process::Abort;
 use std::rt::HostRuntime;
 use std::thread::Threads;
 
@@ -14,12 +15,7 @@ fn stops<R: Threads + Sync>(
     alloc: Global,
     text: &[u8],
 ) -> Result<(Option<(u32, u8)>, u32), AllocError> {
-    if text.len() > TEXT_LIMIT {
-        return Err(AllocError);
-    }
-    let cuts = Cuts::equal(alloc, text.len(), 1)?;
-    let lexed = lex(rt, alloc, text, &cuts)?;
-    let database = read(alloc, text, lexed, false)?;
+    let database = database_of(rt, alloc, text, false)?;
     let fault = match database.fault() {
         Some(fault) => Some((fault.at, fault.code.number())),
         None => None,
@@ -44,28 +40,18 @@ fn stops_where_a_statement_is_at_fault(rt: HostRuntime) -> Result<(), AllocError
 
 /// The labels of the theorems with indices from `from` up to `to`; no labels if there are fewer
 /// theorems.
-fn labels_between<R: Threads + Sync>(
-    rt: &R,
-    alloc: Global,
-    text: &[u8],
-    from: u32,
-    to: u32,
-) -> Result<Vec<u8>, AllocError>
-    requires { length text.now ≤ 2147483647 }
-{
-    let cuts = Cuts::equal(alloc, text.len(), 1)?;
-    let lexed = lex(rt, alloc, text, &cuts)?;
-    let database = read(alloc, text, lexed, false)?;
+fn labels_between<'d>(database: &'d Database<Global>, from: u32, to: u32) -> &'d [u8] {
     if from <= to && to as usize <= database.theorems().len() {
-        database.spaced_labels(from, to).to_vec(alloc)
+        database.spaced_labels(from, to)
     } else {
-        Ok(Vec::new(alloc))
+        b""
     }
 }
 
 #[test]
 fn lends_labels_of_neighbours_as_one(rt: HostRuntime) -> Result<(), AllocError> {
     let text: &[u8] = b"$c a $. x $p a $= ? $. y $a a $. zz $p a $= ? $. t $p a $= ? $.";
+    let database = database_of(&rt, rt.alloc(), text, false)?;
     let rows: [(u32, u32, &[u8]); 5] = [
         (0, 3, b" x zz t"),
         (0, 1, b" x"),
@@ -74,8 +60,100 @@ fn lends_labels_of_neighbours_as_one(rt: HostRuntime) -> Result<(), AllocError> 
         (3, 3, b""),
     ];
     for (from, to, labels) in rows {
-        let found = labels_between(&rt, rt.alloc(), text, from, to)?;
-        assert_eq!(rt; found.as_slice(), labels);
+        assert_eq!(rt; labels_between(&database, from, to), labels);
+    }
+    Ok(())
+}
+
+/// An open theorem `o` in a block with a `$d` and a `$e`, and a theorem `t` with a proof.
+const WITH_OPEN: &[u8] =
+    b"$c wff $. $v p q $. wp $f wff p $. wq $f wff q $. a $a wff p $.\n${ $d p q $. h $e wff q $. o $p wff p $= ? $. $} t $p wff p $= wp a $.\n";
+
+/// The number of the open theorem's statement, and how many statements there are.
+const OPEN: u32 = 8;
+
+const STATEMENTS: u32 = 11;
+
+/// What is answered with the flag, or else what is answered without it.
+fn by_flag<T: Copy>(with_open: bool, with: T, without: T) -> T {
+    if with_open { with } else { without }
+}
+
+/// Asserts what the calls answer that tell what an open theorem counts as.
+fn counts_as<R: Abort>(rt: &R, database: &Database<Global>, with_open: bool) {
+    assert_eq!(rt; database.len(), STATEMENTS);
+    assert_eq!(rt;
+        database.kind(OPEN),
+        by_flag(with_open, Kind::Axiom, Kind::Theorem)
+    );
+    assert_eq!(rt; database.is_open(OPEN), with_open);
+    let mark: &[Word] = &[Word {
+        start: 105,
+        end: 106,
+    }];
+    let proof: &[Word] = by_flag(with_open, &[], mark);
+    assert_eq!(rt; database.proof_words(OPEN), proof);
+    let theorems: &[u32] = by_flag(with_open, &[10], &[OPEN, 10]);
+    assert_eq!(rt; database.theorems(), theorems);
+    let axioms: &[u32] = by_flag(with_open, &[4, OPEN], &[4]);
+    assert_eq!(rt; database.axioms(), axioms);
+    let labels: &[u8] = by_flag(with_open, b" t", b" o t");
+    assert_eq!(rt;
+        labels_between(database, 0, by_flag(with_open, 1, 2)),
+        labels
+    );
+}
+
+/// Asserts what the calls answer of its statement, which is the same with the flag and without.
+fn is_the_same_statement<R: Abort>(rt: &R, database: &Database<Global>) {
+    assert!(rt; database.text() == WITH_OPEN);
+    assert!(rt; database.fault().is_none());
+    assert_eq!(rt; database.len(), STATEMENTS);
+    assert_eq!(rt; database.end_at(OPEN), 107);
+    assert!(rt; database.label(OPEN) == Some(b"o".as_slice()));
+    assert_eq!(rt; database.find(b"o"), Some(OPEN));
+    assert_eq!(rt;
+        database.formula(OPEN),
+        [Sym::new(0), Sym::new(1)].as_slice()
+    );
+    assert_eq!(rt; database.typecode(OPEN), Some(Sym::new(0)));
+    assert!(rt; database.active_at(OPEN, STATEMENTS));
+    assert!(rt; database.disjoint_at(OPEN, Sym::new(1), Sym::new(2)));
+}
+
+/// Asserts what the calls on symbols answer, which is the same too.
+fn has_the_same_symbols<R: Abort>(rt: &R, database: &Database<Global>) {
+    assert_eq!(rt; database.symbol_count(), 3);
+    for (number, name) in [b"wff".as_slice(), b"p", b"q"].iter().enumerate() {
+        let symbol = Sym::new(number as u32);
+        assert!(rt; database.name(symbol) == *name);
+        assert_eq!(rt; database.is_variable(symbol), number > 0);
+    }
+}
+
+/// Asserts what its frame is, which is the same too.
+fn has_the_same_frame<R: Abort>(rt: &R, database: &Database<Global>) {
+    assert_eq!(rt; database.len(), STATEMENTS);
+    if is_assertion(database, OPEN) {
+        let frame = database.frame(OPEN);
+        assert_eq!(rt; frame.hyps.as_slice(), [2u32, 3, 7].as_slice());
+        assert_eq!(rt;
+            frame.pairs.as_slice(),
+            [(Sym::new(1), Sym::new(2))].as_slice()
+        );
+    } else {
+        assert!(rt; false);
+    }
+}
+
+#[test]
+fn what_the_calls_answer_of_an_open_theorem(rt: HostRuntime) -> Result<(), AllocError> {
+    for with_open in [false, true] {
+        let database = database_of(&rt, rt.alloc(), WITH_OPEN, with_open)?;
+        counts_as(&rt, &database, with_open);
+        is_the_same_statement(&rt, &database);
+        has_the_same_symbols(&rt, &database);
+        has_the_same_frame(&rt, &database);
     }
     Ok(())
 }

@@ -35,6 +35,14 @@ pub(crate) const CONSEQUENT_REPORT: &[u8] =
 pub(crate) const THROUGH: &[u8] =
     b"${ g $e |- p $. a2 $p |- ( q -> ( q -> p ) ) $= wq wp wi wq wp wq g a1i a1i $. $}\n";
 
+/// The report on a text with that theorem and the one before it.
+pub(crate) const THROUGH_REPORT: &[u8] =
+    b"mmdepend 1\naxioms 3\ntheorems 2\nmatrix\na1i:111\na2:111\ncounts\na1i:3\na2:3\nusage\nwi:2:a1i a2\nax-1:2:a1i a2\nax-mp:2:a1i a2\nend\n";
+
+/// A theorem that cites nothing.
+pub(crate) const SAME: &[u8] =
+    b"$c wff |- $. $v p $. wp $f wff p $.\n${ h $e |- p $. same $p |- p $= h $. $}\n";
+
 /// Two theorems whose proofs aren't valid; the first takes longer to check.
 pub(crate) const LONG: &[u8] = b"long $p wff p $= wp wq wp wi wp wi wp wi wp wi $.\n";
 
@@ -68,6 +76,21 @@ pub(crate) fn through_a_theorem(alloc: Global) -> Result<Vec<u8>, AllocError> {
     Ok(text)
 }
 
+/// That theorem in compressed form, with an axiom that its proof mentions and doesn't cite.
+pub(crate) fn mentioning(alloc: Global) -> Result<Vec<u8>, AllocError> {
+    joined(
+        alloc,
+        &[
+            BASE,
+            DETACHMENT,
+            b"ax-u $a |- ( p -> p ) $.\n",
+            CONSEQUENT,
+            b"( wi ax-u ax-1 ax-mp ) ABADCABFG",
+            CLOSE,
+        ],
+    )
+}
+
 /// Adds the decimal digits of a number below a thousand.
 pub(crate) fn add_number(text: &mut Vec<u8>, number: u32) -> Result<(), AllocError> {
     let digits = b"0123456789";
@@ -90,5 +113,36 @@ pub(crate) fn seventy(alloc: Global) -> Result<Vec<u8>, AllocError> {
         text.extend_from_slice(b" $a wff p $.\n")?;
     }
     text.extend_from_slice(b"t $p wff p $= wp a0 a63 a64 a69 $.\nu $p wff p $= wp t a1 $.\n")?;
+    Ok(text)
+}
+
+/// How many theorems the text of many theorems has.
+pub(crate) const MANY: u32 = 3000;
+
+/// The place of the fault of that text if `t2000` is the first of its theorems whose proof lacks its
+/// last step: the `$.` of that theorem. A theorem has 54 bytes.
+pub(crate) const MANY_FAULT_AT: u32 = 118 + 2000 * 54 + 48;
+
+/// Adds a label: a letter, and the four digits of a number below ten thousand.
+pub(crate) fn add_label(text: &mut Vec<u8>, letter: u8, number: u32) -> Result<(), AllocError> {
+    text.push(letter)?;
+    for unit in [1000, 100, 10, 1] {
+        text.push(b'0' + (number / unit % 10) as u8)?;
+    }
+    Ok(())
+}
+
+/// A text of `MANY` theorems, all with the same formula. The proofs of some of them lack their last
+/// step.
+pub(crate) fn many(alloc: Global, faulty: &[u32]) -> Result<Vec<u8>, AllocError> {
+    let mut text = BASE.to_vec(alloc)?;
+    for k in 0..MANY {
+        add_label(&mut text, b't', k)?;
+        text.extend_from_slice(b" $p wff ( p -> ( q -> p ) ) $= wp wq wp wi")?;
+        if !faulty.contains(&k) {
+            text.extend_from_slice(b" wi")?;
+        }
+        text.extend_from_slice(b" $.\n")?;
+    }
     Ok(text)
 }

@@ -3,10 +3,9 @@
 
 ghost use Rattle.std.specs.Prelude.{◌≤◌};
 
-use crate::texts::{BASE, LONG, SHORT, joined, through_a_theorem};
-use mm_lex::{Cuts, lex};
-use mm_spec::{Code, Fault, TEXT_LIMIT};
-use mm_stmt::read;
+use crate::databases::database_of;
+use crate::texts::{BASE, LONG, MANY, MANY_FAULT_AT, SHORT, joined, many, through_a_theorem};
+use mm_spec::{Code, Fault};
 use mm_work::{Citations, Gate, Judged, Open, check_all};
 use std::alloc::{AllocError, Global};
 use std::process::Abort;
@@ -15,32 +14,8 @@ use std::sync::atomic::{AtomicU64, Ordering};
 use std::thread;
 use std::thread::Threads;
 
-/// How many theorems the long database has.
-const MANY: u32 = 3000;
-
-/// The bytes of one of its theorems.
-const LINE: u32 = 54;
-
 /// The number of turns after which a worker stops waiting at the gate.
 const MOST_TURNS: u32 = 10_000_000;
-
-/// A database of 3,000 theorems, all with the same formula. The proofs of some of them lack their
-/// last step.
-fn many(alloc: Global, faulty: &[u32]) -> Result<Vec<u8>, AllocError> {
-    let mut text = BASE.to_vec(alloc)?;
-    for k in 0..MANY {
-        text.push(b't')?;
-        for unit in [1000, 100, 10, 1] {
-            text.push(b'0' + (k / unit % 10) as u8)?;
-        }
-        text.extend_from_slice(b" $p wff ( p -> ( q -> p ) ) $= wp wq wp wi")?;
-        if !faulty.contains(&k) {
-            text.extend_from_slice(b" wi")?;
-        }
-        text.extend_from_slice(b" $.\n")?;
-    }
-    Ok(text)
-}
 
 /// What checking the proofs of a text finds.
 fn judged<R: Threads + Wait + Sync, G: Gate>(
@@ -53,12 +28,7 @@ fn judged<R: Threads + Wait + Sync, G: Gate>(
 ) -> Result<Judged<Global>, AllocError>
     requires { (1 ≤ workers) × (workers ≤ 64) }
 {
-    if text.len() > TEXT_LIMIT {
-        return Err(AllocError);
-    }
-    let cuts = Cuts::equal(alloc, text.len(), 1)?;
-    let lexed = lex(rt, alloc, text, &cuts)?;
-    let database = read(alloc, text, lexed, false)?;
+    let database = database_of(rt, alloc, text, false)?;
     check_all(rt, alloc, &database, workers, essential, gate)
 }
 
@@ -128,13 +98,7 @@ fn the_first_fault_of_many_theorems(rt: HostRuntime) -> Result<(), AllocError> {
     let text = many(rt.alloc(), &[2000, 2900])?;
     for workers in [1, 2, 64] {
         let found = judged(&rt, rt.alloc(), &text, workers, false, &Open)?;
-        assert!(&rt;
-            is_refused(
-                &found,
-                BASE.len() as u32 + 2000 * LINE + 48,
-                Code::NotOneEntry
-            )
-        );
+        assert!(&rt; is_refused(&found, MANY_FAULT_AT, Code::NotOneEntry));
     }
     Ok(())
 }

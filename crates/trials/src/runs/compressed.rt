@@ -1,7 +1,7 @@
 //! Compressed proofs: how they are read, each fault, and a formula that doubles with each step.
 
 use crate::runs::prints;
-use crate::texts::{BASE, CLOSE, CONSEQUENT, CONSEQUENT_REPORT, DETACHMENT, joined};
+use crate::texts::{BASE, CLOSE, CONSEQUENT, CONSEQUENT_REPORT, DETACHMENT, joined, mentioning};
 use std::alloc::AllocError;
 
 #[test]
@@ -54,16 +54,9 @@ fn compressed_proofs_are_refused(rt: HostRuntime) -> Result<(), AllocError> {
 
 #[test]
 fn mentioned_label_is_not_cited(rt: HostRuntime) -> Result<(), AllocError> {
-    let parts = [
-        BASE,
-        DETACHMENT,
-        b"ax-u $a |- ( p -> p ) $.\n".as_slice(),
-        CONSEQUENT,
-        b"( wi ax-u ax-1 ax-mp ) ABADCABFG $. $}\n".as_slice(),
-    ];
     let report =
         b"mmdepend 1\naxioms 4\ntheorems 1\nmatrix\na1i:1110\ncounts\na1i:3\nusage\nwi:1:a1i\nax-1:1:a1i\nax-mp:1:a1i\nax-u:0:\nend\n".as_slice();
-    let text = joined(rt.alloc(), &parts)?;
+    let text = mentioning(rt.alloc())?;
     assert!(&rt; prints(&rt, rt.alloc(), &text, report));
     Ok(())
 }

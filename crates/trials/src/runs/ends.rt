@@ -1,7 +1,7 @@
 //! How runs end, wherever the text is cut.
 
 use crate::runs::writes;
-use crate::texts::{FIRST_REPORT, FIRST_TEXT, NOTHING_REPORT};
+use crate::texts::{FIRST_REPORT, FIRST_TEXT, NOTHING_REPORT, THROUGH_REPORT, through_a_theorem};
 use mm_plan::Cutting;
 use mm_run::RunEnd;
 use mm_spec::{Code, Fault};
@@ -47,6 +47,19 @@ fn every_cut_gives_the_same_report(rt: HostRuntime) -> Result<(), AllocError> {
     for place in 1..170 {
         let cuts = places(alloc, &[place])?;
         assert!(&rt; writes(&rt, alloc, cuts, FIRST_TEXT, RunEnd::Accepted, FIRST_REPORT));
+    }
+    Ok(())
+}
+
+// One theorem cites the other, and each stands in a block with a hypothesis.
+#[test]
+fn every_cut_of_two_theorems_gives_the_same_report(rt: HostRuntime) -> Result<(), AllocError> {
+    let alloc = rt.alloc();
+    let text = through_a_theorem(alloc)?;
+    assert_eq!(rt; text.len(), 339);
+    for place in 0..=339 {
+        let cuts = places(alloc, &[place])?;
+        assert!(&rt; writes(&rt, alloc, cuts, &text, RunEnd::Accepted, THROUGH_REPORT));
     }
     Ok(())
 }

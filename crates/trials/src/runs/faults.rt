@@ -2,11 +2,14 @@
 //! `docs/FAULTS.md`), and theorems that rest on one another.
 
 use crate::examples::{scopes, shapes, words};
-use crate::runs::prints;
+use crate::runs::{end_with_any_workers, plan, prints};
 use crate::texts::{
-    BASE, CLOSE, CONSEQUENT, CONSEQUENT_REPORT, DETACHMENT, LONG, SHORT, consequent, joined,
-    through_a_theorem,
+    BASE, CLOSE, CONSEQUENT, CONSEQUENT_REPORT, DETACHMENT, LONG, SAME, SHORT, THROUGH_REPORT,
+    consequent, joined, through_a_theorem,
 };
+use mm_plan::Cutting;
+use mm_run::RunEnd;
+use mm_spec::{Code, Fault};
 use std::alloc::AllocError;
 
 #[test]
@@ -123,9 +126,7 @@ fn entries_left_at_the_end(rt: HostRuntime) -> Result<(), AllocError> {
 fn a_theorem_rests_on_axioms_through_a_theorem(rt: HostRuntime) -> Result<(), AllocError> {
     let alloc = rt.alloc();
     let text = through_a_theorem(alloc)?;
-    let report =
-        b"mmdepend 1\naxioms 3\ntheorems 2\nmatrix\na1i:111\na2:111\ncounts\na1i:3\na2:3\nusage\nwi:2:a1i a2\nax-1:2:a1i a2\nax-mp:2:a1i a2\nend\n".as_slice();
-    assert!(&rt; prints(&rt, alloc, &text, report));
+    assert!(&rt; prints(&rt, alloc, &text, THROUGH_REPORT));
     Ok(())
 }
 
@@ -157,21 +158,35 @@ fn variables_that_have_to_be_disjoint(rt: HostRuntime) -> Result<(), AllocError>
 #[test]
 fn the_first_of_two_faulty_theorems(rt: HostRuntime) -> Result<(), AllocError> {
     let alloc = rt.alloc();
-    let text = joined(alloc, &[BASE, LONG, SHORT])?;
-    assert!(&rt; prints(&rt, alloc, &text, b"refused 7:48 E37\n"));
-    let text = joined(alloc, &[BASE, SHORT])?;
-    assert!(&rt; prints(&rt, alloc, &text, b"refused 7:22 E38\n"));
+    let rows: [(&[&[u8]], u32, Code, &[u8]); 2] = [
+        (
+            &[BASE, LONG, SHORT],
+            165,
+            Code::NotOneEntry,
+            b"refused 7:48 E37\n",
+        ),
+        (
+            &[BASE, SHORT],
+            139,
+            Code::OtherFormula,
+            b"refused 7:22 E38\n",
+        ),
+    ];
+    for (parts, at, code, output) in rows {
+        let text = joined(alloc, parts)?;
+        let end = RunEnd::Refused(Fault { at, code });
+        let plan = plan(Cutting::Count(4));
+        assert!(&rt; end_with_any_workers(&rt, alloc, plan, &text, end, output));
+    }
     Ok(())
 }
 
 #[test]
 fn hypotheses_alone_and_those_of_a_closed_block(rt: HostRuntime) -> Result<(), AllocError> {
     let alloc = rt.alloc();
-    let alone =
-        b"$c wff |- $. $v p $. wp $f wff p $.\n${ h $e |- p $. same $p |- p $= h $. $}\n".as_slice();
     let report =
         b"mmdepend 1\naxioms 0\ntheorems 1\nmatrix\nsame:\ncounts\nsame:0\nusage\nend\n".as_slice();
-    assert!(&rt; prints(&rt, alloc, alone, report));
+    assert!(&rt; prints(&rt, alloc, SAME, report));
     let closed = joined(alloc, &[BASE, b"${ h $e |- p $. $}\nt $p |- p $= h $.\n"])?;
     assert!(&rt; prints(&rt, alloc, &closed, b"refused 8:14 E33\n"));
     Ok(())

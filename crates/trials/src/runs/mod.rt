@@ -4,6 +4,7 @@ mod checking;
 mod compressed;
 mod ends;
 mod faults;
+mod many;
 mod open_theorems;
 mod options;
 mod reports;
@@ -28,20 +29,50 @@ fn plan(cuts: Cutting<Global>) -> Plan<Global> {
     }
 }
 
-/// Whether a run on the text has this end and writes these bytes.
-fn writes<R: Threads + Wait + Sync>(
+/// Whether a run by the plan has this end and writes these bytes.
+fn has_end<R: Threads + Wait + Sync>(
     rt: &R,
     alloc: Global,
-    cuts: Cutting<Global>,
+    plan: &Plan<Global>,
     mut text: &[u8],
     end: RunEnd,
     output: &[u8],
 ) -> bool {
-    let plan = plan(cuts);
     let mut written = Vec::new(alloc);
     plan.is_lawful()
-        && run(rt, alloc, &plan, &mut text, &mut written) == end
+        && run(rt, alloc, plan, &mut text, &mut written) == end
         && written.as_slice() == output
+}
+
+/// Whether runs by the plan with 1, with 2 and with 64 workers all have this end and write these
+/// bytes.
+fn end_with_any_workers<R: Threads + Wait + Sync>(
+    rt: &R,
+    alloc: Global,
+    mut plan: Plan<Global>,
+    text: &[u8],
+    end: RunEnd,
+    output: &[u8],
+) -> bool {
+    for workers in [1, 2, 64] {
+        plan.workers = workers;
+        if !has_end(rt, alloc, &plan, text, end, output) {
+            return false;
+        }
+    }
+    true
+}
+
+/// Whether a run on the text, cut in this way, has this end and writes these bytes.
+fn writes<R: Threads + Wait + Sync>(
+    rt: &R,
+    alloc: Global,
+    cuts: Cutting<Global>,
+    text: &[u8],
+    end: RunEnd,
+    output: &[u8],
+) -> bool {
+    has_end(rt, alloc, &plan(cuts), text, end, output)
 }
 
 /// Whether a run on the text writes these bytes.

@@ -1,13 +1,11 @@
 //! Open theorems, counted as axioms.
 
-use super::plan;
+use super::{has_end, plan};
 use crate::texts::{BASE, DETACHMENT, joined};
 use mm_plan::{Cutting, Plan};
-use mm_run::{RunEnd, run};
+use mm_run::RunEnd;
 use mm_spec::{Choice, Code, Fault, Form};
 use std::alloc::{AllocError, Global};
-use std::sync::Wait;
-use std::thread::Threads;
 
 /// The theorem `o` with this proof, and `u`, which cites it.
 fn resting_on(alloc: Global, proof: &[u8]) -> Result<Vec<u8>, AllocError> {
@@ -31,21 +29,6 @@ fn open_plan(choice: Choice) -> Plan<Global> {
     plan
 }
 
-/// Whether a run by the plan has this end and writes these bytes.
-fn ends<R: Threads + Wait + Sync>(
-    rt: &R,
-    alloc: Global,
-    plan: &Plan<Global>,
-    mut text: &[u8],
-    end: RunEnd,
-    output: &[u8],
-) -> bool {
-    let mut written = Vec::new(alloc);
-    plan.is_lawful()
-        && run(rt, alloc, plan, &mut text, &mut written) == end
-        && written.as_slice() == output
-}
-
 const OPEN_REPORT: &[u8] =
     b"mmdepend 1\naxioms 4\nopen 1\ntheorems 1\nmatrix\nu:0001\ncounts\nu:1\nusage\nwi:0:\nax-1:0:\nax-mp:0:\no:1:u\nend\n";
 
@@ -54,10 +37,10 @@ fn an_open_theorem_is_a_column_and_no_row(rt: HostRuntime) -> Result<(), AllocEr
     let alloc = rt.alloc();
     let plan = open_plan(Choice::All);
     let normal = resting_on(alloc, b"?")?;
-    assert!(&rt; ends(&rt, alloc, &plan, &normal, RunEnd::Accepted, OPEN_REPORT));
+    assert!(&rt; has_end(&rt, alloc, &plan, &normal, RunEnd::Accepted, OPEN_REPORT));
     let compressed = resting_on(alloc, b"( ) ?")?;
     assert!(&rt;
-        ends(
+        has_end(
             &rt,
             alloc,
             &plan,
@@ -80,7 +63,7 @@ fn without_the_flag_it_is_incomplete(rt: HostRuntime) -> Result<(), AllocError> 
     };
     let plan = plan(Cutting::Count(1));
     assert!(&rt;
-        ends(
+        has_end(
             &rt,
             alloc,
             &plan,
@@ -99,10 +82,10 @@ fn the_typecode_chooses_among_open_theorems(rt: HostRuntime) -> Result<(), Alloc
     let mut plan = open_plan(Choice::Counts);
     plan.only = Some("wff".to_string(alloc)?);
     let formulas = b"mmdepend 1\naxioms 1\nopen 0\ntheorems 1\ncounts\nu:0\nend\n".as_slice();
-    assert!(&rt; ends(&rt, alloc, &plan, &text, RunEnd::Accepted, formulas));
+    assert!(&rt; has_end(&rt, alloc, &plan, &text, RunEnd::Accepted, formulas));
     plan.only = Some("|-".to_string(alloc)?);
     let logical = b"mmdepend 1\naxioms 3\nopen 1\ntheorems 1\ncounts\nu:1\nend\n".as_slice();
-    assert!(&rt; ends(&rt, alloc, &plan, &text, RunEnd::Accepted, logical));
+    assert!(&rt; has_end(&rt, alloc, &plan, &text, RunEnd::Accepted, logical));
     Ok(())
 }
 
@@ -118,7 +101,7 @@ fn any_other_proof_with_a_question_mark_is_incomplete(rt: HostRuntime) -> Result
         code: Code::IncompleteProof,
     };
     assert!(&rt;
-        ends(
+        has_end(
             &rt,
             alloc,
             &plan,
@@ -133,7 +116,7 @@ fn any_other_proof_with_a_question_mark_is_incomplete(rt: HostRuntime) -> Result
         code: Code::IncompleteProof,
     };
     assert!(&rt;
-        ends(
+        has_end(
             &rt,
             alloc,
             &plan,
@@ -151,7 +134,7 @@ fn the_line_stands_where_no_theorem_is_open(rt: HostRuntime) {
     let empty =
         b"mmdepend 1\naxioms 0\nopen 0\ntheorems 0\nmatrix\ncounts\nusage\nend\n".as_slice();
     assert!(&rt;
-        ends(
+        has_end(
             &rt,
             alloc,
             &open_plan(Choice::All),
@@ -162,26 +145,30 @@ fn the_line_stands_where_no_theorem_is_open(rt: HostRuntime) {
     );
 }
 
+const SECOND_FORM: &[u8] =
+    b"mmdepend 2\naxioms 4\nopen 1\ntheorems 1\nmatrix\nu:1\ncounts\nu:1\nusage\nwi:0:\nax-1:0:\nax-mp:0:\no:1:u\nend\n";
+
+// The citation by which `u` rests on `o` is one of its essential nodes, so the flag for these
+// changes nothing here.
 #[test]
-fn with_the_other_options(rt: HostRuntime) -> Result<(), AllocError> {
+fn in_the_second_form(rt: HostRuntime) -> Result<(), AllocError> {
     let alloc = rt.alloc();
     let text = resting_on(alloc, b"?")?;
     let mut plan = open_plan(Choice::All);
     plan.form = Form::Two;
-    plan.essential = true;
-    let report =
-        b"mmdepend 2\naxioms 4\nopen 1\ntheorems 1\nmatrix\nu:1\ncounts\nu:1\nusage\nwi:0:\nax-1:0:\nax-mp:0:\no:1:u\nend\n".as_slice();
-    assert!(&rt; ends(&rt, alloc, &plan, &text, RunEnd::Accepted, report));
+    for essential in [false, true] {
+        plan.essential = essential;
+        assert!(&rt; has_end(&rt, alloc, &plan, &text, RunEnd::Accepted, SECOND_FORM));
+    }
+    Ok(())
+}
+
+#[test]
+fn direct_citations_of_an_open_theorem(rt: HostRuntime) -> Result<(), AllocError> {
+    let alloc = rt.alloc();
+    let text = resting_on(alloc, b"?")?;
+    let plan = open_plan(Choice::Citations);
     let direct = b"mmdepend 1\naxioms 4\nopen 1\ntheorems 1\ncitations\nu:1:o\nend\n".as_slice();
-    assert!(&rt;
-        ends(
-            &rt,
-            alloc,
-            &open_plan(Choice::Citations),
-            &text,
-            RunEnd::Accepted,
-            direct
-        )
-    );
+    assert!(&rt; has_end(&rt, alloc, &plan, &text, RunEnd::Accepted, direct));
     Ok(())
 }

@@ -1,13 +1,13 @@
 //! What the options of a report change: citations by essential nodes, the second form of the
 //! matrix, and direct citations.
 
-use super::plan;
+use super::{has_end, plan};
 use crate::texts::{
-    BASE, CLOSE, CONSEQUENT, DETACHMENT, FIRST_REPORT, FIRST_TEXT, consequent, joined, seventy,
-    through_a_theorem,
+    BASE, CLOSE, CONSEQUENT, DETACHMENT, FIRST_REPORT, FIRST_TEXT, SAME, consequent, joined,
+    mentioning, seventy, through_a_theorem,
 };
 use mm_plan::{Cutting, Plan};
-use mm_run::{RunEnd, run};
+use mm_run::RunEnd;
 use mm_spec::{Choice, Form};
 use std::alloc::{AllocError, Global};
 use std::sync::Wait;
@@ -46,13 +46,10 @@ fn gives<R: Threads + Wait + Sync>(
     rt: &R,
     alloc: Global,
     plan: &Plan<Global>,
-    mut text: &[u8],
+    text: &[u8],
     output: &[u8],
 ) -> bool {
-    let mut written = Vec::new(alloc);
-    plan.is_lawful()
-        && run(rt, alloc, plan, &mut text, &mut written) == RunEnd::Accepted
-        && written.as_slice() == output
+    has_end(rt, alloc, plan, text, RunEnd::Accepted, output)
 }
 
 const LOGICAL_REPORT: &[u8] =
@@ -63,9 +60,13 @@ fn what_builds_formulas_is_no_logical_citation(rt: HostRuntime) -> Result<(), Al
     let alloc = rt.alloc();
     let plan = logical(Choice::All);
     assert!(&rt; gives(&rt, alloc, &plan, &consequent(alloc)?, LOGICAL_REPORT));
-    let proof = b"( wi ax-1 ax-mp ) ABADZZCABEF".as_slice();
-    let marked = joined(alloc, &[BASE, DETACHMENT, CONSEQUENT, proof, CLOSE])?;
-    assert!(&rt; gives(&rt, alloc, &plan, &marked, LOGICAL_REPORT));
+    for proof in [
+        b"( wi ax-1 ax-mp ) ABADCA BEF".as_slice(),
+        b"( wi ax-1 ax-mp ) ABADZZCABEF",
+    ] {
+        let text = joined(alloc, &[BASE, DETACHMENT, CONSEQUENT, proof, CLOSE])?;
+        assert!(&rt; gives(&rt, alloc, &plan, &text, LOGICAL_REPORT));
+    }
     Ok(())
 }
 
@@ -109,11 +110,16 @@ fn four_columns_are_a_digit(rt: HostRuntime) -> Result<(), AllocError> {
     let seventy_columns =
         b"mmdepend 2\naxioms 70\ntheorems 2\nmatrix\nt:800000000000000184\nu:c00000000000000184\nend\n".as_slice();
     assert!(&rt; gives(&rt, alloc, &plan, &seventy(alloc)?, seventy_columns));
-    let none =
-        b"$c wff |- $. $v p $. wp $f wff p $.\n${ h $e |- p $. same $p |- p $= h $. $}\n".as_slice();
-    let empty = b"mmdepend 2\naxioms 0\ntheorems 1\nmatrix\nsame:\nend\n".as_slice();
-    assert!(&rt; gives(&rt, alloc, &plan, none, empty));
+    let four = b"mmdepend 2\naxioms 4\ntheorems 1\nmatrix\na1i:e\nend\n".as_slice();
+    assert!(&rt; gives(&rt, alloc, &plan, &mentioning(alloc)?, four));
     Ok(())
+}
+
+#[test]
+fn no_columns_are_no_digits(rt: HostRuntime) {
+    let empty =
+        b"mmdepend 2\naxioms 0\ntheorems 1\nmatrix\nsame:\ncounts\nsame:0\nusage\nend\n".as_slice();
+    assert!(&rt; gives(&rt, rt.alloc(), &second_form(Choice::All), SAME, empty));
 }
 
 #[test]
@@ -160,5 +166,22 @@ fn direct_citations_by_essential_nodes(rt: HostRuntime) -> Result<(), AllocError
     let report =
         b"mmdepend 1\naxioms 3\ntheorems 2\ncitations\na1i:2:ax-1 ax-mp\na2:1:a1i\nend\n".as_slice();
     assert!(&rt; gives(&rt, alloc, &logical(Choice::Citations), &text, report));
+    Ok(())
+}
+
+// The theorem of this text cites three assertions; the typecode or the flag leaves two of them.
+#[test]
+fn direct_citations_of_one_theorem(rt: HostRuntime) -> Result<(), AllocError> {
+    let alloc = rt.alloc();
+    let text = consequent(alloc)?;
+    let every =
+        b"mmdepend 1\naxioms 3\ntheorems 1\ncitations\na1i:3:wi ax-1 ax-mp\nend\n".as_slice();
+    assert!(&rt; gives(&rt, alloc, &sections(Choice::Citations), &text, every));
+    let chosen = b"mmdepend 1\naxioms 2\ntheorems 1\ncitations\na1i:2:ax-1 ax-mp\nend\n".as_slice();
+    let plan = of_typecode(alloc, Choice::Citations, "|-")?;
+    assert!(&rt; gives(&rt, alloc, &plan, &text, chosen));
+    let essential =
+        b"mmdepend 1\naxioms 3\ntheorems 1\ncitations\na1i:2:ax-1 ax-mp\nend\n".as_slice();
+    assert!(&rt; gives(&rt, alloc, &logical(Choice::Citations), &text, essential));
     Ok(())
 }

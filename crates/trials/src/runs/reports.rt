@@ -1,13 +1,12 @@
 //! What reports show: the chosen sections and columns, and rows of more than one word.
 
-use super::plan;
+use super::{has_end, plan};
+use crate::databases::database_of;
 use crate::texts::{BASE, add_number, consequent, joined, seventy, through_a_theorem};
-use mm_lex::{Cuts, lex};
 use mm_plan::Cutting;
 use mm_rows::waves;
-use mm_run::{RunEnd, run};
-use mm_spec::{Choice, TEXT_LIMIT};
-use mm_stmt::read;
+use mm_run::RunEnd;
+use mm_spec::Choice;
 use mm_work::{Judged, Open, check_all};
 use std::alloc::{AllocError, Global};
 use std::sync::Wait;
@@ -17,7 +16,7 @@ use std::thread::Threads;
 fn shows<R: Threads + Wait + Sync>(
     rt: &R,
     alloc: Global,
-    mut text: &[u8],
+    text: &[u8],
     only: Option<&str>,
     choice: Choice,
     output: &[u8],
@@ -29,12 +28,7 @@ fn shows<R: Threads + Wait + Sync>(
     let mut plan = plan(Cutting::Count(4));
     plan.only = only;
     plan.choice = choice;
-    let mut written = Vec::new(alloc);
-    Ok(
-        plan.is_lawful()
-            && run(rt, alloc, &plan, &mut text, &mut written) == RunEnd::Accepted
-            && written.as_slice() == output,
-    )
+    Ok(has_end(rt, alloc, &plan, text, RunEnd::Accepted, output))
 }
 
 #[test]
@@ -111,12 +105,7 @@ fn waves_of<R: Threads + Wait + Sync>(
     alloc: Global,
     text: &[u8],
 ) -> Result<Vec<u32>, AllocError> {
-    if text.len() > TEXT_LIMIT {
-        return Err(AllocError);
-    }
-    let cuts = Cuts::equal(alloc, text.len(), 1)?;
-    let lexed = lex(rt, alloc, text, &cuts)?;
-    let database = read(alloc, text, lexed, false)?;
+    let database = database_of(rt, alloc, text, false)?;
     match check_all(rt, alloc, &database, 1, false, &Open)? {
         Judged::Valid(citations) => waves(alloc, &citations),
         Judged::Faulty(_) => Ok(Vec::new(alloc)),
