@@ -1,3 +1,9 @@
+-- `read_all` keeps that the text so far was taken from the reader (`Consumes`). `answer` composes
+-- the contracts of `lex`, `read` and `check_all`, and calls what writes a refusal or a report. The
+-- rows are those of the definitions by `rows_are` and `is_report` (`RowsLaw.antt`), lists of
+-- citations by `is_citation_report` (`CitationsLaw.antt`). `written` (`CountedLaw.antt`) then gives
+-- `IsOutput` of the text, with open theorems as they count. `ends_so` (`EndsLaw.antt`) turns
+-- `Answers` of the text into `Ends`, the contract of `run`.
 pub mod CountedLaw
 pub mod RowsLaw
 pub mod EndsLaw

@@ -1,3 +1,5 @@
+-- Lemmas on the definitions that several crates need. Those that one crate needs are in its own
+-- `proofs/`.
 pub mod ActivityLaw
 pub mod BitLaw
 pub mod BoolLaw

@@ -1,1 +1,3 @@
+-- `flag_more` (`FlagsLaw.antt`) shows that marking a step changes no other step, and only that
+-- step's mark.
 pub mod FlagsLaw
