@@ -134,6 +134,24 @@ class Graph:
             edge = further
         return far
 
+    def towards(self, label):
+        """For each theorem that rests on an axiom, by its node, what is next on a shortest chain: of several the one that is
+        cited first, which is the first in the file. Of the axiom, None."""
+        axiom = self.number.get(label)
+        if axiom is None or axiom in self.cites:
+            return {}
+        towards = {axiom: None}
+        edge = [axiom]
+        while edge:
+            further = []
+            for node in sorted(edge):
+                for user in self.users[node]:
+                    if user not in towards:
+                        towards[user] = node
+                        further.append(user)
+            edge = further
+        return towards
+
 
 class Reasons:
     """Of the theorems of one graph that rest on an axiom, and don't in another one, why: the first citation on a shortest
@@ -142,22 +160,18 @@ class Reasons:
     def __init__(self, graph, other, axiom):
         self.graph, self.other = graph, other
         self.same = graph.same(other)
-        self.far = graph.far(axiom)
+        self.towards = graph.towards(axiom)
         self.known = {}
 
     def why(self, node):
         """The labels of what cites and of what it cites."""
-        known, same, far = self.known, self.same, self.far
-        here, there = self.graph.cites, self.other.cites
+        known, same, towards = self.known, self.same, self.towards
+        there = self.other.cites
         passed = []
         while node not in known:
             passed.append(node)
-            # What is next on a shortest chain: of several the one that is cited first.
-            long = far[node] - 1
-            for cited in here[node]:
-                if far.get(cited) == long:
-                    break
-            if not long or same[cited] not in there.get(same[node], ()):
+            cited = towards[node]
+            if towards[cited] is None or same[cited] not in there.get(same[node], ()):
                 known[node] = f"{self.graph.labels[node]} {self.graph.labels[cited]}"
                 break
             node = cited
