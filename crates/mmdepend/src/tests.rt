@@ -113,7 +113,10 @@ fn options_choose_workers_pieces_columns_and_sections(rt: HostRuntime) {
 #[test]
 fn words_that_are_no_line(rt: HostRuntime) {
     for (words, number) in [
-        (["mmdepend", "--pieces", "65", "x.mm"].as_slice(), 2u8),
+        (["mmdepend", "--workers", "65", "x.mm"].as_slice(), 2u8),
+        (&["mmdepend", "--workers", "0"], 2),
+        (&["mmdepend", "--pieces", "65", "x.mm"], 2),
+        (&["mmdepend", "a.mm", "b.mm"], 2),
         (&["mmdepend", "--help"], 0),
         (&["mmdepend", "--version"], 0),
     ] {

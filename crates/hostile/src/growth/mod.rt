@@ -2,13 +2,15 @@
 //! `line` of `mm_line` and `status` of the program take only the process's allocator, as clap does,
 //! so their growths can't be refused here; `bench/failures` refuses those of the program.
 
+mod given;
+mod lists;
 mod proofs;
 mod rows;
 mod runs;
 mod words;
 
 use crate::heap::Refusing;
-use std::alloc::Global;
+use std::alloc::Allocator;
 use std::process::Abort;
 
 /// More growths than any of the calls has.
@@ -16,7 +18,7 @@ const MOST: u64 = 10_000;
 
 /// Asserts that a call without an answer met the refusal, and that an answer is right. Afterwards
 /// no growth is refused. Returns whether the growth that was to be refused came.
-fn met<R: Abort>(rt: &R, heap: &Refusing<Global>, answer: Option<bool>) -> bool {
+fn met<R: Abort, B: Allocator>(rt: &R, heap: &Refusing<B>, answer: Option<bool>) -> bool {
     let refused = heap.has_refused();
     heap.refuse_none();
     match answer {

@@ -12,7 +12,7 @@ use std::thread::Threads;
 const TOKENS: usize = 62;
 
 /// Where that text is cut, in the middle of a word.
-const PLACE: usize = 58;
+pub(crate) const PLACE: usize = 58;
 
 fn word(start: u32, end: u32) -> Word {
     Word { start, end }
@@ -76,7 +76,7 @@ fn a_piece_without_memory(rt: HostRuntime) {
 }
 
 /// Whether this is the summary of the first text.
-fn is_summary<A: Allocator>(answer: Result<Piece<A>, AllocError>) -> Option<bool> {
+pub(crate) fn is_summary<A: Allocator>(answer: Result<Piece<A>, AllocError>) -> Option<bool> {
     match answer {
         Ok(piece) => Some(
             piece.from() == 0

@@ -1,0 +1,105 @@
+//! Calls that take a value for themselves: if memory is refused, they give back what the value had,
+//! and leave alone what they only borrow. The memory is that of a heap that knows how much of it is
+//! in use.
+
+ghost use Rattle.std.specs.Prelude.{◌≡◌, IfOk};
+ghost use Rattle.mm_spec.specs.Lexed.{tokens_of, lexical_fault};
+
+use super::words::{PLACE, is_summary};
+use super::{MOST, met};
+use crate::heap::Refusing;
+use crate::texts::{DISJOINT, FIRST_TEXT};
+use linked_list_allocator::LocalHeap;
+use mm_lex::{Cuts, Lexed, join, lex, lex_piece};
+use mm_spec::TEXT_LIMIT;
+use mm_stmt::{Database, Sym, read};
+use std::alloc::{AllocError, Allocator, Global};
+use std::thread::Threads;
+
+/// How many bytes the heap has, which is more than any of these calls takes.
+const SIZE: usize = 1_048_576;
+
+/// What a text is read as, with the tokens in a heap.
+fn lexed_in<'h, R: Threads + Sync>(
+    rt: &R,
+    alloc: Global,
+    heap: &'h Refusing<&'h LocalHeap>,
+    text: &[u8],
+) -> Result<Lexed<&'h Refusing<&'h LocalHeap>>, AllocError>
+    ensures tokens { IfOk result (λ lexed. lexed.tokens.items ≡ tokens_of text.now) }
+    ensures fault { IfOk result (λ lexed. lexed.fault ≡ lexical_fault text.now) }
+{
+    if text.len() > TEXT_LIMIT {
+        return Err(AllocError);
+    }
+    let cuts = Cuts::equal(alloc, text.len(), 1)?;
+    let lexed = lex(rt, alloc, text, &cuts)?;
+    Ok(Lexed {
+        tokens: lexed.tokens.to_vec(heap)?,
+        fault: lexed.fault,
+    })
+}
+
+/// Whether this is the database of the text with two `$d`.
+fn has_disjoint_variables<A: Allocator>(
+    answer: Result<Database<'_, A>, AllocError>,
+) -> Option<bool> {
+    match answer {
+        Ok(database) => Some(
+            database.len() == 14
+                && database.theorems() == [12u32].as_slice()
+                && database.axioms() == [4u32, 5, 8].as_slice()
+                && database.disjoint_at(12, Sym::new(5), Sym::new(6)),
+        ),
+        Err(_) => None,
+    }
+}
+
+#[test]
+fn tokens_are_given_back_and_the_text_is_as_it_was(rt: HostRuntime) -> Result<(), AllocError> {
+    let local = LocalHeap::new(rt.alloc(), SIZE)?;
+    let heap = Refusing::new(&local);
+    let text = DISJOINT.to_vec(rt.alloc())?;
+    let unused = local.used();
+    for number in 1..MOST {
+        let lexed = lexed_in(&rt, rt.alloc(), &heap, &text)?;
+        assert!(&rt; local.used() > unused);
+        heap.refuse(number);
+        let refused = met(
+            &rt,
+            &heap,
+            has_disjoint_variables(read(&heap, &text, lexed, false)),
+        );
+        assert_eq!(rt; local.used(), unused);
+        assert_eq!(rt; text.as_slice(), DISJOINT);
+        if !refused {
+            assert!(&rt; number > 10);
+            return Ok(());
+        }
+    }
+    Err(AllocError)
+}
+
+#[test]
+fn pieces_are_given_back(rt: HostRuntime) -> Result<(), AllocError> {
+    let local = LocalHeap::new(rt.alloc(), SIZE)?;
+    let heap = Refusing::new(&local);
+    let unused = local.used();
+    for number in 1..MOST {
+        let first = lex_piece(&heap, FIRST_TEXT, 0, PLACE)?;
+        let second = lex_piece(&heap, FIRST_TEXT, PLACE, 170)?;
+        assert!(&rt; local.used() > unused);
+        heap.refuse(number);
+        let refused = met(
+            &rt,
+            &heap,
+            is_summary(join(&heap, FIRST_TEXT, first, second)),
+        );
+        assert_eq!(rt; local.used(), unused);
+        if !refused {
+            assert!(&rt; number > 1);
+            return Ok(());
+        }
+    }
+    Err(AllocError)
+}

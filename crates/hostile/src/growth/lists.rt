@@ -1,0 +1,141 @@
+//! The lists in which layers keep what they find: if an element is refused, nothing was appended.
+
+use super::{MOST, met};
+use crate::heap::Refusing;
+use mm_cites::Lists;
+use mm_machine::{Apart, Machine};
+use mm_proof::{Step, Steps};
+use mm_rule::zeros;
+use mm_stmt::Sym;
+use std::alloc::{AllocError, Allocator, Global};
+use std::process::Abort;
+
+/// What a theorem cites, and what the next one does.
+const FIRST: [u32; 3] = [4, 5, 9];
+
+const SECOND: [u32; 2] = [4, 13];
+
+/// Refuses a growth of appending a list to none. If the list was refused, the next one is the first.
+/// Returns whether there was such a growth.
+fn list_refused<R: Abort>(rt: &R, heap: &Refusing<Global>, number: u64) -> bool {
+    let mut lists = Lists::new(heap);
+    heap.refuse(number);
+    match lists.push(&FIRST) {
+        Ok(()) => met(rt, heap, Some(lists.get(0) == FIRST.as_slice())),
+        Err(_) => {
+            let refused = met(rt, heap, None);
+            match lists.push(&SECOND) {
+                Ok(()) => assert!(rt; lists.get(0) == SECOND.as_slice()),
+                Err(_) => assert!(rt; false),
+            }
+            refused
+        }
+    }
+}
+
+#[test]
+fn a_list_that_is_refused_is_not_appended(rt: HostRuntime) {
+    let heap = Refusing::new(rt.alloc());
+    for number in 1..MOST {
+        if !list_refused(&rt, &heap, number) {
+            assert!(&rt; number > 2);
+            return;
+        }
+    }
+    assert!(&rt; false);
+}
+
+/// Refuses a growth of appending a step to none, with room for `most` steps. If the step was
+/// refused, there is none, and the next one is the first. Returns whether there was such a growth.
+fn step_refused<R: Abort>(rt: &R, heap: &Refusing<Global>, most: usize, number: u64) -> bool {
+    heap.refuse(number);
+    let mut steps = Steps::none(heap, 13, most);
+    match steps.push(20, Step::Label(2)) {
+        Ok(()) => met(rt, heap, Some(steps.step(0) == Step::Label(2))),
+        Err(_) => {
+            let refused = met(rt, heap, None);
+            assert_eq!(rt; steps.len(), 0);
+            match steps.push(30, Step::Label(3)) {
+                Ok(()) => assert!(rt; steps.step(0) == Step::Label(3) && steps.place(0) == 30),
+                Err(_) => assert!(rt; false),
+            }
+            refused
+        }
+    }
+}
+
+#[test]
+fn a_step_that_is_refused_is_not_appended(rt: HostRuntime) {
+    let heap = Refusing::new(rt.alloc());
+    for most in [0, 4] {
+        assert!(&rt; step_refused(&rt, &heap, most, 1));
+        assert!(&rt; !step_refused(&rt, &heap, most, 2));
+    }
+}
+
+/// Whether these are five numbers, each 0.
+fn are_zeros<A: Allocator>(answer: Result<Vec<u32, A>, AllocError>) -> Option<bool> {
+    match answer {
+        Ok(numbers) => Some(numbers.as_slice() == [0u32; 5].as_slice()),
+        Err(_) => None,
+    }
+}
+
+#[test]
+fn numbers_without_memory(rt: HostRuntime) {
+    let heap = Refusing::new(rt.alloc());
+    heap.refuse(1);
+    assert!(&rt; met(&rt, &heap, are_zeros(zeros(&heap, 5))));
+    heap.refuse(2);
+    assert!(&rt; !met(&rt, &heap, are_zeros(zeros(&heap, 5))));
+}
+
+/// Whether there is a list of disjoint pairs.
+fn is_list<A: Allocator>(answer: Result<Apart<A>, AllocError>) -> Option<bool> {
+    match answer {
+        Ok(_) => Some(true),
+        Err(_) => None,
+    }
+}
+
+#[test]
+fn pairs_without_memory(rt: HostRuntime) {
+    let heap = Refusing::new(rt.alloc());
+    heap.refuse(1);
+    assert!(&rt; met(&rt, &heap, is_list(Apart::new(&heap))));
+    heap.refuse(2);
+    assert!(&rt; !met(&rt, &heap, is_list(Apart::new(&heap))));
+}
+
+/// Whether a formula, kept and pushed again, is one of two entries.
+fn is_kept(heap: &Refusing<Global>) -> Result<bool, AllocError> {
+    let mut machine = Machine::new(heap, 3)?;
+    machine.push(&[Sym::new(0), Sym::new(2)])?;
+    machine.mark(0)?;
+    let alone = machine.only().is_some();
+    machine.repeat(0)?;
+    Ok(alone && machine.only().is_none())
+}
+
+/// The same; `None` if it ran out of memory.
+fn kept(heap: &Refusing<Global>) -> Option<bool> {
+    match is_kept(heap) {
+        Ok(is_right) => Some(is_right),
+        Err(_) => None,
+    }
+}
+
+#[test]
+fn entries_without_memory(rt: HostRuntime) {
+    let heap = Refusing::new(rt.alloc());
+    for number in 1..MOST {
+        heap.refuse(number);
+        let refused = met(&rt, &heap, kept(&heap));
+        assert!(&rt; kept(&heap) == Some(true));
+        if !refused {
+            assert!(&rt; number > 7);
+            return;
+        }
+    }
+    assert!(&rt; false);
+}
