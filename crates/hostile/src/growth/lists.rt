@@ -15,7 +15,7 @@ const FIRST: [u32; 3] = [4, 5, 9];
 
 const SECOND: [u32; 2] = [4, 13];
 
-/// Refuses a growth of appending a list to none. If the list was refused, the next one is the first.
+/// Refuses a growth of appending a list to none. If the list was refused, the next is the first.
 /// Returns whether there was such a growth.
 fn list_refused<R: Abort>(rt: &R, heap: &Refusing<Global>, number: u64) -> bool {
     let mut lists = Lists::new(heap);
