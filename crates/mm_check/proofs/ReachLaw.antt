@@ -24,7 +24,7 @@ use Rattle.std.specs.Option.{option_map}
 use Rattle.std.proofs.Math.Bool.{or-false}
 use Rattle.std.proofs.lemmas.Bool.{or_left, or_right}
 use Rattle.mm_spec.specs.Output.{is_theorem_at, end_of}
-use Rattle.mm_stmt.specs.Database.{last_place}
+use Rattle.mm_database.specs.Database.{last_place}
 use Rattle.mm_rule.specs.Assertions.{is_assertion_at}
 use Rattle.mm_check.specs.Contract.{is_labelled_step}
 use Rattle.mm_check.specs.Reached.{Reached, steps_of}

@@ -18,7 +18,7 @@ ghost use Rattle.mm_check.specs.Reached.{steps_of};
 use crate::noted::cite;
 use mm_rule::{empty, hyps, is_assertion, is_essential_hypothesis};
 use mm_steps::{Step, Steps};
-use mm_stmt::Database;
+use mm_database::Database;
 use std::alloc::{AllocError, Allocator};
 
 /// Which entries and which steps are essential, during a pass over the steps of a proof from last

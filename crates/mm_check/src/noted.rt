@@ -9,7 +9,7 @@ ghost use Rattle.mm_check.specs.Contract.{labels, is_labelled_step};
 
 use mm_rule::{is_assertion, put_number};
 use mm_steps::Step;
-use mm_stmt::Database;
+use mm_database::Database;
 use std::alloc::{AllocError, Allocator};
 
 /// Whether `k` is in `noted` at the index that `places` gives for it. If it isn't, it may still be

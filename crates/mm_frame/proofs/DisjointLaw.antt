@@ -14,14 +14,13 @@ use Rattle.mm_spec.specs.Derivation.{Pair, pair, is_member}
 use Rattle.mm_spec.specs.Frame.{symbol_names, is_disjoint_statement, active_of, formula_at}
 use Rattle.mm_spec.specs.Frame.{mandatory_variables, mandatory_pairs, disjoint_at, pairs_of}
 use Rattle.mm_spec.proofs.BoolLaw.{same_tests}
+use Rattle.mm_spec.proofs.MemberLaw.{any_witness, any_of, member_range}
 use Rattle.mm_outline.specs.Blocks.{Lists, IsBlocks, end_of}
-use Rattle.mm_frame.specs.Latest.{is_on}
-use Rattle.mm_frame.specs.DisjointIndex.{has_symbol, is_live}
-use Rattle.mm_frame.specs.Pairs.{has_pair, IsBefore, AreRising}
-use Rattle.mm_frame.proofs.LatestLaw.{member_range}
-use Rattle.mm_frame.proofs.LatestLaw.{active_member, disjoint_local}
-use Rattle.mm_frame.proofs.DisjointIndexLaw.{has_at, at_has, rising_at}
-use Rattle.mm_frame.proofs.HypothesesLaw.{any_witness, any_of, mandatory_named}
+use Rattle.mm_database.specs.DisjointIndex.{has_symbol, is_live}
+use Rattle.mm_database.specs.Pairs.{has_pair, IsBefore, AreRising}
+use Rattle.mm_database.proofs.TogetherLaw.{live_is, kind_of_active}
+use Rattle.mm_database.proofs.DisjointIndexLaw.{has_at, at_has, rising_at}
+use Rattle.mm_frame.proofs.HypothesesLaw.{mandatory_named}
 use Rattle.mm_frame.proofs.PairsLaw.{has_map, sorted_map, unique, has_filter, has_rows}
 use Rattle.mm_frame.proofs.PairsLaw.{sorted_filter, sorted_pairs}
 
@@ -233,202 +232,131 @@ one_more false m q r l y s e = by (cases_eq y s)
         ap (λ c. (m && (r && l)) || (c && (q && l))) (ne_eqb y s n) ∙ or-false (m && (r && l))
         ∙ sym (ap (λ c. (m || c) && (r && l)) (ne_eqb y s n) ∙ ap (λ c. c && (r && l)) (or-false m))
 
--- ---- active ones
+-- ---- the mandatory pairs
 
 module _ (db : List Statement) (b : Lists) (blocks : IsBlocks db b) (k : ℕ)
-    (h : k ≤ length db) where
-  pub live_is : (j : ℕ) → list_any is_disjoint_statement (statement_at db j) ≡ true
-      → is_live b j k ≡ is_member (active_of is_disjoint_statement db k) j
-  live_is j t = by (cases_lt j k) ∙ sym (active_member is_disjoint_statement db disjoint_local k j)
-    where
-      by : (j < k) ⊎ (k ≤ j) → is_live b j k ≡ (nat_lt j k && is_on is_disjoint_statement db j k)
-      by (inl l) = ap (λ c. nat_lt j k && c) (sym (ap₂ (λ p q. p && q) t (blocks.ended j k l h)))
-      by (inr g) =
-          ap (λ c. c && nat_le k (end_of b j)) (le-ltb j k g)
-          ∙ sym (ap (λ c. c && is_on is_disjoint_statement db j k) (le-ltb j k g))
+    (h : k ≤ length db) (ps : List (ℕ × ℕ))
+    (are : (x j : ℕ) → has_pair ps x j ≡ has_symbol db x j) (found : List ℕ) (had : List (ℕ × ℕ))
+    (found_is : (x : ℕ) → is_member found x ≡ is_member (mandatory_variables db k) x)
+    (had_is : (j y : ℕ)
+    → has_pair had j y ≡ (is_member found y && (has_pair ps y j && is_live b j k))) where
+  abbrev vs : List ℕ
+  vs = mandatory_variables db k
 
-  kind_of_active : (j : ℕ) → is_member (active_of is_disjoint_statement db k) j ≡ true
-      → list_any is_disjoint_statement (statement_at db j) ≡ true
-  kind_of_active j e =
-      (and_parts (list_any is_disjoint_statement (statement_at db j)) _
-      (and_parts (nat_lt j k) (is_on is_disjoint_statement db j k)
-      (sym (active_member is_disjoint_statement db disjoint_local k j) ∙ e)).1).0
+  abbrev count : ℕ
+  count = length (symbol_names db)
 
-  module _ (ps : List (ℕ × ℕ)) (are : (x j : ℕ) → has_pair ps x j ≡ has_symbol db x j) where
-    -- the answer to whether an active `$d` has both
-    pub together_is : (r : Bool) (x y : ℕ)
-        → (r ≡ true
-        → (j : ℕ) × (has_pair ps x j ≡ true) × (has_pair ps y j ≡ true) × (is_live b j k ≡ true))
-        → (r ≡ false → (j : ℕ) → has_pair ps x j ≡ true → has_pair ps y j ≡ true
-        → is_live b j k ≡ false)
-        → r ≡ list_any (λ j. is_member (formula_at db j) x && is_member (formula_at db j) y)
-        (active_of is_disjoint_statement db k)
-    together_is r x y found none =
-        same_tests r
-        (list_any (λ j. is_member (formula_at db j) x && is_member (formula_at db j) y)
-        (active_of is_disjoint_statement db k)) forth (λ e. back r refl e)
-      where
-        forth : r ≡ true
-            → list_any (λ j. is_member (formula_at db j) x && is_member (formula_at db j) y)
-            (active_of is_disjoint_statement db k)
-            ≡ true
-        forth e =
-            let w = found e in
-            let j = w.0 in
-            let ex = sym (are x j) ∙ w.1 in
-            let ey = sym (are y j) ∙ w.2 in
-            let t =
-            (and_parts (list_any is_disjoint_statement (statement_at db j))
-            (is_member (formula_at db j) x) ex).0 in
-            any_of (λ i. is_member (formula_at db i) x && is_member (formula_at db i) y)
-            (active_of is_disjoint_statement db k) j (sym (live_is j t) ∙ w.3)
-            (ap₂ (λ p q. p && q)
-            (and_parts (list_any is_disjoint_statement (statement_at db j))
-            (is_member (formula_at db j) x) ex).1
-            (and_parts (list_any is_disjoint_statement (statement_at db j))
-            (is_member (formula_at db j) y) ey).1)
+  abbrev wanted : Pair → Bool
+  wanted p =
+      nat_lt p.low p.high && is_member vs p.low && is_member vs p.high
+      && disjoint_at db k p.low p.high
 
-        back : (c : Bool) → r ≡ c
-            → list_any (λ j. is_member (formula_at db j) x && is_member (formula_at db j) y)
-            (active_of is_disjoint_statement db k)
-            ≡ true
-            → r ≡ true
-        back true e t = e
-        back false e t =
-            let w =
-            any_witness (λ j. is_member (formula_at db j) x && is_member (formula_at db j) y)
-            (active_of is_disjoint_statement db k) t in
-            let j = w.0 in
-            let d = kind_of_active j w.1 in
-            let ex =
-            are x j ∙ ap₂ (λ p q. p && q) d
-            (and_parts (is_member (formula_at db j) x) (is_member (formula_at db j) y) w.2).0 in
-            let ey =
-            are y j ∙ ap₂ (λ p q. p && q) d
-            (and_parts (is_member (formula_at db j) x) (is_member (formula_at db j) y) w.2).1 in
-            absurd (true≢false (sym (live_is j d ∙ w.1) ∙ none e j ex ey))
+  -- both stand in one statement
+  abbrev pub together : ℕ → ℕ → Bool
+  together x y = list_any (λ p. nat_eq x p.1 && (has_pair had p.0 y && nat_lt x y)) had
 
-    module _ (found : List ℕ) (had : List (ℕ × ℕ))
-        (found_is : (x : ℕ) → is_member found x ≡ is_member (mandatory_variables db k) x)
-        (had_is : (j y : ℕ)
-        → has_pair had j y ≡ (is_member found y && (has_pair ps y j && is_live b j k))) where
-      abbrev vs : List ℕ
-      vs = mandatory_variables db k
+  in_range : (x : ℕ) → is_member vs x ≡ true → is_member (range_with_len 0 count) x ≡ true
+  in_range x e =
+      let l = mandatory_named db k x e in
+      member_range count 0 x (omega arith) ∙ lt-ltb x (0 + count) (omega (arith, l))
 
-      abbrev count : ℕ
-      count = length (symbol_names db)
+  had_then : (j y : ℕ) → has_pair had j y ≡ true
+      → (is_member vs y ≡ true) × (is_member (formula_at db j) y ≡ true)
+      × (is_member (active_of is_disjoint_statement db k) j ≡ true)
+  had_then j y e =
+      let f = sym (had_is j y) ∙ e in
+      let r = (and_parts (is_member found y) (has_pair ps y j && is_live b j k) f).1 in
+      let s = sym (are y j) ∙ (and_parts (has_pair ps y j) (is_live b j k) r).0 in
+      let d =
+      (and_parts (list_any is_disjoint_statement (statement_at db j))
+      (is_member (formula_at db j) y) s).0 in (
+        sym (found_is y)
+            ∙ (and_parts (is_member found y) (has_pair ps y j && is_live b j k) f).0,
+        (and_parts (list_any is_disjoint_statement (statement_at db j))
+            (is_member (formula_at db j) y) s).1,
+        sym (live_is db b blocks k h j d) ∙ (and_parts (has_pair ps y j) (is_live b j k) r).1,
+      )
 
-      abbrev wanted : Pair → Bool
-      wanted p =
-          nat_lt p.low p.high && is_member vs p.low && is_member vs p.high
-          && disjoint_at db k p.low p.high
+  had_if : (j y : ℕ) → is_member vs y ≡ true → is_member (formula_at db j) y ≡ true
+      → is_member (active_of is_disjoint_statement db k) j ≡ true → has_pair had j y ≡ true
+  had_if j y m f a =
+      let d = kind_of_active db b blocks k h j a in
+      had_is j y
+      ∙ ap₂ (λ p q. p && q) (found_is y ∙ m)
+      (ap₂ (λ p q. p && q) (are y j ∙ ap₂ (λ p q. p && q) d f) (live_is db b blocks k h j d ∙ a))
 
-      -- both stand in one statement
-      abbrev pub together : ℕ → ℕ → Bool
-      together x y = list_any (λ p. nat_eq x p.1 && (has_pair had p.0 y && nat_lt x y)) had
+  forth : (x y : ℕ) → together x y ≡ true
+      → (wanted (pair x y)
+      && (is_member (range_with_len 0 count) x && is_member (range_with_len 0 count) y))
+      ≡ true
+  forth x y e =
+      let w = any_pair (λ p. nat_eq x p.1 && (has_pair had p.0 y && nat_lt x y)) had e in
+      let j = (get_or had w.0 (0, 0)).0 in
+      let s =
+      eqb-true x (get_or had w.0 (0, 0)).1
+      (and_parts (nat_eq x (get_or had w.0 (0, 0)).1) (has_pair had j y && nat_lt x y) w.2).0 in
+      let r =
+      (and_parts (nat_eq x (get_or had w.0 (0, 0)).1) (has_pair had j y && nat_lt x y) w.2).1 in
+      let less = (and_parts (has_pair had j y) (nat_lt x y) r).1 in
+      let l = ltb-true x y less in
+      let one = had_then j x (ap (has_pair had j) s ∙ at_has had w.0 (0, 0) w.1) in
+      let other = had_then j y (and_parts (has_pair had j y) (nat_lt x y) r).0 in
+      let apart =
+      any_of (λ i. is_member (formula_at db i) x && is_member (formula_at db i) y)
+      (active_of is_disjoint_statement db k) j one.2 (ap₂ (λ a b. a && b) one.1 other.1) in
+      let dis : disjoint_at db k x y ≡ true =
+      ap₂ (λ a b. not a && b) (ne_eqb x y (λ q. absurd (omega (arith, q, l)))) apart in
+      ap₂ (λ a b. a && b)
+      (ap₂ (λ a b. a && b)
+      (ap₂ (λ a b. a && b) (ap₂ (λ a b. a && b) less one.0) other.0) dis)
+      (ap₂ (λ a b. a && b) (in_range x one.0) (in_range y other.0))
 
-      in_range : (x : ℕ) → is_member vs x ≡ true → is_member (range_with_len 0 count) x ≡ true
-      in_range x e =
-          let l = mandatory_named db k x e in
-          member_range count 0 x (omega arith) ∙ lt-ltb x (0 + count) (omega (arith, l))
+  back : (x y : ℕ)
+      → (wanted (pair x y)
+      && (is_member (range_with_len 0 count) x && is_member (range_with_len 0 count) y))
+      ≡ true
+      → together x y ≡ true
+  back x y e =
+      let t =
+      (and_parts (wanted (pair x y))
+      (is_member (range_with_len 0 count) x && is_member (range_with_len 0 count) y) e).0 in
+      let abc =
+      (and_parts (nat_lt x y && is_member vs x && is_member vs y) (disjoint_at db k x y) t).0 in
+      let dis =
+      (and_parts (nat_lt x y && is_member vs x && is_member vs y) (disjoint_at db k x y) t).1 in
+      let ab = (and_parts (nat_lt x y && is_member vs x) (is_member vs y) abc).0 in
+      let my = (and_parts (nat_lt x y && is_member vs x) (is_member vs y) abc).1 in
+      let less = (and_parts (nat_lt x y) (is_member vs x) ab).0 in
+      let mx = (and_parts (nat_lt x y) (is_member vs x) ab).1 in
+      let w =
+      any_witness (λ i. is_member (formula_at db i) x && is_member (formula_at db i) y)
+      (active_of is_disjoint_statement db k)
+      (and_parts (not (nat_eq x y))
+      (list_any (λ i. is_member (formula_at db i) x && is_member (formula_at db i) y)
+      (active_of is_disjoint_statement db k)) dis).1 in
+      let j = w.0 in
+      let hx =
+      had_if j x mx
+      (and_parts (is_member (formula_at db j) x) (is_member (formula_at db j) y) w.2).0 w.1 in
+      let hy =
+      had_if j y my
+      (and_parts (is_member (formula_at db j) x) (is_member (formula_at db j) y) w.2).1 w.1 in
+      let v = has_at had j x hx in
+      list_any_at (λ p. nat_eq x p.1 && (has_pair had p.0 y && nat_lt x y)) had v.0 (0, 0) v.1
+      (ap₂ (λ a b. a && b) (eq-eqb x (get_or had v.0 (0, 0)).1 (sym v.3))
+      (ap₂ (λ a b. a && b) (ap (λ i. has_pair had i y) v.2 ∙ hy) less))
 
-      had_then : (j y : ℕ) → has_pair had j y ≡ true
-          → (is_member vs y ≡ true) × (is_member (formula_at db j) y ≡ true)
-          × (is_member (active_of is_disjoint_statement db k) j ≡ true)
-      had_then j y e =
-          let f = sym (had_is j y) ∙ e in
-          let r = (and_parts (is_member found y) (has_pair ps y j && is_live b j k) f).1 in
-          let s = sym (are y j) ∙ (and_parts (has_pair ps y j) (is_live b j k) r).0 in
-          let d =
-          (and_parts (list_any is_disjoint_statement (statement_at db j))
-          (is_member (formula_at db j) y) s).0 in (
-            sym (found_is y)
-                ∙ (and_parts (is_member found y) (has_pair ps y j && is_live b j k) f).0,
-            (and_parts (list_any is_disjoint_statement (statement_at db j))
-                (is_member (formula_at db j) y) s).1,
-            sym (live_is j d) ∙ (and_parts (has_pair ps y j) (is_live b j k) r).1,
-          )
-
-      had_if : (j y : ℕ) → is_member vs y ≡ true → is_member (formula_at db j) y ≡ true
-          → is_member (active_of is_disjoint_statement db k) j ≡ true → has_pair had j y ≡ true
-      had_if j y m f a =
-          let d = kind_of_active j a in
-          had_is j y
-          ∙ ap₂ (λ p q. p && q) (found_is y ∙ m)
-          (ap₂ (λ p q. p && q) (are y j ∙ ap₂ (λ p q. p && q) d f) (live_is j d ∙ a))
-
-      forth : (x y : ℕ) → together x y ≡ true
-          → (wanted (pair x y)
-          && (is_member (range_with_len 0 count) x && is_member (range_with_len 0 count) y))
-          ≡ true
-      forth x y e =
-          let w = any_pair (λ p. nat_eq x p.1 && (has_pair had p.0 y && nat_lt x y)) had e in
-          let j = (get_or had w.0 (0, 0)).0 in
-          let s =
-          eqb-true x (get_or had w.0 (0, 0)).1
-          (and_parts (nat_eq x (get_or had w.0 (0, 0)).1) (has_pair had j y && nat_lt x y) w.2).0 in
-          let r =
-          (and_parts (nat_eq x (get_or had w.0 (0, 0)).1) (has_pair had j y && nat_lt x y) w.2).1 in
-          let less = (and_parts (has_pair had j y) (nat_lt x y) r).1 in
-          let l = ltb-true x y less in
-          let one = had_then j x (ap (has_pair had j) s ∙ at_has had w.0 (0, 0) w.1) in
-          let other = had_then j y (and_parts (has_pair had j y) (nat_lt x y) r).0 in
-          let apart =
-          any_of (λ i. is_member (formula_at db i) x && is_member (formula_at db i) y)
-          (active_of is_disjoint_statement db k) j one.2 (ap₂ (λ a b. a && b) one.1 other.1) in
-          let dis : disjoint_at db k x y ≡ true =
-          ap₂ (λ a b. not a && b) (ne_eqb x y (λ q. absurd (omega (arith, q, l)))) apart in
-          ap₂ (λ a b. a && b)
-          (ap₂ (λ a b. a && b)
-          (ap₂ (λ a b. a && b) (ap₂ (λ a b. a && b) less one.0) other.0) dis)
-          (ap₂ (λ a b. a && b) (in_range x one.0) (in_range y other.0))
-
-      back : (x y : ℕ)
-          → (wanted (pair x y)
-          && (is_member (range_with_len 0 count) x && is_member (range_with_len 0 count) y))
-          ≡ true
-          → together x y ≡ true
-      back x y e =
-          let t =
-          (and_parts (wanted (pair x y))
-          (is_member (range_with_len 0 count) x && is_member (range_with_len 0 count) y) e).0 in
-          let abc =
-          (and_parts (nat_lt x y && is_member vs x && is_member vs y) (disjoint_at db k x y) t).0 in
-          let dis =
-          (and_parts (nat_lt x y && is_member vs x && is_member vs y) (disjoint_at db k x y) t).1 in
-          let ab = (and_parts (nat_lt x y && is_member vs x) (is_member vs y) abc).0 in
-          let my = (and_parts (nat_lt x y && is_member vs x) (is_member vs y) abc).1 in
-          let less = (and_parts (nat_lt x y) (is_member vs x) ab).0 in
-          let mx = (and_parts (nat_lt x y) (is_member vs x) ab).1 in
-          let w =
-          any_witness (λ i. is_member (formula_at db i) x && is_member (formula_at db i) y)
-          (active_of is_disjoint_statement db k)
-          (and_parts (not (nat_eq x y))
-          (list_any (λ i. is_member (formula_at db i) x && is_member (formula_at db i) y)
-          (active_of is_disjoint_statement db k)) dis).1 in
-          let j = w.0 in
-          let hx =
-          had_if j x mx
-          (and_parts (is_member (formula_at db j) x) (is_member (formula_at db j) y) w.2).0 w.1 in
-          let hy =
-          had_if j y my
-          (and_parts (is_member (formula_at db j) x) (is_member (formula_at db j) y) w.2).1 w.1 in
-          let v = has_at had j x hx in
-          list_any_at (λ p. nat_eq x p.1 && (has_pair had p.0 y && nat_lt x y)) had v.0 (0, 0) v.1
-          (ap₂ (λ a b. a && b) (eq-eqb x (get_or had v.0 (0, 0)).1 (sym v.3))
-          (ap₂ (λ a b. a && b) (ap (λ i. has_pair had i y) v.2 ∙ hy) less))
-
-      pub pairs_are : (qs : List (ℕ × ℕ)) → AreRising qs
-          → ((x y : ℕ) → has_pair qs x y ≡ together x y)
-          → map (λ p. pair p.0 p.1) qs ≡ mandatory_pairs db k
-      pairs_are qs rising is =
-          unique (map (λ p. pair p.0 p.1) qs) (filter wanted (pairs_of count))
-          (sorted_map qs rising) (sorted_filter wanted (pairs_of count) (sorted_pairs count))
-          (λ x y. has_map qs x y ∙ is x y
-          ∙ same_tests (together x y)
-          (wanted (pair x y)
-          && (is_member (range_with_len 0 count) x && is_member (range_with_len 0 count) y))
-          (forth x y) (back x y)
-          ∙ sym (has_filter wanted (pairs_of count) x y
-          ∙ ap (λ b. wanted (pair x y) && b)
-          (has_rows (range_with_len 0 count) (range_with_len 0 count) x y)))
+  pub pairs_are : (qs : List (ℕ × ℕ)) → AreRising qs
+      → ((x y : ℕ) → has_pair qs x y ≡ together x y)
+      → map (λ p. pair p.0 p.1) qs ≡ mandatory_pairs db k
+  pairs_are qs rising is =
+      unique (map (λ p. pair p.0 p.1) qs) (filter wanted (pairs_of count))
+      (sorted_map qs rising) (sorted_filter wanted (pairs_of count) (sorted_pairs count))
+      (λ x y. has_map qs x y ∙ is x y
+      ∙ same_tests (together x y)
+      (wanted (pair x y)
+      && (is_member (range_with_len 0 count) x && is_member (range_with_len 0 count) y))
+      (forth x y) (back x y)
+      ∙ sym (has_filter wanted (pairs_of count) x y
+      ∙ ap (λ b. wanted (pair x y) && b)
+      (has_rows (range_with_len 0 count) (range_with_len 0 count) x y)))

@@ -17,16 +17,16 @@ use Rattle.mm_spec.specs.Frame.{symbol_names, place_of, is_variable_number, is_e
 use Rattle.mm_spec.specs.Frame.{is_floating, active_of, formula_at, mandatory_variables}
 use Rattle.mm_spec.specs.Frame.{mandatory_hypotheses}
 use Rattle.mm_spec.proofs.BoolLaw.{same_tests}
+use Rattle.mm_spec.proofs.MemberLaw.{any_witness, any_of, same_any, member_flat}
 use Rattle.mm_spec.proofs.ListLaw.{member_at}
 use Rattle.mm_outline.specs.Blocks.{never}
 use Rattle.mm_frame.specs.Latest.{is_on}
 use Rattle.mm_frame.specs.Tables.{IsSound, typed_at}
 use Rattle.mm_frame.specs.Hypotheses.{AreTyped, is_float_of}
-use Rattle.mm_frame.proofs.RisingLaw.{Rising, filter_is}
-use Rattle.mm_frame.proofs.LatestLaw.{member_filter}
-use Rattle.mm_frame.proofs.LatestLaw.{member_range, active_member, essential_local}
+use Rattle.mm_spec.proofs.RisingLaw.{Rising, filter_is}
 use Rattle.mm_frame.proofs.FloatLaw.{typed_float, floating_typed, formula_is, floating_is}
 use Rattle.mm_frame.proofs.FloatLaw.{typecode_constant, variable_below, float_active}
+use Rattle.mm_spec.proofs.MemberLaw.{member_filter, member_range, active_member, essential_local}
 
 -- a list that is strictly rising, by its neighbours
 pub rising_is : (xs : List ℕ) (a : ℕ) → IsStrictlyIncreasing xs
@@ -50,45 +50,6 @@ rising_is (y ∷ ys) a inc h = (
         let f : k + 1 + 1 ≡ suc (k + 1) = omega arith in
         subst (λ i. get_or ys k 0 < get_or (y ∷ ys) i 0) f
         (subst (λ i. get_or (y ∷ ys) i 0 < get_or (y ∷ ys) (k + 1 + 1) 0) e s)
-
--- ---- disjoint_index
-
-pub any_witness : (q : ℕ → Bool) (xs : List ℕ) → list_any q xs ≡ true
-    → (v : ℕ) × (is_member xs v ≡ true) × (q v ≡ true)
-any_witness q [] e = absurd (true≢false (sym e))
-any_witness q (x ∷ xs) e = by (q x) refl e (any_witness q xs)
-  where
-    by : (b : Bool) → q x ≡ b → (b || list_any q xs) ≡ true
-        → (list_any q xs ≡ true → (v : ℕ) × (is_member xs v ≡ true) × (q v ≡ true))
-        → (v : ℕ) × (is_member (x ∷ xs) v ≡ true) × (q v ≡ true)
-    by true h e r = (x, ap (λ b. b || is_member xs x) (eq-eqb x x refl), h)
-    by false h e r =
-        let w = r e in (w.0, ap (λ b. nat_eq w.0 x || b) w.1 ∙ or-true (nat_eq w.0 x), w.2)
-
-pub any_of : (q : ℕ → Bool) (xs : List ℕ) (v : ℕ) → is_member xs v ≡ true → q v ≡ true
-    → list_any q xs ≡ true
-any_of q [] v m e = absurd (true≢false (sym m))
-any_of q (x ∷ xs) v m e = by (nat_eq v x) refl m (any_of q xs v)
-  where
-    by : (b : Bool) → nat_eq v x ≡ b → (b || is_member xs v) ≡ true
-        → (is_member xs v ≡ true → q v ≡ true → list_any q xs ≡ true)
-        → (q x || list_any q xs) ≡ true
-    by true h m r = ap (λ b. b || list_any q xs) (ap q (sym (eqb-true v x h)) ∙ e)
-    by false h m r = ap (λ b. q x || b) (r m e) ∙ or-true (q x)
-
-pub same_any : (q : ℕ → Bool) (xs ys : List ℕ) → ((i : ℕ) → is_member xs i ≡ is_member ys i)
-    → list_any q xs ≡ list_any q ys
-same_any q xs ys h =
-    same_tests (list_any q xs) (list_any q ys)
-    (λ e. let w = any_witness q xs e in any_of q ys w.0 (sym (h w.0) ∙ w.1) w.2)
-    (λ e. let w = any_witness q ys e in any_of q xs w.0 (h w.0 ∙ w.1) w.2)
-
-pub member_flat : (f : ℕ → List ℕ) (xs : List ℕ) (x : ℕ)
-    → is_member (flat_map f xs) x ≡ list_any (λ j. is_member (f j) x) xs
-member_flat f [] x = refl
-member_flat f (j ∷ xs) x =
-    list_any-append (nat_eq x) (f j) (flat_map f xs)
-    ∙ ap (λ b. is_member (f j) x || b) (member_flat f xs x)
 
 filter_filter : (p q : ℕ → Bool) (xs : List ℕ)
     → filter p (filter q xs) ≡ filter (λ j. q j && p j) xs

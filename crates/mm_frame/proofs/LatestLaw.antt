@@ -17,50 +17,10 @@ use Rattle.mm_spec.specs.Scope.{stays}
 use Rattle.mm_spec.specs.Derivation.{is_member}
 use Rattle.mm_spec.specs.Frame.{active_of, is_essential, is_disjoint_statement}
 use Rattle.mm_spec.proofs.BoolLaw.{same_tests}
+use Rattle.mm_spec.proofs.MemberLaw.{member_push, IsLocalTest, active_member}
 use Rattle.mm_outline.specs.Blocks.{never}
 use Rattle.mm_frame.specs.Latest.{is_on, IsCandidate, IsLatest, IsWalked}
 use Rattle.mm_frame.proofs.NestedLaw.{stays_earlier, stays_nested}
-
--- ---- disjoint_index
-
-pub member_push : (xs : List ℕ) (y i : ℕ)
-    → is_member (xs ++ y ∷ []) i ≡ (is_member xs i || nat_eq i y)
-member_push xs y i =
-    list_any-append (nat_eq i) xs (y ∷ []) ∙ ap (λ b. is_member xs i || b) (or-false (nat_eq i y))
-
-pub member_filter : (p : ℕ → Bool) (xs : List ℕ) (i : ℕ)
-    → is_member (filter p xs) i ≡ (p i && is_member xs i)
-member_filter p [] i = sym (and-false (p i))
-member_filter p (x ∷ xs) i = by (p x) refl (cases_eq i x) (member_filter p xs i)
-  where
-    by : (b : Bool) → p x ≡ b → (i ≡ x) ⊎ (i ≢ x)
-        → is_member (filter p xs) i ≡ (p i && is_member xs i)
-        → is_member (cond b (x ∷ filter p xs) (filter p xs)) i
-        ≡ (p i && (nat_eq i x || is_member xs i))
-    by true e (inl s) r =
-        ap (λ b. b || is_member (filter p xs) i) (eq-eqb i x s)
-        ∙ sym (ap₂ (λ a b. a && (b || is_member xs i)) (ap p s ∙ e) (eq-eqb i x s))
-    by true e (inr n) r =
-        ap (λ b. b || is_member (filter p xs) i) (ne_eqb i x n) ∙ r
-        ∙ ap (λ b. p i && (b || is_member xs i)) (sym (ne_eqb i x n))
-    by false e (inl s) r =
-        r ∙ ap (λ b. b && is_member xs i) (ap p s ∙ e)
-        ∙ sym (ap (λ a. a && (nat_eq i x || is_member xs i)) (ap p s ∙ e))
-    by false e (inr n) r = r ∙ ap (λ b. p i && (b || is_member xs i)) (sym (ne_eqb i x n))
-
-pub member_range : (n a i : ℕ) → a ≤ i → is_member (range_with_len a n) i ≡ nat_lt i (a + n)
-member_range zero a i h = sym (le-ltb i (a + 0) (omega arith))
-member_range (suc n) a i h = by (cases_eq i a) (λ l. member_range n (a + 1) i l)
-  where
-    by : (i ≡ a) ⊎ (i ≢ a)
-        → (a + 1 ≤ i → is_member (range_with_len (a + 1) n) i ≡ nat_lt i (a + 1 + n))
-        → (nat_eq i a || is_member (range_with_len (a + 1) n) i) ≡ nat_lt i (a + suc n)
-    by (inl e) r =
-        ap (λ b. b || is_member (range_with_len (a + 1) n) i) (eq-eqb i a e)
-        ∙ sym (lt-ltb i (a + suc n) (omega arith))
-    by (inr e) r =
-        ap (λ b. b || is_member (range_with_len (a + 1) n) i) (ne_eqb i a e) ∙ r (omega arith)
-        ∙ (let s : a + 1 + n ≡ a + suc n = omega arith in ap (nat_lt i) s)
 
 -- how far the search still has to go
 abbrev pub height : ℕ → ℕ
@@ -233,34 +193,6 @@ module _ (test : Statement → Bool) (db : List Statement) where
               inl (member_push xs last i ∙ ap (λ b. is_member xs i || b) (eq-eqb i last same)
               ∙ or-true (is_member xs i))
 
-  -- the kinds that are active to the end of their block
-  abbrev pub IsLocalTest : Type 0
-  IsLocalTest = (s : Statement) (b : Bool) → test s ≡ true → is_active_kind s b ≡ b
-
-  pub active_member : IsLocalTest → (k i : ℕ)
-      → is_member (active_of test db k) i ≡ (nat_lt i k && is_on test db i k)
-  active_member local k i =
-      member_filter (λ j. list_any test (statement_at db j)) (active db k) i
-      ∙ ap (λ b. list_any test (statement_at db i) && b)
-      (member_filter (λ j. is_active db j k) (range_with_len 0 k) i
-      ∙ ap (λ b. is_active db i k && b)
-      (member_range k 0 i (omega arith) ∙ (let z : 0 + k ≡ k = omega arith in ap (nat_lt i) z)))
-      ∙ by (slice_get db i) (nat_lt i k) (stays db i k)
-    where
-      by : (o : Option Statement) (l b : Bool)
-          → (list_any test (elim o [ None ↦ [] | Some s ↦ s ∷ [] ])
-          && ((l && is_active_some o b) && l))
-          ≡ (l && (list_any test (elim o [ None ↦ [] | Some s ↦ s ∷ [] ]) && b))
-      by None true b = refl
-      by None false b = refl
-      by (Some s) false b = and-false (test s || false)
-      by (Some s) true b = go (test s) refl
-        where
-          go : (t : Bool) → test s ≡ t
-              → ((t || false) && (is_active_kind s b && true)) ≡ ((t || false) && b)
-          go false e = refl
-          go true e = and-true (is_active_kind s b) ∙ local s b e
-
   pub walked_end : IsLocalTest → (k : ℕ) (xs : List ℕ) (last : ℕ) → IsWalked test db k xs last
       → last ≡ never → (i : ℕ) → is_member xs i ≡ is_member (active_of test db k) i
   walked_end local k xs last w e i =
@@ -302,26 +234,3 @@ each_pushed test db xs ys last k n e old new = record {
         subst (IsLatest test db i)
         (sym (ap (λ zs. get_or zs i 0) e ∙ ap (λ q. get_or (xs ++ last ∷ []) q 0) same
         ∙ get_or-append_seam xs last [] 0)) (subst (λ q. IsLatest test db q last) (sym j) new)
-
-pub essential_local : (s : Statement) (b : Bool) → is_essential s ≡ true → is_active_kind s b ≡ b
-essential_local (essential l k xs d) b h = refl
-essential_local (constants k xs d) b h = absurd (true≢false (sym h))
-essential_local (variables k xs d) b h = absurd (true≢false (sym h))
-essential_local (disjoint k xs d) b h = absurd (true≢false (sym h))
-essential_local (floating l k xs d) b h = absurd (true≢false (sym h))
-essential_local (axiomatic l k xs d) b h = absurd (true≢false (sym h))
-essential_local (provable l k xs e ps d) b h = absurd (true≢false (sym h))
-essential_local (opening k) b h = absurd (true≢false (sym h))
-essential_local (closing k) b h = absurd (true≢false (sym h))
-
-pub disjoint_local : (s : Statement) (b : Bool) → is_disjoint_statement s ≡ true
-    → is_active_kind s b ≡ b
-disjoint_local (disjoint k xs d) b h = refl
-disjoint_local (constants k xs d) b h = absurd (true≢false (sym h))
-disjoint_local (variables k xs d) b h = absurd (true≢false (sym h))
-disjoint_local (essential l k xs d) b h = absurd (true≢false (sym h))
-disjoint_local (floating l k xs d) b h = absurd (true≢false (sym h))
-disjoint_local (axiomatic l k xs d) b h = absurd (true≢false (sym h))
-disjoint_local (provable l k xs e ps d) b h = absurd (true≢false (sym h))
-disjoint_local (opening k) b h = absurd (true≢false (sym h))
-disjoint_local (closing k) b h = absurd (true≢false (sym h))

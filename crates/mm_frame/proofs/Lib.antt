@@ -1,7 +1,7 @@
 -- Lists are identified by their members: an ascending list with the right members is the right list
--- (`filter_is` in `RisingLaw.antt`, `unique` in `PairsLaw.antt`). `candidate_open` and `walked_end`
+-- (`filter_is` in `RisingLaw.antt` of `mm_spec`, `unique` in `PairsLaw.antt`). `candidate_open` and `walked_end`
 -- (`LatestLaw.antt`) find the active `$e`, `mandatory_is` the variables, and `hypotheses_are`
--- (`HypothesesLaw.antt`) the hypotheses. `with_disjoint` and `are_known` (`DisjointIndexLaw.antt`)
+-- (`HypothesesLaw.antt`) the hypotheses. `with_disjoint` and `are_known` (`GatheredLaw.antt`)
 -- give `IsDisjointIndex`, the `$d` by variables, and `pairs_are` (`DisjointLaw.antt`) the pairs.
 -- The loop of `frames_of` keeps `AreFramesUpTo` by `frames_more` and `frames_pass`
 -- (`FramesLaw.antt`). So `gather` has `AreFrames`.
@@ -10,9 +10,7 @@ pub mod FloatLaw
 pub mod FramesLaw
 pub mod LatestLaw
 pub mod MarksLaw
-pub mod DisjointIndexLaw
+pub mod GatheredLaw
 pub mod NestedLaw
 pub mod PairsLaw
-pub mod RisingLaw
 pub mod HypothesesLaw
-pub mod StartsLaw

@@ -7,7 +7,7 @@ use Rattle.std.proofs.lemmas.List.{get_or-set_same, get_or-set_other, length-set
 use Rattle.std.proofs.Math.Bool.{and-false, or-false, or-true}
 use Rattle.mm_spec.specs.Derivation.{is_member}
 use Rattle.mm_frame.specs.Hypotheses.{AreMarks}
-use Rattle.mm_frame.proofs.LatestLaw.{member_push}
+use Rattle.mm_spec.proofs.MemberLaw.{member_push}
 
 -- one symbol more
 pub mark_more : (n stamp : ℕ) (seen found : List ℕ) (s : ℕ) → AreMarks n stamp seen found → s < n

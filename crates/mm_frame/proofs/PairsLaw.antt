@@ -20,7 +20,7 @@ use Rattle.std.proofs.Math.Bool.{and-false, or-true}
 use Rattle.mm_spec.specs.Derivation.{Pair, pair, is_member}
 use Rattle.mm_spec.specs.Frame.{pairs_of}
 use Rattle.mm_spec.proofs.BoolLaw.{same_tests}
-use Rattle.mm_frame.specs.Pairs.{has_pair, IsBefore, AreRising}
+use Rattle.mm_database.specs.Pairs.{has_pair, IsBefore, AreRising}
 
 cmp_less : (a b : ℕ) → a < b → nat_cmp a b ≡ Less
 cmp_less a b h = ap (λ t. cond t Less (cond (nat_eq a b) Equal Greater)) (lt-ltb a b h)

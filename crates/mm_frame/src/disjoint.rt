@@ -6,11 +6,12 @@ ghost use Rattle.std.specs.List.{list_any};
 ghost use Rattle.mm_spec.specs.Derivation.{is_member, pair};
 ghost use Rattle.mm_spec.specs.Frame.{mandatory_variables, mandatory_pairs};
 ghost use Rattle.mm_outline.specs.Blocks.{IsBlocks, lists};
-ghost use Rattle.mm_frame.specs.DisjointIndex.{is_live, AreKnown, AreSkips, IsDisjointIndex};
-ghost use Rattle.mm_frame.specs.Pairs.{has_pair, AreRising};
+ghost use Rattle.mm_database.specs.DisjointIndex.{is_live, AreKnown, AreSkips, IsDisjointIndex};
+ghost use Rattle.mm_database.specs.Pairs.{has_pair, AreRising};
 
-use crate::disjoint_index::{DisjointIndex, add_active, sort_and_dedup};
+use crate::disjoint_index::sort_and_dedup;
 use crate::tables::Tables;
+use mm_database::disjoint_index::{DisjointIndex, add_active};
 use mm_outline::blocks::Blocks;
 use mm_outline::symbol::Sym;
 use std::alloc::{AllocError, Allocator};

@@ -4,30 +4,22 @@ ghost use Rattle.std.specs.Prelude.{◌≡◌, ◌<◌, ◌≤◌, ◌+◌, ℕ,
 ghost use Rattle.mm_spec.specs.Derivation.{pair};
 ghost use Rattle.mm_spec.specs.Frame.{symbol_names, is_essential};
 ghost use Rattle.mm_outline.specs.Blocks.{IsBlocks, lists};
-ghost use Rattle.mm_frame.specs.Frames.{AreFrames, AreFramesUpTo, IsFrame};
+ghost use Rattle.mm_database.specs.Frames.{AreFrames, AreFramesUpTo, IsFrame};
 ghost use Rattle.mm_frame.specs.Latest.{AreLatest};
-ghost use Rattle.mm_frame.specs.DisjointIndex.{IsDisjointIndex};
+ghost use Rattle.mm_database.specs.DisjointIndex.{IsDisjointIndex};
 ghost use Rattle.mm_frame.specs.Tables.{IsSound};
 ghost use Rattle.mm_frame.specs.Hypotheses.{AreTyped, IsFresh};
 
 use crate::active::latest_essentials;
 use crate::disjoint::pairs_of;
-use crate::disjoint_index::{DisjointIndex, disjoint_index_of};
+use crate::disjoint_index::disjoint_index_of;
 use crate::hypotheses::hypotheses;
 use crate::tables::Tables;
+use mm_database::disjoint_index::DisjointIndex;
+use mm_database::frames::{Beside, Frame, Frames};
 use mm_outline::blocks::{Blocks, NEVER};
 use mm_outline::symbol::Sym;
 use std::alloc::{AllocError, Allocator};
-
-/// The frame of an assertion (section 4.2.7 of the Metamath book, "Frames").
-#[derive(Drop)]
-pub struct Frame<A: Allocator> {
-    /// The mandatory hypotheses, by their statements, in order of appearance.
-    pub hyps: Vec<u32, A>,
-    /// The mandatory pairs of disjoint variables: the lower symbol first, in ascending order, each
-    /// once.
-    pub pairs: Vec<(Sym, Sym), A>,
-}
 
 /// Returns a list that has `value` the given number of times.
 fn filled<A: Allocator + Copy>(alloc: A, value: u32, count: u32) -> Result<Vec<u32, A>, AllocError>
@@ -50,20 +42,6 @@ fn give_type<A: Allocator>(tables: &Tables<A>, statement: u32, typed: &mut Vec<u
 {
     if let Some(variable) = tables.typed(statement) {
         typed[variable.number() as usize] = statement;
-    }
-}
-
-/// The frames of the assertions in file order, and for each statement the number of frames before
-/// it, which is the place of its own frame if it is an assertion.
-pub struct Frames<A: Allocator> {
-    pub list: Vec<Frame<A>, A>,
-    pub places: Vec<u32, A>,
-}
-
-/// Lets all fields go in one call, so that a proof has one step for it at each exit.
-impl<A: Allocator> Drop for Frames<A> {
-    fn drop(self) {
-        let Self { list: _, places: _ } = self;
     }
 }
 
@@ -241,13 +219,6 @@ pub(crate) fn frames_of<A: Allocator + Copy>(
         give_type(tables, k, &mut typed);
     }
     Ok(frames)
-}
-
-/// What is kept beside the statements: the `$d` by their variables, and the frames.
-#[derive(Drop)]
-pub struct Beside<A: Allocator> {
-    pub disjoint_index: DisjointIndex<A>,
-    pub frames: Frames<A>,
 }
 
 /// Returns all that is kept beside lawful statements.

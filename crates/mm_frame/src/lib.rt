@@ -1,7 +1,7 @@
 //! Frames. This layer knows lawful statements with their blocks and the numbers of their symbols.
 //! It finds for each assertion the mandatory hypotheses and the mandatory pairs of disjoint
 //! variables, and for each variable the `$d` that contain it. It promises that frames are those of
-//! the definitions (`Rattle.mm_frame.specs.Frames.AreFrames`).
+//! the definitions (`Rattle.mm_database.specs.Frames.AreFrames`).
 #![tactic(auto)]
 
 pub mod active;
@@ -10,5 +10,3 @@ pub mod disjoint_index;
 pub mod frames;
 pub mod hypotheses;
 pub mod tables;
-
-pub use frames::Frame;

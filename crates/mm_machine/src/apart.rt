@@ -7,7 +7,7 @@ ghost use Rattle.mm_machine.specs.Arena.{AreApart};
 ghost use Rattle.mm_rule.specs.Assertions.{is_assertion_at};
 
 use mm_rule::{pairs, put_number, zeros};
-use mm_stmt::{Database, Sym};
+use mm_database::{Database, Sym};
 use std::alloc::{AllocError, Allocator};
 use std::marker::Model;
 

@@ -19,7 +19,7 @@ use crate::apart::Apart;
 use crate::arena::{Reason, Span, Store, Symbols, append, build, test_rule};
 use crate::fill::fill;
 use mm_rule::{Rule, empty, put_number, zeros};
-use mm_stmt::{Database, Sym};
+use mm_database::{Database, Sym};
 use std::alloc::{AllocError, Allocator};
 use std::marker::Model;
 

@@ -4,7 +4,7 @@
 -- words without `$`; `goes_done`, `goes_stop` and `goes_end` end in `IsNextStatement`. `IsBlocks`
 -- is kept for one more statement by `blocks_plain`, `blocks_opening` and `blocks_closing`
 -- (`BlocksLaw.antt`); `mm_scope` cites these. `active_is` (`ActiveLaw.antt`) shows that activity is
--- a comparison; `mm_stmt` cites it.
+-- a comparison; `mm_database` cites it.
 pub mod ActiveLaw
 pub mod AmongLaw
 pub mod BlocksLaw

@@ -14,7 +14,7 @@ use Rattle.mm_spec.specs.NormalProof.{usable, proof_label_faults}
 use Rattle.mm_spec.specs.CompressedProof.{Compressed, bracketed, with_label, compressed_faults}
 use Rattle.mm_spec.specs.CompressedProof.{compressed_steps, letter_faults, letters_of, groups}
 use Rattle.mm_spec.specs.CompressedProof.{group_steps}
-use Rattle.mm_stmt.specs.Parts.{as_tokens, token_of}
+use Rattle.mm_outline.specs.Parts.{as_tokens, token_of}
 use Rattle.mm_spec.specs.Steps.{PlacedStep}
 use Rattle.mm_steps.specs.Read.{read}
 use Rattle.mm_proof.specs.Letters.{InOrder, closed}

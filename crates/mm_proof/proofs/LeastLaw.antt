@@ -16,7 +16,7 @@ use Rattle.mm_spec.specs.Statement.{Statement}
 use Rattle.mm_spec.specs.Lawful.{least, lesser, is_before}
 use Rattle.mm_spec.specs.NormalProof.{usable, proof_label_faults}
 use Rattle.mm_spec.proofs.ListLaw.{pairs_head, pairs_tail}
-use Rattle.mm_stmt.specs.Parts.{as_tokens, token_of}
+use Rattle.mm_outline.specs.Parts.{as_tokens, token_of}
 use Rattle.mm_proof.specs.Refused.{word_faults}
 
 pub pairs_back : {X : Type 0} (R : X → X → Type 0) (xs ys : List X) → AllPairs R (xs ++ ys)

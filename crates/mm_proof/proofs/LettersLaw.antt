@@ -19,7 +19,7 @@ use Rattle.mm_spec.specs.CompressedProof.{group_steps, group_faults}
 use Rattle.mm_spec.specs.declared.Code.TheVariants.{OpenNumber, MarkBeforeStep, NumberTooLarge}
 use Rattle.mm_spec.specs.declared.Code.TheVariants.{IncompleteProof, BadLetter}
 use Rattle.mm_spec.specs.declared.Word.{Word as Place}
-use Rattle.mm_stmt.specs.Parts.{as_tokens, token_of}
+use Rattle.mm_outline.specs.Parts.{as_tokens, token_of}
 use Rattle.mm_proof.specs.Number.{told}
 use Rattle.mm_proof.specs.Letters.{State, state, letter, Begins, Continues, Reads, begun_at}
 use Rattle.mm_proof.specs.Letters.{StandsAt, InOrder}

@@ -10,7 +10,7 @@ use Rattle.mm_spec.specs.NormalProof.{normal_faults}
 use Rattle.mm_spec.specs.CompressedProof.{bracketed, compressed_faults}
 use Rattle.mm_spec.specs.Proof.{reading_faults}
 use Rattle.mm_spec.specs.Citation.{is_theorem, reading_faults_at}
-use Rattle.mm_stmt.specs.Database.{last_place}
+use Rattle.mm_database.specs.Database.{last_place}
 use Rattle.mm_spec.specs.Output.{is_theorem_at}
 
 -- a theorem with these words after its `$=`

@@ -9,7 +9,7 @@ use Rattle.mm_spec.specs.Scope.{is_active, statement_at}
 use Rattle.mm_spec.specs.NormalProof.{is_labelled, usable}
 use Rattle.mm_spec.proofs.FindsLaw.{is_before}
 use Rattle.mm_spec.proofs.BoolLaw.{lone}
-use Rattle.mm_frame.proofs.RisingLaw.{filter_is}
+use Rattle.mm_spec.proofs.RisingLaw.{filter_is}
 
 module _ (db : List Statement) (k : ℕ) (w : Bytes) where
   abbrev labelled : ℕ → Bool

@@ -5,7 +5,7 @@ ghost use Rattle.std.specs.Prelude.{IfErr, IsTrue};
 ghost use Rattle.mm_spec.specs.NormalProof.{usable, proof_label_faults};
 ghost use Rattle.mm_spec.specs.CompressedProof.{bracketed, compressed_faults, compressed_steps};
 ghost use Rattle.mm_spec.specs.Output.{is_theorem_at};
-ghost use Rattle.mm_stmt.specs.Parts.{as_tokens, AreWithin};
+ghost use Rattle.mm_outline.specs.Parts.{as_tokens, AreWithin};
 ghost use Rattle.mm_steps.specs.Read.{read};
 ghost use Rattle.mm_proof.specs.Letters.{InOrder, closed};
 ghost use Rattle.mm_proof.specs.Refused.{StartsWith};
@@ -15,7 +15,7 @@ use crate::letters::Progress;
 use crate::refused::{ProofRefused, refused};
 use crate::room::with_room;
 use mm_steps::Steps;
-use mm_stmt::{Code, Database, Word};
+use mm_database::{Code, Database, Word};
 use std::alloc::Allocator;
 
 /// Reads the labels in brackets, up to the `)`, and returns how many there are. Their statements

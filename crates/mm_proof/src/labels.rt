@@ -4,7 +4,7 @@ ghost use Rattle.std.specs.Prelude.{◌≡◌, ◌<◌, length};
 ghost use Rattle.mm_spec.specs.NormalProof.{usable};
 ghost use Rattle.mm_proof.specs.Refused.{found};
 
-use mm_stmt::Database;
+use mm_database::Database;
 use std::alloc::Allocator;
 
 /// The statement of a label, if the label is usable in the proof of `theorem`: if it is the label

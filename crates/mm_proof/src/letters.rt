@@ -6,7 +6,7 @@ ghost use Rattle.mm_spec.specs.Steps.{placed};
 ghost use Rattle.mm_spec.specs.CompressedProof.{letters_from, letters_of, letter_faults, groups};
 ghost use Rattle.mm_spec.specs.CompressedProof.{group_steps};
 ghost use Rattle.mm_spec.specs.CompressedProof as compressed;
-ghost use Rattle.mm_stmt.specs.Parts.{as_tokens, AreWithin};
+ghost use Rattle.mm_outline.specs.Parts.{as_tokens, AreWithin};
 ghost use Rattle.mm_steps.specs.Read.{read, step_of, IsEarlier};
 ghost use Rattle.mm_proof.specs.Number.{IsLetter, told};
 ghost use Rattle.mm_proof.specs.declared.digits.LetterKind.TheVariants.{Last};
@@ -18,7 +18,7 @@ use crate::digits::{LetterKind, letter_of, with_digit};
 use crate::refused::{ProofRefused, refused};
 use crate::room::with_room;
 use mm_steps::{Step, Steps};
-use mm_stmt::{Code, Word};
+use mm_database::{Code, Word};
 use std::alloc::{AllocError, Allocator};
 use std::marker::Model;
 

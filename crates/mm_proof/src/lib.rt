@@ -17,6 +17,6 @@ mod room;
 
 pub use digits::number;
 pub use mm_steps::{Step, Steps};
-pub use mm_stmt::{Code, Fault};
+pub use mm_database::{Code, Fault};
 pub use reader::read_proof;
 pub use refused::ProofRefused;

@@ -6,7 +6,7 @@ ghost use Rattle.std.specs.List.{AllPairs};
 ghost use Rattle.mm_spec.specs.NormalProof.{usable, normal_steps};
 ghost use Rattle.mm_spec.specs.Citation.{steps_at, reading_faults_at};
 ghost use Rattle.mm_spec.specs.Output.{is_theorem_at};
-ghost use Rattle.mm_stmt.specs.Parts.{as_tokens, AreWithin};
+ghost use Rattle.mm_outline.specs.Parts.{as_tokens, AreWithin};
 ghost use Rattle.mm_steps.specs.Read.{Read, read};
 ghost use Rattle.mm_proof.specs.Refused.{Refuses, word_faults};
 
@@ -14,7 +14,7 @@ use crate::compressed::read_compressed;
 use crate::labels::usable_label;
 use crate::refused::{ProofRefused, refused};
 use mm_steps::{Step, Steps};
-use mm_stmt::{Code, Database, Word};
+use mm_database::{Code, Database, Word};
 use std::alloc::Allocator;
 
 /// Reads the words of a normal proof.

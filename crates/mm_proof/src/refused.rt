@@ -4,7 +4,7 @@ ghost use Rattle.std.specs.Prelude.{◌≡◌};
 ghost use Rattle.mm_spec.specs.Text.{fault};
 ghost use Rattle.mm_proof.specs.declared.refused.ProofRefused.TheVariants.{Fault as Faulty};
 
-use mm_stmt::{Code, Fault};
+use mm_database::{Code, Fault};
 use std::alloc::{AllocError, AllocFailed};
 
 /// Why no steps were read from a proof.

@@ -21,7 +21,7 @@ use crate::text::{send_head, send_line};
 use mm_cites::Citations;
 use mm_rows::{Columns, is_chosen};
 use mm_spec::Form;
-use mm_stmt::Database;
+use mm_database::Database;
 use std::alloc::Allocator;
 use std::io::Write;
 

@@ -7,7 +7,7 @@ ghost use Rattle.mm_spec.specs.Scope.{statement_at};
 ghost use Rattle.mm_report.specs.Rows.{open_theorems as spec_open_theorems};
 
 use mm_rows::Columns;
-use mm_stmt::Database;
+use mm_database::Database;
 use std::alloc::Allocator;
 
 /// Returns the number of columns that are open theorems, or `None` if `with_open` isn't set.

@@ -6,7 +6,7 @@ ghost use Rattle.mm_spec.specs.Text.{Bytes};
 ghost use Rattle.mm_spec.specs.Output.{label_at, theorems, columns};
 
 use mm_rows::Columns;
-use mm_stmt::Database;
+use mm_database::Database;
 use std::alloc::Allocator;
 use std::marker::Model;
 

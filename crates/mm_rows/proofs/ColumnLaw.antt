@@ -15,7 +15,7 @@ use Rattle.mm_spec.specs.Frame.{symbol_names, place_of}
 use Rattle.mm_spec.proofs.FindsLaw.{found_at, statement_at_is, formula_at_is}
 use Rattle.mm_spec.proofs.FaultlessLaw.{place_get}
 use Rattle.mm_spec.proofs.BoolLaw.{lone}
-use Rattle.mm_stmt.specs.Database.{typecode_of, is_labelled_kind, kind_of}
+use Rattle.mm_database.specs.Database.{typecode_of, is_labelled_kind, kind_of}
 
 -- a selection of a selection
 pub filter_filter : (p q r : ℕ → Bool) (xs : List ℕ) → ((x : ℕ) → r x ≡ (p x && q x))

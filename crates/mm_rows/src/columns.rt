@@ -9,7 +9,7 @@ ghost use Rattle.mm_spec.specs.Citation.{is_assertion};
 ghost use Rattle.mm_spec.specs.Output.{columns, has_typecode};
 ghost use Rattle.mm_cites.specs.Citing.{IsRising};
 
-use mm_stmt::Database;
+use mm_database::Database;
 use std::alloc::{AllocError, Allocator};
 use std::marker::Model;
 

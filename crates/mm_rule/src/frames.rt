@@ -10,7 +10,7 @@ ghost use Rattle.mm_spec.specs.Citation.{context_at};
 ghost use Rattle.mm_rule.specs.Assertions.{paired};
 ghost use Rattle.mm_rule.specs.Assertions.{is_assertion_at};
 
-use mm_stmt::{Database, Kind, Sym};
+use mm_database::{Database, Kind, Sym};
 use std::alloc::Allocator;
 
 /// Whether a statement is an assertion.

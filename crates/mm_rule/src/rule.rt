@@ -2,7 +2,7 @@
 
 ghost use Rattle.std.specs.Prelude.{◌≡◌};
 
-use mm_stmt::Sym;
+use mm_database::Sym;
 use std::marker::Model;
 
 /// A symbol of a formula of a frame.

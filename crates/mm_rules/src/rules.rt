@@ -8,7 +8,7 @@ ghost use Rattle.mm_rules.specs.Rules.{AreRules, IsRuleNumber, lists, no_stretch
 
 use crate::compile::RuleCompiler;
 use mm_rule::{Hypothesis, Part, Rule, Stretch, is_assertion, put_number, zeros};
-use mm_stmt::Database;
+use mm_database::Database;
 use std::alloc::{AllocError, Allocator};
 use std::marker::Model;
 

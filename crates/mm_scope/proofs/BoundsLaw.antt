@@ -15,7 +15,7 @@ use Rattle.mm_spec.specs.Lawful.{IsLawful}
 use Rattle.mm_spec.specs.Frame.{symbol_names, place_of, first_occurrences, formula_at, formula_of}
 use Rattle.mm_spec.proofs.FindsLaw.{formula_at_is}
 use Rattle.mm_spec.proofs.SymbolLaw.{declared_here}
-use Rattle.mm_scope.proofs.SymbolsLaw.{itself, in_first, place_in}
+use Rattle.mm_database.proofs.SymbolsLaw.{itself, in_first, place_in}
 use Rattle.mm_outline.proofs.StatementsLaw.{get_mapped}
 
 -- ---- symbols are declared

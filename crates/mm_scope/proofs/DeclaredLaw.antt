@@ -7,7 +7,7 @@ use Rattle.std.proofs.lemmas.List.{map-append}
 use Rattle.std.proofs.Math.Bool.{or-false, or-true}
 use Rattle.mm_spec.specs.Text.{is_in, words}
 use Rattle.mm_spec.specs.declared.Word.{Word}
-use Rattle.mm_scope.specs.declared.names.Symbol.{Symbol}
+use Rattle.mm_database.specs.declared.names.Symbol.{Symbol}
 use Rattle.mm_outline.specs.Parts.{between, token_at}
 use Rattle.mm_scope.specs.Judge.{Entry, entry_of, declared_entry}
 use Rattle.mm_outline.proofs.TurnsLaw.{between_more}

@@ -15,7 +15,7 @@ use Rattle.mm_spec.specs.Lawful.{least, lesser, is_before, at, at_each, when, sy
 use Rattle.mm_spec.specs.Lawful.{is_typed, is_typed_otherwise, formula_faults, floating_faults}
 use Rattle.mm_spec.specs.Lawful.{constant_codes, variable_codes, is_empty}
 use Rattle.mm_spec.specs.declared.Word as place
-use Rattle.mm_scope.specs.declared.names.Symbol.{Symbol}
+use Rattle.mm_database.specs.declared.names.Symbol.{Symbol}
 use Rattle.mm_outline.proofs.FaultlessLaw.{pick, lesser_is}
 use Rattle.mm_outline.specs.Parts.{between, token_at, token_of, nth_word}
 use Rattle.mm_scope.specs.Judge.{merge, fault_at, is_active, is_typed_here, is_constant}

@@ -19,7 +19,7 @@ use Rattle.mm_scope.specs.WordEntry.{IsEntryOf, typed_by, typecode_by, is_other,
 use Rattle.mm_scope.specs.WordEntry.{is_variable_entry}
 use Rattle.mm_outline.specs.Typed.{has, typed_words}
 use Rattle.mm_scope.specs.Keeps.{Keeps}
-use Rattle.mm_scope.specs.declared.names.Symbol.{Symbol}
+use Rattle.mm_database.specs.declared.names.Symbol.{Symbol}
 use Rattle.mm_scope.proofs.LatestLaw.{latest_is}
 use Rattle.mm_outline.proofs.AmongLaw.{among_active, any_false, typed_in}
 use Rattle.mm_scope.proofs.OpenLaw.{latest_open, declares_local, types_local}

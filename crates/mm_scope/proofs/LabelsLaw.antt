@@ -18,7 +18,7 @@ use Rattle.mm_spec.specs.declared.Code.TheVariants.{LabelIsSymbol, LabelUsedBefo
 use Rattle.mm_spec.proofs.LocalLaw.{get_front, get_seam}
 use Rattle.mm_spec.proofs.FaultlessLaw.{append_none, at_none, when_none}
 use Rattle.mm_scope.specs.WordEntry.{label_after}
-use Rattle.mm_scope.specs.Labels.{AreLabels}
+use Rattle.mm_database.specs.Labels.{AreLabels}
 use Rattle.mm_outline.proofs.StatementsLaw.{is_there}
 
 -- a label that has no fault is new

@@ -13,9 +13,7 @@ pub mod WordEntryLaw
 pub mod KnowsLaw
 pub mod LabelsLaw
 pub mod LatestLaw
-pub mod LongestLaw
 pub mod NumberedLaw
 pub mod OpenLaw
 pub mod ReadLaw
-pub mod SymbolsLaw
 pub mod TypedLaw

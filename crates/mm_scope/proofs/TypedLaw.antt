@@ -4,7 +4,7 @@ use Rattle.std.proofs.Common.{length, Option, bytes_eq, if◌then◌else◌, ref
 use Rattle.std.proofs.lemmas.Slice.Eq.{bytes_eq-Decides}
 use Rattle.mm_spec.specs.Text.{Token}
 use Rattle.mm_spec.specs.declared.Word.{Word}
-use Rattle.mm_scope.specs.declared.names.Symbol.{Symbol}
+use Rattle.mm_database.specs.declared.names.Symbol.{Symbol}
 use Rattle.mm_outline.specs.Parts.{between, token_at}
 use Rattle.mm_scope.specs.Judge.{Entry, entry_of, typed_entry}
 use Rattle.mm_scope.specs.WordEntry.{typed_after}

@@ -10,7 +10,7 @@ use Rattle.mm_spec.specs.Lawful.{variable_codes, disjoint_codes}
 use Rattle.mm_outline.specs.Blocks.{never}
 use Rattle.mm_outline.specs.declared.parts.Kind.{Kind}
 use Rattle.mm_outline.specs.declared.parts.Kind.TheVariants.{Constants, Variables}
-use Rattle.mm_scope.specs.declared.names.Symbol.{Symbol}
+use Rattle.mm_database.specs.declared.names.Symbol.{Symbol}
 use Rattle.mm_spec.specs.declared.Code.{Code}
 use Rattle.mm_spec.specs.declared.Code.TheVariants.{ConstantInBlock, EmptyDeclaration}
 use Rattle.mm_spec.specs.declared.Code.TheVariants.{DeclaredBefore, LabelIsSymbol, LabelUsedBefore}

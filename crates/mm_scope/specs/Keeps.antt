@@ -6,14 +6,14 @@ use Rattle.mm_spec.specs.Scope.{depth, label_words}
 use Rattle.mm_spec.specs.Lawful.{scope_fault}
 use Rattle.mm_spec.specs.Frame.{symbol_names, formula_of}
 use Rattle.mm_outline.specs.Blocks.{lists, Lists, IsBlocks}
-use Rattle.mm_scope.specs.Names.{find, names_of}
+use Rattle.mm_database.specs.Names.{find, names_of}
 use Rattle.mm_scope.specs.Formulas.{AreFormulas}
 use Rattle.mm_scope.specs.declared.reading.Outlined.{Outlined}
 use Rattle.mm_spec.specs.Text.{is_in}
 use Rattle.mm_scope.specs.Judge.{entry_of}
 use Rattle.mm_scope.specs.WordEntry.{IsEntryOf}
-use Rattle.mm_scope.specs.Labels.{AreLabels}
-use Rattle.mm_scope.specs.declared.names.Symbol.{Symbol}
+use Rattle.mm_database.specs.Labels.{AreLabels}
+use Rattle.mm_database.specs.declared.names.Symbol.{Symbol}
 
 -- the code knows what is before the next statement
 pub record Keeps (db : List Statement) (look : List ℕ → Option Symbol) (labels : List ℕ → Option ℕ)

@@ -2,5 +2,3 @@ pub mod Formulas
 pub mod Judge
 pub mod Keeps
 pub mod WordEntry
-pub mod Labels
-pub mod Names

@@ -5,7 +5,7 @@ ghost use Rattle.std.specs.Prelude.{◌+◌, ◌-◌, ℕ, List, is_some, Some, 
 ghost use Rattle.std.specs.Prelude.{false};
 ghost use Rattle.mm_spec.specs.Text.{is_in, words};
 ghost use Rattle.mm_spec.specs.Frame.{place_of};
-ghost use Rattle.mm_scope.specs.Names.{find, names_of};
+ghost use Rattle.mm_database.specs.Names.{find, names_of};
 ghost use Rattle.mm_scope.specs.Formulas.{judged};
 ghost use Rattle.mm_spec.specs.Lawful.{least, at_each, symbol_codes, formula_faults};
 ghost use Rattle.mm_spec.specs.Lawful.{floating_faults, label_faults, scope_faults};
@@ -15,9 +15,10 @@ ghost use Rattle.mm_outline.specs.Parts.{statement_of};
 ghost use Rattle.mm_scope.specs.Judge.{merge as spec_merge, fault_at, is_open_in, declared_codes};
 ghost use Rattle.mm_scope.specs.Judge.{list_fault, before_next, Knows};
 
-use crate::name::Name;
-use crate::names::{Map, Scope};
+use crate::scope::Scope;
 use indexmap::IndexMap;
+use mm_database::name::Name;
+use mm_database::names::Map;
 use mm_outline::parts::{Kind, Outline};
 use mm_outline::symbol::Sym;
 use mm_spec::{Code, Fault, Word};

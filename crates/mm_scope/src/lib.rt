@@ -7,6 +7,5 @@
 
 pub mod formulas;
 pub mod judge;
-pub mod name;
-pub mod names;
 pub mod reading;
+pub mod scope;

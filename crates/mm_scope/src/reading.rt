@@ -6,7 +6,7 @@ ghost use Rattle.mm_spec.specs.Statement.{Statement, is_closing, label_of};
 ghost use Rattle.mm_spec.specs.Scope.{names_before, depth, is_active, constants_of, variables_of};
 ghost use Rattle.mm_spec.specs.Lawful.{least, scope_faults};
 ghost use Rattle.mm_spec.specs.Output.{IsRead};
-ghost use Rattle.mm_scope.specs.Names.{find as find_in, names_of};
+ghost use Rattle.mm_database.specs.Names.{find as find_in, names_of};
 ghost use Rattle.mm_outline.specs.Blocks.{IsBlocks, lists};
 ghost use Rattle.std.specs.Prelude.{◌+◌, ◌-◌, ℕ, Some, if◌then◌else◌, bytes_eq, true};
 ghost use Rattle.mm_spec.specs.Text.{is_in, words};
@@ -19,8 +19,10 @@ ghost use Rattle.mm_outline.specs.Statements.{active_kind, end_fault_of, lexed, 
 ghost use Rattle.mm_scope.specs.Keeps.{Keeps, IsKept, MayTake, kept_by};
 ghost use Rattle.mm_spec.specs.Frame.{first_occurrences};
 
-use crate::formulas::{Formulas, no_formulas};
-use crate::names::{Names, Scope, Symbol, no_names};
+use crate::formulas::no_formulas;
+use crate::scope::Scope;
+use mm_database::names::{Names, Symbol, no_names};
+use mm_database::reading::{Formulas, Reading};
 use mm_outline::blocks::{NEVER, no_blocks};
 use mm_outline::parts::{Kind, NextStatement, Outline, Part, next_statement};
 use mm_spec::{Code, Fault, Word};
@@ -44,6 +46,32 @@ impl<'a, A: Allocator> Drop for Outlined<'a, A> {
             formulas: _,
             fault: _,
         } = self;
+    }
+}
+
+impl<'a, A: Allocator> Outlined<'a, A> {
+    /// Returns what was read, without the outer structure of the scope.
+    pub fn into_reading(self) -> Reading<'a, A>
+        ensures outlines { result.outlines ≡ self.outlines }
+        ensures names { result.names ≡ self.scope.names }
+        ensures blocks { result.blocks ≡ self.scope.blocks }
+        ensures formulas { result.formulas ≡ self.formulas }
+        ensures fault { result.fault ≡ self.fault }
+    {
+        let Outlined {
+            outlines,
+            scope,
+            formulas,
+            fault,
+        } = self;
+        let Scope { names, blocks } = scope;
+        Reading {
+            outlines,
+            names,
+            blocks,
+            formulas,
+            fault,
+        }
     }
 }
 
@@ -217,27 +245,30 @@ pub fn outline<'a, A: Allocator + Copy>(
     }
 }
 
-impl<'a, A: Allocator + Copy> Names<'a, A> {
-    /// Returns what is known of the symbol after its declaration by the statement `number`.
-    fn declared(&self, is_variable: bool, number: u32, word: &'a [u8]) -> Symbol<'a>
-        ensures { entry_of (Some result)
-            ≡ declared_entry is_variable number word.entry.now
-            (entry_of (find_in self.now.symbols word.entry.now)) }
-    {
-        match self.symbol(word) {
-            Some(old) => Symbol {
-                is_variable,
-                declared: number,
-                typed: old.typed,
-                typecode: old.typecode,
-            },
-            None => Symbol {
-                is_variable,
-                declared: number,
-                typed: NEVER,
-                typecode: word,
-            },
-        }
+/// Returns what is known of the symbol after its declaration by the statement `number`.
+fn declared<'a, A: Allocator + Copy>(
+    names: &Names<'a, A>,
+    is_variable: bool,
+    number: u32,
+    word: &'a [u8],
+) -> Symbol<'a>
+    ensures { entry_of (Some result)
+        ≡ declared_entry is_variable number word.entry.now
+        (entry_of (find_in names.now.symbols word.entry.now)) }
+{
+    match names.symbol(word) {
+        Some(old) => Symbol {
+            is_variable,
+            declared: number,
+            typed: old.typed,
+            typecode: old.typecode,
+        },
+        None => Symbol {
+            is_variable,
+            declared: number,
+            typed: NEVER,
+            typecode: word,
+        },
     }
 }
 
@@ -430,7 +461,7 @@ impl<'a, A: Allocator + Copy> Scope<'a, A> {
         for at in from..to {
             let token = tokens[at as usize];
             let word = token.bytes(text);
-            let symbol = self.names.declared(is_variable, number, word);
+            let symbol = declared(&self.names, is_variable, number, word);
             self.names.set_symbol(word, symbol)?;
         }
         Ok(())

@@ -15,9 +15,11 @@ pub mod LexedLaw
 pub mod ListLaw
 pub mod LocalLaw
 pub mod MachineLaw
+pub mod MemberLaw
 pub mod NodesLaw
 pub mod OpenedLaw
 pub mod ReadingsLaw
+pub mod RisingLaw
 pub mod RowLaw
 pub mod ShapeLaw
 pub mod StepsLaw

@@ -11,7 +11,7 @@ use Rattle.mm_outline.specs.Parts.{statement_of, token_of}
 use Rattle.mm_outline.specs.Statements.{lexed, statements}
 use Rattle.mm_scope.specs.Keeps.{Keeps}
 use Rattle.mm_frame.specs.Tables.{IsSound}
-use Rattle.mm_scope.specs.declared.names.Symbol.{Symbol}
+use Rattle.mm_database.specs.declared.names.Symbol.{Symbol}
 use Rattle.mm_outline.specs.declared.parts.Outline.{Outline}
 use Rattle.mm_scope.proofs.BoundsLaw.{few_symbols}
 use Rattle.mm_stmt.proofs.SoundLaw.{sound_read}

@@ -6,7 +6,7 @@ use Rattle.std.proofs.lemmas.Option.{slice_get-get_or}
 use Rattle.mm_spec.specs.Text.{is_in}
 use Rattle.mm_spec.specs.Scope.{variables_of}
 use Rattle.mm_outline.specs.Numbered.{AreSymbols}
-use Rattle.mm_scope.specs.Names.{is_variable_in}
+use Rattle.mm_database.specs.Names.{is_variable_in}
 use Rattle.mm_spec.specs.Statement.{Statement, opening}
 use Rattle.mm_spec.specs.Lawful.{scope_fault}
 use Rattle.mm_spec.specs.Frame.{symbol_names, formula_at}
@@ -18,7 +18,7 @@ use Rattle.mm_scope.specs.Judge.{Entry, entry_of}
 use Rattle.mm_scope.specs.WordEntry.{is_constant_entry, is_variable_entry}
 use Rattle.mm_scope.specs.Keeps.{Keeps}
 use Rattle.mm_frame.specs.Tables.{IsSound}
-use Rattle.mm_scope.specs.declared.names.Symbol.{Symbol}
+use Rattle.mm_database.specs.declared.names.Symbol.{Symbol}
 use Rattle.mm_scope.proofs.BoundsLaw.{symbols_known}
 
 one_kind : (x : Option Entry) → is_constant_entry x ≡ true → is_variable_entry x ≡ false

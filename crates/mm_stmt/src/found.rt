@@ -7,40 +7,21 @@ ghost use Rattle.mm_outline.specs.Numbered.{AreSymbols};
 ghost use Rattle.mm_outline.specs.Parts.{AreWithin, IsOutline};
 ghost use Rattle.mm_outline.specs.Statements.{statements};
 ghost use Rattle.mm_scope.specs.Keeps.{IsKept, kept_by};
-ghost use Rattle.mm_scope.specs.Names.{names_of};
-ghost use Rattle.mm_frame.specs.DisjointIndex.{IsDisjointIndex};
-ghost use Rattle.mm_frame.specs.Frames.{AreFrames};
+ghost use Rattle.mm_database.specs.Names.{names_of};
+ghost use Rattle.mm_database.specs.DisjointIndex.{IsDisjointIndex};
+ghost use Rattle.mm_database.specs.Frames.{AreFrames};
 ghost use Rattle.mm_frame.specs.Tables.{IsSound};
-ghost use Rattle.mm_stmt.specs.Found.{IsFound};
+ghost use Rattle.mm_database.specs.Found.{IsFound};
 
-use crate::kept::{Kept, keep_all};
-use crate::listed::{Listed, list_all};
-use mm_frame::frames::{Beside, gather};
+use crate::kept::keep_all;
+use crate::listed::list_all;
+use mm_database::found::Found;
+use mm_database::frames::Beside;
+use mm_frame::frames::gather;
 use mm_frame::tables::Tables;
 use mm_scope::reading::Outlined;
 use mm_spec::Word;
 use std::alloc::{AllocError, Allocator};
-
-/// For each symbol whether it is a variable; the frames and the `$d` by variables; the lists of
-/// statements as they count; and the words that are needed again.
-pub struct Found<A: Allocator> {
-    pub variables: Vec<bool, A>,
-    pub beside: Beside<A>,
-    pub listed: Listed<A>,
-    pub kept: Kept<A>,
-}
-
-/// Lets all fields go in one call, so that a proof has one step for it at each exit.
-impl<A: Allocator> Drop for Found<A> {
-    fn drop(self) {
-        let Self {
-            variables: _,
-            beside: _,
-            listed: _,
-            kept: _,
-        } = self;
-    }
-}
 
 /// Returns the frames and the `$d` of the lawful statements that were read.
 fn beside_of<'a, A: Allocator + Copy>(

@@ -5,8 +5,8 @@ ghost use Rattle.std.specs.Prelude.{◌≡◌, ◌<◌, ◌≤◌, ◌^◌, All,
 ghost use Rattle.mm_spec.specs.Opened.{counted, is_open_proof as spec_is_open_proof};
 ghost use Rattle.mm_outline.specs.Parts.{AreWithin, IsOutline, statement_of, token_of, as_tokens};
 ghost use Rattle.mm_outline.specs.Statements.{statements};
-ghost use Rattle.mm_stmt.specs.Database.{kind_of};
-ghost use Rattle.mm_stmt.specs.Kinds.{counted_as, is_axiom_kind, is_theorem_kind, numbers_of};
+ghost use Rattle.mm_database.specs.Database.{kind_of};
+ghost use Rattle.mm_database.specs.Kinds.{counted_as, is_axiom_kind, is_theorem_kind, numbers_of};
 
 use mm_outline::parts::{Kind, Outline};
 use mm_spec::Word;

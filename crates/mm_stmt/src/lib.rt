@@ -5,17 +5,12 @@
 //! call returns what the definitions say of the statements.
 #![tactic(auto)]
 
-mod database;
 mod found;
 mod kept;
 mod kinds;
 mod listed;
-mod near;
 mod reader;
 mod spaced;
 
-pub use database::Database;
-pub use mm_frame::Frame;
-pub use mm_outline::{Kind, Sym};
-pub use mm_spec::{Code, Fault, Word};
+pub use mm_database::{Code, Database, Fault, Frame, Kind, Sym, Word};
 pub use reader::read;

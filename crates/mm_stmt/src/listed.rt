@@ -3,24 +3,15 @@
 ghost use Rattle.std.specs.Prelude.{◌≡◌, ◌<◌, ◌^◌, All, None, IfOk, length, map};
 ghost use Rattle.mm_spec.specs.Output.{theorems, columns, label_at};
 ghost use Rattle.mm_outline.specs.Parts.{AreWithin, IsOutline};
-ghost use Rattle.mm_stmt.specs.Database.{kind_of, held};
-ghost use Rattle.mm_stmt.specs.Spaced.{AreSpaced};
+ghost use Rattle.mm_database.specs.Database.{kind_of, held};
+ghost use Rattle.mm_database.specs.Spaced.{AreSpaced};
 
 use crate::kinds::{axioms_of, kinds_of, theorems_of};
-use crate::spaced::{SpacedLabels, spaced_labels_of};
-use mm_outline::parts::{Kind, Outline};
+use crate::spaced::spaced_labels_of;
+use mm_database::listed::Listed;
+use mm_outline::parts::Outline;
 use mm_spec::Word;
 use std::alloc::{AllocError, Allocator};
-
-/// What each statement counts as, the theorems and the axioms in file order, and the labels of the
-/// theorems.
-#[derive(Drop)]
-pub struct Listed<A: Allocator> {
-    pub kinds: Vec<Kind, A>,
-    pub theorems: Vec<u32, A>,
-    pub axioms: Vec<u32, A>,
-    pub spaced: SpacedLabels<A>,
-}
 
 /// Returns the lists of the statements of all outlines. If `with_open` is set, open theorems count
 /// as axioms.

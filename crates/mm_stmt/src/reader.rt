@@ -5,8 +5,8 @@ ghost use Rattle.mm_spec.specs.Lexed.{tokens_of, lexical_fault};
 ghost use Rattle.mm_spec.specs.Opened.{counted};
 ghost use Rattle.mm_spec.specs.Output.{IsRead, lexed_of};
 
-use crate::database::Database;
 use crate::found::found_in;
+use mm_database::Database;
 use mm_scope::reading::outline;
 use mm_spec::Lexed;
 use std::alloc::{AllocError, Allocator};
@@ -34,10 +34,5 @@ pub fn read<'a, A: Allocator + Copy>(
     let tokens = lexed.tokens.as_slice();
     let read = outline(alloc, text, tokens, lexed.fault)?;
     let found = found_in(alloc, text, tokens, &read, with_open)?;
-    Ok(Database {
-        text,
-        with_open,
-        read,
-        found,
-    })
+    Ok(Database::new(text, with_open, read.into_reading(), found))
 }

@@ -4,20 +4,12 @@ ghost use Rattle.std.specs.Prelude.{◌≡◌, ◌<◌, ◌≤◌, ◌-◌, All,
 ghost use Rattle.mm_spec.specs.Output.{is_theorem_at, label_at};
 ghost use Rattle.mm_outline.specs.Parts.{AreWithin, IsOutline};
 ghost use Rattle.mm_outline.specs.Statements.{statements};
-ghost use Rattle.mm_stmt.specs.Spaced.{AreSpaced};
+ghost use Rattle.mm_database.specs.Spaced.{AreSpaced};
 
+use mm_database::listed::SpacedLabels;
 use mm_outline::parts::Outline;
 use mm_spec::Word;
 use std::alloc::{AllocError, Allocator};
-
-/// The labels of the theorems, each after a space. The label of the theorem with index i, with its
-/// space, is from `starts[i]` up to `starts[i + 1]`. So the labels of adjacent theorems are one
-/// slice.
-#[derive(Drop)]
-pub struct SpacedLabels<A: Allocator> {
-    pub bytes: Vec<u8, A>,
-    pub starts: Vec<usize, A>,
-}
 
 /// Returns the label of a theorem.
 fn label_of<'a>(text: &'a [u8], tokens: &[Word], outlines: &[Outline], theorem: u32) -> &'a [u8]

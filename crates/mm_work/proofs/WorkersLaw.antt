@@ -10,7 +10,7 @@ use Rattle.std.proofs.Math.Seq.{get_or-append_right}
 use Rattle.std.proofs.lemmas.List.Elements.{All-push, Contains-push, Contains-append_left}
 use Rattle.mm_spec.specs.Statement.{Statement}
 use Rattle.mm_spec.specs.Output.{theorems}
-use Rattle.mm_stmt.specs.Database.{Contents}
+use Rattle.mm_database.specs.Database.{Contents}
 use Rattle.mm_board.specs.declared.views.View.{View}
 use Rattle.mm_board.specs.Records.{times_in, times_open, times_recorded}
 use Rattle.mm_board.specs.Events.{after_join}

@@ -5,7 +5,7 @@ use Rattle.std.specs.List.{Contains}
 use Rattle.std.specs.Option.{option_map}
 use Rattle.mm_spec.specs.Statement.{Statement}
 use Rattle.mm_spec.specs.Output.{theorems}
-use Rattle.mm_stmt.specs.Database.{Contents}
+use Rattle.mm_database.specs.Database.{Contents}
 use Rattle.mm_board.specs.declared.views.View.{View}
 use Rattle.mm_board.specs.Records.{times_in}
 use Rattle.mm_board.specs.Models.{BoardValue, SeatValue, IsSeatOf}

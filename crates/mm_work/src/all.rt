@@ -10,7 +10,7 @@ use crate::judged::Judged;
 use crate::merge::{fault_of, merge};
 use mm_board::Board;
 use mm_rules::Rules;
-use mm_stmt::Database;
+use mm_database::Database;
 use std::alloc::{AllocError, Allocator};
 use std::sync::Wait;
 use std::thread::Threads;

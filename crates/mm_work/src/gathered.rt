@@ -9,7 +9,7 @@ use crate::gate::Gate;
 use crate::worker::{Findings, Worked, work};
 use mm_board::{Board, Seat};
 use mm_rules::Rules;
-use mm_stmt::Database;
+use mm_database::Database;
 use std::alloc::{AllocError, Allocator};
 use std::sync::Wait;
 use std::thread;

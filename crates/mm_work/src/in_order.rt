@@ -10,7 +10,7 @@ use crate::proof::{VerifyRefused, verify};
 use mm_check::Checker;
 use mm_cites::{Citations, Lists};
 use mm_rules::Rules;
-use mm_stmt::Database;
+use mm_database::Database;
 use std::alloc::{AllocError, Allocator};
 
 /// The answer if all proofs are valid. `lists` has what each theorem cites, in file order.

@@ -9,7 +9,7 @@ ghost use Rattle.mm_work.specs.Places.{IsNoted, HasPlace};
 use crate::worker::Findings;
 use mm_cites::Lists;
 use mm_spec::Fault;
-use mm_stmt::Database;
+use mm_database::Database;
 use std::alloc::{AllocError, Allocator};
 
 /// Where the citations of a theorem are: which worker has them, and at which place among the

@@ -8,7 +8,7 @@ ghost use Rattle.mm_work.specs.Judged.{IsCited, Faults};
 use mm_check::{CheckRefused, Checked, Checker};
 use mm_proof::{ProofRefused, read_proof};
 use mm_spec::Fault;
-use mm_stmt::Database;
+use mm_database::Database;
 use std::alloc::Allocator;
 
 /// Why a proof wasn't found valid.

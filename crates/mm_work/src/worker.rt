@@ -17,7 +17,7 @@ use mm_check::Checker;
 use mm_cites::Lists;
 use mm_rules::Rules;
 use mm_spec::Fault;
-use mm_stmt::Database;
+use mm_database::Database;
 use std::alloc::{AllocError, Allocator};
 
 /// The fault of a theorem's proof, and the theorem's index.

@@ -2,8 +2,8 @@ use Rattle.std.proofs.Common.{ℕ, ◌≤◌, length, get_or, sym, subst, List, 
 use Rattle.mm_spec.specs.Frame.{is_essential}
 use Rattle.mm_frame.specs.Latest.{IsWalked}
 use Rattle.mm_frame.proofs.LatestLaw.{walked_start, walked_next, walked_end, height_less}
-use Rattle.mm_frame.proofs.LatestLaw.{essential_local}
 use Rattle.mm_frame.proofs.active.active_essentials.Goals as goal
+use Rattle.mm_spec.proofs.MemberLaw.{essential_local}
 
 pub loop-last-init : goal.loop-last-init
 loop-last-init g c =

@@ -1,8 +1,8 @@
 use Rattle.std.proofs.Common.{◌≡◌, ℕ, ◌&&◌, ◌||◌, take}
 use Rattle.mm_spec.specs.Derivation.{is_member}
 use Rattle.mm_outline.specs.Blocks.{lists}
-use Rattle.mm_frame.specs.DisjointIndex.{is_live}
-use Rattle.mm_frame.specs.Pairs.{has_pair}
+use Rattle.mm_database.specs.DisjointIndex.{is_live}
+use Rattle.mm_database.specs.Pairs.{has_pair}
 use Rattle.mm_frame.proofs.disjoint.add_all_active.Given as goal
 
 abbrev pub invariant-loop-symbol : goal.invariant-loop-symbol

@@ -1,6 +1,6 @@
 use Rattle.std.proofs.Common.{◌≡◌, ℕ, ◌&&◌, ◌||◌, take, nat_eq, nat_lt}
 use Rattle.std.specs.List.{list_any}
-use Rattle.mm_frame.specs.Pairs.{has_pair}
+use Rattle.mm_database.specs.Pairs.{has_pair}
 use Rattle.mm_frame.proofs.disjoint.add_together.Given as goal
 
 abbrev pub invariant-loop-place : goal.invariant-loop-place

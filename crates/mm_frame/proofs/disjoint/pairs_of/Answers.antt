@@ -2,8 +2,8 @@ use Rattle.std.proofs.Common.{◌∙◌, ℕ, ◌≤◌, ◌&&◌, ◌||◌, Lis
 use Rattle.std.specs.List.{list_any}
 use Rattle.mm_spec.specs.Derivation.{pair, is_member}
 use Rattle.mm_outline.specs.Blocks.{lists}
-use Rattle.mm_frame.specs.DisjointIndex.{is_live}
-use Rattle.mm_frame.specs.Pairs.{has_pair}
+use Rattle.mm_database.specs.DisjointIndex.{is_live}
+use Rattle.mm_database.specs.Pairs.{has_pair}
 use Rattle.mm_outline.proofs.ResultsLaw.{ok_then}
 use Rattle.mm_frame.proofs.DisjointLaw.{pairs_are}
 use Rattle.mm_frame.proofs.disjoint.pairs_of.Goals as goal

@@ -1,6 +1,6 @@
 use Rattle.std.proofs.Common.{◌≡◌, ℕ, ◌&&◌, ◌||◌, take, nat_eq}
 use Rattle.mm_spec.specs.Derivation.{is_member}
-use Rattle.mm_frame.specs.Pairs.{has_pair}
+use Rattle.mm_database.specs.Pairs.{has_pair}
 use Rattle.mm_frame.proofs.disjoint_index.add_symbols.Given as goal
 
 abbrev pub invariant-loop-symbol : goal.invariant-loop-symbol

@@ -1,8 +1,8 @@
 use Rattle.std.proofs.Common.{◌≡◌, ◌&&◌, ◌||◌, nat_lt, nat_eq, sym, ap, ◌∙◌, length, arith}
 use Rattle.mm_spec.specs.Derivation.{is_member}
-use Rattle.mm_frame.specs.Pairs.{has_pair}
-use Rattle.mm_frame.specs.DisjointIndex.{has_symbol}
-use Rattle.mm_frame.proofs.DisjointIndexLaw.{with_disjoint, without_disjoint, all_symbols}
+use Rattle.mm_database.specs.Pairs.{has_pair}
+use Rattle.mm_database.specs.DisjointIndex.{has_symbol}
+use Rattle.mm_frame.proofs.GatheredLaw.{with_disjoint, without_disjoint, all_symbols}
 use Rattle.mm_frame.proofs.disjoint_index.pairs_by_symbol.Goals as goal
 use Rattle.mm_frame.proofs.disjoint_index.pairs_by_symbol.Goals.{then-is_disjoint+in_ok-add_symbols}
 use Rattle.mm_frame.proofs.disjoint_index.pairs_by_symbol.Goals.{else-is_disjoint}

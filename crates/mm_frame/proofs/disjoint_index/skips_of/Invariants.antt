@@ -1,6 +1,6 @@
 use Rattle.std.proofs.Common.{◌≡◌, ℕ, ◌<◌, ◌≤◌, length, get_or}
 use Rattle.mm_outline.specs.Blocks.{lists}
-use Rattle.mm_frame.specs.DisjointIndex.{Covers}
+use Rattle.mm_database.specs.DisjointIndex.{Covers}
 use Rattle.mm_frame.proofs.disjoint_index.skips_of.Given as goal
 
 abbrev pub invariant-loop-at : goal.invariant-loop-at

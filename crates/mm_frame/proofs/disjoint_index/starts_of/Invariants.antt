@@ -1,5 +1,5 @@
 use Rattle.std.proofs.Common.{◌+◌, ◌-◌, length, get_or}
-use Rattle.mm_frame.proofs.StartsLaw.{StartsTo}
+use Rattle.mm_database.proofs.StartsLaw.{StartsTo}
 use Rattle.mm_frame.proofs.disjoint_index.starts_of.Given as goal
 
 abbrev pub invariant-loop-at : goal.invariant-loop-at

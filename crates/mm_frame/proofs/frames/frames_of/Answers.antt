@@ -1,6 +1,6 @@
 use Rattle.std.proofs.Common.{◌≡◌, length, map, subst, arith}
 use Rattle.mm_spec.specs.Derivation.{pair}
-use Rattle.mm_frame.specs.Frames.{AreFramesUpTo}
+use Rattle.mm_database.specs.Frames.{AreFramesUpTo}
 use Rattle.mm_frame.proofs.frames.frames_of.Goals as goal
 
 pub returns : goal.returns

@@ -1,7 +1,7 @@
 use Rattle.std.proofs.Common.{length, map}
 use Rattle.mm_spec.specs.Derivation.{pair}
 use Rattle.mm_spec.specs.Frame.{symbol_names}
-use Rattle.mm_frame.specs.Frames.{AreFramesUpTo}
+use Rattle.mm_database.specs.Frames.{AreFramesUpTo}
 use Rattle.mm_frame.specs.Hypotheses.{AreTyped, IsFresh}
 use Rattle.mm_frame.proofs.frames.frames_of.Given as goal
 

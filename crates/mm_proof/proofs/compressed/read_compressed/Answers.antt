@@ -2,7 +2,7 @@ use Rattle.std.proofs.Common.{◌∙◌, ◌+◌, ◌++◌, ap, ap₂, take, dro
 use Rattle.std.proofs.lemmas.List.{take_rest}
 use Rattle.mm_spec.specs.CompressedProof.{bracketed}
 use Rattle.mm_spec.specs.NormalProof.{usable}
-use Rattle.mm_stmt.specs.Parts.{as_tokens}
+use Rattle.mm_outline.specs.Parts.{as_tokens}
 use Rattle.mm_proof.proofs.BracketsLaw.{order_drop, read_steps}
 use Rattle.mm_proof.proofs.compressed.read_compressed.Goals as goal
 

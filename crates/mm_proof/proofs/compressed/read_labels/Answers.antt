@@ -3,7 +3,7 @@ use Rattle.std.proofs.Common.{slice_range, false, []}
 use Rattle.mm_spec.specs.declared.Word.{Word}
 use Rattle.mm_spec.specs.CompressedProof.{bracketed, compressed_faults}
 use Rattle.mm_spec.specs.NormalProof.{usable}
-use Rattle.mm_stmt.specs.Parts.{as_tokens, token_of}
+use Rattle.mm_outline.specs.Parts.{as_tokens, token_of}
 use Rattle.mm_proof.proofs.BracketsLaw.{after, label_first, brackets_first, tokens_more}
 use Rattle.mm_proof.proofs.BracketsLaw.{tokens_end}
 use Rattle.mm_proof.proofs.compressed.read_labels.Goals as goal

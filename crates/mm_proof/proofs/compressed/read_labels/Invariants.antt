@@ -1,7 +1,7 @@
 use Rattle.std.proofs.Common.{◌≡◌, ◌+◌, ◌++◌, [], length, take, drop, flat_map}
 use Rattle.mm_spec.specs.NormalProof.{usable, proof_label_faults}
 use Rattle.mm_spec.specs.CompressedProof.{bracketed}
-use Rattle.mm_stmt.specs.Parts.{as_tokens}
+use Rattle.mm_outline.specs.Parts.{as_tokens}
 use Rattle.mm_proof.proofs.BracketsLaw.{after}
 use Rattle.mm_proof.proofs.compressed.read_labels.Given as goal
 

@@ -1,7 +1,7 @@
 use Rattle.std.proofs.Common.{◌≡◌, ◌∙◌, ap, ap₂, sym, subst, bytes_eq, codes, slice_range, true}
 use Rattle.mm_spec.specs.CompressedProof.{bracketed, compressed_faults}
 use Rattle.mm_spec.specs.Citation.{reading_faults_at}
-use Rattle.mm_stmt.specs.Parts.{as_tokens, token_of}
+use Rattle.mm_outline.specs.Parts.{as_tokens, token_of}
 use Rattle.mm_proof.specs.Letters.{InOrder}
 use Rattle.mm_proof.specs.Refused.{Refuses}
 use Rattle.mm_proof.proofs.RisingLaw.{proof_rising, proof_in_order}

@@ -4,7 +4,7 @@ use Rattle.mm_spec.specs.Text.{fault}
 use Rattle.mm_spec.specs.NormalProof.{usable}
 use Rattle.mm_spec.specs.declared.Word.{Word}
 use Rattle.mm_spec.specs.declared.Code.TheVariants.{IncompleteProof, UnusableLabel}
-use Rattle.mm_stmt.specs.Parts.{token_of}
+use Rattle.mm_outline.specs.Parts.{token_of}
 use Rattle.mm_proof.proofs.LeastLaw.{faulty_word, question_fault, label_fault}
 use Rattle.mm_proof.proofs.reader.read_words.Goals as goal
 

@@ -1,6 +1,6 @@
 use Rattle.std.proofs.Common.{◌≡◌, [], take, flat_map}
 use Rattle.mm_spec.specs.NormalProof.{normal_steps}
-use Rattle.mm_stmt.specs.Parts.{as_tokens}
+use Rattle.mm_outline.specs.Parts.{as_tokens}
 use Rattle.mm_steps.specs.Read.{read}
 use Rattle.mm_proof.specs.Refused.{word_faults}
 use Rattle.mm_proof.proofs.reader.read_words.Given as goal

@@ -1,8 +1,8 @@
 use Rattle.std.proofs.Common.{◌∙◌, ap, Some, bytes_eq, if◌then◌else◌}
-use Rattle.mm_scope.specs.Names.{find}
+use Rattle.mm_database.specs.Names.{find}
 use Rattle.mm_scope.proofs.JudgeLaw.{seen_more}
-use Rattle.mm_scope.proofs.NumberedLaw.{on_then}
 use Rattle.mm_scope.proofs.judge.is_repeated.Goals as goal
+use Rattle.mm_database.proofs.NamesLaw.{on_then}
 
 pub returns-else-is_short-clause-seen : goal.returns-else-is_short-clause-seen
 returns-else-is_short-clause-seen g c =

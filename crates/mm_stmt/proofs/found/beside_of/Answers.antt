@@ -1,6 +1,6 @@
 use Rattle.std.proofs.Common.{◌≡◌, ◌∙◌, sym, ap}
 use Rattle.mm_outline.specs.Statements.{statements}
-use Rattle.mm_scope.specs.Names.{names_of}
+use Rattle.mm_database.specs.Names.{names_of}
 use Rattle.mm_scope.proofs.NumberedLaw.{formulas_numbered}
 use Rattle.mm_stmt.proofs.found.beside_of.Goals as goal
 

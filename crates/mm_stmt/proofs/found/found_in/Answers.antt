@@ -1,8 +1,8 @@
 use Rattle.std.proofs.Common.{sym, ap, arith, length}
 use Rattle.mm_outline.specs.Statements.{statements}
-use Rattle.mm_scope.specs.Names.{names_of}
+use Rattle.mm_database.specs.Names.{names_of}
 use Rattle.mm_stmt.proofs.SoundLaw.{are_symbols}
-use Rattle.mm_stmt.proofs.HeldLaw.{symbols_held, frames_held, members_held}
+use Rattle.mm_database.proofs.HeldLaw.{symbols_held, frames_held, members_held}
 use Rattle.mm_stmt.proofs.found.found_in.Goals as goal
 
 pub beside_of-requires-clause-symbols : goal.beside_of-requires-clause-symbols

@@ -5,8 +5,8 @@ use Rattle.std.proofs.Math.Seq.{take-length}
 use Rattle.mm_outline.specs.Parts.{outline}
 use Rattle.mm_outline.specs.declared.parts.Kind.TheVariants.{Constants}
 use Rattle.mm_outline.specs.declared.parts.Outline.{Outline}
-use Rattle.mm_stmt.specs.Kept.{AreKept}
-use Rattle.mm_stmt.proofs.KeptLaw.{kept_none, kept_more}
+use Rattle.mm_database.specs.Kept.{AreKept}
+use Rattle.mm_database.proofs.KeptLaw.{kept_none, kept_more}
 use Rattle.mm_stmt.proofs.kept.keep_all.Goals as goal
 
 pub loop-outline-init : goal.loop-outline-init

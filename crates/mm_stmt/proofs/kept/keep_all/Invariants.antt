@@ -1,5 +1,5 @@
 use Rattle.std.proofs.Common.{◌++◌, ◌∷◌, [], length, take}
-use Rattle.mm_stmt.specs.Kept.{AreKept}
+use Rattle.mm_database.specs.Kept.{AreKept}
 use Rattle.mm_stmt.proofs.kept.keep_all.Given as goal
 
 abbrev pub invariant-loop-outline : goal.invariant-loop-outline

@@ -1,7 +1,7 @@
 use Rattle.std.proofs.Common.{◌∙◌, ℕ, Bool, sym, Some, None, false, slice_get}
 use Rattle.mm_outline.specs.declared.parts.Kind.TheVariants.{Constants}
-use Rattle.mm_stmt.specs.Kinds.{is_axiom_kind}
-use Rattle.mm_stmt.proofs.KindsLaw.{filter_push, filter_skip, kind_at}
+use Rattle.mm_database.specs.Kinds.{is_axiom_kind}
+use Rattle.mm_database.proofs.KindsLaw.{filter_push, filter_skip, kind_at}
 use Rattle.mm_stmt.proofs.kinds.axioms_of.Goals as goal
 use Rattle.mm_stmt.proofs.kinds.axioms_of.Goals.{then-is_axiom+in_ok-push, else-is_axiom}
 

@@ -1,7 +1,7 @@
 use Rattle.std.proofs.Common.{◌∙◌, ◌++◌, ◌∷◌, [], sym, ap₂}
 use Rattle.mm_outline.specs.Parts.{outline}
 use Rattle.mm_outline.specs.declared.parts.Kind.TheVariants.{Constants}
-use Rattle.mm_stmt.proofs.KindsLaw.{kinds_more}
+use Rattle.mm_database.proofs.KindsLaw.{kinds_more}
 use Rattle.mm_stmt.proofs.kinds.kinds_of.Goals as goal
 
 pub loop-outline-preserved : goal.loop-outline-preserved

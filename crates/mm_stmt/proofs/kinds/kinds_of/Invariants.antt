@@ -1,5 +1,5 @@
 use Rattle.std.proofs.Common.{◌≡◌, map, take}
-use Rattle.mm_stmt.specs.Database.{kind_of, held}
+use Rattle.mm_database.specs.Database.{kind_of, held}
 use Rattle.mm_stmt.proofs.kinds.kinds_of.Given as goal
 
 abbrev pub invariant-loop-outline : goal.invariant-loop-outline

@@ -1,6 +1,6 @@
 use Rattle.std.proofs.Common.{◌≡◌, Some, None, false, slice_get}
 use Rattle.std.specs.List.{range_with_len, filter}
-use Rattle.mm_stmt.specs.Kinds.{is_theorem_kind}
+use Rattle.mm_database.specs.Kinds.{is_theorem_kind}
 use Rattle.mm_stmt.proofs.kinds.theorems_of.Given as goal
 
 abbrev pub invariant-loop-k : goal.invariant-loop-k

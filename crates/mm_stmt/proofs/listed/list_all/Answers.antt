@@ -3,9 +3,9 @@ use Rattle.mm_spec.specs.Output.{theorems, is_theorem_at, label_at}
 use Rattle.mm_spec.specs.Opened.{counted}
 use Rattle.mm_spec.proofs.OpenedLaw.{counted_label, theorem_still}
 use Rattle.mm_outline.specs.Statements.{statements}
-use Rattle.mm_stmt.specs.Spaced.{AreSpaced}
-use Rattle.mm_stmt.proofs.KindsLaw.{theorems_by_kind, axioms_by_kind, kinds_few}
-use Rattle.mm_stmt.proofs.SpacedLaw.{theorems_are}
+use Rattle.mm_database.specs.Spaced.{AreSpaced}
+use Rattle.mm_database.proofs.KindsLaw.{theorems_by_kind, axioms_by_kind, kinds_few}
+use Rattle.mm_database.proofs.SpacedLaw.{theorems_are}
 use Rattle.mm_stmt.proofs.listed.list_all.Goals as goal
 
 pub theorems_of-requires : goal.theorems_of-requires

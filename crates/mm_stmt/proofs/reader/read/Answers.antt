@@ -6,12 +6,12 @@ use Rattle.mm_outline.specs.Parts.{AreWithin, statement_of}
 use Rattle.mm_outline.specs.Statements.{statements}
 use Rattle.mm_outline.specs.Tokens.{AreTokens}
 use Rattle.mm_outline.proofs.TokensLaw.{tokens_stand, tokens_tell, tokens_small, short_text}
-use Rattle.mm_scope.specs.Names.{names_of}
+use Rattle.mm_database.specs.Names.{names_of}
 use Rattle.mm_scope.proofs.NumberedLaw.{formulas_numbered}
 use Rattle.mm_frame.specs.Tables.{IsSound}
 use Rattle.mm_stmt.specs.Found.{IsFound}
 use Rattle.mm_stmt.proofs.AssembleLaw.{is_read, names_few, sound}
-use Rattle.mm_stmt.proofs.HeldLaw.{labels_held, below_held, numbered_held}
+use Rattle.mm_database.proofs.HeldLaw.{labels_held, below_held, numbered_held}
 use Rattle.mm_stmt.proofs.reader.read.Goals as goal
 
 pub outline-requires-clause-words : goal.outline-requires-clause-words

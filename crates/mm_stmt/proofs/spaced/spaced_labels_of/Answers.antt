@@ -3,7 +3,7 @@ use Rattle.std.proofs.Common.{arith, append_assoc}
 use Rattle.std.proofs.lemmas.List.{take_more, map-append}
 use Rattle.mm_spec.specs.Output.{label_at}
 use Rattle.mm_outline.specs.Statements.{statements}
-use Rattle.mm_stmt.proofs.SpacedLaw.{spaced_more}
+use Rattle.mm_database.proofs.SpacedLaw.{spaced_more}
 use Rattle.mm_stmt.proofs.spaced.spaced_labels_of.Goals as goal
 
 pub label_of-requires-clause-words : goal.label_of-requires-clause-words

@@ -1,7 +1,7 @@
 use Rattle.std.proofs.Common.{◌≡◌, ◌∙◌, ◌+◌, [], ap, sym, subst, length, drop, is_some, true, false}
 use Rattle.mm_spec.specs.CompressedProof.{letters_of, letter_faults, groups, group_faults}
 use Rattle.mm_spec.specs.CompressedProof.{group_steps}
-use Rattle.mm_stmt.specs.Parts.{as_tokens}
+use Rattle.mm_outline.specs.Parts.{as_tokens}
 use Rattle.mm_proof.specs.Letters.{Continues, with_number}
 use Rattle.mm_spec.specs.Text.{fault}
 use Rattle.mm_spec.specs.declared.Code.TheVariants.{OpenNumber}

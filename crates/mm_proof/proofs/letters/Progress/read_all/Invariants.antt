@@ -1,6 +1,6 @@
 use Rattle.std.proofs.Common.{◌≡◌, List, drop}
 use Rattle.mm_spec.specs.CompressedProof.{Letter, letters_of}
-use Rattle.mm_stmt.specs.Parts.{as_tokens}
+use Rattle.mm_outline.specs.Parts.{as_tokens}
 use Rattle.mm_proof.specs.Letters.{Continues, with_number}
 use Rattle.mm_proof.proofs.LettersLaw.{StandsBefore}
 use Rattle.mm_proof.proofs.letters.Progress.read_all.Given as goal

@@ -6,7 +6,7 @@ use Rattle.mm_outline.specs.Blocks.{lists, never}
 use Rattle.mm_outline.specs.Parts.{statement_of}
 use Rattle.mm_outline.specs.Statements.{statements}
 use Rattle.mm_scope.specs.Formulas.{AreFormulas}
-use Rattle.mm_scope.specs.Names.{find, names_of}
+use Rattle.mm_database.specs.Names.{find, names_of}
 use Rattle.mm_scope.proofs.KnowsLaw.{knows_is}
 use Rattle.mm_scope.proofs.NumberedLaw.{declared, names_shorter, names_next, taken_numbers}
 use Rattle.mm_scope.proofs.NumberedLaw.{formulas_more}

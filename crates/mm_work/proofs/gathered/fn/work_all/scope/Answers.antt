@@ -1,5 +1,5 @@
 use Rattle.std.proofs.Common.{◌≡◌, ◌<◌, ◌∙◌, Bool, get_or, ap, subst, arith, vec_len}
-use Rattle.mm_stmt.specs.Database.{Contents}
+use Rattle.mm_database.specs.Database.{Contents}
 use Rattle.mm_board.specs.Models.{BoardValue}
 use Rattle.mm_work.specs.Workers.{IsDone}
 use Rattle.std.proofs.lemmas.List.Elements.{All-push}

@@ -1,0 +1,493 @@
+-- How the `$d` statements that have a symbol are found.
+use Rattle.std.proofs.Common.{◌≡◌, ◌≢◌, ℕ, zero, suc, ◌+◌, ◌-◌, ◌<◌, ◌≤◌, Bool, true, false, ◌&&◌}
+use Rattle.std.proofs.Common.{◌||◌, List, [], ◌∷◌, ◌++◌, length, get_or, nat_eq, nat_lt, nat_le}
+use Rattle.std.proofs.Common.{refl, sym, ap, ap₂, ◌∙◌, arith, true≢false, ◌⊎◌, inl, inr}
+use Rattle.std.proofs.lemmas.Bool.{cases_lt, cases_eq, cases_order, lt-ltb, ltb-true, le-ltb}
+use Rattle.std.proofs.lemmas.Bool.{le-leb, leb-true, eq-eqb, eqb-true, ne_eqb}
+use Rattle.std.proofs.lemmas.List.Folds.{list_any-append}
+use Rattle.std.specs.List.{list_any}
+use Rattle.std.specs.List.Sorted.{IsPartitionedBy}
+use Rattle.std.proofs.Math.Bool.{and-false, and-true, or-false, or-true}
+use Rattle.std.proofs.lemmas.Bool.{and_parts, false_from_ne_true}
+use Rattle.mm_spec.specs.Statement.{Statement}
+use Rattle.mm_spec.specs.Scope.{statement_at}
+use Rattle.mm_spec.specs.Derivation.{is_member}
+use Rattle.mm_spec.specs.Frame.{is_disjoint_statement, formula_at}
+use Rattle.mm_spec.proofs.BoolLaw.{same_tests}
+use Rattle.mm_outline.specs.Blocks.{Lists, IsBlocks, end_of}
+use Rattle.mm_database.specs.Pairs.{has_pair, IsBefore, is_before, AreRising}
+use Rattle.mm_database.specs.DisjointIndex.{has_symbol, is_live, AreKnown, Covers}
+use Rattle.mm_outline.proofs.StatementsLaw.{is_there}
+
+-- ---- pairs by their places
+
+pub has_at : (ps : List (ℕ × ℕ)) (x y : ℕ) → has_pair ps x y ≡ true
+    → (p : ℕ) × (p < length ps) × ((get_or ps p (0, 0)).0 ≡ x) × ((get_or ps p (0, 0)).1 ≡ y)
+has_at [] x y h = absurd (true≢false (sym h))
+has_at (q ∷ qs) x y h = by (nat_eq x q.0 && nat_eq y q.1) refl h (λ k. has_at qs x y k)
+  where
+    by : (b : Bool) → (nat_eq x q.0 && nat_eq y q.1) ≡ b → (b || has_pair qs x y) ≡ true
+        → (has_pair qs x y ≡ true
+        → (p : ℕ) × (p < length qs) × ((get_or qs p (0, 0)).0 ≡ x)
+        × ((get_or qs p (0, 0)).1 ≡ y))
+        → (p : ℕ) × (p < length (q ∷ qs)) × ((get_or (q ∷ qs) p (0, 0)).0 ≡ x)
+        × ((get_or (q ∷ qs) p (0, 0)).1 ≡ y)
+    by true e h f = (
+      0,
+      omega arith,
+      sym (eqb-true x q.0 (and_parts (nat_eq x q.0) (nat_eq y q.1) e).0),
+      sym
+          (eqb-true y q.1 (and_parts (nat_eq x q.0) (nat_eq y q.1) e).1),
+    )
+    by false e h f = let r = f h in let l = r.1 in (suc r.0, omega (arith, l), r.2, r.3)
+
+pub at_has : (ps : List (ℕ × ℕ)) (p : ℕ) (d : ℕ × ℕ) → p < length ps
+    → has_pair ps (get_or ps p d).0 (get_or ps p d).1 ≡ true
+at_has [] p d h = absurd (omega arith)
+at_has (q ∷ qs) zero d h =
+    ap (λ b. b || has_pair qs q.0 q.1)
+    (ap₂ (λ a b. a && b) (eq-eqb q.0 q.0 refl) (eq-eqb q.1 q.1 refl))
+at_has (q ∷ qs) (suc p) d h =
+    ap (λ b. (nat_eq (get_or qs p d).0 q.0 && nat_eq (get_or qs p d).1 q.1) || b)
+    (at_has qs p d (omega arith))
+    ∙ or-true (nat_eq (get_or qs p d).0 q.0 && nat_eq (get_or qs p d).1 q.1)
+
+pub rising_at : (ps : List (ℕ × ℕ)) → AreRising ps → (i j : ℕ) (d : ℕ × ℕ) → i < j → j < length ps
+    → IsBefore (get_or ps i d).0 (get_or ps i d).1 (get_or ps j d).0 (get_or ps j d).1
+rising_at [] h i j d l m = absurd (omega arith)
+rising_at (p ∷ ps) h zero zero d l m = absurd (omega arith)
+rising_at (p ∷ ps) h zero (suc j) d l m =
+    h.0 (get_or ps j d).0 (get_or ps j d).1 (at_has ps j d (omega arith))
+rising_at (p ∷ ps) h (suc i) zero d l m = absurd (omega arith)
+rising_at (p ∷ ps) h (suc i) (suc j) d l m = rising_at ps h.1 i j d (omega arith) (omega arith)
+
+-- ---- before
+
+pub before_is : (p : ℕ × ℕ) (x y : ℕ) → is_before p x y ≡ true → IsBefore p.0 p.1 x y
+before_is p x y h = by (nat_lt p.0 x) refl h
+  where
+    by : (b : Bool) → nat_lt p.0 x ≡ b → (b || (nat_eq p.0 x && nat_lt p.1 y)) ≡ true
+        → IsBefore p.0 p.1 x y
+    by true e h = inl (ltb-true p.0 x e)
+    by false e h =
+        inr (
+          eqb-true p.0 x (and_parts (nat_eq p.0 x) (nat_lt p.1 y) h).0,
+          ltb-true p.1 y
+              (and_parts (nat_eq p.0 x) (nat_lt p.1 y) h).1,
+        )
+
+pub is_before_if : (p : ℕ × ℕ) (x y : ℕ) → IsBefore p.0 p.1 x y → is_before p x y ≡ true
+is_before_if p x y (inl l) = ap (λ b. b || (nat_eq p.0 x && nat_lt p.1 y)) (lt-ltb p.0 x l)
+is_before_if p x y (inr (e, l)) =
+    ap (λ b. nat_lt p.0 x || b) (ap₂ (λ a b. a && b) (eq-eqb p.0 x e) (lt-ltb p.1 y l))
+    ∙ or-true (nat_lt p.0 x)
+
+before_through : (a b c d e f : ℕ) → IsBefore a b c d → IsBefore c d e f → IsBefore a b e f
+before_through a b c d e f (inl l) (inl m) = inl (omega arith)
+before_through a b c d e f (inl l) (inr (s, m)) = inl (omega arith)
+before_through a b c d e f (inr (s, l)) (inl m) = inl (omega arith)
+before_through a b c d e f (inr (s, l)) (inr (t, m)) = inr (omega arith, omega arith)
+
+pub partitioned : (ps : List (ℕ × ℕ)) → AreRising ps → (x y : ℕ)
+    → IsPartitionedBy (λ p. is_before p x y) ps
+partitioned ps h x y i j d l m e = by (cases_eq i j)
+  where
+    by : (i ≡ j) ⊎ (i ≢ j) → is_before (get_or ps i d) x y ≡ true
+    by (inl s) = ap (λ k. is_before (get_or ps k d) x y) s ∙ e
+    by (inr n) =
+        is_before_if (get_or ps i d) x y
+        (before_through (get_or ps i d).0 (get_or ps i d).1 (get_or ps j d).0 (get_or ps j d).1 x y
+        (rising_at ps h i j d (omega arith) m) (before_is (get_or ps j d) x y e))
+
+-- ---- the way back
+
+pub not_open : (at e f : ℕ) → nat_le at e ≡ false → f ≤ e → nat_le at f ≡ false
+not_open at e f h l = false_from_ne_true (nat_le at f) (λ t. true≢false (sym (open_too t) ∙ h))
+  where
+    open_too : nat_le at f ≡ true → nat_le at e ≡ true
+    open_too t = let m = leb-true at f t in le-leb at e (omega (arith, m, l))
+
+pub covers_self : (b : Lists) (ps : List (ℕ × ℕ)) (q : ℕ) → Covers b ps q q
+covers_self b ps q p l m =
+    let s : p ≡ q = omega (arith, l, m) in
+    (ap (λ i. (get_or ps i (0, 0)).0) s, by (ap (λ i. end_of b (get_or ps i (0, 0)).1) s))
+  where
+    by : {a b : ℕ} → a ≡ b → a ≤ b
+    by e = omega (arith, e)
+
+-- where the pair before is covered, what it covers is too
+pub covers_more : (b : Lists) (ps : List (ℕ × ℕ)) (first middle q : ℕ) → 0 < first
+    → Covers b ps first q → Covers b ps middle (first - 1)
+    → ((get_or ps (first - 1) (0, 0)).0 ≡ (get_or ps q (0, 0)).0)
+    → end_of b (get_or ps (first - 1) (0, 0)).1 ≤ end_of b (get_or ps q (0, 0)).1
+    → Covers b ps middle q
+covers_more b ps first middle q some c d s l p m n = by (cases_lt p first)
+  where
+    by : (p < first) ⊎ (first ≤ p)
+        → ((get_or ps p (0, 0)).0 ≡ (get_or ps q (0, 0)).0)
+        × (end_of b (get_or ps p (0, 0)).1 ≤ end_of b (get_or ps q (0, 0)).1)
+    by (inl h) = let r = d p m (omega (arith, h)) in let e = r.1 in (r.0 ∙ s, omega (arith, e, l))
+    by (inr h) = c p h n
+
+-- ---- what stands before a place
+
+-- so many pairs stand before that of the symbol and the place
+pub record Parted (ps : List (ℕ × ℕ)) (x at start : ℕ) : Type 0 where
+  pub within : start ≤ length ps
+  pub before : (p : ℕ) → p < start → is_before (get_or ps p (0, 0)) x at ≡ true
+  pub after : (p : ℕ) → start ≤ p → p < length ps → is_before (get_or ps p (0, 0)) x at ≡ false
+
+-- the same by the values that the code has
+module _ (qs ps : List (ℕ × ℕ)) (y x : ℕ) (same : qs ≡ ps) (is : y ≡ x) where
+  pub parted_here : (at start : ℕ) → start ≤ length qs
+      → ((p : ℕ) → p < start → is_before (get_or qs p (0, 0)) y at ≡ true)
+      → ((p : ℕ) → start ≤ p → p < length qs → is_before (get_or qs p (0, 0)) y at ≡ false)
+      → Parted ps x at start
+  parted_here at start w b a = rw (← same, ← is) (record { within = w; before = b; after = a })
+
+  pub symbol_here : (p : ℕ) → (get_or qs p (0, 0)).0 ≡ y → (get_or ps p (0, 0)).0 ≡ x
+  symbol_here p e = rw (← same, ← is) e
+
+  pub no_symbol_here : (p : ℕ) → (get_or qs p (0, 0)).0 ≢ y → (get_or ps p (0, 0)).0 ≢ x
+  no_symbol_here p n = rw (← same, ← is) n
+
+-- ---- what is added of one symbol
+
+-- those from `left` on have been looked at
+pub record Added (b : Lists) (ps : List (ℕ × ℕ)) (x at start left : ℕ)
+    (old now : List (ℕ × ℕ)) : Type 0 where
+  pub inside : left ≤ start
+  pub kept : (j y : ℕ) → has_pair old j y ≡ true → has_pair now j y ≡ true
+  pub only : (j y : ℕ) → has_pair now j y ≡ true
+      → (has_pair old j y ≡ true) ⊎ ((y ≡ x) × (has_pair ps x j ≡ true) × (is_live b j at ≡ true))
+  pub all : (p : ℕ) → left ≤ p → p < start → (get_or ps p (0, 0)).0 ≡ x
+      → nat_le at (end_of b (get_or ps p (0, 0)).1) ≡ true
+      → has_pair now (get_or ps p (0, 0)).1 x ≡ true
+
+pub added_start : (b : Lists) (ps : List (ℕ × ℕ)) (x at start : ℕ) (old : List (ℕ × ℕ))
+    → Added b ps x at start start old old
+added_start b ps x at start old =
+    record {
+      inside = omega arith;
+      kept = λ j y e. e;
+      only = λ j y e. inl e;
+      all = λ p l m. absurd (omega (arith, l, m));
+    }
+
+module _ (b : Lists) (ps : List (ℕ × ℕ)) (rising : AreRising ps) (x at start : ℕ)
+    (parted : Parted ps x at start)
+  where
+    -- before the place, where the symbol is that
+    pub sooner : (p : ℕ) → p < start → (get_or ps p (0, 0)).0 ≡ x → (get_or ps p (0, 0)).1 < at
+    sooner p l e = by (before_is (get_or ps p (0, 0)) x at (parted.before p l))
+      where
+        by : IsBefore (get_or ps p (0, 0)).0 (get_or ps p (0, 0)).1 x at
+            → (get_or ps p (0, 0)).1 < at
+        by (inl m) = absurd (omega (arith, m, e))
+        by (inr (s, m)) = m
+
+    -- one that is open is added
+    pub added_open : (left next : ℕ) (old now : List (ℕ × ℕ)) → Added b ps x at start left old now
+        → 0 < left → (get_or ps (left - 1) (0, 0)).0 ≡ x
+        → nat_le at (end_of b (get_or ps (left - 1) (0, 0)).1) ≡ true
+        → next < left
+        → ((p : ℕ) → next ≤ p → p + 1 < left
+        → nat_le at (end_of b (get_or ps p (0, 0)).1) ≡ false)
+        → Added b ps x at start next old (now ++ ((get_or ps (left - 1) (0, 0)).1, x) ∷ [])
+    added_open left next old now a some s o less passed = record {
+      inside = let i = a.inside in omega (arith, i, less);
+      kept = λ j y e. longer j y (a.kept j y e);
+      only =
+          λ j y e. only j y (has_pair now j y) refl
+          (sym (list_any-append (λ p. nat_eq j p.0 && nat_eq y p.1) now ((m, x) ∷ [])) ∙ e);
+      all = λ p l h e f. all p l h e f (cases_order (p + 1) left);
+    }
+      where
+        m : ℕ
+        m = (get_or ps (left - 1) (0, 0)).1
+
+        here : left - 1 < start
+        here = let i = a.inside in omega (arith, i, some)
+
+        longer : (j y : ℕ) → has_pair now j y ≡ true → has_pair (now ++ (m, x) ∷ []) j y ≡ true
+        longer j y e =
+            list_any-append (λ p. nat_eq j p.0 && nat_eq y p.1) now ((m, x) ∷ [])
+            ∙ ap (λ c. c || has_pair ((m, x) ∷ []) j y) e
+
+        only : (j y : ℕ) (c : Bool) → has_pair now j y ≡ c
+            → (c || ((nat_eq j m && nat_eq y x) || false)) ≡ true
+            → (has_pair old j y ≡ true)
+            ⊎ ((y ≡ x) × (has_pair ps x j ≡ true) × (is_live b j at ≡ true))
+        only j y true e h = a.only j y e
+        only j y false e h =
+            let t = sym (or-false (nat_eq j m && nat_eq y x)) ∙ h in
+            let sj = eqb-true j m (and_parts (nat_eq j m) (nat_eq y x) t).0 in
+            let sy = eqb-true y x (and_parts (nat_eq j m) (nat_eq y x) t).1 in
+            inr (
+              sy,
+              ap₂ (λ u v. has_pair ps u v) (sym s) sj
+                  ∙ at_has ps (left - 1) (0, 0) (let w = parted.within in omega (arith, here, w)),
+              ap₂ (λ u v. u && v)
+                  (ap (λ j. nat_lt j at) sj ∙ lt-ltb m at (sooner (left - 1) here s))
+                  (ap (λ j. nat_le at (end_of b j)) sj ∙ o),
+            )
+
+        all : (p : ℕ) → next ≤ p → p < start → (get_or ps p (0, 0)).0 ≡ x
+            → nat_le at (end_of b (get_or ps p (0, 0)).1) ≡ true
+            → (p + 1 ≡ left) ⊎ ((p + 1 < left) ⊎ (left < p + 1))
+            → has_pair (now ++ (m, x) ∷ []) (get_or ps p (0, 0)).1 x ≡ true
+        all p l h e f (inl q) =
+            let sp : p ≡ left - 1 = omega (arith, q) in
+            list_any-append (λ r. nat_eq (get_or ps p (0, 0)).1 r.0 && nat_eq x r.1) now
+            ((m, x) ∷ [])
+            ∙ ap (λ c. has_pair now (get_or ps p (0, 0)).1 x || (c || false))
+            (ap₂ (λ u v. u && v)
+            (eq-eqb (get_or ps p (0, 0)).1 m (ap (λ i. (get_or ps i (0, 0)).1) sp))
+            (eq-eqb x x refl))
+            ∙ or-true (has_pair now (get_or ps p (0, 0)).1 x)
+        all p l h e f (inr (inl q)) = absurd (true≢false (sym f ∙ passed p l q))
+        all p l h e f (inr (inr q)) =
+            longer (get_or ps p (0, 0)).1 x (a.all p (omega (arith, q)) h e f)
+
+    -- one that is not is passed over
+    pub added_closed : (left next : ℕ) (old now : List (ℕ × ℕ)) → Added b ps x at start left old now
+        → 0 < left → nat_le at (end_of b (get_or ps (left - 1) (0, 0)).1) ≡ false
+        → next < left
+        → ((p : ℕ) → next ≤ p → p + 1 < left
+        → nat_le at (end_of b (get_or ps p (0, 0)).1) ≡ false)
+        → Added b ps x at start next old now
+    added_closed left next old now a some o less passed = record {
+      inside = let i = a.inside in omega (arith, i, less);
+      kept = a.kept;
+      only = a.only;
+      all = λ p l h e f. all p l h e f (cases_order (p + 1) left);
+    }
+      where
+        all : (p : ℕ) → next ≤ p → p < start → (get_or ps p (0, 0)).0 ≡ x
+            → nat_le at (end_of b (get_or ps p (0, 0)).1) ≡ true
+            → (p + 1 ≡ left) ⊎ ((p + 1 < left) ⊎ (left < p + 1))
+            → has_pair now (get_or ps p (0, 0)).1 x ≡ true
+        all p l h e f (inl q) =
+            let sp : p ≡ left - 1 = omega (arith, q) in
+            absurd (true≢false
+            (sym f ∙ ap (λ i. nat_le at (end_of b (get_or ps i (0, 0)).1)) sp ∙ o))
+        all p l h e f (inr (inl q)) = absurd (true≢false (sym f ∙ passed p l q))
+        all p l h e f (inr (inr q)) = a.all p (omega (arith, q)) h e f
+
+    -- none further down has the symbol
+    pub none_left : (left : ℕ) → left ≤ start → (0 < left → (get_or ps (left - 1) (0, 0)).0 ≢ x)
+        → (p : ℕ) → p < left → (get_or ps p (0, 0)).0 ≡ x → ⊥
+    none_left left i n p l e = by (cases_eq p (left - 1))
+      where
+        below : (q : ℕ) → q < start → (get_or ps q (0, 0)).0 ≤ x
+        below q h = low (before_is (get_or ps q (0, 0)) x at (parted.before q h))
+          where
+            low : IsBefore (get_or ps q (0, 0)).0 (get_or ps q (0, 0)).1 x at
+                → (get_or ps q (0, 0)).0 ≤ x
+            low (inl m) = omega (arith, m)
+            low (inr (s, m)) = omega (arith, s)
+
+        above : IsBefore (get_or ps p (0, 0)).0 (get_or ps p (0, 0)).1
+            (get_or ps (left - 1) (0, 0)).0
+            (get_or ps (left - 1) (0, 0)).1
+            → x ≤ (get_or ps (left - 1) (0, 0)).0
+        above (inl m) = omega (arith, m, e)
+        above (inr (s, m)) = omega (arith, s, e)
+
+        by : (p ≡ left - 1) ⊎ (p ≢ left - 1) → ⊥
+        by (inl s) = n (omega (arith, l)) (sym (ap (λ i. (get_or ps i (0, 0)).0) s) ∙ e)
+        by (inr t) =
+            let w = parted.within in
+            let u =
+            above (rising_at ps rising p (left - 1) (0, 0) (omega (arith, l, t))
+            (omega (arith, l, i, w))) in
+            let v = below (left - 1) (omega (arith, l, i)) in
+            n (omega (arith, l)) (omega (arith, u, v))
+
+    -- one that has the symbol and is active stands before the place
+    pub inside_if : (p : ℕ) → p < length ps → (get_or ps p (0, 0)).0 ≡ x
+        → (get_or ps p (0, 0)).1 < at
+        → p < start
+    inside_if p l e m = by (cases_lt p start)
+      where
+        by : (p < start) ⊎ (start ≤ p) → p < start
+        by (inl h) = h
+        by (inr h) =
+            absurd (true≢false
+            (sym (is_before_if (get_or ps p (0, 0)) x at (inr (e, m))) ∙ parted.after p h l))
+
+    pub added_end : (left : ℕ) (old now : List (ℕ × ℕ)) → Added b ps x at start left old now
+        → (0 < left → (get_or ps (left - 1) (0, 0)).0 ≢ x)
+        → (j y : ℕ)
+        → has_pair now j y
+        ≡ (has_pair old j y || (nat_eq y x && (has_pair ps x j && is_live b j at)))
+    added_end left old now a n j y =
+        same_tests (has_pair now j y)
+        (has_pair old j y || (nat_eq y x && (has_pair ps x j && is_live b j at)))
+        (λ e. forth (a.only j y e)) (λ e. back (has_pair old j y) refl e)
+      where
+        forth : (has_pair old j y ≡ true)
+            ⊎ ((y ≡ x) × (has_pair ps x j ≡ true) × (is_live b j at ≡ true))
+            → (has_pair old j y || (nat_eq y x && (has_pair ps x j && is_live b j at))) ≡ true
+        forth (inl e) = ap (λ c. c || (nat_eq y x && (has_pair ps x j && is_live b j at))) e
+        forth (inr (s, h, o)) =
+            ap (λ c. has_pair old j y || c)
+            (ap₂ (λ u v. u && v) (eq-eqb y x s) (ap₂ (λ u v. u && v) h o))
+            ∙ or-true (has_pair old j y)
+
+        found : has_pair ps x j ≡ true → is_live b j at ≡ true → has_pair now j x ≡ true
+        found h o =
+            let w = has_at ps x j h in
+            let p = w.0 in
+            let m = ltb-true j at (and_parts (nat_lt j at) (nat_le at (end_of b j)) o).0 in
+            let r = (and_parts (nat_lt j at) (nat_le at (end_of b j)) o).1 in
+            let l = inside_if p w.1 w.2 (let e = w.3 in omega (arith, m, e)) in
+            there p l w.2 w.3 r (cases_lt p left)
+          where
+            there : (p : ℕ) → p < start → (get_or ps p (0, 0)).0 ≡ x → (get_or ps p (0, 0)).1 ≡ j
+                → nat_le at (end_of b j) ≡ true → (p < left) ⊎ (left ≤ p) → has_pair now j x ≡ true
+            there p l e f r (inl q) = absurd (none_left left a.inside n p q e)
+            there p l e f r (inr q) =
+                ap (λ i. has_pair now i x) (sym f)
+                ∙ a.all p q l e (ap (λ i. nat_le at (end_of b i)) f ∙ r)
+
+        back : (c : Bool) → has_pair old j y ≡ c
+            → (c || (nat_eq y x && (has_pair ps x j && is_live b j at))) ≡ true
+            → has_pair now j y ≡ true
+        back true e h = a.kept j y e
+        back false e h =
+            let s = eqb-true y x (and_parts (nat_eq y x) (has_pair ps x j && is_live b j at) h).0 in
+            let r = (and_parts (nat_eq y x) (has_pair ps x j && is_live b j at) h).1 in
+            ap (has_pair now j) s
+            ∙ found (and_parts (has_pair ps x j) (is_live b j at) r).0
+            (and_parts (has_pair ps x j) (is_live b j at) r).1
+
+-- ---- whether two symbols have one together
+
+-- what both have stands before where the search is
+pub record Apart (b : Lists) (ps : List (ℕ × ℕ)) (x y at left right : ℕ) : Type 0 where
+  pub met : (p q : ℕ) → p < length ps → q < length ps → (get_or ps p (0, 0)).0 ≡ x
+      → (get_or ps q (0, 0)).0 ≡ y → (get_or ps p (0, 0)).1 ≡ (get_or ps q (0, 0)).1
+      → is_live b (get_or ps p (0, 0)).1 at ≡ true → (p < left) × (q < right)
+
+module _ (b : Lists) (ps : List (ℕ × ℕ)) (rising : AreRising ps) (x y at : ℕ) where
+  pub apart_start : (left right : ℕ) → left ≤ length ps → right ≤ length ps
+      → ((p : ℕ) → p < left → is_before (get_or ps p (0, 0)) x at ≡ true)
+      → ((p : ℕ) → left ≤ p → p < length ps → is_before (get_or ps p (0, 0)) x at ≡ false)
+      → ((p : ℕ) → p < right → is_before (get_or ps p (0, 0)) y at ≡ true)
+      → ((p : ℕ) → right ≤ p → p < length ps → is_before (get_or ps p (0, 0)) y at ≡ false)
+      → Apart b ps x y at left right
+  apart_start left right l r bl al br ar = record {
+    met = λ p q h i e f s o.
+        let m =
+        ltb-true (get_or ps p (0, 0)).1 at
+        (and_parts (nat_lt (get_or ps p (0, 0)).1 at)
+        (nat_le at (end_of b (get_or ps p (0, 0)).1)) o).0 in (
+          inside_if b ps rising x at left (record { within = l; before = bl; after = al }) p h e m,
+          inside_if b ps rising y at right (record { within = r; before = br; after = ar }) q
+              i f (omega (arith, m, s)),
+        );
+  }
+
+  -- the pair of the lower statement comes first
+  order_of : (q r : ℕ) → q ≤ r → r < length ps → (get_or ps q (0, 0)).0 ≡ (get_or ps r (0, 0)).0
+      → (get_or ps q (0, 0)).1 ≤ (get_or ps r (0, 0)).1
+  order_of q r l h e = by (cases_eq q r)
+    where
+      by : (q ≡ r) ⊎ (q ≢ r) → (get_or ps q (0, 0)).1 ≤ (get_or ps r (0, 0)).1
+      by (inl s) = let t = ap (λ i. (get_or ps i (0, 0)).1) s in omega (arith, t)
+      by (inr n) = less (rising_at ps rising q r (0, 0) (omega (arith, l, n)) h)
+        where
+          less : IsBefore (get_or ps q (0, 0)).0 (get_or ps q (0, 0)).1 (get_or ps r (0, 0)).0
+              (get_or ps r (0, 0)).1
+              → (get_or ps q (0, 0)).1 ≤ (get_or ps r (0, 0)).1
+          less (inl m) = absurd (omega (arith, m, e))
+          less (inr (s, m)) = omega (arith, m)
+
+  closed : (p : ℕ) → nat_le at (end_of b (get_or ps p (0, 0)).1) ≡ false
+      → is_live b (get_or ps p (0, 0)).1 at ≡ true → ⊥
+  closed p c o =
+      true≢false
+      (sym (and_parts (nat_lt (get_or ps p (0, 0)).1 at)
+      (nat_le at (end_of b (get_or ps p (0, 0)).1)) o).1
+      ∙ c)
+
+  -- the last of the one is of a later statement than the last of the other, or of the same, whose
+  -- block is closed
+  pub apart_left : (left right next : ℕ) → Apart b ps x y at left right → 0 < left
+      → left ≤ length ps → 0 < right → right ≤ length ps → (get_or ps (right - 1) (0, 0)).0 ≡ y
+      → ((get_or ps (right - 1) (0, 0)).1 < (get_or ps (left - 1) (0, 0)).1)
+      ⊎ (nat_le at (end_of b (get_or ps (left - 1) (0, 0)).1) ≡ false)
+      → ((p : ℕ) → next ≤ p → p + 1 < left → nat_le at (end_of b (get_or ps p (0, 0)).1) ≡ false)
+      → Apart b ps x y at next right
+  apart_left left right next a sl wl sr wr ey why passed =
+      record {
+        met = λ p q h i e f s o. let m = a.met p q h i e f s o in
+            (by p q m.0 m.1 f s o (cases_lt p next) why, m.1);
+      }
+    where
+      by : (p q : ℕ) → p < left → q < right → (get_or ps q (0, 0)).0 ≡ y
+          → (get_or ps p (0, 0)).1 ≡ (get_or ps q (0, 0)).1
+          → is_live b (get_or ps p (0, 0)).1 at ≡ true → (p < next) ⊎ (next ≤ p)
+          → ((get_or ps (right - 1) (0, 0)).1 < (get_or ps (left - 1) (0, 0)).1)
+          ⊎ (nat_le at (end_of b (get_or ps (left - 1) (0, 0)).1) ≡ false) → p < next
+      by p q l r f s o (inl m) w = m
+      by p q l r f s o (inr m) w = absurd (last (cases_lt (p + 1) left) w)
+        where
+          last : (p + 1 < left) ⊎ (left ≤ p + 1)
+              → ((get_or ps (right - 1) (0, 0)).1 < (get_or ps (left - 1) (0, 0)).1)
+              ⊎ (nat_le at (end_of b (get_or ps (left - 1) (0, 0)).1) ≡ false) → ⊥
+          last (inl n) w = closed p (passed p m n) o
+          last (inr n) (inr c) =
+              let t : p ≡ left - 1 = omega (arith, l, n) in
+              closed p (ap (λ i. nat_le at (end_of b (get_or ps i (0, 0)).1)) t ∙ c) o
+          last (inr n) (inl c) =
+              let t : p ≡ left - 1 = omega (arith, l, n) in
+              let u = ap (λ i. (get_or ps i (0, 0)).1) t in
+              let v =
+              order_of q (right - 1) (omega (arith, r)) (omega (arith, sr, wr)) (f ∙ sym ey) in
+              omega (arith, u, v, s, c)
+
+  pub apart_right : (left right next : ℕ) → Apart b ps x y at left right → 0 < left
+      → left ≤ length ps → 0 < right → right ≤ length ps → (get_or ps (left - 1) (0, 0)).0 ≡ x
+      → (get_or ps (left - 1) (0, 0)).1 < (get_or ps (right - 1) (0, 0)).1
+      → ((p : ℕ) → next ≤ p → p + 1 < right → nat_le at (end_of b (get_or ps p (0, 0)).1) ≡ false)
+      → Apart b ps x y at left next
+  apart_right left right next a sl wl sr wr ex why passed =
+      record {
+        met = λ p q h i e f s o. let m = a.met p q h i e f s o in
+            (m.0, by p q m.0 m.1 e s o (cases_lt q next));
+      }
+    where
+      by : (p q : ℕ) → p < left → q < right → (get_or ps p (0, 0)).0 ≡ x
+          → (get_or ps p (0, 0)).1 ≡ (get_or ps q (0, 0)).1
+          → is_live b (get_or ps p (0, 0)).1 at ≡ true → (q < next) ⊎ (next ≤ q) → q < next
+      by p q l r e s o (inl m) = m
+      by p q l r e s o (inr m) = absurd (last (cases_lt (q + 1) right))
+        where
+          last : (q + 1 < right) ⊎ (right ≤ q + 1) → ⊥
+          last (inl n) = closed q (passed q m n) (ap (λ j. is_live b j at) (sym s) ∙ o)
+          last (inr n) =
+              let t : q ≡ right - 1 = omega (arith, r, n) in
+              let u = ap (λ i. (get_or ps i (0, 0)).1) t in
+              let v =
+              order_of p (left - 1) (omega (arith, l)) (omega (arith, sl, wl)) (e ∙ sym ex) in
+              omega (arith, u, v, s, why)
+
+  -- one of the two has none left
+  pub apart_end : (left right : ℕ) → Apart b ps x y at left right
+      → ((p : ℕ) → p < left → (get_or ps p (0, 0)).0 ≡ x → ⊥)
+      ⊎ ((p : ℕ) → p < right → (get_or ps p (0, 0)).0 ≡ y → ⊥)
+      → (j : ℕ) → has_pair ps x j ≡ true → has_pair ps y j ≡ true → is_live b j at ≡ false
+  apart_end left right a none j hx hy = false_from_ne_true (is_live b j at) (λ o.
+      let w = has_at ps x j hx in
+      let v = has_at ps y j hy in
+      let m = a.met w.0 v.0 w.1 v.1 w.2 v.2 (w.3 ∙ sym v.3) (ap (λ i. is_live b i at) w.3 ∙ o) in
+      by w.0 v.0 m.0 m.1 w.2 v.2 none)
+    where
+      by : (p q : ℕ) → p < left → q < right → (get_or ps p (0, 0)).0 ≡ x
+          → (get_or ps q (0, 0)).0 ≡ y
+          → ((p : ℕ) → p < left → (get_or ps p (0, 0)).0 ≡ x → ⊥)
+          ⊎ ((p : ℕ) → p < right → (get_or ps p (0, 0)).0 ≡ y → ⊥) → ⊥
+      by p q l r e f (inl n) = n p l e
+      by p q l r e f (inr n) = n q r f

@@ -1,0 +1,230 @@
+-- What statements count as, and the numbers of the theorems and of the axioms by that.
+use Rattle.std.proofs.Common.{cond, ◌≡◌, ℕ, zero, suc, ◌+◌, ◌^◌, ◌<◌, Bool, true, false, ◌&&◌, ◌||◌}
+use Rattle.std.proofs.Common.{List, [], ◌∷◌, ◌++◌, length, map, take, get_or, slice_get, Option}
+use Rattle.std.proofs.Common.{Some, None, refl, sym, ap, ◌∙◌, arith, append-nil}
+use Rattle.std.specs.Option.{option_map}
+use Rattle.std.specs.List.{list_any, range_with_len, filter}
+use Rattle.std.proofs.lemmas.List.Elements.{filter-append}
+use Rattle.std.proofs.Math.Path.{fun_ext}
+use Rattle.std.proofs.lemmas.List.{length-map, map-append, take_more}
+use Rattle.std.proofs.lemmas.Option.{slice_get-get_or}
+use Rattle.mm_spec.specs.Statement.{Statement, constants, variables, disjoint, floating, essential}
+use Rattle.mm_spec.specs.Statement.{axiomatic, provable, opening, closing, proof_of}
+use Rattle.mm_spec.specs.Opened.{is_open_proof, is_open, as_axiom, counted}
+use Rattle.mm_spec.specs.Scope.{statement_at}
+use Rattle.mm_spec.specs.Citation.{is_theorem}
+use Rattle.mm_spec.specs.Output.{is_column, theorems, columns}
+use Rattle.mm_spec.specs.declared.Word.{Word}
+use Rattle.mm_spec.proofs.ActivityLaw.{range_more}
+use Rattle.mm_spec.proofs.OpenedLaw.{counted_length}
+use Rattle.mm_outline.specs.Parts.{between, label_before, place, made, statement_of}
+use Rattle.mm_outline.specs.Statements.{statements}
+use Rattle.mm_outline.specs.declared.parts.Kind.{Kind}
+use Rattle.mm_outline.specs.declared.parts.Kind.TheVariants as kind
+use Rattle.mm_outline.specs.declared.parts.Outline.{Outline}
+use Rattle.mm_database.specs.Database.{kind_of, held}
+use Rattle.mm_database.specs.Kinds.{counted_as, is_theorem_kind, is_axiom_kind, numbers_of}
+
+-- ---- the numbers that pass a test
+
+filter_more : (p : ℕ → Bool) (k : ℕ) (b : Bool) → p k ≡ b
+    → filter p (range_with_len 0 (k + 1)) ≡ filter p (range_with_len 0 k) ++ (cond b (k ∷ []) [])
+filter_more p k b e =
+    let s : k + 1 ≡ suc k = omega arith in
+    let z : 0 + k ≡ k = omega arith in
+    ap (λ n. filter p (range_with_len 0 n)) s ∙ ap (filter p) (range_more 0 k)
+    ∙ ap (λ i. filter p (range_with_len 0 k ++ i ∷ [])) z
+    ∙ filter-append p (range_with_len 0 k) (k ∷ [])
+    ∙ ap (λ c. filter p (range_with_len 0 k) ++ cond c (k ∷ []) []) e
+
+pub filter_push : (p : ℕ → Bool) (k : ℕ) (xs ys : List ℕ) → xs ≡ filter p (range_with_len 0 k)
+    → p k ≡ true → ys ≡ xs ++ k ∷ [] → ys ≡ filter p (range_with_len 0 (k + 1))
+filter_push p k xs ys h e is = is ∙ ap (λ zs. zs ++ k ∷ []) h ∙ sym (filter_more p k true e)
+
+pub filter_skip : (p : ℕ → Bool) (k : ℕ) (xs : List ℕ) → xs ≡ filter p (range_with_len 0 k)
+    → p k ≡ false → xs ≡ filter p (range_with_len 0 (k + 1))
+filter_skip p k xs h e =
+    h ∙ sym (append-nil (filter p (range_with_len 0 k))) ∙ sym (filter_more p k false e)
+
+-- ---- the theorems and the axioms by the kinds
+
+got_kind : (db : List Statement) (j : ℕ)
+    → slice_get (map kind_of db) j ≡ option_map kind_of (slice_get db j)
+got_kind [] zero = refl
+got_kind [] (suc j) = refl
+got_kind (s ∷ db) zero = refl
+got_kind (s ∷ db) (suc j) = got_kind db j
+
+theorem_kind : (s : Statement) → is_theorem_kind (kind_of s) ≡ list_any is_theorem (s ∷ [])
+theorem_kind (constants k xs d) = refl
+theorem_kind (variables k xs d) = refl
+theorem_kind (disjoint k xs d) = refl
+theorem_kind (floating l k xs d) = refl
+theorem_kind (essential l k xs d) = refl
+theorem_kind (axiomatic l k xs d) = refl
+theorem_kind (provable l k xs e ps d) = refl
+theorem_kind (opening k) = refl
+theorem_kind (closing k) = refl
+
+axiom_kind : (s : Statement) → is_axiom_kind (kind_of s) ≡ list_any (is_column None) (s ∷ [])
+axiom_kind (constants k xs d) = refl
+axiom_kind (variables k xs d) = refl
+axiom_kind (disjoint k xs d) = refl
+axiom_kind (floating l k xs d) = refl
+axiom_kind (essential l k xs d) = refl
+axiom_kind (axiomatic l k xs d) = refl
+axiom_kind (provable l k xs e ps d) = refl
+axiom_kind (opening k) = refl
+axiom_kind (closing k) = refl
+
+numbers_are : (test : Kind → Bool) (p : Statement → Bool)
+    → ((s : Statement) → test (kind_of s) ≡ list_any p (s ∷ [])) → (db : List Statement)
+    → numbers_of test (map kind_of db)
+    ≡ filter (λ j. list_any p (statement_at db j)) (range_with_len 0 (length db))
+numbers_are test p h db =
+    let n = length-map db kind_of in
+    ap (λ n. filter (λ j. tested (slice_get (map kind_of db) j)) (range_with_len 0 n)) n
+    ∙ ap (λ q. filter q (range_with_len 0 (length db)))
+    (fun_ext (λ j. ap tested (got_kind db j) ∙ by (slice_get db j)))
+  where
+    tested : Option Kind → Bool
+    tested o = elim o [ None ↦ false | Some k ↦ test k ]
+
+    by : (o : Option Statement)
+        → tested (option_map kind_of o) ≡ list_any p (elim o [ None ↦ [] | Some s ↦ s ∷ [] ])
+    by None = refl
+    by (Some s) = h s
+
+pub theorems_by_kind : (db : List Statement) (kinds : List Kind) → kinds ≡ map kind_of db
+    → numbers_of is_theorem_kind kinds ≡ theorems db
+theorems_by_kind db kinds e =
+    ap (numbers_of is_theorem_kind) e ∙ numbers_are is_theorem_kind is_theorem theorem_kind db
+
+pub axioms_by_kind : (db : List Statement) (kinds : List Kind) → kinds ≡ map kind_of db
+    → numbers_of is_axiom_kind kinds ≡ columns db None
+axioms_by_kind db kinds e =
+    ap (numbers_of is_axiom_kind) e ∙ numbers_are is_axiom_kind (is_column None) axiom_kind db
+
+-- ---- one statement more
+
+pub counted_more : (w : Bool) (db : List Statement) (s : Statement)
+    → counted w (db ++ s ∷ []) ≡ counted w db ++ counted_as w s ∷ []
+counted_more true db s = map-append as_axiom db (s ∷ [])
+counted_more false db s = refl
+
+-- ---- the kind of one statement
+
+-- an outline's own kind
+pub own_kind : (text : List ℕ) (ws : List Word) (o : Kind) (k m e : ℕ)
+    → kind_of (made text ws o k m e) ≡ o
+own_kind text ws kind.Theorem k m e = refl
+own_kind text ws kind.Open k m e = refl
+own_kind text ws kind.Close k m e = refl
+own_kind text ws kind.Constants k m e = refl
+own_kind text ws kind.Variables k m e = refl
+own_kind text ws kind.Disjoint k m e = refl
+own_kind text ws kind.Floating k m e = refl
+own_kind text ws kind.Essential k m e = refl
+own_kind text ws kind.Axiom k m e = refl
+
+-- the test of a kind at a place
+pub kind_at : (test : Kind → Bool) (kinds : List Kind) (j : ℕ) (d : Kind) → j < length kinds
+    → elim (slice_get kinds j) [ None ↦ false | Some k ↦ test k ] ≡ test (get_or kinds j d)
+kind_at test kinds j d h =
+    ap (λ o. elim o [ None ↦ false | Some k ↦ test k ]) (slice_get-get_or kinds j d h)
+
+pub kinds_more : (text : List ℕ) (ws : List Word) (os : List Outline) (w : Bool) (i : ℕ)
+    → (d : Outline)
+    → i < length os
+    → map kind_of (held text ws (take (i + 1) os) w)
+    ≡ map kind_of (held text ws (take i os) w)
+    ++ kind_of (counted_as w (statement_of text ws (get_or os i d))) ∷ []
+kinds_more text ws os w i d h =
+    let s = statement_of text ws (get_or os i d) in
+    let before = statements text ws (take i os) in
+    ap (λ os. map kind_of (held text ws os w)) (take_more os i d h)
+    ∙ ap (λ db. map kind_of (counted w db))
+    (map-append (statement_of text ws) (take i os) (get_or os i d ∷ []))
+    ∙ ap (map kind_of) (counted_more w before s)
+    ∙ map-append kind_of (counted w before) (counted_as w s ∷ [])
+
+pub kinds_few : (text : List ℕ) (ws : List Word) (os : List Outline) (w : Bool) (kinds : List Kind)
+    → kinds ≡ map kind_of (held text ws os w) → length os < 2 ^ 31 → length kinds < 2 ^ 31
+kinds_few text ws os w kinds e few =
+    let n =
+    ap length e ∙ length-map (held text ws os w) kind_of ∙ counted_length w (statements text ws os)
+    ∙ length-map os (statement_of text ws) in
+    omega (arith, n, few)
+
+-- ---- where a statement counts as what it is
+
+-- what counts as a theorem is one
+pub still_theorem : (w : Bool) (s : Statement) → kind_of (counted_as w s) ≡ kind.Theorem
+    → counted_as w s ≡ s
+still_theorem false s h = refl
+still_theorem true (constants k xs d) h = refl
+still_theorem true (variables k xs d) h = refl
+still_theorem true (disjoint k xs d) h = refl
+still_theorem true (floating l k xs d) h = refl
+still_theorem true (essential l k xs d) h = refl
+still_theorem true (axiomatic l k xs d) h = refl
+still_theorem true (provable l k xs e ps d) h = by (is_open_proof ps) h
+  where
+    by : (b : Bool)
+        → kind_of (elim b [ true ↦ axiomatic l k xs d | false ↦ provable l k xs e ps d ])
+        ≡ kind.Theorem
+        → (elim b [ true ↦ axiomatic l k xs d | false ↦ provable l k xs e ps d ])
+        ≡ provable l k xs e ps d
+    by true h = absurd (cc)
+    by false h = refl
+still_theorem true (opening k) h = refl
+still_theorem true (closing k) h = refl
+
+module _ (text : List ℕ) (ws : List Word) where
+  -- what is a theorem and counts as an axiom is an open one
+  pub open_made : (w : Bool) (o : Kind) (k m e : ℕ)
+      → (is_theorem_kind o && is_axiom_kind (kind_of (counted_as w (made text ws o k m e))))
+      ≡ (w && list_any is_open (made text ws o k m e ∷ []))
+  open_made false kind.Theorem k m e = refl
+  open_made false kind.Open k m e = refl
+  open_made false kind.Close k m e = refl
+  open_made false kind.Constants k m e = refl
+  open_made false kind.Variables k m e = refl
+  open_made false kind.Disjoint k m e = refl
+  open_made false kind.Floating k m e = refl
+  open_made false kind.Essential k m e = refl
+  open_made false kind.Axiom k m e = refl
+  open_made true kind.Theorem k m e = by (is_open_proof (between text ws (m + 1) e))
+    where
+      by : (b : Bool)
+          → is_axiom_kind
+          (kind_of
+          (elim b [
+            | true ↦ axiomatic (label_before text ws k) (place text ws k)
+                (between text ws (k + 1) m) (place text ws e)
+            | false ↦ made text ws kind.Theorem k m e
+          ]))
+          ≡ (b || false)
+      by true = refl
+      by false = refl
+  open_made true kind.Open k m e = refl
+  open_made true kind.Close k m e = refl
+  open_made true kind.Constants k m e = refl
+  open_made true kind.Variables k m e = refl
+  open_made true kind.Disjoint k m e = refl
+  open_made true kind.Floating k m e = refl
+  open_made true kind.Essential k m e = refl
+  open_made true kind.Axiom k m e = refl
+
+  -- a theorem's proof
+  pub proof_made : (o : Kind) (k m e : ℕ) → o ≡ kind.Theorem
+      → proof_of (made text ws o k m e) ≡ between text ws (m + 1) e
+  proof_made kind.Theorem k m e h = refl
+  proof_made kind.Open k m e h = absurd (cc)
+  proof_made kind.Close k m e h = absurd (cc)
+  proof_made kind.Constants k m e h = absurd (cc)
+  proof_made kind.Variables k m e h = absurd (cc)
+  proof_made kind.Disjoint k m e h = absurd (cc)
+  proof_made kind.Floating k m e h = absurd (cc)
+  proof_made kind.Essential k m e h = absurd (cc)
+  proof_made kind.Axiom k m e h = absurd (cc)

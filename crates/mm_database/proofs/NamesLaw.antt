@@ -1,0 +1,104 @@
+-- What a map of names says of them.
+use Rattle.std.proofs.Common.{Result, Ok, Err, OnOk, is_some, ◌≡◌, ℕ, zero, suc, ◌≤◌, Bool, true}
+use Rattle.std.proofs.Common.{false, ◌||◌, List, [], ◌∷◌, ◌++◌, length, map, slice_get, Option, None}
+use Rattle.std.proofs.Common.{Some, bytes_eq, if◌then◌else◌, refl, sym, ap, ◌∙◌, arith}
+use Rattle.std.proofs.lemmas.List.{length-map}
+use Rattle.std.proofs.lemmas.Map.Made.{is_some-lookup}
+use Rattle.std.specs.Option.{option_map}
+use Rattle.std.specs.Map.{keys_of, lookup}
+use Rattle.indexmap.specs.IndexMap.{IndexMap, insert_entry, keys}
+use Rattle.mm_spec.specs.Text.{Bytes, is_in}
+use Rattle.mm_spec.specs.Frame.{place_of}
+use Rattle.mm_database.specs.declared.name.Name.{Name}
+use Rattle.mm_database.specs.Names.{find, names_of, with_name}
+use Rattle.mm_database.proofs.SymbolsLaw.{keys_in, missing_place}
+
+-- the keys of a map with one entry more
+pub names_inserted : {V : Type 0} (es : List (Name × V)) (k : Name) (v : V)
+    → map (λ x. x.bytes.now) (keys_of (insert_entry (λ (a b : Name). bytes_eq a.bytes.now b.bytes.now) es k v))
+    ≡ with_name k.bytes.now (map (λ x. x.bytes.now) (keys_of es))
+names_inserted [] k v = refl
+names_inserted (e ∷ es) k v = by (bytes_eq k.bytes.now e.0.bytes.now) (names_inserted es k v)
+  where
+    ns : List Bytes
+    ns = map (λ x. x.bytes.now) (keys_of es)
+
+    after : (b : Bool)
+        → map (λ x. x.bytes.now)
+        (keys_of (insert_entry (λ (a b : Name). bytes_eq a.bytes.now b.bytes.now) es k v))
+        ≡ (if b then ns else (ns ++ k.bytes.now ∷ []))
+        → e.0.bytes.now
+        ∷ map (λ x. x.bytes.now)
+        (keys_of (insert_entry (λ (a b : Name). bytes_eq a.bytes.now b.bytes.now) es k v))
+        ≡ (if b then (e.0.bytes.now ∷ ns) else ((e.0.bytes.now ∷ ns) ++ k.bytes.now ∷ []))
+    after true h = ap (λ l. e.0.bytes.now ∷ l) h
+    after false h = ap (λ l. e.0.bytes.now ∷ l) h
+
+    by : (b : Bool)
+        → map (λ x. x.bytes.now)
+        (keys_of (insert_entry (λ (a b : Name). bytes_eq a.bytes.now b.bytes.now) es k v))
+        ≡ with_name k.bytes.now ns
+        → map (λ x. x.bytes.now)
+        (keys_of
+        (if b then ((e.0, v) ∷ es) else
+        (e ∷ insert_entry (λ (a b : Name). bytes_eq a.bytes.now b.bytes.now) es k v)))
+        ≡ (if b || is_in k.bytes.now ns then (e.0.bytes.now ∷ ns) else ((e.0.bytes.now ∷ ns) ++ k.bytes.now ∷ []))
+    by true h = refl
+    by false h = after (is_in k.bytes.now ns) h
+
+-- a name that is there stays the list as it was
+pub with_known : (w : Bytes) (ns : List Bytes) → is_in w ns ≡ true → with_name w ns ≡ ns
+with_known w ns h = ap (λ b. if b then ns else (ns ++ w ∷ [])) h
+
+pub map_len : {V : Type 0} (es : List (Name × V))
+    → length es ≡ length (map (λ x. x.bytes.now) (keys_of es))
+map_len es = sym (length-map (keys_of es) (λ x. x.bytes.now) ∙ length-map es (λ e. e.0))
+
+-- the number of a name that the map doesn't have
+pub missing_number : {V S : Type 0} (w : Bytes) (m : IndexMap Name V S) → find m w ≡ None
+    → length m.entries ≡ place_of w (names_of m)
+missing_number w m h =
+    map_len m.entries
+    ∙ missing_place w (names_of m)
+    (sym (keys_in w (keys m)) ∙ sym (is_some-lookup (λ k. bytes_eq w k.bytes.now) m.entries)
+    ∙ ap is_some h)
+
+-- a name's place
+pub place_le : (w : Bytes) (ns : List Bytes) → place_of w ns ≤ length ns
+place_le w [] = omega arith
+place_le w (n ∷ ns) = by (bytes_eq w n) (place_le w ns)
+  where
+    by : (b : Bool) → place_of w ns ≤ length ns
+        → elim b [ true ↦ 0 | false ↦ suc (place_of w ns) ] ≤ suc (length ns)
+    by true h = omega arith
+    by false h = omega (arith, h)
+
+pub on_then : {A E : Type 0} {P Q : Type 0} (r : Result A E) → OnOk r P → (P → Q) → OnOk r Q
+on_then (Ok a) h f = f h
+on_then (Err e) h f = tt
+
+-- a name that the map has
+pub found_known : {V : Type 0} (w : Bytes) (es : List (Name × V)) (o : Option V)
+    → lookup (λ (k : Name). bytes_eq w k.bytes.now) es ≡ o → is_some o ≡ true
+    → is_in w (map (λ x. x.bytes.now) (keys_of es)) ≡ true
+found_known w es o h k =
+    sym (keys_in w (keys_of es)) ∙ sym (is_some-lookup (λ (k : Name). bytes_eq w k.bytes.now) es)
+    ∙ ap is_some h ∙ k
+
+-- the name of an entry
+pub name_at : {V : Type 0} (es : List (Name × V)) (i : ℕ) (k : Name) (v : V) (w : Bytes)
+    → slice_get es i ≡ Some (k, v) → slice_get (map (λ x. x.bytes.now) (keys_of es)) i ≡ Some w
+    → k.bytes.now ≡ w
+name_at [] zero k v w h e = absurd (let q : None ≡ Some w = e in cc)
+name_at [] (suc i) k v w h e = absurd (let q : None ≡ Some w = e in cc)
+name_at (x ∷ es) zero k v w h e =
+    let p : Some x ≡ Some (k, v) = h in let q : Some x.0.bytes.now ≡ Some w = e in
+    let r : x ≡ (k, v) = cc in let s : x.0.bytes.now ≡ w = cc in ap (λ y. y.0.bytes.now) (sym r) ∙ s
+name_at (x ∷ es) (suc i) k v w h e = name_at es i k v w h e
+
+pub got_name : {V : Type 0} (es : List (Name × V)) (i : ℕ) (k : Name) (v : V)
+    → slice_get es i ≡ Some (k, v) → slice_get (map (λ x. x.bytes.now) (keys_of es)) i ≡ Some k.bytes.now
+got_name [] zero k v h = absurd (let q : None ≡ Some (k, v) = h in cc)
+got_name [] (suc i) k v h = absurd (let q : None ≡ Some (k, v) = h in cc)
+got_name (x ∷ es) zero k v h = ap (option_map (λ y. y.0.bytes.now)) h
+got_name (x ∷ es) (suc i) k v h = got_name es i k v h

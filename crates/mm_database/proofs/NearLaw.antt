@@ -1,0 +1,52 @@
+-- A `$d` that is active at a statement and has both symbols.
+use Rattle.std.proofs.Common.{◌≡◌, ℕ, true, ◌&&◌, List, Option, Some, None, nat_lt, slice_get}
+use Rattle.std.proofs.Common.{[], ◌∷◌, ◌||◌, ◌+◌, false, refl, ap, ap₂, ◌∙◌, arith}
+use Rattle.std.proofs.lemmas.Bool.{and_parts}
+use Rattle.std.specs.List.{list_any, range_with_len}
+use Rattle.std.specs.Option.{option_map}
+use Rattle.mm_spec.specs.Statement.{Statement, constants, variables, disjoint, floating, essential}
+use Rattle.mm_spec.specs.Statement.{axiomatic, provable, opening, closing}
+use Rattle.mm_spec.specs.Scope.{is_active, active, statement_at}
+use Rattle.mm_spec.specs.Derivation.{is_member}
+use Rattle.mm_spec.specs.Frame.{formula_at, is_disjoint_statement, active_of}
+use Rattle.mm_outline.specs.declared.parts.Kind.TheVariants as kind
+use Rattle.mm_database.specs.Database.{kind_of}
+use Rattle.mm_spec.proofs.MemberLaw.{member_filter, member_range, any_of}
+
+is_disjoint_kind : (s : Statement) → kind_of s ≡ kind.Disjoint → is_disjoint_statement s ≡ true
+is_disjoint_kind (disjoint k xs d) e = refl
+is_disjoint_kind (constants k xs d) e = absurd (cc)
+is_disjoint_kind (variables k xs d) e = absurd (cc)
+is_disjoint_kind (floating l k xs d) e = absurd (cc)
+is_disjoint_kind (essential l k xs d) e = absurd (cc)
+is_disjoint_kind (axiomatic l k xs d) e = absurd (cc)
+is_disjoint_kind (provable l k xs e ps d) h = absurd (cc)
+is_disjoint_kind (opening k) e = absurd (cc)
+is_disjoint_kind (closing k) e = absurd (cc)
+
+is_disjoint_at : (db : List Statement) (j : ℕ)
+    → option_map kind_of (slice_get db j) ≡ Some kind.Disjoint
+    → list_any is_disjoint_statement (statement_at db j) ≡ true
+is_disjoint_at db j e = by (slice_get db j) e
+  where
+    by : (o : Option Statement) → option_map kind_of o ≡ Some kind.Disjoint
+        → list_any is_disjoint_statement (elim o [ None ↦ [] | Some s ↦ s ∷ [] ]) ≡ true
+    by None h = absurd (cc)
+    by (Some s) h = ap (λ b. b || false) (is_disjoint_kind s (cc))
+
+pub near_is : (db : List Statement) (j k x y : ℕ)
+    → option_map kind_of (slice_get db j) ≡ Some kind.Disjoint → is_active db j k ≡ true
+    → is_member (formula_at db j) x ≡ true → is_member (formula_at db j) y ≡ true
+    → list_any (λ i. is_member (formula_at db i) x && is_member (formula_at db i) y)
+    (active_of is_disjoint_statement db k)
+    ≡ true
+near_is db j k x y d a ex ey =
+    any_of (λ i. is_member (formula_at db i) x && is_member (formula_at db i) y)
+    (active_of is_disjoint_statement db k) j
+    (member_filter (λ i. list_any is_disjoint_statement (statement_at db i)) (active db k) j
+    ∙ ap₂ (λ p q. p && q) (is_disjoint_at db j d)
+    (member_filter (λ i. is_active db i k) (range_with_len 0 k) j
+    ∙ ap₂ (λ p q. p && q) a
+    (member_range k 0 j (omega arith) ∙ (let z : 0 + k ≡ k = omega arith in ap (nat_lt j) z)
+    ∙ (and_parts (nat_lt j k) _ a).0)))
+    (ap₂ (λ p q. p && q) ex ey)

@@ -1,0 +1,192 @@
+-- Where the pairs of each symbol begin, one pair after the other.
+use Rattle.std.proofs.Common.{◌≡◌, ℕ, ◌+◌, ◌-◌, ◌<◌, ◌≤◌, true, false, List, [], ◌∷◌, ◌++◌, length}
+use Rattle.std.proofs.Common.{get_or, slice_range, drop, sym, ap, subst, ◌∙◌, arith, ◌⊎◌, inl, inr}
+use Rattle.std.proofs.Common.{length-append, nat_lt, true≢false}
+use Rattle.std.proofs.lemmas.Bool.{cases_lt, cases_eq, lt-ltb, ltb-true, false_from_ne_true}
+use Rattle.std.specs.List.Sorted.{IsPartitionedBy, IsPartitionPoint}
+use Rattle.std.proofs.lemmas.List.{get_or_push, get_or_append_left, get_or_past, get_or_default}
+use Rattle.std.proofs.lemmas.List.{get_or-take, get_or-drop, length-take-le, length-drop}
+use Rattle.mm_database.specs.Pairs.{IsBefore, is_before, AreRising}
+use Rattle.mm_database.specs.Starts.{IsStart, AreStarts}
+use Rattle.mm_database.proofs.DisjointIndexLaw.{rising_at, is_before_if, before_is}
+
+-- the starts that the first n pairs tell
+pub record StartsTo (ps : List (ℕ × ℕ)) (n : ℕ) (starts : List ℕ) : Type 0 where
+  pub each : (x : ℕ) → x < length starts → IsStart ps x (get_or starts x 0)
+  pub known : (p : ℕ) → p < n → (get_or ps p (0, 0)).0 < length starts
+
+pub starts_none : (ps : List (ℕ × ℕ)) → StartsTo ps 0 []
+starts_none ps = record { each = λ x l. absurd (omega arith); known = λ p l. absurd (omega arith) }
+
+-- later pairs are of no earlier symbol
+no_lower : (ps : List (ℕ × ℕ)) → AreRising ps → (i j : ℕ) → i ≤ j → j < length ps
+    → (get_or ps i (0, 0)).0 ≤ (get_or ps j (0, 0)).0
+no_lower ps r i j le lt = go (cases_eq i j)
+  where
+    low : IsBefore (get_or ps i (0, 0)).0 (get_or ps i (0, 0)).1 (get_or ps j (0, 0)).0
+        (get_or ps j (0, 0)).1
+        → (get_or ps i (0, 0)).0 ≤ (get_or ps j (0, 0)).0
+    low (inl l) = omega arith
+    low (inr (e, l)) = omega arith
+
+    go : (i ≡ j) ⊎ (i ≡ j → ⊥) → (get_or ps i (0, 0)).0 ≤ (get_or ps j (0, 0)).0
+    go (inl e) = let s = ap (λ k. (get_or ps k (0, 0)).0) e in omega (arith, s)
+    go (inr ne) = low (rising_at ps r i j (0, 0) (omega arith) lt)
+
+-- a symbol more, up to that of pair n
+pub starts_more : (ps : List (ℕ × ℕ)) (n : ℕ) (starts : List ℕ) → AreRising ps → n < length ps
+    → length starts ≤ (get_or ps n (0, 0)).0 → StartsTo ps n starts
+    → StartsTo ps n (starts ++ n ∷ [])
+starts_more ps n starts r lt below h = record {
+  each = λ x l. each x l (cases_eq x (length starts));
+  known = λ p l. let k = h.known p l in omega (arith, k, longer);
+}
+  where
+    longer : length (starts ++ n ∷ []) ≡ length starts + 1
+    longer = length-append starts (n ∷ [])
+
+    here : IsStart ps (length starts) n
+    here = record {
+      within = omega arith;
+      before = λ p l. h.known p l;
+      after = λ p l m. let up = no_lower ps r n p l m in omega (arith, up, below);
+    }
+
+    each : (x : ℕ) → x < length (starts ++ n ∷ []) → (x ≡ length starts) ⊎ (x ≡ length starts → ⊥)
+        → IsStart ps x (get_or (starts ++ n ∷ []) x 0)
+    each x l (inl e) =
+        subst (IsStart ps x) (sym (get_or_push starts n 0 x (sym e)))
+        (subst (λ y. IsStart ps y n) (sym e) here)
+    each x l (inr ne) =
+        let m : x < length starts = omega (arith, l, longer, ne) in
+        subst (IsStart ps x) (sym (get_or_append_left starts (n ∷ []) 0 x m)) (h.each x m)
+
+-- a pair more, whose symbol has a start
+pub starts_next : (ps : List (ℕ × ℕ)) (n : ℕ) (starts : List ℕ)
+    → (get_or ps n (0, 0)).0 < length starts → StartsTo ps n starts → StartsTo ps (n + 1) starts
+starts_next ps n starts known h = record {
+  each = h.each;
+  known = λ p l. go p l (cases_eq p n);
+}
+  where
+    go : (p : ℕ) → p < n + 1 → (p ≡ n) ⊎ (p ≡ n → ⊥) → (get_or ps p (0, 0)).0 < length starts
+    go p l (inl e) = let s = ap (λ k. (get_or ps k (0, 0)).0) e in omega (arith, s, known)
+    go p l (inr ne) = h.known p (omega arith)
+
+-- all pairs
+pub starts_all : (ps : List (ℕ × ℕ)) (n : ℕ) (starts : List ℕ) → length ps ≤ n
+    → StartsTo ps n starts → AreStarts ps starts
+starts_all ps n starts all h x = go (cases_lt x (length starts))
+  where
+    go : (x < length starts) ⊎ (length starts ≤ x) → IsStart ps x (get_or starts x (length ps))
+    go (inl l) = subst (IsStart ps x) (get_or_default starts x 0 (length ps) l) (h.each x l)
+    go (inr g) = subst (IsStart ps x) (sym (get_or_past starts x (length ps) g)) (record {
+      within = omega arith;
+      before = λ p l. let k = h.known p (omega arith) in omega (arith, k, g);
+      after = λ p l m. absurd (omega arith);
+    })
+
+-- ---- among the pairs of one symbol
+
+module _ (ps : List (ℕ × ℕ)) (rising : AreRising ps) (x at from to : ℕ) (first : IsStart ps x from)
+    (last : IsStart ps (x + 1) to) where
+  here : (p : ℕ) (d : ℕ × ℕ) → from ≤ p → p < to → (get_or ps p d).0 ≡ x
+  here p d l m =
+      let inside = last.within in
+      let lt : p < length ps = omega (arith, inside, m) in
+      let low = first.after p l lt in
+      let high = last.before p m in
+      ap (λ (q : ℕ × ℕ). q.0) (get_or_default ps p d (0, 0) lt) ∙ (omega (arith, low, high))
+
+  part_at : (i : ℕ) (d : ℕ × ℕ) → i < to - from
+      → get_or (slice_range ps from to) i d ≡ get_or ps (from + i) d
+  part_at i d l = get_or-take (to - from) (drop from ps) i d l ∙ get_or-drop from ps i d
+
+  part_long : length (slice_range ps from to) ≡ to - from
+  part_long =
+      length-take-le (to - from) (drop from ps)
+      (let e = length-drop from ps in let inside = last.within in omega (arith, e, inside))
+
+  pub part_partitioned : IsPartitionedBy (λ p. nat_lt p.1 at) (slice_range ps from to)
+  part_partitioned i j d l m e = by (cases_eq i j)
+    where
+      long : j < to - from
+      long = let n = part_long in omega (arith, m, n)
+
+      inside : from + j < length ps
+      inside = let w = last.within in let n = long in omega (arith, w, n)
+
+      low : i < j
+          → IsBefore (get_or ps (from + i) d).0 (get_or ps (from + i) d).1
+          (get_or ps (from + j) d).0 (get_or ps (from + j) d).1
+          → (get_or ps (from + i) d).1 < (get_or ps (from + j) d).1
+      low k (inl s) =
+          let n = long in
+          let a = here (from + i) d (omega arith) (omega (arith, k, n)) in
+          let b = here (from + j) d (omega arith) (omega (arith, n)) in
+          absurd (omega (arith, a, b, s))
+      low k (inr (s, t)) = t
+
+      by : (i ≡ j) ⊎ (i ≡ j → ⊥) → nat_lt (get_or (slice_range ps from to) i d).1 at ≡ true
+      by (inl s) = ap (λ k. nat_lt (get_or (slice_range ps from to) k d).1 at) s ∙ e
+      by (inr ne) =
+          let k : i < j = omega arith in
+          let n = long in
+          let short : i < to - from = omega (arith, k, n) in
+          let up = low k (rising_at ps rising (from + i) (from + j) d (omega (arith, k)) inside) in
+          let less =
+          ltb-true (get_or ps (from + j) d).1 at
+          (ap (λ (q : ℕ × ℕ). nat_lt q.1 at) (sym (part_at j d long)) ∙ e) in
+          ap (λ (q : ℕ × ℕ). nat_lt q.1 at) (part_at i d short)
+          ∙ lt-ltb (get_or ps (from + i) d).1 at (omega (arith, up, less))
+
+  module _ (n : ℕ) (bound : n ≤ length (slice_range ps from to))
+      (point : IsPartitionPoint (λ y. nat_lt y.1 at ≡ true) (λ y. nat_lt y.1 at ≡ false)
+      (slice_range ps from to) n) where
+    pub before_point : (p : ℕ) → p < from + n → is_before (get_or ps p (0, 0)) x at ≡ true
+    before_point p l = by (cases_lt p from)
+      where
+        by : (p < from) ⊎ (from ≤ p) → is_before (get_or ps p (0, 0)) x at ≡ true
+        by (inl k) = is_before_if (get_or ps p (0, 0)) x at (inl (first.before p k))
+        by (inr k) =
+            let long = part_long in
+            let short : p - from < to - from = omega (arith, k, l, bound, long) in
+            let same : from + (p - from) ≡ p = omega (arith, k) in
+            let less =
+            ltb-true (get_or ps p (0, 0)).1 at
+            (ap (λ (q : ℕ × ℕ). nat_lt q.1 at)
+            (sym (part_at (p - from) (0, 0) short ∙ ap (λ i. get_or ps i (0, 0)) same))
+            ∙ point.0 (p - from) (0, 0) (omega arith) (omega (arith, k, l))) in
+            is_before_if (get_or ps p (0, 0)) x at
+            (inr (here p (0, 0) k (omega (arith, short, k)), less))
+
+    pub after_point : (p : ℕ) → from + n ≤ p → p < length ps
+        → is_before (get_or ps p (0, 0)) x at ≡ false
+    after_point p l m =
+        false_from_ne_true (is_before (get_or ps p (0, 0)) x at)
+        (λ e. never (before_is (get_or ps p (0, 0)) x at e) (cases_lt p to))
+      where
+        never : IsBefore (get_or ps p (0, 0)).0 (get_or ps p (0, 0)).1 x at → (p < to) ⊎ (to ≤ p)
+            → ⊥
+        never b (inr k) = up b
+          where
+            up : IsBefore (get_or ps p (0, 0)).0 (get_or ps p (0, 0)).1 x at → ⊥
+            up (inl s) = let h = last.after p k m in omega (arith, h, s)
+            up (inr (s, t)) = let h = last.after p k m in omega (arith, h, s)
+        never b (inl k) = up b
+          where
+            low : from ≤ p
+            low = omega arith
+
+            up : IsBefore (get_or ps p (0, 0)).0 (get_or ps p (0, 0)).1 x at → ⊥
+            up (inl s) = let h = here p (0, 0) low k in omega (arith, h, s)
+            up (inr (s, t)) =
+                let short : p - from < to - from = omega (arith, low, k) in
+                let same : from + (p - from) ≡ p = omega (arith, low) in
+                let long = part_long in
+                true≢false
+                (sym (lt-ltb (get_or ps p (0, 0)).1 at t)
+                ∙ ap (λ (q : ℕ × ℕ). nat_lt q.1 at)
+                (sym (part_at (p - from) (0, 0) short ∙ ap (λ i. get_or ps i (0, 0)) same))
+                ∙ point.1 (p - from) (0, 0) (omega (arith, l, low))
+                (omega (arith, short, long)))

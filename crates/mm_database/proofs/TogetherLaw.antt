@@ -1,0 +1,87 @@
+-- Which `$d` are active at a place, and whether one of them has two symbols.
+use Rattle.std.proofs.Common.{◌≡◌, ℕ, ◌<◌, ◌≤◌, Bool, true, false, ◌&&◌, List, length, nat_lt, nat_le}
+use Rattle.std.proofs.Common.{refl, sym, ap, ap₂, ◌∙◌, true≢false, ◌⊎◌, inl, inr}
+use Rattle.std.proofs.lemmas.Bool.{cases_lt, le-ltb, and_parts}
+use Rattle.std.specs.List.{list_any}
+use Rattle.mm_spec.specs.Statement.{Statement}
+use Rattle.mm_spec.specs.Scope.{statement_at, stays}
+use Rattle.mm_spec.specs.Derivation.{is_member}
+use Rattle.mm_spec.specs.Frame.{is_disjoint_statement, active_of, formula_at}
+use Rattle.mm_spec.proofs.BoolLaw.{same_tests}
+use Rattle.mm_spec.proofs.MemberLaw.{active_member, disjoint_local, any_witness, any_of}
+use Rattle.mm_outline.specs.Blocks.{Lists, IsBlocks, end_of}
+use Rattle.mm_database.specs.DisjointIndex.{has_symbol, is_live}
+use Rattle.mm_database.specs.Pairs.{has_pair}
+
+module _ (db : List Statement) (b : Lists) (blocks : IsBlocks db b) (k : ℕ)
+    (h : k ≤ length db) where
+  pub live_is : (j : ℕ) → list_any is_disjoint_statement (statement_at db j) ≡ true
+      → is_live b j k ≡ is_member (active_of is_disjoint_statement db k) j
+  live_is j t = by (cases_lt j k) ∙ sym (active_member is_disjoint_statement db disjoint_local k j)
+    where
+      by : (j < k) ⊎ (k ≤ j) → is_live b j k ≡ (nat_lt j k && (list_any is_disjoint_statement (statement_at db j) && stays db j k))
+      by (inl l) = ap (λ c. nat_lt j k && c) (sym (ap₂ (λ p q. p && q) t (blocks.ended j k l h)))
+      by (inr g) =
+          ap (λ c. c && nat_le k (end_of b j)) (le-ltb j k g)
+          ∙ sym (ap (λ c. c && (list_any is_disjoint_statement (statement_at db j) && stays db j k)) (le-ltb j k g))
+
+  pub kind_of_active : (j : ℕ) → is_member (active_of is_disjoint_statement db k) j ≡ true
+      → list_any is_disjoint_statement (statement_at db j) ≡ true
+  kind_of_active j e =
+      (and_parts (list_any is_disjoint_statement (statement_at db j)) _
+      (and_parts (nat_lt j k) ((list_any is_disjoint_statement (statement_at db j) && stays db j k))
+      (sym (active_member is_disjoint_statement db disjoint_local k j) ∙ e)).1).0
+
+  module _ (ps : List (ℕ × ℕ)) (are : (x j : ℕ) → has_pair ps x j ≡ has_symbol db x j) where
+    -- the answer to whether an active `$d` has both
+    pub together_is : (r : Bool) (x y : ℕ)
+        → (r ≡ true
+        → (j : ℕ) × (has_pair ps x j ≡ true) × (has_pair ps y j ≡ true) × (is_live b j k ≡ true))
+        → (r ≡ false → (j : ℕ) → has_pair ps x j ≡ true → has_pair ps y j ≡ true
+        → is_live b j k ≡ false)
+        → r ≡ list_any (λ j. is_member (formula_at db j) x && is_member (formula_at db j) y)
+        (active_of is_disjoint_statement db k)
+    together_is r x y found none =
+        same_tests r
+        (list_any (λ j. is_member (formula_at db j) x && is_member (formula_at db j) y)
+        (active_of is_disjoint_statement db k)) forth (λ e. back r refl e)
+      where
+        forth : r ≡ true
+            → list_any (λ j. is_member (formula_at db j) x && is_member (formula_at db j) y)
+            (active_of is_disjoint_statement db k)
+            ≡ true
+        forth e =
+            let w = found e in
+            let j = w.0 in
+            let ex = sym (are x j) ∙ w.1 in
+            let ey = sym (are y j) ∙ w.2 in
+            let t =
+            (and_parts (list_any is_disjoint_statement (statement_at db j))
+            (is_member (formula_at db j) x) ex).0 in
+            any_of (λ i. is_member (formula_at db i) x && is_member (formula_at db i) y)
+            (active_of is_disjoint_statement db k) j (sym (live_is j t) ∙ w.3)
+            (ap₂ (λ p q. p && q)
+            (and_parts (list_any is_disjoint_statement (statement_at db j))
+            (is_member (formula_at db j) x) ex).1
+            (and_parts (list_any is_disjoint_statement (statement_at db j))
+            (is_member (formula_at db j) y) ey).1)
+
+        back : (c : Bool) → r ≡ c
+            → list_any (λ j. is_member (formula_at db j) x && is_member (formula_at db j) y)
+            (active_of is_disjoint_statement db k)
+            ≡ true
+            → r ≡ true
+        back true e t = e
+        back false e t =
+            let w =
+            any_witness (λ j. is_member (formula_at db j) x && is_member (formula_at db j) y)
+            (active_of is_disjoint_statement db k) t in
+            let j = w.0 in
+            let d = kind_of_active j w.1 in
+            let ex =
+            are x j ∙ ap₂ (λ p q. p && q) d
+            (and_parts (is_member (formula_at db j) x) (is_member (formula_at db j) y) w.2).0 in
+            let ey =
+            are y j ∙ ap₂ (λ p q. p && q) d
+            (and_parts (is_member (formula_at db j) x) (is_member (formula_at db j) y) w.2).1 in
+            absurd (true≢false (sym (live_is j d ∙ w.1) ∙ none e j ex ey))

@@ -1,0 +1,71 @@
+use Rattle.std.proofs.Common.{◌≡◌, ℕ, ◌-◌, ◌≤◌, ◌++◌, ◌∷◌, [], List, length, get_or, nat_le}
+use Rattle.std.proofs.Common.{true, false, sym, subst, ap₂, ◌∙◌, arith}
+use Rattle.mm_outline.specs.Blocks.{lists, end_of}
+use Rattle.mm_database.proofs.DisjointIndexLaw.{added_open, added_closed, added_end, parted_here}
+use Rattle.mm_database.proofs.DisjointIndexLaw.{symbol_here, no_symbol_here}
+use Rattle.mm_database.proofs.disjoint_index.add_active.Goals as goal
+use Rattle.mm_database.proofs.disjoint_index.add_active.Goals.{then-is_open_at+in_ok-push}
+use Rattle.mm_database.proofs.disjoint_index.add_active.Goals.{else-is_open_at}
+
+pub loop-pairs-preserved : goal.loop-pairs-preserved
+loop-pairs-preserved g c =
+    let b =
+    lists c.args.blocks.now.of.items c.args.blocks.now.ends.items c.args.blocks.now.open.items in
+    let ps = c.args.disjoint_index.now.pairs.items in
+    let x = c.args.symbol in
+    let at = c.args.at in
+    let start = c.count_before-left.result in
+    let left = c.loop-pairs.left in
+    let v = c.as_slice-pairs.ensures.value in
+    let of = c.count_before-left.ensures in
+    let parted = parted_here _ ps _ x v c.number.ensures at start of.within of.before of.after in
+    let here = c.ends_with.ensures.some c.loop-pairs-test.true in
+    let has = symbol_here _ ps _ x v c.number-in-loop-pairs.ensures (left - 1) here.1 in
+    let less = c.back-left.ensures.less in
+    let known = c.loop-pairs.invariant.0 in
+    let fits : c.back-left.result ≤ length ps = omega (arith, less, known) in
+    elim c.if-is_open_at.branch [
+      | then-is_open_at+in_ok-push w ↦
+          let item : w.push.new.self.items
+          ≡ c.loop-pairs.into.items ++ ((get_or ps (left - 1) (0, 0)).1, x) ∷ [] =
+          w.in_ok-push.ensures.items
+          ∙ ap₂ (λ (qs : List (ℕ × ℕ)) (z : ℕ). c.loop-pairs.into.items
+          ++ ((get_or qs (left - 1) (0, 0)).1, z) ∷ []) v w.number-then-is_open_at.ensures in
+          let is_open =
+          subst (λ (qs : List (ℕ × ℕ)). nat_le at (end_of b (get_or qs (left - 1) (0, 0)).1) ≡ true)
+          v (sym c.is_open_at.ensures ∙ w.if-is_open_at.true) in (
+            fits,
+            rw w.into-is
+                (rw item
+                (added_open b ps c.requires.rising x at start parted left
+                c.back-left.result c.args.into.now.items c.loop-pairs.into.items
+                c.loop-pairs.invariant.1 here.0 has is_open less c.back-left.ensures.passed)),
+          )
+      | else-is_open_at w ↦ (
+        fits,
+        rw w.into-is
+            (added_closed b ps c.requires.rising x at start parted left
+            c.back-left.result c.args.into.now.items c.loop-pairs.into.items
+            c.loop-pairs.invariant.1
+            here.0 (subst
+            (λ (qs : List (ℕ × ℕ)). nat_le at (end_of b (get_or qs (left - 1) (0, 0)).1) ≡ false) v
+            (sym c.is_open_at.ensures ∙ w.if-is_open_at.false)) less c.back-left.ensures.passed),
+      )
+    ]
+
+pub returns : goal.returns
+returns g c =
+    let b =
+    lists c.args.blocks.now.of.items c.args.blocks.now.ends.items c.args.blocks.now.open.items in
+    let ps = c.args.disjoint_index.now.pairs.items in
+    let x = c.args.symbol in
+    let at = c.args.at in
+    let start = c.count_before-left.result in
+    let left = c.loop-pairs.left in
+    let v = c.as_slice-pairs.ensures.value in
+    let of = c.count_before-left.ensures in
+    let parted = parted_here _ ps _ x v c.number.ensures at start of.within of.before of.after in
+    let none = c.ends_with.ensures.none c.loop-pairs-test.false in
+    added_end b ps c.requires.rising x at start parted left c.args.into.now.items
+    c.loop-pairs.into.items c.loop-pairs.invariant.1
+    (λ h. no_symbol_here _ ps _ x v c.number-in-loop-pairs.ensures (left - 1) (none h))

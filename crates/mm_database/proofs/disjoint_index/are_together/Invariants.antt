@@ -1,0 +1,16 @@
+use Rattle.std.proofs.Common.{◌+◌, ◌≤◌, length}
+use Rattle.mm_outline.specs.Blocks.{lists}
+use Rattle.mm_database.proofs.DisjointIndexLaw.{Apart}
+use Rattle.mm_database.proofs.disjoint_index.are_together.Given as goal
+
+abbrev pub invariant-loop-pairs : goal.invariant-loop-pairs
+invariant-loop-pairs g l =
+    (l.left ≤ l.initial.left) × (l.right ≤ l.initial.right)
+    × (l.left ≤ length l.disjoint_index.pairs.items) ×
+    (l.right ≤ length l.disjoint_index.pairs.items)
+    × Apart (lists l.blocks.of.items l.blocks.ends.items l.blocks.open.items)
+    l.disjoint_index.pairs.items
+    l.fn.x l.fn.y l.fn.at l.left l.right
+
+abbrev pub decreases-loop-pairs : goal.decreases-loop-pairs
+decreases-loop-pairs g l = l.left + l.right

@@ -1,0 +1,14 @@
+pub use Rattle.mm_outline.specs.Blocks
+pub use Rattle.mm_outline.specs.Parts
+pub use Rattle.mm_outline.specs.Statements
+pub use Rattle.mm_outline.specs.Numbered
+pub mod Names
+pub mod Labels
+pub mod Pairs
+pub mod Starts
+pub mod DisjointIndex
+pub mod Frames
+pub mod Kept
+pub mod Kinds
+pub mod Spaced
+pub mod Database

@@ -1,0 +1,357 @@
+//! The database of a text: its statements, and the calls that read them.
+
+ghost use Rattle.std.specs.Prelude.{◌≡◌, ◌<◌, ◌≤◌, ◌^◌, ◌+◌, ◌&&◌, ◌∷◌, ℕ, Bool, List, Option};
+ghost use Rattle.std.specs.Prelude.{Some, None, IfSome, IfNone, IsTrue, All, length, map, flat_map};
+ghost use Rattle.std.specs.Prelude.{slice_get, slice_index, slice_range, get_or, vec_len, true};
+ghost use Rattle.std.specs.Prelude.{false};
+ghost use Rattle.std.specs.Option.{option_map, option_copied, option_and_then};
+ghost use Rattle.std.specs.List.{list_any};
+ghost use Rattle.mm_spec.specs.Statement.{label_of, proof_of};
+ghost use Rattle.mm_spec.specs.Opened.{counted, is_open};
+ghost use Rattle.mm_spec.specs.Scope.{is_active, statement_at};
+ghost use Rattle.mm_spec.specs.Derivation.{pair, is_member};
+ghost use Rattle.mm_spec.specs.Frame.{symbol_names, is_variable_number, formula_at};
+ghost use Rattle.mm_spec.specs.Frame.{mandatory_hypotheses, mandatory_pairs, disjoint_at};
+ghost use Rattle.mm_spec.specs.Frame.{is_disjoint_statement};
+ghost use Rattle.mm_spec.specs.NormalProof.{is_labelled};
+ghost use Rattle.mm_spec.specs.Citation.{is_assertion};
+ghost use Rattle.mm_spec.specs.Laws.Complete.{AreComplete};
+ghost use Rattle.mm_spec.specs.Output.{IsRead, lexed_of, theorems, columns, label_at};
+ghost use Rattle.mm_outline.specs.Parts.{as_tokens, AreWithin};
+ghost use Rattle.mm_spec.specs.Lexed.{tokens_of};
+ghost use Rattle.mm_outline.specs.Statements.{active_kind, statements};
+ghost use Rattle.mm_database.specs.Database.{kind_of, last_place, typecode_of, contents};
+ghost use Rattle.mm_database.specs.Database.{fields_of, IsDatabase};
+ghost use Rattle.mm_database.specs.Kinds.{is_axiom_kind, is_theorem_kind};
+
+use crate::disjoint_index::are_together;
+use crate::found::Found;
+use crate::frames::Frame;
+use crate::kept::has_label;
+use crate::name::Name;
+use crate::near::are_together_near;
+use crate::reading::Reading;
+use mm_outline::parts::Kind;
+use mm_outline::symbol::Sym;
+use mm_spec::{Fault, Word};
+use std::alloc::Allocator;
+use std::marker::Model;
+
+/// The statements of a text up to the first malformed or unlawful one, by their numbers from
+/// 0 in file order.
+pub struct Database<'a, A: Allocator> {
+    pub(crate) text: &'a [u8],
+    pub(crate) with_open: bool,
+    pub(crate) read: Reading<'a, A>,
+    pub(crate) found: Found<A>,
+}
+
+/// Lets all fields go in one call, so that a proof has one step for it at each exit.
+impl<'a, A: Allocator> Drop for Database<'a, A> {
+    fn drop(self) {
+        let Self {
+            text: _,
+            with_open: _,
+            read: _,
+            found: _,
+        } = self;
+    }
+}
+
+impl<'a, A: Allocator> Model for Database<'a, A> {
+    ghost use Rattle.mm_spec.specs.Lexed.{tokens_of as words_of};
+    ghost use Rattle.mm_outline.specs.Statements.{statements};
+    ghost use Rattle.mm_database.specs.Database.{Contents, contents, fields_of, IsDatabase};
+
+    ghost Value = { Contents };
+
+    ghost view = { λ d. contents d.text.now
+        (statements d.text.now (words_of d.text.now) d.read.outlines.items) d.with_open
+        d.read.fault };
+
+    ghost invariant = { λ d. IsDatabase d.text.now (words_of d.text.now) d.read.outlines.items
+        d.with_open d.read.fault (fields_of d.read d.found) };
+}
+
+impl<'a, A: Allocator> Database<'a, A> {
+    /// Returns the database of what was read of a text and of what was found out of that. If
+    /// `with_open` is set, open theorems count as axioms.
+    pub fn new(
+        text: &'a [u8],
+        with_open: bool,
+        read: Reading<'a, A>,
+        found: Found<A>,
+    ) -> Database<'a, A>
+        requires { IsDatabase text.now (tokens_of text.now) read.outlines.items with_open
+            read.fault (fields_of read found) }
+        ensures { result
+            ≡ contents text.now
+            (statements text.now (tokens_of text.now) read.entry.outlines.items) with_open
+            read.entry.fault }
+    {
+        Database {
+            text,
+            with_open,
+            read,
+            found,
+        }
+    }
+
+    /// Returns the text.
+    pub fn text(&self) -> &'a [u8]
+        ensures { result.now ≡ self.now.text }
+    {
+        self.text
+    }
+
+    /// Returns the fault after the statements: the first fault of words, shape, symbols, labels or
+    /// scope.
+    pub fn fault(&self) -> Option<Fault>
+        ensures { result ≡ self.now.fault }
+    {
+        self.read.fault
+    }
+
+    /// Returns the number of statements, at most that of the text's bytes.
+    pub fn len(&self) -> u32
+        ensures len { result ≡ length self.now.statements }
+        ensures few { result ≤ length self.now.text }
+        ensures small { result < 2 ^ 31 }
+        ensures read { IsRead (length self.now.text)
+            (lexed_of self.now.text) self.now.read self.now.fault }
+        ensures counted { self.now.statements ≡ counted self.now.with_open self.now.read }
+        ensures complete { AreComplete self.now.statements }
+    {
+        self.read.outlines.len() as u32
+    }
+
+    /// Returns which of the nine shapes a statement has. An open theorem has the kind of an axiom,
+    /// if open theorems count as axioms.
+    pub fn kind(&self, statement: u32) -> Kind
+        requires { statement < length self.now.statements }
+        ensures { option_map kind_of (slice_get self.now.statements statement) ≡ Some result }
+    {
+        self.found.listed.kinds[statement as usize]
+    }
+
+    /// Whether there is such a statement and it is an open theorem that counts as an axiom.
+    pub fn is_open(&self, statement: u32) -> bool
+        ensures { result
+            ≡ (self.now.with_open && list_any is_open (statement_at self.now.read statement)) }
+    {
+        if statement >= self.len() {
+            return false;
+        }
+        let outline = self.read.outlines[statement as usize];
+        counts_otherwise(outline.kind, self.kind(statement))
+    }
+
+    /// Returns the place of a statement's last token, a byte offset from 0.
+    pub fn end_at(&self, statement: u32) -> u32
+        requires { statement < length self.now.statements }
+        ensures { option_map last_place (slice_get self.now.statements statement) ≡ Some result }
+    {
+        let kept = self.found.kept.of(statement);
+        kept[kept.len() - 1].start
+    }
+
+    /// Returns the label of a statement, or `None` if it has none.
+    pub fn label(&self, statement: u32) -> Option<&'a [u8]>
+        requires { statement < length self.now.statements }
+        ensures { option_copied result
+            ≡ option_map (λ t. t.word)
+            (option_and_then label_of (slice_get self.now.statements statement)) }
+    {
+        let outline = self.read.outlines[statement as usize];
+        if has_label(outline.kind) {
+            let word = self.found.kept.of(statement)[0];
+            Some(word.bytes(self.text))
+        } else {
+            None
+        }
+    }
+
+    /// Returns the statement that has the label, or `None` if there is none.
+    #[inline(always)]
+    pub fn find(&self, label: &[u8]) -> Option<u32>
+        ensures some { IfSome result
+            (λ k. (k < length self.now.statements)
+            × IsTrue (list_any (is_labelled label.now) (statement_at self.now.statements k))) }
+        ensures only { IfSome result
+            (λ k. (j : ℕ)
+            → list_any (is_labelled label.now) (statement_at self.now.statements j) ≡ true
+            → j ≡ k) }
+        ensures none { IfNone result
+            ((j : ℕ)
+            → list_any (is_labelled label.now) (statement_at self.now.statements j) ≡ false) }
+    {
+        let names = &self.read.names;
+        names.labels.get(Name { bytes: label }).copied()
+    }
+
+    /// Returns the symbols of a statement, the typecode first if it has one. A `${` or `$}` has no
+    /// symbols.
+    pub fn formula(&self, statement: u32) -> &[Sym]
+        requires { statement < length self.now.statements }
+        ensures formula { result.now ≡ formula_at self.now.statements statement }
+        ensures known { All (λ s. s < length (symbol_names self.now.statements)) result.now }
+    {
+        let from = self.read.formulas.places[statement as usize] as usize;
+        let to = self.read.formulas.places[statement as usize + 1] as usize;
+        &self.read.formulas.numbers[from..to]
+    }
+
+    /// Returns the typecode of a `$f`, `$e`, `$a` or `$p`, and `None` for other statements.
+    pub fn typecode(&self, statement: u32) -> Option<Sym>
+        requires { statement < length self.now.statements }
+        ensures typecode { result ≡ typecode_of self.now.statements statement }
+        ensures known { IfSome result (λ s. s < length (symbol_names self.now.statements)) }
+    {
+        if has_label(self.kind(statement)) {
+            self.formula(statement).first().copied()
+        } else {
+            None
+        }
+    }
+
+    /// Returns the number of symbols. The number of each symbol is less than this.
+    pub fn symbol_count(&self) -> u32
+        ensures count { result ≡ length (symbol_names self.now.statements) }
+    {
+        self.found.variables.len() as u32
+    }
+
+    /// Returns the name of a symbol.
+    pub fn name(&self, symbol: Sym) -> &'a [u8]
+        requires { symbol < length (symbol_names self.now.statements) }
+        ensures { slice_get (symbol_names self.now.statements) symbol ≡ Some result.now }
+    {
+        let names = &self.read.names;
+        match names.symbols.get_index(symbol.number() as usize) {
+            Some((name, _)) => name.bytes,
+            None => unreachable!("each symbol has a name"),
+        }
+    }
+
+    /// Whether a symbol is a variable.
+    pub fn is_variable(&self, symbol: Sym) -> bool
+        requires { symbol < length (symbol_names self.now.statements) }
+        ensures { result ≡ is_variable_number self.now.statements symbol }
+    {
+        self.found.variables[symbol.number() as usize]
+    }
+
+    /// Whether a statement is active at the statement `at`, or at the end, which is `len()`. A `${`
+    /// or `$}` is never active.
+    pub fn active_at(&self, statement: u32, at: u32) -> bool
+        requires statement { statement < length self.now.statements }
+        requires at { at ≤ length self.now.statements }
+        ensures { result ≡ is_active self.now.statements statement at }
+    {
+        let kind = self.read.outlines[statement as usize].kind;
+        statement < at && is_active_kind(kind, self.read.blocks.is_open_at(statement, at))
+    }
+
+    /// Returns the frame of an assertion.
+    pub fn frame(&self, assertion: u32) -> &Frame<A>
+        requires { list_any is_assertion (statement_at self.now.statements assertion) ≡ true }
+        ensures hypotheses { result.now.hyps.items
+            ≡ mandatory_hypotheses self.now.statements assertion }
+        ensures pairs { map (λ p. pair p.0 p.1) result.now.pairs.items
+            ≡ mandatory_pairs self.now.statements assertion }
+    {
+        let place = self.found.beside.frames.places[assertion as usize];
+        &self.found.beside.frames.list[place as usize]
+    }
+
+    /// Whether a `$d` that is active at the statement, or at the end, has both variables. Always
+    /// false for a variable and itself.
+    pub fn disjoint_at(&self, statement: u32, x: Sym, y: Sym) -> bool
+        requires { statement ≤ length self.now.statements }
+        ensures { result ≡ disjoint_at self.now.statements statement x y }
+    {
+        x.number() != y.number()
+            && (are_together_near(self, statement, x, y)
+                || are_together(
+                    &self.read.blocks,
+                    &self.found.beside.disjoint_index,
+                    x,
+                    y,
+                    statement,
+                ))
+    }
+
+    /// Returns the words of a theorem's proof, those after its `$=`, and no words if the statement
+    /// isn't a theorem.
+    pub fn proof_words(&self, statement: u32) -> &[Word]
+        requires { statement < length self.now.statements }
+        ensures words { option_map proof_of (slice_get self.now.statements statement)
+            ≡ Some (as_tokens self.now.text result.now) }
+        ensures within { AreWithin self.now.text result.now }
+    {
+        let outline = self.read.outlines[statement as usize];
+        match self.kind(statement) {
+            Kind::Theorem => {
+                let kept = self.found.kept.of(statement);
+                &kept[1..kept.len() - 1]
+            }
+            _ => &[],
+        }
+    }
+
+    /// Returns the theorems, in file order: the `$p` statements, without open theorems if these
+    /// count as axioms.
+    pub fn theorems(&self) -> &[u32]
+        ensures theorems { result.now ≡ theorems self.now.statements }
+        ensures few { length self.now.statements < 2 ^ 31 }
+    {
+        self.found.listed.theorems.as_slice()
+    }
+
+    /// Returns the axioms, in file order: the `$a` statements, and open theorems if these count as
+    /// axioms.
+    pub fn axioms(&self) -> &[u32]
+        ensures axioms { result.now ≡ columns self.now.statements None }
+        ensures few { length self.now.statements < 2 ^ 31 }
+    {
+        self.found.listed.axioms.as_slice()
+    }
+
+    /// Returns the labels of the theorems with indices in `theorems` from `from` up to `to`, each
+    /// after a space.
+    pub fn spaced_labels(&self, from: u32, to: u32) -> &[u8]
+        requires order { from ≤ to }
+        requires within { to ≤ length (theorems self.now.statements) }
+        ensures { result.now
+            ≡ flat_map (λ k. 32 ∷ label_at self.now.statements k)
+            (slice_range (theorems self.now.statements) from to) }
+    {
+        let begin = self.found.listed.spaced.starts[from as usize];
+        let end = self.found.listed.spaced.starts[to as usize];
+        &self.found.listed.spaced.bytes[begin..end]
+    }
+}
+
+/// Whether a statement is a theorem and counts as an axiom, by what it is and what it counts as.
+fn counts_otherwise(is: Kind, counts_as: Kind) -> bool
+    ensures { result ≡ (is_theorem_kind is && is_axiom_kind counts_as) }
+{
+    match is {
+        Kind::Theorem => match counts_as {
+            Kind::Axiom => true,
+            _ => false,
+        },
+        _ => false,
+    }
+}
+
+/// Whether a statement of this kind is active. `is_open` says whether its block is open.
+fn is_active_kind(kind: Kind, is_open: bool) -> bool
+    ensures { result ≡ active_kind kind is_open }
+{
+    match kind {
+        Kind::Constants | Kind::Axiom | Kind::Theorem => true,
+        Kind::Open | Kind::Close => false,
+        _ => is_open,
+    }
+}

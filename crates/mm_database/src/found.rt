@@ -1,0 +1,27 @@
+//! What is found out of the statements once and kept beside them.
+
+use crate::frames::Beside;
+use crate::kept::Kept;
+use crate::listed::Listed;
+use std::alloc::Allocator;
+
+/// For each symbol whether it is a variable; the frames and the `$d` by variables; the lists of
+/// statements as they count; and the words that are needed again.
+pub struct Found<A: Allocator> {
+    pub variables: Vec<bool, A>,
+    pub beside: Beside<A>,
+    pub listed: Listed<A>,
+    pub kept: Kept<A>,
+}
+
+/// Lets all fields go in one call, so that a proof has one step for it at each exit.
+impl<A: Allocator> Drop for Found<A> {
+    fn drop(self) {
+        let Self {
+            variables: _,
+            beside: _,
+            listed: _,
+            kept: _,
+        } = self;
+    }
+}

@@ -1,0 +1,21 @@
+//! The database: what is kept of the statements of a text, and the calls that read it. This layer
+//! knows names by number, blocks, frames and `$d` by variables; it reads no text and makes none of
+//! these lists. It promises that each call of a `Database` returns what the definitions say of the
+//! statements (`Rattle.mm_database.specs.Database.IsDatabase`).
+#![tactic(auto)]
+
+pub mod database;
+pub mod disjoint_index;
+pub mod found;
+pub mod frames;
+pub mod kept;
+pub mod listed;
+pub mod name;
+pub mod names;
+mod near;
+pub mod reading;
+
+pub use database::Database;
+pub use frames::Frame;
+pub use mm_outline::{Kind, Sym};
+pub use mm_spec::{Code, Fault, Word};

@@ -1,0 +1,211 @@
+//! The names before a statement: symbols and labels.
+
+ghost use Rattle.std.specs.Prelude.{◌≡◌, OnOk, IfOk, IfSome, true, false, length, slice_get, get_or};
+ghost use Rattle.std.specs.Prelude.{ℕ, List, [], is_some, Some, None, if◌then◌else◌, bytes_eq};
+ghost use Rattle.std.specs.Option.{option_map};
+ghost use Rattle.mm_spec.specs.Frame.{place_of};
+ghost use Rattle.mm_database.specs.Names.{find, names_of, with_name, are_distinct, AreNoLonger};
+ghost use Rattle.mm_database.specs.Names.{is_variable_in};
+
+use crate::name::Name;
+use indexmap::IndexMap;
+use std::alloc::{AllocError, Allocator};
+use std::hash::{BuildHasherDefault, FoldHasher};
+
+/// What is known of a symbol: a constant, or a variable with its last declaration, its last `$f`
+/// and the typecode of this `$f`.
+#[derive(Clone, Copy, Drop)]
+pub struct Symbol<'a> {
+    pub is_variable: bool,
+    pub declared: u32,
+    pub typed: u32,
+    pub typecode: &'a [u8],
+}
+
+pub type Map<'a, V, A> = IndexMap<Name<'a>, V, BuildHasherDefault<FoldHasher>, A>;
+
+/// The number of guesses.
+const GUESSES: usize = 2048;
+
+/// Stands for a guess that hasn't been made.
+const NO_GUESS: usize = 18_446_744_073_709_551_615;
+
+/// The symbols and the labels.
+pub struct Names<'a, A: Allocator> {
+    pub symbols: Map<'a, Symbol<'a>, A>,
+    pub labels: Map<'a, u32, A>,
+    /// The numbers of symbols, by the first byte, the last byte and the length of their names. A
+    /// guess is verified before use, so the usual symbol is found by comparing it with one name.
+    guesses: Vec<usize, A>,
+    /// The length of the longest symbol in bytes. A longer word is no symbol, and isn't hashed to
+    /// find that out; so a very long symbol is hashed once, when it is declared.
+    longest_symbol: usize,
+    /// The same for labels.
+    longest_label: usize,
+    ghost distinct: { are_distinct (names_of symbols) ≡ true },
+    ghost symbols_no_longer: { AreNoLonger symbols longest_symbol },
+    ghost labels_no_longer: { AreNoLonger labels longest_label },
+}
+
+/// Lets all fields go in one call, so that a proof has one step for it at each exit.
+impl<'a, A: Allocator> Drop for Names<'a, A> {
+    fn drop(self) {
+        let Self {
+            symbols: _,
+            labels: _,
+            guesses: _,
+            longest_symbol: _,
+            longest_label: _,
+        } = self;
+    }
+}
+
+/// Returns the index of the guess for a word.
+fn guess_of(word: &[u8]) -> usize {
+    match (word.first(), word.last()) {
+        (Some(first), Some(last)) => {
+            (37 * *first as usize + 5 * *last as usize + 64 * (word.len() % 32)) % GUESSES
+        }
+        _ => 0,
+    }
+}
+
+/// Sets the guess for words such as `word` to `number`, unless a guess for them has been made.
+fn note_guess<A: Allocator>(guesses: &mut Vec<usize, A>, word: &[u8], number: usize) {
+    if let Some(guess) = guesses.get_mut(guess_of(word)) {
+        if *guess == NO_GUESS {
+            *guess = number;
+        }
+    }
+}
+
+/// Returns names without symbols and labels.
+pub fn no_names<'a, A: Allocator + Copy>(alloc: A) -> Result<Names<'a, A>, AllocError>
+    ensures symbols { IfOk result (λ n. (w : List ℕ) → find n.symbols w ≡ None) }
+    ensures labels { IfOk result (λ n. (w : List ℕ) → find n.labels w ≡ None) }
+    ensures names { IfOk result (λ n. names_of n.symbols ≡ []) }
+{
+    let guesses = vec![in alloc; NO_GUESS; GUESSES]?;
+    Ok(Names {
+        symbols: IndexMap::new(alloc),
+        labels: IndexMap::new(alloc),
+        guesses,
+        longest_symbol: 0,
+        longest_label: 0,
+    })
+}
+
+impl<'a, A: Allocator + Copy> Names<'a, A> {
+    /// Returns the number of the guessed symbol and the symbol, if the guess is right.
+    #[inline(always)]
+    fn guessed(&self, word: &[u8]) -> Option<(usize, &Symbol<'a>)>
+        ensures number { IfSome result (λ p. p.0 ≡ place_of word.now (names_of self.now.symbols)) }
+        ensures symbol { IfSome result (λ p. Some p.1.now ≡ find self.now.symbols word.now) }
+    {
+        let guess = *self.guesses.get(guess_of(word))?;
+        let (name, symbol) = self.symbols.get_index(guess)?;
+        if name.bytes == word {
+            Some((guess, symbol))
+        } else {
+            None
+        }
+    }
+
+    /// Returns what is known of a word as a symbol, or `None` if it isn't a symbol.
+    pub fn symbol(&self, word: &[u8]) -> Option<Symbol<'a>>
+        ensures { result ≡ find self.now.symbols word.now }
+    {
+        let (_, known) = self.numbered(word);
+        known
+    }
+
+    /// Returns the symbol's number, in the order of first declarations, and what is known of it. If
+    /// the word isn't a symbol, returns the count of symbols and `None`.
+    #[inline(always)]
+    pub fn numbered(&self, word: &[u8]) -> (usize, Option<Symbol<'a>>)
+        ensures number { result.0 ≡ place_of word.now (names_of self.now.symbols) }
+        ensures symbol { result.1 ≡ find self.now.symbols word.now }
+    {
+        let (number, symbol) = match self.guessed(word) {
+            Some((number, symbol)) => (number, Some(symbol)),
+            None => self.looked_up(word),
+        };
+        match symbol {
+            Some(symbol) => (number, Some(*symbol)),
+            None => (number, None),
+        }
+    }
+
+    /// Returns the same as `numbered`, with the symbol borrowed. Finds it by the word's hash.
+    fn looked_up(&self, word: &[u8]) -> (usize, Option<&Symbol<'a>>)
+        ensures number { result.0 ≡ place_of word.now (names_of self.now.symbols) }
+        ensures symbol { option_map (λ s. s.now) result.1 ≡ find self.now.symbols word.now }
+    {
+        if word.len() > self.longest_symbol {
+            return (self.symbols.len(), None);
+        }
+        match self.symbols.get_full(Name { bytes: word }) {
+            Some((number, _, symbol)) => (number, Some(symbol)),
+            None => (self.symbols.len(), None),
+        }
+    }
+
+    /// Whether the word is a label.
+    pub fn is_label(&self, word: &[u8]) -> bool
+        ensures { result ≡ is_some (find self.now.labels word.now) }
+    {
+        word.len() <= self.longest_label && self.labels.get(Name { bytes: word }).is_some()
+    }
+
+    /// Sets the entry of the symbol with this name. A new symbol gets the next number.
+    pub fn set_symbol(
+        &mut self,
+        word: &'a [u8],
+        symbol: Symbol<'a>,
+    ) -> Result<(), AllocError>
+        ensures symbols { OnOk result
+            ((w : List ℕ)
+            → find self.new.symbols w
+            ≡ (if bytes_eq word.now w then Some symbol.entry else find self.old.symbols w)) }
+        ensures labels { OnOk result
+            ((w : List ℕ) → find self.new.labels w ≡ find self.old.labels w) }
+        ensures names { OnOk result
+            (names_of self.new.symbols ≡ with_name word.now (names_of self.old.symbols)) }
+    {
+        let (number, _) = self.symbols.insert_full(Name { bytes: word }, symbol)?;
+        note_guess(&mut self.guesses, word, number);
+        self.longest_symbol = self.longest_symbol.max(word.len());
+        Ok(())
+    }
+
+    /// Sets the statement of a label.
+    pub fn set_label(&mut self, word: &'a [u8], statement: u32) -> Result<(), AllocError>
+        ensures labels { OnOk result
+            ((w : List ℕ)
+            → find self.new.labels w
+            ≡ (if bytes_eq word.now w then Some statement else find self.old.labels w)) }
+        ensures symbols { OnOk result (self.new.symbols ≡ self.old.symbols) }
+    {
+        self.labels.insert(Name { bytes: word }, statement)?;
+        self.longest_label = self.longest_label.max(word.len());
+        Ok(())
+    }
+
+    /// Returns for each symbol, by its number, whether it is a variable.
+    pub fn variables(&self, alloc: A) -> Result<Vec<bool, A>, AllocError>
+        ensures count { IfOk result (λ v. length v.items ≡ length (names_of self.now.symbols)) }
+        ensures each { IfOk result
+            (λ v. (i : ℕ) (w : List ℕ) → slice_get (names_of self.now.symbols) i ≡ Some w
+            → get_or v.items i false ≡ is_variable_in (find self.now.symbols w)) }
+    {
+        let mut variables = Vec::new(alloc);
+        for i in 0..self.symbols.len() {
+            let is_variable = match self.symbols.get_index(i) {
+                Some((_, symbol)) => symbol.is_variable,
+                None => false,
+            };
+            variables.push(is_variable)?;
+        }
+        Ok(variables)
+    }
+}

@@ -1,0 +1,37 @@
+use Rattle.std.proofs.Common.{◌∙◌, ◌++◌, ◌∷◌, [], sym, ap, ap₂, arith, append_assoc, append-nil}
+use Rattle.mm_spec.specs.Frame.{place_of}
+use Rattle.mm_outline.specs.Parts.{between, token_at}
+use Rattle.mm_scope.specs.Formulas.{numbers_in}
+use Rattle.mm_database.specs.Names.{names_of}
+use Rattle.mm_scope.proofs.NumberedLaw.{numbers_more, numbers_none}
+use Rattle.mm_scope.proofs.formulas.number_all.Goals as goal
+use Rattle.mm_database.proofs.NamesLaw.{place_le}
+
+pub overflow_cast-number : goal.overflow_cast-number
+overflow_cast-number g c =
+    let ns = names_of c.args.self.now.symbols in
+    let few = c.requires.few in
+    let le = place_le c.bytes.result.now ns in
+    let is = c.numbered-number.ensures.number in
+    omega (arith, le, is, few)
+
+pub loop-at-init : goal.loop-at-init
+loop-at-init g c =
+    sym (append-nil _)
+    ∙ ap (λ l. c.args.numbers.now.items ++ l)
+    (numbers_none c.args.text.now c.args.tokens.now (names_of c.args.self.now.symbols) c.args.from)
+
+pub loop-at-preserved : goal.loop-at-preserved
+loop-at-preserved g c =
+    let text = c.args.text.now in
+    let ws = c.args.tokens.now in
+    let ns = names_of c.args.self.now.symbols in
+    let at = c.loop-at.at in
+    let xs = numbers_in ns (between text ws c.args.from at) in
+    c.in_ok-push.ensures.items
+    ∙ ap₂ (λ x y. x ++ y ∷ []) c.loop-at.invariant
+    (c.new.ensures ∙ c.numbered-number.ensures.number
+    ∙ ap (λ w. place_of w ns) c.bytes.ensures)
+    ∙ append_assoc c.args.numbers.now.items xs (place_of (token_at text ws at).word ns ∷ [])
+    ∙ ap (λ l. c.args.numbers.now.items ++ l)
+    (sym (numbers_more text ws ns c.args.from at (omega arith) (omega arith)))

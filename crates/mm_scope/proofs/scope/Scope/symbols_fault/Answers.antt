@@ -1,0 +1,51 @@
+use Rattle.std.proofs.Common.{◌<◌, ◌≤◌, ◌∙◌, ◌++◌, ◌∷◌, [], ap, ap₂, sym, arith, length}
+use Rattle.std.proofs.Common.{append_assoc}
+use Rattle.mm_spec.specs.Frame.{place_of}
+use Rattle.mm_scope.specs.Formulas.{numbers_in}
+use Rattle.mm_outline.specs.Parts.{token_at, between}
+use Rattle.mm_scope.specs.Judge.{merge, fault_at, is_open_in, symbol_code}
+use Rattle.mm_database.specs.Names.{find, names_of}
+use Rattle.mm_scope.proofs.JudgeLaw.{symbols_more}
+use Rattle.mm_scope.proofs.NumberedLaw.{numbers_more}
+use Rattle.mm_scope.proofs.scope.Scope.symbols_fault.Goals as goal
+use Rattle.mm_database.proofs.NamesLaw.{place_le}
+
+pub overflow_cast-number : goal.overflow_cast-number
+overflow_cast-number g c =
+    let ns = names_of c.args.self.now.names.symbols in
+    let few = c.requires.few in
+    let le = place_le c.bytes.result.now ns in
+    let is = c.numbered-number.ensures.number in
+    omega (arith, le, is, few)
+
+pub loop-at-preserved : goal.loop-at-preserved
+loop-at-preserved g c =
+    let s = c.args.self.now in
+    let text = c.args.text.now in
+    let ws = c.args.tokens.now in
+    let test = c.loop-at-test.true in
+    let within = c.requires.within in
+    let inside : c.loop-at.at < length ws = omega (arith, test, within) in
+    let later : c.args.from ≤ c.loop-at.at = omega arith in
+    record {
+      least = λ n k.
+          c.note-best.ensures
+          ∙ ap (λ o. merge c.loop-at.best (fault_at (token_at text ws c.loop-at.at).at o))
+          (c.symbol_code.ensures
+          ∙ ap (symbol_code (is_open_in s.blocks.of.items s.blocks.ends.items))
+          (c.numbered-number.ensures.symbol ∙ ap (find s.names.symbols) c.bytes.ensures))
+          ∙ symbols_more n (find s.names.symbols) (find s.names.labels)
+          (is_open_in s.blocks.of.items s.blocks.ends.items) k text ws c.args.from c.loop-at.at
+          later inside c.loop-at.best (c.loop-at.invariant.least n k);
+      numbered = (
+          let ns = names_of s.names.symbols in
+          let xs = numbers_in ns (between text ws c.args.from c.loop-at.at) in
+          c.in_ok-push.ensures.items
+          ∙ ap₂ (λ x y. x ++ y ∷ []) c.loop-at.invariant.numbered
+          (c.new.ensures ∙ c.numbered-number.ensures.number
+          ∙ ap (λ w. place_of w ns) c.bytes.ensures)
+          ∙ append_assoc c.args.numbers.now.items xs
+          (place_of (token_at text ws c.loop-at.at).word ns ∷ [])
+          ∙ ap (λ l. c.args.numbers.now.items ++ l)
+          (sym (numbers_more text ws ns c.args.from c.loop-at.at later inside)));
+    }
