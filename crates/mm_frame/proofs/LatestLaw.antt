@@ -193,13 +193,13 @@ module _ (test : Statement → Bool) (db : List Statement) where
               inl (member_push xs last i ∙ ap (λ b. is_member xs i || b) (eq-eqb i last same)
               ∙ or-true (is_member xs i))
 
-  pub walked_end : IsLocalTest → (k : ℕ) (xs : List ℕ) (last : ℕ) → IsWalked test db k xs last
+  pub walked_end : IsLocalTest test → (k : ℕ) (xs : List ℕ) (last : ℕ) → IsWalked test db k xs last
       → last ≡ never → (i : ℕ) → is_member xs i ≡ is_member (active_of test db k) i
   walked_end local k xs last w e i =
       same_tests (is_member xs i) (nat_lt i k && is_on test db i k)
       (λ m. let f = w.only i m in ap₂ (λ a b. a && b) (lt-ltb i k f.0) f.1)
       (λ t. by t (cases_lt i k))
-      ∙ sym (active_member local k i)
+      ∙ sym (active_member test db local k i)
     where
       by : (nat_lt i k && is_on test db i k) ≡ true → (i < k) ⊎ (k ≤ i) → is_member xs i ≡ true
       by t (inr l) =

@@ -9,6 +9,7 @@ use Rattle.mm_outline.specs.Blocks.{lists, Lists, IsBlocks}
 use Rattle.mm_database.specs.Names.{find, names_of}
 use Rattle.mm_scope.specs.Formulas.{AreFormulas}
 use Rattle.mm_scope.specs.declared.reading.Outlined.{Outlined}
+use Rattle.mm_database.specs.declared.reading.Reading.{Reading}
 use Rattle.mm_spec.specs.Text.{is_in}
 use Rattle.mm_scope.specs.Judge.{entry_of}
 use Rattle.mm_scope.specs.WordEntry.{IsEntryOf}
@@ -46,6 +47,16 @@ module _ {A : Type 0} where
     names = names_of r.scope.names.symbols;
     numbers = r.formulas.numbers.items;
     places = r.formulas.places.items;
+  }
+
+  -- what was read, with names and blocks each by itself
+  abbrev pub reading_of : Outlined A → Reading A
+  reading_of r = record {
+    outlines = r.outlines;
+    names = r.scope.names;
+    blocks = r.scope.blocks;
+    formulas = r.formulas;
+    fault = r.fault;
   }
 
 -- a statement that may follow lawful ones

@@ -16,7 +16,7 @@ ghost use Rattle.mm_outline.specs.Parts.{statement_of};
 ghost use Rattle.mm_outline.specs.Tokens.{AreTokens};
 ghost use Rattle.mm_scope.specs.WordEntry.{entry_after, label_after};
 ghost use Rattle.mm_outline.specs.Statements.{active_kind, end_fault_of, lexed, statements};
-ghost use Rattle.mm_scope.specs.Keeps.{Keeps, IsKept, MayTake, kept_by};
+ghost use Rattle.mm_scope.specs.Keeps.{Keeps, IsKept, MayTake, kept_by, reading_of};
 ghost use Rattle.mm_spec.specs.Frame.{first_occurrences};
 
 use crate::formulas::no_formulas;
@@ -50,13 +50,9 @@ impl<'a, A: Allocator> Drop for Outlined<'a, A> {
 }
 
 impl<'a, A: Allocator> Outlined<'a, A> {
-    /// Returns what was read, without the outer structure of the scope.
+    /// Returns what was read, with names and blocks each by itself.
     pub fn into_reading(self) -> Reading<'a, A>
-        ensures outlines { result.outlines ≡ self.outlines }
-        ensures names { result.names ≡ self.scope.names }
-        ensures blocks { result.blocks ≡ self.scope.blocks }
-        ensures formulas { result.formulas ≡ self.formulas }
-        ensures fault { result.fault ≡ self.fault }
+        ensures { result ≡ reading_of self.entry }
     {
         let Outlined {
             outlines,

@@ -93,12 +93,12 @@ member_flat f (j ∷ xs) x =
 
 -- ---- active statements of a kind
 
-module _ (test : Statement → Bool) (db : List Statement) where
-  -- the kinds that are active to the end of their block
-  abbrev pub IsLocalTest : Type 0
-  IsLocalTest = (s : Statement) (b : Bool) → test s ≡ true → is_active_kind s b ≡ b
+-- the kinds that are active to the end of their block
+abbrev pub IsLocalTest : (Statement → Bool) → Type 0
+IsLocalTest test = (s : Statement) (b : Bool) → test s ≡ true → is_active_kind s b ≡ b
 
-  pub active_member : IsLocalTest → (k i : ℕ)
+module _ (test : Statement → Bool) (db : List Statement) where
+  pub active_member : IsLocalTest test → (k i : ℕ)
       → is_member (active_of test db k) i ≡ (nat_lt i k && (list_any test (statement_at db i) && stays db i k))
   active_member local k i =
       member_filter (λ j. list_any test (statement_at db j)) (active db k) i

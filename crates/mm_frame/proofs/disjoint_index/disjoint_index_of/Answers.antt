@@ -1,6 +1,6 @@
-use Rattle.std.proofs.Common.{sym, subst, ℕ, List}
+use Rattle.std.proofs.Common.{sym, subst, ap, ℕ, List}
 use Rattle.mm_outline.specs.Blocks.{lists}
-use Rattle.mm_database.specs.DisjointIndex.{AreKnown, AreSkips}
+use Rattle.mm_database.specs.DisjointIndex.{AreKnown, AreSkips, IsDisjointIndex}
 use Rattle.mm_frame.proofs.GatheredLaw.{are_known}
 use Rattle.mm_frame.proofs.disjoint_index.disjoint_index_of.Goals as goal
 
@@ -18,13 +18,13 @@ pub returns : goal.returns
 returns g c =
     let b =
     lists c.args.blocks.now.of.items c.args.blocks.now.ends.items c.args.blocks.now.open.items in
+    let ps = c.in_ok-pairs.pairs.items in
+    let ss = c.in_ok-skips.skips.items in
+    let is : IsDisjointIndex c.args.tables.now b ps ss =
     record {
       are = c.in_ok-pairs.ensures.are;
       rising = c.in_ok-pairs.ensures.rising;
-      known =
-          are_known c.args.tables.now b c.requires c.in_ok-pairs.pairs.items
-          c.in_ok-pairs.ensures.are;
-      skips_are =
-          subst (λ (ps : List (ℕ × ℕ)). AreSkips b ps c.in_ok-skips.skips.items)
-          c.deref.ensures.value c.in_ok-skips.ensures;
-    }
+      known = are_known c.args.tables.now b c.requires ps c.in_ok-pairs.ensures.are;
+      skips_are = subst (λ (ps : List (ℕ × ℕ)). AreSkips b ps ss) c.deref.ensures.value c.in_ok-skips.ensures;
+    } in
+    rw (ap (λ v. v.items) c.new.ensures.pairs, ap (λ v. v.items) c.new.ensures.skips) is

@@ -9,7 +9,7 @@ use Rattle.mm_database.proofs.NamesLaw.{place_le}
 
 pub overflow_cast-number : goal.overflow_cast-number
 overflow_cast-number g c =
-    let ns = names_of c.args.self.now.symbols in
+    let ns = names_of c.args.names.now.symbols in
     let few = c.requires.few in
     let le = place_le c.bytes.result.now ns in
     let is = c.numbered-number.ensures.number in
@@ -19,13 +19,13 @@ pub loop-at-init : goal.loop-at-init
 loop-at-init g c =
     sym (append-nil _)
     ∙ ap (λ l. c.args.numbers.now.items ++ l)
-    (numbers_none c.args.text.now c.args.tokens.now (names_of c.args.self.now.symbols) c.args.from)
+    (numbers_none c.args.text.now c.args.tokens.now (names_of c.args.names.now.symbols) c.args.from)
 
 pub loop-at-preserved : goal.loop-at-preserved
 loop-at-preserved g c =
     let text = c.args.text.now in
     let ws = c.args.tokens.now in
-    let ns = names_of c.args.self.now.symbols in
+    let ns = names_of c.args.names.now.symbols in
     let at = c.loop-at.at in
     let xs = numbers_in ns (between text ws c.args.from at) in
     c.in_ok-push.ensures.items

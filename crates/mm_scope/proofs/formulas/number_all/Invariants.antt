@@ -8,4 +8,4 @@ abbrev pub invariant-loop-at : goal.invariant-loop-at
 invariant-loop-at g l =
     l.numbers.items
     ≡ l.initial.numbers.items
-    ++ numbers_in (names_of l.self.symbols) (between l.text l.tokens l.from l.at)
+    ++ numbers_in (names_of l.names.symbols) (between l.text l.tokens l.from l.at)

@@ -9,6 +9,9 @@ use Rattle.mm_outline.proofs.TokensLaw.{tokens_stand, tokens_tell, tokens_small,
 use Rattle.mm_database.specs.Names.{names_of}
 use Rattle.mm_scope.proofs.NumberedLaw.{formulas_numbered}
 use Rattle.mm_frame.specs.Tables.{IsSound}
+use Rattle.mm_scope.specs.Keeps.{reading_of}
+use Rattle.mm_database.specs.Database.{IsDatabase, fields_of}
+use Rattle.mm_database.specs.declared.reading.Reading.{Reading}
 use Rattle.mm_stmt.specs.Found.{IsFound}
 use Rattle.mm_stmt.proofs.AssembleLaw.{is_read, names_few, sound}
 use Rattle.mm_database.proofs.HeldLaw.{labels_held, below_held, numbered_held}
@@ -58,8 +61,8 @@ found_in-requires-clause-few_symbols g c =
     names_few text ws c.in_ok-read.read.outlines.items _ _ c.in_ok-read.ensures.read small
     (names_of c.in_ok-read.read.scope.names.symbols) c.in_ok-read.ensures.kept.names_are
 
-pub invariant_of-result : goal.invariant_of-result
-invariant_of-result g c =
+pub Database_new-requires-clause : goal.Database_new-requires-clause
+Database_new-requires-clause g c =
     let text = c.args.text.now in
     let words = words_of text in
     let ws = c.as_slice-tokens.result.now in
@@ -72,32 +75,35 @@ invariant_of-result g c =
     let same : statements text ws os ≡ db = ap (λ ws. statements text ws os) lent in
     let small = subst (λ (ws : List Word). length ws < 2 ^ 31) (sym lent) (tokens_small text) in
     let found = subst (λ ws. IsFound text ws w r c.in_ok-found.found) lent c.in_ok-found.ensures in
-    record {
-      words = tokens_stand text;
-      few = c.in_ok-read.ensures.few;
-      outlines = rw (sym lent) c.in_ok-read.ensures.outlines;
-      kept_are = found.kept;
-      blocks = rw (sym same) kept.keeps.blocks;
-      labels = labels_held w db _ (rw (sym same) kept.keeps.labels_are);
-      symbols = found.symbols;
-      numbered = numbered_held w db _ _ (rw (sym same) (formulas_numbered _ _ _ kept.formulas));
-      frames = found.frames;
-      disjoint_index_is = found.disjoint_index;
-      kinds_are = found.kinds;
-      theorems_are = found.theorems_are;
-      axioms_are = found.axioms_are;
-      below =
-          below_held w db (length os)
-          (λ k h. (subst IsSound same
-          (sound text ws os _ _ c.in_ok-read.ensures.read small _ _ _ kept.keeps
-          c.in_ok-read.ensures.few)).below k (let m = length-map os (statement_of text words) in
-          omega (arith, m, h)));
-      spaced = found.spaced;
-      few_symbols =
-          names_few text ws os _ _ c.in_ok-read.ensures.read small
-          (names_of r.scope.names.symbols) kept.names_are;
-      read = is_read text ws words os _ _ lent refl c.requires.fault c.in_ok-read.ensures.read;
-    }
+    let is : IsDatabase text words os w r.fault (fields_of (reading_of r) c.in_ok-found.found) =
+      record {
+        words = tokens_stand text;
+        few = c.in_ok-read.ensures.few;
+        outlines = rw (sym lent) c.in_ok-read.ensures.outlines;
+        kept_are = found.kept;
+        blocks = rw (sym same) kept.keeps.blocks;
+        labels = labels_held w db _ (rw (sym same) kept.keeps.labels_are);
+        symbols = found.symbols;
+        numbered = numbered_held w db _ _ (rw (sym same) (formulas_numbered _ _ _ kept.formulas));
+        frames = found.frames;
+        disjoint_index_is = found.disjoint_index;
+        kinds_are = found.kinds;
+        theorems_are = found.theorems_are;
+        axioms_are = found.axioms_are;
+        below =
+            below_held w db (length os)
+            (λ k h. (subst IsSound same
+            (sound text ws os _ _ c.in_ok-read.ensures.read small _ _ _ kept.keeps
+            c.in_ok-read.ensures.few)).below k (let m = length-map os (statement_of text words) in
+            omega (arith, m, h)));
+        spaced = found.spaced;
+        few_symbols =
+            names_few text ws os _ _ c.in_ok-read.ensures.read small
+            (names_of r.scope.names.symbols) kept.names_are;
+        read = is_read text ws words os _ _ lent refl c.requires.fault c.in_ok-read.ensures.read;
+      } in
+    subst (λ (x : Reading _). IsDatabase text words x.outlines.items w x.fault
+    (fields_of x c.in_ok-found.found)) (sym c.into_reading.ensures) is
 
 pub returns-clause-read : goal.returns-clause-read
 returns-clause-read g c =
