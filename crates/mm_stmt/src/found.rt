@@ -11,7 +11,7 @@ ghost use Rattle.mm_database.specs.Names.{names_of};
 ghost use Rattle.mm_database.specs.DisjointIndex.{IsDisjointIndex};
 ghost use Rattle.mm_database.specs.Frames.{AreFrames};
 ghost use Rattle.mm_frame.specs.Tables.{IsSound};
-ghost use Rattle.mm_database.specs.Found.{IsFound};
+ghost use Rattle.mm_stmt.specs.Found.{IsFound};
 
 use crate::kept::keep_all;
 use crate::listed::list_all;

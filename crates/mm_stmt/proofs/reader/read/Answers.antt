@@ -10,7 +10,8 @@ use Rattle.mm_database.specs.Names.{names_of}
 use Rattle.mm_scope.proofs.NumberedLaw.{formulas_numbered}
 use Rattle.mm_frame.specs.Tables.{IsSound}
 use Rattle.mm_scope.specs.Keeps.{reading_of}
-use Rattle.mm_database.specs.Database.{IsDatabase, fields_of}
+use Rattle.mm_spec.specs.Output.{IsRead, lexed_of}
+use Rattle.mm_database.specs.Database.{Contents, IsDatabase, fields_of}
 use Rattle.mm_database.specs.declared.reading.Reading.{Reading}
 use Rattle.mm_stmt.specs.Found.{IsFound}
 use Rattle.mm_stmt.proofs.AssembleLaw.{is_read, names_few, sound}
@@ -61,8 +62,8 @@ found_in-requires-clause-few_symbols g c =
     names_few text ws c.in_ok-read.read.outlines.items _ _ c.in_ok-read.ensures.read small
     (names_of c.in_ok-read.read.scope.names.symbols) c.in_ok-read.ensures.kept.names_are
 
-pub Database_new-requires-clause : goal.Database_new-requires-clause
-Database_new-requires-clause g c =
+pub new-requires : goal.new-requires
+new-requires g c =
     let text = c.args.text.now in
     let words = words_of text in
     let ws = c.as_slice-tokens.result.now in
@@ -107,7 +108,13 @@ Database_new-requires-clause g c =
 
 pub returns-clause-read : goal.returns-clause-read
 returns-clause-read g c =
-    is_read c.args.text.now c.as_slice-tokens.result.now
-    (words_of c.args.text.now) c.in_ok-read.read.outlines.items _ _
+    let text = c.args.text.now in
+    let words = words_of text in
+    let is =
+    is_read text c.as_slice-tokens.result.now words c.in_ok-read.read.outlines.items _ _
     (c.as_slice-tokens.ensures.value ∙ c.requires.tokens) refl c.requires.fault
-    c.in_ok-read.ensures.read
+    c.in_ok-read.ensures.read in
+    subst (λ (d : Contents). IsRead (length text) (lexed_of text) d.read d.fault)
+    (sym c.new.ensures)
+    (subst (λ (x : Reading _). IsRead (length text) (lexed_of text)
+    (statements text words x.outlines.items) x.fault) (sym c.into_reading.ensures) is)
