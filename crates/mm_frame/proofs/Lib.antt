@@ -16,3 +16,4 @@ pub mod PairsLaw
 pub mod RisingLaw
 pub mod HypothesesLaw
 pub mod StartsLaw
+pub mod ChainsLaw

@@ -5,3 +5,4 @@ pub mod Pairs
 pub mod Tables
 pub mod Hypotheses
 pub mod Starts
+pub mod Chains
