@@ -32,8 +32,7 @@ chain_kept links l n (j ∷ js) h =
     let within = h.1 in
     let long = length-append links (l ∷ []) in
     let same : get_or (links ++ l ∷ []) (n - 1) (0, 0) ≡ get_or links (n - 1) (0, 0) =
-    get_or_append_left links (l ∷ []) (0, 0) (n - 1) (omega (arith, some, within)) in
-    (
+    get_or_append_left links (l ∷ []) (0, 0) (n - 1) (omega (arith, some, within)) in (
       some,
       omega (arith, within, long),
       ap (λ (q : ℕ × ℕ). q.0) same ∙ h.2,
@@ -47,8 +46,7 @@ chain_more : (links : List (ℕ × ℕ)) (k n : ℕ) (js : List ℕ) → IsChain
 chain_more links k n js h =
     let long = length-append links ((k, n) ∷ []) in
     let last : get_or (links ++ (k, n) ∷ []) (length links + 1 - 1) (0, 0) ≡ (k, n) =
-    get_or_push links (k, n) (0, 0) (length links + 1 - 1) (omega arith) in
-    (
+    get_or_push links (k, n) (0, 0) (length links + 1 - 1) (omega arith) in (
       omega arith,
       omega (arith, long),
       ap (λ (q : ℕ × ℕ). q.0) last,
@@ -376,7 +374,7 @@ module _ (links : List (ℕ × ℕ)) (symbol : ℕ) (old now : List (ℕ × ℕ)
   pub rest_all : (number : ℕ) → IsChain links number all → old ≡ now
       → IsRest links symbol number old now all
   rest_all number c e =
-      record { rest = all; chain = c; pairs = ap (λ ps. ps ++ map (λ j. (symbol, j)) all) e; }
+      record { rest = all; chain = c; pairs = ap (λ ps. ps ++ map (λ j. (symbol, j)) all) e }
 
   pub rest_less : (number : ℕ) → 0 < number → IsRest links symbol number old now all
       → IsRest links symbol (get_or links (number - 1) (0, 0)).1 old

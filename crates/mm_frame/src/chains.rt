@@ -89,10 +89,7 @@ fn add_links<A: Allocator>(
 }
 
 /// Returns the `$d` of each symbol.
-fn chains_of<A: Allocator + Copy>(
-    alloc: A,
-    tables: &Tables<A>,
-) -> Result<Chains<A>, AllocError>
+fn chains_of<A: Allocator + Copy>(alloc: A, tables: &Tables<A>) -> Result<Chains<A>, AllocError>
     ensures count { IfOk result
         (λ c. length c.heads.items ≡ length (symbol_names tables.now)) }
     ensures all { IfOk result

@@ -3,9 +3,8 @@
 
 ghost use Rattle.std.specs.Prelude.{◌≡◌, ◌≢◌, ◌<◌, ◌≤◌, ◌+◌, ◌-◌, ◌&&◌, ◌||◌, ℕ, IfOk, OnOk};
 ghost use Rattle.std.specs.Prelude.{length, get_or, nat_eq, nat_lt, nat_le, true, false};
-ghost use Rattle.mm_spec.specs.Derivation.{is_member};
 ghost use Rattle.mm_outline.specs.Blocks.{IsBlocks, lists, end_of};
-ghost use Rattle.mm_frame.specs.DisjointIndex.{has_symbol, is_live, AreKnown, AreSkips};
+ghost use Rattle.mm_frame.specs.DisjointIndex.{is_live, AreKnown, AreSkips};
 ghost use Rattle.mm_frame.specs.DisjointIndex.{IsDisjointIndex};
 ghost use Rattle.mm_frame.specs.DisjointIndex.{Covers};
 ghost use Rattle.mm_frame.specs.Pairs.{has_pair, AreRising, is_before};

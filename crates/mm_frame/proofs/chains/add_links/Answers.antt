@@ -1,4 +1,4 @@
-use Rattle.std.proofs.Common.{◌≡◌, ◌∙◌, ℕ, Bool, List, ◌&&◌, ◌||◌, length, nat_eq, ap, sym, take, subst, arith, take_all}
+use Rattle.std.proofs.Common.{◌∙◌, ℕ, List, ◌&&◌, ◌||◌, nat_eq, subst, arith, take_all}
 use Rattle.mm_spec.specs.Derivation.{is_member}
 use Rattle.mm_frame.specs.Chains.{AreChains}
 use Rattle.mm_frame.proofs.ChainsLaw.{more_symbols, same_chains}

@@ -1,4 +1,4 @@
-use Rattle.std.proofs.Common.{◌≡◌, ◌∙◌, ◌+◌, ◌-◌, ◌<◌, ◌≤◌, ℕ, List, length, get_or, refl, sym, ap, arith, replicate}
+use Rattle.std.proofs.Common.{◌≡◌, ◌∙◌, ◌+◌, ◌-◌, ◌<◌, ℕ, List, length, get_or, refl, sym, ap, arith, replicate}
 use Rattle.std.proofs.lemmas.List.{length-replicate, get_or-replicate}
 use Rattle.mm_frame.proofs.ChainsLaw.{none_yet, linked_none, same_chains, with_disjoint}
 use Rattle.mm_frame.proofs.ChainsLaw.{without_disjoint, symbol_below}

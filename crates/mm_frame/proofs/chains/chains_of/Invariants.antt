@@ -1,4 +1,4 @@
-use Rattle.std.proofs.Common.{◌≡◌, ℕ, ◌≤◌, ◌&&◌, length, nat_le}
+use Rattle.std.proofs.Common.{◌≡◌, ◌≤◌, ◌&&◌, length, nat_le}
 use Rattle.mm_spec.specs.Frame.{symbol_names}
 use Rattle.mm_frame.specs.Chains.{AreLinked, AreChains}
 use Rattle.mm_frame.specs.DisjointIndex.{has_symbol}

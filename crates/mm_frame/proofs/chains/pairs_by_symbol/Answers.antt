@@ -1,5 +1,5 @@
-use Rattle.std.proofs.Common.{◌<◌, ◌≤◌, ℕ, length, get_or, arith}
-use Rattle.mm_frame.proofs.ChainsLaw.{pairs_none, pairs_more, pairs_all}
+use Rattle.std.proofs.Common.{◌<◌, ◌≤◌, length, get_or, arith}
+use Rattle.mm_frame.proofs.ChainsLaw.{pairs_more, pairs_all}
 use Rattle.mm_frame.proofs.chains.pairs_by_symbol.Goals as goal
 
 pub loop-symbol-preserved : goal.loop-symbol-preserved
