@@ -2,12 +2,12 @@
 use Rattle.std.proofs.Common.{◌≡◌, ◌≢◌, ℕ, zero, suc, ◌+◌, ◌-◌, ◌<◌, ◌≤◌, Bool, true, false, ◌&&◌}
 use Rattle.std.proofs.Common.{◌||◌, List, [], ◌∷◌, ◌++◌, length, get_or, nat_eq, nat_lt, nat_le}
 use Rattle.std.proofs.Common.{refl, sym, ap, ap₂, ◌∙◌, arith, true≢false, ◌⊎◌, inl, inr}
-use Rattle.std.proofs.lemmas.Bool.{cases_lt, cases_eq, cases_order, lt-ltb, ltb-true, le-ltb}
-use Rattle.std.proofs.lemmas.Bool.{le-leb, leb-true, eq-eqb, eqb-true, ne_eqb}
+use Rattle.std.proofs.lemmas.Bool.{cases_lt, cases_eq, cases_order, lt-ltb, ltb-true}
+use Rattle.std.proofs.lemmas.Bool.{le-leb, leb-true, eq-eqb, eqb-true}
 use Rattle.std.proofs.lemmas.List.Folds.{list_any-append}
 use Rattle.std.specs.List.{list_any}
 use Rattle.std.specs.List.Sorted.{IsPartitionedBy}
-use Rattle.std.proofs.Math.Bool.{and-false, and-true, or-false, or-true}
+use Rattle.std.proofs.Math.Bool.{or-false, or-true}
 use Rattle.std.proofs.lemmas.Bool.{and_parts, false_from_ne_true}
 use Rattle.mm_spec.specs.Statement.{Statement}
 use Rattle.mm_spec.specs.Scope.{statement_at}
@@ -99,81 +99,7 @@ partitioned ps h x y i j d l m e = by (cases_eq i j)
         (before_through (get_or ps i d).0 (get_or ps i d).1 (get_or ps j d).0 (get_or ps j d).1 x y
         (rising_at ps h i j d (omega arith) m) (before_is (get_or ps j d) x y e))
 
--- ---- each symbol with each `$d` that has it
-
-lt_next : (j k : ℕ) → nat_lt j (k + 1) ≡ (nat_lt j k || nat_eq j k)
-lt_next j k = by (cases_order j k)
-  where
-    by : (j ≡ k) ⊎ ((j < k) ⊎ (k < j)) → nat_lt j (k + 1) ≡ (nat_lt j k || nat_eq j k)
-    by (inl e) =
-        lt-ltb j (k + 1) (omega (arith, e))
-        ∙ sym (ap (λ b. nat_lt j k || b) (eq-eqb j k e) ∙ or-true (nat_lt j k))
-    by (inr (inl l)) =
-        lt-ltb j (k + 1) (omega (arith, l)) ∙ sym (ap (λ b. b || nat_eq j k) (lt-ltb j k l))
-    by (inr (inr l)) =
-        le-ltb j (k + 1) (omega (arith, l))
-        ∙ sym (ap₂ (λ a b. a || b) (le-ltb j k (omega (arith, l)))
-        (ne_eqb j k (λ e. absurd (omega (arith, l, e)))))
-
-module _ (db : List Statement) (k : ℕ) (old : List (ℕ × ℕ))
-    (are : (x j : ℕ) → has_pair old x j ≡ (nat_lt j k && has_symbol db x j)) where
-  pub with_disjoint : (now : List (ℕ × ℕ))
-      → list_any is_disjoint_statement (statement_at db k) ≡ true
-      → ((x j : ℕ)
-      → has_pair now x j ≡ (has_pair old x j || (is_member (formula_at db k) x && nat_eq j k)))
-      → (x j : ℕ) → has_pair now x j ≡ (nat_lt j (k + 1) && has_symbol db x j)
-  with_disjoint now d is x j =
-      is x j ∙ ap (λ b. b || (is_member (formula_at db k) x && nat_eq j k)) (are x j)
-      ∙ by (cases_eq j k) ∙ sym (ap (λ b. b && has_symbol db x j) (lt_next j k))
-    where
-      by : (j ≡ k) ⊎ (j ≢ k)
-          → ((nat_lt j k && has_symbol db x j) || (is_member (formula_at db k) x && nat_eq j k))
-          ≡ ((nat_lt j k || nat_eq j k) && has_symbol db x j)
-      by (inl e) =
-          ap₂ (λ a b. (a && has_symbol db x j) || (is_member (formula_at db k) x && b))
-          (le-ltb j k (omega (arith, e))) (eq-eqb j k e)
-          ∙ and-true (is_member (formula_at db k) x)
-          ∙ sym (ap₂ (λ a b. (a || b) && has_symbol db x j) (le-ltb j k (omega (arith, e)))
-          (eq-eqb j k e)
-          ∙ ap (has_symbol db x) e ∙ ap (λ b. b && is_member (formula_at db k) x) d)
-      by (inr n) =
-          ap (λ b. (nat_lt j k && has_symbol db x j) || (is_member (formula_at db k) x && b))
-          (ne_eqb j k n)
-          ∙ ap (λ b. (nat_lt j k && has_symbol db x j) || b)
-          (and-false (is_member (formula_at db k) x))
-          ∙ or-false (nat_lt j k && has_symbol db x j)
-          ∙ sym (ap (λ b. (nat_lt j k || b) && has_symbol db x j) (ne_eqb j k n)
-          ∙ ap (λ b. b && has_symbol db x j) (or-false (nat_lt j k)))
-
-  pub without_disjoint : list_any is_disjoint_statement (statement_at db k) ≡ false → (x j : ℕ)
-      → has_pair old x j ≡ (nat_lt j (k + 1) && has_symbol db x j)
-  without_disjoint d x j =
-      are x j ∙ by (cases_eq j k) ∙ sym (ap (λ b. b && has_symbol db x j) (lt_next j k))
-    where
-      by : (j ≡ k) ⊎ (j ≢ k)
-          → (nat_lt j k && has_symbol db x j) ≡ ((nat_lt j k || nat_eq j k) && has_symbol db x j)
-      by (inl e) =
-          let none : has_symbol db x j
-          ≡ false = ap (has_symbol db x) e ∙ ap (λ b. b && is_member (formula_at db k) x) d in
-          ap (λ b. nat_lt j k && b) none ∙ and-false (nat_lt j k)
-          ∙ sym (ap (λ b. (nat_lt j k || nat_eq j k) && b) none
-          ∙ and-false (nat_lt j k || nat_eq j k))
-      by (inr n) =
-          sym (ap (λ b. (nat_lt j k || b) && has_symbol db x j) (ne_eqb j k n)
-          ∙ ap (λ b. b && has_symbol db x j) (or-false (nat_lt j k)))
-
-pub all_symbols : (db : List Statement) (x j : ℕ)
-    → (nat_lt j (length db) && has_symbol db x j) ≡ has_symbol db x j
-all_symbols db x j = by (has_symbol db x j) refl
-  where
-    by : (b : Bool) → has_symbol db x j ≡ b → (nat_lt j (length db) && b) ≡ b
-    by true e =
-        ap (λ b. b && true)
-        (lt-ltb j (length db)
-        (is_there is_disjoint_statement db j
-        (and_parts (list_any is_disjoint_statement (statement_at db j))
-        (is_member (formula_at db j) x) e).0))
-    by false e = and-false (nat_lt j (length db))
+-- ---- the blocks of the pairs
 
 pub are_known : (db : List Statement) (b : Lists) → IsBlocks db b → (ps : List (ℕ × ℕ))
     → ((x j : ℕ) → has_pair ps x j ≡ has_symbol db x j) → AreKnown b ps
