@@ -2,12 +2,12 @@
 use Rattle.std.proofs.Common.{◌≡◌, ◌≢◌, ℕ, zero, suc, ◌+◌, ◌-◌, ◌<◌, ◌≤◌, Bool, true, false, ◌&&◌}
 use Rattle.std.proofs.Common.{◌||◌, List, [], ◌∷◌, ◌++◌, length, get_or, nat_eq, nat_lt, nat_le}
 use Rattle.std.proofs.Common.{refl, sym, ap, ap₂, ◌∙◌, arith, true≢false, ◌⊎◌, inl, inr}
-use Rattle.std.proofs.lemmas.Bool.{cases_lt, cases_eq, cases_order, lt-ltb, ltb-true, le-ltb}
-use Rattle.std.proofs.lemmas.Bool.{le-leb, leb-true, eq-eqb, eqb-true, ne_eqb}
+use Rattle.std.proofs.lemmas.Bool.{cases_lt, cases_eq, cases_order, lt-ltb, ltb-true}
+use Rattle.std.proofs.lemmas.Bool.{le-leb, leb-true, eq-eqb, eqb-true}
 use Rattle.std.proofs.lemmas.List.Folds.{list_any-append}
 use Rattle.std.specs.List.{list_any}
 use Rattle.std.specs.List.Sorted.{IsPartitionedBy}
-use Rattle.std.proofs.Math.Bool.{and-false, and-true, or-false, or-true}
+use Rattle.std.proofs.Math.Bool.{or-false, or-true}
 use Rattle.std.proofs.lemmas.Bool.{and_parts, false_from_ne_true}
 use Rattle.mm_spec.specs.Statement.{Statement}
 use Rattle.mm_spec.specs.Scope.{statement_at}
@@ -98,6 +98,20 @@ partitioned ps h x y i j d l m e = by (cases_eq i j)
         is_before_if (get_or ps i d) x y
         (before_through (get_or ps i d).0 (get_or ps i d).1 (get_or ps j d).0 (get_or ps j d).1 x y
         (rising_at ps h i j d (omega arith) m) (before_is (get_or ps j d) x y e))
+
+-- ---- the blocks of the pairs
+
+pub are_known : (db : List Statement) (b : Lists) → IsBlocks db b → (ps : List (ℕ × ℕ))
+    → ((x j : ℕ) → has_pair ps x j ≡ has_symbol db x j) → AreKnown b ps
+are_known db b blocks ps are p l =
+    let j = (get_or ps p (0, 0)).1 in
+    let x = (get_or ps p (0, 0)).0 in
+    let e = sym (are x j) ∙ at_has ps p (0, 0) l in
+    let m =
+    is_there is_disjoint_statement db j
+    (and_parts (list_any is_disjoint_statement (statement_at db j))
+    (is_member (formula_at db j) x) e).0 in
+    (let c = blocks.count in omega (arith, c, m), blocks.known j m)
 
 -- ---- the way back
 

@@ -1,8 +1,9 @@
 -- Lists are identified by their members: an ascending list with the right members is the right list
--- (`filter_is` in `RisingLaw.antt` of `mm_spec`, `unique` in `PairsLaw.antt`). `candidate_open` and `walked_end`
+-- (`filter_is` of `mm_spec`, `unique` in `PairsLaw.antt`). `candidate_open` and `walked_end`
 -- (`LatestLaw.antt`) find the active `$e`, `mandatory_is` the variables, and `hypotheses_are`
--- (`HypothesesLaw.antt`) the hypotheses. `with_disjoint` and `are_known` (`GatheredLaw.antt`)
--- give `IsDisjointIndex`, the `$d` by variables, and `pairs_are` (`DisjointLaw.antt`) the pairs.
+-- (`HypothesesLaw.antt`) the hypotheses. `with_disjoint` and `pairs_more` (`ChainsLaw.antt`) give the
+-- `$d` by variables, with `are_known` of `mm_database` `IsDisjointIndex`, and `pairs_are`
+-- (`DisjointLaw.antt`) the pairs.
 -- The loop of `frames_of` keeps `AreFramesUpTo` by `frames_more` and `frames_pass`
 -- (`FramesLaw.antt`). So `gather` has `AreFrames`.
 pub mod DisjointLaw
@@ -10,7 +11,7 @@ pub mod FloatLaw
 pub mod FramesLaw
 pub mod LatestLaw
 pub mod MarksLaw
-pub mod GatheredLaw
 pub mod NestedLaw
 pub mod PairsLaw
 pub mod HypothesesLaw
+pub mod ChainsLaw

@@ -1,3 +1,4 @@
 pub mod Latest
 pub mod Tables
 pub mod Hypotheses
+pub mod Chains

@@ -2,7 +2,6 @@
 
 ghost use Rattle.std.specs.Prelude.{◌≡◌, ◌≢◌, ◌<◌, ◌≤◌, ◌+◌, ◌-◌, ◌&&◌, ◌||◌, ℕ, IfOk, OnOk};
 ghost use Rattle.std.specs.Prelude.{length, get_or, nat_eq, nat_lt, nat_le, true, false};
-ghost use Rattle.mm_spec.specs.Derivation.{is_member};
 ghost use Rattle.mm_outline.specs.Blocks.{IsBlocks, lists, end_of};
 ghost use Rattle.mm_database.specs.DisjointIndex.{has_symbol, is_live, AreKnown, AreSkips};
 ghost use Rattle.mm_database.specs.DisjointIndex.{IsDisjointIndex};
@@ -10,6 +9,7 @@ ghost use Rattle.mm_database.specs.DisjointIndex.{Covers};
 ghost use Rattle.mm_database.specs.Pairs.{has_pair, AreRising, is_before};
 ghost use Rattle.mm_database.specs.Starts.{IsStart, AreStarts};
 
+use crate::chains::pairs_by_symbol;
 use crate::tables::Tables;
 use mm_database::disjoint_index::DisjointIndex;
 use mm_outline::blocks::Blocks;
@@ -23,41 +23,6 @@ pub(crate) fn sort_and_dedup<A: Allocator>(pairs: &mut Vec<(u32, u32), A>)
 {
     pairs.sort_unstable();
     pairs.dedup();
-}
-
-/// Appends each symbol, paired with the statement.
-fn add_symbols<A: Allocator>(
-    symbols: &[Sym],
-    statement: u32,
-    pairs: &mut Vec<(u32, u32), A>,
-) -> Result<(), AllocError>
-    ensures { OnOk result
-        ((x j : ℕ)
-        → has_pair pairs.new.items x j
-        ≡ (has_pair pairs.old.items x j || (is_member symbols.now x && nat_eq j statement))) }
-{
-    for symbol in symbols {
-        pairs.push((symbol.number(), statement))?;
-    }
-    Ok(())
-}
-
-/// Returns each variable with each `$d` that has it, in ascending order.
-fn pairs_by_symbol<A: Allocator + Copy>(
-    alloc: A,
-    tables: &Tables<A>,
-) -> Result<Vec<(u32, u32), A>, AllocError>
-    ensures rising { IfOk result (λ v. AreRising v.items) }
-    ensures are { IfOk result (λ v. (x j : ℕ) → has_pair v.items x j ≡ has_symbol tables.now x j) }
-{
-    let mut pairs = Vec::new(alloc);
-    for k in 0..tables.len() {
-        if tables.is_disjoint(k) {
-            add_symbols(tables.formula(k), k, &mut pairs)?;
-        }
-    }
-    sort_and_dedup(&mut pairs);
-    Ok(pairs)
 }
 
 /// Whether `pair` has the symbol of the pair `by`, and a block that ends no later.

@@ -26,11 +26,7 @@ fn filled<A: Allocator + Copy>(alloc: A, value: u32, count: u32) -> Result<Vec<u
     ensures count { IfOk result (λ v. length v.items ≡ count) }
     ensures each { IfOk result (λ v. (i : ℕ) → i < count → slice_index v.items i ≡ value) }
 {
-    let mut all = Vec::new(alloc);
-    for _ in 0..count {
-        all.push(value)?;
-    }
-    Ok(all)
+    vec![in alloc; value; count as usize]
 }
 
 /// Notes the statement, if it is a `$f`, as the last `$f` of its variable.

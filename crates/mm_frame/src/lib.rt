@@ -5,6 +5,7 @@
 #![tactic(auto)]
 
 pub mod active;
+pub mod chains;
 pub mod disjoint;
 pub mod disjoint_index;
 pub mod frames;

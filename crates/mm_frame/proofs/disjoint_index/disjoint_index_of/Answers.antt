@@ -1,7 +1,7 @@
 use Rattle.std.proofs.Common.{sym, subst, ap, ℕ, List}
 use Rattle.mm_outline.specs.Blocks.{lists}
 use Rattle.mm_database.specs.DisjointIndex.{AreKnown, AreSkips, IsDisjointIndex}
-use Rattle.mm_frame.proofs.GatheredLaw.{are_known}
+use Rattle.mm_database.proofs.DisjointIndexLaw.{are_known}
 use Rattle.mm_frame.proofs.disjoint_index.disjoint_index_of.Goals as goal
 
 pub skips_of-requires : goal.skips_of-requires

@@ -1,0 +1,42 @@
+use Rattle.std.proofs.Common.{◌≡◌, ◌<◌, ◌+◌, length, get_or, sym, arith, ◌∙◌}
+use Rattle.std.proofs.lemmas.List.{get_or_default}
+use Rattle.mm_frame.proofs.ChainsLaw.{begun, linked_more, chains_more}
+use Rattle.mm_frame.proofs.chains.add_link.Goals as goal
+
+pub returns-in_ok-push-clause-linked : goal.returns-in_ok-push-clause-linked
+returns-in_ok-push-clause-linked g c =
+    let heads = c.args.chains.now.heads.items in
+    let links = c.args.chains.now.links.items in
+    let x = c.number-place.result in
+    let here : x < length heads = omega (arith, c.number-place.ensures, c.requires.symbol) in
+    let head = c.index-head.ensures ∙ get_or_default heads x c.index-head.result.now 0 here in
+    let count : c.len.result ≡ length links + 1 =
+    omega (arith, c.len.ensures, c.in_ok-push.ensures.len) in
+    rw (c.in_ok-push.ensures.items, count, head)
+    (linked_more heads links x c.args.statement here c.requires.linked)
+
+pub returns-in_ok-push-clause-chains : goal.returns-in_ok-push-clause-chains
+returns-in_ok-push-clause-chains g c = λ has h.
+    let heads = c.args.chains.now.heads.items in
+    let links = c.args.chains.now.links.items in
+    let x = c.number-place.result in
+    let here : x < length heads = omega (arith, c.number-place.ensures, c.requires.symbol) in
+    let head : c.index-head.result.now ≡ get_or heads x 0 =
+    c.index-head.ensures ∙ get_or_default heads x c.index-head.result.now 0 here in
+    let count : c.len.result ≡ length links + 1 =
+    omega (arith, c.len.ensures, c.in_ok-push.ensures.len) in
+    rw (c.in_ok-push.ensures.items, count, head)
+    (chains_more has heads links c.args.symbol x c.args.statement (sym c.number-place.ensures) here
+    (rw (← head, ← c.deref.ensures.value) (c.begins_with.ensures.none c.if-not-begins_with.true)) h)
+
+pub returns-else-not-begins_with-clause-chains : goal.returns-else-not-begins_with-clause-chains
+returns-else-not-begins_with-clause-chains g c = λ has h.
+    let heads = c.args.chains.now.heads.items in
+    let links = c.args.chains.now.links.items in
+    let x = c.number-place.result in
+    let here : x < length heads = omega (arith, c.number-place.ensures, c.requires.symbol) in
+    let head : c.index-head.result.now ≡ get_or heads x 0 =
+    c.index-head.ensures ∙ get_or_default heads x c.index-head.result.now 0 here in
+    let met = c.begins_with.ensures.some c.if-not-begins_with.false in
+    begun has heads links c.args.symbol x c.args.statement (sym c.number-place.ensures) here
+    (rw (← head) met.0) (rw (← head, ← c.deref.ensures.value) met.1) h

@@ -1,0 +1,17 @@
+use Rattle.std.proofs.Common.{◌≡◌, ◌≤◌, ◌&&◌, length, nat_le}
+use Rattle.mm_spec.specs.Frame.{symbol_names}
+use Rattle.mm_frame.specs.Chains.{AreLinked, AreChains}
+use Rattle.mm_database.specs.DisjointIndex.{has_symbol}
+use Rattle.mm_frame.proofs.chains.chains_of.Given as goal
+
+abbrev pub invariant-loop-left : goal.invariant-loop-left
+invariant-loop-left g l = record {
+  within : l.left ≤ length l.tables;
+  count : length l.chains.heads.items ≡ length (symbol_names l.tables);
+  linked : AreLinked l.chains.heads.items l.chains.links.items;
+  chains : AreChains (λ x j. nat_le l.left j && has_symbol l.tables x j) l.left
+      l.chains.heads.items l.chains.links.items;
+}
+
+abbrev pub decreases-loop-left : goal.decreases-loop-left
+decreases-loop-left g l = l.left

@@ -1,0 +1,5 @@
+use Rattle.mm_frame.proofs.ChainsLaw.{ArePairsTo}
+use Rattle.mm_frame.proofs.chains.pairs_by_symbol.Given as goal
+
+abbrev pub invariant-loop-symbol : goal.invariant-loop-symbol
+invariant-loop-symbol g l = ArePairsTo l.tables l.symbol l.pairs.items

@@ -1,0 +1,34 @@
+-- The `$d` statements of each symbol, as a chain of links. Link n is the one with index n - 1, and no
+-- link has the number 0, which ends a chain. A link has a statement and the number of the next link.
+use Rattle.std.specs.Prelude.{◌≡◌, ℕ, ◌<◌, ◌≤◌, ◌+◌, ◌-◌, Bool, List, [], ◌∷◌, length, get_or}
+use Rattle.mm_spec.specs.Derivation.{is_member}
+
+-- ascending, from `least` on
+abbrev pub IsRisingFrom : ℕ → List ℕ → Type 0
+IsRisingFrom least [] = Unit {0}
+IsRisingFrom least (j ∷ js) = (least ≤ j) × IsRisingFrom (j + 1) js
+
+-- the links from link n on have these statements, in this order
+abbrev pub IsChain : List (ℕ × ℕ) → ℕ → List ℕ → Type 0
+IsChain links n [] = n ≡ 0
+IsChain links n (j ∷ js) =
+    (0 < n) × (n ≤ length links) × ((get_or links (n - 1) (0, 0)).0 ≡ j)
+    × IsChain links (get_or links (n - 1) (0, 0)).1 js
+
+-- each chain begins at one of the links, and each link leads to one before it
+pub record AreLinked (heads : List ℕ) (links : List (ℕ × ℕ)) : Type 0 where
+  pub within : (x : ℕ) → x < length heads → get_or heads x 0 ≤ length links
+  pub down : (i : ℕ) → i < length links → (get_or links i (0, 0)).1 ≤ i
+
+-- the chain from link n on has the statements that pass the test, in ascending order, all of them
+-- from `least` on
+pub record HasChain (has : ℕ → Bool) (least : ℕ) (links : List (ℕ × ℕ)) (n : ℕ) : Type 0 where
+  pub statements : List ℕ
+  pub chain : IsChain links n statements
+  pub rising : IsRisingFrom least statements
+  pub are : (j : ℕ) → is_member statements j ≡ has j
+
+-- the chain of each symbol x has the statements j for which `has x j` is true
+abbrev pub AreChains : (ℕ → ℕ → Bool) → ℕ → List ℕ → List (ℕ × ℕ) → Type 0
+AreChains has least heads links =
+    (x : ℕ) → x < length heads → HasChain (has x) least links (get_or heads x 0)

@@ -1,0 +1,152 @@
+//! The `$d` statements of each symbol, found without a sort: a walk over the statements from the
+//! last to the first puts each `$d` in front of the chains of its symbols. So each chain is in
+//! ascending order.
+
+ghost use Rattle.std.specs.Prelude.{◌≡◌, ◌≢◌, ◌<◌, ◌≤◌, ◌-◌, ◌&&◌, ◌||◌, ◌++◌, ℕ, IfOk, OnOk};
+ghost use Rattle.std.specs.Prelude.{All, Bool, List, length, map, get_or, nat_eq, true, false};
+ghost use Rattle.mm_spec.specs.Derivation.{is_member};
+ghost use Rattle.mm_spec.specs.Frame.{symbol_names};
+ghost use Rattle.mm_frame.specs.Chains.{AreChains, AreLinked, IsChain};
+ghost use Rattle.mm_database.specs.DisjointIndex.{has_symbol};
+ghost use Rattle.mm_database.specs.Pairs.{has_pair, AreRising};
+
+use crate::tables::Tables;
+use mm_outline::symbol::Sym;
+use std::alloc::{AllocError, Allocator};
+
+/// The `$d` statements of each symbol.
+struct Chains<A: Allocator> {
+    /// For each symbol the number of its first link, or 0 if it has none.
+    heads: Vec<usize, A>,
+    /// A statement with the number of the next link, or with 0 if it is the last of its chain. The
+    /// number of a link is its index plus 1.
+    links: Vec<(u32, usize), A>,
+}
+
+/// Lets all fields go in one call, so that a proof has one step for it at each exit.
+impl<A: Allocator> Drop for Chains<A> {
+    fn drop(self) {
+        let Self { heads: _, links: _ } = self;
+    }
+}
+
+/// Whether the chain from a link on begins with the statement.
+fn begins_with(links: &[(u32, usize)], number: usize, statement: u32) -> bool
+    requires { number ≤ length links.now }
+    ensures some { result ≡ true
+        → (0 < number) × ((get_or links.now (number - 1) (0, 0)).0 ≡ statement) }
+    ensures none { result ≡ false → 0 < number
+        → (get_or links.now (number - 1) (0, 0)).0 ≢ statement }
+{
+    number > 0 && links[number - 1].0 == statement
+}
+
+/// Puts the statement in front of the symbol's chain, unless it is there already.
+fn add_link<A: Allocator>(
+    symbol: Sym,
+    statement: u32,
+    chains: &mut Chains<A>,
+) -> Result<(), AllocError>
+    requires symbol { symbol < length chains.old.heads.items }
+    requires linked { AreLinked chains.old.heads.items chains.old.links.items }
+    ensures count { OnOk result (length chains.new.heads.items ≡ length chains.old.heads.items) }
+    ensures linked { OnOk result (AreLinked chains.new.heads.items chains.new.links.items) }
+    ensures chains { OnOk result
+        ((has : ℕ → ℕ → Bool)
+        → AreChains has statement chains.old.heads.items chains.old.links.items
+        → AreChains (λ x j. has x j || (nat_eq x symbol && nat_eq j statement)) statement
+        chains.new.heads.items chains.new.links.items) }
+{
+    let place = symbol.number() as usize;
+    let head = chains.heads[place];
+    if !begins_with(&chains.links, head, statement) {
+        chains.links.push((statement, head))?;
+        chains.heads[place] = chains.links.len();
+    }
+    Ok(())
+}
+
+/// Puts the statement in front of the chain of each symbol.
+fn add_links<A: Allocator>(
+    symbols: &[Sym],
+    statement: u32,
+    chains: &mut Chains<A>,
+) -> Result<(), AllocError>
+    requires symbols { All (λ s. s < length chains.old.heads.items) symbols.now }
+    requires linked { AreLinked chains.old.heads.items chains.old.links.items }
+    ensures count { OnOk result (length chains.new.heads.items ≡ length chains.old.heads.items) }
+    ensures linked { OnOk result (AreLinked chains.new.heads.items chains.new.links.items) }
+    ensures chains { OnOk result
+        ((has : ℕ → ℕ → Bool)
+        → AreChains has statement chains.old.heads.items chains.old.links.items
+        → AreChains (λ x j. has x j || (is_member symbols.now x && nat_eq j statement)) statement
+        chains.new.heads.items chains.new.links.items) }
+{
+    for symbol in symbols {
+        add_link(*symbol, statement, chains)?;
+    }
+    Ok(())
+}
+
+/// Returns the `$d` of each symbol.
+fn chains_of<A: Allocator + Copy>(alloc: A, tables: &Tables<A>) -> Result<Chains<A>, AllocError>
+    ensures count { IfOk result
+        (λ c. length c.heads.items ≡ length (symbol_names tables.now)) }
+    ensures all { IfOk result
+        (λ c. (x j : ℕ) → has_symbol tables.now x j ≡ true → x < length c.heads.items) }
+    ensures linked { IfOk result (λ c. AreLinked c.heads.items c.links.items) }
+    ensures chains { IfOk result
+        (λ c. AreChains (has_symbol tables.now) 0 c.heads.items c.links.items) }
+{
+    let heads = vec![in alloc; 0; tables.symbol_count() as usize]?;
+    let mut chains = Chains {
+        heads,
+        links: Vec::new(alloc),
+    };
+    let mut left = tables.len();
+    while left > 0 {
+        left -= 1;
+        if tables.is_disjoint(left) {
+            add_links(tables.formula(left), left, &mut chains)?;
+        }
+    }
+    Ok(chains)
+}
+
+/// Appends the symbol with each statement of the chain that begins at a link.
+fn add_chain<A: Allocator>(
+    chains: &Chains<A>,
+    symbol: u32,
+    pairs: &mut Vec<(u32, u32), A>,
+) -> Result<(), AllocError>
+    requires symbol { symbol < length chains.now.heads.items }
+    requires linked { AreLinked chains.now.heads.items chains.now.links.items }
+    ensures { OnOk result
+        ((statements : List ℕ)
+        → IsChain chains.now.links.items (get_or chains.now.heads.items symbol 0) statements
+        → pairs.new.items ≡ pairs.old.items ++ map (λ j. (symbol, j)) statements) }
+{
+    let mut number = chains.heads[symbol as usize];
+    while number > 0 {
+        let (statement, next) = chains.links[number - 1];
+        pairs.push((symbol, statement))?;
+        number = next;
+    }
+    Ok(())
+}
+
+/// Returns each symbol with each `$d` that has it, in ascending order.
+pub(crate) fn pairs_by_symbol<A: Allocator + Copy>(
+    alloc: A,
+    tables: &Tables<A>,
+) -> Result<Vec<(u32, u32), A>, AllocError>
+    ensures rising { IfOk result (λ v. AreRising v.items) }
+    ensures are { IfOk result (λ v. (x j : ℕ) → has_pair v.items x j ≡ has_symbol tables.now x j) }
+{
+    let chains = chains_of(alloc, tables)?;
+    let mut pairs = Vec::with_capacity(alloc, chains.links.len())?;
+    for symbol in 0..tables.symbol_count() {
+        add_chain(&chains, symbol, &mut pairs)?;
+    }
+    Ok(pairs)
+}
