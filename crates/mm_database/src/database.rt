@@ -1,18 +1,17 @@
 //! The database of a text: its statements, and the calls that read them.
 
-ghost use Rattle.std.specs.Prelude.{◌≡◌, ◌<◌, ◌≤◌, ◌^◌, ◌+◌, ◌&&◌, ◌∷◌, ℕ, Bool, List, Option};
+ghost use Rattle.std.specs.Prelude.{◌≡◌, ◌<◌, ◌≤◌, ◌^◌, ◌+◌, ◌&&◌, ◌∷◌, ℕ, Option};
 ghost use Rattle.std.specs.Prelude.{Some, None, IfSome, IfNone, IsTrue, All, length, map, flat_map};
-ghost use Rattle.std.specs.Prelude.{slice_get, slice_index, slice_range, get_or, vec_len, true};
+ghost use Rattle.std.specs.Prelude.{slice_get, slice_range, true};
 ghost use Rattle.std.specs.Prelude.{false};
 ghost use Rattle.std.specs.Option.{option_map, option_copied, option_and_then};
 ghost use Rattle.std.specs.List.{list_any};
 ghost use Rattle.mm_spec.specs.Statement.{label_of, proof_of};
 ghost use Rattle.mm_spec.specs.Opened.{counted, is_open};
 ghost use Rattle.mm_spec.specs.Scope.{is_active, statement_at};
-ghost use Rattle.mm_spec.specs.Derivation.{pair, is_member};
+ghost use Rattle.mm_spec.specs.Derivation.{pair};
 ghost use Rattle.mm_spec.specs.Frame.{symbol_names, is_variable_number, formula_at};
 ghost use Rattle.mm_spec.specs.Frame.{mandatory_hypotheses, mandatory_pairs, disjoint_at};
-ghost use Rattle.mm_spec.specs.Frame.{is_disjoint_statement};
 ghost use Rattle.mm_spec.specs.NormalProof.{is_labelled};
 ghost use Rattle.mm_spec.specs.Citation.{is_assertion};
 ghost use Rattle.mm_spec.specs.Laws.Complete.{AreComplete};

@@ -1,13 +1,10 @@
 //! The `$d` statements by their variables. The cost of a lookup depends on the `$d` of the
 //! variables that it names, and not on all that are active.
 
-ghost use Rattle.std.specs.Prelude.{◌≡◌, ◌≢◌, ◌<◌, ◌≤◌, ◌+◌, ◌-◌, ◌&&◌, ◌||◌, ℕ, IfOk, OnOk};
+ghost use Rattle.std.specs.Prelude.{◌≡◌, ◌≢◌, ◌<◌, ◌≤◌, ◌+◌, ◌-◌, ◌&&◌, ◌||◌, ℕ, OnOk};
 ghost use Rattle.std.specs.Prelude.{length, get_or, nat_eq, nat_lt, nat_le, true, false};
-ghost use Rattle.mm_spec.specs.Derivation.{is_member};
-ghost use Rattle.mm_outline.specs.Blocks.{IsBlocks, lists, end_of};
-ghost use Rattle.mm_database.specs.DisjointIndex.{has_symbol, is_live, AreKnown, AreSkips};
-ghost use Rattle.mm_database.specs.DisjointIndex.{IsDisjointIndex};
-ghost use Rattle.mm_database.specs.DisjointIndex.{Covers};
+ghost use Rattle.mm_outline.specs.Blocks.{lists, end_of};
+ghost use Rattle.mm_database.specs.DisjointIndex.{is_live, AreKnown, AreSkips};
 ghost use Rattle.mm_database.specs.Pairs.{has_pair, AreRising, is_before};
 ghost use Rattle.mm_database.specs.Starts.{IsStart, AreStarts};
 

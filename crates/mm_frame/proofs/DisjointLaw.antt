@@ -1,9 +1,9 @@
 -- The pairs that are collected are the mandatory ones, and whether two variables are disjoint is
 -- asked of the same lists.
 use Rattle.std.proofs.Common.{◌≡◌, ◌≢◌, ℕ, suc, ◌+◌, ◌<◌, ◌≤◌, Bool, true, false, ◌&&◌, ◌||◌, not}
-use Rattle.std.proofs.Common.{List, [], ◌∷◌, ◌++◌, length, get_or, map, nat_eq, nat_lt, nat_le}
+use Rattle.std.proofs.Common.{List, [], ◌∷◌, ◌++◌, length, get_or, map, nat_eq, nat_lt}
 use Rattle.std.proofs.Common.{refl, sym, ap, ap₂, ◌∙◌, arith, true≢false, ◌⊎◌, inl, inr}
-use Rattle.std.proofs.lemmas.Bool.{cases_lt, cases_eq, cases_order, lt-ltb, ltb-true, le-ltb}
+use Rattle.std.proofs.lemmas.Bool.{cases_lt, cases_eq, cases_order, lt-ltb, ltb-true}
 use Rattle.std.proofs.lemmas.Bool.{eq-eqb, eqb-true, ne_eqb, and_parts}
 use Rattle.std.proofs.lemmas.List.Folds.{list_any_at, list_any-append}
 use Rattle.std.specs.List.{list_any, range_with_len, filter}
@@ -15,7 +15,7 @@ use Rattle.mm_spec.specs.Frame.{symbol_names, is_disjoint_statement, active_of, 
 use Rattle.mm_spec.specs.Frame.{mandatory_variables, mandatory_pairs, disjoint_at, pairs_of}
 use Rattle.mm_spec.proofs.BoolLaw.{same_tests}
 use Rattle.mm_spec.proofs.MemberLaw.{any_witness, any_of, member_range}
-use Rattle.mm_outline.specs.Blocks.{Lists, IsBlocks, end_of}
+use Rattle.mm_outline.specs.Blocks.{Lists, IsBlocks}
 use Rattle.mm_database.specs.DisjointIndex.{has_symbol, is_live}
 use Rattle.mm_database.specs.Pairs.{has_pair, IsBefore, AreRising}
 use Rattle.mm_database.proofs.TogetherLaw.{live_is, kind_of_active}

@@ -1,21 +1,19 @@
 -- How the last active statement of a kind is found, and the others from it.
-use Rattle.std.proofs.Common.{◌≡◌, ◌≢◌, ℕ, zero, suc, ◌+◌, ◌<◌, ◌≤◌, Bool, true, false, ◌&&◌, ◌||◌}
-use Rattle.std.proofs.Common.{cond, List, [], ◌∷◌, ◌++◌, length, nat_eq, slice_get, nat_lt, Option}
-use Rattle.std.proofs.Common.{None, Some, refl, sym, ap, ap₂, ◌∙◌, subst, arith, ◌⊎◌, inl, inr}
+use Rattle.std.proofs.Common.{◌≡◌, ◌≢◌, ℕ, ◌+◌, ◌<◌, ◌≤◌, Bool, true, false, ◌&&◌, ◌||◌}
+use Rattle.std.proofs.Common.{cond, List, [], ◌∷◌, ◌++◌, length, nat_eq, nat_lt}
+use Rattle.std.proofs.Common.{refl, sym, ap, ap₂, ◌∙◌, subst, arith, ◌⊎◌, inl, inr}
 use Rattle.std.proofs.Common.{true≢false, eqb-true, get_or, length-append}
 use Rattle.std.proofs.lemmas.Bool.{cases_lt, cases_eq, cases_order, lt-ltb, le-ltb, eq-eqb, ne_eqb}
-use Rattle.std.proofs.lemmas.List.Folds.{list_any-append}
 use Rattle.std.proofs.lemmas.List.{get_or_append_left}
 use Rattle.std.proofs.Math.Seq.{get_or-append_seam}
-use Rattle.std.specs.List.{list_any, range_with_len, filter}
+use Rattle.std.specs.List.{list_any}
 use Rattle.std.proofs.lemmas.Bool.{and_parts, false_from_ne_true}
-use Rattle.std.proofs.Math.Bool.{and-false, and-true, or-false, or-true}
-use Rattle.mm_spec.specs.Statement.{Statement, constants, variables, disjoint, floating, essential}
-use Rattle.mm_spec.specs.Statement.{axiomatic, provable, opening, closing}
-use Rattle.mm_spec.specs.Scope.{statement_at, is_active, is_active_some, is_active_kind, active}
+use Rattle.std.proofs.Math.Bool.{or-true}
+use Rattle.mm_spec.specs.Statement.{Statement}
+use Rattle.mm_spec.specs.Scope.{statement_at, active}
 use Rattle.mm_spec.specs.Scope.{stays}
 use Rattle.mm_spec.specs.Derivation.{is_member}
-use Rattle.mm_spec.specs.Frame.{active_of, is_essential, is_disjoint_statement}
+use Rattle.mm_spec.specs.Frame.{active_of}
 use Rattle.mm_spec.proofs.BoolLaw.{same_tests}
 use Rattle.mm_spec.proofs.MemberLaw.{member_push, IsLocalTest, active_member}
 use Rattle.mm_outline.specs.Blocks.{never}

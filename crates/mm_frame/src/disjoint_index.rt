@@ -1,13 +1,12 @@
 //! How the index of the `$d` statements by their variables is made.
 
-ghost use Rattle.std.specs.Prelude.{◌≡◌, ◌≢◌, ◌<◌, ◌≤◌, ◌+◌, ◌-◌, ◌&&◌, ◌||◌, ℕ, IfOk, OnOk};
-ghost use Rattle.std.specs.Prelude.{length, get_or, nat_eq, nat_lt, nat_le, true, false};
+ghost use Rattle.std.specs.Prelude.{◌≡◌, ◌<◌, ◌+◌, ◌-◌, ◌&&◌, ℕ, IfOk};
+ghost use Rattle.std.specs.Prelude.{length, get_or, nat_eq, nat_le};
 ghost use Rattle.mm_outline.specs.Blocks.{IsBlocks, lists, end_of};
-ghost use Rattle.mm_database.specs.DisjointIndex.{has_symbol, is_live, AreKnown, AreSkips};
+ghost use Rattle.mm_database.specs.DisjointIndex.{AreKnown, AreSkips};
 ghost use Rattle.mm_database.specs.DisjointIndex.{IsDisjointIndex};
-ghost use Rattle.mm_database.specs.DisjointIndex.{Covers};
-ghost use Rattle.mm_database.specs.Pairs.{has_pair, AreRising, is_before};
-ghost use Rattle.mm_database.specs.Starts.{IsStart, AreStarts};
+ghost use Rattle.mm_database.specs.Pairs.{has_pair, AreRising};
+ghost use Rattle.mm_database.specs.Starts.{AreStarts};
 
 use crate::chains::pairs_by_symbol;
 use crate::tables::Tables;

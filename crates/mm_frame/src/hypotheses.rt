@@ -1,7 +1,7 @@
 //! The mandatory variables and hypotheses of assertions.
 
 ghost use Rattle.std.specs.Prelude.{◌≡◌, ◌<◌, ◌≤◌, ◌+◌, ◌^◌, ◌&&◌, ◌||◌, ℕ, All, OnOk, length};
-ghost use Rattle.std.specs.Prelude.{nat_eq, slice_index};
+ghost use Rattle.std.specs.Prelude.{nat_eq};
 ghost use Rattle.std.specs.List.{list_any};
 ghost use Rattle.std.specs.List.Sorted.{IsStrictlyIncreasing};
 ghost use Rattle.mm_spec.specs.Derivation.{is_member};

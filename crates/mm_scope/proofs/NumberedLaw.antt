@@ -1,21 +1,17 @@
 -- Symbols keep their numbers when statements are added.
-use Rattle.std.proofs.Common.{Result, Ok, Err, OnOk, is_some, ◌≡◌, ℕ, zero, suc, ◌+◌, ◌-◌, ◌<◌, ◌≤◌}
+use Rattle.std.proofs.Common.{◌≡◌, ℕ, zero, suc, ◌+◌, ◌-◌, ◌<◌, ◌≤◌}
 use Rattle.std.proofs.Common.{Bool, true, false, ◌||◌, List, [], ◌∷◌, ◌++◌, length, map, flat_map}
-use Rattle.std.proofs.Common.{take, drop, get_or, slice_get, slice_range, Option, None, Some}
+use Rattle.std.proofs.Common.{take, drop, get_or, slice_get, slice_range, None, Some}
 use Rattle.std.proofs.Common.{bytes_eq, if◌then◌else◌, refl, sym, ap, ap₂, ◌∙◌, subst, arith}
 use Rattle.std.proofs.Common.{true≢false, ◌⊎◌, inl, inr, append_assoc, append-nil, length-append}
 use Rattle.std.proofs.Common.{take_all, le_refl}
-use Rattle.std.proofs.lemmas.List.{map-append, length-map, take_more, get_or_push}
+use Rattle.std.proofs.lemmas.List.{map-append, take_more, get_or_push}
 use Rattle.std.proofs.lemmas.List.{get_or_append_left, take-append-drop}
 use Rattle.std.proofs.lemmas.Grind.{flat_map-append}
 use Rattle.std.proofs.lemmas.Bool.{cases_lt}
 use Rattle.std.proofs.lemmas.Option.{slice_get_within, slice_get-get_or}
 use Rattle.std.proofs.Math.Seq.{drop-append_seam, take-append_seam}
-use Rattle.std.specs.Option.{option_map}
-use Rattle.std.specs.Map.{keys_of, lookup}
-use Rattle.indexmap.specs.IndexMap.{IndexMap, insert_entry, keys}
 use Rattle.mm_spec.specs.Text.{Bytes, Token, is_in, words}
-use Rattle.std.proofs.lemmas.Map.Made.{is_some-lookup}
 use Rattle.std.proofs.Math.Bool.{or-true}
 use Rattle.mm_spec.specs.Statement.{Statement, symbols_of, constants, variables, disjoint, floating}
 use Rattle.mm_spec.specs.Statement.{essential, axiomatic, provable, opening, closing}
@@ -27,8 +23,7 @@ use Rattle.mm_spec.specs.declared.Word as place
 use Rattle.mm_outline.specs.Numbered.{AreNumbered}
 use Rattle.mm_outline.specs.Parts.{between, token_at}
 use Rattle.mm_outline.proofs.TurnsLaw.{between_more, between_none}
-use Rattle.mm_database.specs.declared.name.Name.{Name}
-use Rattle.mm_database.specs.Names.{find, names_of, with_name}
+use Rattle.mm_database.specs.Names.{with_name}
 use Rattle.mm_scope.specs.Formulas.{AreFormulas, numbers_in, judged, unjudged}
 use Rattle.mm_database.proofs.SymbolsLaw.{first_added, if_new, itself}
 use Rattle.mm_scope.proofs.BoundsLaw.{symbol_known}

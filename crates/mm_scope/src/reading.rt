@@ -3,11 +3,11 @@
 ghost use Rattle.std.specs.Prelude.{◌≡◌, ◌<◌, ◌≤◌, ◌^◌, ◌++◌, ◌∷◌, [], List, None, All, length};
 ghost use Rattle.std.specs.Prelude.{OnOk, IfOk, ◌≢◌};
 ghost use Rattle.mm_spec.specs.Statement.{Statement, is_closing, label_of};
-ghost use Rattle.mm_spec.specs.Scope.{names_before, depth, is_active, constants_of, variables_of};
+ghost use Rattle.mm_spec.specs.Scope.{names_before, depth, constants_of, variables_of};
 ghost use Rattle.mm_spec.specs.Lawful.{least, scope_faults};
 ghost use Rattle.mm_spec.specs.Output.{IsRead};
 ghost use Rattle.mm_database.specs.Names.{find as find_in, names_of};
-ghost use Rattle.mm_outline.specs.Blocks.{IsBlocks, lists};
+ghost use Rattle.mm_outline.specs.Blocks.{lists};
 ghost use Rattle.std.specs.Prelude.{◌+◌, ◌-◌, ℕ, Some, if◌then◌else◌, bytes_eq, true};
 ghost use Rattle.mm_spec.specs.Text.{is_in, words};
 ghost use Rattle.mm_scope.specs.Judge.{declared_entry, entry_of, typed_entry};
@@ -15,7 +15,7 @@ ghost use Rattle.mm_outline.specs.Parts.{AreWithin, between, token_at, IsOutline
 ghost use Rattle.mm_outline.specs.Parts.{statement_of};
 ghost use Rattle.mm_outline.specs.Tokens.{AreTokens};
 ghost use Rattle.mm_scope.specs.WordEntry.{entry_after, label_after};
-ghost use Rattle.mm_outline.specs.Statements.{active_kind, end_fault_of, lexed, statements};
+ghost use Rattle.mm_outline.specs.Statements.{end_fault_of, lexed, statements};
 ghost use Rattle.mm_scope.specs.Keeps.{Keeps, IsKept, MayTake, kept_by, reading_of};
 ghost use Rattle.mm_spec.specs.Frame.{first_occurrences};
 

@@ -1,6 +1,6 @@
 //! What is found out of the statements once and kept beside them.
 
-ghost use Rattle.std.specs.Prelude.{◌≡◌, ◌<◌, ◌^◌, All, IfOk, length, map};
+ghost use Rattle.std.specs.Prelude.{◌<◌, ◌^◌, All, IfOk, length, map};
 ghost use Rattle.mm_spec.specs.Derivation.{pair};
 ghost use Rattle.mm_outline.specs.Blocks.{lists};
 ghost use Rattle.mm_outline.specs.Numbered.{AreSymbols};

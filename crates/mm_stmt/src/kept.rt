@@ -1,6 +1,6 @@
 //! The words of statements that are needed again.
 
-ghost use Rattle.std.specs.Prelude.{◌≡◌, ◌<◌, ◌≤◌, ◌+◌, ◌++◌, All, IfOk, OnOk, length};
+ghost use Rattle.std.specs.Prelude.{◌≡◌, ◌<◌, ◌+◌, ◌++◌, All, IfOk, OnOk, length};
 ghost use Rattle.mm_outline.specs.Parts.{IsOutline};
 ghost use Rattle.mm_database.specs.Kept.{kept_words, AreKept};
 
