@@ -21,7 +21,7 @@ use Rattle.mm_rows.proofs.TransposeLaw.{row_bit, row_length}
 abbrev pub tally : (ℕ → Bool) → ℕ → ℕ
 tally p n = count_by p (range_with_len 0 n)
 
-tally_more : (p : ℕ → Bool) (n : ℕ) → tally p (suc n) ≡ tally p n + cond (p n) 1 0
+pub tally_more : (p : ℕ → Bool) (n : ℕ) → tally p (suc n) ≡ tally p n + cond (p n) 1 0
 tally_more p n =
     let one : suc n ≡ n + 1 = omega arith in
     ap (tally p) one ∙ ap (count_by p) (sym (map-id (range_with_len 0 (n + 1))))
@@ -52,6 +52,15 @@ tally_add p n (suc m) =
     let a = tally_more p (n + m) in
     let b = tally_more (λ k. p (n + k)) m in
     ap (tally p) e ∙ omega (arith, i, a, b)
+
+-- nothing from n on passes
+pub tally_short : (p : ℕ → Bool) (n m : ℕ) → n ≤ m → ((k : ℕ) → n ≤ k → p k ≡ false)
+    → tally p m ≡ tally p n
+tally_short p n m le none =
+    let whole : n + (m - n) ≡ m = omega arith in
+    let a = tally_add p n (m - n) in
+    let z = tally_none (λ k. p (n + k)) (m - n) (λ k l. none (n + k) (omega arith)) in
+    ap (tally p) (sym whole) ∙ omega (arith, a, z)
 
 tally_within : (p : ℕ → Bool) (n : ℕ) → tally p n ≤ n
 tally_within p zero = omega arith

@@ -37,10 +37,11 @@ cells_of columns bits i =
     map (λ j. is_bit bits (spot (words_for columns) i j)) (range_with_len 0 columns)
 
 -- the marks of a table of bits
-abbrev pub marks : ℕ → ℕ → List ℕ → Marks
-marks rows columns bits =
+abbrev pub marks : ℕ → ℕ → List ℕ → (usage : Bool) → Marks
+marks rows columns bits usage =
     record {
       rows = rows;
       columns = columns;
       cells = map (cells_of columns bits) (range_with_len 0 rows);
+      has_usage = usage;
     }

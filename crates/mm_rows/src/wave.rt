@@ -2,7 +2,7 @@
 //! lower waves.
 
 ghost use Rattle.std.specs.Prelude.{◌≡◌, ◌<◌, ◌≤◌, ◌+◌, ◌*◌, ℕ, List, length, slice_index};
-ghost use Rattle.std.specs.Prelude.{slice_index_or, IfOk, OnOk, All};
+ghost use Rattle.std.specs.Prelude.{slice_index_or, IfOk, OnOk, All, true, false};
 ghost use Rattle.std.specs.List.{AllZip, range_with_len};
 ghost use Rattle.mm_rows.specs.Bits.{words_for};
 ghost use Rattle.mm_cites.specs.Citing.{Cites, IsRising, theorem_at};
@@ -13,7 +13,7 @@ ghost use Rattle.mm_rows.specs.Waves.{IsTheorem, AreWaves, IsByWave, AreMade};
 
 use crate::columns::Columns;
 use crate::places::Places;
-use crate::rows::{bit_row, fill_in_place, finish};
+use crate::rows::{bit_row, fill_in_place, finish, finish_by_rows};
 use crate::table::Matrix;
 use mm_cites::Citations;
 use rayon::prelude::*;
@@ -305,8 +305,24 @@ pub fn matrix<R: Threads + Sync, A: Allocator + Copy + Send + Sync>(
     citations: &Citations<A>,
     columns: &Columns<A>,
 ) -> Result<Matrix<A>, AllocError>
-    ensures { IfOk result (λ m. IsMatrix citations.now columns.now m) }
+    ensures table { IfOk result (λ m. IsMatrix citations.now columns.now m) }
+    ensures usage { IfOk result (λ m. m.has_usage ≡ true) }
 {
     let bits = all_rows(rt, alloc, citations, columns.statements())?;
     finish(alloc, citations, columns, bits)
+}
+
+/// Returns the same table as `matrix` in half of the memory. It is for reports without the usage: a
+/// column's marks are then read row by row.
+pub fn matrix_by_rows<R: Threads + Sync, A: Allocator + Copy + Send + Sync>(
+    rt: &R,
+    alloc: A,
+    citations: &Citations<A>,
+    columns: &Columns<A>,
+) -> Result<Matrix<A>, AllocError>
+    ensures table { IfOk result (λ m. IsMatrix citations.now columns.now m) }
+    ensures usage { IfOk result (λ m. m.has_usage ≡ false) }
+{
+    let bits = all_rows(rt, alloc, citations, columns.statements())?;
+    Ok(finish_by_rows(citations, columns, bits))
 }

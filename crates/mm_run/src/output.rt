@@ -2,20 +2,22 @@
 
 ghost use Rattle.std.specs.Prelude.{◌≡◌, ◌<◌, ◌≤◌, ◌^◌, ℕ, List, IfOk, length};
 ghost use Rattle.mm_spec.specs.declared.Choice.TheVariants as choices;
+ghost use Rattle.mm_spec.specs.Report.{has};
 ghost use Rattle.mm_spec.specs.Lexed.{lexical_fault, tokens_of};
 ghost use Rattle.mm_spec.specs.Statement.{Statement};
 ghost use Rattle.mm_spec.specs.Output.{lexed_of, FirstFault, HasNoFault, IsRead};
 ghost use Rattle.mm_spec.specs.Ends.{Answers, reading_limit};
 ghost use Rattle.mm_run.specs.Counted.{IsCounted};
 ghost use Rattle.mm_work.specs.Judged.{AllCited, IsFirstFault};
+ghost use Rattle.mm_rows.specs.Marks.{IsMatrix};
 ghost use Rattle.mm_plan.specs.Plans.{IsLawful, request_of};
 
 use crate::RunEnd;
 use crate::cuts::cuts_of;
 use mm_lex::lex;
 use mm_plan::Plan;
-use mm_report::{Choice, write_citations, write_refusal, write_report};
-use mm_rows::{Columns, matrix};
+use mm_report::{Choice, has_usage, write_citations, write_refusal, write_report};
+use mm_rows::{Columns, Matrix, matrix, matrix_by_rows};
 use mm_spec::Fault;
 use mm_stmt::{Database, read};
 use mm_work::{Citations, Judged, Open, check_all};
@@ -71,6 +73,24 @@ fn report_citations<'a, A: Allocator + Copy, W: Write>(
     }
 }
 
+/// Returns the table of what each theorem rests on. Only the usage needs the table by column.
+fn table_of<R: Threads + Sync, A: Allocator + Copy + Send + Sync>(
+    rt: &R,
+    alloc: A,
+    citations: &Citations<A>,
+    columns: &Columns<A>,
+    choice: Choice,
+) -> Result<Matrix<A>, AllocError>
+    ensures table { IfOk result (λ m. IsMatrix citations.now columns.now m) }
+    ensures usage { IfOk result (λ m. m.has_usage ≡ has choice choices.Usage) }
+{
+    if has_usage(choice) {
+        matrix(rt, alloc, citations, columns)
+    } else {
+        matrix_by_rows(rt, alloc, citations, columns)
+    }
+}
+
 /// Writes the report of what each theorem rests on, for a database without a fault.
 fn report_rests<'a, R: Threads + Sync, A: Allocator + Copy + Send + Sync, W: Write>(
     rt: &R,
@@ -91,7 +111,7 @@ fn report_rests<'a, R: Threads + Sync, A: Allocator + Copy + Send + Sync, W: Wri
     let Ok(columns) = Columns::new(alloc, database, plan.typecode()) else {
         return RunEnd::NoMemory;
     };
-    let Ok(table) = matrix(rt, alloc, citations, &columns) else {
+    let Ok(table) = table_of(rt, alloc, citations, &columns, plan.choice) else {
         return RunEnd::NoMemory;
     };
     match write_report(

@@ -4,7 +4,7 @@ use super::proofs::database_of;
 use super::{MOST, met};
 use crate::calls::all_checked;
 use crate::heap::Refusing;
-use mm_rows::{Columns, Matrix, matrix, waves};
+use mm_rows::{Columns, Matrix, matrix, matrix_by_rows, waves};
 use mm_stmt::Database;
 use mm_work::{Citations, Judged};
 use std::alloc::{AllocError, Allocator, Global};
@@ -129,5 +129,35 @@ fn rows_without_memory(rt: HostRuntime) -> Result<(), AllocError> {
     let citations = citations_of(&rt, &heap)?;
     let columns = Columns::new(&heap, &database_of(&rt, &heap)?, None)?;
     assert!(&rt; rows_in_turn(&rt, &heap, &citations, &columns));
+    Ok(())
+}
+
+fn rows_alone_in_turn<'h, R: Abort + Threads + Sync>(
+    rt: &R,
+    heap: &'h Refusing<Global>,
+    citations: &Citations<&'h Refusing<Global>>,
+    columns: &Columns<&'h Refusing<Global>>,
+) -> bool {
+    for number in 1..MOST {
+        heap.refuse(number);
+        let refused = met(
+            rt,
+            heap,
+            is_full(matrix_by_rows(rt, heap, citations, columns)),
+        );
+        assert!(rt; is_full(matrix_by_rows(rt, heap, citations, columns)) == Some(true));
+        if !refused {
+            return number > 3;
+        }
+    }
+    false
+}
+
+#[test]
+fn rows_alone_without_memory(rt: HostRuntime) -> Result<(), AllocError> {
+    let heap = Refusing::new(rt.alloc());
+    let citations = citations_of(&rt, &heap)?;
+    let columns = Columns::new(&heap, &database_of(&rt, &heap)?, None)?;
+    assert!(&rt; rows_alone_in_turn(&rt, &heap, &citations, &columns));
     Ok(())
 }

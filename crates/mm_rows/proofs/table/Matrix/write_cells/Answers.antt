@@ -9,9 +9,8 @@ use Rattle.mm_rows.proofs.table.Matrix.write_cells.Goals as goal
 
 pub part-words-requires : goal.part-words-requires
 part-words-requires g c =
-    row_fits c.args.self.now c.self.inside.rows c.self.inside.columns c.self.inside.bits.items
-    c.self.inside.transposed.items
-    (sym c.self.view_is) c.self.invariant.0 c.self.invariant.1 c.args.row c.div_ceil-across.result
+    row_fits c.args.self.now c.self.inside.rows c.self.inside.columns c.self.inside.bits.items _
+    (sym c.self.view_is) c.self.invariant.0 c.args.row c.div_ceil-across.result
     c.deref.result.now c.requires.row c.div_ceil-across.ensures c.deref.ensures.value
 
 pub slice_bounds-write_cells-end : goal.slice_bounds-write_cells-end
@@ -20,7 +19,7 @@ slice_bounds-write_cells-end g c =
     c.part-words.ensures
     ∙ ap₂ (λ w xs. row_at xs w c.args.row) c.div_ceil-across.ensures c.deref.ensures.value in
     let long =
-    part_long c.args.self.now c.self.inside.rows c.self.inside.columns c.self.inside.bits.items
+    part_long c.args.self.now c.self.inside.rows c.self.inside.columns c.self.inside.bits.items _
     (sym c.self.view_is) c.self.invariant.0 c.args.row _ c.requires.row is in
     let width =
     subst (λ (m : Marks). 64 * c.args.word + length c.args.into.now ≤ 64 * words_for m.columns)
@@ -32,7 +31,7 @@ returns g c =
     let is =
     c.part-words.ensures
     ∙ ap₂ (λ w xs. row_at xs w c.args.row) c.div_ceil-across.ensures c.deref.ensures.value in
-    cells_are c.args.self.now c.self.inside.rows c.self.inside.columns c.self.inside.bits.items
+    cells_are c.args.self.now c.self.inside.rows c.self.inside.columns c.self.inside.bits.items _
     (sym c.self.view_is) c.self.invariant.0 c.args.row c.args.word _ c.write_cells.new.into
     c.args.into.now c.requires.row is c.requires.within c.requires.whole
     c.write_cells.ensures.length c.write_cells.ensures.each

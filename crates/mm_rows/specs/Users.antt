@@ -1,0 +1,11 @@
+-- The users of a column.
+use Rattle.std.specs.Prelude.{◌≡◌, ℕ, ◌<◌, ◌≤◌, ◌^◌, List, length, false}
+use Rattle.mm_rows.specs.Bits.{is_bit, words_for}
+use Rattle.mm_rows.specs.Marks.{Marks, mark}
+
+-- the bits of column j: a bit for each row, and nothing is set past the last row
+pub record IsColumn (m : Marks) (j : ℕ) (users : List ℕ) : Type 0 where
+  pub few_rows : m.rows < 2 ^ 31
+  pub size : length users ≡ words_for m.rows
+  pub same : (i : ℕ) → i < m.rows → is_bit users i ≡ mark m i j
+  pub past : (i : ℕ) → m.rows ≤ i → is_bit users i ≡ false
