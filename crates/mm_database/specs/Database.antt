@@ -103,7 +103,7 @@ module _ {A : Type 0} where
   fields_of r f = record {
     kept = f.kept.words.items;
     kept_starts = f.kept.starts.items;
-    blocks = lists r.blocks.of.items r.blocks.ends.items r.blocks.open.items;
+    blocks = r.blocks;
     find = find r.names.labels;
     names = names_of r.names.symbols;
     variables = f.variables.items;

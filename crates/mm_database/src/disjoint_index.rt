@@ -3,7 +3,7 @@
 
 ghost use Rattle.std.specs.Prelude.{◌≡◌, ◌≢◌, ◌<◌, ◌≤◌, ◌+◌, ◌-◌, ◌&&◌, ◌||◌, ℕ, OnOk};
 ghost use Rattle.std.specs.Prelude.{length, get_or, nat_eq, nat_lt, nat_le, true, false};
-ghost use Rattle.mm_outline.specs.Blocks.{lists, end_of};
+ghost use Rattle.mm_outline.specs.Blocks.{end_of};
 ghost use Rattle.mm_database.specs.DisjointIndex.{is_live, AreKnown, AreSkips};
 ghost use Rattle.mm_database.specs.Pairs.{has_pair, AreRising, is_before};
 ghost use Rattle.mm_database.specs.Starts.{IsStart, AreStarts};
@@ -105,15 +105,15 @@ fn back<A: Allocator>(
     requires some { 0 < left }
     requires within { left ≤ length disjoint_index.now.pairs.items }
     requires known { AreKnown
-        (lists blocks.now.of.items blocks.now.ends.items blocks.now.open.items)
+        blocks.now
         disjoint_index.now.pairs.items }
     requires skips { AreSkips
-        (lists blocks.now.of.items blocks.now.ends.items blocks.now.open.items)
+        blocks.now
         disjoint_index.now.pairs.items disjoint_index.now.skips.items }
     ensures less { result < left }
     ensures passed { (p : ℕ) → result ≤ p → p + 1 < left
         → nat_le at
-        (end_of (lists blocks.now.of.items blocks.now.ends.items blocks.now.open.items)
+        (end_of blocks.now
         (get_or disjoint_index.now.pairs.items p (0, 0)).1)
         ≡ false }
 {
@@ -134,10 +134,10 @@ pub fn add_active<A: Allocator>(
 ) -> Result<(), AllocError>
     requires rising { AreRising disjoint_index.now.pairs.items }
     requires known { AreKnown
-        (lists blocks.now.of.items blocks.now.ends.items blocks.now.open.items)
+        blocks.now
         disjoint_index.now.pairs.items }
     requires skips { AreSkips
-        (lists blocks.now.of.items blocks.now.ends.items blocks.now.open.items)
+        blocks.now
         disjoint_index.now.pairs.items disjoint_index.now.skips.items }
     ensures { OnOk result
         ((j y : ℕ)
@@ -146,7 +146,7 @@ pub fn add_active<A: Allocator>(
         || (nat_eq y symbol
         && (has_pair disjoint_index.now.pairs.items symbol j
         && is_live
-        (lists blocks.now.of.items blocks.now.ends.items blocks.now.open.items) j at)))) }
+        blocks.now j at)))) }
 {
     let pairs = disjoint_index.pairs.as_slice();
     let starts = disjoint_index.starts.as_slice();
@@ -172,19 +172,19 @@ pub(crate) fn are_together<A: Allocator>(
 ) -> bool
     requires rising { AreRising disjoint_index.now.pairs.items }
     requires known { AreKnown
-        (lists blocks.now.of.items blocks.now.ends.items blocks.now.open.items)
+        blocks.now
         disjoint_index.now.pairs.items }
     requires skips { AreSkips
-        (lists blocks.now.of.items blocks.now.ends.items blocks.now.open.items)
+        blocks.now
         disjoint_index.now.pairs.items disjoint_index.now.skips.items }
     ensures found { result ≡ true
         → (j : ℕ) × (has_pair disjoint_index.now.pairs.items x j ≡ true)
         × (has_pair disjoint_index.now.pairs.items y j ≡ true)
-        × (is_live (lists blocks.now.of.items blocks.now.ends.items blocks.now.open.items) j at
+        × (is_live blocks.now j at
         ≡ true) }
     ensures none { result ≡ false → (j : ℕ) → has_pair disjoint_index.now.pairs.items x j ≡ true
         → has_pair disjoint_index.now.pairs.items y j ≡ true
-        → is_live (lists blocks.now.of.items blocks.now.ends.items blocks.now.open.items) j at
+        → is_live blocks.now j at
         ≡ false }
 {
     let pairs = disjoint_index.pairs.as_slice();

@@ -5,7 +5,7 @@ ghost use Rattle.std.specs.Prelude.{nat_eq, nat_lt, map};
 ghost use Rattle.std.specs.List.{list_any};
 ghost use Rattle.mm_spec.specs.Derivation.{is_member, pair};
 ghost use Rattle.mm_spec.specs.Frame.{mandatory_variables, mandatory_pairs};
-ghost use Rattle.mm_outline.specs.Blocks.{IsBlocks, lists};
+ghost use Rattle.mm_outline.specs.Blocks.{IsBlocks};
 ghost use Rattle.mm_database.specs.DisjointIndex.{is_live, AreKnown, AreSkips, IsDisjointIndex};
 ghost use Rattle.mm_database.specs.Pairs.{has_pair, AreRising};
 
@@ -68,10 +68,10 @@ fn add_all_active<A: Allocator>(
 ) -> Result<(), AllocError>
     requires rising { AreRising disjoint_index.now.pairs.items }
     requires known { AreKnown
-        (lists blocks.now.of.items blocks.now.ends.items blocks.now.open.items)
+        blocks.now
         disjoint_index.now.pairs.items }
     requires skips { AreSkips
-        (lists blocks.now.of.items blocks.now.ends.items blocks.now.open.items)
+        blocks.now
         disjoint_index.now.pairs.items disjoint_index.now.skips.items }
     ensures { OnOk result
         ((j y : ℕ)
@@ -80,7 +80,7 @@ fn add_all_active<A: Allocator>(
         || (is_member symbols.now y
         && (has_pair disjoint_index.now.pairs.items y j
         && is_live
-        (lists blocks.now.of.items blocks.now.ends.items blocks.now.open.items) j at)))) }
+        blocks.now j at)))) }
 {
     for symbol in symbols {
         add_active(blocks, disjoint_index, *symbol, at, into)?;
@@ -118,9 +118,9 @@ pub(crate) fn pairs_of<A: Allocator + Copy>(
 ) -> Result<Vec<(Sym, Sym), A>, AllocError>
     requires assertion { assertion < length tables.now }
     requires blocks { IsBlocks tables.now
-        (lists blocks.now.of.items blocks.now.ends.items blocks.now.open.items) }
+        blocks.now }
     requires disjoint_index { IsDisjointIndex tables.now
-        (lists blocks.now.of.items blocks.now.ends.items blocks.now.open.items)
+        blocks.now
         disjoint_index.now.pairs.items disjoint_index.now.skips.items }
     requires found { (x : ℕ)
         → is_member found.now x ≡ is_member (mandatory_variables tables.now assertion) x }

@@ -2,7 +2,7 @@
 
 ghost use Rattle.std.specs.Prelude.{◌≡◌, ◌<◌, ◌+◌, ◌-◌, ◌&&◌, ℕ, IfOk};
 ghost use Rattle.std.specs.Prelude.{length, get_or, nat_eq, nat_le};
-ghost use Rattle.mm_outline.specs.Blocks.{IsBlocks, lists, end_of};
+ghost use Rattle.mm_outline.specs.Blocks.{IsBlocks, end_of};
 ghost use Rattle.mm_database.specs.DisjointIndex.{AreKnown, AreSkips};
 ghost use Rattle.mm_database.specs.DisjointIndex.{IsDisjointIndex};
 ghost use Rattle.mm_database.specs.Pairs.{has_pair, AreRising};
@@ -26,15 +26,15 @@ pub(crate) fn sort_and_dedup<A: Allocator>(pairs: &mut Vec<(u32, u32), A>)
 
 /// Whether `pair` has the symbol of the pair `by`, and a block that ends no later.
 fn is_covered<A: Allocator>(blocks: &Blocks<A>, pair: (u32, u32), by: (u32, u32)) -> bool
-    requires pair { (pair.1 < length blocks.now.of.items)
-        × (get_or blocks.now.of.items pair.1 0 < length blocks.now.ends.items) }
-    requires by { (by.1 < length blocks.now.of.items)
-        × (get_or blocks.now.of.items by.1 0 < length blocks.now.ends.items) }
+    requires pair { (pair.1 < length blocks.now.of)
+        × (get_or blocks.now.of pair.1 0 < length blocks.now.ends) }
+    requires by { (by.1 < length blocks.now.of)
+        × (get_or blocks.now.of by.1 0 < length blocks.now.ends) }
     ensures { result
         ≡ (nat_eq pair.0 by.0
         && nat_le
-        (end_of (lists blocks.now.of.items blocks.now.ends.items blocks.now.open.items) pair.1)
-        (end_of (lists blocks.now.of.items blocks.now.ends.items blocks.now.open.items) by.1)) }
+        (end_of blocks.now pair.1)
+        (end_of blocks.now by.1)) }
 {
     pair.0 == by.0 && blocks.end_of(pair.1) <= blocks.end_of(by.1)
 }
@@ -46,10 +46,10 @@ fn skips_of<A: Allocator + Copy>(
     pairs: &[(u32, u32)],
 ) -> Result<Vec<usize, A>, AllocError>
     requires known { AreKnown
-        (lists blocks.now.of.items blocks.now.ends.items blocks.now.open.items) pairs.now }
+        blocks.now pairs.now }
     ensures { IfOk result
         (λ v. AreSkips
-        (lists blocks.now.of.items blocks.now.ends.items blocks.now.open.items) pairs.now
+        blocks.now pairs.now
         v.items) }
 {
     let mut skips = Vec::new(alloc);
@@ -87,10 +87,10 @@ pub(crate) fn disjoint_index_of<A: Allocator + Copy>(
     blocks: &Blocks<A>,
 ) -> Result<DisjointIndex<A>, AllocError>
     requires { IsBlocks tables.now
-        (lists blocks.now.of.items blocks.now.ends.items blocks.now.open.items) }
+        blocks.now }
     ensures { IfOk result
         (λ m. IsDisjointIndex tables.now
-        (lists blocks.now.of.items blocks.now.ends.items blocks.now.open.items) m.pairs.items
+        blocks.now m.pairs.items
         m.skips.items) }
 {
     let pairs = pairs_by_symbol(alloc, tables)?;

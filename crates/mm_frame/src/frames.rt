@@ -3,7 +3,7 @@
 ghost use Rattle.std.specs.Prelude.{◌≡◌, ◌<◌, ◌+◌, ℕ, IfOk, OnOk, length, map, slice_index};
 ghost use Rattle.mm_spec.specs.Derivation.{pair};
 ghost use Rattle.mm_spec.specs.Frame.{symbol_names, is_essential};
-ghost use Rattle.mm_outline.specs.Blocks.{IsBlocks, lists};
+ghost use Rattle.mm_outline.specs.Blocks.{IsBlocks};
 ghost use Rattle.mm_database.specs.Frames.{AreFrames, AreFramesUpTo, IsFrame};
 ghost use Rattle.mm_frame.specs.Latest.{AreLatest};
 ghost use Rattle.mm_database.specs.DisjointIndex.{IsDisjointIndex};
@@ -88,9 +88,9 @@ fn frame_of<A: Allocator + Copy>(
     requires assertion { assertion < length tables.now }
     requires essentials { AreLatest is_essential tables.now essentials.now }
     requires blocks { IsBlocks tables.now
-        (lists blocks.now.of.items blocks.now.ends.items blocks.now.open.items) }
+        blocks.now }
     requires disjoint_index { IsDisjointIndex tables.now
-        (lists blocks.now.of.items blocks.now.ends.items blocks.now.open.items)
+        blocks.now
         disjoint_index.now.pairs.items disjoint_index.now.skips.items }
     requires typed { AreTyped tables.now assertion typed.now }
     requires seen { IsFresh (length (symbol_names tables.now)) assertion scratch.old.seen.items }
@@ -138,9 +138,9 @@ fn add_frame<A: Allocator + Copy>(
     requires statement { statement < length tables.now }
     requires essentials { AreLatest is_essential tables.now essentials.now }
     requires blocks { IsBlocks tables.now
-        (lists blocks.now.of.items blocks.now.ends.items blocks.now.open.items) }
+        blocks.now }
     requires disjoint_index { IsDisjointIndex tables.now
-        (lists blocks.now.of.items blocks.now.ends.items blocks.now.open.items)
+        blocks.now
         disjoint_index.now.pairs.items disjoint_index.now.skips.items }
     requires typed { AreTyped tables.now statement typed.now }
     requires seen { IsFresh (length (symbol_names tables.now)) statement scratch.old.seen.items }
@@ -179,9 +179,9 @@ pub(crate) fn frames_of<A: Allocator + Copy>(
     disjoint_index: &DisjointIndex<A>,
 ) -> Result<Frames<A>, AllocError>
     requires blocks { IsBlocks tables.now
-        (lists blocks.now.of.items blocks.now.ends.items blocks.now.open.items) }
+        blocks.now }
     requires disjoint_index { IsDisjointIndex tables.now
-        (lists blocks.now.of.items blocks.now.ends.items blocks.now.open.items)
+        blocks.now
         disjoint_index.now.pairs.items disjoint_index.now.skips.items }
     ensures { IfOk result
         (λ v. AreFrames tables.now v.places.items (map (λ f. f.hyps.items) v.list.items)
@@ -224,10 +224,10 @@ pub fn gather<A: Allocator + Copy>(
     blocks: &Blocks<A>,
 ) -> Result<Beside<A>, AllocError>
     requires { IsBlocks tables.now
-        (lists blocks.now.of.items blocks.now.ends.items blocks.now.open.items) }
+        blocks.now }
     ensures disjoint_index { IfOk result
         (λ b. IsDisjointIndex tables.now
-        (lists blocks.now.of.items blocks.now.ends.items blocks.now.open.items)
+        blocks.now
         b.disjoint_index.pairs.items b.disjoint_index.skips.items) }
     ensures frames { IfOk result
         (λ b. AreFrames tables.now b.frames.places.items

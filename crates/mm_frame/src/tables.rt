@@ -7,7 +7,7 @@ ghost use Rattle.mm_spec.specs.Scope.{statement_at, stays};
 ghost use Rattle.mm_spec.specs.Frame.{symbol_names, is_variable_number, is_disjoint_statement};
 ghost use Rattle.mm_spec.specs.Frame.{is_essential, is_floating, formula_at};
 ghost use Rattle.mm_spec.specs.Citation.{is_assertion};
-ghost use Rattle.mm_outline.specs.Blocks.{IsBlocks, lists};
+ghost use Rattle.mm_outline.specs.Blocks.{IsBlocks};
 ghost use Rattle.mm_outline.specs.Statements.{statements};
 ghost use Rattle.mm_outline.specs.Numbered.{AreNumbered, AreSymbols};
 ghost use Rattle.mm_frame.specs.Tables.{IsSound, typed_at};
@@ -34,7 +34,6 @@ pub struct Tables<'s, A: Allocator> {
 impl<'s, A: Allocator> Model for Tables<'s, A> {
     ghost use Rattle.std.specs.Prelude.{List};
     ghost use Rattle.mm_spec.specs.Statement.{Statement};
-    ghost use Rattle.mm_outline.specs.Blocks.{lists};
     ghost use Rattle.mm_outline.specs.Statements.{statements};
     ghost use Rattle.mm_frame.specs.Tables.{AreTables};
 
@@ -43,7 +42,7 @@ impl<'s, A: Allocator> Model for Tables<'s, A> {
     ghost view = { λ t. statements t.text.now t.tokens.now t.outlines.now };
 
     ghost invariant = { λ t. AreTables (statements t.text.now t.tokens.now t.outlines.now)
-        (lists t.blocks.now.of.items t.blocks.now.ends.items t.blocks.now.open.items)
+        t.blocks.now
         t.numbers.now t.places.now t.variables.now };
 }
 
@@ -60,7 +59,7 @@ impl<'s, A: Allocator> Tables<'s, A> {
     ) -> Tables<'s, A>
         requires sound { IsSound (statements text.now tokens.now outlines.now) }
         requires blocks { IsBlocks (statements text.now tokens.now outlines.now)
-            (lists blocks.now.of.items blocks.now.ends.items blocks.now.open.items) }
+            blocks.now }
         requires numbered { AreNumbered
             (statements text.now tokens.now outlines.now) numbers.now places.now }
         requires symbols { (names : List (List ℕ))
@@ -135,7 +134,8 @@ impl<'s, A: Allocator> Tables<'s, A> {
     {
         match self.outlines[statement as usize].kind {
             Kind::Axiom | Kind::Theorem => true,
-            _ => false,
+            Kind::Constants | Kind::Variables | Kind::Disjoint | Kind::Floating => false,
+            Kind::Essential | Kind::Open | Kind::Close => false,
         }
     }
 

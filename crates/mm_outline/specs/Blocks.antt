@@ -1,6 +1,7 @@
 -- The blocks in which statements are.
 use Rattle.std.specs.Prelude.{◌≡◌, ℕ, ◌+◌, ◌-◌, ◌<◌, ◌≤◌, List, [], ◌∷◌, ◌++◌, length, take}
-use Rattle.std.specs.Prelude.{slice_set, slice_index, get_or, nat_le, count_by, ◌⊎◌}
+use Rattle.std.specs.Prelude.{slice_set, slice_index, slice_get, get_or, nat_eq, nat_le, count_by}
+use Rattle.std.specs.Prelude.{◌⊎◌, Bool, false, Option, None, Some}
 use Rattle.mm_spec.specs.Statement.{Statement, is_opening, is_closing}
 use Rattle.mm_spec.specs.Scope.{depth, stays}
 use Rattle.mm_outline.specs.declared.parts.Kind.{Kind}
@@ -35,6 +36,18 @@ pushed _ b = lists (b.of ++ top b.open_blocks ∷ []) b.ends b.open_blocks
 
 abbrev pub end_of : Lists → ℕ → ℕ
 end_of b j = get_or b.ends (get_or b.of j 0) 0
+
+abbrev pub is_never : Option ℕ → Bool
+is_never None = false
+is_never (Some e) = nat_eq e never
+
+abbrev pub end_in : List ℕ → Option ℕ → Option ℕ
+end_in ends None = None
+end_in ends (Some block) = slice_get ends block
+
+-- whether the statement is known and its block is still open
+abbrev pub is_open_in : Lists → ℕ → Bool
+is_open_in b j = is_never (end_in b.ends (slice_get b.of j))
 
 pub record IsBlocks (db : List Statement) (b : Lists) : Type 0 where
   pub count : length b.of ≡ length db

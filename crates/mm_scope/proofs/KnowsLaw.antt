@@ -11,9 +11,9 @@ use Rattle.mm_spec.specs.Text.{Bytes, is_in}
 use Rattle.mm_spec.specs.Statement.{Statement}
 use Rattle.mm_spec.specs.Scope.{names_before, active_statements, is_active, variables_of}
 use Rattle.mm_spec.specs.Scope.{constants_of, label_words, typings_of}
-use Rattle.mm_outline.specs.Blocks.{Lists, IsBlocks, never}
+use Rattle.mm_outline.specs.Blocks.{Lists, IsBlocks, never, end_in, is_never, is_open_in}
 use Rattle.mm_scope.specs.Judge as judge
-use Rattle.mm_scope.specs.Judge.{Knows, is_open_in, is_never, end_in, is_constant}
+use Rattle.mm_scope.specs.Judge.{Knows, is_constant}
 use Rattle.mm_scope.specs.Judge.{is_variable_symbol, has_other_typecode, is_typed_here, entry_of}
 use Rattle.mm_scope.specs.WordEntry.{IsEntryOf, typed_by, typecode_by, is_other, is_constant_entry}
 use Rattle.mm_scope.specs.WordEntry.{is_variable_entry}
@@ -46,20 +46,20 @@ none_active db f w e =
     (λ j l. ap (λ b. is_active db j (length db) && b) (has_none db f w e j)
     ∙ and-false (is_active db j (length db)))
 
-never_open : (b : Lists) → length b.of ≤ never → is_open_in b.of b.ends never ≡ false
+never_open : (b : Lists) → length b.of ≤ never → is_open_in b never ≡ false
 never_open b h = ap (λ o. is_never (end_in b.ends o)) (slice_get_past b.of never h)
 
 module _ (db : List Statement) (b : Lists) (x : IsBlocks db b) (few : length db < never)
     (w : Bytes) where
   variable_active : (o : Option Symbol) → IsEntryOf db w (entry_of o)
       → is_in w (flat_map variables_of (active_statements db (length db)))
-      ≡ judge.is_active (is_open_in b.of b.ends) o
+      ≡ judge.is_active (is_open_in b) o
   variable_active None k = none_active db variables_of w k.variable
   variable_active (Some s) k = by s.is_variable refl
     where
       by : (v : Bool) → s.is_variable ≡ v
           → is_in w (flat_map variables_of (active_statements db (length db)))
-          ≡ (v && is_open_in b.of b.ends s.declared)
+          ≡ (v && is_open_in b s.declared)
       by true e =
           let l = k.declared e in
           latest_is db variables_of w s.declared l
@@ -68,16 +68,16 @@ module _ (db : List Statement) (b : Lists) (x : IsBlocks db b) (few : length db 
 
   typed_active : (o : Option Symbol) → IsEntryOf db w (entry_of o)
       → is_in w (flat_map typed_words (active_statements db (length db)))
-      ≡ is_typed_here (is_open_in b.of b.ends) o
+      ≡ is_typed_here (is_open_in b) o
   typed_active None k = none_active db typed_words w (k.untyped refl)
   typed_active (Some s) k = by (cases_eq s.typed never)
     where
       by : (s.typed ≡ never) ⊎ (s.typed ≢ never)
           → is_in w (flat_map typed_words (active_statements db (length db)))
-          ≡ is_open_in b.of b.ends s.typed
+          ≡ is_open_in b s.typed
       by (inl e) =
           none_active db typed_words w (k.untyped e)
-          ∙ sym (ap (is_open_in b.of b.ends) e
+          ∙ sym (ap (is_open_in b) e
           ∙ never_open b (let c = x.count in omega (arith, c, few)))
       by (inr n) =
           let l = k.typed n in
@@ -102,7 +102,7 @@ other_is c (Some s) = refl
 pub knows_is : (db : List Statement) (look : List ℕ → Option Symbol) (labels : List ℕ → Option ℕ)
     → (b : Lists)
     → Keeps db look labels b → length db < never
-    → Knows (names_before db (length db)) look labels (is_open_in b.of b.ends)
+    → Knows (names_before db (length db)) look labels (is_open_in b)
 knows_is db look labels b k few =
     let all = take_all (length db) db (le_refl (length db)) in
     record {

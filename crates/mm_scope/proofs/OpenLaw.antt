@@ -9,13 +9,12 @@ use Rattle.mm_spec.specs.Text.{Bytes, is_in}
 use Rattle.mm_spec.specs.Statement.{Statement, constants, variables, disjoint, floating, essential}
 use Rattle.mm_spec.specs.Statement.{axiomatic, provable, opening, closing}
 use Rattle.mm_spec.specs.Scope.{is_active, is_active_some, is_active_kind, variables_of, stays}
-use Rattle.mm_outline.specs.Blocks.{Lists, IsBlocks, end_of, never}
-use Rattle.mm_scope.specs.Judge.{is_open_in, is_never, end_in}
+use Rattle.mm_outline.specs.Blocks.{Lists, IsBlocks, end_of, never, end_in, is_never, is_open_in}
 use Rattle.mm_scope.specs.WordEntry.{Latest}
 use Rattle.mm_outline.specs.Typed.{typed_words}
 
 pub open_is : (db : List Statement) (b : Lists) → IsBlocks db b → length db < never → (j : ℕ)
-    → j < length db → stays db j (length db) ≡ is_open_in b.of b.ends j
+    → j < length db → stays db j (length db) ≡ is_open_in b j
 open_is db b x few j h =
     let of : slice_get b.of j ≡ Some (get_or b.of j 0) =
     slice_get-get_or b.of j 0 (let c = x.count in omega (arith, c, h)) in
@@ -61,11 +60,11 @@ types_local w (closing k) b h = absurd (true≢false (sym h))
 -- the last statement that has a word is active exactly where its block is open
 pub latest_open : (db : List Statement) (b : Lists) → IsBlocks db b → length db < never
     → (f : Statement → List Bytes) (w : List ℕ) → IsLocal f w → (last : ℕ) → Latest db f w last
-    → is_active db last (length db) ≡ is_open_in b.of b.ends last
+    → is_active db last (length db) ≡ is_open_in b last
 latest_open db b x few f w local last l = by (slice_get db last) refl
   where
     by : (o : Option Statement) → slice_get db last ≡ o
-        → is_active db last (length db) ≡ is_open_in b.of b.ends last
+        → is_active db last (length db) ≡ is_open_in b last
     by None e =
         absurd (true≢false
         (sym l.there ∙ ap (λ o. is_in w (flat_map f (elim o [ None ↦ [] | Some t ↦ t ∷ [] ]))) e))

@@ -1,6 +1,6 @@
 -- The faults of a statement, by what the code knows of symbols.
 use Rattle.std.specs.Prelude.{◌≡◌, ℕ, Bool, true, false, ◌&&◌, ◌||◌, not, List, [], ◌∷◌, Option}
-use Rattle.std.specs.Prelude.{None, Some, bytes_eq, is_some, slice_get, nat_eq, nat_lt}
+use Rattle.std.specs.Prelude.{None, Some, bytes_eq, is_some, nat_eq, nat_lt}
 use Rattle.std.specs.Prelude.{if◌then◌else◌}
 use Rattle.mm_spec.specs.Text.{Token, is_in, fault}
 use Rattle.mm_spec.specs.declared.Fault.{Fault}
@@ -27,18 +27,6 @@ merge (Some f) g = lesser f g
 abbrev pub fault_at : ℕ → Option Code → Option Fault
 fault_at place None = None
 fault_at place (Some code) = Some (fault place code)
-
-abbrev pub is_never : Option ℕ → Bool
-is_never None = false
-is_never (Some e) = nat_eq e never
-
-abbrev pub end_in : List ℕ → Option ℕ → Option ℕ
-end_in ends None = None
-end_in ends (Some block) = slice_get ends block
-
--- whether the statement is known and its block is still open
-abbrev pub is_open_in : List ℕ → List ℕ → ℕ → Bool
-is_open_in of ends j = is_never (end_in ends (slice_get of j))
 
 abbrev pub code_of_variable : Bool → Bool → Option Code
 code_of_variable false typed = Some UndeclaredSymbol

@@ -5,7 +5,7 @@ use Rattle.mm_spec.specs.Statement.{is_closing, Statement}
 use Rattle.mm_spec.specs.Scope.{depth, label_words}
 use Rattle.mm_spec.specs.Lawful.{scope_fault}
 use Rattle.mm_spec.specs.Frame.{symbol_names, formula_of}
-use Rattle.mm_outline.specs.Blocks.{lists, Lists, IsBlocks}
+use Rattle.mm_outline.specs.Blocks.{Lists, IsBlocks}
 use Rattle.mm_database.specs.Names.{find, names_of}
 use Rattle.mm_scope.specs.Formulas.{AreFormulas}
 use Rattle.mm_scope.specs.declared.reading.Outlined.{Outlined}
@@ -43,7 +43,7 @@ module _ {A : Type 0} where
   kept_by r = record {
     look = find r.scope.names.symbols;
     labels = find r.scope.names.labels;
-    blocks = lists r.scope.blocks.of.items r.scope.blocks.ends.items r.scope.blocks.open.items;
+    blocks = r.scope.blocks;
     names = names_of r.scope.names.symbols;
     numbers = r.formulas.numbers.items;
     places = r.formulas.places.items;

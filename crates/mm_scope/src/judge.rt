@@ -6,13 +6,14 @@ ghost use Rattle.std.specs.Prelude.{false};
 ghost use Rattle.mm_spec.specs.Text.{is_in, words};
 ghost use Rattle.mm_spec.specs.Frame.{place_of};
 ghost use Rattle.mm_database.specs.Names.{find, names_of};
+ghost use Rattle.mm_outline.specs.Blocks.{is_open_in};
 ghost use Rattle.mm_scope.specs.Formulas.{judged};
 ghost use Rattle.mm_spec.specs.Lawful.{least, at_each, symbol_codes, formula_faults};
 ghost use Rattle.mm_spec.specs.Lawful.{floating_faults, label_faults, scope_faults};
 ghost use Rattle.mm_spec.specs.Scope.{Names as DeclaredNames};
 ghost use Rattle.mm_outline.specs.Parts.{AreWithin, IsOutline, between, nth_word, token_at};
 ghost use Rattle.mm_outline.specs.Parts.{statement_of};
-ghost use Rattle.mm_scope.specs.Judge.{merge as spec_merge, fault_at, is_open_in, declared_codes};
+ghost use Rattle.mm_scope.specs.Judge.{merge as spec_merge, fault_at, declared_codes};
 ghost use Rattle.mm_scope.specs.Judge.{list_fault, before_next, Knows};
 
 use crate::scope::Scope;
@@ -42,7 +43,7 @@ impl<'a, A: Allocator + Copy> Scope<'a, A> {
         ensures fault { IfOk result
             (λ r. (n : DeclaredNames)
             → Knows n (find self.now.names.symbols) (find self.now.names.labels)
-            (is_open_in self.now.blocks.of.items self.now.blocks.ends.items)
+            (is_open_in self.now.blocks)
             → r ≡ least (at_each (symbol_codes n) [] (between text.now tokens.now from to))) }
         ensures numbers { OnOk result
             (numbers.new.items
@@ -76,7 +77,7 @@ impl<'a, A: Allocator + Copy> Scope<'a, A> {
         ensures { IfOk result
             (λ r. (n : DeclaredNames)
             → Knows n (find self.now.names.symbols) (find self.now.names.labels)
-            (is_open_in self.now.blocks.of.items self.now.blocks.ends.items)
+            (is_open_in self.now.blocks)
             → r ≡ least
             (at_each (declared_codes n kind) [] (between text.now tokens.now from to))) }
     {
@@ -109,7 +110,7 @@ impl<'a, A: Allocator + Copy> Scope<'a, A> {
         ensures fault { IfOk result
             (λ r. (n : DeclaredNames)
             → Knows n (find self.now.names.symbols) (find self.now.names.labels)
-            (is_open_in self.now.blocks.of.items self.now.blocks.ends.items)
+            (is_open_in self.now.blocks)
             → r ≡ least
             (formula_faults n (between text.now tokens.now from to)
             (nth_word tokens.now to).start)) }
@@ -136,7 +137,7 @@ impl<'a, A: Allocator + Copy> Scope<'a, A> {
         requires within { at < length tokens.now }
         ensures { (n : DeclaredNames)
             → Knows n (find self.now.names.symbols) (find self.now.names.labels)
-            (is_open_in self.now.blocks.of.items self.now.blocks.ends.items)
+            (is_open_in self.now.blocks)
             → result ≡ least (label_faults n (token_at text.now tokens.now at)) }
     {
         let token = tokens[at as usize];
@@ -150,7 +151,7 @@ impl<'a, A: Allocator + Copy> Scope<'a, A> {
         requires within { to < length tokens.now }
         ensures { (n : DeclaredNames)
             → Knows n (find self.now.names.symbols) (find self.now.names.labels)
-            (is_open_in self.now.blocks.of.items self.now.blocks.ends.items)
+            (is_open_in self.now.blocks)
             → result
             ≡ least (floating_faults n (nth_word tokens.now keyword).start
             (between text.now tokens.now (keyword + 1) to)) }
@@ -255,7 +256,7 @@ impl<'a, A: Allocator + Copy> Scope<'a, A> {
         ensures fault { IfOk result
             (λ r. (n : DeclaredNames)
             → Knows n (find self.now.names.symbols) (find self.now.names.labels)
-            (is_open_in self.now.blocks.of.items self.now.blocks.ends.items)
+            (is_open_in self.now.blocks)
             → r ≡ least (scope_faults n deep (statement_of text.now tokens.now outline))) }
     {
         let kind = outline.kind;
@@ -295,7 +296,7 @@ impl<'a, A: Allocator + Copy> Scope<'a, A> {
         ensures fault { IfOk result
             (λ r. (n : DeclaredNames)
             → Knows n (find self.now.names.symbols) (find self.now.names.labels)
-            (is_open_in self.now.blocks.of.items self.now.blocks.ends.items)
+            (is_open_in self.now.blocks)
             → r ≡ least
             (label_faults n (token_at text.now tokens.now (keyword - 1))
             ++ formula_faults n (between text.now tokens.now (keyword + 1) to)
@@ -328,7 +329,7 @@ impl<'a, A: Allocator + Copy> Scope<'a, A> {
         ensures { IfOk result
             (λ r. (n : DeclaredNames)
             → Knows n (find self.now.names.symbols) (find self.now.names.labels)
-            (is_open_in self.now.blocks.of.items self.now.blocks.ends.items)
+            (is_open_in self.now.blocks)
             → r ≡ spec_merge
             (list_fault kind deep (nth_word tokens.now keyword).start
             (nth_word tokens.now to).start (to - keyword - 1))

@@ -7,7 +7,6 @@ ghost use Rattle.mm_spec.specs.Scope.{names_before, depth, constants_of, variabl
 ghost use Rattle.mm_spec.specs.Lawful.{least, scope_faults};
 ghost use Rattle.mm_spec.specs.Output.{IsRead};
 ghost use Rattle.mm_database.specs.Names.{find as find_in, names_of};
-ghost use Rattle.mm_outline.specs.Blocks.{lists};
 ghost use Rattle.std.specs.Prelude.{◌+◌, ◌-◌, ℕ, Some, if◌then◌else◌, bytes_eq, true};
 ghost use Rattle.mm_spec.specs.Text.{is_in, words};
 ghost use Rattle.mm_scope.specs.Judge.{declared_entry, entry_of, typed_entry};
@@ -87,7 +86,7 @@ fn depth_after(kind: Kind, deep: u32) -> u32
 fn no_scope<'a, A: Allocator + Copy>(alloc: A) -> Result<Scope<'a, A>, AllocError>
     ensures keeps { IfOk result
         (λ s. Keeps [] (find_in s.names.symbols) (find_in s.names.labels)
-        (lists s.blocks.of.items s.blocks.ends.items s.blocks.open.items)) }
+        s.blocks) }
     ensures names { IfOk result (λ s. names_of s.names.symbols ≡ []) }
 {
     let blocks = no_blocks(alloc)?;
@@ -282,14 +281,12 @@ impl<'a, A: Allocator + Copy> Scope<'a, A> {
         requires within { outline.end < length tokens.now }
         requires keeps { (db : List Statement)
             × Keeps db (find_in self.old.names.symbols) (find_in self.old.names.labels)
-            (lists self.old.blocks.of.items self.old.blocks.ends.items
-            self.old.blocks.open.items)
+            self.old.blocks
             × (length db < 2 ^ 31) }
         ensures keeps { OnOk result
             ((db : List Statement)
             → Keeps db (find_in self.old.names.symbols) (find_in self.old.names.labels)
-            (lists self.old.blocks.of.items self.old.blocks.ends.items
-            self.old.blocks.open.items)
+            self.old.blocks
             → least (scope_faults (names_before db (length db)) (depth db (length db))
             (statement_of text.now tokens.now outline))
             ≡ None
@@ -297,8 +294,7 @@ impl<'a, A: Allocator + Copy> Scope<'a, A> {
             → 0 < depth db (length db))
             → Keeps (db ++ statement_of text.now tokens.now outline ∷ [])
             (find_in self.new.names.symbols) (find_in self.new.names.labels)
-            (lists self.new.blocks.of.items self.new.blocks.ends.items
-            self.new.blocks.open.items)) }
+            self.new.blocks) }
         ensures names { OnOk result
             ((d : List (List ℕ)) → names_of self.old.names.symbols ≡ first_occurrences [] d
             → names_of self.new.names.symbols
@@ -306,7 +302,7 @@ impl<'a, A: Allocator + Copy> Scope<'a, A> {
             (d ++ (constants_of (statement_of text.now tokens.now outline)
             ++ variables_of (statement_of text.now tokens.now outline)))) }
     {
-        let number = self.blocks.of.len() as u32;
+        let number = self.blocks.len();
         self.blocks.push(outline.kind)?;
         self.add_names(text, tokens, outline, number)
     }

@@ -2,7 +2,8 @@
 
 ghost use Rattle.std.specs.Prelude.{◌≡◌, Some, is_some};
 ghost use Rattle.mm_database.specs.Names.{find};
-ghost use Rattle.mm_scope.specs.Judge.{is_open_in, is_active_symbol, is_typed_symbol, symbol_code};
+ghost use Rattle.mm_outline.specs.Blocks.{is_open_in};
+ghost use Rattle.mm_scope.specs.Judge.{is_active_symbol, is_typed_symbol, symbol_code};
 ghost use Rattle.mm_scope.specs.Judge.{label_code, typecode_code, floating_code, declared_code};
 ghost use Rattle.mm_scope.specs.Judge.{typing_code};
 
@@ -20,36 +21,22 @@ pub struct Scope<'a, A: Allocator> {
 }
 
 impl<'a, A: Allocator + Copy> Scope<'a, A> {
-    /// Whether the statement is known and its block is still open.
-    fn is_open(&self, statement: u32) -> bool
-        ensures { result
-            ≡ is_open_in self.now.blocks.of.items self.now.blocks.ends.items statement }
-    {
-        match self.blocks.of.get(statement as usize) {
-            Some(block) => match self.blocks.ends.get(*block as usize) {
-                Some(end) => *end == NEVER,
-                None => false,
-            },
-            None => false,
-        }
-    }
-
     /// Whether the symbol is an active variable.
     fn is_active(&self, symbol: Symbol<'a>) -> bool
         ensures { result
             ≡ is_active_symbol
-            (is_open_in self.now.blocks.of.items self.now.blocks.ends.items) symbol.entry }
+            (is_open_in self.now.blocks) symbol.entry }
     {
-        symbol.is_variable && self.is_open(symbol.declared)
+        symbol.is_variable && self.blocks.is_open(symbol.declared)
     }
 
     /// Whether the symbol has an active `$f`.
     fn is_typed(&self, symbol: Symbol<'a>) -> bool
         ensures { result
             ≡ is_typed_symbol
-            (is_open_in self.now.blocks.of.items self.now.blocks.ends.items) symbol.entry }
+            (is_open_in self.now.blocks) symbol.entry }
     {
-        self.is_open(symbol.typed)
+        self.blocks.is_open(symbol.typed)
     }
 
     /// Returns what is wrong with a word as a symbol of a formula after the typecode. `known` is
@@ -57,7 +44,7 @@ impl<'a, A: Allocator + Copy> Scope<'a, A> {
     pub(crate) fn symbol_code(&self, known: Option<Symbol<'a>>) -> Option<Code>
         ensures { result
             ≡ symbol_code
-            (is_open_in self.now.blocks.of.items self.now.blocks.ends.items) known.entry }
+            (is_open_in self.now.blocks) known.entry }
     {
         match known {
             Some(symbol) => {
@@ -110,7 +97,7 @@ impl<'a, A: Allocator + Copy> Scope<'a, A> {
     pub(crate) fn floating_code(&self, typecode: &[u8], symbol: Symbol<'a>) -> Option<Code>
         ensures { result
             ≡ floating_code
-            (is_open_in self.now.blocks.of.items self.now.blocks.ends.items) typecode.now
+            (is_open_in self.now.blocks) typecode.now
             (Some symbol.entry) }
     {
         if self.is_typed(symbol) {
@@ -127,7 +114,7 @@ impl<'a, A: Allocator + Copy> Scope<'a, A> {
     pub(crate) fn declared_code(&self, kind: Kind, word: &[u8], repeated: bool) -> Option<Code>
         ensures { result
             ≡ declared_code
-            (is_open_in self.now.blocks.of.items self.now.blocks.ends.items) kind
+            (is_open_in self.now.blocks) kind
             (find self.now.names.symbols word.now) repeated
             (is_some (find self.now.names.labels word.now)) }
     {
@@ -163,7 +150,7 @@ impl<'a, A: Allocator + Copy> Scope<'a, A> {
     pub(crate) fn typing_code(&self, typecode: &[u8], variable: &[u8]) -> Option<Option<Code>>
         ensures { result
             ≡ typing_code
-            (is_open_in self.now.blocks.of.items self.now.blocks.ends.items) typecode.now
+            (is_open_in self.now.blocks) typecode.now
             (find self.now.names.symbols typecode.now)
             (find self.now.names.symbols variable.now) }
     {

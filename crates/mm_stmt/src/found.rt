@@ -2,7 +2,6 @@
 
 ghost use Rattle.std.specs.Prelude.{◌<◌, ◌^◌, All, IfOk, length, map};
 ghost use Rattle.mm_spec.specs.Derivation.{pair};
-ghost use Rattle.mm_outline.specs.Blocks.{lists};
 ghost use Rattle.mm_outline.specs.Numbered.{AreSymbols};
 ghost use Rattle.mm_outline.specs.Parts.{AreWithin, IsOutline};
 ghost use Rattle.mm_outline.specs.Statements.{statements};
@@ -39,8 +38,7 @@ fn beside_of<'a, A: Allocator + Copy>(
     requires few_symbols { length variables.now < 2 ^ 31 }
     ensures disjoint_index { IfOk result
         (λ b. IsDisjointIndex (statements text.now tokens.now read.now.outlines.items)
-        (lists read.now.scope.blocks.of.items read.now.scope.blocks.ends.items
-        read.now.scope.blocks.open.items) b.disjoint_index.pairs.items
+        read.now.scope.blocks b.disjoint_index.pairs.items
         b.disjoint_index.skips.items) }
     ensures frames { IfOk result
         (λ b. AreFrames (statements text.now tokens.now read.now.outlines.items)

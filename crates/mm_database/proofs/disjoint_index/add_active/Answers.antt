@@ -1,6 +1,6 @@
 use Rattle.std.proofs.Common.{◌≡◌, ℕ, ◌-◌, ◌≤◌, ◌++◌, ◌∷◌, [], List, length, get_or, nat_le}
 use Rattle.std.proofs.Common.{true, false, sym, subst, ap₂, ◌∙◌, arith}
-use Rattle.mm_outline.specs.Blocks.{lists, end_of}
+use Rattle.mm_outline.specs.Blocks.{end_of}
 use Rattle.mm_database.proofs.DisjointIndexLaw.{added_open, added_closed, added_end, parted_here}
 use Rattle.mm_database.proofs.DisjointIndexLaw.{symbol_here, no_symbol_here}
 use Rattle.mm_database.proofs.disjoint_index.add_active.Goals as goal
@@ -10,7 +10,7 @@ use Rattle.mm_database.proofs.disjoint_index.add_active.Goals.{else-is_open_at}
 pub loop-pairs-preserved : goal.loop-pairs-preserved
 loop-pairs-preserved g c =
     let b =
-    lists c.args.blocks.now.of.items c.args.blocks.now.ends.items c.args.blocks.now.open.items in
+    c.args.blocks.now in
     let ps = c.args.disjoint_index.now.pairs.items in
     let x = c.args.symbol in
     let at = c.args.at in
@@ -56,7 +56,7 @@ loop-pairs-preserved g c =
 pub returns : goal.returns
 returns g c =
     let b =
-    lists c.args.blocks.now.of.items c.args.blocks.now.ends.items c.args.blocks.now.open.items in
+    c.args.blocks.now in
     let ps = c.args.disjoint_index.now.pairs.items in
     let x = c.args.symbol in
     let at = c.args.at in

@@ -1,12 +1,11 @@
 use Rattle.std.proofs.Common.{◌≤◌, length}
-use Rattle.mm_outline.specs.Blocks.{lists}
 use Rattle.mm_database.proofs.DisjointIndexLaw.{Added}
 use Rattle.mm_database.proofs.disjoint_index.add_active.Given as goal
 
 abbrev pub invariant-loop-pairs : goal.invariant-loop-pairs
 invariant-loop-pairs g l =
     (l.left ≤ length l.disjoint_index.pairs.items)
-    × Added (lists l.blocks.of.items l.blocks.ends.items l.blocks.open.items)
+    × Added l.blocks
     l.disjoint_index.pairs.items
     l.fn.symbol l.fn.at l.initial.left l.left l.initial.into.items l.into.items
 

@@ -1,7 +1,7 @@
 use Rattle.std.proofs.Common.{◌≡◌, ◌≢◌, ℕ, ◌-◌, ◌<◌, ◌≤◌, ◌&&◌, List, length, get_or, true, false}
 use Rattle.std.proofs.Common.{nat_le, sym, subst, ap, ap₂, ◌∙◌, arith, inl, inr, ◌⊎◌}
 use Rattle.std.proofs.lemmas.Bool.{cases_lt, lt-ltb}
-use Rattle.mm_outline.specs.Blocks.{lists, end_of}
+use Rattle.mm_outline.specs.Blocks.{end_of}
 use Rattle.mm_database.specs.Pairs.{has_pair}
 use Rattle.mm_database.proofs.DisjointIndexLaw.{apart_left, apart_right, apart_end, none_left, sooner}
 use Rattle.mm_database.proofs.DisjointIndexLaw.{at_has, parted_here, symbol_here, no_symbol_here}
@@ -12,7 +12,7 @@ use Rattle.mm_database.proofs.disjoint_index.are_together.Goals.{else-one-other-
 pub returns-then-is_open_at-clause-found : goal.returns-then-is_open_at-clause-found
 returns-then-is_open_at-clause-found g c =
     let b =
-    lists c.args.blocks.now.of.items c.args.blocks.now.ends.items c.args.blocks.now.open.items in
+    c.args.blocks.now in
     let ps = c.args.disjoint_index.now.pairs.items in
     let x = c.args.x in
     let y = c.args.y in
@@ -55,7 +55,7 @@ returns-then-is_open_at-clause-found g c =
 pub loop-pairs-preserved-then-one-other-2 : goal.loop-pairs-preserved-then-one-other-2
 loop-pairs-preserved-then-one-other-2 g c =
     let b =
-    lists c.args.blocks.now.of.items c.args.blocks.now.ends.items c.args.blocks.now.open.items in
+    c.args.blocks.now in
     let ps = c.args.disjoint_index.now.pairs.items in
     let left = c.loop-pairs.left in
     let right = c.loop-pairs.right in
@@ -82,7 +82,7 @@ loop-pairs-preserved-then-one-other-2 g c =
 pub loop-pairs-preserved : goal.loop-pairs-preserved
 loop-pairs-preserved g c =
     let b =
-    lists c.args.blocks.now.of.items c.args.blocks.now.ends.items c.args.blocks.now.open.items in
+    c.args.blocks.now in
     let ps = c.args.disjoint_index.now.pairs.items in
     let at = c.args.at in
     let left = c.loop-pairs.left in
@@ -123,7 +123,7 @@ loop-pairs-preserved g c =
 pub returns-else-ends_with-clause-none : goal.returns-else-ends_with-clause-none
 returns-else-ends_with-clause-none g c =
     let b =
-    lists c.args.blocks.now.of.items c.args.blocks.now.ends.items c.args.blocks.now.open.items in
+    c.args.blocks.now in
     let ps = c.args.disjoint_index.now.pairs.items in
     let y = c.args.y in
     let at = c.args.at in
@@ -142,7 +142,7 @@ returns-else-ends_with-clause-none g c =
 pub returns-after-loop-pairs-clause-none : goal.returns-after-loop-pairs-clause-none
 returns-after-loop-pairs-clause-none g c =
     let b =
-    lists c.args.blocks.now.of.items c.args.blocks.now.ends.items c.args.blocks.now.open.items in
+    c.args.blocks.now in
     let ps = c.args.disjoint_index.now.pairs.items in
     let x = c.args.x in
     let at = c.args.at in

@@ -1,6 +1,5 @@
 use Rattle.std.proofs.Common.{◌≡◌, ℕ, ◌&&◌, ◌||◌, take}
 use Rattle.mm_spec.specs.Derivation.{is_member}
-use Rattle.mm_outline.specs.Blocks.{lists}
 use Rattle.mm_database.specs.DisjointIndex.{is_live}
 use Rattle.mm_database.specs.Pairs.{has_pair}
 use Rattle.mm_frame.proofs.disjoint.add_all_active.Given as goal
@@ -12,4 +11,4 @@ invariant-loop-symbol g l =
     ≡ (has_pair l.initial.into.items j y
     || (is_member (take l.symbol-index l.symbols) y
     && (has_pair l.disjoint_index.pairs.items y j
-    && is_live (lists l.blocks.of.items l.blocks.ends.items l.blocks.open.items) j l.fn.at)))
+    && is_live l.blocks j l.fn.at)))

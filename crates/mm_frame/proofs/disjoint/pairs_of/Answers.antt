@@ -1,7 +1,6 @@
 use Rattle.std.proofs.Common.{◌∙◌, ℕ, ◌≤◌, ◌&&◌, ◌||◌, List, length, map, nat_eq, nat_lt, ap, arith}
 use Rattle.std.specs.List.{list_any}
 use Rattle.mm_spec.specs.Derivation.{pair, is_member}
-use Rattle.mm_outline.specs.Blocks.{lists}
 use Rattle.mm_database.specs.DisjointIndex.{is_live}
 use Rattle.mm_database.specs.Pairs.{has_pair}
 use Rattle.mm_outline.proofs.ResultsLaw.{ok_then}
@@ -12,7 +11,7 @@ pub returns : goal.returns
 returns g c = ok_then c.symbols_of.result c.symbols_of.ensures (λ v e.
     let db = c.args.tables.now in
     let b =
-    lists c.args.blocks.now.of.items c.args.blocks.now.ends.items c.args.blocks.now.open.items in
+    c.args.blocks.now in
     let k = c.args.assertion in
     let m = c.requires.assertion in
     let h : k ≤ length db = omega (arith, m) in

@@ -1,5 +1,4 @@
 use Rattle.std.proofs.Common.{sym, subst, ap, ℕ, List}
-use Rattle.mm_outline.specs.Blocks.{lists}
 use Rattle.mm_database.specs.DisjointIndex.{AreKnown, AreSkips, IsDisjointIndex}
 use Rattle.mm_database.proofs.DisjointIndexLaw.{are_known}
 use Rattle.mm_frame.proofs.disjoint_index.disjoint_index_of.Goals as goal
@@ -7,7 +6,7 @@ use Rattle.mm_frame.proofs.disjoint_index.disjoint_index_of.Goals as goal
 pub skips_of-requires : goal.skips_of-requires
 skips_of-requires g c =
     let b =
-    lists c.args.blocks.now.of.items c.args.blocks.now.ends.items c.args.blocks.now.open.items in
+    c.args.blocks.now in
     record {
       known = subst (AreKnown b) (sym c.deref.ensures.value)
           (are_known c.args.tables.now b c.requires c.in_ok-pairs.pairs.items
@@ -17,7 +16,7 @@ skips_of-requires g c =
 pub returns : goal.returns
 returns g c =
     let b =
-    lists c.args.blocks.now.of.items c.args.blocks.now.ends.items c.args.blocks.now.open.items in
+    c.args.blocks.now in
     let ps = c.in_ok-pairs.pairs.items in
     let ss = c.in_ok-skips.skips.items in
     let is : IsDisjointIndex c.args.tables.now b ps ss =

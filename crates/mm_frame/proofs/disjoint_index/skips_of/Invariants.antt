@@ -1,5 +1,4 @@
 use Rattle.std.proofs.Common.{◌≡◌, ℕ, ◌<◌, ◌≤◌, length, get_or}
-use Rattle.mm_outline.specs.Blocks.{lists}
 use Rattle.mm_database.specs.DisjointIndex.{Covers}
 use Rattle.mm_frame.proofs.disjoint_index.skips_of.Given as goal
 
@@ -8,13 +7,13 @@ invariant-loop-at g l =
     (length l.skips.items ≡ l.at)
     × ((q : ℕ) → q < l.at
     → (get_or l.skips.items q 0 ≤ q)
-    × Covers (lists l.blocks.of.items l.blocks.ends.items l.blocks.open.items) l.pairs
+    × Covers l.blocks l.pairs
     (get_or l.skips.items q 0) q)
 
 abbrev pub invariant-loop-first : goal.invariant-loop-first
 invariant-loop-first g l =
     (l.first ≤ l.at)
-    × Covers (lists l.blocks.of.items l.blocks.ends.items l.blocks.open.items) l.pairs l.first l.at
+    × Covers l.blocks l.pairs l.first l.at
 
 abbrev pub decreases-loop-first : goal.decreases-loop-first
 decreases-loop-first g l = l.first

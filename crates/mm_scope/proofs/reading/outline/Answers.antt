@@ -6,7 +6,6 @@ use Rattle.mm_spec.specs.Scope.{names_before}
 use Rattle.mm_spec.specs.Lawful.{least, scope_faults}
 use Rattle.mm_spec.specs.Laws.Table.{start, statements_from, statements_of}
 use Rattle.mm_spec.proofs.RowLaw.{is_longest}
-use Rattle.mm_outline.specs.Blocks.{lists}
 use Rattle.mm_outline.specs.Parts.{statement_of, token_of, as_tokens, depth_after, IsOutline}
 use Rattle.mm_outline.specs.declared.parts.Outline.{Outline}
 use Rattle.mm_outline.specs.NextStatement.{tokens_from}
@@ -111,8 +110,7 @@ statements-preserved g c =
     let db = statements text ws s.read.outlines.items in
     let one = statement_of text ws o in
     let b =
-    lists s.read.scope.blocks.of.items s.read.scope.blocks.ends.items
-    s.read.scope.blocks.open.items in
+    s.read.scope.blocks in
     let f = c.take.new.self.fault in
     let none : None ≡ f = none_is f (sym c.is_some.ensures ∙ c.if-is_some.false) in
     let lawful =

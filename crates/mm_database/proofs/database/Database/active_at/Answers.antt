@@ -4,7 +4,7 @@ use Rattle.std.proofs.lemmas.Bool.{lt-ltb}
 use Rattle.std.proofs.lemmas.List.{length-map}
 use Rattle.mm_spec.specs.Lexed.{tokens_of as words_of}
 use Rattle.mm_spec.specs.Scope.{is_active}
-use Rattle.mm_outline.specs.Blocks.{lists, end_of}
+use Rattle.mm_outline.specs.Blocks.{end_of}
 use Rattle.mm_outline.specs.Parts.{statement_of}
 use Rattle.mm_outline.specs.Statements.{statements, active_kind}
 use Rattle.mm_database.specs.Database.{Contents, held}
@@ -22,7 +22,7 @@ returns-then-statement-at g c =
     let j = c.args.statement in
     let k = c.args.at in
     let o = c.index.result.now in
-    let b = lists f.read.blocks.of.items f.read.blocks.ends.items f.read.blocks.open.items in
+    let b = f.read.blocks in
     let count : length (held text ws os f.with_open) ≡ length os =
     counted_length f.with_open (statements text ws os) ∙ length-map os (statement_of text ws) in
     let within : k ≤ length os =

@@ -4,7 +4,6 @@ use Rattle.std.specs.List.{list_any}
 use Rattle.mm_spec.specs.Lexed.{tokens_of as words_of}
 use Rattle.mm_spec.specs.Derivation.{is_member}
 use Rattle.mm_spec.specs.Frame.{disjoint_at, is_disjoint_statement, active_of, formula_at}
-use Rattle.mm_outline.specs.Blocks.{lists}
 use Rattle.mm_outline.specs.Statements.{statements}
 use Rattle.mm_database.specs.Database.{held, Contents}
 use Rattle.mm_database.proofs.TogetherLaw.{together_is}
@@ -15,7 +14,7 @@ pub returns-else-are_together_near : goal.returns-else-are_together_near
 returns-else-are_together_near g c =
     let f = c.self.inside in
     let db = held f.text.now (words_of f.text.now) f.read.outlines.items f.with_open in
-    let b = lists f.read.blocks.of.items f.read.blocks.ends.items f.read.blocks.open.items in
+    let b = f.read.blocks in
     let k = c.args.statement in
     let x = c.args.x in
     let y = c.args.y in

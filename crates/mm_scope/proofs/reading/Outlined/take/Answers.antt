@@ -2,7 +2,7 @@ use Rattle.std.proofs.Common.{◌≡◌, ℕ, ◌<◌, ◌++◌, ◌∷◌, [], 
 use Rattle.std.proofs.lemmas.List.{length-map}
 use Rattle.mm_spec.specs.Scope.{names_before}
 use Rattle.mm_spec.specs.Lawful.{least, scope_faults}
-use Rattle.mm_outline.specs.Blocks.{lists, never}
+use Rattle.mm_outline.specs.Blocks.{never}
 use Rattle.mm_outline.specs.Parts.{statement_of}
 use Rattle.mm_outline.specs.Statements.{statements}
 use Rattle.mm_scope.specs.Formulas.{AreFormulas}
@@ -31,8 +31,7 @@ returns-then-is_some-clause-fault g c =
     let k = c.requires.kept in
     let next = c.requires.next in
     let b =
-    lists c.args.self.now.scope.blocks.of.items c.args.self.now.scope.blocks.ends.items
-    c.args.self.now.scope.blocks.open.items in
+    c.args.self.now.scope.blocks in
     let few = next.few in
     let few_blocks : length db < never = omega (arith, few) in
     let fault =
@@ -79,8 +78,7 @@ returns-clause-fault g c =
     let k = c.requires.kept in
     let next = c.requires.next in
     let b =
-    lists c.args.self.now.scope.blocks.of.items c.args.self.now.scope.blocks.ends.items
-    c.args.self.now.scope.blocks.open.items in
+    c.args.self.now.scope.blocks in
     let few = next.few in
     let few_blocks : length db < never = omega (arith, few) in
     let fault =
@@ -100,8 +98,7 @@ returns-clause-taken g c none =
     let k = c.requires.kept in
     let next = c.requires.next in
     let b =
-    lists c.args.self.now.scope.blocks.of.items c.args.self.now.scope.blocks.ends.items
-    c.args.self.now.scope.blocks.open.items in
+    c.args.self.now.scope.blocks in
     let few = next.few in
     let few_blocks : length db < never = omega (arith, few) in
     let fault =

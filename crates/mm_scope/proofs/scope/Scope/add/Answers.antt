@@ -1,6 +1,6 @@
 use Rattle.std.proofs.Common.{◌≡◌, ◌<◌, ◌∙◌, ap, arith, length}
 use Rattle.mm_database.specs.Names.{find}
-use Rattle.mm_outline.specs.Blocks.{lists, never}
+use Rattle.mm_outline.specs.Blocks.{never}
 use Rattle.mm_scope.proofs.AddLaw.{keeps_after, on_both}
 use Rattle.mm_scope.proofs.scope.Scope.add.Goals as goal
 
@@ -8,8 +8,7 @@ pub push-requires-clause-few_blocks : goal.push-requires-clause-few_blocks
 push-requires-clause-few_blocks g c =
     let k = c.requires.keeps.1.blocks.few in
     let m = c.requires.keeps.2 in
-    let v = c.args.self.now.blocks.ends.ok.0 in
-    omega (arith, k, m, v)
+    omega (arith, k, m)
 
 pub returns-clause-keeps : goal.returns-clause-keeps
 returns-clause-keeps g c =
@@ -19,20 +18,14 @@ returns-clause-keeps g c =
     let ws = c.args.tokens.now in
     let o = c.args.outline in
     let s = c.args.self.now in
-    let b = lists s.blocks.of.items s.blocks.ends.items s.blocks.open.items in
+    let b = s.blocks in
     let count = keeps.blocks.count in
     let had = c.requires.keeps.1.blocks.count in
     let small = c.requires.keeps.2 in
     let few : length db < never = omega (arith, count, had, small) in
-    let size = s.blocks.of.ok.0 in
-    let long = c.len-number.ensures in
-    let number : c.len-number.result ≡ length s.blocks.of.items = omega (arith, size, long) in
-    let same =
-    ap (λ x. lists x.of.items x.ends.items x.open.items) c.add_names.ensures.blocks
-    ∙ c.in_ok-push.ensures in
+    let same = c.add_names.ensures.blocks ∙ c.in_ok-push.ensures in
     keeps_after text ws db (find s.names.symbols)
     (find s.names.labels) b keeps few o.kind o.keyword o.middle o.end law deep
-    (lists c.add_names.new.self.blocks.of.items c.add_names.new.self.blocks.ends.items
-    c.add_names.new.self.blocks.open.items) same c.len-number.result number
+    c.add_names.new.self.blocks same c.len-number.result c.len-number.ensures
     (find c.add_names.new.self.names.symbols) symbols
     (find c.add_names.new.self.names.labels) labels)

@@ -1,7 +1,8 @@
 use Rattle.std.proofs.Common.{◌<◌, ◌≤◌, ◌∙◌, ap, arith, is_some, length}
 use Rattle.mm_database.specs.Names.{find}
 use Rattle.mm_outline.specs.Parts.{token_at}
-use Rattle.mm_scope.specs.Judge.{merge, fault_at, is_open_in, declared_code}
+use Rattle.mm_outline.specs.Blocks.{is_open_in}
+use Rattle.mm_scope.specs.Judge.{merge, fault_at, declared_code}
 use Rattle.mm_scope.proofs.JudgeLaw.{declared_more}
 use Rattle.mm_scope.proofs.scope.Scope.declared_fault.Goals as goal
 
@@ -19,11 +20,11 @@ loop-at-preserved g c =
           ∙ ap (λ o. merge c.loop-at.best
           (fault_at (token_at c.args.text.now c.args.tokens.now c.loop-at.at).at o))
           (c.declared_code.ensures
-          ∙ ap (λ w. declared_code (is_open_in s.blocks.of.items s.blocks.ends.items) c.args.kind
+          ∙ ap (λ w. declared_code (is_open_in s.blocks) c.args.kind
           (find s.names.symbols w) c.in_ok-repeated.repeated (is_some (find s.names.labels w)))
           c.bytes-word.ensures)
           ∙ declared_more n (find s.names.symbols) (find s.names.labels)
-          (is_open_in s.blocks.of.items s.blocks.ends.items) k c.args.kind c.args.text.now
+          (is_open_in s.blocks) k c.args.kind c.args.text.now
           c.args.tokens.now c.args.from c.loop-at.at later inside c.in_ok-repeated.repeated
           c.in_ok-repeated.ensures.repeated c.loop-at.best (c.loop-at.invariant.least n k);
     }

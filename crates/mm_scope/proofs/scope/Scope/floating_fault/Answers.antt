@@ -2,7 +2,8 @@ use Rattle.std.proofs.Common.{◌+◌, ◌∙◌, sym, ap, ap₂, arith}
 use Rattle.mm_spec.specs.Lawful.{least, floating_faults}
 use Rattle.mm_database.specs.Names.{find}
 use Rattle.mm_outline.specs.Parts.{token_at, nth_word}
-use Rattle.mm_scope.specs.Judge.{is_open_in, typing_code, typing_fault}
+use Rattle.mm_outline.specs.Blocks.{is_open_in}
+use Rattle.mm_scope.specs.Judge.{typing_code, typing_fault}
 use Rattle.mm_scope.proofs.JudgeLaw.{no_two_between, two_between, typing_is}
 use Rattle.mm_scope.proofs.scope.Scope.floating_fault.Goals as goal
 
@@ -25,11 +26,11 @@ returns-in-Some g c = λ n k.
     c.note-in-Some.ensures
     ∙ ap (typing_fault at (token_at text ws (c.args.keyword + 2)).at)
     (c.in-Some.ensures
-    ∙ ap₂ (λ a b. typing_code (is_open_in s.blocks.of.items s.blocks.ends.items) a
+    ∙ ap₂ (λ a b. typing_code (is_open_in s.blocks) a
     (find s.names.symbols a) (find s.names.symbols b))
     c.bytes-typecode.ensures c.bytes-variable.ensures)
     ∙ typing_is n (find s.names.symbols) (find s.names.labels)
-    (is_open_in s.blocks.of.items s.blocks.ends.items) k at
+    (is_open_in s.blocks) k at
     (token_at text ws (c.args.keyword + 1)) (token_at text ws (c.args.keyword + 2))
     ∙ ap (λ xs. least (floating_faults n at xs))
     (sym (two_between text ws c.args.keyword c.args.to
@@ -45,11 +46,11 @@ returns-in-None g c = λ n k.
     c.note-in-None.ensures
     ∙ ap (typing_fault at (token_at text ws (c.args.keyword + 2)).at)
     (c.in-None.ensures
-    ∙ ap₂ (λ a b. typing_code (is_open_in s.blocks.of.items s.blocks.ends.items) a
+    ∙ ap₂ (λ a b. typing_code (is_open_in s.blocks) a
     (find s.names.symbols a) (find s.names.symbols b))
     c.bytes-typecode.ensures c.bytes-variable.ensures)
     ∙ typing_is n (find s.names.symbols) (find s.names.labels)
-    (is_open_in s.blocks.of.items s.blocks.ends.items) k at
+    (is_open_in s.blocks) k at
     (token_at text ws (c.args.keyword + 1)) (token_at text ws (c.args.keyword + 2))
     ∙ ap (λ xs. least (floating_faults n at xs))
     (sym (two_between text ws c.args.keyword c.args.to

@@ -2,8 +2,9 @@ use Rattle.std.proofs.Common.{◌<◌, ◌≤◌, ◌∙◌, ◌+◌, ◌++◌, 
 use Rattle.std.proofs.Common.{append_assoc}
 use Rattle.mm_spec.specs.Frame.{place_of}
 use Rattle.mm_outline.specs.Parts.{token_at, nth_word, between}
+use Rattle.mm_outline.specs.Blocks.{is_open_in}
 use Rattle.mm_scope.specs.Formulas.{numbers_in}
-use Rattle.mm_scope.specs.Judge.{merge, fault_at, is_open_in, typecode_code}
+use Rattle.mm_scope.specs.Judge.{merge, fault_at, typecode_code}
 use Rattle.mm_database.specs.Names.{find, names_of}
 use Rattle.mm_scope.proofs.JudgeLaw.{between_first, formula_is}
 use Rattle.mm_scope.proofs.scope.Scope.formula_fault.Goals as goal
@@ -33,7 +34,7 @@ returns-clause-fault g c = λ n k.
     ∙ ap typecode_code
     (c.numbered-number.ensures.symbol ∙ ap (find s.names.symbols) c.bytes.ensures)))
     ∙ formula_is n (find s.names.symbols) (find s.names.labels)
-    (is_open_in s.blocks.of.items s.blocks.ends.items) k c.args.text.now c.args.tokens.now
+    (is_open_in s.blocks) k c.args.text.now c.args.tokens.now
     c.args.from c.args.to
     (nth_word c.args.tokens.now c.args.to).start below inside c.in_ok-rest.rest
     (c.in_ok-rest.ensures.fault n k)

@@ -1,9 +1,10 @@
 use Rattle.std.proofs.Common.{◌<◌, ◌≤◌, ◌∙◌, ◌++◌, ◌∷◌, [], ap, ap₂, sym, arith, length}
 use Rattle.std.proofs.Common.{append_assoc}
 use Rattle.mm_spec.specs.Frame.{place_of}
+use Rattle.mm_outline.specs.Blocks.{is_open_in}
 use Rattle.mm_scope.specs.Formulas.{numbers_in}
 use Rattle.mm_outline.specs.Parts.{token_at, between}
-use Rattle.mm_scope.specs.Judge.{merge, fault_at, is_open_in, symbol_code}
+use Rattle.mm_scope.specs.Judge.{merge, fault_at, symbol_code}
 use Rattle.mm_database.specs.Names.{find, names_of}
 use Rattle.mm_scope.proofs.JudgeLaw.{symbols_more}
 use Rattle.mm_scope.proofs.NumberedLaw.{numbers_more}
@@ -32,10 +33,10 @@ loop-at-preserved g c =
           c.note-best.ensures
           ∙ ap (λ o. merge c.loop-at.best (fault_at (token_at text ws c.loop-at.at).at o))
           (c.symbol_code.ensures
-          ∙ ap (symbol_code (is_open_in s.blocks.of.items s.blocks.ends.items))
+          ∙ ap (symbol_code (is_open_in s.blocks))
           (c.numbered-number.ensures.symbol ∙ ap (find s.names.symbols) c.bytes.ensures))
           ∙ symbols_more n (find s.names.symbols) (find s.names.labels)
-          (is_open_in s.blocks.of.items s.blocks.ends.items) k text ws c.args.from c.loop-at.at
+          (is_open_in s.blocks) k text ws c.args.from c.loop-at.at
           later inside c.loop-at.best (c.loop-at.invariant.least n k);
       numbered = (
           let ns = names_of s.names.symbols in
