@@ -16,9 +16,9 @@ ghost use Rattle.mm_check.specs.Flags.{child_flags, taken_flags, wanted_flags};
 ghost use Rattle.mm_check.specs.Reached.{steps_of};
 
 use crate::noted::cite;
+use mm_database::Database;
 use mm_rule::{empty, hyps, is_assertion, is_essential_hypothesis};
 use mm_steps::{Step, Steps};
-use mm_database::Database;
 use std::alloc::{AllocError, Allocator};
 
 /// Which entries and which steps are essential, during a pass over the steps of a proof from last

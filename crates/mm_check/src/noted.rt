@@ -7,9 +7,9 @@ ghost use Rattle.mm_steps.specs.Read.{step_of};
 ghost use Rattle.mm_rule.specs.Assertions.{is_assertion_at};
 ghost use Rattle.mm_check.specs.Contract.{labels, is_labelled_step};
 
+use mm_database::Database;
 use mm_rule::{is_assertion, put_number};
 use mm_steps::Step;
-use mm_database::Database;
 use std::alloc::{AllocError, Allocator};
 
 /// Whether `k` is in `noted` at the index that `places` gives for it. If it isn't, it may still be

@@ -129,7 +129,5 @@ module _ (w : Bool) (db : List Statement) where
         λ x j. h.are x j
         ∙ sym (ap₂ (λ t (f : ℕ → Formula). t && is_member (f j) x)
         (counted_any w db is_disjoint_statement (λ l k xs e ps d. refl) j) (counted_formula w db));
-    rising = h.rising;
-    known = h.known;
-    skips_are = h.skips_are;
+    ordered = h.ordered;
   }

@@ -39,10 +39,14 @@ pub record AreSkips (b : Lists) (ps : List (ℕ × ℕ)) (skips : List ℕ) : Ty
   pub within : (q : ℕ) → q < length ps → get_or skips q 0 ≤ q
   pub covers : (q : ℕ) → q < length ps → Covers b ps (get_or skips q 0) q
 
+-- the pairs are in order, their statements have a block, and the skips are theirs
+pub record IsOrdered (b : Lists) (ps : List (ℕ × ℕ)) (skips : List ℕ) : Type 0 where
+  pub rising : AreRising ps
+  pub known : AreKnown b ps
+  pub skips_are : AreSkips b ps skips
+
 -- each symbol with each `$d` that has it
 pub record IsDisjointIndex (db : List Statement) (b : Lists) (ps : List (ℕ × ℕ))
     (skips : List ℕ) : Type 0 where
   pub are : (x j : ℕ) → has_pair ps x j ≡ has_symbol db x j
-  pub rising : AreRising ps
-  pub known : AreKnown b ps
-  pub skips_are : AreSkips b ps skips
+  pub ordered : IsOrdered b ps skips

@@ -4,7 +4,7 @@
 ghost use Rattle.std.specs.Prelude.{◌≡◌, ◌≢◌, ◌<◌, ◌≤◌, ◌+◌, ◌-◌, ◌&&◌, ◌||◌, ℕ, OnOk};
 ghost use Rattle.std.specs.Prelude.{length, get_or, nat_eq, nat_lt, nat_le, true, false};
 ghost use Rattle.mm_outline.specs.Blocks.{end_of};
-ghost use Rattle.mm_database.specs.DisjointIndex.{is_live, AreKnown, AreSkips};
+ghost use Rattle.mm_database.specs.DisjointIndex.{is_live, IsOrdered};
 ghost use Rattle.mm_database.specs.Pairs.{has_pair, AreRising, is_before};
 ghost use Rattle.mm_database.specs.Starts.{IsStart, AreStarts};
 
@@ -104,12 +104,8 @@ fn back<A: Allocator>(
 ) -> usize
     requires some { 0 < left }
     requires within { left ≤ length disjoint_index.now.pairs.items }
-    requires known { AreKnown
-        blocks.now
-        disjoint_index.now.pairs.items }
-    requires skips { AreSkips
-        blocks.now
-        disjoint_index.now.pairs.items disjoint_index.now.skips.items }
+    requires ordered { IsOrdered blocks.now disjoint_index.now.pairs.items
+        disjoint_index.now.skips.items }
     ensures less { result < left }
     ensures passed { (p : ℕ) → result ≤ p → p + 1 < left
         → nat_le at
@@ -132,13 +128,8 @@ pub fn add_active<A: Allocator>(
     at: u32,
     into: &mut Vec<(u32, u32), A>,
 ) -> Result<(), AllocError>
-    requires rising { AreRising disjoint_index.now.pairs.items }
-    requires known { AreKnown
-        blocks.now
-        disjoint_index.now.pairs.items }
-    requires skips { AreSkips
-        blocks.now
-        disjoint_index.now.pairs.items disjoint_index.now.skips.items }
+    requires ordered { IsOrdered blocks.now disjoint_index.now.pairs.items
+        disjoint_index.now.skips.items }
     ensures { OnOk result
         ((j y : ℕ)
         → has_pair into.new.items j y
@@ -170,13 +161,8 @@ pub(crate) fn are_together<A: Allocator>(
     y: Sym,
     at: u32,
 ) -> bool
-    requires rising { AreRising disjoint_index.now.pairs.items }
-    requires known { AreKnown
-        blocks.now
-        disjoint_index.now.pairs.items }
-    requires skips { AreSkips
-        blocks.now
-        disjoint_index.now.pairs.items disjoint_index.now.skips.items }
+    requires ordered { IsOrdered blocks.now disjoint_index.now.pairs.items
+        disjoint_index.now.skips.items }
     ensures found { result ≡ true
         → (j : ℕ) × (has_pair disjoint_index.now.pairs.items x j ≡ true)
         × (has_pair disjoint_index.now.pairs.items y j ≡ true)

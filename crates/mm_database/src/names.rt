@@ -158,11 +158,7 @@ impl<'a, A: Allocator + Copy> Names<'a, A> {
     }
 
     /// Sets the entry of the symbol with this name. A new symbol gets the next number.
-    pub fn set_symbol(
-        &mut self,
-        word: &'a [u8],
-        symbol: Symbol<'a>,
-    ) -> Result<(), AllocError>
+    pub fn set_symbol(&mut self, word: &'a [u8], symbol: Symbol<'a>) -> Result<(), AllocError>
         ensures symbols { OnOk result
             ((w : List ℕ)
             → find self.new.symbols w

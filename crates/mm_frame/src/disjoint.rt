@@ -6,7 +6,7 @@ ghost use Rattle.std.specs.List.{list_any};
 ghost use Rattle.mm_spec.specs.Derivation.{is_member, pair};
 ghost use Rattle.mm_spec.specs.Frame.{mandatory_variables, mandatory_pairs};
 ghost use Rattle.mm_outline.specs.Blocks.{IsBlocks};
-ghost use Rattle.mm_database.specs.DisjointIndex.{is_live, AreKnown, AreSkips, IsDisjointIndex};
+ghost use Rattle.mm_database.specs.DisjointIndex.{is_live, IsOrdered, IsDisjointIndex};
 ghost use Rattle.mm_database.specs.Pairs.{has_pair, AreRising};
 
 use crate::disjoint_index::sort_and_dedup;
@@ -66,13 +66,8 @@ fn add_all_active<A: Allocator>(
     at: u32,
     into: &mut Vec<(u32, u32), A>,
 ) -> Result<(), AllocError>
-    requires rising { AreRising disjoint_index.now.pairs.items }
-    requires known { AreKnown
-        blocks.now
-        disjoint_index.now.pairs.items }
-    requires skips { AreSkips
-        blocks.now
-        disjoint_index.now.pairs.items disjoint_index.now.skips.items }
+    requires ordered { IsOrdered blocks.now disjoint_index.now.pairs.items
+        disjoint_index.now.skips.items }
     ensures { OnOk result
         ((j y : ℕ)
         → has_pair into.new.items j y

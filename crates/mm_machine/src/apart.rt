@@ -6,8 +6,8 @@ ghost use Rattle.mm_spec.specs.Citation.{context_at};
 ghost use Rattle.mm_machine.specs.Arena.{AreApart};
 ghost use Rattle.mm_rule.specs.Assertions.{is_assertion_at};
 
-use mm_rule::{pairs, put_number, zeros};
 use mm_database::{Database, Sym};
+use mm_rule::{pairs, put_number, zeros};
 use std::alloc::{AllocError, Allocator};
 use std::marker::Model;
 

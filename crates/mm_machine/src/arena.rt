@@ -17,9 +17,9 @@ ghost use Rattle.mm_machine.specs.Replaced.{replaced};
 ghost use Rattle.mm_machine.specs.State.{TestsRule};
 
 use crate::apart::Apart;
+use mm_database::{Database, Sym};
 use mm_rule::{Hypothesis, Part, Rule};
 use mm_spec::FORMULA_LIMIT;
-use mm_database::{Database, Sym};
 use std::alloc::{AllocError, Allocator};
 use std::marker::Model;
 

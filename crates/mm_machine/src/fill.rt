@@ -8,9 +8,9 @@ ghost use Rattle.mm_rule.specs.Rule.{IsBelow};
 ghost use Rattle.mm_machine.specs.Replaced.{replaced};
 
 use crate::arena::{Span, Symbols, span_of};
+use mm_database::Sym;
 use mm_rule::Part;
 use mm_spec::FORMULA_LIMIT;
-use mm_database::Sym;
 
 /// Writes a symbol at place `at`.
 #[inline(always)]

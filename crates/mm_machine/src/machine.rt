@@ -18,8 +18,8 @@ ghost use Rattle.mm_machine.specs.Stops.{Stops};
 use crate::apart::Apart;
 use crate::arena::{Reason, Span, Store, Symbols, append, build, test_rule};
 use crate::fill::fill;
-use mm_rule::{Rule, empty, put_number, zeros};
 use mm_database::{Database, Sym};
+use mm_rule::{Rule, empty, put_number, zeros};
 use std::alloc::{AllocError, Allocator};
 use std::marker::Model;
 

@@ -14,8 +14,8 @@ use crate::labels::usable_label;
 use crate::letters::Progress;
 use crate::refused::{ProofRefused, refused};
 use crate::room::with_room;
-use mm_steps::Steps;
 use mm_database::{Code, Database, Word};
+use mm_steps::Steps;
 use std::alloc::Allocator;
 
 /// Reads the labels in brackets, up to the `)`, and returns how many there are. Their statements

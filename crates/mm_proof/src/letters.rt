@@ -17,8 +17,8 @@ ghost use Rattle.mm_proof.specs.Refused.{StartsWith};
 use crate::digits::{LetterKind, letter_of, with_digit};
 use crate::refused::{ProofRefused, refused};
 use crate::room::with_room;
-use mm_steps::{Step, Steps};
 use mm_database::{Code, Word};
+use mm_steps::{Step, Steps};
 use std::alloc::{AllocError, Allocator};
 use std::marker::Model;
 

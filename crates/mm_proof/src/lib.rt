@@ -16,7 +16,7 @@ mod refused;
 mod room;
 
 pub use digits::number;
-pub use mm_steps::{Step, Steps};
 pub use mm_database::{Code, Fault};
+pub use mm_steps::{Step, Steps};
 pub use reader::read_proof;
 pub use refused::ProofRefused;

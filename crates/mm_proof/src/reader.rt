@@ -13,8 +13,8 @@ ghost use Rattle.mm_proof.specs.Refused.{Refuses, word_faults};
 use crate::compressed::read_compressed;
 use crate::labels::usable_label;
 use crate::refused::{ProofRefused, refused};
-use mm_steps::{Step, Steps};
 use mm_database::{Code, Database, Word};
+use mm_steps::{Step, Steps};
 use std::alloc::Allocator;
 
 /// Reads the words of a normal proof.

@@ -19,9 +19,9 @@ use crate::labels::{TheoremLabels, label_of};
 use crate::sink::{Sink, WriteFailed};
 use crate::text::{send_head, send_line};
 use mm_cites::Citations;
+use mm_database::Database;
 use mm_rows::{Columns, is_chosen};
 use mm_spec::Form;
-use mm_database::Database;
 use std::alloc::Allocator;
 use std::io::Write;
 

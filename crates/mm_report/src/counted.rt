@@ -6,8 +6,8 @@ ghost use Rattle.mm_spec.specs.Opened.{is_open};
 ghost use Rattle.mm_spec.specs.Scope.{statement_at};
 ghost use Rattle.mm_report.specs.Rows.{open_theorems as spec_open_theorems};
 
-use mm_rows::Columns;
 use mm_database::Database;
+use mm_rows::Columns;
 use std::alloc::Allocator;
 
 /// Returns the number of columns that are open theorems, or `None` if `with_open` isn't set.

@@ -5,8 +5,8 @@ ghost use Rattle.std.specs.Prelude.{slice_index_or, slice_range, map, flat_map};
 ghost use Rattle.mm_spec.specs.Text.{Bytes};
 ghost use Rattle.mm_spec.specs.Output.{label_at, theorems, columns};
 
-use mm_rows::Columns;
 use mm_database::Database;
+use mm_rows::Columns;
 use std::alloc::Allocator;
 use std::marker::Model;
 

@@ -15,8 +15,8 @@ ghost use Rattle.mm_rule.specs.Rule.{IsBelow, IsCompiled};
 ghost use Rattle.mm_rules.specs.Rules.{AreCovered, AreFirstNumbers, ArePairs};
 ghost use Rattle.mm_rule.specs.declared.rule.Part.TheVariants.{Constant, Variable};
 
-use mm_rule::{Hypothesis, Part, Rule, Stretch, empty, hyps, pairs, zeros};
 use mm_database::{Database, Sym};
+use mm_rule::{Hypothesis, Part, Rule, Stretch, empty, hyps, pairs, zeros};
 use std::alloc::{AllocError, Allocator};
 use std::marker::Model;
 

@@ -7,8 +7,8 @@ ghost use Rattle.mm_rule.specs.Rule.{IsCompiled};
 ghost use Rattle.mm_rules.specs.Rules.{AreRules, IsRuleNumber, lists, no_stretches};
 
 use crate::compile::RuleCompiler;
-use mm_rule::{Hypothesis, Part, Rule, Stretch, is_assertion, put_number, zeros};
 use mm_database::Database;
+use mm_rule::{Hypothesis, Part, Rule, Stretch, is_assertion, put_number, zeros};
 use std::alloc::{AllocError, Allocator};
 use std::marker::Model;
 

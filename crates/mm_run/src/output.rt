@@ -14,12 +14,12 @@ ghost use Rattle.mm_plan.specs.Plans.{IsLawful, request_of};
 
 use crate::RunEnd;
 use crate::cuts::cuts_of;
+use mm_database::Database;
 use mm_lex::lex;
 use mm_plan::Plan;
 use mm_report::{Choice, has_usage, write_citations, write_refusal, write_report};
 use mm_rows::{Columns, Matrix, matrix, matrix_by_rows};
 use mm_spec::Fault;
-use mm_database::Database;
 use mm_stmt::read;
 use mm_work::{Citations, Judged, Open, check_all};
 use std::alloc::{AllocError, Allocator};

@@ -9,8 +9,8 @@ use crate::judged::Judged;
 use crate::proof::{VerifyRefused, verify};
 use mm_check::Checker;
 use mm_cites::{Citations, Lists};
-use mm_rules::Rules;
 use mm_database::Database;
+use mm_rules::Rules;
 use std::alloc::{AllocError, Allocator};
 
 /// The answer if all proofs are valid. `lists` has what each theorem cites, in file order.

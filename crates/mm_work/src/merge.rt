@@ -8,8 +8,8 @@ ghost use Rattle.mm_work.specs.Places.{IsNoted, HasPlace};
 
 use crate::worker::Findings;
 use mm_cites::Lists;
-use mm_spec::Fault;
 use mm_database::Database;
+use mm_spec::Fault;
 use std::alloc::{AllocError, Allocator};
 
 /// Where the citations of a theorem are: which worker has them, and at which place among the

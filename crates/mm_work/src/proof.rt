@@ -6,9 +6,9 @@ ghost use Rattle.mm_spec.specs.Output.{is_theorem_at};
 ghost use Rattle.mm_work.specs.Judged.{IsCited, Faults};
 
 use mm_check::{CheckRefused, Checked, Checker};
+use mm_database::Database;
 use mm_proof::{ProofRefused, read_proof};
 use mm_spec::Fault;
-use mm_database::Database;
 use std::alloc::Allocator;
 
 /// Why a proof wasn't found valid.

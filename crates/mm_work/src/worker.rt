@@ -15,9 +15,9 @@ use crate::proof::{VerifyRefused, verify};
 use mm_board::{Board, Seat};
 use mm_check::Checker;
 use mm_cites::Lists;
+use mm_database::Database;
 use mm_rules::Rules;
 use mm_spec::Fault;
-use mm_database::Database;
 use std::alloc::{AllocError, Allocator};
 
 /// The fault of a theorem's proof, and the theorem's index.

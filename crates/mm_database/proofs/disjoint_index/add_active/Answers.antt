@@ -9,8 +9,7 @@ use Rattle.mm_database.proofs.disjoint_index.add_active.Goals.{else-is_open_at}
 
 pub loop-pairs-preserved : goal.loop-pairs-preserved
 loop-pairs-preserved g c =
-    let b =
-    c.args.blocks.now in
+    let b = c.args.blocks.now in
     let ps = c.args.disjoint_index.now.pairs.items in
     let x = c.args.symbol in
     let at = c.args.at in
@@ -37,14 +36,14 @@ loop-pairs-preserved g c =
             fits,
             rw w.into-is
                 (rw item
-                (added_open b ps c.requires.rising x at start parted left
+                (added_open b ps c.requires.ordered.rising x at start parted left
                 c.back-left.result c.args.into.now.items c.loop-pairs.into.items
                 c.loop-pairs.invariant.1 here.0 has is_open less c.back-left.ensures.passed)),
           )
       | else-is_open_at w ↦ (
         fits,
         rw w.into-is
-            (added_closed b ps c.requires.rising x at start parted left
+            (added_closed b ps c.requires.ordered.rising x at start parted left
             c.back-left.result c.args.into.now.items c.loop-pairs.into.items
             c.loop-pairs.invariant.1
             here.0 (subst
@@ -55,8 +54,7 @@ loop-pairs-preserved g c =
 
 pub returns : goal.returns
 returns g c =
-    let b =
-    c.args.blocks.now in
+    let b = c.args.blocks.now in
     let ps = c.args.disjoint_index.now.pairs.items in
     let x = c.args.symbol in
     let at = c.args.at in
@@ -66,6 +64,6 @@ returns g c =
     let of = c.count_before-left.ensures in
     let parted = parted_here _ ps _ x v c.number.ensures at start of.within of.before of.after in
     let none = c.ends_with.ensures.none c.loop-pairs-test.false in
-    added_end b ps c.requires.rising x at start parted left c.args.into.now.items
+    added_end b ps c.requires.ordered.rising x at start parted left c.args.into.now.items
     c.loop-pairs.into.items c.loop-pairs.invariant.1
     (λ h. no_symbol_here _ ps _ x v c.number-in-loop-pairs.ensures (left - 1) (none h))

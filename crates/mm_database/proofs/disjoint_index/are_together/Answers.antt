@@ -11,8 +11,7 @@ use Rattle.mm_database.proofs.disjoint_index.are_together.Goals.{else-one-other-
 
 pub returns-then-is_open_at-clause-found : goal.returns-then-is_open_at-clause-found
 returns-then-is_open_at-clause-found g c =
-    let b =
-    c.args.blocks.now in
+    let b = c.args.blocks.now in
     let ps = c.args.disjoint_index.now.pairs.items in
     let x = c.args.x in
     let y = c.args.y in
@@ -48,14 +47,13 @@ returns-then-is_open_at-clause-found g c =
       ap₂ (has_pair ps) (sym has_y) same ∙ at_has ps (right - 1) (0, 0) known_too,
       ap₂ (λ p q. p && q)
           (lt-ltb j at
-          (sooner b ps c.requires.rising x at start parted (left - 1) inside has_x))
+          (sooner b ps c.requires.ordered.rising x at start parted (left - 1) inside has_x))
           is_open,
     )
 
 pub loop-pairs-preserved-then-one-other-2 : goal.loop-pairs-preserved-then-one-other-2
 loop-pairs-preserved-then-one-other-2 g c =
-    let b =
-    c.args.blocks.now in
+    let b = c.args.blocks.now in
     let ps = c.args.disjoint_index.now.pairs.items in
     let left = c.loop-pairs.left in
     let right = c.loop-pairs.right in
@@ -74,15 +72,14 @@ loop-pairs-preserved-then-one-other-2 g c =
       (omega (arith, down, ir)),
       i.2,
       (omega (arith, down, wr)),
-      apart_right b ps c.requires.rising c.args.x c.args.y c.args.at
+      apart_right b ps c.requires.ordered.rising c.args.x c.args.y c.args.at
           left right c.back-right.result i.4 one.0 i.2 other.0 wr has_x less
           c.back-right.ensures.passed,
     )
 
 pub loop-pairs-preserved : goal.loop-pairs-preserved
 loop-pairs-preserved g c =
-    let b =
-    c.args.blocks.now in
+    let b = c.args.blocks.now in
     let ps = c.args.disjoint_index.now.pairs.items in
     let at = c.args.at in
     let left = c.loop-pairs.left in
@@ -116,14 +113,13 @@ loop-pairs-preserved g c =
       i.1,
       (omega (arith, down, wl)),
       i.3,
-      apart_left b ps c.requires.rising c.args.x c.args.y at left
+      apart_left b ps c.requires.ordered.rising c.args.x c.args.y at left
           right c.back-left.result i.4 one.0 wl other.0 i.3 has_y why c.back-left.ensures.passed,
     )
 
 pub returns-else-ends_with-clause-none : goal.returns-else-ends_with-clause-none
 returns-else-ends_with-clause-none g c =
-    let b =
-    c.args.blocks.now in
+    let b = c.args.blocks.now in
     let ps = c.args.disjoint_index.now.pairs.items in
     let y = c.args.y in
     let at = c.args.at in
@@ -133,16 +129,15 @@ returns-else-ends_with-clause-none g c =
     let of = c.count_before-right.ensures in
     let parted = parted_here _ ps _ y v c.number-2.ensures at start of.within of.before of.after in
     let none = c.ends_with-in-loop-pairs.ensures.none c.if-ends_with.false in
-    λ e. apart_end b ps c.requires.rising c.args.x y at c.loop-pairs.left right
+    λ e. apart_end b ps c.requires.ordered.rising c.args.x y at c.loop-pairs.left right
     c.loop-pairs.invariant.4
-    (inr (none_left b ps c.requires.rising y at start parted right
+    (inr (none_left b ps c.requires.ordered.rising y at start parted right
     c.loop-pairs.invariant.1
     (λ h. no_symbol_here _ ps _ y v c.number-in-loop-pairs-2.ensures (right - 1) (none h))))
 
 pub returns-after-loop-pairs-clause-none : goal.returns-after-loop-pairs-clause-none
 returns-after-loop-pairs-clause-none g c =
-    let b =
-    c.args.blocks.now in
+    let b = c.args.blocks.now in
     let ps = c.args.disjoint_index.now.pairs.items in
     let x = c.args.x in
     let at = c.args.at in
@@ -152,8 +147,8 @@ returns-after-loop-pairs-clause-none g c =
     let of = c.count_before-left.ensures in
     let parted = parted_here _ ps _ x v c.number.ensures at start of.within of.before of.after in
     let none = c.ends_with.ensures.none c.loop-pairs-test.false in
-    λ e. apart_end b ps c.requires.rising x c.args.y at left c.loop-pairs.right
+    λ e. apart_end b ps c.requires.ordered.rising x c.args.y at left c.loop-pairs.right
     c.loop-pairs.invariant.4
-    (inl (none_left b ps c.requires.rising x at start parted left
+    (inl (none_left b ps c.requires.ordered.rising x at start parted left
     c.loop-pairs.invariant.0
     (λ h. no_symbol_here _ ps _ x v c.number-in-loop-pairs.ensures (left - 1) (none h))))

@@ -10,8 +10,7 @@ use Rattle.mm_frame.proofs.disjoint.pairs_of.Goals as goal
 pub returns : goal.returns
 returns g c = ok_then c.symbols_of.result c.symbols_of.ensures (λ v e.
     let db = c.args.tables.now in
-    let b =
-    c.args.blocks.now in
+    let b = c.args.blocks.now in
     let k = c.args.assertion in
     let m = c.requires.assertion in
     let h : k ≤ length db = omega (arith, m) in

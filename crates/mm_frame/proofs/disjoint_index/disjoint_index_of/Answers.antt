@@ -5,8 +5,7 @@ use Rattle.mm_frame.proofs.disjoint_index.disjoint_index_of.Goals as goal
 
 pub skips_of-requires : goal.skips_of-requires
 skips_of-requires g c =
-    let b =
-    c.args.blocks.now in
+    let b = c.args.blocks.now in
     record {
       known = subst (AreKnown b) (sym c.deref.ensures.value)
           (are_known c.args.tables.now b c.requires c.in_ok-pairs.pairs.items
@@ -15,15 +14,18 @@ skips_of-requires g c =
 
 pub returns : goal.returns
 returns g c =
-    let b =
-    c.args.blocks.now in
+    let b = c.args.blocks.now in
     let ps = c.in_ok-pairs.pairs.items in
     let ss = c.in_ok-skips.skips.items in
     let is : IsDisjointIndex c.args.tables.now b ps ss =
     record {
       are = c.in_ok-pairs.ensures.are;
-      rising = c.in_ok-pairs.ensures.rising;
-      known = are_known c.args.tables.now b c.requires ps c.in_ok-pairs.ensures.are;
-      skips_are = subst (λ (ps : List (ℕ × ℕ)). AreSkips b ps ss) c.deref.ensures.value c.in_ok-skips.ensures;
+      ordered = record {
+        rising = c.in_ok-pairs.ensures.rising;
+        known = are_known c.args.tables.now b c.requires ps c.in_ok-pairs.ensures.are;
+        skips_are =
+            subst (λ (ps : List (ℕ × ℕ)). AreSkips b ps ss) c.deref.ensures.value
+            c.in_ok-skips.ensures;
+      };
     } in
     rw (ap (λ v. v.items) c.new.ensures.pairs, ap (λ v. v.items) c.new.ensures.skips) is

@@ -109,8 +109,7 @@ statements-preserved g c =
     let o = c.in-Whole.outline in
     let db = statements text ws s.read.outlines.items in
     let one = statement_of text ws o in
-    let b =
-    s.read.scope.blocks in
+    let b = s.read.scope.blocks in
     let f = c.take.new.self.fault in
     let none : None ≡ f = none_is f (sym c.is_some.ensures ∙ c.if-is_some.false) in
     let lawful =

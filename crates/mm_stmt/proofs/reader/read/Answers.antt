@@ -77,32 +77,32 @@ new-requires g c =
     let small = subst (λ (ws : List Word). length ws < 2 ^ 31) (sym lent) (tokens_small text) in
     let found = subst (λ ws. IsFound text ws w r c.in_ok-found.found) lent c.in_ok-found.ensures in
     let is : IsDatabase text words os w r.fault (fields_of (reading_of r) c.in_ok-found.found) =
-      record {
-        words = tokens_stand text;
-        few = c.in_ok-read.ensures.few;
-        outlines = rw (sym lent) c.in_ok-read.ensures.outlines;
-        kept_are = found.kept;
-        blocks = rw (sym same) kept.keeps.blocks;
-        labels = labels_held w db _ (rw (sym same) kept.keeps.labels_are);
-        symbols = found.symbols;
-        numbered = numbered_held w db _ _ (rw (sym same) (formulas_numbered _ _ _ kept.formulas));
-        frames = found.frames;
-        disjoint_index_is = found.disjoint_index;
-        kinds_are = found.kinds;
-        theorems_are = found.theorems_are;
-        axioms_are = found.axioms_are;
-        below =
-            below_held w db (length os)
-            (λ k h. (subst IsSound same
-            (sound text ws os _ _ c.in_ok-read.ensures.read small _ _ _ kept.keeps
-            c.in_ok-read.ensures.few)).below k (let m = length-map os (statement_of text words) in
-            omega (arith, m, h)));
-        spaced = found.spaced;
-        few_symbols =
-            names_few text ws os _ _ c.in_ok-read.ensures.read small
-            (names_of r.scope.names.symbols) kept.names_are;
-        read = is_read text ws words os _ _ lent refl c.requires.fault c.in_ok-read.ensures.read;
-      } in
+    record {
+      words = tokens_stand text;
+      few = c.in_ok-read.ensures.few;
+      outlines = rw (sym lent) c.in_ok-read.ensures.outlines;
+      kept_are = found.kept;
+      blocks = rw (sym same) kept.keeps.blocks;
+      labels = labels_held w db _ (rw (sym same) kept.keeps.labels_are);
+      symbols = found.symbols;
+      numbered = numbered_held w db _ _ (rw (sym same) (formulas_numbered _ _ _ kept.formulas));
+      frames = found.frames;
+      disjoint_index_is = found.disjoint_index;
+      kinds_are = found.kinds;
+      theorems_are = found.theorems_are;
+      axioms_are = found.axioms_are;
+      below =
+          below_held w db (length os)
+          (λ k h. (subst IsSound same
+          (sound text ws os _ _ c.in_ok-read.ensures.read small _ _ _ kept.keeps
+          c.in_ok-read.ensures.few)).below k (let m = length-map os (statement_of text words) in
+          omega (arith, m, h)));
+      spaced = found.spaced;
+      few_symbols =
+          names_few text ws os _ _ c.in_ok-read.ensures.read small
+          (names_of r.scope.names.symbols) kept.names_are;
+      read = is_read text ws words os _ _ lent refl c.requires.fault c.in_ok-read.ensures.read;
+    } in
     subst (λ (x : Reading _). IsDatabase text words x.outlines.items w x.fault
     (fields_of x c.in_ok-found.found)) (sym c.into_reading.ensures) is
 

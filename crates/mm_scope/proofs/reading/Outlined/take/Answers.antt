@@ -30,8 +30,7 @@ returns-then-is_some-clause-fault g c =
     let s = statement_of text ws c.args.outline in
     let k = c.requires.kept in
     let next = c.requires.next in
-    let b =
-    c.args.self.now.scope.blocks in
+    let b = c.args.self.now.scope.blocks in
     let few = next.few in
     let few_blocks : length db < never = omega (arith, few) in
     let fault =
@@ -77,8 +76,7 @@ returns-clause-fault g c =
     let s = statement_of text ws c.args.outline in
     let k = c.requires.kept in
     let next = c.requires.next in
-    let b =
-    c.args.self.now.scope.blocks in
+    let b = c.args.self.now.scope.blocks in
     let few = next.few in
     let few_blocks : length db < never = omega (arith, few) in
     let fault =
@@ -97,8 +95,7 @@ returns-clause-taken g c none =
     let s = statement_of text ws c.args.outline in
     let k = c.requires.kept in
     let next = c.requires.next in
-    let b =
-    c.args.self.now.scope.blocks in
+    let b = c.args.self.now.scope.blocks in
     let few = next.few in
     let few_blocks : length db < never = omega (arith, few) in
     let fault =
