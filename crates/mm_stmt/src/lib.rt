@@ -1,8 +1,7 @@
-//! The statements of a Metamath text. This layer knows the tokens, reads them as statements of the
-//! nine shapes, and keeps the blocks, the labels and the symbols by number, and the frame of each
-//! assertion. It promises that its statements are those before the first malformed or unlawful one,
-//! that its fault is the fault there (`Rattle.mm_spec.specs.Output.IsRead`), and that each reading
-//! call returns what the definitions say of the statements.
+//! Reading: from the tokens of a text to its database. This layer has the statements judged by
+//! `mm_scope` and their frames made by `mm_frame`, finds out what else is kept of them, and frees
+//! the tokens. It promises that the statements are those before the first malformed or unlawful
+//! one, and that the fault is the fault there (`Rattle.mm_spec.specs.Output.IsRead`).
 #![tactic(auto)]
 
 mod found;
