@@ -4,6 +4,7 @@ ghost use Rattle.std.specs.Prelude.{◌≡◌, ◌<◌, ◌≤◌, ◌^◌, ◌+
 ghost use Rattle.mm_outline.specs.Parts.{AreWithin, IsOutline, between, statement_of};
 ghost use Rattle.mm_database.specs.Names.{names_of};
 ghost use Rattle.mm_scope.specs.Formulas.{AreFormulas, numbers_in, unjudged};
+ghost use Rattle.mm_scope.specs.Scopes.{names_in};
 
 use crate::scope::Scope;
 use mm_database::names::Names;
@@ -63,11 +64,11 @@ impl<'a, A: Allocator + Copy> Scope<'a, A> {
         requires few_tokens { length tokens.now < 2 ^ 31 }
         requires outline { IsOutline outline }
         requires within { outline.end < length tokens.now }
-        requires few { length (names_of self.now.names.symbols) < 2 ^ 31 }
+        requires few { length (names_in self.now) < 2 ^ 31 }
         ensures { OnOk result
             (numbers.new.items
             ≡ numbers.old.items
-            ++ unjudged (names_of self.now.names.symbols)
+            ++ unjudged (names_in self.now)
             (statement_of text.now tokens.now outline)) }
     {
         let from = outline.keyword + 1;

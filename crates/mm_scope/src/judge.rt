@@ -5,8 +5,7 @@ ghost use Rattle.std.specs.Prelude.{◌+◌, ◌-◌, ℕ, List, is_some, Some, 
 ghost use Rattle.std.specs.Prelude.{false};
 ghost use Rattle.mm_spec.specs.Text.{is_in, words};
 ghost use Rattle.mm_spec.specs.Frame.{place_of};
-ghost use Rattle.mm_database.specs.Names.{find, names_of};
-ghost use Rattle.mm_outline.specs.Blocks.{is_open_in};
+ghost use Rattle.mm_database.specs.Names.{find};
 ghost use Rattle.mm_scope.specs.Formulas.{judged};
 ghost use Rattle.mm_spec.specs.Lawful.{least, at_each, symbol_codes, formula_faults};
 ghost use Rattle.mm_spec.specs.Lawful.{floating_faults, label_faults, scope_faults};
@@ -14,7 +13,8 @@ ghost use Rattle.mm_spec.specs.Scope.{Names as DeclaredNames};
 ghost use Rattle.mm_outline.specs.Parts.{AreWithin, IsOutline, between, nth_word, token_at};
 ghost use Rattle.mm_outline.specs.Parts.{statement_of};
 ghost use Rattle.mm_scope.specs.Judge.{merge as spec_merge, fault_at, declared_codes};
-ghost use Rattle.mm_scope.specs.Judge.{list_fault, before_next, Knows};
+ghost use Rattle.mm_scope.specs.Judge.{list_fault, before_next};
+ghost use Rattle.mm_scope.specs.Scopes.{AreNamesOf, names_in};
 
 use crate::scope::Scope;
 use indexmap::IndexMap;
@@ -39,16 +39,15 @@ impl<'a, A: Allocator + Copy> Scope<'a, A> {
         requires words { AreWithin text.now tokens.now }
         requires order { from ≤ to }
         requires within { to ≤ length tokens.now }
-        requires few { length (names_of self.now.names.symbols) < 2 ^ 31 }
+        requires few { length (names_in self.now) < 2 ^ 31 }
         ensures fault { IfOk result
             (λ r. (n : DeclaredNames)
-            → Knows n (find self.now.names.symbols) (find self.now.names.labels)
-            (is_open_in self.now.blocks)
+            → AreNamesOf self.now n
             → r ≡ least (at_each (symbol_codes n) [] (between text.now tokens.now from to))) }
         ensures numbers { OnOk result
             (numbers.new.items
             ≡ numbers.old.items
-            ++ map (λ w. place_of w (names_of self.now.names.symbols))
+            ++ map (λ w. place_of w (names_in self.now))
             (words (between text.now tokens.now from to))) }
     {
         let mut best = None;
@@ -76,8 +75,7 @@ impl<'a, A: Allocator + Copy> Scope<'a, A> {
         requires within { to < length tokens.now }
         ensures { IfOk result
             (λ r. (n : DeclaredNames)
-            → Knows n (find self.now.names.symbols) (find self.now.names.labels)
-            (is_open_in self.now.blocks)
+            → AreNamesOf self.now n
             → r ≡ least
             (at_each (declared_codes n kind) [] (between text.now tokens.now from to))) }
     {
@@ -106,18 +104,17 @@ impl<'a, A: Allocator + Copy> Scope<'a, A> {
         requires words { AreWithin text.now tokens.now }
         requires order { from ≤ to }
         requires within { to < length tokens.now }
-        requires few { length (names_of self.now.names.symbols) < 2 ^ 31 }
+        requires few { length (names_in self.now) < 2 ^ 31 }
         ensures fault { IfOk result
             (λ r. (n : DeclaredNames)
-            → Knows n (find self.now.names.symbols) (find self.now.names.labels)
-            (is_open_in self.now.blocks)
+            → AreNamesOf self.now n
             → r ≡ least
             (formula_faults n (between text.now tokens.now from to)
             (nth_word tokens.now to).start)) }
         ensures numbers { OnOk result
             (numbers.new.items
             ≡ numbers.old.items
-            ++ map (λ w. place_of w (names_of self.now.names.symbols))
+            ++ map (λ w. place_of w (names_in self.now))
             (words (between text.now tokens.now from to))) }
     {
         if from == to {
@@ -136,8 +133,7 @@ impl<'a, A: Allocator + Copy> Scope<'a, A> {
         requires words { AreWithin text.now tokens.now }
         requires within { at < length tokens.now }
         ensures { (n : DeclaredNames)
-            → Knows n (find self.now.names.symbols) (find self.now.names.labels)
-            (is_open_in self.now.blocks)
+            → AreNamesOf self.now n
             → result ≡ least (label_faults n (token_at text.now tokens.now at)) }
     {
         let token = tokens[at as usize];
@@ -150,8 +146,7 @@ impl<'a, A: Allocator + Copy> Scope<'a, A> {
         requires order { keyword < to }
         requires within { to < length tokens.now }
         ensures { (n : DeclaredNames)
-            → Knows n (find self.now.names.symbols) (find self.now.names.labels)
-            (is_open_in self.now.blocks)
+            → AreNamesOf self.now n
             → result
             ≡ least (floating_faults n (nth_word tokens.now keyword).start
             (between text.now tokens.now (keyword + 1) to)) }
@@ -247,16 +242,15 @@ impl<'a, A: Allocator + Copy> Scope<'a, A> {
         requires words { AreWithin text.now tokens.now }
         requires outline { IsOutline outline }
         requires within { outline.end < length tokens.now }
-        requires few { length (names_of self.now.names.symbols) < 2 ^ 31 }
+        requires few { length (names_in self.now) < 2 ^ 31 }
         ensures numbers { OnOk result
             (numbers.new.items
             ≡ numbers.old.items
-            ++ judged (names_of self.now.names.symbols)
+            ++ judged (names_in self.now)
             (statement_of text.now tokens.now outline)) }
         ensures fault { IfOk result
             (λ r. (n : DeclaredNames)
-            → Knows n (find self.now.names.symbols) (find self.now.names.labels)
-            (is_open_in self.now.blocks)
+            → AreNamesOf self.now n
             → r ≡ least (scope_faults n deep (statement_of text.now tokens.now outline))) }
     {
         let kind = outline.kind;
@@ -265,9 +259,9 @@ impl<'a, A: Allocator + Copy> Scope<'a, A> {
         match kind {
             Kind::Open => Ok(None),
             Kind::Close => Ok(None),
-            Kind::Constants => self.declared(alloc, text, tokens, deep, kind, keyword, middle),
-            Kind::Variables => self.declared(alloc, text, tokens, deep, kind, keyword, middle),
-            Kind::Disjoint => self.declared(alloc, text, tokens, deep, kind, keyword, middle),
+            Kind::Constants => self.declared(alloc, text, tokens, deep, outline),
+            Kind::Variables => self.declared(alloc, text, tokens, deep, outline),
+            Kind::Disjoint => self.declared(alloc, text, tokens, deep, outline),
             Kind::Floating => {
                 let label = self.label_fault(text, tokens, keyword - 1);
                 Ok(merge(label, self.floating_fault(text, tokens, keyword, middle)))
@@ -292,11 +286,10 @@ impl<'a, A: Allocator + Copy> Scope<'a, A> {
         requires label { 0 < keyword }
         requires order { keyword < to }
         requires within { to < length tokens.now }
-        requires few { length (names_of self.now.names.symbols) < 2 ^ 31 }
+        requires few { length (names_in self.now) < 2 ^ 31 }
         ensures fault { IfOk result
             (λ r. (n : DeclaredNames)
-            → Knows n (find self.now.names.symbols) (find self.now.names.labels)
-            (is_open_in self.now.blocks)
+            → AreNamesOf self.now n
             → r ≡ least
             (label_faults n (token_at text.now tokens.now (keyword - 1))
             ++ formula_faults n (between text.now tokens.now (keyword + 1) to)
@@ -304,7 +297,7 @@ impl<'a, A: Allocator + Copy> Scope<'a, A> {
         ensures numbers { OnOk result
             (numbers.new.items
             ≡ numbers.old.items
-            ++ map (λ w. place_of w (names_of self.now.names.symbols))
+            ++ map (λ w. place_of w (names_in self.now))
             (words (between text.now tokens.now (keyword + 1) to))) }
     {
         let label = self.label_fault(text, tokens, keyword - 1);
@@ -319,25 +312,23 @@ impl<'a, A: Allocator + Copy> Scope<'a, A> {
         text: &'a [u8],
         tokens: &[Word],
         deep: u32,
-        kind: Kind,
-        keyword: u32,
-        to: u32,
+        outline: Outline,
     ) -> Result<Option<Fault>, AllocError>
         requires words { AreWithin text.now tokens.now }
-        requires order { keyword < to }
-        requires within { to < length tokens.now }
+        requires order { outline.keyword < outline.middle }
+        requires within { outline.middle < length tokens.now }
         ensures { IfOk result
-            (λ r. (n : DeclaredNames)
-            → Knows n (find self.now.names.symbols) (find self.now.names.labels)
-            (is_open_in self.now.blocks)
+            (λ r. (n : DeclaredNames) → AreNamesOf self.now n
             → r ≡ spec_merge
-            (list_fault kind deep (nth_word tokens.now keyword).start
-            (nth_word tokens.now to).start (to - keyword - 1))
-            (least (at_each (declared_codes n kind) []
-            (between text.now tokens.now (keyword + 1) to)))) }
+            (list_fault outline.kind deep (nth_word tokens.now outline.keyword).start
+            (nth_word tokens.now outline.middle).start (outline.middle - outline.keyword - 1))
+            (least (at_each (declared_codes n outline.kind) []
+            (between text.now tokens.now (outline.keyword + 1) outline.middle)))) }
     {
-        let rest = self.declared_fault(alloc, text, tokens, kind, keyword + 1, to)?;
-        Ok(merge(self.list_fault(tokens, kind, deep, keyword, to), rest))
+        let from = outline.keyword + 1;
+        let rest = self.declared_fault(alloc, text, tokens, outline.kind, from, outline.middle)?;
+        let whole = self.list_fault(tokens, outline.kind, deep, outline.keyword, outline.middle);
+        Ok(merge(whole, rest))
     }
 }
 

@@ -2,11 +2,11 @@
 
 ghost use Rattle.std.specs.Prelude.{◌≡◌, ◌<◌, ◌≤◌, ◌^◌, ◌++◌, ◌∷◌, [], List, None, All, length};
 ghost use Rattle.std.specs.Prelude.{OnOk, IfOk, ◌≢◌};
-ghost use Rattle.mm_spec.specs.Statement.{Statement, is_closing, label_of};
-ghost use Rattle.mm_spec.specs.Scope.{names_before, depth, constants_of, variables_of};
+ghost use Rattle.mm_spec.specs.Statement.{Statement, label_of};
+ghost use Rattle.mm_spec.specs.Scope.{names_before};
 ghost use Rattle.mm_spec.specs.Lawful.{least, scope_faults};
 ghost use Rattle.mm_spec.specs.Output.{IsRead};
-ghost use Rattle.mm_database.specs.Names.{find as find_in, names_of};
+ghost use Rattle.mm_database.specs.Names.{find as find_in};
 ghost use Rattle.std.specs.Prelude.{◌+◌, ◌-◌, ℕ, Some, if◌then◌else◌, bytes_eq, true};
 ghost use Rattle.mm_spec.specs.Text.{is_in, words};
 ghost use Rattle.mm_scope.specs.Judge.{declared_entry, entry_of, typed_entry};
@@ -15,8 +15,9 @@ ghost use Rattle.mm_outline.specs.Parts.{statement_of};
 ghost use Rattle.mm_outline.specs.Tokens.{AreTokens};
 ghost use Rattle.mm_scope.specs.WordEntry.{entry_after, label_after};
 ghost use Rattle.mm_outline.specs.Statements.{end_fault_of, lexed, statements};
-ghost use Rattle.mm_scope.specs.Keeps.{Keeps, IsKept, MayTake, kept_by, reading_of};
-ghost use Rattle.mm_spec.specs.Frame.{first_occurrences};
+ghost use Rattle.mm_scope.specs.Scopes.{Declares, IsScopeAfter, MayFollow, declared_words};
+ghost use Rattle.mm_scope.specs.Scopes.{entry_in, label_in, names_in};
+ghost use Rattle.mm_scope.specs.Keeps.{IsKept, MayTake, kept_by, reading_of};
 
 use crate::formulas::no_formulas;
 use crate::scope::Scope;
@@ -85,9 +86,8 @@ fn depth_after(kind: Kind, deep: u32) -> u32
 /// Returns the names and blocks before the first statement: none.
 fn no_scope<'a, A: Allocator + Copy>(alloc: A) -> Result<Scope<'a, A>, AllocError>
     ensures keeps { IfOk result
-        (λ s. Keeps [] (find_in s.names.symbols) (find_in s.names.labels)
-        s.blocks) }
-    ensures names { IfOk result (λ s. names_of s.names.symbols ≡ []) }
+        (λ s. IsScopeAfter [] s) }
+    ensures names { IfOk result (λ s. names_in s ≡ []) }
 {
     let blocks = no_blocks(alloc)?;
     let names = no_names(alloc)?;
@@ -279,28 +279,14 @@ impl<'a, A: Allocator + Copy> Scope<'a, A> {
         requires outline { IsOutline outline }
         requires few { length tokens.now < 2 ^ 31 }
         requires within { outline.end < length tokens.now }
-        requires keeps { (db : List Statement)
-            × Keeps db (find_in self.old.names.symbols) (find_in self.old.names.labels)
-            self.old.blocks
-            × (length db < 2 ^ 31) }
+        requires keeps { (db : List Statement) × IsScopeAfter db self.old × (length db < 2 ^ 31) }
         ensures keeps { OnOk result
-            ((db : List Statement)
-            → Keeps db (find_in self.old.names.symbols) (find_in self.old.names.labels)
-            self.old.blocks
-            → least (scope_faults (names_before db (length db)) (depth db (length db))
-            (statement_of text.now tokens.now outline))
-            ≡ None
-            → (is_closing (statement_of text.now tokens.now outline) ≡ true
-            → 0 < depth db (length db))
-            → Keeps (db ++ statement_of text.now tokens.now outline ∷ [])
-            (find_in self.new.names.symbols) (find_in self.new.names.labels)
-            self.new.blocks) }
+            ((db : List Statement) → IsScopeAfter db self.old
+            → MayFollow db (statement_of text.now tokens.now outline)
+            → IsScopeAfter (db ++ statement_of text.now tokens.now outline ∷ []) self.new) }
         ensures names { OnOk result
-            ((d : List (List ℕ)) → names_of self.old.names.symbols ≡ first_occurrences [] d
-            → names_of self.new.names.symbols
-            ≡ first_occurrences []
-            (d ++ (constants_of (statement_of text.now tokens.now outline)
-            ++ variables_of (statement_of text.now tokens.now outline)))) }
+            (Declares self.old self.new
+            (declared_words (statement_of text.now tokens.now outline))) }
     {
         let number = self.blocks.len();
         self.blocks.push(outline.kind)?;
@@ -321,21 +307,18 @@ impl<'a, A: Allocator + Copy> Scope<'a, A> {
         requires within { outline.end < length tokens.now }
         ensures symbols { OnOk result
             ((w : List ℕ)
-            → entry_of (find_in self.new.names.symbols w)
+            → entry_in self.new w
             ≡ entry_after number (statement_of text.now tokens.now outline) w
-            (entry_of (find_in self.old.names.symbols w))) }
+            (entry_in self.old w)) }
         ensures labels { OnOk result
             ((w : List ℕ)
-            → find_in self.new.names.labels w
+            → label_in self.new w
             ≡ label_after number (label_of (statement_of text.now tokens.now outline)) w
-            (find_in self.old.names.labels w)) }
+            (label_in self.old w)) }
         ensures blocks { self.new.blocks ≡ self.old.blocks }
         ensures names { OnOk result
-            ((d : List (List ℕ)) → names_of self.old.names.symbols ≡ first_occurrences [] d
-            → names_of self.new.names.symbols
-            ≡ first_occurrences []
-            (d ++ (constants_of (statement_of text.now tokens.now outline)
-            ++ variables_of (statement_of text.now tokens.now outline)))) }
+            (Declares self.old self.new
+            (declared_words (statement_of text.now tokens.now outline))) }
     {
         let from = outline.keyword + 1;
         match outline.kind {
@@ -368,10 +351,9 @@ impl<'a, A: Allocator + Copy> Scope<'a, A> {
         requires within { keyword < length tokens.now }
         ensures labels { OnOk result
             ((w : List ℕ)
-            → find_in self.new.names.labels w
+            → label_in self.new w
             ≡ (if bytes_eq
-            (token_at text.now tokens.now (keyword - 1)).word w then Some number else find_in
-            self.old.names.labels w)) }
+            (token_at text.now tokens.now (keyword - 1)).word w then Some number else label_in self.old w)) }
         ensures symbols { OnOk result (self.new.names.symbols ≡ self.old.names.symbols) }
         ensures blocks { self.new.blocks ≡ self.old.blocks }
     {
@@ -390,19 +372,18 @@ impl<'a, A: Allocator + Copy> Scope<'a, A> {
         requires words { AreWithin text.now tokens.now }
         requires within { from + 1 < length tokens.now }
         ensures labels { OnOk result
-            ((w : List ℕ) → find_in self.new.names.labels w ≡ find_in self.old.names.labels w) }
+            ((w : List ℕ) → label_in self.new w ≡ label_in self.old w) }
         ensures symbols { OnOk result
             ((w : List ℕ)
-            → entry_of (find_in self.new.names.symbols w)
+            → entry_in self.new w
             ≡ (if bytes_eq
             (token_at text.now tokens.now (from + 1)).word w then typed_entry number
             (token_at text.now tokens.now from).word
-            (entry_of
-            (find_in self.old.names.symbols (token_at text.now tokens.now (from + 1)).word))
-            else entry_of (find_in self.old.names.symbols w))) }
+            (entry_in self.old (token_at text.now tokens.now (from + 1)).word)
+            else entry_in self.old w)) }
         ensures blocks { self.new.blocks ≡ self.old.blocks }
         ensures names { OnOk result
-            (names_of self.new.names.symbols ≡ names_of self.old.names.symbols) }
+            (names_in self.new ≡ names_in self.old) }
     {
         let first = tokens[from as usize];
         let second = tokens[from as usize + 1];
@@ -436,19 +417,16 @@ impl<'a, A: Allocator + Copy> Scope<'a, A> {
         requires order { from ≤ to }
         requires within { to < length tokens.now }
         ensures labels { OnOk result
-            ((w : List ℕ) → find_in self.new.names.labels w ≡ find_in self.old.names.labels w) }
+            ((w : List ℕ) → label_in self.new w ≡ label_in self.old w) }
         ensures symbols { OnOk result
             ((w : List ℕ)
-            → entry_of (find_in self.new.names.symbols w)
+            → entry_in self.new w
             ≡ (if is_in w
             (words (between text.now tokens.now from to)) then declared_entry is_variable number
-            w (entry_of (find_in self.old.names.symbols w)) else entry_of
-            (find_in self.old.names.symbols w))) }
+            w (entry_in self.old w) else entry_in self.old w)) }
         ensures blocks { self.new.blocks ≡ self.old.blocks }
         ensures names { OnOk result
-            ((d : List (List ℕ)) → names_of self.old.names.symbols ≡ first_occurrences [] d
-            → names_of self.new.names.symbols
-            ≡ first_occurrences [] (d ++ words (between text.now tokens.now from to))) }
+            (Declares self.old self.new (words (between text.now tokens.now from to))) }
     {
         for at in from..to {
             let token = tokens[at as usize];

@@ -1,11 +1,11 @@
 //! The names and the blocks before a statement, and what they say of a word.
 
 ghost use Rattle.std.specs.Prelude.{◌≡◌, Some, is_some};
-ghost use Rattle.mm_database.specs.Names.{find};
 ghost use Rattle.mm_outline.specs.Blocks.{is_open_in};
 ghost use Rattle.mm_scope.specs.Judge.{is_active_symbol, is_typed_symbol, symbol_code};
 ghost use Rattle.mm_scope.specs.Judge.{label_code, typecode_code, floating_code, declared_code};
 ghost use Rattle.mm_scope.specs.Judge.{typing_code};
+ghost use Rattle.mm_scope.specs.Scopes.{label_in, symbol_in};
 
 use mm_database::names::{Names, Symbol};
 use mm_outline::blocks::{Blocks, NEVER};
@@ -65,8 +65,8 @@ impl<'a, A: Allocator + Copy> Scope<'a, A> {
     /// Returns what is wrong with a word as a label.
     pub(crate) fn label_code(&self, word: &[u8]) -> Option<Code>
         ensures { result
-            ≡ label_code (find self.now.names.symbols word.now)
-            (is_some (find self.now.names.labels word.now)) }
+            ≡ label_code (symbol_in self.now word.now)
+            (is_some (label_in self.now word.now)) }
     {
         if self.names.symbol(word).is_some() {
             Some(Code::LabelIsSymbol)
@@ -115,8 +115,8 @@ impl<'a, A: Allocator + Copy> Scope<'a, A> {
         ensures { result
             ≡ declared_code
             (is_open_in self.now.blocks) kind
-            (find self.now.names.symbols word.now) repeated
-            (is_some (find self.now.names.labels word.now)) }
+            (symbol_in self.now word.now) repeated
+            (is_some (label_in self.now word.now)) }
     {
         let (is_known, is_active) = match self.names.symbol(word) {
             Some(symbol) => {
@@ -151,8 +151,8 @@ impl<'a, A: Allocator + Copy> Scope<'a, A> {
         ensures { result
             ≡ typing_code
             (is_open_in self.now.blocks) typecode.now
-            (find self.now.names.symbols typecode.now)
-            (find self.now.names.symbols variable.now) }
+            (symbol_in self.now typecode.now)
+            (symbol_in self.now variable.now) }
     {
         match self.names.symbol(variable) {
             Some(symbol) => {

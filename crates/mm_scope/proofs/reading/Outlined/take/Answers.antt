@@ -119,9 +119,11 @@ returns-clause-taken g c none =
       c.in_ok-push-2.ensures.items,
       record {
         keeps =
-            c.in_ok-add.ensures.keeps db k.keeps
-            (ap (λ d. least (scope_faults (names_before db (length db)) d s)) (sym next.depth_is)
-            ∙ sym fault ∙ none) next.inside;
+            c.in_ok-add.ensures.keeps db k.keeps (
+              ap (λ d. least (scope_faults (names_before db (length db)) d s)) (sym next.depth_is)
+                  ∙ sym fault ∙ none,
+              next.inside,
+            );
         names_are = names;
         formulas =
             subst (λ (ps : List ℕ). AreFormulas (db ++ s ∷ []) c.number_others.new.numbers.items ps)

@@ -13,7 +13,7 @@ push-requires-clause-few_blocks g c =
 pub returns-clause-keeps : goal.returns-clause-keeps
 returns-clause-keeps g c =
     on_both c.add_names.result c.add_names.ensures.symbols c.add_names.ensures.labels
-    (λ symbols labels db keeps law deep.
+    (λ symbols labels db keeps follows.
     let text = c.args.text.now in
     let ws = c.args.tokens.now in
     let o = c.args.outline in
@@ -25,7 +25,7 @@ returns-clause-keeps g c =
     let few : length db < never = omega (arith, count, had, small) in
     let same = c.add_names.ensures.blocks ∙ c.in_ok-push.ensures in
     keeps_after text ws db (find s.names.symbols)
-    (find s.names.labels) b keeps few o.kind o.keyword o.middle o.end law deep
+    (find s.names.labels) b keeps few o.kind o.keyword o.middle o.end follows.0 follows.1
     c.add_names.new.self.blocks same c.len-number.result c.len-number.ensures
     (find c.add_names.new.self.names.symbols) symbols
     (find c.add_names.new.self.names.labels) labels)

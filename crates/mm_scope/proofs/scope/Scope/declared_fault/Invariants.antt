@@ -4,16 +4,14 @@ use Rattle.mm_spec.specs.Lawful.{least, at_each}
 use Rattle.mm_spec.specs.Scope.{Names}
 use Rattle.mm_database.specs.Names.{find}
 use Rattle.mm_outline.specs.Parts.{between}
-use Rattle.mm_outline.specs.Blocks.{is_open_in}
-use Rattle.mm_scope.specs.Judge.{Knows, declared_codes, before_next}
+use Rattle.mm_scope.specs.Judge.{declared_codes, before_next}
+use Rattle.mm_scope.specs.Scopes.{AreNamesOf}
 use Rattle.mm_scope.proofs.scope.Scope.declared_fault.Given as goal
 
 abbrev pub invariant-loop-at : goal.invariant-loop-at
 invariant-loop-at g l = record {
   seen : l.is_short ≡ false → (w : List ℕ)
       → is_some (find l.seen w) ≡ is_in w (before_next [] (between l.text l.tokens l.from l.at));
-  least : (n : Names)
-      → Knows n (find l.self.names.symbols) (find l.self.names.labels)
-      (is_open_in l.self.blocks)
+  least : (n : Names) → AreNamesOf l.self n
       → l.best ≡ least (at_each (declared_codes n l.kind) [] (between l.text l.tokens l.from l.at));
 }

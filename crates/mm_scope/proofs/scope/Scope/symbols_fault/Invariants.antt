@@ -2,17 +2,14 @@ use Rattle.std.proofs.Common.{◌≡◌, ◌++◌, []}
 use Rattle.mm_spec.specs.Lawful.{least, at_each, symbol_codes}
 use Rattle.mm_spec.specs.Scope.{Names}
 use Rattle.mm_outline.specs.Parts.{between}
-use Rattle.mm_outline.specs.Blocks.{is_open_in}
 use Rattle.mm_scope.specs.Formulas.{numbers_in}
-use Rattle.mm_scope.specs.Judge.{Knows}
-use Rattle.mm_database.specs.Names.{find, names_of}
+use Rattle.mm_database.specs.Names.{names_of}
+use Rattle.mm_scope.specs.Scopes.{AreNamesOf}
 use Rattle.mm_scope.proofs.scope.Scope.symbols_fault.Given as goal
 
 abbrev pub invariant-loop-at : goal.invariant-loop-at
 invariant-loop-at g l = record {
-  least : (n : Names)
-      → Knows n (find l.self.names.symbols) (find l.self.names.labels)
-      (is_open_in l.self.blocks)
+  least : (n : Names) → AreNamesOf l.self n
       → l.best ≡ least (at_each (symbol_codes n) [] (between l.text l.tokens l.from l.at));
   numbered : l.numbers.items
       ≡ l.initial.numbers.items

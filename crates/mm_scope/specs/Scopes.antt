@@ -1,0 +1,50 @@
+-- What a scope says of words, of statements and of the names before the next statement.
+use Rattle.std.specs.Prelude.{◌≡◌, ◌<◌, ℕ, List, [], ◌++◌, length, Option, None, true}
+use Rattle.mm_spec.specs.Statement.{Statement, is_closing}
+use Rattle.mm_spec.specs.Scope.{Names, names_before, depth, constants_of, variables_of}
+use Rattle.mm_spec.specs.Lawful.{least, scope_faults}
+use Rattle.mm_spec.specs.Frame.{first_occurrences}
+use Rattle.mm_outline.specs.Blocks.{is_open_in}
+use Rattle.mm_database.specs.Names.{find, names_of}
+use Rattle.mm_database.specs.declared.names.Symbol.{Symbol}
+use Rattle.mm_scope.specs.declared.scope.Scope.{Scope}
+use Rattle.mm_scope.specs.Judge.{Entry, Knows, entry_of}
+use Rattle.mm_scope.specs.Keeps.{Keeps}
+
+-- the words that a statement declares
+abbrev pub declared_words : Statement → List (List ℕ)
+declared_words s = constants_of s ++ variables_of s
+
+-- the statement is lawful after these, and closes no block that isn't open
+abbrev pub MayFollow : List Statement → Statement → Type 0
+MayFollow db s =
+    (least (scope_faults (names_before db (length db)) (depth db (length db)) s) ≡ None)
+    × (is_closing s ≡ true → 0 < depth db (length db))
+
+module _ {A : Type 0} where
+  -- what is known of a word as a symbol, the statement of a label, and the names of the symbols
+  abbrev pub symbol_in : Scope A → List ℕ → Option Symbol
+  symbol_in s = find s.names.symbols
+
+  abbrev pub entry_in : Scope A → List ℕ → Option Entry
+  entry_in s w = entry_of (symbol_in s w)
+
+  abbrev pub label_in : Scope A → List ℕ → Option ℕ
+  label_in s = find s.names.labels
+
+  abbrev pub names_in : Scope A → List (List ℕ)
+  names_in s = names_of s.names.symbols
+
+  -- the scope is that after these statements
+  abbrev pub IsScopeAfter : List Statement → Scope A → Type 0
+  IsScopeAfter db s = Keeps db (symbol_in s) (label_in s) s.blocks
+
+  -- the names before the next statement are those that the scope knows
+  abbrev pub AreNamesOf : Scope A → Names → Type 0
+  AreNamesOf s n = Knows n (symbol_in s) (label_in s) (is_open_in s.blocks)
+
+  -- the symbols are those before and these words, where they are new
+  abbrev pub Declares : Scope A → Scope A → List (List ℕ) → Type 0
+  Declares old new ws =
+      (d : List (List ℕ)) → names_in old ≡ first_occurrences [] d
+      → names_in new ≡ first_occurrences [] (d ++ ws)
