@@ -2,3 +2,4 @@ pub mod Latest
 pub mod Tables
 pub mod Hypotheses
 pub mod Chains
+pub mod Sources

@@ -5,12 +5,12 @@ ghost use Rattle.std.specs.Prelude.{nat_eq, nat_lt, map};
 ghost use Rattle.std.specs.List.{list_any};
 ghost use Rattle.mm_spec.specs.Derivation.{is_member, pair};
 ghost use Rattle.mm_spec.specs.Frame.{mandatory_variables, mandatory_pairs};
-ghost use Rattle.mm_outline.specs.Blocks.{IsBlocks};
-ghost use Rattle.mm_database.specs.DisjointIndex.{is_live, IsOrdered, IsDisjointIndex};
+ghost use Rattle.mm_database.specs.DisjointIndex.{is_live, IsOrdered};
+ghost use Rattle.mm_frame.specs.Sources.{AreSources};
 ghost use Rattle.mm_database.specs.Pairs.{has_pair, AreRising};
 
 use crate::disjoint_index::sort_and_dedup;
-use crate::tables::Tables;
+use crate::sources::Sources;
 use mm_database::disjoint_index::{DisjointIndex, add_active};
 use mm_outline::blocks::Blocks;
 use mm_outline::symbol::Sym;
@@ -103,29 +103,27 @@ fn symbols_of<A: Allocator + Copy>(
 /// `$d`. `had` and `together` are filled with these; what they had before is removed.
 pub(crate) fn pairs_of<A: Allocator + Copy>(
     alloc: A,
-    tables: &Tables<A>,
-    blocks: &Blocks<A>,
-    disjoint_index: &DisjointIndex<A>,
+    sources: &Sources<A>,
     found: &[Sym],
     assertion: u32,
     had: &mut Vec<(u32, u32), A>,
     together: &mut Vec<(u32, u32), A>,
 ) -> Result<Vec<(Sym, Sym), A>, AllocError>
-    requires assertion { assertion < length tables.now }
-    requires blocks { IsBlocks tables.now
-        blocks.now }
-    requires disjoint_index { IsDisjointIndex tables.now
-        blocks.now
-        disjoint_index.now.pairs.items disjoint_index.now.skips.items }
+    requires sources { AreSources sources.now }
+    requires assertion { assertion < length sources.now.tables.now }
     requires found { (x : ℕ)
-        → is_member found.now x ≡ is_member (mandatory_variables tables.now assertion) x }
+        → is_member found.now x ≡ is_member (mandatory_variables sources.now.tables.now assertion) x }
     ensures { IfOk result
-        (λ v. map (λ p. pair p.0 p.1) v.items ≡ mandatory_pairs tables.now assertion) }
+        (λ v. map (λ p. pair p.0 p.1) v.items ≡ mandatory_pairs sources.now.tables.now assertion) }
 {
-    // Only the contract needs the tables.
-    let _ = tables;
     had.clear();
-    add_all_active(blocks, disjoint_index, found, assertion, had)?;
+    add_all_active(
+        sources.blocks,
+        sources.disjoint_index,
+        found,
+        assertion,
+        had,
+    )?;
     sort_and_dedup(had);
     together.clear();
     add_together(had, together)?;

@@ -2,11 +2,11 @@
 
 ghost use Rattle.std.specs.Prelude.{◌≡◌, ◌<◌, ◌+◌, ℕ, IfOk, OnOk, length, map, slice_index};
 ghost use Rattle.mm_spec.specs.Derivation.{pair};
-ghost use Rattle.mm_spec.specs.Frame.{symbol_names, is_essential};
+ghost use Rattle.mm_spec.specs.Frame.{symbol_names};
 ghost use Rattle.mm_outline.specs.Blocks.{IsBlocks};
 ghost use Rattle.mm_database.specs.Frames.{AreFrames, AreFramesUpTo, IsFrame};
-ghost use Rattle.mm_frame.specs.Latest.{AreLatest};
 ghost use Rattle.mm_database.specs.DisjointIndex.{IsDisjointIndex};
+ghost use Rattle.mm_frame.specs.Sources.{AreSources};
 ghost use Rattle.mm_frame.specs.Tables.{IsSound};
 ghost use Rattle.mm_frame.specs.Hypotheses.{AreTyped, IsFresh};
 
@@ -14,6 +14,7 @@ use crate::active::latest_essentials;
 use crate::disjoint::pairs_of;
 use crate::disjoint_index::disjoint_index_of;
 use crate::hypotheses::hypotheses;
+use crate::sources::Sources;
 use crate::tables::Tables;
 use mm_database::disjoint_index::DisjointIndex;
 use mm_database::frames::{Beside, Frame, Frames};
@@ -76,32 +77,25 @@ fn copied<A: Allocator + Copy>(alloc: A, numbers: &[u32]) -> Result<Vec<u32, A>,
 /// Returns the frame of an assertion.
 fn frame_of<A: Allocator + Copy>(
     alloc: A,
-    tables: &Tables<A>,
-    blocks: &Blocks<A>,
-    essentials: &[u32],
-    disjoint_index: &DisjointIndex<A>,
+    sources: &Sources<A>,
     typed: &[u32],
     assertion: u32,
     scratch: &mut Scratch<A>,
 ) -> Result<Frame<A>, AllocError>
-    requires sound { IsSound tables.now }
-    requires assertion { assertion < length tables.now }
-    requires essentials { AreLatest is_essential tables.now essentials.now }
-    requires blocks { IsBlocks tables.now
-        blocks.now }
-    requires disjoint_index { IsDisjointIndex tables.now
-        blocks.now
-        disjoint_index.now.pairs.items disjoint_index.now.skips.items }
-    requires typed { AreTyped tables.now assertion typed.now }
-    requires seen { IsFresh (length (symbol_names tables.now)) assertion scratch.old.seen.items }
+    requires sources { AreSources sources.now }
+    requires assertion { assertion < length sources.now.tables.now }
+    requires typed { AreTyped sources.now.tables.now assertion typed.now }
+    requires seen { IsFresh (length (symbol_names sources.now.tables.now)) assertion
+        scratch.old.seen.items }
     ensures seen { OnOk result
-        (IsFresh (length (symbol_names tables.now)) (assertion + 1) scratch.new.seen.items) }
+        (IsFresh (length (symbol_names sources.now.tables.now)) (assertion + 1)
+        scratch.new.seen.items) }
     ensures frame { IfOk result
-        (λ f. IsFrame tables.now assertion f.hyps.items (map (λ p. pair p.0 p.1) f.pairs.items)) }
+        (λ f. IsFrame sources.now.tables.now assertion f.hyps.items
+        (map (λ p. pair p.0 p.1) f.pairs.items)) }
 {
     hypotheses(
-        tables,
-        essentials,
+        sources,
         typed,
         assertion,
         &mut scratch.seen,
@@ -111,9 +105,7 @@ fn frame_of<A: Allocator + Copy>(
     let hyps = copied(alloc, &scratch.hyps)?;
     let pairs = pairs_of(
         alloc,
-        tables,
-        blocks,
-        disjoint_index,
+        sources,
         &scratch.found,
         assertion,
         &mut scratch.had,
@@ -125,47 +117,31 @@ fn frame_of<A: Allocator + Copy>(
 /// Appends the place of a statement's frame, and the frame if the statement is an assertion.
 fn add_frame<A: Allocator + Copy>(
     alloc: A,
-    tables: &Tables<A>,
-    blocks: &Blocks<A>,
-    essentials: &[u32],
-    disjoint_index: &DisjointIndex<A>,
+    sources: &Sources<A>,
     typed: &[u32],
     statement: u32,
     scratch: &mut Scratch<A>,
     frames: &mut Frames<A>,
 ) -> Result<(), AllocError>
-    requires sound { IsSound tables.now }
-    requires statement { statement < length tables.now }
-    requires essentials { AreLatest is_essential tables.now essentials.now }
-    requires blocks { IsBlocks tables.now
-        blocks.now }
-    requires disjoint_index { IsDisjointIndex tables.now
-        blocks.now
-        disjoint_index.now.pairs.items disjoint_index.now.skips.items }
-    requires typed { AreTyped tables.now statement typed.now }
-    requires seen { IsFresh (length (symbol_names tables.now)) statement scratch.old.seen.items }
-    requires frames { AreFramesUpTo tables.now statement frames.old.places.items
+    requires sources { AreSources sources.now }
+    requires statement { statement < length sources.now.tables.now }
+    requires typed { AreTyped sources.now.tables.now statement typed.now }
+    requires seen { IsFresh (length (symbol_names sources.now.tables.now)) statement
+        scratch.old.seen.items }
+    requires frames { AreFramesUpTo sources.now.tables.now statement frames.old.places.items
         (map (λ f. f.hyps.items) frames.old.list.items)
         (map (λ f. map (λ p. pair p.0 p.1) f.pairs.items) frames.old.list.items) }
     ensures seen { OnOk result
-        (IsFresh (length (symbol_names tables.now)) (statement + 1) scratch.new.seen.items) }
+        (IsFresh (length (symbol_names sources.now.tables.now)) (statement + 1)
+        scratch.new.seen.items) }
     ensures frames { OnOk result
-        (AreFramesUpTo tables.now (statement + 1) frames.new.places.items
+        (AreFramesUpTo sources.now.tables.now (statement + 1) frames.new.places.items
         (map (λ f. f.hyps.items) frames.new.list.items)
         (map (λ f. map (λ p. pair p.0 p.1) f.pairs.items) frames.new.list.items)) }
 {
     frames.places.push(frames.list.len() as u32)?;
-    if tables.is_assertion(statement) {
-        let frame = frame_of(
-            alloc,
-            tables,
-            blocks,
-            essentials,
-            disjoint_index,
-            typed,
-            statement,
-            scratch,
-        )?;
+    if sources.tables.is_assertion(statement) {
+        let frame = frame_of(alloc, sources, typed, statement, scratch)?;
         frames.list.push(frame)?;
     }
     Ok(())
@@ -187,7 +163,14 @@ pub(crate) fn frames_of<A: Allocator + Copy>(
         (λ v. AreFrames tables.now v.places.items (map (λ f. f.hyps.items) v.list.items)
         (map (λ f. map (λ p. pair p.0 p.1) f.pairs.items) v.list.items)) }
 {
+    let count = tables.len();
     let essentials = latest_essentials(alloc, tables)?;
+    let sources = Sources {
+        tables,
+        blocks,
+        essentials: &essentials,
+        disjoint_index,
+    };
     let mut typed = filled(alloc, NEVER, tables.symbol_count())?;
     let mut scratch = Scratch {
         seen: filled(alloc, 0, tables.symbol_count())?,
@@ -200,18 +183,8 @@ pub(crate) fn frames_of<A: Allocator + Copy>(
         list: Vec::new(alloc),
         places: Vec::new(alloc),
     };
-    for k in 0..tables.len() {
-        add_frame(
-            alloc,
-            tables,
-            blocks,
-            &essentials,
-            disjoint_index,
-            &typed,
-            k,
-            &mut scratch,
-            &mut frames,
-        )?;
+    for k in 0..count {
+        add_frame(alloc, &sources, &typed, k, &mut scratch, &mut frames)?;
         give_type(tables, k, &mut typed);
     }
     Ok(frames)

@@ -7,11 +7,11 @@ ghost use Rattle.std.specs.List.Sorted.{IsStrictlyIncreasing};
 ghost use Rattle.mm_spec.specs.Derivation.{is_member};
 ghost use Rattle.mm_spec.specs.Frame.{symbol_names, is_variable_number, is_essential, active_of};
 ghost use Rattle.mm_spec.specs.Frame.{mandatory_variables, mandatory_hypotheses};
-ghost use Rattle.mm_frame.specs.Latest.{AreLatest};
-ghost use Rattle.mm_frame.specs.Tables.{IsSound};
+ghost use Rattle.mm_frame.specs.Sources.{AreSources};
 ghost use Rattle.mm_frame.specs.Hypotheses.{AreMarks, AreTyped, IsFresh, is_float_of};
 
 use crate::active::active_essentials;
+use crate::sources::Sources;
 use crate::tables::Tables;
 use mm_outline::blocks::NEVER;
 use mm_outline::symbol::Sym;
@@ -152,29 +152,28 @@ fn sort_and_dedup<A: Allocator>(numbers: &mut Vec<u32, A>)
 /// Lists the mandatory hypotheses of an assertion in `hyps` and its mandatory variables in `found`,
 /// and marks these variables. Replaces what the two lists have.
 pub(crate) fn hypotheses<A: Allocator>(
-    tables: &Tables<A>,
-    essentials: &[u32],
+    sources: &Sources<A>,
     typed: &[u32],
     assertion: u32,
     seen: &mut Vec<u32, A>,
     found: &mut Vec<Sym, A>,
     hyps: &mut Vec<u32, A>,
 ) -> Result<(), AllocError>
-    requires sound { IsSound tables.now }
-    requires assertion { assertion < length tables.now }
-    requires essentials { AreLatest is_essential tables.now essentials.now }
-    requires typed { AreTyped tables.now assertion typed.now }
-    requires seen { IsFresh (length (symbol_names tables.now)) assertion seen.old.items }
+    requires sources { AreSources sources.now }
+    requires assertion { assertion < length sources.now.tables.now }
+    requires typed { AreTyped sources.now.tables.now assertion typed.now }
+    requires seen { IsFresh (length (symbol_names sources.now.tables.now)) assertion seen.old.items }
     ensures marks { OnOk result
-        (AreMarks (length (symbol_names tables.now))
+        (AreMarks (length (symbol_names sources.now.tables.now))
         (assertion + 1) seen.new.items found.new.items) }
     ensures found { OnOk result
         ((x : ℕ)
-        → is_member found.new.items x ≡ is_member (mandatory_variables tables.now assertion) x) }
-    ensures hyps { OnOk result (hyps.new.items ≡ mandatory_hypotheses tables.now assertion) }
+        → is_member found.new.items x ≡ is_member (mandatory_variables sources.now.tables.now assertion) x) }
+    ensures hyps { OnOk result (hyps.new.items ≡ mandatory_hypotheses sources.now.tables.now assertion) }
 {
+    let tables = sources.tables;
     found.clear();
-    active_essentials(tables, essentials, assertion, hyps)?;
+    active_essentials(tables, sources.essentials, assertion, hyps)?;
     mandatory(tables, hyps, assertion, seen, found)?;
     add_floats(tables, typed, assertion, found, hyps)?;
     sort_and_dedup(hyps);

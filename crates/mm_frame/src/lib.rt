@@ -10,4 +10,5 @@ pub mod disjoint;
 pub mod disjoint_index;
 pub mod frames;
 pub mod hypotheses;
+mod sources;
 pub mod tables;

@@ -9,15 +9,15 @@ use Rattle.mm_frame.proofs.disjoint.pairs_of.Goals as goal
 
 pub returns : goal.returns
 returns g c = ok_then c.symbols_of.result c.symbols_of.ensures (λ v e.
-    let db = c.args.tables.now in
-    let b = c.args.blocks.now in
+    let db = c.args.sources.now.tables.now in
+    let b = c.args.sources.now.blocks.now in
     let k = c.args.assertion in
     let m = c.requires.assertion in
     let h : k ≤ length db = omega (arith, m) in
-    let ps = c.args.disjoint_index.now.pairs.items in
+    let ps = c.args.sources.now.disjoint_index.now.pairs.items in
     let found = c.args.found.now in
     e ∙ ap (map (λ p. pair p.0 p.1)) c.deref-2.ensures.value
-    ∙ pairs_are db b c.requires.blocks k h ps c.requires.disjoint_index.are found
+    ∙ pairs_are db b c.requires.sources.blocks_are k h ps c.requires.sources.index_is.are found
     c.sort_and_dedup.new.pairs.items
     c.requires.found
     (λ j y. c.sort_and_dedup.ensures.same j y ∙ c.in_ok-add_all_active.ensures j y

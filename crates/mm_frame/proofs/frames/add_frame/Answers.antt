@@ -9,13 +9,13 @@ overflow_cast-len g c =
     let n = c.len.ensures in
     let few = c.requires.frames.few in
     let m = length-map c.args.frames.now.list.items (λ x. x.hyps.items) in
-    let small = c.requires.sound.few in
+    let small = c.requires.sources.sound.few in
     let k = c.requires.statement in
     omega (arith, n, few, m, small, k)
 
 pub returns-in_ok-push-2-clause-frames : goal.returns-in_ok-push-2-clause-frames
 returns-in_ok-push-2-clause-frames g c =
-    let db = c.args.tables.now in
+    let db = c.args.sources.now.tables.now in
     let k = c.args.statement in
     let fs = c.args.frames.now.list.items in
     let f = c.in_ok-frame.frame in
@@ -36,7 +36,7 @@ returns-in_ok-push-2-clause-frames g c =
 
 pub returns-else-is_assertion-clause-frames : goal.returns-else-is_assertion-clause-frames
 returns-else-is_assertion-clause-frames g c =
-    let db = c.args.tables.now in
+    let db = c.args.sources.now.tables.now in
     let k = c.args.statement in
     let fs = c.args.frames.now.list.items in
     let hs = map (λ x. x.hyps.items) fs in

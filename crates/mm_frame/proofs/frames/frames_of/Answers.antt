@@ -8,7 +8,7 @@ returns g c =
     let fs = c.loop-k.frames in
     let db = c.args.tables.now in
     let e = c.loop-k.auto.k-end in
-    let n = c.len-k-end.ensures.len in
+    let n = c.len-count.ensures.len in
     let m = c.loop-k-test.false in
     let all : c.loop-k.k ≡ length db = omega (arith, e, n, m) in
     subst (λ k. AreFramesUpTo db k fs.places.items (map (λ x. x.hyps.items) fs.list.items)

@@ -8,7 +8,7 @@ use Rattle.mm_frame.proofs.hypotheses.hypotheses.Goals as goal
 
 pub add_floats-requires-clause-found : goal.add_floats-requires-clause-found
 add_floats-requires-clause-found g c =
-    let db = c.args.tables.now in
+    let db = c.args.sources.now.tables.now in
     subst (λ (xs : List ℕ). All (λ s. s < length (symbol_names db)) xs)
     (sym c.deref-2.ensures.value)
     (found_below db c.args.assertion c.mandatory.new.found.items
@@ -16,12 +16,12 @@ add_floats-requires-clause-found g c =
 
 pub returns-clause-hyps : goal.returns-clause-hyps
 returns-clause-hyps g c =
-    let db = c.args.tables.now in
+    let db = c.args.sources.now.tables.now in
     let k = c.args.assertion in
     let ts = c.args.typed.now in
     let h = c.requires.assertion in
     let l : k ≤ length db = omega (arith, h) in
-    hypotheses_are db k c.requires.sound l ts c.requires.typed c.mandatory.new.found.items
+    hypotheses_are db k c.requires.sources.sound l ts c.requires.typed c.mandatory.new.found.items
     c.in_ok-mandatory.ensures.found c.active_essentials.new.into.items
     c.sort_and_dedup.new.numbers.items
     c.in_ok-active_essentials.ensures c.sort_and_dedup.ensures.rising
