@@ -3,6 +3,7 @@
 
 ghost use Rattle.std.specs.Prelude.{All, ◌≡◌, ◌<◌, ◌≤◌, ◌^◌, ℕ, List, length};
 ghost use Rattle.std.specs.List.{list_any};
+ghost use Rattle.mm_spec.specs.Lexed.{tokens_of};
 ghost use Rattle.mm_spec.specs.Scope.{statement_at, stays};
 ghost use Rattle.mm_spec.specs.Frame.{symbol_names, is_variable_number, is_disjoint_statement};
 ghost use Rattle.mm_spec.specs.Frame.{is_essential, is_floating, formula_at};
@@ -15,7 +16,6 @@ ghost use Rattle.mm_frame.specs.Tables.{IsSound, typed_at};
 use mm_outline::blocks::Blocks;
 use mm_outline::parts::{Kind, Outline};
 use mm_outline::symbol::Sym;
-use mm_spec::Word;
 use std::alloc::Allocator;
 use std::marker::Model;
 
@@ -23,7 +23,6 @@ use std::marker::Model;
 #[derive(Drop)]
 pub struct Tables<'s, A: Allocator> {
     text: &'s [u8],
-    tokens: &'s [Word],
     outlines: &'s [Outline],
     blocks: &'s Blocks<A>,
     numbers: &'s [Sym],
@@ -33,15 +32,16 @@ pub struct Tables<'s, A: Allocator> {
 
 impl<'s, A: Allocator> Model for Tables<'s, A> {
     ghost use Rattle.std.specs.Prelude.{List};
+    ghost use Rattle.mm_spec.specs.Lexed.{tokens_of};
     ghost use Rattle.mm_spec.specs.Statement.{Statement};
     ghost use Rattle.mm_outline.specs.Statements.{statements};
     ghost use Rattle.mm_frame.specs.Tables.{AreTables};
 
     ghost Value = { List Statement };
 
-    ghost view = { λ t. statements t.text.now t.tokens.now t.outlines.now };
+    ghost view = { λ t. statements t.text.now (tokens_of t.text.now) t.outlines.now };
 
-    ghost invariant = { λ t. AreTables (statements t.text.now t.tokens.now t.outlines.now)
+    ghost invariant = { λ t. AreTables (statements t.text.now (tokens_of t.text.now) t.outlines.now)
         t.blocks.now
         t.numbers.now t.places.now t.variables.now };
 }
@@ -50,26 +50,24 @@ impl<'s, A: Allocator> Tables<'s, A> {
     /// Returns the tables of lawful statements.
     pub fn new(
         text: &'s [u8],
-        tokens: &'s [Word],
         outlines: &'s [Outline],
         blocks: &'s Blocks<A>,
         numbers: &'s [Sym],
         places: &'s [u32],
         variables: &'s [bool],
     ) -> Tables<'s, A>
-        requires sound { IsSound (statements text.now tokens.now outlines.now) }
-        requires blocks { IsBlocks (statements text.now tokens.now outlines.now)
+        requires sound { IsSound (statements text.now (tokens_of text.now) outlines.now) }
+        requires blocks { IsBlocks (statements text.now (tokens_of text.now) outlines.now)
             blocks.now }
         requires numbered { AreNumbered
-            (statements text.now tokens.now outlines.now) numbers.now places.now }
+            (statements text.now (tokens_of text.now) outlines.now) numbers.now places.now }
         requires symbols { (names : List (List ℕ))
-            × AreSymbols (statements text.now tokens.now outlines.now) names variables.now }
+            × AreSymbols (statements text.now (tokens_of text.now) outlines.now) names variables.now }
         requires few_symbols { length variables.now < 2 ^ 31 }
-        ensures { result ≡ statements text.now tokens.now outlines.now }
+        ensures { result ≡ statements text.now (tokens_of text.now) outlines.now }
     {
         Tables {
             text,
-            tokens,
             outlines,
             blocks,
             numbers,

@@ -6,6 +6,8 @@ ghost use Rattle.mm_spec.specs.Opened.{counted};
 ghost use Rattle.mm_spec.specs.Output.{IsRead, lexed_of};
 
 use crate::found::found_in;
+use crate::kept::keep_all;
+use crate::listed::list_all;
 use mm_database::Database;
 use mm_scope::reading::outline;
 use mm_spec::Lexed;
@@ -31,8 +33,13 @@ pub fn read<'a, A: Allocator + Copy>(
     ensures counted { IfOk result
         (λ database. database.statements ≡ counted with_open database.read) }
 {
-    let tokens = lexed.tokens.as_slice();
-    let read = outline(alloc, text, tokens, lexed.fault)?;
-    let found = found_in(alloc, text, tokens, &read, with_open)?;
+    let Lexed { tokens, fault } = lexed;
+    let words = tokens.as_slice();
+    let read = outline(alloc, text, words, fault)?;
+    let listed = list_all(alloc, text, words, &read.outlines, with_open)?;
+    let kept = keep_all(alloc, words, &read.outlines)?;
+    // Frames and the index of the `$d` need no tokens, and their memory.
+    drop(tokens);
+    let found = found_in(alloc, text, &read, listed, kept)?;
     Ok(Database::new(text, with_open, read.into_reading(), found))
 }

@@ -1,4 +1,5 @@
 use Rattle.std.proofs.Common.{◌≡◌, ◌∙◌, sym, ap}
+use Rattle.mm_spec.specs.Lexed.{tokens_of as words_of}
 use Rattle.mm_outline.specs.Statements.{statements}
 use Rattle.mm_database.specs.Names.{names_of}
 use Rattle.mm_scope.proofs.NumberedLaw.{formulas_numbered}
@@ -21,18 +22,18 @@ new-requires-clause-numbered g c =
 
 pub gather-requires : goal.gather-requires
 gather-requires g c =
-    let tables : _ ≡ statements c.args.text.now c.args.tokens.now c.args.read.now.outlines.items =
-    c.new.ensures ∙ ap (statements c.args.text.now c.args.tokens.now) c.deref.ensures.value in
+    let tables : _ ≡ statements c.args.text.now (words_of c.args.text.now) c.args.read.now.outlines.items =
+    c.new.ensures ∙ ap (statements c.args.text.now (words_of c.args.text.now)) c.deref.ensures.value in
     rw tables c.requires.kept.keeps.blocks
 
 pub returns-clause-disjoint_index : goal.returns-clause-disjoint_index
 returns-clause-disjoint_index g c =
-    let tables : _ ≡ statements c.args.text.now c.args.tokens.now c.args.read.now.outlines.items =
-    c.new.ensures ∙ ap (statements c.args.text.now c.args.tokens.now) c.deref.ensures.value in
+    let tables : _ ≡ statements c.args.text.now (words_of c.args.text.now) c.args.read.now.outlines.items =
+    c.new.ensures ∙ ap (statements c.args.text.now (words_of c.args.text.now)) c.deref.ensures.value in
     rw (sym tables) c.gather.ensures.disjoint_index
 
 pub returns-clause-frames : goal.returns-clause-frames
 returns-clause-frames g c =
-    let tables : _ ≡ statements c.args.text.now c.args.tokens.now c.args.read.now.outlines.items =
-    c.new.ensures ∙ ap (statements c.args.text.now c.args.tokens.now) c.deref.ensures.value in
+    let tables : _ ≡ statements c.args.text.now (words_of c.args.text.now) c.args.read.now.outlines.items =
+    c.new.ensures ∙ ap (statements c.args.text.now (words_of c.args.text.now)) c.deref.ensures.value in
     rw (sym tables) c.gather.ensures.frames
