@@ -1,4 +1,4 @@
--- Bad bytes, and sets of bytes as masks (Metamath book, section 4.1.1).
+-- Bad bytes, and sets of bytes as masks (Metamath book, "Preliminaries").
 use Rattle.std.specs.Prelude.{ℕ, Bool, List, map, not, ◌&&◌}
 use Rattle.std.specs.Simd.Lanes.{mask_l}
 use Rattle.mm_spec.specs.Bytes.{is_white, is_printable}

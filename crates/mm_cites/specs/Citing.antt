@@ -28,7 +28,7 @@ pub record IsFileOrder (c : Citing) : Type 0 where
       → slice_index (list_at c i) k < theorem_at c i
 
 -- theorem t cites a
-pub record Cites (c : Citing) (t a : ℕ) : Type 0 where
+pub record HasCitation (c : Citing) (t a : ℕ) : Type 0 where
   pub row : ℕ
   pub place : ℕ
   pub within : row < length c.theorems

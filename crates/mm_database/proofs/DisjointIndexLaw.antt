@@ -14,7 +14,7 @@ use Rattle.mm_spec.specs.Scope.{statement_at}
 use Rattle.mm_spec.specs.Derivation.{is_member}
 use Rattle.mm_spec.specs.Frame.{is_disjoint_statement, formula_at}
 use Rattle.mm_spec.proofs.BoolLaw.{same_tests}
-use Rattle.mm_outline.specs.Blocks.{Lists, IsBlocks, end_of}
+use Rattle.mm_outline.specs.Blocks.{BlockLists, IsBlocks, end_of}
 use Rattle.mm_database.specs.Pairs.{has_pair, IsBefore, is_before, AreRising}
 use Rattle.mm_database.specs.DisjointIndex.{has_symbol, is_live, AreKnown, Covers}
 use Rattle.mm_outline.proofs.StatementsLaw.{is_there}
@@ -101,7 +101,7 @@ partitioned ps h x y i j d l m e = by (cases_eq i j)
 
 -- ---- the blocks of the pairs
 
-pub are_known : (db : List Statement) (b : Lists) → IsBlocks db b → (ps : List (ℕ × ℕ))
+pub are_known : (db : List Statement) (b : BlockLists) → IsBlocks db b → (ps : List (ℕ × ℕ))
     → ((x j : ℕ) → has_pair ps x j ≡ has_symbol db x j) → AreKnown b ps
 are_known db b blocks ps are p l =
     let j = (get_or ps p (0, 0)).1 in
@@ -121,7 +121,7 @@ not_open at e f h l = false_from_ne_true (nat_le at f) (λ t. true≢false (sym 
     open_too : nat_le at f ≡ true → nat_le at e ≡ true
     open_too t = let m = leb-true at f t in le-leb at e (omega (arith, m, l))
 
-pub covers_self : (b : Lists) (ps : List (ℕ × ℕ)) (q : ℕ) → Covers b ps q q
+pub covers_self : (b : BlockLists) (ps : List (ℕ × ℕ)) (q : ℕ) → Covers b ps q q
 covers_self b ps q p l m =
     let s : p ≡ q = omega (arith, l, m) in
     (ap (λ i. (get_or ps i (0, 0)).0) s, by (ap (λ i. end_of b (get_or ps i (0, 0)).1) s))
@@ -130,7 +130,7 @@ covers_self b ps q p l m =
     by e = omega (arith, e)
 
 -- where the pair before is covered, what it covers is too
-pub covers_more : (b : Lists) (ps : List (ℕ × ℕ)) (first middle q : ℕ) → 0 < first
+pub covers_more : (b : BlockLists) (ps : List (ℕ × ℕ)) (first middle q : ℕ) → 0 < first
     → Covers b ps first q → Covers b ps middle (first - 1)
     → ((get_or ps (first - 1) (0, 0)).0 ≡ (get_or ps q (0, 0)).0)
     → end_of b (get_or ps (first - 1) (0, 0)).1 ≤ end_of b (get_or ps q (0, 0)).1
@@ -168,7 +168,7 @@ module _ (qs ps : List (ℕ × ℕ)) (y x : ℕ) (same : qs ≡ ps) (is : y ≡ 
 -- ---- what is added of one symbol
 
 -- those from `left` on have been looked at
-pub record Added (b : Lists) (ps : List (ℕ × ℕ)) (x at start left : ℕ)
+pub record Added (b : BlockLists) (ps : List (ℕ × ℕ)) (x at start left : ℕ)
     (old now : List (ℕ × ℕ)) : Type 0 where
   pub inside : left ≤ start
   pub kept : (j y : ℕ) → has_pair old j y ≡ true → has_pair now j y ≡ true
@@ -178,7 +178,7 @@ pub record Added (b : Lists) (ps : List (ℕ × ℕ)) (x at start left : ℕ)
       → nat_le at (end_of b (get_or ps p (0, 0)).1) ≡ true
       → has_pair now (get_or ps p (0, 0)).1 x ≡ true
 
-pub added_start : (b : Lists) (ps : List (ℕ × ℕ)) (x at start : ℕ) (old : List (ℕ × ℕ))
+pub added_start : (b : BlockLists) (ps : List (ℕ × ℕ)) (x at start : ℕ) (old : List (ℕ × ℕ))
     → Added b ps x at start start old old
 added_start b ps x at start old =
     record {
@@ -188,7 +188,7 @@ added_start b ps x at start old =
       all = λ p l m. absurd (omega (arith, l, m));
     }
 
-module _ (b : Lists) (ps : List (ℕ × ℕ)) (rising : AreRising ps) (x at start : ℕ)
+module _ (b : BlockLists) (ps : List (ℕ × ℕ)) (rising : AreRising ps) (x at start : ℕ)
     (parted : Parted ps x at start)
   where
     -- before the place, where the symbol is that
@@ -379,12 +379,12 @@ module _ (b : Lists) (ps : List (ℕ × ℕ)) (rising : AreRising ps) (x at star
 -- ---- whether two symbols have one together
 
 -- what both have stands before where the search is
-pub record Apart (b : Lists) (ps : List (ℕ × ℕ)) (x y at left right : ℕ) : Type 0 where
+pub record Apart (b : BlockLists) (ps : List (ℕ × ℕ)) (x y at left right : ℕ) : Type 0 where
   pub met : (p q : ℕ) → p < length ps → q < length ps → (get_or ps p (0, 0)).0 ≡ x
       → (get_or ps q (0, 0)).0 ≡ y → (get_or ps p (0, 0)).1 ≡ (get_or ps q (0, 0)).1
       → is_live b (get_or ps p (0, 0)).1 at ≡ true → (p < left) × (q < right)
 
-module _ (b : Lists) (ps : List (ℕ × ℕ)) (rising : AreRising ps) (x y at : ℕ) where
+module _ (b : BlockLists) (ps : List (ℕ × ℕ)) (rising : AreRising ps) (x y at : ℕ) where
   pub apart_start : (left right : ℕ) → left ≤ length ps → right ≤ length ps
       → ((p : ℕ) → p < left → is_before (get_or ps p (0, 0)) x at ≡ true)
       → ((p : ℕ) → left ≤ p → p < length ps → is_before (get_or ps p (0, 0)) x at ≡ false)

@@ -15,7 +15,7 @@ use Rattle.mm_spec.specs.Citation.{is_assertion}
 use Rattle.mm_spec.proofs.OpenedLaw.{counted_length, counted_count, counted_any, counted_depth}
 use Rattle.mm_spec.proofs.OpenedLaw.{counted_stays, counted_names, counted_variable}
 use Rattle.mm_spec.proofs.OpenedLaw.{counted_formula, counted_hypotheses, counted_pairs}
-use Rattle.mm_outline.specs.Blocks.{Lists, IsBlocks}
+use Rattle.mm_outline.specs.Blocks.{BlockLists, IsBlocks}
 use Rattle.mm_outline.specs.Numbered.{AreNumbered, AreSymbols}
 use Rattle.mm_database.specs.Labels.{AreLabels}
 use Rattle.mm_database.specs.Frames.{AreFrames}
@@ -28,7 +28,7 @@ module _ (w : Bool) (db : List Statement) where
   shorter : (k : ℕ) → k < length held_db → k < length db
   shorter k h = subst (λ n. k < n) (counted_length w db) h
 
-  pub blocks_held : (b : Lists) → IsBlocks db b → IsBlocks held_db b
+  pub blocks_held : (b : BlockLists) → IsBlocks db b → IsBlocks held_db b
   blocks_held b h = record {
     count = rw (counted_length w db) h.count;
     few = rw (counted_length w db) h.few;
@@ -121,7 +121,7 @@ module _ (w : Bool) (db : List Statement) where
           ≡ list_any is_assertion (statement_at db k)
       same k = counted_any w db is_assertion (λ l k xs e ps d. refl) k
 
-  pub members_held : (b : Lists) (ps : List (ℕ × ℕ)) (skips : List ℕ) → IsDisjointIndex db b ps
+  pub members_held : (b : BlockLists) (ps : List (ℕ × ℕ)) (skips : List ℕ) → IsDisjointIndex db b ps
       skips
       → IsDisjointIndex held_db b ps skips
   members_held b ps skips h = record {

@@ -9,11 +9,11 @@ use Rattle.mm_spec.specs.Derivation.{is_member}
 use Rattle.mm_spec.specs.Frame.{is_disjoint_statement, active_of, formula_at}
 use Rattle.mm_spec.proofs.BoolLaw.{same_tests}
 use Rattle.mm_spec.proofs.MemberLaw.{active_member, disjoint_local, any_witness, any_of}
-use Rattle.mm_outline.specs.Blocks.{Lists, IsBlocks, end_of}
+use Rattle.mm_outline.specs.Blocks.{BlockLists, IsBlocks, end_of}
 use Rattle.mm_database.specs.DisjointIndex.{has_symbol, is_live}
 use Rattle.mm_database.specs.Pairs.{has_pair}
 
-module _ (db : List Statement) (b : Lists) (blocks : IsBlocks db b) (k : ℕ)
+module _ (db : List Statement) (b : BlockLists) (blocks : IsBlocks db b) (k : ℕ)
     (h : k ≤ length db) where
   pub live_is : (j : ℕ) → list_any is_disjoint_statement (statement_at db j) ≡ true
       → is_live b j k ≡ is_member (active_of is_disjoint_statement db k) j

@@ -19,7 +19,7 @@ use Rattle.mm_outline.specs.Numbered.{AreNumbered, AreSymbols}
 use Rattle.mm_database.specs.Frames.{AreFrames}
 use Rattle.mm_outline.specs.Parts.{AreWithin, IsOutline}
 use Rattle.mm_outline.specs.Statements.{statements}
-use Rattle.mm_outline.specs.Blocks.{Lists, lists, IsBlocks}
+use Rattle.mm_outline.specs.Blocks.{BlockLists, lists, IsBlocks}
 use Rattle.mm_database.specs.DisjointIndex.{IsDisjointIndex}
 use Rattle.mm_database.specs.Spaced.{AreSpaced}
 use Rattle.mm_database.specs.Kept.{AreKept}
@@ -80,7 +80,7 @@ typecode_of db k =
 pub record Fields : Type 0 where
   pub kept : List Word
   pub kept_starts : List ℕ
-  pub blocks : Lists
+  pub blocks : BlockLists
   pub find : List ℕ → Option ℕ
   pub names : List (List ℕ)
   pub variables : List Bool

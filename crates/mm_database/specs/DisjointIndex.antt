@@ -5,7 +5,7 @@ use Rattle.mm_spec.specs.Statement.{Statement}
 use Rattle.mm_spec.specs.Scope.{statement_at}
 use Rattle.mm_spec.specs.Derivation.{is_member}
 use Rattle.mm_spec.specs.Frame.{is_disjoint_statement, formula_at}
-use Rattle.mm_outline.specs.Blocks.{Lists, end_of}
+use Rattle.mm_outline.specs.Blocks.{BlockLists, end_of}
 use Rattle.mm_database.specs.Pairs.{has_pair, AreRising}
 
 -- statement j is a `$d` that has the symbol
@@ -14,39 +14,39 @@ has_symbol db x j =
     list_any is_disjoint_statement (statement_at db j) && is_member (formula_at db j) x
 
 -- statement j is before k, and its block is open there
-abbrev pub is_live : Lists → ℕ → ℕ → Bool
+abbrev pub is_live : BlockLists → ℕ → ℕ → Bool
 is_live b j k = nat_lt j k && nat_le k (end_of b j)
 
 -- the statements of the pairs have a block
-abbrev pub AreKnown : Lists → List (ℕ × ℕ) → Type 0
+abbrev pub AreKnown : BlockLists → List (ℕ × ℕ) → Type 0
 AreKnown b ps =
     (p : ℕ) → p < length ps
     → ((get_or ps p (0, 0)).1 < length b.of)
     × (get_or b.of (get_or ps p (0, 0)).1 0 < length b.ends)
 
 -- pair p has the symbol of pair q, and a block that ends no later
-abbrev pub IsCovered : Lists → ℕ × ℕ → ℕ × ℕ → Type 0
+abbrev pub IsCovered : BlockLists → ℕ × ℕ → ℕ × ℕ → Type 0
 IsCovered b p q = (p.0 ≡ q.0) × (end_of b p.1 ≤ end_of b q.1)
 
 -- the pairs with the indices from `first` to q are covered by the pair with index q
-abbrev pub Covers : Lists → List (ℕ × ℕ) → ℕ → ℕ → Type 0
+abbrev pub Covers : BlockLists → List (ℕ × ℕ) → ℕ → ℕ → Type 0
 Covers b ps first q =
     (p : ℕ) → first ≤ p → p ≤ q → IsCovered b (get_or ps p (0, 0)) (get_or ps q (0, 0))
 
 -- for each pair an index from which on it covers the pairs up to it
-pub record AreSkips (b : Lists) (ps : List (ℕ × ℕ)) (skips : List ℕ) : Type 0 where
+pub record AreSkips (b : BlockLists) (ps : List (ℕ × ℕ)) (skips : List ℕ) : Type 0 where
   pub count : length skips ≡ length ps
   pub within : (q : ℕ) → q < length ps → get_or skips q 0 ≤ q
   pub covers : (q : ℕ) → q < length ps → Covers b ps (get_or skips q 0) q
 
 -- the pairs are in order, their statements have a block, and the skips are theirs
-pub record IsOrdered (b : Lists) (ps : List (ℕ × ℕ)) (skips : List ℕ) : Type 0 where
+pub record IsOrdered (b : BlockLists) (ps : List (ℕ × ℕ)) (skips : List ℕ) : Type 0 where
   pub rising : AreRising ps
   pub known : AreKnown b ps
   pub skips_are : AreSkips b ps skips
 
 -- each symbol with each `$d` that has it
-pub record IsDisjointIndex (db : List Statement) (b : Lists) (ps : List (ℕ × ℕ))
+pub record IsDisjointIndex (db : List Statement) (b : BlockLists) (ps : List (ℕ × ℕ))
     (skips : List ℕ) : Type 0 where
   pub are : (x j : ℕ) → has_pair ps x j ≡ has_symbol db x j
   pub ordered : IsOrdered b ps skips

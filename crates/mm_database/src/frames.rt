@@ -4,7 +4,7 @@ use crate::disjoint_index::DisjointIndex;
 use mm_outline::symbol::Sym;
 use std::alloc::Allocator;
 
-/// The frame of an assertion (section 4.2.7 of the Metamath book, "Frames").
+/// The frame of an assertion (Metamath book, "Frames").
 #[derive(Drop)]
 pub struct Frame<A: Allocator> {
     /// The mandatory hypotheses, by their statements, in order of appearance.

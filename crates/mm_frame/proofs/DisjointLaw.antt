@@ -15,7 +15,7 @@ use Rattle.mm_spec.specs.Frame.{symbol_names, is_disjoint_statement, active_of, 
 use Rattle.mm_spec.specs.Frame.{mandatory_variables, mandatory_pairs, disjoint_at, pairs_of}
 use Rattle.mm_spec.proofs.BoolLaw.{same_tests}
 use Rattle.mm_spec.proofs.MemberLaw.{any_witness, any_of, member_range}
-use Rattle.mm_outline.specs.Blocks.{Lists, IsBlocks}
+use Rattle.mm_outline.specs.Blocks.{BlockLists, IsBlocks}
 use Rattle.mm_database.specs.DisjointIndex.{has_symbol, is_live}
 use Rattle.mm_database.specs.Pairs.{has_pair, IsBefore, AreRising}
 use Rattle.mm_database.proofs.TogetherLaw.{live_is, kind_of_active}
@@ -234,7 +234,7 @@ one_more false m q r l y s e = by (cases_eq y s)
 
 -- ---- the mandatory pairs
 
-module _ (db : List Statement) (b : Lists) (blocks : IsBlocks db b) (k : ℕ)
+module _ (db : List Statement) (b : BlockLists) (blocks : IsBlocks db b) (k : ℕ)
     (h : k ≤ length db) (ps : List (ℕ × ℕ))
     (are : (x j : ℕ) → has_pair ps x j ≡ has_symbol db x j) (found : List ℕ) (had : List (ℕ × ℕ))
     (found_is : (x : ℕ) → is_member found x ≡ is_member (mandatory_variables db k) x)

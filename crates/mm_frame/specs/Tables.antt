@@ -7,7 +7,7 @@ use Rattle.mm_spec.specs.Statement.{Statement}
 use Rattle.mm_spec.specs.Scope.{statement_at, constants_of, variables_of}
 use Rattle.mm_spec.specs.Lawful.{scope_fault}
 use Rattle.mm_spec.specs.Frame.{symbol_names, is_variable_number, is_floating, formula_at}
-use Rattle.mm_outline.specs.Blocks.{Lists, IsBlocks}
+use Rattle.mm_outline.specs.Blocks.{BlockLists, IsBlocks}
 use Rattle.mm_outline.specs.Numbered.{AreNumbered}
 
 -- the statements are lawful, no constant is a variable too, and each symbol has a number
@@ -19,7 +19,7 @@ pub record IsSound (db : List Statement) : Type 0 where
   pub below : (k : ℕ) → k < length db → All (λ s. s < length (symbol_names db)) (formula_at db k)
 
 -- the tables are those of the statements
-pub record AreTables (db : List Statement) (b : Lists) (numbers places : List ℕ)
+pub record AreTables (db : List Statement) (b : BlockLists) (numbers places : List ℕ)
     (marks : List Bool) : Type 0 where
   pub sound : IsSound db
   pub blocks : IsBlocks db b

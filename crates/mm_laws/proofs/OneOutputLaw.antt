@@ -9,7 +9,7 @@ use Rattle.std.proofs.lemmas.Bool.Decides.{same_from_decides}
 use Rattle.std.proofs.lemmas.List.{append_cancel_left}
 use Rattle.mm_spec.specs.Text.{Bytes, Token, fault}
 use Rattle.mm_spec.specs.declared.Fault.{Fault}
-use Rattle.mm_spec.specs.Statement.{Statement, spelled, Begins, IsBetween, ShapeFault, IsLongestRow}
+use Rattle.mm_spec.specs.Statement.{Statement, spelled, IsRowPrefix, IsBetween, ShapeFault, IsLongestRow}
 use Rattle.mm_spec.specs.Statement.{FileEndFault, shape_code, is_closing, is_opening}
 use Rattle.mm_spec.specs.Lawful.{least, scope_fault}
 use Rattle.mm_spec.specs.Derivation.{Formula, Context, Rule, hypothesis, assertion, Trees, formulas}
@@ -25,7 +25,7 @@ use Rattle.mm_spec.specs.declared.Choice.TheVariants.{All, Matrix, Counts, Usage
 use Rattle.mm_laws.proofs.RisingListsLaw.{same_list}
 use Rattle.mm_spec.specs.Request.{Request}
 use Rattle.mm_spec.specs.declared.Code.{Code}
-use Rattle.mm_spec.specs.Output.{LexedText, lexed_of, TextFault, Stops, IsRead, ProofFault, end_of}
+use Rattle.mm_spec.specs.Output.{LexedText, lexed_of, TextFault, StopsReading, IsRead, ProofFault, end_of}
 use Rattle.mm_spec.specs.Output.{is_theorem_at, AllAreValid, FirstProofFault, FirstFault}
 use Rattle.mm_spec.specs.Output.{HasNoFault, theorems, columns, open_columns, label_at, IsRowOf}
 use Rattle.mm_spec.specs.Output.{AreCited, IsCitingRowOf, IsReportOf, IsOutput}
@@ -236,8 +236,8 @@ rows_unique db request (n ∷ ts) (x ∷ a) (y ∷ b) h k =
 
 -- ---- faults of the text
 
-begins_front : (before zs : List Token) (x : Token) → Begins (before ++ x ∷ zs)
-    → Begins (before ++ x ∷ [])
+begins_front : (before zs : List Token) (x : Token) → IsRowPrefix (before ++ x ∷ zs)
+    → IsRowPrefix (before ++ x ∷ [])
 begins_front before zs x b = (
   b.0,
   b.1,
@@ -267,9 +267,9 @@ shape_unique ts f g s t =
         codes t.before t.first
         (subst (λ x. Code t.before x f) e.1 (subst (λ b. Code b s.first f) e.0 s.code)) t.code
     go (inr (inl h)) =
-        absurd (s.no_more (begins_front s.before h.0 s.first (subst Begins h.1 t.begins)))
+        absurd (s.no_more (begins_front s.before h.0 s.first (subst IsRowPrefix h.1 t.begins)))
     go (inr (inr h)) =
-        absurd (t.no_more (begins_front t.before h.0 t.first (subst Begins h.1 s.begins)))
+        absurd (t.no_more (begins_front t.before h.0 t.first (subst IsRowPrefix h.1 s.begins)))
 
 one_row : (ts : List Token) (a b : List Statement) → IsLongestRow ts a → IsLongestRow ts b → a ≡ b
 one_row ts a b h k = sym (longest_unique ts a h) ∙ longest_unique ts b k
@@ -330,7 +330,7 @@ fronts_of (a ∷ xs) (b ∷ ys) us vs e = go (fronts_of xs ys us vs (ap tail_of 
     go (inr (inr h)) = let l = h.3 in inr (inr (h.0, h.1, h.2, omega (arith, l)))
 
 stops_unique : (len : ℕ) (x : LexedText) (row db rest : List Statement) (f g : Option Fault)
-    → Stops len x row db rest f → Stops len x row db rest g → f ≡ g
+    → StopsReading len x row db rest f → StopsReading len x row db rest g → f ≡ g
 stops_unique len x row db (s ∷ rest) f g h k = sym h.1 ∙ k.1
 stops_unique len x row db [] None None h k = refl
 stops_unique len x row db [] None (Some g) h k = absurd (h g k)
@@ -342,7 +342,7 @@ shorter : (len : ℕ) (x : LexedText) (a b : List Statement) (f g : Option Fault
     → (h : IsRead len x a f) (k : IsRead len x b g) (s : Statement) (zs : List Statement)
     → h.rest ≡ s ∷ zs → length a < length b → ⊥
 shorter len x a b f g h k s zs is lt =
-    let stop = subst (λ r. Stops len x h.row a r f) is h.stops in
+    let stop = subst (λ r. StopsReading len x h.row a r f) is h.stops in
     let row = one_row x.tokens h.row k.row h.is_row k.is_row in
     stop.0 (sym stop.1 ∙ ap (λ r. scope_fault r (length a)) row ∙ k.lawful (length a) lt)
 
@@ -356,9 +356,9 @@ read_unique len x a b f g h k =
     go (inl e) = (
       e.0,
       stops_unique len x k.row b k.rest f g
-          (subst (λ r. Stops len x r b k.rest f) (one_row x.tokens h.row k.row h.is_row k.is_row)
-          (subst (λ r. Stops len x h.row b r f) e.1
-          (subst (λ d. Stops len x h.row d h.rest f) e.0 h.stops)))
+          (subst (λ r. StopsReading len x r b k.rest f) (one_row x.tokens h.row k.row h.is_row k.is_row)
+          (subst (λ r. StopsReading len x h.row b r f) e.1
+          (subst (λ d. StopsReading len x h.row d h.rest f) e.0 h.stops)))
           k.stops,
     )
     go (inr (inl l)) = absurd (shorter len x a b f g h k l.0 l.1 l.2 l.3)

@@ -1,5 +1,5 @@
 -- Rows of tokens and comments, as a grammar: what a reading of words stands for (Metamath book,
--- sections 4.1.1 and 4.1.2).
+-- "Preliminaries" and "Preprocessing").
 use Rattle.std.specs.Prelude.{◌≡◌, ℕ, List, [], ◌∷◌, ◌++◌, Option, Some, None, IsTrue, ⊤, is_some}
 use Rattle.std.specs.List.{flat_map, AllByRecursion}
 use Rattle.std.specs.Option.{option_map}

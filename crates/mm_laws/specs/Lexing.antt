@@ -1,5 +1,5 @@
--- The tokens and the lexical fault of a text by its words and the grammar (Metamath book, sections
--- 4.1.1 and 4.1.2).
+-- The tokens and the lexical fault of a text by its words and the grammar (Metamath book,
+-- "Preliminaries" and "Preprocessing").
 use Rattle.std.specs.Prelude.{◌≡◌, ◌<◌, ◌≤◌, ℕ, List, [], length, Option, Some}
 use Rattle.mm_spec.specs.Laws.Words.{AreWords}
 use Rattle.mm_spec.specs.Readings.{Reading}

@@ -1,5 +1,5 @@
 -- What the letters of a compressed proof spell, and which steps its numbers name, as the book says
--- it: by what is where, without a reading from left to right (Metamath book, Appendix B).
+-- it: by what is where, without a reading from left to right (Metamath book, "Compressed Proofs").
 use Rattle.std.specs.Prelude.{◌≡◌, ◌≢◌, ℕ, ◌+◌, ◌*◌, ◌^◌, ◌≤◌, Bool, true, false, List, [], ◌∷◌}
 use Rattle.std.specs.Prelude.{◌++◌, length, Some, slice_get, flat_map, count_by, ◌⊎◌, codes, IsTrue}
 use Rattle.std.specs.List.{list_any, AllByRecursion}

@@ -155,7 +155,7 @@ impl<'a> Blocks<'a> {
 
     /// Continues with the next block.
     #[inline(always)]
-    fn turn(&mut self)
+    fn next_block(&mut self)
         requires { self.old.base + 64 ≤ length self.old.text.now }
         ensures text { self.new.text.now ≡ self.old.text.now }
         ensures base { self.new.base ≡ self.old.base + 64 }
@@ -224,7 +224,7 @@ impl<'a> Blocks<'a> {
             if to <= self.base + 64 {
                 return None;
             }
-            self.turn();
+            self.next_block();
         }
         let place = self.starts.trailing_zeros() as usize;
         let start = self.base + place;

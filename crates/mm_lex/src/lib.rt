@@ -24,9 +24,9 @@ pub use pieces::{Piece, join, lex_piece};
 use std::alloc::{AllocError, Allocator};
 use std::thread::Threads;
 
-/// The tokens and the first lexical fault of a text (sections 4.1.1 and 4.1.2 of the Metamath
-/// book). The cuts must be made for the text's length if that is within the limit; they don't
-/// change the result. Fails only if out of memory.
+/// The tokens and the first lexical fault of a text (Metamath book, "Preliminaries" and
+/// "Preprocessing"). The cuts must be made for the text's length if that is within the limit; they
+/// don't change the result. Fails only if out of memory.
 pub fn lex<R: Threads + Sync, A: Allocator + Copy + Send + Sync>(
     rt: &R,
     alloc: A,

@@ -42,7 +42,7 @@ use Rattle.mm_spec.specs.declared.Choice.TheVariants.{All, Matrix, Counts, Usage
 use Rattle.mm_spec.specs.declared.Form.{Form}
 use Rattle.mm_spec.specs.declared.Form.TheVariants.{One, Two}
 use Rattle.mm_spec.specs.Derivation.{is_member}
-use Rattle.mm_line.specs.Lines.{IsCommand, IsReportRule, IsFormRule, IsFlag, IsAsking, Refuses}
+use Rattle.mm_line.specs.Lines.{IsCommand, IsReportRule, IsFormRule, IsFlag, IsAsking, IsLineRefusal}
 use Rattle.mm_line.specs.Lines.{command_of, flag_rule, number_rule, only_rule, report_rule}
 use Rattle.mm_line.specs.Lines.{file_rule, form_rule, form_word, form_words, report_word}
 use Rattle.mm_line.specs.Lines.{report_words, Says}
@@ -85,7 +85,7 @@ not_memory kind (inr h) m = let e : DisplayVersion ≡ OutOfMemory = sym h ∙ m
 
 pub refuses : (app : App) (words : List Text) (e : Error) (r : LineRefused) → IsCommand app
     → (takes app words ≡ true → kind_of e ≡ OutOfMemory)
-    → HasKind (fault_of app words) e → IsFor (kind_of e) r → Refuses words r
+    → HasKind (fault_of app words) e → IsFor (kind_of e) r → IsLineRefusal words r
 refuses app words e Memory is passes kind for = tt
 refuses app words e (Help text) is passes kind for =
     (app, is, untaken (takes app words) refl, kind_of e, among kind, for)

@@ -162,7 +162,7 @@ abbrev pub IsAsking : ErrorKind → Type 0
 IsAsking kind = (kind ≡ DisplayHelp) ⊎ (kind ≡ DisplayVersion)
 
 -- Help or the version is requested, or the words have another fault. Nothing is said of `Memory`.
-abbrev pub Refuses : List Text → LineRefused → Type 0
-Refuses words (Help text) = Faults words IsAsking
-Refuses words (Bad text) = Faults words (λ kind. ¬ IsAsking kind)
-Refuses words Memory = ⊤
+abbrev pub IsLineRefusal : List Text → LineRefused → Type 0
+IsLineRefusal words (Help text) = Faults words IsAsking
+IsLineRefusal words (Bad text) = Faults words (λ kind. ¬ IsAsking kind)
+IsLineRefusal words Memory = ⊤

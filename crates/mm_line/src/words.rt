@@ -5,7 +5,7 @@ ghost use Rattle.std.specs.String.{string_bytes};
 ghost use Rattle.std.specs.Str.Parse.{digits_value, without_leading_plus};
 ghost use Rattle.clap.specs.Words.{app_of, first_value, found_of, kind_of, one_text, rule_of};
 ghost use Rattle.mm_line.specs.Found.{Finds, HasForm, HasNumber, HasReport, IsFor};
-ghost use Rattle.mm_line.specs.Lines.{IsCommand, IsFormRule, IsReportRule, Refuses, Says};
+ghost use Rattle.mm_line.specs.Lines.{IsCommand, IsFormRule, IsReportRule, IsLineRefusal, Says};
 ghost use Rattle.mm_line.specs.Lines.{file_rule, flag_rule, form_word, number_rule, only_rule};
 ghost use Rattle.mm_line.specs.Lines.{report_word};
 
@@ -144,7 +144,7 @@ fn refused(alloc: Global, error: &Error) -> Result<LineRefused, AllocError>
 /// What clap finds in the words.
 fn parsed<'a, S: AsStr>(alloc: Global, words: &'a [S]) -> Result<ArgMatches<'a>, LineRefused>
     ensures finds { IfOk result (λ m. Finds (map S.text words.entry.now) m) }
-    ensures refuses { IfErr result (λ e. Refuses (map S.text words.entry.now) e) }
+    ensures refuses { IfErr result (λ e. IsLineRefusal (map S.text words.entry.now) e) }
 {
     match command(alloc)?.try_get_matches_from(words) {
         Ok(matches) => Ok(matches),
@@ -212,7 +212,7 @@ fn text_in(
 /// `Memory` only if out of memory.
 pub fn line<S: AsStr>(alloc: Global, words: &[S]) -> Result<Line, LineRefused>
     ensures says { IfOk result (λ l. Says (map S.text words.now) l) }
-    ensures refuses { IfErr result (λ e. Refuses (map S.text words.now) e) }
+    ensures refuses { IfErr result (λ e. IsLineRefusal (map S.text words.now) e) }
 {
     let matches = parsed(alloc, words)?;
     let plan = Plan {

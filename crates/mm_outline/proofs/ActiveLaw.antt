@@ -10,7 +10,7 @@ use Rattle.mm_outline.specs.declared.parts.Kind.{Kind}
 use Rattle.mm_outline.specs.declared.parts.Kind.TheVariants as kind
 use Rattle.mm_outline.specs.declared.parts.Outline.{Outline}
 use Rattle.mm_outline.specs.Parts.{statement_of, made}
-use Rattle.mm_outline.specs.Blocks.{Lists, IsBlocks, end_of}
+use Rattle.mm_outline.specs.Blocks.{BlockLists, IsBlocks, end_of}
 use Rattle.mm_outline.specs.Statements.{statements, active_kind}
 
 kind_is : (text : List ℕ) (ws : List Word) (k : Kind) (w m e : ℕ) (b : Bool)
@@ -31,7 +31,7 @@ get_map f [] i d h = absurd (omega arith)
 get_map f (x ∷ xs) zero d h = refl
 get_map f (x ∷ xs) (suc i) d h = get_map f xs i d (omega arith)
 
-pub active_is : (text : List ℕ) (ws : List Word) (os : List Outline) (b : Lists)
+pub active_is : (text : List ℕ) (ws : List Word) (os : List Outline) (b : BlockLists)
     → IsBlocks (statements text ws os) b → (j k : ℕ) → j < length os → k ≤ length os → (d : Outline)
     → (nat_lt j k && active_kind (get_or os j d).kind (nat_le k (end_of b j)))
     ≡ is_active (statements text ws os) j k

@@ -12,7 +12,7 @@ use Rattle.mm_spec.specs.Statement.{Statement, is_opening, is_closing}
 use Rattle.mm_spec.specs.Scope.{depth, stays}
 use Rattle.mm_spec.proofs.ActivityLaw.{stays_more}
 use Rattle.mm_spec.proofs.ShapeLaw.{count_end}
-use Rattle.mm_outline.specs.Blocks.{Lists, lists, never, top, no_blocks, end_of, IsBlocks}
+use Rattle.mm_outline.specs.Blocks.{BlockLists, lists, never, top, no_blocks, end_of, IsBlocks}
 
 -- ---- what stays the same after one statement more
 
@@ -100,7 +100,7 @@ blocks_none = record {
   bounds = λ j h. absurd (omega arith);
 }
 
-module _ (db : List Statement) (s : Statement) (b : Lists) (x : IsBlocks db b)
+module _ (db : List Statement) (s : Statement) (b : BlockLists) (x : IsBlocks db b)
     (few : length db < never) where
   t : ℕ
   t = top b.open_blocks

@@ -6,7 +6,7 @@ use Rattle.mm_spec.specs.declared.Fault.{Fault}
 use Rattle.mm_spec.specs.Statement.{Statement, shape_code}
 use Rattle.mm_spec.specs.Laws.Table as table
 use Rattle.mm_spec.specs.Laws.Table.{Progress, start, statements_from, stop_from, rest_from, begins}
-use Rattle.mm_spec.specs.Laws.Table.{class, Turn, after, stop_after, rest_after}
+use Rattle.mm_spec.specs.Laws.Table.{class, Transition, after, stop_after, rest_after}
 use Rattle.mm_spec.specs.declared.Word.{Word}
 use Rattle.mm_outline.specs.Parts.{as_tokens, token_at, nth_word, reading}
 use Rattle.mm_outline.specs.NextStatement.{Leads, tokens_from, is_start}
@@ -75,7 +75,7 @@ Goes text ws d from part i =
     Leads (start d) (tokens_from text ws from) [] (reading text ws d part i) (tokens_from text ws i)
 
 module _ (text : List ℕ) (ws : List Word) (d from i : ℕ) (part : Part) where
-  abbrev pub Turned : Turn → Type 0
+  abbrev pub Turned : Transition → Type 0
   Turned o =
       o ≡ table.turn (reading text ws d part i) (class (token_at text ws i).word)
       (token_at text ws i)

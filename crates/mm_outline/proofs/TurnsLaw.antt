@@ -10,9 +10,9 @@ use Rattle.mm_spec.specs.Statement.{Statement}
 use Rattle.mm_spec.specs.Laws.Table as table
 use Rattle.mm_spec.specs.declared.Word.{Word}
 use Rattle.mm_outline.specs.Parts.{HasEnd, class_of, as_tokens, token_of, token_at, between}
-use Rattle.mm_outline.specs.Parts.{step_of, single_of, make, make_proved, statement_of, reading}
+use Rattle.mm_outline.specs.Parts.{turn_for, single_of, make, make_proved, statement_of, reading}
 use Rattle.mm_outline.specs.Parts.{turn_of, IsPart, Holds, HasWords, outline, place, label_before}
-use Rattle.mm_outline.specs.Parts.{depth_after, stop_unless, AtStart, IsRising}
+use Rattle.mm_outline.specs.Parts.{depth_after, stop_unless, AtStart, IsKeywordBefore}
 use Rattle.mm_outline.specs.declared.words.Class.{Class}
 use Rattle.mm_outline.specs.declared.words.Class.TheVariants.{Constant, Variable, Disjoint}
 use Rattle.mm_outline.specs.declared.words.Class.TheVariants.{Floating, Essential, Axiom, Theorem}
@@ -67,7 +67,7 @@ module _ (text : List ℕ) (ws : List Word) (d i : ℕ) where
 
   pub step_same : i < length ws → (part : Part) (k : Class) (label inside : Bool) → IsPart part i
       → AtStart part (label ≡ is_label (token_at text ws i).word) → inside ≡ nat_lt 0 d
-      → turn_of text ws d i (step_of part k label inside i)
+      → turn_of text ws d i (turn_for part k label inside i)
       ≡ table.turn (reading text ws d part i) (class_of k) (token_at text ws i)
   step_same l Start Constant label inside p a e = opened (make text ws kind.Constants i)
   step_same l Start Variable label inside p a e = opened (make text ws kind.Variables i)
@@ -123,7 +123,7 @@ module _ (text : List ℕ) (ws : List Word) (d i : ℕ) where
   step_same l (Formula w) _ label inside p a e = refl
   step_same l (Proof w q) _ label inside p a e = refl
 
-  rising : (k : Kind) (w : ℕ) → HasWords k → w < i → IsRising k w i
+  rising : (k : Kind) (w : ℕ) → HasWords k → w < i → IsKeywordBefore k w i
   rising kind.Theorem w h l = absurd h
   rising kind.Open w h l = absurd h
   rising kind.Close w h l = absurd h
@@ -136,7 +136,7 @@ module _ (text : List ℕ) (ws : List Word) (d i : ℕ) where
   ended _ w h = refl
 
   pub step_holds : (part : Part) (k : Class) (label inside : Bool) → IsPart part i
-      → Holds i (step_of part k label inside i)
+      → Holds i (turn_for part k label inside i)
   step_holds Start Constant label inside p = (tt, tt, omega arith)
   step_holds Start Variable label inside p = (tt, tt, omega arith)
   step_holds Start Disjoint label inside p = (tt, tt, omega arith)

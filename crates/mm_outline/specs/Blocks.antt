@@ -8,24 +8,24 @@ use Rattle.mm_outline.specs.declared.parts.Kind.{Kind}
 use Rattle.mm_outline.specs.declared.parts.Kind.TheVariants.{Open, Close}
 
 -- the block of each statement, the end of each block, the open blocks
-pub record Lists : Type 0 where
+pub record BlockLists : Type 0 where
   pub of : List ℕ
   pub ends : List ℕ
   pub open_blocks : List ℕ
 
-abbrev pub lists : List ℕ → List ℕ → List ℕ → Lists
+abbrev pub lists : List ℕ → List ℕ → List ℕ → BlockLists
 lists of ends opens = record { of = of; ends = ends; open_blocks = opens }
 
 abbrev pub never : ℕ
 never = 4294967295
 
-abbrev pub no_blocks : Lists
+abbrev pub no_blocks : BlockLists
 no_blocks = lists [] (never ∷ []) (0 ∷ [])
 
 abbrev pub top : List ℕ → ℕ
 top opens = slice_index opens (length opens - 1)
 
-abbrev pub pushed : Kind → Lists → Lists
+abbrev pub pushed : Kind → BlockLists → BlockLists
 pushed Open b =
     lists (b.of ++ top b.open_blocks ∷ []) (b.ends ++ never ∷ [])
     (b.open_blocks ++ length b.ends ∷ [])
@@ -34,7 +34,7 @@ pushed Close b =
     (take (length b.open_blocks - 1) b.open_blocks)
 pushed _ b = lists (b.of ++ top b.open_blocks ∷ []) b.ends b.open_blocks
 
-abbrev pub end_of : Lists → ℕ → ℕ
+abbrev pub end_of : BlockLists → ℕ → ℕ
 end_of b j = get_or b.ends (get_or b.of j 0) 0
 
 abbrev pub is_never : Option ℕ → Bool
@@ -46,10 +46,10 @@ end_in ends None = None
 end_in ends (Some block) = slice_get ends block
 
 -- whether the statement is known and its block is still open
-abbrev pub is_open_in : Lists → ℕ → Bool
+abbrev pub is_open_in : BlockLists → ℕ → Bool
 is_open_in b j = is_never (end_in b.ends (slice_get b.of j))
 
-pub record IsBlocks (db : List Statement) (b : Lists) : Type 0 where
+pub record IsBlocks (db : List Statement) (b : BlockLists) : Type 0 where
   pub count : length b.of ≡ length db
   pub few : length b.ends ≤ length db + 1
   pub nested : count_by is_closing db ≤ count_by is_opening db

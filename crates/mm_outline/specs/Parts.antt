@@ -67,24 +67,24 @@ abbrev pub stop_unless : Bool → Turn → Turn
 stop_unless true t = t
 stop_unless false t = Stop
 
-abbrev pub step_of : Part → Class → Bool → Bool → ℕ → Turn
-step_of Start Constant is_label is_inside at = Go (Words kind.Constants at)
-step_of Start Variable is_label is_inside at = Go (Words kind.Variables at)
-step_of Start Disjoint is_label is_inside at = Go (Words kind.Disjoint at)
-step_of Start Open is_label is_inside at = single_of kind.Open at
-step_of Start Close is_label is_inside at = stop_unless is_inside (single_of kind.Close at)
-step_of Start Plain is_label is_inside at = stop_unless is_label (Go (Labelled at))
-step_of (Labelled l) Floating is_label is_inside at = Go (Words kind.Floating at)
-step_of (Labelled l) Essential is_label is_inside at = Go (Words kind.Essential at)
-step_of (Labelled l) Axiom is_label is_inside at = Go (Words kind.Axiom at)
-step_of (Labelled l) Theorem is_label is_inside at = Go (Formula at)
-step_of (Words k w) Plain is_label is_inside at = Go (Words k w)
-step_of (Words k w) Dot is_label is_inside at = Done (outline k w at at)
-step_of (Formula w) Plain is_label is_inside at = Go (Formula w)
-step_of (Formula w) Equals is_label is_inside at = Go (Proof w at)
-step_of (Proof w e) Plain is_label is_inside at = Go (Proof w e)
-step_of (Proof w e) Dot is_label is_inside at = Done (outline kind.Theorem w e at)
-step_of _ _ is_label is_inside at = Stop
+abbrev pub turn_for : Part → Class → Bool → Bool → ℕ → Turn
+turn_for Start Constant is_label is_inside at = Go (Words kind.Constants at)
+turn_for Start Variable is_label is_inside at = Go (Words kind.Variables at)
+turn_for Start Disjoint is_label is_inside at = Go (Words kind.Disjoint at)
+turn_for Start Open is_label is_inside at = single_of kind.Open at
+turn_for Start Close is_label is_inside at = stop_unless is_inside (single_of kind.Close at)
+turn_for Start Plain is_label is_inside at = stop_unless is_label (Go (Labelled at))
+turn_for (Labelled l) Floating is_label is_inside at = Go (Words kind.Floating at)
+turn_for (Labelled l) Essential is_label is_inside at = Go (Words kind.Essential at)
+turn_for (Labelled l) Axiom is_label is_inside at = Go (Words kind.Axiom at)
+turn_for (Labelled l) Theorem is_label is_inside at = Go (Formula at)
+turn_for (Words k w) Plain is_label is_inside at = Go (Words k w)
+turn_for (Words k w) Dot is_label is_inside at = Done (outline k w at at)
+turn_for (Formula w) Plain is_label is_inside at = Go (Formula w)
+turn_for (Formula w) Equals is_label is_inside at = Go (Proof w at)
+turn_for (Proof w e) Plain is_label is_inside at = Go (Proof w e)
+turn_for (Proof w e) Dot is_label is_inside at = Done (outline kind.Theorem w e at)
+turn_for _ _ is_label is_inside at = Stop
 
 abbrev pub less_one : ℕ → ℕ
 less_one zero = zero
@@ -169,10 +169,10 @@ IsPart (Formula k) i = (0 < k) × (k < i)
 IsPart (Proof k e) i = (0 < k) × (k < e) × (e < i)
 
 -- a statement other than `${` and `$}` has its `$=`, or without one its end, after its keyword
-abbrev pub IsRising : Kind → ℕ → ℕ → Type 0
-IsRising kind.Open k m = Unit {0}
-IsRising kind.Close k m = Unit {0}
-IsRising _ k m = k < m
+abbrev pub IsKeywordBefore : Kind → ℕ → ℕ → Type 0
+IsKeywordBefore kind.Open k m = Unit {0}
+IsKeywordBefore kind.Close k m = Unit {0}
+IsKeywordBefore _ k m = k < m
 
 -- a `$p` has its `$=` before its last token, `${` and `$}` have one token, and the others have no
 -- `$=`
@@ -184,7 +184,7 @@ HasEnd _ k m e = m ≡ e
 
 abbrev pub IsOutline : Outline → Type 0
 IsOutline o =
-    HasLabel o.kind o.keyword × IsRising o.kind o.keyword o.middle × (o.keyword ≤ o.middle)
+    HasLabel o.kind o.keyword × IsKeywordBefore o.kind o.keyword o.middle × (o.keyword ≤ o.middle)
     × (o.middle ≤ o.end) × HasEnd o.kind o.keyword o.middle o.end
 
 -- what holds after a turn at token i

@@ -2,7 +2,7 @@
 
 ghost use Rattle.std.specs.Prelude.{◌≡◌, ◌<◌, ◌^◌, ◌-◌, length, OnOk, IfOk};
 ghost use Rattle.std.specs.Prelude.{All, nat_le, slice_index};
-ghost use Rattle.mm_outline.specs.Blocks.{Lists, lists, pushed, no_blocks, end_of, is_open_in};
+ghost use Rattle.mm_outline.specs.Blocks.{BlockLists, lists, pushed, no_blocks, end_of, is_open_in};
 
 use crate::parts::Kind;
 use std::alloc::{AllocError, Allocator};
@@ -31,9 +31,9 @@ impl<A: Allocator> Drop for Blocks<A> {
 }
 
 impl<A: Allocator> Model for Blocks<A> {
-    ghost use Rattle.mm_outline.specs.Blocks.{Lists, lists};
+    ghost use Rattle.mm_outline.specs.Blocks.{BlockLists, lists};
 
-    ghost Value = { Lists };
+    ghost Value = { BlockLists };
 
     ghost view = { λ b. lists b.of.items b.ends.items b.open_blocks.items };
 }

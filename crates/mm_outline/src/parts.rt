@@ -5,9 +5,9 @@ ghost use Rattle.mm_spec.specs.Text.{fault, has_dollar, is_label as spec_is_labe
 ghost use Rattle.mm_spec.specs.Statement.{shape_code};
 ghost use Rattle.mm_outline.specs.NextStatement.{IsNextStatement, Leads, tokens_from};
 ghost use Rattle.mm_outline.specs.NextStatement.{is_start as spec_is_start};
-ghost use Rattle.mm_spec.specs.Laws.Table.{class, turn as spec_turn};
+ghost use Rattle.mm_spec.specs.Laws.Table.{class, transition};
 ghost use Rattle.mm_outline.specs.Parts.{IsPart, Holds, AreWithin, reading, token_at, turn_of};
-ghost use Rattle.mm_outline.specs.Parts.{step_of, single_of, AtStart};
+ghost use Rattle.mm_outline.specs.Parts.{turn_for, single_of, AtStart};
 ghost use Rattle.mm_outline.specs.Tokens.{AreTokens};
 
 use crate::words::{Class, classify, has_dollar, is_label};
@@ -58,7 +58,7 @@ pub enum Turn {
 
 /// What a token of the class `class` does at `at`.
 fn step(part: Part, class: Class, is_label: bool, is_inside: bool, at: u32) -> Turn
-    ensures { result ≡ step_of part class is_label is_inside at }
+    ensures { result ≡ turn_for part class is_label is_inside at }
 {
     match part {
         Part::Start => match class {
@@ -145,7 +145,7 @@ fn take_turn(text: &[u8], tokens: &[Word], deep: u32, part: Part, at: u32) -> Tu
     requires inside { at < length tokens.now }
     requires part { IsPart part at }
     ensures same { turn_of text.now tokens.now deep at result
-        ≡ spec_turn (reading text.now tokens.now deep part at)
+        ≡ transition (reading text.now tokens.now deep part at)
         (class (token_at text.now tokens.now at).word) (token_at text.now tokens.now at) }
     ensures holds { Holds at result }
 {

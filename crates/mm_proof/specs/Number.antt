@@ -1,4 +1,5 @@
--- The letters of compressed proofs, and the numbers that they spell (Metamath book, Appendix B).
+-- The letters of compressed proofs, and the numbers that they spell (Metamath book, "Compressed
+-- Proofs").
 use Rattle.std.specs.Prelude.{◌≡◌, ℕ, ◌-◌, min, true, false, ◌==◌, List, [], ◌∷◌, ◌++◌, map, IsTrue}
 use Rattle.std.specs.List.{list_all}
 use Rattle.mm_spec.specs.CompressedProof.{Group, is_early, is_last, value}

@@ -3,7 +3,7 @@
 ghost use Rattle.std.specs.Prelude.{◌≡◌, ◌+◌, ◌*◌, ◌<◌, ◌≤◌, ℕ, IfSome, IfNone};
 ghost use Rattle.mm_proof.specs.Number.{IsNumber, IsLetter, told};
 
-/// What a byte after the brackets of a compressed proof is (Metamath book, Appendix B).
+/// What a byte after the brackets of a compressed proof is (Metamath book, "Compressed Proofs").
 #[derive(Clone, Copy)]
 pub(crate) enum LetterKind {
     /// `U` to `Y`: a digit 1 to 5 of a number that continues.

@@ -13,11 +13,11 @@ use Rattle.std.proofs.lemmas.List.{get_or-replicate, length-replicate, drop-appe
 use Rattle.std.proofs.lemmas.List.{take-append-le, drop_at, take_all, length-drop, length-append}
 use Rattle.std.proofs.lemmas.Nat.{mul-le}
 use Rattle.std.proofs.Math.Nat.{add-mul}
-use Rattle.mm_cites.specs.Citing.{Citing, Cites, IsRising, IsFileOrder, theorem_at, list_at}
+use Rattle.mm_cites.specs.Citing.{Citing, HasCitation, IsRising, IsFileOrder, theorem_at, list_at}
 use Rattle.mm_spec.specs.Chains.{RestsOn}
 use Rattle.mm_spec.proofs.ChainsLaw.{rests_step}
 use Rattle.mm_spec.proofs.BoolLaw.{or_none}
-use Rattle.mm_rows.specs.BitRows.{IsBitRow, IsReady, AreBitRows, row_at}
+use Rattle.mm_rows.specs.BitRows.{IsBitRow, HasCitedRows, AreBitRows, row_at}
 
 -- a rising list has a number once
 pub once : (xs : List ℕ) (i j : ℕ) → IsRising xs → i < length xs → j < length xs
@@ -32,7 +32,7 @@ once xs i j r p q e = go (cases_order i j)
 -- a place of a list below n whose statement is a, or rests on it
 abbrev pub IsVia : Citing → List ℕ → ℕ → ℕ → Type 0
 IsVia c cited n a =
-    (m : ℕ) × (m < n) × ((get_or cited m 0 ≡ a) ⊎ RestsOn (Cites c) (get_or cited m 0) a)
+    (m : ℕ) × (m < n) × ((get_or cited m 0 ≡ a) ⊎ RestsOn (HasCitation c) (get_or cited m 0) a)
 
 -- the bits of a row that is made from the first n citations
 pub record Made (c : Citing) (columns cited : List ℕ) (n : ℕ) (row : List ℕ) : Type 0 where
@@ -49,7 +49,7 @@ pub made_more : (c : Citing) (columns cited : List ℕ) (n : ℕ) (row mid new :
     → ((j : ℕ) → length columns ≤ j → is_bit mid j ≡ is_bit row j)
     → ((j : ℕ) → j < length columns
     → Decides (is_bit new j)
-    ((is_bit mid j ≡ true) ⊎ RestsOn (Cites c) (get_or cited n 0) (get_or columns j 0)))
+    ((is_bit mid j ≡ true) ⊎ RestsOn (HasCitation c) (get_or cited n 0) (get_or columns j 0)))
     → ((j : ℕ) → length columns ≤ j → is_bit new j ≡ is_bit mid j)
     → Made c columns cited (n + 1) new
 made_more c columns cited n row mid new h same a b d e = record {
@@ -63,7 +63,7 @@ made_more c columns cited n row mid new h same a b d e = record {
     more j v = let lt = v.1 in (v.0, omega arith, v.2)
 
     to : (j : ℕ) → j < length columns
-        → (is_bit mid j ≡ true) ⊎ RestsOn (Cites c) (get_or cited n 0) (get_or columns j 0)
+        → (is_bit mid j ≡ true) ⊎ RestsOn (HasCitation c) (get_or cited n 0) (get_or columns j 0)
         → IsVia c cited (n + 1) (get_or columns j 0)
     to j lt (inr r) = (n, omega arith, inr r)
     to j lt (inl t) =
@@ -71,18 +71,18 @@ made_more c columns cited n row mid new h same a b d e = record {
 
     set_by : (j : ℕ) → j < length columns
         → (get_or cited n 0 ≡ get_or columns j 0)
-        ⊎ RestsOn (Cites c) (get_or cited n 0) (get_or columns j 0) → is_bit new j ≡ true
+        ⊎ RestsOn (HasCitation c) (get_or cited n 0) (get_or columns j 0) → is_bit new j ≡ true
     set_by j lt (inl is) = (d j lt).1 (inl ((a j lt).1 (inr is)))
     set_by j lt (inr r) = (d j lt).1 (inr r)
 
     from : (j : ℕ) → j < length columns → (m : ℕ) → m < n + 1
         → (get_or cited m 0 ≡ get_or columns j 0)
-        ⊎ RestsOn (Cites c) (get_or cited m 0) (get_or columns j 0) → (m ≡ n) ⊎ (m ≡ n → ⊥)
+        ⊎ RestsOn (HasCitation c) (get_or cited m 0) (get_or columns j 0) → (m ≡ n) ⊎ (m ≡ n → ⊥)
         → is_bit new j ≡ true
     from j lt m below v (inl is) =
         set_by j lt
         (subst (λ x. (get_or cited x 0 ≡ get_or columns j 0)
-        ⊎ RestsOn (Cites c) (get_or cited x 0) (get_or columns j 0)) is v)
+        ⊎ RestsOn (HasCitation c) (get_or cited x 0) (get_or columns j 0)) is v)
     from j lt m below v (inr ne) =
         (d j lt).1 (inl ((a j lt).1 (inl ((h.marks j lt).1 (m, omega arith, v)))))
 
@@ -101,18 +101,18 @@ made_all c columns i row o within h = record {
   past = h.past;
 }
   where
-    cites : (m : ℕ) → m < length (list_at c i) → Cites c (theorem_at c i) (get_or (list_at c i) m 0)
+    cites : (m : ℕ) → m < length (list_at c i) → HasCitation c (theorem_at c i) (get_or (list_at c i) m 0)
     cites m lt =
         record { row = i; place = m; within = within; listed = lt; theorem = refl; cited = refl }
 
     to : (a : ℕ) → IsVia c (list_at c i) (length (list_at c i)) a
-        → RestsOn (Cites c) (theorem_at c i) a
+        → RestsOn (HasCitation c) (theorem_at c i) a
     to a v =
-        let step = (rests_step (Cites c) (theorem_at c i) a).1 in
-        ⊎_elim (λ e. step (inl (subst (Cites c (theorem_at c i)) e (cites v.0 v.1))))
+        let step = (rests_step (HasCitation c) (theorem_at c i) a).1 in
+        ⊎_elim (λ e. step (inl (subst (HasCitation c (theorem_at c i)) e (cites v.0 v.1))))
         (λ r. step (inr (get_or (list_at c i) v.0 0, cites v.0 v.1, r))) v.2
 
-    via : (b a : ℕ) → Cites c (theorem_at c i) b → (b ≡ a) ⊎ RestsOn (Cites c) b a
+    via : (b a : ℕ) → HasCitation c (theorem_at c i) b → (b ≡ a) ⊎ RestsOn (HasCitation c) b a
         → IsVia c (list_at c i) (length (list_at c i)) a
     via b a s v =
         let is : s.row ≡ i = once c.theorems s.row i o.rising s.within within s.theorem in
@@ -120,27 +120,27 @@ made_all c columns i row o within h = record {
         subst (λ x. s.place < length (list_at c x)) is s.listed in
         let cited : get_or (list_at c i) s.place 0 ≡ b =
         subst (λ x. get_or (list_at c x) s.place 0 ≡ b) is s.cited in
-        (s.place, listed, subst (λ x. (x ≡ a) ⊎ RestsOn (Cites c) x a) (sym cited) v)
+        (s.place, listed, subst (λ x. (x ≡ a) ⊎ RestsOn (HasCitation c) x a) (sym cited) v)
 
-    from : (a : ℕ) → RestsOn (Cites c) (theorem_at c i) a
+    from : (a : ℕ) → RestsOn (HasCitation c) (theorem_at c i) a
         → IsVia c (list_at c i) (length (list_at c i)) a
     from a r =
         ⊎_elim (λ s. via a a s (inl refl)) (λ h. via h.0 a h.1 (inr h.2))
-        ((rests_step (Cites c) (theorem_at c i) a).0 r)
+        ((rests_step (HasCitation c) (theorem_at c i) a).0 r)
 
 -- what rests on nothing
 pub no_theorem : (c : Citing) (t a : ℕ)
-    → ((i : ℕ) → i < length c.theorems → get_or c.theorems i 0 ≡ t → ⊥) → RestsOn (Cites c) t a → ⊥
+    → ((i : ℕ) → i < length c.theorems → get_or c.theorems i 0 ≡ t → ⊥) → RestsOn (HasCitation c) t a → ⊥
 no_theorem c t a none r =
     ⊎_elim (λ s. none s.row s.within s.theorem) (λ h. none h.1.row h.1.within h.1.theorem)
-    ((rests_step (Cites c) t a).0 r)
+    ((rests_step (HasCitation c) t a).0 r)
 
 -- a finished row is or-ed into another
 pub ored : (c : Citing) (columns : List ℕ) (t : ℕ) (old from new : List ℕ)
     → IsBitRow c columns t from → length new ≡ length old → length old ≡ words_for (length columns)
     → ((k : ℕ) → k < length old → get_or new k 0 ≡ bit_or (get_or old k 0) (get_or from k 0))
     → ((j : ℕ) → j < length columns
-    → Decides (is_bit new j) ((is_bit old j ≡ true) ⊎ RestsOn (Cites c) t (get_or columns j 0)))
+    → Decides (is_bit new j) ((is_bit old j ≡ true) ⊎ RestsOn (HasCitation c) t (get_or columns j 0)))
     × ((j : ℕ) → length columns ≤ j → is_bit new j ≡ is_bit old j)
 ored c columns t old from new h same words each =
     let bits = or_bits new old from same (words ∙ sym h.words) each in (
@@ -166,7 +166,7 @@ made_none c columns cited row words empty = record {
 -- what is ready for one citation
 pub ready_at : (c : Citing) (columns bits : List ℕ) (i k : ℕ) (cited row : List ℕ)
     → cited ≡ list_at c i → k < length cited → length row ≡ words_for (length columns)
-    → IsReady c columns bits i
+    → HasCitedRows c columns bits i
     → (r : ℕ) → r < length c.theorems → theorem_at c r ≡ get_or cited k 0
     → IsBitRow c columns (get_or cited k 0) (row_at bits (length row) r)
 ready_at c columns bits i k cited row is lt words ready r within e =
@@ -188,7 +188,7 @@ no_bits n j = go (cases_lt (j / 64) n)
 
 -- in file order the rows before i are those that it needs
 pub rows_ready : (c : Citing) (columns bits : List ℕ) (i : ℕ) → IsFileOrder c
-    → i < length c.theorems → AreBitRows c columns i bits → IsReady c columns bits i
+    → i < length c.theorems → AreBitRows c columns i bits → HasCitedRows c columns bits i
 rows_ready c columns bits i o within h =
     λ r k lt listed e. let m = o.earlier i k within listed in
     h.each r (below r lt (omega arith) (cases_order r i))

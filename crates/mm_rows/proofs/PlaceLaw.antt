@@ -8,7 +8,7 @@ use Rattle.std.proofs.lemmas.Slice.{drop-append-drop}
 use Rattle.std.proofs.Math.Nat.{add-mul}
 use Rattle.std.proofs.Math.Seq.{drop-append-add}
 use Rattle.mm_cites.specs.Citing.{Citing, IsFileOrder}
-use Rattle.mm_rows.specs.BitRows.{IsBitRow, IsReady, row_at}
+use Rattle.mm_rows.specs.BitRows.{IsBitRow, HasCitedRows, row_at}
 use Rattle.mm_rows.specs.Bits.{words_for}
 use Rattle.mm_rows.proofs.ChainLaw.{row_kept}
 use Rattle.mm_rows.proofs.WaveLaw.{earlier_row}
@@ -23,7 +23,7 @@ below width i r l =
 -- the rows that a theorem needs stand before its own
 pub ready_before : (c : Citing) (columns bits before rest : List ℕ) (i : ℕ) → IsFileOrder c
     → i < length c.theorems → before ++ rest ≡ bits → length before ≡ i * words_for (length columns)
-    → IsReady c columns bits i → IsReady c columns before i
+    → HasCitedRows c columns bits i → HasCitedRows c columns before i
 ready_before c columns bits before rest i o within parts long ready = λ r k lt listed e.
     let width = words_for (length columns) in
     let low = below width i r (earlier_row c i r k o within listed lt e) in

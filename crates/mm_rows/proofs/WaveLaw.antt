@@ -6,10 +6,10 @@ use Rattle.std.proofs.lemmas.Bool.{cases_order, cases_eq, cases_lt}
 use Rattle.std.proofs.lemmas.List.{length-append, length-map, length-take-le, length-drop}
 use Rattle.std.proofs.lemmas.List.{get_or-map, get_or-take, get_or-drop, get_or_append_left}
 use Rattle.std.proofs.lemmas.List.{get_or_push, get_or_default}
-use Rattle.mm_cites.specs.Citing.{Citing, Cites, IsFileOrder, theorem_at, list_at}
-use Rattle.mm_rows.specs.BitRows.{IsBitRow, IsReady, AreBitRows, row_at}
+use Rattle.mm_cites.specs.Citing.{Citing, HasCitation, IsFileOrder, theorem_at, list_at}
+use Rattle.mm_rows.specs.BitRows.{IsBitRow, HasCitedRows, AreBitRows, row_at}
 use Rattle.mm_spec.specs.Laws.Chains.{IsWave, TheoremChain}
-use Rattle.mm_rows.specs.Waves.{IsTheorem, AreWaves, IsByWave, HasRow, AreMade}
+use Rattle.mm_rows.specs.Waves.{IsCitingTheorem, AreWaves, IsByWave, HasRow, AreMade}
 use Rattle.mm_rows.specs.Bits.{words_for}
 use Rattle.std.specs.List.{Contains, AllZip, range_with_len}
 use Rattle.std.specs.List.Sorted.{IsPermutation, IsNonDecreasingBy}
@@ -19,7 +19,7 @@ use Rattle.mm_rows.proofs.ChainLaw.{once}
 -- a wave from the first n citations of theorem i
 pub record WaveTo (c : Citing) (waves : List ℕ) (i : ℕ) (cited : List ℕ) (n wave : ℕ) : Type 0 where
   pub same : cited ≡ list_at c i
-  pub chain : TheoremChain (Cites c) (IsTheorem c) (theorem_at c i) wave
+  pub chain : TheoremChain (HasCitation c) (IsCitingTheorem c) (theorem_at c i) wave
   pub above : (m r : ℕ) → m < n → r < length c.theorems → theorem_at c r ≡ get_or cited m 0
       → get_or waves r 0 + 1 ≤ wave
   pub small : wave ≤ i
@@ -60,7 +60,7 @@ wave_more c waves i cited n wave r o within w lt inside is h = (
     before : r < i
     before = earlier_row c i r n o within listed inside (is ∙ ap (λ xs. get_or xs n 0) h.same)
 
-    cites : Cites c (theorem_at c i) (theorem_at c r)
+    cites : HasCitation c (theorem_at c i) (theorem_at c r)
     cites =
         record {
           row = i;
@@ -71,7 +71,7 @@ wave_more c waves i cited n wave r o within w lt inside is h = (
           cited = sym (is ∙ ap (λ xs. get_or xs n 0) h.same);
         }
 
-    longer : TheoremChain (Cites c) (IsTheorem c) (theorem_at c i) (suc (get_or waves r 0))
+    longer : TheoremChain (HasCitation c) (IsCitingTheorem c) (theorem_at c i) (suc (get_or waves r 0))
     longer = (theorem_at c r, cites, (r, inside, refl), (w.each r before).0)
 
     above : (x : ℕ) → wave ≤ x → get_or waves r 0 + 1 ≤ x → (m s : ℕ) → m < n + 1
@@ -94,7 +94,7 @@ wave_more c waves i cited n wave r o within w lt inside is h = (
         let few = w.small r before in
         record {
           same = h.same;
-          chain = subst (TheoremChain (Cites c) (IsTheorem c) (theorem_at c i)) one longer;
+          chain = subst (TheoremChain (HasCitation c) (IsCitingTheorem c) (theorem_at c i)) one longer;
           above = above (max wave (get_or waves r 0 + 1)) (omega arith) (omega arith);
           small = omega (arith, top, few, b);
         }
@@ -103,7 +103,7 @@ wave_more c waves i cited n wave r o within w lt inside is h = (
         let small = h.small in
         record {
           same = h.same;
-          chain = subst (TheoremChain (Cites c) (IsTheorem c) (theorem_at c i)) top h.chain;
+          chain = subst (TheoremChain (HasCitation c) (IsCitingTheorem c) (theorem_at c i)) top h.chain;
           above = above (max wave (get_or waves r 0 + 1)) (omega arith) (omega arith);
           small = omega (arith, top, small);
         }
@@ -128,11 +128,11 @@ wave_same c waves i cited n wave none h =
 -- all citations
 pub wave_all : (c : Citing) (waves : List ℕ) (i : ℕ) (cited : List ℕ) (wave : ℕ) → IsFileOrder c
     → i < length c.theorems → AreWaves c i waves → WaveTo c waves i cited (length cited) wave
-    → IsWave (Cites c) (IsTheorem c) (theorem_at c i) wave
+    → IsWave (HasCitation c) (IsCitingTheorem c) (theorem_at c i) wave
 wave_all c waves i cited wave o within w h = (h.chain, longest)
   where
-    step : (m b : ℕ) → Cites c (theorem_at c i) b → IsTheorem c b
-        → TheoremChain (Cites c) (IsTheorem c) b m → suc m ≤ wave
+    step : (m b : ℕ) → HasCitation c (theorem_at c i) b → IsCitingTheorem c b
+        → TheoremChain (HasCitation c) (IsCitingTheorem c) b m → suc m ≤ wave
     step m b s t chain =
         let row : s.row ≡ i = once c.theorems s.row i o.rising s.within within s.theorem in
         let listed : s.place < length (list_at c i) =
@@ -143,13 +143,13 @@ wave_all c waves i cited wave o within w h = (h.chain, longest)
         earlier_row c i t.0 s.place o within listed t.1 (t.2 ∙ sym cited_b) in
         let deep =
         (w.each t.0 before).1 m
-        (subst (λ x. TheoremChain (Cites c) (IsTheorem c) x m) (sym t.2) chain) in
+        (subst (λ x. TheoremChain (HasCitation c) (IsCitingTheorem c) x m) (sym t.2) chain) in
         let up =
         h.above s.place t.0 (subst (λ xs. s.place < length xs) (sym h.same) listed) t.1
         (t.2 ∙ sym cited_b ∙ ap (λ xs. get_or xs s.place 0) (sym h.same)) in
         omega (arith, deep, up)
 
-    longest : (m : ℕ) → TheoremChain (Cites c) (IsTheorem c) (theorem_at c i) m → m ≤ wave
+    longest : (m : ℕ) → TheoremChain (HasCitation c) (IsCitingTheorem c) (theorem_at c i) m → m ≤ wave
     longest zero k = omega arith
     longest (suc m) k = step m k.0 k.1 k.2 k.3
 
@@ -162,13 +162,13 @@ waves_none c =
     }
 
 pub waves_more : (c : Citing) (n wave : ℕ) (waves : List ℕ) → AreWaves c n waves
-    → IsWave (Cites c) (IsTheorem c) (theorem_at c n) wave → wave ≤ n
+    → IsWave (HasCitation c) (IsCitingTheorem c) (theorem_at c n) wave → wave ≤ n
     → AreWaves c (n + 1) (waves ++ wave ∷ [])
 waves_more c n wave waves h w small = record {
   size = let l = length-append waves (wave ∷ []) in let s = h.size in omega (arith, l, s);
   each =
-      λ r lt. at (IsWave (Cites c) (IsTheorem c) (theorem_at c r)) r lt (λ l. h.each r l)
-      (λ e. subst (λ k. IsWave (Cites c) (IsTheorem c) (theorem_at c k) wave) (sym e) w)
+      λ r lt. at (IsWave (HasCitation c) (IsCitingTheorem c) (theorem_at c r)) r lt (λ l. h.each r l)
+      (λ e. subst (λ k. IsWave (HasCitation c) (IsCitingTheorem c) (theorem_at c k) wave) (sym e) w)
       (cases_eq r n);
   small = λ r lt. at (λ x. x ≤ r) r lt (λ l. h.small r l) (λ e. omega arith) (cases_eq r n);
 }
@@ -186,7 +186,7 @@ pub lower : (c : Citing) (waves : List ℕ) (i r k : ℕ) → AreWaves c (length
     → i < length c.theorems → r < length c.theorems → k < length (list_at c i)
     → theorem_at c r ≡ get_or (list_at c i) k 0 → get_or waves r 0 < get_or waves i 0
 lower c waves i r k w within inside listed e =
-    let cites : Cites c (theorem_at c i) (theorem_at c r) =
+    let cites : HasCitation c (theorem_at c i) (theorem_at c r) =
     record {
       row = i;
       place = k;
@@ -294,7 +294,7 @@ made_more c columns rows k first old new row i is bits same here others h = reco
 
 -- a row that could be made can still be made
 pub ready_still : (c : Citing) (columns rows : List ℕ) (k : ℕ) (old new : List ℕ)
-    → AreMade c columns rows k old new → (i : ℕ) → IsReady c columns old i → IsReady c columns new i
+    → AreMade c columns rows k old new → (i : ℕ) → HasCitedRows c columns old i → HasCitedRows c columns new i
 ready_still c columns rows k old new h i ready = λ r n l m e. h.kept r (ready r n l m e)
 
 -- ---- wave by wave
@@ -317,7 +317,7 @@ pub wave_ready : (c : Citing) (columns waves rows : List ℕ) (from to : ℕ) (b
     → ((p : ℕ) → from ≤ p → p < to
     → get_or waves (get_or rows p 0) 0 ≡ get_or waves (get_or rows from 0) 0)
     → (p : ℕ) → from ≤ p → p < to
-    → (get_or rows p 0 < length c.theorems) × IsReady c columns bits (get_or rows p 0)
+    → (get_or rows p 0 < length c.theorems) × HasCitedRows c columns bits (get_or rows p 0)
 wave_ready c columns waves rows from to bits w o h inside within same p l m =
     (known, λ r k lt listed e. ready r (lower c waves (get_or rows p 0) r k w known lt listed e) lt)
   where

@@ -3,7 +3,7 @@ use Rattle.std.specs.Prelude.{◌≡◌, ℕ, ◌+◌, ◌*◌, slice_range, ◌
 use Rattle.std.specs.Prelude.{length, slice_index, Decides}
 use Rattle.std.specs.List.{range_with_len}
 use Rattle.mm_spec.specs.Chains.{RestsOn}
-use Rattle.mm_cites.specs.Citing.{Citing, Cites, theorem_at, list_at}
+use Rattle.mm_cites.specs.Citing.{Citing, HasCitation, theorem_at, list_at}
 use Rattle.mm_rows.specs.Bits.{is_bit, words_for, spot}
 use Rattle.mm_rows.specs.Marks.{Marks}
 
@@ -11,7 +11,7 @@ use Rattle.mm_rows.specs.Marks.{Marks}
 pub record IsBitRow (c : Citing) (columns : List ℕ) (t : ℕ) (row : List ℕ) : Type 0 where
   pub words : length row ≡ words_for (length columns)
   pub marks : (j : ℕ) → j < length columns
-      → Decides (is_bit row j) (RestsOn (Cites c) t (slice_index columns j))
+      → Decides (is_bit row j) (RestsOn (HasCitation c) t (slice_index columns j))
   pub past : (j : ℕ) → length columns ≤ j → is_bit row j ≡ false
 
 -- the words of row r, if a row has `width` words
@@ -19,8 +19,8 @@ abbrev pub row_at : List ℕ → ℕ → ℕ → List ℕ
 row_at bits width r = slice_range bits (r * width) (r * width + width)
 
 -- among the words of all rows, those of the theorems that theorem i cites are known
-abbrev pub IsReady : Citing → List ℕ → List ℕ → ℕ → Type 0
-IsReady c columns bits i =
+abbrev pub HasCitedRows : Citing → List ℕ → List ℕ → ℕ → Type 0
+HasCitedRows c columns bits i =
     (r k : ℕ) → r < length c.theorems → k < length (list_at c i)
     → theorem_at c r ≡ slice_index (list_at c i) k
     → IsBitRow c columns (theorem_at c r) (row_at bits (words_for (length columns)) r)

@@ -3,7 +3,7 @@ use Rattle.std.specs.Prelude.{Option, Some, None, ◌≡◌, ℕ, ◌+◌, ◌<�
 use Rattle.std.specs.Prelude.{map, slice_index, slice_index_or, Decides}
 use Rattle.std.specs.List.{range_with_len}
 use Rattle.mm_spec.specs.Chains.{RestsOn}
-use Rattle.mm_cites.specs.Citing.{Citing, Cites, theorem_at}
+use Rattle.mm_cites.specs.Citing.{Citing, HasCitation, theorem_at}
 
 -- the numbers of rows and columns, for each row whether it is marked in each column, and whether
 -- the marks are kept by column too, for the usage
@@ -37,4 +37,4 @@ pub record IsMatrix (c : Citing) (columns : List ℕ) (m : Marks) : Type 0 where
   pub rows : m.rows ≡ length c.theorems
   pub columns_are : m.columns ≡ length columns
   pub marked : (i j : ℕ) → i < length c.theorems → j < length columns
-      → Decides (mark m i j) (RestsOn (Cites c) (theorem_at c i) (slice_index columns j))
+      → Decides (mark m i j) (RestsOn (HasCitation c) (theorem_at c i) (slice_index columns j))

@@ -5,11 +5,11 @@ ghost use Rattle.std.specs.Prelude.{◌≡◌, ◌<◌, ◌≤◌, ◌+◌, ◌*
 ghost use Rattle.std.specs.Prelude.{slice_index_or, IfOk, OnOk, All, true, false};
 ghost use Rattle.std.specs.List.{AllZip, range_with_len};
 ghost use Rattle.mm_rows.specs.Bits.{words_for};
-ghost use Rattle.mm_cites.specs.Citing.{Cites, IsRising, theorem_at};
+ghost use Rattle.mm_cites.specs.Citing.{HasCitation, IsRising, theorem_at};
 ghost use Rattle.mm_spec.specs.Laws.Chains.{IsWave};
-ghost use Rattle.mm_rows.specs.BitRows.{IsBitRow, IsReady, AreBitRows, row_at};
+ghost use Rattle.mm_rows.specs.BitRows.{IsBitRow, HasCitedRows, AreBitRows, row_at};
 ghost use Rattle.mm_rows.specs.Marks.{IsMatrix};
-ghost use Rattle.mm_rows.specs.Waves.{IsTheorem, AreWaves, IsByWave, AreMade};
+ghost use Rattle.mm_rows.specs.Waves.{IsCitingTheorem, AreWaves, IsByWave, AreMade};
 
 use crate::columns::Columns;
 use crate::places::Places;
@@ -30,7 +30,7 @@ fn next_wave<A: Allocator>(
     requires theorems { theorems.now ≡ citations.now.theorems }
     requires within { i < length citations.now.theorems }
     requires waves { AreWaves citations.now i waves.now }
-    ensures wave { IsWave (Cites citations.now) (IsTheorem citations.now)
+    ensures wave { IsWave (HasCitation citations.now) (IsCitingTheorem citations.now)
         (theorem_at citations.now i) result }
     ensures small { result ≤ i }
 {
@@ -134,7 +134,7 @@ fn bit_rows<R: Threads + Sync, A: Allocator + Copy + Send + Sync>(
     requires theorems { theorems.now ≡ citations.now.theorems }
     requires ready { All
         (λ i. (i < length citations.now.theorems)
-        × IsReady citations.now columns.now bits.now i) rows.now }
+        × HasCitedRows citations.now columns.now bits.now i) rows.now }
     ensures { IfOk result
         (λ v. AllZip
         (λ k r. IfOk r
@@ -150,7 +150,7 @@ fn bit_rows<R: Threads + Sync, A: Allocator + Copy + Send + Sync>(
                 requires theorems { theorems.now ≡ citations.now.theorems }
                 requires ready { All
                     (λ i. (i < length citations.now.theorems)
-                    × IsReady citations.now columns.now bits.now i) rows.now }
+                    × HasCitedRows citations.now columns.now bits.now i) rows.now }
                 ensures { IfOk result
                     (λ w. IsBitRow citations.entry.now columns.entry.now
                     (theorem_at citations.entry.now (slice_index rows.entry.now k)) w.items) }
@@ -175,7 +175,7 @@ fn fill_side_by_side<R: Threads + Sync, A: Allocator + Copy + Send + Sync>(
         ≡ length citations.now.theorems * words_for (length columns.now) }
     requires ready { All
         (λ i. (i < length citations.now.theorems)
-        × IsReady citations.now columns.now bits.old i) rows.now }
+        × HasCitedRows citations.now columns.now bits.old i) rows.now }
     ensures { OnOk result
         (AreMade citations.now columns.now rows.now (length rows.now) bits.old bits.new) }
 {
@@ -203,7 +203,7 @@ fn fill_in_turn<A: Allocator>(
         ≡ length citations.now.theorems * words_for (length columns.now) }
     requires ready { All
         (λ i. (i < length citations.now.theorems)
-        × IsReady citations.now columns.now bits.old i) rows.now }
+        × HasCitedRows citations.now columns.now bits.old i) rows.now }
     ensures { AreMade citations.now columns.now rows.now (length rows.now) bits.old bits.new }
 {
     for k in 0..rows.len() {
@@ -229,7 +229,7 @@ fn fill_wave<R: Threads + Sync, A: Allocator + Copy + Send + Sync>(
         ≡ length citations.now.theorems * words_for (length columns.now) }
     requires ready { All
         (λ i. (i < length citations.now.theorems)
-        × IsReady citations.now columns.now bits.old i) rows.now }
+        × HasCitedRows citations.now columns.now bits.old i) rows.now }
     ensures { OnOk result
         (AreMade citations.now columns.now rows.now (length rows.now) bits.old bits.new) }
 {

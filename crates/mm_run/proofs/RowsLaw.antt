@@ -12,7 +12,7 @@ use Rattle.mm_spec.specs.declared.Choice.{Choice}
 use Rattle.mm_spec.specs.declared.Choice.TheVariants.{All, Matrix, Counts, Usage, Citations}
 use Rattle.mm_spec.specs.Output.{IsRowOf, theorems, columns, label_at, IsReportOf}
 use Rattle.mm_spec.proofs.ChainsLaw.{chains_alike}
-use Rattle.mm_work.specs.Citing.{Citing, Cites, theorem_at}
+use Rattle.mm_work.specs.Citing.{Citing, HasCitation, theorem_at}
 use Rattle.mm_rows.specs.Marks.{Marks, mark, IsMatrix}
 use Rattle.mm_report.specs.Rows.{row_of, rows_of, marks_of, report_of}
 use Rattle.mm_work.specs.Judged.{AllCited, Shows}
@@ -45,7 +45,7 @@ module _ (db : List Statement) (request : Request) (c : Citing) (m : Marks)
       let inside : i < length c.theorems = subst (λ (ts : List ℕ). i < length ts) (sym same) l in
       let d =
       decides (mark m i j) (h.marked i j inside k)
-      (chains_alike (Cites c) (proof.Cites db request.essential) shows.same (theorem_at c i)
+      (chains_alike (HasCitation c) (proof.Cites db request.essential) shows.same (theorem_at c i)
       (get_or (columns db request.only) j 0)) in
       subst (λ b. Decides b
       (proof.RestsOn db request.essential (get_or (theorems db) i 0)

@@ -17,7 +17,7 @@ use Rattle.mm_spec.specs.declared.Code.TheVariants.{ConstantInBlock, EmptyDeclar
 use Rattle.std.specs.Prelude.{nat_lt}
 use Rattle.std.proofs.Math.Bool.{or-false, or-true}
 use Rattle.mm_spec.proofs.FaultlessLaw.{append_none, least_none}
-use Rattle.mm_outline.specs.Blocks.{Lists, IsBlocks, never, pushed}
+use Rattle.mm_outline.specs.Blocks.{BlockLists, IsBlocks, never, pushed}
 use Rattle.mm_scope.specs.Judge.{Entry, entry_of, declared_entry, typed_entry}
 use Rattle.mm_scope.specs.WordEntry.{IsEntryOf, is_other, is_constant_entry, is_variable_entry}
 use Rattle.mm_scope.specs.WordEntry.{entry_after, label_after}
@@ -171,7 +171,7 @@ module _ (db : List Statement) (few : length db < never) (w : Bytes) where
           one l (bytes_eq w l.word) refl
           ∙ ap (λ b. is_some (if b then Some m else o)) (bytes_eq_sym w l.word)
 
-module _ (text : List ℕ) (ws : List place.Word) (db : List Statement) (b : Lists)
+module _ (text : List ℕ) (ws : List place.Word) (db : List Statement) (b : BlockLists)
     (x : IsBlocks db b) (few : length db < never) where
   -- the blocks after a statement
   blocks_after : (k : Kind) (p m e : ℕ)
@@ -198,12 +198,12 @@ module _ (text : List ℕ) (ws : List place.Word) (db : List Statement) (b : Lis
 
 -- what is kept after one lawful statement more
 pub keeps_after : (text : List ℕ) (ws : List place.Word) (db : List Statement)
-    → (look : List ℕ → Option Symbol) (labels : List ℕ → Option ℕ) (b : Lists)
+    → (look : List ℕ → Option Symbol) (labels : List ℕ → Option ℕ) (b : BlockLists)
     → Keeps db look labels b → length db < never → (k : Kind) (p m e : ℕ)
     → least (scope_faults (names_before db (length db)) (depth db (length db))
     (made text ws k p m e))
     ≡ None
-    → (is_closing (made text ws k p m e) ≡ true → 0 < depth db (length db)) → (c : Lists)
+    → (is_closing (made text ws k p m e) ≡ true → 0 < depth db (length db)) → (c : BlockLists)
     → c ≡ pushed k b → (number : ℕ) → number ≡ length b.of
     → (new : List ℕ → Option Symbol)
     → ((w : List ℕ)

@@ -11,7 +11,7 @@ use Rattle.mm_spec.specs.Text.{Bytes, is_in}
 use Rattle.mm_spec.specs.Statement.{Statement}
 use Rattle.mm_spec.specs.Scope.{names_before, active_statements, is_active, variables_of}
 use Rattle.mm_spec.specs.Scope.{constants_of, label_words, typings_of}
-use Rattle.mm_outline.specs.Blocks.{Lists, IsBlocks, never, end_in, is_never, is_open_in}
+use Rattle.mm_outline.specs.Blocks.{BlockLists, IsBlocks, never, end_in, is_never, is_open_in}
 use Rattle.mm_scope.specs.Judge as judge
 use Rattle.mm_scope.specs.Judge.{Knows, is_constant}
 use Rattle.mm_scope.specs.Judge.{is_variable_symbol, has_other_typecode, is_typed_here, entry_of}
@@ -46,10 +46,10 @@ none_active db f w e =
     (λ j l. ap (λ b. is_active db j (length db) && b) (has_none db f w e j)
     ∙ and-false (is_active db j (length db)))
 
-never_open : (b : Lists) → length b.of ≤ never → is_open_in b never ≡ false
+never_open : (b : BlockLists) → length b.of ≤ never → is_open_in b never ≡ false
 never_open b h = ap (λ o. is_never (end_in b.ends o)) (slice_get_past b.of never h)
 
-module _ (db : List Statement) (b : Lists) (x : IsBlocks db b) (few : length db < never)
+module _ (db : List Statement) (b : BlockLists) (x : IsBlocks db b) (few : length db < never)
     (w : Bytes) where
   variable_active : (o : Option Symbol) → IsEntryOf db w (entry_of o)
       → is_in w (flat_map variables_of (active_statements db (length db)))
@@ -100,7 +100,7 @@ other_is c (Some s) = refl
 
 -- the names before the next statement are those that are known
 pub knows_is : (db : List Statement) (look : List ℕ → Option Symbol) (labels : List ℕ → Option ℕ)
-    → (b : Lists)
+    → (b : BlockLists)
     → Keeps db look labels b → length db < never
     → Knows (names_before db (length db)) look labels (is_open_in b)
 knows_is db look labels b k few =

@@ -9,11 +9,11 @@ use Rattle.mm_spec.specs.Text.{Bytes, is_in}
 use Rattle.mm_spec.specs.Statement.{Statement, constants, variables, disjoint, floating, essential}
 use Rattle.mm_spec.specs.Statement.{axiomatic, provable, opening, closing}
 use Rattle.mm_spec.specs.Scope.{is_active, is_active_some, is_active_kind, variables_of, stays}
-use Rattle.mm_outline.specs.Blocks.{Lists, IsBlocks, end_of, never, end_in, is_never, is_open_in}
+use Rattle.mm_outline.specs.Blocks.{BlockLists, IsBlocks, end_of, never, end_in, is_never, is_open_in}
 use Rattle.mm_scope.specs.WordEntry.{Latest}
 use Rattle.mm_outline.specs.Typed.{typed_words}
 
-pub open_is : (db : List Statement) (b : Lists) → IsBlocks db b → length db < never → (j : ℕ)
+pub open_is : (db : List Statement) (b : BlockLists) → IsBlocks db b → length db < never → (j : ℕ)
     → j < length db → stays db j (length db) ≡ is_open_in b j
 open_is db b x few j h =
     let of : slice_get b.of j ≡ Some (get_or b.of j 0) =
@@ -58,7 +58,7 @@ types_local w (opening k) b h = absurd (true≢false (sym h))
 types_local w (closing k) b h = absurd (true≢false (sym h))
 
 -- the last statement that has a word is active exactly where its block is open
-pub latest_open : (db : List Statement) (b : Lists) → IsBlocks db b → length db < never
+pub latest_open : (db : List Statement) (b : BlockLists) → IsBlocks db b → length db < never
     → (f : Statement → List Bytes) (w : List ℕ) → IsLocal f w → (last : ℕ) → Latest db f w last
     → is_active db last (length db) ≡ is_open_in b last
 latest_open db b x few f w local last l = by (slice_get db last) refl

@@ -9,7 +9,7 @@ use Rattle.mm_spec.specs.Statement.{disjoint, floating, essential, axiomatic, pr
 use Rattle.mm_spec.specs.Statement.{closing}
 use Rattle.mm_spec.specs.Scope.{depth, names_before}
 use Rattle.mm_spec.specs.Lawful.{scope_fault, scope_faults, least}
-use Rattle.mm_spec.specs.Output.{IsRead, LexedText, Stops}
+use Rattle.mm_spec.specs.Output.{IsRead, LexedText, StopsReading}
 use Rattle.mm_spec.specs.Laws.Table.{start, statements_from, statements_of, stop_from, rest_from}
 use Rattle.mm_spec.specs.Laws.Table.{fault_at_end}
 use Rattle.mm_spec.specs.declared.Word.{Word}
@@ -18,7 +18,7 @@ use Rattle.mm_spec.proofs.LocalLaw.{scope_fault_front, scope_fault_next}
 use Rattle.mm_spec.proofs.RowLaw.{is_longest}
 use Rattle.mm_spec.proofs.StopsLaw.{text_fault, text_fault_is, no_text_fault, first_of}
 use Rattle.mm_outline.specs.Parts.{as_tokens, reading, made, depth_after, less_one}
-use Rattle.mm_outline.specs.Blocks.{Lists, IsBlocks, never}
+use Rattle.mm_outline.specs.Blocks.{BlockLists, IsBlocks, never}
 use Rattle.mm_outline.proofs.BlocksLaw.{depth_end, depth_plain, depth_opening, depth_closing}
 use Rattle.mm_outline.specs.declared.parts.Kind.{Kind}
 use Rattle.mm_outline.specs.declared.parts.Kind.TheVariants as kind
@@ -71,7 +71,7 @@ module _ (text : List ℕ) (ws : List Word) (len : ℕ) (lexical : Option Fault)
 
   -- the text stops
   stops_with : (f : Option Fault) → text_fault len (lexed text ws lexical) ≡ f
-      → Stops len (lexed text ws lexical) (statements_of (as_tokens text ws)) db [] f
+      → StopsReading len (lexed text ws lexical) (statements_of (as_tokens text ws)) db [] f
   stops_with None e = no_text_fault len (lexed text ws lexical) e
   stops_with (Some f) e = text_fault_is len (lexed text ws lexical) f e
 
@@ -171,7 +171,7 @@ after_le kind.Close zero at end h l = omega arith
 after_le kind.Close (suc d) at end h l = omega arith
 after_le _ d at end h l = omega arith
 
-depth_is : (text : List ℕ) (ws : List Word) (db : List Statement) (b : Lists) → IsBlocks db b
+depth_is : (text : List ℕ) (ws : List Word) (db : List Statement) (b : BlockLists) → IsBlocks db b
     → length db < never → (k : Kind) (w m e : ℕ)
     → depth_after k (depth db (length db))
     ≡ depth (db ++ made text ws k w m e ∷ []) (length db + 1)
@@ -196,7 +196,7 @@ depth_is text ws db b x few kind.Theorem w m e =
     sym (depth_plain db (made text ws kind.Theorem w m e) b x few refl refl)
 
 pub reading_more : (text : List ℕ) (ws : List Word) (db : List Statement) (deep at : ℕ)
-    → IsReading text ws db deep at → length ws < 2 ^ 31 → (b : Lists) → IsBlocks db b
+    → IsReading text ws db deep at → length ws < 2 ^ 31 → (b : BlockLists) → IsBlocks db b
     → (k : Kind) (w m e : ℕ) → at ≤ e → e < length ws
     → Leads (start deep) (tokens_from text ws at) (made text ws k w m e ∷ [])
     (start (depth_after k deep)) (tokens_from text ws (e + 1))

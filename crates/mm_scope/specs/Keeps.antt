@@ -5,7 +5,7 @@ use Rattle.mm_spec.specs.Statement.{is_closing, Statement}
 use Rattle.mm_spec.specs.Scope.{depth, label_words}
 use Rattle.mm_spec.specs.Lawful.{scope_fault}
 use Rattle.mm_spec.specs.Frame.{symbol_names, formula_of}
-use Rattle.mm_outline.specs.Blocks.{Lists, IsBlocks}
+use Rattle.mm_outline.specs.Blocks.{BlockLists, IsBlocks}
 use Rattle.mm_database.specs.Names.{find, names_of}
 use Rattle.mm_scope.specs.Formulas.{AreFormulas}
 use Rattle.mm_scope.specs.declared.reading.Outlined.{Outlined}
@@ -18,7 +18,7 @@ use Rattle.mm_database.specs.declared.names.Symbol.{Symbol}
 
 -- the code knows what is before the next statement
 pub record Keeps (db : List Statement) (look : List ℕ → Option Symbol) (labels : List ℕ → Option ℕ)
-    (b : Lists) : Type 0 where
+    (b : BlockLists) : Type 0 where
   pub blocks : IsBlocks db b
   pub symbols : (w : List ℕ) → IsEntryOf db w (entry_of (look w))
   pub labels_known : (w : List ℕ) → is_in w (flat_map label_words db) ≡ is_some (labels w)
@@ -28,7 +28,7 @@ pub record Keeps (db : List Statement) (look : List ℕ → Option Symbol) (labe
 pub record Kept : Type 0 where
   pub look : List ℕ → Option Symbol
   pub labels : List ℕ → Option ℕ
-  pub blocks : Lists
+  pub blocks : BlockLists
   pub names : List (List ℕ)
   pub numbers : List ℕ
   pub places : List ℕ

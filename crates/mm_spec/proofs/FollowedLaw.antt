@@ -12,7 +12,7 @@ use Rattle.mm_spec.specs.Laws.Table.{axiom_of, theorem_of, equals, dot, open_blo
 use Rattle.mm_spec.specs.Laws.Table.{plain, keyword, class}
 use Rattle.mm_spec.specs.Statement.{Statement, constants, variables, disjoint, floating, essential}
 use Rattle.mm_spec.specs.Statement.{axiomatic, provable, opening, closing, spelled, is_plain}
-use Rattle.mm_spec.specs.Statement.{is_whole, is_opening, is_closing, Begins}
+use Rattle.mm_spec.specs.Statement.{is_whole, is_opening, is_closing, IsRowPrefix}
 
 -- where the reading stands, with so many blocks open
 pub data State : Type 0 where
@@ -207,7 +207,7 @@ no_way_back [] q e = cc
 no_way_back (t ∷ ts) q e = cc
 
 -- tokens with which some row begins are followed
-pub begins_followed : (ts : List Token) → Begins ts
+pub begins_followed : (ts : List Token) → IsRowPrefix ts
     → (q : State) × (follow (Some (at_start 0)) ts ≡ Some q)
 begins_followed ts b = go (follow (Some (at_start 0)) ts) refl
   where

@@ -16,7 +16,7 @@ use Rattle.mm_spec.specs.Laws.Table.{axiom_of, theorem_of, equals, dot, open_blo
 use Rattle.mm_spec.specs.Laws.Table.{plain, other, Entry, table, lookup, keyword, class}
 use Rattle.mm_spec.specs.Statement.{Statement, constants, variables, disjoint, floating, essential}
 use Rattle.mm_spec.specs.Statement.{axiomatic, provable, opening, closing, spelled, is_plain}
-use Rattle.mm_spec.specs.Statement.{is_whole, is_opening, is_closing, IsRow, Begins}
+use Rattle.mm_spec.specs.Statement.{is_whole, is_opening, is_closing, IsRow, IsRowPrefix}
 use Rattle.mm_spec.proofs.FollowedLaw.{State, at_label, at_start, begins_followed, depth_following}
 use Rattle.mm_spec.proofs.FollowedLaw.{counted}
 use Rattle.mm_spec.proofs.FollowedLaw.{follow, in_formula, in_proof, in_symbols, label_at_start}
@@ -381,7 +381,7 @@ follow_reads (u ∷ us) ts q x =
 -- what was read can be ended
 ended : (d : ℕ) (ts : List Token) (row : List Statement) (part : List Token) (s : Statement)
     → Balanced d row → ts ≡ flat_map spelled row ++ part → is_whole s ≡ true
-    → (is_closing s ≡ true → 0 < d) → (rest : List Token) → spelled s ≡ part ++ rest → Begins ts
+    → (is_closing s ≡ true → 0 < d) → (rest : List Token) → spelled s ≡ part ++ rest → IsRowPrefix ts
 ended d ts row part s b is w h rest sp = (
   row ++ s ∷ [],
   (one_more d row s b w h).is_row,
@@ -392,14 +392,14 @@ ended d ts row part s b is w h rest sp = (
 )
 
 words_ended : (d : ℕ) (ts : List Token) (row : List Statement) (part : List Token) → Words part
-    → Balanced d row → ts ≡ flat_map spelled row ++ part → Begins ts
+    → Balanced d row → ts ≡ flat_map spelled row ++ part → IsRowPrefix ts
 words_ended d ts row part p b is =
     ended d ts row part (p.make p.words 0) b is (p.whole p.words 0 p.are_plain)
     (λ e. absurd (true≢false (sym e ∙ p.flat p.words 0))) (token 0 (codes "$.") ∷ [])
     (p.spells p.words 0 ∙ sym (append_assoc p.front p.words (token 0 (codes "$.") ∷ []))
     ∙ ap (λ y. y ++ token 0 (codes "$.") ∷ []) (sym p.is))
 
-pub reads_begins : (q : State) (ts : List Token) → Reads q ts → Begins ts
+pub reads_begins : (q : State) (ts : List Token) → Reads q ts → IsRowPrefix ts
 reads_begins (at_start d) ts x = (
   x.row,
   x.balanced.is_row,
@@ -425,7 +425,7 @@ reads_none = record { row = []; balanced = none_yet; part = []; is_part = refl; 
 
 -- some row begins with the tokens exactly where the table goes through them
 pub begins_exact : (ts : List Token)
-    → Begins ts ↔ ((q : State) × (follow (Some (at_start 0)) ts ≡ Some q))
+    → IsRowPrefix ts ↔ ((q : State) × (follow (Some (at_start 0)) ts ≡ Some q))
 begins_exact ts = (
   begins_followed ts,
   λ h. reads_begins h.0 ts

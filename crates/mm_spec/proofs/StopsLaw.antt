@@ -6,10 +6,10 @@ use Rattle.std.proofs.lemmas.List.{append_cancel_left}
 use Rattle.std.proofs.lemmas.Option.{same_Some}
 use Rattle.mm_spec.specs.Text.{Token, Fault, fault, is_label}
 use Rattle.mm_spec.specs.Statement.{Statement, spelled, is_opening, is_closing, IsRow, IsLongestRow}
-use Rattle.mm_spec.specs.Statement.{ShapeFault, FileEndFault, Begins, IsBetween, shape_code}
+use Rattle.mm_spec.specs.Statement.{ShapeFault, FileEndFault, IsRowPrefix, IsBetween, shape_code}
 use Rattle.mm_spec.specs.Output.{LexedText, TextFault, WordOrEnd}
 use Rattle.mm_spec.specs.Laws.Table.{Class, type_of, equals, close_block, plain, class, Progress}
-use Rattle.mm_spec.specs.Laws.Table.{start, labelled, words, formula, Turn, stop, go, done, turn}
+use Rattle.mm_spec.specs.Laws.Table.{start, labelled, words, formula, Transition, stop, go, done, transition}
 use Rattle.mm_spec.specs.Laws.Table.{label_turn, statements_of, stop_from, stop_after, rest_from}
 use Rattle.mm_spec.specs.Laws.Table.{rest_after, begins, fault_at_end}
 use Rattle.mm_spec.proofs.FollowedLaw.{State, at_start, at_label, in_symbols, in_formula, in_proof}
@@ -29,19 +29,19 @@ state_of p (labelled d l) = at_label d
 state_of p (words d make ws) = words_state p d
 state_of p (formula d l k ws) = in_formula d
 
--- whether the words after the turn are those of a proof
+-- whether the words after the transition are those of a proof
 abbrev proves : Bool → Progress → Class → Bool
 proves p (formula d l k ws) equals = true
 proves p (words d make ws) k = p
 proves p _ k = false
 
-abbrev state_after : Bool → Turn → Option State
+abbrev state_after : Bool → Transition → Option State
 state_after p stop = None
 state_after p (go r) = Some (state_of p r)
 state_after p (done e s) = Some (at_start e)
 
 same_turn : (p : Bool) (r : Progress) (k : Class) (t : Token)
-    → next (state_of p r) k t.word ≡ state_after (proves p r k) (turn r k t)
+    → next (state_of p r) k t.word ≡ state_after (proves p r k) (transition r k t)
 same_turn p (start zero) close_block t = refl
 same_turn p (start (suc d)) close_block t = refl
 same_turn p (start d) plain t = by (is_label t.word)
@@ -61,7 +61,7 @@ same_turn p (formula d l k ws) _ t = refl
 
 follow_one : (p : Bool) (r : Progress) (t : Token) (ts : List Token)
     → follow (Some (state_of p r)) (t ∷ ts)
-    ≡ follow (state_after (proves p r (class t.word)) (turn r (class t.word) t)) ts
+    ≡ follow (state_after (proves p r (class t.word)) (transition r (class t.word) t)) ts
 follow_one p r t ts = ap (λ o. follow o ts) (same_turn p r (class t.word) t)
 
 -- all tokens are expected
@@ -70,10 +70,10 @@ followed : (ts : List Token) (p : Bool) (r : Progress) → stop_from r ts ≡ No
 followed [] p r e = (p, refl)
 followed (t ∷ ts) p r e =
     let x =
-    by (proves p r (class t.word)) (turn r (class t.word) t) e (λ q b h. followed ts b q h) in
+    by (proves p r (class t.word)) (transition r (class t.word) t) e (λ q b h. followed ts b q h) in
     (x.0, follow_one p r t ts ∙ x.1)
   where
-    by : (b : Bool) (o : Turn)
+    by : (b : Bool) (o : Transition)
         → stop_after o (Some (fault t.at (shape_code (begins r) t.word))) (λ q. stop_from q ts)
         ≡ None
         → ((q : Progress) (b : Bool) → stop_from q ts ≡ None
@@ -92,17 +92,17 @@ record Stop (r : Progress) (ts : List Token) (f : Fault) : Type 0 where
   after : List Token
   splits : ts ≡ before ++ first ∷ after
   goes : stop_from r before ≡ None
-  stops : turn (rest_from r before) (class first.word) first ≡ stop
+  stops : transition (rest_from r before) (class first.word) first ≡ stop
   is : f ≡ fault first.at (shape_code (begins (rest_from r before)) first.word)
 
 stopped : (ts : List Token) (r : Progress) (f : Fault) → stop_from r ts ≡ Some f → Stop r ts f
 stopped [] r f e = absurd (cc)
-stopped (t ∷ ts) r f e = by (turn r (class t.word) t) refl e (λ q h. stopped ts q f h)
+stopped (t ∷ ts) r f e = by (transition r (class t.word) t) refl e (λ q h. stopped ts q f h)
   where
     here : Option Fault
     here = Some (fault t.at (shape_code (begins r) t.word))
 
-    by : (o : Turn) → turn r (class t.word) t ≡ o
+    by : (o : Transition) → transition r (class t.word) t ≡ o
         → stop_after o (Some (fault t.at (shape_code (begins r) t.word))) (λ q. stop_from q ts)
         ≡ Some f → ((q : Progress) → stop_from q ts ≡ Some f → Stop q ts f) → Stop r (t ∷ ts) f
     by stop o e on =
@@ -125,7 +125,7 @@ stopped (t ∷ ts) r f e = by (turn r (class t.word) t) refl e (λ q h. stopped 
           (λ q. stop_from q x.before)) o
           ∙ x.goes;
       stops =
-          ap (λ a. turn (rest_after a (λ q. rest_from q x.before) r) (class x.first.word) x.first) o
+          ap (λ a. transition (rest_after a (λ q. rest_from q x.before) r) (class x.first.word) x.first) o
           ∙ x.stops;
       is =
           x.is ∙ ap
@@ -142,7 +142,7 @@ stopped (t ∷ ts) r f e = by (turn r (class t.word) t) refl e (λ q h. stopped 
           (λ q. stop_from q x.before)) o
           ∙ x.goes;
       stops =
-          ap (λ a. turn (rest_after a (λ q. rest_from q x.before) r) (class x.first.word) x.first) o
+          ap (λ a. transition (rest_after a (λ q. rest_from q x.before) r) (class x.first.word) x.first) o
           ∙ x.stops;
       is =
           x.is ∙ ap
@@ -198,7 +198,7 @@ shape_fault ts f e =
   where
     ended : (before : List Token) (first : Token) (r : Progress) (b : Bool)
         → follow (Some (at_start 0)) before ≡ Some (state_of b r)
-        → turn r (class first.word) first ≡ stop → ¬ Begins (before ++ first ∷ [])
+        → transition r (class first.word) first ≡ stop → ¬ IsRowPrefix (before ++ first ∷ [])
     ended before first r b y s m =
         let q = begins_followed (before ++ first ∷ []) m in
         let n : None ≡ Some q.0 =
@@ -229,10 +229,10 @@ no_shape_fault ts e x =
     (s.splits ∙ sym (append_assoc s.before (s.first ∷ []) s.after))))
   where
     front : (us vs : List Token) (q : State) → Some q ≡ follow (Some (at_start 0)) (us ++ vs)
-        → Begins us
+        → IsRowPrefix us
     front us vs q h = by (follow (Some (at_start 0)) us) refl
       where
-        by : (o : Option State) → follow (Some (at_start 0)) us ≡ o → Begins us
+        by : (o : Option State) → follow (Some (at_start 0)) us ≡ o → IsRowPrefix us
         by None n =
             absurd (no_way_back vs q
             (ap (λ o. follow o vs) (sym n) ∙ sym (follow_append us vs (Some (at_start 0))) ∙ sym h))

@@ -1,5 +1,5 @@
 -- Chains of citations, for any relation as citation (this project's own; what a proof cites is in
--- `Citation`, after section 4.1.4 of the Metamath book).
+-- `Citation`, after "Proof Verification" of the Metamath book).
 use Rattle.std.specs.Prelude.{ℕ, List, [], ◌∷◌}
 
 module _ (Cites : ℕ → ℕ → Type 0) where

@@ -1,5 +1,5 @@
--- What a proof may use, and which theorems are valid (Metamath book, section 4.1.4); on which
--- assertions a theorem rests (this project's own).
+-- What a proof may use, and which theorems are valid (Metamath book, "Proof Verification"); on
+-- which assertions a theorem rests (this project's own).
 use Rattle.std.specs.Prelude.{◌≡◌, ℕ, Bool, true, false, List, [], map, Option, Some, None}
 use Rattle.std.specs.Prelude.{slice_get, IsTrue}
 use Rattle.std.specs.List.{list_any}

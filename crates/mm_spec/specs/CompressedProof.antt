@@ -1,5 +1,5 @@
 -- A compressed proof: labels in brackets, and after them letters, which spell numbers and marks;
--- white space may occur between any two letters (Metamath book, Appendix B).
+-- white space may occur between any two letters (Metamath book, "Compressed Proofs").
 use Rattle.std.specs.Prelude.{ℕ, zero, suc, ◌+◌, ◌-◌, ◌*◌, Bool, true, false, ◌&&◌, List, [], ◌∷◌}
 use Rattle.std.specs.Prelude.{◌++◌, map, length, Option, Some, None, nat_lt, nat_le, ◌==◌, bytes_eq}
 use Rattle.std.specs.Prelude.{flat_map, slice_get, codes, fold}

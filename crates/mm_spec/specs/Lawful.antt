@@ -1,4 +1,4 @@
--- The rules on symbols, labels and scope (Metamath book, section 4.1.3), each with the fault of a
+-- The rules on symbols, labels and scope (Metamath book, "Basic Syntax"), each with the fault of a
 -- statement that breaks it (codes, places and their order: this project's own).
 use Rattle.std.specs.Prelude.{◌≡◌, ℕ, Bool, true, false, ◌&&◌, ◌||◌, not, List, [], ◌∷◌, ◌++◌, map}
 use Rattle.std.specs.Prelude.{length, Option, Some, None, nat_lt, nat_le, ◌==◌, bytes_eq, slice_get}

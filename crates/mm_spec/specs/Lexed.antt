@@ -1,5 +1,5 @@
--- The tokens of a text (Metamath book, sections 4.1.1 and 4.1.2), and its lexical fault (this
--- project's own).
+-- The tokens of a text (Metamath book, "Preliminaries" and "Preprocessing"), and its lexical fault
+-- (this project's own).
 use Rattle.std.specs.Prelude.{ℕ, List, [], length, nat_lt, if◌then◌else◌, Option, Some, None}
 use Rattle.mm_spec.specs.Words.{words_of}
 use Rattle.mm_spec.specs.Readings.{reading}

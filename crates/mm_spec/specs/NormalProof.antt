@@ -1,5 +1,5 @@
 -- A normal proof: the labels of active hypotheses and earlier assertions, in postfix order
--- (Metamath book, section 4.1.4).
+-- (Metamath book, "Proof Verification").
 use Rattle.std.specs.Prelude.{ℕ, ◌&&◌, Bool, true, false, List, [], ◌∷◌, map, Some, None, bytes_eq}
 use Rattle.std.specs.Prelude.{flat_map, codes}
 use Rattle.std.specs.List.{list_any, range_with_len, filter}

@@ -40,11 +40,11 @@ TextFault len x f =
     ⊎ ((¬ ((g : Fault) × ShapeFault x.tokens g)) × WordOrEnd len x.tokens x.fault f)
 
 -- what stops the reading after the lawful statements
-abbrev pub Stops : ℕ → LexedText → List Statement → List Statement → List Statement → Option Fault
+abbrev pub StopsReading : ℕ → LexedText → List Statement → List Statement → List Statement → Option Fault
     → Type 0
-Stops len x row db (s ∷ rest) fault = (fault ≢ None) × (scope_fault row (length db) ≡ fault)
-Stops len x row db [] None = (f : Fault) → ¬ TextFault len x f
-Stops len x row db [] (Some f) = TextFault len x f
+StopsReading len x row db (s ∷ rest) fault = (fault ≢ None) × (scope_fault row (length db) ≡ fault)
+StopsReading len x row db [] None = (f : Fault) → ¬ TextFault len x f
+StopsReading len x row db [] (Some f) = TextFault len x f
 
 -- What reading gives: the statements up to the first malformed or unlawful one, and the fault that
 -- stops the reading there, if there is one.
@@ -55,7 +55,7 @@ pub record IsRead (len : ℕ) (x : LexedText) (db : List Statement)
   pub rest : List Statement
   pub splits : row ≡ db ++ rest
   pub lawful : (k : ℕ) → k < length db → IsLawful row k
-  pub stops : Stops len x row db rest fault
+  pub stops : StopsReading len x row db rest fault
 
 -- the fault of theorem k's proof, which ends at `end`: the least fault of its reading, or if there
 -- is none, the fault of a step or of the end

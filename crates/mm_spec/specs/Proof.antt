@@ -1,5 +1,5 @@
 -- How the words of a proof are read: as a compressed proof if the first word is `(`, otherwise as a
--- normal proof (Metamath book, section 4.1.4 and Appendix B).
+-- normal proof (Metamath book, "Proof Verification" and "Compressed Proofs").
 use Rattle.std.specs.Prelude.{ℕ, true, false, List, [], ◌∷◌, bytes_eq, codes}
 use Rattle.mm_spec.specs.Text.{Token, Fault}
 use Rattle.mm_spec.specs.Statement.{Statement}

@@ -1,4 +1,4 @@
--- Rows of words read as tokens and comments (Metamath book, sections 4.1.1 and 4.1.2).
+-- Rows of words read as tokens and comments (Metamath book, "Preliminaries" and "Preprocessing").
 use Rattle.std.specs.Prelude.{ℕ, List, [], ◌∷◌, ◌++◌, Option, Some, None, is_some, slice_range}
 use Rattle.mm_spec.specs.Roles.{role_of, fault_of}
 use Rattle.mm_spec.specs.declared.Word.{Word}

@@ -1,5 +1,5 @@
--- What a word is, by its bytes: outside comments, and inside one (Metamath book, sections 4.1.1 and
--- 4.1.2).
+-- What a word is, by its bytes: outside comments, and inside one (Metamath book, "Preliminaries"
+-- and "Preprocessing").
 use Rattle.std.specs.Prelude.{ℕ, ◌+◌, ◌==◌, ◌||◌, ◌&&◌, Bool, true, false, not, List, [], ◌∷◌}
 use Rattle.std.specs.Prelude.{length, slice_index, if◌then◌else◌, Some, None, codes}
 use Rattle.std.specs.List.{list_all, list_any, position}

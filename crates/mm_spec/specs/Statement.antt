@@ -1,5 +1,5 @@
--- Statements and their spelling (Metamath book, section 4.1.3). The test whether tokens begin a row
--- of statements, and the faults of a text's shape, are this project's own.
+-- Statements and their spelling (Metamath book, "Basic Syntax"). The test whether tokens begin a
+-- row of statements, and the faults of a text's shape, are this project's own.
 use Rattle.std.specs.Prelude.{◌≡◌, ℕ, ◌≤◌, ◌<◌, ◌≢◌, Bool, true, false, ◌&&◌, not, List, [], ◌∷◌}
 use Rattle.std.specs.Prelude.{◌++◌, take, Option, Some, None, codes, count_by, flat_map, ◌⊎◌}
 use Rattle.std.specs.Prelude.{bytes_eq, if◌then◌else◌, IsTrue, ◌||◌}
@@ -83,8 +83,8 @@ pub record IsRow (row : List Statement) : Type 0 where
   pub nested : (n : ℕ) → count_by is_closing (take n row) ≤ count_by is_opening (take n row)
 
 -- some row begins with the tokens
-abbrev pub Begins : List Token → Type 0
-Begins ts =
+abbrev pub IsRowPrefix : List Token → Type 0
+IsRowPrefix ts =
     (row : List Statement) × IsRow row × (more : List Token) × (flat_map spelled row ≡ ts ++ more)
 
 -- the tokens spell a row, so the next one begins a statement
@@ -112,8 +112,8 @@ pub record ShapeFault (tokens : List Token) (f : Fault) : Type 0 where
   pub first : Token
   pub after : List Token
   pub splits : tokens ≡ before ++ first ∷ after
-  pub begins : Begins before
-  pub no_more : ¬ Begins (before ++ first ∷ [])
+  pub begins : IsRowPrefix before
+  pub no_more : ¬ IsRowPrefix (before ++ first ∷ [])
   pub code : (IsBetween before × (f ≡ fault first.at (shape_code true first.word)))
       ⊎ ((¬ IsBetween before) × (f ≡ fault first.at (shape_code false first.word)))
 

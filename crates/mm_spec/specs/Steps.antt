@@ -1,4 +1,4 @@
--- The steps of a proof (Metamath book, section 4.1.4 and Appendix B).
+-- The steps of a proof (Metamath book, "Proof Verification" and "Compressed Proofs").
 use Rattle.std.specs.Prelude.{ℕ}
 
 -- A step of a proof: a label, given by the number of its statement, or the subproof that an earlier

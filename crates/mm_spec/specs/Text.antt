@@ -1,4 +1,4 @@
--- Words with their places, and labels (Metamath book, section 4.1.1); faults are this project's
+-- Words with their places, and labels (Metamath book, "Preliminaries"); faults are this project's
 -- own.
 use Rattle.std.specs.Prelude.{ℕ, Bool, ◌||◌, ◌&&◌, List, nat_le, ◌==◌, bytes_eq, map}
 use Rattle.std.specs.List.{list_any, list_all}
@@ -32,7 +32,7 @@ words ts = map (λ t. t.word) ts
 abbrev pub has_dollar : Bytes → Bool
 has_dollar w = list_any (λ b. b == 0x24) w
 
--- a letter, a digit, `-`, `_` or `.` (section 4.1.1)
+-- a letter, a digit, `-`, `_` or `.` (Metamath book, "Preliminaries")
 abbrev pub is_label_byte : ℕ → Bool
 is_label_byte b =
     (nat_le 65 b && nat_le b 90) || (nat_le 97 b && nat_le b 122) || (nat_le 48 b && nat_le b 57)

@@ -1,5 +1,5 @@
--- The plain proof that steps stand for, and valid proofs (Metamath book, section 4.1.4 and Appendix
--- B); the faults of steps and of the end are this project's own.
+-- The plain proof that steps stand for, and valid proofs (Metamath book, "Proof Verification" and
+-- "Compressed Proofs"); the faults of steps and of the end are this project's own.
 use Rattle.std.specs.Prelude.{◌≡◌, ◌≢◌, ℕ, ◌-◌, ◌<◌, ◌≤◌, List, [], ◌∷◌, ◌++◌, length, drop, Option}
 use Rattle.std.specs.Prelude.{Some, slice_get, map}
 use Rattle.mm_spec.specs.Text.{Fault, fault}

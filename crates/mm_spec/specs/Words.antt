@@ -1,5 +1,5 @@
 -- The words of a text: its longest runs of bytes that aren't white space, each by its places
--- (Metamath book, section 4.1.1).
+-- (Metamath book, "Preliminaries").
 use Rattle.std.specs.Prelude.{ℕ, ◌+◌, ◌-◌, ◌==◌, ◌||◌, ◌&&◌, Bool, not, List, map, length}
 use Rattle.std.specs.Prelude.{slice_index, drop}
 use Rattle.std.specs.List.{filter, prefix_len, range_with_len}

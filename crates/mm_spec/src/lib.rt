@@ -1,5 +1,5 @@
-//! What Metamath databases mean (Metamath book, second edition: sections 4.1.1 to 4.1.4, and
-//! Appendix B on compressed proofs). The folder `specs/` defines words, tokens, statements, proofs,
+//! What Metamath databases mean (Metamath book: "Specification of the Metamath Language", and the
+//! appendix "Compressed Proofs"). The folder `specs/` defines words, tokens, statements, proofs,
 //! faults, citations, reports and the end of a run; every crate except `mm_board` depends on it.
 //! The plain types that go with the definitions are declared here. There is no code except the
 //! numbers of codes and the bytes of a word. What a reader has to believe is the folder `specs/`
@@ -26,7 +26,8 @@ pub struct Word {
     pub end: u32,
 }
 
-/// What a word is, inside a comment or outside (sections 4.1.1 and 4.1.2).
+/// What a word is, inside a comment or outside (Metamath book, "Preliminaries" and
+/// "Preprocessing").
 #[derive(Clone, Copy, Debug, PartialEq, Eq)]
 pub enum Role {
     /// A keyword, a label, a math symbol, a word of a proof.
@@ -91,7 +92,8 @@ pub enum RunEnd {
     NoMemory,
 }
 
-/// The tokens of a text before its first lexical fault, and that fault (sections 4.1.1 and 4.1.2).
+/// The tokens of a text before its first lexical fault, and that fault (Metamath book,
+/// "Preliminaries" and "Preprocessing").
 #[derive(Drop)]
 pub struct Lexed<A: Allocator> {
     pub tokens: Vec<Word, A>,

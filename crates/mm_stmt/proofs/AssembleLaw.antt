@@ -6,7 +6,7 @@ use Rattle.mm_spec.specs.declared.Fault.{Fault}
 use Rattle.mm_spec.specs.Frame.{symbol_names}
 use Rattle.mm_spec.specs.Lexed as spec
 use Rattle.mm_spec.specs.Output.{IsRead, lexed_of}
-use Rattle.mm_outline.specs.Blocks.{Lists}
+use Rattle.mm_outline.specs.Blocks.{BlockLists}
 use Rattle.mm_outline.specs.Parts.{statement_of, token_of}
 use Rattle.mm_outline.specs.Statements.{lexed, statements}
 use Rattle.mm_scope.specs.Keeps.{Keeps}
@@ -40,7 +40,7 @@ module _ (text : List ℕ) (ws : List Word) (os : List Outline) (lexical fault :
       omega (arith, n, f, w, small)
 
   -- they are sound
-  pub sound : (look : List ℕ → Option Symbol) (labels : List ℕ → Option ℕ) (b : Lists)
+  pub sound : (look : List ℕ → Option Symbol) (labels : List ℕ → Option ℕ) (b : BlockLists)
       → Keeps (statements text ws os) look labels b → length os < 2 ^ 31
       → IsSound (statements text ws os)
   sound look labels b keeps few =

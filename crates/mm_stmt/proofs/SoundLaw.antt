@@ -13,7 +13,7 @@ use Rattle.mm_spec.specs.Frame.{symbol_names, formula_at}
 use Rattle.mm_spec.specs.declared.Fault.{Fault}
 use Rattle.mm_spec.specs.Output.{LexedText, IsRead}
 use Rattle.mm_spec.proofs.LocalLaw.{scope_fault_front}
-use Rattle.mm_outline.specs.Blocks.{Lists}
+use Rattle.mm_outline.specs.Blocks.{BlockLists}
 use Rattle.mm_scope.specs.Judge.{Entry, entry_of}
 use Rattle.mm_scope.specs.WordEntry.{is_constant_entry, is_variable_entry}
 use Rattle.mm_scope.specs.Keeps.{Keeps}
@@ -30,7 +30,7 @@ one_kind (Some e) h = by e.is_variable h
     by false h = refl
 
 pub sound_is : (db : List Statement) (look : List ℕ → Option Symbol) (labels : List ℕ → Option ℕ)
-    → (b : Lists)
+    → (b : BlockLists)
     → Keeps db look labels b → length db < 2 ^ 31
     → ((k : ℕ) → k < length db → scope_fault db k ≡ None)
     → ((k : ℕ) → k < length db → All (λ s. s < length (symbol_names db)) (formula_at db k))
@@ -52,7 +52,7 @@ lawful_is len x db fault r k h =
 
 pub sound_read : (len : ℕ) (x : LexedText) (db : List Statement) (fault : Option Fault)
     → IsRead len x db fault
-    → (look : List ℕ → Option Symbol) (labels : List ℕ → Option ℕ) (b : Lists)
+    → (look : List ℕ → Option Symbol) (labels : List ℕ → Option ℕ) (b : BlockLists)
     → Keeps db look labels b → length db < 2 ^ 31 → IsSound db
 sound_read len x db fault r look labels b keeps few =
     let lawful = lawful_is len x db fault r in
@@ -66,7 +66,7 @@ known_as None = refl
 known_as (Some s) = refl
 
 pub are_symbols : (db : List Statement) (look : List ℕ → Option Symbol) (labels : List ℕ → Option ℕ)
-    → (b : Lists)
+    → (b : BlockLists)
     → Keeps db look labels b → (names : List (List ℕ)) (kinds : List Bool) → names ≡ symbol_names db
     → length kinds ≡ length names
     → ((s : ℕ) (w : List ℕ) → slice_get names s ≡ Some w

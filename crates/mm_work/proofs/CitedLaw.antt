@@ -14,9 +14,9 @@ use Rattle.mm_spec.specs.Output.{theorems, is_theorem_at, AreValid}
 use Rattle.mm_spec.proofs.FindsLaw.{filter_member, found_at, inside_of}
 use Rattle.mm_spec.proofs.CitedLaw.{cites_earlier, proof_theorem}
 use Rattle.mm_spec.proofs.ListLaw.{member_at}
-use Rattle.mm_cites.specs.Citing.{Citing, citing, Cites, IsRising, IsFileOrder}
+use Rattle.mm_cites.specs.Citing.{Citing, citing, HasCitation, IsRising, IsFileOrder}
 use Rattle.mm_cites.proofs.RisingLaw.{filter_rising}
-use Rattle.mm_work.specs.Judged.{IsCited, AreCited, Shows}
+use Rattle.mm_work.specs.Judged.{IsCited, AreCitedUpTo, Shows}
 
 -- a member stands at some place
 member_place : (xs : List ℕ) (x : ℕ) → is_member xs x ≡ true
@@ -83,14 +83,14 @@ module _ (db : List Statement) (few : length db < 2 ^ 31) (complete : AreComplet
 
   -- all theorems are valid
   pub all_valid : (by_essential : Bool) (lists : List (List ℕ))
-      → AreCited db by_essential (theorems db) (length (theorems db)) lists
+      → AreCitedUpTo db by_essential (theorems db) (length (theorems db)) lists
       → AreValid db (length db)
   all_valid by_essential lists h j k th =
       let p = theorem_place db j th in
       subst (λ t. IsValid db t) p.2 (cited_valid db by_essential _ _ (h.each p.0 p.1))
 
   module _ (by_essential : Bool) (lists : List (List ℕ))
-      (h : AreCited db by_essential (theorems db) (length (theorems db)) lists) where
+      (h : AreCitedUpTo db by_essential (theorems db) (length (theorems db)) lists) where
     abbrev c : Citing
     c = citing (theorems db) lists
 
@@ -107,7 +107,7 @@ module _ (db : List Statement) (few : length db < 2 ^ 31) (complete : AreComplet
     pub shows : Shows db by_essential c
     shows = record { same = λ t a. ((to t a), (from t a)) }
       where
-        to : (t a : ℕ) → Cites c t a → proof.Cites db by_essential t a
+        to : (t a : ℕ) → HasCitation c t a → proof.Cites db by_essential t a
         to t a x =
             let l = get_or lists x.row [] in
             let b = get_or l x.place 0 in
@@ -115,7 +115,7 @@ module _ (db : List Statement) (few : length db < 2 ^ 31) (complete : AreComplet
             (subst (λ y. proof.Cites db by_essential y b) x.theorem
             (((h.each x.row x.within).checked.exact b).0 (member_at l x.place 0 x.listed)))
 
-        from : (t a : ℕ) → proof.Cites db by_essential t a → Cites c t a
+        from : (t a : ℕ) → proof.Cites db by_essential t a → HasCitation c t a
         from t a x =
             let p = theorem_place db t (proof_theorem db t x.1 x.2) in
             let l = get_or lists p.0 [] in

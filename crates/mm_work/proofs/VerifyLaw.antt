@@ -10,14 +10,14 @@ use Rattle.mm_spec.specs.Output.{theorems}
 use Rattle.mm_spec.specs.declared.Fault.{Fault}
 use Rattle.mm_proof.proofs.TheoremsLaw.{theorems_are}
 use Rattle.mm_cites.specs.Citing.{citing, IsFileOrder}
-use Rattle.mm_work.specs.Judged.{IsCited, AreCited, AllCited, IsFirstFault, HasFault}
+use Rattle.mm_work.specs.Judged.{IsCited, AreCitedUpTo, AllCited, IsFirstFault, HasFault}
 use Rattle.mm_work.proofs.CitedLaw.{cited_valid, valid_before, all_valid, file_order, shows}
 
 -- one list of citations more
 pub cited_more : (db : List Statement) (by_essential : Bool) (ts : List ℕ) (n : ℕ)
     → (lists : List (List ℕ)) (cites : List ℕ)
-    → AreCited db by_essential ts n lists → IsCited db by_essential (get_or ts n 0) cites
-    → AreCited db by_essential ts (n + 1) (lists ++ cites ∷ [])
+    → AreCitedUpTo db by_essential ts n lists → IsCited db by_essential (get_or ts n 0) cites
+    → AreCitedUpTo db by_essential ts (n + 1) (lists ++ cites ∷ [])
 cited_more db by_essential ts n lists cites h one = record {
   count = (let l = length-append lists (cites ∷ []) in let c = h.count in omega (arith, l, c));
   each = λ i l. by i (cases_lt i n) l;
@@ -48,12 +48,12 @@ module _ (db : List Statement) (few : length db < 2 ^ 31) (complete : AreComplet
       (get_or (theorems db) i 0, (theorems_are db i 0 l, valid_before db few complete i h l, p))
 
   pub cited_before : (by_essential : Bool) (i : ℕ) (lists : List (List ℕ))
-      → AreCited db by_essential (theorems db) i lists → (n : ℕ) → n < i
+      → AreCitedUpTo db by_essential (theorems db) i lists → (n : ℕ) → n < i
       → IsValid db (get_or (theorems db) n 0)
   cited_before by_essential i lists h n l = cited_valid db by_essential _ _ (h.each n l)
 
   pub all_cited : (by_essential : Bool) (ts : List ℕ) (lists : List (List ℕ)) → ts ≡ theorems db
-      → AreCited db by_essential (theorems db) (length (theorems db)) lists
+      → AreCitedUpTo db by_essential (theorems db) (length (theorems db)) lists
       → IsFileOrder (citing ts lists) × AllCited db by_essential (citing ts lists)
   all_cited by_essential ts lists e h =
       subst (λ (us : List ℕ). IsFileOrder (citing us lists)

@@ -9,7 +9,7 @@ use Rattle.mm_spec.specs.Citation as proof
 use Rattle.mm_spec.specs.Output.{AreValid, FirstProofFault, ProofFault, end_of, theorems}
 use Rattle.mm_spec.specs.declared.Fault.{Fault}
 use Rattle.mm_check.specs.Contract.{IsChecked}
-use Rattle.mm_cites.specs.Citing.{Citing, Cites, theorem_at, list_at}
+use Rattle.mm_cites.specs.Citing.{Citing, HasCitation, theorem_at, list_at}
 use Rattle.mm_work.specs.declared.proof.VerifyRefused.{VerifyRefused}
 use Rattle.mm_work.specs.declared.proof.VerifyRefused.TheVariants.{Fault as FaultOf, Memory}
 use Rattle.mm_work.specs.declared.judged.Judged.{Judged}
@@ -22,7 +22,7 @@ pub record IsCited (db : List Statement) (by_essential : Bool) (t : ℕ)
   pub checked : IsChecked db by_essential t cites
 
 -- the first `n` theorems are valid, with these citations
-pub record AreCited (db : List Statement) (by_essential : Bool) (ts : List ℕ) (n : ℕ)
+pub record AreCitedUpTo (db : List Statement) (by_essential : Bool) (ts : List ℕ) (n : ℕ)
     (lists : List (List ℕ)) : Type 0 where
   pub count : length lists ≡ n
   pub each : (i : ℕ) → i < n
@@ -30,7 +30,7 @@ pub record AreCited (db : List Statement) (by_essential : Bool) (ts : List ℕ) 
 
 -- the lists are what the theorems of a database cite
 pub record Shows (db : List Statement) (by_essential : Bool) (c : Citing) : Type 0 where
-  pub same : (t a : ℕ) → Cites c t a ↔ proof.Cites db by_essential t a
+  pub same : (t a : ℕ) → HasCitation c t a ↔ proof.Cites db by_essential t a
 
 -- all theorems are valid, and these are their citations, each list in ascending order, with each
 -- assertion once

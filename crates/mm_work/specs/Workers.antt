@@ -52,7 +52,7 @@ module _ {A : Type 0} where
   TellsUnlessShort db by_essential v f = f.short_of_memory ≡ false → Tells db by_essential v f
 
 -- a seat that can begin to work
-pub record IsReady (home : BoardValue) (seat : SeatValue) : Type 0 where
+pub record IsFreshSeat (home : BoardValue) (seat : SeatValue) : Type 0 where
   pub at : IsSeatOf home seat
   pub not_over : seat.view.over ≡ false
   pub closed : seat.view.open_number ≡ None

@@ -3,7 +3,7 @@
 ghost use Rattle.std.specs.Prelude.{◌≡◌, ◌<◌, ◌≤◌, All, IfNone, IfOk, IfSome, false, length};
 ghost use Rattle.mm_spec.specs.Output.{theorems};
 ghost use Rattle.mm_rules.specs.Rules.{AreRules};
-ghost use Rattle.mm_work.specs.Workers.{IsReady, IsDone, AreGathered};
+ghost use Rattle.mm_work.specs.Workers.{IsFreshSeat, IsDone, AreGathered};
 
 use crate::gate::Gate;
 use crate::worker::{Findings, Worked, work};
@@ -35,9 +35,9 @@ pub(crate) struct Gathered<A: Allocator> {
 
 /// A seat for one more worker; `None` if the seat has no share to give.
 fn split<A: Allocator>(board: &Board<A>, seat: &mut Seat) -> Option<Seat>
-    requires { IsReady board.now seat.old }
-    ensures own { IsReady board.now seat.new }
-    ensures other { IfSome result (λ new. IsReady board.now new) }
+    requires { IsFreshSeat board.now seat.old }
+    ensures own { IsFreshSeat board.now seat.new }
+    ensures other { IfSome result (λ new. IsFreshSeat board.now new) }
     ensures last { IfNone result (seat.old.view.share ≡ 1) }
 {
     board.split(seat).ok()
@@ -96,7 +96,7 @@ pub(crate) fn work_all<'d, R: Threads + Wait + Sync, A: Allocator + Copy + Send 
     essential: bool,
 ) -> Result<Gathered<A>, AllocError>
     requires rules { AreRules database.now.statements rules.now }
-    requires ready { IsReady board.now seat }
+    requires ready { IsFreshSeat board.now seat }
     requires count { board.now.count ≡ length (theorems database.now.statements) }
     ensures { IfOk result
         (λ g. AreGathered board.now database.now.statements essential g.seat g.found.items) }
@@ -105,7 +105,7 @@ pub(crate) fn work_all<'d, R: Threads + Wait + Sync, A: Allocator + Copy + Send 
         thread::scope_env(),
         rt,
         move |scope| -> Result<Gathered<A>, AllocError>
-            requires { IsReady board.now seat
+            requires { IsFreshSeat board.now seat
                 × (board.now.count ≡ length (theorems database.now.statements))
                 × AreRules database.now.statements rules.now }
             ensures { IfOk result
@@ -119,7 +119,7 @@ pub(crate) fn work_all<'d, R: Threads + Wait + Sync, A: Allocator + Copy + Send 
                     if let Ok(handle) = scope.spawn_with(
                         AtBoard(board, database, essential),
                         move || -> Worked<A>
-                            requires { IsReady board.now other
+                            requires { IsFreshSeat board.now other
                                 × (board.now.count ≡ length (theorems database.now.statements))
                                 × AreRules database.now.statements rules.now }
                             ensures { IsDone board.entry.now database.entry.now essential result }

@@ -2,7 +2,7 @@
 
 ghost use Rattle.std.specs.Prelude.{◌≡◌, IfOk, length};
 ghost use Rattle.mm_rules.specs.Rules.{AreRules};
-ghost use Rattle.mm_work.specs.Judged.{Judges, AreCited};
+ghost use Rattle.mm_work.specs.Judged.{Judges, AreCitedUpTo};
 ghost use Rattle.mm_spec.specs.Output.{theorems};
 
 use crate::judged::Judged;
@@ -20,7 +20,7 @@ pub(crate) fn valid<'a, A: Allocator + Copy>(
     essential: bool,
     lists: Lists<A>,
 ) -> Result<Judged<A>, AllocError>
-    requires { AreCited database.now.statements essential (theorems database.now.statements)
+    requires { AreCitedUpTo database.now.statements essential (theorems database.now.statements)
         (length (theorems database.now.statements)) lists }
     ensures { IfOk result (λ judged. Judges database.now.statements essential judged) }
 {

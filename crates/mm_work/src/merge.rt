@@ -2,7 +2,7 @@
 
 ghost use Rattle.std.specs.Prelude.{◌≡◌, ◌<◌, ◌≤◌, ◌⊎◌, ℕ, All, IfOk, length, slice_get};
 ghost use Rattle.mm_spec.specs.Output.{theorems};
-ghost use Rattle.mm_work.specs.Judged.{AreCited, HasFault};
+ghost use Rattle.mm_work.specs.Judged.{AreCitedUpTo, HasFault};
 ghost use Rattle.mm_work.specs.Workers.{AreFindings, IsFoundValid, IsFoundFaulty, theorem_of};
 ghost use Rattle.mm_work.specs.Places.{IsNoted, HasPlace};
 
@@ -70,7 +70,7 @@ pub(crate) fn merge<'d, A: Allocator + Copy>(
     requires valid { (i : ℕ) → i < length (theorems database.now.statements)
         → IsFoundValid found.now i }
     ensures { IfOk result
-        (λ lists. AreCited database.now.statements essential (theorems database.now.statements)
+        (λ lists. AreCitedUpTo database.now.statements essential (theorems database.now.statements)
         (length (theorems database.now.statements)) lists) }
 {
     // Only the contract uses it.

@@ -7,7 +7,7 @@ ghost use Rattle.mm_rules.specs.Rules.{AreRules};
 ghost use Rattle.mm_spec.specs.Output.{theorems};
 ghost use Rattle.mm_board.specs.Records.{times_in, times_recorded};
 ghost use Rattle.mm_board.specs.Models.{IsSeatOf};
-ghost use Rattle.mm_work.specs.Workers.{AreFindings, TellsUnlessShort, IsReady, IsDone};
+ghost use Rattle.mm_work.specs.Workers.{AreFindings, TellsUnlessShort, IsFreshSeat, IsDone};
 ghost use Rattle.mm_work.specs.Workers.{faulty_index};
 
 use crate::gate::Gate;
@@ -185,7 +185,7 @@ pub(crate) fn work<'a, A: Allocator + Copy, G: Gate>(
     essential: bool,
 ) -> Worked<A>
     requires rules { AreRules database.now.statements rules.now }
-    requires ready { IsReady board.now seat }
+    requires ready { IsFreshSeat board.now seat }
     requires count { board.now.count ≡ length (theorems database.now.statements) }
     ensures { IsDone board.now database.now essential result }
 {

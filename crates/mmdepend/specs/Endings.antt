@@ -11,7 +11,7 @@ use Rattle.mm_spec.specs.Ends.{Ends}
 use Rattle.mm_spec.specs.declared.RunEnd.{RunEnd}
 use Rattle.mm_spec.specs.declared.RunEnd.TheVariants.{Accepted, Refused, ReadFailed, WriteFailed}
 use Rattle.mm_spec.specs.declared.RunEnd.TheVariants.{NoMemory as RunNoMemory}
-use Rattle.mm_line.specs.Lines.{Refuses, Says}
+use Rattle.mm_line.specs.Lines.{IsLineRefusal, Says}
 use Rattle.mm_line.specs.declared.command_line.Line.{Line}
 use Rattle.mm_line.specs.declared.command_line.LineRefused.TheVariants.{Help, Bad}
 use Rattle.mmdepend.specs.declared.ending.Ending.{Ending}
@@ -19,8 +19,8 @@ use Rattle.mmdepend.specs.declared.ending.Ending.TheVariants.{Ran, Helped, HelpF
 use Rattle.mmdepend.specs.declared.ending.Ending.TheVariants.{NotOpened, NoMemory}
 
 -- a prefix of the text was written, or the whole text
-abbrev pub Begins : (held holds : Option (List ℕ)) → List ℕ → Type 0
-Begins held holds text = (k : ℕ) × Appends held holds (take k text)
+abbrev pub IsWrittenPrefix : (held holds : Option (List ℕ)) → List ℕ → Type 0
+IsWrittenPrefix held holds text = (k : ℕ) × Appends held holds (take k text)
 
 -- the file that is opened: `None` if no file is named, or if it is `-`
 abbrev pub opened_name : Option (List ℕ) → Option (List ℕ)
@@ -51,11 +51,11 @@ module _ {File : Type 0} (remaining : File → Option (List ℕ)) where
   IsEndingOf words NotOpened before after held holds =
       (line : Line) × Says words line × IsSome (opens line) × Keeps before after × Keeps held holds
   IsEndingOf words (Helped text) before after held holds =
-      Refuses words (Help text) × Keeps before after × Appends held holds (string_bytes text)
+      IsLineRefusal words (Help text) × Keeps before after × Appends held holds (string_bytes text)
   IsEndingOf words (HelpFailed text) before after held holds =
-      Refuses words (Help text) × Keeps before after × Begins held holds (string_bytes text)
+      IsLineRefusal words (Help text) × Keeps before after × IsWrittenPrefix held holds (string_bytes text)
   IsEndingOf words (Misread text) before after held holds =
-      Refuses words (Bad text) × Keeps before after × Keeps held holds
+      IsLineRefusal words (Bad text) × Keeps before after × Keeps held holds
   IsEndingOf words NoMemory before after held holds = Keeps before after × Keeps held holds
 
 abbrev pub run_status_of : RunEnd → ℕ

@@ -2,7 +2,7 @@
 
 ghost use Rattle.std.specs.Prelude.{◌≡◌, IsTrue, map, option_map};
 ghost use Rattle.std.specs.Io.KnownBytes.{Appends};
-ghost use Rattle.mmdepend.specs.Endings.{Begins, IsEndingOf, message_of, opens, status_of};
+ghost use Rattle.mmdepend.specs.Endings.{IsWrittenPrefix, IsEndingOf, message_of, opens, status_of};
 ghost use Rattle.mmdepend.specs.declared.ending.Ending.{Ending as End};
 
 use crate::ending::Ending;
@@ -21,7 +21,7 @@ use std::thread::Threads;
 /// the text was written.
 fn put<W: Write>(to: &mut W, text: &[u8]) -> bool
     ensures whole { IsTrue result → Appends (W.contents to.old) (W.contents to.new) text.now }
-    ensures beginning { Begins (W.contents to.old) (W.contents to.new) text.now }
+    ensures beginning { IsWrittenPrefix (W.contents to.old) (W.contents to.new) text.now }
 {
     match write_whole(to, text) {
         Ok(()) => true,
@@ -91,7 +91,7 @@ pub fn status<S: AsStr, R: Threads + Wait + Files + Sync, I: Read, O: Write, E: 
     ensures { (ending : End)
         × IsEndingOf R.File.remaining (map S.text words.now) ending (I.remaining input.old)
         (I.remaining input.new) (O.contents output.old) (O.contents output.new)
-        × Begins (E.contents errors.old) (E.contents errors.new) (message_of ending)
+        × IsWrittenPrefix (E.contents errors.old) (E.contents errors.new) (message_of ending)
         × (result ≡ status_of ending) }
 {
     let ending = end(rt, alloc, words, input, output);

@@ -1,5 +1,5 @@
--- The block of a statement is open as long as no block is less deep (Metamath book, section 4.1.3).
--- The test is `stays`.
+-- The block of a statement is open as long as no block is less deep (Metamath book, "Basic
+-- Syntax"). The test is `stays`.
 use Rattle.std.specs.Prelude.{ℕ, ◌<◌, ◌≤◌, List}
 use Rattle.mm_spec.specs.Statement.{Statement}
 use Rattle.mm_spec.specs.Scope.{depth}

@@ -1,5 +1,5 @@
--- The stack used to check a proof (Metamath book, section 4.1.4): its entries are formulas, and
--- each step changes them or fails. For lemmas and for the contracts of the checker.
+-- The stack used to check a proof (Metamath book, "Proof Verification"): its entries are formulas,
+-- and each step changes them or fails. For lemmas and for the contracts of the checker.
 use Rattle.std.specs.Prelude.{◌≡◌, ℕ, suc, ◌-◌, ◌<◌, Bool, true, false, ◌&&◌, List, [], ◌∷◌, ◌++◌}
 use Rattle.std.specs.Prelude.{map, length, take, drop, Option, Some, None, Result, Ok, Err, nat_le}
 use Rattle.std.specs.Prelude.{bytes_eq, slice_get}

@@ -1,5 +1,5 @@
 -- What the words of a text are: its longest runs of bytes that aren't white space (Metamath book,
--- section 4.1.1). The law is `words_are_the_longest_runs`.
+-- "Preliminaries"). The law is `words_are_the_longest_runs`.
 use Rattle.std.specs.Prelude.{◌≡◌, ℕ, ◌+◌, ◌<◌, ◌≤◌, true, false, List, length}
 use Rattle.std.specs.List.{All, AllPairs, Contains}
 use Rattle.mm_spec.specs.Words.{white_at}

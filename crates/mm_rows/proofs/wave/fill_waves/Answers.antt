@@ -1,7 +1,7 @@
 use Rattle.std.proofs.Common.{ℕ, List, ◌≡◌, ◌<◌, ◌≤◌, ◌+◌, ◌-◌, ◌∙◌, slice_range, length, get_or}
 use Rattle.std.proofs.Common.{subst, sym, ap, arith}
 use Rattle.std.proofs.lemmas.Grind.{get_or_default_zero}
-use Rattle.mm_rows.specs.BitRows.{IsReady}
+use Rattle.mm_rows.specs.BitRows.{HasCitedRows}
 use Rattle.mm_rows.proofs.WaveLaw.{wave_ready, made_wave, made_all, part_length, part_at}
 use Rattle.mm_rows.proofs.wave.fill_waves.Goals as goal
 
@@ -32,7 +32,7 @@ fill_wave-requires-clause-ready g c κs within = λ k d lt.
     c.requires.waves c.in_ok-rows.ensures c.loop-from.invariant (omega arith) inside same (from + k)
     (omega arith) (omega (arith, short)) in
     subst (λ (i : ℕ). (i < length c.args.citations.now.theorems)
-    × IsReady c.args.citations.now c.args.columns.now c.loop-from.bits i) (sym at) ready
+    × HasCitedRows c.args.citations.now c.args.columns.now c.loop-from.bits i) (sym at) ready
 
 pub loop-from-preserved : goal.loop-from-preserved
 loop-from-preserved g c =

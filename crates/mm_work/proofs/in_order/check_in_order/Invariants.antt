@@ -1,12 +1,12 @@
 use Rattle.std.proofs.Common.{◌≡◌, length}
 use Rattle.mm_check.specs.Checker.{IsMadeFor}
 use Rattle.mm_spec.specs.Output.{theorems}
-use Rattle.mm_work.specs.Judged.{AreCited}
+use Rattle.mm_work.specs.Judged.{AreCitedUpTo}
 use Rattle.mm_work.proofs.in_order.check_in_order.Given as goal
 
 abbrev pub invariant-loop-theorem : goal.invariant-loop-theorem
 invariant-loop-theorem g l = record {
   made_for : IsMadeFor l.database.statements l.checker;
-  cited : AreCited l.database.statements l.essential
+  cited : AreCitedUpTo l.database.statements l.essential
       (theorems l.database.statements) l.theorem-index l.lists;
 }

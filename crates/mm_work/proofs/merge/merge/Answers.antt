@@ -1,6 +1,6 @@
 use Rattle.std.proofs.Common.{◌≡◌, ◌<◌, ℕ, List, length, ap, subst, arith}
 use Rattle.mm_spec.specs.Output.{theorems}
-use Rattle.mm_work.specs.Judged.{AreCited}
+use Rattle.mm_work.specs.Judged.{AreCitedUpTo}
 use Rattle.mm_work.specs.declared.merge.Whereabouts.{Whereabouts}
 use Rattle.mm_work.proofs.PlacesLaw.{less_le, worker_within, found_there, list_within, list_cited}
 use Rattle.mm_work.proofs.VerifyLaw.{cited_more}
@@ -82,5 +82,5 @@ returns g c =
     let n = c.in_ok-places.ensures.count in
     let t = ap (λ (ts : List ℕ). length ts) c.theorems.ensures.theorems in
     omega (arith, end, past, e, n, t) in
-    subst (λ n. AreCited db c.args.essential (theorems db) n c.loop-place.lists) all
+    subst (λ n. AreCitedUpTo db c.args.essential (theorems db) n c.loop-place.lists) all
     c.loop-place.invariant

@@ -1,8 +1,8 @@
 use Rattle.mm_spec.specs.Output.{theorems}
-use Rattle.mm_work.specs.Judged.{AreCited}
+use Rattle.mm_work.specs.Judged.{AreCitedUpTo}
 use Rattle.mm_work.proofs.merge.merge.Given as goal
 
 abbrev pub invariant-loop-place : goal.invariant-loop-place
 invariant-loop-place g l =
-    AreCited l.database.statements l.essential
+    AreCitedUpTo l.database.statements l.essential
     (theorems l.database.statements) l.place-index l.lists

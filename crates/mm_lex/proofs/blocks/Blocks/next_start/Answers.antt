@@ -26,14 +26,14 @@ loop-self-preserved c =
     let text = c.args.self.now.text.now in
     let before = c.loop-self.invariant in
     record {
-      same = c.turn.ensures.text ∙ before.same;
-      rises = omega (arith, before.rises, b.high, c.turn.ensures.from);
+      same = c.next_block.ensures.text ∙ before.same;
+      rises = omega (arith, before.rises, b.high, c.next_block.ensures.from);
       none =
           λ i low high lt. run_on
           (λ t k. begins_word t k ≡ false) b.text.now text b.starts c.args.self.now.from b.from
           b.base 64 before.same b.low (omega arith) before.none
           (λ k _ _. ap (λ (n : ℕ). bit_at n k) c.loop-self-test.true ∙ bit_at-zero k) b.none i low
-          (omega (arith, c.turn.ensures.from)) lt;
+          (omega (arith, c.next_block.ensures.from)) lt;
     }
 
 pub returns-then-to-start-clause-before : goal.returns-then-to-start-clause-before

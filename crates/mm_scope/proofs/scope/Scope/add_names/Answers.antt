@@ -1,6 +1,6 @@
 use Rattle.std.proofs.Common.{◌<◌, ◌≤◌, ◌∙◌, sym, ap, arith, length, subst}
 use Rattle.mm_database.specs.Names.{find}
-use Rattle.mm_outline.specs.Parts.{made, IsRising}
+use Rattle.mm_outline.specs.Parts.{made, IsKeywordBefore}
 use Rattle.mm_scope.specs.Judge.{entry_of}
 use Rattle.mm_scope.specs.WordEntry.{entry_after}
 use Rattle.mm_scope.proofs.TypedLaw.{typed_not, typed_now}
@@ -32,7 +32,7 @@ returns-else-outline-eq3-clause-symbols g c = λ w.
     let order = c.requires.outline.3 in
     let inside : o.middle ≤ length ws = omega (arith, within, order) in
     let below : o.keyword < o.middle =
-    subst (λ kd. IsRising kd o.keyword o.middle) c.in-Floating.is c.requires.outline.1 in
+    subst (λ kd. IsKeywordBefore kd o.keyword o.middle) c.in-Floating.is c.requires.outline.1 in
     ap (λ m. entry_of (find m w)) c.in_ok-give_label-in-Floating.ensures.symbols
     ∙ sym (typed_not text ws o.keyword o.middle inside c.args.number w
     (entry_of (find c.args.self.now.names.symbols w)) below c.if-outline-eq3.false)

@@ -1,6 +1,6 @@
 use Rattle.std.proofs.Common.{◌∙◌, sym, ap, ap₂, ◌-◌, ◌+◌, arith, subst, []}
 use Rattle.mm_spec.specs.Lawful.{least, at_each, scope_faults, floating_faults, label_faults}
-use Rattle.mm_outline.specs.Parts.{token_at, nth_word, between, made, IsRising}
+use Rattle.mm_outline.specs.Parts.{token_at, nth_word, between, made, IsKeywordBefore}
 use Rattle.mm_scope.specs.Judge.{merge, list_fault, declared_codes}
 use Rattle.mm_scope.proofs.JudgeLaw.{least_append, constants_is, variables_is}
 use Rattle.mm_outline.proofs.ResultsLaw.{ok_then}
@@ -14,7 +14,7 @@ returns-in-Constants-clause-fault g c =
     let within = c.requires.within in
     let later = c.requires.outline.3 in
     let below =
-    subst (λ kd. IsRising kd o.keyword o.middle) c.in-Constants.is c.requires.outline.1 in
+    subst (λ kd. IsKeywordBefore kd o.keyword o.middle) c.in-Constants.is c.requires.outline.1 in
     ok_then c.declared.result c.declared.ensures (λ r h. λ n k.
     h n k ∙ ap
     (λ kd. merge
@@ -35,7 +35,7 @@ returns-in-Variables-clause-fault g c =
     let within = c.requires.within in
     let later = c.requires.outline.3 in
     let below =
-    subst (λ kd. IsRising kd o.keyword o.middle) c.in-Variables.is c.requires.outline.1 in
+    subst (λ kd. IsKeywordBefore kd o.keyword o.middle) c.in-Variables.is c.requires.outline.1 in
     ok_then c.declared-in-Variables.result c.declared-in-Variables.ensures (λ r h. λ n k.
     h n k ∙ ap
     (λ kd. merge
