@@ -22,7 +22,7 @@ static REPORTS: [&str; 5] = ["all", "matrix", "counts", "usage", "citations"];
 static FORMS: [&str; 2] = ["1", "2"];
 
 /// The program's version, and the toolchain with which it was proved (the line of `rt version`).
-const VERSION: &str = "0.1.0, proved with rattle-kit-13f logic dac8208d650f15bf";
+const VERSION: &str = "0.1.0, proved with rattle-kit-13b logic dac8208d650f15bf";
 
 /// The last lines of the help.
 const AFTER: &str = "\
