@@ -32,7 +32,7 @@ tokens_from_one text ws i h =
     ap (as_tokens text) e
 
 pub leads_go : {r : Progress} {t : Token} {us : List Token} {q : Progress}
-    → table.go q ≡ table.turn r (class t.word) t → Leads r (t ∷ us) [] q us
+    → table.go q ≡ table.transition r (class t.word) t → Leads r (t ∷ us) [] q us
 leads_go {r = r} {t = t} {us = us} e = record {
   statements = ap (λ o. after o (λ q. statements_from q us)) (sym e);
   stop =
@@ -42,7 +42,7 @@ leads_go {r = r} {t = t} {us = us} e = record {
 }
 
 pub leads_done : {r : Progress} {t : Token} {us : List Token} {d : ℕ} {s : Statement}
-    → table.done d s ≡ table.turn r (class t.word) t → Leads r (t ∷ us) (s ∷ []) (start d) us
+    → table.done d s ≡ table.transition r (class t.word) t → Leads r (t ∷ us) (s ∷ []) (start d) us
 leads_done {r = r} {t = t} {us = us} e = record {
   statements = ap (λ o. after o (λ q. statements_from q us)) (sym e);
   stop =
@@ -52,7 +52,7 @@ leads_done {r = r} {t = t} {us = us} e = record {
 }
 
 pub leads_stop : (r : Progress) (t : Token) (us : List Token)
-    → table.stop ≡ table.turn r (class t.word) t
+    → table.stop ≡ table.transition r (class t.word) t
     → (statements_from r (t ∷ us) ≡ [])
     × (stop_from r (t ∷ us) ≡ Some (fault t.at (shape_code (begins r) t.word)))
 leads_stop r t us e = (
@@ -77,7 +77,7 @@ Goes text ws d from part i =
 module _ (text : List ℕ) (ws : List Word) (d from i : ℕ) (part : Part) where
   abbrev pub Turned : Transition → Type 0
   Turned o =
-      o ≡ table.turn (reading text ws d part i) (class (token_at text ws i).word)
+      o ≡ table.transition (reading text ws d part i) (class (token_at text ws i).word)
       (token_at text ws i)
 
   pub goes_go : Goes text ws d from part i → i < length ws → (q : Progress) → Turned (table.go q)

@@ -31,23 +31,23 @@ module _ (text : List ℕ) (ws : List Word) (d : ℕ) where
   one : (part : Part) (i : ℕ) → TakesWords part → IsPart part i → i < length ws
       → has_dollar (token_at text ws i).word ≡ false
       → table.go (reading text ws d part (i + 1))
-      ≡ table.turn (reading text ws d part i) (table.class (token_at text ws i).word)
+      ≡ table.transition (reading text ws d part i) (table.class (token_at text ws i).word)
       (token_at text ws i)
   one Start i t p h e = absurd t
   one (Labelled l) i t p h e = absurd t
   one (Words k w) i t p h e =
       step_same text ws d i h (Words k w) Plain true (nat_lt 0 d) p tt refl
-      ∙ ap (λ b. table.turn (reading text ws d (Words k w) i)
+      ∙ ap (λ b. table.transition (reading text ws d (Words k w) i)
       (elim b [ true ↦ table.keyword (token_at text ws i).word | false ↦ table.plain ])
       (token_at text ws i)) (sym e)
   one (Formula w) i t p h e =
       step_same text ws d i h (Formula w) Plain true (nat_lt 0 d) p tt refl
-      ∙ ap (λ b. table.turn (reading text ws d (Formula w) i)
+      ∙ ap (λ b. table.transition (reading text ws d (Formula w) i)
       (elim b [ true ↦ table.keyword (token_at text ws i).word | false ↦ table.plain ])
       (token_at text ws i)) (sym e)
   one (Proof w q) i t p h e =
       step_same text ws d i h (Proof w q) Plain true (nat_lt 0 d) p tt refl
-      ∙ ap (λ b. table.turn (reading text ws d (Proof w q) i)
+      ∙ ap (λ b. table.transition (reading text ws d (Proof w q) i)
       (elim b [ true ↦ table.keyword (token_at text ws i).word | false ↦ table.plain ])
       (token_at text ws i)) (sym e)
 

@@ -68,7 +68,7 @@ module _ (text : List ℕ) (ws : List Word) (d i : ℕ) where
   pub step_same : i < length ws → (part : Part) (k : Class) (label inside : Bool) → IsPart part i
       → AtStart part (label ≡ is_label (token_at text ws i).word) → inside ≡ nat_lt 0 d
       → turn_of text ws d i (turn_for part k label inside i)
-      ≡ table.turn (reading text ws d part i) (class_of k) (token_at text ws i)
+      ≡ table.transition (reading text ws d part i) (class_of k) (token_at text ws i)
   step_same l Start Constant label inside p a e = opened (make text ws kind.Constants i)
   step_same l Start Variable label inside p a e = opened (make text ws kind.Variables i)
   step_same l Start Disjoint label inside p a e = opened (make text ws kind.Disjoint i)

@@ -136,7 +136,7 @@ module _ (text : List ℕ) (ws : List Word) where
   reading d (Formula k) i = table.formula d (label_before k) (place k) (between text ws (k + 1) i)
   reading d (Proof k e) i = table.words d (make_proved k e) (between text ws (e + 1) i)
 
-  abbrev pub turn_of : ℕ → ℕ → Turn → table.Turn
+  abbrev pub turn_of : ℕ → ℕ → Turn → table.Transition
   turn_of d i Stop = table.stop
   turn_of d i (Go part) = table.go (reading d part (i + 1))
   turn_of d i (Done o) = table.done (depth_after o.kind d) (statement_of o)

@@ -49,6 +49,8 @@ pub fn check_all<'d, R: Threads + Wait + Sync, A: Allocator + Copy + Send + Sync
     if gathered.seat.share() < WHOLE {
         return check_in_order(alloc, database, &rules, essential);
     }
+    // What follows needs no rules, and their memory.
+    drop(rules);
     let (first, _) = board.close(gathered.seat);
     if (first as usize) < count {
         return Ok(Judged::Faulty(fault_of(database, essential, &gathered.found, first)));

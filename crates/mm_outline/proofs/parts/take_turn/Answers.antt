@@ -14,7 +14,7 @@ returns-clause-same c =
     c.is_label_at.result (nat_lt 0 c.args.deep) c.requires.part
     (subst (λ b. AtStart c.args.part (c.is_label_at.result ≡ is_label b)) c.bytes-word.ensures
     c.is_label_at.ensures) refl
-    ∙ ap (λ k. table.turn (reading text ws c.args.deep c.args.part c.args.at) k
+    ∙ ap (λ k. table.transition (reading text ws c.args.deep c.args.part c.args.at) k
     (token_at text ws c.args.at)) (c.classify-class.ensures ∙ ap table.class c.bytes-word.ensures)
 
 pub returns-clause-holds : goal.returns-clause-holds
