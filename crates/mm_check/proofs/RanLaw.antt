@@ -4,7 +4,6 @@ use Rattle.std.proofs.Common.{◌&&◌, ◌||◌, List, [], ◌∷◌, ◌++◌,
 use Rattle.std.proofs.Common.{sym, ap, ◌∙◌, subst, arith, All, slice_get, length-append, true≢false}
 use Rattle.std.proofs.Common.{eq-eqb}
 use Rattle.std.specs.List.{Contains}
-use Rattle.std.proofs.lemmas.List.{take_all}
 use Rattle.std.proofs.lemmas.List.Elements.{All-push, All-weaker, All-nil, Contains-push}
 use Rattle.std.proofs.lemmas.List.Elements.{Contains-append_left}
 use Rattle.std.proofs.lemmas.List.Folds.{list_any_at}
@@ -166,19 +165,3 @@ none_ran k t steps s noted w e n = rw e (record {
   before = All-nil (λ j. j < 0);
   present = λ j l m. absurd (omega arith);
 })
-
--- all steps
-pub all_ran : (k : List Statement) (t : ℕ) (steps : List PlacedStep) (i : ℕ) (s : State)
-    → (noted : List ℕ)
-    → length steps ≤ i → Ran k t steps i s noted
-    → (ends : List Formula) × Reached k t (steps_of steps) s.stack ends noted
-all_ran k t steps i s noted l r = (
-  r.ends,
-  subst (λ z. Reached k t (steps_of z) s.stack r.ends noted)
-      (take_all i steps l) r.reached,
-)
-
--- what a step says of its assertion, where it has the label
-pub cited_there : (l b a : Bool) → (l ≡ true → b ≡ a) → (l && b) ≡ (l && a)
-cited_there true b a h = h refl
-cited_there false b a h = refl

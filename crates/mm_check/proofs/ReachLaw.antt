@@ -1,5 +1,5 @@
 -- One step more, a step that fails, and the end.
-use Rattle.std.proofs.Common.{◌≡◌, ◌≢◌, ℕ, zero, suc, ◌+◌, ◌<◌, Bool, true, false, ◌&&◌, ◌||◌, ◌==◌}
+use Rattle.std.proofs.Common.{◌≡◌, ℕ, zero, suc, ◌+◌, ◌<◌, Bool, true, false, ◌&&◌, ◌||◌, ◌==◌}
 use Rattle.std.proofs.Common.{List, [], ◌∷◌, ◌++◌, length, take, drop, Some, None, Option}
 use Rattle.std.proofs.Common.{true≢false, Ok, Err, refl, sym, ap, ◌∙◌, subst, arith, append-nil}
 use Rattle.std.proofs.Common.{append_assoc, slice_get, length-append}
@@ -9,7 +9,6 @@ use Rattle.std.proofs.lemmas.List.Folds.{list_any-append}
 use Rattle.std.proofs.lemmas.Option.{same_Some}
 use Rattle.mm_spec.specs.Text.{fault}
 use Rattle.mm_spec.specs.declared.Code.{Code}
-use Rattle.mm_spec.specs.declared.Code.TheVariants.{NotOneEntry}
 use Rattle.mm_spec.specs.Derivation.{Formula, Context, Trees, none, more, tree, formulas, postfix}
 use Rattle.mm_spec.specs.Derivation.{AreDerivations, is_member}
 use Rattle.mm_spec.specs.Steps.{Step, label, marked, PlacedStep, placed}
@@ -176,13 +175,6 @@ module _ (k : List Statement) (t : ℕ) (steps : List PlacedStep) (stack ends : 
     fails = subst (λ z. IsEndCode (context_at k t) z formula code) (sym r.entries_are) h;
     is = refl;
   }
-
--- not one entry
-pub not_one : (c : Context) (stack : List Formula) (formula : Formula) → length stack ≢ 1
-    → IsEndCode c stack formula NotOneEntry
-not_one c [] formula h = refl
-not_one c (g ∷ []) formula h = absurd (h refl)
-not_one c (g ∷ i ∷ gs) formula h = refl
 
 -- the step at a place is good
 pub good_at : (c : Context) (n : ℕ) (steps : List PlacedStep) (i : ℕ) → i < length steps
