@@ -233,20 +233,6 @@ next_here k t steps i stack ends noted s out outer then h is r good made grown n
     take_step steps i h ∙ ap (λ z. steps_of (take i steps) ++ z ∷ []) (sym is) in
     rw (e, grown) n
 
-pub fails_here : (k : List Statement) (t : ℕ) (steps : List PlacedStep) (i : ℕ)
-    → (stack ends : List Formula) (noted : List ℕ) (reason : Reason) (s : Step) (at : ℕ)
-    → (code : Code)
-    → i < length steps → s ≡ (step_at steps i).step → at ≡ (step_at steps i).at
-    → code ≡ code_of reason → Reached k t (steps_of (take i steps)) stack ends noted
-    → IsGoodStep (context_at k t) (length ends) s
-    → step_entries (context_at k t) s ends stack ≡ Err reason
-    → StepFault (context_at k t) steps (fault at code)
-fails_here k t steps i stack ends noted reason s at code h is at_is code_is r good made =
-    let good' = subst (λ z. IsGoodStep (context_at k t) (length ends) z) is good in
-    let made' : step_entries (context_at k t) (step_at steps i).step ends stack ≡ Err reason =
-    ap (λ z. step_entries (context_at k t) z ends stack) (sym is) ∙ made in
-    rw (at_is, code_is) (fails k t steps i stack ends noted reason h r good' made')
-
 -- the place of the end of a theorem's proof
 pub end_is : (db : List Statement) (t at : ℕ) → is_theorem_at db t ≡ true
     → option_map last_place (slice_get db t) ≡ Some at → end_of (slice_get db t) ≡ at

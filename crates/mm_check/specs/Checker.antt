@@ -5,7 +5,7 @@ use Rattle.mm_spec.specs.Frame.{symbol_names}
 use Rattle.mm_spec.specs.Derivation.{Formula, is_member}
 use Rattle.mm_spec.specs.Steps.{Step, PlacedStep}
 use Rattle.mm_spec.specs.Citation.{context_at}
-use Rattle.mm_spec.specs.Laws.Stack.{AreGoodSteps, step_entries}
+use Rattle.mm_spec.specs.Laws.Stack.{step_entries}
 use Rattle.mm_rule.specs.Assertions.{is_assertion_at}
 use Rattle.mm_rules.specs.Rules.{Lists, AreRules}
 use Rattle.mm_machine.specs.Arena.{AreApart}
@@ -13,7 +13,7 @@ use Rattle.mm_machine.specs.State.{State}
 use Rattle.mm_machine.specs.Stops.{Stops}
 use Rattle.mm_machine.specs.declared.machine.Stopped.{Stopped}
 use Rattle.mm_check.specs.Contract.{is_labelled_step}
-use Rattle.mm_check.specs.Reached.{Ran, Agree, steps_of}
+use Rattle.mm_check.specs.Reached.{Ran, Agree, AreStepsOf}
 
 -- a checker: the entries of its proof in progress, the rules that it borrows, the assertions that
 -- it noted, and the pairs of symbols that it knows to be disjoint
@@ -27,10 +27,14 @@ abbrev pub checker_state : State → Lists → List ℕ → List (ℕ × ℕ) �
 checker_state machine rules noted apart =
     record { machine = machine; rules = rules; noted = noted; apart = apart }
 
+-- the number of symbols and the rules are those of the database
+pub record AreOf (k : List Statement) (width : ℕ) (rules : Lists) : Type 0 where
+  pub width_is : width ≡ length (symbol_names k)
+  pub rules_are : AreRules k rules
+
 -- the checker is made for the theorems of the database
-pub record IsMadeFor (k : List Statement) (c : CheckerState) : Type 0 where
-  pub width : c.machine.width ≡ length (symbol_names k)
-  pub rules : AreRules k c.rules
+abbrev pub IsMadeFor : List Statement → CheckerState → Type 0
+IsMadeFor k c = AreOf k c.machine.width c.rules
 
 -- it checks the proof of the theorem
 pub record IsAt (k : List Statement) (t : ℕ) (c : CheckerState) : Type 0 where
@@ -38,11 +42,11 @@ pub record IsAt (k : List Statement) (t : ℕ) (c : CheckerState) : Type 0 where
   pub theorem : t < length k
   pub apart : AreApart k t c.apart
 
--- it has performed the first `i` steps
+-- it has performed the first `i` of the steps
 pub record HasPerformed (k : List Statement) (t : ℕ) (steps : List PlacedStep) (i : ℕ)
     (c : CheckerState) : Type 0 where
   pub at : IsAt k t c
-  pub good : AreGoodSteps (context_at k t) 0 (steps_of steps)
+  pub are_steps : AreStepsOf k t steps
   pub ran : Ran k t steps i c.machine c.noted
 
 -- one step leads from the checker to the next: its entries are those after the step, and its

@@ -3,7 +3,7 @@ use Rattle.std.proofs.lemmas.Result.{err_from_is_err_and}
 use Rattle.mm_machine.specs.State.{applied}
 use Rattle.mm_machine.specs.Stops.{Stops}
 use Rattle.mm_check.specs.Checker.{CheckerState, checker_state, IsAt}
-use Rattle.mm_check.proofs.StepLaw.{still_at, applies, stops}
+use Rattle.mm_check.proofs.StepLaw.{applies, stops}
 use Rattle.mm_check.proofs.checker.Checker.apply.Goals.{in-Ok-note, in-Err-note}
 use Rattle.mm_check.proofs.checker.Checker.apply.Goals as goal
 
@@ -12,14 +12,18 @@ rule_of-rule-requires-clause-rules g c =
     let at =
     subst (λ (s : CheckerState). IsAt c.args.db.now.statements c.args.theorem s)
     (sym c.self.view_is) c.requires.at in
-    at.made_for.rules
+    at.made_for.rules_are
 
 pub returns-in_err-apply-clause-at : goal.returns-in_err-apply-clause-at
 returns-in_err-apply-clause-at g c =
-    let db = c.args.db.now.statements in
-    still_at db c.args.theorem _ c.apply.new.self _ c.apply.new.apart
-    (subst (λ (s : CheckerState). IsAt db c.args.theorem s) (sym c.self.view_is) c.requires.at)
-    c.apply.ensures.width c.apply.ensures.apart
+    let at =
+    subst (λ (s : CheckerState). IsAt c.args.db.now.statements c.args.theorem s)
+    (sym c.self.view_is) c.requires.at in
+    record {
+      made_for = rw c.apply.ensures.width at.made_for;
+      theorem = at.theorem;
+      apart = c.apply.ensures.apart;
+    }
 
 pub returns-in_err-apply-clause-stopped : goal.returns-in_err-apply-clause-stopped
 returns-in_err-apply-clause-stopped g c =
@@ -36,10 +40,14 @@ returns-in_err-apply-clause-stopped g c =
 
 pub returns-clause-at : goal.returns-clause-at
 returns-clause-at g c =
-    let db = c.args.db.now.statements in
-    still_at db c.args.theorem _ c.apply.new.self c.note.new.self c.apply.new.apart
-    (subst (λ (s : CheckerState). IsAt db c.args.theorem s) (sym c.self.view_is) c.requires.at)
-    c.apply.ensures.width c.apply.ensures.apart
+    let at =
+    subst (λ (s : CheckerState). IsAt c.args.db.now.statements c.args.theorem s)
+    (sym c.self.view_is) c.requires.at in
+    record {
+      made_for = rw c.apply.ensures.width at.made_for;
+      theorem = at.theorem;
+      apart = c.apply.ensures.apart;
+    }
 
 pub returns-clause-performs : goal.returns-clause-performs
 returns-clause-performs g c =
