@@ -1,18 +1,15 @@
 -- What a good label stands for, by whether it is that of an assertion.
-use Rattle.std.proofs.Common.{◌≡◌, ℕ, ◌<◌, ◌≤◌, Bool, true, false, List, [], ◌∷◌, ◌++◌, length, Ok}
-use Rattle.std.proofs.Common.{Err, Option, None, Some, slice_get, refl, sym, ap, ap₂, ◌∙◌, ◌&&◌}
-use Rattle.std.proofs.Common.{subst, le-leb, nat_le, nat_lt, true≢false}
+use Rattle.std.proofs.Common.{◌≡◌, ℕ, ◌<◌, Bool, true, false, List, [], ◌∷◌, length}
+use Rattle.std.proofs.Common.{Option, None, Some, slice_get, refl, sym, ap, ◌∙◌}
+use Rattle.std.proofs.Common.{subst, true≢false}
 use Rattle.std.specs.List.{list_any}
-use Rattle.std.proofs.lemmas.Bool.{lt-leb, lt-ltb}
 use Rattle.mm_spec.specs.Statement.{Statement, floating, essential, axiomatic, provable}
-use Rattle.mm_spec.specs.Scope.{is_active, is_active_some, stays}
+use Rattle.mm_spec.specs.Scope.{is_active}
 use Rattle.mm_spec.specs.Frame.{formula_at, frame_at}
-use Rattle.mm_spec.specs.Derivation.{Formula, Rule, hypothesis, assertion}
-use Rattle.mm_spec.specs.Limits.{formula_limit}
-use Rattle.mm_spec.specs.Valid.{too_long}
-use Rattle.mm_spec.specs.Laws.Complete.{IsComplete, IsFine, AreComplete}
+use Rattle.mm_spec.specs.Derivation.{Rule, hypothesis, assertion}
+use Rattle.mm_spec.specs.Laws.Complete.{IsComplete}
 use Rattle.mm_spec.specs.Citation.{context_at, rule_of, rule_at, is_assertion}
-use Rattle.mm_spec.specs.Laws.Stack.{IsGood, step, pick, IsGoodStep}
+use Rattle.mm_spec.specs.Laws.Stack.{IsGood, IsGoodStep}
 use Rattle.mm_spec.proofs.FindsLaw.{inside_of}
 use Rattle.mm_spec.specs.Steps.{Step, label, marked}
 use Rattle.mm_rule.specs.Assertions.{is_assertion_at}
@@ -90,23 +87,6 @@ module _ (k : List Statement) (t j : ℕ) where
       by (axiomatic l p xs d) h g = absurd (true≢false h)
       by (provable l p xs e ps d) h g = absurd (true≢false h)
       by _ h g = absurd g
-
-  -- the step of a hypothesis
-  pub hypothesis_step : (es : List Formula) (f : Formula) → f ≡ formula_at k j
-      → is_assertion_at k j ≡ false → IsGood (context_at k t) (rule_at k t j)
-      → length f ≤ formula_limit → step (context_at k t) (rule_at k t j) es ≡ Ok (es ++ f ∷ [])
-  hypothesis_step es f is other good short =
-      ap (λ r. step (context_at k t) r es) (hypothesis_rule other good)
-      ∙ ap (λ z. pick true true true (nat_le (length z) formula_limit) (es ++ z ∷ [])) (sym is)
-      ∙ ap (λ b. pick true true true b (es ++ f ∷ [])) (le-leb (length f) formula_limit short)
-
-  pub long_step : (es : List Formula) (f : Formula) → f ≡ formula_at k j
-      → is_assertion_at k j ≡ false → IsGood (context_at k t) (rule_at k t j)
-      → formula_limit < length f → step (context_at k t) (rule_at k t j) es ≡ Err too_long
-  long_step es f is other good long =
-      ap (λ r. step (context_at k t) r es) (hypothesis_rule other good)
-      ∙ ap (λ z. pick true true true (nat_le (length z) formula_limit) (es ++ z ∷ [])) (sym is)
-      ∙ ap (λ b. pick true true true b (es ++ f ∷ [])) (lt-leb (length f) formula_limit long)
 
 -- the label of a good step is that of a statement
 pub good_labels : (k : List Statement) (t n : ℕ) (s : Step) → IsGoodStep (context_at k t) n s

@@ -1,25 +1,27 @@
 -- The state after one step more.
 use Rattle.std.proofs.Common.{◌≡◌, ℕ, zero, suc, ◌+◌, ◌<◌, ◌≤◌, ◌⊎◌, inl, inr, Bool, true, false}
-use Rattle.std.proofs.Common.{◌&&◌, ◌||◌, List, [], ◌∷◌, ◌++◌, length, take, get_or, Some, Ok, refl}
+use Rattle.std.proofs.Common.{List, [], ◌∷◌, ◌++◌, length, take, get_or, Some, Err, refl}
 use Rattle.std.proofs.Common.{sym, ap, ◌∙◌, subst, arith, All, slice_get, length-append, true≢false}
 use Rattle.std.proofs.Common.{eq-eqb}
 use Rattle.std.specs.List.{Contains}
-use Rattle.std.proofs.lemmas.List.{take_all}
 use Rattle.std.proofs.lemmas.List.Elements.{All-push, All-weaker, All-nil, Contains-push}
 use Rattle.std.proofs.lemmas.List.Elements.{Contains-append_left}
 use Rattle.std.proofs.lemmas.List.Folds.{list_any_at}
 use Rattle.std.proofs.lemmas.Bool.{cases_lt}
-use Rattle.mm_spec.specs.Derivation.{Formula, is_member}
+use Rattle.mm_spec.specs.Derivation.{Formula}
 use Rattle.mm_spec.specs.Steps.{Step, label, marked, PlacedStep, placed}
 use Rattle.mm_spec.specs.Statement.{Statement}
 use Rattle.mm_spec.specs.Citation.{context_at}
-use Rattle.mm_spec.specs.Laws.Stack.{AreGoodSteps, IsGoodStep, step_entries, top}
+use Rattle.mm_spec.specs.Laws.Stack.{IsGoodStep, step_entries, top}
 use Rattle.mm_steps.specs.Read.{step_at, is_marked, takes_up}
-use Rattle.mm_machine.specs.State.{State, state, with_mark}
-use Rattle.mm_rule.specs.Assertions.{is_assertion_at}
-use Rattle.mm_check.specs.Contract.{is_labelled_step, IsReady}
+use Rattle.mm_machine.specs.State.{State, state, with_mark, reason_of}
+use Rattle.mm_machine.specs.declared.machine.Stopped.{Stopped}
+use Rattle.mm_machine.specs.declared.machine.Stopped.TheVariants.{Fault, Memory}
+use Rattle.mm_check.specs.Contract.{IsReady, StepRefuses, refusal_at}
+use Rattle.mm_check.specs.Checker.{CheckerState, checker_state, IsAt, HasPerformed, Performs}
+use Rattle.mm_check.specs.Checker.{IsStopped}
 use Rattle.mm_check.specs.Reached.{Reached, Ran, Agree, steps_of}
-use Rattle.mm_check.proofs.ReachLaw.{starts, next_here, good_here}
+use Rattle.mm_check.proofs.ReachLaw.{starts, next_here, good_here, fails}
 
 get_front : (ends more : List Formula) (j : ℕ) (f : Formula) → slice_get ends j ≡ Some f
     → slice_get (ends ++ more) j ≡ Some f
@@ -64,65 +66,75 @@ takes_here steps i j h e =
     list_any_at (λ s. takes_up j s.step) steps i (placed 0 (label 0)) h
     (ap (takes_up j) e ∙ eq-eqb j j refl)
 
-module _ (k : List Statement) (t : ℕ) (steps : List PlacedStep) (i : ℕ) (s : State) (noted : List ℕ)
-    (r : Ran k t steps i s noted) (inside : i < length steps)
-    (good : AreGoodSteps (context_at k t) 0 (steps_of steps)) where
-  pub good_step : (a : Step) → a ≡ (step_at steps i).step
-      → IsGoodStep (context_at k t) (length r.ends) a
-  good_step a is = good_here (context_at k t) steps i (length r.ends) a inside good r.count is
+module _ (k : List Statement) (t : ℕ) (steps : List PlacedStep) (i : ℕ) (c : CheckerState)
+    (p : HasPerformed k t steps i c) (inside : i < length steps) (a : Step)
+    (is : a ≡ (step_at steps i).step) where
+  good_step : IsGoodStep (context_at k t) (length p.ran.ends) a
+  good_step =
+      good_here (context_at k t) steps i (length p.ran.ends) a inside p.are_steps.good p.ran.count is
 
   -- the step can be made
-  pub ready : (a : Step) → a ≡ (step_at steps i).step → IsReady (context_at k t) s.marks a
-  ready a is = by a is (good_step a is)
+  pub ready : IsReady (context_at k t) c.machine.marks a
+  ready = by a is good_step
     where
-      by : (a : Step) → a ≡ (step_at steps i).step → IsGoodStep (context_at k t) (length r.ends) a
-          → IsReady (context_at k t) s.marks a
+      by : (a : Step) → a ≡ (step_at steps i).step
+          → IsGoodStep (context_at k t) (length p.ran.ends) a
+          → IsReady (context_at k t) c.machine.marks a
       by (label l) is g = g
       by (marked j) is g =
-          r.present j (let c = r.count in omega (arith, g, c))
+          p.ran.present j (let c = p.ran.count in omega (arith, g, c))
           (takes_here steps i j inside (sym is))
 
+  -- the fault of a step that was stopped
+  pub stops_here : (at : ℕ) (e : Stopped) → at ≡ (step_at steps i).at → IsStopped k t a c e
+      → StepRefuses k t steps (refusal_at at e)
+  stops_here at Memory e stop = tt
+  stops_here at (Fault reason) e stop =
+      rw e
+      (fails k t steps i c.machine.stack p.ran.ends c.noted (reason_of reason) inside p.ran.reached
+      (subst (IsGoodStep (context_at k t) (length p.ran.ends)) is good_step)
+      (subst (λ z. step_entries (context_at k t) z p.ran.ends c.machine.stack
+      ≡ Err (reason_of reason)) is (stop p.ran.ends p.ran.agree)))
+
   -- what is kept after the step
-  pub next_ran : (a : Step) (made out : State) (then : List ℕ) → a ≡ (step_at steps i).step
-      → step_entries (context_at k t) a r.ends s.stack ≡ Ok made.stack → made.marks ≡ s.marks
-      → made.formulas ≡ s.formulas
-      → ((x : ℕ)
-      → is_member then x ≡ (is_member noted x || (is_labelled_step a x && is_assertion_at k x)))
-      → out ≡ with_mark (is_marked steps i) i made → Ran k t steps (i + 1) out then
-  next_ran a made out then is ok marks formulas notes kept =
-      subst (λ o. Ran k t steps (i + 1) o then) (sym kept) (by (is_marked steps i) refl)
+  next_ran : (d : CheckerState) (m : State) (b : Bool) → is_marked steps i ≡ b
+      → Performs k t a c d → m ≡ with_mark b i d.machine → Ran k t steps (i + 1) m d.noted
+  next_ran d m b is_b made kept =
+      subst (λ o. Ran k t steps (i + 1) o d.noted) (sym kept) (by b is_b)
     where
       ends : List Formula
-      ends = r.ends ++ top made.stack ∷ []
+      ends = p.ran.ends ++ top d.machine.stack ∷ []
 
       count : length ends ≡ i + 1
-      count = let c = r.count in omega (arith, c, length-append r.ends (top made.stack ∷ []))
+      count =
+          let c = p.ran.count in omega (arith, c, length-append p.ran.ends (top d.machine.stack ∷ []))
 
-      reached : Reached k t (steps_of (take (i + 1) steps)) made.stack ends then
+      reached : Reached k t (steps_of (take (i + 1) steps)) d.machine.stack ends d.noted
       reached =
-          next_here k t steps i s.stack r.ends noted a made.stack ends then inside is r.reached
-          (good_step a is) ok refl notes
+          next_here k t steps i c.machine.stack p.ran.ends c.noted a d.machine.stack ends d.noted
+          inside is p.ran.reached good_step (made.made p.ran.ends p.ran.agree) refl made.noted
 
-      agree : Agree ends made.marks made.formulas
+      agree : Agree ends d.machine.marks d.machine.formulas
       agree =
-          subst (λ m. Agree ends m made.formulas) (sym marks)
-          (subst (λ f. Agree ends s.marks f) (sym formulas)
-          (agree_more r.ends (top made.stack ∷ []) s.marks s.formulas r.agree))
+          rw (made.marks, made.formulas)
+          (agree_more p.ran.ends (top d.machine.stack ∷ []) c.machine.marks c.machine.formulas
+          p.ran.agree)
 
-      before : All (λ j. j < i + 1) made.marks
+      before : All (λ j. j < i + 1) d.machine.marks
       before =
-          subst (All (λ j. j < i + 1)) (sym marks)
-          (All-weaker (λ j. j < i) (λ j. j < i + 1) (λ j h. omega (arith, h)) s.marks r.before)
+          rw made.marks
+          (All-weaker (λ j. j < i) (λ j. j < i + 1) (λ j h. omega (arith, h)) c.machine.marks
+          p.ran.before)
 
-      last : slice_get ends i ≡ Some (top made.stack)
+      last : slice_get ends i ≡ Some (top d.machine.stack)
       last =
-          subst (λ n. slice_get ends n ≡ Some (top made.stack)) r.count
-          (get_last r.ends (top made.stack))
+          subst (λ n. slice_get ends n ≡ Some (top d.machine.stack)) p.ran.count
+          (get_last p.ran.ends (top d.machine.stack))
 
-      earlier : (j : ℕ) → j < i → is_marked steps j ≡ true → Contains made.marks j
-      earlier j l m = subst (λ z. Contains z j) (sym marks) (r.present j l m)
+      earlier : (j : ℕ) → j < i → is_marked steps j ≡ true → Contains d.machine.marks j
+      earlier j l m = subst (λ z. Contains z j) (sym made.marks) (p.ran.present j l m)
 
-      by : (b : Bool) → is_marked steps i ≡ b → Ran k t steps (i + 1) (with_mark b i made) then
+      by : (b : Bool) → is_marked steps i ≡ b → Ran k t steps (i + 1) (with_mark b i d.machine) d.noted
       by false e = record {
         ends = ends;
         count = count;
@@ -133,7 +145,7 @@ module _ (k : List Statement) (t : ℕ) (steps : List PlacedStep) (i : ℕ) (s :
       }
         where
           at : (j : ℕ) → is_marked steps j ≡ true → j < i + 1 → (j < i) ⊎ (i ≤ j)
-              → Contains made.marks j
+              → Contains d.machine.marks j
           at j m l (inl h) = earlier j h m
           at j m l (inr h) =
               absurd (true≢false
@@ -142,17 +154,26 @@ module _ (k : List Statement) (t : ℕ) (steps : List PlacedStep) (i : ℕ) (s :
         ends = ends;
         count = count;
         reached = reached;
-        agree = agree_push ends made.marks made.formulas i (top made.stack) agree last;
-        before = All-push (λ j. j < i + 1) made.marks i before (omega arith);
+        agree = agree_push ends d.machine.marks d.machine.formulas i (top d.machine.stack) agree last;
+        before = All-push (λ j. j < i + 1) d.machine.marks i before (omega arith);
         present = λ j l m. there j m l (cases_lt j i);
       }
         where
           there : (j : ℕ) → is_marked steps j ≡ true → j < i + 1 → (j < i) ⊎ (i ≤ j)
-              → Contains (made.marks ++ i ∷ []) j
-          there j m l (inl h) = Contains-append_left made.marks (i ∷ []) j (earlier j h m)
+              → Contains (d.machine.marks ++ i ∷ []) j
+          there j m l (inl h) = Contains-append_left d.machine.marks (i ∷ []) j (earlier j h m)
           there j m l (inr h) =
               let q : i ≡ j = omega (arith, h, l) in
-              subst (Contains (made.marks ++ i ∷ [])) q (Contains-push made.marks i)
+              subst (Contains (d.machine.marks ++ i ∷ [])) q (Contains-push d.machine.marks i)
+
+  pub performs_next : (d : CheckerState) (m : State) (b : Bool) → is_marked steps i ≡ b
+      → Performs k t a c d → IsAt k t d → m ≡ with_mark b i d.machine → m.width ≡ d.machine.width
+      → HasPerformed k t steps (i + 1) (checker_state m d.rules d.noted d.apart)
+  performs_next d m b is_b made at kept width = record {
+    at = record { made_for = rw width at.made_for; theorem = at.theorem; apart = at.apart };
+    are_steps = p.are_steps;
+    ran = next_ran d m b is_b made kept;
+  }
 
 -- no step so far
 pub none_ran : (k : List Statement) (t : ℕ) (steps : List PlacedStep) (s : State) (noted : List ℕ)
@@ -166,19 +187,3 @@ none_ran k t steps s noted w e n = rw e (record {
   before = All-nil (λ j. j < 0);
   present = λ j l m. absurd (omega arith);
 })
-
--- all steps
-pub all_ran : (k : List Statement) (t : ℕ) (steps : List PlacedStep) (i : ℕ) (s : State)
-    → (noted : List ℕ)
-    → length steps ≤ i → Ran k t steps i s noted
-    → (ends : List Formula) × Reached k t (steps_of steps) s.stack ends noted
-all_ran k t steps i s noted l r = (
-  r.ends,
-  subst (λ z. Reached k t (steps_of z) s.stack r.ends noted)
-      (take_all i steps l) r.reached,
-)
-
--- what a step says of its assertion, where it has the label
-pub cited_there : (l b a : Bool) → (l ≡ true → b ≡ a) → (l && b) ≡ (l && a)
-cited_there true b a h = h refl
-cited_there false b a h = refl

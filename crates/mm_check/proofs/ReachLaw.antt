@@ -1,5 +1,5 @@
 -- One step more, a step that fails, and the end.
-use Rattle.std.proofs.Common.{◌≡◌, ◌≢◌, ℕ, zero, suc, ◌+◌, ◌<◌, Bool, true, false, ◌&&◌, ◌||◌, ◌==◌}
+use Rattle.std.proofs.Common.{◌≡◌, ℕ, zero, suc, ◌+◌, ◌<◌, Bool, true, false, ◌&&◌, ◌||◌, ◌==◌}
 use Rattle.std.proofs.Common.{List, [], ◌∷◌, ◌++◌, length, take, drop, Some, None, Option}
 use Rattle.std.proofs.Common.{true≢false, Ok, Err, refl, sym, ap, ◌∙◌, subst, arith, append-nil}
 use Rattle.std.proofs.Common.{append_assoc, slice_get, length-append}
@@ -9,7 +9,6 @@ use Rattle.std.proofs.lemmas.List.Folds.{list_any-append}
 use Rattle.std.proofs.lemmas.Option.{same_Some}
 use Rattle.mm_spec.specs.Text.{fault}
 use Rattle.mm_spec.specs.declared.Code.{Code}
-use Rattle.mm_spec.specs.declared.Code.TheVariants.{NotOneEntry}
 use Rattle.mm_spec.specs.Derivation.{Formula, Context, Trees, none, more, tree, formulas, postfix}
 use Rattle.mm_spec.specs.Derivation.{AreDerivations, is_member}
 use Rattle.mm_spec.specs.Steps.{Step, label, marked, PlacedStep, placed}
@@ -177,13 +176,6 @@ module _ (k : List Statement) (t : ℕ) (steps : List PlacedStep) (stack ends : 
     is = refl;
   }
 
--- not one entry
-pub not_one : (c : Context) (stack : List Formula) (formula : Formula) → length stack ≢ 1
-    → IsEndCode c stack formula NotOneEntry
-not_one c [] formula h = refl
-not_one c (g ∷ []) formula h = absurd (h refl)
-not_one c (g ∷ i ∷ gs) formula h = refl
-
 -- the step at a place is good
 pub good_at : (c : Context) (n : ℕ) (steps : List PlacedStep) (i : ℕ) → i < length steps
     → AreGoodSteps c n (steps_of steps) → IsGoodStep c (n + i) (step_at steps i).step
@@ -240,20 +232,6 @@ next_here k t steps i stack ends noted s out outer then h is r good made grown n
     let e : steps_of (take (i + 1) steps) ≡ steps_of (take i steps) ++ s ∷ [] =
     take_step steps i h ∙ ap (λ z. steps_of (take i steps) ++ z ∷ []) (sym is) in
     rw (e, grown) n
-
-pub fails_here : (k : List Statement) (t : ℕ) (steps : List PlacedStep) (i : ℕ)
-    → (stack ends : List Formula) (noted : List ℕ) (reason : Reason) (s : Step) (at : ℕ)
-    → (code : Code)
-    → i < length steps → s ≡ (step_at steps i).step → at ≡ (step_at steps i).at
-    → code ≡ code_of reason → Reached k t (steps_of (take i steps)) stack ends noted
-    → IsGoodStep (context_at k t) (length ends) s
-    → step_entries (context_at k t) s ends stack ≡ Err reason
-    → StepFault (context_at k t) steps (fault at code)
-fails_here k t steps i stack ends noted reason s at code h is at_is code_is r good made =
-    let good' = subst (λ z. IsGoodStep (context_at k t) (length ends) z) is good in
-    let made' : step_entries (context_at k t) (step_at steps i).step ends stack ≡ Err reason =
-    ap (λ z. step_entries (context_at k t) z ends stack) (sym is) ∙ made in
-    rw (at_is, code_is) (fails k t steps i stack ends noted reason h r good' made')
 
 -- the place of the end of a theorem's proof
 pub end_is : (db : List Statement) (t at : ℕ) → is_theorem_at db t ≡ true

@@ -1,21 +1,67 @@
--- For which database a checker is made.
-use Rattle.std.specs.Prelude.{◌≡◌, ℕ, List, length}
+-- What a checker holds, and how far it is with a proof.
+use Rattle.std.specs.Prelude.{◌≡◌, ℕ, ◌<◌, ◌&&◌, ◌||◌, List, length, Ok}
 use Rattle.mm_spec.specs.Statement.{Statement}
 use Rattle.mm_spec.specs.Frame.{symbol_names}
+use Rattle.mm_spec.specs.Derivation.{Formula, is_member}
+use Rattle.mm_spec.specs.Steps.{Step, PlacedStep}
+use Rattle.mm_spec.specs.Citation.{context_at}
+use Rattle.mm_spec.specs.Laws.Stack.{step_entries}
+use Rattle.mm_rule.specs.Assertions.{is_assertion_at}
 use Rattle.mm_rules.specs.Rules.{Lists, AreRules}
+use Rattle.mm_machine.specs.Arena.{AreApart}
+use Rattle.mm_machine.specs.State.{State}
+use Rattle.mm_machine.specs.Stops.{Stops}
+use Rattle.mm_machine.specs.declared.machine.Stopped.{Stopped}
+use Rattle.mm_check.specs.Contract.{is_labelled_step}
+use Rattle.mm_check.specs.Reached.{Ran, Agree, AreStepsOf}
 
--- a checker: how many symbols it knows, how many its compiler of rules knows, and the rules that it
--- borrows
-pub record Made : Type 0 where
-  pub width : ℕ
-  pub compiler : ℕ
+-- a checker: the entries of its proof in progress, the rules that it borrows, the assertions that
+-- it noted, and the pairs of symbols that it knows to be disjoint
+pub record CheckerState : Type 0 where
+  pub machine : State
   pub rules : Lists
+  pub noted : List ℕ
+  pub apart : List (ℕ × ℕ)
 
-abbrev pub made : ℕ → ℕ → Lists → Made
-made width compiler rules = record { width = width; compiler = compiler; rules = rules }
+abbrev pub checker_state : State → Lists → List ℕ → List (ℕ × ℕ) → CheckerState
+checker_state machine rules noted apart =
+    record { machine = machine; rules = rules; noted = noted; apart = apart }
+
+-- the number of symbols and the rules are those of the database
+pub record AreOf (k : List Statement) (width : ℕ) (rules : Lists) : Type 0 where
+  pub width_is : width ≡ length (symbol_names k)
+  pub rules_are : AreRules k rules
 
 -- the checker is made for the theorems of the database
-unfoldable pub IsMadeFor : List Statement → Made → Type 0
-IsMadeFor k m =
-    (m.width ≡ length (symbol_names k)) × (m.compiler ≡ length (symbol_names k)) × AreRules k
-    m.rules
+abbrev pub IsMadeFor : List Statement → CheckerState → Type 0
+IsMadeFor k c = AreOf k c.machine.width c.rules
+
+-- it checks the proof of the theorem
+pub record IsAt (k : List Statement) (t : ℕ) (c : CheckerState) : Type 0 where
+  pub made_for : IsMadeFor k c
+  pub theorem : t < length k
+  pub apart : AreApart k t c.apart
+
+-- it has performed the first `i` of the steps
+pub record HasPerformed (k : List Statement) (t : ℕ) (steps : List PlacedStep) (i : ℕ)
+    (c : CheckerState) : Type 0 where
+  pub at : IsAt k t c
+  pub are_steps : AreStepsOf k t steps
+  pub ran : Ran k t steps i c.machine c.noted
+
+-- one step leads from the checker to the next: its entries are those after the step, and its
+-- assertion is noted
+pub record Performs (k : List Statement) (t : ℕ) (a : Step) (c d : CheckerState) : Type 0 where
+  pub made : (ends : List Formula) → Agree ends c.machine.marks c.machine.formulas
+      → step_entries (context_at k t) a ends c.machine.stack ≡ Ok d.machine.stack
+  pub marks : d.machine.marks ≡ c.machine.marks
+  pub formulas : d.machine.formulas ≡ c.machine.formulas
+  pub entry : 0 < length d.machine.stack
+  pub noted : (x : ℕ)
+      → is_member d.noted x ≡ (is_member c.noted x || (is_labelled_step a x && is_assertion_at k x))
+
+-- the step is stopped for a reason for which it fails
+abbrev pub IsStopped : List Statement → ℕ → Step → CheckerState → Stopped → Type 0
+IsStopped k t a c e =
+    (ends : List Formula) → Agree ends c.machine.marks c.machine.formulas
+    → Stops e (step_entries (context_at k t) a ends c.machine.stack)

@@ -1,15 +1,18 @@
 -- What the answers of the checker mean.
 use Rattle.std.specs.Prelude.{ℕ, ◌<◌, Bool, false, ◌==◌, List, slice_get, Decides}
-use Rattle.std.specs.List.{list_any, Contains}
+use Rattle.std.specs.List.{Contains}
 use Rattle.std.specs.List.Sorted.{IsStrictlyIncreasing}
 use Rattle.mm_spec.specs.Statement.{Statement}
-use Rattle.mm_spec.specs.Scope.{statement_at}
 use Rattle.mm_spec.specs.Derivation.{Context, Trees, is_member}
 use Rattle.mm_spec.specs.Steps.{Step, label, marked, PlacedStep}
-use Rattle.mm_spec.specs.Valid.{StepFault}
-use Rattle.mm_spec.specs.Citation.{IsProof, Cites, is_assertion, context_at}
+use Rattle.mm_spec.specs.Text.{fault}
+use Rattle.mm_spec.specs.Valid.{StepFault, code_of}
+use Rattle.mm_spec.specs.Citation.{IsProof, Cites, context_at}
 use Rattle.mm_spec.specs.Output.{ProofFault, end_of}
 use Rattle.mm_spec.specs.Laws.Stack.{IsGood}
+use Rattle.mm_machine.specs.State.{reason_of}
+use Rattle.mm_machine.specs.declared.machine.Stopped.{Stopped}
+use Rattle.mm_machine.specs.declared.machine.Stopped.TheVariants.{Fault as Reasoned, Memory as Full}
 use Rattle.mm_check.specs.declared.checker.CheckRefused.{CheckRefused}
 use Rattle.mm_check.specs.declared.checker.CheckRefused.TheVariants.{Fault as Faulty, Memory}
 
@@ -39,6 +42,11 @@ Refuses db t Memory = Unit {0}
 abbrev pub StepRefuses : List Statement → ℕ → List PlacedStep → CheckRefused → Type 0
 StepRefuses db t steps (Faulty f) = StepFault (context_at db t) steps f
 StepRefuses db t steps Memory = Unit {0}
+
+-- the refusal of a proof, a step of which was stopped at the place
+abbrev pub refusal_at : ℕ → Stopped → CheckRefused
+refusal_at at (Reasoned reason) = Faulty (fault at (code_of (reason_of reason)))
+refusal_at at Full = Memory
 
 -- if the step is a label, it is less than the number
 abbrev pub labels : Step → ℕ → Type 0

@@ -1,13 +1,16 @@
 -- What holds after the steps so far.
 use Rattle.std.specs.Prelude.{ℕ, ◌≡◌, ◌<◌, true, ◌&&◌, List, [], ◌++◌, map, take, length, All, Some}
-use Rattle.std.specs.Prelude.{slice_get}
+use Rattle.std.specs.Prelude.{slice_get, IsTrue}
 use Rattle.std.specs.List.{AllByRecursion, AllZip, Contains}
 use Rattle.mm_spec.specs.Derivation.{Formula, Trees, formulas, postfix, AreDerivations, is_member}
 use Rattle.mm_spec.specs.Steps.{Step, PlacedStep}
 use Rattle.mm_spec.specs.Valid.{Plain}
 use Rattle.mm_spec.specs.Laws.Stack.{Leaves}
 use Rattle.mm_spec.specs.Statement.{Statement}
-use Rattle.mm_spec.specs.Citation.{context_at}
+use Rattle.mm_spec.specs.Citation.{context_at, steps_at, reading_faults_at}
+use Rattle.mm_spec.specs.Output.{is_theorem_at}
+use Rattle.mm_spec.specs.Laws.Complete.{AreComplete}
+use Rattle.mm_spec.specs.Laws.Stack.{AreGoodSteps}
 use Rattle.mm_steps.specs.Read.{is_marked}
 use Rattle.mm_machine.specs.State.{State}
 use Rattle.mm_rule.specs.Assertions.{is_assertion_at}
@@ -46,3 +49,11 @@ pub record Ran (k : List Statement) (t : ℕ) (steps : List PlacedStep) (i : ℕ
   pub agree : Agree ends s.marks s.formulas
   pub before : All (λ j. j < i) s.marks
   pub present : (j : ℕ) → j < i → is_marked steps j ≡ true → Contains s.marks j
+
+-- the steps are those of the theorem's proof, which was read without a fault
+pub record AreStepsOf (k : List Statement) (t : ℕ) (steps : List PlacedStep) : Type 0 where
+  pub complete : AreComplete k
+  pub theorem : IsTrue (is_theorem_at k t)
+  pub are : steps ≡ steps_at k t
+  pub sound : reading_faults_at k t ≡ []
+  pub good : AreGoodSteps (context_at k t) 0 (steps_of steps)

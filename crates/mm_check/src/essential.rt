@@ -6,16 +6,14 @@ ghost use Rattle.std.specs.List.{list_any};
 ghost use Rattle.mm_spec.specs.Scope.{statement_at};
 ghost use Rattle.mm_spec.specs.Frame.{is_essential as is_essential_statement};
 ghost use Rattle.mm_spec.specs.Derivation.{Trees, is_member};
-ghost use Rattle.mm_spec.specs.Citation.{context_at, steps_at, IsProof, Cites};
-ghost use Rattle.mm_spec.specs.Laws.Complete.{AreComplete};
-ghost use Rattle.mm_spec.specs.Laws.Stack.{AreGoodSteps};
+ghost use Rattle.mm_spec.specs.Citation.{IsProof, Cites};
 ghost use Rattle.mm_steps.specs.Read.{step_of, IsEarlier};
 ghost use Rattle.mm_rule.specs.Assertions.{is_assertion_at};
 ghost use Rattle.mm_check.specs.Contract.{is_labelled_step, labels};
 ghost use Rattle.mm_check.specs.Flags.{child_flags, taken_flags, wanted_flags};
-ghost use Rattle.mm_check.specs.Reached.{steps_of};
+ghost use Rattle.mm_check.specs.Reached.{AreStepsOf};
 
-use crate::noted::cite;
+use crate::noted::Noted;
 use mm_database::Database;
 use mm_rule::{empty, hyps, is_assertion, is_essential_hypothesis};
 use mm_steps::{Step, Steps};
@@ -51,19 +49,15 @@ impl<A: Allocator> Flags<A> {
         theorem: u32,
         steps: &Steps<A>,
         essential: bool,
-        noted: &mut Vec<u32, A>,
-        places: &mut [u32],
+        noted: &mut Noted<A>,
     ) -> Result<(), AllocError>
-        requires complete { AreComplete db.now.statements }
-        requires steps { steps.now.steps ≡ steps_at db.now.statements theorem }
-        requires usable { AreGoodSteps (context_at db.now.statements theorem) 0
-            (steps_of steps.now.steps) }
+        requires steps { AreStepsOf db.now.statements theorem steps.now.steps }
         requires valid { (d : Trees) × IsProof db.now.statements theorem d }
         requires noted { (a : ℕ)
-            → Decides (is_member noted.old.items a) (Cites db.now.statements false theorem a) }
+            → Decides (is_member noted.old a) (Cites db.now.statements false theorem a) }
         ensures { OnOk result
             ((a : ℕ)
-            → Decides (is_member noted.new.items a)
+            → Decides (is_member noted.new a)
             (Cites db.now.statements essential theorem a)) }
     {
         if essential {
@@ -72,7 +66,6 @@ impl<A: Allocator> Flags<A> {
                 theorem,
                 steps,
                 noted,
-                places,
                 &mut self.waiting,
                 &mut self.wanted,
             )
@@ -142,8 +135,7 @@ fn undo<A: Allocator>(
     db: &Database<A>,
     step: Step,
     is_essential: bool,
-    noted: &mut Vec<u32, A>,
-    places: &mut [u32],
+    noted: &mut Noted<A>,
     waiting: &mut Vec<bool, A>,
     wanted: &mut [bool],
 ) -> Result<(), AllocError>
@@ -151,8 +143,8 @@ fn undo<A: Allocator>(
     requires earlier { IsEarlier (step_of step) (length wanted.old) }
     ensures noted { OnOk result
         ((a : ℕ)
-        → is_member noted.new.items a
-        ≡ (is_member noted.old.items a
+        → is_member noted.new a
+        ≡ (is_member noted.old a
         || (is_essential
         && (is_labelled_step (step_of step) a && is_assertion_at db.now.statements a)))) }
     ensures waiting { OnOk result
@@ -162,7 +154,7 @@ fn undo<A: Allocator>(
         (wanted.new ≡ wanted_flags is_essential (step_of step) wanted.old) }
 {
     if is_essential {
-        cite(db, step, noted, places)?;
+        noted.cite(db, step)?;
     }
     match step {
         Step::Label(k) => {
@@ -186,34 +178,22 @@ fn walk_back<A: Allocator>(
     db: &Database<A>,
     theorem: u32,
     steps: &Steps<A>,
-    noted: &mut Vec<u32, A>,
-    places: &mut [u32],
+    noted: &mut Noted<A>,
     waiting: &mut Vec<bool, A>,
     wanted: &mut Vec<bool, A>,
 ) -> Result<(), AllocError>
-    requires complete { AreComplete db.now.statements }
-    requires steps { steps.now.steps ≡ steps_at db.now.statements theorem }
-    requires usable { AreGoodSteps (context_at db.now.statements theorem) 0
-        (steps_of steps.now.steps) }
+    requires steps { AreStepsOf db.now.statements theorem steps.now.steps }
     requires valid { (d : Trees) × IsProof db.now.statements theorem d }
     ensures { OnOk result
         ((a : ℕ)
-        → Decides (is_member noted.new.items a) (Cites db.now.statements true theorem a)) }
+        → Decides (is_member noted.new a) (Cites db.now.statements true theorem a)) }
 {
     noted.clear();
     restart(steps.len(), waiting, wanted)?;
     for i in (0..steps.len()).rev() {
         let flag = pop_flag(waiting);
         let is_essential = flag || wanted[i];
-        undo(
-            db,
-            steps.step(i),
-            is_essential,
-            noted,
-            places,
-            waiting,
-            wanted,
-        )?;
+        undo(db, steps.step(i), is_essential, noted, waiting, wanted)?;
     }
     Ok(())
 }

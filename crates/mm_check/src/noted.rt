@@ -1,6 +1,6 @@
 //! The assertions that were noted as cited.
 
-ghost use Rattle.std.specs.Prelude.{◌≡◌, ◌==◌, ◌&&◌, ◌||◌, ℕ, length, true, OnOk};
+ghost use Rattle.std.specs.Prelude.{◌≡◌, ◌==◌, ◌&&◌, ◌||◌, ℕ, [], length, true, IfOk, OnOk};
 ghost use Rattle.std.specs.List.Sorted.{IsStrictlyIncreasing};
 ghost use Rattle.mm_spec.specs.Derivation.{is_member};
 ghost use Rattle.mm_steps.specs.Read.{step_of};
@@ -8,85 +8,98 @@ ghost use Rattle.mm_rule.specs.Assertions.{is_assertion_at};
 ghost use Rattle.mm_check.specs.Contract.{labels, is_labelled_step};
 
 use mm_database::Database;
-use mm_rule::{is_assertion, put_number};
+use mm_rule::{empty, is_assertion, put_number, zeros};
 use mm_steps::Step;
 use std::alloc::{AllocError, Allocator};
+use std::marker::Model;
 
-/// Whether `k` is in `noted` at the index that `places` gives for it. If it isn't, it may still be
-/// in `noted`.
-fn is_noted(places: &[u32], noted: &[u32], k: u32) -> bool
-    ensures { result ≡ true → is_member noted.now k ≡ true }
-{
-    let i = k as usize;
-    if i >= places.len() {
-        return false;
-    }
-    let place = places[i] as usize;
-    place < noted.len() && noted[place] == k
+/// The assertions that were noted as cited, by the numbers of their statements. It is kept from
+/// proof to proof so that its memory is reused.
+#[derive(Drop)]
+pub struct Noted<A: Allocator> {
+    numbers: Vec<u32, A>,
+    /// Where a statement may be in `numbers`.
+    places: Vec<u32, A>,
 }
 
-/// Notes a statement, unless it is in `noted` where `places` says.
-#[inline(always)]
-fn note<A: Allocator>(k: u32, noted: &mut Vec<u32, A>, places: &mut [u32]) -> Result<(), AllocError>
-    ensures { OnOk result
-        ((a : ℕ)
-        → is_member noted.new.items a ≡ (is_member noted.old.items a || (a == k))) }
-{
-    if !is_noted(places, noted, k) {
-        put_number(places, k as usize, noted.len());
-        noted.push(k)?;
-    }
-    Ok(())
+impl<A: Allocator> Model for Noted<A> {
+    ghost use Rattle.std.specs.Prelude.{ℕ, List};
+
+    ghost Value = { List ℕ };
+
+    ghost view = { λ n. n.numbers.items };
 }
 
-/// Notes the assertion that a step applies.
-pub fn cite<A: Allocator>(
-    db: &Database<A>,
-    step: Step,
-    noted: &mut Vec<u32, A>,
-    places: &mut [u32],
-) -> Result<(), AllocError>
-    requires known { labels (step_of step) (length db.now.statements) }
-    ensures { OnOk result
-        ((a : ℕ)
-        → is_member noted.new.items a
-        ≡ (is_member noted.old.items a
-        || (is_labelled_step (step_of step) a && is_assertion_at db.now.statements a))) }
-{
-    if let Step::Label(k) = step {
-        if is_assertion(db, k) {
-            note(k, noted, places)?;
+impl<A: Allocator> Noted<A> {
+    /// No assertions. `count` is the number of statements of the database.
+    pub fn new(alloc: A, count: usize) -> Result<Self, AllocError>
+    where
+        A: Copy,
+    {
+        Ok(Noted {
+            numbers: Vec::new(alloc),
+            places: zeros(alloc, count)?,
+        })
+    }
+
+    /// Removes all, and keeps the memory, except that of a long list.
+    pub fn clear(&mut self)
+        ensures { self.new ≡ [] }
+    {
+        empty(&mut self.numbers);
+    }
+
+    /// Whether `k` is in `numbers` at the index that `places` gives for it. If it isn't, it may
+    /// still be in `numbers`.
+    fn has(&self, k: u32) -> bool
+        ensures { result ≡ true → is_member self.now k ≡ true }
+    {
+        let i = k as usize;
+        if i >= self.places.len() {
+            return false;
         }
+        let place = self.places[i] as usize;
+        place < self.numbers.len() && self.numbers[place] == k
     }
-    Ok(())
-}
 
-/// Notes the statement that a step names, if it is cited.
-#[inline(always)]
-pub fn cite_if<A: Allocator>(
-    step: Step,
-    is_cited: bool,
-    noted: &mut Vec<u32, A>,
-    places: &mut [u32],
-) -> Result<(), AllocError>
-    ensures { OnOk result
-        ((a : ℕ)
-        → is_member noted.new.items a
-        ≡ (is_member noted.old.items a || (is_labelled_step (step_of step) a && is_cited))) }
-{
-    if let Step::Label(k) = step {
-        if is_cited {
-            note(k, noted, places)?;
+    /// Notes a statement, unless it is in `numbers` where `places` says.
+    #[inline(always)]
+    pub fn note(&mut self, k: u32) -> Result<(), AllocError>
+        ensures { OnOk result
+            ((a : ℕ) → is_member self.new a ≡ (is_member self.old a || (a == k))) }
+    {
+        if !self.has(k) {
+            put_number(&mut self.places, k as usize, self.numbers.len());
+            self.numbers.push(k)?;
         }
+        Ok(())
     }
-    Ok(())
-}
 
-/// Sorts the numbers in ascending order and removes duplicates.
-pub fn sort_and_dedup<A: Allocator>(noted: &mut Vec<u32, A>)
-    ensures rising { IsStrictlyIncreasing noted.new.items }
-    ensures same { (a : ℕ) → is_member noted.new.items a ≡ is_member noted.old.items a }
-{
-    noted.sort_unstable();
-    noted.dedup();
+    /// Notes the assertion that a step applies.
+    pub fn cite(&mut self, db: &Database<A>, step: Step) -> Result<(), AllocError>
+        requires known { labels (step_of step) (length db.now.statements) }
+        ensures { OnOk result
+            ((a : ℕ)
+            → is_member self.new a
+            ≡ (is_member self.old a
+            || (is_labelled_step (step_of step) a && is_assertion_at db.now.statements a))) }
+    {
+        if let Step::Label(k) = step {
+            if is_assertion(db, k) {
+                self.note(k)?;
+            }
+        }
+        Ok(())
+    }
+
+    /// The noted assertions in ascending order, each once.
+    pub fn sorted(&mut self, alloc: A) -> Result<Vec<u32, A>, AllocError>
+        ensures rising { IfOk result (λ cites. IsStrictlyIncreasing cites.items) }
+        ensures same { IfOk result
+            (λ cites. (a : ℕ) → is_member cites.items a ≡ is_member self.old a) }
+    {
+        self.numbers.sort_unstable();
+        self.numbers.dedup();
+        self.numbers.to_vec(alloc)
+    }
 }

@@ -17,10 +17,10 @@ loop-i-init g c =
     let steps = c.args.steps.now.steps in
     let wanted = c.in_ok-restart.ensures.wanted ∙ ap (λ n. replicate n false) c.len.ensures in
     rw c.len-i.ensures
-    (walk_start c.args.db.now.statements c.args.theorem steps c.requires.complete
-    c.restart.new.waiting.items c.restart.new.wanted.items c.clear.new.self.items
-    c.requires.steps c.requires.valid c.in_ok-restart.ensures.waiting wanted
-    c.clear.ensures.items)
+    (walk_start c.args.db.now.statements c.args.theorem steps c.requires.steps.complete
+    c.restart.new.waiting.items c.restart.new.wanted.items c.clear.new.self
+    c.requires.steps.are c.requires.valid c.in_ok-restart.ensures.waiting wanted
+    c.clear.ensures)
 
 pub pop_flag-flag-requires : goal.pop_flag-flag-requires
 pop_flag-flag-requires g c =
@@ -29,7 +29,7 @@ pop_flag-flag-requires g c =
     omega (arith, c.loop-i-test.true, c.loop-i.auto.i, c.len-i.ensures) in
     let next : c.loop-i.i ≡ suc (c.loop-i.i - 1) = omega (arith, c.loop-i-test.true) in
     walk_some c.args.db.now.statements c.args.theorem steps c.loop-i.i
-    (c.loop-i.i - 1) c.loop-i.waiting.items c.loop-i.wanted.items c.loop-i.noted.items
+    (c.loop-i.i - 1) c.loop-i.waiting.items c.loop-i.wanted.items c.loop-i.noted
     c.loop-i.invariant inside next
 
 pub undo-requires-clause-known : goal.undo-requires-clause-known
@@ -41,7 +41,7 @@ undo-requires-clause-known g c =
     omega (arith, c.loop-i-test.true, c.loop-i.auto.i, c.len-i.ensures) in
     good_labels db c.args.theorem i (step_of c.step.result)
     (good_here (context_at db c.args.theorem) steps i i
-    (step_of c.step.result) inside c.requires.usable refl c.step.ensures)
+    (step_of c.step.result) inside c.requires.steps.good refl c.step.ensures)
 
 pub undo-requires-clause-earlier : goal.undo-requires-clause-earlier
 undo-requires-clause-earlier g c =
@@ -54,7 +54,7 @@ undo-requires-clause-earlier g c =
     earlier_of (context_at db c.args.theorem) i (length c.deref_mut.result.now)
     (step_of c.step.result) (omega (arith, inside, many))
     (good_here (context_at db c.args.theorem) steps i i
-    (step_of c.step.result) inside c.requires.usable refl c.step.ensures)
+    (step_of c.step.result) inside c.requires.steps.good refl c.step.ensures)
 
 pub loop-i-preserved : goal.loop-i-preserved
 loop-i-preserved g c =
@@ -87,16 +87,16 @@ loop-i-preserved g c =
     (ap length want ∙ wanted_count c.if-flag.is_essential (step_of c.step.result) wanted
     ∙ long) in
     walk_here db c.args.theorem steps c.loop-i.i i c.loop-i.waiting.items wanted
-    c.loop-i.noted.items c.loop-i.invariant inside next c.pop_flag-flag.new.waiting.items
+    c.loop-i.noted c.loop-i.invariant inside next c.pop_flag-flag.new.waiting.items
     c.pop_flag-flag.result c.if-flag.is_essential
-    (step_of c.step.result) c.undo.new.waiting.items _ c.undo.new.noted.items
-    c.pop_flag-flag.ensures needed c.requires.usable c.step.ensures c.in_ok-undo.ensures.waiting
+    (step_of c.step.result) c.undo.new.waiting.items _ c.undo.new.noted
+    c.pop_flag-flag.ensures needed c.requires.steps.good c.step.ensures c.in_ok-undo.ensures.waiting
     (whole ∙ want) c.in_ok-undo.ensures.noted
 
 pub returns : goal.returns
 returns g c =
     let none : c.loop-i.i ≡ 0 = omega (arith, c.loop-i-test.false) in
-    walk_end c.args.db.now.statements c.args.theorem c.args.steps.now.steps c.requires.complete
-    c.loop-i.waiting.items c.loop-i.wanted.items c.loop-i.noted.items
+    walk_end c.args.db.now.statements c.args.theorem c.args.steps.now.steps c.requires.steps.complete
+    c.loop-i.waiting.items c.loop-i.wanted.items c.loop-i.noted
     (subst (λ n. Walked c.args.db.now.statements c.args.theorem c.args.steps.now.steps n
-    c.loop-i.waiting.items c.loop-i.wanted.items c.loop-i.noted.items) none c.loop-i.invariant)
+    c.loop-i.waiting.items c.loop-i.wanted.items c.loop-i.noted) none c.loop-i.invariant)

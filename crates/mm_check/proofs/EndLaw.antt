@@ -1,0 +1,95 @@
+-- The beginning and the end of a proof.
+use Rattle.std.proofs.Common.{◌≡◌, ℕ, ◌<◌, ◌∷◌, [], List, length, slice_get, Some, None, Option, Bool}
+use Rattle.std.proofs.Common.{sym, subst, inr, true, false, refl, true≢false, arith}
+use Rattle.std.specs.Prelude.{Decides}
+use Rattle.std.specs.List.{list_any}
+use Rattle.std.specs.Option.{option_map}
+use Rattle.std.specs.List.Sorted.{IsStrictlyIncreasing}
+use Rattle.std.proofs.lemmas.List.{take_all}
+use Rattle.mm_spec.specs.Text.{fault}
+use Rattle.mm_spec.specs.Statement.{Statement}
+use Rattle.mm_spec.specs.Steps.{PlacedStep}
+use Rattle.mm_spec.specs.Derivation.{Trees, is_member}
+use Rattle.mm_spec.specs.Output.{ProofFault, end_of}
+use Rattle.mm_spec.specs.declared.Code.{Code}
+use Rattle.mm_spec.specs.Valid.{Derives, ProofEndFault, IsEndCode}
+use Rattle.mm_spec.specs.Frame.{formula_at}
+use Rattle.mm_spec.specs.Citation.{context_at, is_theorem, IsProof, Cites}
+use Rattle.mm_spec.proofs.FindsLaw.{inside_of}
+use Rattle.mm_database.specs.Database.{last_place}
+use Rattle.mm_rules.specs.Rules.{Lists}
+use Rattle.mm_machine.specs.Arena.{AreApart}
+use Rattle.mm_machine.specs.State.{State, state}
+use Rattle.mm_check.specs.Contract.{IsChecked}
+use Rattle.mm_check.specs.Reached.{Reached, AreStepsOf, steps_of}
+use Rattle.mm_check.specs.Checker.{CheckerState, checker_state, AreOf, HasPerformed}
+use Rattle.mm_check.proofs.CitesLaw.{all_cited}
+use Rattle.mm_check.proofs.RanLaw.{none_ran}
+use Rattle.mm_check.proofs.ReachLaw.{derives, ends_with, end_is}
+
+module _ (k : List Statement) (t : ℕ) (steps : List PlacedStep) where
+  -- no step is performed yet
+  pub begins : (m : State) (rules : Lists) (noted : List ℕ) (apart : List (ℕ × ℕ)) (width : ℕ)
+      → AreOf k width rules → AreStepsOf k t steps → m ≡ state [] [] [] width → noted ≡ []
+      → AreApart k t apart → HasPerformed k t steps 0 (checker_state m rules noted apart)
+  begins m rules noted apart width made are fresh none p = record {
+    at = record {
+      made_for = rw fresh made;
+      theorem = by (slice_get k t) refl are.theorem;
+      apart = p;
+    };
+    are_steps = are;
+    ran = none_ran k t steps m noted width fresh none;
+  }
+    where
+      by : (o : Option Statement) → slice_get k t ≡ o
+          → list_any is_theorem (elim o [ None ↦ [] | Some s ↦ s ∷ [] ]) ≡ true → t < length k
+      by None e h = absurd (true≢false (sym h))
+      by (Some s) e h = inside_of k t s e
+
+  -- all steps are performed
+  module _ (c : CheckerState) (p : HasPerformed k t steps (length steps) c) where
+    abbrev all : Reached k t (steps_of steps) c.machine.stack p.ran.ends c.noted
+    all =
+        subst (λ z. Reached k t (steps_of z) c.machine.stack p.ran.ends c.noted)
+        (take_all (length steps) steps (omega arith)) p.ran.reached
+
+    module _ (one : c.machine.stack ≡ formula_at k t ∷ []) where
+      -- the row after them is the theorem's proof
+      abbrev pub proof_is : (d : Trees) × IsProof k t d
+      proof_is = (
+        all.row,
+        subst (λ ps. Derives (context_at k t) (steps_of ps) (formula_at k t) all.row)
+            p.are_steps.are
+            (derives k t steps c.machine.stack p.ran.ends c.noted all (formula_at k t) one),
+      )
+
+      pub cites_are : (a : ℕ) → Decides (is_member c.noted a) (Cites k false t a)
+      cites_are =
+          all_cited k t all.row c.noted p.are_steps.complete proof_is.1 all.noted_are
+
+      pub is_checked : (essential : Bool) (noted cites : List ℕ)
+          → ((a : ℕ) → Decides (is_member noted a) (Cites k essential t a))
+          → IsStrictlyIncreasing cites → ((a : ℕ) → is_member cites a ≡ is_member noted a)
+          → IsChecked k essential t cites
+      is_checked essential noted cites exact rising same = record {
+        derivation = all.row;
+        proof = proof_is.1;
+        rising = rising;
+        exact = λ a. subst (λ b. Decides b (Cites k essential t a)) (sym (same a)) (exact a);
+      }
+
+    pub ends_here : (at : ℕ) (code : Code) → option_map last_place (slice_get k t) ≡ Some at
+        → IsEndCode (context_at k t) c.machine.stack (formula_at k t) code
+        → ProofFault k t (end_of (slice_get k t)) (fault at code)
+    ends_here at code last h =
+        let f = formula_at k t in
+        inr (
+          p.are_steps.sound,
+          inr (subst
+              (λ ps. ProofEndFault (context_at k t) ps f (end_of (slice_get k t)) (fault at code))
+              p.are_steps.are
+              (subst (λ n. ProofEndFault (context_at k t) steps f n (fault at code))
+              (sym (end_is k t at p.are_steps.theorem last))
+              (ends_with k t steps c.machine.stack p.ran.ends c.noted all at code f h))),
+        )

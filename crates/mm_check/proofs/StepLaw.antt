@@ -1,0 +1,73 @@
+-- One step of the checker.
+use Rattle.std.proofs.Common.{◌≡◌, ℕ, ◌<◌, ◌++◌, ◌∷◌, [], List, Bool, true, false, ◌&&◌}
+use Rattle.std.proofs.Common.{◌||◌, ◌==◌, length, length-append, get_or, slice_get, Some, None, Ok}
+use Rattle.std.proofs.Common.{Option, Result, refl, sym, ap, ◌∙◌, subst, arith}
+use Rattle.std.proofs.Math.Bool.{or-false}
+use Rattle.std.proofs.lemmas.Bool.{eqb-true}
+use Rattle.mm_spec.specs.Statement.{Statement}
+use Rattle.mm_spec.specs.Derivation.{Formula, is_member}
+use Rattle.mm_spec.specs.Steps.{label, marked}
+use Rattle.mm_spec.specs.Valid.{Reason}
+use Rattle.mm_spec.specs.Citation.{context_at}
+use Rattle.mm_spec.specs.Laws.Stack.{IsGood, step}
+use Rattle.mm_rule.specs.Assertions.{is_assertion_at}
+use Rattle.mm_machine.specs.State.{State, state, applied}
+use Rattle.mm_machine.specs.Stops.{Stops}
+use Rattle.mm_machine.specs.declared.machine.Stopped.{Stopped}
+use Rattle.mm_check.specs.Checker.{CheckerState, checker_state}
+use Rattle.mm_check.specs.Checker.{Performs, IsStopped}
+use Rattle.mm_check.proofs.CompilerStateLaw.{assertion_rule}
+use Rattle.mm_check.proofs.RanLaw.{agree_at}
+
+module _ (k : List Statement) (t : ℕ) where
+  one_more : (es : List Formula) (f : Formula) → 0 < length (es ++ f ∷ [])
+  one_more es f = omega (arith, length-append es (f ∷ []))
+
+  pub repeats : (c : CheckerState) (j n : ℕ) (m : State) → n < length c.machine.marks
+      → get_or c.machine.marks n 0 ≡ j
+      → m
+      ≡ state (c.machine.stack ++ get_or c.machine.formulas n [] ∷ []) c.machine.marks
+      c.machine.formulas c.machine.width
+      → Performs k t (marked j) c (checker_state m c.rules c.noted c.apart)
+  repeats c j n m inside is made =
+      let out : Option Formula → Result (List Formula) Reason =
+      λ o. elim o [ None ↦ Ok c.machine.stack | Some f ↦ Ok (c.machine.stack ++ f ∷ []) ] in
+      record {
+        made =
+            λ ends agree. ap out (sym (ap (slice_get ends) is)
+            ∙ agree_at ends c.machine.marks c.machine.formulas n agree inside)
+            ∙ ap Ok (sym (ap (λ s. s.stack) made));
+        marks = ap (λ s. s.marks) made;
+        formulas = ap (λ s. s.formulas) made;
+        entry = rw made (one_more c.machine.stack (get_or c.machine.formulas n []));
+        noted = λ x. sym (or-false (is_member c.noted x));
+      }
+
+  module _ (c : CheckerState) (a : ℕ) (good : IsGood (context_at k t) ((context_at k t).rule a))
+      (is : is_assertion_at k a ≡ true) where
+    pub applies : (m : State) (noted : List ℕ) (apart : List (ℕ × ℕ))
+        → applied k t a c.machine.stack ≡ Ok m.stack → m.marks ≡ c.machine.marks
+        → m.formulas ≡ c.machine.formulas → 0 < length m.stack
+        → ((x : ℕ) → is_member noted x ≡ (is_member c.noted x || (x == a)))
+        → Performs k t (label a) c (checker_state m c.rules noted apart)
+    applies m noted apart made marks formulas entry notes = record {
+      made =
+          λ ends agree. ap (λ r. step (context_at k t) r c.machine.stack)
+          (assertion_rule k t a is good)
+          ∙ made;
+      marks = marks;
+      formulas = formulas;
+      entry = entry;
+      noted = λ x. notes x ∙ ap (λ b. is_member c.noted x || b) (by x (x == a) refl);
+    }
+      where
+        by : (x : ℕ) (b : Bool) → (x == a) ≡ b → b ≡ (b && is_assertion_at k x)
+        by x false e = refl
+        by x true e = sym (ap (is_assertion_at k) (eqb-true x a e) ∙ is)
+
+    pub stops : (e : Stopped) → Stops e (applied k t a c.machine.stack)
+        → IsStopped k t (label a) c e
+    stops e h =
+        λ ends agree. subst (Stops e)
+        (sym (ap (λ r. step (context_at k t) r c.machine.stack) (assertion_rule k t a is good)))
+        h
