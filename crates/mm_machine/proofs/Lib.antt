@@ -9,5 +9,4 @@ pub mod LongerLaw
 pub mod MarksLaw
 pub mod PlacedLaw
 pub mod RuleTestLaw
-pub mod StoresLaw
 pub mod StretchLaw

@@ -94,9 +94,6 @@ fn begins(symbols: &Symbols, store: Store, from: usize, to: usize, span: Span) -
         ≡ starts_with nat_eq (slice_range (symbols_of symbols.now store) from to)
         (text_of symbols.now span) }
 {
-    if span.store == store && span.start == from {
-        return span.end <= to;
-    }
     symbols.list(store)[from..to].starts_with(symbols.text(span))
 }
 
@@ -314,28 +311,6 @@ fn pairs_apart<A: Allocator>(
         }
     }
     true
-}
-
-/// Appends the symbols of a formula to a list. If there are two, they are pushed one by one, which
-/// is faster than a copy.
-#[inline(always)]
-pub fn append<A: Allocator>(formula: &[Sym], list: &mut Vec<Sym, A>) -> Result<(), AllocError>
-    ensures all { OnOk result (list.new.items ≡ list.old.items ++ formula.now) }
-    ensures none { OnErr result (list.new.items ≡ list.old.items) }
-{
-    let start = list.len();
-    if formula.len() == 2 {
-        list.push(formula[0])?;
-        match list.push(formula[1]) {
-            Ok(()) => Ok(()),
-            Err(_) => {
-                list.truncate(start);
-                Err(AllocError)
-            }
-        }
-    } else {
-        list.extend_from_slice(formula)
-    }
 }
 
 /// Appends what replaces a variable to a list. A single symbol is pushed without a copy.

@@ -22,6 +22,34 @@ fn put_symbol(s: Sym, list: &mut [Sym], at: usize)
     list[at] = s;
 }
 
+/// Writes two symbols from place `at` on.
+#[inline(always)]
+fn put_two(text: &[Sym], list: &mut [Sym], at: usize)
+    requires two { length text.now ≡ 2 }
+    requires room { at + 2 ≤ length list.old }
+    ensures same { length list.new ≡ length list.old }
+    ensures is { take (at + 2) list.new ≡ take at list.old ++ text.now }
+{
+    put_symbol(text[0], list, at);
+    put_symbol(text[1], list, at + 1);
+}
+
+/// Writes four symbols from place `at` on. All are read before the first is written, so that a
+/// compiler needs no test whether the lists overlap, and copies them at once.
+#[inline(always)]
+fn put_four(text: &[Sym], list: &mut [Sym], at: usize)
+    requires four { length text.now ≡ 4 }
+    requires room { at + 4 ≤ length list.old }
+    ensures same { length list.new ≡ length list.old }
+    ensures is { take (at + 4) list.new ≡ take at list.old ++ text.now }
+{
+    let (first, second, third, last) = (text[0], text[1], text[2], text[3]);
+    put_symbol(first, list, at);
+    put_symbol(second, list, at + 1);
+    put_symbol(third, list, at + 2);
+    put_symbol(last, list, at + 3);
+}
+
 /// Writes symbols from place `at` on.
 #[inline(always)]
 fn put_all(text: &[Sym], list: &mut [Sym], at: usize)
@@ -31,6 +59,25 @@ fn put_all(text: &[Sym], list: &mut [Sym], at: usize)
 {
     let end = at + text.len();
     list[at..end].copy_from_slice(text);
+}
+
+/// The same for a number of symbols that is known when the program is compiled.
+#[inline(always)]
+fn put_width(text: &[Sym], list: &mut [Sym], at: usize)
+    requires { at + length text.now ≤ length list.old }
+    ensures same { length list.new ≡ length list.old }
+    ensures is { take (at + length text.now) list.new ≡ take at list.old ++ text.now }
+{
+    if text.len() == 2 {
+        put_two(text, list, at);
+    } else if text.len() == 4 {
+        put_four(text, list, at);
+    } else if text.len() == 8 {
+        put_four(&text[..4], list, at);
+        put_four(&text[4..], list, at + 4);
+    } else {
+        put_all(text, list, at);
+    }
 }
 
 /// The same, by a copy of the first `width` symbols and one of the last. These overlap if there are
@@ -44,13 +91,13 @@ fn put_ends(text: &[Sym], list: &mut [Sym], at: usize, width: usize)
     ensures is { take (at + length text.now) list.new ≡ take at list.old ++ text.now }
 {
     let left = text.len() - width;
-    put_all(&text[..width], list, at);
-    put_all(&text[left..], list, at + left);
+    put_width(&text[..width], list, at);
+    put_width(&text[left..], list, at + left);
 }
 
 /// Writes what replaces a variable from place `at` on. It mostly is short.
 #[inline(always)]
-fn put_text(text: &[Sym], list: &mut [Sym], at: usize)
+pub fn put_text(text: &[Sym], list: &mut [Sym], at: usize)
     requires { at + length text.now ≤ length list.old }
     ensures same { length list.new ≡ length list.old }
     ensures is { take (at + length text.now) list.new ≡ take at list.old ++ text.now }

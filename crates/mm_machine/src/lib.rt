@@ -15,6 +15,7 @@ mod apart;
 mod arena;
 mod fill;
 mod machine;
+mod symbol_list;
 
 pub use apart::Apart;
 pub use arena::Reason;

@@ -16,10 +16,11 @@ ghost use Rattle.mm_machine.specs.State.{IsStack, IsRising};
 ghost use Rattle.mm_machine.specs.Stops.{Stops};
 
 use crate::apart::Apart;
-use crate::arena::{Reason, Span, Store, Symbols, append, build, test_rule};
+use crate::arena::{Reason, Span, Store, Symbols, build, test_rule};
 use crate::fill::fill;
+use crate::symbol_list::SymbolList;
 use mm_database::{Database, Sym};
-use mm_rule::{Rule, empty, put_number, zeros};
+use mm_rule::{Part, Rule, empty, put_number, zeros};
 use std::alloc::{AllocError, Allocator};
 use std::marker::Model;
 
@@ -40,8 +41,8 @@ pub enum Stopped {
 /// removed with the entry, or it is that of a marked step and is in `kept`. So the only symbols
 /// held are those of the stack and of the marked formulas.
 pub struct Machine<A: Allocator> {
-    own: Vec<Sym, A>,
-    kept: Vec<Sym, A>,
+    own: SymbolList<A>,
+    kept: SymbolList<A>,
     stack: Vec<Span, A>,
     marks: Vec<usize, A>,
     marked: Vec<Span, A>,
@@ -80,10 +81,10 @@ impl<A: Allocator> Model for Machine<A> {
     ghost Value = { State };
 
     ghost view = { λ m. state
-        (texts (arena m.own.items m.kept.items) m.stack.items) m.marks.items
-        (texts (arena [] m.kept.items) m.marked.items) m.width };
+        (texts (arena m.own m.kept) m.stack.items) m.marks.items
+        (texts (arena [] m.kept) m.marked.items) m.width };
 
-    ghost invariant = { λ m. IsMachine m.own.items m.kept.items m.stack.items m.marks.items
+    ghost invariant = { λ m. IsMachine m.own m.kept m.stack.items m.marks.items
         m.marked.items m.width };
 }
 
@@ -119,8 +120,8 @@ impl<A: Allocator> Machine<A> {
         let mut short = Vec::with_capacity(alloc, SHORT)?;
         short.resize(SHORT, Sym::new(0))?;
         Ok(Machine {
-            own: Vec::new(alloc),
-            kept: Vec::new(alloc),
+            own: SymbolList::new(alloc),
+            kept: SymbolList::new(alloc),
             stack: Vec::new(alloc),
             marks: Vec::new(alloc),
             marked: Vec::new(alloc),
@@ -135,8 +136,8 @@ impl<A: Allocator> Machine<A> {
     pub fn restart(&mut self)
         ensures { self.new ≡ state [] [] [] self.old.width }
     {
-        empty(&mut self.own);
-        empty(&mut self.kept);
+        self.own.empty();
+        self.kept.empty();
         empty(&mut self.stack);
         empty(&mut self.marks);
         empty(&mut self.marked);
@@ -215,7 +216,7 @@ impl<A: Allocator> Machine<A> {
             theorem,
             rule,
             &mut self.own,
-            &self.kept,
+            self.kept.as_slice(),
             &mut self.stack,
             &mut self.short,
             &mut self.made,
@@ -230,8 +231,8 @@ impl<A: Allocator> Machine<A> {
     {
         if self.stack.len() == 1 {
             let symbols = Symbols {
-                own: &self.own,
-                kept: &self.kept,
+                own: self.own.as_slice(),
+                kept: self.kept.as_slice(),
             };
             Some(symbols.text(self.stack[0]))
         } else {
@@ -244,17 +245,17 @@ impl<A: Allocator> Machine<A> {
 #[inline(always)]
 fn add<A: Allocator>(
     formula: &[Sym],
-    own: &mut Vec<Sym, A>,
+    own: &mut SymbolList<A>,
     stack: &mut Vec<Span, A>,
 ) -> Result<(), AllocError>
-    ensures own { OnOk result (own.new.items ≡ own.old.items ++ formula.now) }
+    ensures own { OnOk result (own.new ≡ own.old ++ formula.now) }
     ensures stack { OnOk result
-        (stack.new.items ≡ stack.old.items ++ made_of own.old.items formula.now ∷ []) }
-    ensures same_own { OnErr result (own.new.items ≡ own.old.items) }
+        (stack.new.items ≡ stack.old.items ++ made_of own.old formula.now ∷ []) }
+    ensures same_own { OnErr result (own.new ≡ own.old) }
     ensures same_stack { OnErr result (stack.new.items ≡ stack.old.items) }
 {
     let start = own.len();
-    append(formula, own)?;
+    own.append(formula)?;
     let made = Span {
         store: Store::Own,
         start,
@@ -283,11 +284,11 @@ fn first_own(stack: &[Span], end: usize) -> usize
 }
 
 /// Removes the entries from index `below` on from the stack, and their own formulas from `own`.
-fn cut<A: Allocator>(below: usize, own: &mut Vec<Sym, A>, stack: &mut Vec<Span, A>)
+fn cut<A: Allocator>(below: usize, own: &mut SymbolList<A>, stack: &mut Vec<Span, A>)
     requires { below ≤ vec_len stack.old }
     ensures stack { stack.new.items ≡ take below stack.old.items }
-    ensures own { own.new.items
-        ≡ take (first_own_of (drop below stack.old.items) (length own.old.items)) own.old.items }
+    ensures own { own.new
+        ≡ take (first_own_of (drop below stack.old.items) (length own.old)) own.old }
 {
     let end = first_own(&stack[below..], own.len());
     stack.truncate(below);
@@ -296,20 +297,20 @@ fn cut<A: Allocator>(below: usize, own: &mut Vec<Sym, A>, stack: &mut Vec<Span, 
 
 /// Moves the top formula to the kept ones, unless it is there already, and returns its stretch.
 fn keep<A: Allocator>(
-    own: &mut Vec<Sym, A>,
-    kept: &mut Vec<Sym, A>,
+    own: &mut SymbolList<A>,
+    kept: &mut SymbolList<A>,
     stack: &mut Vec<Span, A>,
 ) -> Result<Span, AllocError>
     requires entry { 0 < length stack.old.items }
-    requires stack { IsStack own.old.items kept.old.items stack.old.items }
-    ensures stack { IsStack own.new.items kept.new.items stack.new.items }
-    ensures texts { texts (arena own.new.items kept.new.items) stack.new.items
-        ≡ texts (arena own.old.items kept.old.items) stack.old.items }
-    ensures moved { Moves own.old.items kept.old.items own.new.items kept.new.items }
+    requires stack { IsStack own.old kept.old stack.old.items }
+    ensures stack { IsStack own.new kept.new stack.new.items }
+    ensures texts { texts (arena own.new kept.new) stack.new.items
+        ≡ texts (arena own.old kept.old) stack.old.items }
+    ensures moved { Moves own.old kept.old own.new kept.new }
     ensures made { IfOk result
-        (λ e. IsKept kept.new.items e
-        × (text_of (arena [] kept.new.items) e
-        ≡ top (texts (arena own.old.items kept.old.items) stack.old.items))) }
+        (λ e. IsKept kept.new e
+        × (text_of (arena [] kept.new) e
+        ≡ top (texts (arena own.old kept.old) stack.old.items))) }
 {
     let last = stack.len() - 1;
     let entry = stack[last];
@@ -317,7 +318,7 @@ fn keep<A: Allocator>(
         Store::Kept => Ok(entry),
         Store::Own => {
             let start = kept.len();
-            kept.extend_from_slice(&own[entry.start..entry.end])?;
+            kept.append(&own.as_slice()[entry.start..entry.end])?;
             own.truncate(entry.start);
             let moved = Span {
                 store: Store::Kept,
@@ -336,7 +337,7 @@ fn put_judged<A: Allocator>(
     db: &Database<A>,
     theorem: u32,
     rule: &Rule,
-    own: &mut Vec<Sym, A>,
+    own: &mut SymbolList<A>,
     kept: &[Sym],
     stack: &mut Vec<Span, A>,
     short: &mut [Sym],
@@ -345,22 +346,22 @@ fn put_judged<A: Allocator>(
 ) -> Result<(), Stopped>
     requires theorem { theorem < length db.now.statements }
     requires rule { IsCompiled db.now.statements rule.now }
-    requires stack { IsStack own.old.items kept.now stack.old.items }
-    requires known_own { All (λ s. s < length (symbol_names db.now.statements)) own.old.items }
+    requires stack { IsStack own.old kept.now stack.old.items }
+    requires known_own { All (λ s. s < length (symbol_names db.now.statements)) own.old }
     requires known_kept { All (λ s. s < length (symbol_names db.now.statements)) kept.now }
     requires apart { AreApart db.now.statements theorem apart.old }
     ensures apart { AreApart db.now.statements theorem apart.new }
-    ensures stack { IsStack own.new.items kept.now stack.new.items }
-    ensures known_own { All (λ s. s < length (symbol_names db.now.statements)) own.new.items }
+    ensures stack { IsStack own.new kept.now stack.new.items }
+    ensures known_own { All (λ s. s < length (symbol_names db.now.statements)) own.new }
     ensures made { OnOk result
         (applied db.now.statements theorem rule.now.assertion
-        (texts (arena own.old.items kept.now) stack.old.items)
-        ≡ Ok (texts (arena own.new.items kept.now) stack.new.items)) }
+        (texts (arena own.old kept.now) stack.old.items)
+        ≡ Ok (texts (arena own.new kept.now) stack.new.items)) }
     ensures entry { OnOk result (0 < length stack.new.items) }
     ensures stopped { IfErr result
         (λ e. Stops e
         (applied db.now.statements theorem rule.now.assertion
-        (texts (arena own.old.items kept.now) stack.old.items))) }
+        (texts (arena own.old kept.now) stack.old.items))) }
 {
     let symbols = Symbols {
         own: own.as_slice(),
@@ -373,7 +374,17 @@ fn put_judged<A: Allocator>(
                 Err(_) => Err(Stopped::Memory),
                 Ok(()) => Ok(()),
             },
-            None => put_long(db, theorem, rule, below, own, kept, stack, made),
+            None => put_long(
+                db,
+                theorem,
+                rule,
+                rule.formula(),
+                below,
+                own,
+                kept,
+                stack,
+                made,
+            ),
         },
     }
 }
@@ -383,36 +394,38 @@ fn put_judged<A: Allocator>(
 fn put_long<A: Allocator>(
     _db: &Database<A>,
     _theorem: u32,
-    rule: &Rule,
+    _rule: &Rule,
+    formula: &[Part],
     below: usize,
-    own: &mut Vec<Sym, A>,
+    own: &mut SymbolList<A>,
     kept: &[Sym],
     stack: &mut Vec<Span, A>,
     made: &mut Vec<Sym, A>,
 ) -> Result<(), Stopped>
-    requires rule { IsCompiled _db.now.statements rule.now }
-    requires judged { TestsRule _db.now.statements _theorem rule.now
-        (arena own.old.items kept.now) stack.old.items (Ok below) }
-    requires stack { IsStack own.old.items kept.now stack.old.items }
-    requires known_own { All (λ s. s < length (symbol_names _db.now.statements)) own.old.items }
+    requires rule { IsCompiled _db.now.statements _rule.now }
+    requires formula { formula.now ≡ _rule.now.formula }
+    requires judged { TestsRule _db.now.statements _theorem _rule.now
+        (arena own.old kept.now) stack.old.items (Ok below) }
+    requires stack { IsStack own.old kept.now stack.old.items }
+    requires known_own { All (λ s. s < length (symbol_names _db.now.statements)) own.old }
     requires known_kept { All (λ s. s < length (symbol_names _db.now.statements)) kept.now }
-    ensures stack { IsStack own.new.items kept.now stack.new.items }
-    ensures known_own { All (λ s. s < length (symbol_names _db.now.statements)) own.new.items }
+    ensures stack { IsStack own.new kept.now stack.new.items }
+    ensures known_own { All (λ s. s < length (symbol_names _db.now.statements)) own.new }
     ensures made { OnOk result
-        (applied _db.now.statements _theorem rule.now.assertion
-        (texts (arena own.old.items kept.now) stack.old.items)
-        ≡ Ok (texts (arena own.new.items kept.now) stack.new.items)) }
+        (applied _db.now.statements _theorem _rule.now.assertion
+        (texts (arena own.old kept.now) stack.old.items)
+        ≡ Ok (texts (arena own.new kept.now) stack.new.items)) }
     ensures entry { OnOk result (0 < length stack.new.items) }
     ensures stopped { IfErr result
         (λ e. Stops e
-        (applied _db.now.statements _theorem rule.now.assertion
-        (texts (arena own.old.items kept.now) stack.old.items))) }
+        (applied _db.now.statements _theorem _rule.now.assertion
+        (texts (arena own.old kept.now) stack.old.items))) }
 {
     let symbols = Symbols {
         own: own.as_slice(),
         kept,
     };
-    match build(&symbols, &stack[below..], rule.formula(), made) {
+    match build(&symbols, &stack[below..], formula, made) {
         Err(_) => Err(Stopped::Memory),
         Ok(false) => Err(Stopped::Fault(Reason::TooLong)),
         Ok(true) => match put(below, made, own, kept, stack) {
@@ -427,18 +440,18 @@ fn put_long<A: Allocator>(
 fn put<A: Allocator>(
     below: usize,
     made: &[Sym],
-    own: &mut Vec<Sym, A>,
+    own: &mut SymbolList<A>,
     _kept: &[Sym],
     stack: &mut Vec<Span, A>,
 ) -> Result<(), AllocError>
     requires below { below ≤ vec_len stack.old }
-    requires is_stack { IsStack own.old.items _kept.now stack.old.items }
-    ensures is_stack { IsStack own.new.items _kept.now stack.new.items }
-    ensures known_own { (w : ℕ) → All (λ s. s < w) own.old.items → All (λ s. s < w) made.now
-        → All (λ s. s < w) own.new.items }
+    requires is_stack { IsStack own.old _kept.now stack.old.items }
+    ensures is_stack { IsStack own.new _kept.now stack.new.items }
+    ensures known_own { (w : ℕ) → All (λ s. s < w) own.old → All (λ s. s < w) made.now
+        → All (λ s. s < w) own.new }
     ensures stack { OnOk result
-        (texts (arena own.new.items _kept.now) stack.new.items
-        ≡ take below (texts (arena own.old.items _kept.now) stack.old.items) ++ made.now ∷ []) }
+        (texts (arena own.new _kept.now) stack.new.items
+        ≡ take below (texts (arena own.old _kept.now) stack.old.items) ++ made.now ∷ []) }
     ensures entry { OnOk result (0 < length stack.new.items) }
 {
     cut(below, own, stack);

@@ -13,7 +13,7 @@ returns-clause-is c =
     let end = take_rest text (length text - w) in
     let long = ap length end in
     let dropped = length-drop (length text - w) text in
-    put_twice c.args.list.now c.put_all.new.list c.put_all-2.new.list text _ _ c.args.at w _
+    put_twice c.args.list.now c.put_width.new.list c.put_width-2.new.list text _ _ c.args.at w _
     (omega (arith, many)) (omega (arith, few)) (omega (arith, room)) refl end
-    (length-take-le w text many) (omega (arith, long, dropped, many)) c.put_all.ensures.is
-    c.put_all-2.ensures.is
+    (length-take-le w text many) (omega (arith, long, dropped, many)) c.put_width.ensures.is
+    c.put_width-2.ensures.is

@@ -7,19 +7,19 @@ use Rattle.mm_machine.proofs.FollowLaw.{kept_top, kept_top_is, IsMoved, moved_he
 use Rattle.mm_machine.proofs.machine.keep.Given.{Over}
 use Rattle.mm_machine.proofs.machine.keep.Goals as goal
 
-pub returns-in_err-extend_from_slice-in-Own-clause-moved :
-    goal.returns-in_err-extend_from_slice-in-Own-clause-moved
-returns-in_err-extend_from_slice-in-Own-clause-moved g c =
-    rw c.in_err-extend_from_slice-in-Own.ensures.items
-    (no_move c.args.own.now.items c.args.kept.now.items)
+pub returns-in_err-append-in-Own-clause-moved :
+    goal.returns-in_err-append-in-Own-clause-moved
+returns-in_err-append-in-Own-clause-moved g c =
+    rw c.in_err-append-in-Own.ensures.none
+    (no_move c.args.own.now c.args.kept.now)
 
 pub returns-in-Kept-clause-moved : goal.returns-in-Kept-clause-moved
-returns-in-Kept-clause-moved g c = no_move c.args.own.now.items c.args.kept.now.items
+returns-in-Kept-clause-moved g c = no_move c.args.own.now c.args.kept.now
 
 pub returns-in-Kept-clause-made : goal.returns-in-Kept-clause-made
 returns-in-Kept-clause-made g c =
-    let own = c.args.own.now.items in
-    let kept = c.args.kept.now.items in
+    let own = c.args.own.now in
+    let kept = c.args.kept.now in
     let es = c.args.stack.now.items in
     let last = c.len-last.result - 1 in
     let e = c.index-entry.result.now in
@@ -34,14 +34,14 @@ returns-in-Kept-clause-made g c =
 
 -- the formula on top is an own one, and has been moved
 moved : (g : Over) (c : goal.After-stack-1 g)
-    → IsMoved c.args.own.now.items c.args.kept.now.items c.args.stack.now.items
-    c.truncate.new.self.items c.extend_from_slice.new.self.items
+    → IsMoved c.args.own.now c.args.kept.now c.args.stack.now.items
+    c.truncate.new.self c.append.new.self
     (slice_set c.args.stack.now.items (c.len-last.result - 1)
     (span Kept c.len-start.result c.len.result))
     (span Kept c.len-start.result c.len.result)
 moved g c =
-    let own = c.args.own.now.items in
-    let kept = c.args.kept.now.items in
+    let own = c.args.own.now in
+    let kept = c.args.kept.now in
     let es = c.args.stack.now.items in
     let last = c.len-last.result - 1 in
     let e = c.index-entry.result.now in
@@ -50,31 +50,31 @@ moved g c =
     let is : e ≡ get_or es last nothing =
     c.index-entry.ensures ∙ sym (get_or_default es last nothing e (omega (arith, is_last))) in
     let more = slice_range own e.start e.end in
-    let grown : c.extend_from_slice.new.self.items ≡ kept ++ more =
-    c.in_ok-extend_from_slice-in-Own.ensures.items
-    ∙ ap (λ z. kept ++ slice_range z e.start e.end) c.deref.ensures.value in
+    let grown : c.append.new.self ≡ kept ++ more =
+    c.in_ok-append-in-Own.ensures.all
+    ∙ ap (λ z. kept ++ slice_range z e.start e.end) c.as_slice.ensures in
     let start : c.len-start.result ≡ length kept = search rules in
-    let end : c.len.result ≡ length c.extend_from_slice.new.self.items = search rules in
+    let end : c.len.result ≡ length c.append.new.self = search rules in
     let made : span Kept c.len-start.result c.len.result
     ≡ span Kept (length kept) (length (kept ++ more)) = ap₂ (span Kept) start
     (end ∙ ap length grown) in
-    moved_here own kept es last e is_last is c.requires.stack c.in-Own.is c.truncate.new.self.items
-    c.extend_from_slice.new.self.items
-    (span Kept c.len-start.result c.len.result) c.truncate.ensures.items grown made
+    moved_here own kept es last e is_last is c.requires.stack c.in-Own.is c.truncate.new.self
+    c.append.new.self
+    (span Kept c.len-start.result c.len.result) c.truncate.ensures grown made
 
-pub returns-in_ok-extend_from_slice-in-Own-clause-stack :
-    goal.returns-in_ok-extend_from_slice-in-Own-clause-stack
-returns-in_ok-extend_from_slice-in-Own-clause-stack g c = (moved g c).is_stack
+pub returns-in_ok-append-in-Own-clause-stack :
+    goal.returns-in_ok-append-in-Own-clause-stack
+returns-in_ok-append-in-Own-clause-stack g c = (moved g c).is_stack
 
-pub returns-in_ok-extend_from_slice-in-Own-clause-texts :
-    goal.returns-in_ok-extend_from_slice-in-Own-clause-texts
-returns-in_ok-extend_from_slice-in-Own-clause-texts g c = (moved g c).says
+pub returns-in_ok-append-in-Own-clause-texts :
+    goal.returns-in_ok-append-in-Own-clause-texts
+returns-in_ok-append-in-Own-clause-texts g c = (moved g c).says
 
-pub returns-in_ok-extend_from_slice-in-Own-clause-moved :
-    goal.returns-in_ok-extend_from_slice-in-Own-clause-moved
-returns-in_ok-extend_from_slice-in-Own-clause-moved g c = (moved g c).moves
+pub returns-in_ok-append-in-Own-clause-moved :
+    goal.returns-in_ok-append-in-Own-clause-moved
+returns-in_ok-append-in-Own-clause-moved g c = (moved g c).moves
 
-pub returns-in_ok-extend_from_slice-in-Own-clause-made :
-    goal.returns-in_ok-extend_from_slice-in-Own-clause-made
-returns-in_ok-extend_from_slice-in-Own-clause-made g c =
+pub returns-in_ok-append-in-Own-clause-made :
+    goal.returns-in_ok-append-in-Own-clause-made
+returns-in_ok-append-in-Own-clause-made g c =
     ((moved g c).is_kept, (moved g c).on_top)

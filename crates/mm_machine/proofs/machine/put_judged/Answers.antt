@@ -11,41 +11,41 @@ pub returns-in-Err-clause-stopped : goal.returns-in-Err-clause-stopped
 returns-in-Err-clause-stopped g c =
     let k = c.args.db.now.statements in
     ap₂ (λ a b. applied k c.args.theorem c.args.rule.now.assertion
-    (texts (arena a c.args.kept.now) b)) (sym c.as_slice.ensures.value)
+    (texts (arena a c.args.kept.now) b)) (sym c.as_slice.ensures)
     (sym c.deref.ensures.value)
     ∙ c.in-Err.ensures.judged
 
 pub put_long-requires-clause-judged : goal.put_long-requires-clause-judged
 put_long-requires-clause-judged g c =
-    judged_here c.args.db.now.statements c.args.theorem c.args.rule.now c.args.own.now.items
+    judged_here c.args.db.now.statements c.args.theorem c.args.rule.now c.args.own.now
     c.as_slice.result.now c.args.kept.now c.args.stack.now.items c.deref.result.now
-    c.in-Ok.below c.as_slice.ensures.value c.deref.ensures.value c.in-Ok.ensures.judged
+    c.in-Ok.below c.as_slice.ensures c.deref.ensures.value c.in-Ok.ensures.judged
 
 -- the formula that was made has known symbols, and is what the step says
 made_here : (g : Over) (c : In-Some g)
     → All (λ s. s < length (symbol_names c.args.db.now.statements))
     (take c.in-Some.n c.fill.new.list)
     × (applied c.args.db.now.statements c.args.theorem c.args.rule.now.assertion
-    (texts (arena c.args.own.now.items c.args.kept.now) c.args.stack.now.items)
+    (texts (arena c.args.own.now c.args.kept.now) c.args.stack.now.items)
     ≡ Ok (take c.in-Ok.below
-    (texts (arena c.args.own.now.items c.args.kept.now) c.args.stack.now.items)
+    (texts (arena c.args.own.now c.args.kept.now) c.args.stack.now.items)
     ++ take c.in-Some.n c.fill.new.list ∷ []))
 made_here g c =
     let k = c.args.db.now.statements in
     let t = c.args.theorem in
     let rule = c.args.rule.now in
-    let own = c.args.own.now.items in
+    let own = c.args.own.now in
     let kept = c.args.kept.now in
     let stack = c.args.stack.now.items in
     let below = c.in-Ok.below in
     let judged =
     judged_here k t rule own c.as_slice.result.now kept stack c.deref.result.now below
-    c.as_slice.ensures.value c.deref.ensures.value c.in-Ok.ensures.judged in
+    c.as_slice.ensures c.deref.ensures.value c.in-Ok.ensures.judged in
     let made = take c.in-Some.n c.fill.new.list in
     let is =
     c.in-Some.ensures.is
     ∙ same_formula k t rule own kept stack below c.as_slice.result.now c.deref-in-Ok.result.now
-    c.formula.result.now c.as_slice.ensures.value c.deref-in-Ok.ensures.value c.formula.ensures in (
+    c.formula.result.now c.as_slice.ensures c.deref-in-Ok.ensures.value c.formula.ensures in (
       made_known k t rule own kept stack below made judged is c.requires.rule
           c.requires.known_own c.requires.known_kept,
       placed k t rule own kept stack below made judged is

@@ -11,26 +11,26 @@ use Rattle.mm_machine.proofs.machine.put_long.Goals.{After-put}
 -- the formula that was made has known symbols, and is what the step says
 made_here : (g : Over) (c : After-put g)
     → All (λ s. s < length (symbol_names c.args._db.now.statements)) c.deref-in-Ok-true.result.now
-    × (applied c.args._db.now.statements c.args._theorem c.args.rule.now.assertion
-    (texts (arena c.args.own.now.items c.args.kept.now) c.args.stack.now.items)
+    × (applied c.args._db.now.statements c.args._theorem c.args._rule.now.assertion
+    (texts (arena c.args.own.now c.args.kept.now) c.args.stack.now.items)
     ≡ Ok (take c.args.below
-    (texts (arena c.args.own.now.items c.args.kept.now) c.args.stack.now.items)
+    (texts (arena c.args.own.now c.args.kept.now) c.args.stack.now.items)
     ++ c.deref-in-Ok-true.result.now ∷ []))
 made_here g c =
     let k = c.args._db.now.statements in
-    let own = c.args.own.now.items in
+    let own = c.args.own.now in
     let stack = c.args.stack.now.items in
     let made = c.deref-in-Ok-true.result.now in
     let first =
     c.deref-in-Ok-true.ensures.value ∙ c.in-Ok-true.ensures.made c.in-Ok-true.field-0-test in
     let same =
-    same_formula k c.args._theorem c.args.rule.now own c.args.kept.now stack c.args.below
-    c.as_slice.result.now c.deref.result.now c.formula.result.now c.as_slice.ensures.value
-    c.deref.ensures.value c.formula.ensures in (
-      made_known k c.args._theorem c.args.rule.now own c.args.kept.now stack c.args.below made
+    same_formula k c.args._theorem c.args._rule.now own c.args.kept.now stack c.args.below
+    c.as_slice.result.now c.deref.result.now c.args.formula.now c.as_slice.ensures
+    c.deref.ensures.value c.requires.formula in (
+      made_known k c.args._theorem c.args._rule.now own c.args.kept.now stack c.args.below made
           c.requires.judged (first ∙ same) c.requires.rule c.requires.known_own
           c.requires.known_kept,
-      placed k c.args._theorem c.args.rule.now own c.args.kept.now stack c.args.below made
+      placed k c.args._theorem c.args._rule.now own c.args.kept.now stack c.args.below made
           c.requires.judged (first ∙ same)
           (ap (λ z. nat_le (length z) formula_limit) first ∙ sym c.in-Ok-true.ensures.short
           ∙ c.in-Ok-true.field-0-test),
@@ -49,13 +49,13 @@ returns-in-Ok-clause-known_own g c =
 pub returns-in-Ok-false-clause-stopped : goal.returns-in-Ok-false-clause-stopped
 returns-in-Ok-false-clause-stopped g c =
     let k = c.args._db.now.statements in
-    let own = c.args.own.now.items in
+    let own = c.args.own.now in
     let stack = c.args.stack.now.items in
     let same =
-    same_formula k c.args._theorem c.args.rule.now own c.args.kept.now stack c.args.below
-    c.as_slice.result.now c.deref.result.now c.formula.result.now c.as_slice.ensures.value
-    c.deref.ensures.value c.formula.ensures in
-    too_long_here k c.args._theorem c.args.rule.now own c.args.kept.now stack c.args.below
+    same_formula k c.args._theorem c.args._rule.now own c.args.kept.now stack c.args.below
+    c.as_slice.result.now c.deref.result.now c.args.formula.now c.as_slice.ensures
+    c.deref.ensures.value c.requires.formula in
+    too_long_here k c.args._theorem c.args._rule.now own c.args.kept.now stack c.args.below
     c.requires.judged
     (ap (λ z. nat_le (length z) formula_limit) (sym same) ∙ sym c.in-Ok-false.ensures.short
     ∙ c.in-Ok-false.field-0-test)

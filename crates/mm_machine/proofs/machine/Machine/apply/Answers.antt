@@ -8,16 +8,16 @@ pub returns-clause-made : goal.returns-clause-made
 returns-clause-made g c =
     let k = c.args.db.now.statements in
     let a = c.args.rule.now.assertion in
-    let own = c.self.inside.own.items in
+    let own = c.self.inside.own in
     let es = c.self.inside.stack.items in
     let done = c.put_judged in
     subst (λ (s : State). OnOk done.result
     (applied k c.args.theorem a s.stack
-    ≡ Ok (texts (arena done.new.own.items c.self.inside.kept.items) done.new.stack.items)))
+    ≡ Ok (texts (arena done.new.own c.self.inside.kept) done.new.stack.items)))
     c.self.view_is
     (subst (λ z. OnOk done.result
     (applied k c.args.theorem a (texts (arena own z) es)
-    ≡ Ok (texts (arena done.new.own.items z) done.new.stack.items))) c.deref.ensures.value
+    ≡ Ok (texts (arena done.new.own z) done.new.stack.items))) c.as_slice.ensures
     done.ensures.made)
 
 pub returns-clause-stopped : goal.returns-clause-stopped
@@ -30,5 +30,5 @@ returns-clause-stopped g c =
     (subst (λ z. IfErr done.result
     (λ e. Stops e
     (applied k c.args.theorem a
-    (texts (arena c.self.inside.own.items z) c.self.inside.stack.items)))) c.deref.ensures.value
+    (texts (arena c.self.inside.own z) c.self.inside.stack.items)))) c.as_slice.ensures
     done.ensures.stopped)

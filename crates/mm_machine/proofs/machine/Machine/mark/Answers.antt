@@ -9,8 +9,8 @@ pub invariant_of-self : goal.invariant_of-self
 invariant_of-self g c =
     let i = c.self.inside in
     let new = c.keep.new in
-    moved_machine i.own.items i.kept.items i.stack.items i.marks.items i.marked.items i.width
-    new.own.items new.kept.items new.stack.items c.self.invariant c.keep.ensures.moved
+    moved_machine i.own i.kept i.stack.items i.marks.items i.marked.items i.width
+    new.own new.kept new.stack.items c.self.invariant c.keep.ensures.moved
     c.keep.ensures.stack
 
 pub invariant_of-self-in_err-push : goal.invariant_of-self-in_err-push
@@ -18,8 +18,8 @@ invariant_of-self-in_err-push g c =
     let i = c.self.inside in
     let new = c.keep.new in
     rw c.in_err-push.ensures.items
-    (moved_machine i.own.items i.kept.items i.stack.items i.marks.items i.marked.items i.width
-    new.own.items new.kept.items new.stack.items c.self.invariant c.keep.ensures.moved
+    (moved_machine i.own i.kept i.stack.items i.marks.items i.marked.items i.width
+    new.own new.kept new.stack.items c.self.invariant c.keep.ensures.moved
     c.keep.ensures.stack)
 
 pub invariant_of-self-in_err-push-2 : goal.invariant_of-self-in_err-push-2
@@ -27,10 +27,10 @@ invariant_of-self-in_err-push-2 g c =
     let i = c.self.inside in
     let new = c.keep.new in
     rw (c.in_err-push-2.ensures.items, c.in_ok-push.ensures.items)
-    (marked_more new.own.items new.kept.items new.stack.items i.marks.items i.marked.items
+    (marked_more new.own new.kept new.stack.items i.marks.items i.marked.items
     i.width c.in_ok-made.made
-    (moved_machine i.own.items i.kept.items i.stack.items i.marks.items i.marked.items i.width
-    new.own.items new.kept.items new.stack.items c.self.invariant c.keep.ensures.moved
+    (moved_machine i.own i.kept i.stack.items i.marks.items i.marked.items i.width
+    new.own new.kept new.stack.items c.self.invariant c.keep.ensures.moved
     c.keep.ensures.stack) c.in_ok-made.ensures.made.0)
 
 pub invariant_of-self-2 : goal.invariant_of-self-2
@@ -40,25 +40,25 @@ invariant_of-self-2 g c =
     let later : All (λ j. j < c.args.step) i.marks.items =
     subst (All (λ j. j < c.args.step)) (sym (ap (λ s. s.marks) c.self.view_is)) c.requires.later in
     rw (c.in_ok-push-2.ensures.items, c.in_ok-push.ensures.items)
-    (both_more new.own.items new.kept.items new.stack.items i.marks.items i.marked.items i.width
+    (both_more new.own new.kept new.stack.items i.marks.items i.marked.items i.width
     c.in_ok-made.made c.args.step
-    (moved_machine i.own.items i.kept.items i.stack.items i.marks.items i.marked.items i.width
-    new.own.items new.kept.items new.stack.items c.self.invariant c.keep.ensures.moved
+    (moved_machine i.own i.kept i.stack.items i.marks.items i.marked.items i.width
+    new.own new.kept new.stack.items c.self.invariant c.keep.ensures.moved
     c.keep.ensures.stack) c.in_ok-made.ensures.made.0 later)
 
 pub returns-clause-ok : goal.returns-clause-ok
 returns-clause-ok g c =
     let i = c.self.inside in
     let new = c.keep.new in
-    let old = texts (arena i.own.items i.kept.items) i.stack.items in
-    let kept : texts (arena [] new.kept.items) c.push.new.self.items
-    ≡ texts (arena [] i.kept.items) i.marked.items ++ top old ∷ [] =
-    ap (texts (arena [] new.kept.items)) c.in_ok-push.ensures.items
-    ∙ marked_texts i.own.items i.kept.items new.own.items new.kept.items i.marked.items
+    let old = texts (arena i.own i.kept) i.stack.items in
+    let kept : texts (arena [] new.kept) c.push.new.self.items
+    ≡ texts (arena [] i.kept) i.marked.items ++ top old ∷ [] =
+    ap (texts (arena [] new.kept)) c.in_ok-push.ensures.items
+    ∙ marked_texts i.own i.kept new.own new.kept i.marked.items
     c.in_ok-made.made
     (top old) c.keep.ensures.moved c.self.invariant.marked_in c.in_ok-made.ensures.made.1 in
     ap (λ z. state z c.push-2.new.self.items
-    (texts (arena [] new.kept.items) c.push.new.self.items) i.width) c.keep.ensures.texts
+    (texts (arena [] new.kept) c.push.new.self.items) i.width) c.keep.ensures.texts
     ∙ ap₂ (λ m f. state old m f i.width) c.in_ok-push-2.ensures.items kept
     ∙ ap (λ s. state s.stack (s.marks ++ c.args.step ∷ [])
     (s.formulas ++ top s.stack ∷ []) s.width) c.self.view_is

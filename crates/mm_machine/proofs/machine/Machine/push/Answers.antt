@@ -13,12 +13,12 @@ invariant_of-self g c =
     subst (λ n. All (λ s. s < n) f) (sym (ap (λ s. s.width) c.self.view_is)) c.requires in
     record {
       known_own =
-          add_known c.add.result c.self.inside.own.items f c.add.new.own.items w i.known_own known
+          add_known c.add.result c.self.inside.own f c.add.new.own w i.known_own known
           c.add.ensures.own c.add.ensures.same_own;
       known_kept = i.known_kept;
       is_stack =
-          add_any c.add.result c.self.inside.own.items c.self.inside.kept.items f
-          c.add.new.own.items c.self.inside.stack.items c.add.new.stack.items i.is_stack
+          add_any c.add.result c.self.inside.own c.self.inside.kept f
+          c.add.new.own c.self.inside.stack.items c.add.new.stack.items i.is_stack
           c.add.ensures.own c.add.ensures.stack c.add.ensures.same_own c.add.ensures.same_stack;
       marked_in = i.marked_in;
       rising = i.rising;
@@ -29,12 +29,12 @@ pub returns-clause-ok : goal.returns-clause-ok
 returns-clause-ok g c =
     let i = c.self.invariant in
     let f = c.args.formula.now in
-    let kept = c.self.inside.kept.items in
+    let kept = c.self.inside.kept in
     on_ok c.add.result
     (λ h. ap
     (λ z. state z c.self.inside.marks.items
     (texts (arena [] kept) c.self.inside.marked.items) c.self.inside.width) h
     ∙ ap (λ s. state (s.stack ++ f ∷ []) s.marks s.formulas s.width) c.self.view_is)
-    (add_says c.add.result c.self.inside.own.items kept f c.add.new.own.items
+    (add_says c.add.result c.self.inside.own kept f c.add.new.own
     c.self.inside.stack.items c.add.new.stack.items i.is_stack c.add.ensures.own
     c.add.ensures.stack)

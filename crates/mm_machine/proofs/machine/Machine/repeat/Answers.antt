@@ -10,17 +10,17 @@ invariant_of-self-2 g c =
     let e = c.index.result.now in
     let inside : c.find-n.result < length c.self.inside.marked.items =
     let n = ap length c.deref.ensures.value in omega (arith, c.find-n.ensures.below, i.count, n) in
-    let kept : IsKept c.self.inside.kept.items e =
-    subst (IsKept c.self.inside.kept.items) (sym c.index.ensures)
+    let kept : IsKept c.self.inside.kept e =
+    subst (IsKept c.self.inside.kept) (sym c.index.ensures)
     (All-get_or
-    (IsKept c.self.inside.kept.items) c.self.inside.marked.items c.find-n.result e inside
+    (IsKept c.self.inside.kept) c.self.inside.marked.items c.find-n.result e inside
     i.marked_in) in
     record {
       known_own = i.known_own;
       known_kept = i.known_kept;
       is_stack =
           rw c.in_ok-push.ensures.items
-          (repeat_stack c.self.inside.own.items c.self.inside.kept.items c.self.inside.stack.items
+          (repeat_stack c.self.inside.own c.self.inside.kept c.self.inside.stack.items
           i.is_stack e kept);
       marked_in = i.marked_in;
       rising = i.rising;
