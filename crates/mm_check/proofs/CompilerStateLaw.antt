@@ -7,7 +7,6 @@ use Rattle.mm_spec.specs.Statement.{Statement, floating, essential, axiomatic, p
 use Rattle.mm_spec.specs.Scope.{is_active}
 use Rattle.mm_spec.specs.Frame.{formula_at, frame_at}
 use Rattle.mm_spec.specs.Derivation.{Rule, hypothesis, assertion}
-use Rattle.mm_spec.specs.Laws.Complete.{IsComplete}
 use Rattle.mm_spec.specs.Citation.{context_at, rule_of, rule_at, is_assertion}
 use Rattle.mm_spec.specs.Laws.Stack.{IsGood, IsGoodStep}
 use Rattle.mm_spec.proofs.FindsLaw.{inside_of}
@@ -46,20 +45,6 @@ module _ (k : List Statement) (t j : ℕ) where
       → list_any is_assertion (s ∷ []) ≡ b
   at_is s b e h =
       sym (ap (λ o. list_any is_assertion (elim o [ None ↦ [] | Some s ↦ s ∷ [] ])) e) ∙ h
-
-  -- an assertion's frame is complete
-  pub assertion_complete : is_assertion_at k j ≡ true → IsGood (context_at k t) (rule_at k t j)
-      → IsComplete (context_at k t) (frame_at k j)
-  assertion_complete is good =
-      let s = stands_at good in
-      by s.statement (at_is s.statement true s.stands is)
-      (subst (IsGood (context_at k t)) s.rule good)
-    where
-      by : (s : Statement) → list_any is_assertion (s ∷ []) ≡ true
-          → IsGood (context_at k t) (rule_of k j s) → IsComplete (context_at k t) (frame_at k j)
-      by (axiomatic l p xs d) h g = g
-      by (provable l p xs e ps d) h g = g
-      by _ h g = absurd (true≢false (sym h))
 
   pub assertion_rule : is_assertion_at k j ≡ true → IsGood (context_at k t) (rule_at k t j)
       → rule_at k t j ≡ Some (assertion (frame_at k j))

@@ -9,7 +9,7 @@ use Rattle.std.proofs.lemmas.List.{take_all}
 use Rattle.mm_spec.specs.Text.{fault}
 use Rattle.mm_spec.specs.Statement.{Statement}
 use Rattle.mm_spec.specs.Steps.{PlacedStep}
-use Rattle.mm_spec.specs.Derivation.{Trees, is_member}
+use Rattle.mm_spec.specs.Derivation.{Formula, Trees, is_member}
 use Rattle.mm_spec.specs.Output.{ProofFault, end_of}
 use Rattle.mm_spec.specs.declared.Code.{Code}
 use Rattle.mm_spec.specs.Valid.{Derives, ProofEndFault, IsEndCode}
@@ -36,7 +36,7 @@ module _ (k : List Statement) (t : ℕ) (steps : List PlacedStep) where
     at = record {
       made_for = rw fresh made;
       theorem = by (slice_get k t) refl are.theorem;
-      apart = p;
+      apart_are = p;
     };
     are_steps = are;
     ran = none_ran k t steps m noted width fresh none;
@@ -48,11 +48,15 @@ module _ (k : List Statement) (t : ℕ) (steps : List PlacedStep) where
       by (Some s) e h = inside_of k t s e
 
   -- all steps are performed
-  module _ (c : CheckerState) (p : HasPerformed k t steps (length steps) c) where
-    abbrev all : Reached k t (steps_of steps) c.machine.stack p.ran.ends c.noted
+  module _ (c d : CheckerState) (view : c ≡ d) (p : HasPerformed k t steps (length steps) d) where
+    abbrev ends : List Formula
+    ends = p.ran.ends
+
+    abbrev all : Reached k t (steps_of steps) c.machine.stack ends c.noted
     all =
-        subst (λ z. Reached k t (steps_of z) c.machine.stack p.ran.ends c.noted)
-        (take_all (length steps) steps (omega arith)) p.ran.reached
+        rw view
+        (subst (λ z. Reached k t (steps_of z) d.machine.stack ends d.noted)
+        (take_all (length steps) steps (omega arith)) p.ran.reached)
 
     module _ (one : c.machine.stack ≡ formula_at k t ∷ []) where
       -- the row after them is the theorem's proof
@@ -61,7 +65,7 @@ module _ (k : List Statement) (t : ℕ) (steps : List PlacedStep) where
         all.row,
         subst (λ ps. Derives (context_at k t) (steps_of ps) (formula_at k t) all.row)
             p.are_steps.are
-            (derives k t steps c.machine.stack p.ran.ends c.noted all (formula_at k t) one),
+            (derives k t steps c.machine.stack ends c.noted all (formula_at k t) one),
       )
 
       pub cites_are : (a : ℕ) → Decides (is_member c.noted a) (Cites k false t a)
@@ -91,5 +95,5 @@ module _ (k : List Statement) (t : ℕ) (steps : List PlacedStep) where
               p.are_steps.are
               (subst (λ n. ProofEndFault (context_at k t) steps f n (fault at code))
               (sym (end_is k t at p.are_steps.theorem last))
-              (ends_with k t steps c.machine.stack p.ran.ends c.noted all at code f h))),
+              (ends_with k t steps c.machine.stack ends c.noted all at code f h))),
         )

@@ -21,7 +21,7 @@ use Rattle.mm_check.specs.Contract.{IsReady, StepRefuses, refusal_at}
 use Rattle.mm_check.specs.Checker.{CheckerState, checker_state, IsAt, HasPerformed, Performs}
 use Rattle.mm_check.specs.Checker.{IsStopped}
 use Rattle.mm_check.specs.Reached.{Reached, Ran, Agree, steps_of}
-use Rattle.mm_check.proofs.ReachLaw.{starts, next_here, good_here, fails}
+use Rattle.mm_check.proofs.ReachLaw.{starts, next, take_step, good_here, fails}
 
 get_front : (ends more : List Formula) (j : ℕ) (f : Formula) → slice_get ends j ≡ Some f
     → slice_get (ends ++ more) j ≡ Some f
@@ -111,8 +111,9 @@ module _ (k : List Statement) (t : ℕ) (steps : List PlacedStep) (i : ℕ) (c :
 
       reached : Reached k t (steps_of (take (i + 1) steps)) d.machine.stack ends d.noted
       reached =
-          next_here k t steps i c.machine.stack p.ran.ends c.noted a d.machine.stack ends d.noted
-          inside is p.ran.reached good_step (made.made p.ran.ends p.ran.agree) refl made.noted
+          rw (take_step steps i inside, ← is)
+          (next k t (steps_of (take i steps)) c.machine.stack p.ran.ends c.noted a d.machine.stack
+          d.noted p.ran.reached good_step (made.made p.ran.ends p.ran.agree) made.noted)
 
       agree : Agree ends d.machine.marks d.machine.formulas
       agree =
@@ -170,7 +171,7 @@ module _ (k : List Statement) (t : ℕ) (steps : List PlacedStep) (i : ℕ) (c :
       → Performs k t a c d → IsAt k t d → m ≡ with_mark b i d.machine → m.width ≡ d.machine.width
       → HasPerformed k t steps (i + 1) (checker_state m d.rules d.noted d.apart)
   performs_next d m b is_b made at kept width = record {
-    at = record { made_for = rw width at.made_for; theorem = at.theorem; apart = at.apart };
+    at = rw width at;
     are_steps = p.are_steps;
     ran = next_ran d m b is_b made kept;
   }

@@ -216,23 +216,6 @@ starts k t stack ends noted e f n =
       noted_are = λ a. refl;
     })
 
--- the same by the values that the code has
-pub next_here : (k : List Statement) (t : ℕ) (steps : List PlacedStep) (i : ℕ)
-    → (stack ends : List Formula) (noted : List ℕ) (s : Step) (out outer : List Formula)
-    → (then : List ℕ)
-    → i < length steps → s ≡ (step_at steps i).step
-    → Reached k t (steps_of (take i steps)) stack ends noted
-    → IsGoodStep (context_at k t) (length ends) s
-    → step_entries (context_at k t) s ends stack ≡ Ok out → outer ≡ ends ++ top out ∷ []
-    → ((a : ℕ)
-    → is_member then a ≡ (is_member noted a || (is_labelled_step s a && is_assertion_at k a)))
-    → Reached k t (steps_of (take (i + 1) steps)) out outer then
-next_here k t steps i stack ends noted s out outer then h is r good made grown notes =
-    let n = next k t (steps_of (take i steps)) stack ends noted s out then r good made notes in
-    let e : steps_of (take (i + 1) steps) ≡ steps_of (take i steps) ++ s ∷ [] =
-    take_step steps i h ∙ ap (λ z. steps_of (take i steps) ++ z ∷ []) (sym is) in
-    rw (e, grown) n
-
 -- the place of the end of a theorem's proof
 pub end_is : (db : List Statement) (t at : ℕ) → is_theorem_at db t ≡ true
     → option_map last_place (slice_get db t) ≡ Some at → end_of (slice_get db t) ≡ at

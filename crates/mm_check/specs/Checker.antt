@@ -36,11 +36,16 @@ pub record AreOf (k : List Statement) (width : ℕ) (rules : Lists) : Type 0 whe
 abbrev pub IsMadeFor : List Statement → CheckerState → Type 0
 IsMadeFor k c = AreOf k c.machine.width c.rules
 
--- it checks the proof of the theorem
-pub record IsAt (k : List Statement) (t : ℕ) (c : CheckerState) : Type 0 where
-  pub made_for : IsMadeFor k c
+-- they are, and the pairs of symbols are disjoint at the theorem
+pub record AreAt (k : List Statement) (t width : ℕ) (rules : Lists) (apart : List (ℕ × ℕ)) :
+    Type 0 where
+  pub made_for : AreOf k width rules
   pub theorem : t < length k
-  pub apart : AreApart k t c.apart
+  pub apart_are : AreApart k t apart
+
+-- it checks the proof of the theorem
+abbrev pub IsAt : List Statement → ℕ → CheckerState → Type 0
+IsAt k t c = AreAt k t c.machine.width c.rules c.apart
 
 -- it has performed the first `i` of the steps
 pub record HasPerformed (k : List Statement) (t : ℕ) (steps : List PlacedStep) (i : ℕ)

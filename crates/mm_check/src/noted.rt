@@ -100,6 +100,7 @@ impl<A: Allocator> Noted<A> {
     {
         self.numbers.sort_unstable();
         self.numbers.dedup();
-        self.numbers.to_vec(alloc)
+        let cites = self.numbers.to_vec(alloc)?;
+        Ok(cites)
     }
 }

@@ -22,7 +22,7 @@ returns-in_err-apply-clause-at g c =
     record {
       made_for = rw c.apply.ensures.width at.made_for;
       theorem = at.theorem;
-      apart = c.apply.ensures.apart;
+      apart_are = c.apply.ensures.apart;
     }
 
 pub returns-in_err-apply-clause-stopped : goal.returns-in_err-apply-clause-stopped
@@ -46,7 +46,7 @@ returns-clause-at g c =
     record {
       made_for = rw c.apply.ensures.width at.made_for;
       theorem = at.theorem;
-      apart = c.apply.ensures.apart;
+      apart_are = c.apply.ensures.apart;
     }
 
 pub returns-clause-performs : goal.returns-clause-performs

@@ -1,19 +1,6 @@
-use Rattle.std.proofs.Common.{sym, subst}
-use Rattle.mm_check.specs.Checker.{CheckerState, IsAt}
 use Rattle.mm_check.proofs.StepLaw.{repeats}
 use Rattle.mm_check.proofs.checker.Checker.make.Goals.{in-Ok, in-Err}
 use Rattle.mm_check.proofs.checker.Checker.make.Goals as goal
-
-pub returns-after-repeat-clause-at : goal.returns-after-repeat-clause-at
-returns-after-repeat-clause-at g c =
-    let at =
-    subst (λ (s : CheckerState). IsAt c.args.db.now.statements c.args.theorem s)
-    (sym c.self.view_is) c.requires.at in
-    record {
-      made_for = rw c.repeat.ensures.width at.made_for;
-      theorem = at.theorem;
-      apart = at.apart;
-    }
 
 pub returns-after-repeat-clause-performs : goal.returns-after-repeat-clause-performs
 returns-after-repeat-clause-performs g c =
