@@ -18,7 +18,7 @@ use crate::digits::{LetterKind, letter_of, with_digit};
 use crate::refused::{ProofRefused, refused};
 use crate::room::with_room;
 use mm_database::{Code, Word};
-use mm_steps::{Step, Steps};
+use mm_steps::{Step, Steps, append};
 use std::alloc::{AllocError, Allocator};
 use std::marker::Model;
 
@@ -179,7 +179,7 @@ impl<A: Allocator> Progress<A> {
         if self.steps.len() == 0 {
             return Err(refused(at, Code::MarkBeforeStep));
         }
-        self.marks.push((self.steps.len() - 1) as u32)?;
+        append(&mut self.marks, (self.steps.len() - 1) as u32)?;
         Ok(())
     }
 
