@@ -1,9 +1,9 @@
 -- The lists of symbols grow and are cut, and the entries stay.
 use Rattle.std.proofs.Common.{◌≡◌, ℕ, zero, suc, ◌-◌, ◌<◌, ◌≤◌, List, [], ◌∷◌, ◌++◌, length, take}
-use Rattle.std.proofs.Common.{drop, get_or, slice_range, refl, ap, ap₂, ◌∙◌, arith, All}
-use Rattle.std.proofs.Common.{length-append, length-drop}
+use Rattle.std.proofs.Common.{drop, get_or, refl, ap, ap₂, ◌∙◌, arith, All}
+use Rattle.std.proofs.Common.{length-append}
 use Rattle.std.specs.List.{AllByRecursion}
-use Rattle.std.proofs.lemmas.List.{drop-append-le, take-append-le, drop_at, take_all, take_at}
+use Rattle.std.proofs.lemmas.List.{drop_at, take_all, take_at}
 use Rattle.std.proofs.lemmas.List.Elements.{All-from_recursion, recursion_from_All, All-weaker}
 use Rattle.std.proofs.lemmas.List.Elements.{All-take, All-append, All-drop, All-nil}
 use Rattle.mm_machine.specs.declared.arena.Span.{Span}

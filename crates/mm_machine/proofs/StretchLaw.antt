@@ -1,9 +1,8 @@
 -- Stretches of lists of symbols, and formulas replaced by them.
 use Rattle.std.proofs.Common.{◌≡◌, ℕ, zero, suc, ◌+◌, ◌-◌, ◌<◌, ◌≤◌, Bool, true, false, ◌&&◌, List}
 use Rattle.std.proofs.Common.{[], ◌∷◌, ◌++◌, length, take, drop, get_or, slice_range, nat_eq}
-use Rattle.std.proofs.Common.{nat_le, bytes_eq, refl, sym, ap, ap₂, ◌∙◌, arith, length-take}
-use Rattle.std.proofs.Common.{length-drop, le-leb, leb-true, eqb-true, eq-eqb, min, ◌⊎◌, inl, inr}
-use Rattle.std.proofs.Math.Dec.{leb-zero, leb-suc-zero, leb-suc-suc}
+use Rattle.std.proofs.Common.{bytes_eq, refl, sym, ap, ap₂, ◌∙◌, arith, length-take}
+use Rattle.std.proofs.Common.{length-drop, eqb-true, eq-eqb, min, ◌⊎◌, inl, inr}
 use Rattle.std.specs.List.{starts_with}
 use Rattle.std.proofs.lemmas.List.{drop-drop, drop_more, length-take-le}
 use Rattle.mm_machine.specs.declared.arena.Span.{Span}
@@ -25,27 +24,6 @@ eq_sym x y =
 and_assoc : (a b c : Bool) → (a && (b && c)) ≡ ((a && b) && c)
 and_assoc true b c = refl
 and_assoc false b c = refl
-
--- two fronts of one list
-fronts : (m n : ℕ) (ys : List ℕ) → m ≤ length ys
-    → nat_le m n ≡ starts_with nat_eq (take n ys) (take m ys)
-fronts zero n ys h = leb-zero n
-fronts (suc m) n [] h = absurd (omega arith)
-fronts (suc m) zero (y ∷ ys) h = leb-suc-zero m
-fronts (suc m) (suc n) (y ∷ ys) h =
-    leb-suc-suc m n ∙ fronts m n ys (omega arith)
-    ∙ ap (λ b. b && starts_with nat_eq (take n ys) (take m ys)) (sym (eq_self y))
-
-less_both : (a b c : ℕ) → a ≤ b → a ≤ c → nat_le b c ≡ nat_le (b - a) (c - a)
-less_both a b c h k =
-    same_tests _ _ (λ e. let l = leb-true b c e in le-leb (b - a) (c - a) (omega arith))
-    (λ e. let l = leb-true (b - a) (c - a) e in le-leb b c (omega arith))
-
--- whether a stretch begins with one from the same place
-pub same_start : (xs : List ℕ) (a b c : ℕ) → a ≤ b → a ≤ c → b ≤ length xs
-    → nat_le b c ≡ starts_with nat_eq (slice_range xs a c) (slice_range xs a b)
-same_start xs a b c h k l =
-    less_both a b c h k ∙ fronts (b - a) (c - a) (drop a xs) (omega (arith, length-drop a xs))
 
 peel : (u xs w : List ℕ)
     → bytes_eq xs (u ++ w) ≡ (starts_with nat_eq xs u && bytes_eq (drop (length u) xs) w)

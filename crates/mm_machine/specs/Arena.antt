@@ -1,7 +1,7 @@
 -- Formulas as stretches of two lists of symbols.
-use Rattle.std.specs.Prelude.{◌≡◌, ℕ, ◌+◌, ◌≤◌, true, All, List, length, slice_range, map, min}
+use Rattle.std.specs.Prelude.{◌≡◌, ℕ, ◌+◌, ◌≤◌, true, All, List, length, slice_range, min}
 use Rattle.mm_spec.specs.Statement.{Statement}
-use Rattle.mm_spec.specs.Derivation.{Formula, Pair, pair, are_disjoint}
+use Rattle.mm_spec.specs.Derivation.{Formula, are_disjoint}
 use Rattle.mm_spec.specs.Citation.{context_at}
 use Rattle.mm_machine.specs.declared.arena.Span.{Span}
 use Rattle.mm_machine.specs.declared.arena.Store.{Store}

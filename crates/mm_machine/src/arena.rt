@@ -1,7 +1,7 @@
 //! Formulas as stretches of two lists of symbols, and the tests of an assertion's step on them.
 
 ghost use Rattle.std.specs.Prelude.{◌≡◌, ◌<◌, ◌≤◌, ℕ, All, length, slice_range, bytes_eq, nat_eq};
-ghost use Rattle.std.specs.Prelude.{map, List, OnOk, OnErr, IfOk, true, ◌++◌, ◌∷◌, nat_le, get_or};
+ghost use Rattle.std.specs.Prelude.{map, List, OnOk, IfOk, true, ◌++◌, ◌∷◌, nat_le, get_or};
 ghost use Rattle.std.specs.Prelude.{◌+◌};
 ghost use Rattle.std.specs.List.{starts_with, list_all};
 ghost use Rattle.mm_spec.specs.Derivation.{are_apart as apart_lists, is_apart as apart_symbol};
@@ -24,7 +24,7 @@ use std::alloc::{AllocError, Allocator};
 use std::marker::Model;
 
 /// The list that contains a formula.
-#[derive(Clone, Copy, PartialEq, Eq, Drop)]
+#[derive(Clone, Copy, Drop)]
 pub enum Store {
     /// The list of the formulas that only the stack holds.
     Own,
