@@ -23,9 +23,12 @@ returns-in-None-clause-reads g c =
     let text = c.args.text.now in
     let more : ReadsTo text c.args.end (with_number c.loop-at.self (Some c.loop-at.open)) c.loop-at.at (with_number c.read.new.self None) (c.loop-at.at + 1) =
     one_letter text c.args.end (with_number c.loop-at.self (Some c.loop-at.open))
-    (with_number c.read.new.self None) c.loop-at.at c.loop-at-test.true c.requires.within reads in
-    (omega arith, omega arith, c.in_ok-longer.ensures.stands,
-    λ all left h. more all left (c.loop-at.invariant.reads all left h))
+    (with_number c.read.new.self None) c.loop-at.at c.loop-at-test.true c.requires.within reads in (
+      omega arith,
+      omega arith,
+      c.in_ok-longer.ensures.stands,
+      λ all left h. more all left (c.loop-at.invariant.reads all left h),
+    )
 
 pub loop-at-preserved : goal.loop-at-preserved
 loop-at-preserved g c =
