@@ -1,7 +1,8 @@
 use Rattle.std.proofs.Common.{ℕ, ◌++◌, ◌∷◌, [], List, get_or, sym, ap, ◌∙◌, subst, IsTrue}
 use Rattle.mm_spec.specs.Output.{is_theorem_at}
 use Rattle.mm_proof.proofs.TheoremsLaw.{theorems_are}
-use Rattle.mm_work.specs.Judged.{IsCited}
+use Rattle.mm_work.specs.Judged.{Faults, HasFault, IsCited}
+use Rattle.mm_work.specs.declared.proof.VerifyRefused.{VerifyRefused}
 use Rattle.mm_work.proofs.WorkersLaw.{found_more}
 use Rattle.mm_work.proofs.worker.check.Goals as goal
 
@@ -24,3 +25,20 @@ returns-in-Ok-keep-clause-found g c = λ short.
     (c.in-Ok-keep.ensures.cites
     ∙ ap (λ (l : List ℕ). c.args.found.now.cites ++ l ∷ []) c.cites.ensures)
     c.in-Ok-keep.ensures.faulty
+
+pub returns-in-Err-Fault-clause-found : goal.returns-in-Err-Fault-clause-found
+returns-in-Err-Fault-clause-found g c = λ short.
+    let db = c.args.database.now.statements in
+    let before = c.requires.found short in
+    record {
+      count = before.count;
+      known = before.known;
+      each = before.each;
+      faulty = (
+        c.requires.index,
+        subst (λ (ts : List ℕ). HasFault db (get_or ts c.args.index 0) c.in-Err-Fault.fault)
+            c.theorems.ensures.theorems
+            (subst (λ (e : VerifyRefused). Faults db (get_or c.theorems.result.now c.args.index 0) e)
+            c.in-Err-Fault.field-0-is c.in-Err-Fault.ensures.refused),
+      );
+    }
