@@ -22,7 +22,7 @@ use Rattle.mm_spec.specs.declared.Word.{Word as Place}
 use Rattle.mm_outline.specs.Parts.{as_tokens, token_of}
 use Rattle.mm_proof.specs.Number.{told}
 use Rattle.mm_proof.specs.Letters.{State, state, letter, Begins, Continues, Reads, begun_at}
-use Rattle.mm_proof.specs.Letters.{StandsAt, InOrder, ReadsTo, Stops}
+use Rattle.mm_proof.specs.Letters.{StandsAt, InOrder}
 use Rattle.mm_proof.specs.Refused.{StartsWith}
 use Rattle.mm_proof.specs.declared.refused.ProofRefused.{ProofRefused}
 use Rattle.mm_proof.specs.declared.refused.ProofRefused.TheVariants.{Fault as Faulty, Memory}
@@ -53,35 +53,6 @@ pub letters_end : (text : List ℕ) (i end : ℕ) → end ≤ i
     → letters_from i (slice_range text i end) ≡ []
 letters_end text i end l =
     ap (λ n. letters_from i (take n (drop i text))) (let none : end - i ≡ 0 = omega arith in none)
-
--- one letter more
-pub one_letter : (text : List ℕ) (end : ℕ) (old new : State) (i : ℕ) → i < end → end ≤ length text
-    → Reads old (letter i (get_or text i 0) ∷ []) new → ReadsTo text end old i new (i + 1)
-one_letter text end old new i l within r all left h =
-    r all (letters_from (i + 1) (slice_range text (i + 1) end) ++ left)
-    (subst (λ xs. Continues old all (xs ++ left)) (letters_more text i end l within) h)
-
-pub stops_here : (text : List ℕ) (end : ℕ) (s : State) (i : ℕ) (e : ProofRefused) → i < end
-    → end ≤ length text → Stops s (letter i (get_or text i 0) ∷ []) e
-    → Stops s (letters_from i (slice_range text i end)) e
-stops_here text end s i e l within stops all left h =
-    stops all (letters_from (i + 1) (slice_range text (i + 1) end) ++ left)
-    (subst (λ xs. Continues s all (xs ++ left)) (letters_more text i end l within) h)
-
--- letters that lead on, and then a fault
-pub stops_later : (text : List ℕ) (end : ℕ) (old new : State) (i j : ℕ) (e : ProofRefused)
-    → new.labels ≡ old.labels → ReadsTo text end old i new j
-    → Stops new (letters_from j (slice_range text j end)) e
-    → Stops old (letters_from i (slice_range text i end)) e
-stops_later text end old new i j e same r stops all left h =
-    subst (λ ls. StartsWith (group_faults (length ls) 0 0 (groups [] all).0) e) same
-    (stops all left (r all left h))
-
--- all letters up to the end
-pub to_end : (text : List ℕ) (end : ℕ) (old new : State) (i j : ℕ) → end ≤ j
-    → ReadsTo text end old i new j → Reads old (letters_from i (slice_range text i end)) new
-to_end text end old new i j l r all left h =
-    subst (λ xs. Continues new all (xs ++ left)) (letters_end text j end l) (r all left h)
 
 -- what was read stands before the words that are left
 abbrev pub StandsBefore : State → List Token → ℕ → Type 0

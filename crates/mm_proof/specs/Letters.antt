@@ -1,17 +1,14 @@
 -- What has been read of the letters of a compressed proof.
 use Rattle.std.specs.Prelude.{◌≡◌, ℕ, ◌+◌, ◌-◌, ◌*◌, ◌<◌, ◌≤◌, All, List, [], ◌∷◌, ◌++◌, length}
-use Rattle.std.specs.Prelude.{Option, Some, None, fold, slice_range}
+use Rattle.std.specs.Prelude.{Option, Some, None, fold}
 use Rattle.mm_spec.specs.Text.{Token}
 use Rattle.mm_spec.specs.Steps as spec
 use Rattle.mm_spec.specs.Steps.{PlacedStep}
-use Rattle.mm_spec.specs.CompressedProof.{Compressed, Letter, letters_from, groups, group_steps}
-use Rattle.mm_spec.specs.CompressedProof.{group_faults}
+use Rattle.mm_spec.specs.CompressedProof.{Compressed, Letter, groups, group_steps, group_faults}
 use Rattle.mm_proof.specs.Number.{told}
 use Rattle.mm_steps.specs.Read.{step_of}
 use Rattle.mm_proof.specs.Refused.{StartsWith}
 use Rattle.mm_proof.specs.declared.letters.Begun.{Begun}
-use Rattle.mm_proof.specs.declared.letters.After.{After}
-use Rattle.mm_proof.specs.declared.letters.After.TheVariants.{Next, Open}
 use Rattle.mm_steps.specs.declared.placed.Step.{Step}
 use Rattle.mm_proof.specs.declared.refused.ProofRefused.{ProofRefused}
 
@@ -73,20 +70,6 @@ abbrev pub Stops : State → List Letter → ProofRefused → Type 0
 Stops old xs e =
     (all left : List Letter) → Continues old all (xs ++ left)
     → StartsWith (group_faults (length old.labels) 0 0 (groups [] all).0) e
-
--- of the letters of a text between two places, those before place `j` lead from one state to another
-abbrev pub ReadsTo : List ℕ → ℕ → State → ℕ → State → ℕ → Type 0
-ReadsTo text end old i new j =
-    (all left : List Letter) → Continues old all (letters_from i (slice_range text i end) ++ left)
-    → Continues new all (letters_from j (slice_range text j end) ++ left)
-
--- the letters of a text from place `i` on, read up to the end of a number, or to place `end` if it is
--- open there
-abbrev pub ReadsOn : List ℕ → ℕ → State → ℕ → State → After → Type 0
-ReadsOn text end old i new (Next j) =
-    (i ≤ j) × (j ≤ end) × StandsAt new j × ReadsTo text end old i (with_number new None) j
-ReadsOn text end old i new (Open b) =
-    StandsAt new end × ReadsTo text end old i (with_number new (Some b)) end
 
 -- the number to which a letter at the place belongs
 abbrev pub begun_at : Option Begun → ℕ → Begun

@@ -11,14 +11,14 @@ ghost use Rattle.mm_steps.specs.Read.{read, step_of, IsEarlier};
 ghost use Rattle.mm_proof.specs.Number.{IsLetter, told};
 ghost use Rattle.mm_proof.specs.declared.digits.LetterKind.TheVariants.{Last};
 ghost use Rattle.mm_proof.specs.Letters.{State, state, letter, StandsAt, with_number, Reads, Stops};
-ghost use Rattle.mm_proof.specs.Letters.{begun_at, named, InOrder, ReadsOn};
+ghost use Rattle.mm_proof.specs.Letters.{begun_at, named, InOrder};
 ghost use Rattle.mm_proof.specs.Refused.{StartsWith};
 
 use crate::digits::{LetterKind, letter_of, with_digit};
 use crate::refused::{ProofRefused, refused};
 use crate::room::with_room;
 use mm_database::{Code, Word};
-use mm_steps::{Step, Steps, append};
+use mm_steps::{Step, Steps};
 use std::alloc::{AllocError, Allocator};
 use std::marker::Model;
 
@@ -34,17 +34,7 @@ pub(crate) struct Begun {
     value: u64,
 }
 
-/// How far a number was read.
-#[derive(Clone, Copy)]
-pub(crate) enum After {
-    /// Up to its last letter. The next letter is at this place.
-    Next(usize),
-    /// Up to the end of its word, without a last letter.
-    Open(Begun),
-}
-
 /// A number with one more digit, whose letter is at place `at`.
-#[inline(always)]
 fn begun_by(number: Option<Begun>, at: u32, base: u64, digit: u64) -> Begun
     requires base { base ≤ 20 }
     requires digit { digit ≤ 20 }
@@ -105,7 +95,6 @@ impl<A: Allocator> Progress<A> {
 
     /// The step that a number names, if it names one. `value` is the number's value, or the
     /// greatest 64-bit number if that is smaller.
-    #[inline(always)]
     fn named(&self, value: u64) -> Option<Step>
         requires { 0 < value }
         ensures step { (n : ℕ) → value ≡ told n
@@ -117,10 +106,11 @@ impl<A: Allocator> Progress<A> {
     {
         let labels = self.labels.as_slice();
         let marks = self.marks.as_slice();
-        if value <= labels.len() as u64 {
-            return Some(Step::Label(labels[value as usize - 1]));
+        let index = value - 1;
+        if index < labels.len() as u64 {
+            return Some(Step::Label(labels[index as usize]));
         }
-        let mark = value - 1 - labels.len() as u64;
+        let mark = index - labels.len() as u64;
         if mark < marks.len() as u64 {
             Some(Step::Marked(marks[mark as usize]))
         } else {
@@ -129,7 +119,6 @@ impl<A: Allocator> Progress<A> {
     }
 
     /// Appends the step of a number that ends. The step is a label or an earlier step.
-    #[inline(always)]
     fn add_step(&mut self, at: u32, step: Step) -> Result<(), AllocError>
         requires earlier { IsEarlier (step_of step) (length self.old.steps) }
         ensures { OnOk result
@@ -142,7 +131,6 @@ impl<A: Allocator> Progress<A> {
     }
 
     /// Reads the last letter of a number.
-    #[inline(always)]
     fn end_number(&mut self, number: Option<Begun>, at: u32, digit: u64) -> Result<(), ProofRefused>
         requires digit { 0 < digit }
         requires small { digit ≤ 20 }
@@ -165,7 +153,6 @@ impl<A: Allocator> Progress<A> {
     }
 
     /// Reads a `Z` after a number that has ended.
-    #[inline(always)]
     fn mark(&mut self, at: u32) -> Result<(), ProofRefused>
         requires stands { StandsAt self.old at }
         ensures theorem { OnOk result (self.new.theorem ≡ self.old.theorem) }
@@ -179,12 +166,11 @@ impl<A: Allocator> Progress<A> {
         if self.steps.len() == 0 {
             return Err(refused(at, Code::MarkBeforeStep));
         }
-        append(&mut self.marks, (self.steps.len() - 1) as u32)?;
+        self.marks.push((self.steps.len() - 1) as u32)?;
         Ok(())
     }
 
     /// Reads a letter, and returns the number that is open after it.
-    #[inline(always)]
     fn read(
         &mut self,
         number: Option<Begun>,
@@ -218,42 +204,7 @@ impl<A: Allocator> Progress<A> {
         }
     }
 
-    /// Reads on from place `from` to the last letter of the number that is open there, but not past
-    /// place `end`. If no number is open, reads nothing.
-    #[inline(always)]
-    fn finish(
-        &mut self,
-        number: Option<Begun>,
-        text: &[u8],
-        from: usize,
-        end: usize,
-    ) -> Result<After, ProofRefused>
-        requires order { from ≤ end }
-        requires within { end ≤ length text.now }
-        requires small { end ≤ 4294967295 }
-        requires stands { StandsAt self.old from }
-        ensures theorem { OnOk result (self.new.theorem ≡ self.old.theorem) }
-        ensures labels { OnOk result (self.new.labels ≡ self.old.labels) }
-        ensures reads { IfOk result
-            (λ a. ReadsOn text.now end (with_number self.old number) from self.new a) }
-        ensures stops { IfErr result (λ e. Stops (with_number self.old number)
-            (letters_from from (slice_range text.now from end)) e) }
-    {
-        let Some(begun) = number else {
-            return Ok(After::Next(from));
-        };
-        let mut open = begun;
-        for at in from..end {
-            match self.read(Some(open), at as u32, text[at])? {
-                Some(longer) => open = longer,
-                None => return Ok(After::Next(at + 1)),
-            }
-        }
-        Ok(After::Open(open))
-    }
-
     /// Reads the letters of a word, and returns the number that is open after it.
-    #[inline(always)]
     fn read_word(
         &mut self,
         number: Option<Begun>,
@@ -272,24 +223,14 @@ impl<A: Allocator> Progress<A> {
         ensures stops { IfErr result (λ e. Stops (with_number self.old number)
             (letters_from word.start (slice_range text.now word.start word.end)) e) }
     {
-        let end = word.end as usize;
-        let mut at = match self.finish(number, text, word.start as usize, end)? {
-            After::Next(next) => next,
-            After::Open(open) => return Ok(Some(open)),
-        };
-        // No number is open here, so that its test is no part of the loop.
-        while at < end {
-            let begun = self.read(None, at as u32, text[at])?;
-            match self.finish(begun, text, at + 1, end)? {
-                After::Next(next) => at = next,
-                After::Open(open) => return Ok(Some(open)),
-            }
+        let mut begun = number;
+        for at in word.start..word.end {
+            begun = self.read(begun, at, text[at as usize])?;
         }
-        Ok(None)
+        Ok(begun)
     }
 
     /// Reads all letters, which end at place `end`.
-    #[inline(always)]
     pub(crate) fn read_all(
         &mut self,
         text: &[u8],

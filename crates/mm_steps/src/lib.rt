@@ -8,8 +8,6 @@
 //! calls.
 #![tactic(auto)]
 
-mod list;
 mod placed;
 
-pub use list::append;
 pub use placed::{Step, Steps};

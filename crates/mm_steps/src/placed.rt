@@ -5,7 +5,6 @@ ghost use Rattle.mm_spec.specs.Steps.{placed};
 ghost use Rattle.mm_steps.specs.Read.{Read, read, step_of, step_at, is_marked as marked_in};
 ghost use Rattle.mm_steps.specs.Read.{IsEarlier};
 
-use crate::list::append;
 use std::alloc::{AllocError, Allocator};
 use std::marker::Model;
 
@@ -70,7 +69,6 @@ impl<A: Allocator> Steps<A> {
     /// Appends a step, whose place is a byte offset from 0. If it is `Step::Marked`, it repeats the
     /// subproof of an earlier step, which is then marked. Fails only if out of memory, and then
     /// nothing was appended.
-    #[inline(always)]
     pub fn push(&mut self, at: u32, step: Step) -> Result<(), AllocError>
         requires { IsEarlier (step_of step) (length self.old.steps) }
         ensures ok { OnOk result
@@ -78,25 +76,19 @@ impl<A: Allocator> Steps<A> {
         ensures err { OnErr result (self.new ≡ self.old) }
     {
         match step {
-            Step::Label(number) => append(
-                &mut self.steps,
-                Placed {
+            Step::Label(number) => self.steps.push(Placed {
+                at,
+                number,
+                kind: Kind::Label,
+                is_marked: false,
+            })?,
+            Step::Marked(number) => {
+                self.steps.push(Placed {
                     at,
                     number,
-                    kind: Kind::Label,
+                    kind: Kind::Marked,
                     is_marked: false,
-                },
-            )?,
-            Step::Marked(number) => {
-                append(
-                    &mut self.steps,
-                    Placed {
-                        at,
-                        number,
-                        kind: Kind::Marked,
-                        is_marked: false,
-                    },
-                )?;
+                })?;
                 self.steps[number as usize].is_marked = true;
             }
         }

@@ -12,11 +12,11 @@ use Rattle.mm_steps.proofs.placed.Steps.push.Goals as goal
 pub invariant_of-self-in-Marked : goal.invariant_of-self-in-Marked
 invariant_of-self-in-Marked g c =
     let ps = c.self.inside.steps.items in
-    let qs = c.append-in-Marked.new.list.items in
+    let qs = c.push-in-Marked.new.self.items in
     let j = c.in-Marked.number in
     let now = c.index_mut.result.now in
     let p : Placed = record { at = c.args.at; number = j; kind = Marked; is_marked = false } in
-    let more : qs ≡ ps ++ p ∷ [] = c.in_ok-append-in-Marked.ensures.ok in
+    let more : qs ≡ ps ++ p ∷ [] = c.in_ok-push-in-Marked.ensures.items in
     let early : j < length c.args.self.now.steps =
     subst (λ s. IsEarlier (step_of s) (length c.args.self.now.steps)) c.in-Marked.is c.requires in
     let long : length c.args.self.now.steps ≡ length ps =
@@ -28,14 +28,14 @@ invariant_of-self-in-Marked g c =
     flag_more ps qs p _ j c.self.invariant more refl refl (omega (arith, early, long))
     (ap told_one there) refl
 
-pub returns-in_ok-append-in-Marked-clause-ok : goal.returns-in_ok-append-in-Marked-clause-ok
-returns-in_ok-append-in-Marked-clause-ok g c =
+pub returns-in_ok-push-in-Marked-clause-ok : goal.returns-in_ok-push-in-Marked-clause-ok
+returns-in_ok-push-in-Marked-clause-ok g c =
     let ps = c.self.inside.steps.items in
-    let qs = c.append-in-Marked.new.list.items in
+    let qs = c.push-in-Marked.new.self.items in
     let j = c.in-Marked.number in
     let now = c.index_mut.result.now in
     let p : Placed = record { at = c.args.at; number = j; kind = Marked; is_marked = false } in
-    let more : qs ≡ ps ++ p ∷ [] = c.in_ok-append-in-Marked.ensures.ok in
+    let more : qs ≡ ps ++ p ∷ [] = c.in_ok-push-in-Marked.ensures.items in
     let early : j < length c.args.self.now.steps =
     subst (λ s. IsEarlier (step_of s) (length c.args.self.now.steps)) c.in-Marked.is c.requires in
     let long : length c.args.self.now.steps ≡ length ps =
