@@ -62,7 +62,8 @@ impl<'s, A: Allocator> Tables<'s, A> {
         requires numbered { AreNumbered
             (statements text.now (tokens_of text.now) outlines.now) numbers.now places.now }
         requires symbols { (names : List (List ℕ))
-            × AreSymbols (statements text.now (tokens_of text.now) outlines.now) names variables.now }
+            × AreSymbols (statements text.now (tokens_of text.now) outlines.now) names
+            variables.now }
         requires few_symbols { length variables.now < 2 ^ 31 }
         ensures { result ≡ statements text.now (tokens_of text.now) outlines.now }
     {

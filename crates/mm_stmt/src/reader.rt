@@ -16,8 +16,8 @@ use std::alloc::{AllocError, Allocator};
 /// Reads the statements of a text before its first fault of words, shape, symbols, labels or scope,
 /// and that fault (Metamath book, "Specification of the Metamath Language"). `lexed` has the tokens
 /// and the lexical fault of `text`. If `with_open` is set, open theorems, whose proof is `?` or
-/// `( ) ?`, count as axioms. Fails only if out of memory. `lexed` is used up in either case, and its
-/// memory is given back; the text is only read.
+/// `( ) ?`, count as axioms. Fails only if out of memory. `lexed` is used up in either case, and
+/// its memory is given back; the text is only read.
 pub fn read<'a, A: Allocator + Copy>(
     alloc: A,
     text: &'a [u8],
