@@ -1,12 +1,17 @@
 -- The faults of a statement, by what the code knows of symbols.
 use Rattle.std.specs.Prelude.{◌≡◌, ℕ, Bool, true, false, ◌&&◌, ◌||◌, not, List, [], ◌∷◌, Option}
+use Rattle.std.specs.Prelude.{◌+◌, ◌-◌, ◌++◌}
 use Rattle.std.specs.Prelude.{None, Some, bytes_eq, is_some, nat_eq, nat_lt}
 use Rattle.std.specs.Prelude.{if◌then◌else◌}
 use Rattle.mm_spec.specs.Text.{Token, is_in, fault}
 use Rattle.mm_spec.specs.declared.Fault.{Fault}
 use Rattle.mm_spec.specs.Scope.{Names}
 use Rattle.mm_spec.specs.Lawful.{lesser, is_typed, is_typed_otherwise, constant_codes}
-use Rattle.mm_spec.specs.Lawful.{variable_codes, disjoint_codes}
+use Rattle.mm_spec.specs.Lawful.{variable_codes, disjoint_codes, label_faults, formula_faults}
+use Rattle.mm_spec.specs.Lawful.{least, at_each}
+use Rattle.mm_spec.specs.declared.Word.{Word}
+use Rattle.mm_outline.specs.Parts.{between, nth_word, token_at}
+use Rattle.mm_outline.specs.declared.parts.Outline.{Outline}
 use Rattle.mm_outline.specs.Blocks.{never}
 use Rattle.mm_outline.specs.declared.parts.Kind.{Kind}
 use Rattle.mm_outline.specs.declared.parts.Kind.TheVariants.{Constants, Variables}
@@ -127,6 +132,20 @@ list_fault Variables deep keyword end count =
 list_fault _ deep keyword end count =
     fault_at end (first_code (nat_lt count 2) TooFewVariables None)
 
+-- the fault of a `$c`, `$v` or `$d`: of the whole, or of one of its symbols
+abbrev pub declared_fault : Names → ℕ → List ℕ → List Word → Outline → Option Fault
+declared_fault n deep text tokens o =
+    merge (list_fault o.kind deep (nth_word tokens o.keyword).start (nth_word tokens o.middle).start
+    (o.middle - o.keyword - 1))
+    (least (at_each (declared_codes n o.kind) [] (between text tokens (o.keyword + 1) o.middle)))
+
+-- the faults of a `$e`, `$a` or `$p`: those of its label and of its formula
+abbrev pub labelled_faults : Names → List ℕ → List Word → Outline → List Fault
+labelled_faults n text tokens o =
+    label_faults n (token_at text tokens (o.keyword - 1))
+    ++ formula_faults n (between text tokens (o.keyword + 1) o.middle)
+    (nth_word tokens o.middle).start
+
 abbrev pub typing_code : (ℕ → Bool) → List ℕ → Option Symbol → Option Symbol → Option (Option Code)
 typing_code is_open c typecode variable =
     if is_constant typecode
@@ -155,7 +174,16 @@ abbrev pub declared_entry : Bool → ℕ → List ℕ → Option Entry → Optio
 declared_entry v number w None = Some (entry v number never w)
 declared_entry v number w (Some e) = Some (entry v number e.typed e.typecode)
 
+-- the entry of a word after the declaration of words by a statement
+abbrev pub after_declaring : Bool → ℕ → List (List ℕ) → List ℕ → Option Entry → Option Entry
+after_declaring v number ws w x = if is_in w ws then declared_entry v number w x else x
+
 -- the entry after a `$f`
 abbrev pub typed_entry : ℕ → List ℕ → Option Entry → Option Entry
 typed_entry number c None = None
 typed_entry number c (Some e) = Some (entry e.is_variable e.declared number c)
+
+-- the entry of a word after the `$f` of a variable, by the entries before it
+abbrev pub after_typing : ℕ → List ℕ → List ℕ → (List ℕ → Option Entry) → List ℕ → Option Entry
+after_typing number typecode variable entries w =
+    if bytes_eq variable w then typed_entry number typecode (entries variable) else entries w

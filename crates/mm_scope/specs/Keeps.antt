@@ -1,9 +1,13 @@
 -- What is known after some statements.
 use Rattle.std.specs.Prelude.{◌≡◌, ℕ, ◌<◌, ◌^◌, List, [], ◌∷◌, ◌++◌, length, Option, None, flat_map}
-use Rattle.std.specs.Prelude.{is_some, true}
+use Rattle.std.specs.Prelude.{is_some, true, ◌≢◌}
 use Rattle.mm_spec.specs.Statement.{is_closing, Statement}
-use Rattle.mm_spec.specs.Scope.{depth, label_words}
-use Rattle.mm_spec.specs.Lawful.{scope_fault}
+use Rattle.mm_spec.specs.Scope.{depth, label_words, names_before}
+use Rattle.mm_spec.specs.Lawful.{least, scope_fault, scope_faults}
+use Rattle.mm_spec.specs.declared.Word.{Word}
+use Rattle.mm_outline.specs.Parts.{statement_of}
+use Rattle.mm_outline.specs.Statements.{statements}
+use Rattle.mm_outline.specs.declared.parts.Outline.{Outline}
 use Rattle.mm_spec.specs.Frame.{symbol_names, formula_of}
 use Rattle.mm_outline.specs.Blocks.{BlockLists, IsBlocks}
 use Rattle.mm_database.specs.Names.{find, names_of}
@@ -48,6 +52,18 @@ module _ {A : Type 0} where
     numbers = r.formulas.numbers.items;
     places = r.formulas.places.items;
   }
+
+  -- what there is after a statement was taken: its fault, and where it has none, all with it
+  pub record HasTaken (text : List ℕ) (tokens : List Word) (before : List Outline) (deep : ℕ)
+      (o : Outline) (r : Outlined A) : Type 0 where
+    pub fault : r.fault
+        ≡ least (scope_faults (names_before (statements text tokens before) (length before)) deep
+        (statement_of text tokens o))
+    pub taken : r.fault ≡ None
+        → (r.outlines.items ≡ before ++ o ∷ [])
+        × IsKept (statements text tokens before ++ statement_of text tokens o ∷ []) (kept_by r)
+    pub stays : r.fault ≢ None
+        → (r.outlines.items ≡ before) × IsKept (statements text tokens before) (kept_by r)
 
   -- what was read, with names and blocks each by itself
   abbrev pub reading_of : Outlined A → Reading A

@@ -3,13 +3,23 @@ use Rattle.std.specs.Prelude.{◌≡◌, ◌<◌, ℕ, List, [], ◌++◌, lengt
 use Rattle.mm_spec.specs.Statement.{Statement, is_closing}
 use Rattle.mm_spec.specs.Scope.{Names, names_before, depth, constants_of, variables_of}
 use Rattle.mm_spec.specs.Lawful.{least, scope_faults}
+use Rattle.mm_spec.specs.declared.Fault.{Fault}
+use Rattle.mm_spec.specs.declared.Word.{Word}
 use Rattle.mm_spec.specs.Frame.{first_occurrences}
 use Rattle.mm_outline.specs.Blocks.{is_open_in}
+use Rattle.mm_outline.specs.Parts.{AreWithin, IsOutline}
+use Rattle.mm_outline.specs.declared.parts.Outline.{Outline}
 use Rattle.mm_database.specs.Names.{find, names_of}
 use Rattle.mm_database.specs.declared.names.Symbol.{Symbol}
 use Rattle.mm_scope.specs.declared.scope.Scope.{Scope}
 use Rattle.mm_scope.specs.Judge.{Entry, Knows, entry_of}
 use Rattle.mm_scope.specs.Keeps.{Keeps}
+
+-- the outline is that of a whole statement among these tokens of a text
+pub record IsAmong (text : List ℕ) (tokens : List Word) (o : Outline) : Type 0 where
+  pub words : AreWithin text tokens
+  pub outline : IsOutline o
+  pub within : o.end < length tokens
 
 -- the words that a statement declares
 abbrev pub declared_words : Statement → List (List ℕ)
@@ -42,6 +52,10 @@ module _ {A : Type 0} where
   -- the names before the next statement are those that the scope knows
   abbrev pub AreNamesOf : Scope A → Names → Type 0
   AreNamesOf s n = Knows n (symbol_in s) (label_in s) (is_open_in s.blocks)
+
+  -- a fault is the least of those that a rule gives by the names before the next statement
+  abbrev pub IsLeastFault : Scope A → (Names → List Fault) → Option Fault → Type 0
+  IsLeastFault s rule found = (n : Names) → AreNamesOf s n → found ≡ least (rule n)
 
   -- the symbols are those before and these words, where they are new
   abbrev pub Declares : Scope A → Scope A → List (List ℕ) → Type 0

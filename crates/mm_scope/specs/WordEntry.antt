@@ -6,7 +6,7 @@ use Rattle.mm_spec.specs.Text.{Bytes, Token, is_in, words}
 use Rattle.mm_spec.specs.Statement.{Statement, constants, variables, floating}
 use Rattle.mm_spec.specs.Scope.{Typing, is_active, constants_of, variables_of, typings_of}
 use Rattle.mm_outline.specs.Blocks.{never}
-use Rattle.mm_scope.specs.Judge.{Entry, declared_entry, typed_entry}
+use Rattle.mm_scope.specs.Judge.{Entry, after_declaring, typed_entry}
 use Rattle.mm_outline.specs.Typed.{has, typed_words}
 
 -- whether the typing gives the word another typecode
@@ -59,8 +59,8 @@ typed_after n (c ∷ v ∷ []) w x = if bytes_eq v.word w then typed_entry n c.w
 typed_after n _ w x = x
 
 abbrev pub entry_after : ℕ → Statement → Bytes → Option Entry → Option Entry
-entry_after n (constants k xs d) w x = if is_in w (words xs) then declared_entry false n w x else x
-entry_after n (variables k xs d) w x = if is_in w (words xs) then declared_entry true n w x else x
+entry_after n (constants k xs d) w x = after_declaring false n (words xs) w x
+entry_after n (variables k xs d) w x = after_declaring true n (words xs) w x
 entry_after n (floating l k xs d) w x = typed_after n xs w x
 entry_after n _ w x = x
 

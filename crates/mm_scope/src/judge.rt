@@ -3,18 +3,17 @@
 ghost use Rattle.std.specs.Prelude.{◌≡◌, ◌<◌, ◌≤◌, ◌++◌, [], length, OnOk, IfOk, ◌^◌, map};
 ghost use Rattle.std.specs.Prelude.{◌+◌, ◌-◌, ℕ, List, is_some, Some, if◌then◌else◌, bytes_eq};
 ghost use Rattle.std.specs.Prelude.{false};
-ghost use Rattle.mm_spec.specs.Text.{is_in, words};
-ghost use Rattle.mm_spec.specs.Frame.{place_of};
+ghost use Rattle.mm_spec.specs.Text.{is_in};
 ghost use Rattle.mm_database.specs.Names.{find};
-ghost use Rattle.mm_scope.specs.Formulas.{judged};
-ghost use Rattle.mm_spec.specs.Lawful.{least, at_each, symbol_codes, formula_faults};
+ghost use Rattle.mm_scope.specs.Formulas.{judged, numbers_in};
+ghost use Rattle.mm_spec.specs.Lawful.{at_each, symbol_codes, formula_faults};
 ghost use Rattle.mm_spec.specs.Lawful.{floating_faults, label_faults, scope_faults};
 ghost use Rattle.mm_spec.specs.Scope.{Names as DeclaredNames};
-ghost use Rattle.mm_outline.specs.Parts.{AreWithin, IsOutline, between, nth_word, token_at};
+ghost use Rattle.mm_outline.specs.Parts.{AreWithin, between, nth_word, token_at};
 ghost use Rattle.mm_outline.specs.Parts.{statement_of};
 ghost use Rattle.mm_scope.specs.Judge.{merge as spec_merge, fault_at, declared_codes};
-ghost use Rattle.mm_scope.specs.Judge.{list_fault, before_next};
-ghost use Rattle.mm_scope.specs.Scopes.{AreNamesOf, names_in};
+ghost use Rattle.mm_scope.specs.Judge.{declared_fault, labelled_faults, list_fault, before_next};
+ghost use Rattle.mm_scope.specs.Scopes.{AreNamesOf, IsAmong, IsLeastFault, names_in};
 
 use crate::scope::Scope;
 use indexmap::IndexMap;
@@ -41,14 +40,12 @@ impl<'a, A: Allocator + Copy> Scope<'a, A> {
         requires within { to ≤ length tokens.now }
         requires few { length (names_in self.now) < 2 ^ 31 }
         ensures fault { IfOk result
-            (λ r. (n : DeclaredNames)
-            → AreNamesOf self.now n
-            → r ≡ least (at_each (symbol_codes n) [] (between text.now tokens.now from to))) }
+            (IsLeastFault self.now
+            (λ n. at_each (symbol_codes n) [] (between text.now tokens.now from to))) }
         ensures numbers { OnOk result
             (numbers.new.items
             ≡ numbers.old.items
-            ++ map (λ w. place_of w (names_in self.now))
-            (words (between text.now tokens.now from to))) }
+            ++ numbers_in (names_in self.now) (between text.now tokens.now from to)) }
     {
         let mut best = None;
         for at in from..to {
@@ -74,10 +71,8 @@ impl<'a, A: Allocator + Copy> Scope<'a, A> {
         requires order { from ≤ to }
         requires within { to < length tokens.now }
         ensures { IfOk result
-            (λ r. (n : DeclaredNames)
-            → AreNamesOf self.now n
-            → r ≡ least
-            (at_each (declared_codes n kind) [] (between text.now tokens.now from to))) }
+            (IsLeastFault self.now
+            (λ n. at_each (declared_codes n kind) [] (between text.now tokens.now from to))) }
     {
         let is_short = to - from <= FEW;
         let mut seen = IndexMap::new(alloc);
@@ -106,16 +101,13 @@ impl<'a, A: Allocator + Copy> Scope<'a, A> {
         requires within { to < length tokens.now }
         requires few { length (names_in self.now) < 2 ^ 31 }
         ensures fault { IfOk result
-            (λ r. (n : DeclaredNames)
-            → AreNamesOf self.now n
-            → r ≡ least
-            (formula_faults n (between text.now tokens.now from to)
+            (IsLeastFault self.now
+            (λ n. formula_faults n (between text.now tokens.now from to)
             (nth_word tokens.now to).start)) }
         ensures numbers { OnOk result
             (numbers.new.items
             ≡ numbers.old.items
-            ++ map (λ w. place_of w (names_in self.now))
-            (words (between text.now tokens.now from to))) }
+            ++ numbers_in (names_in self.now) (between text.now tokens.now from to)) }
     {
         if from == to {
             return Ok(note(None, tokens[to as usize].start, Some(Code::BadTypecode)));
@@ -132,9 +124,8 @@ impl<'a, A: Allocator + Copy> Scope<'a, A> {
     fn label_fault(&self, text: &[u8], tokens: &[Word], at: u32) -> Option<Fault>
         requires words { AreWithin text.now tokens.now }
         requires within { at < length tokens.now }
-        ensures { (n : DeclaredNames)
-            → AreNamesOf self.now n
-            → result ≡ least (label_faults n (token_at text.now tokens.now at)) }
+        ensures { IsLeastFault self.now
+            (λ n. label_faults n (token_at text.now tokens.now at)) result }
     {
         let token = tokens[at as usize];
         note(None, token.start, self.label_code(token.bytes(text)))
@@ -145,11 +136,9 @@ impl<'a, A: Allocator + Copy> Scope<'a, A> {
         requires words { AreWithin text.now tokens.now }
         requires order { keyword < to }
         requires within { to < length tokens.now }
-        ensures { (n : DeclaredNames)
-            → AreNamesOf self.now n
-            → result
-            ≡ least (floating_faults n (nth_word tokens.now keyword).start
-            (between text.now tokens.now (keyword + 1) to)) }
+        ensures { IsLeastFault self.now
+            (λ n. floating_faults n (nth_word tokens.now keyword).start
+            (between text.now tokens.now (keyword + 1) to)) result }
     {
         if to - keyword != 3 {
             return note(
@@ -239,9 +228,7 @@ impl<'a, A: Allocator + Copy> Scope<'a, A> {
         outline: Outline,
         numbers: &mut Vec<Sym, A>,
     ) -> Result<Option<Fault>, AllocError>
-        requires words { AreWithin text.now tokens.now }
-        requires outline { IsOutline outline }
-        requires within { outline.end < length tokens.now }
+        requires among { IsAmong text.now tokens.now outline }
         requires few { length (names_in self.now) < 2 ^ 31 }
         ensures numbers { OnOk result
             (numbers.new.items
@@ -249,9 +236,8 @@ impl<'a, A: Allocator + Copy> Scope<'a, A> {
             ++ judged (names_in self.now)
             (statement_of text.now tokens.now outline)) }
         ensures fault { IfOk result
-            (λ r. (n : DeclaredNames)
-            → AreNamesOf self.now n
-            → r ≡ least (scope_faults n deep (statement_of text.now tokens.now outline))) }
+            (IsLeastFault self.now
+            (λ n. scope_faults n deep (statement_of text.now tokens.now outline))) }
     {
         let kind = outline.kind;
         let keyword = outline.keyword;
@@ -266,9 +252,9 @@ impl<'a, A: Allocator + Copy> Scope<'a, A> {
                 let label = self.label_fault(text, tokens, keyword - 1);
                 Ok(merge(label, self.floating_fault(text, tokens, keyword, middle)))
             }
-            Kind::Essential => self.labelled(text, tokens, keyword, middle, numbers),
-            Kind::Axiom => self.labelled(text, tokens, keyword, middle, numbers),
-            Kind::Theorem => self.labelled(text, tokens, keyword, middle, numbers),
+            Kind::Essential => self.labelled(text, tokens, outline, numbers),
+            Kind::Axiom => self.labelled(text, tokens, outline, numbers),
+            Kind::Theorem => self.labelled(text, tokens, outline, numbers),
         }
     }
 
@@ -278,30 +264,24 @@ impl<'a, A: Allocator + Copy> Scope<'a, A> {
         &self,
         text: &[u8],
         tokens: &[Word],
-        keyword: u32,
-        to: u32,
+        outline: Outline,
         numbers: &mut Vec<Sym, A>,
     ) -> Result<Option<Fault>, AllocError>
-        requires words { AreWithin text.now tokens.now }
-        requires label { 0 < keyword }
-        requires order { keyword < to }
-        requires within { to < length tokens.now }
+        requires among { IsAmong text.now tokens.now outline }
+        requires label { 0 < outline.keyword }
+        requires order { outline.keyword < outline.middle }
         requires few { length (names_in self.now) < 2 ^ 31 }
         ensures fault { IfOk result
-            (λ r. (n : DeclaredNames)
-            → AreNamesOf self.now n
-            → r ≡ least
-            (label_faults n (token_at text.now tokens.now (keyword - 1))
-            ++ formula_faults n (between text.now tokens.now (keyword + 1) to)
-            (nth_word tokens.now to).start)) }
+            (IsLeastFault self.now (λ n. labelled_faults n text.now tokens.now outline)) }
         ensures numbers { OnOk result
             (numbers.new.items
             ≡ numbers.old.items
-            ++ map (λ w. place_of w (names_in self.now))
-            (words (between text.now tokens.now (keyword + 1) to))) }
+            ++ numbers_in (names_in self.now)
+            (between text.now tokens.now (outline.keyword + 1) outline.middle)) }
     {
-        let label = self.label_fault(text, tokens, keyword - 1);
-        let formula = self.formula_fault(text, tokens, keyword + 1, to, numbers)?;
+        let label = self.label_fault(text, tokens, outline.keyword - 1);
+        let from = outline.keyword + 1;
+        let formula = self.formula_fault(text, tokens, from, outline.middle, numbers)?;
         Ok(merge(label, formula))
     }
 
@@ -314,16 +294,12 @@ impl<'a, A: Allocator + Copy> Scope<'a, A> {
         deep: u32,
         outline: Outline,
     ) -> Result<Option<Fault>, AllocError>
-        requires words { AreWithin text.now tokens.now }
+        requires among { IsAmong text.now tokens.now outline }
         requires order { outline.keyword < outline.middle }
-        requires within { outline.middle < length tokens.now }
         ensures { IfOk result
-            (λ r. (n : DeclaredNames) → AreNamesOf self.now n
-            → r ≡ spec_merge
-            (list_fault outline.kind deep (nth_word tokens.now outline.keyword).start
-            (nth_word tokens.now outline.middle).start (outline.middle - outline.keyword - 1))
-            (least (at_each (declared_codes n outline.kind) []
-            (between text.now tokens.now (outline.keyword + 1) outline.middle)))) }
+            (λ r. (n : DeclaredNames)
+            → AreNamesOf self.now n
+            → r ≡ declared_fault n deep text.now tokens.now outline) }
     {
         let from = outline.keyword + 1;
         let rest = self.declared_fault(alloc, text, tokens, outline.kind, from, outline.middle)?;

@@ -1,23 +1,22 @@
 //! The reading of statements, one by one.
 
 ghost use Rattle.std.specs.Prelude.{◌≡◌, ◌<◌, ◌≤◌, ◌^◌, ◌++◌, ◌∷◌, [], List, None, All, length};
-ghost use Rattle.std.specs.Prelude.{OnOk, IfOk, ◌≢◌};
+ghost use Rattle.std.specs.Prelude.{OnOk, IfOk};
 ghost use Rattle.mm_spec.specs.Statement.{Statement, label_of};
-ghost use Rattle.mm_spec.specs.Scope.{names_before};
-ghost use Rattle.mm_spec.specs.Lawful.{least, scope_faults};
 ghost use Rattle.mm_spec.specs.Output.{IsRead};
 ghost use Rattle.mm_database.specs.Names.{find as find_in};
 ghost use Rattle.std.specs.Prelude.{◌+◌, ◌-◌, ℕ, Some, if◌then◌else◌, bytes_eq, true};
-ghost use Rattle.mm_spec.specs.Text.{is_in, words};
-ghost use Rattle.mm_scope.specs.Judge.{declared_entry, entry_of, typed_entry};
+ghost use Rattle.mm_spec.specs.Text.{words};
+ghost use Rattle.mm_scope.specs.Judge.{after_declaring, after_typing, declared_entry, entry_of};
 ghost use Rattle.mm_outline.specs.Parts.{AreWithin, between, token_at, IsOutline, depth_after};
 ghost use Rattle.mm_outline.specs.Parts.{statement_of};
 ghost use Rattle.mm_outline.specs.Tokens.{AreTokens};
 ghost use Rattle.mm_scope.specs.WordEntry.{entry_after, label_after};
 ghost use Rattle.mm_outline.specs.Statements.{end_fault_of, lexed, statements};
-ghost use Rattle.mm_scope.specs.Scopes.{Declares, IsScopeAfter, MayFollow, declared_words};
+ghost use Rattle.mm_scope.specs.Scopes.{Declares, IsAmong, IsScopeAfter, MayFollow};
+ghost use Rattle.mm_scope.specs.Scopes.{declared_words};
 ghost use Rattle.mm_scope.specs.Scopes.{entry_in, label_in, names_in};
-ghost use Rattle.mm_scope.specs.Keeps.{IsKept, MayTake, kept_by, reading_of};
+ghost use Rattle.mm_scope.specs.Keeps.{HasTaken, IsKept, MayTake, kept_by, reading_of};
 
 use crate::formulas::no_formulas;
 use crate::scope::Scope;
@@ -145,31 +144,15 @@ impl<'a, A: Allocator + Copy> Outlined<'a, A> {
         deep: u32,
         outline: Outline,
     ) -> Result<(), AllocError>
-        requires words { AreWithin text.now tokens.now }
+        requires among { IsAmong text.now tokens.now outline }
         requires few { length tokens.now < 2 ^ 31 }
-        requires outline { IsOutline outline }
-        requires within { outline.end < length tokens.now }
         requires sound { self.old.fault ≡ None }
         requires kept { IsKept (statements text.now tokens.now self.old.outlines.items)
             (kept_by self.old) }
         requires next { MayTake (statements text.now tokens.now self.old.outlines.items) deep
             (statement_of text.now tokens.now outline) }
-        ensures fault { OnOk result
-            (self.new.fault
-            ≡ least (scope_faults
-            (names_before (statements text.now tokens.now self.old.outlines.items)
-            (length self.old.outlines.items)) deep (statement_of text.now tokens.now outline))) }
-        ensures taken { OnOk result
-            (self.new.fault ≡ None
-            → (self.new.outlines.items ≡ self.old.outlines.items ++ outline ∷ [])
-            × IsKept
-            (statements text.now tokens.now self.old.outlines.items
-            ++ statement_of text.now tokens.now outline ∷ []) (kept_by self.new)) }
-        ensures stays { OnOk result
-            (self.new.fault ≢ None
-            → (self.new.outlines.items ≡ self.old.outlines.items)
-            × IsKept (statements text.now tokens.now self.old.outlines.items)
-            (kept_by self.new)) }
+        ensures { OnOk result
+            (HasTaken text.now tokens.now self.old.outlines.items deep outline self.new) }
     {
         let begin = self.formulas.numbers.len();
         self.fault = self.scope.fault(
@@ -275,10 +258,8 @@ impl<'a, A: Allocator + Copy> Scope<'a, A> {
         tokens: &[Word],
         outline: Outline,
     ) -> Result<(), AllocError>
-        requires words { AreWithin text.now tokens.now }
-        requires outline { IsOutline outline }
+        requires among { IsAmong text.now tokens.now outline }
         requires few { length tokens.now < 2 ^ 31 }
-        requires within { outline.end < length tokens.now }
         requires keeps { (db : List Statement) × IsScopeAfter db self.old × (length db < 2 ^ 31) }
         ensures keeps { OnOk result
             ((db : List Statement) → IsScopeAfter db self.old
@@ -301,10 +282,8 @@ impl<'a, A: Allocator + Copy> Scope<'a, A> {
         outline: Outline,
         number: u32,
     ) -> Result<(), AllocError>
-        requires words { AreWithin text.now tokens.now }
-        requires outline { IsOutline outline }
+        requires among { IsAmong text.now tokens.now outline }
         requires few { length tokens.now < 2 ^ 31 }
-        requires within { outline.end < length tokens.now }
         ensures symbols { OnOk result
             ((w : List ℕ)
             → entry_in self.new w
@@ -322,8 +301,8 @@ impl<'a, A: Allocator + Copy> Scope<'a, A> {
     {
         let from = outline.keyword + 1;
         match outline.kind {
-            Kind::Constants => self.declare(text, tokens, false, from, outline.middle, number),
-            Kind::Variables => self.declare(text, tokens, true, from, outline.middle, number),
+            Kind::Constants => self.declare(text, tokens, outline, false, number),
+            Kind::Variables => self.declare(text, tokens, outline, true, number),
             Kind::Floating => {
                 self.give_label(text, tokens, outline.keyword, number)?;
                 if outline.middle - outline.keyword == 3 {
@@ -352,8 +331,8 @@ impl<'a, A: Allocator + Copy> Scope<'a, A> {
         ensures labels { OnOk result
             ((w : List ℕ)
             → label_in self.new w
-            ≡ (if bytes_eq
-            (token_at text.now tokens.now (keyword - 1)).word w then Some number else label_in self.old w)) }
+            ≡ label_after number (Some (token_at text.now tokens.now (keyword - 1))) w
+            (label_in self.old w)) }
         ensures symbols { OnOk result (self.new.names.symbols ≡ self.old.names.symbols) }
         ensures blocks { self.new.blocks ≡ self.old.blocks }
     {
@@ -376,11 +355,8 @@ impl<'a, A: Allocator + Copy> Scope<'a, A> {
         ensures symbols { OnOk result
             ((w : List ℕ)
             → entry_in self.new w
-            ≡ (if bytes_eq
-            (token_at text.now tokens.now (from + 1)).word w then typed_entry number
-            (token_at text.now tokens.now from).word
-            (entry_in self.old (token_at text.now tokens.now (from + 1)).word)
-            else entry_in self.old w)) }
+            ≡ after_typing number (token_at text.now tokens.now from).word
+            (token_at text.now tokens.now (from + 1)).word (entry_in self.old) w) }
         ensures blocks { self.new.blocks ≡ self.old.blocks }
         ensures names { OnOk result
             (names_in self.new ≡ names_in self.old) }
@@ -403,32 +379,31 @@ impl<'a, A: Allocator + Copy> Scope<'a, A> {
         }
     }
 
-    /// Declares the words from `from` up to `to`, by the statement `number`.
+    /// Declares the words of the statement `number`, a `$c` or `$v`.
     fn declare(
         &mut self,
         text: &'a [u8],
         tokens: &[Word],
+        outline: Outline,
         is_variable: bool,
-        from: u32,
-        to: u32,
         number: u32,
     ) -> Result<(), AllocError>
-        requires words { AreWithin text.now tokens.now }
-        requires order { from ≤ to }
-        requires within { to < length tokens.now }
+        requires among { IsAmong text.now tokens.now outline }
+        requires order { outline.keyword < outline.middle }
         ensures labels { OnOk result
             ((w : List ℕ) → label_in self.new w ≡ label_in self.old w) }
         ensures symbols { OnOk result
             ((w : List ℕ)
             → entry_in self.new w
-            ≡ (if is_in w
-            (words (between text.now tokens.now from to)) then declared_entry is_variable number
-            w (entry_in self.old w) else entry_in self.old w)) }
+            ≡ after_declaring is_variable number
+            (words (between text.now tokens.now (outline.keyword + 1) outline.middle)) w
+            (entry_in self.old w)) }
         ensures blocks { self.new.blocks ≡ self.old.blocks }
         ensures names { OnOk result
-            (Declares self.old self.new (words (between text.now tokens.now from to))) }
+            (Declares self.old self.new
+            (words (between text.now tokens.now (outline.keyword + 1) outline.middle))) }
     {
-        for at in from..to {
+        for at in outline.keyword + 1..outline.middle {
             let token = tokens[at as usize];
             let word = token.bytes(text);
             let symbol = declared(&self.names, is_variable, number, word);

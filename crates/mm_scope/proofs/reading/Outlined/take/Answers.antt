@@ -1,11 +1,12 @@
-use Rattle.std.proofs.Common.{◌≡◌, ℕ, ◌<◌, ◌++◌, ◌∷◌, [], List, length, sym, ap, ◌∙◌, subst, arith}
-use Rattle.std.proofs.lemmas.List.{length-map}
+use Rattle.std.proofs.Common.{rules, refl, le_refl, take, take_all, ap₂, ◌≡◌, ℕ, ◌<◌, ◌++◌, ◌∷◌, [], List, length, sym, ap, ◌∙◌, subst, arith}
+use Rattle.std.proofs.lemmas.List.{length-map, take-append-le}
 use Rattle.mm_spec.specs.Scope.{names_before}
 use Rattle.mm_spec.specs.Lawful.{least, scope_faults}
 use Rattle.mm_outline.specs.Blocks.{never}
 use Rattle.mm_outline.specs.Parts.{statement_of}
 use Rattle.mm_outline.specs.Statements.{statements}
-use Rattle.mm_scope.specs.Formulas.{AreFormulas}
+use Rattle.mm_scope.specs.Formulas.{AreFormulas, judged}
+use Rattle.mm_scope.specs.Scopes.{names_in}
 use Rattle.mm_database.specs.Names.{find, names_of}
 use Rattle.mm_scope.proofs.KnowsLaw.{knows_is}
 use Rattle.mm_scope.proofs.NumberedLaw.{declared, names_shorter, names_next, taken_numbers}
@@ -21,8 +22,8 @@ fault-requires-clause-few g c =
     let f = c.requires.next.few_names in
     omega (arith, e, l, f)
 
-pub returns-then-is_some-clause-fault : goal.returns-then-is_some-clause-fault
-returns-then-is_some-clause-fault g c =
+pub returns-then-is_some : goal.returns-then-is_some
+returns-then-is_some g c =
     let text = c.args.text.now in
     let ws = c.args.tokens.now in
     let os = c.args.self.now.outlines.items in
@@ -37,8 +38,31 @@ returns-then-is_some-clause-fault g c =
     c.in_ok-self.ensures.fault (names_before db (length db))
     (knows_is db (find c.args.self.now.scope.names.symbols)
     (find c.args.self.now.scope.names.labels) b k.keeps few_blocks) in
-    fault ∙ ap (λ n. least (scope_faults (names_before db n) c.args.deep s))
-    (length-map os (statement_of text ws))
+    let begun = c.args.self.now.formulas.numbers.items in
+    let untouched : c.truncate.new.self.items ≡ begun =
+    c.truncate.ensures.items
+    ∙ ap₂ take (c.len-begin.ensures ∙ c.args.self.now.formulas.numbers.ok.0)
+    c.in_ok-self.ensures.numbers
+    ∙ take-append-le (length begun) begun (judged (names_in c.args.self.now.scope) s)
+    (le_refl (length begun))
+    ∙ take_all (length begun) begun (le_refl (length begun)) in
+    record {
+      fault =
+          fault ∙ ap (λ n. least (scope_faults (names_before db n) c.args.deep s))
+          (length-map os (statement_of text ws));
+      taken = search rules;
+      stays = λ some. (
+        refl,
+        record {
+          keeps = k.keeps;
+          names_are = k.names_are;
+          formulas =
+              subst
+              (λ (ns : List ℕ). AreFormulas db ns c.args.self.now.formulas.places.items)
+              (sym untouched) k.formulas;
+        },
+      );
+    }
 
 pub overflow_cast-len : goal.overflow_cast-len
 overflow_cast-len g c =
@@ -67,27 +91,8 @@ overflow_cast-len g c =
     let long = ap length formulas.numbers_are in
     omega (arith, at, small, long)
 
-pub returns-clause-fault : goal.returns-clause-fault
-returns-clause-fault g c =
-    let text = c.args.text.now in
-    let ws = c.args.tokens.now in
-    let os = c.args.self.now.outlines.items in
-    let db = statements text ws os in
-    let s = statement_of text ws c.args.outline in
-    let k = c.requires.kept in
-    let next = c.requires.next in
-    let b = c.args.self.now.scope.blocks in
-    let few = next.few in
-    let few_blocks : length db < never = omega (arith, few) in
-    let fault =
-    c.in_ok-self.ensures.fault (names_before db (length db))
-    (knows_is db (find c.args.self.now.scope.names.symbols)
-    (find c.args.self.now.scope.names.labels) b k.keeps few_blocks) in
-    fault ∙ ap (λ n. least (scope_faults (names_before db n) c.args.deep s))
-    (length-map os (statement_of text ws))
-
-pub returns-clause-taken : goal.returns-clause-taken
-returns-clause-taken g c none =
+pub returns : goal.returns
+returns g c =
     let text = c.args.text.now in
     let ws = c.args.tokens.now in
     let os = c.args.self.now.outlines.items in
@@ -115,18 +120,26 @@ returns-clause-taken g c none =
     let formulas =
     formulas_more db next.lawful s c.args.self.now.formulas.numbers.items
     c.args.self.now.formulas.places.items k.formulas c.number_others.new.numbers.items more
-    c.len.result at in (
-      c.in_ok-push-2.ensures.items,
-      record {
-        keeps =
-            c.in_ok-add.ensures.keeps db k.keeps (
-              ap (λ d. least (scope_faults (names_before db (length db)) d s)) (sym next.depth_is)
-                  ∙ sym fault ∙ none,
-              next.inside,
-            );
-        names_are = names;
-        formulas =
-            subst (λ (ps : List ℕ). AreFormulas (db ++ s ∷ []) c.number_others.new.numbers.items ps)
-            (sym c.in_ok-push.ensures.items) formulas;
-      },
-    )
+    c.len.result at in
+    record {
+      fault =
+          fault ∙ ap (λ n. least (scope_faults (names_before db n) c.args.deep s))
+          (length-map os (statement_of text ws));
+      taken = λ none. (
+        c.in_ok-push-2.ensures.items,
+        record {
+          keeps =
+              c.in_ok-add.ensures.keeps db k.keeps (
+                ap (λ d. least (scope_faults (names_before db (length db)) d s))
+                    (sym next.depth_is) ∙ sym fault ∙ none,
+                next.inside,
+              );
+          names_are = names;
+          formulas =
+              subst
+              (λ (ps : List ℕ). AreFormulas (db ++ s ∷ []) c.number_others.new.numbers.items ps)
+              (sym c.in_ok-push.ensures.items) formulas;
+        },
+      );
+      stays = search rules;
+    }

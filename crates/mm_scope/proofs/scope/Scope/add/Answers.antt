@@ -1,4 +1,4 @@
-use Rattle.std.proofs.Common.{◌≡◌, ◌<◌, ◌∙◌, ap, arith, length}
+use Rattle.std.proofs.Common.{◌<◌, ◌∙◌, arith, length}
 use Rattle.mm_database.specs.Names.{find}
 use Rattle.mm_outline.specs.Blocks.{never}
 use Rattle.mm_scope.proofs.AddLaw.{keeps_after, on_both}

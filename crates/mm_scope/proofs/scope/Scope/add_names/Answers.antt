@@ -12,8 +12,8 @@ returns-in_ok-give_type-in-Floating-clause-symbols g c = λ w.
     let text = c.args.text.now in
     let ws = c.args.tokens.now in
     let o = c.args.outline in
-    let within = c.requires.within in
-    let order = c.requires.outline.3 in
+    let within = c.requires.among.within in
+    let order = c.requires.among.outline.3 in
     let inside : o.middle ≤ length ws = omega (arith, within, order) in
     typed_now text ws o.keyword o.middle inside c.if-outline-eq3.true c.args.number
     (find c.args.self.now.names.symbols) (find c.give_label.new.self.names.symbols)
@@ -28,11 +28,12 @@ returns-else-outline-eq3-clause-symbols g c = λ w.
     let text = c.args.text.now in
     let ws = c.args.tokens.now in
     let o = c.args.outline in
-    let within = c.requires.within in
-    let order = c.requires.outline.3 in
+    let within = c.requires.among.within in
+    let order = c.requires.among.outline.3 in
     let inside : o.middle ≤ length ws = omega (arith, within, order) in
     let below : o.keyword < o.middle =
-    subst (λ kd. IsKeywordBefore kd o.keyword o.middle) c.in-Floating.is c.requires.outline.1 in
+    subst (λ kd. IsKeywordBefore kd o.keyword o.middle) c.in-Floating.is
+    c.requires.among.outline.1 in
     ap (λ m. entry_of (find m w)) c.in_ok-give_label-in-Floating.ensures.symbols
     ∙ sym (typed_not text ws o.keyword o.middle inside c.args.number w
     (entry_of (find c.args.self.now.names.symbols w)) below c.if-outline-eq3.false)

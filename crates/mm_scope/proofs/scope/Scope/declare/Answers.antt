@@ -1,4 +1,4 @@
-use Rattle.std.proofs.Common.{ap, ap₂, ◌<◌, ◌≤◌, arith, length, ◌∙◌, ◌≡◌, ◌++◌, []}
+use Rattle.std.proofs.Common.{ap, ap₂, ◌+◌, ◌<◌, ◌≤◌, arith, length, ◌∙◌, ◌≡◌, ◌++◌, []}
 use Rattle.std.proofs.Common.{Some, bytes_eq, if◌then◌else◌}
 use Rattle.mm_spec.specs.Text.{words}
 use Rattle.mm_spec.specs.Frame.{first_occurrences}
@@ -11,15 +11,16 @@ use Rattle.mm_scope.proofs.scope.Scope.declare.Goals as goal
 
 pub loop-at-preserved : goal.loop-at-preserved
 loop-at-preserved g c =
+    let from = c.args.outline.keyword + 1 in
     let test = c.loop-at-test.true in
-    let within = c.requires.within in
+    let within = c.requires.among.within in
     let inside : c.loop-at.at < length c.args.tokens.now = omega (arith, test, within) in
-    let later : c.args.from ≤ c.loop-at.at = omega arith in
+    let later : from ≤ c.loop-at.at = omega arith in
     let i = c.loop-at.invariant in
     record {
       labels = λ w. c.in_ok-set_symbol.ensures.labels w ∙ i.labels w;
       symbols =
-          declared_step c.args.text.now c.args.tokens.now c.args.from c.loop-at.at later inside
+          declared_step c.args.text.now c.args.tokens.now from c.loop-at.at later inside
           c.args.is_variable c.args.number c.declared-symbol.result
           (find c.args.self.now.names.symbols) (find c.loop-at.self.names.symbols)
           (find c.set_symbol.new.self.symbols)
@@ -34,12 +35,13 @@ loop-at-preserved g c =
       names =
           λ d h. c.in_ok-set_symbol.ensures.names
           ∙ ap₂ with_name c.bytes-word.ensures (i.names d h)
-          ∙ names_more c.args.text.now c.args.tokens.now c.args.from c.loop-at.at later inside d;
+          ∙ names_more c.args.text.now c.args.tokens.now from c.loop-at.at later inside d;
     }
 
 pub returns-clause-names : goal.returns-clause-names
 returns-clause-names g c d h =
-    let e : c.loop-at.at ≡ c.args.to = omega arith in
+    let from = c.args.outline.keyword + 1 in
+    let e : c.loop-at.at ≡ c.args.outline.middle = omega arith in
     c.loop-at.invariant.names d h
     ∙ ap (λ i. first_occurrences []
-    (d ++ words (between c.args.text.now c.args.tokens.now c.args.from i))) e
+    (d ++ words (between c.args.text.now c.args.tokens.now from i))) e

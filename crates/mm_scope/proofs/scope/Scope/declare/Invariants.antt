@@ -1,9 +1,9 @@
-use Rattle.std.proofs.Common.{◌≡◌, ℕ, List, [], ◌++◌, if◌then◌else◌}
-use Rattle.mm_spec.specs.Text.{is_in, words}
+use Rattle.std.proofs.Common.{◌≡◌, ◌+◌, ℕ, List, [], ◌++◌}
+use Rattle.mm_spec.specs.Text.{words}
 use Rattle.mm_spec.specs.Frame.{first_occurrences}
 use Rattle.mm_database.specs.Names.{find, names_of}
 use Rattle.mm_outline.specs.Parts.{between}
-use Rattle.mm_scope.specs.Judge.{declared_entry, entry_of}
+use Rattle.mm_scope.specs.Judge.{after_declaring, entry_of}
 use Rattle.mm_scope.proofs.scope.Scope.declare.Given as goal
 
 abbrev pub invariant-loop-at : goal.invariant-loop-at
@@ -11,12 +11,12 @@ invariant-loop-at g l = record {
   labels : (w : List ℕ) → find l.self.names.labels w ≡ find l.initial.self.names.labels w;
   symbols : (w : List ℕ)
       → entry_of (find l.self.names.symbols w)
-      ≡ (if is_in w
-      (words (between l.text l.tokens l.from l.at)) then declared_entry l.is_variable l.number w
-      (entry_of (find l.initial.self.names.symbols w)) else entry_of
-      (find l.initial.self.names.symbols w));
+      ≡ after_declaring l.is_variable l.number
+      (words (between l.text l.tokens (l.fn.outline.keyword + 1) l.at)) w
+      (entry_of (find l.initial.self.names.symbols w));
   blocks : l.self.blocks ≡ l.initial.self.blocks;
   names : (d : List (List ℕ)) → names_of l.initial.self.names.symbols ≡ first_occurrences [] d
       → names_of l.self.names.symbols
-      ≡ first_occurrences [] (d ++ words (between l.text l.tokens l.from l.at));
+      ≡ first_occurrences []
+      (d ++ words (between l.text l.tokens (l.fn.outline.keyword + 1) l.at));
 }

@@ -11,10 +11,11 @@ returns-in-Constants-clause-fault g c =
     let text = c.args.text.now in
     let ws = c.args.tokens.now in
     let o = c.args.outline in
-    let within = c.requires.within in
-    let later = c.requires.outline.3 in
+    let within = c.requires.among.within in
+    let later = c.requires.among.outline.3 in
     let below =
-    subst (λ kd. IsKeywordBefore kd o.keyword o.middle) c.in-Constants.is c.requires.outline.1 in
+    subst (λ kd. IsKeywordBefore kd o.keyword o.middle) c.in-Constants.is
+    c.requires.among.outline.1 in
     ok_then c.declared.result c.declared.ensures (λ r h. λ n k.
     h n k ∙ ap
     (λ kd. merge
@@ -32,10 +33,11 @@ returns-in-Variables-clause-fault g c =
     let text = c.args.text.now in
     let ws = c.args.tokens.now in
     let o = c.args.outline in
-    let within = c.requires.within in
-    let later = c.requires.outline.3 in
+    let within = c.requires.among.within in
+    let later = c.requires.among.outline.3 in
     let below =
-    subst (λ kd. IsKeywordBefore kd o.keyword o.middle) c.in-Variables.is c.requires.outline.1 in
+    subst (λ kd. IsKeywordBefore kd o.keyword o.middle) c.in-Variables.is
+    c.requires.among.outline.1 in
     ok_then c.declared-in-Variables.result c.declared-in-Variables.ensures (λ r h. λ n k.
     h n k ∙ ap
     (λ kd. merge

@@ -11,6 +11,6 @@ returns-clause-fault g c = λ n k.
     let ws = c.args.tokens.now in
     c.merge.ensures
     ∙ ap₂ merge (c.label_fault-label.ensures n k) (c.in_ok-formula.ensures.fault n k)
-    ∙ sym (least_append (label_faults n (token_at text ws (c.args.keyword - 1)))
-    (formula_faults n (between text ws (c.args.keyword + 1) c.args.to)
-    (nth_word ws c.args.to).start))
+    ∙ sym (least_append (label_faults n (token_at text ws (c.args.outline.keyword - 1)))
+    (formula_faults n (between text ws (c.args.outline.keyword + 1) c.args.outline.middle)
+    (nth_word ws c.args.outline.middle).start))
