@@ -1,6 +1,7 @@
-use Rattle.std.proofs.Common.{rules, ◌≡◌, ◌∙◌, ℕ, List, [], ◌∷◌, not, sym, ap, subst}
+use Rattle.std.proofs.Common.{rules, arith, ◌≤◌, length, ◌≡◌, ◌∙◌, ℕ, List, [], ◌∷◌, not, sym, ap, subst}
 use Rattle.mm_lex.specs.Pieces.{seen}
 use Rattle.mm_lex.specs.Inners.{side}
+use Rattle.mm_spec.specs.declared.TheConstants.{TEXT_LIMIT}
 use Rattle.mm_lex.specs.declared.blocks.Blocks.{Blocks}
 use Rattle.mm_spec.specs.Laws.Readings.{go_on}
 use Rattle.mm_spec.specs.Words.{words_between}
@@ -100,3 +101,37 @@ returns-clause-readings g c =
       out = λ p. go_on_done c.args.text.now _ _ _ (before.out p) none;
       within = before.inn;
     }
+
+pub overflow_sub-tail : goal.overflow_sub-tail
+overflow_sub-tail g c = c.requires.order
+
+pub overflow_add-tail : goal.overflow_add-tail
+overflow_add-tail g c = omega arith
+
+pub new-blocks-requires : goal.new-blocks-requires
+new-blocks-requires g c =
+    let order = c.requires.order in
+    let within = c.requires.within in
+    omega (arith, order, within)
+
+pub next_word-requires-clause-within : goal.next_word-requires-clause-within
+next_word-requires-clause-within g c =
+    subst (λ (t : List ℕ). c.args.tail ≤ length t) (sym c.loop-blocks.invariant.same)
+    c.requires.within
+
+pub next_word-requires-clause-short : goal.next_word-requires-clause-short
+next_word-requires-clause-short g c =
+    subst (λ (t : List ℕ). length t ≤ TEXT_LIMIT) (sym c.loop-blocks.invariant.same)
+    c.requires.short
+
+pub next_word-requires-in-loop-found-clause-within :
+    goal.next_word-requires-in-loop-found-clause-within
+next_word-requires-in-loop-found-clause-within g c =
+    subst (λ (t : List ℕ). c.args.tail ≤ length t) (sym c.loop-found.invariant.same)
+    c.requires.within
+
+pub next_word-requires-in-loop-found-clause-short :
+    goal.next_word-requires-in-loop-found-clause-short
+next_word-requires-in-loop-found-clause-short g c =
+    subst (λ (t : List ℕ). length t ≤ TEXT_LIMIT) (sym c.loop-found.invariant.same)
+    c.requires.short

@@ -41,3 +41,24 @@ returns-clause-to g c =
     (length c.args.places.now + 1) c.min-runs.result c.joining.pieces.items c.joining.whole
     (omega (arith, c.min-runs.ensures)) (omega (arith, c.min-runs.ensures))
     (omega arith) c.joining.invariant none
+
+pub overflow_add-places : goal.overflow_add-places
+overflow_add-places g c = omega arith
+
+pub read_runs-requires-clause-short : goal.read_runs-requires-clause-short
+read_runs-requires-clause-short g c κs within = c.requires.short
+
+pub read_runs-requires-clause-cuts : goal.read_runs-requires-clause-cuts
+read_runs-requires-clause-cuts g c κs within = c.requires.cuts
+
+pub read_runs-requires-clause-some : goal.read_runs-requires-clause-some
+read_runs-requires-clause-some g c κs = (let least = c.min-runs.ensures in omega (arith, least))
+
+pub read_runs-requires-clause-few : goal.read_runs-requires-clause-few
+read_runs-requires-clause-few g c κs = (let least = c.min-runs.ensures in omega (arith, least))
+
+pub remove-requires : goal.remove-requires
+remove-requires g c =
+    let least = c.min-runs.ensures in
+    let long = c.in_ok-pieces.ensures.len in
+    omega (arith, least, long)
