@@ -1,5 +1,8 @@
 -- What the parts of a piece stand for.
-use Rattle.mm_lex.specs.Pieces.{Side, Between}
+use Rattle.std.specs.Prelude.{ℕ, List, ◌++◌}
+use Rattle.mm_spec.specs.declared.Word.{Word}
+use Rattle.mm_lex.specs.Pieces.{AreReadings, Between, Side}
+use Rattle.mm_lex.specs.Stretches.{joined_word}
 use Rattle.mm_lex.specs.declared.modes.Opened.{Opened}
 use Rattle.mm_lex.specs.declared.modes.Opened.TheVariants.{Nowhere, Before, At}
 use Rattle.mm_lex.specs.declared.modes.ModeReading.{ModeReading}
@@ -16,6 +19,16 @@ between inner =
       outside = side inner.outside;
       inside = side inner.inside;
     }
+
+-- Between the ends of two adjacent stretches there is what is between those of each, and the word
+-- that they join.
+abbrev pub IsJoined : List ℕ → (before after joined : Between) → Type 0
+IsJoined text before after joined =
+    (ws us : List Word)
+    → AreReadings text ws before.outside before.inside
+    → AreReadings text us after.outside after.inside
+    → AreReadings text (ws ++ (joined_word before.tail after.head ++ us)) joined.outside
+    joined.inside
 
 -- the comment that is open after two lists of words: `first` says which is open after the first
 -- list, the other argument which is open after the second list alone

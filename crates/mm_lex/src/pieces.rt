@@ -5,7 +5,7 @@ ghost use Rattle.std.specs.Prelude.{if◌then◌else◌};
 ghost use Rattle.std.specs.Option.{option_map};
 ghost use Rattle.mm_lex.specs.Pieces.{fault_in_mode, head_of, resolved, stretch, tail_of};
 ghost use Rattle.mm_lex.specs.Pieces.{tokens_in_mode, AreReadings, IsSummary, Stretch};
-ghost use Rattle.mm_lex.specs.Inners.{between, side};
+ghost use Rattle.mm_lex.specs.Inners.{between, IsJoined, side};
 ghost use Rattle.mm_lex.specs.Stretches.{joined_word};
 ghost use Rattle.mm_spec.specs.Lexed.{fault_in, lexical_fault, tokens_of};
 ghost use Rattle.mm_spec.specs.Words.{words_between};
@@ -213,11 +213,8 @@ fn join_inner<A: Allocator + Copy>(
     requires short { length text.now ≤ TEXT_LIMIT }
     ensures head { IfOk result (λ inner. inner.head ≡ before.head) }
     ensures tail { IfOk result (λ inner. inner.tail ≡ after.tail) }
-    ensures readings { IfOk result (λ inner. (ws us : List Word) →
-        AreReadings text.now ws (side before.outside) (side before.inside)
-        → AreReadings text.now us (side after.outside) (side after.inside) →
-        AreReadings text.now (ws ++ (joined_word before.tail after.head ++ us))
-        (side inner.outside) (side inner.inside)) }
+    ensures readings { IfOk result
+        (λ inner. IsJoined text.now (between before) (between after) (between inner)) }
 {
     let mut outside = before.outside;
     let mut inside = before.inside;

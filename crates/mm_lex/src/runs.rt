@@ -2,7 +2,7 @@
 
 ghost use Rattle.std.specs.Prelude.{◌≡◌, ◌<◌, ◌≤◌, ◌+◌, ℕ, length, vec_len, slice_index_or, IfOk};
 ghost use Rattle.std.specs.Prelude.{Result};
-ghost use Rattle.mm_lex.specs.Cuts.{cut_at, run_start, IsRun};
+ghost use Rattle.mm_lex.specs.Cuts.{cut_at, run_start, IsRun, IsRunOf};
 ghost use Rattle.mm_lex.specs.Pieces.{IsSummary, Stretch};
 ghost use Rattle.mm_lex.specs.Places.{cut_text, IsCutText};
 
@@ -76,9 +76,7 @@ fn run_at<A: Allocator + Copy>(
     requires cuts { IsCutText (cut_text places.now (length text.now)) }
     requires few { runs ≤ length places.now + 1 }
     requires index { index < runs }
-    ensures { IfOk result
-        (IsRun text.now places.now (run_start (length places.now + 1) runs index)
-        (run_start (length places.now + 1) runs (index + 1))) }
+    ensures { IfOk result (IsRunOf text.now places.now runs index) }
 {
     let count = places.len() + 1;
     let first = run_start(count, runs, index);
@@ -99,10 +97,10 @@ fn read_runs<R: Threads + Sync, A: Allocator + Copy + Send + Sync>(
     requires some { 0 < runs }
     requires few { runs ≤ length places.now + 1 }
     ensures len { IfOk result (λ pieces. vec_len pieces ≡ runs) }
-    ensures each { IfOk result (λ pieces. (i : ℕ) (d : Result Stretch AllocError) → i < runs →
-        IfOk (slice_index_or pieces.items i d)
-        (IsRun text.now places.now (run_start (length places.now + 1) runs i)
-        (run_start (length places.now + 1) runs (i + 1)))) }
+    ensures each { IfOk result
+        (λ pieces. (i : ℕ) (d : Result Stretch AllocError)
+        → i < runs
+        → IfOk (slice_index_or pieces.items i d) (IsRunOf text.now places.now runs i)) }
 {
     thread::map_indices(
         rt,
