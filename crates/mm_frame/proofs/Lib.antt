@@ -10,8 +10,11 @@ pub mod DisjointLaw
 pub mod FloatLaw
 pub mod FramesLaw
 pub mod LatestLaw
+pub mod LoopsLaw
 pub mod MarksLaw
 pub mod NestedLaw
 pub mod PairsLaw
+pub mod SkipsLaw
+pub mod TablesLaw
 pub mod HypothesesLaw
 pub mod ChainsLaw
