@@ -4,14 +4,19 @@
 -- (`HypothesesLaw.antt`) the hypotheses. `with_disjoint` and `pairs_more` (`ChainsLaw.antt`) give the
 -- `$d` by variables, with `are_known` of `mm_database` `IsDisjointIndex`, and `pairs_are`
 -- (`DisjointLaw.antt`) the pairs.
+-- (`TablesLaw.antt`: what an outline says of its statement; `SkipsLaw.antt`: the loops of `skips_of`;
+-- `LoopsLaw.antt`: one more element in the loops that collect.)
 -- The loop of `frames_of` keeps `AreFramesUpTo` by `frames_more` and `frames_pass`
 -- (`FramesLaw.antt`). So `gather` has `AreFrames`.
 pub mod DisjointLaw
 pub mod FloatLaw
 pub mod FramesLaw
 pub mod LatestLaw
+pub mod LoopsLaw
 pub mod MarksLaw
 pub mod NestedLaw
 pub mod PairsLaw
+pub mod SkipsLaw
+pub mod TablesLaw
 pub mod HypothesesLaw
 pub mod ChainsLaw

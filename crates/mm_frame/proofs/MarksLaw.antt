@@ -4,6 +4,7 @@ use Rattle.std.proofs.Common.{◌∷◌, ◌++◌, length, get_or, set, nat_eq, 
 use Rattle.std.proofs.Common.{arith, ◌⊎◌, inl, inr, le_refl}
 use Rattle.std.proofs.lemmas.Bool.{cases_eq, eq-eqb, ne_eqb}
 use Rattle.std.proofs.lemmas.List.{get_or-set_same, get_or-set_other, length-set}
+use Rattle.std.proofs.lemmas.Grind.{get_or_default_zero}
 use Rattle.std.proofs.Math.Bool.{and-false, or-false, or-true}
 use Rattle.mm_spec.specs.Derivation.{is_member}
 use Rattle.mm_frame.specs.Hypotheses.{AreMarks}
@@ -90,3 +91,12 @@ pub noted_row : (f v t e : Bool) → ((f || (v && t)) || (v && e)) ≡ (f || (v 
 noted_row true v t e = refl
 noted_row false false t e = refl
 noted_row false true t e = refl
+
+-- a symbol with this stamp has been found
+pub found_again : (n stamp : ℕ) (seen found : List ℕ) (s place r : ℕ) → AreMarks n stamp seen found
+    → s < n → place ≡ s → r ≡ get_or seen place r → r ≡ stamp → is_member found s ≡ true
+found_again n stamp seen found s place r m l p e f =
+    sym (m.marked s l)
+    ∙ eq-eqb (get_or seen s 0) stamp
+    (sym (get_or_default_zero seen s r (let c = m.count in omega (arith, l, c)))
+    ∙ ap (λ i. get_or seen i r) (sym p) ∙ sym e ∙ f)

@@ -23,7 +23,7 @@ use Rattle.clap.specs.Facts.{args_of, groups_of}
 use Rattle.clap.specs.Takes.{takes}
 use Rattle.clap.specs.Kinds.{HasKind, IsAmong}
 use Rattle.clap.specs.Faults.{fault_of, is_free_app, is_simple_and_free}
-use Rattle.clap.specs.Built.{AddsArg, IsParsedFrom, NamesNoGroup}
+use Rattle.clap.specs.Built.{AddsArg, AddsInTurn, IsParsedFrom, NamesNoGroup}
 use Rattle.clap.specs.declared.builder.arg.Arg.{Arg}
 use Rattle.clap.specs.declared.builder.command.Command.{Command}
 use Rattle.clap.specs.declared.builder.command.Command.TheViews.{out-Command}
@@ -55,11 +55,29 @@ use Rattle.mm_line.specs.declared.command_line.LineRefused.{LineRefused}
 use Rattle.mm_line.specs.declared.command_line.LineRefused.TheVariants.{Help, Bad, Memory}
 
 -- a command with one rule more
-pub one_more : (old new : Command) (a : Arg) (app : App) (r : Rule) → AddsArg old a new
+one_more : (old new : Command) (a : Arg) (app : App) (r : Rule) → AddsArg old a new
     → app_of old ≡ app → rule_of a ≡ r → r.is_simple ≡ true → app_of new ≡ with_rule app r
 one_more old new a app r added is rule simple =
     added.shape (simple_parts a (ap (λ (x : Rule). x.is_simple) rule ∙ simple)).global
     ∙ ap (λ (x : App). with_rule x (rule_of a)) is ∙ ap (with_rule app) rule
+
+abbrev pub with_rules : App → List Rule → App
+with_rules app [] = app
+with_rules app (r ∷ rules) = with_rules (with_rule app r) rules
+
+-- a command with a rule more for each argument
+pub all_more : (args : List Arg) (rules : List Rule) (old new : Command) (app : App)
+    → AddsInTurn AddsArg old args new → app_of old ≡ app → map rule_of args ≡ rules
+    → list_all (λ (r : Rule). r.is_simple) rules ≡ true → app_of new ≡ with_rules app rules
+all_more [] [] old new app added is same simple = ap app_of (sym added) ∙ is
+all_more [] (r ∷ rules) old new app added is same simple = cc
+all_more (a ∷ args) [] old new app added is same simple = cc
+all_more (a ∷ args) (r ∷ rules) old new app added is same simple =
+    let parts = and_parts r.is_simple (list_all (λ (r : Rule). r.is_simple) rules) simple in
+    let rule : rule_of a ≡ r = cc in
+    let others : map rule_of args ≡ rules = cc in
+    all_more args rules added.0 new (with_rule app r) added.2
+    (one_more old added.0 a app r added.1 is rule parts.0) others parts.1
 
 pub is_command : (c : Command) (report form : Rule) → IsReportRule report → IsFormRule form
     → app_of c ≡ command_of report form → IsCommand (app_of c)
@@ -227,7 +245,7 @@ one_place rs d id k one j lt h =
     by (inr e) = absurd (true≢false (sym e))
 
 module _ (names forms : Bor (List (Bor Text))) where
-  abbrev the_rules : List Rule
+  abbrev pub the_rules : List Rule
   the_rules =
       number_rule (codes "workers") ∷ number_rule (codes "pieces") ∷ only_rule ∷ report_rule names
       ∷ form_rule forms ∷ flag_rule (codes "essential") ∷ flag_rule (codes "open") ∷ file_rule ∷ []

@@ -21,8 +21,8 @@ static REPORTS: [&str; 5] = ["all", "matrix", "counts", "usage", "citations"];
 
 static FORMS: [&str; 2] = ["1", "2"];
 
-/// The program's version, and the toolchain with which it was proved (the line of `rt version`).
-const VERSION: &str = "0.1.0, proved with rattle-kit-13b logic dac8208d650f15bf";
+/// The program's version, and the logic in which it was proved (as `rt version` names it).
+const VERSION: &str = "0.1.0, proved with rattle logic dac8208d650f15bf";
 
 /// The last lines of the help.
 const AFTER: &str = "\
@@ -113,20 +113,21 @@ fn file<'a>(alloc: Global) -> Arg<'a>
 fn command<'a>(alloc: Global) -> Result<Command<'a>, AllocError>
     ensures { IfOk result (λ c. IsCommand (app_of c)) }
 {
-    let workers = number(alloc, "workers", "Check the proofs by N threads, 1 to 64");
-    let pieces = number(alloc, "pieces", "Read the text in N pieces, 1 to 64");
+    let arguments = vec![in alloc;
+        number(alloc, "workers", "Check the proofs by N threads, 1 to 64"),
+        number(alloc, "pieces", "Read the text in N pieces, 1 to 64"),
+        only(alloc),
+        report(alloc),
+        form(alloc),
+        essential(alloc),
+        open_theorems(alloc),
+        file(alloc),
+    ]?;
     Command::new(alloc, "mmdepend")
         .about("Verifies a Metamath database and reports on which axioms each theorem rests")
         .after_help(AFTER)
         .version(VERSION)
-        .arg(workers)?
-        .arg(pieces)?
-        .arg(only(alloc))?
-        .arg(report(alloc))?
-        .arg(form(alloc))?
-        .arg(essential(alloc))?
-        .arg(open_theorems(alloc))?
-        .arg(file(alloc))
+        .args(arguments)
 }
 
 /// Turns an error of clap into a refusal.

@@ -339,3 +339,9 @@ written_all rows columns bits transposed w le h = record {
         (spot_bit (words_for rows) j i)
         ∙ h.before j (i / 64) b (omega arith) a (i % 64) (omega arith)
         ∙ ap (λ x. in_row rows (words_for columns) bits x j) is
+
+-- a word of a row is among the words of all rows
+pub word_in_row : (rows across i x n : ℕ) → n ≡ rows * across → i < rows → x < across
+    → i * across + x < n
+word_in_row rows across i x n e l m =
+    let d = mul-add-lt i across x rows l m in let f = mul_comm across rows in omega (arith, d, e, f)

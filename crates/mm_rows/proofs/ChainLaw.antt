@@ -1,8 +1,9 @@
 -- Chains of citations, one citation at a time.
 use Rattle.std.proofs.Common.{◌≡◌, ℕ, true, false, ◌||◌, List, [], ◌⊎◌, inl, inr, ⊎_elim, ◌<◌}
 use Rattle.std.proofs.Common.{◌≤◌, ◌+◌, length, subst, sym, ap, refl, arith, get_or, bit_or}
+use Rattle.std.proofs.Common.{zero, suc, ◌≢◌, slice_range}
 use Rattle.std.proofs.Common.{replicate, eqb, take, drop, ◌++◌, ◌-◌, ap₂, ◌/◌, ◌%◌, ◌*◌, ◌∙◌}
-use Rattle.std.proofs.lemmas.Bool.{cases_order, cases_eq, cases_lt}
+use Rattle.std.proofs.lemmas.Bool.{cases_order, cases_eq, cases_lt, eq-eqb, ne_eqb}
 use Rattle.std.proofs.lemmas.Bool.Decides.{Decides-at, Decides-or}
 use Rattle.std.specs.Prelude.{Decides}
 use Rattle.mm_rows.specs.Bits.{is_bit, words_for}
@@ -11,6 +12,7 @@ use Rattle.std.specs.Int.{bit_at}
 use Rattle.std.proofs.lemmas.Nat.Bits.{bit_at-zero}
 use Rattle.std.proofs.lemmas.List.{get_or-replicate, length-replicate, drop-append-le}
 use Rattle.std.proofs.lemmas.List.{take-append-le, drop_at, take_all, length-drop, length-append}
+use Rattle.std.proofs.lemmas.List.{length-take}
 use Rattle.std.proofs.lemmas.Nat.{mul-le}
 use Rattle.std.proofs.Math.Nat.{add-mul}
 use Rattle.mm_cites.specs.Citing.{Citing, HasCitation, IsRising, IsFileOrder, theorem_at, list_at}
@@ -247,3 +249,67 @@ rows_more c columns bits row i h new = record {
         subst (λ x. IsBitRow c columns (theorem_at c r) x)
         (sym (row_kept bits row (words_for (length columns)) r (omega (arith, m, s, z))))
         (h.each r (omega arith))
+
+-- a row that has its words ends within the words of all rows
+pub row_inside : (bits : List ℕ) (w r : ℕ) → length (slice_range bits (r * w) (r * w + w)) ≡ w
+    → r * w + w ≤ length bits
+row_inside bits zero r e = omega arith
+row_inside bits (suc w) r e =
+    let l = length-take (r * suc w + suc w - r * suc w) (drop (r * suc w) bits) in
+    let d = length-drop (r * suc w) bits in
+    omega (arith, e, l, d)
+
+-- the row of a theorem that is ready
+pub ready_row : (c : Citing) (columns theorems bits : List ℕ) (t w r : ℕ) → theorems ≡ c.theorems
+    → (r < length theorems) × (get_or theorems r 0 ≡ t)
+    → ((q : ℕ) → q < length c.theorems → theorem_at c q ≡ t
+    → IsBitRow c columns t (slice_range bits (q * w) (q * w + w)))
+    → IsBitRow c columns t (slice_range bits (r * w) (r * w + w))
+ready_row c columns theorems bits t w r same found ready =
+    ready r (subst (λ xs. r < length xs) same found.0)
+    (subst (λ xs. get_or xs r 0 ≡ t) same found.1)
+
+pub ready_inside : (c : Citing) (columns theorems bits : List ℕ) (t w r : ℕ) → theorems ≡ c.theorems
+    → (r < length theorems) × (get_or theorems r 0 ≡ t)
+    → ((q : ℕ) → q < length c.theorems → theorem_at c q ≡ t
+    → IsBitRow c columns t (slice_range bits (q * w) (q * w + w)))
+    → w ≡ words_for (length columns) → r * w + w ≤ length bits
+ready_inside c columns theorems bits t w r same found ready words =
+    row_inside bits w r
+    ((ready_row c columns theorems bits t w r same found ready).words ∙ sym words)
+
+-- the bit of the statement's column is set
+pub column_marked : (columns row new : List ℕ) (j s : ℕ) → IsRising columns
+    → (j < length columns) × (get_or columns j 0 ≡ s)
+    → ((k : ℕ) → is_bit new k ≡ (eqb k j || is_bit row k))
+    → (k : ℕ) → k < length columns
+    → Decides (is_bit new k) ((is_bit row k ≡ true) ⊎ (s ≡ get_or columns k 0))
+column_marked columns row new j s rising found set k lt = by (cases_eq k j)
+  where
+    by : (k ≡ j) ⊎ (k ≢ j)
+        → Decides (is_bit new k) ((is_bit row k ≡ true) ⊎ (s ≡ get_or columns k 0))
+    by (inl e) = (
+      λ t. inr (sym found.1 ∙ ap (λ i. get_or columns i 0) (sym e)),
+      λ h. set k ∙ ap (λ b. b || is_bit row k) (eq-eqb k j e),
+    )
+    by (inr ne) =
+        let same : is_bit new k ≡ is_bit row k = set k ∙ ap (λ b. b || is_bit row k) (ne_eqb k j ne) in
+        (
+          λ t. inl (sym same ∙ t),
+          λ h. same ∙ ⊎_elim (λ b. b)
+              (λ e. absurd (ne (once columns k j rising lt found.0 (sym e ∙ sym found.1)))) h,
+        )
+
+pub column_past : (columns row new : List ℕ) (j s : ℕ)
+    → (j < length columns) × (get_or columns j 0 ≡ s)
+    → ((k : ℕ) → is_bit new k ≡ (eqb k j || is_bit row k))
+    → (k : ℕ) → length columns ≤ k → is_bit new k ≡ is_bit row k
+column_past columns row new j s found set k le =
+    let l = found.0 in
+    set k ∙ ap (λ b. b || is_bit row k) (ne_eqb k j (λ e. absurd (omega (arith, l, le, e))))
+
+pub column_none : (columns row : List ℕ) (s : ℕ)
+    → ((i : ℕ) → i < length columns → get_or columns i 0 ≡ s → ⊥) → (k : ℕ) → k < length columns
+    → Decides (is_bit row k) ((is_bit row k ≡ true) ⊎ (s ≡ get_or columns k 0))
+column_none columns row s none k lt =
+    ((λ t. inl t), λ h. ⊎_elim (λ b. b) (λ e. absurd (none k lt (sym e))) h)

@@ -6,6 +6,7 @@ use Rattle.std.proofs.lemmas.Bool.{cases_order, cases_eq, cases_lt}
 use Rattle.std.proofs.lemmas.List.{length-append, length-map, length-take-le, length-drop}
 use Rattle.std.proofs.lemmas.List.{get_or-map, get_or-take, get_or-drop, get_or_append_left}
 use Rattle.std.proofs.lemmas.List.{get_or_push, get_or_default}
+use Rattle.std.proofs.Math.Seq.{get_or-append_seam}
 use Rattle.mm_cites.specs.Citing.{Citing, HasCitation, IsFileOrder, theorem_at, list_at}
 use Rattle.mm_rows.specs.BitRows.{IsBitRow, HasCitedRows, AreBitRows, row_at}
 use Rattle.mm_spec.specs.Laws.Chains.{IsWave, TheoremChain}
@@ -377,3 +378,27 @@ made_all c columns waves rows bits from w o h end = record {
       let is : get_or rows q.0 0 ≡ r = get_or_default rows q.0 0 r q.1 ∙ q.2 in
       subst (HasRow c columns bits) is (h.made q.0 (let l = q.1 in omega (arith, l, end)));
 }
+
+-- one row more, with its wave
+pub pairs_next : (waves : List ℕ) (ps more : List (ℕ × ℕ)) (i : ℕ) → i < length waves
+    → (i ≤ length waves) × (length ps ≡ i)
+    × ((p : ℕ) → p < i → get_or ps p (0, 0) ≡ (get_or waves p 0, p))
+    → more ≡ ps ++ (get_or waves i 0, i) ∷ []
+    → (i + 1 ≤ length waves) × (length more ≡ i + 1)
+    × ((p : ℕ) → p < i + 1 → get_or more p (0, 0) ≡ (get_or waves p 0, p))
+pairs_next waves ps more i l h e = (
+  omega (arith, l),
+  ap length e ∙ length-append ps ((get_or waves i 0, i) ∷ []) ∙ ap (λ n. n + 1) h.1,
+  λ p m. ap (λ qs. get_or qs p (0, 0)) e ∙ by p m (cases_lt p i),
+)
+  where
+    by : (p : ℕ) → p < i + 1 → (p < i) ⊎ (i ≤ p)
+        → get_or (ps ++ (get_or waves i 0, i) ∷ []) p (0, 0) ≡ (get_or waves p 0, p)
+    by p m (inl k) =
+        let n = h.1 in
+        get_or_append_left ps ((get_or waves i 0, i) ∷ []) (0, 0) p (omega (arith, k, n)) ∙ h.2 p k
+    by p m (inr k) =
+        let q : i ≡ p = omega (arith, m, k) in
+        ap (λ j. get_or (ps ++ (get_or waves i 0, i) ∷ []) j (0, 0)) (sym (h.1 ∙ q))
+        ∙ get_or-append_seam ps (get_or waves i 0, i) [] (0, 0)
+        ∙ ap (λ j. (get_or waves j 0, j)) q

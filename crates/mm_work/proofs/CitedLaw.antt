@@ -1,6 +1,6 @@
 -- The citations of valid theorems are the database's.
 use Rattle.std.proofs.Common.{◌≡◌, ℕ, zero, suc, ◌+◌, ◌==◌, ◌<◌, ◌≤◌, ◌^◌, Bool, true, ◌⊎◌, inl}
-use Rattle.std.proofs.Common.{inr, List, [], ◌∷◌, length, get_or, sym, ap, ◌∙◌, subst, arith}
+use Rattle.std.proofs.Common.{inr, List, [], ◌∷◌, length, get_or, sym, ap, subst, arith}
 use Rattle.std.proofs.Common.{true≢false, eqb-true}
 use Rattle.std.specs.List.{list_any, range_with_len}
 use Rattle.std.proofs.lemmas.Bool.{or_cases, or_left, or_right, cases_lt, eq-eqb}

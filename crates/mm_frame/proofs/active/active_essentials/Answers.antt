@@ -2,6 +2,7 @@ use Rattle.std.proofs.Common.{ℕ, ◌≤◌, length, get_or, sym, subst, List, 
 use Rattle.mm_spec.specs.Frame.{is_essential}
 use Rattle.mm_frame.specs.Latest.{IsWalked}
 use Rattle.mm_frame.proofs.LatestLaw.{walked_start, walked_next, walked_end, height_less}
+use Rattle.std.proofs.lemmas.Result.{IfOk-from_err}
 use Rattle.mm_frame.proofs.active.active_essentials.Goals as goal
 use Rattle.mm_spec.proofs.MemberLaw.{essential_local}
 
@@ -37,3 +38,34 @@ pub returns : goal.returns
 returns g c =
     walked_end is_essential c.args.tables.now essential_local c.args.at c.loop-last.into.items
     c.loop-last.last c.loop-last.invariant c.loop-last-test.false
+
+pub offset_bounds-latest-at : goal.offset_bounds-latest-at
+offset_bounds-latest-at g c = omega arith
+
+pub bounds-latest-at : goal.bounds-latest-at
+bounds-latest-at g c = omega arith
+
+pub overflow_cast-last-in-loop-last : goal.overflow_cast-last-in-loop-last
+overflow_cast-last-in-loop-last g c =
+    let f = (c.loop-last.invariant.found c.loop-last-test.true).0 in
+    let n = c.requires.latest.count in
+    let a = c.requires.at in
+    omega (arith, f, n, a)
+
+pub offset_bounds-latest-last : goal.offset_bounds-latest-last
+offset_bounds-latest-last g c =
+    let f = (c.loop-last.invariant.found c.loop-last-test.true).0 in
+    let n = c.requires.latest.count in
+    let a = c.requires.at in
+    omega (arith, f, n, a)
+
+pub bounds-latest-last : goal.bounds-latest-last
+bounds-latest-last g c =
+    let f = (c.loop-last.invariant.found c.loop-last-test.true).0 in
+    let n = c.requires.latest.count in
+    let a = c.requires.at in
+    omega (arith, f, n, a)
+
+pub returns-in_err-push : goal.returns-in_err-push
+returns-in_err-push g c =
+    IfOk-from_err c.from_residual.result _ c.from_residual.ensures.0

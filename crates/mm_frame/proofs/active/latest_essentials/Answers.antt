@@ -4,6 +4,7 @@ use Rattle.mm_spec.specs.Frame.{is_essential}
 use Rattle.mm_outline.specs.Blocks.{never}
 use Rattle.mm_frame.specs.Latest.{IsLatest}
 use Rattle.mm_frame.proofs.LatestLaw.{candidate_self, candidate_other, each_pushed}
+use Rattle.std.proofs.lemmas.Result.{IfOk-from_err}
 use Rattle.mm_frame.proofs.active.latest_essentials.Goals as goal
 use Rattle.mm_frame.proofs.active.latest_essentials.Goals.{then-is_essential, else-is_essential}
 
@@ -37,3 +38,15 @@ loop-k-preserved g c =
     each_pushed is_essential c.args.tables.now c.loop-k.latest.items c.push-in-loop-k.new.self.items
     c.last_open-last.result c.loop-k.k m c.in_ok-push-2.ensures.items c.loop-k.invariant.each
     c.last_open-last.ensures
+
+pub is_essential-requires : goal.is_essential-requires
+is_essential-requires g c =
+    let t = c.loop-k-test.true in let n = c.len-k-end.ensures.len in omega (arith, t, n)
+
+pub returns-in_err-push : goal.returns-in_err-push
+returns-in_err-push g c =
+    IfOk-from_err c.from_residual.result _ c.from_residual.ensures.0
+
+pub returns-in_err-push-2 : goal.returns-in_err-push-2
+returns-in_err-push-2 g c =
+    IfOk-from_err c.from_residual-in_err-push-2.result _ c.from_residual-in_err-push-2.ensures.0

@@ -1,6 +1,7 @@
 use Rattle.std.proofs.Common.{◌≡◌, ◌-◌, ◌<◌, get_or, length, arith, ◌∙◌}
 use Rattle.std.proofs.lemmas.List.{get_or_default}
 use Rattle.mm_frame.proofs.ChainsLaw.{rest_less, rest_none}
+use Rattle.std.proofs.lemmas.Result.{IfOk-from_err}
 use Rattle.mm_frame.proofs.chains.add_chain.Goals as goal
 
 pub loop-number-preserved : goal.loop-number-preserved
@@ -24,3 +25,7 @@ returns g c = λ statements h.
     c.loop-number.pairs.items statements c.loop-number.number
     (let e = c.loop-number-test.false in omega (arith, e))
     (c.loop-number.invariant.rest statements h)
+
+pub returns-in_err-push : goal.returns-in_err-push
+returns-in_err-push g c =
+    IfOk-from_err c.from_residual.result _ c.from_residual.ensures.0

@@ -2,6 +2,7 @@ use Rattle.std.proofs.Common.{◌≡◌, ◌∙◌, ◌+◌, ◌-◌, ◌<◌, �
 use Rattle.std.proofs.lemmas.List.{length-replicate, get_or-replicate}
 use Rattle.mm_frame.proofs.ChainsLaw.{none_yet, linked_none, same_chains, with_disjoint}
 use Rattle.mm_frame.proofs.ChainsLaw.{without_disjoint, symbol_below}
+use Rattle.std.proofs.lemmas.Result.{IfOk-from_err}
 use Rattle.mm_frame.proofs.chains.chains_of.Goals as goal
 
 pub loop-left-init : goal.loop-left-init
@@ -61,3 +62,70 @@ pub returns-clause-all : goal.returns-clause-all
 returns-clause-all g c = λ x j e.
     let l = symbol_below c.args.tables.now c.len-left.ensures.sound x j e in
     omega (arith, l, c.loop-left.invariant.count)
+
+pub overflow_cast-symbol_count : goal.overflow_cast-symbol_count
+overflow_cast-symbol_count g c = omega arith
+
+pub overflow_sub-left : goal.overflow_sub-left
+overflow_sub-left g c = omega arith
+
+pub is_disjoint-requires : goal.is_disjoint-requires
+is_disjoint-requires g c =
+    let w = c.loop-left.invariant.within in let t = c.loop-left-test.true in omega (arith, w, t)
+
+pub formula-requires : goal.formula-requires
+formula-requires g c =
+    let w = c.loop-left.invariant.within in let t = c.loop-left-test.true in omega (arith, w, t)
+
+pub add_links-requires-clause-symbols : goal.add_links-requires-clause-symbols
+add_links-requires-clause-symbols g c = λ i d l.
+    let h = c.formula.ensures.known i d l in let n = c.loop-left.invariant.count in omega (arith, h, n)
+
+pub add_links-requires-clause-linked : goal.add_links-requires-clause-linked
+add_links-requires-clause-linked g c = c.loop-left.invariant.linked
+
+pub loop-left-smaller-in-Continue-branch-2 : goal.loop-left-smaller-in-Continue-branch-2
+loop-left-smaller-in-Continue-branch-2 g c =
+    let t = c.loop-left-test.true in omega (arith, t)
+
+pub loop-left-smaller : goal.loop-left-smaller
+loop-left-smaller g c =
+    let t = c.loop-left-test.true in omega (arith, t)
+
+pub returns-clause-count : goal.returns-clause-count
+returns-clause-count g c = c.loop-left.invariant.count
+
+pub returns-clause-linked : goal.returns-clause-linked
+returns-clause-linked g c = c.loop-left.invariant.linked
+
+pub returns-in_err-heads-clause-count : goal.returns-in_err-heads-clause-count
+returns-in_err-heads-clause-count g c =
+    IfOk-from_err c.from_residual.result _ c.from_residual.ensures.0
+
+pub returns-in_err-heads-clause-all : goal.returns-in_err-heads-clause-all
+returns-in_err-heads-clause-all g c =
+    IfOk-from_err c.from_residual.result _ c.from_residual.ensures.0
+
+pub returns-in_err-heads-clause-linked : goal.returns-in_err-heads-clause-linked
+returns-in_err-heads-clause-linked g c =
+    IfOk-from_err c.from_residual.result _ c.from_residual.ensures.0
+
+pub returns-in_err-heads-clause-chains : goal.returns-in_err-heads-clause-chains
+returns-in_err-heads-clause-chains g c =
+    IfOk-from_err c.from_residual.result _ c.from_residual.ensures.0
+
+pub returns-in_err-add_links-clause-count : goal.returns-in_err-add_links-clause-count
+returns-in_err-add_links-clause-count g c =
+    IfOk-from_err c.from_residual-in_err-add_links.result _ c.from_residual-in_err-add_links.ensures.0
+
+pub returns-in_err-add_links-clause-all : goal.returns-in_err-add_links-clause-all
+returns-in_err-add_links-clause-all g c =
+    IfOk-from_err c.from_residual-in_err-add_links.result _ c.from_residual-in_err-add_links.ensures.0
+
+pub returns-in_err-add_links-clause-linked : goal.returns-in_err-add_links-clause-linked
+returns-in_err-add_links-clause-linked g c =
+    IfOk-from_err c.from_residual-in_err-add_links.result _ c.from_residual-in_err-add_links.ensures.0
+
+pub returns-in_err-add_links-clause-chains : goal.returns-in_err-add_links-clause-chains
+returns-in_err-add_links-clause-chains g c =
+    IfOk-from_err c.from_residual-in_err-add_links.result _ c.from_residual-in_err-add_links.ensures.0

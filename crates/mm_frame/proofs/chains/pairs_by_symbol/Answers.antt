@@ -1,5 +1,6 @@
 use Rattle.std.proofs.Common.{◌<◌, ◌≤◌, length, get_or, arith}
 use Rattle.mm_frame.proofs.ChainsLaw.{pairs_more, pairs_all}
+use Rattle.std.proofs.lemmas.Result.{IfOk-from_err}
 use Rattle.mm_frame.proofs.chains.pairs_by_symbol.Goals as goal
 
 pub loop-symbol-preserved : goal.loop-symbol-preserved
@@ -29,3 +30,27 @@ returns-clause-are g c =
     pairs_all c.args.tables.now x c.loop-symbol.pairs.items
     (λ y j e. let l = c.in_ok-chains.ensures.all y j e in omega (arith, l, all))
     c.loop-symbol.invariant
+
+pub returns-in_err-chains-clause-rising : goal.returns-in_err-chains-clause-rising
+returns-in_err-chains-clause-rising g c =
+    IfOk-from_err c.from_residual.result _ c.from_residual.ensures.0
+
+pub returns-in_err-chains-clause-are : goal.returns-in_err-chains-clause-are
+returns-in_err-chains-clause-are g c =
+    IfOk-from_err c.from_residual.result _ c.from_residual.ensures.0
+
+pub returns-in_err-pairs-clause-rising : goal.returns-in_err-pairs-clause-rising
+returns-in_err-pairs-clause-rising g c =
+    IfOk-from_err c.from_residual-in_err-pairs.result _ c.from_residual-in_err-pairs.ensures.0
+
+pub returns-in_err-pairs-clause-are : goal.returns-in_err-pairs-clause-are
+returns-in_err-pairs-clause-are g c =
+    IfOk-from_err c.from_residual-in_err-pairs.result _ c.from_residual-in_err-pairs.ensures.0
+
+pub returns-in_err-add_chain-clause-rising : goal.returns-in_err-add_chain-clause-rising
+returns-in_err-add_chain-clause-rising g c =
+    IfOk-from_err c.from_residual-in_err-add_chain.result _ c.from_residual-in_err-add_chain.ensures.0
+
+pub returns-in_err-add_chain-clause-are : goal.returns-in_err-add_chain-clause-are
+returns-in_err-add_chain-clause-are g c =
+    IfOk-from_err c.from_residual-in_err-add_chain.result _ c.from_residual-in_err-add_chain.ensures.0

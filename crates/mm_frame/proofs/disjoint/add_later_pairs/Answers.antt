@@ -1,5 +1,7 @@
-use Rattle.std.proofs.Common.{arith}
+use Rattle.std.proofs.Common.{arith, subst, sym, ◌+◌}
 use Rattle.mm_frame.proofs.DisjointLaw.{after_end}
+use Rattle.std.proofs.lemmas.Result.{IfOk-from_err}
+use Rattle.mm_frame.proofs.DisjointLaw.{after_start, after_next, AddsLater}
 use Rattle.mm_frame.proofs.disjoint.add_later_pairs.Goals as goal
 
 pub returns-else-had-at : goal.returns-else-had-at
@@ -13,3 +15,53 @@ returns-after-loop-at g c =
     after_end c.args.had.now c.requires.rising c.args.place c.requires.place c.loop-at.at
     c.args.pairs.now.items c.loop-at.pairs.items c.loop-at.invariant
     (λ l. absurd (omega (arith, l, t)))
+
+pub returns-in_err-push : goal.returns-in_err-push
+returns-in_err-push g c =
+    IfOk-from_err c.from_residual.result _ c.from_residual.ensures.0
+
+pub loop-at-init : goal.loop-at-init
+loop-at-init g c =
+    after_start c.args.had.now c.requires.rising c.args.place c.requires.place
+    c.args.pairs.now.items
+
+pub loop-at-preserved : goal.loop-at-preserved
+loop-at-preserved g c =
+    subst (λ ps. AddsLater c.args.had.now c.args.place (c.loop-at.at + 1) c.args.pairs.now.items ps)
+    (sym c.in_ok-push.ensures.items)
+    (after_next c.args.had.now c.requires.rising c.args.place c.requires.place c.loop-at.at
+    c.args.pairs.now.items c.loop-at.pairs.items c.loop-at.invariant c.loop-at-test.true
+    c.if-had-at.true)
+
+pub overflow_add-at : goal.overflow_add-at
+overflow_add-at g c = omega arith
+
+pub offset_bounds-had-at : goal.offset_bounds-had-at
+offset_bounds-had-at g c = omega arith
+
+pub bounds-had-at : goal.bounds-had-at
+bounds-had-at g c = omega arith
+
+pub offset_bounds-had-place : goal.offset_bounds-had-place
+offset_bounds-had-place g c = omega arith
+
+pub bounds-had-place : goal.bounds-had-place
+bounds-had-place g c = omega arith
+
+pub offset_bounds-had-place-in-loop-at : goal.offset_bounds-had-place-in-loop-at
+offset_bounds-had-place-in-loop-at g c = omega arith
+
+pub bounds-had-place-in-loop-at : goal.bounds-had-place-in-loop-at
+bounds-had-place-in-loop-at g c = omega arith
+
+pub offset_bounds-had-at-in-loop-at : goal.offset_bounds-had-at-in-loop-at
+offset_bounds-had-at-in-loop-at g c = omega arith
+
+pub bounds-had-at-in-loop-at : goal.bounds-had-at-in-loop-at
+bounds-had-at-in-loop-at g c = omega arith
+
+pub overflow_add-at-in-loop-at : goal.overflow_add-at-in-loop-at
+overflow_add-at-in-loop-at g c = omega arith
+
+pub loop-at-smaller : goal.loop-at-smaller
+loop-at-smaller g c = omega arith

@@ -1,10 +1,11 @@
-use Rattle.std.proofs.Common.{◌∙◌, ℕ, ◌≤◌, ◌&&◌, ◌||◌, List, length, map, nat_eq, nat_lt, ap, arith}
+use Rattle.std.proofs.Common.{◌∙◌, ℕ, ◌≤◌, ◌&&◌, ◌||◌, List, length, map, nat_eq, nat_lt, ap, arith, subst, sym}
 use Rattle.std.specs.List.{list_any}
 use Rattle.mm_spec.specs.Derivation.{pair, is_member}
 use Rattle.mm_database.specs.DisjointIndex.{is_live}
-use Rattle.mm_database.specs.Pairs.{has_pair}
+use Rattle.mm_database.specs.Pairs.{has_pair, AreRising}
 use Rattle.mm_outline.proofs.ResultsLaw.{ok_then}
 use Rattle.mm_frame.proofs.DisjointLaw.{pairs_are}
+use Rattle.std.proofs.lemmas.Result.{IfOk-from_err}
 use Rattle.mm_frame.proofs.disjoint.pairs_of.Goals as goal
 
 pub returns : goal.returns
@@ -31,3 +32,19 @@ returns g c = ok_then c.symbols_of.result c.symbols_of.ensures (λ v e.
     c.clear-2.ensures.items
     ∙ ap (λ (hs : List (ℕ × ℕ)). list_any
     (λ p. nat_eq x p.1 && (has_pair hs p.0 y && nat_lt x y)) hs) c.deref.ensures.value))
+
+pub add_all_active-requires : goal.add_all_active-requires
+add_all_active-requires g c = record { ordered = c.requires.sources.index_is.ordered }
+
+pub add_together-requires : goal.add_together-requires
+add_together-requires g c = record {
+  rising = subst AreRising (sym c.deref.ensures.value) c.sort_and_dedup.ensures.rising;
+}
+
+pub returns-in_err-add_all_active : goal.returns-in_err-add_all_active
+returns-in_err-add_all_active g c =
+    IfOk-from_err c.from_residual.result _ c.from_residual.ensures.0
+
+pub returns-in_err-add_together : goal.returns-in_err-add_together
+returns-in_err-add_together g c =
+    IfOk-from_err c.from_residual-in_err-add_together.result _ c.from_residual-in_err-add_together.ensures.0

@@ -1,6 +1,7 @@
 use Rattle.std.proofs.Common.{sym, subst, ap, ℕ, List}
 use Rattle.mm_database.specs.DisjointIndex.{AreKnown, AreSkips, IsDisjointIndex}
 use Rattle.mm_database.proofs.DisjointIndexLaw.{are_known}
+use Rattle.std.proofs.lemmas.Result.{IfOk-from_err}
 use Rattle.mm_frame.proofs.disjoint_index.disjoint_index_of.Goals as goal
 
 pub skips_of-requires : goal.skips_of-requires
@@ -29,3 +30,15 @@ returns g c =
       };
     } in
     rw (ap (λ v. v.items) c.new.ensures.pairs, ap (λ v. v.items) c.new.ensures.skips) is
+
+pub returns-in_err-pairs : goal.returns-in_err-pairs
+returns-in_err-pairs g c =
+    IfOk-from_err c.from_residual.result _ c.from_residual.ensures.0
+
+pub returns-in_err-skips : goal.returns-in_err-skips
+returns-in_err-skips g c =
+    IfOk-from_err c.from_residual-in_err-skips.result _ c.from_residual-in_err-skips.ensures.0
+
+pub returns-in_err-starts : goal.returns-in_err-starts
+returns-in_err-starts g c =
+    IfOk-from_err c.from_residual-in_err-starts.result _ c.from_residual-in_err-starts.ensures.0

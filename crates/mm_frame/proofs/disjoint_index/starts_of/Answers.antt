@@ -1,5 +1,6 @@
 use Rattle.std.proofs.Common.{subst, sym, arith}
 use Rattle.mm_database.proofs.StartsLaw.{StartsTo, starts_none, starts_more, starts_next, starts_all}
+use Rattle.std.proofs.lemmas.Result.{IfOk-from_err}
 use Rattle.mm_frame.proofs.disjoint_index.starts_of.Goals as goal
 
 pub loop-at-init : goal.loop-at-init
@@ -22,3 +23,7 @@ pub returns : goal.returns
 returns g c =
     starts_all c.args.pairs.now c.loop-at.at c.loop-at.starts.items c.loop-at-test.false
     c.loop-at.invariant
+
+pub returns-in_err-push : goal.returns-in_err-push
+returns-in_err-push g c =
+    IfOk-from_err c.from_residual.result _ c.from_residual.ensures.0

@@ -2,6 +2,7 @@ use Rattle.std.proofs.Common.{◌≡◌, ◌∙◌, ◌++◌, ◌∷◌, [], map
 use Rattle.std.proofs.lemmas.List.{map-append, length-map}
 use Rattle.mm_spec.specs.Derivation.{pair}
 use Rattle.mm_frame.proofs.FramesLaw.{frames_more, frames_pass}
+use Rattle.std.proofs.lemmas.Result.{IfOk-from_err}
 use Rattle.mm_frame.proofs.frames.add_frame.Goals as goal
 
 pub overflow_cast-len : goal.overflow_cast-len
@@ -48,3 +49,51 @@ returns-else-is_assertion-clause-frames g c =
     rw placed
     (frames_pass db k c.args.frames.now.places.items hs ds c.requires.frames
     (sym c.is_assertion.ensures ∙ c.if-is_assertion.false))
+
+pub is_assertion-requires : goal.is_assertion-requires
+is_assertion-requires g c = c.requires.statement
+
+pub frame_of-requires-clause-sources : goal.frame_of-requires-clause-sources
+frame_of-requires-clause-sources g c = c.requires.sources
+
+pub frame_of-requires-clause-assertion : goal.frame_of-requires-clause-assertion
+frame_of-requires-clause-assertion g c = c.requires.statement
+
+pub frame_of-requires-clause-typed : goal.frame_of-requires-clause-typed
+frame_of-requires-clause-typed g c = c.requires.typed
+
+pub frame_of-requires-clause-seen : goal.frame_of-requires-clause-seen
+frame_of-requires-clause-seen g c = c.requires.seen
+
+pub returns-in_ok-push-2-clause-seen : goal.returns-in_ok-push-2-clause-seen
+returns-in_ok-push-2-clause-seen g c = c.in_ok-frame.ensures.seen
+
+pub returns-else-is_assertion-clause-seen : goal.returns-else-is_assertion-clause-seen
+returns-else-is_assertion-clause-seen g c = record {
+  count = c.requires.seen.count;
+  within = λ x h. let l = c.requires.seen.within x h in omega (arith, l);
+}
+
+pub returns-in_err-push-clause-seen : goal.returns-in_err-push-clause-seen
+returns-in_err-push-clause-seen g c =
+    IfOk-from_err c.from_residual.result _ c.from_residual.ensures.0
+
+pub returns-in_err-push-clause-frames : goal.returns-in_err-push-clause-frames
+returns-in_err-push-clause-frames g c =
+    IfOk-from_err c.from_residual.result _ c.from_residual.ensures.0
+
+pub returns-in_err-frame-clause-seen : goal.returns-in_err-frame-clause-seen
+returns-in_err-frame-clause-seen g c =
+    IfOk-from_err c.from_residual-in_err-frame.result _ c.from_residual-in_err-frame.ensures.0
+
+pub returns-in_err-frame-clause-frames : goal.returns-in_err-frame-clause-frames
+returns-in_err-frame-clause-frames g c =
+    IfOk-from_err c.from_residual-in_err-frame.result _ c.from_residual-in_err-frame.ensures.0
+
+pub returns-in_err-push-2-clause-seen : goal.returns-in_err-push-2-clause-seen
+returns-in_err-push-2-clause-seen g c =
+    IfOk-from_err c.from_residual-in_err-push-2.result _ c.from_residual-in_err-push-2.ensures.0
+
+pub returns-in_err-push-2-clause-frames : goal.returns-in_err-push-2-clause-frames
+returns-in_err-push-2-clause-frames g c =
+    IfOk-from_err c.from_residual-in_err-push-2.result _ c.from_residual-in_err-push-2.ensures.0

@@ -1,6 +1,11 @@
-use Rattle.std.proofs.Common.{◌≡◌, length, map, subst, arith}
+use Rattle.std.proofs.Common.{◌≡◌, length, map, ap, sym, ◌∙◌, subst, arith}
+use Rattle.std.proofs.lemmas.Result.{IfOk-from_err}
 use Rattle.mm_spec.specs.Derivation.{pair}
+use Rattle.mm_spec.specs.Frame.{is_essential}
 use Rattle.mm_database.specs.Frames.{AreFramesUpTo}
+use Rattle.mm_frame.specs.Latest.{AreLatest}
+use Rattle.mm_frame.specs.Hypotheses.{AreTyped}
+use Rattle.mm_frame.proofs.FramesLaw.{typed_start, frames_start}
 use Rattle.mm_frame.proofs.frames.frames_of.Goals as goal
 
 pub returns : goal.returns
@@ -14,3 +19,80 @@ returns g c =
     subst (λ k. AreFramesUpTo db k fs.places.items (map (λ x. x.hyps.items) fs.list.items)
     (map (λ x. map (λ p. pair p.0 p.1) x.pairs.items) fs.list.items)) all
     c.loop-k.invariant.frames
+
+pub returns-in_err-essentials : goal.returns-in_err-essentials
+returns-in_err-essentials g c =
+    IfOk-from_err c.from_residual.result _ c.from_residual.ensures.0
+
+pub loop-k-init : goal.loop-k-init
+loop-k-init g c = record {
+  typed =
+      typed_start c.args.tables.now c.in_ok-typed.typed.items c.symbol_count.result
+      c.symbol_count.ensures.count c.in_ok-typed.ensures.count c.in_ok-typed.ensures.each;
+  seen = record {
+    count = c.in_ok-filled.ensures.count ∙ c.symbol_count-2.ensures.count;
+    within =
+        λ x h.
+        let n = c.symbol_count-2.ensures.count in
+        let e = c.in_ok-filled.ensures.each x (omega (arith, h, n)) in
+        omega (arith, e);
+  };
+  frames =
+      frames_start c.args.tables.now _ _ _ c.new-6.ensures.items
+      (ap (map (λ f. f.hyps.items)) c.new-5.ensures.items)
+      (ap (map (λ f. map (λ p. pair p.0 p.1) f.pairs.items)) c.new-5.ensures.items);
+}
+
+pub add_frame-requires-clause-sources : goal.add_frame-requires-clause-sources
+add_frame-requires-clause-sources g c = record {
+  sound = c.len-count.ensures.sound;
+  blocks_are = c.requires.blocks;
+  essentials_are =
+      subst (λ xs. AreLatest is_essential c.args.tables.now xs) (sym c.deref.ensures.value)
+      c.in_ok-essentials.ensures;
+  index_is = c.requires.disjoint_index;
+}
+
+pub add_frame-requires-clause-typed : goal.add_frame-requires-clause-typed
+add_frame-requires-clause-typed g c =
+    subst (λ xs. AreTyped c.args.tables.now c.loop-k.k xs) (sym c.deref-in-loop-k.ensures.value)
+    c.loop-k.invariant.typed
+
+pub add_frame-requires-clause-statement : goal.add_frame-requires-clause-statement
+add_frame-requires-clause-statement g c = 
+    let t = c.loop-k-test.true in let n = c.len-count.ensures.len in omega (arith, t, n)
+
+pub add_frame-requires-clause-seen : goal.add_frame-requires-clause-seen
+add_frame-requires-clause-seen g c = c.loop-k.invariant.seen
+
+pub add_frame-requires-clause-frames : goal.add_frame-requires-clause-frames
+add_frame-requires-clause-frames g c = c.loop-k.invariant.frames
+
+pub give_type-requires-clause-sound : goal.give_type-requires-clause-sound
+give_type-requires-clause-sound g c = c.len-count.ensures.sound
+
+pub give_type-requires-clause-statement : goal.give_type-requires-clause-statement
+give_type-requires-clause-statement g c = 
+    let t = c.loop-k-test.true in let n = c.len-count.ensures.len in omega (arith, t, n)
+
+pub give_type-requires-clause-typed : goal.give_type-requires-clause-typed
+give_type-requires-clause-typed g c = c.loop-k.invariant.typed
+
+pub loop-k-preserved : goal.loop-k-preserved
+loop-k-preserved g c = record {
+  typed = c.give_type.ensures;
+  seen = c.in_ok-add_frame.ensures.seen;
+  frames = c.in_ok-add_frame.ensures.frames;
+}
+
+pub returns-in_err-typed : goal.returns-in_err-typed
+returns-in_err-typed g c =
+    IfOk-from_err c.from_residual-in_err-typed.result _ c.from_residual-in_err-typed.ensures.0
+
+pub returns-in_err-filled : goal.returns-in_err-filled
+returns-in_err-filled g c =
+    IfOk-from_err c.from_residual-in_err-filled.result _ c.from_residual-in_err-filled.ensures.0
+
+pub returns-in_err-add_frame : goal.returns-in_err-add_frame
+returns-in_err-add_frame g c =
+    IfOk-from_err c.from_residual-in_err-add_frame.result _ c.from_residual-in_err-add_frame.ensures.0

@@ -4,6 +4,8 @@ use Rattle.mm_spec.specs.Derivation.{is_member}
 use Rattle.mm_spec.specs.Frame.{symbol_names}
 use Rattle.mm_frame.specs.Hypotheses.{is_float_of}
 use Rattle.mm_frame.proofs.HypothesesLaw.{found_below, hypotheses_are}
+use Rattle.std.proofs.lemmas.Result.{IfOk-from_err}
+use Rattle.mm_frame.proofs.MarksLaw.{marks_fresh}
 use Rattle.mm_frame.proofs.hypotheses.hypotheses.Goals as goal
 
 pub add_floats-requires-clause-found : goal.add_floats-requires-clause-found
@@ -28,3 +30,76 @@ returns-clause-hyps g c =
     (λ j. c.sort_and_dedup.ensures.same j ∙ c.in_ok-add_floats.ensures j
     ∙ ap (λ xs. is_member c.active_essentials.new.into.items j
     || list_any (is_float_of db k ts j) xs) c.deref-2.ensures.value)
+
+pub active_essentials-requires-clause-at : goal.active_essentials-requires-clause-at
+active_essentials-requires-clause-at g c = omega arith
+
+pub active_essentials-requires-clause-latest : goal.active_essentials-requires-clause-latest
+active_essentials-requires-clause-latest g c = c.requires.sources.essentials_are
+
+pub mandatory-requires-clause-few : goal.mandatory-requires-clause-few
+mandatory-requires-clause-few g c = c.requires.sources.sound.few
+
+pub mandatory-requires-clause-assertion : goal.mandatory-requires-clause-assertion
+mandatory-requires-clause-assertion g c = c.requires.assertion
+
+pub mandatory-requires-clause-essentials : goal.mandatory-requires-clause-essentials
+mandatory-requires-clause-essentials g c = λ i.
+    ap (λ xs. is_member xs i) c.deref.ensures.value ∙ c.in_ok-active_essentials.ensures i
+
+pub mandatory-requires-clause-marks : goal.mandatory-requires-clause-marks
+mandatory-requires-clause-marks g c =
+    marks_fresh (length (symbol_names c.args.sources.now.tables.now)) c.args.assertion
+    c.args.seen.now.items c.clear.new.self.items c.requires.seen.count c.requires.seen.within
+    c.clear.ensures.items
+
+pub mandatory-requires-clause-none : goal.mandatory-requires-clause-none
+mandatory-requires-clause-none g c = ap length c.clear.ensures.items
+
+pub add_floats-requires-clause-at : goal.add_floats-requires-clause-at
+add_floats-requires-clause-at g c = omega arith
+
+pub add_floats-requires-clause-typed : goal.add_floats-requires-clause-typed
+add_floats-requires-clause-typed g c = c.requires.typed
+
+pub returns-clause-marks : goal.returns-clause-marks
+returns-clause-marks g c = c.in_ok-mandatory.ensures.marks
+
+pub returns-clause-found : goal.returns-clause-found
+returns-clause-found g c = c.in_ok-mandatory.ensures.found
+
+pub returns-in_err-active_essentials-clause-marks : goal.returns-in_err-active_essentials-clause-marks
+returns-in_err-active_essentials-clause-marks g c =
+    IfOk-from_err c.from_residual.result _ c.from_residual.ensures.0
+
+pub returns-in_err-active_essentials-clause-found : goal.returns-in_err-active_essentials-clause-found
+returns-in_err-active_essentials-clause-found g c =
+    IfOk-from_err c.from_residual.result _ c.from_residual.ensures.0
+
+pub returns-in_err-active_essentials-clause-hyps : goal.returns-in_err-active_essentials-clause-hyps
+returns-in_err-active_essentials-clause-hyps g c =
+    IfOk-from_err c.from_residual.result _ c.from_residual.ensures.0
+
+pub returns-in_err-mandatory-clause-marks : goal.returns-in_err-mandatory-clause-marks
+returns-in_err-mandatory-clause-marks g c =
+    IfOk-from_err c.from_residual-in_err-mandatory.result _ c.from_residual-in_err-mandatory.ensures.0
+
+pub returns-in_err-mandatory-clause-found : goal.returns-in_err-mandatory-clause-found
+returns-in_err-mandatory-clause-found g c =
+    IfOk-from_err c.from_residual-in_err-mandatory.result _ c.from_residual-in_err-mandatory.ensures.0
+
+pub returns-in_err-mandatory-clause-hyps : goal.returns-in_err-mandatory-clause-hyps
+returns-in_err-mandatory-clause-hyps g c =
+    IfOk-from_err c.from_residual-in_err-mandatory.result _ c.from_residual-in_err-mandatory.ensures.0
+
+pub returns-in_err-add_floats-clause-marks : goal.returns-in_err-add_floats-clause-marks
+returns-in_err-add_floats-clause-marks g c =
+    IfOk-from_err c.from_residual-in_err-add_floats.result _ c.from_residual-in_err-add_floats.ensures.0
+
+pub returns-in_err-add_floats-clause-found : goal.returns-in_err-add_floats-clause-found
+returns-in_err-add_floats-clause-found g c =
+    IfOk-from_err c.from_residual-in_err-add_floats.result _ c.from_residual-in_err-add_floats.ensures.0
+
+pub returns-in_err-add_floats-clause-hyps : goal.returns-in_err-add_floats-clause-hyps
+returns-in_err-add_floats-clause-hyps g c =
+    IfOk-from_err c.from_residual-in_err-add_floats.result _ c.from_residual-in_err-add_floats.ensures.0

@@ -3,6 +3,8 @@ use Rattle.std.specs.List.{list_any}
 use Rattle.mm_spec.specs.Derivation.{is_member}
 use Rattle.mm_spec.specs.Frame.{is_variable_number, formula_at}
 use Rattle.mm_frame.proofs.HypothesesLaw.{mandatory_is, essential_before}
+use Rattle.std.proofs.lemmas.Result.{IfOk-from_err}
+use Rattle.mm_frame.proofs.LoopsLaw.{mandatory_first, mandatory_next}
 use Rattle.mm_frame.proofs.hypotheses.mandatory.Goals as goal
 
 pub formula-requires-in-loop-essential : goal.formula-requires-in-loop-essential
@@ -24,3 +26,69 @@ returns-clause-found g c = λ x.
     || list_any (λ j. is_member (formula_at db j) x) ys))
     (take_all c.loop-essential.essential-index xs c.loop-essential-test.false)
     ∙ mandatory_is db c.args.assertion xs c.requires.essentials x
+
+pub returns-in_err-note-clause-marks : goal.returns-in_err-note-clause-marks
+returns-in_err-note-clause-marks g c =
+    IfOk-from_err c.from_residual.result _ c.from_residual.ensures.0
+
+pub returns-in_err-note-clause-found : goal.returns-in_err-note-clause-found
+returns-in_err-note-clause-found g c =
+    IfOk-from_err c.from_residual.result _ c.from_residual.ensures.0
+
+pub returns-in_err-note-2-clause-marks : goal.returns-in_err-note-2-clause-marks
+returns-in_err-note-2-clause-marks g c =
+    IfOk-from_err c.from_residual-in_err-note-2.result _ c.from_residual-in_err-note-2.ensures.0
+
+pub returns-in_err-note-2-clause-found : goal.returns-in_err-note-2-clause-found
+returns-in_err-note-2-clause-found g c =
+    IfOk-from_err c.from_residual-in_err-note-2.result _ c.from_residual-in_err-note-2.ensures.0
+
+pub formula-requires : goal.formula-requires
+formula-requires g c = c.requires.assertion
+
+pub overflow_add-assertion : goal.overflow_add-assertion
+overflow_add-assertion g c = omega arith
+
+pub note-requires-clause-symbols : goal.note-requires-clause-symbols
+note-requires-clause-symbols g c = c.formula.ensures.known
+
+pub note-requires-clause-marks : goal.note-requires-clause-marks
+note-requires-clause-marks g c = c.requires.marks
+
+pub loop-essential-init : goal.loop-essential-init
+loop-essential-init g c = record {
+  marks = c.in_ok-note.ensures.marks;
+  found =
+      λ x.
+      mandatory_first x c.args.found.now.items c.formula.result.now
+      (formula_at c.args.tables.now c.args.assertion) _ (is_variable_number c.args.tables.now x)
+      c.requires.none c.formula.ensures.formula (c.in_ok-note.ensures.found x);
+}
+
+pub offset_bounds-essentials-essential-index : goal.offset_bounds-essentials-essential-index
+offset_bounds-essentials-essential-index g c = omega arith
+
+pub overflow_add-assertion-in-loop-essential : goal.overflow_add-assertion-in-loop-essential
+overflow_add-assertion-in-loop-essential g c = omega arith
+
+pub note-requires-in-loop-essential-clause-symbols : goal.note-requires-in-loop-essential-clause-symbols
+note-requires-in-loop-essential-clause-symbols g c = c.formula-in-loop-essential.ensures.known
+
+pub note-requires-in-loop-essential-clause-marks : goal.note-requires-in-loop-essential-clause-marks
+note-requires-in-loop-essential-clause-marks g c = c.loop-essential.invariant.marks
+
+pub loop-essential-preserved : goal.loop-essential-preserved
+loop-essential-preserved g c = record {
+  marks = c.in_ok-note-2.ensures.marks;
+  found =
+      λ x.
+      mandatory_next x (formula_at c.args.tables.now) c.args.essentials.now
+      c.loop-essential.essential-index 0 c.formula-in-loop-essential.result.now _ _
+      (is_variable_number c.args.tables.now x)
+      (is_member (formula_at c.args.tables.now c.args.assertion) x) c.loop-essential-test.true
+      c.formula-in-loop-essential.ensures.formula (c.loop-essential.invariant.found x)
+      (c.in_ok-note-2.ensures.found x);
+}
+
+pub returns-clause-marks : goal.returns-clause-marks
+returns-clause-marks g c = c.loop-essential.invariant.marks

@@ -1,9 +1,11 @@
-use Rattle.std.proofs.Common.{◌≡◌, ◌∙◌, refl, ap, codes, true}
+use Rattle.std.proofs.Common.{◌≡◌, ◌∙◌, List, [], ◌∷◌, map, refl, ap, subst, codes, true}
 use Rattle.std.proofs.lemmas.Result.{IfOk-weaker}
+use Rattle.clap.specs.Built.{AddsArg, AddsInTurn}
+use Rattle.clap.specs.Walk.{rule_of}
 use Rattle.clap.specs.Simple.{App, app_of, app_of_fields, new_app}
-use Rattle.clap.specs.Walk.{Rule, rule_of}
-use Rattle.mm_line.specs.Lines.{command_of, named}
-use Rattle.mm_line.proofs.LineLaw.{is_command, one_more}
+use Rattle.clap.specs.declared.builder.arg.Arg.{Arg}
+use Rattle.mm_line.specs.Lines.{command_of, form_rule, named, report_rule}
+use Rattle.mm_line.proofs.LineLaw.{all_more, is_command, the_rules}
 use Rattle.mm_line.proofs.words.command.Goals as goal
 
 pub returns : goal.returns
@@ -14,17 +16,26 @@ returns c =
     let start : app_of c.version.result ≡ named =
     ap app_of_fields c.version.ensures
     ∙ ap (λ (a : App). record a { top = record a.top { has_version = true } }) plain in
-    let first = one_more _ _ _ named _ c.in_ok-arg.ensures start c.number-workers.ensures refl in
-    let second = one_more _ _ _ _ _ c.in_ok-arg-2.ensures first c.number-pieces.ensures refl in
-    let third = one_more _ _ _ _ _ c.in_ok-arg-3.ensures second c.only.ensures refl in
-    let made : (rule_of c.report.result).is_simple ≡ true =
-    ap (λ (r : Rule). r.is_simple) c.report.ensures.2 in
-    let fourth = one_more _ _ _ _ _ c.in_ok-arg-4.ensures third refl made in
-    let formed : (rule_of c.form.result).is_simple ≡ true =
-    ap (λ (r : Rule). r.is_simple) c.form.ensures.2 in
-    let fifth = one_more _ _ _ _ _ c.in_ok-arg-5.ensures fourth refl formed in
-    let sixth = one_more _ _ _ _ _ c.in_ok-arg-6.ensures fifth c.essential.ensures refl in
-    let seventh = one_more _ _ _ _ _ c.in_ok-arg-7.ensures sixth c.open_theorems.ensures refl in
-    IfOk-weaker c.arg-8.result _ _
-    (λ m h. is_command m _ _ c.report.ensures c.form.ensures
-    (one_more _ _ _ _ _ h seventh c.file.ensures refl)) c.arg-8.ensures
+    let words = c.report.ensures in
+    let forms = c.form.ensures in
+    let args : List Arg =
+    c.number.result ∷ c.number-2.result ∷ c.only.result ∷ c.report.result ∷ c.form.result
+    ∷ c.essential.result ∷ c.open_theorems.result ∷ c.file.result ∷ [] in
+    let same : map rule_of args ≡ the_rules words.0 forms.0 =
+    cc (
+      c.number.ensures,
+      c.number-2.ensures,
+      c.only.ensures,
+      words.2,
+      forms.2,
+      c.essential.ensures,
+      c.open_theorems.ensures,
+      c.file.ensures,
+    ) in
+    IfOk-weaker c.args-2.result _ _
+    (λ m h. is_command m (report_rule words.0) (form_rule forms.0) (words.0, words.1, refl)
+    (forms.0, forms.1, refl)
+    (all_more args (the_rules words.0 forms.0) c.version.result m named
+    (subst (λ (l : List Arg). AddsInTurn AddsArg c.version.result l m)
+    c.in_ok-arguments.ensures.items h)
+    start same refl)) c.args-2.ensures

@@ -1,8 +1,9 @@
-use Rattle.std.proofs.Common.{ℕ, List, ◌∙◌, ◌++◌, ◌*◌, length, drop, subst, sym, ap}
+use Rattle.std.proofs.Common.{ℕ, List, ◌∙◌, ◌++◌, ◌*◌, length, drop, subst, sym, ap, arith}
 use Rattle.mm_rows.specs.Bits.{words_for}
 use Rattle.mm_rows.specs.BitRows.{IsBitRow, row_at}
 use Rattle.mm_cites.specs.Citing.{theorem_at}
 use Rattle.mm_rows.proofs.PlaceLaw.{ready_before, row_here, row_there}
+use Rattle.std.proofs.lemmas.List.{length-take-le}
 use Rattle.mm_rows.proofs.rows.fill_in_place.Goals as goal
 
 pub fill_row-requires-clause-ready : goal.fill_row-requires-clause-ready
@@ -35,3 +36,41 @@ returns-clause-others g c = λ r ne.
     c.words-width.ensures
     ∙ row_there before c.fill_row.new.row rest width i r long c.fill_row.ensures.words ne
     ∙ ap (λ (xs : List ℕ). row_at xs width r) (sym c.split_at_mut-before.ensures.value)
+
+pub overflow_mul-i : goal.overflow_mul-i
+overflow_mul-i g c =
+    let e = ap (λ w. c.args.i * w) c.words-width.ensures in
+    let f = c.requires.fits in
+    omega (arith, e, f)
+
+pub split_at_mut-before-requires : goal.split_at_mut-before-requires
+split_at_mut-before-requires g c =
+    let e = ap (λ w. c.args.i * w) c.words-width.ensures in
+    let f = c.requires.fits in
+    omega (arith, e, f)
+
+pub slice_bounds-row-end : goal.slice_bounds-row-end
+slice_bounds-row-end g c =
+    let e = ap (λ w. c.args.i * w) c.words-width.ensures in
+    let n = c.words-width.ensures in
+    let f = c.requires.fits in
+    let b = c.split_at_mut-before.ensures.back_len in
+    omega (arith, e, n, f, b)
+
+pub slice_bounds-row-end-2 : goal.slice_bounds-row-end-2
+slice_bounds-row-end-2 g c =
+    let e = ap (λ w. c.args.i * w) c.words-width.ensures in
+    let n = c.words-width.ensures in
+    let f = c.requires.fits in
+    let b = c.split_at_mut-before.ensures.back_len in
+    sym (length-take-le c.words-width.result c.split_at_mut-before.result.1.now
+    (omega (arith, e, n, f, b)))
+
+pub fill-requires : goal.fill-requires
+fill-requires g c = tt
+
+pub fill_row-requires-clause-within : goal.fill_row-requires-clause-within
+fill_row-requires-clause-within g c = c.requires.within
+
+pub fill_row-requires-clause-theorems : goal.fill_row-requires-clause-theorems
+fill_row-requires-clause-theorems g c = c.requires.theorems

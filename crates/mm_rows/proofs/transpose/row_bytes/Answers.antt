@@ -1,5 +1,5 @@
-use Rattle.std.proofs.Common.{◌*◌, arith}
-use Rattle.mm_rows.proofs.BlockLaw.{bytes_none, bytes_more, all_bytes}
+use Rattle.std.proofs.Common.{◌*◌, arith, ◌<◌, ◌+◌, ◌/◌, length}
+use Rattle.mm_rows.proofs.BlockLaw.{bytes_none, bytes_more, all_bytes, word_in_row}
 use Rattle.mm_rows.proofs.transpose.row_bytes.Goals as goal
 
 pub loop-k-init : goal.loop-k-init
@@ -21,3 +21,71 @@ pub returns : goal.returns
 returns c =
     all_bytes c.args.rows c.args.across c.args.bits.now c.args.w c.args.at c.loop-k.bytes c.loop-k.k
     (omega arith) c.loop-k.invariant.within c.loop-k.invariant.bytes
+
+pub bounds-bits-w : goal.bounds-bits-w
+bounds-bits-w c =
+    let t = c.loop-k-test.true in
+    let end = c.min-k-end.ensures in
+    let in_file : 64 * c.args.w + c.loop-k.k < c.args.rows = omega (arith, t, end) in
+    let a = c.requires.within in
+    let h =
+    word_in_row c.args.rows c.args.across (64 * c.args.w + c.loop-k.k) (c.args.at / 8)
+    (length c.args.bits.now) c.requires.size in_file (omega (arith, a)) in
+    omega (arith, h)
+
+pub bounds-bytes-k : goal.bounds-bytes-k
+bounds-bytes-k c = omega arith
+
+pub loop-k-smaller : goal.loop-k-smaller
+loop-k-smaller c = omega arith
+
+pub offset_bounds-bits-w : goal.offset_bounds-bits-w
+offset_bounds-bits-w c =
+    let t = c.loop-k-test.true in
+    let end = c.min-k-end.ensures in
+    let in_file : 64 * c.args.w + c.loop-k.k < c.args.rows = omega (arith, t, end) in
+    let a = c.requires.within in
+    let h =
+    word_in_row c.args.rows c.args.across (64 * c.args.w + c.loop-k.k) (c.args.at / 8)
+    (length c.args.bits.now) c.requires.size in_file (omega (arith, a)) in
+    omega (arith, h)
+
+pub overflow_add-word : goal.overflow_add-word
+overflow_add-word c = omega arith
+
+pub overflow_add-word-in-loop-k : goal.overflow_add-word-in-loop-k
+overflow_add-word-in-loop-k c =
+    let t = c.loop-k-test.true in
+    let end = c.min-k-end.ensures in
+    let in_file : 64 * c.args.w + c.loop-k.k < c.args.rows = omega (arith, t, end) in
+    let a = c.requires.within in
+    let h =
+    word_in_row c.args.rows c.args.across (64 * c.args.w + c.loop-k.k) (c.args.at / 8)
+    (length c.args.bits.now) c.requires.size in_file (omega (arith, a)) in
+    omega (arith, h)
+
+pub overflow_mul-bytes : goal.overflow_mul-bytes
+overflow_mul-bytes c = omega arith
+
+pub overflow_mul-w : goal.overflow_mul-w
+overflow_mul-w c = omega arith
+
+pub overflow_mul-word : goal.overflow_mul-word
+overflow_mul-word c = omega arith
+
+pub overflow_mul-word-in-loop-k : goal.overflow_mul-word-in-loop-k
+overflow_mul-word-in-loop-k c =
+    let t = c.loop-k-test.true in
+    let end = c.min-k-end.ensures in
+    let in_file : 64 * c.args.w + c.loop-k.k < c.args.rows = omega (arith, t, end) in
+    let a = c.requires.within in
+    let h =
+    word_in_row c.args.rows c.args.across (64 * c.args.w + c.loop-k.k) (c.args.at / 8)
+    (length c.args.bits.now) c.requires.size in_file (omega (arith, a)) in
+    omega (arith, h)
+
+pub overflow_sub-rows : goal.overflow_sub-rows
+overflow_sub-rows c = omega arith
+
+pub overflow_shr-bytes : goal.overflow_shr-bytes
+overflow_shr-bytes c = omega arith

@@ -1,6 +1,7 @@
-use Rattle.std.proofs.Common.{◌<◌, ◌+◌, ◌*◌, ◌/◌, length, arith}
+use Rattle.std.proofs.Common.{◌<◌, ◌+◌, ◌*◌, ◌/◌, length, arith, subst, ap, sym, ◌∙◌}
 use Rattle.mm_rows.specs.Bits.{words_for}
 use Rattle.mm_rows.proofs.BlockLaw.{written_skip, written_block}
+use Rattle.mm_rows.specs.Blocks.{Written}
 use Rattle.mm_rows.proofs.transpose.transpose_block.Goals as goal
 
 pub write_columns-requires-clause-written : goal.write_columns-requires-clause-written
@@ -28,3 +29,52 @@ returns c =
     (λ j le lt. c.in_default.ensures.none j le) c.loop-j.invariant.written in
     written_block c.args.rows c.args.columns c.args.bits.now c.loop-j.transposed c.args.w end
     (omega arith) all
+
+pub loop-j-smaller : goal.loop-j-smaller
+loop-j-smaller c =
+    let first = c.in-Some.ensures.some.0 in
+    let inside = c.in-Some.ensures.some.1 in
+    omega (arith, first, inside)
+
+pub overflow_add-at : goal.overflow_add-at
+overflow_add-at c = omega arith
+
+pub overflow_mul-at : goal.overflow_mul-at
+overflow_mul-at c = omega arith
+
+pub mark_columns-requires-clause-block : goal.mark_columns-requires-clause-block
+mark_columns-requires-clause-block c = c.requires.block
+
+pub loop-j-init : goal.loop-j-init
+loop-j-init c = record { within = omega arith; written = c.requires.written }
+
+pub loop-j-preserved : goal.loop-j-preserved
+loop-j-preserved c = record {
+  within = (let i = c.in-Some.ensures.some.1 in omega (arith, i));
+  written =
+      subst (λ n. Written c.args.rows c.args.columns c.args.bits.now c.write_columns.new.transposed
+      c.args.w n) (omega arith) c.write_columns.ensures;
+}
+
+pub mark_columns-requires-clause-few_rows : goal.mark_columns-requires-clause-few_rows
+mark_columns-requires-clause-few_rows c = c.requires.table.few_rows
+
+pub mark_columns-requires-clause-narrow : goal.mark_columns-requires-clause-narrow
+mark_columns-requires-clause-narrow c =
+    let w = c.requires.width in let f = c.requires.table.few_columns in omega (arith, w, f)
+
+pub mark_columns-requires-clause-size : goal.mark_columns-requires-clause-size
+mark_columns-requires-clause-size c = c.requires.table.size ∙ ap (λ n. c.args.rows * n) (sym c.requires.width)
+
+pub write_columns-requires-clause-block : goal.write_columns-requires-clause-block
+write_columns-requires-clause-block c = c.requires.block
+
+pub write_columns-requires-clause-table : goal.write_columns-requires-clause-table
+write_columns-requires-clause-table c = c.requires.table
+
+pub write_columns-requires-clause-within : goal.write_columns-requires-clause-within
+write_columns-requires-clause-within c =
+    let first = c.in-Some.ensures.some.0 in
+    let inside = c.in-Some.ensures.some.1 in
+    let w = c.requires.width in
+    omega (arith, first, inside, w)

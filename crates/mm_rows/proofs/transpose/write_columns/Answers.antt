@@ -1,7 +1,7 @@
-use Rattle.std.proofs.Common.{ℕ, ◌≡◌, ◌<◌, ◌≤◌, ◌+◌, ◌*◌, arith, subst}
+use Rattle.std.proofs.Common.{ℕ, ◌≡◌, ◌<◌, ◌≤◌, ◌+◌, ◌*◌, arith, subst, length, ap, sym, ◌∙◌}
 use Rattle.mm_rows.specs.Bits.{words_for}
 use Rattle.mm_rows.specs.Blocks.{AreRowBytes, Written}
-use Rattle.mm_rows.proofs.BlockLaw.{lane_is_word, written_word, written_zero, written_zeros}
+use Rattle.mm_rows.proofs.BlockLaw.{lane_is_word, written_word, written_zero, written_zeros, word_in_row}
 use Rattle.mm_rows.proofs.transpose.write_columns.Goals as goal
 use Rattle.mm_rows.proofs.transpose.write_columns.Goals.{then-word-ne0, else-word-ne0}
 
@@ -49,3 +49,84 @@ returns c =
     (8 * c.args.at + 8) block
     (λ i le lt small. absurd (omega (arith, end, past))) c.loop-j.invariant.within
     c.loop-j.invariant.written
+
+pub bounds-transposed-j : goal.bounds-transposed-j
+bounds-transposed-j c =
+    let t = c.loop-j-test.true in
+    let end = c.min-j-end.ensures in
+    let b = c.requires.block in
+    let small : c.loop-j.j < c.args.columns = omega (arith, t, end) in
+    let block : c.args.w < words_for c.args.rows = omega (arith, b) in
+    let h =
+    word_in_row c.args.columns (words_for c.args.rows) c.loop-j.j c.args.w
+    (length c.loop-j.transposed) c.loop-j.invariant.written.size small block in
+    let e = ap (λ n. c.loop-j.j * n) c.div_ceil-down.ensures in
+    omega (arith, h, e)
+
+pub loop-j-init : goal.loop-j-init
+loop-j-init c = record { from = omega arith; within = omega arith; written = c.requires.written }
+
+pub offset_bounds-transposed-j : goal.offset_bounds-transposed-j
+offset_bounds-transposed-j c =
+    let t = c.loop-j-test.true in
+    let end = c.min-j-end.ensures in
+    let b = c.requires.block in
+    let small : c.loop-j.j < c.args.columns = omega (arith, t, end) in
+    let block : c.args.w < words_for c.args.rows = omega (arith, b) in
+    let h =
+    word_in_row c.args.columns (words_for c.args.rows) c.loop-j.j c.args.w
+    (length c.loop-j.transposed) c.loop-j.invariant.written.size small block in
+    let e = ap (λ n. c.loop-j.j * n) c.div_ceil-down.ensures in
+    omega (arith, h, e)
+
+pub overflow_add-transposed : goal.overflow_add-transposed
+overflow_add-transposed c =
+    let t = c.loop-j-test.true in
+    let end = c.min-j-end.ensures in
+    let b = c.requires.block in
+    let small : c.loop-j.j < c.args.columns = omega (arith, t, end) in
+    let block : c.args.w < words_for c.args.rows = omega (arith, b) in
+    let h =
+    word_in_row c.args.columns (words_for c.args.rows) c.loop-j.j c.args.w
+    (length c.loop-j.transposed) c.loop-j.invariant.written.size small block in
+    let e = ap (λ n. c.loop-j.j * n) c.div_ceil-down.ensures in
+    omega (arith, h, e)
+
+pub overflow_mul-transposed : goal.overflow_mul-transposed
+overflow_mul-transposed c =
+    let t = c.loop-j-test.true in
+    let end = c.min-j-end.ensures in
+    let b = c.requires.block in
+    let small : c.loop-j.j < c.args.columns = omega (arith, t, end) in
+    let block : c.args.w < words_for c.args.rows = omega (arith, b) in
+    let h =
+    word_in_row c.args.columns (words_for c.args.rows) c.loop-j.j c.args.w
+    (length c.loop-j.transposed) c.loop-j.invariant.written.size small block in
+    let e = ap (λ n. c.loop-j.j * n) c.div_ceil-down.ensures in
+    omega (arith, h, e)
+
+pub row_bytes-bytes-requires-clause-narrow : goal.row_bytes-bytes-requires-clause-narrow
+row_bytes-bytes-requires-clause-narrow c =
+    let f = c.requires.table.few_columns in let d = c.div_ceil.ensures in omega (arith, f, d)
+
+pub row_bytes-bytes-requires-clause-size : goal.row_bytes-bytes-requires-clause-size
+row_bytes-bytes-requires-clause-size c = c.requires.table.size ∙ ap (λ n. c.args.rows * n) (sym c.div_ceil.ensures)
+
+pub row_bytes-bytes-requires-clause-within : goal.row_bytes-bytes-requires-clause-within
+row_bytes-bytes-requires-clause-within c =
+    let w = c.requires.within in let d = c.div_ceil.ensures in omega (arith, w, d)
+
+pub overflow_add-at : goal.overflow_add-at
+overflow_add-at c = omega arith
+
+pub overflow_mul-at : goal.overflow_mul-at
+overflow_mul-at c = omega arith
+
+pub overflow_step-j : goal.overflow_step-j
+overflow_step-j c = omega arith
+
+pub row_bytes-bytes-requires-clause-block : goal.row_bytes-bytes-requires-clause-block
+row_bytes-bytes-requires-clause-block c = c.requires.block
+
+pub row_bytes-bytes-requires-clause-few_rows : goal.row_bytes-bytes-requires-clause-few_rows
+row_bytes-bytes-requires-clause-few_rows c = c.requires.table.few_rows

@@ -3,6 +3,7 @@ use Rattle.std.proofs.Common.{subst, sym, ap, arith}
 use Rattle.std.proofs.lemmas.Grind.{get_or_default_zero}
 use Rattle.mm_rows.specs.BitRows.{HasCitedRows}
 use Rattle.mm_rows.proofs.WaveLaw.{wave_ready, made_wave, made_all, part_length, part_at}
+use Rattle.std.proofs.lemmas.Result.{IfOk-from_err}
 use Rattle.mm_rows.proofs.wave.fill_waves.Goals as goal
 
 pub fill_wave-requires-clause-ready : goal.fill_wave-requires-clause-ready
@@ -54,3 +55,11 @@ returns g c =
     made_all c.args.citations.now c.args.columns.now c.args.waves.now c.in_ok-rows.rows.items
     c.loop-from.bits c.loop-from.from c.requires.waves c.in_ok-rows.ensures c.loop-from.invariant
     (omega arith)
+
+pub returns-in_err-rows : goal.returns-in_err-rows
+returns-in_err-rows g c =
+    IfOk-from_err c.from_residual.result _ c.from_residual.ensures.0
+
+pub returns-in_err-fill_wave : goal.returns-in_err-fill_wave
+returns-in_err-fill_wave g c =
+    IfOk-from_err c.from_residual-in_err-fill_wave.result _ c.from_residual-in_err-fill_wave.ensures.0

@@ -1,4 +1,3 @@
-use Rattle.std.proofs.Common.{◌≡◌, length}
 use Rattle.mm_check.specs.Checker.{IsMadeFor}
 use Rattle.mm_spec.specs.Output.{theorems}
 use Rattle.mm_work.specs.Judged.{AreCitedUpTo}

@@ -1,4 +1,4 @@
-use Rattle.std.proofs.Common.{◌≡◌, ◌<◌, ℕ, List, length, ap, subst, arith}
+use Rattle.std.proofs.Common.{◌≡◌, ◌<◌, ℕ, All, List, length, get_or, sym, ap, subst, arith}
 use Rattle.mm_spec.specs.Output.{theorems}
 use Rattle.mm_work.specs.Judged.{AreCitedUpTo}
 use Rattle.mm_work.specs.declared.merge.Whereabouts.{Whereabouts}
@@ -84,3 +84,14 @@ returns g c =
     omega (arith, end, past, e, n, t) in
     subst (λ n. AreCitedUpTo db c.args.essential (theorems db) n c.loop-place.lists) all
     c.loop-place.invariant
+
+pub places-requires : goal.places-requires
+places-requires g c = λ k d l.
+    subst (λ (ts : List ℕ). All (λ i. i < length ts) (get_or c.args.found.now k d).valid.items)
+    (sym c.theorems.ensures.theorems) (c.requires.found k d l).known
+
+pub loop-place-init : goal.loop-place-init
+loop-place-init g c = record {
+  count = ap length c.new-lists.ensures;
+  each = λ i l. absurd (omega arith);
+}

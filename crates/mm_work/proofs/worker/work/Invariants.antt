@@ -1,4 +1,4 @@
-use Rattle.std.proofs.Common.{◌≡◌, None, false, length}
+use Rattle.std.proofs.Common.{◌≡◌, None, false}
 use Rattle.mm_check.specs.Checker.{IsMadeFor}
 use Rattle.mm_board.specs.Models.{IsSeatOf}
 use Rattle.mm_work.specs.Workers.{TellsUnlessShort}

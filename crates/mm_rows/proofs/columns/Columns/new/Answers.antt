@@ -8,6 +8,7 @@ use Rattle.mm_spec.specs.Output.{columns, has_typecode, is_column}
 use Rattle.mm_cites.specs.Citing.{IsRising}
 use Rattle.mm_cites.proofs.RisingLaw.{filter_at, filter_rising}
 use Rattle.mm_rows.proofs.ColumnLaw.{filter_snoc, columns_are, axiom_asserts}
+use Rattle.std.proofs.lemmas.Result.{IfOk-from_err}
 use Rattle.mm_rows.proofs.columns.Columns.new.Goals as goal
 use Rattle.mm_rows.proofs.columns.Columns.new.Goals.{then-is_chosen+in_ok-push, else-is_chosen}
 
@@ -71,3 +72,7 @@ returns g c =
     take_all c.loop-statement.statement-index xs (omega arith) in
     c.loop-statement.invariant ∙ ap (filter q) (all ∙ c.axioms-axioms.ensures.axioms)
     ∙ columns_are only db
+
+pub returns-in_err-push : goal.returns-in_err-push
+returns-in_err-push g c =
+    IfOk-from_err c.from_residual.result _ c.from_residual.ensures.0

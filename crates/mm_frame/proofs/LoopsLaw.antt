@@ -1,0 +1,121 @@
+-- One more element in the loops that collect numbers and pairs.
+use Rattle.std.proofs.Common.{◌≡◌, ℕ, ◌+◌, ◌<◌, Bool, true, false, ◌&&◌, ◌||◌, not}
+use Rattle.std.proofs.Common.{List, [], ◌∷◌, ◌++◌, length, get_or, take, nat_eq}
+use Rattle.std.proofs.Common.{refl, sym, ap, ◌∙◌, arith}
+use Rattle.std.proofs.lemmas.Bool.{eqb-true}
+use Rattle.std.proofs.lemmas.List.Folds.{list_any_more, list_any-append}
+use Rattle.std.proofs.Math.Bool.{or-false}
+use Rattle.std.specs.List.{list_any}
+use Rattle.mm_spec.specs.Derivation.{is_member}
+use Rattle.mm_database.specs.Pairs.{has_pair}
+use Rattle.mm_frame.proofs.DisjointLaw.{one_more}
+use Rattle.mm_frame.proofs.MarksLaw.{noted_row}
+
+or_assoc : (a b c : Bool) → ((a || b) || c) ≡ (a || (b || c))
+or_assoc true b c = refl
+or_assoc false b c = refl
+
+-- with no element so far
+pub none_so_far : (o : Bool) → o ≡ (o || false)
+none_so_far o = sym (or-false o)
+
+-- the next element makes the test true, or not
+pub any_next : {X : Type 0} (t : X → Bool) (xs : List X) (i : ℕ) (d : X) (o b n : Bool)
+    → i < length xs → b ≡ (o || list_any t (take i xs)) → n ≡ (b || t (get_or xs i d))
+    → n ≡ (o || list_any t (take (i + 1) xs))
+any_next t xs i d o b n h e m =
+    m ∙ ap (λ z. z || t (get_or xs i d)) e
+    ∙ or_assoc o (list_any t (take i xs)) (t (get_or xs i d))
+    ∙ ap (λ z. o || z) (sym (list_any_more t xs i d h))
+
+-- the pairs of the next symbol
+pub active_next : (xs : List ℕ) (ps : List (ℕ × ℕ)) (i s j y : ℕ) (o b n l : Bool)
+    → i < length xs → s ≡ get_or xs i s
+    → b ≡ (o || (is_member (take i xs) y && (has_pair ps y j && l)))
+    → n ≡ (b || (nat_eq y s && (has_pair ps s j && l)))
+    → n ≡ (o || (is_member (take (i + 1) xs) y && (has_pair ps y j && l)))
+active_next xs ps i s j y o b n l h e a m =
+    m ∙ ap (λ z. z || (nat_eq y s && (has_pair ps s j && l))) a
+    ∙ one_more o (is_member (take i xs) y) (has_pair ps s j) (has_pair ps y j) l y s
+    (λ q. ap (λ z. has_pair ps z j) (sym q))
+    ∙ ap (λ z. o || (z && (has_pair ps y j && l)))
+    (sym (list_any_more (nat_eq y) xs i s h
+    ∙ ap (λ z. is_member (take i xs) y || nat_eq y z) (sym e)))
+
+-- the next symbol is noted if it is a variable
+pub noted_next : (xs : List ℕ) (i s x : ℕ) (o b n v : Bool)
+    → i < length xs → s ≡ get_or xs i s
+    → b ≡ (o || (v && is_member (take i xs) x)) → n ≡ (b || (v && nat_eq x s))
+    → n ≡ (o || (v && is_member (take (i + 1) xs) x))
+noted_next xs i s x o b n v h e a m =
+    m ∙ ap (λ z. z || (v && nat_eq x s)) a
+    ∙ noted_row o v (is_member (take i xs) x) (nat_eq x s)
+    ∙ ap (λ z. o || (v && z))
+    (sym (list_any_more (nat_eq x) xs i s h
+    ∙ ap (λ z. is_member (take i xs) x || nat_eq x z) (sym e)))
+
+pub noted_none : (o v : Bool) → o ≡ (o || (v && false))
+noted_none true v = refl
+noted_none false true = refl
+noted_none false false = refl
+
+-- the variables of the first formula, when nothing has been found before
+pub mandatory_first : (x : ℕ) (old xs ys : List ℕ) (n v : Bool) → length old ≡ 0 → xs ≡ ys
+    → n ≡ (is_member old x || (v && is_member xs x)) → n ≡ (v && (is_member ys x || false))
+mandatory_first x [] xs ys n v h e m =
+    m ∙ ap (λ zs. v && is_member zs x) e ∙ ap (λ z. v && z) (sym (or-false (is_member ys x)))
+mandatory_first x (o ∷ old) xs ys n v h e m = absurd (omega (arith, h))
+
+-- those of the next formula
+pub mandatory_next : (x : ℕ) (f : ℕ → List ℕ) (es : List ℕ) (i d : ℕ) (xs : List ℕ)
+    (n b v k : Bool) → i < length es → xs ≡ f (get_or es i d)
+    → b ≡ (v && (k || list_any (λ j. is_member (f j) x) (take i es)))
+    → n ≡ (b || (v && is_member xs x))
+    → n ≡ (v && (k || list_any (λ j. is_member (f j) x) (take (i + 1) es)))
+mandatory_next x f es i d xs n b v k h e a m =
+    m ∙ ap (λ z. z || (v && is_member xs x)) a
+    ∙ ap (λ zs. (v && (k || list_any (λ j. is_member (f j) x) (take i es))) || (v && is_member zs x))
+    e
+    ∙ row v k (list_any (λ j. is_member (f j) x) (take i es)) (is_member (f (get_or es i d)) x)
+    ∙ ap (λ z. v && (k || z)) (sym (list_any_more (λ j. is_member (f j) x) es i d h))
+  where
+    row : (v k t e : Bool) → ((v && (k || t)) || (v && e)) ≡ (v && (k || (t || e)))
+    row true k t e = or_assoc k t e
+    row false k t e = refl
+
+-- the floating statement of the next variable, if it is is_open
+pub float_pushed : (hs more : List ℕ) (f j : ℕ) (never is_open : Bool) → never ≡ false → is_open ≡ true
+    → more ≡ hs ++ f ∷ []
+    → is_member more j ≡ (is_member hs j || (nat_eq j f && (not never && is_open)))
+float_pushed hs more f j never is_open n o e =
+    ap (λ xs. is_member xs j) e ∙ list_any-append (nat_eq j) hs (f ∷ [])
+    ∙ ap (λ z. is_member hs j || z) (by (nat_eq j f))
+    ∙ ap (λ z. is_member hs j || (nat_eq j f && (not z && true))) (sym n)
+    ∙ ap (λ z. is_member hs j || (nat_eq j f && (not never && z))) (sym o)
+  where
+    by : (b : Bool) → (b || false) ≡ (b && true)
+    by true = refl
+    by false = refl
+
+pub float_closed : (hs more : List ℕ) (f j : ℕ) (never is_open : Bool) → is_open ≡ false → more ≡ hs
+    → is_member more j ≡ (is_member hs j || (nat_eq j f && (not never && is_open)))
+float_closed hs more f j never is_open o e =
+    ap (λ xs. is_member xs j) e ∙ by (is_member hs j) (nat_eq j f) (not never)
+    ∙ ap (λ z. is_member hs j || (nat_eq j f && (not never && z))) (sym o)
+  where
+    by : (a b c : Bool) → a ≡ (a || (b && (c && false)))
+    by true b c = refl
+    by false true true = refl
+    by false true false = refl
+    by false false c = refl
+
+pub float_none : (hs more : List ℕ) (f j : ℕ) (never is_open : Bool) → never ≡ true → more ≡ hs
+    → is_member more j ≡ (is_member hs j || (nat_eq j f && (not never && is_open)))
+float_none hs more f j never is_open n e =
+    ap (λ xs. is_member xs j) e ∙ by (is_member hs j) (nat_eq j f)
+    ∙ ap (λ z. is_member hs j || (nat_eq j f && (not z && is_open))) (sym n)
+  where
+    by : (a b : Bool) → a ≡ (a || (b && false))
+    by true b = refl
+    by false true = refl
+    by false false = refl

@@ -1,0 +1,35 @@
+use Rattle.std.proofs.Common.{arith, ℕ, List, ap, ◌∙◌, ◌&&◌, ◌||◌, take_all}
+use Rattle.std.proofs.lemmas.Result.{IfOk-from_err}
+use Rattle.mm_spec.specs.Derivation.{is_member}
+use Rattle.mm_database.specs.DisjointIndex.{is_live}
+use Rattle.mm_database.specs.Pairs.{has_pair}
+use Rattle.mm_frame.proofs.LoopsLaw.{none_so_far, active_next}
+use Rattle.mm_frame.proofs.disjoint.add_all_active.Goals as goal
+
+pub returns-in_err-add_active : goal.returns-in_err-add_active
+returns-in_err-add_active g c =
+    IfOk-from_err c.from_residual.result _ c.from_residual.ensures.0
+
+pub loop-symbol-init : goal.loop-symbol-init
+loop-symbol-init g c = λ j y. none_so_far (has_pair c.args.into.now.items j y)
+
+pub offset_bounds-symbols-symbol-index : goal.offset_bounds-symbols-symbol-index
+offset_bounds-symbols-symbol-index g c = omega arith
+
+pub add_active-requires : goal.add_active-requires
+add_active-requires g c = record { ordered = c.requires.ordered }
+
+pub loop-symbol-preserved : goal.loop-symbol-preserved
+loop-symbol-preserved g c = λ j y.
+    active_next c.args.symbols.now c.args.disjoint_index.now.pairs.items c.loop-symbol.symbol-index
+    c.symbol-item.result j y _ _ _ (is_live c.args.blocks.now j c.args.at) c.loop-symbol-test.true
+    c.symbol-item.is (c.loop-symbol.invariant j y) (c.in_ok-add_active.ensures j y)
+
+pub returns : goal.returns
+returns g c = λ j y.
+    c.loop-symbol.invariant j y
+    ∙ ap (λ (xs : List ℕ). has_pair c.args.into.now.items j y
+    || (is_member xs y
+    && (has_pair c.args.disjoint_index.now.pairs.items y j
+    && is_live c.args.blocks.now j c.args.at)))
+    (take_all c.loop-symbol.symbol-index c.args.symbols.now c.loop-symbol-test.false)

@@ -1,0 +1,63 @@
+use Rattle.std.proofs.Common.{ap, ◌∙◌}
+use Rattle.std.proofs.lemmas.Result.{IfOk-from_err}
+use Rattle.mm_spec.specs.Derivation.{is_member}
+use Rattle.mm_frame.proofs.frames.frame_of.Goals as goal
+
+pub hypotheses-requires-clause-sources : goal.hypotheses-requires-clause-sources
+hypotheses-requires-clause-sources g c = c.requires.sources
+
+pub hypotheses-requires-clause-assertion : goal.hypotheses-requires-clause-assertion
+hypotheses-requires-clause-assertion g c = c.requires.assertion
+
+pub hypotheses-requires-clause-typed : goal.hypotheses-requires-clause-typed
+hypotheses-requires-clause-typed g c = c.requires.typed
+
+pub hypotheses-requires-clause-seen : goal.hypotheses-requires-clause-seen
+hypotheses-requires-clause-seen g c = c.requires.seen
+
+pub pairs_of-requires-clause-sources : goal.pairs_of-requires-clause-sources
+pairs_of-requires-clause-sources g c = c.requires.sources
+
+pub pairs_of-requires-clause-assertion : goal.pairs_of-requires-clause-assertion
+pairs_of-requires-clause-assertion g c = c.requires.assertion
+
+pub pairs_of-requires-clause-found : goal.pairs_of-requires-clause-found
+pairs_of-requires-clause-found g c = λ x.
+    ap (λ xs. is_member xs x) c.deref-2.ensures.value ∙ c.in_ok-hypotheses.ensures.found x
+
+pub returns-clause-seen : goal.returns-clause-seen
+returns-clause-seen g c = record {
+  count = c.in_ok-hypotheses.ensures.marks.count;
+  within = c.in_ok-hypotheses.ensures.marks.within;
+}
+
+pub returns-clause-frame : goal.returns-clause-frame
+returns-clause-frame g c = record {
+  hypotheses =
+      λ a. c.in_ok-hyps.ensures ∙ c.deref.ensures.value ∙ c.in_ok-hypotheses.ensures.hyps;
+  disjoint = λ a. c.in_ok-pairs.ensures;
+}
+
+pub returns-in_err-hypotheses-clause-seen : goal.returns-in_err-hypotheses-clause-seen
+returns-in_err-hypotheses-clause-seen g c =
+    IfOk-from_err c.from_residual.result _ c.from_residual.ensures.0
+
+pub returns-in_err-hypotheses-clause-frame : goal.returns-in_err-hypotheses-clause-frame
+returns-in_err-hypotheses-clause-frame g c =
+    IfOk-from_err c.from_residual.result _ c.from_residual.ensures.0
+
+pub returns-in_err-hyps-clause-seen : goal.returns-in_err-hyps-clause-seen
+returns-in_err-hyps-clause-seen g c =
+    IfOk-from_err c.from_residual-in_err-hyps.result _ c.from_residual-in_err-hyps.ensures.0
+
+pub returns-in_err-hyps-clause-frame : goal.returns-in_err-hyps-clause-frame
+returns-in_err-hyps-clause-frame g c =
+    IfOk-from_err c.from_residual-in_err-hyps.result _ c.from_residual-in_err-hyps.ensures.0
+
+pub returns-in_err-pairs-clause-seen : goal.returns-in_err-pairs-clause-seen
+returns-in_err-pairs-clause-seen g c =
+    IfOk-from_err c.from_residual-in_err-pairs.result _ c.from_residual-in_err-pairs.ensures.0
+
+pub returns-in_err-pairs-clause-frame : goal.returns-in_err-pairs-clause-frame
+returns-in_err-pairs-clause-frame g c =
+    IfOk-from_err c.from_residual-in_err-pairs.result _ c.from_residual-in_err-pairs.ensures.0

@@ -1,0 +1,80 @@
+use Rattle.std.proofs.Common.{arith, ℕ, List, ap, ◌∙◌, ◌||◌, take_all, ◌≡◌, get_or, nat_eq, sym}
+use Rattle.std.proofs.lemmas.Result.{IfOk-from_err}
+use Rattle.std.specs.List.{list_any}
+use Rattle.mm_spec.specs.Derivation.{is_member}
+use Rattle.mm_frame.specs.Hypotheses.{is_float_of}
+use Rattle.mm_frame.proofs.LoopsLaw.{none_so_far, any_next, float_pushed, float_closed, float_none}
+use Rattle.mm_spec.specs.Scope.{stays}
+use Rattle.mm_outline.specs.Blocks.{never}
+use Rattle.std.proofs.lemmas.Bool.{ne_eqb, eq-eqb}
+use Rattle.mm_frame.proofs.hypotheses.add_floats.Goals.{then-floating+then-is_open+in_ok-push, then-floating+else-is_open, else-floating}
+use Rattle.mm_frame.proofs.hypotheses.add_floats.Goals as goal
+
+pub returns-in_err-push : goal.returns-in_err-push
+returns-in_err-push g c =
+    IfOk-from_err c.from_residual.result _ c.from_residual.ensures.0
+
+pub loop-symbol-init : goal.loop-symbol-init
+loop-symbol-init g c = λ j. none_so_far (is_member c.args.hyps.now.items j)
+
+pub offset_bounds-found-symbol-index : goal.offset_bounds-found-symbol-index
+offset_bounds-found-symbol-index g c = omega arith
+
+pub overflow_cast-floating : goal.overflow_cast-floating
+overflow_cast-floating g c = omega arith
+
+pub offset_bounds-typed-number : goal.offset_bounds-typed-number
+offset_bounds-typed-number g c = omega arith
+
+pub bounds-typed-number : goal.bounds-typed-number
+bounds-typed-number g c =
+    let h = c.requires.found c.loop-symbol.symbol-index c.symbol-item.result c.loop-symbol-test.true in
+    let e = c.symbol-item.is in
+    let m = c.number.ensures in
+    let n = c.requires.typed.count in
+    omega (arith, h, e, m, n)
+
+pub is_open-requires-clause-before : goal.is_open-requires-clause-before
+is_open-requires-clause-before g c =
+    let h = c.requires.found c.loop-symbol.symbol-index c.symbol-item.result c.loop-symbol-test.true in
+    let e = c.symbol-item.is in
+    let m = c.number.ensures in
+    (c.requires.typed.some c.number.result (omega (arith, h, e, m)) c.if-floating.true).0
+
+pub is_open-requires-clause-within : goal.is_open-requires-clause-within
+is_open-requires-clause-within g c = c.requires.at
+
+pub loop-symbol-preserved : goal.loop-symbol-preserved
+loop-symbol-preserved g c = λ j.
+    let db = c.args.tables.now in
+    let at = c.args.at in
+    let typed = c.args.typed.now in
+    let v = c.number.result in
+    let f = get_or typed v 0 in
+    let hs = c.loop-symbol.hyps.items in
+    let more = c.if-floating.hyps.items in
+    let is_open = stays db f at in
+    let n : is_member more j ≡ (is_member hs j || is_float_of db at typed j v) =
+    elim c.if-floating.branch [
+      then-floating+then-is_open+in_ok-push w ↦
+          float_pushed hs more f j (nat_eq f never) is_open (ne_eqb f never w.if-floating.true)
+          (sym w.is_open.ensures ∙ w.if-is_open.true)
+          (ap (λ x. x.items) w.hyps-is ∙ w.in_ok-push.ensures.items)
+      | then-floating+else-is_open w ↦
+          float_closed hs more f j (nat_eq f never) is_open
+          (sym w.is_open.ensures ∙ w.if-is_open.false) (ap (λ x. x.items) w.hyps-is)
+      | else-floating w ↦
+          float_none hs more f j (nat_eq f never) is_open (eq-eqb f never w.if-floating.false)
+          (ap (λ x. x.items) w.hyps-is)
+    ] in
+    any_next (is_float_of db at typed j) c.args.found.now c.loop-symbol.symbol-index
+    c.symbol-item.result _ _ _ c.loop-symbol-test.true (c.loop-symbol.invariant j)
+    (n ∙ ap (λ x. is_member hs j || is_float_of db at typed j x)
+    (c.number.ensures ∙ c.symbol-item.is))
+
+pub returns : goal.returns
+returns g c = λ j.
+    c.loop-symbol.invariant j
+    ∙ ap (λ (xs : List ℕ). is_member c.args.hyps.now.items j
+    || list_any (is_float_of c.args.tables.now c.args.at c.args.typed.now j) xs)
+    (take_all c.loop-symbol.symbol-index c.args.found.now c.loop-symbol-test.false)

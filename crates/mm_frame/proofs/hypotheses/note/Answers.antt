@@ -1,0 +1,53 @@
+use Rattle.std.proofs.Common.{arith, ℕ, List, ap, ◌∙◌, ◌&&◌, ◌||◌, take_all}
+use Rattle.std.proofs.lemmas.Result.{IfOk-from_err}
+use Rattle.mm_spec.specs.Derivation.{is_member}
+use Rattle.mm_spec.specs.Frame.{is_variable_number}
+use Rattle.mm_frame.proofs.LoopsLaw.{noted_none, noted_next}
+use Rattle.mm_frame.proofs.hypotheses.note.Goals as goal
+
+pub returns-in_err-mark-clause-marks : goal.returns-in_err-mark-clause-marks
+returns-in_err-mark-clause-marks g c =
+    IfOk-from_err c.from_residual.result _ c.from_residual.ensures.0
+
+pub returns-in_err-mark-clause-found : goal.returns-in_err-mark-clause-found
+returns-in_err-mark-clause-found g c =
+    IfOk-from_err c.from_residual.result _ c.from_residual.ensures.0
+
+pub loop-symbol-init : goal.loop-symbol-init
+loop-symbol-init g c = record {
+  marks = c.requires.marks;
+  found =
+      λ x. noted_none (is_member c.args.found.now.items x) (is_variable_number c.args.tables.now x);
+}
+
+pub offset_bounds-symbols-symbol-index : goal.offset_bounds-symbols-symbol-index
+offset_bounds-symbols-symbol-index g c = omega arith
+
+pub mark-requires-clause-symbol : goal.mark-requires-clause-symbol
+mark-requires-clause-symbol g c =
+    let h = c.requires.symbols c.loop-symbol.symbol-index c.symbol-item.result c.loop-symbol-test.true in
+    let e = c.symbol-item.is in
+    omega (arith, h, e)
+
+pub mark-requires-clause-marks : goal.mark-requires-clause-marks
+mark-requires-clause-marks g c = c.loop-symbol.invariant.marks
+
+pub loop-symbol-preserved : goal.loop-symbol-preserved
+loop-symbol-preserved g c = record {
+  marks = c.in_ok-mark.ensures.marks;
+  found =
+      λ x.
+      noted_next c.args.symbols.now c.loop-symbol.symbol-index c.symbol-item.result x _ _ _
+      (is_variable_number c.args.tables.now x) c.loop-symbol-test.true c.symbol-item.is
+      (c.loop-symbol.invariant.found x) (c.in_ok-mark.ensures.found x);
+}
+
+pub returns-clause-marks : goal.returns-clause-marks
+returns-clause-marks g c = c.loop-symbol.invariant.marks
+
+pub returns-clause-found : goal.returns-clause-found
+returns-clause-found g c = λ x.
+    c.loop-symbol.invariant.found x
+    ∙ ap (λ (xs : List ℕ). is_member c.args.found.now.items x
+    || (is_variable_number c.args.tables.now x && is_member xs x))
+    (take_all c.loop-symbol.symbol-index c.args.symbols.now c.loop-symbol-test.false)
