@@ -59,7 +59,7 @@ add_frame-requires-clause-typed g c =
     c.loop-k.invariant.typed
 
 pub add_frame-requires-clause-statement : goal.add_frame-requires-clause-statement
-add_frame-requires-clause-statement g c = 
+add_frame-requires-clause-statement g c =
     let t = c.loop-k-test.true in let n = c.len-count.ensures.len in omega (arith, t, n)
 
 pub add_frame-requires-clause-seen : goal.add_frame-requires-clause-seen
@@ -72,7 +72,7 @@ pub give_type-requires-clause-sound : goal.give_type-requires-clause-sound
 give_type-requires-clause-sound g c = c.len-count.ensures.sound
 
 pub give_type-requires-clause-statement : goal.give_type-requires-clause-statement
-give_type-requires-clause-statement g c = 
+give_type-requires-clause-statement g c =
     let t = c.loop-k-test.true in let n = c.len-count.ensures.len in omega (arith, t, n)
 
 pub give_type-requires-clause-typed : goal.give_type-requires-clause-typed

@@ -56,7 +56,7 @@ loop-symbol-preserved g c = λ j.
     let is_open = stays db f at in
     let n : is_member more j ≡ (is_member hs j || is_float_of db at typed j v) =
     elim c.if-floating.branch [
-      then-floating+then-is_open+in_ok-push w ↦
+      | then-floating+then-is_open+in_ok-push w ↦
           float_pushed hs more f j (nat_eq f never) is_open (ne_eqb f never w.if-floating.true)
           (sym w.is_open.ensures ∙ w.if-is_open.true)
           (ap (λ x. x.items) w.hyps-is ∙ w.in_ok-push.ensures.items)

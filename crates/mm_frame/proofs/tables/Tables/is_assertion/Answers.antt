@@ -8,7 +8,7 @@ pub offset_bounds-self-inside-statement : goal.offset_bounds-self-inside-stateme
 offset_bounds-self-inside-statement g c = omega arith
 
 pub bounds : goal.bounds
-bounds g c = 
+bounds g c =
     has_outline
     c.self.inside.text.now (tokens_of c.self.inside.text.now) c.self.inside.outlines.now
     c.args.self.now c.self.view_is c.args.statement c.requires

@@ -7,20 +7,20 @@ pub offset_bounds-self-inside-statement : goal.offset_bounds-self-inside-stateme
 offset_bounds-self-inside-statement g c = omega arith
 
 pub bounds : goal.bounds
-bounds g c = 
+bounds g c =
     has_outline
     c.self.inside.text.now (tokens_of c.self.inside.text.now) c.self.inside.outlines.now
     c.args.self.now c.self.view_is c.args.statement c.requires
 
 pub returns-in-Floating : goal.returns-in-Floating
-returns-in-Floating g c = 
+returns-in-Floating g c =
     ap floating (sym c.in-Floating.is)
     ∙ tells_floating
     c.self.inside.text.now (tokens_of c.self.inside.text.now) c.self.inside.outlines.now
     c.args.self.now c.self.view_is c.args.statement c.requires _
 
 pub returns-in_default : goal.returns-in_default
-returns-in_default g c = 
+returns-in_default g c =
     not_floating _ c.in_default.not-Floating
     ∙ tells_floating
     c.self.inside.text.now (tokens_of c.self.inside.text.now) c.self.inside.outlines.now
