@@ -4,8 +4,8 @@
 -- (`HypothesesLaw.antt`) the hypotheses. `with_disjoint` and `pairs_more` (`ChainsLaw.antt`) give the
 -- `$d` by variables, with `are_known` of `mm_database` `IsDisjointIndex`, and `pairs_are`
 -- (`DisjointLaw.antt`) the pairs.
--- (`TablesLaw.antt`: what an outline says of its statement; `SkipsLaw.antt`: the loops of `skips_of`;
--- `LoopsLaw.antt`: one more element in the loops that collect.)
+-- (`TablesLaw.antt`: what an outline says of its statement; `SkipsLaw.antt`: the loops of
+-- `skips_of`; `LoopsLaw.antt`: one more element in the loops that collect.)
 -- The loop of `frames_of` keeps `AreFramesUpTo` by `frames_more` and `frames_pass`
 -- (`FramesLaw.antt`). So `gather` has `AreFrames`.
 pub mod DisjointLaw

@@ -2,7 +2,6 @@
 use Rattle.std.proofs.Common.{◌≡◌, ℕ, ◌+◌, ◌<◌, Bool, true, false, ◌&&◌, ◌||◌, not}
 use Rattle.std.proofs.Common.{List, [], ◌∷◌, ◌++◌, length, get_or, take, nat_eq}
 use Rattle.std.proofs.Common.{refl, sym, ap, ◌∙◌, arith}
-use Rattle.std.proofs.lemmas.Bool.{eqb-true}
 use Rattle.std.proofs.lemmas.List.Folds.{list_any_more, list_any-append}
 use Rattle.std.proofs.Math.Bool.{or-false}
 use Rattle.std.specs.List.{list_any}
@@ -74,7 +73,8 @@ pub mandatory_next : (x : ℕ) (f : ℕ → List ℕ) (es : List ℕ) (i d : ℕ
     → n ≡ (v && (k || list_any (λ j. is_member (f j) x) (take (i + 1) es)))
 mandatory_next x f es i d xs n b v k h e a m =
     m ∙ ap (λ z. z || (v && is_member xs x)) a
-    ∙ ap (λ zs. (v && (k || list_any (λ j. is_member (f j) x) (take i es))) || (v && is_member zs x))
+    ∙ ap (λ zs. (v && (k || list_any (λ j. is_member (f j) x) (take i es)))
+    || (v && is_member zs x))
     e
     ∙ row v k (list_any (λ j. is_member (f j) x) (take i es)) (is_member (f (get_or es i d)) x)
     ∙ ap (λ z. v && (k || z)) (sym (list_any_more (λ j. is_member (f j) x) es i d h))
@@ -84,7 +84,8 @@ mandatory_next x f es i d xs n b v k h e a m =
     row false k t e = refl
 
 -- the floating statement of the next variable, if it is is_open
-pub float_pushed : (hs more : List ℕ) (f j : ℕ) (never is_open : Bool) → never ≡ false → is_open ≡ true
+pub float_pushed : (hs more : List ℕ) (f j : ℕ) (never is_open : Bool) → never ≡ false
+    → is_open ≡ true
     → more ≡ hs ++ f ∷ []
     → is_member more j ≡ (is_member hs j || (nat_eq j f && (not never && is_open)))
 float_pushed hs more f j never is_open n o e =

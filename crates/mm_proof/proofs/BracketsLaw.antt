@@ -2,7 +2,8 @@
 use Rattle.std.proofs.Common.{◌≡◌, ◌∙◌, ℕ, zero, suc, ◌+◌, ◌<◌, ◌≤◌, true, false, List, [], ◌∷◌}
 use Rattle.std.proofs.Common.{◌++◌, length, drop, get_or, flat_map, Some, None, bytes_eq, codes}
 use Rattle.std.proofs.Common.{refl, sym, ap, ap₂, arith}
-use Rattle.std.proofs.lemmas.List.{drop_more, append-nil}
+use Rattle.std.proofs.Common.{take}
+use Rattle.std.proofs.lemmas.List.{drop_more, append-nil, length-map, length-take-le}
 use Rattle.std.proofs.lemmas.Grind.{flat_map-append}
 use Rattle.mm_spec.specs.declared.Fault.{Fault}
 use Rattle.mm_spec.specs.declared.Word.{Word}
@@ -79,6 +80,22 @@ module _ (db : List Statement) (k end : ℕ) where
       ++ letter_faults (length (mandatory_hypotheses db k) + length labels) end (letters_of ls))
       sound
       ∙ ap (λ n. letter_faults n end (letters_of ls)) (sym many)
+
+  -- the faults of a proof whose brackets close at word n
+  pub faults_closed : (text : List ℕ) (words : List Word) (n : ℕ) (xs labels : List ℕ)
+      → n < length words → xs ≡ mandatory_hypotheses db k → length labels ≡ length xs + n
+      → bracketed (as_tokens text words)
+      ≡ closed (as_tokens text (take n words)) (as_tokens text (drop (n + 1) words))
+      → flat_map (proof_label_faults db k) (as_tokens text (take n words)) ≡ []
+      → compressed_faults db k end (bracketed (as_tokens text words))
+      ≡ letter_faults (length labels) end (letters_of (as_tokens text (drop (n + 1) words)))
+  faults_closed text words n xs labels l mandatory many is sound =
+      let m = ap length mandatory in
+      let c = length-map (take n words) (token_of text) in
+      let d = length-take-le n words (omega (arith, l)) in
+      ap (compressed_faults db k end) is
+      ∙ closed_faults (as_tokens text (take n words)) (as_tokens text (drop (n + 1) words))
+      (length labels) sound (omega (arith, many, m, c, d))
 
 -- the steps that were read, by the labels and the letters
 pub read_steps : (db : List Statement) (k : ℕ) (p : Compressed) (labels ls : List Token)

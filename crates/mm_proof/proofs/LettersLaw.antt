@@ -256,3 +256,38 @@ some_letters from end text (v ∷ ws) o l e = by (token_of text v).word o.1 e
         → ¬ (letters_from v.start w ++ letters_of (as_tokens text ws) ≡ [])
     by [] l e = absurd (omega arith)
     by (b ∷ bs) l e = cc
+
+-- a letter without a step
+pub stands_later : (s : State) (at : ℕ) → StandsAt s at → StandsAt s (at + 1)
+stands_later s at h = record { few = (let f = h.few in omega (arith, f)); earlier = h.earlier }
+
+-- a letter with a step
+pub stands_step : (s new : State) (at : ℕ) (x : PlacedStep) → StandsAt s at
+    → new ≡ state s.theorem s.labels s.marks None (s.steps ++ x ∷ []) → StandsAt new (at + 1)
+stands_step s new at x h e =
+    let l = length-append s.steps (x ∷ []) in
+    let f = h.few in
+    subst (λ n. StandsAt n (at + 1)) (sym e)
+    (record {
+      few = omega (arith, l, f);
+      earlier = λ k d lt. let e = h.earlier k d lt in omega (arith, l, e);
+    })
+
+-- the digits of letters
+pub last_digit : (byte digit : ℕ) → is_last byte ≡ true → digit ≡ byte - 64
+    → (0 < digit) × (digit ≤ 20)
+last_digit byte digit l e =
+    let p = and_parts (nat_le 65 byte) (nat_le byte 84) l in
+    let low = leb-true 65 byte p.0 in
+    let high = leb-true byte 84 p.1 in
+    (omega (arith, low, e), omega (arith, high, e))
+
+pub early_digit : (byte digit : ℕ) → is_early byte ≡ true → digit ≡ byte - 84 → digit ≤ 20
+early_digit byte digit l e =
+    let high = leb-true byte 89 (and_parts (nat_le 85 byte) (nat_le byte 89) l).1 in
+    omega (arith, high, e)
+
+-- a number that isn't there
+pub no_number : (n : Option Begun) → is_some n ≡ false → n ≡ None
+no_number None e = refl
+no_number (Some b) e = absurd (true≢false e)

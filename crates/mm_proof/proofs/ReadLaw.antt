@@ -1,17 +1,22 @@
 -- What is read of a theorem's proof, by its words.
 use Rattle.std.proofs.Common.{◌≡◌, ◌∙◌, ℕ, zero, suc, ◌<◌, true, false, List, [], ◌∷◌, length}
 use Rattle.std.proofs.Common.{Option, None, Some, slice_get, bytes_eq, codes, refl, sym, ap, arith}
-use Rattle.std.proofs.Common.{true≢false}
+use Rattle.std.proofs.Common.{true≢false, flat_map}
 use Rattle.std.specs.Option.{option_map}
 use Rattle.std.specs.List.{list_any}
 use Rattle.mm_spec.specs.Text.{Token}
 use Rattle.mm_spec.specs.Statement.{Statement, provable, proof_of}
-use Rattle.mm_spec.specs.NormalProof.{normal_faults}
-use Rattle.mm_spec.specs.CompressedProof.{bracketed, compressed_faults}
-use Rattle.mm_spec.specs.Proof.{reading_faults}
-use Rattle.mm_spec.specs.Citation.{is_theorem, reading_faults_at}
+use Rattle.mm_spec.specs.NormalProof.{normal_faults, normal_steps}
+use Rattle.mm_spec.specs.CompressedProof.{bracketed, compressed_faults, compressed_steps}
+use Rattle.mm_spec.specs.Proof.{reading_faults, steps}
+use Rattle.mm_spec.specs.Citation.{is_theorem, reading_faults_at, steps_at}
+use Rattle.mm_spec.specs.Text.{fault}
+use Rattle.mm_spec.specs.declared.Code.TheVariants.{EmptyProof}
+use Rattle.mm_proof.specs.Refused.{word_faults}
 use Rattle.mm_database.specs.Database.{last_place}
 use Rattle.mm_spec.specs.Output.{is_theorem_at}
+use Rattle.mm_spec.specs.declared.Word.{Word}
+use Rattle.mm_outline.specs.Parts.{as_tokens}
 
 -- a theorem with these words after its `$=`
 pub record IsTheorem (db : List Statement) (k : ℕ) (ps : List Token) : Type 0 where
@@ -70,3 +75,57 @@ compressed_at db k ps t first rest is e =
       | true ↦ compressed_faults db k t.dot (bracketed rest)
       | false ↦ normal_faults db k t.dot (first ∷ rest)
     ]) e
+
+-- the faults of a proof without words
+pub empty_at : (db : List Statement) (k : ℕ) (ps : List Token) (t : IsTheorem db k ps) → ps ≡ []
+    → reading_faults_at db k ≡ fault t.dot EmptyProof ∷ []
+empty_at db k ps t is =
+    ap (λ o. elim o [ Some (provable l p xs a qs d) ↦ reading_faults db k d qs | _ ↦ [] ]) t.is
+    ∙ ap (reading_faults db k t.dot) is
+
+-- those of a normal proof
+pub normal_at : (db : List Statement) (k : ℕ) (ps : List Token) (t : IsTheorem db k ps)
+    → (first : Token) (rest : List Token)
+    → ps ≡ first ∷ rest → bytes_eq first.word (codes "(") ≡ false
+    → reading_faults_at db k ≡ flat_map (word_faults db k) ps
+normal_at db k ps t first rest is e =
+    ap (λ o. elim o [ Some (provable l p xs a qs d) ↦ reading_faults db k d qs | _ ↦ [] ]) t.is
+    ∙ ap (reading_faults db k t.dot) is
+    ∙ ap (λ b. elim b [
+      | true ↦ compressed_faults db k t.dot (bracketed rest)
+      | false ↦ normal_faults db k t.dot (first ∷ rest)
+    ]) e
+    ∙ ap (flat_map (word_faults db k)) (sym is)
+
+-- the steps of a proof
+theorem_steps : (db : List Statement) (k : ℕ) (ps : List Token) (t : IsTheorem db k ps)
+    → steps_at db k ≡ steps db k ps
+theorem_steps db k ps t =
+    ap (λ o. elim o [ Some (provable l p xs a qs d) ↦ steps db k qs | _ ↦ [] ]) t.is
+
+pub compressed_steps_at : (db : List Statement) (k : ℕ) (ps : List Token) (t : IsTheorem db k ps)
+    → (first : Token) (rest : List Token)
+    → ps ≡ first ∷ rest → bytes_eq first.word (codes "(") ≡ true
+    → steps_at db k ≡ compressed_steps db k (bracketed rest)
+compressed_steps_at db k ps t first rest is e =
+    theorem_steps db k ps t ∙ ap (steps db k) is
+    ∙ ap (λ b. elim b [
+      | true ↦ compressed_steps db k (bracketed rest)
+      | false ↦ normal_steps db k (first ∷ rest)
+    ]) e
+
+pub normal_steps_at : (db : List Statement) (k : ℕ) (ps : List Token) (t : IsTheorem db k ps)
+    → (first : Token) (rest : List Token)
+    → ps ≡ first ∷ rest → bytes_eq first.word (codes "(") ≡ false
+    → steps_at db k ≡ normal_steps db k ps
+normal_steps_at db k ps t first rest is e =
+    theorem_steps db k ps t ∙ ap (steps db k) is
+    ∙ ap (λ b. elim b [
+      | true ↦ compressed_steps db k (bracketed rest)
+      | false ↦ normal_steps db k (first ∷ rest)
+    ]) e
+    ∙ ap (normal_steps db k) (sym is)
+
+pub no_words : (text : List ℕ) (ws : List Word) → length ws ≡ 0 → as_tokens text ws ≡ []
+no_words text [] e = refl
+no_words text (w ∷ ws) e = absurd (omega (arith, e))

@@ -1,4 +1,5 @@
-use Rattle.std.proofs.Common.{◌≡◌, ◌∙◌, ◌+◌, ◌-◌, ◌<◌, ℕ, List, length, get_or, refl, sym, ap, arith, replicate}
+use Rattle.std.proofs.Common.{◌≡◌, ◌∙◌, ◌+◌, ◌-◌, ◌<◌, ℕ, List, length, get_or, refl, sym, ap}
+use Rattle.std.proofs.Common.{arith, replicate}
 use Rattle.std.proofs.lemmas.List.{length-replicate, get_or-replicate}
 use Rattle.mm_frame.proofs.ChainsLaw.{none_yet, linked_none, same_chains, with_disjoint}
 use Rattle.mm_frame.proofs.ChainsLaw.{without_disjoint, symbol_below}
@@ -79,7 +80,8 @@ formula-requires g c =
 
 pub add_links-requires-clause-symbols : goal.add_links-requires-clause-symbols
 add_links-requires-clause-symbols g c = λ i d l.
-    let h = c.formula.ensures.known i d l in let n = c.loop-left.invariant.count in omega (arith, h, n)
+    let h = c.formula.ensures.known i d l in
+    let n = c.loop-left.invariant.count in omega (arith, h, n)
 
 pub add_links-requires-clause-linked : goal.add_links-requires-clause-linked
 add_links-requires-clause-linked g c = c.loop-left.invariant.linked
@@ -116,16 +118,20 @@ returns-in_err-heads-clause-chains g c =
 
 pub returns-in_err-add_links-clause-count : goal.returns-in_err-add_links-clause-count
 returns-in_err-add_links-clause-count g c =
-    IfOk-from_err c.from_residual-in_err-add_links.result _ c.from_residual-in_err-add_links.ensures.0
+    IfOk-from_err c.from_residual-in_err-add_links.result _
+    c.from_residual-in_err-add_links.ensures.0
 
 pub returns-in_err-add_links-clause-all : goal.returns-in_err-add_links-clause-all
 returns-in_err-add_links-clause-all g c =
-    IfOk-from_err c.from_residual-in_err-add_links.result _ c.from_residual-in_err-add_links.ensures.0
+    IfOk-from_err c.from_residual-in_err-add_links.result _
+    c.from_residual-in_err-add_links.ensures.0
 
 pub returns-in_err-add_links-clause-linked : goal.returns-in_err-add_links-clause-linked
 returns-in_err-add_links-clause-linked g c =
-    IfOk-from_err c.from_residual-in_err-add_links.result _ c.from_residual-in_err-add_links.ensures.0
+    IfOk-from_err c.from_residual-in_err-add_links.result _
+    c.from_residual-in_err-add_links.ensures.0
 
 pub returns-in_err-add_links-clause-chains : goal.returns-in_err-add_links-clause-chains
 returns-in_err-add_links-clause-chains g c =
-    IfOk-from_err c.from_residual-in_err-add_links.result _ c.from_residual-in_err-add_links.ensures.0
+    IfOk-from_err c.from_residual-in_err-add_links.result _
+    c.from_residual-in_err-add_links.ensures.0

@@ -49,8 +49,10 @@ returns-in_err-pairs-clause-are g c =
 
 pub returns-in_err-add_chain-clause-rising : goal.returns-in_err-add_chain-clause-rising
 returns-in_err-add_chain-clause-rising g c =
-    IfOk-from_err c.from_residual-in_err-add_chain.result _ c.from_residual-in_err-add_chain.ensures.0
+    IfOk-from_err c.from_residual-in_err-add_chain.result _
+    c.from_residual-in_err-add_chain.ensures.0
 
 pub returns-in_err-add_chain-clause-are : goal.returns-in_err-add_chain-clause-are
 returns-in_err-add_chain-clause-are g c =
-    IfOk-from_err c.from_residual-in_err-add_chain.result _ c.from_residual-in_err-add_chain.ensures.0
+    IfOk-from_err c.from_residual-in_err-add_chain.result _
+    c.from_residual-in_err-add_chain.ensures.0

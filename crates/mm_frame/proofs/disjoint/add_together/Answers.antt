@@ -1,4 +1,4 @@
-use Rattle.std.proofs.Common.{arith, ℕ, List, ap, ◌∙◌, ◌&&◌, ◌||◌, take_all, nat_eq, nat_lt}
+use Rattle.std.proofs.Common.{ℕ, List, ap, ◌∙◌, ◌&&◌, ◌||◌, take_all, nat_eq, nat_lt}
 use Rattle.std.proofs.lemmas.Result.{IfOk-from_err}
 use Rattle.std.specs.List.{list_any}
 use Rattle.mm_database.specs.Pairs.{has_pair}

@@ -1,4 +1,5 @@
-use Rattle.std.proofs.Common.{◌∙◌, ℕ, ◌≤◌, ◌&&◌, ◌||◌, List, length, map, nat_eq, nat_lt, ap, arith, subst, sym}
+use Rattle.std.proofs.Common.{◌∙◌, ℕ, ◌≤◌, ◌&&◌, ◌||◌, List, length, map, nat_eq, nat_lt, ap, arith}
+use Rattle.std.proofs.Common.{subst, sym}
 use Rattle.std.specs.List.{list_any}
 use Rattle.mm_spec.specs.Derivation.{pair, is_member}
 use Rattle.mm_database.specs.DisjointIndex.{is_live}
@@ -47,4 +48,5 @@ returns-in_err-add_all_active g c =
 
 pub returns-in_err-add_together : goal.returns-in_err-add_together
 returns-in_err-add_together g c =
-    IfOk-from_err c.from_residual-in_err-add_together.result _ c.from_residual-in_err-add_together.ensures.0
+    IfOk-from_err c.from_residual-in_err-add_together.result _
+    c.from_residual-in_err-add_together.ensures.0

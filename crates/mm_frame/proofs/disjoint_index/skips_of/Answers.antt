@@ -16,7 +16,8 @@ loop-first-smaller g c =
     let i = c.loop-first.invariant.0 in
     let t = c.loop-first-test.true in
     let s =
-    skip_read c.args.blocks.now c.args.pairs.now at c.loop-at.skips.items c.loop-at.invariant (first - 1)
+    skip_read c.args.blocks.now c.args.pairs.now at c.loop-at.skips.items c.loop-at.invariant
+    (first - 1)
     c.index-first.result.now _ (omega (arith, i, t)) c.index-first.ensures in
     let l = s.0 in
     omega (arith, l, t)
@@ -30,12 +31,14 @@ loop-first-preserved g c =
     let t = c.loop-first-test.true in
     covers_before c.args.blocks.now c.args.pairs.now first at c.index-first.result.now t l i.1
     (sym c.is_covered.ensures ∙ c.if-is_covered.true)
-    (skip_read c.args.blocks.now c.args.pairs.now at c.loop-at.skips.items c.loop-at.invariant (first - 1)
+    (skip_read c.args.blocks.now c.args.pairs.now at c.loop-at.skips.items c.loop-at.invariant
+    (first - 1)
     c.index-first.result.now _ (omega (arith, l, t)) c.index-first.ensures)
 
 pub loop-at-preserved : goal.loop-at-preserved
 loop-at-preserved g c =
-    skips_more c.args.blocks.now c.args.pairs.now c.loop-at.at c.loop-first.first c.loop-at.skips.items
+    skips_more c.args.blocks.now c.args.pairs.now c.loop-at.at c.loop-first.first
+    c.loop-at.skips.items
     c.loop-at.invariant c.loop-first.invariant c.push.new.self.items c.in_ok-push.ensures.items
 
 pub returns-in_err-push : goal.returns-in_err-push

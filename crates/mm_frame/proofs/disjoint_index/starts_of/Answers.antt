@@ -1,5 +1,6 @@
 use Rattle.std.proofs.Common.{subst, sym, arith}
-use Rattle.mm_database.proofs.StartsLaw.{StartsTo, starts_none, starts_more, starts_next, starts_all}
+use Rattle.mm_database.proofs.StartsLaw.{StartsTo, starts_none, starts_more, starts_next}
+use Rattle.mm_database.proofs.StartsLaw.{starts_all}
 use Rattle.std.proofs.lemmas.Result.{IfOk-from_err}
 use Rattle.mm_frame.proofs.disjoint_index.starts_of.Goals as goal
 

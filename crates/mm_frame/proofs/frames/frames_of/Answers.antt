@@ -95,4 +95,5 @@ returns-in_err-filled g c =
 
 pub returns-in_err-add_frame : goal.returns-in_err-add_frame
 returns-in_err-add_frame g c =
-    IfOk-from_err c.from_residual-in_err-add_frame.result _ c.from_residual-in_err-add_frame.ensures.0
+    IfOk-from_err c.from_residual-in_err-add_frame.result _
+    c.from_residual-in_err-add_frame.ensures.0

@@ -7,7 +7,8 @@ use Rattle.mm_frame.proofs.LoopsLaw.{none_so_far, any_next, float_pushed, float_
 use Rattle.mm_spec.specs.Scope.{stays}
 use Rattle.mm_outline.specs.Blocks.{never}
 use Rattle.std.proofs.lemmas.Bool.{ne_eqb, eq-eqb}
-use Rattle.mm_frame.proofs.hypotheses.add_floats.Goals.{then-floating+then-is_open+in_ok-push, then-floating+else-is_open, else-floating}
+use Rattle.mm_frame.proofs.hypotheses.add_floats.Goals.{then-floating+then-is_open+in_ok-push}
+use Rattle.mm_frame.proofs.hypotheses.add_floats.Goals.{then-floating+else-is_open, else-floating}
 use Rattle.mm_frame.proofs.hypotheses.add_floats.Goals as goal
 
 pub returns-in_err-push : goal.returns-in_err-push
@@ -28,7 +29,8 @@ offset_bounds-typed-number g c = omega arith
 
 pub bounds-typed-number : goal.bounds-typed-number
 bounds-typed-number g c =
-    let h = c.requires.found c.loop-symbol.symbol-index c.symbol-item.result c.loop-symbol-test.true in
+    let h = c.requires.found c.loop-symbol.symbol-index c.symbol-item.result
+    c.loop-symbol-test.true in
     let e = c.symbol-item.is in
     let m = c.number.ensures in
     let n = c.requires.typed.count in
@@ -36,7 +38,8 @@ bounds-typed-number g c =
 
 pub is_open-requires-clause-before : goal.is_open-requires-clause-before
 is_open-requires-clause-before g c =
-    let h = c.requires.found c.loop-symbol.symbol-index c.symbol-item.result c.loop-symbol-test.true in
+    let h = c.requires.found c.loop-symbol.symbol-index c.symbol-item.result
+    c.loop-symbol-test.true in
     let e = c.symbol-item.is in
     let m = c.number.ensures in
     (c.requires.typed.some c.number.result (omega (arith, h, e, m)) c.if-floating.true).0

@@ -68,11 +68,13 @@ returns-clause-marks g c = c.in_ok-mandatory.ensures.marks
 pub returns-clause-found : goal.returns-clause-found
 returns-clause-found g c = c.in_ok-mandatory.ensures.found
 
-pub returns-in_err-active_essentials-clause-marks : goal.returns-in_err-active_essentials-clause-marks
+pub returns-in_err-active_essentials-clause-marks :
+    goal.returns-in_err-active_essentials-clause-marks
 returns-in_err-active_essentials-clause-marks g c =
     IfOk-from_err c.from_residual.result _ c.from_residual.ensures.0
 
-pub returns-in_err-active_essentials-clause-found : goal.returns-in_err-active_essentials-clause-found
+pub returns-in_err-active_essentials-clause-found :
+    goal.returns-in_err-active_essentials-clause-found
 returns-in_err-active_essentials-clause-found g c =
     IfOk-from_err c.from_residual.result _ c.from_residual.ensures.0
 
@@ -82,24 +84,30 @@ returns-in_err-active_essentials-clause-hyps g c =
 
 pub returns-in_err-mandatory-clause-marks : goal.returns-in_err-mandatory-clause-marks
 returns-in_err-mandatory-clause-marks g c =
-    IfOk-from_err c.from_residual-in_err-mandatory.result _ c.from_residual-in_err-mandatory.ensures.0
+    IfOk-from_err c.from_residual-in_err-mandatory.result _
+    c.from_residual-in_err-mandatory.ensures.0
 
 pub returns-in_err-mandatory-clause-found : goal.returns-in_err-mandatory-clause-found
 returns-in_err-mandatory-clause-found g c =
-    IfOk-from_err c.from_residual-in_err-mandatory.result _ c.from_residual-in_err-mandatory.ensures.0
+    IfOk-from_err c.from_residual-in_err-mandatory.result _
+    c.from_residual-in_err-mandatory.ensures.0
 
 pub returns-in_err-mandatory-clause-hyps : goal.returns-in_err-mandatory-clause-hyps
 returns-in_err-mandatory-clause-hyps g c =
-    IfOk-from_err c.from_residual-in_err-mandatory.result _ c.from_residual-in_err-mandatory.ensures.0
+    IfOk-from_err c.from_residual-in_err-mandatory.result _
+    c.from_residual-in_err-mandatory.ensures.0
 
 pub returns-in_err-add_floats-clause-marks : goal.returns-in_err-add_floats-clause-marks
 returns-in_err-add_floats-clause-marks g c =
-    IfOk-from_err c.from_residual-in_err-add_floats.result _ c.from_residual-in_err-add_floats.ensures.0
+    IfOk-from_err c.from_residual-in_err-add_floats.result _
+    c.from_residual-in_err-add_floats.ensures.0
 
 pub returns-in_err-add_floats-clause-found : goal.returns-in_err-add_floats-clause-found
 returns-in_err-add_floats-clause-found g c =
-    IfOk-from_err c.from_residual-in_err-add_floats.result _ c.from_residual-in_err-add_floats.ensures.0
+    IfOk-from_err c.from_residual-in_err-add_floats.result _
+    c.from_residual-in_err-add_floats.ensures.0
 
 pub returns-in_err-add_floats-clause-hyps : goal.returns-in_err-add_floats-clause-hyps
 returns-in_err-add_floats-clause-hyps g c =
-    IfOk-from_err c.from_residual-in_err-add_floats.result _ c.from_residual-in_err-add_floats.ensures.0
+    IfOk-from_err c.from_residual-in_err-add_floats.result _
+    c.from_residual-in_err-add_floats.ensures.0

@@ -71,7 +71,8 @@ offset_bounds-essentials-essential-index g c = omega arith
 pub overflow_add-assertion-in-loop-essential : goal.overflow_add-assertion-in-loop-essential
 overflow_add-assertion-in-loop-essential g c = omega arith
 
-pub note-requires-in-loop-essential-clause-symbols : goal.note-requires-in-loop-essential-clause-symbols
+pub note-requires-in-loop-essential-clause-symbols :
+    goal.note-requires-in-loop-essential-clause-symbols
 note-requires-in-loop-essential-clause-symbols g c = c.formula-in-loop-essential.ensures.known
 
 pub note-requires-in-loop-essential-clause-marks : goal.note-requires-in-loop-essential-clause-marks

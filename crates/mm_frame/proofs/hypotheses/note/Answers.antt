@@ -25,7 +25,8 @@ offset_bounds-symbols-symbol-index g c = omega arith
 
 pub mark-requires-clause-symbol : goal.mark-requires-clause-symbol
 mark-requires-clause-symbol g c =
-    let h = c.requires.symbols c.loop-symbol.symbol-index c.symbol-item.result c.loop-symbol-test.true in
+    let h = c.requires.symbols c.loop-symbol.symbol-index c.symbol-item.result
+    c.loop-symbol-test.true in
     let e = c.symbol-item.is in
     omega (arith, h, e)
 

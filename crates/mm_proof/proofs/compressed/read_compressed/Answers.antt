@@ -1,9 +1,18 @@
-use Rattle.std.proofs.Common.{◌∙◌, ◌+◌, ◌++◌, ap, ap₂, take, drop, flat_map}
+use Rattle.std.proofs.Common.{◌∙◌, ◌+◌, ◌++◌, ap, ap₂, take, drop, flat_map, None, [], sym, arith}
+use Rattle.std.proofs.Common.{subst, ◌≤◌, length}
 use Rattle.std.proofs.lemmas.List.{take_rest}
 use Rattle.mm_spec.specs.CompressedProof.{bracketed}
 use Rattle.mm_spec.specs.NormalProof.{usable}
 use Rattle.mm_outline.specs.Parts.{as_tokens}
-use Rattle.mm_proof.proofs.BracketsLaw.{order_drop, read_steps}
+use Rattle.mm_proof.proofs.BracketsLaw.{order_drop, read_steps, faults_closed}
+use Rattle.std.proofs.lemmas.Result.{IfOk-from_err}
+use Rattle.mm_proof.proofs.LettersLaw.{err_same}
+use Rattle.mm_proof.specs.declared.refused.ProofRefused.TheVariants.{Memory}
+use Rattle.mm_proof.specs.Letters.{state}
+use Rattle.mm_proof.specs.Refused.{StartsWith}
+use Rattle.mm_spec.specs.Citation.{is_theorem}
+use Rattle.mm_outline.proofs.StatementsLaw.{is_there}
+use Rattle.std.proofs.lemmas.List.Elements.{All-drop}
 use Rattle.mm_proof.proofs.compressed.read_compressed.Goals as goal
 
 pub read_all-requires-clause-in_order : goal.read_all-requires-clause-in_order
@@ -34,3 +43,110 @@ returns-clause-steps g c =
     (as_tokens text (take n words))
     (as_tokens text (drop (n + 1) words)) c.read_labels.new.labels.items _ _
     c.in_ok-count.ensures.closed labels theorem steps
+
+pub returns-in_err-extend_from_slice-clause-fault :
+    goal.returns-in_err-extend_from_slice-clause-fault
+returns-in_err-extend_from_slice-clause-fault g c =
+    err_same c.from_residual.result Memory _ c.from_residual.ensures.1 tt
+
+pub returns-in_err-extend_from_slice-clause-sound :
+    goal.returns-in_err-extend_from_slice-clause-sound
+returns-in_err-extend_from_slice-clause-sound g c =
+    IfOk-from_err c.from_residual.result _ c.from_residual.ensures.0
+
+pub returns-in_err-extend_from_slice-clause-steps :
+    goal.returns-in_err-extend_from_slice-clause-steps
+returns-in_err-extend_from_slice-clause-steps g c =
+    IfOk-from_err c.from_residual.result _ c.from_residual.ensures.0
+
+pub returns-in_err-count-clause-sound : goal.returns-in_err-count-clause-sound
+returns-in_err-count-clause-sound g c =
+    IfOk-from_err c.from_residual-in_err-count.result _ c.from_residual-in_err-count.ensures.0
+
+pub returns-in_err-count-clause-steps : goal.returns-in_err-count-clause-steps
+returns-in_err-count-clause-steps g c =
+    IfOk-from_err c.from_residual-in_err-count.result _ c.from_residual-in_err-count.ensures.0
+
+pub returns-in_err-read_all-clause-sound : goal.returns-in_err-read_all-clause-sound
+returns-in_err-read_all-clause-sound g c =
+    IfOk-from_err c.from_residual-in_err-read_all.result _ c.from_residual-in_err-read_all.ensures.0
+
+pub returns-in_err-read_all-clause-steps : goal.returns-in_err-read_all-clause-steps
+returns-in_err-read_all-clause-steps g c =
+    IfOk-from_err c.from_residual-in_err-read_all.result _ c.from_residual-in_err-read_all.ensures.0
+
+pub returns-in_err-count-clause-fault : goal.returns-in_err-count-clause-fault
+returns-in_err-count-clause-fault g c =
+    err_same c.from_residual-in_err-count.result c.in_err-count.field-0.0 _
+    c.from_residual-in_err-count.ensures.1
+    c.in_err-count.ensures.fault
+
+pub returns-clause-fault : goal.returns-clause-fault
+returns-clause-fault g c = tt
+
+pub read_labels-requires-clause-within : goal.read_labels-requires-clause-within
+read_labels-requires-clause-within g c = c.requires.within
+
+pub read_all-requires-clause-none : goal.read_all-requires-clause-none
+read_all-requires-clause-none g c =
+    c.none-progress.ensures
+    ∙ sym (ap (λ s. state s.theorem s.labels [] None []) c.none-progress.ensures)
+
+pub offset_bounds-words-count : goal.offset_bounds-words-count
+offset_bounds-words-count g c =
+    let s = c.in_ok-count.ensures.some in omega (arith, s)
+
+pub overflow_add-rest : goal.overflow_add-rest
+overflow_add-rest g c =
+    let s = c.in_ok-count.ensures.some in omega (arith, s)
+
+pub slice_bounds-rest-count : goal.slice_bounds-rest-count
+slice_bounds-rest-count g c =
+    let s = c.in_ok-count.ensures.some in omega (arith, s)
+
+pub slice_bounds-rest-end : goal.slice_bounds-rest-end
+slice_bounds-rest-end g c =
+    let s = c.in_ok-count.ensures.some in omega (arith, s)
+
+pub slice_bounds-rest-start : goal.slice_bounds-rest-start
+slice_bounds-rest-start g c =
+    let s = c.in_ok-count.ensures.some in omega (arith, s)
+
+pub returns-clause-sound : goal.returns-clause-sound
+returns-clause-sound g c =
+    let hypotheses =
+    c.in_ok-extend_from_slice.ensures.items
+    ∙ ap₂ (λ xs ys. xs ++ ys) c.with_room-labels.ensures
+    (c.as_slice.ensures.value ∙ c.frame.ensures.hypotheses) in
+    faults_closed c.args.database.now.statements c.args.theorem c.args.end c.args.database.now.text
+    c.args.words.now c.in_ok-count.count c.extend_from_slice.new.self.items
+    c.read_labels.new.labels.items c.in_ok-count.ensures.some hypotheses
+    c.in_ok-count.ensures.many c.in_ok-count.ensures.closed c.in_ok-count.ensures.sound
+    ∙ rw (c.none-progress.ensures, c.text.ensures, take_rest) at c.in_ok-read_all.ensures.sound
+
+pub returns-in_err-read_all-clause-fault : goal.returns-in_err-read_all-clause-fault
+returns-in_err-read_all-clause-fault g c =
+    let hypotheses =
+    c.in_ok-extend_from_slice.ensures.items
+    ∙ ap₂ (λ xs ys. xs ++ ys) c.with_room-labels.ensures
+    (c.as_slice.ensures.value ∙ c.frame.ensures.hypotheses) in
+    let faults =
+    faults_closed c.args.database.now.statements c.args.theorem c.args.end c.args.database.now.text
+    c.args.words.now c.in_ok-count.count c.extend_from_slice.new.self.items
+    c.read_labels.new.labels.items c.in_ok-count.ensures.some hypotheses
+    c.in_ok-count.ensures.many c.in_ok-count.ensures.closed c.in_ok-count.ensures.sound in
+    let fault =
+    rw (c.none-progress.ensures, c.text.ensures, take_rest) at c.in_err-read_all.ensures.fault in
+    err_same c.from_residual-in_err-read_all.result c.in_err-read_all.field-0.0 _
+    c.from_residual-in_err-read_all.ensures.1
+    (subst (λ fs. StartsWith fs c.in_err-read_all.field-0.0) (sym faults) fault)
+
+pub read_labels-requires-clause-theorem : goal.read_labels-requires-clause-theorem
+read_labels-requires-clause-theorem g c =
+    is_there is_theorem c.args.database.now.statements c.args.theorem c.requires.theorem
+
+pub read_all-requires-clause-within : goal.read_all-requires-clause-within
+read_all-requires-clause-within g c =
+    rw (c.text.ensures, take_rest)
+    (All-drop (λ w. (w.start ≤ w.end) × (w.end ≤ length c.args.database.now.text))
+    (c.in_ok-count.count + 1) c.args.words.now c.requires.within)

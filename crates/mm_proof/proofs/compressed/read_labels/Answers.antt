@@ -1,11 +1,14 @@
 use Rattle.std.proofs.Common.{◌≡◌, ◌∙◌, ◌+◌, ap, ap₂, sym, take, drop, get_or, bytes_eq, codes}
-use Rattle.std.proofs.Common.{slice_range, false, []}
+use Rattle.std.proofs.Common.{slice_range, false, [], arith, length}
 use Rattle.mm_spec.specs.declared.Word.{Word}
 use Rattle.mm_spec.specs.CompressedProof.{bracketed, compressed_faults}
 use Rattle.mm_spec.specs.NormalProof.{usable}
 use Rattle.mm_outline.specs.Parts.{as_tokens, token_of}
 use Rattle.mm_proof.proofs.BracketsLaw.{after, label_first, brackets_first, tokens_more}
 use Rattle.mm_proof.proofs.BracketsLaw.{tokens_end}
+use Rattle.std.proofs.lemmas.Result.{IfOk-from_err}
+use Rattle.mm_proof.proofs.LettersLaw.{err_same}
+use Rattle.mm_proof.specs.declared.refused.ProofRefused.TheVariants.{Memory}
 use Rattle.mm_proof.proofs.compressed.read_labels.Goals as goal
 
 pub returns-in-None-clause-fault : goal.returns-in-None-clause-fault
@@ -47,3 +50,88 @@ returns-clause-fault g c =
           ∙ ap (λ ts. after done (bracketed ts)) (tokens_end text words n c.loop-n-test.false))
           ∙ brackets_first db c.args.theorem c.args.end done c.loop-n.invariant.sound,
     )
+
+pub returns-in-None-clause-closed : goal.returns-in-None-clause-closed
+returns-in-None-clause-closed g c = tt
+
+pub returns-in-None-clause-labels : goal.returns-in-None-clause-labels
+returns-in-None-clause-labels g c = tt
+
+pub returns-in-None-clause-many : goal.returns-in-None-clause-many
+returns-in-None-clause-many g c = tt
+
+pub returns-in-None-clause-some : goal.returns-in-None-clause-some
+returns-in-None-clause-some g c = tt
+
+pub returns-in-None-clause-sound : goal.returns-in-None-clause-sound
+returns-in-None-clause-sound g c = tt
+
+pub returns-clause-closed : goal.returns-clause-closed
+returns-clause-closed g c = tt
+
+pub returns-clause-labels : goal.returns-clause-labels
+returns-clause-labels g c = tt
+
+pub returns-clause-many : goal.returns-clause-many
+returns-clause-many g c = tt
+
+pub returns-clause-some : goal.returns-clause-some
+returns-clause-some g c = tt
+
+pub returns-clause-sound : goal.returns-clause-sound
+returns-clause-sound g c = tt
+
+pub returns-in_err-push-in-Some-clause-closed : goal.returns-in_err-push-in-Some-clause-closed
+returns-in_err-push-in-Some-clause-closed g c =
+    IfOk-from_err c.from_residual.result _ c.from_residual.ensures.0
+
+pub returns-in_err-push-in-Some-clause-labels : goal.returns-in_err-push-in-Some-clause-labels
+returns-in_err-push-in-Some-clause-labels g c =
+    IfOk-from_err c.from_residual.result _ c.from_residual.ensures.0
+
+pub returns-in_err-push-in-Some-clause-many : goal.returns-in_err-push-in-Some-clause-many
+returns-in_err-push-in-Some-clause-many g c =
+    IfOk-from_err c.from_residual.result _ c.from_residual.ensures.0
+
+pub returns-in_err-push-in-Some-clause-some : goal.returns-in_err-push-in-Some-clause-some
+returns-in_err-push-in-Some-clause-some g c =
+    IfOk-from_err c.from_residual.result _ c.from_residual.ensures.0
+
+pub returns-in_err-push-in-Some-clause-sound : goal.returns-in_err-push-in-Some-clause-sound
+returns-in_err-push-in-Some-clause-sound g c =
+    IfOk-from_err c.from_residual.result _ c.from_residual.ensures.0
+
+pub returns-in_err-push-in-Some-clause-fault : goal.returns-in_err-push-in-Some-clause-fault
+returns-in_err-push-in-Some-clause-fault g c =
+    err_same c.from_residual.result Memory _ c.from_residual.ensures.1 tt
+
+pub returns-then-eq-clause-fault : goal.returns-then-eq-clause-fault
+returns-then-eq-clause-fault g c = tt
+
+pub returns-then-eq-clause-some : goal.returns-then-eq-clause-some
+returns-then-eq-clause-some g c = c.loop-n-test.true
+
+pub returns-then-eq-clause-many : goal.returns-then-eq-clause-many
+returns-then-eq-clause-many g c = c.loop-n.invariant.many
+
+pub returns-then-eq-clause-labels : goal.returns-then-eq-clause-labels
+returns-then-eq-clause-labels g c = c.loop-n.invariant.labels
+
+pub returns-then-eq-clause-sound : goal.returns-then-eq-clause-sound
+returns-then-eq-clause-sound g c = c.loop-n.invariant.sound
+
+pub bounds-words-n : goal.bounds-words-n
+bounds-words-n g c = omega arith
+
+pub offset_bounds-words-n : goal.offset_bounds-words-n
+offset_bounds-words-n g c = omega arith
+
+pub bytes-label-requires-clause-order : goal.bytes-label-requires-clause-order
+bytes-label-requires-clause-order g c = (c.requires.within c.loop-n.n _ c.loop-n-test.true).0
+
+pub bytes-label-requires-clause-within : goal.bytes-label-requires-clause-within
+bytes-label-requires-clause-within g c =
+    let none : Word = record { start = 0; end = 0 } in
+    let w = (c.requires.within c.loop-n.n none c.loop-n-test.true).1 in
+    let e = ap length c.text-text.ensures in
+    omega (arith, w, e)

@@ -1,11 +1,14 @@
 use Rattle.std.proofs.Common.{◌≡◌, ap, ap₂, sym, ◌∙◌, true, false, get_or, bytes_eq, codes}
-use Rattle.std.proofs.Common.{slice_range}
+use Rattle.std.proofs.Common.{slice_range, arith}
 use Rattle.mm_spec.specs.Text.{fault}
 use Rattle.mm_spec.specs.NormalProof.{usable}
 use Rattle.mm_spec.specs.declared.Word.{Word}
 use Rattle.mm_spec.specs.declared.Code.TheVariants.{IncompleteProof, UnusableLabel}
 use Rattle.mm_outline.specs.Parts.{token_of}
 use Rattle.mm_proof.proofs.LeastLaw.{faulty_word, question_fault, label_fault}
+use Rattle.std.proofs.lemmas.Result.{IfOk-from_err}
+use Rattle.mm_proof.proofs.LettersLaw.{err_same}
+use Rattle.mm_proof.specs.declared.refused.ProofRefused.TheVariants.{Memory}
 use Rattle.mm_proof.proofs.reader.read_words.Goals as goal
 
 pub returns-then-eq-clause-fault : goal.returns-then-eq-clause-fault
@@ -37,3 +40,36 @@ returns-in-None-clause-fault g c =
     c.args.theorem (fault w.start UnusableLabel) c.requires.rising c.loop-word.invariant.faults
     (label_fault db c.args.theorem (token_of text w) test
     (ap (usable db c.args.theorem) (sym label) ∙ c.in-None.ensures)))
+
+pub returns-in-None-clause-ok : goal.returns-in-None-clause-ok
+returns-in-None-clause-ok g c = tt
+
+pub returns-in-None-clause-steps : goal.returns-in-None-clause-steps
+returns-in-None-clause-steps g c = tt
+
+pub returns-then-eq-clause-ok : goal.returns-then-eq-clause-ok
+returns-then-eq-clause-ok g c = tt
+
+pub returns-then-eq-clause-steps : goal.returns-then-eq-clause-steps
+returns-then-eq-clause-steps g c = tt
+
+pub returns-clause-fault : goal.returns-clause-fault
+returns-clause-fault g c = tt
+
+pub returns-in_err-push-in-Some-clause-ok : goal.returns-in_err-push-in-Some-clause-ok
+returns-in_err-push-in-Some-clause-ok g c =
+    IfOk-from_err c.from_residual.result _ c.from_residual.ensures.0
+
+pub returns-in_err-push-in-Some-clause-steps : goal.returns-in_err-push-in-Some-clause-steps
+returns-in_err-push-in-Some-clause-steps g c =
+    IfOk-from_err c.from_residual.result _ c.from_residual.ensures.0
+
+pub returns-in_err-push-in-Some-clause-fault : goal.returns-in_err-push-in-Some-clause-fault
+returns-in_err-push-in-Some-clause-fault g c =
+    err_same c.from_residual.result Memory _ c.from_residual.ensures.1 tt
+
+pub bounds-words-word-index : goal.bounds-words-word-index
+bounds-words-word-index g c = omega arith
+
+pub offset_bounds-words-word-index : goal.offset_bounds-words-word-index
+offset_bounds-words-word-index g c = omega arith

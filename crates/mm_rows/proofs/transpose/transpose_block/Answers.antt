@@ -64,7 +64,8 @@ mark_columns-requires-clause-narrow c =
     let w = c.requires.width in let f = c.requires.table.few_columns in omega (arith, w, f)
 
 pub mark_columns-requires-clause-size : goal.mark_columns-requires-clause-size
-mark_columns-requires-clause-size c = c.requires.table.size ∙ ap (λ n. c.args.rows * n) (sym c.requires.width)
+mark_columns-requires-clause-size c =
+    c.requires.table.size ∙ ap (λ n. c.args.rows * n) (sym c.requires.width)
 
 pub write_columns-requires-clause-block : goal.write_columns-requires-clause-block
 write_columns-requires-clause-block c = c.requires.block

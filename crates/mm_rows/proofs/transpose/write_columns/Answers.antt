@@ -1,7 +1,8 @@
 use Rattle.std.proofs.Common.{ℕ, ◌≡◌, ◌<◌, ◌≤◌, ◌+◌, ◌*◌, arith, subst, length, ap, sym, ◌∙◌}
 use Rattle.mm_rows.specs.Bits.{words_for}
 use Rattle.mm_rows.specs.Blocks.{AreRowBytes, Written}
-use Rattle.mm_rows.proofs.BlockLaw.{lane_is_word, written_word, written_zero, written_zeros, word_in_row}
+use Rattle.mm_rows.proofs.BlockLaw.{lane_is_word, written_word, written_zero, written_zeros}
+use Rattle.mm_rows.proofs.BlockLaw.{word_in_row}
 use Rattle.mm_rows.proofs.transpose.write_columns.Goals as goal
 use Rattle.mm_rows.proofs.transpose.write_columns.Goals.{then-word-ne0, else-word-ne0}
 
@@ -110,7 +111,8 @@ row_bytes-bytes-requires-clause-narrow c =
     let f = c.requires.table.few_columns in let d = c.div_ceil.ensures in omega (arith, f, d)
 
 pub row_bytes-bytes-requires-clause-size : goal.row_bytes-bytes-requires-clause-size
-row_bytes-bytes-requires-clause-size c = c.requires.table.size ∙ ap (λ n. c.args.rows * n) (sym c.div_ceil.ensures)
+row_bytes-bytes-requires-clause-size c =
+    c.requires.table.size ∙ ap (λ n. c.args.rows * n) (sym c.div_ceil.ensures)
 
 pub row_bytes-bytes-requires-clause-within : goal.row_bytes-bytes-requires-clause-within
 row_bytes-bytes-requires-clause-within c =

@@ -13,7 +13,8 @@ pub overflow_cast-rows : goal.overflow_cast-rows
 overflow_cast-rows g c = omega arith
 
 pub fill_waves-requires-clause-theorems : goal.fill_waves-requires-clause-theorems
-fill_waves-requires-clause-theorems g c = λ κs h. c.in_ok-theorems.ensures ∙ c.theorems.ensures.theorems
+fill_waves-requires-clause-theorems g c =
+    λ κs h. c.in_ok-theorems.ensures ∙ c.theorems.ensures.theorems
 
 pub fill_waves-requires-clause-waves : goal.fill_waves-requires-clause-waves
 fill_waves-requires-clause-waves g c = λ κs h.
@@ -38,4 +39,5 @@ returns-in_err-resize g c =
 
 pub returns-in_err-fill_waves : goal.returns-in_err-fill_waves
 returns-in_err-fill_waves g c =
-    IfOk-from_err c.from_residual-in_err-fill_waves.result _ c.from_residual-in_err-fill_waves.ensures.0
+    IfOk-from_err c.from_residual-in_err-fill_waves.result _
+    c.from_residual-in_err-fill_waves.ensures.0

@@ -62,4 +62,5 @@ returns-in_err-rows g c =
 
 pub returns-in_err-fill_wave : goal.returns-in_err-fill_wave
 returns-in_err-fill_wave g c =
-    IfOk-from_err c.from_residual-in_err-fill_wave.result _ c.from_residual-in_err-fill_wave.ensures.0
+    IfOk-from_err c.from_residual-in_err-fill_wave.result _
+    c.from_residual-in_err-fill_wave.ensures.0

@@ -1,4 +1,5 @@
 use Rattle.std.proofs.Common.{◌≡◌, ◌∙◌, ◌+◌, [], ap, sym, subst, length, drop, is_some, true, false}
+use Rattle.std.proofs.Common.{arith}
 use Rattle.mm_spec.specs.CompressedProof.{letters_of, letter_faults, groups, group_faults}
 use Rattle.mm_spec.specs.CompressedProof.{group_steps}
 use Rattle.mm_outline.specs.Parts.{as_tokens}
@@ -10,6 +11,7 @@ use Rattle.mm_proof.specs.Refused.{StartsWith}
 use Rattle.std.proofs.lemmas.List.{drop_more}
 use Rattle.mm_proof.proofs.LettersLaw.{err_same, whole, fault_first, open_fault, no_fault, all_read}
 use Rattle.mm_proof.proofs.LettersLaw.{all_steps, some_letters}
+use Rattle.std.proofs.lemmas.Result.{IfOk-from_err}
 use Rattle.mm_proof.proofs.letters.Progress.read_all.Goals as goal
 
 pub returns-in_err-begun-clause-fault : goal.returns-in_err-begun-clause-fault
@@ -84,3 +86,53 @@ returns-clause-sound g c =
     let number : is_some c.loop-word.begun ≡ false = sym c.is_some.ensures ∙ c.if-is_some.false in
     subst (λ ls. letter_faults (length ls) c.args.end all ≡ []) c.loop-word.invariant.labels
     (no_fault (with_number c.loop-word.self c.loop-word.begun) c.args.end all number some last)
+
+pub returns-in_err-begun-clause-sound : goal.returns-in_err-begun-clause-sound
+returns-in_err-begun-clause-sound g c =
+    IfOk-from_err c.from_residual.result _ c.from_residual.ensures.0
+
+pub returns-in_err-begun-clause-steps : goal.returns-in_err-begun-clause-steps
+returns-in_err-begun-clause-steps g c =
+    IfOk-from_err c.from_residual.result _ c.from_residual.ensures.0
+
+pub returns-in_err-begun-clause-theorem : goal.returns-in_err-begun-clause-theorem
+returns-in_err-begun-clause-theorem g c =
+    IfOk-from_err c.from_residual.result _ c.from_residual.ensures.0
+
+pub returns-then-is_empty-clause-sound : goal.returns-then-is_empty-clause-sound
+returns-then-is_empty-clause-sound g c = tt
+
+pub returns-then-is_empty-clause-steps : goal.returns-then-is_empty-clause-steps
+returns-then-is_empty-clause-steps g c = tt
+
+pub returns-then-is_empty-clause-theorem : goal.returns-then-is_empty-clause-theorem
+returns-then-is_empty-clause-theorem g c = tt
+
+pub returns-then-is_some-clause-sound : goal.returns-then-is_some-clause-sound
+returns-then-is_some-clause-sound g c = tt
+
+pub returns-then-is_some-clause-steps : goal.returns-then-is_some-clause-steps
+returns-then-is_some-clause-steps g c = tt
+
+pub returns-then-is_some-clause-theorem : goal.returns-then-is_some-clause-theorem
+returns-then-is_some-clause-theorem g c = tt
+
+pub returns-clause-fault : goal.returns-clause-fault
+returns-clause-fault g c = tt
+
+pub returns-clause-theorem : goal.returns-clause-theorem
+returns-clause-theorem g c = c.loop-word.invariant.theorem
+
+pub bounds-words-word-index : goal.bounds-words-word-index
+bounds-words-word-index g c = omega arith
+
+pub offset_bounds-words-word-index : goal.offset_bounds-words-word-index
+offset_bounds-words-word-index g c = omega arith
+
+pub read_word-requires-clause-order : goal.read_word-requires-clause-order
+read_word-requires-clause-order g c =
+    (c.requires.within c.loop-word.word-index _ c.loop-word-test.true).0
+
+pub read_word-requires-clause-within : goal.read_word-requires-clause-within
+read_word-requires-clause-within g c =
+    (c.requires.within c.loop-word.word-index _ c.loop-word-test.true).1
