@@ -1,6 +1,6 @@
-use Rattle.std.proofs.Common.{sym, subst}
-use Rattle.mm_rules.specs.Rules.{Lists, AreRules, rule_stretches}
+use Rattle.std.proofs.Common.{arith, sym, subst}
 use Rattle.mm_rule.specs.Rule.{Compiled, IsCompiled}
+use Rattle.mm_rules.specs.Rules.{Lists, AreRules, rule_stretches}
 use Rattle.mm_rules.proofs.RulesLaw.{added_at}
 use Rattle.mm_rules.proofs.rules.Rules.add.Goals as goal
 
@@ -23,3 +23,6 @@ returns g c =
     f.ensures.start f.ensures.end
     (subst (λ (z : Compiled). IsCompiled k z) (sym c.rule.view_is) c.requires.rule)
     (subst (λ (z : Lists). AreRules k z) (sym c.self.view_is) c.requires.rules)
+
+pub overflow_cast-rule-inside : goal.overflow_cast-rule-inside
+overflow_cast-rule-inside g c = omega arith
