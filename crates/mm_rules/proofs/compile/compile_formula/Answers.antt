@@ -1,4 +1,5 @@
 use Rattle.std.proofs.Common.{arith, subst, sym, ap, ◌∙◌, map, ◌≡◌, true, ◌++◌}
+use Rattle.std.proofs.lemmas.Result.{IfOk-from_err}
 use Rattle.std.proofs.lemmas.List.{take_all}
 use Rattle.mm_spec.specs.Frame.{formula_at, is_variable_number}
 use Rattle.mm_spec.specs.Citation.{context_at}
@@ -36,3 +37,6 @@ returns g c = let k = c.args.db.now.statements in
     c.loop-s.invariant
     ∙ ap (λ z. c.args.parts.now.items ++ parts_of k hs z)
     (take_all c.loop-s.s-index c.args.formula.now c.loop-s-test.false)
+
+pub returns-in_err-push : goal.returns-in_err-push
+returns-in_err-push g c = IfOk-from_err c.from_residual.result _ c.from_residual.ensures.0

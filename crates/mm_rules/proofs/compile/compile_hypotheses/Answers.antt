@@ -1,5 +1,6 @@
 use Rattle.std.proofs.Common.{◌≡◌, ◌<◌, ◌+◌, ◌++◌, ◌∷◌, [], All, map, take, get_or, length, sym, ap}
 use Rattle.std.proofs.Common.{◌∙◌, subst, arith, length-append}
+use Rattle.std.proofs.lemmas.Result.{IfOk-from_err}
 use Rattle.std.proofs.lemmas.List.{take_all, get_or_default, length-map}
 use Rattle.std.proofs.lemmas.List.Elements.{All-append}
 use Rattle.mm_spec.specs.Frame.{formula_at}
@@ -124,3 +125,56 @@ returns-clause-within g c = c.loop-j.invariant.within
 
 pub returns-clause-parts : goal.returns-clause-parts
 returns-clause-parts g c = c.loop-j.invariant.below
+
+pub returns-in_err-push-clause-hypotheses : goal.returns-in_err-push-clause-hypotheses
+returns-in_err-push-clause-hypotheses g c =
+    IfOk-from_err c.from_residual.result _ c.from_residual.ensures.0
+
+pub returns-in_err-push-clause-count : goal.returns-in_err-push-clause-count
+returns-in_err-push-clause-count g c =
+    IfOk-from_err c.from_residual.result _ c.from_residual.ensures.0
+
+pub returns-in_err-push-clause-within : goal.returns-in_err-push-clause-within
+returns-in_err-push-clause-within g c =
+    IfOk-from_err c.from_residual.result _ c.from_residual.ensures.0
+
+pub returns-in_err-push-clause-parts : goal.returns-in_err-push-clause-parts
+returns-in_err-push-clause-parts g c =
+    IfOk-from_err c.from_residual.result _ c.from_residual.ensures.0
+
+pub returns-in_err-compile_formula-clause-hypotheses :
+    goal.returns-in_err-compile_formula-clause-hypotheses
+returns-in_err-compile_formula-clause-hypotheses g c =
+    IfOk-from_err c.from_residual-in_err-compile_formula.result _
+    c.from_residual-in_err-compile_formula.ensures.0
+
+pub returns-in_err-compile_formula-clause-count : goal.returns-in_err-compile_formula-clause-count
+returns-in_err-compile_formula-clause-count g c =
+    IfOk-from_err c.from_residual-in_err-compile_formula.result _
+    c.from_residual-in_err-compile_formula.ensures.0
+
+pub returns-in_err-compile_formula-clause-within : goal.returns-in_err-compile_formula-clause-within
+returns-in_err-compile_formula-clause-within g c =
+    IfOk-from_err c.from_residual-in_err-compile_formula.result _
+    c.from_residual-in_err-compile_formula.ensures.0
+
+pub returns-in_err-compile_formula-clause-parts : goal.returns-in_err-compile_formula-clause-parts
+returns-in_err-compile_formula-clause-parts g c =
+    IfOk-from_err c.from_residual-in_err-compile_formula.result _
+    c.from_residual-in_err-compile_formula.ensures.0
+
+pub returns-in_err-push-2-clause-hypotheses : goal.returns-in_err-push-2-clause-hypotheses
+returns-in_err-push-2-clause-hypotheses g c =
+    IfOk-from_err c.from_residual-in_err-push-2.result _ c.from_residual-in_err-push-2.ensures.0
+
+pub returns-in_err-push-2-clause-count : goal.returns-in_err-push-2-clause-count
+returns-in_err-push-2-clause-count g c =
+    IfOk-from_err c.from_residual-in_err-push-2.result _ c.from_residual-in_err-push-2.ensures.0
+
+pub returns-in_err-push-2-clause-within : goal.returns-in_err-push-2-clause-within
+returns-in_err-push-2-clause-within g c =
+    IfOk-from_err c.from_residual-in_err-push-2.result _ c.from_residual-in_err-push-2.ensures.0
+
+pub returns-in_err-push-2-clause-parts : goal.returns-in_err-push-2-clause-parts
+returns-in_err-push-2-clause-parts g c =
+    IfOk-from_err c.from_residual-in_err-push-2.result _ c.from_residual-in_err-push-2.ensures.0

@@ -1,6 +1,6 @@
 use Rattle.std.proofs.Common.{refl, arith, ◌++◌, map, sym, ap, ◌∙◌, subst}
 use Rattle.std.specs.List.{AllByRecursion}
-use Rattle.std.proofs.lemmas.Result.{on_ok_weaker}
+use Rattle.std.proofs.lemmas.Result.{IfOk-from_err, on_ok_weaker}
 use Rattle.mm_spec.specs.Derivation.{Pair}
 use Rattle.mm_spec.specs.Frame.{formula_at, mandatory_pairs, mandatory_hypotheses}
 use Rattle.mm_spec.specs.Citation.{context_at, is_assertion}
@@ -90,3 +90,24 @@ compile_formula-requires-clause-bound g c =
     (subst (λ h. AreBound (context_at k 0) (map (formula_at k) h) f) (sym c.hyps-hyps.ensures.are)
     (subst (AreBound (context_at k 0) (map (formula_at k) (mandatory_hypotheses k c.args.k)))
     (sym c.formula.ensures.formula) c.requires.complete.formula))
+
+pub returns-in_err-compile_hypotheses-clause-assertion :
+    goal.returns-in_err-compile_hypotheses-clause-assertion
+returns-in_err-compile_hypotheses-clause-assertion g c =
+    IfOk-from_err c.from_residual.result _ c.from_residual.ensures.0
+
+pub returns-in_err-compile_hypotheses-clause-made :
+    goal.returns-in_err-compile_hypotheses-clause-made
+returns-in_err-compile_hypotheses-clause-made g c =
+    IfOk-from_err c.from_residual.result _ c.from_residual.ensures.0
+
+pub returns-in_err-compile_pairs-clause-assertion :
+    goal.returns-in_err-compile_pairs-clause-assertion
+returns-in_err-compile_pairs-clause-assertion g c =
+    IfOk-from_err c.from_residual-in_err-compile_pairs.result _
+    c.from_residual-in_err-compile_pairs.ensures.0
+
+pub returns-in_err-compile_pairs-clause-made : goal.returns-in_err-compile_pairs-clause-made
+returns-in_err-compile_pairs-clause-made g c =
+    IfOk-from_err c.from_residual-in_err-compile_pairs.result _
+    c.from_residual-in_err-compile_pairs.ensures.0
