@@ -1,6 +1,6 @@
 -- The lists of symbols grow and are cut, and the entries stay.
 use Rattle.std.proofs.Common.{◌≡◌, ℕ, zero, suc, ◌-◌, ◌<◌, ◌≤◌, List, [], ◌∷◌, ◌++◌, length, take}
-use Rattle.std.proofs.Common.{drop, get_or, refl, ap, ap₂, ◌∙◌, arith, All}
+use Rattle.std.proofs.Common.{drop, get_or, slice_range, refl, ap, ap₂, ◌∙◌, arith, All}
 use Rattle.std.proofs.Common.{length-append}
 use Rattle.std.specs.List.{AllByRecursion}
 use Rattle.std.proofs.lemmas.List.{drop_at, take_all, take_at}
@@ -148,3 +148,9 @@ replaced_known n a es f ho hk hf = go f (recursion_from_All (IsKnown n) f hf)
 pub written : {X : Type 0} (new old : List X) (n : ℕ) → length new ≡ n
     → take n (new ++ drop (length new) old) ≡ new
 written new old n h = take_at new (drop (length new) old) n h
+
+-- a stretch of entries that are in the arena
+pub stretch_in : (a : Arena) (es : List Span) (from to : ℕ) → All (IsIn a) es
+    → All (IsIn a) (slice_range es from to)
+stretch_in a es from to h =
+    All-take (IsIn a) (to - from) (drop from es) (All-drop (IsIn a) from es h)

@@ -1,6 +1,8 @@
 -- Parts with their variables replaced are as long as their beginning and more.
 use Rattle.std.proofs.Common.{◌≡◌, ℕ, zero, suc, ◌+◌, ◌<◌, ◌≤◌, List, [], ◌∷◌, length, take, get_or}
-use Rattle.std.proofs.Common.{ap, ◌∙◌, arith, length-append}
+use Rattle.std.proofs.Common.{◌++◌, ap, ◌∙◌, arith, length-append, append-nil}
+use Rattle.std.proofs.lemmas.List.{take_more}
+use Rattle.std.proofs.lemmas.List.Concat.{flat_map-append}
 use Rattle.mm_machine.specs.declared.arena.Span.{Span}
 use Rattle.mm_rule.specs.declared.rule.Part.{Part}
 use Rattle.mm_machine.specs.Arena.{Arena}
@@ -23,3 +25,10 @@ module _ (a : Arena) (es : List Span) where
         length-append (told a es q)
             (replaced a es (take i f)),
       )
+
+  pub replaced_more : (f : List Part) (i : ℕ) (d : Part) → i < length f
+      → replaced a es (take (i + 1) f) ≡ replaced a es (take i f) ++ told a es (get_or f i d)
+  replaced_more f i d h =
+      ap (replaced a es) (take_more f i d h)
+      ∙ flat_map-append (told a es) (take i f) (get_or f i d ∷ [])
+      ∙ ap (λ z. replaced a es (take i f) ++ z) (append-nil (told a es (get_or f i d)))

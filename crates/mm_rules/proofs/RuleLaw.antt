@@ -1,9 +1,9 @@
 -- Rules as they are made.
 use Rattle.std.proofs.Common.{◌≡◌, ℕ, suc, ◌+◌, ◌-◌, ◌<◌, Bool, true, false, List, [], ◌∷◌, ◌++◌}
-use Rattle.std.proofs.Common.{length, take, map, get_or, slice_range, refl, sym, ap, ap₂, ◌∙◌}
-use Rattle.std.proofs.Common.{subst, arith, All, cond, length-append}
+use Rattle.std.proofs.Common.{length, drop, take, map, get_or, slice_range, refl, sym, ap, ap₂, ◌∙◌}
+use Rattle.std.proofs.Common.{subst, arith, All, cond, length-append, append_assoc}
 use Rattle.std.specs.List.{AllByRecursion}
-use Rattle.std.proofs.lemmas.List.{take_more, take_all, drop_at, length-map}
+use Rattle.std.proofs.lemmas.List.{take_more, take_all, take_at, drop_at, length-map}
 use Rattle.std.proofs.lemmas.List.Elements.{All-from_recursion, recursion_from_All}
 use Rattle.mm_spec.specs.Statement.{Statement}
 use Rattle.mm_spec.specs.Derivation.{Formula, Pair}
@@ -19,7 +19,7 @@ use Rattle.mm_rule.specs.declared.rule.Stretch.{Stretch}
 use Rattle.mm_rule.specs.Rule.{first, parts_of, hypothesis_parts, all_parts, IsHypothesisIn}
 use Rattle.mm_rule.specs.Rule.{IsBelow, IsKnown}
 use Rattle.mm_rule.specs.Rule.{compiled, IsCompiled}
-use Rattle.mm_rules.specs.Rules.{AreCovered, ArePairs}
+use Rattle.mm_rules.specs.Rules.{AreCovered, ArePairs, AreFirstNumbers}
 use Rattle.mm_rule.specs.Assertions.{paired}
 use Rattle.mm_rule.specs.Assertions.{is_assertion_at}
 use Rattle.mm_rule.proofs.FirstLaw.{first_below}
@@ -34,6 +34,15 @@ map_push f (y ∷ xs) x = ap (λ z. f y ∷ z) (map_push f xs x)
 pub map_take_more : {X Y : Type 0} (f : X → Y) (xs : List X) (i : ℕ) (d : X) → i < length xs
     → map f (take (i + 1) xs) ≡ map f (take i xs) ++ f (get_or xs i d) ∷ []
 map_take_more f xs i d h = ap (map f) (take_more xs i d h) ∙ map_push f (take i xs) (get_or xs i d)
+
+-- the same for a list that is what it was at the start, and what came of the elements so far
+pub map_more_after : {X Y : Type 0} (f : X → Y) (xs : List X) (i : ℕ) (d : X)
+    → (start old new : List Y) (y : Y) → i < length xs → old ≡ start ++ map f (take i xs)
+    → new ≡ old ++ y ∷ [] → y ≡ f (get_or xs i d) → new ≡ start ++ map f (take (i + 1) xs)
+map_more_after f xs i d start old new y inside was is here =
+    is ∙ ap₂ (λ u z. u ++ z ∷ []) was here
+    ∙ append_assoc start (map f (take i xs)) (f (get_or xs i d) ∷ [])
+    ∙ ap (λ z. start ++ z) (sym (map_take_more f xs i d inside))
 
 all_parts_push : (parts : List Part) (n : ℕ) (xs : List Hypothesis) (a : Hypothesis)
     → all_parts parts n (xs ++ a ∷ [])
@@ -270,3 +279,10 @@ module _ (k : List Statement) (a : ℕ) (is : is_assertion_at k a ≡ true)
       (λ (p : ℕ × ℕ). (first k (map (formula_at k) h) p.0, first k (map (formula_at k) h) p.1))
       from) hyps_is pairs_made)
       (subst (λ h. formula ≡ parts_of k (map (formula_at k) h) f) hyps_is formula_made)
+
+-- the numbers in a list to which they were written back
+pub numbered : (k : List Statement) (hs : List Formula) (new old : List ℕ) (n : ℕ) (now : List ℕ)
+    → now ≡ take n (new ++ drop (length new) old) → length new ≡ n → AreFirstNumbers k hs new
+    → AreFirstNumbers k hs now
+numbered k hs new old n now is long placed =
+    subst (AreFirstNumbers k hs) (sym (is ∙ take_at new (drop (length new) old) n long)) placed

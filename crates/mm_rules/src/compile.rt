@@ -312,7 +312,6 @@ impl<A: Allocator> RuleCompiler<A> {
             &mut self.parts,
         )?;
         compile_pairs(db, hyps, &self.numbers, pairs(db, k), &mut self.pairs)?;
-        compile_formula(db, hyps, &self.numbers, db.formula(k), &mut self.formula)?;
-        Ok(())
+        compile_formula(db, hyps, &self.numbers, db.formula(k), &mut self.formula)
     }
 }

@@ -1,5 +1,6 @@
 use Rattle.std.proofs.Common.{rules, ◌≡◌, suc, ◌-◌, ◌<◌, ◌||◌, ◌++◌, false, length, take, drop}
 use Rattle.std.proofs.Common.{take_at, replicate, refl, sym, ap, ◌∙◌, subst, arith}
+use Rattle.std.proofs.lemmas.Result.{IfOk-from_err}
 use Rattle.std.proofs.lemmas.Bool.{or_left}
 use Rattle.std.proofs.lemmas.List.{get_or_default}
 use Rattle.mm_spec.specs.Citation.{context_at}
@@ -100,3 +101,10 @@ returns g c =
     c.loop-i.waiting.items c.loop-i.wanted.items c.loop-i.noted
     (subst (λ n. Walked c.args.db.now.statements c.args.theorem c.args.steps.now.steps n
     c.loop-i.waiting.items c.loop-i.wanted.items c.loop-i.noted) none c.loop-i.invariant)
+
+pub returns-in_err-restart : goal.returns-in_err-restart
+returns-in_err-restart g c = IfOk-from_err c.from_residual.result _ c.from_residual.ensures.0
+
+pub returns-in_err-undo : goal.returns-in_err-undo
+returns-in_err-undo g c =
+    IfOk-from_err c.from_residual-in_err-undo.result _ c.from_residual-in_err-undo.ensures.0

@@ -1,9 +1,14 @@
-use Rattle.std.proofs.Common.{◌≡◌, ◌+◌, ◌<◌, ◌≤◌, length, take, sym, ap, ◌∙◌, arith, length-append}
+use Rattle.std.proofs.Common.{◌≡◌, ◌+◌, ◌<◌, ◌≤◌, ◌++◌, length, nat_le, take, sym, ap, ap₂, ◌∙◌}
+use Rattle.std.proofs.Common.{arith, length-append}
+use Rattle.std.proofs.lemmas.Result.{IfOk-from_err}
 use Rattle.std.proofs.lemmas.Bool.{lt-leb}
+use Rattle.std.proofs.lemmas.List.{take_all}
 use Rattle.mm_spec.specs.Limits.{formula_limit}
 use Rattle.mm_machine.specs.Arena.{text_of}
 use Rattle.mm_machine.specs.Replaced.{told, replaced}
-use Rattle.mm_machine.proofs.LongerLaw.{longer}
+use Rattle.mm_machine.proofs.LongerLaw.{longer, replaced_more}
+use Rattle.mm_machine.proofs.arena.build.Goals.{in-Variable+in_ok-append_text-in-Variable+else-len-gt-FORMULA_LIMIT}
+use Rattle.mm_machine.proofs.arena.build.Goals.{in-Constant+in_ok-push-in-Constant}
 use Rattle.mm_machine.proofs.arena.build.Goals as goal
 
 pub returns-then-len-gt-FORMULA_LIMIT-clause-short :
@@ -25,3 +30,73 @@ returns-then-len-gt-FORMULA_LIMIT-clause-short g c =
     ∙ ap (λ z. length z + length u) c.loop-part.invariant in
     sym (lt-leb (length (replaced xs es f)) formula_limit
     (omega (arith, l, m, c.len.ensures, c.if-len-gt-FORMULA_LIMIT.true)))
+
+pub offset_bounds-formula-part-index : goal.offset_bounds-formula-part-index
+offset_bounds-formula-part-index g c = omega arith
+
+pub span_of-requires-clause-premises : goal.span_of-requires-clause-premises
+span_of-requires-clause-premises g c = c.requires.premises
+
+pub text-requires : goal.text-requires
+text-requires g c = c.span_of.ensures.inside
+
+pub returns-then-len-gt-FORMULA_LIMIT-clause-made :
+    goal.returns-then-len-gt-FORMULA_LIMIT-clause-made
+returns-then-len-gt-FORMULA_LIMIT-clause-made g c = λ e. absurd (cc)
+
+pub loop-part-preserved : goal.loop-part-preserved
+loop-part-preserved g c =
+    let xs = c.args.symbols.now in
+    let es = c.args.premises.now in
+    let f = c.args.formula.now in
+    let i = c.loop-part.part-index in
+    let p = c.part-item.result in
+    let next : replaced xs es (take (i + 1) f) ≡ replaced xs es (take i f) ++ told xs es p =
+    replaced_more xs es f i p c.loop-part-test.true
+    ∙ ap (λ z. replaced xs es (take i f) ++ told xs es z) (sym c.part-item.is) in
+    elim c.match-part.branch [
+      | in-Variable+in_ok-append_text-in-Variable+else-len-gt-FORMULA_LIMIT w ↦
+          let is : w.text.result.now ≡ told xs es p =
+          w.text.ensures ∙ ap (text_of xs) w.span_of.ensures.span
+          ∙ sym (ap (told xs es) w.in-Variable.is) in
+          rw (w.made-is, w.in_ok-append_text-in-Variable.ensures)
+          (ap₂ (λ u v. u ++ v) c.loop-part.invariant is ∙ sym next)
+      | in-Constant+in_ok-push-in-Constant w ↦
+          rw (w.made-is, w.in_ok-push-in-Constant.ensures.items)
+          (ap₂ (λ u v. u ++ v) c.loop-part.invariant (sym (ap (told xs es) w.in-Constant.is))
+          ∙ sym next)
+    ]
+
+pub returns-clause-short : goal.returns-clause-short
+returns-clause-short g c =
+    let made : c.loop-part.made.items
+    ≡ replaced c.args.symbols.now c.args.premises.now c.args.formula.now =
+    c.loop-part.invariant ∙ ap (replaced c.args.symbols.now c.args.premises.now)
+    (take_all c.loop-part.part-index c.args.formula.now c.loop-part-test.false) in
+    ap (λ n. nat_le n formula_limit)
+    (c.len-2.ensures ∙ c.loop-part.made.ok.0 ∙ ap length made)
+
+pub returns-clause-made : goal.returns-clause-made
+returns-clause-made g c = λ short.
+    c.loop-part.invariant ∙ ap (replaced c.args.symbols.now c.args.premises.now)
+    (take_all c.loop-part.part-index c.args.formula.now c.loop-part-test.false)
+
+pub returns-in_err-append_text-in-Variable-clause-short :
+    goal.returns-in_err-append_text-in-Variable-clause-short
+returns-in_err-append_text-in-Variable-clause-short g c =
+    IfOk-from_err c.from_residual.result _ c.from_residual.ensures.0
+
+pub returns-in_err-append_text-in-Variable-clause-made :
+    goal.returns-in_err-append_text-in-Variable-clause-made
+returns-in_err-append_text-in-Variable-clause-made g c =
+    IfOk-from_err c.from_residual.result _ c.from_residual.ensures.0
+
+pub returns-in_err-push-in-Constant-clause-short : goal.returns-in_err-push-in-Constant-clause-short
+returns-in_err-push-in-Constant-clause-short g c =
+    IfOk-from_err c.from_residual-in_err-push-in-Constant.result _
+    c.from_residual-in_err-push-in-Constant.ensures.0
+
+pub returns-in_err-push-in-Constant-clause-made : goal.returns-in_err-push-in-Constant-clause-made
+returns-in_err-push-in-Constant-clause-made g c =
+    IfOk-from_err c.from_residual-in_err-push-in-Constant.result _
+    c.from_residual-in_err-push-in-Constant.ensures.0

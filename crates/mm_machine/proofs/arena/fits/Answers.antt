@@ -1,6 +1,7 @@
 use Rattle.std.proofs.Common.{◌≡◌, ◌≤◌, ◌<◌, ◌+◌, ◌-◌, ◌&&◌, true, false, sym, ap, ◌∙◌, arith}
 use Rattle.std.proofs.Common.{get_or, slice_range, nat_eq, eq-eqb, eqb-true, length, ◌∷◌, []}
 use Rattle.std.specs.List.{starts_with}
+use Rattle.std.proofs.lemmas.Grind.{common_steps}
 use Rattle.std.proofs.lemmas.List.{get_or_default}
 use Rattle.std.proofs.lemmas.Bool.{not-false}
 use Rattle.mm_machine.specs.Arena.{symbols_of, text_of}
@@ -83,3 +84,33 @@ loop-part-preserved c =
                 ∙ ap (λ z. z && rest_fits arena es xs w i a e inside 1) yes;
           })
     ]
+
+pub offset_bounds-wanted-part-index : goal.offset_bounds-wanted-part-index
+offset_bounds-wanted-part-index c = omega arith
+
+pub span_of-span-requires-clause-premises : goal.span_of-span-requires-clause-premises
+span_of-span-requires-clause-premises c = c.requires.premises
+
+pub begins-requires-clause-order : goal.begins-requires-clause-order
+begins-requires-clause-order c = c.loop-part.invariant.upto
+
+pub begins-requires-clause-within : goal.begins-requires-clause-within
+begins-requires-clause-within c = c.requires.premise.within
+
+pub begins-requires-clause-span : goal.begins-requires-clause-span
+begins-requires-clause-span c = c.span_of-span.ensures.inside
+
+pub overflow_sub-at : goal.overflow_sub-at
+overflow_sub-at c = omega arith
+
+pub overflow_add-at : goal.overflow_add-at
+overflow_add-at c = grind (arith, common_steps)
+
+pub returns-then-at-premise : goal.returns-then-at-premise
+returns-then-at-premise c = grind (arith, common_steps)
+
+pub overflow_add-at-in-Constant : goal.overflow_add-at-in-Constant
+overflow_add-at-in-Constant c = omega arith
+
+pub returns : goal.returns
+returns c = grind (arith, common_steps)

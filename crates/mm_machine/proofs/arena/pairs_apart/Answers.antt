@@ -1,6 +1,8 @@
-use Rattle.std.proofs.Common.{◌≡◌, ℕ, zero, suc, ◌<◌, Bool, ◌&&◌, false, List, [], ◌∷◌, All}
-use Rattle.std.proofs.Common.{length, subst, ap, ap₂, sym, ◌∙◌, arith, get_or}
+use Rattle.std.proofs.Common.{◌≡◌, ℕ, zero, suc, ◌<◌, Bool, ◌&&◌, false, List, [], ◌∷◌, All, length}
+use Rattle.std.proofs.Common.{subst, ap, ap₂, sym, ◌∙◌, arith, get_or}
 use Rattle.std.specs.List.{list_all}
+use Rattle.std.proofs.lemmas.Grind.{common_steps}
+use Rattle.std.proofs.lemmas.List.{take_all}
 use Rattle.std.proofs.Math.Bool.{and-false}
 use Rattle.mm_spec.specs.Derivation.{are_apart}
 use Rattle.mm_spec.specs.Citation.{context_at}
@@ -38,3 +40,47 @@ are_apart-requires-clause-second g c =
     subst (All (λ s. s < n)) (sym c.text-second.ensures)
     (text_known n c.args.symbols.now c.span_of-in-loop-pair.result c.requires.own
     c.requires.kept)
+
+pub offset_bounds-pairs-pair-index : goal.offset_bounds-pairs-pair-index
+offset_bounds-pairs-pair-index g c = omega arith
+
+pub span_of-requires-clause-premises : goal.span_of-requires-clause-premises
+span_of-requires-clause-premises g c = c.requires.premises
+
+pub text-first-requires : goal.text-first-requires
+text-first-requires g c = c.span_of.ensures.inside
+
+pub span_of-requires-in-loop-pair-clause-premises :
+    goal.span_of-requires-in-loop-pair-clause-premises
+span_of-requires-in-loop-pair-clause-premises g c = c.requires.premises
+
+pub text-second-requires : goal.text-second-requires
+text-second-requires g c = c.span_of-in-loop-pair.ensures.inside
+
+pub are_apart-requires-clause-theorem : goal.are_apart-requires-clause-theorem
+are_apart-requires-clause-theorem g c = c.requires.theorem
+
+pub are_apart-requires-clause-first : goal.are_apart-requires-clause-first
+are_apart-requires-clause-first g c = let n = length (symbol_names c.args.db.now.statements) in
+    subst (All (λ s. s < n)) (sym c.text-first.ensures)
+    (text_known n c.args.symbols.now c.span_of.result c.requires.own c.requires.kept)
+
+pub are_apart-requires-clause-apart : goal.are_apart-requires-clause-apart
+are_apart-requires-clause-apart g c = c.loop-pair.invariant.apart
+
+pub returns-then-not-are_apart-clause-apart : goal.returns-then-not-are_apart-clause-apart
+returns-then-not-are_apart-clause-apart g c = c.are_apart.ensures.apart
+
+pub loop-pair-preserved : goal.loop-pair-preserved
+loop-pair-preserved g c = grind (arith, common_steps)
+
+pub returns-clause-value : goal.returns-clause-value
+returns-clause-value g c = let k = context_at c.args.db.now.statements c.args.theorem in
+    let xs = c.args.symbols.now in
+    let es = c.args.premises.now in
+    sym (ap (list_all (λ (q : ℕ × ℕ). are_apart k (stands xs es q.0) (stands xs es q.1)))
+    (sym (take_all c.loop-pair.pair-index c.args.pairs.now c.loop-pair-test.false))
+    ∙ c.loop-pair.invariant.so_far)
+
+pub returns-clause-apart : goal.returns-clause-apart
+returns-clause-apart g c = c.loop-pair.invariant.apart

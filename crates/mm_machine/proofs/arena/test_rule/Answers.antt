@@ -1,5 +1,6 @@
 use Rattle.std.proofs.Common.{◌-◌, true, false, length, slice_range, sym, ap, ◌∙◌, arith, refl}
 use Rattle.std.proofs.lemmas.List.{take_rest}
+use Rattle.mm_machine.proofs.GrowLaw.{stretch_in}
 use Rattle.mm_machine.proofs.RuleTestLaw.{judged_at, few_at}
 use Rattle.mm_machine.proofs.arena.test_rule.Goals as goal
 
@@ -46,3 +47,48 @@ returns-clause-judged g c =
           c.pairs-pairs.ensures true true (sym c.if-not-all_fit.false ∙ c.all_fit.ensures)
           (sym c.if-not-pairs_apart.false ∙ c.pairs_apart.ensures.value),
     )
+
+pub returns-then-stack-hypotheses-clause-apart : goal.returns-then-stack-hypotheses-clause-apart
+returns-then-stack-hypotheses-clause-apart g c = c.requires.apart
+
+pub overflow_sub-below : goal.overflow_sub-below
+overflow_sub-below g c = omega arith
+
+pub offset_bounds-stack-below : goal.offset_bounds-stack-below
+offset_bounds-stack-below g c = omega arith
+
+pub slice_bounds-premises-count : goal.slice_bounds-premises-count
+slice_bounds-premises-count g c = omega arith
+
+pub slice_bounds-premises-start : goal.slice_bounds-premises-start
+slice_bounds-premises-start g c = omega arith
+
+pub slice_bounds-premises-end : goal.slice_bounds-premises-end
+slice_bounds-premises-end g c = omega arith
+
+pub all_fit-requires-clause-premises : goal.all_fit-requires-clause-premises
+all_fit-requires-clause-premises g c = stretch_in _ _ _ _ c.requires.stack
+
+pub returns-then-not-all_fit-clause-apart : goal.returns-then-not-all_fit-clause-apart
+returns-then-not-all_fit-clause-apart g c = c.requires.apart
+
+pub pairs_apart-requires-clause-theorem : goal.pairs_apart-requires-clause-theorem
+pairs_apart-requires-clause-theorem g c = c.requires.theorem
+
+pub pairs_apart-requires-clause-premises : goal.pairs_apart-requires-clause-premises
+pairs_apart-requires-clause-premises g c = stretch_in _ _ _ _ c.requires.stack
+
+pub pairs_apart-requires-clause-own : goal.pairs_apart-requires-clause-own
+pairs_apart-requires-clause-own g c = c.requires.own
+
+pub pairs_apart-requires-clause-kept : goal.pairs_apart-requires-clause-kept
+pairs_apart-requires-clause-kept g c = c.requires.kept
+
+pub pairs_apart-requires-clause-apart : goal.pairs_apart-requires-clause-apart
+pairs_apart-requires-clause-apart g c = c.requires.apart
+
+pub returns-then-not-pairs_apart-clause-apart : goal.returns-then-not-pairs_apart-clause-apart
+returns-then-not-pairs_apart-clause-apart g c = c.pairs_apart.ensures.apart
+
+pub returns-clause-apart : goal.returns-clause-apart
+returns-clause-apart g c = c.pairs_apart.ensures.apart

@@ -1,5 +1,6 @@
-use Rattle.std.proofs.Common.{◌≡◌, ◌+◌, ◌-◌, ◌++◌, length, get_or, slice_range, slice_set, sym}
-use Rattle.std.proofs.Common.{ap, ap₂, ◌∙◌, arith, rules}
+use Rattle.std.proofs.Common.{refl, ◌≡◌, ◌+◌, ◌-◌, ◌++◌, length, get_or, slice_range, slice_set}
+use Rattle.std.proofs.Common.{sym, ap, ap₂, ◌∙◌, arith, rules}
+use Rattle.std.proofs.lemmas.Result.{IfOk-from_err}
 use Rattle.std.proofs.lemmas.List.{get_or_default}
 use Rattle.mm_machine.specs.declared.arena.Store.TheVariants.{Kept}
 use Rattle.mm_machine.specs.Arena.{span, nothing}
@@ -78,3 +79,16 @@ pub returns-in_ok-append-in-Own-clause-made :
     goal.returns-in_ok-append-in-Own-clause-made
 returns-in_ok-append-in-Own-clause-made g c =
     ((moved g c).is_kept, (moved g c).on_top)
+
+pub overflow_sub-last : goal.overflow_sub-last
+overflow_sub-last g c = omega arith
+
+pub returns-in-Kept-clause-stack : goal.returns-in-Kept-clause-stack
+returns-in-Kept-clause-stack g c = c.requires.stack
+
+pub returns-in-Kept-clause-texts : goal.returns-in-Kept-clause-texts
+returns-in-Kept-clause-texts g c = refl
+
+pub returns-in_err-append-in-Own-clause-made : goal.returns-in_err-append-in-Own-clause-made
+returns-in_err-append-in-Own-clause-made g c =
+    IfOk-from_err c.from_residual.result _ c.from_residual.ensures.0

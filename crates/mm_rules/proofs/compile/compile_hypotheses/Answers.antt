@@ -1,11 +1,12 @@
 use Rattle.std.proofs.Common.{◌≡◌, ◌<◌, ◌+◌, ◌++◌, ◌∷◌, [], All, map, take, get_or, length, sym, ap}
 use Rattle.std.proofs.Common.{◌∙◌, subst, arith, length-append}
-use Rattle.std.proofs.lemmas.List.{get_or_default, length-map}
+use Rattle.std.proofs.lemmas.Result.{IfOk-from_err}
+use Rattle.std.proofs.lemmas.List.{take_all, get_or_default, length-map}
+use Rattle.std.proofs.lemmas.List.Elements.{All-append}
+use Rattle.mm_spec.specs.Frame.{formula_at}
 use Rattle.mm_rule.specs.declared.rule.Part.TheVariants.{Constant, Variable}
 use Rattle.mm_rule.specs.declared.rule.Hypothesis.TheVariants.{Floating, Essential}
 use Rattle.mm_rule.specs.declared.rule.Stretch.{Stretch}
-use Rattle.std.proofs.lemmas.List.Elements.{All-append}
-use Rattle.mm_spec.specs.Frame.{formula_at}
 use Rattle.mm_rule.specs.Rule.{parts_of, IsBelow}
 use Rattle.mm_rules.specs.Rules.{AreCovered}
 use Rattle.mm_rules.proofs.RuleLaw.{map_take_more, map_push, typed_more, typed_within}
@@ -72,3 +73,108 @@ loop-j-preserved g c =
                 (parts_below k hs f covered));
           })
     ]
+
+pub offset_bounds-hyps-j : goal.offset_bounds-hyps-j
+offset_bounds-hyps-j g c = omega arith
+
+pub bounds-hyps-j : goal.bounds-hyps-j
+bounds-hyps-j g c = omega arith
+
+pub is_first-requires-clause-width : goal.is_first-requires-clause-width
+is_first-requires-clause-width g c = c.requires.width
+
+pub is_first-requires-clause-placed : goal.is_first-requires-clause-placed
+is_first-requires-clause-placed g c = c.requires.placed
+
+pub is_first-requires-clause-known : goal.is_first-requires-clause-known
+is_first-requires-clause-known g c = c.formula-formula.ensures.known
+
+pub is_first-requires-clause-bound : goal.is_first-requires-clause-bound
+is_first-requires-clause-bound g c = let k = c.args.db.now.statements in
+    let hs = map (formula_at k) c.args.hyps.now in
+    subst (AreCovered k hs) (sym c.formula-formula.ensures.formula)
+    (c.requires.bound c.loop-j.j 0 c.loop-j-test.true)
+
+pub bounds-formula-0 : goal.bounds-formula-0
+bounds-formula-0 g c = (c.is_first.ensures c.if-is_first.true).0
+
+pub compile_formula-requires-clause-width : goal.compile_formula-requires-clause-width
+compile_formula-requires-clause-width g c = c.requires.width
+
+pub compile_formula-requires-clause-placed : goal.compile_formula-requires-clause-placed
+compile_formula-requires-clause-placed g c = c.requires.placed
+
+pub compile_formula-requires-clause-known : goal.compile_formula-requires-clause-known
+compile_formula-requires-clause-known g c = c.formula-formula.ensures.known
+
+pub compile_formula-requires-clause-bound : goal.compile_formula-requires-clause-bound
+compile_formula-requires-clause-bound g c = let k = c.args.db.now.statements in
+    let hs = map (formula_at k) c.args.hyps.now in
+    subst (AreCovered k hs) (sym c.formula-formula.ensures.formula)
+    (c.requires.bound c.loop-j.j 0 c.loop-j-test.true)
+
+pub returns-clause-hypotheses : goal.returns-clause-hypotheses
+returns-clause-hypotheses g c = let k = c.args.db.now.statements in
+    let hs = map (formula_at k) c.args.hyps.now in
+    c.loop-j.invariant.made
+    ∙ ap (λ z. map (parts_of k hs) (map (formula_at k) z))
+    (take_all c.loop-j.j c.args.hyps.now c.loop-j-test.false)
+
+pub returns-clause-within : goal.returns-clause-within
+returns-clause-within g c = c.loop-j.invariant.within
+
+pub returns-clause-parts : goal.returns-clause-parts
+returns-clause-parts g c = c.loop-j.invariant.below
+
+pub returns-in_err-push-clause-hypotheses : goal.returns-in_err-push-clause-hypotheses
+returns-in_err-push-clause-hypotheses g c =
+    IfOk-from_err c.from_residual.result _ c.from_residual.ensures.0
+
+pub returns-in_err-push-clause-count : goal.returns-in_err-push-clause-count
+returns-in_err-push-clause-count g c =
+    IfOk-from_err c.from_residual.result _ c.from_residual.ensures.0
+
+pub returns-in_err-push-clause-within : goal.returns-in_err-push-clause-within
+returns-in_err-push-clause-within g c =
+    IfOk-from_err c.from_residual.result _ c.from_residual.ensures.0
+
+pub returns-in_err-push-clause-parts : goal.returns-in_err-push-clause-parts
+returns-in_err-push-clause-parts g c =
+    IfOk-from_err c.from_residual.result _ c.from_residual.ensures.0
+
+pub returns-in_err-compile_formula-clause-hypotheses :
+    goal.returns-in_err-compile_formula-clause-hypotheses
+returns-in_err-compile_formula-clause-hypotheses g c =
+    IfOk-from_err c.from_residual-in_err-compile_formula.result _
+    c.from_residual-in_err-compile_formula.ensures.0
+
+pub returns-in_err-compile_formula-clause-count : goal.returns-in_err-compile_formula-clause-count
+returns-in_err-compile_formula-clause-count g c =
+    IfOk-from_err c.from_residual-in_err-compile_formula.result _
+    c.from_residual-in_err-compile_formula.ensures.0
+
+pub returns-in_err-compile_formula-clause-within : goal.returns-in_err-compile_formula-clause-within
+returns-in_err-compile_formula-clause-within g c =
+    IfOk-from_err c.from_residual-in_err-compile_formula.result _
+    c.from_residual-in_err-compile_formula.ensures.0
+
+pub returns-in_err-compile_formula-clause-parts : goal.returns-in_err-compile_formula-clause-parts
+returns-in_err-compile_formula-clause-parts g c =
+    IfOk-from_err c.from_residual-in_err-compile_formula.result _
+    c.from_residual-in_err-compile_formula.ensures.0
+
+pub returns-in_err-push-2-clause-hypotheses : goal.returns-in_err-push-2-clause-hypotheses
+returns-in_err-push-2-clause-hypotheses g c =
+    IfOk-from_err c.from_residual-in_err-push-2.result _ c.from_residual-in_err-push-2.ensures.0
+
+pub returns-in_err-push-2-clause-count : goal.returns-in_err-push-2-clause-count
+returns-in_err-push-2-clause-count g c =
+    IfOk-from_err c.from_residual-in_err-push-2.result _ c.from_residual-in_err-push-2.ensures.0
+
+pub returns-in_err-push-2-clause-within : goal.returns-in_err-push-2-clause-within
+returns-in_err-push-2-clause-within g c =
+    IfOk-from_err c.from_residual-in_err-push-2.result _ c.from_residual-in_err-push-2.ensures.0
+
+pub returns-in_err-push-2-clause-parts : goal.returns-in_err-push-2-clause-parts
+returns-in_err-push-2-clause-parts g c =
+    IfOk-from_err c.from_residual-in_err-push-2.result _ c.from_residual-in_err-push-2.ensures.0

@@ -1,4 +1,6 @@
-use Rattle.std.proofs.Common.{◌≡◌, ℕ, ◌++◌, ◌∷◌, [], map, get_or, sym, ap, ap₂, ◌∙◌}
+use Rattle.std.proofs.Common.{arith, ◌≡◌, ℕ, ◌++◌, ◌∷◌, [], map, get_or, sym, ap, ap₂, ◌∙◌}
+use Rattle.std.proofs.lemmas.Result.{IfOk-from_err}
+use Rattle.std.proofs.lemmas.List.{take_all}
 use Rattle.mm_spec.specs.Frame.{formula_at}
 use Rattle.mm_rule.specs.Rule.{first}
 use Rattle.mm_rules.proofs.RuleLaw.{map_take_more}
@@ -23,3 +25,15 @@ loop-p-preserved g c =
     c.in_ok-push.ensures.items
     ∙ ap₂ (λ u x. u ++ x ∷ []) c.loop-p.invariant (ap₂ (λ a b. (a, b)) low high ∙ ap f (sym at))
     ∙ sym (map_take_more f from i p c.loop-p-test.true)
+
+pub offset_bounds-from-p-index : goal.offset_bounds-from-p-index
+offset_bounds-from-p-index g c = omega arith
+
+pub returns : goal.returns
+returns g c = let k = c.args._db.now.statements in
+    let hs = map (formula_at k) c.args._hyps.now in
+    c.loop-p.invariant ∙ ap (map (λ (p : ℕ × ℕ). (first k hs p.0, first k hs p.1)))
+    (take_all c.loop-p.p-index c.args.from.now c.loop-p-test.false)
+
+pub returns-in_err-push : goal.returns-in_err-push
+returns-in_err-push g c = IfOk-from_err c.from_residual.result _ c.from_residual.ensures.0

@@ -37,3 +37,6 @@ returns-clause-frames g c =
     let tables : _ ≡ statements c.args.text.now (words_of c.args.text.now) c.args.read.now.outlines.items =
     c.new.ensures ∙ ap (statements c.args.text.now (words_of c.args.text.now)) c.deref.ensures.value in
     rw (sym tables) c.gather.ensures.frames
+
+pub new-requires-clause-few_symbols : goal.new-requires-clause-few_symbols
+new-requires-clause-few_symbols g c = c.requires.few_symbols

@@ -1,9 +1,10 @@
 use Rattle.std.proofs.Common.{ap, arith, length}
+use Rattle.std.proofs.lemmas.Result.{IfOk-from_err}
 use Rattle.mm_spec.specs.Lexed.{tokens_of as words_of}
 use Rattle.mm_outline.specs.Statements.{statements}
 use Rattle.mm_database.specs.Names.{names_of}
-use Rattle.mm_stmt.proofs.SoundLaw.{are_symbols}
 use Rattle.mm_database.proofs.HeldLaw.{symbols_held, frames_held, members_held}
+use Rattle.mm_stmt.proofs.SoundLaw.{are_symbols}
 use Rattle.mm_stmt.proofs.found.found_in.Goals as goal
 
 pub beside_of-requires-clause-symbols : goal.beside_of-requires-clause-symbols
@@ -36,3 +37,16 @@ returns g c w taken =
       frames = frames_held w db _ _ _ c.in_ok-beside.ensures.frames;
       taken = taken;
     }
+
+pub returns-in_err-variables : goal.returns-in_err-variables
+returns-in_err-variables g c = IfOk-from_err c.from_residual.result _ c.from_residual.ensures.0
+
+pub beside_of-requires-clause-sound : goal.beside_of-requires-clause-sound
+beside_of-requires-clause-sound g c = c.requires.sound
+
+pub beside_of-requires-clause-kept : goal.beside_of-requires-clause-kept
+beside_of-requires-clause-kept g c = c.requires.names
+
+pub returns-in_err-beside : goal.returns-in_err-beside
+returns-in_err-beside g c =
+    IfOk-from_err c.from_residual-in_err-beside.result _ c.from_residual-in_err-beside.ensures.0

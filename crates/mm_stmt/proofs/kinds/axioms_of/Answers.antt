@@ -1,9 +1,10 @@
-use Rattle.std.proofs.Common.{◌∙◌, ℕ, Bool, sym, Some, None, false, slice_get}
+use Rattle.std.proofs.Common.{arith, ◌∙◌, ℕ, Bool, sym, Some, None, false, slice_get}
+use Rattle.std.proofs.lemmas.Result.{IfOk-from_err}
 use Rattle.mm_outline.specs.declared.parts.Kind.TheVariants.{Constants}
 use Rattle.mm_database.specs.Kinds.{is_axiom_kind}
 use Rattle.mm_database.proofs.KindsLaw.{filter_push, filter_skip, kind_at}
-use Rattle.mm_stmt.proofs.kinds.axioms_of.Goals as goal
 use Rattle.mm_stmt.proofs.kinds.axioms_of.Goals.{then-is_axiom+in_ok-push, else-is_axiom}
+use Rattle.mm_stmt.proofs.kinds.axioms_of.Goals as goal
 
 pub loop-k-preserved : goal.loop-k-preserved
 loop-k-preserved g c =
@@ -20,3 +21,15 @@ loop-k-preserved g c =
           (filter_skip test c.loop-k.k c.loop-k.all.items c.loop-k.invariant
           (here ∙ w.if-is_axiom.false))
     ]
+
+pub overflow_cast-k-end : goal.overflow_cast-k-end
+overflow_cast-k-end g c = omega arith
+
+pub overflow_cast-k : goal.overflow_cast-k
+overflow_cast-k g c = omega arith
+
+pub bounds-kinds-k : goal.bounds-kinds-k
+bounds-kinds-k g c = omega arith
+
+pub returns-in_err-push : goal.returns-in_err-push
+returns-in_err-push g c = IfOk-from_err c.from_residual.result _ c.from_residual.ensures.0

@@ -1,4 +1,5 @@
 use Rattle.std.proofs.Common.{◌≡◌, ◌∙◌, ℕ, List, All, IsTrue, map, sym, ap, subst}
+use Rattle.std.proofs.lemmas.Result.{IfOk-from_err}
 use Rattle.mm_spec.specs.Output.{theorems, is_theorem_at, label_at}
 use Rattle.mm_spec.specs.Opened.{counted}
 use Rattle.mm_spec.proofs.OpenedLaw.{counted_label, theorem_still}
@@ -58,3 +59,82 @@ returns-clause-spaced g c =
     (ap (map (label_at db)) listed
     ∙ ap (λ (f : ℕ → List ℕ). map f (theorems (counted w db))) (sym (counted_label w db)))
     c.in_ok-spaced.ensures
+
+pub kinds_of-requires-clause-words : goal.kinds_of-requires-clause-words
+kinds_of-requires-clause-words g c = c.requires.words
+
+pub kinds_of-requires-clause-outlines : goal.kinds_of-requires-clause-outlines
+kinds_of-requires-clause-outlines g c = c.requires.outlines
+
+pub returns-in_err-kinds-clause-kinds : goal.returns-in_err-kinds-clause-kinds
+returns-in_err-kinds-clause-kinds g c =
+    IfOk-from_err c.from_residual.result _ c.from_residual.ensures.0
+
+pub returns-in_err-kinds-clause-theorems : goal.returns-in_err-kinds-clause-theorems
+returns-in_err-kinds-clause-theorems g c =
+    IfOk-from_err c.from_residual.result _ c.from_residual.ensures.0
+
+pub returns-in_err-kinds-clause-axioms : goal.returns-in_err-kinds-clause-axioms
+returns-in_err-kinds-clause-axioms g c =
+    IfOk-from_err c.from_residual.result _ c.from_residual.ensures.0
+
+pub returns-in_err-kinds-clause-spaced : goal.returns-in_err-kinds-clause-spaced
+returns-in_err-kinds-clause-spaced g c =
+    IfOk-from_err c.from_residual.result _ c.from_residual.ensures.0
+
+pub returns-in_err-theorems-clause-kinds : goal.returns-in_err-theorems-clause-kinds
+returns-in_err-theorems-clause-kinds g c =
+    IfOk-from_err c.from_residual-in_err-theorems.result _ c.from_residual-in_err-theorems.ensures.0
+
+pub returns-in_err-theorems-clause-theorems : goal.returns-in_err-theorems-clause-theorems
+returns-in_err-theorems-clause-theorems g c =
+    IfOk-from_err c.from_residual-in_err-theorems.result _ c.from_residual-in_err-theorems.ensures.0
+
+pub returns-in_err-theorems-clause-axioms : goal.returns-in_err-theorems-clause-axioms
+returns-in_err-theorems-clause-axioms g c =
+    IfOk-from_err c.from_residual-in_err-theorems.result _ c.from_residual-in_err-theorems.ensures.0
+
+pub returns-in_err-theorems-clause-spaced : goal.returns-in_err-theorems-clause-spaced
+returns-in_err-theorems-clause-spaced g c =
+    IfOk-from_err c.from_residual-in_err-theorems.result _ c.from_residual-in_err-theorems.ensures.0
+
+pub returns-in_err-axioms-clause-kinds : goal.returns-in_err-axioms-clause-kinds
+returns-in_err-axioms-clause-kinds g c =
+    IfOk-from_err c.from_residual-in_err-axioms.result _ c.from_residual-in_err-axioms.ensures.0
+
+pub returns-in_err-axioms-clause-theorems : goal.returns-in_err-axioms-clause-theorems
+returns-in_err-axioms-clause-theorems g c =
+    IfOk-from_err c.from_residual-in_err-axioms.result _ c.from_residual-in_err-axioms.ensures.0
+
+pub returns-in_err-axioms-clause-axioms : goal.returns-in_err-axioms-clause-axioms
+returns-in_err-axioms-clause-axioms g c =
+    IfOk-from_err c.from_residual-in_err-axioms.result _ c.from_residual-in_err-axioms.ensures.0
+
+pub returns-in_err-axioms-clause-spaced : goal.returns-in_err-axioms-clause-spaced
+returns-in_err-axioms-clause-spaced g c =
+    IfOk-from_err c.from_residual-in_err-axioms.result _ c.from_residual-in_err-axioms.ensures.0
+
+pub spaced_labels_of-requires-clause-words : goal.spaced_labels_of-requires-clause-words
+spaced_labels_of-requires-clause-words g c = c.requires.words
+
+pub spaced_labels_of-requires-clause-outlines : goal.spaced_labels_of-requires-clause-outlines
+spaced_labels_of-requires-clause-outlines g c = c.requires.outlines
+
+pub returns-in_err-spaced-clause-kinds : goal.returns-in_err-spaced-clause-kinds
+returns-in_err-spaced-clause-kinds g c =
+    IfOk-from_err c.from_residual-in_err-spaced.result _ c.from_residual-in_err-spaced.ensures.0
+
+pub returns-in_err-spaced-clause-theorems : goal.returns-in_err-spaced-clause-theorems
+returns-in_err-spaced-clause-theorems g c =
+    IfOk-from_err c.from_residual-in_err-spaced.result _ c.from_residual-in_err-spaced.ensures.0
+
+pub returns-in_err-spaced-clause-axioms : goal.returns-in_err-spaced-clause-axioms
+returns-in_err-spaced-clause-axioms g c =
+    IfOk-from_err c.from_residual-in_err-spaced.result _ c.from_residual-in_err-spaced.ensures.0
+
+pub returns-in_err-spaced-clause-spaced : goal.returns-in_err-spaced-clause-spaced
+returns-in_err-spaced-clause-spaced g c =
+    IfOk-from_err c.from_residual-in_err-spaced.result _ c.from_residual-in_err-spaced.ensures.0
+
+pub returns-clause-kinds : goal.returns-clause-kinds
+returns-clause-kinds g c = c.in_ok-kinds.ensures

@@ -1,21 +1,22 @@
 use Rattle.std.proofs.Common.{◌≡◌, ◌∙◌, ◌^◌, ◌<◌, List, sym, ap, subst, length, refl, arith}
+use Rattle.std.proofs.lemmas.Result.{IfOk-from_err}
 use Rattle.std.proofs.lemmas.List.{length-map}
 use Rattle.mm_spec.specs.Lexed.{tokens_of as words_of}
 use Rattle.mm_spec.specs.declared.Word.{Word}
+use Rattle.mm_spec.specs.Output.{IsRead, lexed_of}
 use Rattle.mm_outline.specs.Parts.{AreWithin, statement_of}
 use Rattle.mm_outline.specs.Statements.{statements}
 use Rattle.mm_outline.specs.Tokens.{AreTokens}
 use Rattle.mm_outline.proofs.TokensLaw.{tokens_stand, tokens_tell, tokens_small, short_text}
 use Rattle.mm_database.specs.Names.{names_of}
-use Rattle.mm_scope.proofs.NumberedLaw.{formulas_numbered}
-use Rattle.mm_frame.specs.Tables.{IsSound}
-use Rattle.mm_scope.specs.Keeps.{IsKept, kept_by, reading_of}
-use Rattle.mm_spec.specs.Output.{IsRead, lexed_of}
 use Rattle.mm_database.specs.Database.{Contents, IsDatabase, fields_of}
 use Rattle.mm_database.specs.declared.reading.Reading.{Reading}
+use Rattle.mm_database.proofs.HeldLaw.{labels_held, below_held, numbered_held}
+use Rattle.mm_scope.proofs.NumberedLaw.{formulas_numbered}
+use Rattle.mm_scope.specs.Keeps.{IsKept, kept_by, reading_of}
+use Rattle.mm_frame.specs.Tables.{IsSound}
 use Rattle.mm_stmt.specs.Found.{IsTaken}
 use Rattle.mm_stmt.proofs.AssembleLaw.{is_read, names_few, sound}
-use Rattle.mm_database.proofs.HeldLaw.{labels_held, below_held, numbered_held}
 use Rattle.mm_stmt.proofs.reader.read.Goals as goal
 
 pub outline-requires-clause-words : goal.outline-requires-clause-words
@@ -147,3 +148,67 @@ returns-clause-read g c =
     (sym c.new.ensures)
     (subst (λ (x : Reading _). IsRead (length text) (lexed_of text)
     (statements text words x.outlines.items) x.fault) (sym c.into_reading.ensures) is)
+
+pub returns-in_err-read-clause-text : goal.returns-in_err-read-clause-text
+returns-in_err-read-clause-text g c =
+    IfOk-from_err c.from_residual.result _ c.from_residual.ensures.0
+
+pub returns-in_err-read-clause-flag : goal.returns-in_err-read-clause-flag
+returns-in_err-read-clause-flag g c =
+    IfOk-from_err c.from_residual.result _ c.from_residual.ensures.0
+
+pub returns-in_err-read-clause-read : goal.returns-in_err-read-clause-read
+returns-in_err-read-clause-read g c =
+    IfOk-from_err c.from_residual.result _ c.from_residual.ensures.0
+
+pub returns-in_err-read-clause-counted : goal.returns-in_err-read-clause-counted
+returns-in_err-read-clause-counted g c =
+    IfOk-from_err c.from_residual.result _ c.from_residual.ensures.0
+
+pub returns-in_err-listed-clause-text : goal.returns-in_err-listed-clause-text
+returns-in_err-listed-clause-text g c =
+    IfOk-from_err c.from_residual-in_err-listed.result _ c.from_residual-in_err-listed.ensures.0
+
+pub returns-in_err-listed-clause-flag : goal.returns-in_err-listed-clause-flag
+returns-in_err-listed-clause-flag g c =
+    IfOk-from_err c.from_residual-in_err-listed.result _ c.from_residual-in_err-listed.ensures.0
+
+pub returns-in_err-listed-clause-read : goal.returns-in_err-listed-clause-read
+returns-in_err-listed-clause-read g c =
+    IfOk-from_err c.from_residual-in_err-listed.result _ c.from_residual-in_err-listed.ensures.0
+
+pub returns-in_err-listed-clause-counted : goal.returns-in_err-listed-clause-counted
+returns-in_err-listed-clause-counted g c =
+    IfOk-from_err c.from_residual-in_err-listed.result _ c.from_residual-in_err-listed.ensures.0
+
+pub returns-in_err-kept-clause-text : goal.returns-in_err-kept-clause-text
+returns-in_err-kept-clause-text g c =
+    IfOk-from_err c.from_residual-in_err-kept.result _ c.from_residual-in_err-kept.ensures.0
+
+pub returns-in_err-kept-clause-flag : goal.returns-in_err-kept-clause-flag
+returns-in_err-kept-clause-flag g c =
+    IfOk-from_err c.from_residual-in_err-kept.result _ c.from_residual-in_err-kept.ensures.0
+
+pub returns-in_err-kept-clause-read : goal.returns-in_err-kept-clause-read
+returns-in_err-kept-clause-read g c =
+    IfOk-from_err c.from_residual-in_err-kept.result _ c.from_residual-in_err-kept.ensures.0
+
+pub returns-in_err-kept-clause-counted : goal.returns-in_err-kept-clause-counted
+returns-in_err-kept-clause-counted g c =
+    IfOk-from_err c.from_residual-in_err-kept.result _ c.from_residual-in_err-kept.ensures.0
+
+pub returns-in_err-found-clause-text : goal.returns-in_err-found-clause-text
+returns-in_err-found-clause-text g c =
+    IfOk-from_err c.from_residual-in_err-found.result _ c.from_residual-in_err-found.ensures.0
+
+pub returns-in_err-found-clause-flag : goal.returns-in_err-found-clause-flag
+returns-in_err-found-clause-flag g c =
+    IfOk-from_err c.from_residual-in_err-found.result _ c.from_residual-in_err-found.ensures.0
+
+pub returns-in_err-found-clause-read : goal.returns-in_err-found-clause-read
+returns-in_err-found-clause-read g c =
+    IfOk-from_err c.from_residual-in_err-found.result _ c.from_residual-in_err-found.ensures.0
+
+pub returns-in_err-found-clause-counted : goal.returns-in_err-found-clause-counted
+returns-in_err-found-clause-counted g c =
+    IfOk-from_err c.from_residual-in_err-found.result _ c.from_residual-in_err-found.ensures.0

@@ -1,5 +1,6 @@
-use Rattle.std.proofs.Common.{◌≡◌, ◌∙◌, ◌+◌, ◌++◌, ◌∷◌, [], length, map, take, get_or, ap}
-use Rattle.std.proofs.Common.{arith, append_assoc}
+use Rattle.std.proofs.Common.{◌≡◌, ◌∙◌, ◌+◌, ◌++◌, ◌∷◌, [], length, map, take, get_or, ap, arith}
+use Rattle.std.proofs.Common.{append_assoc}
+use Rattle.std.proofs.lemmas.Result.{IfOk-from_err}
 use Rattle.std.proofs.lemmas.List.{take_more, map-append}
 use Rattle.mm_spec.specs.Output.{label_at}
 use Rattle.mm_outline.specs.Statements.{statements}
@@ -40,3 +41,22 @@ loop-theorem-preserved g c =
     ∙ ap (λ n. starts ++ n ∷ []) (c.len.ensures ∙ c.loop-theorem.bytes.ok.0) in
     rw (more, longer, begun)
     (spaced_more before bytes (starts ++ length bytes ∷ []) (name k) c.loop-theorem.invariant)
+
+pub offset_bounds-theorems-theorem-index : goal.offset_bounds-theorems-theorem-index
+offset_bounds-theorems-theorem-index g c = omega arith
+
+pub returns-in_err-push : goal.returns-in_err-push
+returns-in_err-push g c = IfOk-from_err c.from_residual.result _ c.from_residual.ensures.0
+
+pub returns-in_err-push-2 : goal.returns-in_err-push-2
+returns-in_err-push-2 g c =
+    IfOk-from_err c.from_residual-in_err-push-2.result _ c.from_residual-in_err-push-2.ensures.0
+
+pub returns-in_err-extend_from_slice : goal.returns-in_err-extend_from_slice
+returns-in_err-extend_from_slice g c =
+    IfOk-from_err c.from_residual-in_err-extend_from_slice.result _
+    c.from_residual-in_err-extend_from_slice.ensures.0
+
+pub returns-in_err-push-3 : goal.returns-in_err-push-3
+returns-in_err-push-3 g c =
+    IfOk-from_err c.from_residual-in_err-push-3.result _ c.from_residual-in_err-push-3.ensures.0

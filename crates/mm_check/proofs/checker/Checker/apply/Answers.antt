@@ -1,5 +1,5 @@
 use Rattle.std.proofs.Common.{◌≡◌, Ok, sym, subst}
-use Rattle.std.proofs.lemmas.Result.{err_from_is_err_and}
+use Rattle.std.proofs.lemmas.Result.{IfOk-from_err, err_from_is_err_and}
 use Rattle.mm_machine.specs.State.{applied}
 use Rattle.mm_machine.specs.Stops.{Stops}
 use Rattle.mm_check.specs.Checker.{CheckerState, checker_state, IsAt}
@@ -62,3 +62,13 @@ returns-clause-performs g c =
           c.rule_of-rule.ensures.is ok.made) ok.marks ok.formulas ok.entry w.in-Ok-note.ensures)
       | in-Err-note w ↦ rw w.result-is tt
     ]
+
+pub provide-requires-clause-assertion : goal.provide-requires-clause-assertion
+provide-requires-clause-assertion g c = c.requires.assertion
+
+pub returns-in-Err-clause-performs : goal.returns-in-Err-clause-performs
+returns-in-Err-clause-performs g c = tt
+
+pub returns-in_err-apply-clause-performs : goal.returns-in_err-apply-clause-performs
+returns-in_err-apply-clause-performs g c =
+    IfOk-from_err c.from_residual.result _ c.from_residual.ensures.0

@@ -1,4 +1,5 @@
 use Rattle.std.proofs.Common.{refl}
+use Rattle.std.proofs.lemmas.Result.{IfOk-from_err}
 use Rattle.mm_check.proofs.EndLaw.{proof_is, cites_are, is_checked, ends_here}
 use Rattle.mm_check.proofs.checker.Checker.finish.Goals as goal
 
@@ -28,3 +29,17 @@ returns-clause-valid g c =
           c.requires c.in_default.ensures.one c.args.essential _ _ c.in_ok-choose.ensures ok.rising
           ok.same,
     )
+
+pub returns-in-Err-clause-valid : goal.returns-in-Err-clause-valid
+returns-in-Err-clause-valid g c = tt
+
+pub returns-in_err-choose-clause-valid : goal.returns-in_err-choose-clause-valid
+returns-in_err-choose-clause-valid g c =
+    IfOk-from_err c.from_residual.result _ c.from_residual.ensures.0
+
+pub returns-in_err-cites-clause-valid : goal.returns-in_err-cites-clause-valid
+returns-in_err-cites-clause-valid g c =
+    IfOk-from_err c.from_residual-in_err-cites.result _ c.from_residual-in_err-cites.ensures.0
+
+pub returns-clause-refused : goal.returns-clause-refused
+returns-clause-refused g c = tt

@@ -1,4 +1,5 @@
 use Rattle.std.proofs.Common.{true, false, refl, sym, ◌∙◌, subst}
+use Rattle.std.proofs.lemmas.Result.{IfOk-from_err}
 use Rattle.mm_steps.specs.Read.{step_of}
 use Rattle.mm_check.specs.Checker.{CheckerState, IsAt, Performs}
 use Rattle.mm_check.proofs.RanLaw.{ready, stops_here, performs_next}
@@ -35,3 +36,10 @@ returns-else-is_marked-clause-performed g c =
     c.args.self.now c.requires.performed c.requires.step (step_of c.step.result) c.step.ensures
     c.make.new.self c.make.new.self.machine false (sym c.is_marked.ensures ∙ c.if-is_marked.false)
     c.in_default.ensures.performs c.make.ensures.at refl refl
+
+pub returns-in-Err-clause-performed : goal.returns-in-Err-clause-performed
+returns-in-Err-clause-performed g c = tt
+
+pub returns-in_err-mark-clause-performed : goal.returns-in_err-mark-clause-performed
+returns-in_err-mark-clause-performed g c =
+    IfOk-from_err c.from_residual.result _ c.from_residual.ensures.0

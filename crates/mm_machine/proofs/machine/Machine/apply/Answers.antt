@@ -1,4 +1,5 @@
-use Rattle.std.proofs.Common.{◌≡◌, OnOk, IfErr, Ok, subst}
+use Rattle.std.proofs.Common.{arith, ◌≡◌, OnOk, IfErr, Ok, subst}
+use Rattle.std.proofs.lemmas.Grind.{common_steps}
 use Rattle.mm_machine.specs.Arena.{arena}
 use Rattle.mm_machine.specs.State.{texts, applied, State}
 use Rattle.mm_machine.specs.Stops.{Stops}
@@ -32,3 +33,18 @@ returns-clause-stopped g c =
     (applied k c.args.theorem a
     (texts (arena c.self.inside.own z) c.self.inside.stack.items)))) c.as_slice.ensures
     done.ensures.stopped)
+
+pub put_judged-requires-clause-theorem : goal.put_judged-requires-clause-theorem
+put_judged-requires-clause-theorem g c = c.requires.theorem
+
+pub put_judged-requires-clause-rule : goal.put_judged-requires-clause-rule
+put_judged-requires-clause-rule g c = c.requires.rule
+
+pub put_judged-requires-clause-apart : goal.put_judged-requires-clause-apart
+put_judged-requires-clause-apart g c = c.requires.apart
+
+pub returns-clause-apart : goal.returns-clause-apart
+returns-clause-apart g c = c.put_judged.ensures.apart
+
+pub returns-clause-entry : goal.returns-clause-entry
+returns-clause-entry g c = grind (arith, common_steps)

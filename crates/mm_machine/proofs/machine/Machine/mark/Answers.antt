@@ -1,4 +1,6 @@
-use Rattle.std.proofs.Common.{◌≡◌, ◌<◌, ◌++◌, ◌∷◌, [], All, sym, ap, ap₂, ◌∙◌, subst}
+use Rattle.std.proofs.Common.{arith, ◌≡◌, ◌<◌, ◌++◌, ◌∷◌, [], All, sym, ap, ap₂, ◌∙◌, subst}
+use Rattle.std.proofs.lemmas.Result.{IfOk-from_err}
+use Rattle.std.proofs.lemmas.Grind.{common_steps}
 use Rattle.mm_spec.specs.Laws.Stack.{top}
 use Rattle.mm_machine.specs.Arena.{arena}
 use Rattle.mm_machine.specs.State.{state, texts}
@@ -62,3 +64,20 @@ returns-clause-ok g c =
     ∙ ap₂ (λ m f. state old m f i.width) c.in_ok-push-2.ensures.items kept
     ∙ ap (λ s. state s.stack (s.marks ++ c.args.step ∷ [])
     (s.formulas ++ top s.stack ∷ []) s.width) c.self.view_is
+
+pub keep-requires-clause-entry : goal.keep-requires-clause-entry
+keep-requires-clause-entry g c = grind (arith, common_steps)
+
+pub keep-requires-clause-stack : goal.keep-requires-clause-stack
+keep-requires-clause-stack g c = c.self.invariant.is_stack
+
+pub returns-in_err-made-clause-ok : goal.returns-in_err-made-clause-ok
+returns-in_err-made-clause-ok g c = IfOk-from_err c.from_residual.result _ c.from_residual.ensures.0
+
+pub returns-in_err-push-clause-ok : goal.returns-in_err-push-clause-ok
+returns-in_err-push-clause-ok g c =
+    IfOk-from_err c.from_residual-in_err-push.result _ c.from_residual-in_err-push.ensures.0
+
+pub returns-in_err-push-2-clause-ok : goal.returns-in_err-push-2-clause-ok
+returns-in_err-push-2-clause-ok g c =
+    IfOk-from_err c.from_residual-in_err-push-2.result _ c.from_residual-in_err-push-2.ensures.0

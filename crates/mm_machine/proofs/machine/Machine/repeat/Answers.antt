@@ -1,4 +1,6 @@
 use Rattle.std.proofs.Common.{◌<◌, length, ap, sym, subst, arith}
+use Rattle.std.proofs.lemmas.Result.{IfOk-from_err}
+use Rattle.std.proofs.lemmas.Grind.{common_steps}
 use Rattle.std.proofs.lemmas.List.Elements.{All-get_or}
 use Rattle.mm_machine.specs.State.{IsKept}
 use Rattle.mm_machine.proofs.FollowLaw.{repeat_stack}
@@ -26,3 +28,9 @@ invariant_of-self-2 g c =
       rising = i.rising;
       count = i.count;
     }
+
+pub returns-clause-ok : goal.returns-clause-ok
+returns-clause-ok g c = grind (arith, common_steps)
+
+pub returns-in_err-push-clause-ok : goal.returns-in_err-push-clause-ok
+returns-in_err-push-clause-ok g c = IfOk-from_err c.from_residual.result _ c.from_residual.ensures.0

@@ -1,12 +1,13 @@
-use Rattle.std.proofs.Common.{◌++◌, map, sym, ap, ◌∙◌, subst}
+use Rattle.std.proofs.Common.{refl, arith, ◌++◌, map, sym, ap, ◌∙◌, subst}
 use Rattle.std.specs.List.{AllByRecursion}
+use Rattle.std.proofs.lemmas.Result.{IfOk-from_err, on_ok_weaker}
 use Rattle.mm_spec.specs.Derivation.{Pair}
-use Rattle.mm_spec.specs.Frame.{formula_at, mandatory_pairs}
+use Rattle.mm_spec.specs.Frame.{formula_at, mandatory_pairs, mandatory_hypotheses}
 use Rattle.mm_spec.specs.Citation.{context_at, is_assertion}
 use Rattle.mm_spec.specs.Laws.Complete.{IsBound, AreBound}
 use Rattle.mm_outline.proofs.StatementsLaw.{is_there}
 use Rattle.mm_rule.specs.Rule.{parts_of}
-use Rattle.mm_rules.proofs.RuleLaw.{covered_all, pairs_covered, made_rule}
+use Rattle.mm_rules.proofs.RuleLaw.{covered, covered_all, pairs_covered, made_rule, numbered}
 use Rattle.mm_rules.proofs.compile.RuleCompiler.make.Goals as goal
 
 pub compile_hypotheses-requires-clause-bound : goal.compile_hypotheses-requires-clause-bound
@@ -39,12 +40,74 @@ returns-clause-made g c =
     let hyps = c.hyps-hyps.result.now in
     let f = c.formula.result.now in
     let hypotheses = c.in_ok-compile_hypotheses.ensures in
-    made_rule k c.args.k c.requires.assertion c.requires.complete hyps c.pairs.result.now f
+    on_ok_weaker c.compile_formula.result
+    (λ made. made_rule k c.args.k c.requires.assertion c.requires.complete hyps c.pairs.result.now f
     c.compile_hypotheses.new.hypotheses.items c.compile_pairs.new.pairs.items
     c.compile_hypotheses.new.parts.items c.compile_formula.new.parts.items
     c.hyps-hyps.ensures.are c.pairs.ensures.are c.formula.ensures.formula
     c.formula.ensures.known hypotheses.hypotheses hypotheses.count hypotheses.within
     hypotheses.parts
     c.in_ok-compile_pairs.ensures
-    (c.in_ok-compile_formula.ensures
-    ∙ ap (λ z. z ++ parts_of k (map (formula_at k) hyps) f) c.empty-4.ensures)
+    (made ∙ ap (λ z. z ++ parts_of k (map (formula_at k) hyps) f) c.empty-4.ensures))
+    c.compile_formula.ensures
+
+pub returns-clause-assertion : goal.returns-clause-assertion
+returns-clause-assertion g c =
+    on_ok_weaker c.compile_formula.result (λ made. refl) c.compile_formula.ensures
+
+pub hyps-hyps-requires : goal.hyps-hyps-requires
+hyps-hyps-requires g c = c.requires.assertion
+
+pub compile_hypotheses-requires-clause-placed : goal.compile_hypotheses-requires-clause-placed
+compile_hypotheses-requires-clause-placed g c =
+    let k = c.args.db.now.statements in
+    numbered k (map (formula_at k) c.hyps-hyps.result.now) c.number_variables.new.numbers
+    c.self.inside.numbers.items c.self.inside.numbers.len c.deref.result.now c.deref.ensures.value
+    (omega arith) c.number_variables.ensures
+
+pub pairs-requires : goal.pairs-requires
+pairs-requires g c = c.requires.assertion
+
+pub compile_pairs-requires-clause-placed : goal.compile_pairs-requires-clause-placed
+compile_pairs-requires-clause-placed g c =
+    let k = c.args.db.now.statements in
+    numbered k (map (formula_at k) c.hyps-hyps.result.now) c.number_variables.new.numbers
+    c.self.inside.numbers.items c.self.inside.numbers.len c.deref-2.result.now
+    c.deref-2.ensures.value (omega arith) c.number_variables.ensures
+
+pub compile_formula-requires-clause-placed : goal.compile_formula-requires-clause-placed
+compile_formula-requires-clause-placed g c =
+    let k = c.args.db.now.statements in
+    numbered k (map (formula_at k) c.hyps-hyps.result.now) c.number_variables.new.numbers
+    c.self.inside.numbers.items c.self.inside.numbers.len c.deref-3.result.now
+    c.deref-3.ensures.value (omega arith) c.number_variables.ensures
+
+pub compile_formula-requires-clause-bound : goal.compile_formula-requires-clause-bound
+compile_formula-requires-clause-bound g c =
+    let k = c.args.db.now.statements in
+    let f = c.formula.result.now in
+    covered k (map (formula_at k) c.hyps-hyps.result.now) f
+    (subst (λ h. AreBound (context_at k 0) (map (formula_at k) h) f) (sym c.hyps-hyps.ensures.are)
+    (subst (AreBound (context_at k 0) (map (formula_at k) (mandatory_hypotheses k c.args.k)))
+    (sym c.formula.ensures.formula) c.requires.complete.formula))
+
+pub returns-in_err-compile_hypotheses-clause-assertion :
+    goal.returns-in_err-compile_hypotheses-clause-assertion
+returns-in_err-compile_hypotheses-clause-assertion g c =
+    IfOk-from_err c.from_residual.result _ c.from_residual.ensures.0
+
+pub returns-in_err-compile_hypotheses-clause-made :
+    goal.returns-in_err-compile_hypotheses-clause-made
+returns-in_err-compile_hypotheses-clause-made g c =
+    IfOk-from_err c.from_residual.result _ c.from_residual.ensures.0
+
+pub returns-in_err-compile_pairs-clause-assertion :
+    goal.returns-in_err-compile_pairs-clause-assertion
+returns-in_err-compile_pairs-clause-assertion g c =
+    IfOk-from_err c.from_residual-in_err-compile_pairs.result _
+    c.from_residual-in_err-compile_pairs.ensures.0
+
+pub returns-in_err-compile_pairs-clause-made : goal.returns-in_err-compile_pairs-clause-made
+returns-in_err-compile_pairs-clause-made g c =
+    IfOk-from_err c.from_residual-in_err-compile_pairs.result _
+    c.from_residual-in_err-compile_pairs.ensures.0

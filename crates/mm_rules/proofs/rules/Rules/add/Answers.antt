@@ -1,6 +1,7 @@
-use Rattle.std.proofs.Common.{sym, subst}
-use Rattle.mm_rules.specs.Rules.{Lists, AreRules, rule_stretches}
+use Rattle.std.proofs.Common.{arith, sym, subst}
+use Rattle.std.proofs.lemmas.Result.{IfOk-from_err}
 use Rattle.mm_rule.specs.Rule.{Compiled, IsCompiled}
+use Rattle.mm_rules.specs.Rules.{Lists, AreRules, rule_stretches}
 use Rattle.mm_rules.proofs.RulesLaw.{added_at}
 use Rattle.mm_rules.proofs.rules.Rules.add.Goals as goal
 
@@ -23,3 +24,25 @@ returns g c =
     f.ensures.start f.ensures.end
     (subst (λ (z : Compiled). IsCompiled k z) (sym c.rule.view_is) c.requires.rule)
     (subst (λ (z : Lists). AreRules k z) (sym c.self.view_is) c.requires.rules)
+
+pub overflow_cast-rule-inside : goal.overflow_cast-rule-inside
+overflow_cast-rule-inside g c = omega arith
+
+pub returns-in_err-hypotheses : goal.returns-in_err-hypotheses
+returns-in_err-hypotheses g c = IfOk-from_err c.from_residual.result _ c.from_residual.ensures.0
+
+pub returns-in_err-pairs : goal.returns-in_err-pairs
+returns-in_err-pairs g c =
+    IfOk-from_err c.from_residual-in_err-pairs.result _ c.from_residual-in_err-pairs.ensures.0
+
+pub returns-in_err-parts : goal.returns-in_err-parts
+returns-in_err-parts g c =
+    IfOk-from_err c.from_residual-in_err-parts.result _ c.from_residual-in_err-parts.ensures.0
+
+pub returns-in_err-formula : goal.returns-in_err-formula
+returns-in_err-formula g c =
+    IfOk-from_err c.from_residual-in_err-formula.result _ c.from_residual-in_err-formula.ensures.0
+
+pub returns-in_err-push : goal.returns-in_err-push
+returns-in_err-push g c =
+    IfOk-from_err c.from_residual-in_err-push.result _ c.from_residual-in_err-push.ensures.0

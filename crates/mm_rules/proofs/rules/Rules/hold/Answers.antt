@@ -1,4 +1,5 @@
 use Rattle.std.proofs.Common.{sym, ◌∙◌}
+use Rattle.std.proofs.lemmas.Result.{IfOk-from_err}
 use Rattle.mm_rules.proofs.CompleteLaw.{complete_at}
 use Rattle.mm_rules.proofs.rules.Rules.hold.Goals as goal
 
@@ -6,3 +7,7 @@ pub make-requires-clause-complete : goal.make-requires-clause-complete
 make-requires-clause-complete g c =
     complete_at c.args.db.now.statements c.requires.complete c.args.k
     (sym c.is_assertion.ensures ∙ c.if-not-is_assertion.false)
+
+pub returns-in_err-make-clause-rules : goal.returns-in_err-make-clause-rules
+returns-in_err-make-clause-rules g c =
+    IfOk-from_err c.from_residual.result _ c.from_residual.ensures.0

@@ -1,9 +1,10 @@
-use Rattle.std.proofs.Common.{◌<◌, ℕ, List, length, sym, subst}
+use Rattle.std.proofs.Common.{arith, ◌<◌, ℕ, List, length, sym, subst}
+use Rattle.std.proofs.lemmas.Grind.{common_steps}
 use Rattle.std.proofs.lemmas.List.Elements.{All-get_or}
 use Rattle.mm_rule.specs.declared.rule.Part.{Part}
 use Rattle.mm_rule.specs.declared.rule.Hypothesis.{Hypothesis}
-use Rattle.mm_rules.specs.Rules.{Lists, lists, AreRules, HasRule, stretch_of}
 use Rattle.mm_rule.specs.Rule.{compiled, IsCompiled}
+use Rattle.mm_rules.specs.Rules.{Lists, lists, AreRules, HasRule, stretch_of}
 use Rattle.mm_rules.proofs.rules.Rules.rule.Goals as goal
 
 pub returns-clause-rule : goal.returns-clause-rule
@@ -38,3 +39,6 @@ returns-clause-rule g c =
     (stretch_of i.pairs.items s.pairs)
     (stretch_of i.parts.items s.parts) (stretch_of z s.formula)))
     (sym c.deref-4.ensures.value) one.compiled)))
+
+pub returns-clause-assertion : goal.returns-clause-assertion
+returns-clause-assertion g c = grind (arith, common_steps)
