@@ -294,8 +294,7 @@ column_marked columns row new j s rising found set k lt = by (cases_eq k j)
     )
     by (inr ne) =
         let same : is_bit new k ≡ is_bit row k =
-        set k ∙ ap (λ b. b || is_bit row k) (ne_eqb k j ne) in
-        (
+        set k ∙ ap (λ b. b || is_bit row k) (ne_eqb k j ne) in (
           λ t. inl (sym same ∙ t),
           λ h. same ∙ ⊎_elim (λ b. b)
               (λ e. absurd (ne (once columns k j rising lt found.0 (sym e ∙ sym found.1)))) h,
