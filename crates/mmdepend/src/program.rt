@@ -2,16 +2,13 @@
 
 ghost use Rattle.std.specs.Prelude.{◌≡◌, IsTrue, map, option_map};
 ghost use Rattle.std.specs.Io.KnownBytes.{Appends};
-ghost use Rattle.mm_plan.specs.Plans.{IsLawful, request_of};
-ghost use Rattle.mm_spec.specs.Ends.{Ends};
 ghost use Rattle.mmdepend.specs.Endings.{IsWrittenPrefix, IsEndingOf, message_of, opens, status_of};
 ghost use Rattle.mmdepend.specs.declared.ending.Ending.{Ending as End};
 
 use crate::ending::Ending;
 use mm_line::{Line, LineRefused, line};
-use mm_plan::Plan;
 use mm_report::write_whole;
-use mm_run::{RunEnd, run};
+use mm_run::run;
 use std::alloc::Global;
 use std::convert::AsStr;
 use std::fs;
@@ -48,23 +45,6 @@ fn opened_file(line: &Line) -> Option<&str>
     }
 }
 
-/// Calls `run` on an opened file. In a function of its own, as one that calls `run` at two types of
-/// readers is costly to prove.
-fn run_file<R: Threads + Wait + Sync, F: Read + Drop, O: Write>(
-    rt: &R,
-    alloc: Global,
-    plan: &Plan<Global>,
-    mut file: F,
-    output: &mut O,
-) -> RunEnd
-    requires { IsLawful plan.now }
-    ensures { (read : F)
-        × Ends result (request_of plan.now) (F.remaining file) (F.remaining read)
-        (O.contents output.old) (O.contents output.new) }
-{
-    run(rt, alloc, plan, &mut file, output)
-}
-
 /// Reads the words, opens the file that they name, and calls `run`; or writes help or the version.
 fn end<S: AsStr, R: Threads + Wait + Files + Sync, I: Read, O: Write>(
     rt: &R,
@@ -91,7 +71,7 @@ fn end<S: AsStr, R: Threads + Wait + Files + Sync, I: Read, O: Write>(
     match opened_file(&line) {
         None => Ending::Ran(run(rt, alloc, &line.plan, input, output)),
         Some(name) => match fs::open(rt, name) {
-            Ok(file) => Ending::Ran(run_file(rt, alloc, &line.plan, file, output)),
+            Ok(mut file) => Ending::Ran(run(rt, alloc, &line.plan, &mut file, output)),
             Err(_) => Ending::NotOpened,
         },
     }
