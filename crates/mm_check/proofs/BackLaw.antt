@@ -10,7 +10,7 @@ use Rattle.mm_spec.specs.Nodes.{size, HasNode, each_place}
 use Rattle.mm_spec.specs.Steps.{Step, label, marked}
 use Rattle.mm_spec.proofs.UniqueLaw.{◌⧺◌}
 use Rattle.mm_check.specs.Flags.{wanted_flags}
-use Rattle.mm_check.proofs.RowsLaw.{last_tree}
+use Rattle.mm_check.proofs.ForestsLaw.{last_tree}
 
 -- the flag of a number, if there is one
 abbrev pub flag_at : List Bool → ℕ → Bool

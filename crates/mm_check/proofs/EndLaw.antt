@@ -17,8 +17,8 @@ use Rattle.mm_spec.specs.Frame.{formula_at}
 use Rattle.mm_spec.specs.Citation.{context_at, is_theorem, IsProof, Cites}
 use Rattle.mm_spec.proofs.FindsLaw.{inside_of}
 use Rattle.mm_database.specs.Database.{last_place}
-use Rattle.mm_rules.specs.Rules.{Lists}
-use Rattle.mm_machine.specs.Arena.{AreApart}
+use Rattle.mm_rules.specs.Rules.{RuleLists}
+use Rattle.mm_machine.specs.Arena.{AreDisjointAt}
 use Rattle.mm_machine.specs.State.{State, state}
 use Rattle.mm_check.specs.Contract.{IsChecked}
 use Rattle.mm_check.specs.Reached.{Reached, AreStepsOf, steps_of}
@@ -29,14 +29,14 @@ use Rattle.mm_check.proofs.ReachLaw.{derives, ends_with, end_is}
 
 module _ (k : List Statement) (t : ℕ) (steps : List PlacedStep) where
   -- no step is performed yet
-  pub begins : (m : State) (rules : Lists) (noted : List ℕ) (apart : List (ℕ × ℕ)) (width : ℕ)
+  pub begins : (m : State) (rules : RuleLists) (noted : List ℕ) (cache : List (ℕ × ℕ)) (width : ℕ)
       → AreOf k width rules → AreStepsOf k t steps → m ≡ state [] [] [] width → noted ≡ []
-      → AreApart k t apart → HasPerformed k t steps 0 (checker_state m rules noted apart)
-  begins m rules noted apart width made are fresh none p = record {
+      → AreDisjointAt k t cache → HasPerformed k t steps 0 (checker_state m rules noted cache)
+  begins m rules noted cache width made are fresh none p = record {
     at = record {
       made_for = rw fresh made;
       theorem = by (slice_get k t) refl are.theorem;
-      apart_are = p;
+      disjoint_are = p;
     };
     are_steps = are;
     ran = none_ran k t steps m noted width fresh none;
@@ -59,25 +59,25 @@ module _ (k : List Statement) (t : ℕ) (steps : List PlacedStep) where
         (take_all (length steps) steps (omega arith)) p.ran.reached)
 
     module _ (one : c.machine.stack ≡ formula_at k t ∷ []) where
-      -- the row after them is the theorem's proof
+      -- the forest after them is the theorem's proof
       abbrev pub proof_is : (d : Trees) × IsProof k t d
       proof_is = (
-        all.row,
-        subst (λ ps. Derives (context_at k t) (steps_of ps) (formula_at k t) all.row)
+        all.forest,
+        subst (λ ps. Derives (context_at k t) (steps_of ps) (formula_at k t) all.forest)
             p.are_steps.are
             (derives k t steps c.machine.stack ends c.noted all (formula_at k t) one),
       )
 
       pub cites_are : (a : ℕ) → Decides (is_member c.noted a) (Cites k false t a)
       cites_are =
-          all_cited k t all.row c.noted p.are_steps.complete proof_is.1 all.noted_are
+          all_cited k t all.forest c.noted p.are_steps.complete proof_is.1 all.noted_are
 
       pub is_checked : (essential : Bool) (noted cites : List ℕ)
           → ((a : ℕ) → Decides (is_member noted a) (Cites k essential t a))
           → IsStrictlyIncreasing cites → ((a : ℕ) → is_member cites a ≡ is_member noted a)
           → IsChecked k essential t cites
       is_checked essential noted cites exact rising same = record {
-        derivation = all.row;
+        derivation = all.forest;
         proof = proof_is.1;
         rising = rising;
         exact = λ a. subst (λ b. Decides b (Cites k essential t a)) (sym (same a)) (exact a);

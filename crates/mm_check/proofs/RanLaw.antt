@@ -169,7 +169,7 @@ module _ (k : List Statement) (t : ℕ) (steps : List PlacedStep) (i : ℕ) (c :
 
   pub performs_next : (d : CheckerState) (m : State) (b : Bool) → is_marked steps i ≡ b
       → Performs k t a c d → IsAt k t d → m ≡ with_mark b i d.machine → m.width ≡ d.machine.width
-      → HasPerformed k t steps (i + 1) (checker_state m d.rules d.noted d.apart)
+      → HasPerformed k t steps (i + 1) (checker_state m d.rules d.noted d.cache)
   performs_next d m b is_b made at kept width = record {
     at = rw width at;
     are_steps = p.are_steps;

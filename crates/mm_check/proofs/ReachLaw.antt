@@ -57,8 +57,8 @@ within_more [] old new w up = ((λ a h. h), tt)
 within_more (l ∷ lists) old new w up = ((λ a h. up a (w.0 a h)), within_more lists old new w.1 up)
 
 module _ (c : Context) where
-  last_member : (row : Trees) (x : List ℕ) (a : ℕ) → IsLastTree row x → is_member x a ≡ true
-      → is_member (postfix row) a ≡ true
+  last_member : (forest : Trees) (x : List ℕ) (a : ℕ) → IsLastTree forest x → is_member x a ≡ true
+      → is_member (postfix forest) a ≡ true
   last_member none x a h m = absurd h
   last_member (more ts l f cs) x a h m =
       list_any-append (λ y. a == y) (postfix ts) (postfix cs ++ l ∷ [])
@@ -85,14 +85,14 @@ pub next : (k : List Statement) (t : ℕ) (done : List Step) (stack ends : List 
     → Reached k t (done ++ s ∷ []) out (ends ++ top out ∷ []) then
 next k t done stack ends noted s out then r good made notes =
     let c = context_at k t in
-    let same : step_entries c s ends (formulas r.row) ≡ Ok out =
+    let same : step_entries c s ends (formulas r.forest) ≡ Ok out =
     ap (step_entries c s ends) r.entries_are ∙ made in
     let g =
-    subst (Grown c r.lists r.row s) same
-    (grows c r.lists ends r.row s r.derivations r.after good) in
-    let members = adds_member c r.lists (postfix r.row) (postfix g.0) s g.2 r.within in
+    subst (Grown c r.lists r.forest s) same
+    (grows c r.lists ends r.forest s r.derivations r.after good) in
+    let members = adds_member c r.lists (postfix r.forest) (postfix g.0) s g.2 r.within in
     record {
-      row = g.0;
+      forest = g.0;
       derivations = g.1;
       entries_are = g.3;
       lists = r.lists ++ postfix g.0 ∷ [];
@@ -101,12 +101,12 @@ next k t done stack ends noted s out then r good made notes =
           λ rest all h. subst (λ z. Plain c [] [] z all) (sym (append_assoc done (s ∷ []) rest))
           (r.plain (s ∷ rest) all (postfix g.0, g.2, h));
       within =
-          within_more r.lists (postfix r.row) (postfix g.0) r.within
+          within_more r.lists (postfix r.forest) (postfix g.0) r.within
           (λ a m. members a ∙ or_left _ _ m);
       noted_are =
           λ a. notes a
           ∙ ap (λ b. b || (is_labelled_step s a && is_assertion_at k a)) (r.noted_are a)
-          ∙ spread (is_member (postfix r.row) a) (is_labelled_step s a) (is_assertion_at k a)
+          ∙ spread (is_member (postfix r.forest) a) (is_labelled_step s a) (is_assertion_at k a)
           ∙ ap (λ b. b && is_assertion_at k a) (sym (members a));
     }
 
@@ -120,11 +120,11 @@ pub fails : (k : List Statement) (t : ℕ) (steps : List PlacedStep) (i : ℕ)
 fails k t steps i stack ends noted reason h r good made =
     let c = context_at k t in
     let s = step_at steps i in
-    let same : step_entries c s.step ends (formulas r.row) ≡ Err reason =
+    let same : step_entries c s.step ends (formulas r.forest) ≡ Err reason =
     ap (step_entries c s.step ends) r.entries_are ∙ made in
     let g =
-    subst (Grown c r.lists r.row s.step) same
-    (grows c r.lists ends r.row s.step r.derivations r.after good) in
+    subst (Grown c r.lists r.forest s.step) same
+    (grows c r.lists ends r.forest s.step r.derivations r.after good) in
     record {
       before = take i steps;
       first = s;
@@ -132,11 +132,11 @@ fails k t steps i stack ends noted reason h r good made =
       splits =
           sym (take-append-drop i steps)
           ∙ ap (λ z. take i steps ++ z) (drop_more steps i (placed 0 (label 0)) h);
-      row = r.row;
+      forest = r.forest;
       derivations = r.derivations;
       plain =
-          subst (λ z. Plain c [] [] z (postfix r.row)) (append-nil (steps_of (take i steps)))
-          (r.plain [] (postfix r.row) refl);
+          subst (λ z. Plain c [] [] z (postfix r.forest)) (append-nil (steps_of (take i steps)))
+          (r.plain [] (postfix r.forest) refl);
       reason = reason;
       fails = g;
       is = refl;
@@ -144,22 +144,22 @@ fails k t steps i stack ends noted reason h r good made =
 
 module _ (k : List Statement) (t : ℕ) (steps : List PlacedStep) (stack ends : List Formula)
     (noted : List ℕ) (r : Reached k t (steps_of steps) stack ends noted) where
-  plain_all : Plain (context_at k t) [] [] (steps_of steps) (postfix r.row)
+  plain_all : Plain (context_at k t) [] [] (steps_of steps) (postfix r.forest)
   plain_all =
-      subst (λ z. Plain (context_at k t) [] [] z (postfix r.row)) (append-nil (steps_of steps))
-      (r.plain [] (postfix r.row) refl)
+      subst (λ z. Plain (context_at k t) [] [] z (postfix r.forest)) (append-nil (steps_of steps))
+      (r.plain [] (postfix r.forest) refl)
 
-  pub derives : (f : Formula) → stack ≡ f ∷ [] → Derives (context_at k t) (steps_of steps) f r.row
-  derives f e = one r.row r.derivations (r.entries_are ∙ e) plain_all
+  pub derives : (f : Formula) → stack ≡ f ∷ [] → Derives (context_at k t) (steps_of steps) f r.forest
+  derives f e = one r.forest r.derivations (r.entries_are ∙ e) plain_all
     where
       two : (xs : List Formula) (h g : Formula) → ¬ ((xs ++ h ∷ []) ++ g ∷ [] ≡ f ∷ [])
       two xs h g e =
           let n = ap length e in
           omega (arith, n, length-append (xs ++ h ∷ []) (g ∷ []), length-append xs (h ∷ []))
 
-      one : (row : Trees) → AreDerivations (context_at k t) row → formulas row ≡ f ∷ []
-          → Plain (context_at k t) [] [] (steps_of steps) (postfix row)
-          → Derives (context_at k t) (steps_of steps) f row
+      one : (forest : Trees) → AreDerivations (context_at k t) forest → formulas forest ≡ f ∷ []
+          → Plain (context_at k t) [] [] (steps_of steps) (postfix forest)
+          → Derives (context_at k t) (steps_of steps) f forest
       one none d e p = cc
       one (more none l g cs) d e p = (l, cs, ap (λ z. tree l z cs) (ap top e), d, p)
       one (more (more ts m h bs) l g cs) d e p = absurd (two (formulas ts) h g e)
@@ -168,7 +168,7 @@ module _ (k : List Statement) (t : ℕ) (steps : List PlacedStep) (stack ends : 
       → IsEndCode (context_at k t) stack formula code
       → ProofEndFault (context_at k t) steps formula end (fault end code)
   ends_with end code formula h = record {
-    row = r.row;
+    forest = r.forest;
     derivations = r.derivations;
     plain = plain_all;
     code = code;
@@ -206,7 +206,7 @@ pub starts : (k : List Statement) (t : ℕ) (stack ends : List Formula) (noted :
 starts k t stack ends noted e f n =
     rw (e, f, n)
     (record {
-      row = none;
+      forest = none;
       derivations = tt;
       entries_are = refl;
       lists = [];

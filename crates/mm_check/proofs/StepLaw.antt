@@ -28,7 +28,7 @@ module _ (k : List Statement) (t : ℕ) where
       → m
       ≡ state (c.machine.stack ++ get_or c.machine.formulas n [] ∷ []) c.machine.marks
       c.machine.formulas c.machine.width
-      → Performs k t (marked j) c (checker_state m c.rules c.noted c.apart)
+      → Performs k t (marked j) c (checker_state m c.rules c.noted c.cache)
   repeats c j n m inside is made =
       let out : Option Formula → Result (List Formula) Reason =
       λ o. elim o [ None ↦ Ok c.machine.stack | Some f ↦ Ok (c.machine.stack ++ f ∷ []) ] in
@@ -45,12 +45,12 @@ module _ (k : List Statement) (t : ℕ) where
 
   module _ (c : CheckerState) (a : ℕ) (good : IsGood (context_at k t) ((context_at k t).rule a))
       (is : is_assertion_at k a ≡ true) where
-    pub applies : (m : State) (noted : List ℕ) (apart : List (ℕ × ℕ))
+    pub applies : (m : State) (noted : List ℕ) (cache : List (ℕ × ℕ))
         → applied k t a c.machine.stack ≡ Ok m.stack → m.marks ≡ c.machine.marks
         → m.formulas ≡ c.machine.formulas → 0 < length m.stack
         → ((x : ℕ) → is_member noted x ≡ (is_member c.noted x || (x == a)))
-        → Performs k t (label a) c (checker_state m c.rules noted apart)
-    applies m noted apart made marks formulas entry notes = record {
+        → Performs k t (label a) c (checker_state m c.rules noted cache)
+    applies m noted cache made marks formulas entry notes = record {
       made =
           λ ends agree. ap (λ r. step (context_at k t) r c.machine.stack)
           (assertion_rule k t a is good)

@@ -26,7 +26,7 @@ use Rattle.mm_check.specs.Flags.{child_flags, taken_flags, wanted_flags}
 use Rattle.mm_check.specs.Reached.{steps_of}
 use Rattle.mm_check.proofs.CompilerStateLaw.{assertion_rule, hypothesis_rule}
 use Rattle.mm_check.proofs.ReachLaw.{good_here}
-use Rattle.mm_check.proofs.RowsLaw.{row_at, IsMove, AreMoves, move_at, proof_rows}
+use Rattle.mm_check.proofs.ForestsLaw.{forest_at, IsMove, AreMoves, move_at, proof_rows}
 use Rattle.mm_check.proofs.BackLaw.{flag_at, size_join, wanted_count, Left, label_back, marked_back}
 
 -- The nodes of the proof are noted or still to be found, when so many first steps are left.
@@ -34,14 +34,14 @@ pub record Walked (db : List Statement) (t : ℕ) (steps : List PlacedStep) (i :
     (waiting wanted : List Bool) (noted : List ℕ) : Type 0 where
   pub derivation : Trees
   pub proof : IsProof db t derivation
-  pub rows : List Trees
-  pub moves : AreMoves (context_at db t) rows 0 (steps_of steps)
+  pub forests : List Trees
+  pub moves : AreMoves (context_at db t) forests 0 (steps_of steps)
   pub many : length wanted ≡ length steps
-  pub fits : length waiting ≡ size (row_at rows i)
+  pub fits : length waiting ≡ size (forest_at forests i)
   pub asserted : (a : ℕ) → is_member noted a ≡ true → is_assertion_at db a ≡ true
   pub exact : (a : ℕ) → is_assertion_at db a ≡ true
       → HasNode (child_counts db true) each_place derivation a
-      ↔ ((is_member noted a ≡ true) ⊎ Left (child_counts db true) (row_at rows) i waiting wanted a)
+      ↔ ((is_member noted a ≡ true) ⊎ Left (child_counts db true) (forest_at forests) i waiting wanted a)
 
 -- ---- the premises of a label
 
@@ -115,17 +115,17 @@ module _ (db : List Statement) (t : ℕ) (steps : List PlacedStep) (i : ℕ) (ws
     (inside : i < length steps) (is : b ≡ (flag || flag_at wanted i)) where
   abbrev Before : Step → ℕ → Type 0
   Before s a =
-      Left (child_counts db true) (row_at r.rows) i (ws ++ taken_flags db b s)
+      Left (child_counts db true) (forest_at r.forests) i (ws ++ taken_flags db b s)
       (wanted_flags b s wanted) a
 
   -- what the step does to the nodes that are still to be found
   record Undone (s : Step) : Type 0 where
-    pub fits : length (ws ++ taken_flags db b s) ≡ size (row_at r.rows i)
+    pub fits : length (ws ++ taken_flags db b s) ≡ size (forest_at r.forests i)
     pub nodes : (a : ℕ)
-        → Left (child_counts db true) (row_at r.rows) (suc i) (ws ++ flag ∷ []) wanted a
+        → Left (child_counts db true) (forest_at r.forests) (suc i) (ws ++ flag ∷ []) wanted a
         ↔ (((b ≡ true) × (is_labelled_step s a ≡ true)) ⊎ Before s a)
 
-  undone : (s : Step) → IsMove (context_at db t) r.rows i s → IsGoodStep (context_at db t) i s
+  undone : (s : Step) → IsMove (context_at db t) r.forests i s → IsGoodStep (context_at db t) i s
       → Undone s
   undone (label l) (ts, f, cs, here, before, follows) good = record {
     fits =
@@ -149,11 +149,11 @@ module _ (db : List Statement) (t : ℕ) (steps : List PlacedStep) (i : ℕ) (ws
       count = let e = r.fits in omega (arith, e, length-append ws (flag ∷ []), ap size here)
 
       both : (a : ℕ)
-          → Left (child_counts db true) (row_at r.rows) (suc i) (ws ++ flag ∷ []) wanted a
+          → Left (child_counts db true) (forest_at r.forests) (suc i) (ws ++ flag ∷ []) wanted a
           ↔ (((b ≡ true) × (a ≡ l)) ⊎ Before (label l) a)
       both a =
           label_back (child_counts db true)
-          (row_at r.rows) i ws wanted flag b is a l ts f cs here before count
+          (forest_at r.forests) i ws wanted flag b is a l ts f cs here before count
           (taken_flags db b (label l)) fl.from fl.to
 
       down : (a : ℕ) → ((b ≡ true) × (a ≡ l)) ⊎ Before (label l) a
@@ -170,15 +170,15 @@ module _ (db : List Statement) (t : ℕ) (steps : List PlacedStep) (i : ℕ) (ws
     nodes = λ a. (λ h. inr ((both a).0 h), λ h. (both a).1 (only a h));
   }
     where
-      count : length ws ≡ size (row_at r.rows i)
+      count : length ws ≡ size (forest_at r.forests i)
       count = let e = r.fits in omega (arith, e, length-append ws (flag ∷ []), ap size here)
 
       both : (a : ℕ)
-          → Left (child_counts db true) (row_at r.rows) (suc i) (ws ++ flag ∷ []) wanted a
+          → Left (child_counts db true) (forest_at r.forests) (suc i) (ws ++ flag ∷ []) wanted a
           ↔ Before (marked j) a
       both a =
           marked_back (child_counts db true)
-          (row_at r.rows) i ws wanted flag b is a j l f cs earlier here copy count
+          (forest_at r.forests) i ws wanted flag b is a j l f cs earlier here copy count
           (let e = r.many in omega (arith, e, inside))
 
       only : (a : ℕ) → ((b ≡ true) × (false ≡ true)) ⊎ Before (marked j) a → Before (marked j) a
@@ -194,7 +194,7 @@ module _ (db : List Statement) (t : ℕ) (steps : List PlacedStep) (i : ℕ) (ws
   walk_step s out good at notes = record {
     derivation = r.derivation;
     proof = r.proof;
-    rows = r.rows;
+    forests = r.forests;
     moves = r.moves;
     many = wanted_count b s wanted ∙ r.many;
     fits = u.fits;
@@ -205,16 +205,16 @@ module _ (db : List Statement) (t : ℕ) (steps : List PlacedStep) (i : ℕ) (ws
     exact = λ a k. (λ h. down a k ((r.exact a k).0 h), λ h. (r.exact a k).1 (up a k h));
   }
     where
-      move : IsMove (context_at db t) r.rows i s
+      move : IsMove (context_at db t) r.forests i s
       move =
           let m =
-          move_at (context_at db t) r.rows 0 (steps_of steps) i
+          move_at (context_at db t) r.forests 0 (steps_of steps) i
           (let e = length-map steps (λ s. s.step) in omega (arith, e, inside)) r.moves in
           let here : get_or (steps_of steps) i (label 0) ≡ s =
           get_or-map (λ s. s.step) steps i (placed 0 (label 0)) (label 0) inside ∙ sym at in
           let same : 0 + i ≡ i = omega arith in
-          subst (IsMove (context_at db t) r.rows i) here
-          (subst (λ n. IsMove (context_at db t) r.rows n (get_or (steps_of steps) i (label 0)))
+          subst (IsMove (context_at db t) r.forests i) here
+          (subst (λ n. IsMove (context_at db t) r.forests n (get_or (steps_of steps) i (label 0)))
           same m)
 
       u : Undone s
@@ -244,7 +244,7 @@ module _ (db : List Statement) (t : ℕ) (steps : List PlacedStep) (i : ℕ) (ws
 
       down : (a : ℕ) → is_assertion_at db a ≡ true
           → (is_member noted a ≡ true)
-          ⊎ Left (child_counts db true) (row_at r.rows) (suc i) (ws ++ flag ∷ []) wanted a
+          ⊎ Left (child_counts db true) (forest_at r.forests) (suc i) (ws ++ flag ∷ []) wanted a
           → (is_member out a ≡ true) ⊎ Before s a
       down a k (inl h) = inl (old_noted a h)
       down a k (inr h) = by ((u.nodes a).0 h)
@@ -256,7 +256,7 @@ module _ (db : List Statement) (t : ℕ) (steps : List PlacedStep) (i : ℕ) (ws
 
       up : (a : ℕ) → is_assertion_at db a ≡ true → (is_member out a ≡ true) ⊎ Before s a
           → (is_member noted a ≡ true)
-          ⊎ Left (child_counts db true) (row_at r.rows) (suc i) (ws ++ flag ∷ []) wanted a
+          ⊎ Left (child_counts db true) (forest_at r.forests) (suc i) (ws ++ flag ∷ []) wanted a
       up a k (inl h) =
           by (or_cases (is_member noted a) (b && (is_labelled_step s a && is_assertion_at db a))
           (sym (notes a) ∙ h))
@@ -264,7 +264,7 @@ module _ (db : List Statement) (t : ℕ) (steps : List PlacedStep) (i : ℕ) (ws
           by : (is_member noted a ≡ true)
               ⊎ ((b && (is_labelled_step s a && is_assertion_at db a)) ≡ true)
               → (is_member noted a ≡ true)
-              ⊎ Left (child_counts db true) (row_at r.rows) (suc i) (ws ++ flag ∷ []) wanted a
+              ⊎ Left (child_counts db true) (forest_at r.forests) (suc i) (ws ++ flag ∷ []) wanted a
           by (inl h) = inl h
           by (inr h) =
               let p = and_parts b (is_labelled_step s a && is_assertion_at db a) h in
@@ -272,12 +272,12 @@ module _ (db : List Statement) (t : ℕ) (steps : List PlacedStep) (i : ℕ) (ws
               (inl (p.0, (and_parts (is_labelled_step s a) (is_assertion_at db a) p.1).0)))
       up a k (inr h) = inr ((u.nodes a).1 (inr h))
 
--- the row after a step is not empty
-some_row : (c : Context) (rows : List Trees) (i : ℕ) (s : Step) → IsMove c rows i s
-    → 0 < size (row_at rows (suc i))
-some_row c rows i (label l) (ts, f, cs, here, before, follows) =
+-- the forest after a step is not empty
+some_row : (c : Context) (forests : List Trees) (i : ℕ) (s : Step) → IsMove c forests i s
+    → 0 < size (forest_at forests (suc i))
+some_row c forests i (label l) (ts, f, cs, here, before, follows) =
     let e = ap size here in omega (arith, e)
-some_row c rows i (marked j) (earlier, l, f, cs, here, copy) =
+some_row c forests i (marked j) (earlier, l, f, cs, here, copy) =
     let e = ap size here in omega (arith, e)
 
 module _ (db : List Statement) (t : ℕ) (steps : List PlacedStep) (n i : ℕ)
@@ -286,12 +286,12 @@ module _ (db : List Statement) (t : ℕ) (steps : List PlacedStep) (n i : ℕ)
   pub walk_some : 0 < length waiting
   walk_some =
       let m =
-      move_at (context_at db t) r.rows 0 (steps_of steps) i
+      move_at (context_at db t) r.forests 0 (steps_of steps) i
       (let e = length-map steps (λ s. s.step) in omega (arith, e, inside)) r.moves in
       let e = r.fits in
-      let k = some_row (context_at db t) r.rows (0 + i) (get_or (steps_of steps) i (label 0)) m in
-      let same : size (row_at r.rows n) ≡ size (row_at r.rows (suc (0 + i))) =
-      ap (λ j. size (row_at r.rows j)) (let q : n ≡ suc (0 + i) = omega (arith, next) in q) in
+      let k = some_row (context_at db t) r.forests (0 + i) (get_or (steps_of steps) i (label 0)) m in
+      let same : size (forest_at r.forests n) ≡ size (forest_at r.forests (suc (0 + i))) =
+      ap (λ j. size (forest_at r.forests j)) (let q : n ≡ suc (0 + i) = omega (arith, next) in q) in
       omega (arith, e, k, same)
 
   -- the same by the values that the code has
@@ -329,13 +329,13 @@ module _ (db : List Statement) (t : ℕ) (steps : List PlacedStep) (complete : A
       here : Derives (context_at db t) (steps_of steps) (formula_at db t) d
       here = subst (λ ss. Derives (context_at db t) (steps_of ss) (formula_at db t) d) (sym are) p
 
-      start : ((rows : List Trees) × AreMoves (context_at db t) rows 0 (steps_of steps)
-          × (row_at rows (length (steps_of steps)) ≡ d))
+      start : ((forests : List Trees) × AreMoves (context_at db t) forests 0 (steps_of steps)
+          × (forest_at forests (length (steps_of steps)) ≡ d))
           → Walked db t steps (length steps) waiting wanted noted
-      start (rows, moves, last) = record {
+      start (forests, moves, last) = record {
         derivation = d;
         proof = p;
-        rows = rows;
+        forests = forests;
         moves = moves;
         many = ap length all ∙ count (length steps);
         fits = ap length one ∙ sym (ap size (at_end ∙ here.2));
@@ -347,8 +347,8 @@ module _ (db : List Statement) (t : ℕ) (steps : List PlacedStep) (complete : A
           count zero = refl
           count (suc n) = ap suc (count n)
 
-          at_end : row_at rows (length steps) ≡ d
-          at_end = ap (row_at rows) (sym (length-map steps (λ s. s.step))) ∙ last
+          at_end : forest_at forests (length steps) ≡ d
+          at_end = ap (forest_at forests) (sym (length-map steps (λ s. s.step))) ∙ last
 
           counts : ℕ → ℕ → Bool
           counts = child_counts db true
@@ -360,7 +360,7 @@ module _ (db : List Statement) (t : ℕ) (steps : List PlacedStep) (complete : A
           root p q a e (inr h) = inr (e, h.1)
 
           down : (a : ℕ) → HasNode counts each_place d a
-              → HasNode counts (flag_at waiting) (row_at rows (length steps)) a
+              → HasNode counts (flag_at waiting) (forest_at forests (length steps)) a
           down a h =
               subst (λ u. HasNode counts (flag_at waiting) u a) (sym (at_end ∙ here.2))
               (root each_place (flag_at waiting) a (ap (λ ws. flag_at ws 0) one)
@@ -368,7 +368,7 @@ module _ (db : List Statement) (t : ℕ) (steps : List PlacedStep) (complete : A
 
           up : (a : ℕ)
               → (is_member noted a ≡ true)
-              ⊎ Left counts (row_at rows) (length steps) waiting wanted a
+              ⊎ Left counts (forest_at forests) (length steps) waiting wanted a
               → HasNode counts each_place d a
           up a (inl h) = absurd (true≢false (sym h ∙ ap (λ l. is_member l a) bare))
           up a (inr (inl h)) =
@@ -391,7 +391,7 @@ module _ (db : List Statement) (t : ℕ) (steps : List PlacedStep) (complete : A
   )
     where
       by : (is_member noted a ≡ true)
-          ⊎ Left (child_counts db true) (row_at r.rows) 0 waiting wanted a
+          ⊎ Left (child_counts db true) (forest_at r.forests) 0 waiting wanted a
           → is_member noted a ≡ true
       by (inl h) = h
       by (inr (inl h)) = absurd h

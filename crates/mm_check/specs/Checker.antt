@@ -7,8 +7,8 @@ use Rattle.mm_spec.specs.Steps.{Step, PlacedStep}
 use Rattle.mm_spec.specs.Citation.{context_at}
 use Rattle.mm_spec.specs.Laws.Stack.{step_entries}
 use Rattle.mm_rule.specs.Assertions.{is_assertion_at}
-use Rattle.mm_rules.specs.Rules.{Lists, AreRules}
-use Rattle.mm_machine.specs.Arena.{AreApart}
+use Rattle.mm_rules.specs.Rules.{RuleLists, AreRules}
+use Rattle.mm_machine.specs.Arena.{AreDisjointAt}
 use Rattle.mm_machine.specs.State.{State}
 use Rattle.mm_machine.specs.Stops.{Stops}
 use Rattle.mm_machine.specs.declared.machine.Stopped.{Stopped}
@@ -19,16 +19,16 @@ use Rattle.mm_check.specs.Reached.{Ran, Agree, AreStepsOf}
 -- it noted, and the pairs of symbols that it knows to be disjoint
 pub record CheckerState : Type 0 where
   pub machine : State
-  pub rules : Lists
+  pub rules : RuleLists
   pub noted : List ℕ
-  pub apart : List (ℕ × ℕ)
+  pub cache : List (ℕ × ℕ)
 
-abbrev pub checker_state : State → Lists → List ℕ → List (ℕ × ℕ) → CheckerState
-checker_state machine rules noted apart =
-    record { machine = machine; rules = rules; noted = noted; apart = apart }
+abbrev pub checker_state : State → RuleLists → List ℕ → List (ℕ × ℕ) → CheckerState
+checker_state machine rules noted cache =
+    record { machine = machine; rules = rules; noted = noted; cache = cache }
 
 -- the number of symbols and the rules are those of the database
-pub record AreOf (k : List Statement) (width : ℕ) (rules : Lists) : Type 0 where
+pub record AreOf (k : List Statement) (width : ℕ) (rules : RuleLists) : Type 0 where
   pub width_is : width ≡ length (symbol_names k)
   pub rules_are : AreRules k rules
 
@@ -37,15 +37,15 @@ abbrev pub IsMadeFor : List Statement → CheckerState → Type 0
 IsMadeFor k c = AreOf k c.machine.width c.rules
 
 -- they are, and the pairs of symbols are disjoint at the theorem
-pub record AreAt (k : List Statement) (t width : ℕ) (rules : Lists) (apart : List (ℕ × ℕ)) :
+pub record AreAt (k : List Statement) (t width : ℕ) (rules : RuleLists) (cache : List (ℕ × ℕ)) :
     Type 0 where
   pub made_for : AreOf k width rules
   pub theorem : t < length k
-  pub apart_are : AreApart k t apart
+  pub disjoint_are : AreDisjointAt k t cache
 
 -- it checks the proof of the theorem
 abbrev pub IsAt : List Statement → ℕ → CheckerState → Type 0
-IsAt k t c = AreAt k t c.machine.width c.rules c.apart
+IsAt k t c = AreAt k t c.machine.width c.rules c.cache
 
 -- it has performed the first `i` of the steps
 pub record HasPerformed (k : List Statement) (t : ℕ) (steps : List PlacedStep) (i : ℕ)

@@ -34,9 +34,9 @@ pub record IsChecked (db : List Statement) (by_essential : Bool) (t : ℕ)
   pub exact : (a : ℕ) → Decides (is_member cites a) (Cites db by_essential t a)
 
 -- if the refusal is a fault, it is the fault of the theorem's proof
-abbrev pub Refuses : List Statement → ℕ → CheckRefused → Type 0
-Refuses db t (Faulty f) = ProofFault db t (end_of (slice_get db t)) f
-Refuses db t Memory = Unit {0}
+abbrev pub IsCheckRefusal : List Statement → ℕ → CheckRefused → Type 0
+IsCheckRefusal db t (Faulty f) = ProofFault db t (end_of (slice_get db t)) f
+IsCheckRefusal db t Memory = Unit {0}
 
 -- if the refusal is a fault, it is the fault of one of these steps
 abbrev pub StepRefuses : List Statement → ℕ → List PlacedStep → CheckRefused → Type 0

@@ -15,21 +15,21 @@ use Rattle.mm_steps.specs.Read.{is_marked}
 use Rattle.mm_machine.specs.State.{State}
 use Rattle.mm_rule.specs.Assertions.{is_assertion_at}
 
--- After the steps there is a row of derivations: its formulas are the entries, the ends are the
--- last formulas of the earlier rows, and its assertions were noted.
+-- After the steps there is a forest of derivations: its formulas are the entries, the ends are the
+-- last formulas of the earlier forests, and its assertions were noted.
 pub record Reached (k : List Statement) (t : ℕ) (done : List Step) (stack ends : List Formula)
     (noted : List ℕ) : Type 0 where
-  pub row : Trees
-  pub derivations : AreDerivations (context_at k t) row
-  pub entries_are : formulas row ≡ stack
+  pub forest : Trees
+  pub derivations : AreDerivations (context_at k t) forest
+  pub entries_are : formulas forest ≡ stack
   pub lists : List (List ℕ)
   pub after : AllZip (Leaves (context_at k t)) lists ends
   pub plain : (rest : List Step) (all : List ℕ)
-      → Plain (context_at k t) lists (postfix row) rest all
+      → Plain (context_at k t) lists (postfix forest) rest all
       → Plain (context_at k t) [] [] (done ++ rest) all
   pub within : AllByRecursion
-      (λ l. (a : ℕ) → is_member l a ≡ true → is_member (postfix row) a ≡ true) lists
-  pub noted_are : (a : ℕ) → is_member noted a ≡ (is_member (postfix row) a && is_assertion_at k a)
+      (λ l. (a : ℕ) → is_member l a ≡ true → is_member (postfix forest) a ≡ true) lists
+  pub noted_are : (a : ℕ) → is_member noted a ≡ (is_member (postfix forest) a && is_assertion_at k a)
 
 -- the steps without their places
 abbrev pub steps_of : List PlacedStep → List Step

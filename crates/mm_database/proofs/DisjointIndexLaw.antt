@@ -379,7 +379,7 @@ module _ (b : BlockLists) (ps : List (ℕ × ℕ)) (rising : AreRising ps) (x at
 -- ---- whether two symbols have one together
 
 -- what both have stands before where the search is
-pub record Apart (b : BlockLists) (ps : List (ℕ × ℕ)) (x y at left right : ℕ) : Type 0 where
+pub record NoneInCommon (b : BlockLists) (ps : List (ℕ × ℕ)) (x y at left right : ℕ) : Type 0 where
   pub met : (p q : ℕ) → p < length ps → q < length ps → (get_or ps p (0, 0)).0 ≡ x
       → (get_or ps q (0, 0)).0 ≡ y → (get_or ps p (0, 0)).1 ≡ (get_or ps q (0, 0)).1
       → is_live b (get_or ps p (0, 0)).1 at ≡ true → (p < left) × (q < right)
@@ -390,7 +390,7 @@ module _ (b : BlockLists) (ps : List (ℕ × ℕ)) (rising : AreRising ps) (x y 
       → ((p : ℕ) → left ≤ p → p < length ps → is_before (get_or ps p (0, 0)) x at ≡ false)
       → ((p : ℕ) → p < right → is_before (get_or ps p (0, 0)) y at ≡ true)
       → ((p : ℕ) → right ≤ p → p < length ps → is_before (get_or ps p (0, 0)) y at ≡ false)
-      → Apart b ps x y at left right
+      → NoneInCommon b ps x y at left right
   apart_start left right l r bl al br ar = record {
     met = λ p q h i e f s o.
         let m =
@@ -428,13 +428,13 @@ module _ (b : BlockLists) (ps : List (ℕ × ℕ)) (rising : AreRising ps) (x y 
 
   -- the last of the one is of a later statement than the last of the other, or of the same, whose
   -- block is closed
-  pub apart_left : (left right next : ℕ) → Apart b ps x y at left right → 0 < left
+  pub none_on_left : (left right next : ℕ) → NoneInCommon b ps x y at left right → 0 < left
       → left ≤ length ps → 0 < right → right ≤ length ps → (get_or ps (right - 1) (0, 0)).0 ≡ y
       → ((get_or ps (right - 1) (0, 0)).1 < (get_or ps (left - 1) (0, 0)).1)
       ⊎ (nat_le at (end_of b (get_or ps (left - 1) (0, 0)).1) ≡ false)
       → ((p : ℕ) → next ≤ p → p + 1 < left → nat_le at (end_of b (get_or ps p (0, 0)).1) ≡ false)
-      → Apart b ps x y at next right
-  apart_left left right next a sl wl sr wr ey why passed =
+      → NoneInCommon b ps x y at next right
+  none_on_left left right next a sl wl sr wr ey why passed =
       record {
         met = λ p q h i e f s o. let m = a.met p q h i e f s o in
             (by p q m.0 m.1 f s o (cases_lt p next) why, m.1);
@@ -462,12 +462,12 @@ module _ (b : BlockLists) (ps : List (ℕ × ℕ)) (rising : AreRising ps) (x y 
               order_of q (right - 1) (omega (arith, r)) (omega (arith, sr, wr)) (f ∙ sym ey) in
               omega (arith, u, v, s, c)
 
-  pub apart_right : (left right next : ℕ) → Apart b ps x y at left right → 0 < left
+  pub none_on_right : (left right next : ℕ) → NoneInCommon b ps x y at left right → 0 < left
       → left ≤ length ps → 0 < right → right ≤ length ps → (get_or ps (left - 1) (0, 0)).0 ≡ x
       → (get_or ps (left - 1) (0, 0)).1 < (get_or ps (right - 1) (0, 0)).1
       → ((p : ℕ) → next ≤ p → p + 1 < right → nat_le at (end_of b (get_or ps p (0, 0)).1) ≡ false)
-      → Apart b ps x y at left next
-  apart_right left right next a sl wl sr wr ex why passed =
+      → NoneInCommon b ps x y at left next
+  none_on_right left right next a sl wl sr wr ex why passed =
       record {
         met = λ p q h i e f s o. let m = a.met p q h i e f s o in
             (m.0, by p q m.0 m.1 e s o (cases_lt q next));
@@ -489,11 +489,11 @@ module _ (b : BlockLists) (ps : List (ℕ × ℕ)) (rising : AreRising ps) (x y 
               omega (arith, u, v, s, why)
 
   -- one of the two has none left
-  pub apart_end : (left right : ℕ) → Apart b ps x y at left right
+  pub none_at_end : (left right : ℕ) → NoneInCommon b ps x y at left right
       → ((p : ℕ) → p < left → (get_or ps p (0, 0)).0 ≡ x → ⊥)
       ⊎ ((p : ℕ) → p < right → (get_or ps p (0, 0)).0 ≡ y → ⊥)
       → (j : ℕ) → has_pair ps x j ≡ true → has_pair ps y j ≡ true → is_live b j at ≡ false
-  apart_end left right a none j hx hy = false_from_ne_true (is_live b j at) (λ o.
+  none_at_end left right a none j hx hy = false_from_ne_true (is_live b j at) (λ o.
       let w = has_at ps x j hx in
       let v = has_at ps y j hy in
       let m = a.met w.0 v.0 w.1 v.1 w.2 v.2 (w.3 ∙ sym v.3) (ap (λ i. is_live b i at) w.3 ∙ o) in

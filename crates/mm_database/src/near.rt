@@ -11,10 +11,10 @@ use mm_outline::symbol::Sym;
 use std::alloc::Allocator;
 
 /// The maximum number of statements that are examined.
-const NEAR: u32 = 16;
+const MAX_STATEMENTS: u32 = 16;
 
 /// The maximum number of symbols of a `$d` that is examined.
-const FEW: usize = 16;
+const MAX_SYMBOLS: usize = 16;
 
 /// Whether `formula` has the symbol. A result of false promises nothing.
 #[inline(always)]
@@ -45,14 +45,14 @@ pub(crate) fn are_together_near<A: Allocator>(
         (active_of is_disjoint_statement database.now.statements statement)
         ≡ true }
 {
-    let last = statement.saturating_sub(NEAR);
+    let last = statement.saturating_sub(MAX_STATEMENTS);
     let mut left = statement;
     while left > last {
         left -= 1;
         match database.kind(left) {
             Kind::Disjoint => {
                 let formula = database.formula(left);
-                if formula.len() <= FEW
+                if formula.len() <= MAX_SYMBOLS
                     && has(formula, x)
                     && has(formula, y)
                     && database.active_at(left, statement)

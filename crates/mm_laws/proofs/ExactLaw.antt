@@ -1,22 +1,22 @@
--- The stack is exact in both directions, and the labels determine the row.
+-- The stack is exact in both directions, and the labels determine the forest.
 use Rattle.std.proofs.Common.{◌≡◌, ℕ, suc, ◌+◌, ◌-◌, true, List, [], ◌∷◌, ◌++◌}
 use Rattle.std.proofs.Common.{map, length, take, drop, Option, Some, None, Ok, Err, nat_le}
 use Rattle.std.proofs.Common.{sym, ap, ap₂, ◌∙◌, subst, append-nil, arith, ◌↔◌, le-leb}
 use Rattle.std.specs.List.{list_all}
 use Rattle.std.proofs.lemmas.Bool.{false_from_ne_true, lt-leb}
 use Rattle.mm_spec.specs.Derivation.{Formula, Rule, hypothesis, assertion, Context, Substitution}
-use Rattle.mm_spec.specs.Derivation.{substitute, are_apart, Trees, none, formulas, postfix}
+use Rattle.mm_spec.specs.Derivation.{substitute, are_all_disjoint, Trees, none, formulas, postfix}
 use Rattle.mm_spec.specs.Derivation.{AreDerivations}
 use Rattle.mm_spec.specs.Limits.{formula_limit}
-use Rattle.mm_spec.specs.Valid.{Reason, too_few, unmatched, not_apart, too_long, Fails}
-use Rattle.mm_spec.proofs.UnifyLaw.{same_equal, found_formula, found_apart}
+use Rattle.mm_spec.specs.Valid.{Reason, too_few, unmatched, not_disjoint, too_long, Fails}
+use Rattle.mm_spec.proofs.UnifyLaw.{same_equal, found_formula, found_disjoint}
 use Rattle.mm_spec.specs.Laws.Stack.{found, IsGood, step, apply, pick}
-use Rattle.mm_spec.proofs.MachineLaw.{proceed, run, AreGood, runs_row, good_parts, no_other, means}
+use Rattle.mm_spec.proofs.MachineLaw.{proceed, run, AreGood, runs_forest, good_parts, no_other, means}
 use Rattle.mm_spec.proofs.MachineLaw.{Ran, Stopped}
 
--- the labels are the postfix list of a row of derivations
-abbrev pub IsPostfixOfRow : Context → List ℕ → Type 0
-IsPostfixOfRow c labels = (row : Trees) × AreDerivations c row × (postfix row ≡ labels)
+-- the labels are the postfix list of a forest of derivations
+abbrev pub IsPostfixOfForest : Context → List ℕ → Type 0
+IsPostfixOfForest c labels = (forest : Trees) × AreDerivations c forest × (postfix forest ≡ labels)
 
 module _ (c : Context) where
   -- a step that fails stops the run, for that reason
@@ -24,11 +24,11 @@ module _ (c : Context) where
       → Fails c r es reason → step c r es ≡ Err reason
   stops None es too_few good h = absurd h
   stops None es unmatched good h = absurd h
-  stops None es not_apart good h = absurd h
+  stops None es not_disjoint good h = absurd h
   stops None es too_long good h = absurd h
   stops (Some (hypothesis g)) es too_few good h = absurd h
   stops (Some (hypothesis g)) es unmatched good h = absurd h
-  stops (Some (hypothesis g)) es not_apart good h = absurd h
+  stops (Some (hypothesis g)) es not_disjoint good h = absurd h
   stops (Some (hypothesis g)) es too_long good h =
       ap (λ b. pick true true true b (es ++ g ∷ [])) (lt-leb (length g) formula_limit h)
   stops (Some (assertion a)) es too_few good h =
@@ -38,27 +38,27 @@ module _ (c : Context) where
   stops (Some (assertion a)) es unmatched good h =
       let ps = drop (length es - length a.hypotheses) es in
       let σ = found c a.hypotheses ps in
-      let apart = list_all (λ p. are_apart c (σ p.low) (σ p.high)) a.pairs in
-      ap₂ (λ b m. pick b m apart (nat_le (length (substitute c σ a.formula)) formula_limit)
+      let disjoint = list_all (λ p. are_all_disjoint c (σ p.low) (σ p.high)) a.pairs in
+      ap₂ (λ b m. pick b m disjoint (nat_le (length (substitute c σ a.formula)) formula_limit)
       (take (length es - length a.hypotheses) es ++ substitute c σ a.formula ∷ []))
       (le-leb (length a.hypotheses) (length es) h.0)
       (false_from_ne_true _ (λ e. h.1 σ (same_equal _ _ e)))
-  stops (Some (assertion a)) es not_apart good h =
+  stops (Some (assertion a)) es not_disjoint good h =
       let n = length es - length a.hypotheses in
       let ps = drop n es in
       let σ = found c a.hypotheses ps in
       let e : found c a.hypotheses (map (substitute c h.0) a.hypotheses) ≡ σ =
       ap (found c a.hypotheses) (sym h.2) in
-      let same_test = found_apart c a.hypotheses h.0 a.pairs good.pairs in
-      let apart =
-      subst (λ (s : Substitution). list_all (λ p. are_apart c (s p.low) (s p.high)) a.pairs
-      ≡ list_all (λ p. are_apart c (h.0 p.low) (h.0 p.high)) a.pairs) e same_test in
-      ap₂ (λ b m. pick b m (list_all (λ p. are_apart c (σ p.low) (σ p.high)) a.pairs)
+      let same_test = found_disjoint c a.hypotheses h.0 a.pairs good.pairs in
+      let disjoint =
+      subst (λ (s : Substitution). list_all (λ p. are_all_disjoint c (s p.low) (s p.high)) a.pairs
+      ≡ list_all (λ p. are_all_disjoint c (h.0 p.low) (h.0 p.high)) a.pairs) e same_test in
+      ap₂ (λ b m. pick b m (list_all (λ p. are_all_disjoint c (σ p.low) (σ p.high)) a.pairs)
       (nat_le (length (substitute c σ a.formula)) formula_limit)
       (take n es ++ substitute c σ a.formula ∷ []))
       (le-leb (length a.hypotheses) (length es) h.1) (no_other c a ps h.0 good h.2)
       ∙ ap (λ k. pick true true k (nat_le (length (substitute c σ a.formula)) formula_limit)
-      (take n es ++ substitute c σ a.formula ∷ [])) (apart
+      (take n es ++ substitute c σ a.formula ∷ [])) (disjoint
       ∙ false_from_ne_true _ h.3)
   stops (Some (assertion a)) es too_long good h =
       let n = length es - length a.hypotheses in
@@ -66,30 +66,30 @@ module _ (c : Context) where
       let σ = found c a.hypotheses ps in
       let e : found c a.hypotheses (map (substitute c h.0) a.hypotheses) ≡ σ =
       ap (found c a.hypotheses) (sym h.2) in
-      let apart =
-      subst (λ (s : Substitution). list_all (λ p. are_apart c (s p.low) (s p.high)) a.pairs
-      ≡ list_all (λ p. are_apart c (h.0 p.low) (h.0 p.high)) a.pairs) e
-      (found_apart c a.hypotheses h.0 a.pairs good.pairs) in
+      let disjoint =
+      subst (λ (s : Substitution). list_all (λ p. are_all_disjoint c (s p.low) (s p.high)) a.pairs
+      ≡ list_all (λ p. are_all_disjoint c (h.0 p.low) (h.0 p.high)) a.pairs) e
+      (found_disjoint c a.hypotheses h.0 a.pairs good.pairs) in
       let formula =
       subst (λ (s : Substitution). substitute c s a.formula ≡ substitute c h.0 a.formula) e
       (found_formula c a.hypotheses h.0 a.formula good.formula) in
-      ap₂ (λ b m. pick b m (list_all (λ p. are_apart c (σ p.low) (σ p.high)) a.pairs)
+      ap₂ (λ b m. pick b m (list_all (λ p. are_all_disjoint c (σ p.low) (σ p.high)) a.pairs)
       (nat_le (length (substitute c σ a.formula)) formula_limit)
       (take n es ++ substitute c σ a.formula ∷ []))
       (le-leb (length a.hypotheses) (length es) h.1) (no_other c a ps h.0 good h.2)
-      ∙ ap₂ (λ k s. pick true true k s (take n es ++ substitute c σ a.formula ∷ [])) (apart ∙ h.3)
+      ∙ ap₂ (λ k s. pick true true k s (take n es ++ substitute c σ a.formula ∷ [])) (disjoint ∙ h.3)
       (ap (λ f. nat_le (length f) formula_limit) formula ∙ lt-leb _ _ h.4)
 
-  -- a row of derivations with these labels is what a run finds
-  pub row_run : (ls : List ℕ) → AreGood c ls → (row : Trees) → AreDerivations c row
-      → postfix row ≡ ls → run c 0 ls [] ≡ Ok (formulas row)
-  row_run ls good row d e =
-      let g : AreGood c (postfix row) = subst (AreGood c) (sym e) good in
-      ap (λ x. run c 0 x []) (sym e ∙ sym (append-nil (postfix row))) ∙ runs_row c row d g 0 [] []
+  -- a forest of derivations with these labels is what a run finds
+  pub row_run : (ls : List ℕ) → AreGood c ls → (forest : Trees) → AreDerivations c forest
+      → postfix forest ≡ ls → run c 0 ls [] ≡ Ok (formulas forest)
+  row_run ls good forest d e =
+      let g : AreGood c (postfix forest) = subst (AreGood c) (sym e) good in
+      ap (λ x. run c 0 x []) (sym e ∙ sym (append-nil (postfix forest))) ∙ runs_forest c forest d g 0 [] []
 
   -- the run ends well exactly where there is one
   pub exact_ok : (ls : List ℕ) → AreGood c ls
-      → IsPostfixOfRow c ls ↔ ((out : List Formula) × (run c 0 ls [] ≡ Ok out))
+      → IsPostfixOfForest c ls ↔ ((out : List Formula) × (run c 0 ls [] ≡ Ok out))
   exact_ok ls good = (
     λ h. (formulas h.0, row_run ls good h.0 h.1 h.2),
     λ h. let m = subst (Ran c none ls) h.1
@@ -97,7 +97,7 @@ module _ (c : Context) where
         (m.0, m.1, m.2),
   )
 
-  -- a run stops exactly where a label fails after a row of derivations, and that tells the place
+  -- a run stops exactly where a label fails after a forest of derivations, and that tells the place
   -- and the reason
   pub stopped_run : (ls : List ℕ) (reason : Reason) → AreGood c ls → (s : Stopped c none ls reason)
       → run c 0 ls [] ≡ Err (record { at = length s.before; reason = reason })
@@ -109,16 +109,16 @@ module _ (c : Context) where
       s.splits ∙ ap (λ x. x ++ s.label ∷ s.after) (sym s.labels) in
       let n : 0 + length (postfix s.reached) ≡ length s.before =
       let k = ap length s.labels in omega (arith, k) in
-      ap (λ x. run c 0 x []) e ∙ runs_row c s.reached s.derivations gr 0 (s.label ∷ s.after) []
+      ap (λ x. run c 0 x []) e ∙ runs_forest c s.reached s.derivations gr 0 (s.label ∷ s.after) []
       ∙ ap (λ r. proceed r (0 + length (postfix s.reached))
       (run c (suc (0 + length (postfix s.reached))) s.after))
       (stops (c.rule s.label) (formulas s.reached) reason parts.1.0 s.fails)
       ∙ ap (λ k. Err (record { at = k; reason = reason })) n
 
-  -- with the label that fails, the labels are of no row
-  pub stopped_no_row : (ls : List ℕ) (reason : Reason) → AreGood c ls → Stopped c none ls reason
-      → ¬ IsPostfixOfRow c ls
-  stopped_no_row ls reason good s h =
+  -- with the label that fails, the labels are of no forest
+  pub stopped_no_forest : (ls : List ℕ) (reason : Reason) → AreGood c ls → Stopped c none ls reason
+      → ¬ IsPostfixOfForest c ls
+  stopped_no_forest ls reason good s h =
       let found = row_run ls good h.0 h.1 h.2 in
       let stopped = stopped_run ls reason good s in
       cc

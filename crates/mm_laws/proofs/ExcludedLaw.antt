@@ -6,9 +6,9 @@ use Rattle.mm_spec.specs.Steps.{Step, label, marked}
 use Rattle.mm_spec.specs.Valid.{Reason, StepFails, Adds, Plain}
 use Rattle.mm_spec.specs.Laws.Complete.{IsFine}
 use Rattle.mm_spec.proofs.MachineLaw.{AreGood}
-use Rattle.mm_spec.proofs.StepsLaw.{row_good, StoppedStep}
+use Rattle.mm_spec.proofs.StepsLaw.{forest_good, StoppedStep}
 use Rattle.mm_spec.proofs.CheckedLaw.{plain_unique}
-use Rattle.mm_laws.proofs.ExactLaw.{IsPostfixOfRow, stopped_no_row}
+use Rattle.mm_laws.proofs.ExactLaw.{IsPostfixOfForest, stopped_no_forest}
 
 module _ (c : Context) (fine : (l : ℕ) → IsFine c (c.rule l)) where
   -- the plain list only grows
@@ -35,10 +35,10 @@ module _ (c : Context) (fine : (l : ℕ) → IsFine c (c.rule l)) where
       let p = plain_front front steps (lists ++ h.0 ∷ []) h.0 all h.2 in
       (p.0, p.1, (h.0, h.1, p.2), p.3)
 
-  -- a step that fails leaves no row for the whole
+  -- a step that fails leaves no forest for the whole
   pub excludes : (steps : List Step) (reason : Reason) (all : List ℕ)
-      → StoppedStep c [] [] steps reason → Plain c [] [] steps all → ¬ IsPostfixOfRow c all
-  excludes steps reason all s h row = go s.first s.fails p.3
+      → StoppedStep c [] [] steps reason → Plain c [] [] steps all → ¬ IsPostfixOfForest c all
+  excludes steps reason all s h forest = go s.first s.fails p.3
     where
       p : (mid : List ℕ) × (seen : List (List ℕ)) × Plain c [] [] s.before mid
           × Plain c seen mid (s.first ∷ s.after) all
@@ -46,23 +46,23 @@ module _ (c : Context) (fine : (l : ℕ) → IsFine c (c.rule l)) where
           plain_front s.before (s.first ∷ s.after) [] [] all
           (subst (λ x. Plain c [] [] x all) s.splits h)
 
-      go : (first : Step) → StepFails c first (formulas s.row) reason
+      go : (first : Step) → StepFails c first (formulas s.forest) reason
           → Plain c p.1 p.0 (first ∷ s.after) all → ⊥
       go (marked j) fails q = fails
       go (label l) fails q =
           let rest = plain_more s.after (p.1 ++ q.0 ∷ []) q.0 all q.2 in
           let whole : all ≡ p.0 ++ l ∷ rest.0 =
           rest.1 ∙ ap (λ z. z ++ rest.0) q.1 ∙ append_assoc p.0 (l ∷ []) rest.0 in
-          let labels : postfix s.row ≡ p.0 =
+          let labels : postfix s.forest ≡ p.0 =
           s.is ∙ plain_unique c fine s.before [] [] s.labels p.0 s.plain p.2 in
-          stopped_no_row c all reason (subst (AreGood c) row.2 (row_good c fine row.0 row.1))
+          stopped_no_forest c all reason (subst (AreGood c) forest.2 (forest_good c fine forest.0 forest.1))
           (record {
             before = p.0;
             label = l;
             after = rest.0;
             splits = whole;
-            reached = s.row;
+            reached = s.forest;
             derivations = s.derivations;
             labels = labels;
             fails = fails;
-          }) row
+          }) forest

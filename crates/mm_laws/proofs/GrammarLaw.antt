@@ -14,7 +14,7 @@ use Rattle.mm_spec.specs.Roles.{role_of, fault_of, is_clean, is_dollar_and, is_k
 use Rattle.mm_spec.specs.Roles.{has_mark, is_token, opens_comment, closes_comment, is_comment_word}
 use Rattle.mm_spec.specs.Readings.{Reading, reading, with_tokens, bytes_of}
 use Rattle.mm_spec.specs.Laws.Readings.{go_on}
-use Rattle.mm_laws.specs.Grammar.{Item, Single, Comment, Rest, IsItem, IsRest, AreCommentWords}
+use Rattle.mm_laws.specs.Grammar.{Lexeme, Single, Comment, Rest, IsLexeme, IsRest, AreCommentWords}
 use Rattle.mm_laws.specs.Grammar.{words_in, words_open, tokens_in, IsWellBegun, IsFaulty, IsReading}
 use Rattle.mm_spec.proofs.ReadingsLaw.{reading_opening, reading_closing, reading_comment}
 use Rattle.mm_spec.proofs.ReadingsLaw.{reading_faulty, reading_end, reading_one, reading_append}
@@ -108,7 +108,7 @@ reading_comment_words text p (w ∷ ws) us (h, all) =
     reading_comment text (Some p) w (ws ++ us) (role_comment _ h)
     ∙ reading_comment_words text p ws us all
 
-reading_items : (text : List ℕ) (items : List Item) → AllByRecursion (IsItem text) items →
+reading_items : (text : List ℕ) (items : List Lexeme) → AllByRecursion (IsLexeme text) items →
     reading text None (flat_map words_in items)
     ≡ record { tokens = flat_map tokens_in items; fault = None; comment = None }
 reading_items text [] all = reading_end text None
@@ -150,8 +150,8 @@ AreCommentWords_push : (text : List ℕ) (ws : List Word) (w : Word) → AreComm
 AreCommentWords_push text [] w all h = (h, tt)
 AreCommentWords_push text (v ∷ ws) w (first, all) h = (first, AreCommentWords_push text ws w all h)
 
-IsWellBegun_cons : (text : List ℕ) (item : Item) (ws ts : List Word) (c : Option ℕ)
-    → IsItem text item → IsWellBegun text ws ts c
+IsWellBegun_cons : (text : List ℕ) (item : Lexeme) (ws ts : List Word) (c : Option ℕ)
+    → IsLexeme text item → IsWellBegun text ws ts c
     → IsWellBegun text (words_in item ++ ws) (tokens_in item ++ ts) c
 IsWellBegun_cons text item ws ts c is begun = record {
   items = item ∷ begun.items;

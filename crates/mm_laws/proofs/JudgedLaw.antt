@@ -14,7 +14,7 @@ use Rattle.mm_spec.proofs.MachineLaw.{Failed}
 use Rattle.mm_spec.proofs.StepsLaw.{run_steps, StoppedStep, RanSteps, means_steps}
 use Rattle.mm_spec.specs.Laws.Stack.{AreGoodSteps}
 use Rattle.mm_spec.specs.Laws.Complete.{IsFine}
-use Rattle.mm_spec.proofs.CheckedLaw.{same_row, plain_unique}
+use Rattle.mm_spec.proofs.CheckedLaw.{same_forest, plain_unique}
 use Rattle.mm_laws.proofs.ExcludedLaw.{excludes}
 use Rattle.mm_spec.specs.declared.Code.TheVariants.{NotOneEntry, OtherFormula}
 
@@ -68,11 +68,11 @@ module _ (c : Context) (fine : (l : ℕ) → IsFine c (c.rule l)) (ps : List Pla
     end_fault : (f : Fault) → ProofEndFault c ps formula end f → Judged
 
   -- one entry, or not
-  at_end : (row : Trees) → AreDerivations c row → IsPlain c (steps_of ps) (postfix row) → Judged
+  at_end : (forest : Trees) → AreDerivations c forest → IsPlain c (steps_of ps) (postfix forest) → Judged
   at_end none d p =
       end_fault (fault end NotOneEntry)
       (record {
-        row = none;
+        forest = none;
         derivations = d;
         plain = p;
         code = NotOneEntry;
@@ -82,7 +82,7 @@ module _ (c : Context) (fine : (l : ℕ) → IsFine c (c.rule l)) (ps : List Pla
   at_end (more (more ts k h bs) l g cs) d p =
       end_fault (fault end NotOneEntry)
       (record {
-        row = more (more ts k h bs) l g cs;
+        forest = more (more ts k h bs) l g cs;
         derivations = d;
         plain = p;
         code = NotOneEntry;
@@ -104,7 +104,7 @@ module _ (c : Context) (fine : (l : ℕ) → IsFine c (c.rule l)) (ps : List Pla
       go false e =
           end_fault (fault end OtherFormula)
           (record {
-            row = more none l g cs;
+            forest = more none l g cs;
             derivations = d;
             plain = p;
             code = OtherFormula;
@@ -127,10 +127,10 @@ module _ (c : Context) (fine : (l : ℕ) → IsFine c (c.rule l)) (ps : List Pla
             first = record { at = s.at; step = m.first };
             after = s.back;
             splits = s.is;
-            row = m.row;
+            forest = m.forest;
             derivations = m.derivations;
             plain =
-                subst (λ x. Plain c [] [] x (postfix m.row)) (sym s.same)
+                subst (λ x. Plain c [] [] x (postfix m.forest)) (sym s.same)
                 (subst (λ x. Plain c [] [] m.before x) (sym m.is) m.plain);
             reason = e.reason;
             fails = m.fails;
@@ -143,9 +143,9 @@ module _ (c : Context) (fine : (l : ℕ) → IsFine c (c.rule l)) (ps : List Pla
     first = s.first.step;
     after = steps_of s.after;
     splits = ap steps_of s.splits ∙ map_append s.before s.first s.after;
-    labels = postfix s.row;
+    labels = postfix s.forest;
     plain = s.plain;
-    row = s.row;
+    forest = s.forest;
     derivations = s.derivations;
     is = refl;
     fails = s.fails;
@@ -164,14 +164,14 @@ module _ (c : Context) (fine : (l : ℕ) → IsFine c (c.rule l)) (ps : List Pla
 
   pub no_both_faults : (f g : Fault) → StepFault c ps f → ¬ ProofEndFault c ps formula end g
   no_both_faults f g s h =
-      excludes c fine (steps_of ps) s.reason (postfix h.row) (stopped f s) h.plain
-      (h.row, h.derivations, refl)
+      excludes c fine (steps_of ps) s.reason (postfix h.forest) (stopped f s) h.plain
+      (h.forest, h.derivations, refl)
 
   pub no_end_fault : (d : Trees) → Derives c (steps_of ps) formula d → (f : Fault)
       → ¬ ProofEndFault c ps formula end f
   no_end_fault d h f e =
-      let row : e.row ≡ d =
-      same_row c fine e.row d e.derivations h.3
-      (plain_unique c fine (steps_of ps) [] [] (postfix e.row) (postfix d) e.plain h.4) in
-      let one : formulas e.row ≡ formula ∷ [] = ap formulas row ∙ ap formulas h.2 in
+      let forest : e.forest ≡ d =
+      same_forest c fine e.forest d e.derivations h.3
+      (plain_unique c fine (steps_of ps) [] [] (postfix e.forest) (postfix d) e.plain h.4) in
+      let one : formulas e.forest ≡ formula ∷ [] = ap formulas forest ∙ ap formulas h.2 in
       (subst (λ x. IsEndCode c x formula e.code) one e.fails).0 refl

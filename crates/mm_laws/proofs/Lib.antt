@@ -1,7 +1,7 @@
 -- All bodies are empty, so the answer of each clause is a lemma. Existence goes from `judged`
 -- (`JudgedLaw.antt`: a derivation, a step fault or an end fault exists) to `valid_or_faulty`
 -- (`TheoremLaw.antt`), `sound_or_faulty` (`SomeFaultLaw.antt`) and `output_exists`
--- (`SomeOutputLaw.antt`). Uniqueness goes from `stopped_no_row` (`ExactLaw.antt`) to `excludes`
+-- (`SomeOutputLaw.antt`). Uniqueness goes from `stopped_no_forest` (`ExactLaw.antt`) to `excludes`
 -- (`ExcludedLaw.antt`), `no_both_faults`, `proof_fault_unique` and `output_unique`
 -- (`OneOutputLaw.antt`). Letters have `spelling_unique` (`SpellingLaw.antt`). `variables_typed` and
 -- `variables_mandatory` (`TypedLaw.antt`) are about frames. `valid_on_the_meaning`

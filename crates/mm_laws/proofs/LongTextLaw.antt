@@ -16,7 +16,7 @@ use Rattle.mm_spec.specs.Request.{Request}
 use Rattle.mm_spec.specs.Output.{LexedText, lexed_of, IsRead, AllAreValid, FirstFault, IsOutput}
 use Rattle.mm_laws.specs.Laws.LongTexts.{LongTextsAreRefused, FrontsDecide}
 use Rattle.mm_spec.proofs.LexedLaw.{tokens_of_long, lexical_fault_long}
-use Rattle.mm_spec.proofs.RowLaw.{is_longest}
+use Rattle.mm_spec.proofs.LongestLaw.{is_longest}
 use Rattle.mm_spec.proofs.StopsLaw.{text_fault_is}
 use Rattle.mm_laws.proofs.OneOutputLaw.{output_unique}
 
@@ -37,8 +37,8 @@ lexed_long text h = ap₂ (lexed_as text) (tokens_of_long text h) (lexical_fault
 nothing_read : (len : ℕ) → IsRead len unread [] (Some too_long)
 nothing_read len =
     record {
-      row = [];
-      is_row = is_longest [];
+      statements = [];
+      are_statements = is_longest [];
       rest = [];
       splits = refl;
       lawful = λ k l. absurd (omega arith);

@@ -9,7 +9,7 @@ use Rattle.std.proofs.lemmas.Bool.Decides.{same_from_decides}
 use Rattle.std.proofs.lemmas.List.{append_cancel_left}
 use Rattle.mm_spec.specs.Text.{Bytes, Token, fault}
 use Rattle.mm_spec.specs.declared.Fault.{Fault}
-use Rattle.mm_spec.specs.Statement.{Statement, spelled, IsRowPrefix, IsBetween, ShapeFault, IsLongestRow}
+use Rattle.mm_spec.specs.Statement.{Statement, spelled, BeginStatements, IsBetween, ShapeFault, AreLongestStatements}
 use Rattle.mm_spec.specs.Statement.{FileEndFault, shape_code, is_closing, is_opening}
 use Rattle.mm_spec.specs.Lawful.{least, scope_fault}
 use Rattle.mm_spec.specs.Derivation.{Formula, Context, Rule, hypothesis, assertion, Trees, formulas}
@@ -35,10 +35,10 @@ use Rattle.mm_spec.specs.Laws.Complete.{IsFine, AreComplete}
 use Rattle.mm_spec.specs.Opened.{counted}
 use Rattle.mm_spec.proofs.CompleteLaw.{reads_complete}
 use Rattle.mm_spec.proofs.OpenedLaw.{counted_complete}
-use Rattle.mm_spec.proofs.CheckedLaw.{same_row, plain_unique}
+use Rattle.mm_spec.proofs.CheckedLaw.{same_forest, plain_unique}
 use Rattle.mm_laws.proofs.ExcludedLaw.{excludes}
 use Rattle.mm_laws.proofs.JudgedLaw.{stopped, no_step_fault, no_end_fault, no_both_faults}
-use Rattle.mm_spec.proofs.RowLaw.{longest_unique}
+use Rattle.mm_spec.proofs.LongestLaw.{longest_unique}
 use Rattle.mm_spec.specs.declared.Code.TheVariants.{OpenStatement, OpenBlock}
 
 -- ---- two splits of one list
@@ -93,26 +93,26 @@ module _ (c : Context) (fine : (l : ℕ) → IsFine c (c.rule l)) where
   reason_unique (marked j) es a b h k = absurd h
 
   -- no later step fails too
-  no_later : (ps : List PlacedStep) (f : Fault) (s : StepFault c ps f) (row : Trees)
+  no_later : (ps : List PlacedStep) (f : Fault) (s : StepFault c ps f) (forest : Trees)
       → (before zs : List PlacedStep)
-      → AreDerivations c row → IsPlain c (map (λ p. p.step) before) (postfix row)
+      → AreDerivations c forest → IsPlain c (map (λ p. p.step) before) (postfix forest)
       → before ≡ s.before ++ s.first ∷ zs → ⊥
-  no_later ps f s row before zs d p is =
+  no_later ps f s forest before zs d p is =
       let t : StepFault c before f =
       record {
         before = s.before;
         first = s.first;
         after = zs;
         splits = is;
-        row = s.row;
+        forest = s.forest;
         derivations = s.derivations;
         plain = s.plain;
         reason = s.reason;
         fails = s.fails;
         is = s.is;
       } in
-      excludes c fine (map (λ p. p.step) before) s.reason (postfix row)
-      (stopped c fine before [] 0 f t) p (row, d, refl)
+      excludes c fine (map (λ p. p.step) before) s.reason (postfix forest)
+      (stopped c fine before [] 0 f t) p (forest, d, refl)
 
   pub step_fault_unique : (ps : List PlacedStep) (f g : Fault) → StepFault c ps f → StepFault c ps g
       → f ≡ g
@@ -121,19 +121,19 @@ module _ (c : Context) (fine : (l : ℕ) → IsFine c (c.rule l)) where
     where
       go : Splits s.before s.first t.before t.first → f ≡ g
       go (inl e) =
-          let plain = subst (λ x. IsPlain c (map (λ p. p.step) x) (postfix s.row)) e.0 s.plain in
-          let row : s.row ≡ t.row =
-          same_row c fine s.row t.row s.derivations t.derivations
-          (plain_unique c fine (map (λ p. p.step) t.before) [] [] (postfix s.row)
-          (postfix t.row) plain t.plain) in
+          let plain = subst (λ x. IsPlain c (map (λ p. p.step) x) (postfix s.forest)) e.0 s.plain in
+          let forest : s.forest ≡ t.forest =
+          same_forest c fine s.forest t.forest s.derivations t.derivations
+          (plain_unique c fine (map (λ p. p.step) t.before) [] [] (postfix s.forest)
+          (postfix t.forest) plain t.plain) in
           let fails =
-          subst (λ x. StepFails c x.step (formulas t.row) s.reason) e.1
-          (subst (λ r. StepFails c s.first.step (formulas r) s.reason) row s.fails) in
+          subst (λ x. StepFails c x.step (formulas t.forest) s.reason) e.1
+          (subst (λ r. StepFails c s.first.step (formulas r) s.reason) forest s.fails) in
           s.is ∙ ap₂ (λ p r. fault p.at (code_of r)) e.1
-          (reason_unique t.first.step (formulas t.row) s.reason t.reason fails t.fails)
+          (reason_unique t.first.step (formulas t.forest) s.reason t.reason fails t.fails)
           ∙ sym t.is
-      go (inr (inl h)) = absurd (no_later ps f s t.row t.before h.0 t.derivations t.plain h.1)
-      go (inr (inr h)) = absurd (no_later ps g t s.row s.before h.0 s.derivations s.plain h.1)
+      go (inr (inl h)) = absurd (no_later ps f s t.forest t.before h.0 t.derivations t.plain h.1)
+      go (inr (inr h)) = absurd (no_later ps g t s.forest s.before h.0 s.derivations s.plain h.1)
 
   code_unique : (xs : List Formula) (formula : Formula) (a b : Code) → IsEndCode c xs formula a
       → IsEndCode c xs formula b → a ≡ b
@@ -144,13 +144,13 @@ module _ (c : Context) (fine : (l : ℕ) → IsFine c (c.rule l)) where
   pub end_fault_unique : (ps : List PlacedStep) (formula : Formula) (end : ℕ) (f g : Fault)
       → proof.ProofEndFault c ps formula end f → proof.ProofEndFault c ps formula end g → f ≡ g
   end_fault_unique ps formula end f g s t =
-      let row : s.row ≡ t.row =
-      same_row c fine s.row t.row s.derivations t.derivations
-      (plain_unique c fine (map (λ p. p.step) ps) [] [] (postfix s.row)
-      (postfix t.row) s.plain t.plain) in
+      let forest : s.forest ≡ t.forest =
+      same_forest c fine s.forest t.forest s.derivations t.derivations
+      (plain_unique c fine (map (λ p. p.step) ps) [] [] (postfix s.forest)
+      (postfix t.forest) s.plain t.plain) in
       s.is ∙ ap (fault end)
-      (code_unique (formulas t.row) formula s.code t.code
-      (subst (λ r. IsEndCode c (formulas r) formula s.code) row s.fails) t.fails)
+      (code_unique (formulas t.forest) formula s.code t.code
+      (subst (λ r. IsEndCode c (formulas r) formula s.code) forest s.fails) t.fails)
       ∙ sym t.is
 
 no_least : (fs : List Fault) (f : Fault) → fs ≡ [] → least fs ≡ Some f → ⊥
@@ -236,8 +236,8 @@ rows_unique db request (n ∷ ts) (x ∷ a) (y ∷ b) h k =
 
 -- ---- faults of the text
 
-begins_front : (before zs : List Token) (x : Token) → IsRowPrefix (before ++ x ∷ zs)
-    → IsRowPrefix (before ++ x ∷ [])
+begins_front : (before zs : List Token) (x : Token) → BeginStatements (before ++ x ∷ zs)
+    → BeginStatements (before ++ x ∷ [])
 begins_front before zs x b = (
   b.0,
   b.1,
@@ -267,29 +267,29 @@ shape_unique ts f g s t =
         codes t.before t.first
         (subst (λ x. Code t.before x f) e.1 (subst (λ b. Code b s.first f) e.0 s.code)) t.code
     go (inr (inl h)) =
-        absurd (s.no_more (begins_front s.before h.0 s.first (subst IsRowPrefix h.1 t.begins)))
+        absurd (s.no_more (begins_front s.before h.0 s.first (subst BeginStatements h.1 t.begins)))
     go (inr (inr h)) =
-        absurd (t.no_more (begins_front t.before h.0 t.first (subst IsRowPrefix h.1 s.begins)))
+        absurd (t.no_more (begins_front t.before h.0 t.first (subst BeginStatements h.1 s.begins)))
 
-one_row : (ts : List Token) (a b : List Statement) → IsLongestRow ts a → IsLongestRow ts b → a ≡ b
-one_row ts a b h k = sym (longest_unique ts a h) ∙ longest_unique ts b k
+same_statements : (ts : List Token) (a b : List Statement) → AreLongestStatements ts a → AreLongestStatements ts b → a ≡ b
+same_statements ts a b h k = sym (longest_unique ts a h) ∙ longest_unique ts b k
 
 end_unique : (len : ℕ) (ts : List Token) (f g : Fault) → FileEndFault len ts f
     → FileEndFault len ts g → f ≡ g
 end_unique len ts f g s t = go s.code t.code
   where
-    rest : s.is_row.rest ≡ t.is_row.rest
+    rest : s.are_statements.rest ≡ t.are_statements.rest
     rest =
-        append_cancel_left (flat_map spelled t.row) s.is_row.rest t.is_row.rest
-        (sym (subst (λ r. ts ≡ flat_map spelled r ++ s.is_row.rest)
-        (one_row ts s.row t.row s.is_row t.is_row) s.is_row.splits)
-        ∙ t.is_row.splits)
+        append_cancel_left (flat_map spelled t.statements) s.are_statements.rest t.are_statements.rest
+        (sym (subst (λ r. ts ≡ flat_map spelled r ++ s.are_statements.rest)
+        (same_statements ts s.statements t.statements s.are_statements t.are_statements) s.are_statements.splits)
+        ∙ t.are_statements.splits)
 
-    go : ((s.is_row.rest ≢ []) × (f ≡ fault len OpenStatement))
-        ⊎ ((s.is_row.rest ≡ []) × (count_by is_closing s.row < count_by is_opening s.row)
+    go : ((s.are_statements.rest ≢ []) × (f ≡ fault len OpenStatement))
+        ⊎ ((s.are_statements.rest ≡ []) × (count_by is_closing s.statements < count_by is_opening s.statements)
         × (f ≡ fault len OpenBlock))
-        → ((t.is_row.rest ≢ []) × (g ≡ fault len OpenStatement))
-        ⊎ ((t.is_row.rest ≡ []) × (count_by is_closing t.row < count_by is_opening t.row)
+        → ((t.are_statements.rest ≢ []) × (g ≡ fault len OpenStatement))
+        ⊎ ((t.are_statements.rest ≡ []) × (count_by is_closing t.statements < count_by is_opening t.statements)
         × (g ≡ fault len OpenBlock))
         → f ≡ g
     go (inl h) (inl k) = h.1 ∙ sym k.1
@@ -329,36 +329,36 @@ fronts_of (a ∷ xs) (b ∷ ys) us vs e = go (fronts_of xs ys us vs (ap tail_of 
     go (inr (inl h)) = let l = h.3 in inr (inl (h.0, h.1, h.2, omega (arith, l)))
     go (inr (inr h)) = let l = h.3 in inr (inr (h.0, h.1, h.2, omega (arith, l)))
 
-stops_unique : (len : ℕ) (x : LexedText) (row db rest : List Statement) (f g : Option Fault)
-    → StopsReading len x row db rest f → StopsReading len x row db rest g → f ≡ g
-stops_unique len x row db (s ∷ rest) f g h k = sym h.1 ∙ k.1
-stops_unique len x row db [] None None h k = refl
-stops_unique len x row db [] None (Some g) h k = absurd (h g k)
-stops_unique len x row db [] (Some f) None h k = absurd (k f h)
-stops_unique len x row db [] (Some f) (Some g) h k =
+stops_unique : (len : ℕ) (x : LexedText) (statements db rest : List Statement) (f g : Option Fault)
+    → StopsReading len x statements db rest f → StopsReading len x statements db rest g → f ≡ g
+stops_unique len x statements db (s ∷ rest) f g h k = sym h.1 ∙ k.1
+stops_unique len x statements db [] None None h k = refl
+stops_unique len x statements db [] None (Some g) h k = absurd (h g k)
+stops_unique len x statements db [] (Some f) None h k = absurd (k f h)
+stops_unique len x statements db [] (Some f) (Some g) h k =
     ap Some (text_fault_unique len x.tokens x.fault f g h k)
 
 shorter : (len : ℕ) (x : LexedText) (a b : List Statement) (f g : Option Fault)
     → (h : IsRead len x a f) (k : IsRead len x b g) (s : Statement) (zs : List Statement)
     → h.rest ≡ s ∷ zs → length a < length b → ⊥
 shorter len x a b f g h k s zs is lt =
-    let stop = subst (λ r. StopsReading len x h.row a r f) is h.stops in
-    let row = one_row x.tokens h.row k.row h.is_row k.is_row in
-    stop.0 (sym stop.1 ∙ ap (λ r. scope_fault r (length a)) row ∙ k.lawful (length a) lt)
+    let stop = subst (λ r. StopsReading len x h.statements a r f) is h.stops in
+    let statements = same_statements x.tokens h.statements k.statements h.are_statements k.are_statements in
+    stop.0 (sym stop.1 ∙ ap (λ r. scope_fault r (length a)) statements ∙ k.lawful (length a) lt)
 
 read_unique : (len : ℕ) (x : LexedText) (a b : List Statement) (f g : Option Fault)
     → IsRead len x a f → IsRead len x b g → (a ≡ b) × (f ≡ g)
 read_unique len x a b f g h k =
     go (fronts_of a b h.rest k.rest
-    (sym h.splits ∙ one_row x.tokens h.row k.row h.is_row k.is_row ∙ k.splits))
+    (sym h.splits ∙ same_statements x.tokens h.statements k.statements h.are_statements k.are_statements ∙ k.splits))
   where
     go : Fronts a h.rest b k.rest → (a ≡ b) × (f ≡ g)
     go (inl e) = (
       e.0,
-      stops_unique len x k.row b k.rest f g
-          (subst (λ r. StopsReading len x r b k.rest f) (one_row x.tokens h.row k.row h.is_row k.is_row)
-          (subst (λ r. StopsReading len x h.row b r f) e.1
-          (subst (λ d. StopsReading len x h.row d h.rest f) e.0 h.stops)))
+      stops_unique len x k.statements b k.rest f g
+          (subst (λ r. StopsReading len x r b k.rest f) (same_statements x.tokens h.statements k.statements h.are_statements k.are_statements)
+          (subst (λ r. StopsReading len x h.statements b r f) e.1
+          (subst (λ d. StopsReading len x h.statements d h.rest f) e.0 h.stops)))
           k.stops,
     )
     go (inr (inl l)) = absurd (shorter len x a b f g h k l.0 l.1 l.2 l.3)

@@ -12,7 +12,7 @@ use Rattle.mm_spec.specs.Request.{Request}
 use Rattle.mm_spec.specs.Output.{lexed_of, IsRead, AreValid, IsOutput}
 use Rattle.mm_spec.specs.declared.Code.TheVariants.{ConstantInBlock}
 use Rattle.mm_laws.proofs.ReaderLaw.{statements}
-use Rattle.mm_spec.proofs.RowLaw.{is_longest}
+use Rattle.mm_spec.proofs.LongestLaw.{is_longest}
 use Rattle.mm_spec.proofs.StopsLaw.{no_text_fault}
 
 -- the whole report, by all nodes
@@ -41,8 +41,8 @@ front_valid (suc (suc k)) h t = absurd (omega arith)
 front_read : IsRead 21 (lexed_of faulty) front (Some (fault 11 ConstantInBlock))
 unfolding statements
 front_read = record {
-  row = statements faulty;
-  is_row = is_longest (lexed_of faulty).tokens;
+  statements = statements faulty;
+  are_statements = is_longest (lexed_of faulty).tokens;
   rest = constants 11 (token 14 (codes "b") ∷ []) 16 ∷ closing 19 ∷ [];
   splits = refl;
   lawful = front_lawful;
@@ -81,8 +81,8 @@ db_valid (suc (suc k)) h t = absurd (omega arith)
 db_read : IsRead 18 (lexed_of sound) db None
 unfolding statements
 db_read = record {
-  row = db;
-  is_row = is_longest (lexed_of sound).tokens;
+  statements = db;
+  are_statements = is_longest (lexed_of sound).tokens;
   rest = [];
   splits = refl;
   lawful = db_lawful;

@@ -19,7 +19,7 @@ as_read P h len x db fault r = h len x db fault r false
 pub lawful_read : (len : ℕ) (x : LexedText) (db : List Statement) (fault : Option Fault)
     → IsRead len x db fault → (k : ℕ) → k < length db → IsLawful db k
 lawful_read len x db fault r k h =
-    sym (scope_fault_front db r.rest k h) ∙ ap (λ row. scope_fault row k) (sym r.splits)
+    sym (scope_fault_front db r.rest k h) ∙ ap (λ list. scope_fault list k) (sym r.splits)
     ∙ r.lawful k h
 
 -- frames are complete

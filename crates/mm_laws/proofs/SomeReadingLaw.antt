@@ -9,20 +9,20 @@ use Rattle.mm_spec.specs.Laws.Table.{statements_of}
 use Rattle.mm_spec.specs.Lawful.{scope_fault}
 use Rattle.mm_spec.specs.Output.{LexedText}
 use Rattle.mm_laws.specs.Laws.SomeReading.{IsReadable}
-use Rattle.mm_spec.proofs.RowLaw.{is_longest}
+use Rattle.mm_spec.proofs.LongestLaw.{is_longest}
 use Rattle.mm_spec.proofs.StopsLaw.{text_fault, text_fault_is, no_text_fault}
 
 -- the first statements are lawful
 abbrev AreLawful : List Statement → ℕ → Type 0
-AreLawful row n = (k : ℕ) → k < n → scope_fault row k ≡ None
+AreLawful list n = (k : ℕ) → k < n → scope_fault list k ≡ None
 
-one_more : (row : List Statement) (n : ℕ) → AreLawful row n → scope_fault row n ≡ None → (m : ℕ)
-    → m ≡ n + 1 → AreLawful row m
-one_more row n h e m is k l = by (cases_lt k n)
+one_more : (list : List Statement) (n : ℕ) → AreLawful list n → scope_fault list n ≡ None → (m : ℕ)
+    → m ≡ n + 1 → AreLawful list m
+one_more list n h e m is k l = by (cases_lt k n)
   where
-    by : (k < n) ⊎ (n ≤ k) → scope_fault row k ≡ None
+    by : (k < n) ⊎ (n ≤ k) → scope_fault list k ≡ None
     by (inl b) = h k b
-    by (inr b) = let same : k ≡ n = omega (arith, is, l, b) in ap (scope_fault row) same ∙ e
+    by (inr b) = let same : k ≡ n = omega (arith, is, l, b) in ap (scope_fault list) same ∙ e
 
 module _ (len : ℕ) (x : LexedText) where
   -- where the first statements are lawful, the reading goes on
@@ -35,8 +35,8 @@ module _ (len : ℕ) (x : LexedText) where
         db,
         None,
         record {
-          row = statements_of x.tokens;
-          is_row = is_longest x.tokens;
+          statements = statements_of x.tokens;
+          are_statements = is_longest x.tokens;
           rest = [];
           splits = is;
           lawful = lawful;
@@ -47,8 +47,8 @@ module _ (len : ℕ) (x : LexedText) where
         db,
         Some f,
         record {
-          row = statements_of x.tokens;
-          is_row = is_longest x.tokens;
+          statements = statements_of x.tokens;
+          are_statements = is_longest x.tokens;
           rest = [];
           splits = is;
           lawful = lawful;
@@ -69,8 +69,8 @@ module _ (len : ℕ) (x : LexedText) where
         db,
         Some f,
         record {
-          row = statements_of x.tokens;
-          is_row = is_longest x.tokens;
+          statements = statements_of x.tokens;
+          are_statements = is_longest x.tokens;
           rest = s ∷ rest;
           splits = is;
           lawful = lawful;

@@ -27,7 +27,7 @@ use Rattle.mm_spec.specs.CompressedProof.{compressed_faults, compressed_steps}
 use Rattle.mm_spec.specs.Proof.{steps, reading_faults}
 use Rattle.mm_spec.specs.Output.{LexedText, IsRead}
 use Rattle.mm_laws.specs.Spelling.{Item, number, mark, is_number, is_mark, Spells, letters_in}
-use Rattle.mm_laws.specs.Spelling.{IsCompressed, IsMark, Names, AreSteps, IsUsable}
+use Rattle.mm_laws.specs.Spelling.{IsCompressed, IsMark, NamesStep, AreSteps, IsUsable}
 use Rattle.mm_laws.specs.Laws.Read.{WhereRead}
 use Rattle.mm_laws.specs.Laws.BareSteps.{bare_steps}
 use Rattle.mm_laws.specs.Laws.NamedSteps.{StepsAreNamed, NamedStepsAreUnique}
@@ -104,7 +104,7 @@ module _ (hypotheses labels : List ℕ) where
     pub count : length ss ≡ count_by is_number items
     pub each : (b after : List Item) (n : ℕ) → items ≡ b ++ number n ∷ after
         → (s : Step) × (slice_get ss (count_by is_number b) ≡ Some s)
-        × Names hypotheses labels (before ++ b) n s
+        × NamesStep hypotheses labels (before ++ b) n s
 
   said_nothing : (before : List Item) → IsSaid before [] []
   said_nothing before = record { count = refl; each = λ b after n e. absurd (none b after n e) }
@@ -114,7 +114,7 @@ module _ (hypotheses labels : List ℕ) where
       none (x ∷ b) after n e = cc
 
   said_number : (before items : List Item) (ss : List Step) (n : ℕ) (s : Step)
-      → Names hypotheses labels before n s → IsSaid (before ++ number n ∷ []) items ss
+      → NamesStep hypotheses labels before n s → IsSaid (before ++ number n ∷ []) items ss
       → IsSaid before (number n ∷ items) (s ∷ ss)
   said_number before items ss n s named h =
       record {
@@ -124,13 +124,13 @@ module _ (hypotheses labels : List ℕ) where
     where
       each : (b after : List Item) (m : ℕ) → number n ∷ items ≡ b ++ number m ∷ after
           → (t : Step) × (slice_get (s ∷ ss) (count_by is_number b) ≡ Some t)
-          × Names hypotheses labels (before ++ b) m t
+          × NamesStep hypotheses labels (before ++ b) m t
       each [] after m e =
           let same : n ≡ m = cc in (
             s,
             refl,
-            subst (λ xs. Names hypotheses labels xs m s) (sym (append-nil before))
-                (subst (λ i. Names hypotheses labels before i s) same named),
+            subst (λ xs. NamesStep hypotheses labels xs m s) (sym (append-nil before))
+                (subst (λ i. NamesStep hypotheses labels before i s) same named),
           )
       each (x ∷ b) after m e =
           let head : number n ≡ x = cc in
@@ -145,7 +145,7 @@ module _ (hypotheses labels : List ℕ) where
             r.0,
             ap (slice_get (s ∷ ss)) (sym place)
                 ∙ r.1,
-            subst (λ xs. Names hypotheses labels xs m r.0) items_are r.2,
+            subst (λ xs. NamesStep hypotheses labels xs m r.0) items_are r.2,
           )
 
   said_mark : (before items : List Item) (ss : List Step) → IsSaid (before ++ mark ∷ []) items ss
@@ -158,7 +158,7 @@ module _ (hypotheses labels : List ℕ) where
     where
       each : (b after : List Item) (m : ℕ) → mark ∷ items ≡ b ++ number m ∷ after
           → (t : Step) × (slice_get ss (count_by is_number b) ≡ Some t)
-          × Names hypotheses labels (before ++ b) m t
+          × NamesStep hypotheses labels (before ++ b) m t
       each [] after m e = absurd (cc)
       each (x ∷ b) after m e =
           let head : mark ≡ x = cc in
@@ -173,14 +173,14 @@ module _ (hypotheses labels : List ℕ) where
             r.0,
             ap (slice_get ss) (sym place)
                 ∙ r.1,
-            subst (λ xs. Names hypotheses labels xs m r.0) items_are r.2,
+            subst (λ xs. NamesStep hypotheses labels xs m r.0) items_are r.2,
           )
 
   -- a number that isn't too large names a step
   number_named : (before : List Item) (marks : List ℕ) (n : ℕ) → 0 < n
       → n ≤ length hypotheses + length labels + length marks → AreMarks before marks
       → (s : Step) × (step_of (hypotheses ++ labels) marks n ≡ s ∷ [])
-      × Names hypotheses labels before n s
+      × NamesStep hypotheses labels before n s
   number_named before marks zero h l are = absurd (omega arith)
   number_named before marks (suc n) h l are =
       by (slice_get (hypotheses ++ labels) n) refl
@@ -193,13 +193,13 @@ module _ (hypotheses labels : List ℕ) where
       of_label : (j : ℕ)
           → (slice_get hypotheses n ≡ Some j)
           ⊎ ((i : ℕ) × (n ≡ length hypotheses + i) × (slice_get labels i ≡ Some j))
-          → Names hypotheses labels before (suc n) (label j)
+          → NamesStep hypotheses labels before (suc n) (label j)
       of_label j (inl e) = inl (n, omega arith, e)
       of_label j (inr e) = let is = e.1 in inr (e.0, omega arith, e.2)
 
       by : (a : Option ℕ) → slice_get (hypotheses ++ labels) n ≡ a → (b : Option ℕ)
           → slice_get marks (n - length (hypotheses ++ labels)) ≡ b
-          → (s : Step) × (out a b ≡ s ∷ []) × Names hypotheses labels before (suc n) s
+          → (s : Step) × (out a b ≡ s ∷ []) × NamesStep hypotheses labels before (suc n) s
       by (Some j) e b f = (label j, refl, of_label j (get_append hypotheses labels n j e))
       by None e (Some i) f =
           let x = get_none (hypotheses ++ labels) n e in
@@ -672,7 +672,7 @@ same_get xs i j x y s e f = some_is (sym e ∙ ap (slice_get xs) s ∙ f)
 
 -- a number names one step
 names_unique : (hypotheses labels : List ℕ) (before : List Item) (n : ℕ) (s t : Step)
-    → Names hypotheses labels before n s → Names hypotheses labels before n t → s ≡ t
+    → NamesStep hypotheses labels before n s → NamesStep hypotheses labels before n t → s ≡ t
 names_unique hs ls before n (label i) (label j) (inl g) (inl h) =
     let x = g.1 in let y = h.1 in ap label (same_get hs g.0 h.0 i j (omega arith) g.2 h.2)
 names_unique hs ls before n (label i) (label j) (inr g) (inr h) =

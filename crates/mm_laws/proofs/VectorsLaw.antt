@@ -9,7 +9,7 @@ use Rattle.mm_spec.specs.Lawful.{least}
 use Rattle.mm_spec.specs.Derivation.{Trees, none, more}
 use Rattle.mm_spec.specs.Steps.{Step, label, marked, placed}
 use Rattle.mm_spec.specs.CompressedProof.{groups, letters_from, value}
-use Rattle.mm_spec.specs.Valid.{StepFault, not_apart}
+use Rattle.mm_spec.specs.Valid.{StepFault, not_disjoint}
 use Rattle.mm_spec.specs.Proof.{reading_faults}
 use Rattle.mm_spec.specs.Citation.{context_at, steps_at}
 use Rattle.mm_laws.proofs.ReaderLaw.{statements}
@@ -100,7 +100,7 @@ fault_13 = record {
   row = frames;
   derivations = ((tt, tt, (refl, refl, lit≤ tt)), tt, (refl, refl, lit≤ tt));
   plain = (2 ∷ [], refl, (2 ∷ 3 ∷ [], refl, refl));
-  reason = not_apart;
+  reason = not_disjoint;
   fails = (each_itself, lit≤ tt, refl, λ e. true≢false (sym e));
   is = refl;
 }

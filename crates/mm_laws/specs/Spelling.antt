@@ -94,11 +94,11 @@ pub record IsMark (items : List Item) (k i : ℕ) : Type 0 where
 
 -- What a number names, by the items before it: 1 to m the m mandatory hypotheses, m + 1 to m + n
 -- the n labels in brackets, and m + n + 1 onwards the subproofs of the steps that are marked.
-abbrev pub Names : List ℕ → List ℕ → List Item → ℕ → Step → Type 0
-Names hypotheses labels before n (label j) =
+abbrev pub NamesStep : List ℕ → List ℕ → List Item → ℕ → Step → Type 0
+NamesStep hypotheses labels before n (label j) =
     ((i : ℕ) × (n ≡ i + 1) × (slice_get hypotheses i ≡ Some j))
     ⊎ ((i : ℕ) × (n ≡ length hypotheses + (i + 1)) × (slice_get labels i ≡ Some j))
-Names hypotheses labels before n (marked i) =
+NamesStep hypotheses labels before n (marked i) =
     (k : ℕ) × (n ≡ length hypotheses + length labels + (k + 1)) × IsMark before k i
 
 -- There are as many steps as numbers. The number with i numbers before it is step i, counted from
@@ -108,7 +108,7 @@ pub record AreSteps (hypotheses labels : List ℕ) (items : List Item)
   pub count : length steps ≡ count_by is_number items
   pub each : (before after : List Item) (n : ℕ) → items ≡ before ++ number n ∷ after
       → (s : Step) × (slice_get steps (count_by is_number before) ≡ Some s)
-      × Names hypotheses labels before n s
+      × NamesStep hypotheses labels before n s
 
 -- j is the only statement that is active at k and has the label
 pub record IsUsable (db : List Statement) (k : ℕ) (w : Bytes) (j : ℕ) : Type 0 where

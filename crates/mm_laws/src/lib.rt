@@ -37,7 +37,7 @@ pub use letters::{letters_spell_one_row, numbers_have_one_spelling};
 pub use meaning::{valid_theorems_are_those_proved, well_formed_proofs_are_read};
 pub use outputs::{long_texts_have_one_output, output_exists, output_is_unique};
 pub use readings::{every_text_is_read, texts_are_sound_or_faulty};
-pub use statements::{a_block_is_open_where_none_is_less_deep, statements_are_the_longest_row};
+pub use statements::{a_block_is_open_where_none_is_less_deep, statements_are_the_longest};
 pub use steps::steps_are_what_is_named;
 pub use theorems::theorems_are_valid_or_faulty;
 pub use words::{

@@ -2,17 +2,17 @@
 
 ghost use Rattle.std.specs.Prelude.{◌≡◌, ◌↔◌, ℕ, List, ◌≤◌, IsTrue};
 ghost use Rattle.mm_spec.specs.Text.{Token};
-ghost use Rattle.mm_spec.specs.Statement.{Statement, IsLongestRow};
+ghost use Rattle.mm_spec.specs.Statement.{Statement, AreLongestStatements};
 ghost use Rattle.mm_spec.specs.Scope.{stays};
 ghost use Rattle.mm_spec.specs.Laws.Table.{statements_of};
 ghost use Rattle.mm_spec.specs.Laws.Blocks.{InBlock};
 
-/// The statements of a text are the longest row of complete statements, without a `$}` too many, at
-/// the beginning of its tokens, and no other row is the longest.
-pub fn statements_are_the_longest_row()
-    ensures are { (tokens : List Token) → IsLongestRow tokens (statements_of tokens) }
-    ensures only { (tokens : List Token) (row : List Statement) → IsLongestRow tokens row
-        → row ≡ statements_of tokens }
+/// The statements of a text are the longest list of complete statements, without a `$}` too many, at
+/// the beginning of its tokens, and no other list is the longest.
+pub fn statements_are_the_longest()
+    ensures are { (tokens : List Token) → AreLongestStatements tokens (statements_of tokens) }
+    ensures only { (tokens : List Token) (list : List Statement) → AreLongestStatements tokens list
+        → list ≡ statements_of tokens }
 {}
 
 /// The block of statement j is open at a later statement k exactly if no statement after j, up to

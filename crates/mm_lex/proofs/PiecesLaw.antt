@@ -7,8 +7,8 @@ use Rattle.mm_spec.specs.declared.Word.{Word}
 use Rattle.mm_spec.specs.declared.Fault.{Fault}
 use Rattle.mm_spec.specs.declared.Role.{Role}
 use Rattle.mm_spec.specs.declared.Role.TheVariants as roles
-use Rattle.mm_lex.specs.declared.modes.Opened.{Opened}
-use Rattle.mm_lex.specs.declared.modes.Opened.TheVariants.{Nowhere, Before, At}
+use Rattle.mm_lex.specs.declared.modes.CommentState.{CommentState}
+use Rattle.mm_lex.specs.declared.modes.CommentState.TheVariants.{Nowhere, Before, At}
 use Rattle.mm_spec.specs.Roles.{role_of, fault_of}
 use Rattle.mm_spec.specs.Readings.{Reading, reading, with_tokens, bytes_of}
 use Rattle.mm_spec.specs.Laws.Readings.{go_on, start}
@@ -108,7 +108,7 @@ go_on_append text r xs ys = by r.tokens r.fault r.comment
         (reading text c xs).comment
     by ts (Some f) c = refl
 
-resolved_carried : (p x : ℕ) (c d : Opened) → resolved p c ≡ Some x
+resolved_carried : (p x : ℕ) (c d : CommentState) → resolved p c ≡ Some x
     → resolved p (carried c d) ≡ resolved x d
 resolved_carried p x c Nowhere h = refl
 resolved_carried p x c Before h = h
@@ -135,7 +135,7 @@ go_on_inside text ws p r next items readings none is_open e =
 
 -- The words go on outside. No comment from before them can be open after them.
 
-not_before : (x : Option ℕ) (d : Opened) → ((q : ℕ) → x ≡ resolved q d) → (c : Opened)
+not_before : (x : Option ℕ) (d : CommentState) → ((q : ℕ) → x ≡ resolved q d) → (c : CommentState)
     → carried c d ≡ d
 not_before x Nowhere h c = refl
 not_before x Before h c = absurd (omega (arith, same_Some 0 1 (sym (h 0) ∙ h 1)))

@@ -3,8 +3,8 @@ use Rattle.std.specs.Prelude.{ℕ, List, ◌++◌}
 use Rattle.mm_spec.specs.declared.Word.{Word}
 use Rattle.mm_lex.specs.Pieces.{AreReadings, Between, Side}
 use Rattle.mm_lex.specs.Stretches.{joined_word}
-use Rattle.mm_lex.specs.declared.modes.Opened.{Opened}
-use Rattle.mm_lex.specs.declared.modes.Opened.TheVariants.{Nowhere, Before, At}
+use Rattle.mm_lex.specs.declared.modes.CommentState.{CommentState}
+use Rattle.mm_lex.specs.declared.modes.CommentState.TheVariants.{Nowhere, Before, At}
 use Rattle.mm_lex.specs.declared.modes.ModeReading.{ModeReading}
 use Rattle.mm_lex.specs.declared.pieces.Inner.{Inner}
 
@@ -32,7 +32,7 @@ IsJoined text before after joined =
 
 -- the comment that is open after two lists of words: `first` says which is open after the first
 -- list, the other argument which is open after the second list alone
-abbrev pub carried : Opened → Opened → Opened
+abbrev pub carried : CommentState → CommentState → CommentState
 carried first Nowhere = Nowhere
 carried first Before = first
 carried first (At q) = At q

@@ -6,8 +6,8 @@ use Rattle.mm_spec.specs.Readings.{Reading, reading}
 use Rattle.mm_spec.specs.declared.Word.{Word}
 use Rattle.mm_spec.specs.declared.Fault.{Fault}
 use Rattle.mm_lex.specs.Stretches.{IsUnbroken, IsBroken}
-use Rattle.mm_lex.specs.declared.modes.Opened.{Opened}
-use Rattle.mm_lex.specs.declared.modes.Opened.TheVariants.{Nowhere, Before, At}
+use Rattle.mm_lex.specs.declared.modes.CommentState.{CommentState}
+use Rattle.mm_lex.specs.declared.modes.CommentState.TheVariants.{Nowhere, Before, At}
 
 -- A list of words read in one comment mode: its tokens before the first faulty word, the fault of
 -- that word, and the comment that is open there: none, one that began before the words, or one that
@@ -15,7 +15,7 @@ use Rattle.mm_lex.specs.declared.modes.Opened.TheVariants.{Nowhere, Before, At}
 pub record Side : Type 0 where
   pub tokens : List Word
   pub fault : Option Fault
-  pub comment : Opened
+  pub comment : CommentState
 
 -- what is between the end of a head and the beginning of a tail, read outside and inside a comment
 pub record Between : Type 0 where
@@ -36,7 +36,7 @@ stretch from to between = record { from = from; to = to; between = between }
 -- ---- the summary of a stretch
 
 -- the place of the open comment, if the one from before the words began at the place p
-abbrev pub resolved : ℕ → Opened → Option ℕ
+abbrev pub resolved : ℕ → CommentState → Option ℕ
 resolved p Nowhere = None
 resolved p Before = Some p
 resolved p (At q) = Some q

@@ -5,7 +5,7 @@ ghost use Rattle.std.specs.Prelude.{◌≡◌, ◌<◌, ◌≤◌, ◌+◌, true
 ghost use Rattle.mm_lex.specs.Stretches.{NoWhite, IsBroken, IsUnbroken};
 ghost use Rattle.mm_spec.specs.Words.{white_at};
 
-use crate::blocks::classes_of;
+use crate::scanner::classes_of;
 use crate::bytes::is_white;
 
 /// The place of the first white-space byte from `from` on, or `to` if there is none before it.

@@ -15,25 +15,25 @@ use std::alloc::{AllocError, Allocator};
 
 /// The comment that is open after a list of words: none, or one that began before them or in them.
 #[derive(Clone, Copy)]
-pub enum Opened {
+pub enum CommentState {
     Nowhere,
     Before,
     At(u32),
 }
 
-impl Opened {
+impl CommentState {
     fn is_open(self) -> bool
         ensures { (p : ℕ) → result ≡ is_some (resolved p self) }
     {
-        !matches!(self, Opened::Nowhere)
+        !matches!(self, CommentState::Nowhere)
     }
 
     /// The comment that is open after these words, if `before` is open after the ones before them.
-    fn after(self, before: Opened) -> Opened
+    fn after(self, before: CommentState) -> CommentState
         ensures { result ≡ carried before self }
     {
         match self {
-            Opened::Before => before,
+            CommentState::Before => before,
             comment => comment,
         }
     }
@@ -44,11 +44,11 @@ impl Opened {
 pub struct ModeReading<A: Allocator> {
     pub tokens: Vec<Word, A>,
     pub fault: Option<Fault>,
-    pub comment: Opened,
+    pub comment: CommentState,
 }
 
 impl<A: Allocator + Copy> ModeReading<A> {
-    pub fn new(alloc: A, comment: Opened) -> ModeReading<A>
+    pub fn new(alloc: A, comment: CommentState) -> ModeReading<A>
         ensures { (p : ℕ) → seen p (side result) ≡ start (resolved p comment) }
     {
         ModeReading {
@@ -60,7 +60,7 @@ impl<A: Allocator + Copy> ModeReading<A> {
 
     /// A reading of no words yet. Its list has room for `room` tokens if there is that much memory,
     /// so that it needn't be moved as it grows.
-    pub fn with_room(alloc: A, comment: Opened, room: usize) -> ModeReading<A>
+    pub fn with_room(alloc: A, comment: CommentState, room: usize) -> ModeReading<A>
         ensures { (p : ℕ) → seen p (side result) ≡ start (resolved p comment) }
     {
         let mut reading = ModeReading::new(alloc, comment);
@@ -89,8 +89,8 @@ impl<A: Allocator + Copy> ModeReading<A> {
         let bytes = word.bytes(text);
         match role(in_comment, plain, bytes) {
             Role::Token => self.tokens.push(word)?,
-            Role::Opening => self.comment = Opened::At(word.start),
-            Role::Closing => self.comment = Opened::Nowhere,
+            Role::Opening => self.comment = CommentState::At(word.start),
+            Role::Closing => self.comment = CommentState::Nowhere,
             Role::Comment => {}
             Role::Faulty => self.fault = Some(word_fault(in_comment, word.start, bytes)),
         }

@@ -10,9 +10,9 @@ ghost use Rattle.mm_lex.specs.Stretches.{joined_word};
 ghost use Rattle.mm_spec.specs.Lexed.{fault_in, lexical_fault, tokens_of};
 ghost use Rattle.mm_spec.specs.Words.{words_between};
 
-use crate::blocks::Blocks;
+use crate::scanner::WordScanner;
 use crate::ends::bounds;
-use crate::modes::{ModeReading, Opened};
+use crate::modes::{ModeReading, CommentState};
 use crate::{Code, Fault, Lexed, TEXT_LIMIT, Word};
 use std::alloc::{AllocError, Allocator};
 use std::marker::Model;
@@ -156,9 +156,9 @@ fn lex_inner<A: Allocator + Copy>(
         (side inner.inside)) }
 {
     // There is at least a byte between two words.
-    let mut outside = ModeReading::with_room(alloc, Opened::Nowhere, (tail - head) / 2 + 1);
-    let mut inside = ModeReading::new(alloc, Opened::Before);
-    let mut blocks = Blocks::new(text, head);
+    let mut outside = ModeReading::with_room(alloc, CommentState::Nowhere, (tail - head) / 2 + 1);
+    let mut inside = ModeReading::new(alloc, CommentState::Before);
+    let mut blocks = WordScanner::new(text, head);
     while inside.fault.is_none()
         && let Some(found) = blocks.next_word(tail)
     {
@@ -265,7 +265,7 @@ pub fn join<A: Allocator + Copy>(
 }
 
 /// The fault of a faulty word if there is one, otherwise that of a comment open at the end.
-fn fault_of(fault: Option<Fault>, comment: Opened) -> Option<Fault>
+fn fault_of(fault: Option<Fault>, comment: CommentState) -> Option<Fault>
     ensures { result ≡ fault_in fault (resolved 0 comment) }
 {
     let open = |at| Fault {
@@ -274,8 +274,8 @@ fn fault_of(fault: Option<Fault>, comment: Opened) -> Option<Fault>
     };
     match (fault, comment) {
         (Some(fault), _) => Some(fault),
-        (None, Opened::At(at)) => Some(open(at)),
-        (None, Opened::Before) => Some(open(0)),
-        (None, Opened::Nowhere) => None,
+        (None, CommentState::At(at)) => Some(open(at)),
+        (None, CommentState::Before) => Some(open(0)),
+        (None, CommentState::Nowhere) => None,
     }
 }

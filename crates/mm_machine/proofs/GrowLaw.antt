@@ -9,8 +9,8 @@ use Rattle.std.proofs.lemmas.List.Elements.{All-take, All-append, All-drop, All-
 use Rattle.mm_machine.specs.declared.arena.Span.{Span}
 use Rattle.mm_machine.specs.declared.arena.Store.{Store}
 use Rattle.mm_machine.specs.declared.arena.Store.TheVariants.{Own, Kept}
-use Rattle.mm_rule.specs.declared.rule.Part.{Part}
-use Rattle.mm_rule.specs.declared.rule.Part.TheVariants.{Constant, Variable}
+use Rattle.mm_rule.specs.declared.rule.RuleSymbol.{RuleSymbol}
+use Rattle.mm_rule.specs.declared.rule.RuleSymbol.TheVariants.{Constant, Variable}
 use Rattle.mm_machine.specs.Arena.{Arena, arena, symbols_of, span, nothing, rest, text_of, IsIn}
 use Rattle.mm_rule.specs.Rule.{IsKnown}
 use Rattle.mm_rule.proofs.SliceLaw.{stretch_more}
@@ -132,15 +132,15 @@ text_known n a e ho hk =
     list Kept = hk
 
 -- what parts say is of symbols of the database
-pub replaced_known : (n : ℕ) (a : Arena) (es : List Span) (f : List Part) → All (λ s. s < n) a.own
+pub replaced_known : (n : ℕ) (a : Arena) (es : List Span) (f : List RuleSymbol) → All (λ s. s < n) a.own
     → All (λ s. s < n) a.kept → All (IsKnown n) f → All (λ s. s < n) (replaced a es f)
 replaced_known n a es f ho hk hf = go f (recursion_from_All (IsKnown n) f hf)
   where
-    span : (p : Part) → IsKnown n p → All (λ s. s < n) (told a es p)
+    span : (p : RuleSymbol) → IsKnown n p → All (λ s. s < n) (told a es p)
     span (Variable j) h = text_known n a (rest (get_or es j nothing)) ho hk
     span (Constant s) h = All-from_recursion (λ s. s < n) (s ∷ []) (h, tt)
 
-    go : (f : List Part) → AllByRecursion (IsKnown n) f → All (λ s. s < n) (replaced a es f)
+    go : (f : List RuleSymbol) → AllByRecursion (IsKnown n) f → All (λ s. s < n) (replaced a es f)
     go [] h = All-nil (λ s. s < n)
     go (p ∷ f) h = All-append (λ s. s < n) _ _ (span p h.0) (go f h.1)
 

@@ -4,12 +4,12 @@ use Rattle.std.proofs.Common.{◌++◌, ap, ◌∙◌, arith, length-append, app
 use Rattle.std.proofs.lemmas.List.{take_more}
 use Rattle.std.proofs.lemmas.List.Concat.{flat_map-append}
 use Rattle.mm_machine.specs.declared.arena.Span.{Span}
-use Rattle.mm_rule.specs.declared.rule.Part.{Part}
+use Rattle.mm_rule.specs.declared.rule.RuleSymbol.{RuleSymbol}
 use Rattle.mm_machine.specs.Arena.{Arena}
 use Rattle.mm_machine.specs.Replaced.{told, replaced}
 
 module _ (a : Arena) (es : List Span) where
-  pub longer : (f : List Part) (i : ℕ) (p : Part) (u : List ℕ) → i < length f → get_or f i p ≡ p
+  pub longer : (f : List RuleSymbol) (i : ℕ) (p : RuleSymbol) (u : List ℕ) → i < length f → get_or f i p ≡ p
       → told a es p ≡ u → length (replaced a es (take i f)) + length u ≤ length (replaced a es f)
   longer [] i p u h e is = absurd (omega arith)
   longer (q ∷ f) zero p u h e is =
@@ -26,7 +26,7 @@ module _ (a : Arena) (es : List Span) where
             (replaced a es (take i f)),
       )
 
-  pub replaced_more : (f : List Part) (i : ℕ) (d : Part) → i < length f
+  pub replaced_more : (f : List RuleSymbol) (i : ℕ) (d : RuleSymbol) → i < length f
       → replaced a es (take (i + 1) f) ≡ replaced a es (take i f) ++ told a es (get_or f i d)
   replaced_more f i d h =
       ap (replaced a es) (take_more f i d h)

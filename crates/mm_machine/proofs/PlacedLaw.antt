@@ -10,7 +10,7 @@ use Rattle.mm_spec.specs.Valid.{too_long}
 use Rattle.mm_spec.specs.Frame.{symbol_names}
 use Rattle.mm_spec.specs.Laws.Stack.{pick}
 use Rattle.mm_machine.specs.declared.arena.Span.{Span}
-use Rattle.mm_rule.specs.declared.rule.Part.{Part}
+use Rattle.mm_rule.specs.declared.rule.RuleSymbol.{RuleSymbol}
 use Rattle.mm_machine.specs.Arena.{arena}
 use Rattle.mm_rule.specs.Rule.{Compiled, IsCompiled}
 use Rattle.mm_machine.specs.Replaced.{replaced}
@@ -46,7 +46,7 @@ module _ (k : List Statement) (t : ℕ) (c : Compiled) (own kept : List ℕ) (st
       ++ replaced (arena own kept) (drop below stack) c.formula ∷ [])) l
 
   -- by the lists that the code has
-  pub same_formula : (own' : List ℕ) (stack' : List Span) (f : List Part) → own' ≡ own
+  pub same_formula : (own' : List ℕ) (stack' : List Span) (f : List RuleSymbol) → own' ≡ own
       → stack' ≡ stack → f ≡ c.formula
       → replaced (arena own' kept) (slice_range stack' below (length stack')) f
       ≡ replaced (arena own kept) (drop below stack) c.formula

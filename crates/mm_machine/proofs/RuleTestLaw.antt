@@ -8,14 +8,14 @@ use Rattle.std.proofs.lemmas.List.Elements.{All-get_or, All-drop}
 use Rattle.std.proofs.lemmas.Bool.{lt-leb}
 use Rattle.mm_spec.specs.Valid.{too_few}
 use Rattle.std.specs.List.{list_all, AllByRecursion}
-use Rattle.mm_spec.specs.Derivation.{Formula, Pair, Substitution, substitute, are_apart}
+use Rattle.mm_spec.specs.Derivation.{Formula, Pair, Substitution, substitute, are_all_disjoint}
 use Rattle.mm_spec.specs.Limits.{formula_limit}
 use Rattle.mm_spec.specs.Laws.Stack.{found, tail, same, apply, pick}
 use Rattle.mm_spec.specs.Laws.Complete.{IsBound, AreBound}
 use Rattle.mm_machine.specs.declared.arena.Span.{Span}
 use Rattle.mm_rule.specs.declared.rule.Hypothesis.{Hypothesis}
-use Rattle.mm_rule.specs.declared.rule.Part.{Part}
-use Rattle.mm_rule.specs.declared.rule.Part.TheVariants.{Constant, Variable}
+use Rattle.mm_rule.specs.declared.rule.RuleSymbol.{RuleSymbol}
+use Rattle.mm_rule.specs.declared.rule.RuleSymbol.TheVariants.{Constant, Variable}
 use Rattle.mm_spec.specs.Statement.{Statement}
 use Rattle.mm_spec.specs.Frame.{is_variable_number, frame_at}
 use Rattle.mm_spec.specs.Citation.{context_at}
@@ -65,21 +65,21 @@ module _ (k : List Statement) (t : ℕ) (hs : List Formula) (xs : Arena) (es : L
   all_same [] b = refl
   all_same (f ∷ fs) b = ap₂ (λ u us. u ∷ us) (one_same f b.0) (all_same fs b.1)
 
-  abbrev pub apart : ℕ × ℕ → Bool
-  apart p = are_apart (context_at k t) (stands xs es p.0) (stands xs es p.1)
+  abbrev pub cache : ℕ × ℕ → Bool
+  cache p = are_all_disjoint (context_at k t) (stands xs es p.0) (stands xs es p.1)
 
   pub apart_same : (pairs : List Pair)
       → AllByRecursion
       (λ p. IsBound (context_at k t) hs p.low × IsBound (context_at k t) hs p.high) pairs
-      → list_all apart (map (λ (p : Pair). (first k hs p.low, first k hs p.high)) pairs)
-      ≡ list_all (λ p. are_apart (context_at k t) (σ p.low) (σ p.high)) pairs
+      → list_all cache (map (λ (p : Pair). (first k hs p.low, first k hs p.high)) pairs)
+      ≡ list_all (λ p. are_all_disjoint (context_at k t) (σ p.low) (σ p.high)) pairs
   apart_same [] b = refl
   apart_same (p ∷ pairs) b =
       ap₂ (λ u v. u && v)
-      (ap₂ (are_apart (context_at k t)) (stands_is p.low b.0.0) (stands_is p.high b.0.1))
+      (ap₂ (are_all_disjoint (context_at k t)) (stands_is p.low b.0.0) (stands_is p.high b.0.1))
       (apart_same pairs b.1)
 
-pub length_all_parts : (parts : List Part) (j : ℕ) (more : List Hypothesis)
+pub length_all_parts : (parts : List RuleSymbol) (j : ℕ) (more : List Hypothesis)
     → length (all_parts parts j more) ≡ length more
 length_all_parts parts j [] = refl
 length_all_parts parts j (a ∷ more) = ap suc (length_all_parts parts (suc j) more)
@@ -96,7 +96,7 @@ pub judged : (k : List Statement) (t : ℕ) (c : Compiled) (xs : Arena) (stack p
     → length premises ≡ length c.hypotheses → (b1 b2 : Bool)
     → b1 ≡ same (texts xs premises) (map (replaced xs premises) (all_parts c.parts 0 c.hypotheses))
     → b2 ≡ list_all
-    (λ (p : ℕ × ℕ). are_apart (context_at k t) (stands xs premises p.0) (stands xs premises p.1))
+    (λ (p : ℕ × ℕ). are_all_disjoint (context_at k t) (stands xs premises p.0) (stands xs premises p.1))
     c.pairs
     → applied k t c.assertion (texts xs stack)
     ≡ pick true b1 b2 (nat_le (length (replaced xs premises c.formula)) formula_limit)
@@ -121,9 +121,9 @@ judged k t c xs stack premises rule fits top inside many b1 b2 e1 e2 =
     ≡ map (replaced xs premises) (all_parts c.parts 0 c.hypotheses) = sym
     (all_same k t hs xs premises inside count hs rule.complete.hypotheses)
     ∙ ap (map (replaced xs premises)) (sym rule.hypotheses_are) in
-    let p : list_all (λ p. are_apart (context_at k t) (σ' p.low) (σ' p.high)) a.pairs ≡ b2 =
+    let p : list_all (λ p. are_all_disjoint (context_at k t) (σ' p.low) (σ' p.high)) a.pairs ≡ b2 =
     sym (apart_same k t hs xs premises inside count a.pairs rule.complete.pairs)
-    ∙ ap (list_all (apart k t hs xs premises inside count)) (sym rule.pairs_are) ∙ sym e2 in
+    ∙ ap (list_all (cache k t hs xs premises inside count)) (sym rule.pairs_are) ∙ sym e2 in
     let f : substitute (context_at k t) σ' a.formula ≡ replaced xs premises c.formula =
     sym (one_same k t hs xs premises inside count a.formula rule.complete.formula)
     ∙ ap (replaced xs premises) (sym rule.formula_is) in
@@ -144,7 +144,7 @@ pub judged_at : (k : List Statement) (t : ℕ) (c : Compiled) (xs : Arena)
     → (b1 b2 : Bool)
     → b1 ≡ same (texts xs premises) (map (replaced xs premises) (all_parts c.parts 0 c.hypotheses))
     → b2 ≡ list_all
-    (λ (p : ℕ × ℕ). are_apart (context_at k t) (stands xs premises p.0) (stands xs premises p.1)) ps
+    (λ (p : ℕ × ℕ). are_all_disjoint (context_at k t) (stands xs premises p.0) (stands xs premises p.1)) ps
     → applied k t c.assertion (texts xs stack)
     ≡ pick true b1 b2 (nat_le (length (replaced xs (drop below stack) c.formula)) formula_limit)
     (take below (texts xs stack) ++ replaced xs (drop below stack) c.formula ∷ [])
@@ -157,9 +157,9 @@ judged_at k t c xs stack premises n below rule count fits at top all ps ps_are b
     (e1 ∙ ap (λ z. same (texts xs z) (map (replaced xs z) (all_parts c.parts 0 c.hypotheses))) top)
     (e2 ∙ ap
     (λ z. list_all
-    (λ (p : ℕ × ℕ). are_apart (context_at k t) (stands xs z p.0) (stands xs z p.1)) ps) top
+    (λ (p : ℕ × ℕ). are_all_disjoint (context_at k t) (stands xs z p.0) (stands xs z p.1)) ps) top
     ∙ ap (λ z. list_all
-    (λ (p : ℕ × ℕ). are_apart (context_at k t) (stands xs (drop below stack) p.0)
+    (λ (p : ℕ × ℕ). are_all_disjoint (context_at k t) (stands xs (drop below stack) p.0)
     (stands xs (drop below stack) p.1)) z) ps_are)
     ∙ ap (λ b. pick true b1 b2
     (nat_le (length (replaced xs (drop below stack) c.formula)) formula_limit)

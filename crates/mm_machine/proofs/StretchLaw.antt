@@ -6,7 +6,7 @@ use Rattle.std.proofs.Common.{length-drop, eqb-true, eq-eqb, min, ◌⊎◌, inl
 use Rattle.std.specs.List.{starts_with}
 use Rattle.std.proofs.lemmas.List.{drop-drop, drop_more, length-take-le}
 use Rattle.mm_machine.specs.declared.arena.Span.{Span}
-use Rattle.mm_rule.specs.declared.rule.Part.{Part}
+use Rattle.mm_rule.specs.declared.rule.RuleSymbol.{RuleSymbol}
 use Rattle.mm_machine.specs.Arena.{Arena, symbols_of, text_of, IsIn}
 use Rattle.mm_machine.specs.Replaced.{told, replaced}
 use Rattle.mm_spec.specs.Laws.Stack.{tail}
@@ -60,13 +60,13 @@ length_text a p h =
     length-take-le (p.end - p.start) (drop p.start (symbols_of a p.store))
     (omega (arith, h.rising, h.within, length-drop p.start (symbols_of a p.store)))
 
-module _ (all : Arena) (es : List Span) (xs : List ℕ) (w : List Part) (i a e : ℕ)
+module _ (all : Arena) (es : List Span) (xs : List ℕ) (w : List RuleSymbol) (i a e : ℕ)
     (inside : i < length w) where
   abbrev pub rest_fits : ℕ → Bool
   rest_fits n = bytes_eq (slice_range xs (a + n) e) (replaced all es (drop (i + 1) w))
 
   -- one part more
-  pub one_more : (p : Part) (u : List ℕ) → get_or w i p ≡ p → told all es p ≡ u
+  pub one_more : (p : RuleSymbol) (u : List ℕ) → get_or w i p ≡ p → told all es p ≡ u
       → bytes_eq (slice_range xs a e) (replaced all es (drop i w))
       ≡ (starts_with nat_eq (slice_range xs a e) u && rest_fits (length u))
   one_more p u here is =

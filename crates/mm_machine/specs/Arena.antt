@@ -38,5 +38,5 @@ abbrev pub rest : Span → Span
 rest e = span e.store (min (e.start + 1) e.end) e.end
 
 -- each of the pairs of symbols is disjoint at the theorem
-abbrev pub AreApart : List Statement → ℕ → List (ℕ × ℕ) → Type 0
-AreApart k t ps = All (λ (p : ℕ × ℕ). are_disjoint (context_at k t) p.0 p.1 ≡ true) ps
+abbrev pub AreDisjointAt : List Statement → ℕ → List (ℕ × ℕ) → Type 0
+AreDisjointAt k t ps = All (λ (p : ℕ × ℕ). are_disjoint (context_at k t) p.0 p.1 ≡ true) ps

@@ -1,8 +1,8 @@
 -- The parts of a rule, with each variable replaced.
 use Rattle.std.specs.Prelude.{ℕ, List, [], ◌∷◌, get_or, flat_map}
 use Rattle.mm_spec.specs.Derivation.{Formula}
-use Rattle.mm_rule.specs.declared.rule.Part.{Part}
-use Rattle.mm_rule.specs.declared.rule.Part.TheVariants.{Constant, Variable}
+use Rattle.mm_rule.specs.declared.rule.RuleSymbol.{RuleSymbol}
+use Rattle.mm_rule.specs.declared.rule.RuleSymbol.TheVariants.{Constant, Variable}
 use Rattle.mm_machine.specs.declared.arena.Span.{Span}
 use Rattle.mm_machine.specs.Arena.{Arena, nothing, rest, text_of}
 
@@ -10,10 +10,10 @@ use Rattle.mm_machine.specs.Arena.{Arena, nothing, rest, text_of}
 abbrev pub stands : Arena → List Span → ℕ → List ℕ
 stands a es j = text_of a (rest (get_or es j nothing))
 
-abbrev pub told : Arena → List Span → Part → List ℕ
+abbrev pub told : Arena → List Span → RuleSymbol → List ℕ
 told a es (Constant s) = s ∷ []
 told a es (Variable j) = stands a es j
 
 -- the parts with each variable replaced
-abbrev pub replaced : Arena → List Span → List Part → Formula
+abbrev pub replaced : Arena → List Span → List RuleSymbol → Formula
 replaced a es f = flat_map (told a es) f

@@ -4,13 +4,13 @@ use Rattle.std.specs.Prelude.{take, drop, length, get_or, All, Result, Ok, Err, 
 use Rattle.mm_spec.specs.Statement.{Statement}
 use Rattle.mm_spec.specs.Derivation.{Formula, assertion}
 use Rattle.mm_spec.specs.Limits.{formula_limit}
-use Rattle.mm_spec.specs.Valid.{Reason as SpecReason, too_few, unmatched, not_apart, too_long}
+use Rattle.mm_spec.specs.Valid.{Reason as SpecReason, too_few, unmatched, not_disjoint, too_long}
 use Rattle.mm_spec.specs.Frame.{frame_at}
 use Rattle.mm_spec.specs.Citation.{context_at}
 use Rattle.mm_spec.specs.Laws.Stack.{step, pick, top}
 use Rattle.mm_machine.specs.declared.arena.Span.{Span}
 use Rattle.mm_machine.specs.declared.arena.Reason.{Reason}
-use Rattle.mm_machine.specs.declared.arena.Reason.TheVariants.{TooFew, Unmatched, NotApart, TooLong}
+use Rattle.mm_machine.specs.declared.arena.Reason.TheVariants.{TooFew, Unmatched, NotDisjoint, TooLong}
 use Rattle.mm_machine.specs.declared.arena.Store.TheVariants.{Own, Kept}
 use Rattle.mm_machine.specs.Arena.{Arena, arena, span, text_of, IsIn}
 use Rattle.mm_rule.specs.Rule.{Compiled}
@@ -86,7 +86,7 @@ pub record IsMachine (own kept : List ℕ) (es : List Span) (marks : List ℕ) (
 abbrev pub reason_of : Reason → SpecReason
 reason_of TooFew = too_few
 reason_of Unmatched = unmatched
-reason_of NotApart = not_apart
+reason_of NotDisjoint = not_disjoint
 reason_of TooLong = too_long
 
 -- the entries after the step of an assertion

@@ -4,21 +4,21 @@ ghost use Rattle.std.specs.Prelude.{◌≡◌, ◌<◌, ◌≤◌, ℕ, All, len
 ghost use Rattle.std.specs.Prelude.{map, List, OnOk, IfOk, true, ◌++◌, ◌∷◌, nat_le, get_or};
 ghost use Rattle.std.specs.Prelude.{◌+◌};
 ghost use Rattle.std.specs.List.{starts_with, list_all};
-ghost use Rattle.mm_spec.specs.Derivation.{are_apart as apart_lists, is_apart as apart_symbol};
+ghost use Rattle.mm_spec.specs.Derivation.{are_all_disjoint as apart_lists, is_disjoint_from as apart_symbol};
 ghost use Rattle.mm_spec.specs.Derivation.{are_disjoint as disjoint_pair};
 ghost use Rattle.mm_spec.specs.Limits.{formula_limit};
 ghost use Rattle.mm_spec.specs.Frame.{symbol_names};
 ghost use Rattle.mm_spec.specs.Citation.{context_at};
 ghost use Rattle.mm_spec.specs.Laws.Stack.{same};
-ghost use Rattle.mm_machine.specs.Arena.{nothing, rest, symbols_of, text_of, IsIn, AreApart};
+ghost use Rattle.mm_machine.specs.Arena.{nothing, rest, symbols_of, text_of, IsIn, AreDisjointAt};
 ghost use Rattle.mm_rule.specs.Rule.{IsHypothesisIn, IsBelow, IsCompiled, all_parts};
 ghost use Rattle.mm_machine.specs.Replaced.{stands};
 ghost use Rattle.mm_machine.specs.Replaced.{replaced};
 ghost use Rattle.mm_machine.specs.State.{TestsRule};
 
-use crate::apart::Apart;
+use crate::disjoint_cache::DisjointCache;
 use mm_database::{Database, Sym};
-use mm_rule::{Hypothesis, Part, Rule};
+use mm_rule::{Hypothesis, RuleSymbol, Rule};
 use mm_spec::FORMULA_LIMIT;
 use std::alloc::{AllocError, Allocator};
 use std::marker::Model;
@@ -80,7 +80,7 @@ impl<'a> Symbols<'a> {
 pub enum Reason {
     TooFew,
     Unmatched,
-    NotApart,
+    NotDisjoint,
     TooLong,
 }
 
@@ -126,7 +126,7 @@ pub fn span_of(_symbols: &Symbols, premises: &[Span], j: u32) -> Span
 
 /// Whether an entry is the wanted formula with its variables replaced.
 #[inline(always)]
-fn fits(symbols: &Symbols, premises: &[Span], wanted: &[Part], premise: Span) -> bool
+fn fits(symbols: &Symbols, premises: &[Span], wanted: &[RuleSymbol], premise: Span) -> bool
     requires premises { All (IsIn symbols.now) premises.now }
     requires wanted { All (IsBelow (length premises.now)) wanted.now }
     requires premise { IsIn symbols.now premise }
@@ -138,14 +138,14 @@ fn fits(symbols: &Symbols, premises: &[Span], wanted: &[Part], premise: Span) ->
     let mut at = premise.start;
     for part in wanted {
         match *part {
-            Part::Variable(j) => {
+            RuleSymbol::Variable(j) => {
                 let span = span_of(symbols, premises, j);
                 if !begins(symbols, premise.store, at, premise.end, span) {
                     return false;
                 }
                 at += span.end - span.start;
             }
-            Part::Constant(s) => {
+            RuleSymbol::Constant(s) => {
                 if at >= premise.end || list[at] != s {
                     return false;
                 }
@@ -195,32 +195,32 @@ fn all_fit(symbols: &Symbols, rule: &Rule, premises: &[Span]) -> bool
 }
 
 /// Whether two symbols are disjoint at the theorem: they aren't both variables, or an active `$d`
-/// has both. The first pairs that are found to be disjoint are kept in `apart`.
+/// has both. The first pairs that are found to be disjoint are kept in `cache`.
 fn are_disjoint<A: Allocator>(
     db: &Database<A>,
     theorem: u32,
     s: Sym,
     t: Sym,
-    apart: &mut Apart<A>,
+    cache: &mut DisjointCache<A>,
 ) -> bool
     requires theorem { theorem < length db.now.statements }
     requires s { s < length (symbol_names db.now.statements) }
     requires t { t < length (symbol_names db.now.statements) }
-    requires apart { AreApart db.now.statements theorem apart.old }
+    requires cache { AreDisjointAt db.now.statements theorem cache.old }
     ensures value { result ≡ disjoint_pair (context_at db.now.statements theorem) s t }
-    ensures apart { AreApart db.now.statements theorem apart.new }
+    ensures cache { AreDisjointAt db.now.statements theorem cache.new }
 {
-    if apart.has(db, theorem, s, t) {
+    if cache.has(db, theorem, s, t) {
         return true;
     }
     if !are_disjoint_by(db, theorem, s, t) {
         return false;
     }
-    apart.keep(db, theorem, s, t);
+    cache.keep(db, theorem, s, t);
     true
 }
 
-/// The same, without `apart`.
+/// The same, without `cache`.
 fn are_disjoint_by<A: Allocator>(db: &Database<A>, theorem: u32, s: Sym, t: Sym) -> bool
     requires theorem { theorem < length db.now.statements }
     requires s { s < length (symbol_names db.now.statements) }
@@ -231,25 +231,25 @@ fn are_disjoint_by<A: Allocator>(db: &Database<A>, theorem: u32, s: Sym, t: Sym)
 }
 
 /// Whether a symbol is disjoint from each of the others.
-fn is_apart<A: Allocator>(
+fn is_disjoint_from<A: Allocator>(
     db: &Database<A>,
     theorem: u32,
     s: Sym,
     others: &[Sym],
-    apart: &mut Apart<A>,
+    cache: &mut DisjointCache<A>,
 ) -> bool
     requires theorem { theorem < length db.now.statements }
     requires s { s < length (symbol_names db.now.statements) }
     requires others { All (λ s. s < length (symbol_names db.now.statements)) others.now }
-    requires apart { AreApart db.now.statements theorem apart.old }
+    requires cache { AreDisjointAt db.now.statements theorem cache.old }
     ensures value { result ≡ apart_symbol (context_at db.now.statements theorem) s others.now }
-    ensures apart { AreApart db.now.statements theorem apart.new }
+    ensures cache { AreDisjointAt db.now.statements theorem cache.new }
 {
     if !db.is_variable(s) {
         return true;
     }
     for t in others {
-        if db.is_variable(*t) && !are_disjoint(db, theorem, s, *t, apart) {
+        if db.is_variable(*t) && !are_disjoint(db, theorem, s, *t, cache) {
             return false;
         }
     }
@@ -257,23 +257,23 @@ fn is_apart<A: Allocator>(
 }
 
 /// Whether each variable of `first` is disjoint from each variable of `second`.
-fn are_apart<A: Allocator>(
+fn are_all_disjoint<A: Allocator>(
     db: &Database<A>,
     theorem: u32,
     first: &[Sym],
     second: &[Sym],
-    apart: &mut Apart<A>,
+    cache: &mut DisjointCache<A>,
 ) -> bool
     requires theorem { theorem < length db.now.statements }
     requires first { All (λ s. s < length (symbol_names db.now.statements)) first.now }
     requires second { All (λ s. s < length (symbol_names db.now.statements)) second.now }
-    requires apart { AreApart db.now.statements theorem apart.old }
+    requires cache { AreDisjointAt db.now.statements theorem cache.old }
     ensures value { result
         ≡ apart_lists (context_at db.now.statements theorem) first.now second.now }
-    ensures apart { AreApart db.now.statements theorem apart.new }
+    ensures cache { AreDisjointAt db.now.statements theorem cache.new }
 {
     for s in first {
-        if !is_apart(db, theorem, *s, second, apart) {
+        if !is_disjoint_from(db, theorem, *s, second, cache) {
             return false;
         }
     }
@@ -282,13 +282,13 @@ fn are_apart<A: Allocator>(
 
 /// Whether for each pair of variables, each variable in what replaces the first is disjoint from
 /// each variable in what replaces the second.
-fn pairs_apart<A: Allocator>(
+fn pairs_are_disjoint<A: Allocator>(
     db: &Database<A>,
     theorem: u32,
     symbols: &Symbols,
     premises: &[Span],
     pairs: &[(u32, u32)],
-    apart: &mut Apart<A>,
+    cache: &mut DisjointCache<A>,
 ) -> bool
     requires theorem { theorem < length db.now.statements }
     requires premises { All (IsIn symbols.now) premises.now }
@@ -296,17 +296,17 @@ fn pairs_apart<A: Allocator>(
     requires kept { All (λ s. s < length (symbol_names db.now.statements)) symbols.now.kept }
     requires pairs { All
         (λ (p : ℕ × ℕ). (p.0 < length premises.now) × (p.1 < length premises.now)) pairs.now }
-    requires apart { AreApart db.now.statements theorem apart.old }
+    requires cache { AreDisjointAt db.now.statements theorem cache.old }
     ensures value { result
         ≡ list_all
         (λ (p : ℕ × ℕ). apart_lists (context_at db.now.statements theorem)
         (stands symbols.now premises.now p.0) (stands symbols.now premises.now p.1)) pairs.now }
-    ensures apart { AreApart db.now.statements theorem apart.new }
+    ensures cache { AreDisjointAt db.now.statements theorem cache.new }
 {
     for pair in pairs {
         let first = symbols.text(span_of(symbols, premises, pair.0));
         let second = symbols.text(span_of(symbols, premises, pair.1));
-        if !are_apart(db, theorem, first, second, apart) {
+        if !are_all_disjoint(db, theorem, first, second, cache) {
             return false;
         }
     }
@@ -330,7 +330,7 @@ fn append_text<A: Allocator>(text: &[Sym], list: &mut Vec<Sym, A>) -> Result<(),
 pub fn build<A: Allocator>(
     symbols: &Symbols,
     premises: &[Span],
-    formula: &[Part],
+    formula: &[RuleSymbol],
     made: &mut Vec<Sym, A>,
 ) -> Result<bool, AllocError>
     requires premises { All (IsIn symbols.now) premises.now }
@@ -343,13 +343,13 @@ pub fn build<A: Allocator>(
     made.clear();
     for part in formula {
         match *part {
-            Part::Variable(j) => {
+            RuleSymbol::Variable(j) => {
                 append_text(symbols.text(span_of(symbols, premises, j)), made)?;
                 if made.len() > FORMULA_LIMIT {
                     return Ok(false);
                 }
             }
-            Part::Constant(s) => made.push(s)?,
+            RuleSymbol::Constant(s) => made.push(s)?,
         }
     }
     Ok(made.len() <= FORMULA_LIMIT)
@@ -364,15 +364,15 @@ pub fn test_rule<A: Allocator>(
     rule: &Rule,
     symbols: &Symbols,
     stack: &[Span],
-    apart: &mut Apart<A>,
+    cache: &mut DisjointCache<A>,
 ) -> Result<usize, Reason>
     requires theorem { theorem < length db.now.statements }
     requires rule { IsCompiled db.now.statements rule.now }
     requires own { All (λ s. s < length (symbol_names db.now.statements)) symbols.now.own }
     requires kept { All (λ s. s < length (symbol_names db.now.statements)) symbols.now.kept }
     requires stack { All (IsIn symbols.now) stack.now }
-    requires apart { AreApart db.now.statements theorem apart.old }
-    ensures apart { AreApart db.now.statements theorem apart.new }
+    requires cache { AreDisjointAt db.now.statements theorem cache.old }
+    ensures cache { AreDisjointAt db.now.statements theorem cache.new }
     ensures judged { TestsRule db.now.statements theorem rule.now symbols.now stack.now result }
 {
     let hypotheses = rule.hypotheses();
@@ -385,8 +385,8 @@ pub fn test_rule<A: Allocator>(
         return Err(Reason::Unmatched);
     }
     let pairs = rule.pairs();
-    if !pairs_apart(db, theorem, symbols, premises, pairs, apart) {
-        return Err(Reason::NotApart);
+    if !pairs_are_disjoint(db, theorem, symbols, premises, pairs, cache) {
+        return Err(Reason::NotDisjoint);
     }
     Ok(below)
 }

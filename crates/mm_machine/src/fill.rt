@@ -9,7 +9,7 @@ ghost use Rattle.mm_machine.specs.Replaced.{replaced};
 
 use crate::arena::{Span, Symbols, span_of};
 use mm_database::Sym;
-use mm_rule::Part;
+use mm_rule::RuleSymbol;
 use mm_spec::FORMULA_LIMIT;
 
 /// Writes a symbol at place `at`.
@@ -124,7 +124,7 @@ pub fn put_text(text: &[Sym], list: &mut [Sym], at: usize)
 pub fn fill(
     symbols: &Symbols,
     premises: &[Span],
-    formula: &[Part],
+    formula: &[RuleSymbol],
     list: &mut [Sym],
 ) -> Option<usize>
     requires premises { All (IsIn symbols.now) premises.now }
@@ -139,7 +139,7 @@ pub fn fill(
     let mut room = list.len().checked_sub(formula.len())?;
     for part in formula {
         match *part {
-            Part::Variable(j) => {
+            RuleSymbol::Variable(j) => {
                 let text = symbols.text(span_of(symbols, premises, j));
                 if text.len() > room + 1 {
                     return None;
@@ -148,7 +148,7 @@ pub fn fill(
                 room = room + 1 - text.len();
                 at += text.len();
             }
-            Part::Constant(s) => {
+            RuleSymbol::Constant(s) => {
                 put_symbol(s, list, at);
                 at += 1;
             }

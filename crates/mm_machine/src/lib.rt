@@ -6,17 +6,17 @@
 //! only for the reason for which the definitions refuse it.
 //!
 //! A caller makes a [`Machine`] once, and begins each proof with [`Machine::restart`] and
-//! [`Apart::restart`].
+//! [`DisjointCache::restart`].
 //!
 //! A parameter whose name begins with `_` is used only by the contracts.
 #![tactic(auto)]
 
-mod apart;
+mod disjoint_cache;
 mod arena;
 mod fill;
 mod machine;
 mod symbol_list;
 
-pub use apart::Apart;
+pub use disjoint_cache::DisjointCache;
 pub use arena::Reason;
 pub use machine::{Machine, Stopped};

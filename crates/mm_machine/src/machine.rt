@@ -6,7 +6,7 @@ ghost use Rattle.std.specs.Prelude.{OnErr, Ok, vec_len};
 ghost use Rattle.std.specs.List.{Contains};
 ghost use Rattle.mm_spec.specs.Statement.{Statement};
 ghost use Rattle.mm_spec.specs.Frame.{symbol_names};
-ghost use Rattle.mm_machine.specs.Arena.{arena, text_of, AreApart};
+ghost use Rattle.mm_machine.specs.Arena.{arena, text_of, AreDisjointAt};
 ghost use Rattle.mm_rule.specs.Rule.{IsCompiled};
 ghost use Rattle.mm_spec.specs.Laws.Stack.{top};
 ghost use Rattle.mm_machine.specs.State.{State, state, with_mark, applied, texts, made_of};
@@ -15,20 +15,20 @@ ghost use Rattle.mm_machine.specs.State.{IsMachine};
 ghost use Rattle.mm_machine.specs.State.{IsStack, IsRising};
 ghost use Rattle.mm_machine.specs.Stops.{Stops};
 
-use crate::apart::Apart;
+use crate::disjoint_cache::DisjointCache;
 use crate::arena::{Reason, Span, Store, Symbols, build, test_rule};
 use crate::fill::fill;
 use crate::symbol_list::SymbolList;
 use mm_database::{Database, Sym};
-use mm_rule::{Part, Rule, empty, put_number, zeros};
+use mm_rule::{RuleSymbol, Rule, empty, put_number, zeros};
 use std::alloc::{AllocError, Allocator};
 use std::marker::Model;
 
 /// The number of slots that say where marks are. The slot of a mark is its number modulo this.
-const SLOTS: usize = 4_096;
+const MARK_SLOTS: usize = 4_096;
 
 /// The maximum number of symbols of a short formula.
-const SHORT: usize = 1_024;
+const MAX_SHORT_FORMULA: usize = 1_024;
 
 /// Why a step wasn't performed.
 #[derive(Drop)]
@@ -96,7 +96,7 @@ fn find(numbers: &[usize], number: usize, slots: &[u32]) -> usize
     ensures below { result < length numbers.now }
     ensures is { get_or numbers.now result 0 ≡ number }
 {
-    let slot = number % SLOTS;
+    let slot = number % MARK_SLOTS;
     if slot < slots.len() {
         let place = slots[slot] as usize;
         if place < numbers.len() && numbers[place] == number {
@@ -116,9 +116,9 @@ impl<A: Allocator> Machine<A> {
         A: Copy,
         ensures { IfOk result (λ m. m ≡ state [] [] [] width) }
     {
-        let slots = zeros(alloc, SLOTS)?;
-        let mut short = Vec::with_capacity(alloc, SHORT)?;
-        short.resize(SHORT, Sym::new(0))?;
+        let slots = zeros(alloc, MARK_SLOTS)?;
+        let mut short = Vec::with_capacity(alloc, MAX_SHORT_FORMULA)?;
+        short.resize(MAX_SHORT_FORMULA, Sym::new(0))?;
         Ok(Machine {
             own: SymbolList::new(alloc),
             kept: SymbolList::new(alloc),
@@ -181,7 +181,7 @@ impl<A: Allocator> Machine<A> {
     {
         let made = keep(&mut self.own, &mut self.kept, &mut self.stack)?;
         self.marked.push(made)?;
-        put_number(&mut self.slots, step % SLOTS, self.marks.len());
+        put_number(&mut self.slots, step % MARK_SLOTS, self.marks.len());
         self.marks.push(step)?;
         Ok(())
     }
@@ -193,13 +193,13 @@ impl<A: Allocator> Machine<A> {
         db: &Database<A>,
         theorem: u32,
         rule: &Rule,
-        apart: &mut Apart<A>,
+        cache: &mut DisjointCache<A>,
     ) -> Result<(), Stopped>
         requires theorem { theorem < length db.now.statements }
         requires rule { IsCompiled db.now.statements rule.now }
         requires width { self.old.width ≡ length (symbol_names db.now.statements) }
-        requires apart { AreApart db.now.statements theorem apart.old }
-        ensures apart { AreApart db.now.statements theorem apart.new }
+        requires cache { AreDisjointAt db.now.statements theorem cache.old }
+        ensures cache { AreDisjointAt db.now.statements theorem cache.new }
         ensures made { OnOk result
             (applied db.now.statements theorem rule.now.assertion self.old.stack
             ≡ Ok self.new.stack) }
@@ -220,7 +220,7 @@ impl<A: Allocator> Machine<A> {
             &mut self.stack,
             &mut self.short,
             &mut self.made,
-            apart,
+            cache,
         )
     }
 
@@ -342,15 +342,15 @@ fn put_judged<A: Allocator>(
     stack: &mut Vec<Span, A>,
     short: &mut [Sym],
     made: &mut Vec<Sym, A>,
-    apart: &mut Apart<A>,
+    cache: &mut DisjointCache<A>,
 ) -> Result<(), Stopped>
     requires theorem { theorem < length db.now.statements }
     requires rule { IsCompiled db.now.statements rule.now }
     requires stack { IsStack own.old kept.now stack.old.items }
     requires known_own { All (λ s. s < length (symbol_names db.now.statements)) own.old }
     requires known_kept { All (λ s. s < length (symbol_names db.now.statements)) kept.now }
-    requires apart { AreApart db.now.statements theorem apart.old }
-    ensures apart { AreApart db.now.statements theorem apart.new }
+    requires cache { AreDisjointAt db.now.statements theorem cache.old }
+    ensures cache { AreDisjointAt db.now.statements theorem cache.new }
     ensures stack { IsStack own.new kept.now stack.new.items }
     ensures known_own { All (λ s. s < length (symbol_names db.now.statements)) own.new }
     ensures made { OnOk result
@@ -367,7 +367,7 @@ fn put_judged<A: Allocator>(
         own: own.as_slice(),
         kept,
     };
-    match test_rule(db, theorem, rule, &symbols, stack, apart) {
+    match test_rule(db, theorem, rule, &symbols, stack, cache) {
         Err(reason) => Err(Stopped::Fault(reason)),
         Ok(below) => match fill(&symbols, &stack[below..], rule.formula(), short) {
             Some(n) => match put(below, &short[..n], own, kept, stack) {
@@ -395,7 +395,7 @@ fn put_long<A: Allocator>(
     _db: &Database<A>,
     _theorem: u32,
     _rule: &Rule,
-    formula: &[Part],
+    formula: &[RuleSymbol],
     below: usize,
     own: &mut SymbolList<A>,
     kept: &[Sym],

@@ -9,10 +9,10 @@ use std::alloc::{AllocError, Allocator};
 use std::marker::Model;
 
 /// How many more places than are required are made when there are too few.
-const MORE: usize = 256;
+const SPARE_PLACES: usize = 256;
 
 /// How many places stay from proof to proof.
-const STAYS: usize = 65_536;
+const MAX_PLACES_KEPT: usize = 65_536;
 
 /// A list of symbols. It has places for more, so an append mostly only writes.
 #[derive(Drop)]
@@ -52,7 +52,7 @@ fn make_room<A: Allocator>(
             if least <= places.len() {
                 return Ok(());
             }
-            places.resize(least.saturating_add(MORE), Sym::new(0))
+            places.resize(least.saturating_add(SPARE_PLACES), Sym::new(0))
         }
     }
 }
@@ -110,7 +110,7 @@ impl<A: Allocator> SymbolList<A> {
         ensures { self.new ≡ [] }
     {
         self.count = 0;
-        if self.places.len() > STAYS {
+        if self.places.len() > MAX_PLACES_KEPT {
             empty(&mut self.places);
         }
     }

@@ -22,7 +22,7 @@ use Rattle.mm_spec.specs.CompressedProof.{letters_of, Group, is_early, is_last, 
 use Rattle.mm_spec.specs.CompressedProof.{starts_at, group_fault, group_faults, letter_faults}
 use Rattle.mm_spec.specs.CompressedProof.{compressed_faults}
 use Rattle.mm_proof.specs.Letters.{InOrder}
-use Rattle.mm_proof.specs.Refused.{Refuses, StartsWith}
+use Rattle.mm_proof.specs.Refused.{IsProofRefusal, StartsWith}
 use Rattle.mm_proof.specs.declared.refused.ProofRefused.{ProofRefused}
 use Rattle.mm_proof.specs.declared.refused.ProofRefused.TheVariants.{Fault as Faulty, Memory}
 
@@ -367,7 +367,7 @@ module _ (db : List Statement) (k end : ℕ) where
   -- the first fault that is found is the first
   pub first_fault : (from : ℕ) (ts : List Token) (e : ProofRefused) → InOrder from ts end
       → StartsWith (compressed_faults db k end (bracketed ts)) e
-      → Refuses (compressed_faults db k end (bracketed ts)) e
+      → IsProofRefusal (compressed_faults db k end (bracketed ts)) e
   first_fault from ts Memory o s = tt
   first_fault from ts (Faulty f) o s =
       let many = length (mandatory_hypotheses db k) + length (bracketed ts).labels in

@@ -111,18 +111,18 @@ proof_follows : (text : List ℕ) (db : List Statement) (fault : Option Fault)
 proof_follows text db fault r k l p xs e ps d is =
     let s = provable l p xs e ps d in
     let a =
-    spelled_in r.row k s
+    spelled_in r.statements k s
     (subst (λ z. slice_get z k ≡ Some s) (sym r.splits) (get_front db r.rest k s is)) in
     let ts = map (λ w. token w.start (bytes_of text w)) (lexed.tokens_of text) in
-    let whole : ts ≡ a.before ++ (spelled s ++ (a.after ++ r.is_row.rest)) =
-    r.is_row.splits ∙ ap (λ z. z ++ r.is_row.rest) a.is
-    ∙ append_assoc a.before (spelled s ++ a.after) r.is_row.rest
-    ∙ ap (λ z. a.before ++ z) (append_assoc (spelled s) a.after r.is_row.rest) in
+    let whole : ts ≡ a.before ++ (spelled s ++ (a.after ++ r.are_statements.rest)) =
+    r.are_statements.splits ∙ ap (λ z. z ++ r.are_statements.rest) a.is
+    ∙ append_assoc a.before (spelled s ++ a.after) r.are_statements.rest
+    ∙ ap (λ z. a.before ++ z) (append_assoc (spelled s) a.after r.are_statements.rest) in
     let all : AllPairs Follows ts =
     begins_after text (lexed.tokens_of text) (tokens_are_words text) (tokens_rising text) in
     pairs_in (ps ++ token d (codes "$.") ∷ []) (spelled s) inner
     (pairs_in (spelled s) ts
-    (record { before = a.before; after = a.after ++ r.is_row.rest; is = whole }) all)
+    (record { before = a.before; after = a.after ++ r.are_statements.rest; is = whole }) all)
   where
     inner : StandsIn (ps ++ token d (codes "$.") ∷ []) (spelled (provable l p xs e ps d))
     inner = record {

@@ -11,9 +11,9 @@ use Rattle.mm_proof.specs.declared.refused.ProofRefused.{ProofRefused}
 use Rattle.mm_proof.specs.declared.refused.ProofRefused.TheVariants.{Fault as Faulty, Memory}
 
 -- if the refusal is a fault, it is the first of these
-abbrev pub Refuses : List Fault → ProofRefused → Type 0
-Refuses faults (Faulty f) = least faults ≡ Some f
-Refuses faults Memory = Unit {0}
+abbrev pub IsProofRefusal : List Fault → ProofRefused → Type 0
+IsProofRefusal faults (Faulty f) = least faults ≡ Some f
+IsProofRefusal faults Memory = Unit {0}
 
 -- if the refusal is a fault, these begin with it
 abbrev pub StartsWith : List Fault → ProofRefused → Type 0

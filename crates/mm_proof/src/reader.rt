@@ -8,7 +8,7 @@ ghost use Rattle.mm_spec.specs.Citation.{steps_at, reading_faults_at};
 ghost use Rattle.mm_spec.specs.Output.{is_theorem_at};
 ghost use Rattle.mm_outline.specs.Parts.{as_tokens, AreWithin};
 ghost use Rattle.mm_steps.specs.Read.{Read, read};
-ghost use Rattle.mm_proof.specs.Refused.{Refuses, word_faults};
+ghost use Rattle.mm_proof.specs.Refused.{IsProofRefusal, word_faults};
 
 use crate::compressed::read_compressed;
 use crate::labels::usable_label;
@@ -37,7 +37,7 @@ fn read_words<A: Allocator>(
         ≡ read theorem
         (normal_steps database.now.statements theorem (as_tokens database.now.text words.now))) }
     ensures fault { IfErr result
-        (λ e. Refuses
+        (λ e. IsProofRefusal
         (flat_map (word_faults database.now.statements theorem)
         (as_tokens database.now.text words.now)) e) }
 {
@@ -66,7 +66,7 @@ pub fn read_proof<A: Allocator + Copy>(
     ensures steps { IfOk result (λ s. s ≡ read theorem (steps_at database.now.statements theorem)) }
     ensures sound { IfOk result (λ s. reading_faults_at database.now.statements theorem ≡ []) }
     ensures fault { IfErr result
-        (λ e. Refuses (reading_faults_at database.now.statements theorem) e) }
+        (λ e. IsProofRefusal (reading_faults_at database.now.statements theorem) e) }
 {
     // The proof needs the clauses of `len`.
     let _ = database.len();

@@ -6,8 +6,8 @@ use Rattle.mm_spec.specs.Derivation.{Formula}
 use Rattle.mm_spec.specs.Laws.Complete.{binds, IsBound, IsComplete}
 use Rattle.mm_spec.specs.Citation.{context_at}
 use Rattle.mm_spec.specs.Frame.{is_variable_number, symbol_names, frame_at}
-use Rattle.mm_rule.specs.declared.rule.Part.{Part}
-use Rattle.mm_rule.specs.declared.rule.Part.TheVariants.{Constant, Variable}
+use Rattle.mm_rule.specs.declared.rule.RuleSymbol.{RuleSymbol}
+use Rattle.mm_rule.specs.declared.rule.RuleSymbol.TheVariants.{Constant, Variable}
 use Rattle.mm_rule.specs.declared.rule.Hypothesis.{Hypothesis}
 use Rattle.mm_rule.specs.declared.rule.Stretch.{Stretch}
 use Rattle.mm_rule.specs.declared.rule.Hypothesis.TheVariants.{Floating, Essential}
@@ -19,19 +19,19 @@ first k [] x = 0
 first k (h ∷ hs) x = if binds (context_at k 0) x h then 0 else suc (first k hs x)
 
 -- a symbol as a part: a constant, or a variable given by the place of its `$f`
-abbrev pub part_of : List Statement → List Formula → ℕ → Part
+abbrev pub part_of : List Statement → List Formula → ℕ → RuleSymbol
 part_of k hs s = if is_variable_number k s then Variable (first k hs s) else Constant s
 
-abbrev pub parts_of : List Statement → List Formula → Formula → List Part
+abbrev pub parts_of : List Statement → List Formula → Formula → List RuleSymbol
 parts_of k hs f = map (part_of k hs) f
 
 -- the parts of hypothesis `j`
-abbrev pub hypothesis_parts : List Part → ℕ → Hypothesis → List Part
+abbrev pub hypothesis_parts : List RuleSymbol → ℕ → Hypothesis → List RuleSymbol
 hypothesis_parts parts j (Floating t) = Constant t ∷ Variable j ∷ []
 hypothesis_parts parts j (Essential s) = slice_range parts s.start s.end
 
 -- the parts of hypotheses that are numbered from `j` on
-abbrev pub all_parts : List Part → ℕ → List Hypothesis → List (List Part)
+abbrev pub all_parts : List RuleSymbol → ℕ → List Hypothesis → List (List RuleSymbol)
 all_parts parts j [] = []
 all_parts parts j (a ∷ more) = hypothesis_parts parts j a ∷ all_parts parts (suc j) more
 
@@ -41,12 +41,12 @@ IsHypothesisIn n (Floating t) = Unit {0}
 IsHypothesisIn n (Essential s) = (s.start ≤ s.end) × (s.end ≤ n)
 
 -- if the part is a variable, its place is one of `n` hypotheses
-abbrev pub IsBelow : ℕ → Part → Type 0
+abbrev pub IsBelow : ℕ → RuleSymbol → Type 0
 IsBelow n (Constant s) = Unit {0}
 IsBelow n (Variable j) = j < n
 
 -- if the part is a constant, it is one of `n` symbols
-abbrev pub IsKnown : ℕ → Part → Type 0
+abbrev pub IsKnown : ℕ → RuleSymbol → Type 0
 IsKnown n (Constant s) = s < n
 IsKnown n (Variable j) = Unit {0}
 
@@ -54,10 +54,10 @@ pub record Compiled : Type 0 where
   pub assertion : ℕ
   pub hypotheses : List Hypothesis
   pub pairs : List (ℕ × ℕ)
-  pub parts : List Part
-  pub formula : List Part
+  pub parts : List RuleSymbol
+  pub formula : List RuleSymbol
 
-abbrev pub compiled : ℕ → List Hypothesis → List (ℕ × ℕ) → List Part → List Part → Compiled
+abbrev pub compiled : ℕ → List Hypothesis → List (ℕ × ℕ) → List RuleSymbol → List RuleSymbol → Compiled
 compiled k hypotheses pairs parts formula =
     record {
       assertion = k;

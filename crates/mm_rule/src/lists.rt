@@ -5,7 +5,7 @@ ghost use Rattle.std.specs.Prelude.{◌≡◌, []};
 use std::alloc::Allocator;
 
 /// How many elements of a list stay allocated from proof to proof.
-const STAYS: usize = 65_536;
+const MAX_ELEMENTS_KEPT: usize = 65_536;
 
 /// Empties a list, and frees the memory of a long one. Otherwise one proof with long formulas would
 /// hold it until all proofs are checked.
@@ -13,5 +13,5 @@ pub fn empty<T: Drop, A: Allocator>(list: &mut Vec<T, A>)
     ensures { list.new.items ≡ [] }
 {
     list.clear();
-    list.shrink_to(STAYS);
+    list.shrink_to(MAX_ELEMENTS_KEPT);
 }

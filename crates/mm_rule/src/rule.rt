@@ -7,7 +7,7 @@ use std::marker::Model;
 
 /// A symbol of a formula of a frame.
 #[derive(Clone, Copy, Drop)]
-pub enum Part {
+pub enum RuleSymbol {
     /// A constant.
     Constant(Sym),
     /// A variable, by the number of its `$f` among the mandatory hypotheses, from 0.
@@ -41,9 +41,9 @@ pub struct Rule<'a> {
     /// The mandatory pairs of disjoint variables.
     pub pairs: &'a [(u32, u32)],
     /// The symbols of those hypotheses that aren't the first `$f` of a variable.
-    pub parts: &'a [Part],
+    pub parts: &'a [RuleSymbol],
     /// The symbols of the assertion's formula.
-    pub formula: &'a [Part],
+    pub formula: &'a [RuleSymbol],
 }
 
 impl<'a> Model for Rule<'a> {
@@ -71,7 +71,7 @@ impl<'a> Rule<'a> {
     }
 
     /// The symbols of the assertion's formula.
-    pub fn formula(&self) -> &'a [Part]
+    pub fn formula(&self) -> &'a [RuleSymbol]
         ensures { result.now ≡ self.now.formula }
     {
         self.formula

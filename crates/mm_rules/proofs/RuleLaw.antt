@@ -11,8 +11,8 @@ use Rattle.mm_spec.specs.Laws.Complete.{IsBound, AreBound, IsComplete}
 use Rattle.mm_spec.specs.Citation.{context_at}
 use Rattle.mm_spec.specs.Frame.{symbol_names, is_variable_number, formula_at, frame_at}
 use Rattle.mm_spec.specs.Frame.{mandatory_hypotheses, mandatory_pairs}
-use Rattle.mm_rule.specs.declared.rule.Part.{Part}
-use Rattle.mm_rule.specs.declared.rule.Part.TheVariants.{Constant, Variable}
+use Rattle.mm_rule.specs.declared.rule.RuleSymbol.{RuleSymbol}
+use Rattle.mm_rule.specs.declared.rule.RuleSymbol.TheVariants.{Constant, Variable}
 use Rattle.mm_rule.specs.declared.rule.Hypothesis.{Hypothesis}
 use Rattle.mm_rule.specs.declared.rule.Hypothesis.TheVariants.{Floating, Essential}
 use Rattle.mm_rule.specs.declared.rule.Stretch.{Stretch}
@@ -44,7 +44,7 @@ map_more_after f xs i d start old new y inside was is here =
     ∙ append_assoc start (map f (take i xs)) (f (get_or xs i d) ∷ [])
     ∙ ap (λ z. start ++ z) (sym (map_take_more f xs i d inside))
 
-all_parts_push : (parts : List Part) (n : ℕ) (xs : List Hypothesis) (a : Hypothesis)
+all_parts_push : (parts : List RuleSymbol) (n : ℕ) (xs : List Hypothesis) (a : Hypothesis)
     → all_parts parts n (xs ++ a ∷ [])
     ≡ all_parts parts n xs ++ hypothesis_parts parts (n + length xs) a ∷ []
 all_parts_push parts n [] a =
@@ -56,12 +56,12 @@ all_parts_push parts n (x ∷ xs) a =
     ∙ ap (λ m. all_parts parts (suc n) xs ++ hypothesis_parts parts m a ∷ []) e)
 
 -- more parts after
-one_grow : (parts more : List Part) (n : ℕ) (a : Hypothesis) → IsHypothesisIn (length parts) a
+one_grow : (parts more : List RuleSymbol) (n : ℕ) (a : Hypothesis) → IsHypothesisIn (length parts) a
     → hypothesis_parts (parts ++ more) n a ≡ hypothesis_parts parts n a
 one_grow parts more n (Floating t) h = refl
 one_grow parts more n (Essential s) h = stretch_more parts more s.start s.end h.0 h.1
 
-all_parts_grow : (parts more : List Part) (n : ℕ) (xs : List Hypothesis)
+all_parts_grow : (parts more : List RuleSymbol) (n : ℕ) (xs : List Hypothesis)
     → AllByRecursion (IsHypothesisIn (length parts)) xs
     → all_parts (parts ++ more) n xs ≡ all_parts parts n xs
 all_parts_grow parts more n [] h = refl
@@ -83,7 +83,7 @@ pushed P [] x h p = (p, tt)
 pushed P (y ∷ xs) x h p = (h.0, pushed P xs x h.1 p)
 
 -- what one hypothesis more asks: a typecode
-pub typed_more : (parts : List Part) (xs : List Hypothesis) (j t : ℕ) (us : List (List Part))
+pub typed_more : (parts : List RuleSymbol) (xs : List Hypothesis) (j t : ℕ) (us : List (List RuleSymbol))
     → length xs ≡ j → all_parts parts 0 xs ≡ us
     → all_parts parts 0 (xs ++ Floating t ∷ []) ≡ us ++ (Constant t ∷ Variable j ∷ []) ∷ []
 typed_more parts xs j t us n e =
@@ -98,7 +98,7 @@ typed_within n xs t h =
     (pushed (IsHypothesisIn n) xs (Floating t) (recursion_from_All (IsHypothesisIn n) xs h) tt)
 
 -- or the parts of its formula
-module _ (parts more : List Part) (xs : List Hypothesis) (s : Stretch)
+module _ (parts more : List RuleSymbol) (xs : List Hypothesis) (s : Stretch)
     (from : s.start ≡ length parts)
     (to : s.end ≡ length (parts ++ more)) (h : All (IsHypothesisIn (length parts)) xs) where
   stretch_is : slice_range (parts ++ more) s.start s.end ≡ more
@@ -108,7 +108,7 @@ module _ (parts more : List Part) (xs : List Hypothesis) (s : Stretch)
       ∙ take_all (length (parts ++ more) - length parts) more
       (omega (arith, length-append parts more))
 
-  pub essential_more : (us : List (List Part)) → all_parts parts 0 xs ≡ us
+  pub essential_more : (us : List (List RuleSymbol)) → all_parts parts 0 xs ≡ us
       → all_parts (parts ++ more) 0 (xs ++ Essential s ∷ []) ≡ us ++ more ∷ []
   essential_more us e =
       all_parts_push (parts ++ more) 0 xs (Essential s)
@@ -213,7 +213,7 @@ module _ (k : List Statement) (a : ℕ) (is : is_assertion_at k a ≡ true)
 
   rule_is : (from : List (ℕ × ℕ)) (f : Formula) (hypotheses : List Hypothesis)
       (pairs : List (ℕ × ℕ))
-      → (parts formula : List Part)
+      → (parts formula : List RuleSymbol)
       → paired from ≡ mandatory_pairs k a → f ≡ formula_at k a
       → All (λ s. s < length (symbol_names k)) f
       → all_parts parts 0 hypotheses ≡ map (parts_of k frame_hyps) frame_hyps
@@ -255,7 +255,7 @@ module _ (k : List Statement) (a : ℕ) (is : is_assertion_at k a ≡ true)
       }
 
   pub made_rule : (hyps : List ℕ) (from : List (ℕ × ℕ)) (f : Formula) (hypotheses : List Hypothesis)
-      → (pairs : List (ℕ × ℕ)) (parts formula : List Part)
+      → (pairs : List (ℕ × ℕ)) (parts formula : List RuleSymbol)
       → hyps ≡ mandatory_hypotheses k a → paired from ≡ mandatory_pairs k a → f ≡ formula_at k a
       → All (λ s. s < length (symbol_names k)) f
       → all_parts parts 0 hypotheses

@@ -4,7 +4,7 @@ use Rattle.std.proofs.Common.{ap₂, ◌∙◌, arith, All, length-append, get_o
 use Rattle.std.proofs.lemmas.List.{take_all, drop_at}
 use Rattle.std.proofs.lemmas.List.Elements.{All-push}
 use Rattle.mm_spec.specs.Statement.{Statement}
-use Rattle.mm_rule.specs.declared.rule.Part.{Part}
+use Rattle.mm_rule.specs.declared.rule.RuleSymbol.{RuleSymbol}
 use Rattle.mm_rule.specs.declared.rule.Hypothesis.{Hypothesis}
 use Rattle.mm_rule.specs.declared.rule.Stretch.{Stretch}
 use Rattle.mm_rules.specs.declared.rules.RuleStretches.{RuleStretches}
@@ -42,7 +42,7 @@ module _ {X : Type 0} (xs more : List X) (s : Stretch) where
 
 module _ (k : List Statement) (stretches : List RuleStretches) (hypotheses a : List Hypothesis)
     (pairs p : List (ℕ × ℕ))
-    (parts q f : List Part) where
+    (parts q f : List RuleSymbol) where
   -- the rules that were there
   rule_stays : (new : List RuleStretches) (s : RuleStretches) → HasRule k
       (lists stretches hypotheses pairs parts) s
@@ -111,7 +111,7 @@ module _ (k : List Statement) (stretches : List RuleStretches) (hypotheses a : L
 -- the same by the values that the code has
 pub added_at : (k : List Statement) (stretches stretches' : List RuleStretches)
     (hypotheses a hypotheses' : List Hypothesis)
-    → (pairs p pairs' : List (ℕ × ℕ)) (parts q f mid parts' : List Part) (s : RuleStretches)
+    → (pairs p pairs' : List (ℕ × ℕ)) (parts q f mid parts' : List RuleSymbol) (s : RuleStretches)
     → stretches' ≡ stretches ++ s ∷ [] → hypotheses' ≡ hypotheses ++ a → pairs' ≡ pairs ++ p → mid
     ≡ parts ++ q
     → parts' ≡ mid ++ f → s.hypotheses.start ≡ length hypotheses → s.hypotheses.end ≡ length

@@ -6,8 +6,8 @@ use Rattle.mm_spec.specs.Derivation.{Formula}
 use Rattle.mm_spec.specs.Laws.Complete.{binds, IsBound, IsComplete}
 use Rattle.mm_spec.specs.Citation.{context_at}
 use Rattle.mm_spec.specs.Frame.{is_variable_number, symbol_names, frame_at}
-use Rattle.mm_rule.specs.declared.rule.Part.{Part}
-use Rattle.mm_rule.specs.declared.rule.Part.TheVariants.{Constant, Variable}
+use Rattle.mm_rule.specs.declared.rule.RuleSymbol.{RuleSymbol}
+use Rattle.mm_rule.specs.declared.rule.RuleSymbol.TheVariants.{Constant, Variable}
 use Rattle.mm_rule.specs.declared.rule.Hypothesis.{Hypothesis}
 use Rattle.mm_rule.specs.declared.rule.Stretch.{Stretch}
 use Rattle.mm_rules.specs.declared.rules.RuleStretches.{RuleStretches}
@@ -37,13 +37,13 @@ abbrev pub compiler_state : ℕ → Compiled → CompilerState
 compiler_state width rule = record { width = width; rule = rule }
 
 -- the rules of a database: a list of their stretches, and the lists that all rules share
-pub record Lists : Type 0 where
+pub record RuleLists : Type 0 where
   pub stretches : List RuleStretches
   pub hypotheses : List Hypothesis
   pub pairs : List (ℕ × ℕ)
-  pub parts : List Part
+  pub parts : List RuleSymbol
 
-abbrev pub lists : List RuleStretches → List Hypothesis → List (ℕ × ℕ) → List Part → Lists
+abbrev pub lists : List RuleStretches → List Hypothesis → List (ℕ × ℕ) → List RuleSymbol → RuleLists
 lists stretches hypotheses pairs parts =
     record { stretches = stretches; hypotheses = hypotheses; pairs = pairs; parts = parts }
 
@@ -66,7 +66,7 @@ module _ {X : Type 0} where
   stretch_of xs s = slice_range xs s.start s.end
 
 -- the rule in these stretches
-abbrev pub rule_at : Lists → RuleStretches → Compiled
+abbrev pub rule_at : RuleLists → RuleStretches → Compiled
 rule_at l s =
     compiled s.assertion (stretch_of l.hypotheses s.hypotheses) (stretch_of l.pairs s.pairs)
     (stretch_of l.parts s.parts) (stretch_of l.parts s.formula)
@@ -77,21 +77,21 @@ pub record IsStretch (n : ℕ) (s : Stretch) : Type 0 where
   pub within : s.end ≤ n
 
 -- the rule of an assertion of the database is in the stretches
-pub record HasRule (k : List Statement) (l : Lists) (s : RuleStretches) : Type 0 where
+pub record HasRule (k : List Statement) (l : RuleLists) (s : RuleStretches) : Type 0 where
   pub hypotheses : IsStretch (length l.hypotheses) s.hypotheses
   pub pairs : IsStretch (length l.pairs) s.pairs
   pub parts : IsStretch (length l.parts) s.parts
   pub formula : IsStretch (length l.parts) s.formula
   pub compiled : IsCompiled k (rule_at l s)
 
-abbrev pub AreRules : List Statement → Lists → Type 0
+abbrev pub AreRules : List Statement → RuleLists → Type 0
 AreRules k l = All (HasRule k l) l.stretches
 
 abbrev pub no_stretches : RuleStretches
 no_stretches = rule_stretches 0 (stretch 0 0) (stretch 0 0) (stretch 0 0) (stretch 0 0)
 
 -- `n` is the number of the rule of assertion `a`
-pub record IsRuleNumber (l : Lists) (n a : ℕ) : Type 0 where
+pub record IsRuleNumber (l : RuleLists) (n a : ℕ) : Type 0 where
   pub inside : n < length l.stretches
   pub is : (get_or l.stretches n no_stretches).assertion ≡ a
 

@@ -13,10 +13,10 @@ ghost use Rattle.mm_rule.specs.Rule.{first, part_of, parts_of, all_parts, compil
 ghost use Rattle.mm_rule.specs.Rule.{IsHypothesisIn};
 ghost use Rattle.mm_rule.specs.Rule.{IsBelow, IsCompiled};
 ghost use Rattle.mm_rules.specs.Rules.{AreCovered, AreFirstNumbers, ArePairs};
-ghost use Rattle.mm_rule.specs.declared.rule.Part.TheVariants.{Constant, Variable};
+ghost use Rattle.mm_rule.specs.declared.rule.RuleSymbol.TheVariants.{Constant, Variable};
 
 use mm_database::{Database, Sym};
-use mm_rule::{Hypothesis, Part, Rule, Stretch, empty, hyps, pairs, zeros};
+use mm_rule::{Hypothesis, RuleSymbol, Rule, Stretch, empty, hyps, pairs, zeros};
 use std::alloc::{AllocError, Allocator};
 use std::marker::Model;
 
@@ -76,7 +76,7 @@ fn number_variables<A: Allocator>(db: &Database<A>, hyps: &[u32], numbers: &mut 
 }
 
 /// The part of a symbol.
-fn compile_symbol<A: Allocator>(db: &Database<A>, _hyps: &[u32], numbers: &[u32], s: Sym) -> Part
+fn compile_symbol<A: Allocator>(db: &Database<A>, _hyps: &[u32], numbers: &[u32], s: Sym) -> RuleSymbol
     requires width { length numbers.now ≡ length (symbol_names db.now.statements) }
     requires placed { AreFirstNumbers db.now.statements
         (map (formula_at db.now.statements) _hyps.now) numbers.now }
@@ -87,9 +87,9 @@ fn compile_symbol<A: Allocator>(db: &Database<A>, _hyps: &[u32], numbers: &[u32]
     ensures { result ≡ part_of db.now.statements (map (formula_at db.now.statements) _hyps.now) s }
 {
     if db.is_variable(s) {
-        Part::Variable(number_of(numbers, s))
+        RuleSymbol::Variable(number_of(numbers, s))
     } else {
-        Part::Constant(s)
+        RuleSymbol::Constant(s)
     }
 }
 
@@ -99,7 +99,7 @@ fn compile_formula<A: Allocator>(
     hyps: &[u32],
     numbers: &[u32],
     formula: &[Sym],
-    parts: &mut Vec<Part, A>,
+    parts: &mut Vec<RuleSymbol, A>,
 ) -> Result<(), AllocError>
     requires width { length numbers.now ≡ length (symbol_names db.now.statements) }
     requires placed { AreFirstNumbers db.now.statements
@@ -149,7 +149,7 @@ fn compile_hypotheses<A: Allocator>(
     hyps: &[u32],
     numbers: &[u32],
     hypotheses: &mut Vec<Hypothesis, A>,
-    parts: &mut Vec<Part, A>,
+    parts: &mut Vec<RuleSymbol, A>,
 ) -> Result<(), AllocError>
     requires width { length numbers.now ≡ length (symbol_names db.now.statements) }
     requires placed { AreFirstNumbers db.now.statements
@@ -226,8 +226,8 @@ pub struct RuleCompiler<A: Allocator> {
     assertion: u32,
     hypotheses: Vec<Hypothesis, A>,
     pairs: Vec<(u32, u32), A>,
-    parts: Vec<Part, A>,
-    formula: Vec<Part, A>,
+    parts: Vec<RuleSymbol, A>,
+    formula: Vec<RuleSymbol, A>,
     /// A number for each symbol, with no meaning between calls.
     numbers: Vec<u32, A>,
 }

@@ -8,13 +8,13 @@ ghost use Rattle.mm_rules.specs.Rules.{AreRules, IsRuleNumber, lists, no_stretch
 
 use crate::compile::RuleCompiler;
 use mm_database::Database;
-use mm_rule::{Hypothesis, Part, Rule, Stretch, is_assertion, put_number, zeros};
+use mm_rule::{Hypothesis, RuleSymbol, Rule, Stretch, is_assertion, put_number, zeros};
 use std::alloc::{AllocError, Allocator};
 use std::marker::Model;
 
 /// Once the rules have this many hypotheses, pairs and symbols together, no more rules are made. So
 /// frames that are much longer than the text aren't all held.
-const HELD: usize = 8_388_608;
+const MAX_HELD: usize = 8_388_608;
 
 /// The stretches of a rule in the lists of all rules.
 #[derive(Clone, Copy, Drop)]
@@ -32,7 +32,7 @@ pub struct Rules<A: Allocator> {
     hypotheses: Vec<Hypothesis, A>,
     pairs: Vec<(u32, u32), A>,
     /// The symbols of hypotheses and of formulas.
-    parts: Vec<Part, A>,
+    parts: Vec<RuleSymbol, A>,
     /// For each statement, the number that its rule may have; `find` verifies it.
     numbers: Vec<u32, A>,
 }
@@ -51,9 +51,9 @@ impl<A: Allocator> Drop for Rules<A> {
 }
 
 impl<A: Allocator> Model for Rules<A> {
-    ghost use Rattle.mm_rules.specs.Rules.{Lists, lists};
+    ghost use Rattle.mm_rules.specs.Rules.{RuleLists, lists};
 
-    ghost Value = { Lists };
+    ghost Value = { RuleLists };
 
     ghost view = { λ r. lists r.stretches.items r.hypotheses.items r.pairs.items r.parts.items };
 }
@@ -130,7 +130,7 @@ impl<A: Allocator> Rules<A> {
     /// Whether there is room for one more rule.
     fn has_room(&self) -> bool {
         let held = self.hypotheses.len().saturating_add(self.pairs.len());
-        held.saturating_add(self.parts.len()) < HELD
+        held.saturating_add(self.parts.len()) < MAX_HELD
     }
 
     /// Adds a rule.

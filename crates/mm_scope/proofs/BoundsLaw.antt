@@ -122,15 +122,15 @@ first_shorter e (w ∷ ws) = by (is_in w e) (first_shorter e ws) (first_shorter 
     by true p q = omega (arith, p)
     by false p q = omega (arith, q)
 
--- statements that stand in front of a row of statements, which are the first of the tokens
-module _ (ts rest : List Token) (row : List Statement) (splits : ts ≡ flat_map spelled row ++ rest)
-    (db more : List Statement) (is : row ≡ db ++ more) where
+-- statements that stand in front of a list of statements, which are the first of the tokens
+module _ (ts rest : List Token) (list : List Statement) (splits : ts ≡ flat_map spelled list ++ rest)
+    (db more : List Statement) (is : list ≡ db ++ more) where
   spelled-few : length (flat_map spelled db) ≤ length ts
   spelled-few =
       let a = ap length splits in
-      let b = length-append (flat_map spelled row) rest in
+      let b = length-append (flat_map spelled list) rest in
       let c = front spelled db more in
-      let d : length (flat_map spelled (db ++ more)) ≡ length (flat_map spelled row) =
+      let d : length (flat_map spelled (db ++ more)) ≡ length (flat_map spelled list) =
       ap (λ l. length (flat_map spelled l)) (sym is) in
       omega (arith, a, b, c, d)
 

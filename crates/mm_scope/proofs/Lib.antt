@@ -1,5 +1,5 @@
 -- The loop of `outline` keeps two things: `IsReading` (the lawful statements lead to `at`) and
--- `IsKept` (names, blocks and numbers are theirs). `knows_is` (`KnowsLaw.antt`) says that what is
+-- `IsKeptOf` (names, blocks and numbers are theirs). `knows_is` (`KnowsLaw.antt`) says that what is
 -- kept is what the judge needs. `formula_is`, `constants_is` and `variables_is` (`JudgeLaw.antt`)
 -- show that the code's fault is the least one. `keeps_after` (`AddLaw.antt`) adds a lawful
 -- statement, `names_next` and `formulas_more` (`NumberedLaw.antt`) its symbols. `reading_more`

@@ -15,7 +15,7 @@ use Rattle.mm_spec.specs.Laws.Table.{fault_at_end}
 use Rattle.mm_spec.specs.declared.Word.{Word}
 use Rattle.mm_spec.specs.declared.Fault.{Fault}
 use Rattle.mm_spec.proofs.LocalLaw.{scope_fault_front, scope_fault_next}
-use Rattle.mm_spec.proofs.RowLaw.{is_longest}
+use Rattle.mm_spec.proofs.LongestLaw.{is_longest}
 use Rattle.mm_spec.proofs.StopsLaw.{text_fault, text_fault_is, no_text_fault, first_of}
 use Rattle.mm_outline.specs.Parts.{as_tokens, reading, made, depth_after, less_one}
 use Rattle.mm_outline.specs.Blocks.{BlockLists, IsBlocks, never}
@@ -51,19 +51,19 @@ module _ (text : List ℕ) (ws : List Word) (len : ℕ) (lexical : Option Fault)
       → IsRead len (lexed text ws lexical) db f
   read_unlawful s d us l f ne e =
       let more = statements_from (start d) us in
-      let row : statements_of (as_tokens text ws) ≡ db ++ s ∷ more =
+      let list : statements_of (as_tokens text ws) ≡ db ++ s ∷ more =
       r.leads.statements ∙ ap (λ y. db ++ y) l.statements in
       record {
-        row = statements_of (as_tokens text ws);
-        is_row = is_longest (as_tokens text ws);
+        statements = statements_of (as_tokens text ws);
+        are_statements = is_longest (as_tokens text ws);
         rest = s ∷ more;
-        splits = row;
+        splits = list;
         lawful =
-            λ k h. ap (λ y. scope_fault y k) row ∙ scope_fault_front db (s ∷ more) k h
+            λ k h. ap (λ y. scope_fault y k) list ∙ scope_fault_front db (s ∷ more) k h
             ∙ r.lawful k h;
         stops = (
           ne,
-          ap (λ y. scope_fault y (length db)) row ∙ scope_fault_next db s more
+          ap (λ y. scope_fault y (length db)) list ∙ scope_fault_next db s more
               ∙ ap (λ d. least (scope_faults (names_before db (length db)) d s)) (sym r.deep_is)
               ∙ sym e,
         );
@@ -78,14 +78,14 @@ module _ (text : List ℕ) (ws : List Word) (len : ℕ) (lexical : Option Fault)
   pub read_end : statements_from (start deep) (tokens_from text ws at) ≡ [] → (f : Option Fault)
       → text_fault len (lexed text ws lexical) ≡ f → IsRead len (lexed text ws lexical) db f
   read_end n f e =
-      let row : statements_of (as_tokens text ws) ≡ db ++ [] =
+      let list : statements_of (as_tokens text ws) ≡ db ++ [] =
       r.leads.statements ∙ ap (λ y. db ++ y) n in
       record {
-        row = statements_of (as_tokens text ws);
-        is_row = is_longest (as_tokens text ws);
+        statements = statements_of (as_tokens text ws);
+        are_statements = is_longest (as_tokens text ws);
         rest = [];
-        splits = row;
-        lawful = λ k h. ap (λ y. scope_fault y k) row ∙ scope_fault_front db [] k h ∙ r.lawful k h;
+        splits = list;
+        lawful = λ k h. ap (λ y. scope_fault y k) list ∙ scope_fault_front db [] k h ∙ r.lawful k h;
         stops = stops_with f e;
       }
 
@@ -129,13 +129,13 @@ pub inside_block : (text : List ℕ) (ws : List Word) (db : List Statement) (dee
     → 0 < depth db (length db)
 inside_block text ws db deep at r s d us l e =
     let more = statements_from (start d) us in
-    let row : statements_of (as_tokens text ws) ≡ db ++ s ∷ more =
+    let list : statements_of (as_tokens text ws) ≡ db ++ s ∷ more =
     r.leads.statements ∙ ap (λ y. db ++ y) l.statements in
     let front : take (length db + 1) (db ++ s ∷ more) ≡ db ++ s ∷ [] = take_one db s more in
     let n : count_by is_closing (db ++ s ∷ []) ≤ count_by is_opening (db ++ s ∷ []) =
     subst (λ y. count_by is_closing y ≤ count_by is_opening y)
-    (ap (take (length db + 1)) row ∙ front)
-    ((is_longest (as_tokens text ws)).is_row.nested (length db + 1)) in
+    (ap (take (length db + 1)) list ∙ front)
+    ((is_longest (as_tokens text ws)).are_statements.nested (length db + 1)) in
     let c : count_by is_closing (db ++ s ∷ []) ≡ count_by is_closing db + 1 =
     count_end is_closing db s ∙ ap (λ b. count_by is_closing db + cond b 1 0) e in
     let o : count_by is_opening (db ++ s ∷ []) ≡ count_by is_opening db + 0 =

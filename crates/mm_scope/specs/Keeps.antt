@@ -37,7 +37,7 @@ pub record Kept : Type 0 where
   pub numbers : List ℕ
   pub places : List ℕ
 
-pub record IsKept (db : List Statement) (k : Kept) : Type 0 where
+pub record IsKeptOf (db : List Statement) (k : Kept) : Type 0 where
   pub keeps : Keeps db k.look k.labels k.blocks
   pub names_are : k.names ≡ symbol_names db
   pub formulas : AreFormulas db k.numbers k.places
@@ -61,9 +61,9 @@ module _ {A : Type 0} where
         (statement_of text tokens o))
     pub taken : r.fault ≡ None
         → (r.outlines.items ≡ before ++ o ∷ [])
-        × IsKept (statements text tokens before ++ statement_of text tokens o ∷ []) (kept_by r)
+        × IsKeptOf (statements text tokens before ++ statement_of text tokens o ∷ []) (kept_by r)
     pub stays : r.fault ≢ None
-        → (r.outlines.items ≡ before) × IsKept (statements text tokens before) (kept_by r)
+        → (r.outlines.items ≡ before) × IsKeptOf (statements text tokens before) (kept_by r)
 
   -- what was read, with names and blocks each by itself
   abbrev pub reading_of : Outlined A → Reading A

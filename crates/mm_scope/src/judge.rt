@@ -74,7 +74,7 @@ impl<'a, A: Allocator + Copy> Scope<'a, A> {
             (IsLeastFault self.now
             (λ n. at_each (declared_codes n kind) [] (between text.now tokens.now from to))) }
     {
-        let is_short = to - from <= FEW;
+        let is_short = to - from <= MAX_WORDS_COMPARED;
         let mut seen = IndexMap::new(alloc);
         let mut best = None;
         for at in from..to {
@@ -320,7 +320,7 @@ fn merge(best: Option<Fault>, fault: Option<Fault>) -> Option<Fault>
 
 /// In a list of at most this many words, each word is compared with those before it. The words of a
 /// longer list are kept in a map.
-const FEW: u32 = 16;
+const MAX_WORDS_COMPARED: u32 = 16;
 
 /// Whether the word at `at` is among the words before it, from `from` on.
 fn is_among(text: &[u8], tokens: &[Word], from: u32, at: u32) -> bool

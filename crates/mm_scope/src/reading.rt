@@ -16,7 +16,7 @@ ghost use Rattle.mm_outline.specs.Statements.{end_fault_of, lexed, statements};
 ghost use Rattle.mm_scope.specs.Scopes.{Declares, IsAmong, IsScopeAfter, MayFollow};
 ghost use Rattle.mm_scope.specs.Scopes.{declared_words};
 ghost use Rattle.mm_scope.specs.Scopes.{entry_in, label_in, names_in};
-ghost use Rattle.mm_scope.specs.Keeps.{HasTaken, IsKept, MayTake, kept_by, reading_of};
+ghost use Rattle.mm_scope.specs.Keeps.{HasTaken, IsKeptOf, MayTake, kept_by, reading_of};
 
 use crate::formulas::no_formulas;
 use crate::scope::Scope;
@@ -122,7 +122,7 @@ fn end_fault(lexical: Option<Fault>, text: &[u8], part: Part, deep: u32) -> Opti
 /// Returns what there is before the first statement is read.
 fn nothing<'a, A: Allocator + Copy>(alloc: A) -> Result<Outlined<'a, A>, AllocError>
     ensures { IfOk result
-        (λ r. (r.outlines.items ≡ []) × (r.fault ≡ None) × IsKept [] (kept_by r)) }
+        (λ r. (r.outlines.items ≡ []) × (r.fault ≡ None) × IsKeptOf [] (kept_by r)) }
 {
     let scope = no_scope(alloc)?;
     let formulas = no_formulas(alloc)?;
@@ -147,7 +147,7 @@ impl<'a, A: Allocator + Copy> Outlined<'a, A> {
         requires among { IsAmong text.now tokens.now outline }
         requires few { length tokens.now < 2 ^ 31 }
         requires sound { self.old.fault ≡ None }
-        requires kept { IsKept (statements text.now tokens.now self.old.outlines.items)
+        requires kept { IsKeptOf (statements text.now tokens.now self.old.outlines.items)
             (kept_by self.old) }
         requires next { MayTake (statements text.now tokens.now self.old.outlines.items) deep
             (statement_of text.now tokens.now outline) }
@@ -193,7 +193,7 @@ pub fn outline<'a, A: Allocator + Copy>(
     ensures outlines { IfOk result
         (λ d. All (λ o. IsOutline o × (o.end < length tokens.now)) d.outlines.items) }
     ensures kept { IfOk result
-        (λ d. IsKept (statements text.now tokens.now d.outlines.items) (kept_by d)) }
+        (λ d. IsKeptOf (statements text.now tokens.now d.outlines.items) (kept_by d)) }
     ensures read { IfOk result
         (λ d. IsRead (length text.now) (lexed text.now tokens.now lexical)
         (statements text.now tokens.now d.outlines.items) d.fault) }

@@ -1,19 +1,19 @@
--- Labels are those of one row of derivations at most, and steps stand for one plain list.
+-- Labels are those of one forest of derivations at most, and steps stand for one plain list.
 use Rattle.std.proofs.Common.{◌≡◌, ℕ, List, [], ◌∷◌, ◌++◌, sym, ap, ◌∙◌, subst, unwrap_or}
 use Rattle.mm_spec.specs.Derivation.{Context, Trees, none, more, postfix, AreDerivations}
 use Rattle.mm_spec.specs.Steps.{Step, label, marked}
 use Rattle.mm_spec.specs.Valid.{IsLastTree, Adds, Plain}
 use Rattle.mm_spec.proofs.UniqueLaw.{unique}
-use Rattle.mm_spec.proofs.StepsLaw.{row_good}
+use Rattle.mm_spec.proofs.StepsLaw.{forest_good}
 use Rattle.mm_spec.specs.Laws.Complete.{IsFine}
 
 module _ (c : Context) (fine : (l : ℕ) → IsFine c (c.rule l)) where
-  -- rows with the same labels are one row
-  pub same_row : (r s : Trees) → AreDerivations c r → AreDerivations c s → postfix r ≡ postfix s
+  -- forests with the same labels are one forest
+  pub same_forest : (r s : Trees) → AreDerivations c r → AreDerivations c s → postfix r ≡ postfix s
       → r ≡ s
-  same_row r s d e same = unique c r s d e (row_good c fine r d) same
+  same_forest r s d e same = unique c r s d e (forest_good c fine r d) same
 
-  last_unique : (row : Trees) (x y : List ℕ) → IsLastTree row x → IsLastTree row y → x ≡ y
+  last_unique : (forest : Trees) (x y : List ℕ) → IsLastTree forest x → IsLastTree forest y → x ≡ y
   last_unique none x y h k = absurd h
   last_unique (more ts l f cs) x y h k = h ∙ sym k
 
@@ -22,9 +22,9 @@ module _ (c : Context) (fine : (l : ℕ) → IsFine c (c.rule l)) where
   adds_unique lists old (label l) a b h k = h ∙ sym k
   adds_unique lists old (marked j) a b h k =
       let e : h.0 ≡ k.0 = ap (λ o. unwrap_or o []) (sym h.2 ∙ k.2) in
-      let rows = same_row h.3.0 k.3.0 h.3.1 k.3.1 (h.3.2 ∙ e ∙ sym k.3.2) in
+      let forests = same_forest h.3.0 k.3.0 h.3.1 k.3.1 (h.3.2 ∙ e ∙ sym k.3.2) in
       let x : h.1 ≡ k.1 =
-      last_unique k.3.0 h.1 k.1 (subst (λ r. IsLastTree r h.1) rows h.3.3) k.3.3 in
+      last_unique k.3.0 h.1 k.1 (subst (λ r. IsLastTree r h.1) forests h.3.3) k.3.3 in
       h.4 ∙ ap (λ z. old ++ z) x ∙ sym k.4
 
   pub plain_unique : (steps : List Step) (lists : List (List ℕ)) (old a b : List ℕ)

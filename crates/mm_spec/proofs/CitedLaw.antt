@@ -16,7 +16,7 @@ use Rattle.mm_spec.specs.Proof.{steps}
 use Rattle.mm_spec.specs.Citation.{context_at, rule_of, steps_at, is_theorem, IsProof, Cites}
 use Rattle.mm_spec.specs.Laws.Complete.{AreComplete}
 use Rattle.mm_spec.specs.Output.{is_theorem_at}
-use Rattle.mm_spec.proofs.CheckedLaw.{same_row, plain_unique}
+use Rattle.mm_spec.proofs.CheckedLaw.{same_forest, plain_unique}
 use Rattle.mm_spec.proofs.FindsLaw.{is_before}
 use Rattle.mm_spec.proofs.NodesLaw.{label_member}
 
@@ -25,8 +25,8 @@ member_append : (xs ys : List ℕ) (a : ℕ)
 member_append xs ys a = list_any-append (λ y. a == y) xs ys
 
 -- a label of a derivation stands for something
-label_stands : (c : Context) (a : ℕ) (row : Trees) → AreDerivations c row
-    → is_member (postfix row) a ≡ true → c.rule a ≡ None → ⊥
+label_stands : (c : Context) (a : ℕ) (forest : Trees) → AreDerivations c forest
+    → is_member (postfix forest) a ≡ true → c.rule a ≡ None → ⊥
 label_stands c a none d m n = true≢false (sym m)
 label_stands c a (more ts l f cs) d m n =
     by (or_cases (is_member (postfix ts) a) (is_member (postfix cs ++ l ∷ []) a)
@@ -112,6 +112,6 @@ module _ (db : List Statement) where
 pub proof_unique : (db : List Statement) → AreComplete db → (t : ℕ) (d e : Trees) → IsProof db t d
     → IsProof db t e → d ≡ e
 proof_unique db fine t d e p q =
-    same_row (context_at db t) (fine t) d e p.3 q.3
+    same_forest (context_at db t) (fine t) d e p.3 q.3
     (plain_unique (context_at db t) (fine t) (map (λ s. s.step) (steps_at db t)) [] []
     (postfix d) (postfix e) p.4 q.4)

@@ -391,5 +391,5 @@ module _ (db : List Statement) (lawful : (k : ℕ) → k < length db → IsLawfu
 pub reads_complete : (len : ℕ) (x : LexedText) → ReadsComplete len x
 reads_complete len x db fault r =
     lawful_complete db
-    (λ k h. sym (scope_fault_front db r.rest k h) ∙ ap (λ row. scope_fault row k) (sym r.splits)
+    (λ k h. sym (scope_fault_front db r.rest k h) ∙ ap (λ list. scope_fault list k) (sym r.splits)
     ∙ r.lawful k h)

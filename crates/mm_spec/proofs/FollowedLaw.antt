@@ -1,4 +1,4 @@
--- The table of what is expected, token by token, goes through the tokens of each row.
+-- The table of what is expected, token by token, goes through the tokens of each list.
 use Rattle.std.proofs.Common.{◌≡◌, ℕ, zero, suc, ◌+◌, ◌≤◌, ◌<◌, Bool, true, false, ◌&&◌, not, cond}
 use Rattle.std.proofs.Common.{List, [], ◌∷◌, ◌++◌, take, Option, Some, None, codes, count_by}
 use Rattle.std.proofs.Common.{flat_map, refl, sym, ap, ap₂, ◌∙◌, true≢false, arith, ◌||◌, ◌==◌}
@@ -12,7 +12,7 @@ use Rattle.mm_spec.specs.Laws.Table.{axiom_of, theorem_of, equals, dot, open_blo
 use Rattle.mm_spec.specs.Laws.Table.{plain, keyword, class}
 use Rattle.mm_spec.specs.Statement.{Statement, constants, variables, disjoint, floating, essential}
 use Rattle.mm_spec.specs.Statement.{axiomatic, provable, opening, closing, spelled, is_plain}
-use Rattle.mm_spec.specs.Statement.{is_whole, is_opening, is_closing, IsRowPrefix}
+use Rattle.mm_spec.specs.Statement.{is_complete, is_opening, is_closing, BeginStatements}
 
 -- where the reading stands, with so many blocks open
 pub data State : Type 0 where
@@ -113,7 +113,7 @@ depth_following (opening k) d = suc d
 depth_following (closing k) d = pred d
 depth_following _ d = d
 
-statement_followed : (s : Statement) (d : ℕ) → is_whole s ≡ true → (is_closing s ≡ true → 0 < d)
+statement_followed : (s : Statement) (d : ℕ) → is_complete s ≡ true → (is_closing s ≡ true → 0 < d)
     → follow (Some (at_start d)) (spelled s) ≡ Some (at_start (depth_following s d))
 statement_followed (constants k xs t) d e h = body d xs t (whole_body xs e)
 statement_followed (variables k xs t) d e h = body d xs t (whole_body xs e)
@@ -159,27 +159,27 @@ counted (opening k) d h = omega arith
 counted (closing k) zero h = absurd (let x = h refl in omega arith)
 counted (closing k) (suc d) h = omega arith
 
-pub count_one : (p : Statement → Bool) (s : Statement) (row : List Statement)
-    → count_by p (s ∷ row) ≡ cond (p s) 1 0 + count_by p row
-count_one p s row =
-    sum_by-append (λ x. cond (p x) 1 0) (s ∷ []) row
-    ∙ ap (λ n. n + count_by p row) (zero-add (cond (p s) 1 0))
+pub count_one : (p : Statement → Bool) (s : Statement) (list : List Statement)
+    → count_by p (s ∷ list) ≡ cond (p s) 1 0 + count_by p list
+count_one p s list =
+    sum_by-append (λ x. cond (p x) 1 0) (s ∷ []) list
+    ∙ ap (λ n. n + count_by p list) (zero-add (cond (p s) 1 0))
 
-pub row_followed : (row : List Statement) (d : ℕ) → list_all is_whole row ≡ true
-    → ((n : ℕ) → count_by is_closing (take n row) ≤ d + count_by is_opening (take n row))
-    → (e : ℕ) × (follow (Some (at_start d)) (flat_map spelled row) ≡ Some (at_start e))
-    × (e + count_by is_closing row ≡ d + count_by is_opening row)
-row_followed [] d w n = (d, refl, refl)
-row_followed (s ∷ row) d w n =
+pub statements_followed : (list : List Statement) (d : ℕ) → list_all is_complete list ≡ true
+    → ((n : ℕ) → count_by is_closing (take n list) ≤ d + count_by is_opening (take n list))
+    → (e : ℕ) × (follow (Some (at_start d)) (flat_map spelled list) ≡ Some (at_start e))
+    × (e + count_by is_closing list ≡ d + count_by is_opening list)
+statements_followed [] d w n = (d, refl, refl)
+statements_followed (s ∷ list) d w n =
     let first : is_closing s ≡ true → 0 < d = closes_one s d (n 1) in
     let step = counted s d first in
     let rest =
-    row_followed row (depth_following s d) (and_parts (is_whole s) (list_all is_whole row) w).1
-    (λ k. fewer (depth_following s d) (take k row) (n (suc k)) step) in (
+    statements_followed list (depth_following s d) (and_parts (is_complete s) (list_all is_complete list) w).1
+    (λ k. fewer (depth_following s d) (take k list) (n (suc k)) step) in (
       rest.0,
-      follow_append (spelled s) (flat_map spelled row) (Some (at_start d))
-          ∙ ap (λ q. follow q (flat_map spelled row))
-          (statement_followed s d (and_parts (is_whole s) (list_all is_whole row) w).0 first)
+      follow_append (spelled s) (flat_map spelled list) (Some (at_start d))
+          ∙ ap (λ q. follow q (flat_map spelled list))
+          (statement_followed s d (and_parts (is_complete s) (list_all is_complete list) w).0 first)
           ∙ rest.1,
       total rest.0 (depth_following s d) rest.2 step,
     )
@@ -190,10 +190,10 @@ row_followed (s ∷ row) d w n =
     closes_one (closing k) d h e = omega (arith, h)
     closes_one _ d h e = absurd (true≢false (sym e))
 
-    total : (e m : ℕ) → e + count_by is_closing row ≡ m + count_by is_opening row
+    total : (e m : ℕ) → e + count_by is_closing list ≡ m + count_by is_opening list
         → m + cond (is_closing s) 1 0 ≡ d + cond (is_opening s) 1 0
-        → e + count_by is_closing (s ∷ row) ≡ d + count_by is_opening (s ∷ row)
-    total e m h k = omega (arith, h, k, count_one is_closing s row, count_one is_opening s row)
+        → e + count_by is_closing (s ∷ list) ≡ d + count_by is_opening (s ∷ list)
+    total e m h k = omega (arith, h, k, count_one is_closing s list, count_one is_opening s list)
 
     fewer : (m : ℕ) (front : List Statement)
         → count_by is_closing (s ∷ front) ≤ d + count_by is_opening (s ∷ front)
@@ -206,14 +206,14 @@ pub no_way_back : (ts : List Token) (q : State) → ¬ (follow None ts ≡ Some 
 no_way_back [] q e = cc
 no_way_back (t ∷ ts) q e = cc
 
--- tokens with which some row begins are followed
-pub begins_followed : (ts : List Token) → IsRowPrefix ts
+-- tokens with which some list begins are followed
+pub begins_followed : (ts : List Token) → BeginStatements ts
     → (q : State) × (follow (Some (at_start 0)) ts ≡ Some q)
 begins_followed ts b = go (follow (Some (at_start 0)) ts) refl
   where
     r : (e : ℕ) × (follow (Some (at_start 0)) (flat_map spelled b.0) ≡ Some (at_start e))
         × (e + count_by is_closing b.0 ≡ 0 + count_by is_opening b.0)
-    r = row_followed b.0 0 b.1.whole (λ n. let m = b.1.nested n in omega (arith, m))
+    r = statements_followed b.0 0 b.1.whole (λ n. let m = b.1.nested n in omega (arith, m))
 
     go : (o : Option State) → follow (Some (at_start 0)) ts ≡ o → (q : State) × (o ≡ Some q)
     go None e =

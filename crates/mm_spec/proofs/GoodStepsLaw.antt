@@ -184,17 +184,17 @@ module _ (db : List Statement) (k : ℕ)
 
   -- ---- normal proofs
 
-  good_row : (js : List ℕ) (p n : ℕ) (rest : List PlacedStep) → AllByRecursion IsGoodLabel js
+  good_forest : (js : List ℕ) (p n : ℕ) (rest : List PlacedStep) → AllByRecursion IsGoodLabel js
       → ((m : ℕ) → AreGoodSteps (context_at db k) m (bare rest))
       → AreGoodSteps (context_at db k) n (bare (map (λ j. placed p (label j)) js ++ rest))
-  good_row [] p n rest h r = r n
-  good_row (j ∷ js) p n rest h r = (h.0, good_row js p (suc n) rest h.1 r)
+  good_forest [] p n rest h r = r n
+  good_forest (j ∷ js) p n rest h r = (h.0, good_forest js p (suc n) rest h.1 r)
 
   normal_good : (ts : List Token) (n : ℕ)
       → AreGoodSteps (context_at db k) n (bare (normal_steps db k ts))
   normal_good [] n = tt
   normal_good (t ∷ ts) n =
-      good_row (usable db k t.word) t.at n (normal_steps db k ts) (usable_good t.word)
+      good_forest (usable db k t.word) t.at n (normal_steps db k ts) (usable_good t.word)
       (λ m. normal_good ts m)
 
   -- ---- compressed proofs

@@ -20,7 +20,7 @@ pub mod NodesLaw
 pub mod OpenedLaw
 pub mod ReadingsLaw
 pub mod RisingLaw
-pub mod RowLaw
+pub mod LongestLaw
 pub mod ShapeLaw
 pub mod StepsLaw
 pub mod StopsLaw

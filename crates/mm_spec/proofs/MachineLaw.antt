@@ -1,4 +1,4 @@
--- A stack of formulas tells whether labels are the postfix list of a row of derivations, and if
+-- A stack of formulas tells whether labels are the postfix list of a forest of derivations, and if
 -- not, at which label and why.
 use Rattle.std.proofs.Common.{◌≡◌, ℕ, zero, suc, ◌+◌, ◌-◌, ◌≤◌, Bool, true, false, List, [], ◌∷◌}
 use Rattle.std.proofs.Common.{◌++◌, map, length, take, drop, Option, Some, None, Result, Ok, Err}
@@ -8,11 +8,11 @@ use Rattle.std.proofs.Common.{take_all, arith, le-leb, leb-true, leb-false}
 use Rattle.std.proofs.lemmas.List.{length-map}
 use Rattle.std.specs.List.{list_all, AllByRecursion}
 use Rattle.mm_spec.specs.Derivation.{Formula, Frame, Rule, hypothesis, assertion, Context}
-use Rattle.mm_spec.specs.Derivation.{Substitution, substitute, are_apart, Matches, KeepsApart}
+use Rattle.mm_spec.specs.Derivation.{Substitution, substitute, are_all_disjoint, Matches, KeepsDisjoint}
 use Rattle.mm_spec.specs.Derivation.{Follows, Trees, none, more, formulas, postfix, AreDerivations}
 use Rattle.mm_spec.specs.Limits.{formula_limit}
 use Rattle.mm_spec.specs.Valid.{Reason, Fails}
-use Rattle.mm_spec.proofs.UnifyLaw.{same_equal, equal_same, found_formula, found_all, found_apart}
+use Rattle.mm_spec.proofs.UnifyLaw.{same_equal, equal_same, found_formula, found_all, found_disjoint}
 use Rattle.mm_spec.specs.Laws.Stack.{found, same, pick, apply, step, IsGood}
 use Rattle.mm_spec.specs.Laws.Complete.{IsComplete}
 
@@ -33,7 +33,7 @@ module _ (c : Context) where
 
   -- a step that a derivation makes is made
   takes_assertion : (a : Frame) (es : List Formula) (τ : Substitution) → IsComplete c a
-      → KeepsApart c a τ → length (substitute c τ a.formula) ≤ formula_limit
+      → KeepsDisjoint c a τ → length (substitute c τ a.formula) ≤ formula_limit
       → step c (Some (assertion a)) (es ++ map (substitute c τ) a.hypotheses)
       ≡ Ok (es ++ substitute c τ a.formula ∷ [])
   takes_assertion a es τ good kept short =
@@ -53,7 +53,7 @@ module _ (c : Context) where
       ∙ ap₂ apply_at (take_at es ps (length (es ++ ps) - length hs) below)
       (drop_at es ps (length (es ++ ps) - length hs) below)
       ∙ tests (equal_same ps (map (substitute c σ) hs) (found_all c hs τ hs good.hypotheses))
-      (found_apart c hs τ a.pairs good.pairs ∙ kept)
+      (found_disjoint c hs τ a.pairs good.pairs ∙ kept)
       (ap (λ g. nat_le (length g) formula_limit) f
       ∙ le-leb (length (substitute c τ a.formula)) formula_limit short)
       ∙ ap (λ g. Ok (es ++ g ∷ [])) f
@@ -83,14 +83,14 @@ module _ (c : Context) where
   good_parts [] ys g = (tt, g)
   good_parts (x ∷ xs) ys g = let h = good_parts xs ys g.1 in ((g.0, h.0), h.1)
 
-  -- a row's derivations are run, and leave their formulas
-  pub runs_row : (row : Trees) → AreDerivations c row → AreGood (postfix row)
+  -- a forest's derivations are run, and leave their formulas
+  pub runs_forest : (forest : Trees) → AreDerivations c forest → AreGood (postfix forest)
       → (n : ℕ) (ls : List ℕ) (es : List Formula)
-      → run n (postfix row ++ ls) es ≡ run (n + length (postfix row)) ls (es ++ formulas row)
-  runs_row none d good n ls es =
+      → run n (postfix forest ++ ls) es ≡ run (n + length (postfix forest)) ls (es ++ formulas forest)
+  runs_forest none d good n ls es =
       let count : n ≡ n + 0 = omega arith in
       ap₂ (λ k x. run k ls x) count (sym (append-nil es))
-  runs_row (more ts l f cs) d good n ls es =
+  runs_forest (more ts l f cs) d good n ls es =
       let p = postfix ts in
       let q = postfix cs in
       let k = n + length p + length q in
@@ -101,31 +101,31 @@ module _ (c : Context) where
       let outer = good_parts p (q ++ l ∷ []) good in
       let inner = good_parts q (l ∷ []) outer.1 in
       ap (λ x. run n x es) regroup
-      ∙ runs_row ts d.0 outer.0 n (q ++ l ∷ ls) es
-      ∙ runs_row cs d.1 inner.0 (n + length p) (l ∷ ls) (es ++ formulas ts)
+      ∙ runs_forest ts d.0 outer.0 n (q ++ l ∷ ls) es
+      ∙ runs_forest cs d.1 inner.0 (n + length p) (l ∷ ls) (es ++ formulas ts)
       ∙ ap (λ r. proceed r k (run (suc k) ls))
       (takes (c.rule l) (es ++ formulas ts) (formulas cs) f inner.1.0 d.2)
       ∙ ap₂ (λ m x. run m ls x) count (append_assoc es (formulas ts) (f ∷ []))
 
-  -- a row in two parts
-  record Parts (row : Trees) (n : ℕ) : Type 0 where
+  -- a forest in two parts
+  record Parts (forest : Trees) (n : ℕ) : Type 0 where
     before : Trees
     last : Trees
     before_derivations : AreDerivations c before
     last_derivations : AreDerivations c last
-    all_formulas : formulas row ≡ formulas before ++ formulas last
-    all_labels : postfix row ≡ postfix before ++ postfix last
+    all_formulas : formulas forest ≡ formulas before ++ formulas last
+    all_labels : postfix forest ≡ postfix before ++ postfix last
     count : length (formulas last) ≡ n
 
-  parts : (row : Trees) (n : ℕ) → AreDerivations c row → n ≤ length (formulas row) → Parts row n
-  parts row zero d e =
+  parts : (forest : Trees) (n : ℕ) → AreDerivations c forest → n ≤ length (formulas forest) → Parts forest n
+  parts forest zero d e =
       record {
-        before = row;
+        before = forest;
         last = none;
         before_derivations = d;
         last_derivations = tt;
-        all_formulas = sym (append-nil (formulas row));
-        all_labels = sym (append-nil (postfix row));
+        all_formulas = sym (append-nil (formulas forest));
+        all_labels = sym (append-nil (postfix forest));
         count = refl;
       }
   parts none (suc n) d e = absurd (omega arith)
@@ -191,12 +191,12 @@ module _ (c : Context) where
       σ : Substitution
       σ = found c a.hypotheses (drop n es)
 
-      go : (enough matched apart short : Bool) → nat_le (length a.hypotheses) (length es) ≡ enough
+      go : (enough matched disjoint short : Bool) → nat_le (length a.hypotheses) (length es) ≡ enough
           → same (drop n es) (map (substitute c σ) a.hypotheses) ≡ matched
-          → list_all (λ p. are_apart c (σ p.low) (σ p.high)) a.pairs ≡ apart
+          → list_all (λ p. are_all_disjoint c (σ p.low) (σ p.high)) a.pairs ≡ disjoint
           → nat_le (length (substitute c σ a.formula)) formula_limit ≡ short
           → Made (Some (assertion a)) es
-          (pick enough matched apart short (take n es ++ substitute c σ a.formula ∷ []))
+          (pick enough matched disjoint short (take n es ++ substitute c σ a.formula ∷ []))
       go false m k s e1 e2 e3 e4 = leb-false (length a.hypotheses) (length es) e1
       go true false k s e1 e2 e3 e4 = (
         leb-true (length a.hypotheses) (length es) e1,
@@ -239,32 +239,32 @@ module _ (c : Context) where
   makes (Some (hypothesis g)) es good = makes_hypothesis g es (nat_le (length g) formula_limit) refl
   makes (Some (assertion a)) es good = makes_assertion a es good
 
-  -- what a run means after a row
-  pub record Stopped (row : Trees) (ls : List ℕ) (reason : Reason) : Type 0 where
+  -- what a run means after a forest
+  pub record Stopped (forest : Trees) (ls : List ℕ) (reason : Reason) : Type 0 where
     pub before : List ℕ
     pub label : ℕ
     pub after : List ℕ
     pub splits : ls ≡ before ++ label ∷ after
     pub reached : Trees
     pub derivations : AreDerivations c reached
-    pub labels : postfix reached ≡ postfix row ++ before
+    pub labels : postfix reached ≡ postfix forest ++ before
     pub fails : Fails c (c.rule label) (formulas reached) reason
 
   abbrev pub Ran : Trees → List ℕ → Result (List Formula) Failed → Type 0
-  Ran row ls (Ok out) =
-      (reached : Trees) × AreDerivations c reached × (postfix reached ≡ postfix row ++ ls)
+  Ran forest ls (Ok out) =
+      (reached : Trees) × AreDerivations c reached × (postfix reached ≡ postfix forest ++ ls)
       × (formulas reached ≡ out)
-  Ran row ls (Err e) = Stopped row ls e.reason
+  Ran forest ls (Err e) = Stopped forest ls e.reason
 
-  -- a step after a row gives one more row
-  pub grown : (row : Trees) (l : ℕ) (n : ℕ) (f : Formula) → AreDerivations c row
-      → n ≤ length (formulas row)
-      → Follows c (c.rule l) (drop (length (formulas row) - n) (formulas row)) f
-      → (next : Trees) × AreDerivations c next × (postfix next ≡ postfix row ++ l ∷ [])
-      × (formulas next ≡ take (length (formulas row) - n) (formulas row) ++ f ∷ [])
-  grown row l n f d e h =
-      let p = parts row n d e in
-      let k = length (formulas row) - n in
+  -- a step after a forest gives one more forest
+  pub grown : (forest : Trees) (l : ℕ) (n : ℕ) (f : Formula) → AreDerivations c forest
+      → n ≤ length (formulas forest)
+      → Follows c (c.rule l) (drop (length (formulas forest) - n) (formulas forest)) f
+      → (next : Trees) × AreDerivations c next × (postfix next ≡ postfix forest ++ l ∷ [])
+      × (formulas next ≡ take (length (formulas forest) - n) (formulas forest) ++ f ∷ [])
+  grown forest l n f d e h =
+      let p = parts forest n d e in
+      let k = length (formulas forest) - n in
       let count : length (formulas p.before) ≡ k =
       omega (
         arith,
@@ -273,9 +273,9 @@ module _ (c : Context) where
         length-append (formulas p.before)
             (formulas p.last),
       ) in
-      let last : drop k (formulas row) ≡ formulas p.last =
+      let last : drop k (formulas forest) ≡ formulas p.last =
       ap (drop k) p.all_formulas ∙ drop_at (formulas p.before) (formulas p.last) k count in
-      let first : take k (formulas row) ≡ formulas p.before =
+      let first : take k (formulas forest) ≡ formulas p.before =
       ap (take k) p.all_formulas ∙ take_at (formulas p.before) (formulas p.last) k count in (
         more p.before l f p.last,
         (p.before_derivations, p.last_derivations, subst (λ x. Follows c (c.rule l) x f) last h),
@@ -284,18 +284,18 @@ module _ (c : Context) where
         ap (λ x. x ++ f ∷ []) (sym first),
       )
 
-  -- a run after a row is that of a longer row, or stops where a label fails
-  pub means : (ls : List ℕ) (row : Trees) (n : ℕ) → AreDerivations c row → AreGood ls
-      → Ran row ls (run n ls (formulas row))
-  means [] row n d good = (row, d, sym (append-nil (postfix row)), refl)
-  means (l ∷ ls) row n d good =
-      go (step c (c.rule l) (formulas row)) (makes (c.rule l) (formulas row) good.0)
+  -- a run after a forest is that of a longer forest, or stops where a label fails
+  pub means : (ls : List ℕ) (forest : Trees) (n : ℕ) → AreDerivations c forest → AreGood ls
+      → Ran forest ls (run n ls (formulas forest))
+  means [] forest n d good = (forest, d, sym (append-nil (postfix forest)), refl)
+  means (l ∷ ls) forest n d good =
+      go (step c (c.rule l) (formulas forest)) (makes (c.rule l) (formulas forest) good.0)
       (λ next h. means ls next (suc n) h good.1)
     where
-      later : (next : Trees) → postfix next ≡ postfix row ++ l ∷ []
-          → (r : Result (List Formula) Failed) → Ran next ls r → Ran row (l ∷ ls) r
+      later : (next : Trees) → postfix next ≡ postfix forest ++ l ∷ []
+          → (r : Result (List Formula) Failed) → Ran next ls r → Ran forest (l ∷ ls) r
       later next e (Ok out) h =
-          (h.0, h.1, h.2 ∙ ap (λ x. x ++ ls) e ∙ append_assoc (postfix row) (l ∷ []) ls, h.3)
+          (h.0, h.1, h.2 ∙ ap (λ x. x ++ ls) e ∙ append_assoc (postfix forest) (l ∷ []) ls, h.3)
       later next e (Err x) h = record {
         before = l ∷ h.before;
         label = h.label;
@@ -304,26 +304,26 @@ module _ (c : Context) where
         reached = h.reached;
         derivations = h.derivations;
         labels =
-            h.labels ∙ ap (λ x. x ++ h.before) e ∙ append_assoc (postfix row) (l ∷ []) h.before;
+            h.labels ∙ ap (λ x. x ++ h.before) e ∙ append_assoc (postfix forest) (l ∷ []) h.before;
         fails = h.fails;
       }
 
-      go : (r : Result (List Formula) Reason) → Made (c.rule l) (formulas row) r
+      go : (r : Result (List Formula) Reason) → Made (c.rule l) (formulas forest) r
           → ((next : Trees) → AreDerivations c next → Ran next ls (run (suc n) ls (formulas next)))
-          → Ran row (l ∷ ls) (proceed r n (run (suc n) ls))
+          → Ran forest (l ∷ ls) (proceed r n (run (suc n) ls))
       go (Err x) made on =
           record {
             before = [];
             label = l;
             after = ls;
             splits = refl;
-            reached = row;
+            reached = forest;
             derivations = d;
-            labels = sym (append-nil (postfix row));
+            labels = sym (append-nil (postfix forest));
             fails = made;
           }
       go (Ok out) made on =
-          let next = grown row l made.0 made.1 d made.2 made.3 in
+          let next = grown forest l made.0 made.1 d made.2 made.3 in
           later next.0 next.2 (run (suc n) ls out)
           (subst (λ x. Ran next.0 ls (run (suc n) ls x)) (next.3 ∙ sym made.4)
           (on next.0 next.1))

@@ -1,4 +1,4 @@
--- The tokens that the table of what is expected goes through are those with which some row begins.
+-- The tokens that the table of what is expected goes through are those with which some list begins.
 use Rattle.std.proofs.Common.{◌≡◌, ℕ, zero, suc, ◌+◌, ◌≤◌, ◌<◌, Bool, true, false, ◌&&◌, not, cond}
 use Rattle.std.proofs.Common.{List, [], ◌∷◌, ◌++◌, length, take, Option, Some, None, codes}
 use Rattle.std.proofs.Common.{count_by, flat_map, refl, sym, ap, ap₂, ◌∙◌, subst, true≢false}
@@ -16,13 +16,13 @@ use Rattle.mm_spec.specs.Laws.Table.{axiom_of, theorem_of, equals, dot, open_blo
 use Rattle.mm_spec.specs.Laws.Table.{plain, other, Entry, table, lookup, keyword, class}
 use Rattle.mm_spec.specs.Statement.{Statement, constants, variables, disjoint, floating, essential}
 use Rattle.mm_spec.specs.Statement.{axiomatic, provable, opening, closing, spelled, is_plain}
-use Rattle.mm_spec.specs.Statement.{is_whole, is_opening, is_closing, IsRow, IsRowPrefix}
+use Rattle.mm_spec.specs.Statement.{is_complete, is_opening, is_closing, AreStatements, BeginStatements}
 use Rattle.mm_spec.proofs.FollowedLaw.{State, at_label, at_start, begins_followed, depth_following}
 use Rattle.mm_spec.proofs.FollowedLaw.{counted}
 use Rattle.mm_spec.proofs.FollowedLaw.{follow, in_formula, in_proof, in_symbols, label_at_start}
 use Rattle.mm_spec.proofs.FollowedLaw.{next}
 
--- ---- what is followed begins a row
+-- ---- what is followed begins a list
 
 abbrev pub Meaning : Class → Bytes → Type 0
 Meaning constant w = w ≡ codes "$c"
@@ -72,58 +72,58 @@ meaning w = go (has_dollar w) refl
         )
     go false e = e
 
--- a row after which so many blocks are open
-pub record Balanced (d : ℕ) (row : List Statement) : Type 0 where
-  pub is_row : IsRow row
-  pub count : d + count_by is_closing row ≡ count_by is_opening row
+-- a list after which so many blocks are open
+pub record Balanced (d : ℕ) (list : List Statement) : Type 0 where
+  pub are_statements : AreStatements statements
+  pub count : d + count_by is_closing statements ≡ count_by is_opening statements
 
 pub none_yet : Balanced 0 []
-none_yet = record { is_row = record { whole = refl; nested = none_closed }; count = refl }
+none_yet = record { are_statements = record { whole = refl; nested = none_closed }; count = refl }
   where
     none_closed : (n : ℕ) → count_by is_closing (take n []) ≤ count_by is_opening (take n [])
     none_closed zero = omega arith
     none_closed (suc n) = omega arith
 
-pub count_end : (p : Statement → Bool) (row : List Statement) (s : Statement)
-    → count_by p (row ++ s ∷ []) ≡ count_by p row + cond (p s) 1 0
-count_end p row s =
-    sum_by-append (λ x. cond (p x) 1 0) row (s ∷ [])
-    ∙ ap (λ n. count_by p row + n) (zero-add (cond (p s) 1 0))
+pub count_end : (p : Statement → Bool) (list : List Statement) (s : Statement)
+    → count_by p (list ++ s ∷ []) ≡ count_by p list + cond (p s) 1 0
+count_end p list s =
+    sum_by-append (λ x. cond (p x) 1 0) list (s ∷ [])
+    ∙ ap (λ n. count_by p list + n) (zero-add (cond (p s) 1 0))
 
-pub one_more : (d : ℕ) (row : List Statement) (s : Statement) → Balanced d row → is_whole s ≡ true
-    → (is_closing s ≡ true → 0 < d) → Balanced (depth_following s d) (row ++ s ∷ [])
-one_more d row s b w h = record {
-  is_row =
+pub one_more : (d : ℕ) (list : List Statement) (s : Statement) → Balanced d list → is_complete s ≡ true
+    → (is_closing s ≡ true → 0 < d) → Balanced (depth_following s d) (list ++ s ∷ [])
+one_more d list s b w h = record {
+  are_statements =
       record {
-        whole = list_all-append is_whole row (s ∷ [])
-            ∙ ap₂ (λ x y. x && (y && true)) b.is_row.whole w;
+        whole = list_all-append is_complete list (s ∷ [])
+            ∙ ap₂ (λ x y. x && (y && true)) b.are_statements.whole w;
         nested = nested;
       };
   count =
-      omega (arith, b.count, counted s d h, count_end is_closing row s, count_end is_opening row s);
+      omega (arith, b.count, counted s d h, count_end is_closing list s, count_end is_opening list s);
 }
   where
     nested : (n : ℕ)
-        → count_by is_closing (take n (row ++ s ∷ []))
-        ≤ count_by is_opening (take n (row ++ s ∷ []))
-    nested n = go (leb n (length row)) refl
+        → count_by is_closing (take n (list ++ s ∷ []))
+        ≤ count_by is_opening (take n (list ++ s ∷ []))
+    nested n = go (leb n (length list)) refl
       where
-        go : (t : Bool) → leb n (length row) ≡ t
-            → count_by is_closing (take n (row ++ s ∷ []))
-            ≤ count_by is_opening (take n (row ++ s ∷ []))
+        go : (t : Bool) → leb n (length list) ≡ t
+            → count_by is_closing (take n (list ++ s ∷ []))
+            ≤ count_by is_opening (take n (list ++ s ∷ []))
         go true e =
-            rw (take-append-le n row (s ∷ []) (leb-true n (length row) e)) (b.is_row.nested n)
+            rw (take-append-le n list (s ∷ []) (leb-true n (length list) e)) (b.are_statements.nested n)
         go false e =
-            let long : length (row ++ s ∷ []) ≤ n =
-            let l = leb-false n (length row) e in omega (arith, l, length-append row (s ∷ [])) in
-            rw (take_all n (row ++ s ∷ []) long)
+            let long : length (list ++ s ∷ []) ≤ n =
+            let l = leb-false n (length list) e in omega (arith, l, length-append list (s ∷ [])) in
+            rw (take_all n (list ++ s ∷ []) long)
             (omega (
               arith,
               b.count,
               counted s d h,
-              count_end is_closing row s,
+              count_end is_closing list s,
               count_end
-                  is_opening row s,
+                  is_opening list s,
             ))
 
 -- part of a statement: of one of several words after the keyword, of a formula and of a proof
@@ -134,7 +134,7 @@ pub record Words (part : List Token) : Type 0 where
   pub make : List Token → ℕ → Statement
   pub spells : (ws : List Token) (k : ℕ)
       → spelled (make ws k) ≡ front ++ (ws ++ token k (codes "$.") ∷ [])
-  pub whole : (ws : List Token) (k : ℕ) → is_plain ws ≡ true → is_whole (make ws k) ≡ true
+  pub whole : (ws : List Token) (k : ℕ) → is_plain ws ≡ true → is_complete (make ws k) ≡ true
   pub stays : (ws : List Token) (k d : ℕ) → depth_following (make ws k) d ≡ d
   pub flat : (ws : List Token) (k : ℕ) → is_closing (make ws k) ≡ false
   pub is : part ≡ front ++ words
@@ -162,11 +162,11 @@ Part (in_formula d) part = FormulaPart part
 Part (in_proof d) part = Words part
 
 pub record Reads (q : State) (ts : List Token) : Type 0 where
-  pub row : List Statement
-  pub balanced : Balanced (depth_of q) row
+  pub statements : List Statement
+  pub balanced : Balanced (depth_of q) statements
   pub part : List Token
   pub is_part : Part q part
-  pub is : ts ≡ flat_map spelled row ++ part
+  pub is : ts ≡ flat_map spelled statements ++ part
 
 pub plain_more : (ws : List Token) (t : Token) → is_plain ws ≡ true → has_dollar t.word ≡ false
     → is_plain (ws ++ t ∷ []) ≡ true
@@ -175,31 +175,31 @@ plain_more ws t e h =
     ∙ ap₂ (λ x y. x && (not y && true)) e h
 
 -- a whole statement more
-closes : (d : ℕ) (ts : List Token) (row : List Statement) (part : List Token) (s : Statement)
-    → Balanced d row → ts ≡ flat_map spelled row ++ part → is_whole s ≡ true
+closes : (d : ℕ) (ts : List Token) (list : List Statement) (part : List Token) (s : Statement)
+    → Balanced d list → ts ≡ flat_map spelled list ++ part → is_complete s ≡ true
     → (is_closing s ≡ true → 0 < d) → (t : Token) → spelled s ≡ part ++ t ∷ [] → (e : ℕ)
     → depth_following s d ≡ e → Reads (at_start e) (ts ++ t ∷ [])
-closes d ts row part s b is w h t sp e at = record {
-  row = row ++ s ∷ [];
-  balanced = subst (λ k. Balanced k (row ++ s ∷ [])) at (one_more d row s b w h);
+closes d ts list part s b is w h t sp e at = record {
+  statements = list ++ s ∷ [];
+  balanced = subst (λ k. Balanced k (list ++ s ∷ [])) at (one_more d list s b w h);
   part = [];
   is_part = refl;
   is =
-      ap (λ x. x ++ t ∷ []) is ∙ append_assoc (flat_map spelled row) part (t ∷ [])
-      ∙ ap (λ x. flat_map spelled row ++ x) (sym sp ∙ sym (append-nil (spelled s)))
-      ∙ sym (flat_map-append spelled row (s ∷ []))
-      ∙ sym (append-nil (flat_map spelled (row ++ s ∷ [])));
+      ap (λ x. x ++ t ∷ []) is ∙ append_assoc (flat_map spelled list) part (t ∷ [])
+      ∙ ap (λ x. flat_map spelled list ++ x) (sym sp ∙ sym (append-nil (spelled s)))
+      ∙ sym (flat_map-append spelled list (s ∷ []))
+      ∙ sym (append-nil (flat_map spelled (list ++ s ∷ [])));
 }
 
 -- a token more in a statement
 goes_on : (q r : State) (ts : List Token) (x : Reads q ts) (t : Token) → depth_of q ≡ depth_of r
     → Part r (x.part ++ t ∷ []) → Reads r (ts ++ t ∷ [])
 goes_on q r ts x t e p = record {
-  row = x.row;
-  balanced = subst (λ k. Balanced k x.row) e x.balanced;
+  statements = x.statements;
+  balanced = subst (λ k. Balanced k x.statements) e x.balanced;
   part = x.part ++ t ∷ [];
   is_part = p;
-  is = ap (λ y. y ++ t ∷ []) x.is ∙ append_assoc (flat_map spelled x.row) x.part (t ∷ []);
+  is = ap (λ y. y ++ t ∷ []) x.is ∙ append_assoc (flat_map spelled x.statements) x.part (t ∷ []);
 }
 
 -- what is reached
@@ -212,7 +212,7 @@ opens : (d : ℕ) (ts : List Token) (x : Reads (at_start d) ts) (t : Token) (w :
     → (make : List Token → ℕ → Statement)
     → ((ws : List Token) (k : ℕ)
     → spelled (make ws k) ≡ token t.at w ∷ (ws ++ token k (codes "$.") ∷ []))
-    → ((ws : List Token) (k : ℕ) → is_plain ws ≡ true → is_whole (make ws k) ≡ true)
+    → ((ws : List Token) (k : ℕ) → is_plain ws ≡ true → is_complete (make ws k) ≡ true)
     → ((ws : List Token) (k e : ℕ) → depth_following (make ws k) e ≡ e)
     → ((ws : List Token) (k : ℕ) → is_closing (make ws k) ≡ false)
     → Reads (in_symbols d) (ts ++ t ∷ [])
@@ -233,7 +233,7 @@ opens_labelled : (d : ℕ) (ts : List Token) (x : Reads (at_label d) ts) (t : To
     → t.word ≡ w → (make : List Token → ℕ → Statement)
     → ((ws : List Token) (k : ℕ)
     → spelled (make ws k) ≡ x.is_part.0 ∷ token t.at w ∷ (ws ++ token k (codes "$.") ∷ []))
-    → ((ws : List Token) (k : ℕ) → is_plain ws ≡ true → is_whole (make ws k) ≡ true)
+    → ((ws : List Token) (k : ℕ) → is_plain ws ≡ true → is_complete (make ws k) ≡ true)
     → ((ws : List Token) (k e : ℕ) → depth_following (make ws k) e ≡ e)
     → ((ws : List Token) (k : ℕ) → is_closing (make ws k) ≡ false)
     → Reads (in_symbols d) (ts ++ t ∷ [])
@@ -265,15 +265,15 @@ words_more part p t h = record {
   is = ap (λ y. y ++ t ∷ []) p.is ∙ append_assoc p.front p.words (t ∷ []);
 }
 
-words_end : (d : ℕ) (ts : List Token) (row : List Statement) (part : List Token) (p : Words part)
-    → Balanced d row → ts ≡ flat_map spelled row ++ part → (t : Token) → t.word ≡ codes "$."
+words_end : (d : ℕ) (ts : List Token) (list : List Statement) (part : List Token) (p : Words part)
+    → Balanced d list → ts ≡ flat_map spelled list ++ part → (t : Token) → t.word ≡ codes "$."
     → Reads (at_start d) (ts ++ t ∷ [])
-words_end d ts row part p b is t m =
+words_end d ts list part p b is t m =
     let s = p.make p.words t.at in
     let sp : spelled s ≡ part ++ t ∷ [] =
     p.spells p.words t.at ∙ sym (append_assoc p.front p.words (token t.at (codes "$.") ∷ []))
     ∙ ap₂ (λ y v. y ++ token t.at v ∷ []) (sym p.is) (sym m) in
-    closes d ts row part s b is (p.whole p.words t.at p.are_plain)
+    closes d ts list part s b is (p.whole p.words t.at p.are_plain)
     (λ e. absurd (true≢false (sym e ∙ p.flat p.words t.at))) t sp d (p.stays p.words t.at d)
 
 pub and_true : (b : Bool) → b ≡ true → (b && true) ≡ true
@@ -295,12 +295,12 @@ reads_next (at_start d) ts x t disjoint_of m =
     opens d ts x t (codes "$d") m (disjoint t.at) (λ ws k. refl)
     (λ ws k e. and_true (is_plain ws) e) (λ ws k e. refl) (λ ws k. refl)
 reads_next (at_start d) ts x t open_block m =
-    closes d ts x.row x.part (opening t.at) x.balanced x.is refl
+    closes d ts x.statements x.part (opening t.at) x.balanced x.is refl
     (λ e. absurd (true≢false (sym e))) t
     (ap₂ (λ p v. p ++ token t.at v ∷ []) (sym x.is_part) (sym m)) (suc d) refl
 reads_next (at_start zero) ts x t close_block m = tt
 reads_next (at_start (suc d)) ts x t close_block m =
-    closes (suc d) ts x.row x.part (closing t.at) x.balanced x.is refl (λ e. omega arith) t
+    closes (suc d) ts x.statements x.part (closing t.at) x.balanced x.is refl (λ e. omega arith) t
     (ap₂ (λ p v. p ++ token t.at v ∷ []) (sym x.is_part) (sym m)) d refl
 reads_next (at_start d) ts x t plain m = go (is_label t.word) refl
   where
@@ -328,7 +328,7 @@ reads_next (at_label d) ts x t theorem_of m = goes_on (at_label d) (in_formula d
     })
 reads_next (in_symbols d) ts x t plain m =
     goes_on (in_symbols d) (in_symbols d) ts x t refl (words_more x.part x.is_part t m)
-reads_next (in_symbols d) ts x t dot m = words_end d ts x.row x.part x.is_part x.balanced x.is t m
+reads_next (in_symbols d) ts x t dot m = words_end d ts x.statements x.part x.is_part x.balanced x.is t m
 reads_next (in_formula d) ts x t plain m =
     let p = x.is_part in goes_on (in_formula d) (in_formula d) ts x t refl
     (record {
@@ -357,7 +357,7 @@ reads_next (in_formula d) ts x t equals m =
     })
 reads_next (in_proof d) ts x t plain m =
     goes_on (in_proof d) (in_proof d) ts x t refl (words_more x.part x.is_part t m)
-reads_next (in_proof d) ts x t dot m = words_end d ts x.row x.part x.is_part x.balanced x.is t m
+reads_next (in_proof d) ts x t dot m = words_end d ts x.statements x.part x.is_part x.balanced x.is t m
 reads_next _ ts x t _ m = tt
 
 pub follow_reads : (us ts : List Token) (q : State) → Reads q ts
@@ -379,53 +379,53 @@ follow_reads (u ∷ us) ts q x =
     go (Some r) y on = subst (Reaches (follow (Some r) us)) (append_assoc ts (u ∷ []) us) (on r y)
 
 -- what was read can be ended
-ended : (d : ℕ) (ts : List Token) (row : List Statement) (part : List Token) (s : Statement)
-    → Balanced d row → ts ≡ flat_map spelled row ++ part → is_whole s ≡ true
-    → (is_closing s ≡ true → 0 < d) → (rest : List Token) → spelled s ≡ part ++ rest → IsRowPrefix ts
-ended d ts row part s b is w h rest sp = (
-  row ++ s ∷ [],
-  (one_more d row s b w h).is_row,
+ended : (d : ℕ) (ts : List Token) (list : List Statement) (part : List Token) (s : Statement)
+    → Balanced d list → ts ≡ flat_map spelled list ++ part → is_complete s ≡ true
+    → (is_closing s ≡ true → 0 < d) → (rest : List Token) → spelled s ≡ part ++ rest → BeginStatements ts
+ended d ts list part s b is w h rest sp = (
+  list ++ s ∷ [],
+  (one_more d list s b w h).are_statements,
   rest,
-  flat_map-append spelled row (s ∷ [])
-      ∙ ap (λ x. flat_map spelled row ++ x) (append-nil (spelled s) ∙ sp)
-      ∙ sym (append_assoc (flat_map spelled row) part rest) ∙ ap (λ x. x ++ rest) (sym is),
+  flat_map-append spelled list (s ∷ [])
+      ∙ ap (λ x. flat_map spelled list ++ x) (append-nil (spelled s) ∙ sp)
+      ∙ sym (append_assoc (flat_map spelled list) part rest) ∙ ap (λ x. x ++ rest) (sym is),
 )
 
-words_ended : (d : ℕ) (ts : List Token) (row : List Statement) (part : List Token) → Words part
-    → Balanced d row → ts ≡ flat_map spelled row ++ part → IsRowPrefix ts
-words_ended d ts row part p b is =
-    ended d ts row part (p.make p.words 0) b is (p.whole p.words 0 p.are_plain)
+words_ended : (d : ℕ) (ts : List Token) (list : List Statement) (part : List Token) → Words part
+    → Balanced d list → ts ≡ flat_map spelled list ++ part → BeginStatements ts
+words_ended d ts list part p b is =
+    ended d ts list part (p.make p.words 0) b is (p.whole p.words 0 p.are_plain)
     (λ e. absurd (true≢false (sym e ∙ p.flat p.words 0))) (token 0 (codes "$.") ∷ [])
     (p.spells p.words 0 ∙ sym (append_assoc p.front p.words (token 0 (codes "$.") ∷ []))
     ∙ ap (λ y. y ++ token 0 (codes "$.") ∷ []) (sym p.is))
 
-pub reads_begins : (q : State) (ts : List Token) → Reads q ts → IsRowPrefix ts
+pub reads_begins : (q : State) (ts : List Token) → Reads q ts → BeginStatements ts
 reads_begins (at_start d) ts x = (
-  x.row,
-  x.balanced.is_row,
+  x.statements,
+  x.balanced.are_statements,
   [],
-  sym (append-nil (flat_map spelled x.row))
-      ∙ ap (λ p. flat_map spelled x.row ++ p) (sym x.is_part) ∙ sym x.is ∙ sym (append-nil ts),
+  sym (append-nil (flat_map spelled x.statements))
+      ∙ ap (λ p. flat_map spelled x.statements ++ p) (sym x.is_part) ∙ sym x.is ∙ sym (append-nil ts),
 )
 reads_begins (at_label d) ts x =
-    ended d ts x.row x.part (axiomatic x.is_part.0 0 [] 0) x.balanced x.is
+    ended d ts x.statements x.part (axiomatic x.is_part.0 0 [] 0) x.balanced x.is
     (labelled_whole x.is_part.0 [] x.is_part.1 refl) (λ e. absurd (true≢false (sym e)))
     (token 0 (codes "$a") ∷ token 0 (codes "$.") ∷ [])
     (ap (λ p. p ++ token 0 (codes "$a") ∷ token 0 (codes "$.") ∷ []) (sym x.is_part.2))
-reads_begins (in_symbols d) ts x = words_ended d ts x.row x.part x.is_part x.balanced x.is
+reads_begins (in_symbols d) ts x = words_ended d ts x.statements x.part x.is_part x.balanced x.is
 reads_begins (in_formula d) ts x = let p = x.is_part in
-    ended d ts x.row x.part (provable p.label p.keyword p.words 0 [] 0) x.balanced x.is
+    ended d ts x.statements x.part (provable p.label p.keyword p.words 0 [] 0) x.balanced x.is
     (ap₂ (λ a b. a && b && true) p.is_labelled p.are_plain) (λ e. absurd (true≢false (sym e)))
     (token 0 (codes "$=") ∷ token 0 (codes "$.") ∷ [])
     (ap (λ p. p ++ token 0 (codes "$=") ∷ token 0 (codes "$.") ∷ []) (sym p.is))
-reads_begins (in_proof d) ts x = words_ended d ts x.row x.part x.is_part x.balanced x.is
+reads_begins (in_proof d) ts x = words_ended d ts x.statements x.part x.is_part x.balanced x.is
 
 pub reads_none : Reads (at_start 0) []
-reads_none = record { row = []; balanced = none_yet; part = []; is_part = refl; is = refl }
+reads_none = record { statements = []; balanced = none_yet; part = []; is_part = refl; is = refl }
 
--- some row begins with the tokens exactly where the table goes through them
+-- some list begins with the tokens exactly where the table goes through them
 pub begins_exact : (ts : List Token)
-    → IsRowPrefix ts ↔ ((q : State) × (follow (Some (at_start 0)) ts ≡ Some q))
+    → BeginStatements ts ↔ ((q : State) × (follow (Some (at_start 0)) ts ≡ Some q))
 begins_exact ts = (
   begins_followed ts,
   λ h. reads_begins h.0 ts

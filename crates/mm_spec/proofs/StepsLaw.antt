@@ -28,13 +28,13 @@ module _ (c : Context) where
   good_append [] ys g h = h
   good_append (x ∷ xs) ys g h = (g.0, good_append xs ys g.1 h)
 
-  -- in a row of derivations each label stands for something
-  pub row_good : ((l : ℕ) → IsFine c (c.rule l)) → (row : Trees) → AreDerivations c row
-      → AreGood c (postfix row)
-  row_good fine none d = tt
-  row_good fine (more ts l f cs) d =
-      good_append (postfix ts) _ (row_good fine ts d.0)
-      (good_append (postfix cs) _ (row_good fine cs d.1)
+  -- in a forest of derivations each label stands for something
+  pub forest_good : ((l : ℕ) → IsFine c (c.rule l)) → (forest : Trees) → AreDerivations c forest
+      → AreGood c (postfix forest)
+  forest_good fine none d = tt
+  forest_good fine (more ts l f cs) d =
+      good_append (postfix ts) _ (forest_good fine ts d.0)
+      (good_append (postfix cs) _ (forest_good fine cs d.1)
       (follows_good (c.rule l) (formulas cs) f (fine l) d.2, tt))
 
   after_at : (lists : List (List ℕ)) (ends : List Formula) (j : ℕ) → AllZip (Leaves c) lists ends
@@ -62,7 +62,7 @@ module _ (c : Context) where
       proceed (step_entries c s ends es) (length ends)
       (λ out. run_steps (ends ++ top out ∷ []) steps out)
 
-  -- a step that fails after a row
+  -- a step that fails after a forest
   pub record StoppedStep (lists : List (List ℕ)) (old : List ℕ) (steps : List Step)
       (reason : Reason) : Type 0 where
     pub before : List Step
@@ -71,78 +71,78 @@ module _ (c : Context) where
     pub splits : steps ≡ before ++ first ∷ after
     pub labels : List ℕ
     pub plain : Plain c lists old before labels
-    pub row : Trees
-    pub derivations : AreDerivations c row
-    pub is : postfix row ≡ labels
-    pub fails : StepFails c first (formulas row) reason
+    pub forest : Trees
+    pub derivations : AreDerivations c forest
+    pub is : postfix forest ≡ labels
+    pub fails : StepFails c first (formulas forest) reason
 
   abbrev pub RanSteps : List (List ℕ) → List ℕ → List Step → Result (List Formula) Failed → Type 0
   RanSteps lists old steps (Ok out) =
-      (all : List ℕ) × Plain c lists old steps all × (row : Trees) × AreDerivations c row
-      × (postfix row ≡ all) × (formulas row ≡ out)
+      (all : List ℕ) × Plain c lists old steps all × (forest : Trees) × AreDerivations c forest
+      × (postfix forest ≡ all) × (formulas forest ≡ out)
   RanSteps lists old steps (Err e) = StoppedStep lists old steps e.reason
 
-  -- a step after a row is one more tree, or fails
+  -- a step after a forest is one more tree, or fails
   abbrev pub Grown : List (List ℕ) → Trees → Step → Result (List Formula) Reason → Type 0
-  Grown lists row s (Ok out) =
-      (next : Trees) × AreDerivations c next × Adds c lists (postfix row) s (postfix next)
+  Grown lists forest s (Ok out) =
+      (next : Trees) × AreDerivations c next × Adds c lists (postfix forest) s (postfix next)
       × (formulas next ≡ out) × HasLast next (top out)
-  Grown lists row s (Err reason) = StepFails c s (formulas row) reason
+  Grown lists forest s (Err reason) = StepFails c s (formulas forest) reason
 
-  last_top : (row : Trees) (fs : List Formula) (f : Formula) → formulas row ≡ fs ++ f ∷ []
-      → HasLast row (top (formulas row))
+  last_top : (forest : Trees) (fs : List Formula) (f : Formula) → formulas forest ≡ fs ++ f ∷ []
+      → HasLast forest (top (formulas forest))
   last_top none [] f e = cc
   last_top none (g ∷ fs) f e = cc
   last_top (more ts l f cs) fs g e = sym (top_append (formulas ts) f)
 
-  grows_label : (lists : List (List ℕ)) (row : Trees) (l : ℕ) (r : Result (List Formula) Reason)
-      → AreDerivations c row → Made c (c.rule l) (formulas row) r → Grown lists row (label l) r
-  grows_label lists row l (Err reason) d made = made
-  grows_label lists row l (Ok out) d made =
-      let g = grown c row l made.0 made.1 d made.2 made.3 in
+  grows_label : (lists : List (List ℕ)) (forest : Trees) (l : ℕ) (r : Result (List Formula) Reason)
+      → AreDerivations c forest → Made c (c.rule l) (formulas forest) r → Grown lists forest (label l) r
+  grows_label lists forest l (Err reason) d made = made
+  grows_label lists forest l (Ok out) d made =
+      let g = grown c forest l made.0 made.1 d made.2 made.3 in
       let is : formulas g.0 ≡ out = g.3 ∙ sym made.4 in
       (g.0, g.1, g.2, is, subst (λ x. HasLast g.0 (top x)) is (last_top g.0 _ made.1 g.3))
 
-  -- a marked step adds a copy of the last tree of an earlier row
-  grows_marked : (lists : List (List ℕ)) (ends : List Formula) (row : Trees) (j : ℕ)
-      → AreDerivations c row → AllZip (Leaves c) lists ends → j < length ends
-      → Grown lists row (marked j) (step_entries c (marked j) ends (formulas row))
-  grows_marked lists ends row j d b h =
+  -- a marked step adds a copy of the last tree of an earlier forest
+  grows_marked : (lists : List (List ℕ)) (ends : List Formula) (forest : Trees) (j : ℕ)
+      → AreDerivations c forest → AllZip (Leaves c) lists ends → j < length ends
+      → Grown lists forest (marked j) (step_entries c (marked j) ends (formulas forest))
+  grows_marked lists ends forest j d b h =
       let at = after_at lists ends j b h in
-      subst (λ o. Grown lists row (marked j)
-      (elim o [ None ↦ Ok (formulas row) | Some f ↦ Ok (formulas row ++ f ∷ []) ])) (sym at.3)
+      subst (λ o. Grown lists forest (marked j)
+      (elim o [ None ↦ Ok (formulas forest) | Some f ↦ Ok (formulas forest ++ f ∷ []) ])) (sym at.3)
       (copy at.4.0 at.4.1 at.4.2 at.4.3)
     where
       copy : (then : Trees) → AreDerivations c then → postfix then ≡ (after_at lists ends j b h).0
           → HasLast then (after_at lists ends j b h).1
-          → Grown lists row (marked j) (Ok (formulas row ++ (after_at lists ends j b h).1 ∷ []))
+          → Grown lists forest (marked j) (Ok (formulas forest ++ (after_at lists ends j b h).1 ∷ []))
       copy none e p last = absurd last
       copy (more ts l f cs) e p last =
           let at = after_at lists ends j b h in
-          let is : formulas row ++ f ∷ [] ≡ formulas row ++ at.1 ∷ [] =
-          ap (λ x. formulas row ++ x ∷ []) last in (
-            more row l f cs,
+          let is : formulas forest ++ f ∷ [] ≡ formulas forest ++ at.1 ∷ [] =
+          ap (λ x. formulas forest ++ x ∷ []) last in (
+            more forest l f cs,
             (d, e.1, e.2),
             (at.0, postfix cs ++ l ∷ [], at.2, (more ts l f cs, e, p, refl), refl),
             is,
-            subst (λ x. HasLast (more row l f cs) (top x)) is (sym (top_append (formulas row) f)),
+            subst (λ x. HasLast (more forest l f cs) (top x)) is (sym (top_append (formulas forest) f)),
           )
 
-  pub grows : (lists : List (List ℕ)) (ends : List Formula) (row : Trees) (s : Step)
-      → AreDerivations c row → AllZip (Leaves c) lists ends → IsGoodStep c (length ends) s
-      → Grown lists row s (step_entries c s ends (formulas row))
-  grows lists ends row (label l) d b good =
-      grows_label lists row l (step c (c.rule l) (formulas row)) d
-      (makes c (c.rule l) (formulas row) good)
-  grows lists ends row (marked j) d b good = grows_marked lists ends row j d b good
+  pub grows : (lists : List (List ℕ)) (ends : List Formula) (forest : Trees) (s : Step)
+      → AreDerivations c forest → AllZip (Leaves c) lists ends → IsGoodStep c (length ends) s
+      → Grown lists forest s (step_entries c s ends (formulas forest))
+  grows lists ends forest (label l) d b good =
+      grows_label lists forest l (step c (c.rule l) (formulas forest)) d
+      (makes c (c.rule l) (formulas forest) good)
+  grows lists ends forest (marked j) d b good = grows_marked lists ends forest j d b good
 
   -- what a run over steps means
-  pub means_steps : (steps : List Step) (lists : List (List ℕ)) (ends : List Formula) (row : Trees)
-      → AreDerivations c row → AllZip (Leaves c) lists ends → AreGoodSteps c (length ends) steps
-      → RanSteps lists (postfix row) steps (run_steps ends steps (formulas row))
-  means_steps [] lists ends row d b good = (postfix row, refl, row, d, refl, refl)
-  means_steps (s ∷ steps) lists ends row d b good =
-      go (step_entries c s ends (formulas row)) (grows lists ends row s d b good.0)
+  pub means_steps : (steps : List Step) (lists : List (List ℕ)) (ends : List Formula) (forest : Trees)
+      → AreDerivations c forest → AllZip (Leaves c) lists ends → AreGoodSteps c (length ends) steps
+      → RanSteps lists (postfix forest) steps (run_steps ends steps (formulas forest))
+  means_steps [] lists ends forest d b good = (postfix forest, refl, forest, d, refl, refl)
+  means_steps (s ∷ steps) lists ends forest d b good =
+      go (step_entries c s ends (formulas forest)) (grows lists ends forest s d b good.0)
       (λ next f e h. means_steps steps (lists ++ postfix next ∷ []) (ends ++ f ∷ []) next e
       (after_more lists ends (postfix next) f b (next, e, refl, h))
       (subst (λ n. AreGoodSteps c n steps) (one_more f) good.1))
@@ -150,8 +150,8 @@ module _ (c : Context) where
       one_more : (f : Formula) → suc (length ends) ≡ length (ends ++ f ∷ [])
       one_more f = omega (arith, length-append ends (f ∷ []))
 
-      later : (new : List ℕ) → Adds c lists (postfix row) s new → (r : Result (List Formula) Failed)
-          → RanSteps (lists ++ new ∷ []) new steps r → RanSteps lists (postfix row) (s ∷ steps) r
+      later : (new : List ℕ) → Adds c lists (postfix forest) s new → (r : Result (List Formula) Failed)
+          → RanSteps (lists ++ new ∷ []) new steps r → RanSteps lists (postfix forest) (s ∷ steps) r
       later new adds (Ok out) h = (h.0, (new, adds, h.1), h.2, h.3, h.4, h.5)
       later new adds (Err e) h = record {
         before = s ∷ h.before;
@@ -160,17 +160,17 @@ module _ (c : Context) where
         splits = ap (λ x. s ∷ x) h.splits;
         labels = h.labels;
         plain = (new, adds, h.plain);
-        row = h.row;
+        forest = h.forest;
         derivations = h.derivations;
         is = h.is;
         fails = h.fails;
       }
 
-      go : (r : Result (List Formula) Reason) → Grown lists row s r
+      go : (r : Result (List Formula) Reason) → Grown lists forest s r
           → ((next : Trees) (f : Formula) → AreDerivations c next → HasLast next f
           → RanSteps (lists ++ postfix next ∷ []) (postfix next) steps
           (run_steps (ends ++ f ∷ []) steps (formulas next)))
-          → RanSteps lists (postfix row) (s ∷ steps)
+          → RanSteps lists (postfix forest) (s ∷ steps)
           (proceed r (length ends) (λ out. run_steps (ends ++ top out ∷ []) steps out))
       go (Err reason) h on =
           record {
@@ -178,9 +178,9 @@ module _ (c : Context) where
             first = s;
             after = steps;
             splits = refl;
-            labels = postfix row;
+            labels = postfix forest;
             plain = refl;
-            row = row;
+            forest = forest;
             derivations = d;
             is = refl;
             fails = h;

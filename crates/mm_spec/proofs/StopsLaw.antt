@@ -5,8 +5,8 @@ use Rattle.std.proofs.Common.{sym, ap, ◌∙◌, subst, append-nil, append_asso
 use Rattle.std.proofs.lemmas.List.{append_cancel_left}
 use Rattle.std.proofs.lemmas.Option.{same_Some}
 use Rattle.mm_spec.specs.Text.{Token, Fault, fault, is_label}
-use Rattle.mm_spec.specs.Statement.{Statement, spelled, is_opening, is_closing, IsRow, IsLongestRow}
-use Rattle.mm_spec.specs.Statement.{ShapeFault, FileEndFault, IsRowPrefix, IsBetween, shape_code}
+use Rattle.mm_spec.specs.Statement.{Statement, spelled, is_opening, is_closing, AreStatements, AreLongestStatements}
+use Rattle.mm_spec.specs.Statement.{ShapeFault, FileEndFault, BeginStatements, IsBetween, shape_code}
 use Rattle.mm_spec.specs.Output.{LexedText, TextFault, WordOrEnd}
 use Rattle.mm_spec.specs.Laws.Table.{Class, type_of, equals, close_block, plain, class, Progress}
 use Rattle.mm_spec.specs.Laws.Table.{start, labelled, words, formula, Transition, stop, go, done, transition}
@@ -14,9 +14,9 @@ use Rattle.mm_spec.specs.Laws.Table.{label_turn, statements_of, stop_from, stop_
 use Rattle.mm_spec.specs.Laws.Table.{rest_after, begins, fault_at_end}
 use Rattle.mm_spec.proofs.FollowedLaw.{State, at_start, at_label, in_symbols, in_formula, in_proof}
 use Rattle.mm_spec.proofs.FollowedLaw.{next, label_at_start, follow, follow_append, no_way_back}
-use Rattle.mm_spec.proofs.FollowedLaw.{row_followed, begins_followed}
+use Rattle.mm_spec.proofs.FollowedLaw.{statements_followed, begins_followed}
 use Rattle.mm_spec.proofs.ShapeLaw.{Reads, Reaches, follow_reads, reads_none, begins_exact}
-use Rattle.mm_spec.proofs.RowLaw.{is_longest, longest_unique, row_read_at_start}
+use Rattle.mm_spec.proofs.LongestLaw.{is_longest, longest_unique, statements_read_at_start}
 use Rattle.mm_spec.specs.declared.Code.TheVariants.{OpenStatement, OpenBlock}
 
 abbrev words_state : Bool → ℕ → State
@@ -150,17 +150,17 @@ stopped (t ∷ ts) r f e = by (transition r (class t.word) t) refl e (λ q h. st
           (shape_code (begins (rest_after a (λ q. rest_from q x.before) r)) x.first.word)) (sym o);
     }
 
--- a statement begins exactly where the tokens are a row
+-- a statement begins exactly where the tokens are a list
 between : (ts : List Token) (r : Progress) (b : Bool)
     → follow (Some (at_start 0)) ts ≡ Some (state_of b r) → begins r ≡ true
-    → (row : List Statement) × IsRow row × (flat_map spelled row ≡ ts)
+    → (list : List Statement) × AreStatements list × (flat_map spelled list ≡ ts)
 between ts (start d) b e h =
     let x : Reads (at_start d) ts =
     subst (λ o. Reaches o ts) e (follow_reads ts [] (at_start 0) reads_none) in (
-      x.row,
-      x.balanced.is_row,
-      sym (append-nil (flat_map spelled x.row))
-          ∙ ap (λ p. flat_map spelled x.row ++ p) (sym x.is_part) ∙ sym x.is,
+      x.statements,
+      x.balanced.are_statements,
+      sym (append-nil (flat_map spelled x.statements))
+          ∙ ap (λ p. flat_map spelled x.statements ++ p) (sym x.is_part) ∙ sym x.is,
     )
 between ts (labelled d l) b e h = absurd (cc)
 between ts (words d make ws) b e h = absurd (cc)
@@ -169,7 +169,7 @@ between ts (formula d l k ws) b e h = absurd (cc)
 not_between : (ts : List Token) (r : Progress) (b : Bool)
     → follow (Some (at_start 0)) ts ≡ Some (state_of b r) → begins r ≡ false → ¬ IsBetween ts
 not_between ts r b e h x =
-    let y = row_followed x.0 0 x.1.whole (λ n. let m = x.1.nested n in omega (arith, m)) in
+    let y = statements_followed x.0 0 x.1.whole (λ n. let m = x.1.nested n in omega (arith, m)) in
     no r b (sym e ∙ ap (follow (Some (at_start 0))) (sym x.2) ∙ y.1) h
   where
     no : {d : ℕ} (r : Progress) (b : Bool) → Some (state_of b r) ≡ Some (at_start d)
@@ -198,7 +198,7 @@ shape_fault ts f e =
   where
     ended : (before : List Token) (first : Token) (r : Progress) (b : Bool)
         → follow (Some (at_start 0)) before ≡ Some (state_of b r)
-        → transition r (class first.word) first ≡ stop → ¬ IsRowPrefix (before ++ first ∷ [])
+        → transition r (class first.word) first ≡ stop → ¬ BeginStatements (before ++ first ∷ [])
     ended before first r b y s m =
         let q = begins_followed (before ++ first ∷ []) m in
         let n : None ≡ Some q.0 =
@@ -229,10 +229,10 @@ no_shape_fault ts e x =
     (s.splits ∙ sym (append_assoc s.before (s.first ∷ []) s.after))))
   where
     front : (us vs : List Token) (q : State) → Some q ≡ follow (Some (at_start 0)) (us ++ vs)
-        → IsRowPrefix us
+        → BeginStatements us
     front us vs q h = by (follow (Some (at_start 0)) us) refl
       where
-        by : (o : Option State) → follow (Some (at_start 0)) us ≡ o → IsRowPrefix us
+        by : (o : Option State) → follow (Some (at_start 0)) us ≡ o → BeginStatements us
         by None n =
             absurd (no_way_back vs q
             (ap (λ o. follow o vs) (sym n) ∙ sym (follow_append us vs (Some (at_start 0))) ∙ sym h))
@@ -241,7 +241,7 @@ no_shape_fault ts e x =
 -- ---- the end
 
 record Ends (ts : List Token) (d : ℕ) : Type 0 where
-  rest : (is_row : IsLongestRow ts (statements_of ts)) → is_row.rest ≡ []
+  rest : (are_statements : AreLongestStatements ts (statements_of ts)) → are_statements.rest ≡ []
   count : d + count_by is_closing (statements_of ts) ≡ count_by is_opening (statements_of ts)
 
 ends : (ts : List Token) (d : ℕ) (b : Bool) → follow (Some (at_start 0)) ts ≡ Some (at_start d)
@@ -249,11 +249,11 @@ ends : (ts : List Token) (d : ℕ) (b : Bool) → follow (Some (at_start 0)) ts 
 ends ts d b e =
     let x : Reads (at_start d) ts =
     subst (λ o. Reaches o ts) e (follow_reads ts [] (at_start 0) reads_none) in
-    let whole : ts ≡ flat_map spelled x.row =
-    x.is ∙ ap (λ p. flat_map spelled x.row ++ p) x.is_part ∙ append-nil (flat_map spelled x.row) in
-    let y = row_read_at_start x.row [] x.balanced.is_row in
-    let same : statements_of ts ≡ x.row =
-    ap statements_of (whole ∙ sym (append-nil (flat_map spelled x.row))) ∙ y.2 ∙ append-nil x.row in
+    let whole : ts ≡ flat_map spelled x.statements =
+    x.is ∙ ap (λ p. flat_map spelled x.statements ++ p) x.is_part ∙ append-nil (flat_map spelled x.statements) in
+    let y = statements_read_at_start x.statements [] x.balanced.are_statements in
+    let same : statements_of ts ≡ x.statements =
+    ap statements_of (whole ∙ sym (append-nil (flat_map spelled x.statements))) ∙ y.2 ∙ append-nil x.statements in
     record {
       rest =
           λ r. append_cancel_left (flat_map spelled (statements_of ts)) r.rest []
@@ -266,11 +266,11 @@ ends ts d b e =
 
 goes_on : (ts : List Token) (r : Progress) (b : Bool)
     → follow (Some (at_start 0)) ts ≡ Some (state_of b r) → begins r ≡ false
-    → (is_row : IsLongestRow ts (statements_of ts)) → is_row.rest ≢ []
+    → (are_statements : AreLongestStatements ts (statements_of ts)) → are_statements.rest ≢ []
 goes_on ts r b e h x n =
     not_between ts r b e h (
       statements_of ts,
-      x.is_row,
+      x.are_statements,
       sym
           (x.splits ∙ ap (λ y. flat_map spelled (statements_of ts) ++ y) n
           ∙ append-nil (flat_map spelled (statements_of ts))),
@@ -285,8 +285,8 @@ end_fault len ts f e h =
         → begins r ≡ false → Some (fault len OpenStatement) ≡ Some f → FileEndFault len ts f
     part r b y n h =
         record {
-          row = statements_of ts;
-          is_row = is_longest ts;
+          statements = statements_of ts;
+          are_statements = is_longest ts;
           code = inl (goes_on ts r b y n (is_longest ts), sym (same_Some (fault len OpenStatement) f h));
         }
 
@@ -297,8 +297,8 @@ end_fault len ts f e h =
         let x = ends ts (suc d) b y in
         let c = x.count in
         record {
-          row = statements_of ts;
-          is_row = is_longest ts;
+          statements = statements_of ts;
+          are_statements = is_longest ts;
           code = inr
               (x.rest (is_longest ts), omega (arith, c), sym (same_Some (fault len OpenBlock) f h));
         }
@@ -311,26 +311,26 @@ pub no_end_fault : (len : ℕ) (ts : List Token) → stop_from (start 0) ts ≡ 
 no_end_fault len ts e h f x =
     let y = followed ts false (start 0) e in by (rest_from (start 0) ts) y.0 y.1 h
   where
-    same : (row : List Statement) (r : IsLongestRow ts row) → statements_of ts ≡ row → Ends ts 0
-        → (r.rest ≡ []) × (count_by is_closing row ≡ count_by is_opening row)
-    same row r e x = (
-      subst (λ row. (r : IsLongestRow ts row) → r.rest ≡ []) e x.rest r,
+    same : (list : List Statement) (r : AreLongestStatements ts list) → statements_of ts ≡ list → Ends ts 0
+        → (r.rest ≡ []) × (count_by is_closing list ≡ count_by is_opening list)
+    same list r e x = (
+      subst (λ list. (r : AreLongestStatements ts list) → r.rest ≡ []) e x.rest r,
       subst (λ z. count_by is_closing z ≡ count_by is_opening z) e
           (let c = x.count in omega (arith, c)),
     )
 
-    no : (row : List Statement) (r : IsLongestRow ts row) → Ends ts 0
+    no : (list : List Statement) (r : AreLongestStatements ts list) → Ends ts 0
         → ((r.rest ≢ []) × (f ≡ fault len OpenStatement))
-        ⊎ ((r.rest ≡ []) × (count_by is_closing row < count_by is_opening row)
+        ⊎ ((r.rest ≡ []) × (count_by is_closing list < count_by is_opening list)
         × (f ≡ fault len OpenBlock))
         → ⊥
-    no row r x (inl c) = c.0 (same row r (longest_unique ts row r) x).0
-    no row r x (inr c) =
-        let s = (same row r (longest_unique ts row r) x).1 in let l = c.1 in omega (arith, s, l)
+    no list r x (inl c) = c.0 (same list r (longest_unique ts list r) x).0
+    no list r x (inr c) =
+        let s = (same list r (longest_unique ts list r) x).1 in let l = c.1 in omega (arith, s, l)
 
     by : (r : Progress) (b : Bool) → follow (Some (at_start 0)) ts ≡ Some (state_of b r)
         → fault_at_end len r ≡ None → ⊥
-    by (start zero) b y h = no x.row x.is_row (ends ts 0 b y) x.code
+    by (start zero) b y h = no x.statements x.are_statements (ends ts 0 b y) x.code
     by (start (suc d)) b y h = cc
     by (labelled d l) b y h = cc
     by (words d make ws) b y h = cc

@@ -6,7 +6,7 @@ use Rattle.std.proofs.lemmas.Slice.Eq.{bytes_eq-Decides}
 use Rattle.std.specs.List.{list_all, list_any, AllByRecursion}
 use Rattle.std.proofs.lemmas.Bool.{and_from, and_parts, not-true}
 use Rattle.mm_spec.specs.Laws.Complete.{binds, IsBound, AreBound}
-use Rattle.mm_spec.specs.Derivation.{Formula, Pair, Context, Substitution, substitute, are_apart}
+use Rattle.mm_spec.specs.Derivation.{Formula, Pair, Context, Substitution, substitute, are_all_disjoint}
 use Rattle.mm_spec.specs.Laws.Stack.{same, tail, found}
 
 pub same_equal : (ps qs : List Formula) → same ps qs ≡ true → ps ≡ qs
@@ -81,12 +81,12 @@ module _ (c : Context) where
     found_all [] b = refl
     found_all (f ∷ fs) b = ap₂ (λ x xs. x ∷ xs) (sym (found_formula f b.0)) (found_all fs b.1)
 
-    pub found_apart : (ps : List Pair)
+    pub found_disjoint : (ps : List Pair)
         → AllByRecursion (λ p. IsBound c hs p.low × IsBound c hs p.high) ps
-        → list_all (λ p. are_apart c (σ p.low) (σ p.high)) ps
-        ≡ list_all (λ p. are_apart c (τ p.low) (τ p.high)) ps
-    found_apart [] b = refl
-    found_apart (p ∷ ps) b =
+        → list_all (λ p. are_all_disjoint c (σ p.low) (σ p.high)) ps
+        ≡ list_all (λ p. are_all_disjoint c (τ p.low) (τ p.high)) ps
+    found_disjoint [] b = refl
+    found_disjoint (p ∷ ps) b =
         ap₂ (λ x y. x && y)
-        (ap₂ (are_apart c) (found_is hs τ p.low b.0.0) (found_is hs τ p.high b.0.1))
-        (found_apart ps b.1)
+        (ap₂ (are_all_disjoint c) (found_is hs τ p.low b.0.0) (found_is hs τ p.high b.0.1))
+        (found_disjoint ps b.1)

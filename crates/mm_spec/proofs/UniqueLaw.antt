@@ -1,4 +1,4 @@
--- The labels in postfix order determine the whole row of derivations.
+-- The labels in postfix order determine the whole forest of derivations.
 use Rattle.std.proofs.Common.{◌≡◌, ℕ, zero, suc, List, [], ◌∷◌, ◌++◌, length, Option, Some, None}
 use Rattle.std.proofs.Common.{refl, sym, ap, ◌∙◌, subst, append_assoc, length-append, arith}
 use Rattle.std.proofs.lemmas.List.{length-map}
@@ -8,7 +8,7 @@ use Rattle.mm_spec.proofs.UnifyLaw.{found_formula}
 use Rattle.mm_spec.specs.Laws.Stack.{found, IsGood}
 use Rattle.mm_spec.proofs.MachineLaw.{AreGood, good_parts}
 
--- two rows, one after the other
+-- two forests, one after the other
 infixl 40 ◌⧺◌
 abbrev pub ◌⧺◌ : Trees → Trees → Trees
 ts ⧺ none = ts
@@ -18,9 +18,9 @@ abbrev count : Trees → ℕ
 count none = 0
 count (more ts l f cs) = suc (count ts)
 
--- a row without its last n trees, and these
+-- a forest without its last n trees, and these
 abbrev split : ℕ → Trees → Trees × Trees
-split zero row = (row, none)
+split zero forest = (forest, none)
 split (suc n) none = (none, none)
 split (suc n) (more ts l f cs) = let p = split n ts in (p.0, more p.1 l f cs)
 
@@ -62,16 +62,16 @@ module _ (c : Context) where
       ap (λ x. substitute c (found c a.hypotheses x) a.formula) h.1
       ∙ found_formula c a.hypotheses h.0 a.formula good.formula ∙ sym h.3
 
-  -- the row that the labels make of a row
+  -- the forest that the labels make of a forest
   abbrev grow : ℕ → Trees × Trees → Trees
   grow l p = more p.0 l (result (c.rule l) (formulas p.1)) p.1
 
   abbrev build : List ℕ → Trees → Trees
-  build [] row = row
-  build (l ∷ ls) row = build ls (grow l (split (arity (c.rule l)) row))
+  build [] forest = forest
+  build (l ∷ ls) forest = build ls (grow l (split (arity (c.rule l)) forest))
 
-  builds : (row : Trees) → AreDerivations c row → AreGood c (postfix row)
-      → (ls : List ℕ) (base : Trees) → build (postfix row ++ ls) base ≡ build ls (base ⧺ row)
+  builds : (forest : Trees) → AreDerivations c forest → AreGood c (postfix forest)
+      → (ls : List ℕ) (base : Trees) → build (postfix forest ++ ls) base ≡ build ls (base ⧺ forest)
   builds none d good ls base = refl
   builds (more ts l f cs) d good ls base =
       let p = postfix ts in
@@ -90,8 +90,8 @@ module _ (c : Context) where
       ∙ ap (λ g. build ls (more (base ⧺ ts) l g cs))
       (follows_result (c.rule l) (formulas cs) f inner.1.0 d.2)
 
-  -- after no trees stands the row itself
-  alone : (row : Trees) → none ⧺ row ≡ row
+  -- after no trees stands the forest itself
+  alone : (forest : Trees) → none ⧺ forest ≡ forest
   alone none = refl
   alone (more ts l f cs) = ap (λ x. more x l f cs) (alone ts)
 
@@ -100,6 +100,6 @@ module _ (c : Context) where
   unique r s d e good same =
       sym (is r d good) ∙ ap (λ x. build (x ++ []) none) same ∙ is s e (subst (AreGood c) same good)
     where
-      is : (row : Trees) → AreDerivations c row → AreGood c (postfix row)
-          → build (postfix row ++ []) none ≡ row
-      is row d good = builds row d good [] none ∙ alone row
+      is : (forest : Trees) → AreDerivations c forest → AreGood c (postfix forest)
+          → build (postfix forest ++ []) none ≡ forest
+      is forest d good = builds forest d good [] none ∙ alone forest

@@ -8,12 +8,12 @@ use Rattle.mm_spec.specs.Scope.{statement_at}
 use Rattle.mm_spec.specs.Frame.{is_essential, mandatory_hypotheses}
 use Rattle.mm_spec.specs.Derivation.{Trees, none, more}
 
--- how many trees a row has
+-- how many trees a forest has
 abbrev pub size : Trees → ℕ
 size none = 0
 size (more ts l f cs) = suc (size ts)
 
--- Some node that counts has this label. The root at place n of the row counts if `place n`; child n
+-- Some node that counts has this label. The root at place n of the forest counts if `place n`; child n
 -- of a node that counts and has label l counts if `counts l n`. Places are counted from 0.
 abbrev pub HasNode : (ℕ → ℕ → Bool) → (ℕ → Bool) → Trees → ℕ → Type 0
 HasNode counts place none a = ⊥

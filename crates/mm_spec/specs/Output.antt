@@ -6,7 +6,7 @@ use Rattle.std.specs.List.{list_any, range_with_len, AllZip, filter}
 use Rattle.mm_spec.specs.Text.{Bytes, Token, token, Fault}
 use Rattle.mm_spec.specs.Readings.{bytes_of}
 use Rattle.mm_spec.specs.Lexed.{tokens_of, lexical_fault}
-use Rattle.mm_spec.specs.Statement.{Statement, axiomatic, provable, IsLongestRow, ShapeFault}
+use Rattle.mm_spec.specs.Statement.{Statement, axiomatic, provable, AreLongestStatements, ShapeFault}
 use Rattle.mm_spec.specs.Statement.{FileEndFault, symbols_of}
 use Rattle.mm_spec.specs.Opened.{is_open, counted}
 use Rattle.mm_spec.specs.Scope.{statement_at, label_words}
@@ -42,20 +42,20 @@ TextFault len x f =
 -- what stops the reading after the lawful statements
 abbrev pub StopsReading : ℕ → LexedText → List Statement → List Statement → List Statement → Option Fault
     → Type 0
-StopsReading len x row db (s ∷ rest) fault = (fault ≢ None) × (scope_fault row (length db) ≡ fault)
-StopsReading len x row db [] None = (f : Fault) → ¬ TextFault len x f
-StopsReading len x row db [] (Some f) = TextFault len x f
+StopsReading len x statements db (s ∷ rest) fault = (fault ≢ None) × (scope_fault statements (length db) ≡ fault)
+StopsReading len x statements db [] None = (f : Fault) → ¬ TextFault len x f
+StopsReading len x statements db [] (Some f) = TextFault len x f
 
 -- What reading gives: the statements up to the first malformed or unlawful one, and the fault that
 -- stops the reading there, if there is one.
 pub record IsRead (len : ℕ) (x : LexedText) (db : List Statement)
     (fault : Option Fault) : Type 0 where
-  pub row : List Statement
-  pub is_row : IsLongestRow x.tokens row
+  pub statements : List Statement
+  pub are_statements : AreLongestStatements x.tokens statements
   pub rest : List Statement
-  pub splits : row ≡ db ++ rest
-  pub lawful : (k : ℕ) → k < length db → IsLawful row k
-  pub stops : StopsReading len x row db rest fault
+  pub splits : statements ≡ db ++ rest
+  pub lawful : (k : ℕ) → k < length db → IsLawful statements k
+  pub stops : StopsReading len x statements db rest fault
 
 -- the fault of theorem k's proof, which ends at `end`: the least fault of its reading, or if there
 -- is none, the fault of a step or of the end

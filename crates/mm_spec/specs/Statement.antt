@@ -1,5 +1,5 @@
 -- Statements and their spelling (Metamath book, "Basic Syntax"). The test whether tokens begin a
--- row of statements, and the faults of a text's shape, are this project's own.
+-- list of statements, and the faults of a text's shape, are this project's own.
 use Rattle.std.specs.Prelude.{◌≡◌, ℕ, ◌≤◌, ◌<◌, ◌≢◌, Bool, true, false, ◌&&◌, not, List, [], ◌∷◌}
 use Rattle.std.specs.Prelude.{◌++◌, take, Option, Some, None, codes, count_by, flat_map, ◌⊎◌}
 use Rattle.std.specs.Prelude.{bytes_eq, if◌then◌else◌, IsTrue, ◌||◌}
@@ -74,24 +74,24 @@ has_label None = true
 has_label (Some l) = is_label l.word
 
 -- a complete statement: a label where one belongs, and words without `$` between the keywords
-abbrev pub is_whole : Statement → Bool
-is_whole s = has_label (label_of s) && is_plain (symbols_of s) && is_plain (proof_of s)
+abbrev pub is_complete : Statement → Bool
+is_complete s = has_label (label_of s) && is_plain (symbols_of s) && is_plain (proof_of s)
 
--- a row of complete statements, no prefix of which has more `$}` than `${`
-pub record IsRow (row : List Statement) : Type 0 where
-  pub whole : IsTrue (list_all is_whole row)
-  pub nested : (n : ℕ) → count_by is_closing (take n row) ≤ count_by is_opening (take n row)
+-- complete statements, no prefix of which has more `$}` than `${`
+pub record AreStatements (statements : List Statement) : Type 0 where
+  pub whole : IsTrue (list_all is_complete statements)
+  pub nested : (n : ℕ) → count_by is_closing (take n statements) ≤ count_by is_opening (take n statements)
 
--- some row begins with the tokens
-abbrev pub IsRowPrefix : List Token → Type 0
-IsRowPrefix ts =
-    (row : List Statement) × IsRow row × (more : List Token) × (flat_map spelled row ≡ ts ++ more)
+-- some such list of statements begins with the tokens
+abbrev pub BeginStatements : List Token → Type 0
+BeginStatements ts =
+    (statements : List Statement) × AreStatements statements × (more : List Token) × (flat_map spelled statements ≡ ts ++ more)
 
--- the tokens spell a row, so the next one begins a statement
+-- the tokens spell such a list, so the next one begins a statement
 abbrev pub IsBetween : List Token → Type 0
-IsBetween ts = (row : List Statement) × IsRow row × (flat_map spelled row ≡ ts)
+IsBetween ts = (statements : List Statement) × AreStatements statements × (flat_map spelled statements ≡ ts)
 
--- The code for a token with which no row continues. At the beginning of a statement: `$}` without
+-- The code for a token with which no such list continues. At the beginning of a statement: `$}` without
 -- an open block (E09), another keyword (E07), or a word that isn't a label (E06).
 abbrev pub first_code : Bytes → Code
 first_code w =
@@ -106,30 +106,30 @@ shape_code between w =
     else if between then first_code w
     else UnexpectedToken
 
--- the fault at the first token such that no row begins with the tokens up to and including it
+-- the fault at the first token such that no such list begins with the tokens up to and including it
 pub record ShapeFault (tokens : List Token) (f : Fault) : Type 0 where
   pub before : List Token
   pub first : Token
   pub after : List Token
   pub splits : tokens ≡ before ++ first ∷ after
-  pub begins : IsRowPrefix before
-  pub no_more : ¬ IsRowPrefix (before ++ first ∷ [])
+  pub begins : BeginStatements before
+  pub no_more : ¬ BeginStatements (before ++ first ∷ [])
   pub code : (IsBetween before × (f ≡ fault first.at (shape_code true first.word)))
       ⊎ ((¬ IsBetween before) × (f ≡ fault first.at (shape_code false first.word)))
 
--- the longest row at the beginning of the tokens
-pub record IsLongestRow (tokens : List Token) (row : List Statement) : Type 0 where
-  pub is_row : IsRow row
+-- the longest such list at the beginning of the tokens
+pub record AreLongestStatements (tokens : List Token) (statements : List Statement) : Type 0 where
+  pub are_statements : AreStatements statements
   pub rest : List Token
-  pub splits : tokens ≡ flat_map spelled row ++ rest
-  pub longest : (s : Statement) (more : List Token) → IsRow (row ++ s ∷ [])
+  pub splits : tokens ≡ flat_map spelled statements ++ rest
+  pub longest : (s : Statement) (more : List Token) → AreStatements (statements ++ s ∷ [])
       → ¬ (rest ≡ spelled s ++ more)
 
 -- The fault at the end of a text of `len` bytes that has no other fault of shape: after the longest
--- row part of a statement is left (E08), or nothing is left and a block is open (E10).
+-- list part of a statement is left (E08), or nothing is left and a block is open (E10).
 pub record FileEndFault (len : ℕ) (tokens : List Token) (f : Fault) : Type 0 where
-  pub row : List Statement
-  pub is_row : IsLongestRow tokens row
-  pub code : ((is_row.rest ≢ []) × (f ≡ fault len OpenStatement))
-      ⊎ ((is_row.rest ≡ []) × (count_by is_closing row < count_by is_opening row)
+  pub statements : List Statement
+  pub are_statements : AreLongestStatements tokens statements
+  pub code : ((are_statements.rest ≢ []) × (f ≡ fault len OpenStatement))
+      ⊎ ((are_statements.rest ≡ []) × (count_by is_closing statements < count_by is_opening statements)
       × (f ≡ fault len OpenBlock))

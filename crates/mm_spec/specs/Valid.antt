@@ -4,7 +4,7 @@ use Rattle.std.specs.Prelude.{◌≡◌, ◌≢◌, ℕ, ◌-◌, ◌<◌, ◌�
 use Rattle.std.specs.Prelude.{Some, slice_get, map}
 use Rattle.mm_spec.specs.Text.{Fault, fault}
 use Rattle.mm_spec.specs.Derivation.{Context, Rule, hypothesis, assertion, Trees, tree, none, more}
-use Rattle.mm_spec.specs.Derivation.{Formula, Substitution, Matches, KeepsApart, substitute}
+use Rattle.mm_spec.specs.Derivation.{Formula, Substitution, Matches, KeepsDisjoint, substitute}
 use Rattle.mm_spec.specs.Derivation.{AreDerivations, postfix, formulas}
 use Rattle.mm_spec.specs.Limits.{formula_limit}
 use Rattle.mm_spec.specs.Steps.{Step, label, marked, PlacedStep}
@@ -18,9 +18,9 @@ IsLastTree none x = ⊥
 IsLastTree (more ts l f cs) x = x ≡ postfix cs ++ l ∷ []
 
 module _ (c : Context) where
-  -- the labels are the postfix list of a row of derivations, and x is that of its last tree
+  -- the labels are the postfix list of a forest of derivations, and x is that of its last tree
   abbrev pub EndsIn : List ℕ → List ℕ → Type 0
-  EndsIn labels x = (row : Trees) × AreDerivations c row × (postfix row ≡ labels) × IsLastTree row x
+  EndsIn labels x = (forest : Trees) × AreDerivations c forest × (postfix forest ≡ labels) × IsLastTree forest x
 
   -- A step appends its label to the plain list, or the postfix list of the tree that an earlier
   -- step ended. `lists` has the plain list after each step so far.
@@ -50,28 +50,28 @@ module _ (c : Context) where
 
 -- why a step isn't one of a derivation: E34, E35, E36 and E39
 pub data Reason : Type 0 where
-  too_few unmatched not_apart too_long : Reason
+  too_few unmatched not_disjoint too_long : Reason
 
 abbrev pub code_of : Reason → Code
 code_of too_few = TooFewEntries
 code_of unmatched = UnmatchedHypotheses
-code_of not_apart = NotDisjoint
+code_of not_disjoint = NotDisjoint
 code_of too_long = FormulaTooLong
 
 module _ (c : Context) where
-  -- the step of a label fails after a row with these formulas, by the first reason that holds
+  -- the step of a label fails after a forest with these formulas, by the first reason that holds
   abbrev pub Fails : Option Rule → List Formula → Reason → Type 0
   Fails (Some (hypothesis g)) entries too_long = formula_limit < length g
   Fails (Some (assertion a)) entries too_few = length entries < length a.hypotheses
   Fails (Some (assertion a)) entries unmatched =
       (length a.hypotheses ≤ length entries)
       × ((σ : Substitution) → ¬ Matches c a (last_of c (length a.hypotheses) entries) σ)
-  Fails (Some (assertion a)) entries not_apart =
+  Fails (Some (assertion a)) entries not_disjoint =
       (σ : Substitution) × (length a.hypotheses ≤ length entries)
-      × Matches c a (last_of c (length a.hypotheses) entries) σ × (¬ KeepsApart c a σ)
+      × Matches c a (last_of c (length a.hypotheses) entries) σ × (¬ KeepsDisjoint c a σ)
   Fails (Some (assertion a)) entries too_long =
       (σ : Substitution) × (length a.hypotheses ≤ length entries)
-      × Matches c a (last_of c (length a.hypotheses) entries) σ × KeepsApart c a σ
+      × Matches c a (last_of c (length a.hypotheses) entries) σ × KeepsDisjoint c a σ
       × (formula_limit < length (substitute c σ a.formula))
   Fails _ entries _ = ⊥
 
@@ -79,32 +79,32 @@ module _ (c : Context) where
   StepFails (label l) entries reason = Fails (c.rule l) entries reason
   StepFails (marked j) entries reason = ⊥
 
-  -- The fault of a step: the steps before it stand for the postfix list of a row of derivations,
-  -- and the step fails after that row.
+  -- The fault of a step: the steps before it stand for the postfix list of a forest of derivations,
+  -- and the step fails after that forest.
   pub record StepFault (steps : List PlacedStep) (f : Fault) : Type 0 where
     pub before : List PlacedStep
     pub first : PlacedStep
     pub after : List PlacedStep
     pub splits : steps ≡ before ++ first ∷ after
-    pub row : Trees
-    pub derivations : AreDerivations c row
-    pub plain : IsPlain c (map (λ s. s.step) before) (postfix row)
+    pub forest : Trees
+    pub derivations : AreDerivations c forest
+    pub plain : IsPlain c (map (λ s. s.step) before) (postfix forest)
     pub reason : Reason
-    pub fails : StepFails first.step (formulas row) reason
+    pub fails : StepFails first.step (formulas forest) reason
     pub is : f ≡ fault first.at (code_of reason)
 
-  -- a row with these formulas isn't one tree (E37), or is one with another formula (E38)
+  -- a forest with these formulas isn't one tree (E37), or is one with another formula (E38)
   abbrev pub IsEndCode : List Formula → Formula → Code → Type 0
   IsEndCode (g ∷ []) formula code = (g ≢ formula) × (code ≡ OtherFormula)
   IsEndCode _ formula code = code ≡ NotOneEntry
 
-  -- The fault at the end: all steps stand for the postfix list of a row of derivations, which isn't
+  -- The fault at the end: all steps stand for the postfix list of a forest of derivations, which isn't
   -- one tree with the theorem's formula.
   pub record ProofEndFault (steps : List PlacedStep) (formula : Formula) (end : ℕ)
       (f : Fault) : Type 0 where
-    pub row : Trees
-    pub derivations : AreDerivations c row
-    pub plain : IsPlain c (map (λ s. s.step) steps) (postfix row)
+    pub forest : Trees
+    pub derivations : AreDerivations c forest
+    pub plain : IsPlain c (map (λ s. s.step) steps) (postfix forest)
     pub code : Code
-    pub fails : IsEndCode (formulas row) formula code
+    pub fails : IsEndCode (formulas forest) formula code
     pub is : f ≡ fault end code

@@ -34,7 +34,7 @@ module _ (text : List ℕ) (ws : List Word) (os : List Outline) (lexical fault :
   names_few names e =
       let n = ap length e in
       let f =
-      few_symbols (lexed text ws lexical).tokens r.is_row.rest r.row r.is_row.splits
+      few_symbols (lexed text ws lexical).tokens r.are_statements.rest r.statements r.are_statements.splits
       (statements text ws os) r.rest r.splits in
       let w = length-map ws (token_of text) in
       omega (arith, n, f, w, small)

@@ -47,7 +47,7 @@ sound_is db look labels b x few lawful below = record {
 pub lawful_is : (len : ℕ) (x : LexedText) (db : List Statement) (fault : Option Fault)
     → IsRead len x db fault → (k : ℕ) → k < length db → scope_fault db k ≡ None
 lawful_is len x db fault r k h =
-    sym (scope_fault_front db r.rest k h) ∙ ap (λ row. scope_fault row k) (sym r.splits)
+    sym (scope_fault_front db r.rest k h) ∙ ap (λ list. scope_fault list k) (sym r.splits)
     ∙ r.lawful k h
 
 pub sound_read : (len : ℕ) (x : LexedText) (db : List Statement) (fault : Option Fault)

@@ -5,7 +5,7 @@ ghost use Rattle.mm_spec.specs.Derivation.{pair};
 ghost use Rattle.mm_spec.specs.Lexed.{tokens_of};
 ghost use Rattle.mm_outline.specs.Numbered.{AreSymbols};
 ghost use Rattle.mm_outline.specs.Statements.{statements};
-ghost use Rattle.mm_scope.specs.Keeps.{IsKept, kept_by};
+ghost use Rattle.mm_scope.specs.Keeps.{IsKeptOf, kept_by};
 ghost use Rattle.mm_database.specs.Names.{names_of};
 ghost use Rattle.mm_database.specs.DisjointIndex.{IsDisjointIndex};
 ghost use Rattle.mm_database.specs.Frames.{AreFrames};
@@ -29,7 +29,7 @@ fn beside_of<'a, A: Allocator + Copy>(
     variables: &[bool],
 ) -> Result<Beside<A>, AllocError>
     requires sound { IsSound (statements text.now (tokens_of text.now) read.now.outlines.items) }
-    requires kept { IsKept (statements text.now (tokens_of text.now) read.now.outlines.items)
+    requires kept { IsKeptOf (statements text.now (tokens_of text.now) read.now.outlines.items)
         (kept_by read.now) }
     requires symbols { AreSymbols (statements text.now (tokens_of text.now) read.now.outlines.items)
         (names_of read.now.scope.names.symbols) variables.now }
@@ -67,7 +67,7 @@ pub(crate) fn found_in<'a, A: Allocator + Copy>(
     kept: Kept<A>,
 ) -> Result<Found<A>, AllocError>
     requires sound { IsSound (statements text.now (tokens_of text.now) read.now.outlines.items) }
-    requires names { IsKept (statements text.now (tokens_of text.now) read.now.outlines.items)
+    requires names { IsKeptOf (statements text.now (tokens_of text.now) read.now.outlines.items)
         (kept_by read.now) }
     requires few_symbols { length (names_of read.now.scope.names.symbols) < 2 ^ 31 }
     ensures { IfOk result

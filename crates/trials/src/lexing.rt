@@ -207,7 +207,7 @@ fn summarizes_a_part_of_a_word(rt: HostRuntime) -> Result<(), AllocError> {
 }
 
 /// What the summary of the whole text has to be.
-fn is_whole<A: Allocator>(piece: &Piece<A>) -> bool {
+fn is_complete<A: Allocator>(piece: &Piece<A>) -> bool {
     piece.from() == 0
         && piece.to() == 12
         && piece.tokens(false) == [word(0, 2), word(11, 12)].as_slice()
@@ -227,7 +227,7 @@ fn joins_from_the_left(rt: HostRuntime) -> Result<(), AllocError> {
     let third = lex_piece(alloc, SMALL, 9, 12)?;
     let front = join(alloc, SMALL, first?, second?)?;
     let whole = join(alloc, SMALL, front, third)?;
-    assert!(rt; is_whole(&whole));
+    assert!(rt; is_complete(&whole));
     Ok(())
 }
 
@@ -243,7 +243,7 @@ fn joins_from_the_right(rt: HostRuntime) -> Result<(), AllocError> {
     let back = join(alloc, SMALL, second?, third?)?;
     let first = lex_piece(alloc, SMALL, 0, 1)?;
     let whole = join(alloc, SMALL, first, back)?;
-    assert!(rt; is_whole(&whole));
+    assert!(rt; is_complete(&whole));
     Ok(())
 }
 
@@ -257,6 +257,6 @@ fn joins_from_threads(rt: HostRuntime) -> Result<(), AllocError> {
         move || lex_piece(alloc, SMALL, 5, 12),
     );
     let whole = join(alloc, SMALL, first?, second?)?;
-    assert!(rt; is_whole(&whole));
+    assert!(rt; is_complete(&whole));
     Ok(())
 }

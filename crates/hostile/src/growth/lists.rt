@@ -3,7 +3,7 @@
 use super::{MOST, met};
 use crate::heap::Refusing;
 use mm_cites::Lists;
-use mm_machine::{Apart, Machine};
+use mm_machine::{DisjointCache, Machine};
 use mm_proof::{Step, Steps};
 use mm_rule::zeros;
 use mm_stmt::Sym;
@@ -91,7 +91,7 @@ fn numbers_without_memory(rt: HostRuntime) {
 }
 
 /// Whether there is a list of disjoint pairs.
-fn is_list<A: Allocator>(answer: Result<Apart<A>, AllocError>) -> Option<bool> {
+fn is_list<A: Allocator>(answer: Result<DisjointCache<A>, AllocError>) -> Option<bool> {
     match answer {
         Ok(_) => Some(true),
         Err(_) => None,
@@ -102,9 +102,9 @@ fn is_list<A: Allocator>(answer: Result<Apart<A>, AllocError>) -> Option<bool> {
 fn pairs_without_memory(rt: HostRuntime) {
     let heap = Refusing::new(rt.alloc());
     heap.refuse(1);
-    assert!(&rt; met(&rt, &heap, is_list(Apart::new(&heap))));
+    assert!(&rt; met(&rt, &heap, is_list(DisjointCache::new(&heap))));
     heap.refuse(2);
-    assert!(&rt; !met(&rt, &heap, is_list(Apart::new(&heap))));
+    assert!(&rt; !met(&rt, &heap, is_list(DisjointCache::new(&heap))));
 }
 
 /// Whether a formula, kept and pushed again, is one of two entries.

@@ -33,7 +33,7 @@ struct Theorem {
     typecode: Word,
     formula: Formula,
     hypothesis: Option<Formula>,
-    is_apart: bool,
+    is_disjoint: bool,
     proof: Words,
 }
 
@@ -46,7 +46,7 @@ fn syntax(alloc: Global, chance: &mut Chance) -> Theorem {
         typecode: b"wff",
         formula,
         hypothesis: None,
-        is_apart: false,
+        is_disjoint: false,
         proof,
     }
 }
@@ -63,7 +63,7 @@ fn instance(alloc: Global, chance: &mut Chance) -> Theorem {
         typecode: b"|-",
         formula: conditional(alloc, &first, &conditional(alloc, &second, &first)),
         hypothesis: None,
-        is_apart: false,
+        is_disjoint: false,
         proof,
     }
 }
@@ -90,13 +90,13 @@ fn consequent(alloc: Global, label: Word, chance: &mut Chance) -> Theorem {
         typecode: b"|-",
         formula,
         hypothesis: Some(first),
-        is_apart: false,
+        is_disjoint: false,
         proof,
     }
 }
 
 /// A conditional of two formulas without a common variable.
-fn apart(alloc: Global, chance: &mut Chance) -> Theorem {
+fn with_disjoint(alloc: Global, chance: &mut Chance) -> Theorem {
     let first = formula_by(alloc, Choice { first: 0, count: 1 }, chance);
     let second = formula_by(alloc, Choice { first: 1, count: 1 }, chance);
     let mut proof = Words::new(alloc);
@@ -107,7 +107,7 @@ fn apart(alloc: Global, chance: &mut Chance) -> Theorem {
         typecode: b"|-",
         formula: conditional(alloc, &first, &second),
         hypothesis: None,
-        is_apart: true,
+        is_disjoint: true,
         proof,
     }
 }
@@ -141,7 +141,7 @@ fn add_theorem(
     chance: &mut Chance,
 ) {
     words.add(b"${");
-    if theorem.is_apart {
+    if theorem.is_disjoint {
         words.add_all(&[b"$d", b"p", b"q", b"$."]);
     }
     if let Some(hypothesis) = &theorem.hypothesis {
@@ -158,7 +158,7 @@ fn theorem_by(alloc: Global, hypothesis: Word, chance: &mut Chance) -> Theorem {
     match chance.below(5) {
         0 => syntax(alloc, chance),
         1 => instance(alloc, chance),
-        2 => apart(alloc, chance),
+        2 => with_disjoint(alloc, chance),
         _ => consequent(alloc, hypothesis, chance),
     }
 }

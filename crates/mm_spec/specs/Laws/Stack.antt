@@ -6,10 +6,10 @@ use Rattle.std.specs.Prelude.{bytes_eq, slice_get}
 use Rattle.std.specs.List.{list_all}
 use Rattle.mm_spec.specs.Limits.{formula_limit}
 use Rattle.mm_spec.specs.Derivation.{Formula, Frame, Rule, hypothesis, assertion, Context}
-use Rattle.mm_spec.specs.Derivation.{Substitution, substitute, are_apart, Trees, none, more}
+use Rattle.mm_spec.specs.Derivation.{Substitution, substitute, are_all_disjoint, Trees, none, more}
 use Rattle.mm_spec.specs.Derivation.{postfix, AreDerivations}
 use Rattle.mm_spec.specs.Steps.{Step, label, marked}
-use Rattle.mm_spec.specs.Valid.{Reason, too_few, unmatched, not_apart, too_long}
+use Rattle.mm_spec.specs.Valid.{Reason, too_few, unmatched, not_disjoint, too_long}
 use Rattle.mm_spec.specs.Laws.Complete.{binds, IsComplete}
 
 -- whether two lists of formulas are equal
@@ -36,9 +36,9 @@ HasLast (more ts l f cs) g = f ≡ g
 
 -- the entries after a step, or the reason why it fails: the first of its four tests that fails
 abbrev pub pick : Bool → Bool → Bool → Bool → List Formula → Result (List Formula) Reason
-pick false matched apart short out = Err too_few
-pick true false apart short out = Err unmatched
-pick true true false short out = Err not_apart
+pick false matched disjoint short out = Err too_few
+pick true false disjoint short out = Err unmatched
+pick true true false short out = Err not_disjoint
 pick true true true false out = Err too_long
 pick true true true true out = Ok out
 
@@ -54,7 +54,7 @@ module _ (c : Context) where
   abbrev pub apply : Frame → Bool → List Formula → List Formula → Result (List Formula) Reason
   apply a enough below premises = let σ = found a.hypotheses premises in
       pick enough (same premises (map (substitute c σ) a.hypotheses))
-      (list_all (λ p. are_apart c (σ p.low) (σ p.high)) a.pairs)
+      (list_all (λ p. are_all_disjoint c (σ p.low) (σ p.high)) a.pairs)
       (nat_le (length (substitute c σ a.formula)) formula_limit)
       (below ++ substitute c σ a.formula ∷ [])
 
@@ -71,10 +71,10 @@ module _ (c : Context) where
   IsGood (Some (hypothesis g)) = Unit {0}
   IsGood (Some (assertion a)) = IsComplete c a
 
-  -- f is the formula of the last tree of a row of derivations whose postfix list is the labels: the
+  -- f is the formula of the last tree of a forest of derivations whose postfix list is the labels: the
   -- formula after the steps that stand for these labels
   abbrev pub Leaves : List ℕ → Formula → Type 0
-  Leaves labels f = (row : Trees) × AreDerivations c row × (postfix row ≡ labels) × HasLast row f
+  Leaves labels f = (forest : Trees) × AreDerivations c forest × (postfix forest ≡ labels) × HasLast forest f
 
   -- the entries after a step; `ends` has the last entry after each step so far
   abbrev pub step_entries : Step → List Formula → List Formula → Result (List Formula) Reason

@@ -3,7 +3,7 @@ use Rattle.std.proofs.Common.{nat_le, sym, subst, ap, ap₂, ◌∙◌, arith, i
 use Rattle.std.proofs.lemmas.Bool.{cases_lt, lt-ltb}
 use Rattle.mm_outline.specs.Blocks.{end_of}
 use Rattle.mm_database.specs.Pairs.{has_pair}
-use Rattle.mm_database.proofs.DisjointIndexLaw.{apart_left, apart_right, apart_end, none_left, sooner}
+use Rattle.mm_database.proofs.DisjointIndexLaw.{none_on_left, none_on_right, none_at_end, none_left, sooner}
 use Rattle.mm_database.proofs.DisjointIndexLaw.{at_has, parted_here, symbol_here, no_symbol_here}
 use Rattle.mm_database.proofs.disjoint_index.are_together.Goals as goal
 use Rattle.mm_database.proofs.disjoint_index.are_together.Goals.{else-one-other-via-then-one-other+else-is_open_at}
@@ -72,7 +72,7 @@ loop-pairs-preserved-then-one-other-2 g c =
       (omega (arith, down, ir)),
       i.2,
       (omega (arith, down, wr)),
-      apart_right b ps c.requires.ordered.rising c.args.x c.args.y c.args.at
+      none_on_right b ps c.requires.ordered.rising c.args.x c.args.y c.args.at
           left right c.back-right.result i.4 one.0 i.2 other.0 wr has_x less
           c.back-right.ensures.passed,
     )
@@ -113,7 +113,7 @@ loop-pairs-preserved g c =
       i.1,
       (omega (arith, down, wl)),
       i.3,
-      apart_left b ps c.requires.ordered.rising c.args.x c.args.y at left
+      none_on_left b ps c.requires.ordered.rising c.args.x c.args.y at left
           right c.back-left.result i.4 one.0 wl other.0 i.3 has_y why c.back-left.ensures.passed,
     )
 
@@ -129,7 +129,7 @@ returns-else-ends_with-clause-none g c =
     let of = c.count_before-right.ensures in
     let parted = parted_here _ ps _ y v c.number-2.ensures at start of.within of.before of.after in
     let none = c.ends_with-in-loop-pairs.ensures.none c.if-ends_with.false in
-    λ e. apart_end b ps c.requires.ordered.rising c.args.x y at c.loop-pairs.left right
+    λ e. none_at_end b ps c.requires.ordered.rising c.args.x y at c.loop-pairs.left right
     c.loop-pairs.invariant.4
     (inr (none_left b ps c.requires.ordered.rising y at start parted right
     c.loop-pairs.invariant.1
@@ -147,7 +147,7 @@ returns-after-loop-pairs-clause-none g c =
     let of = c.count_before-left.ensures in
     let parted = parted_here _ ps _ x v c.number.ensures at start of.within of.before of.after in
     let none = c.ends_with.ensures.none c.loop-pairs-test.false in
-    λ e. apart_end b ps c.requires.ordered.rising x c.args.y at left c.loop-pairs.right
+    λ e. none_at_end b ps c.requires.ordered.rising x c.args.y at left c.loop-pairs.right
     c.loop-pairs.invariant.4
     (inl (none_left b ps c.requires.ordered.rising x at start parted left
     c.loop-pairs.invariant.0

@@ -1,5 +1,5 @@
 use Rattle.std.proofs.Common.{◌+◌, ◌≤◌, length}
-use Rattle.mm_database.proofs.DisjointIndexLaw.{Apart}
+use Rattle.mm_database.proofs.DisjointIndexLaw.{NoneInCommon}
 use Rattle.mm_database.proofs.disjoint_index.are_together.Given as goal
 
 abbrev pub invariant-loop-pairs : goal.invariant-loop-pairs
@@ -7,7 +7,7 @@ invariant-loop-pairs g l =
     (l.left ≤ l.initial.left) × (l.right ≤ l.initial.right)
     × (l.left ≤ length l.disjoint_index.pairs.items) ×
     (l.right ≤ length l.disjoint_index.pairs.items)
-    × Apart l.blocks
+    × NoneInCommon l.blocks
     l.disjoint_index.pairs.items
     l.fn.x l.fn.y l.fn.at l.left l.right
 

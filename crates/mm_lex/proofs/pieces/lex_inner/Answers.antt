@@ -2,7 +2,7 @@ use Rattle.std.proofs.Common.{rules, arith, ◌≤◌, length, ◌≡◌, ◌∙
 use Rattle.mm_lex.specs.Pieces.{seen}
 use Rattle.mm_lex.specs.Inners.{side}
 use Rattle.mm_spec.specs.declared.TheConstants.{TEXT_LIMIT}
-use Rattle.mm_lex.specs.declared.blocks.Blocks.{Blocks}
+use Rattle.mm_lex.specs.declared.scanner.WordScanner.{WordScanner}
 use Rattle.mm_spec.specs.Laws.Readings.{go_on}
 use Rattle.mm_spec.specs.Words.{words_between}
 use Rattle.mm_lex.proofs.PiecesLaw.{go_on_next, go_on_done, go_on_some}
@@ -35,11 +35,11 @@ loop-found-init g c =
     let text = c.args.text.now in
     elim c.loop-blocks-test.branch [
       | else-loop-blocks-test w ↦ record {
-        same = ap (λ (b : Blocks). b.text.now) w.blocks-is ∙ before.same;
+        same = ap (λ (b : WordScanner). b.text.now) w.blocks-is ∙ before.same;
         out =
             λ p. before.out p
             ∙ ap (λ (n : ℕ). go_on text (seen p (side c.loop-blocks.outside))
-            (words_between text n c.args.tail)) (sym (ap (λ (b : Blocks). b.from) w.blocks-is));
+            (words_between text n c.args.tail)) (sym (ap (λ (b : WordScanner). b.from) w.blocks-is));
         inn =
             λ p. before.inn p
             ∙ go_on_some text (seen p (side c.loop-blocks.inside)) _
@@ -60,13 +60,13 @@ loop-found-init g c =
           before.same done in
           record {
             same =
-                ap (λ (b : Blocks). b.text.now) w.blocks-is ∙ w.next_word.ensures.text
+                ap (λ (b : WordScanner). b.text.now) w.blocks-is ∙ w.next_word.ensures.text
                 ∙ before.same;
             out =
                 λ p. before.out p
                 ∙ ap (go_on text (seen p (side c.loop-blocks.outside)))
                 (here ∙ sym there
-                ∙ ap (λ (b : Blocks). words_between text b.from c.args.tail) (sym w.blocks-is));
+                ∙ ap (λ (b : WordScanner). words_between text b.from c.args.tail) (sym w.blocks-is));
             inn = λ p. go_on_done text _ _ _ (before.inn p) here;
           }
     ]

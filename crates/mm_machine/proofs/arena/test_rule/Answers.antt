@@ -22,8 +22,8 @@ returns-then-not-all_fit-clause-judged g c =
     (take_rest stack (length stack - n)) c.requires.stack _ refl false _
     (sym c.if-not-all_fit.true ∙ c.all_fit.ensures) refl
 
-pub returns-then-not-pairs_apart-clause-judged : goal.returns-then-not-pairs_apart-clause-judged
-returns-then-not-pairs_apart-clause-judged g c =
+pub returns-then-not-pairs_are_disjoint-clause-judged : goal.returns-then-not-pairs_are_disjoint-clause-judged
+returns-then-not-pairs_are_disjoint-clause-judged g c =
     let stack = c.args.stack.now in
     let n = length c.hypotheses-hypotheses.result.now in
     judged_at c.args.db.now.statements c.args.theorem c.args.rule.now c.args.symbols.now stack
@@ -32,7 +32,7 @@ returns-then-not-pairs_apart-clause-judged g c =
     (arith, l)) refl
     (take_rest stack (length stack - n)) c.requires.stack c.pairs-pairs.result.now
     c.pairs-pairs.ensures true false (sym c.if-not-all_fit.false ∙ c.all_fit.ensures)
-    (sym c.if-not-pairs_apart.true ∙ c.pairs_apart.ensures.value)
+    (sym c.if-not-pairs_are_disjoint.true ∙ c.pairs_are_disjoint.ensures.value)
 
 pub returns-clause-judged : goal.returns-clause-judged
 returns-clause-judged g c =
@@ -45,11 +45,11 @@ returns-clause-judged g c =
           (ap length c.hypotheses-hypotheses.ensures) (omega (arith, l)) refl
           (take_rest stack (length stack - n)) c.requires.stack c.pairs-pairs.result.now
           c.pairs-pairs.ensures true true (sym c.if-not-all_fit.false ∙ c.all_fit.ensures)
-          (sym c.if-not-pairs_apart.false ∙ c.pairs_apart.ensures.value),
+          (sym c.if-not-pairs_are_disjoint.false ∙ c.pairs_are_disjoint.ensures.value),
     )
 
-pub returns-then-stack-hypotheses-clause-apart : goal.returns-then-stack-hypotheses-clause-apart
-returns-then-stack-hypotheses-clause-apart g c = c.requires.apart
+pub returns-then-stack-hypotheses-clause-cache : goal.returns-then-stack-hypotheses-clause-cache
+returns-then-stack-hypotheses-clause-cache g c = c.requires.cache
 
 pub overflow_sub-below : goal.overflow_sub-below
 overflow_sub-below g c = omega arith
@@ -69,26 +69,26 @@ slice_bounds-premises-end g c = omega arith
 pub all_fit-requires-clause-premises : goal.all_fit-requires-clause-premises
 all_fit-requires-clause-premises g c = stretch_in _ _ _ _ c.requires.stack
 
-pub returns-then-not-all_fit-clause-apart : goal.returns-then-not-all_fit-clause-apart
-returns-then-not-all_fit-clause-apart g c = c.requires.apart
+pub returns-then-not-all_fit-clause-cache : goal.returns-then-not-all_fit-clause-cache
+returns-then-not-all_fit-clause-cache g c = c.requires.cache
 
-pub pairs_apart-requires-clause-theorem : goal.pairs_apart-requires-clause-theorem
-pairs_apart-requires-clause-theorem g c = c.requires.theorem
+pub pairs_are_disjoint-requires-clause-theorem : goal.pairs_are_disjoint-requires-clause-theorem
+pairs_are_disjoint-requires-clause-theorem g c = c.requires.theorem
 
-pub pairs_apart-requires-clause-premises : goal.pairs_apart-requires-clause-premises
-pairs_apart-requires-clause-premises g c = stretch_in _ _ _ _ c.requires.stack
+pub pairs_are_disjoint-requires-clause-premises : goal.pairs_are_disjoint-requires-clause-premises
+pairs_are_disjoint-requires-clause-premises g c = stretch_in _ _ _ _ c.requires.stack
 
-pub pairs_apart-requires-clause-own : goal.pairs_apart-requires-clause-own
-pairs_apart-requires-clause-own g c = c.requires.own
+pub pairs_are_disjoint-requires-clause-own : goal.pairs_are_disjoint-requires-clause-own
+pairs_are_disjoint-requires-clause-own g c = c.requires.own
 
-pub pairs_apart-requires-clause-kept : goal.pairs_apart-requires-clause-kept
-pairs_apart-requires-clause-kept g c = c.requires.kept
+pub pairs_are_disjoint-requires-clause-kept : goal.pairs_are_disjoint-requires-clause-kept
+pairs_are_disjoint-requires-clause-kept g c = c.requires.kept
 
-pub pairs_apart-requires-clause-apart : goal.pairs_apart-requires-clause-apart
-pairs_apart-requires-clause-apart g c = c.requires.apart
+pub pairs_are_disjoint-requires-clause-cache : goal.pairs_are_disjoint-requires-clause-cache
+pairs_are_disjoint-requires-clause-cache g c = c.requires.cache
 
-pub returns-then-not-pairs_apart-clause-apart : goal.returns-then-not-pairs_apart-clause-apart
-returns-then-not-pairs_apart-clause-apart g c = c.pairs_apart.ensures.apart
+pub returns-then-not-pairs_are_disjoint-clause-cache : goal.returns-then-not-pairs_are_disjoint-clause-cache
+returns-then-not-pairs_are_disjoint-clause-cache g c = c.pairs_are_disjoint.ensures.cache
 
-pub returns-clause-apart : goal.returns-clause-apart
-returns-clause-apart g c = c.pairs_apart.ensures.apart
+pub returns-clause-cache : goal.returns-clause-cache
+returns-clause-cache g c = c.pairs_are_disjoint.ensures.cache

@@ -85,8 +85,8 @@ pub test_rule-requires-clause-stack : goal.test_rule-requires-clause-stack
 test_rule-requires-clause-stack g c =
     rw (c.as_slice.ensures, c.deref.ensures.value) c.requires.stack.inside
 
-pub test_rule-requires-clause-apart : goal.test_rule-requires-clause-apart
-test_rule-requires-clause-apart g c = c.requires.apart
+pub test_rule-requires-clause-cache : goal.test_rule-requires-clause-cache
+test_rule-requires-clause-cache g c = c.requires.cache
 
 pub slice_bounds-fill-end : goal.slice_bounds-fill-end
 slice_bounds-fill-end g c = omega arith
@@ -115,8 +115,8 @@ put_long-requires-clause-known_own g c = c.requires.known_own
 pub put_long-requires-clause-known_kept : goal.put_long-requires-clause-known_kept
 put_long-requires-clause-known_kept g c = c.requires.known_kept
 
-pub returns-in-Err-clause-apart : goal.returns-in-Err-clause-apart
-returns-in-Err-clause-apart g c = c.test_rule.ensures.apart
+pub returns-in-Err-clause-cache : goal.returns-in-Err-clause-cache
+returns-in-Err-clause-cache g c = c.test_rule.ensures.cache
 
 pub returns-in-Err-clause-stack : goal.returns-in-Err-clause-stack
 returns-in-Err-clause-stack g c = c.requires.stack
@@ -130,8 +130,8 @@ returns-in-Err-clause-made g c = tt
 pub returns-in-Err-clause-entry : goal.returns-in-Err-clause-entry
 returns-in-Err-clause-entry g c = tt
 
-pub returns-in-Err-put-clause-apart : goal.returns-in-Err-put-clause-apart
-returns-in-Err-put-clause-apart g c = c.test_rule.ensures.apart
+pub returns-in-Err-put-clause-cache : goal.returns-in-Err-put-clause-cache
+returns-in-Err-put-clause-cache g c = c.test_rule.ensures.cache
 
 pub returns-in-Err-put-clause-stack : goal.returns-in-Err-put-clause-stack
 returns-in-Err-put-clause-stack g c = c.put.ensures.is_stack
@@ -145,8 +145,8 @@ returns-in-Err-put-clause-entry g c = tt
 pub returns-in-Err-put-clause-stopped : goal.returns-in-Err-put-clause-stopped
 returns-in-Err-put-clause-stopped g c = tt
 
-pub returns-in-Ok-put-clause-apart : goal.returns-in-Ok-put-clause-apart
-returns-in-Ok-put-clause-apart g c = c.test_rule.ensures.apart
+pub returns-in-Ok-put-clause-cache : goal.returns-in-Ok-put-clause-cache
+returns-in-Ok-put-clause-cache g c = c.test_rule.ensures.cache
 
 pub returns-in-Ok-put-clause-stack : goal.returns-in-Ok-put-clause-stack
 returns-in-Ok-put-clause-stack g c = c.put.ensures.is_stack
@@ -157,8 +157,8 @@ returns-in-Ok-put-clause-entry g c = c.in-Ok-put.ensures.entry
 pub returns-in-Ok-put-clause-stopped : goal.returns-in-Ok-put-clause-stopped
 returns-in-Ok-put-clause-stopped g c = tt
 
-pub returns-in-None-clause-apart : goal.returns-in-None-clause-apart
-returns-in-None-clause-apart g c = c.test_rule.ensures.apart
+pub returns-in-None-clause-cache : goal.returns-in-None-clause-cache
+returns-in-None-clause-cache g c = c.test_rule.ensures.cache
 
 pub returns-in-None-clause-stack : goal.returns-in-None-clause-stack
 returns-in-None-clause-stack g c = c.put_long.ensures.stack

@@ -4,7 +4,7 @@ use Rattle.mm_spec.specs.CompressedProof.{bracketed, compressed_faults}
 use Rattle.mm_spec.specs.Citation.{reading_faults_at}
 use Rattle.mm_outline.specs.Parts.{as_tokens, token_of, AreWithin}
 use Rattle.mm_proof.specs.Letters.{InOrder}
-use Rattle.mm_proof.specs.Refused.{Refuses}
+use Rattle.mm_proof.specs.Refused.{IsProofRefusal}
 use Rattle.mm_proof.proofs.RisingLaw.{proof_rising, proof_in_order}
 use Rattle.mm_proof.proofs.OrderLaw.{first_fault}
 use Rattle.mm_proof.proofs.BracketsLaw.{order_rest}
@@ -68,7 +68,7 @@ returns-then-eq-clause-fault g c =
     (ap (as_tokens text) c.in-Some.ensures.cases.0) test
     ∙ ap (λ end. compressed_faults db c.args.theorem end (bracketed rest)) e in
     err_then c.read_compressed.result c.read_compressed.ensures.fault
-    (λ r s. subst (λ fs. Refuses fs r) (sym faults)
+    (λ r s. subst (λ fs. IsProofRefusal fs r) (sym faults)
     (first_fault db c.args.theorem c.end_at-end.result 0 rest r order s))
 
 pub returns-clause-fault : goal.returns-clause-fault
@@ -131,7 +131,7 @@ returns-in_err-read_words-clause-fault g c =
     let test : bytes_eq (slice_range text first.start first.end) (codes "(") ≡ false =
     ap₂ bytes_eq (sym label) (sym c.as_slice.ensures) ∙ sym c.eq.ensures ∙ c.if-eq.false in
     err_same c.from_residual.result c.in_err-read_words.field-0.0 _ c.from_residual.ensures.1
-    (subst (λ fs. Refuses fs c.in_err-read_words.field-0.0)
+    (subst (λ fs. IsProofRefusal fs c.in_err-read_words.field-0.0)
     (sym (normal_at db c.args.theorem _ t (token_of text first) (as_tokens text c.in-Some.rest.now)
     (ap (as_tokens text) c.in-Some.ensures.cases.0) test))
     c.in_err-read_words.ensures.fault)

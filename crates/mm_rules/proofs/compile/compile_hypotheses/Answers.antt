@@ -4,7 +4,7 @@ use Rattle.std.proofs.lemmas.Result.{IfOk-from_err}
 use Rattle.std.proofs.lemmas.List.{take_all, get_or_default, length-map}
 use Rattle.std.proofs.lemmas.List.Elements.{All-append}
 use Rattle.mm_spec.specs.Frame.{formula_at}
-use Rattle.mm_rule.specs.declared.rule.Part.TheVariants.{Constant, Variable}
+use Rattle.mm_rule.specs.declared.rule.RuleSymbol.TheVariants.{Constant, Variable}
 use Rattle.mm_rule.specs.declared.rule.Hypothesis.TheVariants.{Floating, Essential}
 use Rattle.mm_rule.specs.declared.rule.Stretch.{Stretch}
 use Rattle.mm_rule.specs.Rule.{parts_of, IsBelow}

@@ -5,12 +5,12 @@ use Rattle.std.proofs.lemmas.List.Elements.{All-push}
 use Rattle.mm_spec.specs.Scope.{names_before}
 use Rattle.mm_spec.specs.Lawful.{least, scope_faults}
 use Rattle.mm_spec.specs.Laws.Table.{start, statements_from, statements_of}
-use Rattle.mm_spec.proofs.RowLaw.{is_longest}
+use Rattle.mm_spec.proofs.LongestLaw.{is_longest}
 use Rattle.mm_outline.specs.Parts.{statement_of, token_of, as_tokens, depth_after, IsOutline}
 use Rattle.mm_outline.specs.declared.parts.Outline.{Outline}
 use Rattle.mm_outline.specs.NextStatement.{tokens_from}
 use Rattle.mm_outline.specs.Statements.{statements}
-use Rattle.mm_scope.specs.Keeps.{IsKept, kept_by}
+use Rattle.mm_scope.specs.Keeps.{IsKeptOf, kept_by}
 use Rattle.mm_scope.proofs.ReadLaw.{reading_more, read_unlawful, read_stopped, read_ended, some_not}
 use Rattle.mm_scope.proofs.ReadLaw.{none_is, inside_block}
 use Rattle.mm_scope.proofs.BoundsLaw.{few_symbols, few_numbers}
@@ -79,7 +79,7 @@ returns-then-is_some-clause-kept g c =
     let stays =
     c.in_ok-take-in-Whole.ensures.stays
     (some_not c.take.new.self.fault (sym c.is_some.ensures ∙ c.if-is_some.true)) in
-    subst (λ (xs : List Outline). IsKept (statements c.args.text.now c.args.tokens.now xs)
+    subst (λ (xs : List Outline). IsKeptOf (statements c.args.text.now c.args.tokens.now xs)
     (kept_by c.take.new.self)) (sym stays.0) stays.1
 
 pub returns-then-is_some-clause-read : goal.returns-then-is_some-clause-read

@@ -13,7 +13,7 @@ use Rattle.mm_database.specs.Database.{Contents, IsDatabase, fields_of}
 use Rattle.mm_database.specs.declared.reading.Reading.{Reading}
 use Rattle.mm_database.proofs.HeldLaw.{labels_held, below_held, numbered_held}
 use Rattle.mm_scope.proofs.NumberedLaw.{formulas_numbered}
-use Rattle.mm_scope.specs.Keeps.{IsKept, kept_by, reading_of}
+use Rattle.mm_scope.specs.Keeps.{IsKeptOf, kept_by, reading_of}
 use Rattle.mm_frame.specs.Tables.{IsSound}
 use Rattle.mm_stmt.specs.Found.{IsTaken}
 use Rattle.mm_stmt.proofs.AssembleLaw.{is_read, names_few, sound}
@@ -67,7 +67,7 @@ pub found_in-requires-clause-names : goal.found_in-requires-clause-names
 found_in-requires-clause-names g c =
     let text = c.args.text.now in
     let read = c.in_ok-read.read in
-    subst (λ (ws : List Word). IsKept (statements text ws read.outlines.items) (kept_by read))
+    subst (λ (ws : List Word). IsKeptOf (statements text ws read.outlines.items) (kept_by read))
     (c.as_slice-words.ensures.value ∙ c.requires.tokens) c.in_ok-read.ensures.kept
 
 pub found_in-requires-clause-few_symbols : goal.found_in-requires-clause-few_symbols

@@ -22,7 +22,7 @@ returns-in_err-apply-clause-at g c =
     record {
       made_for = rw c.apply.ensures.width at.made_for;
       theorem = at.theorem;
-      apart_are = c.apply.ensures.apart;
+      disjoint_are = c.apply.ensures.cache;
     }
 
 pub returns-in_err-apply-clause-stopped : goal.returns-in_err-apply-clause-stopped
@@ -33,7 +33,7 @@ returns-in_err-apply-clause-stopped g c =
     let e = c.in_err-apply.field-0.0 in
     let p = err_from_is_err_and c.from_residual.result c.from_residual.ensures.1 in
     rw (p.1, p.2, ← c.self.view_is)
-    (stops db t (checker_state i.machine i.rules.now i.noted i.apart) c.args.k c.requires.good
+    (stops db t (checker_state i.machine i.rules.now i.noted i.cache) c.args.k c.requires.good
     c.requires.assertion e
     (subst (λ a. Stops e (applied db t a i.machine.stack)) c.rule_of-rule.ensures.is
     c.in_err-apply.ensures.stopped))
@@ -46,7 +46,7 @@ returns-clause-at g c =
     record {
       made_for = rw c.apply.ensures.width at.made_for;
       theorem = at.theorem;
-      apart_are = c.apply.ensures.apart;
+      disjoint_are = c.apply.ensures.cache;
     }
 
 pub returns-clause-performs : goal.returns-clause-performs
@@ -57,7 +57,7 @@ returns-clause-performs g c =
     elim c.match-note.branch [
       | in-Ok-note w ↦ rw (w.result-is, ← c.self.view_is)
           (applies db t _ c.args.k c.requires.good c.requires.assertion c.apply.new.self
-          c.note.new.self c.apply.new.apart
+          c.note.new.self c.apply.new.cache
           (subst (λ a. applied db t a c.self.inside.machine.stack ≡ Ok c.apply.new.self.stack)
           c.rule_of-rule.ensures.is ok.made) ok.marks ok.formulas ok.entry w.in-Ok-note.ensures)
       | in-Err-note w ↦ rw w.result-is tt

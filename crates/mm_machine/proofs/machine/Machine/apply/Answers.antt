@@ -40,11 +40,11 @@ put_judged-requires-clause-theorem g c = c.requires.theorem
 pub put_judged-requires-clause-rule : goal.put_judged-requires-clause-rule
 put_judged-requires-clause-rule g c = c.requires.rule
 
-pub put_judged-requires-clause-apart : goal.put_judged-requires-clause-apart
-put_judged-requires-clause-apart g c = c.requires.apart
+pub put_judged-requires-clause-cache : goal.put_judged-requires-clause-cache
+put_judged-requires-clause-cache g c = c.requires.cache
 
-pub returns-clause-apart : goal.returns-clause-apart
-returns-clause-apart g c = c.put_judged.ensures.apart
+pub returns-clause-cache : goal.returns-clause-cache
+returns-clause-cache g c = c.put_judged.ensures.cache
 
 pub returns-clause-entry : goal.returns-clause-entry
 returns-clause-entry g c = grind (arith, common_steps)

@@ -1,7 +1,7 @@
 use Rattle.std.proofs.Common.{arith, sym, subst}
 use Rattle.std.proofs.lemmas.Result.{IfOk-from_err}
 use Rattle.mm_rule.specs.Rule.{Compiled, IsCompiled}
-use Rattle.mm_rules.specs.Rules.{Lists, AreRules, rule_stretches}
+use Rattle.mm_rules.specs.Rules.{RuleLists, AreRules, rule_stretches}
 use Rattle.mm_rules.proofs.RulesLaw.{added_at}
 use Rattle.mm_rules.proofs.rules.Rules.add.Goals as goal
 
@@ -23,7 +23,7 @@ returns g c =
     a.ensures.start a.ensures.end p.ensures.start p.ensures.end q.ensures.start q.ensures.end
     f.ensures.start f.ensures.end
     (subst (λ (z : Compiled). IsCompiled k z) (sym c.rule.view_is) c.requires.rule)
-    (subst (λ (z : Lists). AreRules k z) (sym c.self.view_is) c.requires.rules)
+    (subst (λ (z : RuleLists). AreRules k z) (sym c.self.view_is) c.requires.rules)
 
 pub overflow_cast-rule-inside : goal.overflow_cast-rule-inside
 overflow_cast-rule-inside g c = omega arith

@@ -1,10 +1,10 @@
 use Rattle.std.proofs.Common.{arith, ◌<◌, ℕ, List, length, sym, subst}
 use Rattle.std.proofs.lemmas.Grind.{common_steps}
 use Rattle.std.proofs.lemmas.List.Elements.{All-get_or}
-use Rattle.mm_rule.specs.declared.rule.Part.{Part}
+use Rattle.mm_rule.specs.declared.rule.RuleSymbol.{RuleSymbol}
 use Rattle.mm_rule.specs.declared.rule.Hypothesis.{Hypothesis}
 use Rattle.mm_rule.specs.Rule.{compiled, IsCompiled}
-use Rattle.mm_rules.specs.Rules.{Lists, lists, AreRules, HasRule, stretch_of}
+use Rattle.mm_rules.specs.Rules.{RuleLists, lists, AreRules, HasRule, stretch_of}
 use Rattle.mm_rules.proofs.rules.Rules.rule.Goals as goal
 
 pub returns-clause-rule : goal.returns-clause-rule
@@ -13,11 +13,11 @@ returns-clause-rule g c =
     let i = c.self.inside in
     let l = lists i.stretches.items i.hypotheses.items i.pairs.items i.parts.items in
     let h : AreRules k l =
-    subst (λ (z : Lists). AreRules k z) (sym c.self.view_is) c.requires.rules in
+    subst (λ (z : RuleLists). AreRules k z) (sym c.self.view_is) c.requires.rules in
     let s = c.index-stretches.result.now in
     let n = c.args.n in
     let inside : n < length i.stretches.items =
-    subst (λ (z : Lists). n < length z.stretches) (sym c.self.view_is) c.requires.stretches in
+    subst (λ (z : RuleLists). n < length z.stretches) (sym c.self.view_is) c.requires.stretches in
     let one : HasRule k l s =
     subst (HasRule k l) (sym c.index-stretches.ensures)
     (All-get_or (HasRule k l) i.stretches.items n s inside h) in
@@ -29,12 +29,12 @@ returns-clause-rule g c =
     (compiled s.assertion (stretch_of i.hypotheses.items s.hypotheses) (stretch_of z s.pairs)
     (stretch_of c.deref-3.result.now s.parts) (stretch_of c.deref-4.result.now s.formula)))
     (sym c.deref-2.ensures.value)
-    (subst (λ (z : List Part). IsCompiled k
+    (subst (λ (z : List RuleSymbol). IsCompiled k
     (compiled s.assertion (stretch_of i.hypotheses.items s.hypotheses)
     (stretch_of i.pairs.items s.pairs)
     (stretch_of z s.parts) (stretch_of c.deref-4.result.now s.formula)))
     (sym c.deref-3.ensures.value)
-    (subst (λ (z : List Part). IsCompiled k
+    (subst (λ (z : List RuleSymbol). IsCompiled k
     (compiled s.assertion (stretch_of i.hypotheses.items s.hypotheses)
     (stretch_of i.pairs.items s.pairs)
     (stretch_of i.parts.items s.parts) (stretch_of z s.formula)))

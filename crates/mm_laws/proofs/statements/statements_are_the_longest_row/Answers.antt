@@ -1,6 +1,0 @@
-use Rattle.std.proofs.Common.{sym}
-use Rattle.mm_spec.proofs.RowLaw.{is_longest, longest_unique}
-use Rattle.mm_laws.proofs.statements.statements_are_the_longest_row.Goals as goal
-
-pub returns : goal.returns
-returns c = record { are = is_longest; only = λ ts row r. sym (longest_unique ts row r) }

@@ -1,0 +1,146 @@
+use Rattle.std.proofs.Common.{◌≡◌, ◌<◌, ◌+◌, ◌∙◌, ℕ, true, false, List, sym, subst, refl}
+use Rattle.std.proofs.Common.{true≢false, arith}
+use Rattle.std.proofs.lemmas.Bool.{eqb-true}
+use Rattle.mm_spec.specs.Words.{white_at}
+use Rattle.mm_lex.specs.Plain.{plain_at}
+use Rattle.mm_lex.proofs.BlockLaw.{none_inside, run_on, white_one, white_zero}
+use Rattle.mm_lex.proofs.scanner.WordScanner.word_from.Goals as goal
+use Rattle.mm_lex.proofs.scanner.WordScanner.word_from.Goals.{then-loop-white-test+else-len-blocks-gt64}
+use Rattle.mm_lex.proofs.scanner.WordScanner.word_from.Goals.{else-loop-white-test}
+
+pub loop-white-init : goal.loop-white-init
+loop-white-init c =
+    let b = c.args.self in
+    let text = b.text.now in
+    let found = c.first_one-white in
+    record {
+      same = refl;
+      after = omega (arith, c.requires.from);
+      none = λ i low high. absurd (omega (arith, c.requires.from));
+      order = omega (arith, found.ensures.from_here, c.requires.low);
+      few = found.ensures.up_to;
+      solid =
+          run_on (λ t i. white_at t i ≡ false) text text b.white c.args.start c.args.start b.base
+          found.result refl c.requires.low found.ensures.up_to
+          (λ i low high _. absurd (omega arith)) found.ensures.zeros
+          (λ i lt inside _. white_zero text b.base b.white b.white_is i lt inside);
+      ends = found.ensures.one;
+      plain = λ quiet. let same = eqb-true c.first_one.result found.result quiet in
+          run_on (λ t i. plain_at t i ≡ true) text text b.stops c.args.start c.args.start b.base
+          found.result refl c.requires.low found.ensures.up_to
+          (λ i low high _. absurd (omega arith))
+          (λ i low high. c.first_one.ensures.zeros i low (omega (arith, same)))
+          (λ i lt inside _. b.plain i lt inside);
+    }
+
+pub loop-white-preserved-then-plain : goal.loop-white-preserved-then-plain
+loop-white-preserved-then-plain c =
+    let b = c.at-blocks.result in
+    let text = c.args.self.text.now in
+    let found = c.first_one-white-in-loop-white in
+    let before = c.loop-white.invariant in
+    let base : b.base ≡ c.loop-white.blocks.base + c.loop-white.white =
+    omega (arith, c.at-blocks.ensures.base, c.loop-white-test.true) in
+    record {
+      same = c.at-blocks.ensures.text;
+      after =
+          omega (
+            arith,
+            c.at-blocks.ensures.from,
+            c.at-blocks.ensures.base,
+            before.after,
+            c.loop-white.blocks.high,
+            before.order,
+            base,
+          );
+      none =
+          none_inside text c.args.start b.from
+          (λ i low high. before.solid i low (omega (arith, base, c.at-blocks.ensures.from))
+          (omega (
+            arith,
+            c.at-blocks.ensures.from,
+            b.within,
+            c.at-blocks.ensures.base,
+            c.if-len-blocks-gt64.true,
+          )));
+      order = omega (arith, base, before.order);
+      few = found.ensures.up_to;
+      solid =
+          run_on (λ t i. white_at t i ≡ false) b.text.now text b.white c.args.start b.base b.base
+          found.result c.at-blocks.ensures.text (omega arith) found.ensures.up_to
+          (λ i low high within. before.solid i low (omega (arith, base)) within)
+          (λ i low high. found.ensures.zeros i (omega arith) high)
+          (λ i lt inside _. white_zero b.text.now b.base b.white b.white_is i lt inside);
+      ends = found.ensures.one;
+      plain = λ quiet. let same = eqb-true c.first_one-then-plain.result found.result quiet in
+          run_on (λ t i. plain_at t i ≡ true) b.text.now text b.stops c.args.start b.base b.base
+          found.result c.at-blocks.ensures.text (omega arith) found.ensures.up_to
+          (λ i low high within. before.plain c.if-plain.true i low (omega (arith, base)) within)
+          (λ i low high. c.first_one-then-plain.ensures.zeros i (omega arith)
+          (omega (arith, same))) (λ i lt inside _. b.plain i lt inside);
+    }
+
+pub loop-white-preserved : goal.loop-white-preserved
+loop-white-preserved c =
+    let b = c.at-blocks.result in
+    let text = c.args.self.text.now in
+    let found = c.first_one-white-in-loop-white in
+    let before = c.loop-white.invariant in
+    let base : b.base ≡ c.loop-white.blocks.base + c.loop-white.white =
+    omega (arith, c.at-blocks.ensures.base, c.loop-white-test.true) in
+    record {
+      same = c.at-blocks.ensures.text;
+      after =
+          omega (
+            arith,
+            c.at-blocks.ensures.from,
+            c.at-blocks.ensures.base,
+            before.after,
+            c.loop-white.blocks.high,
+            before.order,
+            base,
+          );
+      none =
+          none_inside text c.args.start b.from
+          (λ i low high. before.solid i low (omega (arith, base, c.at-blocks.ensures.from))
+          (omega (
+            arith,
+            c.at-blocks.ensures.from,
+            b.within,
+            c.at-blocks.ensures.base,
+            c.if-len-blocks-gt64.true,
+          )));
+      order = omega (arith, base, before.order);
+      few = found.ensures.up_to;
+      solid =
+          run_on (λ t i. white_at t i ≡ false) b.text.now text b.white c.args.start b.base b.base
+          found.result c.at-blocks.ensures.text (omega arith) found.ensures.up_to
+          (λ i low high within. before.solid i low (omega (arith, base)) within)
+          (λ i low high. found.ensures.zeros i (omega arith) high)
+          (λ i lt inside _. white_zero b.text.now b.base b.white b.white_is i lt inside);
+      ends = found.ensures.one;
+      plain = λ quiet. absurd (true≢false (sym quiet ∙ c.if-plain.false));
+    }
+
+pub returns-clause-white : goal.returns-clause-white
+returns-clause-white c inside =
+    let b = c.loop-white.blocks in
+    let small : c.loop-white.white < 64 = elim c.loop-white-test.branch [
+      | then-loop-white-test+else-len-blocks-gt64 w ↦ absurd
+          (omega (
+            arith,
+            inside,
+            c.min-end.ensures,
+            w.loop-white-test.true,
+            w.if-len-blocks-gt64.false,
+          ))
+      | else-loop-white-test w ↦ omega (arith, c.loop-white.invariant.few, w.loop-white-test.false)
+    ] in
+    let here : b.base + c.loop-white.white ≡ c.min-end.result =
+    omega (arith, inside, c.min-end.ensures) in
+    let one =
+    (white_one b.text.now b.base b.white b.white_is c.loop-white.white small
+    (c.loop-white.invariant.ends small)).1 in
+    subst (λ (i : ℕ). white_at c.args.self.text.now i ≡ true) here
+    (subst (λ (t : List ℕ). white_at t (b.base + c.loop-white.white) ≡ true)
+    c.loop-white.invariant.same one)

@@ -1,0 +1,15 @@
+use Rattle.std.proofs.Common.{◌≤◌, ◌∙◌, length, sym, ap, arith}
+use Rattle.std.proofs.lemmas.List.{take_all}
+use Rattle.mm_bytes.specs.Masks.{is_bad, mask}
+use Rattle.mm_spec.specs.Bytes.{is_white}
+use Rattle.mm_lex.proofs.scanner.classes_of.Goals as goal
+
+pub returns-in-None-clause-white : goal.returns-in-None-clause-white
+returns-in-None-clause-white c =
+    let short : length c.args.bytes.now ≤ 64 = omega (arith, c.in-None.ensures.cases) in
+    c.class_tail.ensures.white ∙ ap (mask is_white) (sym (take_all 64 c.args.bytes.now short))
+
+pub returns-in-None-clause-bad : goal.returns-in-None-clause-bad
+returns-in-None-clause-bad c =
+    let short : length c.args.bytes.now ≤ 64 = omega (arith, c.in-None.ensures.cases) in
+    c.class_tail.ensures.bad ∙ ap (mask is_bad) (sym (take_all 64 c.args.bytes.now short))

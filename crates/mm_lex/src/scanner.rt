@@ -1,0 +1,268 @@
+//! The words of a text, found from the classes of its blocks of 64 bytes.
+
+ghost use Rattle.std.specs.Prelude.{◌≡◌, ◌<◌, ◌≤◌, ◌+◌, ◌-◌, ◌||◌, ◌==◌, ℕ, true, false, [], ◌∷◌};
+ghost use Rattle.std.specs.Prelude.{length, take, drop, min, IfNone, IfSome, MatchOption};
+ghost use Rattle.std.specs.Prelude.{if◌then◌else◌};
+ghost use Rattle.std.specs.Int.{bit_at};
+ghost use Rattle.mm_bytes.specs.Masks.{is_bad, mask};
+ghost use Rattle.mm_spec.specs.Bytes.{is_white};
+ghost use Rattle.mm_spec.specs.Readings.{bytes_of};
+ghost use Rattle.mm_spec.specs.Words.{begins_word, white_at, words_between};
+ghost use Rattle.mm_spec.specs.Laws.Words.{IsWord};
+ghost use Rattle.mm_lex.specs.Plain.{plain_at, IsPlain};
+
+use crate::bytes::is_white;
+use crate::masks::first_one;
+use crate::{TEXT_LIMIT, Word};
+use mm_bytes::{Classes, class_block, class_tail, dollars_block, dollars_tail};
+
+/// The classes of the first 64 bytes, or of all if there are fewer.
+#[inline(always)]
+pub fn classes_of(bytes: &[u8]) -> Classes
+    ensures white { result.white ≡ mask is_white (take 64 bytes.now) }
+    ensures bad { result.bad ≡ mask is_bad (take 64 bytes.now) }
+{
+    match bytes.first_chunk::<64>() {
+        Some(block) => class_block(block),
+        None => class_tail(bytes),
+    }
+}
+
+/// The dollar signs among the first 64 bytes, or among all if there are fewer.
+#[inline(always)]
+fn dollars_of(bytes: &[u8]) -> u64
+    ensures { result ≡ mask (λ b. b == 0x24) (take 64 bytes.now) }
+{
+    match bytes.first_chunk::<64>() {
+        Some(block) => dollars_block(block),
+        None => dollars_tail(bytes),
+    }
+}
+
+/// Masks with a bit for each of the first 64 bytes, or for each byte if there are fewer.
+#[derive(Clone, Copy)]
+struct Marks {
+    white: u64,
+    /// White space, bad bytes and dollar signs: what ends a word, or keeps it from being plain.
+    stops: u64,
+}
+
+#[inline(always)]
+fn marks_of(bytes: &[u8]) -> Marks
+    ensures white { result.white ≡ mask is_white (take 64 bytes.now) }
+    ensures plain { (i : ℕ) → i < 64 → i < length bytes.now → bit_at result.stops i ≡ 0
+        → plain_at bytes.now i ≡ true }
+    ensures ink { (i : ℕ) → i < 64 → i < length bytes.now → bit_at result.stops i ≡ 0
+        → white_at bytes.now i ≡ false }
+{
+    let classes = classes_of(bytes);
+    let dollars = dollars_of(bytes);
+    Marks {
+        white: classes.white,
+        stops: classes.white | classes.bad | dollars,
+    }
+}
+
+/// The zero bits of a mask that follow a one bit. Bit 0, if it is zero, is among them if `first`.
+#[inline(always)]
+fn starts_of(white: u64, first: bool) -> u64
+    ensures first { bit_at result 0 ≡ (if first then 1 - bit_at white 0 else 0) }
+    ensures next { (i : ℕ) → i + 1 < 64
+        → bit_at result (i + 1) ≡ min (1 - bit_at white (i + 1)) (bit_at white i) }
+{
+    !white & (white << 1 | u64::from(first))
+}
+
+/// Whether a word may begin at the place: before it there is a white-space byte, or nothing.
+#[inline(always)]
+#[tactic(auto, unfolding(mm_spec::specs::Words::white_at))]
+fn may_begin(text: &[u8], at: usize) -> bool
+    requires { at ≤ length text.now }
+    ensures { result ≡ (at == 0 || white_at text.now (at - 1)) }
+{
+    at == 0 || is_white(text[at - 1])
+}
+
+/// A text, its current block, and where further words begin in that block.
+#[derive(Clone, Copy)]
+pub struct WordScanner<'a> {
+    text: &'a [u8],
+    /// The words that begin before this place have been taken or left out.
+    from: usize,
+    base: usize,
+    white: u64,
+    stops: u64,
+    /// Where words begin, from `from` on. Bits after the text's end mean nothing.
+    starts: u64,
+    ghost within: { base ≤ length text.now },
+    ghost low: { base ≤ from },
+    ghost high: { from ≤ base + 64 },
+    ghost white_is: { white ≡ mask is_white (take 64 (drop base text.now)) },
+    ghost plain: { (i : ℕ) → i < 64 → base + i < length text.now → bit_at stops i ≡ 0
+        → plain_at text.now (base + i) ≡ true },
+    ghost ink: { (i : ℕ) → i < 64 → base + i < length text.now → bit_at stops i ≡ 0
+        → white_at text.now (base + i) ≡ false },
+    ghost begins: { (i : ℕ) → i < 64 → base + i < length text.now → bit_at starts i ≡ 1
+        → begins_word text.now (base + i) ≡ true },
+    ghost further: { (i : ℕ) → i < 64 → bit_at starts i ≡ 1 → from ≤ base + i },
+    ghost none: { (i : ℕ) → i < 64 → base + i < length text.now → from ≤ base + i
+        → bit_at starts i ≡ 0 → begins_word text.now (base + i) ≡ false },
+}
+
+/// A word. If `plain` is true, it is known to have only printable bytes, and no `$`.
+#[derive(Clone, Copy)]
+pub struct FoundWord {
+    pub word: Word,
+    pub plain: bool,
+}
+
+impl<'a> WordScanner<'a> {
+    /// The block that begins at `base`, with all words that begin in it.
+    fn at(text: &'a [u8], base: usize) -> WordScanner<'a>
+        requires { base ≤ length text.now }
+        ensures text { result.text.now ≡ text.now }
+        ensures base { result.base ≡ base }
+        ensures from { result.from ≡ base }
+    {
+        let marks = marks_of(&text[base..]);
+        WordScanner {
+            text,
+            from: base,
+            base,
+            white: marks.white,
+            stops: marks.stops,
+            starts: starts_of(marks.white, may_begin(text, base)),
+        }
+    }
+
+    /// The words of a text that begin at `from` or after it.
+    pub fn new(text: &'a [u8], from: usize) -> WordScanner<'a>
+        requires { from ≤ length text.now }
+        ensures text { result.text.now ≡ text.now }
+        ensures from { result.from ≡ from }
+    {
+        let place = from % 64;
+        let block = WordScanner::at(text, from - place);
+        WordScanner {
+            text: block.text,
+            from,
+            base: block.base,
+            white: block.white,
+            stops: block.stops,
+            starts: block.starts >> place << place,
+        }
+    }
+
+    /// Continues with the next block.
+    #[inline(always)]
+    fn next_block(&mut self)
+        requires { self.old.base + 64 ≤ length self.old.text.now }
+        ensures text { self.new.text.now ≡ self.old.text.now }
+        ensures base { self.new.base ≡ self.old.base + 64 }
+        ensures from { self.new.from ≡ self.old.base + 64 }
+    {
+        *self = WordScanner::at(self.text, self.base + 64);
+    }
+
+    /// The word that begins at `start`, and the blocks from its end on. `start` is in the current
+    /// block, and is the beginning that was taken last.
+    fn word_from(self, start: usize) -> (WordScanner<'a>, FoundWord)
+        requires from { self.from ≡ start + 1 }
+        requires low { self.base ≤ start }
+        requires within { start < length self.text.now }
+        requires short { length self.text.now ≤ TEXT_LIMIT }
+        requires ink { white_at self.text.now start ≡ false }
+        ensures text { result.0.text.now ≡ self.entry.text.now }
+        ensures after { start < result.0.from }
+        ensures none { (i : ℕ) → start < i → i < result.0.from
+            → begins_word self.entry.text.now i ≡ false }
+        ensures start { result.1.word.start ≡ start }
+        ensures order { start ≤ result.1.word.end }
+        ensures within { result.1.word.end ≤ length self.entry.text.now }
+        ensures solid { (i : ℕ) → start ≤ i → i < result.1.word.end
+            → white_at self.entry.text.now i ≡ false }
+        ensures white { result.1.word.end < length self.entry.text.now
+            → white_at self.entry.text.now result.1.word.end ≡ true }
+        ensures plain { result.1.plain ≡ true → (i : ℕ) → start ≤ i → i < result.1.word.end
+            → plain_at self.entry.text.now i ≡ true }
+    {
+        let len = self.text.len();
+        let mut blocks = self;
+        let mut white = first_one(blocks.white, start - blocks.base);
+        let mut plain = first_one(blocks.stops, start - blocks.base) == white;
+        while white == 64 && 64 < len - blocks.base {
+            blocks = WordScanner::at(self.text, blocks.base + 64);
+            white = first_one(blocks.white, 0);
+            plain = plain && first_one(blocks.stops, 0) == white;
+        }
+        let end = (blocks.base + white).min(len);
+        let word = Word {
+            start: start as u32,
+            end: end as u32,
+        };
+        (blocks, FoundWord { word, plain })
+    }
+
+    /// Takes the first further place before `to` at which a word begins.
+    #[inline(always)]
+    fn next_start(&mut self, to: usize) -> Option<usize>
+        requires within { to ≤ length self.old.text.now }
+        requires short { length self.old.text.now ≤ TEXT_LIMIT }
+        ensures text { self.new.text.now ≡ self.old.text.now }
+        ensures before { MatchOption result
+            (words_between self.old.text.now self.old.from to ≡ [])
+            (λ start. (i : ℕ) → self.old.from ≤ i → i < start
+            → begins_word self.old.text.now i ≡ false) }
+        ensures done { IfNone result (words_between self.old.text.now self.new.from to ≡ []) }
+        ensures begins { IfSome result (λ start. begins_word self.old.text.now start ≡ true) }
+        ensures low { IfSome result (λ start. self.old.from ≤ start) }
+        ensures within { IfSome result (λ start. start < to) }
+        ensures base { IfSome result (λ start. self.new.base ≤ start) }
+        ensures from { IfSome result (λ start. self.new.from ≡ start + 1) }
+    {
+        while self.starts == 0 {
+            if to <= self.base + 64 {
+                return None;
+            }
+            self.next_block();
+        }
+        let place = self.starts.trailing_zeros() as usize;
+        let start = self.base + place;
+        if to <= start {
+            return None;
+        }
+        self.starts &= !(1 << place);
+        self.from = start + 1;
+        Some(start)
+    }
+
+    /// Takes the first further word that begins before `to`.
+    #[inline(always)]
+    pub fn next_word(&mut self, to: usize) -> Option<FoundWord>
+        requires within { to ≤ length self.old.text.now }
+        requires short { length self.old.text.now ≤ TEXT_LIMIT }
+        ensures text { self.new.text.now ≡ self.old.text.now }
+        ensures words { MatchOption result
+            (words_between self.old.text.now self.old.from to ≡ [])
+            (λ found. words_between self.old.text.now self.old.from to
+            ≡ found.word ∷ words_between self.old.text.now self.new.from to) }
+        ensures done { IfNone result (words_between self.old.text.now self.new.from to ≡ []) }
+        ensures each { IfSome result (λ found. IsWord self.old.text.now found.word) }
+        ensures plain { IfSome result
+            (λ found. found.plain ≡ true → IsPlain (bytes_of self.old.text.now found.word)) }
+        ensures onward { IfSome result (λ found. self.old.from < self.new.from) }
+    {
+        let start = self.next_start(to)?;
+        let stop = first_one(self.stops, start - self.base);
+        if stop < 64 && (self.white >> stop) & 1 == 1 {
+            let word = Word {
+                start: start as u32,
+                end: (self.base + stop) as u32,
+            };
+            return Some(FoundWord { word, plain: true });
+        }
+        let (blocks, found) = self.word_from(start);
+        *self = blocks;
+        Some(found)
+    }
+}

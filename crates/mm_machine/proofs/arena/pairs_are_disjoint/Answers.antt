@@ -1,0 +1,86 @@
+use Rattle.std.proofs.Common.{◌≡◌, ℕ, zero, suc, ◌<◌, Bool, ◌&&◌, false, List, [], ◌∷◌, All, length}
+use Rattle.std.proofs.Common.{subst, ap, ap₂, sym, ◌∙◌, arith, get_or}
+use Rattle.std.specs.List.{list_all}
+use Rattle.std.proofs.lemmas.Grind.{common_steps}
+use Rattle.std.proofs.lemmas.List.{take_all}
+use Rattle.std.proofs.Math.Bool.{and-false}
+use Rattle.mm_spec.specs.Derivation.{are_all_disjoint}
+use Rattle.mm_spec.specs.Citation.{context_at}
+use Rattle.mm_spec.specs.Frame.{symbol_names}
+use Rattle.mm_machine.specs.Arena.{text_of}
+use Rattle.mm_machine.specs.Replaced.{stands}
+use Rattle.mm_machine.proofs.GrowLaw.{text_known}
+use Rattle.mm_machine.proofs.arena.pairs_are_disjoint.Goals as goal
+
+-- a pair that fails
+fails_at : (test : ℕ × ℕ → Bool) (ps : List (ℕ × ℕ)) (i : ℕ) → i < length ps
+    → test (get_or ps i (0, 0)) ≡ false → list_all test ps ≡ false
+fails_at test [] i h e = absurd (omega arith)
+fails_at test (q ∷ ps) zero h e = ap (λ b. b && list_all test ps) e
+fails_at test (q ∷ ps) (suc i) h e =
+    ap (λ b. test q && b) (fails_at test ps i (omega arith) e) ∙ and-false (test q)
+
+pub returns-then-not-are_all_disjoint-clause-value : goal.returns-then-not-are_all_disjoint-clause-value
+returns-then-not-are_all_disjoint-clause-value g c =
+    let k = context_at c.args.db.now.statements c.args.theorem in
+    let xs = c.args.symbols.now in
+    let es = c.args.premises.now in
+    let p = get_or c.args.pairs.now c.loop-pair.pair-index (0, 0) in
+    let fails : are_all_disjoint k (stands xs es p.0) (stands xs es p.1) ≡ false =
+    ap₂ (are_all_disjoint k) (sym (c.text-first.ensures ∙ ap (text_of xs) c.span_of.ensures.span))
+    (sym (c.text-second.ensures ∙ ap (text_of xs) c.span_of-in-loop-pair.ensures.span))
+    ∙ sym c.are_all_disjoint.ensures.value ∙ c.if-not-are_all_disjoint.true in
+    sym (fails_at
+    (λ (q : ℕ × ℕ). are_all_disjoint k (stands xs es q.0) (stands xs es q.1)) c.args.pairs.now
+    c.loop-pair.pair-index c.loop-pair-test.true fails)
+
+pub are_all_disjoint-requires-clause-second : goal.are_all_disjoint-requires-clause-second
+are_all_disjoint-requires-clause-second g c =
+    let n = length (symbol_names c.args.db.now.statements) in
+    subst (All (λ s. s < n)) (sym c.text-second.ensures)
+    (text_known n c.args.symbols.now c.span_of-in-loop-pair.result c.requires.own
+    c.requires.kept)
+
+pub offset_bounds-pairs-pair-index : goal.offset_bounds-pairs-pair-index
+offset_bounds-pairs-pair-index g c = omega arith
+
+pub span_of-requires-clause-premises : goal.span_of-requires-clause-premises
+span_of-requires-clause-premises g c = c.requires.premises
+
+pub text-first-requires : goal.text-first-requires
+text-first-requires g c = c.span_of.ensures.inside
+
+pub span_of-requires-in-loop-pair-clause-premises :
+    goal.span_of-requires-in-loop-pair-clause-premises
+span_of-requires-in-loop-pair-clause-premises g c = c.requires.premises
+
+pub text-second-requires : goal.text-second-requires
+text-second-requires g c = c.span_of-in-loop-pair.ensures.inside
+
+pub are_all_disjoint-requires-clause-theorem : goal.are_all_disjoint-requires-clause-theorem
+are_all_disjoint-requires-clause-theorem g c = c.requires.theorem
+
+pub are_all_disjoint-requires-clause-first : goal.are_all_disjoint-requires-clause-first
+are_all_disjoint-requires-clause-first g c = let n = length (symbol_names c.args.db.now.statements) in
+    subst (All (λ s. s < n)) (sym c.text-first.ensures)
+    (text_known n c.args.symbols.now c.span_of.result c.requires.own c.requires.kept)
+
+pub are_all_disjoint-requires-clause-cache : goal.are_all_disjoint-requires-clause-cache
+are_all_disjoint-requires-clause-cache g c = c.loop-pair.invariant.cache
+
+pub returns-then-not-are_all_disjoint-clause-cache : goal.returns-then-not-are_all_disjoint-clause-cache
+returns-then-not-are_all_disjoint-clause-cache g c = c.are_all_disjoint.ensures.cache
+
+pub loop-pair-preserved : goal.loop-pair-preserved
+loop-pair-preserved g c = grind (arith, common_steps)
+
+pub returns-clause-value : goal.returns-clause-value
+returns-clause-value g c = let k = context_at c.args.db.now.statements c.args.theorem in
+    let xs = c.args.symbols.now in
+    let es = c.args.premises.now in
+    sym (ap (list_all (λ (q : ℕ × ℕ). are_all_disjoint k (stands xs es q.0) (stands xs es q.1)))
+    (sym (take_all c.loop-pair.pair-index c.args.pairs.now c.loop-pair-test.false))
+    ∙ c.loop-pair.invariant.so_far)
+
+pub returns-clause-cache : goal.returns-clause-cache
+returns-clause-cache g c = c.loop-pair.invariant.cache

@@ -1,0 +1,118 @@
+//! Pairs of symbols that are known to be disjoint at a theorem.
+
+ghost use Rattle.std.specs.Prelude.{◌≡◌, ◌<◌, [], ℕ, length, get_or, true, IfOk};
+ghost use Rattle.mm_spec.specs.Derivation.{are_disjoint};
+ghost use Rattle.mm_spec.specs.Citation.{context_at};
+ghost use Rattle.mm_machine.specs.Arena.{AreDisjointAt};
+ghost use Rattle.mm_rule.specs.Assertions.{is_assertion_at};
+
+use mm_database::{Database, Sym};
+use mm_rule::{pairs, put_number, zeros};
+use std::alloc::{AllocError, Allocator};
+use std::marker::Model;
+
+/// How many pairs are kept at most, and the number of slots that say where a pair is.
+const PAIR_SLOTS: usize = 1_024;
+
+/// Pairs of symbols that are disjoint at a theorem, the lower symbol first: those of its frame, and
+/// those that were looked up.
+#[derive(Drop)]
+pub struct DisjointCache<A: Allocator> {
+    pairs: Vec<(Sym, Sym), A>,
+    /// For each slot, where its pair may be in `pairs`.
+    slots: Vec<u32, A>,
+}
+
+impl<A: Allocator> Model for DisjointCache<A> {
+    ghost use Rattle.std.specs.Prelude.{ℕ, List};
+
+    ghost Value = { List (ℕ × ℕ) };
+
+    ghost view = { λ a. a.pairs.items };
+}
+
+/// The slot of a pair.
+fn slot_of(s: Sym, t: Sym) -> usize {
+    (s.number() as usize * 61 + t.number() as usize) % PAIR_SLOTS
+}
+
+impl<A: Allocator> DisjointCache<A> {
+    /// No pairs.
+    pub fn new(alloc: A) -> Result<Self, AllocError>
+    where
+        A: Copy,
+        ensures { IfOk result (λ a. a ≡ []) }
+    {
+        Ok(DisjointCache {
+            pairs: Vec::new(alloc),
+            slots: zeros(alloc, PAIR_SLOTS)?,
+        })
+    }
+
+    /// Whether the pair, with the lower symbol first, is in `pairs` where its slot says.
+    #[inline(always)]
+    fn has_pair(&self, low: Sym, high: Sym) -> bool
+        ensures { result ≡ true
+            → (n : ℕ) × (n < length self.now) × ((get_or self.now n (low, high)).0 ≡ low)
+            × ((get_or self.now n (low, high)).1 ≡ high) }
+    {
+        let slot = slot_of(low, high);
+        if slot >= self.slots.len() {
+            return false;
+        }
+        let n = self.slots[slot] as usize;
+        n < self.pairs.len() && self.pairs[n].0 == low && self.pairs[n].1 == high
+    }
+
+    /// Whether two symbols are known to be disjoint.
+    #[inline(always)]
+    pub fn has(&self, _db: &Database<A>, _theorem: u32, s: Sym, t: Sym) -> bool
+        requires { AreDisjointAt _db.now.statements _theorem self.now }
+        ensures { result ≡ true → are_disjoint (context_at _db.now.statements _theorem) s t ≡ true }
+    {
+        if s.number() < t.number() {
+            self.has_pair(s, t)
+        } else {
+            self.has_pair(t, s)
+        }
+    }
+
+    /// Keeps a pair of disjoint symbols, the lower first, if there is room for it.
+    fn keep_pair(&mut self, _db: &Database<A>, _theorem: u32, low: Sym, high: Sym)
+        requires cache { AreDisjointAt _db.now.statements _theorem self.old }
+        requires disjoint { are_disjoint (context_at _db.now.statements _theorem) low high ≡ true }
+        ensures { AreDisjointAt _db.now.statements _theorem self.new }
+    {
+        let n = self.pairs.len();
+        if n < PAIR_SLOTS {
+            match self.pairs.push((low, high)) {
+                Ok(()) => put_number(&mut self.slots, slot_of(low, high), n),
+                Err(_) => {}
+            }
+        }
+    }
+
+    /// Keeps a pair of disjoint symbols, given in either order.
+    pub fn keep(&mut self, db: &Database<A>, theorem: u32, s: Sym, t: Sym)
+        requires cache { AreDisjointAt db.now.statements theorem self.old }
+        requires disjoint { are_disjoint (context_at db.now.statements theorem) s t ≡ true }
+        ensures { AreDisjointAt db.now.statements theorem self.new }
+    {
+        if s.number() < t.number() {
+            self.keep_pair(db, theorem, s, t);
+        } else {
+            self.keep_pair(db, theorem, t, s);
+        }
+    }
+
+    /// Forgets all pairs, then keeps those of a theorem's frame.
+    pub fn restart(&mut self, db: &Database<A>, theorem: u32)
+        requires { is_assertion_at db.now.statements theorem ≡ true }
+        ensures { AreDisjointAt db.now.statements theorem self.new }
+    {
+        self.pairs.clear();
+        for pair in pairs(db, theorem) {
+            self.keep_pair(db, theorem, pair.0, pair.1);
+        }
+    }
+}
