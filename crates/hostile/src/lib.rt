@@ -1,5 +1,5 @@
 //! Tests of what can go wrong: allocations that are refused, reads and writes that fail, truncated
-//! and malicious texts, and random texts. DisjointCache from an allocator that refuses allocations, this
+//! and malicious texts, and random texts. Apart from an allocator that refuses allocations, this
 //! crate has only tests, which use public calls. It isn't part of the program, and promises
 //! nothing.
 #![tactic(auto)]

@@ -29,7 +29,8 @@ pub record Reached (k : List Statement) (t : ℕ) (done : List Step) (stack ends
       → Plain (context_at k t) [] [] (done ++ rest) all
   pub within : AllByRecursion
       (λ l. (a : ℕ) → is_member l a ≡ true → is_member (postfix forest) a ≡ true) lists
-  pub noted_are : (a : ℕ) → is_member noted a ≡ (is_member (postfix forest) a && is_assertion_at k a)
+  pub noted_are : (a : ℕ)
+      → is_member noted a ≡ (is_member (postfix forest) a && is_assertion_at k a)
 
 -- the steps without their places
 abbrev pub steps_of : List PlacedStep → List Step

@@ -385,13 +385,13 @@ pub record NoneInCommon (b : BlockLists) (ps : List (ℕ × ℕ)) (x y at left r
       → is_live b (get_or ps p (0, 0)).1 at ≡ true → (p < left) × (q < right)
 
 module _ (b : BlockLists) (ps : List (ℕ × ℕ)) (rising : AreRising ps) (x y at : ℕ) where
-  pub apart_start : (left right : ℕ) → left ≤ length ps → right ≤ length ps
+  pub none_at_start : (left right : ℕ) → left ≤ length ps → right ≤ length ps
       → ((p : ℕ) → p < left → is_before (get_or ps p (0, 0)) x at ≡ true)
       → ((p : ℕ) → left ≤ p → p < length ps → is_before (get_or ps p (0, 0)) x at ≡ false)
       → ((p : ℕ) → p < right → is_before (get_or ps p (0, 0)) y at ≡ true)
       → ((p : ℕ) → right ≤ p → p < length ps → is_before (get_or ps p (0, 0)) y at ≡ false)
       → NoneInCommon b ps x y at left right
-  apart_start left right l r bl al br ar = record {
+  none_at_start left right l r bl al br ar = record {
     met = λ p q h i e f s o.
         let m =
         ltb-true (get_or ps p (0, 0)).1 at

@@ -4,7 +4,7 @@
 -- is none (`no_longer_with`, `LongestLaw.antt`); labels and proofs by `label_is`, `proof_is`
 -- (`DatabaseLaw.antt`), `kept_label` and `kept_proof` (`KeptLaw.antt`); theorems by
 -- `theorems_by_kind` (`KindsLaw.antt`), and their labels by `spaced_more` (`SpacedLaw.antt`).
--- `are_together` finds a `$d` of two variables by `none_on_left` and `none_on_right`
+-- `are_together` finds a `$d` of two variables by `none_left` and `none_right`
 -- (`DisjointIndexLaw.antt`), among pairs that begin where `StartsLaw.antt` says, and `together_is`
 -- (`TogetherLaw.antt`) says what that answers; `near_is` (`NearLaw.antt`) says it of a `$d` found
 -- shortly before a statement. `labels_held`, `frames_held` and others (`HeldLaw.antt`) transfer

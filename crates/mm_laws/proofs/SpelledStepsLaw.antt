@@ -13,7 +13,7 @@ use Rattle.mm_spec.specs.declared.Fault.{Fault}
 use Rattle.mm_spec.specs.Statement.{Statement, floating, essential, axiomatic, provable, label_of}
 use Rattle.mm_spec.specs.Scope.{Names as KnownNames, names_before, depth, is_active, statement_at}
 use Rattle.mm_spec.specs.Scope.{label_words}
-use Rattle.mm_spec.specs.Lawful.{when, at, floating_faults, formula_faults, scope_faults, least}
+use Rattle.mm_spec.specs.Lawful.{floating_faults, formula_faults, scope_faults, least}
 use Rattle.mm_spec.specs.Lawful.{IsLawful}
 use Rattle.mm_spec.specs.Lawful as lawful
 use Rattle.mm_spec.specs.Opened.{counted}
@@ -32,10 +32,10 @@ use Rattle.mm_laws.specs.Laws.Read.{WhereRead}
 use Rattle.mm_laws.specs.Laws.BareSteps.{bare_steps}
 use Rattle.mm_laws.specs.Laws.NamedSteps.{StepsAreNamed, NamedStepsAreUnique}
 use Rattle.mm_laws.specs.Laws.NamedSteps.{StepsAreLabels}
-use Rattle.mm_spec.specs.declared.Code.TheVariants.{LabelIsSymbol, LabelUsedBefore, UnusableLabel}
+use Rattle.mm_spec.specs.declared.Code.TheVariants.{UnusableLabel}
 use Rattle.mm_spec.specs.declared.Code.TheVariants.{IncompleteProof}
 use Rattle.mm_spec.proofs.FindsLaw.{same_word, found_at, inside_of, declares}
-use Rattle.mm_spec.proofs.FaultlessLaw.{least_none, append_none, at_none, when_none}
+use Rattle.mm_spec.proofs.FaultlessLaw.{least_none, append_none, label_new}
 use Rattle.mm_spec.proofs.OpenedLaw.{counted_any}
 use Rattle.mm_spec.proofs.ListLaw.{get_none}
 use Rattle.mm_laws.proofs.ReadLaw.{lawful_read}
@@ -299,17 +299,6 @@ module _ (hypotheses labels : List ℕ) where
       none (suc k) i e = cc
 
 -- ---- labels
-
--- a label without a fault is new
-label_new : (n : KnownNames) (l : Token) → lawful.label_faults n l ≡ []
-    → is_in l.word n.labels ≡ false
-label_new n l h =
-    when_none (is_in l.word n.labels) LabelUsedBefore
-    (append_none (when (is_in l.word n.constants || is_in l.word n.all_variables) LabelIsSymbol)
-    (when (is_in l.word n.labels) LabelUsedBefore)
-    (at_none l.at
-    (when (is_in l.word n.constants || is_in l.word n.all_variables) LabelIsSymbol
-    ++ when (is_in l.word n.labels) LabelUsedBefore) h)).1
 
 new_word : (n : KnownNames) (l : Token) (w : Bytes) → bytes_eq l.word w ≡ true
     → lawful.label_faults n l ≡ [] → is_in w n.labels ≡ false

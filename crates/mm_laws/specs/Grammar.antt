@@ -9,9 +9,9 @@ use Rattle.mm_spec.specs.declared.Word.{Word}
 use Rattle.mm_spec.specs.declared.Fault.{Fault}
 
 -- a token, or a comment: `$(`, words, `$)`
-pub data Item : Type 0 where
-  Single : Word → Item
-  Comment : Word → List Word → Word → Item
+pub data Lexeme : Type 0 where
+  Single : Word → Lexeme
+  Comment : Word → List Word → Word → Lexeme
 
 -- a comment that is open at the end: `$(` and words, or none
 abbrev pub Rest : Type 0
@@ -20,9 +20,9 @@ Rest = Option (Word × List Word)
 abbrev pub AreCommentWords : List ℕ → List Word → Type 0
 AreCommentWords text ws = AllByRecursion (λ w. IsTrue (is_comment_word (bytes_of text w))) ws
 
-abbrev pub IsItem : List ℕ → Item → Type 0
-IsItem text (Single w) = IsTrue (is_token (bytes_of text w))
-IsItem text (Comment o ws c) =
+abbrev pub IsLexeme : List ℕ → Lexeme → Type 0
+IsLexeme text (Single w) = IsTrue (is_token (bytes_of text w))
+IsLexeme text (Comment o ws c) =
     IsTrue (opens_comment (bytes_of text o)) × AreCommentWords text ws
     × IsTrue (closes_comment (bytes_of text c))
 
@@ -30,7 +30,7 @@ abbrev pub IsRest : List ℕ → Rest → Type 0
 IsRest text None = ⊤
 IsRest text (Some p) = IsTrue (opens_comment (bytes_of text p.0)) × AreCommentWords text p.1
 
-abbrev pub words_in : Item → List Word
+abbrev pub words_in : Lexeme → List Word
 words_in (Single w) = w ∷ []
 words_in (Comment o ws c) = o ∷ (ws ++ c ∷ [])
 
@@ -38,7 +38,7 @@ abbrev pub words_open : Rest → List Word
 words_open None = []
 words_open (Some p) = p.0 ∷ p.1
 
-abbrev pub tokens_in : Item → List Word
+abbrev pub tokens_in : Lexeme → List Word
 tokens_in (Single w) = w ∷ []
 tokens_in (Comment o ws c) = []
 
@@ -46,9 +46,9 @@ tokens_in (Comment o ws c) = []
 -- tokens, and `comment` is the place where that comment begins, if there is one.
 pub record IsWellBegun (text : List ℕ) (ws : List Word) (tokens : List Word)
     (comment : Option ℕ) : Type 0 where
-  pub items : List Item
+  pub items : List Lexeme
   pub rest : Rest
-  pub are_items : AllByRecursion (IsItem text) items
+  pub are_items : AllByRecursion (IsLexeme text) items
   pub is_rest : IsRest text rest
   pub words : ws ≡ flat_map words_in items ++ words_open rest
   pub same_tokens : tokens ≡ flat_map tokens_in items

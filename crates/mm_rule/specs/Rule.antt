@@ -57,7 +57,8 @@ pub record Compiled : Type 0 where
   pub parts : List RuleSymbol
   pub formula : List RuleSymbol
 
-abbrev pub compiled : ℕ → List Hypothesis → List (ℕ × ℕ) → List RuleSymbol → List RuleSymbol → Compiled
+abbrev pub compiled : ℕ → List Hypothesis → List (ℕ × ℕ) → List RuleSymbol → List RuleSymbol
+    → Compiled
 compiled k hypotheses pairs parts formula =
     record {
       assertion = k;

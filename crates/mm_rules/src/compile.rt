@@ -76,7 +76,12 @@ fn number_variables<A: Allocator>(db: &Database<A>, hyps: &[u32], numbers: &mut 
 }
 
 /// The part of a symbol.
-fn compile_symbol<A: Allocator>(db: &Database<A>, _hyps: &[u32], numbers: &[u32], s: Sym) -> RuleSymbol
+fn compile_symbol<A: Allocator>(
+    db: &Database<A>,
+    _hyps: &[u32],
+    numbers: &[u32],
+    s: Sym,
+) -> RuleSymbol
     requires width { length numbers.now ≡ length (symbol_names db.now.statements) }
     requires placed { AreFirstNumbers db.now.statements
         (map (formula_at db.now.statements) _hyps.now) numbers.now }

@@ -13,23 +13,12 @@ use Rattle.mm_spec.specs.Statement.{Statement, constants, variables, disjoint, f
 use Rattle.mm_spec.specs.Statement.{axiomatic, provable, opening, closing, label_of}
 use Rattle.mm_spec.specs.Scope.{Names, names_before, statement_at, label_words}
 use Rattle.mm_spec.specs.NormalProof.{is_labelled}
-use Rattle.mm_spec.specs.Lawful.{scope_faults, label_faults, formula_faults, floating_faults, when}
-use Rattle.mm_spec.specs.declared.Code.TheVariants.{LabelIsSymbol, LabelUsedBefore}
+use Rattle.mm_spec.specs.Lawful.{scope_faults, label_faults, formula_faults, floating_faults}
 use Rattle.mm_spec.proofs.LocalLaw.{get_front, get_seam}
-use Rattle.mm_spec.proofs.FaultlessLaw.{append_none, at_none, when_none}
+use Rattle.mm_spec.proofs.FaultlessLaw.{append_none, label_new}
 use Rattle.mm_scope.specs.WordEntry.{label_after}
 use Rattle.mm_database.specs.Labels.{AreLabels}
 use Rattle.mm_outline.proofs.StatementsLaw.{is_there}
-
--- a label that has no fault is new
-label_new : (n : Names) (l : Token) → label_faults n l ≡ [] → is_in l.word n.labels ≡ false
-label_new n l h =
-    when_none (is_in l.word n.labels) LabelUsedBefore
-    (append_none (when (is_in l.word n.constants || is_in l.word n.all_variables) LabelIsSymbol)
-    (when (is_in l.word n.labels) LabelUsedBefore)
-    (at_none l.at
-    (when (is_in l.word n.constants || is_in l.word n.all_variables) LabelIsSymbol
-    ++ when (is_in l.word n.labels) LabelUsedBefore) h)).1
 
 pub label_fresh : (n : Names) (d : ℕ) (s : Statement) → scope_faults n d s ≡ [] → (l : Token)
     → label_of s ≡ Some l → is_in l.word n.labels ≡ false

@@ -21,7 +21,8 @@ use Rattle.mm_spec.specs.Frame.{is_essential}
 use Rattle.mm_spec.specs.Derivation.{is_member}
 use Rattle.mm_spec.specs.declared.Code.{Code}
 use Rattle.mm_spec.specs.declared.Code.TheVariants.{ConstantInBlock, EmptyDeclaration}
-use Rattle.mm_spec.specs.declared.Code.TheVariants.{DeclaredBefore, LabelIsSymbol, UndeclaredSymbol}
+use Rattle.mm_spec.specs.declared.Code.TheVariants.{DeclaredBefore, LabelIsSymbol, LabelUsedBefore}
+use Rattle.mm_spec.specs.declared.Code.TheVariants.{UndeclaredSymbol}
 use Rattle.mm_spec.specs.declared.Code.TheVariants.{UntypedVariable, BadTypecode, BadFloating}
 use Rattle.mm_spec.proofs.ActivityLaw.{stays_exact}
 use Rattle.mm_spec.proofs.FindsLaw.{any_flat_map, any_map, any_filter, member_filter}
@@ -176,6 +177,16 @@ statement_known n d (axiomatic l k xs e) h f w m =
 statement_known n d (provable l k xs e ps q) h f w m =
     formula_known n xs e (append_none (label_faults n l) (formula_faults n xs e) f).1 w m
 statement_known n d _ h f w m = absurd (true≢false (sym h))
+
+-- a label without a fault is new
+pub label_new : (n : Names) (l : Token) → label_faults n l ≡ [] → is_in l.word n.labels ≡ false
+label_new n l h =
+    when_none (is_in l.word n.labels) LabelUsedBefore
+    (append_none (when (is_in l.word n.constants || is_in l.word n.all_variables) LabelIsSymbol)
+    (when (is_in l.word n.labels) LabelUsedBefore)
+    (at_none l.at
+    (when (is_in l.word n.constants || is_in l.word n.all_variables) LabelIsSymbol
+    ++ when (is_in l.word n.labels) LabelUsedBefore) h)).1
 
 -- a `$f` has a constant and a variable
 pub record IsTyping (n : Names) (s : Statement) : Type 0 where

@@ -74,8 +74,8 @@ meaning w = go (has_dollar w) refl
 
 -- a list after which so many blocks are open
 pub record Balanced (d : ℕ) (list : List Statement) : Type 0 where
-  pub are_statements : AreStatements statements
-  pub count : d + count_by is_closing statements ≡ count_by is_opening statements
+  pub are_statements : AreStatements list
+  pub count : d + count_by is_closing list ≡ count_by is_opening list
 
 pub none_yet : Balanced 0 []
 none_yet = record { are_statements = record { whole = refl; nested = none_closed }; count = refl }

@@ -40,9 +40,10 @@ TextFault len x f =
     ⊎ ((¬ ((g : Fault) × ShapeFault x.tokens g)) × WordOrEnd len x.tokens x.fault f)
 
 -- what stops the reading after the lawful statements
-abbrev pub StopsReading : ℕ → LexedText → List Statement → List Statement → List Statement → Option Fault
-    → Type 0
-StopsReading len x statements db (s ∷ rest) fault = (fault ≢ None) × (scope_fault statements (length db) ≡ fault)
+abbrev pub StopsReading : ℕ → LexedText → List Statement → List Statement → List Statement
+    → Option Fault → Type 0
+StopsReading len x statements db (s ∷ rest) fault =
+    (fault ≢ None) × (scope_fault statements (length db) ≡ fault)
 StopsReading len x statements db [] None = (f : Fault) → ¬ TextFault len x f
 StopsReading len x statements db [] (Some f) = TextFault len x f
 

@@ -77,22 +77,25 @@ has_label (Some l) = is_label l.word
 abbrev pub is_complete : Statement → Bool
 is_complete s = has_label (label_of s) && is_plain (symbols_of s) && is_plain (proof_of s)
 
--- complete statements, no prefix of which has more `$}` than `${`
+-- complete statements, in their order, no prefix of which has more `$}` than `${`
 pub record AreStatements (statements : List Statement) : Type 0 where
   pub whole : IsTrue (list_all is_complete statements)
-  pub nested : (n : ℕ) → count_by is_closing (take n statements) ≤ count_by is_opening (take n statements)
+  pub nested : (n : ℕ)
+      → count_by is_closing (take n statements) ≤ count_by is_opening (take n statements)
 
 -- some such list of statements begins with the tokens
 abbrev pub BeginStatements : List Token → Type 0
 BeginStatements ts =
-    (statements : List Statement) × AreStatements statements × (more : List Token) × (flat_map spelled statements ≡ ts ++ more)
+    (statements : List Statement) × AreStatements statements × (more : List Token)
+    × (flat_map spelled statements ≡ ts ++ more)
 
 -- the tokens spell such a list, so the next one begins a statement
 abbrev pub IsBetween : List Token → Type 0
-IsBetween ts = (statements : List Statement) × AreStatements statements × (flat_map spelled statements ≡ ts)
+IsBetween ts =
+    (statements : List Statement) × AreStatements statements × (flat_map spelled statements ≡ ts)
 
--- The code for a token with which no such list continues. At the beginning of a statement: `$}` without
--- an open block (E09), another keyword (E07), or a word that isn't a label (E06).
+-- The code for a token with which no such list continues. At the beginning of a statement: `$}`
+-- without an open block (E09), another keyword (E07), or a word that isn't a label (E06).
 abbrev pub first_code : Bytes → Code
 first_code w =
     if bytes_eq w (codes "$}") then UnopenedBlock
@@ -131,5 +134,5 @@ pub record FileEndFault (len : ℕ) (tokens : List Token) (f : Fault) : Type 0 w
   pub statements : List Statement
   pub are_statements : AreLongestStatements tokens statements
   pub code : ((are_statements.rest ≢ []) × (f ≡ fault len OpenStatement))
-      ⊎ ((are_statements.rest ≡ []) × (count_by is_closing statements < count_by is_opening statements)
-      × (f ≡ fault len OpenBlock))
+      ⊎ ((are_statements.rest ≡ [])
+      × (count_by is_closing statements < count_by is_opening statements) × (f ≡ fault len OpenBlock))

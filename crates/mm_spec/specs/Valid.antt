@@ -20,7 +20,8 @@ IsLastTree (more ts l f cs) x = x ≡ postfix cs ++ l ∷ []
 module _ (c : Context) where
   -- the labels are the postfix list of a forest of derivations, and x is that of its last tree
   abbrev pub EndsIn : List ℕ → List ℕ → Type 0
-  EndsIn labels x = (forest : Trees) × AreDerivations c forest × (postfix forest ≡ labels) × IsLastTree forest x
+  EndsIn labels x =
+      (forest : Trees) × AreDerivations c forest × (postfix forest ≡ labels) × IsLastTree forest x
 
   -- A step appends its label to the plain list, or the postfix list of the tree that an earlier
   -- step ended. `lists` has the plain list after each step so far.
@@ -98,8 +99,8 @@ module _ (c : Context) where
   IsEndCode (g ∷ []) formula code = (g ≢ formula) × (code ≡ OtherFormula)
   IsEndCode _ formula code = code ≡ NotOneEntry
 
-  -- The fault at the end: all steps stand for the postfix list of a forest of derivations, which isn't
-  -- one tree with the theorem's formula.
+  -- The fault at the end: all steps stand for the postfix list of a forest of derivations, which
+  -- isn't one tree with the theorem's formula.
   pub record ProofEndFault (steps : List PlacedStep) (formula : Formula) (end : ℕ)
       (f : Fault) : Type 0 where
     pub forest : Trees

@@ -71,10 +71,11 @@ module _ (c : Context) where
   IsGood (Some (hypothesis g)) = Unit {0}
   IsGood (Some (assertion a)) = IsComplete c a
 
-  -- f is the formula of the last tree of a forest of derivations whose postfix list is the labels: the
-  -- formula after the steps that stand for these labels
+  -- f is the formula of the last tree of a forest of derivations whose postfix list is the labels:
+  -- the formula after the steps that stand for these labels
   abbrev pub Leaves : List ℕ → Formula → Type 0
-  Leaves labels f = (forest : Trees) × AreDerivations c forest × (postfix forest ≡ labels) × HasLast forest f
+  Leaves labels f =
+      (forest : Trees) × AreDerivations c forest × (postfix forest ≡ labels) × HasLast forest f
 
   -- the entries after a step; `ends` has the last entry after each step so far
   abbrev pub step_entries : Step → List Formula → List Formula → Result (List Formula) Reason
