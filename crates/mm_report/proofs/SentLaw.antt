@@ -209,6 +209,21 @@ pub on_err : {T E : Type 0} (r : Result T E) (Q : Type 0) → Q → OnErr r Q
 on_err (Ok x) Q q = tt
 on_err (Err e) Q q = q
 
+-- What was sent through a new buffer, which was then flushed, was written, or a prefix of it.
+pub written : {T E : Type 0} {a b c : Option (List ℕ)} {r s t : Pending} {x : List ℕ}
+    → (result : Result T E) → r ≡ pending [] false → Sent a b r s x → Sent b c s t []
+    → OnOk result ((t.failed ≡ false) × (t.held ≡ [])) → OnOk result (Appends a c x)
+written {T} {E} {a} {b} {c} {r} {s} {t} {x} result new h k done =
+    on_ok result _ _
+    (λ e. sent_all a b c s t x (subst (λ (p : Pending). Sent a b p s x) new h) k e.0 e.1) done
+
+pub written_part : {T E : Type 0} {a b c : Option (List ℕ)} {r s t : Pending} {x : List ℕ}
+    → (result : Result T E) → r ≡ pending [] false → Sent a b r s x → Sent b c s t []
+    → OnErr result ((k : ℕ) × Appends a c (take k x))
+written_part {T} {E} {a} {b} {c} {r} {s} {t} {x} result new h k =
+    on_err result _
+    (sent_part a b c s t x (subst (λ (p : Pending). Sent a b p s x) new h) k)
+
 -- a label, a number and labels, put together piece by piece
 pub list_shape : (l d j : List ℕ)
     → (((((l ++ 58 ∷ []) ++ d) ++ 58 ∷ []) ++ j) ++ 10 ∷ []) ≡ (l ++ 58 ∷ (d ++ 58 ∷ j)) ++ 10 ∷ []

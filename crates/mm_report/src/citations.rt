@@ -1,17 +1,11 @@
 //! The report of direct citations.
 
-ghost use Rattle.std.specs.Prelude.{◌≡◌, ◌<◌, ◌≤◌, ℕ, Option, None, List, All, length, take, map};
-ghost use Rattle.std.specs.Prelude.{flat_map, true, OnOk, OnErr};
-ghost use Rattle.std.specs.Option.{option_map};
-ghost use Rattle.std.specs.List.{list_any};
+ghost use Rattle.std.specs.Prelude.{◌≡◌, ℕ, length, take, flat_map, OnOk, OnErr};
+ghost use Rattle.std.specs.Option.{option_copied};
 ghost use Rattle.std.specs.Io.KnownBytes.{Appends};
-ghost use Rattle.mm_spec.specs.Text.{Bytes};
-ghost use Rattle.mm_spec.specs.Scope.{statement_at};
-ghost use Rattle.mm_spec.specs.Citation.{is_assertion};
-ghost use Rattle.mm_spec.specs.Output.{columns, label_at};
-ghost use Rattle.mm_spec.specs.Report.{citation_line, citation_report, joined, list_line};
-ghost use Rattle.mm_report.specs.Rows.{AreCitationsOf, citation_report_of, citing_rows, listed};
-ghost use Rattle.mm_report.specs.Rows.{next_label, open_theorems};
+ghost use Rattle.mm_spec.specs.Report.{citation_line, joined, list_line};
+ghost use Rattle.mm_report.specs.Rows.{AreAssertions, AreCitationsOf, citation_report_of};
+ghost use Rattle.mm_report.specs.Rows.{citing_rows, listed, listed_labels, next_label};
 ghost use Rattle.mm_report.specs.Sent.{Sent};
 
 use crate::counted::open_theorems;
@@ -27,11 +21,9 @@ use std::io::Write;
 
 /// Returns the number of cited assertions that are listed.
 fn listed_count<D: Allocator>(database: &Database<'_, D>, only: Option<&[u8]>, cited: &[u32]) -> u64
-    requires { All
-        (λ a. list_any is_assertion (statement_at database.now.statements a) ≡ true) cited.now }
+    requires { AreAssertions database.now.statements cited.now }
     ensures { result
-        ≡ length
-        (listed database.now.statements (option_map (λ w. w.now) only.entry) cited.now) }
+        ≡ length (listed database.now.statements (option_copied only.entry) cited.now) }
 {
     let mut count = 0u64;
     for statement in cited {
@@ -63,11 +55,9 @@ fn send_cited<W: Write, D: Allocator>(
     only: Option<&[u8]>,
     cited: &[u32],
 )
-    requires { All
-        (λ a. list_any is_assertion (statement_at database.now.statements a) ≡ true) cited.now }
+    requires { AreAssertions database.now.statements cited.now }
     ensures { Sent (W.contents to.old) (W.contents to.new) sink.old sink.new
-        (joined (map (label_at database.now.statements)
-        (listed database.now.statements (option_map (λ w. w.now) only.entry) cited.now))) }
+        (joined (listed_labels database.now.statements (option_copied only.entry) cited.now)) }
 {
     let mut is_first = true;
     for statement in cited {
@@ -87,12 +77,10 @@ fn send_citation_line<W: Write, D: Allocator>(
     label: &[u8],
     cited: &[u32],
 )
-    requires { All
-        (λ a. list_any is_assertion (statement_at database.now.statements a) ≡ true) cited.now }
+    requires { AreAssertions database.now.statements cited.now }
     ensures { Sent (W.contents to.old) (W.contents to.new) sink.old sink.new
         (list_line label.now
-        (map (label_at database.now.statements)
-        (listed database.now.statements (option_map (λ w. w.now) only.entry) cited.now))) }
+        (listed_labels database.now.statements (option_copied only.entry) cited.now)) }
 {
     sink.send(to, label);
     sink.send_byte(to, b':');
@@ -115,44 +103,12 @@ fn send_citation_lines<W: Write, D: Allocator, C: Allocator>(
     requires cited { AreCitationsOf database.now.statements citations.now }
     ensures { Sent (W.contents to.old) (W.contents to.new) sink.old sink.new
         (flat_map citation_line
-        (citing_rows database.now.statements
-        (option_map (λ w. w.now) only.entry) citations.now labels.now)) }
+        (citing_rows database.now.statements (option_copied only.entry) citations.now
+        labels.now)) }
 {
     for i in 0..citations.rows() {
         send_citation_line(sink, to, database, only, labels.label(i), citations.of(i));
     }
-}
-
-/// Sends the report. `axioms` is the number of columns.
-fn send_citations<W: Write, D: Allocator, C: Allocator>(
-    sink: &mut Sink,
-    to: &mut W,
-    database: &Database<'_, D>,
-    only: Option<&[u8]>,
-    labels: &TheoremLabels<'_, '_, D>,
-    citations: &Citations<C>,
-    axioms: u32,
-    open_theorems: Option<u64>,
-    form: Form,
-)
-    requires labels { length labels.now ≡ length citations.now.theorems }
-    requires cited { AreCitationsOf database.now.statements citations.now }
-    ensures { Sent (W.contents to.old) (W.contents to.new) sink.old sink.new
-        (citation_report form open_theorems axioms
-        (citing_rows database.now.statements
-        (option_map (λ w. w.now) only.entry) citations.now labels.now)) }
-{
-    send_head(
-        sink,
-        to,
-        form,
-        axioms as u64,
-        open_theorems,
-        citations.rows() as u64,
-    );
-    send_line(sink, to, b"citations");
-    send_citation_lines(sink, to, database, only, labels, citations);
-    send_line(sink, to, b"end");
 }
 
 /// Writes the report of what each theorem of a database cites in its own proof, in file order. If
@@ -173,22 +129,22 @@ pub fn write_citations<'a, W: Write, A: Allocator, C: Allocator, D: Allocator>(
     requires { AreCitationsOf database.now.statements citations.now }
     ensures ok { OnOk result
         (Appends (W.contents to.old) (W.contents to.new)
-        (citation_report_of database.now.statements
-        (open_theorems with_open database.now chosen.now) form
-        (option_map (λ w. w.now) only.entry) chosen.now citations.now)) }
+        (citation_report_of database.now with_open form (option_copied only.entry) chosen.now
+        citations.now)) }
     ensures err { OnErr result
         ((k : ℕ)
         × Appends (W.contents to.old) (W.contents to.new)
-        (take k (citation_report_of database.now.statements
-        (open_theorems with_open database.now chosen.now) form
-        (option_map (λ w. w.now) only.entry) chosen.now citations.now))) }
+        (take k (citation_report_of database.now with_open form (option_copied only.entry)
+        chosen.now citations.now))) }
 {
     let mut sink = Sink::new();
     let labels = TheoremLabels::new(database);
-    let axioms = chosen.len();
+    let axioms = chosen.len() as u64;
     let opened = open_theorems(database, chosen, with_open);
-    send_citations(
-        &mut sink, to, database, only, &labels, citations, axioms, opened, form,
-    );
+    let theorems = citations.rows() as u64;
+    send_head(&mut sink, to, form, axioms, opened, theorems);
+    send_line(&mut sink, to, b"citations");
+    send_citation_lines(&mut sink, to, database, only, &labels, citations);
+    send_line(&mut sink, to, b"end");
     sink.finish(to)
 }

@@ -18,6 +18,13 @@ pub record IsBitRow (c : Citing) (columns : List ℕ) (t : ℕ) (row : List ℕ)
 abbrev pub row_at : List ℕ → ℕ → ℕ → List ℕ
 row_at bits width r = slice_range bits (r * width) (r * width + width)
 
+-- among the words of all rows, that of statement t is known, if it is a theorem; a row has `width`
+-- words
+abbrev pub IsRowKnown : Citing → List ℕ → List ℕ → ℕ → ℕ → Type 0
+IsRowKnown c columns bits width t =
+    (r : ℕ) → r < length c.theorems → theorem_at c r ≡ t
+    → IsBitRow c columns t (row_at bits width r)
+
 -- among the words of all rows, those of the theorems that theorem i cites are known
 abbrev pub HasCitedRows : Citing → List ℕ → List ℕ → ℕ → Type 0
 HasCitedRows c columns bits i =

@@ -1,15 +1,12 @@
 -- The report of citations that is written is that of the definitions.
-use Rattle.std.proofs.Common.{◌≡◌, ℕ, zero, suc, ◌<◌, Bool, false, cond, List, [], ◌∷◌}
-use Rattle.std.proofs.Common.{length, map, get_or, All, refl, sym, ap, ◌∙◌, subst, arith}
-use Rattle.std.specs.Prelude.{IsTrue, Option}
-use Rattle.std.specs.List.{AllZip, filter, list_any}
-use Rattle.std.specs.List.Sorted.{IsStrictlyIncreasing}
+use Rattle.std.proofs.Common.{◌≡◌, ℕ, zero, suc, ◌<◌, Bool, List, [], ◌∷◌}
+use Rattle.std.proofs.Common.{length, map, get_or, refl, sym, ap, subst, arith}
+use Rattle.std.specs.Prelude.{Option}
+use Rattle.std.specs.List.{AllZip, list_any}
 use Rattle.std.proofs.lemmas.List.Kept.{IsStrictlyIncreasing-filter}
 use Rattle.std.proofs.lemmas.List.FromFn.{get_or-map-range_with_len, length-map-range_with_len}
-use Rattle.mm_spec.specs.Text.{Bytes}
 use Rattle.mm_spec.specs.Statement.{Statement}
 use Rattle.mm_spec.specs.Scope.{statement_at}
-use Rattle.mm_spec.specs.Citation.{is_assertion}
 use Rattle.mm_spec.specs.Report.{CitingRow, citation_report}
 use Rattle.mm_spec.specs.Request.{Request}
 use Rattle.mm_spec.specs.declared.Choice.{Choice}
@@ -20,8 +17,7 @@ use Rattle.mm_spec.proofs.FindsLaw.{member_filter, filter_member}
 use Rattle.mm_spec.proofs.ListLaw.{member_at}
 use Rattle.mm_work.specs.Citing.{Citing, theorem_at, list_at}
 use Rattle.mm_work.specs.Judged.{AllCited}
-use Rattle.mm_report.specs.Rows.{listed, citing_row, citing_rows, citation_report_of}
-use Rattle.mm_report.specs.Rows.{AreCitationsOf}
+use Rattle.mm_report.specs.Rows.{listed, citing_row, citing_rows, AreCitationsOf}
 use Rattle.mm_run.proofs.RowsLaw.{zip_of_each}
 
 module _ (db : List Statement) (request : Request) (c : Citing)
@@ -82,10 +78,12 @@ module _ (db : List Statement) (request : Request) (c : Citing)
   pub is_citation_report : (opened : Option ℕ) (axioms : List ℕ) → axioms ≡ columns db request.only
       → request.choice ≡ Citations
       → IsReportOf request.choice db opened request
-      (citation_report_of db opened request.form request.only axioms c)
+      (citation_report request.form opened (length axioms)
+      (citing_rows db request.only c (map (label_at db) (theorems db))))
   is_citation_report opened axioms is choice =
       subst (λ (o : Choice). IsReportOf o db opened request
-      (citation_report_of db opened request.form request.only axioms c)) (sym choice) (
+      (citation_report request.form opened (length axioms)
+      (citing_rows db request.only c (map (label_at db) (theorems db))))) (sym choice) (
         citing_rows db request.only c (map (label_at db) (theorems db)),
         citing_rows_are,
         ap

@@ -14,7 +14,7 @@ use Rattle.mm_spec.specs.Output.{IsRowOf, theorems, columns, label_at, IsReportO
 use Rattle.mm_spec.proofs.ChainsLaw.{chains_alike}
 use Rattle.mm_work.specs.Citing.{Citing, HasCitation, theorem_at}
 use Rattle.mm_rows.specs.Marks.{Marks, mark, IsMatrix}
-use Rattle.mm_report.specs.Rows.{row_of, rows_of, marks_of, report_of}
+use Rattle.mm_report.specs.Rows.{row_of, rows_of, marks_of}
 use Rattle.mm_work.specs.Judged.{AllCited, Shows}
 
 -- two lists agree at each place
@@ -95,7 +95,8 @@ pub is_report : (request : Request) (db : List Statement) (opened : Option ℕ) 
     → AllCited db request.essential c → axioms ≡ columns db request.only → IsMatrix c axioms m
     → (request.choice ≡ Citations → ⊥)
     → IsReportOf request.choice db opened request
-    (report_of db opened request.form axioms m request.choice)
+    (report request.form opened (map (label_at db) axioms)
+    (rows_of m (map (label_at db) (theorems db))) request.choice)
 is_report request db opened c axioms m cited is h other =
     let h' = subst (λ (l : List ℕ). IsMatrix c l m) is h in
     let rows = rows_of m (map (label_at db) (theorems db)) in

@@ -1,37 +1,41 @@
 -- What a closed board says of the proofs.
-use Rattle.std.proofs.Common.{◌≡◌, ℕ, Bool, ◌+◌, ◌<◌, ◌⊎◌, inl, inr, List, [], ◌∷◌, get_or, refl}
+use Rattle.std.proofs.Common.{◌≡◌, ℕ, ◌+◌, ◌<◌, ◌⊎◌, inl, inr, List, [], ◌∷◌, get_or, refl}
 use Rattle.std.proofs.Common.{subst, arith, ◌∙◌}
 use Rattle.mm_spec.specs.Statement.{Statement}
 use Rattle.mm_spec.specs.Citation.{IsValid}
 use Rattle.mm_board.specs.Records.{times_in}
 use Rattle.mm_board.specs.Rule.{IsLeastReported, times_reported}
-use Rattle.mm_board.specs.Models.{BoardValue, SeatValue}
+use Rattle.mm_board.specs.Models.{SeatValue}
 use Rattle.mm_work.specs.Judged.{IsCited}
 use Rattle.mm_work.specs.Workers.{theorem_of, AreGathered, AreFindings, IsFoundFaulty}
+use Rattle.mm_work.specs.declared.job.Job.{Job}
 use Rattle.mm_work.specs.declared.worker.Findings.{Findings}
 use Rattle.mm_work.proofs.CitedLaw.{cited_valid}
 use Rattle.std.proofs.lemmas.List.{get_or_default}
 
-module _ {A : Type 0} (home : BoardValue) (db : List Statement) (by_essential : Bool)
-    (seat : SeatValue) (fs : List (Findings A)) (h : AreGathered home db by_essential seat fs) where
+module _ {A : Type 0} (job : Job A) (seat : SeatValue) (fs : List (Findings A))
+    (h : AreGathered job seat fs) where
+  abbrev db : List Statement
+  db = job.database.now.statements
+
   -- the theorems below the floor are valid
   pub valid_below : (first : ℕ) → ((x : ℕ) → x < first → times_in x seat.view.settled ≡ 1) → (n : ℕ)
       → n < first → IsValid db (theorem_of db n)
   valid_below first all n l =
       let one = all n l in
       let r = h.settled n (omega (arith, one)) in
-      let f : AreFindings db by_essential r.0 =
-      subst (λ (x : Findings A). AreFindings db by_essential x) r.1.2 (h.found r.1.0 r.0 r.1.1) in
-      cited_valid db by_essential _ _
-      (subst (λ i. IsCited db by_essential (theorem_of db i) (get_or r.0.cites r.2.0 []))
+      let f : AreFindings db job.essential r.0 =
+      subst (λ (x : Findings A). AreFindings db job.essential x) r.1.2 (h.found r.1.0 r.0 r.1.1) in
+      cited_valid db job.essential _ _
+      (subst (λ i. IsCited db job.essential (theorem_of db i) (get_or r.0.cites r.2.0 []))
       (get_or_default r.0.valid.items r.2.0 0 n r.2.1 ∙ r.2.2) (f.each r.2.0 r.2.1))
 
   -- the floor is a theorem with a fault, where it is no theorem's end
-  pub faulty_at : (first : ℕ) → IsLeastReported home.count (seat.view ∷ []) first
-      → first < home.count → IsFoundFaulty fs first
+  pub faulty_at : (first : ℕ) → IsLeastReported job.board.now.count (seat.view ∷ []) first
+      → first < job.board.now.count → IsFoundFaulty fs first
   faulty_at first least l = by least.is
     where
-      by : (first ≡ home.count) ⊎ (0 < times_reported (seat.view ∷ []) first)
+      by : (first ≡ job.board.now.count) ⊎ (0 < times_reported (seat.view ∷ []) first)
           → IsFoundFaulty fs first
       by (inl e) = absurd (omega (arith, e, l))
       by (inr p) =

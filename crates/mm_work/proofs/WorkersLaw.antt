@@ -1,24 +1,29 @@
 -- What each step does to what a worker's seat and its findings say.
 use Rattle.std.proofs.Common.{◌≡◌, ℕ, zero, suc, ◌+◌, ◌-◌, ◌<◌, ◌≤◌, ◌==◌, ◌||◌, ◌⊎◌, inl, inr, All}
-use Rattle.std.proofs.Common.{Bool, false, cond, Option, None, Some, List, [], ◌∷◌, ◌++◌, length}
-use Rattle.std.proofs.Common.{get_or, refl, sym, ap, ◌∙◌, subst, arith, length-append}
+use Rattle.std.proofs.Common.{Bool, true, false, cond, Option, None, Some, List, [], ◌∷◌, ◌++◌}
+use Rattle.std.proofs.Common.{length, get_or, refl, sym, ap, ap₂, ◌∙◌, subst, arith, true≢false}
+use Rattle.std.proofs.Common.{length-append, nat_lt}
+use Rattle.std.specs.Prelude.{is_some}
 use Rattle.std.specs.List.{Contains}
-use Rattle.std.proofs.lemmas.Bool.{cases_lt}
+use Rattle.std.proofs.lemmas.Bool.{cases_lt, lt-ltb}
 use Rattle.std.proofs.lemmas.Bool.Decides.{nat_tests}
 use Rattle.std.proofs.lemmas.List.{get_or_append_left}
 use Rattle.std.proofs.Math.Seq.{get_or-append_right}
 use Rattle.std.proofs.lemmas.List.Elements.{All-push, Contains-push, Contains-append_left}
 use Rattle.mm_spec.specs.Statement.{Statement}
 use Rattle.mm_spec.specs.Output.{theorems}
-use Rattle.mm_database.specs.Database.{Contents}
 use Rattle.mm_board.specs.declared.views.View.{View}
 use Rattle.mm_board.specs.Records.{times_in, times_open, times_recorded}
-use Rattle.mm_board.specs.Events.{after_join}
-use Rattle.mm_board.specs.Models.{BoardValue, SeatValue, IsSeatOf}
+use Rattle.mm_board.specs.Events.{after_join, after_look, after_report, after_settle, open_list}
+use Rattle.mm_board.specs.Events.{open_after_look}
+use Rattle.mm_board.specs.Models.{SeatValue, IsSeatOf}
 use Rattle.mm_board.proofs.SumsLaw.{times_in_append, times_same, times_own}
 use Rattle.mm_work.specs.Judged.{IsCited}
-use Rattle.mm_work.specs.Workers.{theorem_of, AreFindings, IsDone, AreGathered, IsFoundValid}
-use Rattle.mm_work.specs.Workers.{IsFoundFaulty, IsFaultFound}
+use Rattle.mm_work.specs.Workers.{theorem_of, AreFindings, FindsValid, FindsFault, Tells, HasDrawn}
+use Rattle.mm_work.specs.Workers.{IsBetweenTheorems, IsDone, AreGathered, IsFoundValid}
+use Rattle.mm_work.specs.Workers.{IsFoundFaulty, IsFaultFound, IsOfDatabase, IsFreshSeat}
+use Rattle.mm_work.specs.Workers.{faulty_index}
+use Rattle.mm_work.specs.declared.job.Job.{Job}
 use Rattle.mm_work.specs.declared.worker.IndexedFault.{IndexedFault}
 use Rattle.mm_work.specs.declared.worker.Findings.{Findings}
 use Rattle.mm_work.specs.declared.worker.Worked.{Worked}
@@ -49,7 +54,7 @@ times_contains x (y ∷ l) p = go (cases_lt 0 (times_in x l)) (times_contains x 
 
 module _ {A : Type 0} (db : List Statement) (by_essential : Bool) where
   -- one valid theorem more
-  pub found_more : (f g : Findings A) (i : ℕ) (cites : List ℕ) → AreFindings db by_essential f
+  found_more : (f g : Findings A) (i : ℕ) (cites : List ℕ) → AreFindings db by_essential f
       → i < length (theorems db) → IsCited db by_essential (theorem_of db i) cites
       → g.valid.items ≡ f.valid.items ++ i ∷ [] → g.cites ≡ f.cites ++ cites ∷ []
       → g.faulty ≡ f.faulty → AreFindings db by_essential g
@@ -88,6 +93,222 @@ module _ {A : Type 0} (db : List Statement) (by_essential : Bool) where
           ∙ ap (λ j. get_or (cites ∷ []) j []) y in
           rw (last, list) one
 
+module _ {A : Type 0} (job : Job A) where
+  abbrev db : List Statement
+  db = job.database.now.statements
+
+  -- nothing was found yet
+  none_found : (f : Findings A) → f.valid.items ≡ [] → f.cites ≡ [] → f.faulty ≡ None
+      → AreFindings db job.essential f
+  none_found f valid cites faulty = record {
+    count = ap length cites ∙ sym (ap length valid);
+    known =
+        subst (λ (xs : List ℕ). All (λ j. j < length (theorems db)) xs) (sym valid)
+        (λ k d l. absurd (omega arith));
+    each =
+        λ k l. absurd
+        (let none : k < 0 = subst (λ (xs : List ℕ). k < length xs) valid l in omega (arith, none));
+    faulty = subst (λ (o : Option IndexedFault). IsFaultFound db o) (sym faulty) tt;
+  }
+
+  -- what was found stays right with one theorem more
+  valid_more : (f g : Findings A) (i : ℕ) → AreFindings db job.essential f
+      → i < length (theorems db) → FindsValid job i f g → AreFindings db job.essential g
+  valid_more f g i h l v =
+      found_more db job.essential f g i v.cites h l v.cited v.valid_are v.cites_are v.faulty_is
+
+  fault_more : (f g : Findings A) (i : ℕ) → AreFindings db job.essential f
+      → i < length (theorems db) → FindsFault job i f g → AreFindings db job.essential g
+  fault_more f g i h l v = record {
+    count = ap length v.cites_are ∙ h.count ∙ sym (ap length v.valid_are);
+    known =
+        subst (λ (xs : List ℕ). All (λ j. j < length (theorems db)) xs) (sym v.valid_are) h.known;
+    each =
+        λ k m. rw (v.valid_are, v.cites_are)
+        (h.each k (subst (λ (xs : List ℕ). k < length xs) v.valid_are m));
+    faulty =
+        subst (λ (o : Option IndexedFault). IsFaultFound db o) (sym v.faulty_is) (l, v.has_fault);
+  }
+
+  -- a seat that has settled and reported the same
+  same_told : (w : Worked A) (s : SeatValue) → s.view.settled ≡ w.seat.view.settled
+      → s.view.reported ≡ w.seat.view.reported → Tells job w
+      → Tells job (record { seat = s; found = w.found })
+  same_told w s settled reported t = record {
+    found = t.found;
+    settled = settled ∙ t.settled;
+    reported = λ i p. t.reported i (subst (λ (l : List ℕ). 0 < times_in i l) reported p);
+  }
+
+  -- a worker before its first theorem
+  pub begun : (s : SeatValue) (f : Findings A) → IsFreshSeat job.board.now s → f.valid.items ≡ []
+      → f.cites ≡ [] → f.faulty ≡ None → IsBetweenTheorems job (record { seat = s; found = f })
+  begun s f fresh valid cites faulty = record {
+    at = fresh.at;
+    closed = fresh.closed;
+    tells =
+        λ short. record {
+          found = none_found f valid cites faulty;
+          settled = fresh.none_settled ∙ sym valid;
+          reported =
+              λ i p. absurd
+              (let none : 0 < times_in i [] =
+              subst (λ (l : List ℕ). 0 < times_in i l) fresh.none_reported p in
+              omega (arith, none));
+        };
+  }
+
+  -- a worker that had no memory to begin
+  pub not_begun : (s : SeatValue) (f : Findings A) → IsFreshSeat job.board.now s
+      → f.short_of_memory ≡ true → IsDone job (record { seat = s; found = f })
+  not_begun s f fresh out = record {
+    between =
+        record {
+          at = fresh.at;
+          closed = fresh.closed;
+          tells = λ short. absurd (true≢false (sym out ∙ short));
+        };
+    over = λ short. absurd (true≢false (sym out ∙ short));
+  }
+
+  -- a worker that found no number left
+  pub ended : (w : Worked A) (s : SeatValue) → IsBetweenTheorems job w → IsSeatOf job.board.now s
+      → s.view ≡ record w.seat.view { over = true }
+      → IsDone job (record { seat = s; found = w.found })
+  ended w s b at is = record {
+    between =
+        record {
+          at = at;
+          closed = ap (λ (v : View). v.open_number) is ∙ b.closed;
+          tells =
+              λ short. same_told w s (ap (λ (v : View). v.settled) is)
+              (ap (λ (v : View). v.reported) is) (b.tells short);
+        };
+    over = λ short. ap (λ (v : View). v.over) is;
+  }
+
+  -- a worker that claimed number i
+  pub claimed : (i : ℕ) (w : Worked A) (s : SeatValue) → IsOfDatabase job → IsBetweenTheorems job w
+      → i < job.board.now.count → IsSeatOf job.board.now s
+      → s.view ≡ record w.seat.view { open_number = Some i }
+      → ((x : ℕ) → 0 < times_recorded x w.seat.view → x < i)
+      → HasDrawn job i (record { seat = s; found = w.found })
+  claimed i w s home b below at is above = record {
+    theorem = subst (λ n. i < n) home.count below;
+    at = at;
+    held = ap (λ (v : View). v.open_number) is;
+    above =
+        λ x p. above x
+        (recorded x
+        (subst (λ (l : List ℕ). 0 < times_in x l) (ap (λ (v : View). v.reported) is) p));
+    tells =
+        λ short. same_told w s (ap (λ (v : View). v.settled) is)
+        (ap (λ (v : View). v.reported) is) (b.tells short);
+  }
+    where
+      recorded : (x : ℕ) → 0 < times_in x w.seat.view.reported → 0 < times_recorded x w.seat.view
+      recorded x p = omega (arith, p)
+
+  module _ (i : ℕ) (w : Worked A) (drawn : HasDrawn job i w) (s : SeatValue) (f : ℕ)
+      (looked : s.view ≡ after_look w.seat.view f) where
+    same_settled : s.view.settled ≡ w.seat.view.settled
+    same_settled = ap (λ (v : View). v.settled) looked
+
+    same_reported : s.view.reported ≡ w.seat.view.reported
+    same_reported = ap (λ (v : View). v.reported) looked
+
+    open_now : s.view.open_number ≡ open_after_look (Some i) f
+    open_now =
+        ap (λ (v : View). v.open_number) looked
+        ∙ ap (λ (o : Option ℕ). open_after_look o f) drawn.held
+
+    -- the look skipped the number
+    pub skipped : IsSeatOf job.board.now s → is_some s.view.open_number ≡ false
+        → IsBetweenTheorems job (record { seat = s; found = w.found })
+    skipped at none = record {
+      at = at;
+      closed = closed s.view.open_number none;
+      tells = λ short. same_told w s same_settled same_reported (drawn.tells short);
+    }
+      where
+        closed : (o : Option ℕ) → is_some o ≡ false → o ≡ None
+        closed None e = refl
+        closed (Some x) e = absurd (true≢false e)
+
+    -- or left it open
+    pub still_open : is_some s.view.open_number ≡ true → s.view.open_number ≡ Some i
+    still_open some =
+        open_now
+        ∙ left (nat_lt f i) (sym (ap (λ (o : Option ℕ). is_some o) open_now) ∙ some)
+      where
+        left : (b : Bool) → is_some (cond b None (Some i)) ≡ true → cond b None (Some i) ≡ Some i
+        left true e = absurd (true≢false (sym e))
+        left false e = refl
+
+    module _ (u : SeatValue) (x : ℕ) (g : Findings A) (some : is_some s.view.open_number ≡ true)
+        (at : IsSeatOf job.board.now u)
+        (short : g.short_of_memory ≡ false → w.found.short_of_memory ≡ false) where
+      -- the proof is valid, and the number was settled
+      pub settled : u.view ≡ after_settle s.view x
+          → (g.short_of_memory ≡ false → FindsValid job i w.found g)
+          → IsBetweenTheorems job (record { seat = u; found = g })
+      settled is finds = record {
+        at = at;
+        closed = ap (λ (v : View). v.open_number) is;
+        tells =
+            λ e. let t = drawn.tells (short e) in let v = finds e in record {
+              found = valid_more w.found g i t.found drawn.theorem v;
+              settled =
+                  ap (λ (v : View). v.settled) is
+                  ∙ ap₂ (λ (l : List ℕ) (o : Option ℕ). l ++ open_list o)
+                  (same_settled ∙ t.settled) (still_open some)
+                  ∙ sym v.valid_are;
+              reported =
+                  λ y p. ap faulty_index v.faulty_is
+                  ∙ t.reported y
+                  (subst (λ (l : List ℕ). 0 < times_in y l)
+                  (ap (λ (v : View). v.reported) is ∙ same_reported) p);
+            };
+      }
+
+      -- the proof has a fault, and the number was reported: it is the only one, since a look skips
+      -- all numbers above one that was reported
+      pub reported : u.view ≡ after_report s.view x
+          → ((y : ℕ) → 0 < times_in y w.seat.view.reported → f ≤ y)
+          → (g.short_of_memory ≡ false → FindsFault job i w.found g)
+          → IsBetweenTheorems job (record { seat = u; found = g })
+      reported is own finds = record {
+        at = at;
+        closed = ap (λ (v : View). v.open_number) is;
+        tells =
+            λ e. let t = drawn.tells (short e) in let v = finds e in record {
+              found = fault_more w.found g i t.found drawn.theorem v;
+              settled =
+                  ap (λ (v : View). v.settled) is ∙ same_settled ∙ t.settled ∙ sym v.valid_are;
+              reported =
+                  λ y p. ap faulty_index v.faulty_is
+                  ∙ ap Some
+                  (only y
+                  (times_both y w.seat.view.reported (i ∷ [])
+                  (subst (λ (l : List ℕ). 0 < times_in y l)
+                  (ap (λ (v : View). v.reported) is
+                  ∙ ap₂ (λ (l : List ℕ) (o : Option ℕ). l ++ open_list o) same_reported
+                  (still_open some)) p)));
+            };
+      }
+        where
+          only : (y : ℕ) → (0 < times_in y w.seat.view.reported) ⊎ (0 < times_in y (i ∷ [])) → i ≡ y
+          only y (inl h) =
+              let low = own y h in
+              let high = drawn.above y h in
+              let shut : s.view.open_number ≡ None =
+              open_now ∙ ap (λ b. cond b None (Some i)) (lt-ltb f i (omega (arith, low, high))) in
+              absurd (let no : None ≡ Some i = sym shut ∙ still_open some in cc)
+          only y (inr h) =
+              times_same y i
+              (let one : times_in y (i ∷ []) ≡ cond (i == y) 1 0 + times_in y [] = refl in
+              omega (arith, one, h))
+
 -- how many of the numbers below n stand in no part of the record
 abbrev pub fresh : ℕ → View → ℕ
 fresh zero v = 0
@@ -124,19 +345,18 @@ fresh_less (suc n) i v w h l z p = go (cases_lt i n) (λ b. fresh_less n i v w h
         (subst (λ k. times_recorded k v ≡ 0) e z) (subst (λ k. 0 < times_recorded k w) e p) in
         omega (arith, r, o)
 
-module _ {A : Type 0} (home : BoardValue) (database : Contents) (by_essential : Bool) where
+module _ {A : Type 0} (job : Job A) where
   -- one worker's seat
-  pub gathered_first : (w : Worked A) → IsDone home database by_essential w
-      → w.found.short_of_memory ≡ false
-      → AreGathered home database.statements by_essential w.seat (w.found ∷ [])
-  gathered_first w d short =
-      let t = d.tells short in
-      record {
-        at = d.at;
-        closed = d.closed;
+  pub gathered_first : (w : Worked A) (gs : List (Findings A)) → gs ≡ w.found ∷ [] → IsDone job w
+      → w.found.short_of_memory ≡ false → AreGathered job w.seat gs
+  gathered_first w gs are d short =
+      let t = d.between.tells short in
+      subst (λ (l : List (Findings A)). AreGathered job w.seat l) (sym are) (record {
+        at = d.between.at;
+        closed = d.between.closed;
         over = d.over short;
         found =
-            All-push (AreFindings database.statements by_essential) [] w.found
+            All-push (AreFindings job.database.now.statements job.essential) [] w.found
             (λ k e l. absurd (omega arith)) t.found;
         settled =
             λ i p. (
@@ -146,21 +366,22 @@ module _ {A : Type 0} (home : BoardValue) (database : Contents) (by_essential : 
                   (subst (λ (l : List ℕ). 0 < times_in i l) t.settled p),
             );
         reported = λ i p. (w.found, (0, omega arith, refl), t.reported i p);
-      }
+      })
 
   -- one more worker's seat
-  pub gathered_more : (s u : SeatValue) (fs : List (Findings A)) (w : Worked A)
-      → AreGathered home database.statements by_essential s fs → IsDone home database by_essential w
-      → w.found.short_of_memory ≡ false
-      → IsSeatOf home u → u.view ≡ after_join s.view w.seat.view
-      → AreGathered home database.statements by_essential u (fs ++ w.found ∷ [])
-  gathered_more s u fs w h d short at is =
-      let t = d.tells short in
-      record {
+  pub gathered_more : (s u : SeatValue) (fs gs : List (Findings A)) (w : Worked A)
+      → gs ≡ fs ++ w.found ∷ [] → AreGathered job s fs → IsDone job w → w.found.short_of_memory ≡ false
+      → IsSeatOf job.board.now u → u.view ≡ after_join s.view w.seat.view
+      → AreGathered job u gs
+  gathered_more s u fs gs w are h d short at is =
+      let t = d.between.tells short in
+      subst (λ (l : List (Findings A)). AreGathered job u l) (sym are) (record {
         at = at;
         closed = ap (λ (v : View). v.open_number) is ∙ h.closed;
         over = ap (λ (v : View). v.over) is ∙ ap (λ (b : Bool). b || w.seat.view.over) h.over;
-        found = All-push (AreFindings database.statements by_essential) fs w.found h.found t.found;
+        found =
+            All-push (AreFindings job.database.now.statements job.essential) fs w.found h.found
+            t.found;
         settled =
             λ i p. valid i
             (times_both i s.view.settled w.seat.view.settled
@@ -169,14 +390,14 @@ module _ {A : Type 0} (home : BoardValue) (database : Contents) (by_essential : 
             λ i p. faulty i
             (times_both i s.view.reported w.seat.view.reported
             (subst (λ (l : List ℕ). 0 < times_in i l) (ap (λ (v : View). v.reported) is) p));
-      }
+      })
     where
       valid : (i : ℕ) → (0 < times_in i s.view.settled) ⊎ (0 < times_in i w.seat.view.settled)
           → IsFoundValid (fs ++ w.found ∷ []) i
       valid i (inl p) =
           let r = h.settled i p in (r.0, Contains-append_left fs (w.found ∷ []) r.0 r.1, r.2)
       valid i (inr p) =
-          let t = d.tells short in (
+          let t = d.between.tells short in (
             w.found,
             Contains-push fs w.found,
             times_contains i w.found.valid.items
@@ -188,7 +409,7 @@ module _ {A : Type 0} (home : BoardValue) (database : Contents) (by_essential : 
       faulty i (inl p) =
           let r = h.reported i p in (r.0, Contains-append_left fs (w.found ∷ []) r.0 r.1, r.2)
       faulty i (inr p) =
-          let t = d.tells short in (w.found, Contains-push fs w.found, t.reported i p)
+          let t = d.between.tells short in (w.found, Contains-push fs w.found, t.reported i p)
 
 -- a number drawn and judged
 pub fresh_drawn : (n i : ℕ) (v w u : View) → v.open_number ≡ None
@@ -222,15 +443,19 @@ fresh_drawn n i v w u closed is l above kept = fresh_less n i v u more l unseen 
     seen = let k = kept i in let o = at-open i in let e = times_own i in omega (arith, k, o, e)
 
 -- the parts of a list whose elements all have a property
-pub All_front : {X : Type 0} (P : X → Type 0) (l : List X) (x : X) → All P (l ++ x ∷ []) → All P l
-All_front P l x h =
-    λ k d lt. let r = h k d (let n = length-append l (x ∷ []) in omega (arith, n, lt)) in
-    rw (sym (get_or_append_left l (x ∷ []) d k lt)) r
+pub All_front : {X : Type 0} (P : X → Type 0) (l m : List X) (x : X) → l ≡ m ++ x ∷ [] → All P l
+    → All P m
+All_front {X} P l m x are all =
+    let h = subst (λ (xs : List X). All P xs) are all in
+    λ k d lt. let r = h k d (let n = length-append m (x ∷ []) in omega (arith, n, lt)) in
+    rw (sym (get_or_append_left m (x ∷ []) d k lt)) r
 
-pub All_last : {X : Type 0} (P : X → Type 0) (l : List X) (x : X) → All P (l ++ x ∷ []) → P x
-All_last P l x h =
-    let r = h (length l) x (let n = length-append l (x ∷ []) in omega (arith, n)) in
-    rw (sym (last l x)) r
+pub All_last : {X : Type 0} (P : X → Type 0) (l m : List X) (x : X) → l ≡ m ++ x ∷ [] → All P l
+    → P x
+All_last {X} P l m x are all =
+    let h = subst (λ (xs : List X). All P xs) are all in
+    let r = h (length m) x (let n = length-append m (x ∷ []) in omega (arith, n)) in
+    rw (sym (last m x)) r
   where
     last : {X : Type 0} (l : List X) (x : X) → get_or (l ++ x ∷ []) (length l) x ≡ x
     last [] x = refl

@@ -1,15 +1,16 @@
--- What a worker's seat and its findings say.
-use Rattle.std.specs.Prelude.{◌≡◌, ℕ, ◌<◌, Bool, All, List, [], Option, None, Some, length, false}
-use Rattle.std.specs.Prelude.{true, slice_index, slice_index_or}
+-- What workers are lent, and what a worker's seat and its findings say.
+use Rattle.std.specs.Prelude.{◌≡◌, ℕ, ◌<◌, ◌++◌, ◌∷◌, Bool, All, List, [], Option, None, Some}
+use Rattle.std.specs.Prelude.{length, false, true, slice_index, slice_index_or}
 use Rattle.std.specs.List.{Contains}
 use Rattle.std.specs.Option.{option_map}
 use Rattle.mm_spec.specs.Statement.{Statement}
 use Rattle.mm_spec.specs.Output.{theorems}
-use Rattle.mm_database.specs.Database.{Contents}
-use Rattle.mm_board.specs.declared.views.View.{View}
+use Rattle.mm_spec.specs.declared.Fault.{Fault}
+use Rattle.mm_rules.specs.Rules.{AreRules}
 use Rattle.mm_board.specs.Records.{times_in}
 use Rattle.mm_board.specs.Models.{BoardValue, SeatValue, IsSeatOf}
 use Rattle.mm_work.specs.Judged.{IsCited, HasFault}
+use Rattle.mm_work.specs.declared.job.Job.{Job}
 use Rattle.mm_work.specs.declared.worker.IndexedFault.{IndexedFault}
 use Rattle.mm_work.specs.declared.worker.Findings.{Findings}
 use Rattle.mm_work.specs.declared.worker.Worked.{Worked}
@@ -28,7 +29,21 @@ IsFaultFound db (Some g) =
 abbrev pub faulty_index : Option IndexedFault → Option ℕ
 faulty_index g = option_map (λ f. f.index) g
 
+-- a seat that can begin to work: one of the board, which has drawn nothing yet
+pub record IsFreshSeat (home : BoardValue) (seat : SeatValue) : Type 0 where
+  pub at : IsSeatOf home seat
+  pub not_over : seat.view.over ≡ false
+  pub closed : seat.view.open_number ≡ None
+  pub none_settled : seat.view.settled ≡ []
+  pub none_reported : seat.view.reported ≡ []
+
 module _ {A : Type 0} where
+  -- the rules of the job are those of its database, and the numbers of its board are the indices of
+  -- the database's theorems
+  pub record IsOfDatabase (job : Job A) : Type 0 where
+    pub rules : AreRules job.database.now.statements job.rules.now
+    pub count : job.board.now.count ≡ length (theorems job.database.now.statements)
+
   -- what a worker found is right: the proofs that it found valid are valid, with these citations,
   -- and the fault is that of its theorem
   pub record AreFindings (db : List Statement) (by_essential : Bool) (f : Findings A) : Type 0 where
@@ -39,34 +54,56 @@ module _ {A : Type 0} where
         (slice_index_or f.cites k [])
     pub faulty : IsFaultFound db f.faulty
 
-  -- the numbers that a seat has settled are the indices of the proofs that were found valid, and
-  -- what it has reported is the index of the fault
-  pub record Tells (db : List Statement) (by_essential : Bool) (v : View)
-      (f : Findings A) : Type 0 where
-    pub found : AreFindings db by_essential f
-    pub settled : v.settled ≡ f.valid.items
-    pub reported : (i : ℕ) → 0 < times_in i v.reported → faulty_index f.faulty ≡ Some i
+  -- g is f with one theorem more whose proof is valid: that with index i, and what it cites
+  pub record FindsValid (job : Job A) (i : ℕ) (f g : Findings A) : Type 0 where
+    pub cites : List ℕ
+    pub cited : IsCited job.database.now.statements job.essential
+        (theorem_of job.database.now.statements i) cites
+    pub valid_are : g.valid.items ≡ f.valid.items ++ i ∷ []
+    pub cites_are : g.cites ≡ f.cites ++ cites ∷ []
+    pub faulty_is : g.faulty ≡ f.faulty
+
+  -- g is f with the fault of the proof of the theorem with index i
+  pub record FindsFault (job : Job A) (i : ℕ) (f g : Findings A) : Type 0 where
+    pub fault : Fault
+    pub has_fault : HasFault job.database.now.statements
+        (theorem_of job.database.now.statements i) fault
+    pub valid_are : g.valid.items ≡ f.valid.items
+    pub cites_are : g.cites ≡ f.cites
+    pub faulty_is : g.faulty ≡ Some (record { index = i; fault = fault })
+
+  -- what the worker found is right, the numbers that its seat has settled are the indices of the
+  -- proofs that it found valid, and what the seat has reported is the index of the fault
+  pub record Tells (job : Job A) (w : Worked A) : Type 0 where
+    pub found : AreFindings job.database.now.statements job.essential w.found
+    pub settled : w.seat.view.settled ≡ w.found.valid.items
+    pub reported : (i : ℕ) → 0 < times_in i w.seat.view.reported
+        → faulty_index w.found.faulty ≡ Some i
 
   -- the same if the worker didn't run out of memory
-  abbrev pub TellsUnlessShort : List Statement → Bool → View → Findings A → Type 0
-  TellsUnlessShort db by_essential v f = f.short_of_memory ≡ false → Tells db by_essential v f
+  abbrev pub TellsUnlessShort : Job A → Worked A → Type 0
+  TellsUnlessShort job w = w.found.short_of_memory ≡ false → Tells job w
 
--- a seat that can begin to work
-pub record IsFreshSeat (home : BoardValue) (seat : SeatValue) : Type 0 where
-  pub at : IsSeatOf home seat
-  pub not_over : seat.view.over ≡ false
-  pub closed : seat.view.open_number ≡ None
-  pub none_settled : seat.view.settled ≡ []
-  pub none_reported : seat.view.reported ≡ []
-
-module _ {A : Type 0} where
-  -- a worker that drew until no number was left, or that ran out of memory
-  pub record IsDone (home : BoardValue) (database : Contents) (by_essential : Bool)
-      (w : Worked A) : Type 0 where
-    pub at : IsSeatOf home w.seat
+  -- A worker between two theorems: its seat is one of the job's board and has no number open. What
+  -- it found is right, and is what the seat has settled and reported, unless memory ran out.
+  pub record IsBetweenTheorems (job : Job A) (w : Worked A) : Type 0 where
+    pub at : IsSeatOf job.board.now w.seat
     pub closed : w.seat.view.open_number ≡ None
+    pub tells : TellsUnlessShort job w
+
+  -- A worker that has drawn the theorem with index i: as between two theorems, but that this number
+  -- is open. It is above all that the seat has reported.
+  pub record HasDrawn (job : Job A) (i : ℕ) (w : Worked A) : Type 0 where
+    pub theorem : i < length (theorems job.database.now.statements)
+    pub at : IsSeatOf job.board.now w.seat
+    pub held : w.seat.view.open_number ≡ Some i
+    pub above : (x : ℕ) → 0 < times_in x w.seat.view.reported → x < i
+    pub tells : TellsUnlessShort job w
+
+  -- a worker that drew until no number was left, or that ran out of memory
+  pub record IsDone (job : Job A) (w : Worked A) : Type 0 where
+    pub between : IsBetweenTheorems job w
     pub over : w.found.short_of_memory ≡ false → w.seat.view.over ≡ true
-    pub tells : TellsUnlessShort database.statements by_essential w.seat.view w.found
 
   -- one of the workers found the proof of the theorem with this index valid
   abbrev pub IsFoundValid : List (Findings A) → ℕ → Type 0
@@ -78,11 +115,10 @@ module _ {A : Type 0} where
 
   -- the workers' seats were joined to this one, none of them ran out of memory, and this is what
   -- they found
-  pub record AreGathered (home : BoardValue) (db : List Statement) (by_essential : Bool)
-      (seat : SeatValue) (fs : List (Findings A)) : Type 0 where
-    pub at : IsSeatOf home seat
+  pub record AreGathered (job : Job A) (seat : SeatValue) (fs : List (Findings A)) : Type 0 where
+    pub at : IsSeatOf job.board.now seat
     pub closed : seat.view.open_number ≡ None
     pub over : seat.view.over ≡ true
-    pub found : All (AreFindings db by_essential) fs
+    pub found : All (AreFindings job.database.now.statements job.essential) fs
     pub settled : (i : ℕ) → 0 < times_in i seat.view.settled → IsFoundValid fs i
     pub reported : (i : ℕ) → 0 < times_in i seat.view.reported → IsFoundFaulty fs i

@@ -6,6 +6,7 @@ ghost use Rattle.mm_work.specs.Judged.{Judges};
 use crate::gate::Gate;
 use crate::gathered::work_all;
 use crate::in_order::{check_in_order, valid};
+use crate::job::Job;
 use crate::judged::Judged;
 use crate::merge::{fault_of, merge};
 use mm_board::Board;
@@ -39,13 +40,17 @@ pub fn check_all<'d, R: Threads + Wait + Sync, A: Allocator + Copy + Send + Sync
     // The proof needs the clauses of `len`.
     let _ = database.len();
     let count = database.theorems().len();
+    let rules = Rules::new(alloc, database)?;
     let Ok((board, seat)) = Board::new(alloc, count as u32) else {
         return Err(AllocError);
     };
-    let rules = Rules::new(alloc, database)?;
-    let gathered = work_all(
-        rt, alloc, database, &rules, &board, gate, seat, workers, essential,
-    )?;
+    let job = Job {
+        database,
+        rules: &rules,
+        board: &board,
+        essential,
+    };
+    let gathered = work_all(rt, alloc, &job, gate, seat, workers)?;
     if gathered.seat.share() < WHOLE {
         return check_in_order(alloc, database, &rules, essential);
     }

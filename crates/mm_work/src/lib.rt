@@ -14,6 +14,7 @@ mod all;
 mod gate;
 mod gathered;
 mod in_order;
+mod job;
 mod judged;
 mod merge;
 mod proof;

@@ -1,22 +1,18 @@
 //! A worker: draws theorems from the board and checks their proofs.
 
-ghost use Rattle.std.specs.Prelude.{◌≡◌, ◌<◌, ◌++◌, ◌∷◌, [], ℕ, None, Some, OnOk, true, false};
-ghost use Rattle.std.specs.Prelude.{length};
+ghost use Rattle.std.specs.Prelude.{◌≡◌, ◌<◌, ◌++◌, ◌∷◌, [], ℕ, None, OnOk, true, false, length};
 ghost use Rattle.mm_check.specs.Checker.{IsMadeFor};
-ghost use Rattle.mm_rules.specs.Rules.{AreRules};
 ghost use Rattle.mm_spec.specs.Output.{theorems};
-ghost use Rattle.mm_board.specs.Records.{times_in, times_recorded};
-ghost use Rattle.mm_board.specs.Models.{IsSeatOf};
-ghost use Rattle.mm_work.specs.Workers.{AreFindings, TellsUnlessShort, IsFreshSeat, IsDone};
-ghost use Rattle.mm_work.specs.Workers.{faulty_index};
+ghost use Rattle.mm_board.specs.Records.{times_recorded};
+ghost use Rattle.mm_work.specs.Workers.{FindsValid, FindsFault, IsOfDatabase, IsFreshSeat};
+ghost use Rattle.mm_work.specs.Workers.{HasDrawn, IsBetweenTheorems, IsDone};
 
 use crate::gate::Gate;
+use crate::job::Job;
 use crate::proof::{VerifyRefused, verify};
-use mm_board::{Board, Seat};
+use mm_board::Seat;
 use mm_check::Checker;
 use mm_cites::Lists;
-use mm_database::Database;
-use mm_rules::Rules;
 use mm_spec::Fault;
 use std::alloc::{AllocError, Allocator};
 
@@ -91,33 +87,27 @@ pub(crate) struct Worked<A: Allocator> {
 
 /// Checks the proof of the theorem with this index, and keeps the result. Returns whether the proof
 /// is valid and what it cites was kept.
-fn check<'a, A: Allocator + Copy>(
+fn check<A: Allocator + Copy>(
     alloc: A,
-    database: &Database<'a, A>,
+    job: &Job<'_, '_, A>,
     checker: &mut Checker<'_, A>,
     found: &mut Findings<A>,
     index: u32,
-    essential: bool,
 ) -> bool
-    requires index { index < length (theorems database.now.statements) }
-    requires made_for { IsMadeFor database.now.statements checker.old }
-    requires found { found.old.short_of_memory ≡ false
-        → AreFindings database.now.statements essential found.old }
-    ensures made_for { IsMadeFor database.now.statements checker.new }
+    requires index { index < length (theorems job.now.database.now.statements) }
+    requires made_for { IsMadeFor job.now.database.now.statements checker.old }
+    ensures made_for { IsMadeFor job.now.database.now.statements checker.new }
     ensures short { found.new.short_of_memory ≡ false → found.old.short_of_memory ≡ false }
-    ensures found { found.new.short_of_memory ≡ false
-        → AreFindings database.now.statements essential found.new }
     ensures valid { found.new.short_of_memory ≡ false → result ≡ true
-        → (found.new.valid.items ≡ found.old.valid.items ++ index ∷ [])
-        × (found.new.faulty ≡ found.old.faulty) }
+        → FindsValid job.now index found.old found.new }
     ensures faulty { found.new.short_of_memory ≡ false → result ≡ false
-        → (found.new.valid.items ≡ found.old.valid.items)
-        × (faulty_index found.new.faulty ≡ Some index) }
+        → FindsFault job.now index found.old found.new }
 {
+    let database = job.database;
     // The proof needs the clauses of `len`.
     let _ = database.len();
     let theorem = database.theorems()[index as usize];
-    match verify(alloc, database, checker, theorem, essential) {
+    match verify(alloc, database, checker, theorem, job.essential) {
         Ok(checked) => match found.keep(index, checked.cites()) {
             Ok(()) => return true,
             Err(_) => found.short_of_memory = true,
@@ -130,43 +120,27 @@ fn check<'a, A: Allocator + Copy>(
 
 /// Looks whether the theorem that the seat has drawn is still wanted, and if so checks its proof,
 /// and then settles or reports it.
-fn settle_drawn<'a, A: Allocator + Copy>(
+fn settle_drawn<A: Allocator + Copy>(
     alloc: A,
-    database: &Database<'a, A>,
-    board: &Board<A>,
+    job: &Job<'_, '_, A>,
     checker: &mut Checker<'_, A>,
     worked: &mut Worked<A>,
     index: u32,
-    essential: bool,
 )
-    requires index { index < length (theorems database.now.statements) }
-    requires made_for { IsMadeFor database.now.statements checker.old }
-    requires home { IsSeatOf board.now worked.old.seat }
-    requires held { worked.old.seat.view.open_number ≡ Some index }
-    requires above { (i : ℕ) → 0 < times_in i worked.old.seat.view.reported → i < index }
-    requires tells { TellsUnlessShort database.now.statements essential worked.old.seat.view
-        worked.old.found }
-    ensures made_for { IsMadeFor database.now.statements checker.new }
-    ensures home { IsSeatOf board.now worked.new.seat }
-    ensures closed { worked.new.seat.view.open_number ≡ None }
+    requires made_for { IsMadeFor job.now.database.now.statements checker.old }
+    requires drawn { HasDrawn job.now index worked.old }
+    ensures made_for { IsMadeFor job.now.database.now.statements checker.new }
+    ensures between { IsBetweenTheorems job.now worked.new }
     ensures over { worked.new.seat.view.over ≡ worked.old.seat.view.over }
     ensures kept { (i : ℕ)
         → times_recorded i worked.new.seat.view ≡ times_recorded i worked.old.seat.view }
-    ensures tells { TellsUnlessShort database.now.statements essential worked.new.seat.view
-        worked.new.found }
 {
+    let board = job.board;
     board.look(&mut worked.seat);
     if worked.seat.held().is_none() {
         return;
     }
-    if check(
-        alloc,
-        database,
-        checker,
-        &mut worked.found,
-        index,
-        essential,
-    ) {
+    if check(alloc, job, checker, &mut worked.found, index) {
         board.settle(&mut worked.seat, index);
     } else {
         board.report(&mut worked.seat, index);
@@ -174,40 +148,29 @@ fn settle_drawn<'a, A: Allocator + Copy>(
 }
 
 /// The work of one worker: draws theorems until none is left, and skips, settles or reports each.
-pub(crate) fn work<'a, A: Allocator + Copy, G: Gate>(
+pub(crate) fn work<A: Allocator + Copy, G: Gate>(
     alloc: A,
-    database: &Database<'a, A>,
-    board: &Board<A>,
-    rules: &Rules<A>,
+    job: &Job<'_, '_, A>,
     gate: &G,
     seat: Seat,
     worker: u32,
-    essential: bool,
 ) -> Worked<A>
-    requires rules { AreRules database.now.statements rules.now }
-    requires ready { IsFreshSeat board.now seat }
-    requires count { board.now.count ≡ length (theorems database.now.statements) }
-    ensures { IsDone board.now database.now essential result }
+    requires job { IsOfDatabase job.now }
+    requires ready { IsFreshSeat job.now.board.now seat }
+    ensures { IsDone job.now result }
 {
     let mut worked = Worked {
         seat,
         found: Findings::new(alloc),
     };
-    let Ok(mut checker) = Checker::new(alloc, database, rules) else {
+    let Ok(mut checker) = Checker::new(alloc, job.database, job.rules) else {
         worked.found.short_of_memory = true;
         return worked;
     };
+    let board = job.board;
     while let Some(index) = board.claim(&mut worked.seat) {
         gate.enter(worker, index);
-        settle_drawn(
-            alloc,
-            database,
-            board,
-            &mut checker,
-            &mut worked,
-            index,
-            essential,
-        );
+        settle_drawn(alloc, job, &mut checker, &mut worked, index);
     }
     worked
 }

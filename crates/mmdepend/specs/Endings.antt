@@ -1,7 +1,7 @@
 -- How the program ends: what the words request, what is read and written, the message and the
 -- status.
-use Rattle.std.specs.Prelude.{◌++◌, ℕ, List, [], ◌∷◌, take, codes, Option, Some, None, IsSome}
-use Rattle.std.specs.Prelude.{bytes_eq, if◌then◌else◌}
+use Rattle.std.specs.Prelude.{◌≡◌, ◌++◌, ℕ, List, [], ◌∷◌, take, codes, Option, Some, None}
+use Rattle.std.specs.Prelude.{IsSome, bytes_eq, if◌then◌else◌}
 use Rattle.std.specs.Option.{option_map}
 use Rattle.std.specs.String.{string_bytes}
 use Rattle.std.specs.Io.KnownBytes.{Appends, Keeps}
@@ -53,7 +53,8 @@ module _ {File : Type 0} (remaining : File → Option (List ℕ)) where
   IsEndingOf words (Helped text) before after held holds =
       IsLineRefusal words (Help text) × Keeps before after × Appends held holds (string_bytes text)
   IsEndingOf words (HelpFailed text) before after held holds =
-      IsLineRefusal words (Help text) × Keeps before after × IsWrittenPrefix held holds (string_bytes text)
+      IsLineRefusal words (Help text) × Keeps before after
+      × IsWrittenPrefix held holds (string_bytes text)
   IsEndingOf words (Misread text) before after held holds =
       IsLineRefusal words (Bad text) × Keeps before after × Keeps held holds
   IsEndingOf words NoMemory before after held holds = Keeps before after × Keeps held holds
@@ -92,3 +93,14 @@ message_of (HelpFailed text) = message (codes "writing failed")
 message_of (Misread text) = string_bytes text
 message_of NotOpened = message (codes "cannot open the file")
 message_of NoMemory = message (codes "out of memory")
+
+-- How the program ended: the words, what was read and what was written to the output are those of
+-- this ending; its message, or a prefix of it, was written to standard error; and the status is its
+-- status.
+module _ {File : Type 0} (remaining : File → Option (List ℕ)) where
+  pub record Ended (words : List Text) (status : ℕ)
+      (before after held holds told tells : Option (List ℕ)) : Type 0 where
+    pub ending : Ending
+    pub is_ending : IsEndingOf remaining words ending before after held holds
+    pub message_written : IsWrittenPrefix told tells (message_of ending)
+    pub status_is : status ≡ status_of ending

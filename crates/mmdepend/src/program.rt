@@ -2,8 +2,7 @@
 
 ghost use Rattle.std.specs.Prelude.{◌≡◌, IsTrue, map, option_map};
 ghost use Rattle.std.specs.Io.KnownBytes.{Appends};
-ghost use Rattle.mmdepend.specs.Endings.{IsWrittenPrefix, IsEndingOf, message_of, opens, status_of};
-ghost use Rattle.mmdepend.specs.declared.ending.Ending.{Ending as End};
+ghost use Rattle.mmdepend.specs.Endings.{Ended, IsEndingOf, IsWrittenPrefix, opens};
 
 use crate::ending::Ending;
 use mm_line::{Line, LineRefused, line};
@@ -88,11 +87,10 @@ pub fn status<S: AsStr, R: Threads + Wait + Files + Sync, I: Read, O: Write, E: 
     output: &mut O,
     errors: &mut E,
 ) -> u8
-    ensures { (ending : End)
-        × IsEndingOf R.File.remaining (map S.text words.now) ending (I.remaining input.old)
-        (I.remaining input.new) (O.contents output.old) (O.contents output.new)
-        × IsWrittenPrefix (E.contents errors.old) (E.contents errors.new) (message_of ending)
-        × (result ≡ status_of ending) }
+    ensures { Ended R.File.remaining (map S.text words.now) result
+        (I.remaining input.old) (I.remaining input.new)
+        (O.contents output.old) (O.contents output.new)
+        (E.contents errors.old) (E.contents errors.new) }
 {
     let ending = end(rt, alloc, words, input, output);
     let _ = put(errors, ending.message());

@@ -1,7 +1,5 @@
-use Rattle.std.proofs.Common.{◌≡◌, ◌<◌, length, sym, ◌∙◌, ap, arith, ℕ}
+use Rattle.std.proofs.Common.{◌<◌, length, sym, ◌∙◌, arith}
 use Rattle.std.specs.Option.{option_map}
-use Rattle.std.proofs.lemmas.List.{take_all}
-use Rattle.mm_report.specs.Rows.{listed}
 use Rattle.mm_report.proofs.CitationLaw.{count_more, count_same}
 use Rattle.mm_report.proofs.citations.listed_count.Goals as goal
 use Rattle.mm_report.proofs.citations.listed_count.Goals.{then-is_chosen, else-is_chosen}

@@ -1,4 +1,4 @@
-use Rattle.std.proofs.Common.{ℕ, ◌≡◌, ◌∙◌, List, [], ◌∷◌, ◌++◌, length, map, sym, ap, append_assoc}
+use Rattle.std.proofs.Common.{ℕ, ◌∙◌, map, sym, ap}
 use Rattle.std.proofs.Common.{decimal}
 use Rattle.std.specs.Option.{option_map}
 use Rattle.std.proofs.lemmas.List.{length-map}

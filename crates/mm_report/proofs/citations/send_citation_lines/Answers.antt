@@ -1,16 +1,13 @@
-use Rattle.std.proofs.Common.{ℕ, ◌≡◌, ◌<◌, [], ◌∙◌, ap, ap₂, sym, map, arith, zero-add, length, All}
-use Rattle.std.proofs.Common.{List, subst, true}
+use Rattle.std.proofs.Common.{ℕ, ◌≡◌, ◌<◌, [], ◌∙◌, ap, ap₂, sym, map, arith, zero-add, length}
+use Rattle.std.proofs.Common.{List, subst}
 use Rattle.std.specs.Prelude.{flat_map, slice_index_or}
 use Rattle.std.specs.Option.{option_map}
-use Rattle.std.specs.List.{range_with_len, list_any}
+use Rattle.std.specs.List.{range_with_len}
 use Rattle.std.proofs.lemmas.List.{flat_map_more}
 use Rattle.std.proofs.lemmas.List.FromFn.{map-range_with_len_more}
 use Rattle.mm_spec.specs.Text.{Bytes}
-use Rattle.mm_spec.specs.Scope.{statement_at}
-use Rattle.mm_spec.specs.Citation.{is_assertion}
-use Rattle.mm_spec.specs.Output.{label_at}
 use Rattle.mm_spec.specs.Report.{CitingRow, citation_line, list_line}
-use Rattle.mm_report.specs.Rows.{citing_row, listed}
+use Rattle.mm_report.specs.Rows.{AreAssertions, citing_row, listed_labels}
 use Rattle.mm_report.proofs.SentLaw.{sent_none, sent_more, sent_as}
 use Rattle.mm_report.proofs.citations.send_citation_lines.Goals as goal
 
@@ -24,8 +21,7 @@ loop-i-init g c =
 pub send_citation_line-requires : goal.send_citation_line-requires
 send_citation_line-requires g c =
     let l : c.loop-i.i < length c.args.citations.now.theorems = omega arith in
-    subst (λ (xs : List ℕ). All
-    (λ a. list_any is_assertion (statement_at c.args.database.now.statements a) ≡ true) xs)
+    subst (λ (xs : List ℕ). AreAssertions c.args.database.now.statements xs)
     (sym c.of.ensures.list) (c.requires.cited.assertions c.loop-i.i l)
 
 pub loop-i-preserved : goal.loop-i-preserved
@@ -39,7 +35,7 @@ loop-i-preserved g c =
     ap (flat_map citation_line) (map-range_with_len_more f 0 i i (zero-add i))
     ∙ sym (flat_map_more citation_line [] (map f (range_with_len 0 i)) (f i)) in
     let line =
-    ap₂ (λ (w : Bytes) (xs : List ℕ). list_line w (map (label_at db) (listed db only xs)))
+    ap₂ (λ (w : Bytes) (xs : List ℕ). list_line w (listed_labels db only xs))
     c.label.ensures c.of.ensures.list in
     record {
       within = omega arith;

@@ -6,7 +6,7 @@ use Rattle.mm_spec.specs.Text.{Bytes}
 use Rattle.mm_spec.specs.Report.{joined}
 use Rattle.mm_spec.specs.Output.{label_at}
 use Rattle.mm_report.specs.Rows.{listed, next_label}
-use Rattle.mm_report.proofs.SentLaw.{sent_none, sent_more, sent_as}
+use Rattle.mm_report.proofs.SentLaw.{sent_more, sent_as}
 use Rattle.mm_report.proofs.CitationLaw.{labels, first_same, labels_more, joined_next}
 use Rattle.mm_report.proofs.citations.send_cited.Goals as goal
 use Rattle.mm_report.proofs.citations.send_cited.Goals.{then-is_chosen, else-is_chosen}

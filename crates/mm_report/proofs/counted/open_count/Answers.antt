@@ -1,9 +1,7 @@
 use Rattle.std.proofs.Common.{◌≡◌, ◌∙◌, ◌<◌, ◌&&◌, ℕ, Bool, List, length, get_or, sym, ap, subst}
 use Rattle.std.proofs.Common.{arith}
 use Rattle.std.specs.List.{list_any}
-use Rattle.std.proofs.lemmas.List.{take_all}
 use Rattle.std.proofs.lemmas.List.Sums.{count_by_more_yes, count_by_more_no}
-use Rattle.std.specs.Prelude.{count_by}
 use Rattle.mm_spec.specs.Opened.{is_open}
 use Rattle.mm_spec.specs.Scope.{statement_at}
 use Rattle.mm_report.proofs.counted.open_count.Goals as goal

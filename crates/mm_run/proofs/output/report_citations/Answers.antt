@@ -22,7 +22,8 @@ returns-in-Ok-write_citations g c =
     let axioms : c.in-Ok.columns ≡ columns db request.only =
     c.in-Ok.ensures ∙ ap (columns db) c.typecode.ensures in
     let bytes : Option Bytes → List ℕ =
-    λ only. citation_report_of db opened request.form only c.in-Ok.columns c.args.citations.now in (
+    λ only. citation_report_of c.args.database.now request.with_open request.form only
+    c.in-Ok.columns c.args.citations.now in (
       (c.args.database.now.read, c.requires.sound),
       (
         bytes request.only,
@@ -44,7 +45,8 @@ returns g c =
     let axioms : c.in-Ok.columns ≡ columns db request.only =
     c.in-Ok.ensures ∙ ap (columns db) c.typecode.ensures in
     let bytes : Option Bytes → List ℕ =
-    λ only. citation_report_of db opened request.form only c.in-Ok.columns c.args.citations.now in
+    λ only. citation_report_of c.args.database.now request.with_open request.form only
+    c.in-Ok.columns c.args.citations.now in
     let cut = c.in-Err.ensures.err in (
       bytes request.only,
       cut.0,

@@ -15,7 +15,8 @@ returns-in-Ok-write_report g c =
     c.in-Ok.ensures ∙ ap (columns db) c.typecode.ensures in (
       (c.args.database.now.read, c.requires.sound),
       (
-        report_of db opened request.form c.in-Ok.columns c.in-Ok-table_of.table request.choice,
+        report_of c.args.database.now request.with_open request.form c.in-Ok.columns
+            c.in-Ok-table_of.table request.choice,
         written c.args.database.now.text request c.args.database.now c.in-Ok.columns _
             c.requires.counted c.requires.sound axioms
             (is_report request db opened c.args.citations.now c.in-Ok.columns c.in-Ok-table_of.table
@@ -32,7 +33,8 @@ returns g c =
     let axioms : c.in-Ok.columns ≡ columns db request.only =
     c.in-Ok.ensures ∙ ap (columns db) c.typecode.ensures in
     let cut = c.in-Err.ensures.err in (
-      report_of db opened request.form c.in-Ok.columns c.in-Ok-table_of.table request.choice,
+      report_of c.args.database.now request.with_open request.form c.in-Ok.columns
+          c.in-Ok-table_of.table request.choice,
       cut.0,
       written c.args.database.now.text request c.args.database.now c.in-Ok.columns _
           c.requires.counted c.requires.sound axioms

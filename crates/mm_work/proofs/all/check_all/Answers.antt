@@ -1,5 +1,6 @@
 use Rattle.std.proofs.Common.{◌≡◌, ◌<◌, All, ℕ, List, length, sym, ap, subst, arith}
 use Rattle.std.specs.List.{list_any}
+use Rattle.std.proofs.lemmas.Result.{IfOk-from_err}
 use Rattle.mm_spec.specs.Citation.{is_theorem}
 use Rattle.mm_spec.specs.Output.{theorems}
 use Rattle.mm_spec.specs.Scope.{statement_at}
@@ -27,7 +28,6 @@ fault_of-requires-clause-found g c =
 
 pub fault_of-requires-clause-faulty : goal.fault_of-requires-clause-faulty
 fault_of-requires-clause-faulty g c =
-    let db = c.args.database.now.statements in
     let all : c.in_ok-gathered.gathered.seat.view.share ≡ 64 =
     let s = c.share.ensures.share in let r = c.share.ensures.range.1 in
     let f = c.if-share-lt-WHOLE.false in omega (arith, s, r, f) in
@@ -36,9 +36,8 @@ fault_of-requires-clause-faulty g c =
     let l = c.if-first-count.true in omega (arith, l, count) in
     subst (λ (fs : List (Findings _)). IsFoundFaulty fs c.close-first.result.0)
     (sym c.deref.ensures.value)
-    (faulty_at c.in-Ok.board db c.args.essential c.in_ok-gathered.gathered.seat
-    c.in_ok-gathered.gathered.found.items c.in_ok-gathered.ensures c.close-first.result.0
-    (c.close-first.ensures.whole all).0 within)
+    (faulty_at _ c.in_ok-gathered.gathered.seat c.in_ok-gathered.gathered.found.items
+    c.in_ok-gathered.ensures c.close-first.result.0 (c.close-first.ensures.whole all).0 within)
 
 pub returns-then-first-count : goal.returns-then-first-count
 returns-then-first-count g c =
@@ -51,9 +50,8 @@ returns-then-first-count g c =
     let l = c.if-first-count.true in
     first_fault db c.theorems-count.ensures.few c.len.ensures.complete c.close-first.result.0
     c.fault_of.result
-    (valid_below c.in-Ok.board db c.args.essential c.in_ok-gathered.gathered.seat
-    c.in_ok-gathered.gathered.found.items h c.close-first.result.0
-    (c.close-first.ensures.finished all h.over h.closed))
+    (valid_below _ c.in_ok-gathered.gathered.seat c.in_ok-gathered.gathered.found.items h
+    c.close-first.result.0 (c.close-first.ensures.finished all h.over h.closed))
     (omega (arith, same, l)) c.fault_of.ensures
 
 pub merge-requires-clause-found : goal.merge-requires-clause-found
@@ -76,3 +74,24 @@ merge-requires-clause-valid g c =
     (λ i l. let one = c.close-first.ensures.finished all h.over h.closed i
     (omega (arith, same, past, l)) in
     h.settled i (omega (arith, one)))
+
+pub returns-in_err-rules : goal.returns-in_err-rules
+returns-in_err-rules g c = IfOk-from_err c.from_residual.result _ c.from_residual.ensures.0
+
+pub returns-in_default : goal.returns-in_default
+returns-in_default g c = tt
+
+pub returns-in_err-gathered : goal.returns-in_err-gathered
+returns-in_err-gathered g c =
+    IfOk-from_err c.from_residual-in_err-gathered.result _
+    c.from_residual-in_err-gathered.ensures.0
+
+pub returns-then-share-lt-WHOLE : goal.returns-then-share-lt-WHOLE
+returns-then-share-lt-WHOLE g c = c.check_in_order.ensures
+
+pub returns-in_err-lists : goal.returns-in_err-lists
+returns-in_err-lists g c =
+    IfOk-from_err c.from_residual-in_err-lists.result _ c.from_residual-in_err-lists.ensures.0
+
+pub returns : goal.returns
+returns g c = c.valid.ensures

@@ -4,8 +4,8 @@ use Rattle.mm_work.proofs.gathered.join_all.Given as goal
 
 abbrev pub invariant-loop-other : goal.invariant-loop-other
 invariant-loop-other g l = record {
-  gathered : AreGathered l.board l.database.statements l.essential l.seat l.all.items;
-  others : All (λ w. IsDone l.board l.database l.essential w) l.others.items;
+  gathered : AreGathered l.job l.seat l.all.items;
+  others : All (IsDone l.job) l.others.items;
 }
 
 abbrev pub decreases-loop-other : goal.decreases-loop-other

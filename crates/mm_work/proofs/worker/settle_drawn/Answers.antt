@@ -1,26 +1,50 @@
-use Rattle.std.proofs.Common.{◌∙◌}
+use Rattle.std.proofs.Common.{◌∙◌, Bool, Option, ℕ, ap, sym}
+use Rattle.std.specs.Prelude.{is_some, not}
+use Rattle.mm_board.specs.declared.views.View.{View}
+use Rattle.mm_work.proofs.WorkersLaw.{skipped, still_open, settled, reported}
 use Rattle.mm_work.proofs.worker.settle_drawn.Goals as goal
 
+pub look-requires : goal.look-requires
+look-requires g c = record { home = c.requires.drawn.at }
+
 pub check-requires-clause-index : goal.check-requires-clause-index
-check-requires-clause-index g c = c.requires.index
+check-requires-clause-index g c = c.requires.drawn.theorem
 
 pub check-requires-clause-made_for : goal.check-requires-clause-made_for
 check-requires-clause-made_for g c = c.requires.made_for
 
-pub check-requires-clause-found : goal.check-requires-clause-found
-check-requires-clause-found g c = λ short. (c.requires.tells short).found
-
 pub settle-requires-clause-home : goal.settle-requires-clause-home
 settle-requires-clause-home g c = c.look.ensures.home
+
+pub settle-requires-clause-held : goal.settle-requires-clause-held
+settle-requires-clause-held g c =
+    still_open c.args.job.now c.args.index c.args.worked.now c.requires.drawn c.look.new.seat
+    c.look.result c.look.ensures.event.1
+    (ap (λ (o : Option ℕ). is_some o) (sym c.held.ensures) ∙ c.is_none.ensures
+    ∙ ap (λ (b : Bool). not b) c.if-is_none.false)
 
 pub report-requires-clause-home : goal.report-requires-clause-home
 report-requires-clause-home g c = c.look.ensures.home
 
+pub report-requires-clause-held : goal.report-requires-clause-held
+report-requires-clause-held g c =
+    still_open c.args.job.now c.args.index c.args.worked.now c.requires.drawn c.look.new.seat
+    c.look.result c.look.ensures.event.1
+    (ap (λ (o : Option ℕ). is_some o) (sym c.held.ensures) ∙ c.is_none.ensures
+    ∙ ap (λ (b : Bool). not b) c.if-is_none.false)
+
 pub returns-then-is_none-clause-made_for : goal.returns-then-is_none-clause-made_for
 returns-then-is_none-clause-made_for g c = c.requires.made_for
 
-pub returns-then-is_none-clause-home : goal.returns-then-is_none-clause-home
-returns-then-is_none-clause-home g c = c.look.ensures.home
+pub returns-then-is_none-clause-between : goal.returns-then-is_none-clause-between
+returns-then-is_none-clause-between g c =
+    skipped c.args.job.now c.args.index c.args.worked.now c.requires.drawn c.look.new.seat
+    c.look.result c.look.ensures.event.1 c.look.ensures.home
+    (ap (λ (o : Option ℕ). is_some o) (sym c.held.ensures) ∙ c.is_none.ensures
+    ∙ ap (λ (b : Bool). not b) c.if-is_none.true)
+
+pub returns-then-is_none-clause-over : goal.returns-then-is_none-clause-over
+returns-then-is_none-clause-over g c = ap (λ (v : View). v.over) c.look.ensures.event.1
 
 pub returns-then-is_none-clause-kept : goal.returns-then-is_none-clause-kept
 returns-then-is_none-clause-kept g c = c.look.ensures.kept
@@ -28,8 +52,20 @@ returns-then-is_none-clause-kept g c = c.look.ensures.kept
 pub returns-then-check-clause-made_for : goal.returns-then-check-clause-made_for
 returns-then-check-clause-made_for g c = c.check.ensures.made_for
 
-pub returns-then-check-clause-home : goal.returns-then-check-clause-home
-returns-then-check-clause-home g c = c.settle.ensures.home
+pub returns-then-check-clause-between : goal.returns-then-check-clause-between
+returns-then-check-clause-between g c =
+    settled c.args.job.now c.args.index c.args.worked.now c.requires.drawn c.look.new.seat
+    c.look.result c.look.ensures.event.1 c.settle.new.seat c.settle.ensures.event.0
+    c.check.new.found
+    (ap (λ (o : Option ℕ). is_some o) (sym c.held.ensures) ∙ c.is_none.ensures
+    ∙ ap (λ (b : Bool). not b) c.if-is_none.false)
+    c.settle.ensures.home c.check.ensures.short c.settle.ensures.event.2
+    (λ short. c.check.ensures.valid short c.if-check.true)
+
+pub returns-then-check-clause-over : goal.returns-then-check-clause-over
+returns-then-check-clause-over g c =
+    ap (λ (v : View). v.over) c.settle.ensures.event.2
+    ∙ ap (λ (v : View). v.over) c.look.ensures.event.1
 
 pub returns-then-check-clause-kept : goal.returns-then-check-clause-kept
 returns-then-check-clause-kept g c = λ i. c.settle.ensures.kept i ∙ c.look.ensures.kept i
@@ -37,8 +73,20 @@ returns-then-check-clause-kept g c = λ i. c.settle.ensures.kept i ∙ c.look.en
 pub returns-else-check-clause-made_for : goal.returns-else-check-clause-made_for
 returns-else-check-clause-made_for g c = c.check.ensures.made_for
 
-pub returns-else-check-clause-home : goal.returns-else-check-clause-home
-returns-else-check-clause-home g c = c.report.ensures.home
+pub returns-else-check-clause-between : goal.returns-else-check-clause-between
+returns-else-check-clause-between g c =
+    reported c.args.job.now c.args.index c.args.worked.now c.requires.drawn c.look.new.seat
+    c.look.result c.look.ensures.event.1 c.report.new.seat c.report.ensures.event.0
+    c.check.new.found
+    (ap (λ (o : Option ℕ). is_some o) (sym c.held.ensures) ∙ c.is_none.ensures
+    ∙ ap (λ (b : Bool). not b) c.if-is_none.false)
+    c.report.ensures.home c.check.ensures.short c.report.ensures.event.2 c.look.ensures.own
+    (λ short. c.check.ensures.faulty short c.if-check.false)
+
+pub returns-else-check-clause-over : goal.returns-else-check-clause-over
+returns-else-check-clause-over g c =
+    ap (λ (v : View). v.over) c.report.ensures.event.2
+    ∙ ap (λ (v : View). v.over) c.look.ensures.event.1
 
 pub returns-else-check-clause-kept : goal.returns-else-check-clause-kept
 returns-else-check-clause-kept g c = λ i. c.report.ensures.kept i ∙ c.look.ensures.kept i

@@ -4,8 +4,6 @@ use Rattle.mm_work.proofs.gathered.fn.work_all.scope.Given as goal
 
 abbrev pub invariant-loop-worker : goal.invariant-loop-worker
 invariant-loop-worker g l = record {
-  ready : IsFreshSeat l.board l.mine;
-  promised : All
-      (λ h. (h.promise.0.now ≡ l.board) × (h.promise.1.now ≡ l.database)
-      × (h.promise.2 ≡ l.essential)) l.handles.items;
+  ready : IsFreshSeat l.job.board.now l.mine;
+  promised : All (λ h. h.promise.now ≡ l.job) l.handles.items;
 }
