@@ -19,7 +19,7 @@ use Rattle.mm_spec.proofs.FindsLaw.{inside_of}
 use Rattle.mm_database.specs.Database.{last_place}
 use Rattle.mm_rules.specs.Rules.{RuleLists}
 use Rattle.mm_machine.specs.Arena.{AreDisjointAt}
-use Rattle.mm_machine.specs.State.{State, state}
+use Rattle.mm_machine.specs.State.{MachineState, machine_state}
 use Rattle.mm_check.specs.Contract.{IsChecked}
 use Rattle.mm_check.specs.Reached.{Reached, AreStepsOf, steps_of}
 use Rattle.mm_check.specs.Checker.{CheckerState, checker_state, AreOf, HasPerformed}
@@ -29,8 +29,9 @@ use Rattle.mm_check.proofs.ReachLaw.{derives, ends_with, end_is}
 
 module _ (k : List Statement) (t : ℕ) (steps : List PlacedStep) where
   -- no step is performed yet
-  pub begins : (m : State) (rules : RuleLists) (noted : List ℕ) (cache : List (ℕ × ℕ)) (width : ℕ)
-      → AreOf k width rules → AreStepsOf k t steps → m ≡ state [] [] [] width → noted ≡ []
+  pub begins : (m : MachineState) (rules : RuleLists) (noted : List ℕ) (cache : List (ℕ × ℕ))
+      → (width : ℕ)
+      → AreOf k width rules → AreStepsOf k t steps → m ≡ machine_state [] [] [] width → noted ≡ []
       → AreDisjointAt k t cache → HasPerformed k t steps 0 (checker_state m rules noted cache)
   begins m rules noted cache width made are fresh none p = record {
     at = record {

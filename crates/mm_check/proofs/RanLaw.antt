@@ -14,7 +14,7 @@ use Rattle.mm_spec.specs.Statement.{Statement}
 use Rattle.mm_spec.specs.Citation.{context_at}
 use Rattle.mm_spec.specs.Laws.Stack.{IsGoodStep, step_entries, top}
 use Rattle.mm_steps.specs.Read.{step_at, is_marked, takes_up}
-use Rattle.mm_machine.specs.State.{State, state, with_mark, reason_of}
+use Rattle.mm_machine.specs.State.{MachineState, machine_state, with_mark, reason_of}
 use Rattle.mm_machine.specs.declared.machine.Stopped.{Stopped}
 use Rattle.mm_machine.specs.declared.machine.Stopped.TheVariants.{Fault, Memory}
 use Rattle.mm_check.specs.Contract.{IsReady, StepRefuses, refusal_at}
@@ -97,7 +97,7 @@ module _ (k : List Statement) (t : ℕ) (steps : List PlacedStep) (i : ℕ) (c :
       ≡ Err (reason_of reason)) is (stop p.ran.ends p.ran.agree)))
 
   -- what is kept after the step
-  next_ran : (d : CheckerState) (m : State) (b : Bool) → is_marked steps i ≡ b
+  next_ran : (d : CheckerState) (m : MachineState) (b : Bool) → is_marked steps i ≡ b
       → Performs k t a c d → m ≡ with_mark b i d.machine → Ran k t steps (i + 1) m d.noted
   next_ran d m b is_b made kept =
       subst (λ o. Ran k t steps (i + 1) o d.noted) (sym kept) (by b is_b)
@@ -167,7 +167,7 @@ module _ (k : List Statement) (t : ℕ) (steps : List PlacedStep) (i : ℕ) (c :
               let q : i ≡ j = omega (arith, h, l) in
               subst (Contains (d.machine.marks ++ i ∷ [])) q (Contains-push d.machine.marks i)
 
-  pub performs_next : (d : CheckerState) (m : State) (b : Bool) → is_marked steps i ≡ b
+  pub performs_next : (d : CheckerState) (m : MachineState) (b : Bool) → is_marked steps i ≡ b
       → Performs k t a c d → IsAt k t d → m ≡ with_mark b i d.machine → m.width ≡ d.machine.width
       → HasPerformed k t steps (i + 1) (checker_state m d.rules d.noted d.cache)
   performs_next d m b is_b made at kept width = record {
@@ -177,9 +177,10 @@ module _ (k : List Statement) (t : ℕ) (steps : List PlacedStep) (i : ℕ) (c :
   }
 
 -- no step so far
-pub none_ran : (k : List Statement) (t : ℕ) (steps : List PlacedStep) (s : State) (noted : List ℕ)
+pub none_ran : (k : List Statement) (t : ℕ) (steps : List PlacedStep) (s : MachineState)
+    → (noted : List ℕ)
     → (w : ℕ)
-    → s ≡ state [] [] [] w → noted ≡ [] → Ran k t steps 0 s noted
+    → s ≡ machine_state [] [] [] w → noted ≡ [] → Ran k t steps 0 s noted
 none_ran k t steps s noted w e n = rw e (record {
   ends = [];
   count = refl;

@@ -11,7 +11,7 @@ use Rattle.mm_spec.specs.Valid.{Reason}
 use Rattle.mm_spec.specs.Citation.{context_at}
 use Rattle.mm_spec.specs.Laws.Stack.{IsGood, step}
 use Rattle.mm_rule.specs.Assertions.{is_assertion_at}
-use Rattle.mm_machine.specs.State.{State, state, applied}
+use Rattle.mm_machine.specs.State.{MachineState, machine_state, applied}
 use Rattle.mm_machine.specs.Stops.{Stops}
 use Rattle.mm_machine.specs.declared.machine.Stopped.{Stopped}
 use Rattle.mm_check.specs.Checker.{CheckerState, checker_state}
@@ -23,10 +23,10 @@ module _ (k : List Statement) (t : ℕ) where
   one_more : (es : List Formula) (f : Formula) → 0 < length (es ++ f ∷ [])
   one_more es f = omega (arith, length-append es (f ∷ []))
 
-  pub repeats : (c : CheckerState) (j n : ℕ) (m : State) → n < length c.machine.marks
+  pub repeats : (c : CheckerState) (j n : ℕ) (m : MachineState) → n < length c.machine.marks
       → get_or c.machine.marks n 0 ≡ j
       → m
-      ≡ state (c.machine.stack ++ get_or c.machine.formulas n [] ∷ []) c.machine.marks
+      ≡ machine_state (c.machine.stack ++ get_or c.machine.formulas n [] ∷ []) c.machine.marks
       c.machine.formulas c.machine.width
       → Performs k t (marked j) c (checker_state m c.rules c.noted c.cache)
   repeats c j n m inside is made =
@@ -45,7 +45,7 @@ module _ (k : List Statement) (t : ℕ) where
 
   module _ (c : CheckerState) (a : ℕ) (good : IsGood (context_at k t) ((context_at k t).rule a))
       (is : is_assertion_at k a ≡ true) where
-    pub applies : (m : State) (noted : List ℕ) (cache : List (ℕ × ℕ))
+    pub applies : (m : MachineState) (noted : List ℕ) (cache : List (ℕ × ℕ))
         → applied k t a c.machine.stack ≡ Ok m.stack → m.marks ≡ c.machine.marks
         → m.formulas ≡ c.machine.formulas → 0 < length m.stack
         → ((x : ℕ) → is_member noted x ≡ (is_member c.noted x || (x == a)))

@@ -9,7 +9,7 @@ use Rattle.mm_spec.specs.Laws.Stack.{step_entries}
 use Rattle.mm_rule.specs.Assertions.{is_assertion_at}
 use Rattle.mm_rules.specs.Rules.{RuleLists, AreRules}
 use Rattle.mm_machine.specs.Arena.{AreDisjointAt}
-use Rattle.mm_machine.specs.State.{State}
+use Rattle.mm_machine.specs.State.{MachineState}
 use Rattle.mm_machine.specs.Stops.{Stops}
 use Rattle.mm_machine.specs.declared.machine.Stopped.{Stopped}
 use Rattle.mm_check.specs.Contract.{is_labelled_step}
@@ -18,12 +18,12 @@ use Rattle.mm_check.specs.Reached.{Ran, Agree, AreStepsOf}
 -- a checker: the entries of its proof in progress, the rules that it borrows, the assertions that
 -- it noted, and the pairs of symbols that it knows to be disjoint
 pub record CheckerState : Type 0 where
-  pub machine : State
+  pub machine : MachineState
   pub rules : RuleLists
   pub noted : List ℕ
   pub cache : List (ℕ × ℕ)
 
-abbrev pub checker_state : State → RuleLists → List ℕ → List (ℕ × ℕ) → CheckerState
+abbrev pub checker_state : MachineState → RuleLists → List ℕ → List (ℕ × ℕ) → CheckerState
 checker_state machine rules noted cache =
     record { machine = machine; rules = rules; noted = noted; cache = cache }
 

@@ -12,7 +12,7 @@ use Rattle.mm_spec.specs.Output.{is_theorem_at}
 use Rattle.mm_spec.specs.Laws.Complete.{AreComplete}
 use Rattle.mm_spec.specs.Laws.Stack.{AreGoodSteps}
 use Rattle.mm_steps.specs.Read.{is_marked}
-use Rattle.mm_machine.specs.State.{State}
+use Rattle.mm_machine.specs.State.{MachineState}
 use Rattle.mm_rule.specs.Assertions.{is_assertion_at}
 
 -- After the steps there is a forest of derivations: its formulas are the entries, the ends are the
@@ -42,7 +42,7 @@ Agree ends marks formulas = AllZip (λ j f. slice_get ends j ≡ Some f) marks f
 
 -- The state after the first `i` steps: the entries, and the marked ones among these steps with
 -- their formulas.
-pub record Ran (k : List Statement) (t : ℕ) (steps : List PlacedStep) (i : ℕ) (s : State)
+pub record Ran (k : List Statement) (t : ℕ) (steps : List PlacedStep) (i : ℕ) (s : MachineState)
     (noted : List ℕ) : Type 0 where
   pub ends : List Formula
   pub count : length ends ≡ i

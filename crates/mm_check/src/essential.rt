@@ -7,7 +7,7 @@ ghost use Rattle.mm_spec.specs.Scope.{statement_at};
 ghost use Rattle.mm_spec.specs.Frame.{is_essential as is_essential_statement};
 ghost use Rattle.mm_spec.specs.Derivation.{Trees, is_member};
 ghost use Rattle.mm_spec.specs.Citation.{IsProof, Cites};
-ghost use Rattle.mm_steps.specs.Read.{step_of, IsEarlier};
+ghost use Rattle.mm_steps.specs.Read.{as_step, IsEarlier};
 ghost use Rattle.mm_rule.specs.Assertions.{is_assertion_at};
 ghost use Rattle.mm_check.specs.Contract.{is_labelled_step, labels};
 ghost use Rattle.mm_check.specs.Flags.{child_flags, taken_flags, wanted_flags};
@@ -139,19 +139,19 @@ fn undo<A: Allocator>(
     waiting: &mut Vec<bool, A>,
     wanted: &mut [bool],
 ) -> Result<(), AllocError>
-    requires known { labels (step_of step) (length db.now.statements) }
-    requires earlier { IsEarlier (step_of step) (length wanted.old) }
+    requires known { labels (as_step step) (length db.now.statements) }
+    requires earlier { IsEarlier (as_step step) (length wanted.old) }
     ensures noted { OnOk result
         ((a : ℕ)
         → is_member noted.new a
         ≡ (is_member noted.old a
         || (is_essential
-        && (is_labelled_step (step_of step) a && is_assertion_at db.now.statements a)))) }
+        && (is_labelled_step (as_step step) a && is_assertion_at db.now.statements a)))) }
     ensures waiting { OnOk result
         (waiting.new.items
-        ≡ waiting.old.items ++ taken_flags db.now.statements is_essential (step_of step)) }
+        ≡ waiting.old.items ++ taken_flags db.now.statements is_essential (as_step step)) }
     ensures wanted { OnOk result
-        (wanted.new ≡ wanted_flags is_essential (step_of step) wanted.old) }
+        (wanted.new ≡ wanted_flags is_essential (as_step step) wanted.old) }
 {
     if is_essential {
         noted.cite(db, step)?;

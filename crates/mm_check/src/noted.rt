@@ -3,7 +3,7 @@
 ghost use Rattle.std.specs.Prelude.{◌≡◌, ◌==◌, ◌&&◌, ◌||◌, ℕ, [], length, true, IfOk, OnOk};
 ghost use Rattle.std.specs.List.Sorted.{IsStrictlyIncreasing};
 ghost use Rattle.mm_spec.specs.Derivation.{is_member};
-ghost use Rattle.mm_steps.specs.Read.{step_of};
+ghost use Rattle.mm_steps.specs.Read.{as_step};
 ghost use Rattle.mm_rule.specs.Assertions.{is_assertion_at};
 ghost use Rattle.mm_check.specs.Contract.{labels, is_labelled_step};
 
@@ -77,12 +77,12 @@ impl<A: Allocator> Noted<A> {
 
     /// Notes the assertion that a step applies.
     pub fn cite(&mut self, db: &Database<A>, step: Step) -> Result<(), AllocError>
-        requires known { labels (step_of step) (length db.now.statements) }
+        requires known { labels (as_step step) (length db.now.statements) }
         ensures { OnOk result
             ((a : ℕ)
             → is_member self.new a
             ≡ (is_member self.old a
-            || (is_labelled_step (step_of step) a && is_assertion_at db.now.statements a))) }
+            || (is_labelled_step (as_step step) a && is_assertion_at db.now.statements a))) }
     {
         if let Step::Label(k) = step {
             if is_assertion(db, k) {

@@ -14,7 +14,8 @@ use Rattle.mm_machine.specs.declared.arena.Span.{Span}
 use Rattle.mm_machine.specs.declared.arena.Store.{Store}
 use Rattle.mm_machine.specs.declared.arena.Store.TheVariants.{Own, Kept}
 use Rattle.mm_machine.specs.Arena.{arena, symbols_of, span, nothing, text_of, IsIn}
-use Rattle.mm_machine.specs.State.{texts, made_of, Follow, first_own, IsStack, IsKept, Moves}
+use Rattle.mm_machine.specs.State.{texts, made_of, Follow, first_own, IsStack, IsStackOf, IsKept}
+use Rattle.mm_machine.specs.State.{Moves}
 use Rattle.mm_machine.proofs.GrowLaw.{Stays, all_stay, stay_inside, stay_texts, own_more, kept_more}
 use Rattle.mm_machine.proofs.GrowLaw.{kept_in, kept_text, text_new, new_in, texts_push, texts_take}
 
@@ -189,8 +190,15 @@ module _ (own kept : List ℕ) (es : List Span) (n : ℕ) (own' : List ℕ) (es'
       (cut_texts own kept (take n es) (drop n es) (subst (IsStack own kept) halves h))
       ∙ texts_take (arena own kept) n es
 
-  pub cut_known : (w : ℕ) → All (λ s. s < w) own → All (λ s. s < w) own'
-  cut_known w h = rw less (All-take (λ s. s < w) _ own h)
+  pub cut_stack_of : (w : ℕ) → IsStackOf w own kept es → IsStackOf w own' kept es'
+  cut_stack_of w h = record {
+    known =
+        record {
+          own = rw less (All-take (λ s. s < w) _ own h.known.own);
+          kept = h.known.kept;
+        };
+    is_stack = cut_here h.is_stack;
+  }
 
 -- ---- a formula more
 
@@ -406,16 +414,21 @@ module _ {T E : Type 0} where
   on_ok₂ (Ok x) f h k = f h k
   on_ok₂ (Err e) f h k = tt
 
-  pub add_any : (r : Result T E) (own kept f own' : List ℕ) (es es' : List Span)
-      → IsStack own kept es → OnOk r (own' ≡ own ++ f) → OnOk r (es' ≡ es ++ made_of own f ∷ [])
-      → OnErr r (own' ≡ own) → OnErr r (es' ≡ es) → IsStack own' kept es'
-  add_any (Ok x) own kept f own' es es' h a b c d = rw (a, b) (add_stack own kept es h f)
-  add_any (Err e) own kept f own' es es' h a b c d = rw (c, d) h
-
-  pub add_known : (r : Result T E) (own f own' : List ℕ) (w : ℕ) → All (λ s. s < w) own
-      → All (λ s. s < w) f → OnOk r (own' ≡ own ++ f) → OnErr r (own' ≡ own) → All (λ s. s < w) own'
-  add_known (Ok x) own f own' w h k a c = rw a (All-append (λ s. s < w) own f h k)
-  add_known (Err e) own f own' w h k a c = rw c h
+  pub add_stack_of : (r : Result T E) (w : ℕ) (own kept f own' : List ℕ) (es es' : List Span)
+      → IsStackOf w own kept es → All (λ s. s < w) f → OnOk r (own' ≡ own ++ f)
+      → OnOk r (es' ≡ es ++ made_of own f ∷ []) → OnErr r (own' ≡ own) → OnErr r (es' ≡ es)
+      → IsStackOf w own' kept es'
+  add_stack_of (Ok x) w own kept f own' es es' h k a b c d =
+      rw (a, b)
+      (record {
+        known =
+            record {
+              own = All-append (λ s. s < w) own f h.known.own k;
+              kept = h.known.kept;
+            };
+        is_stack = add_stack own kept es h.is_stack f;
+      })
+  add_stack_of (Err e) w own kept f own' es es' h k a b c d = rw (c, d) h
 
   pub add_says : (r : Result T E) (own kept f own' : List ℕ) (es es' : List Span)
       → IsStack own kept es → OnOk r (own' ≡ own ++ f) → OnOk r (es' ≡ es ++ made_of own f ∷ [])
@@ -424,3 +437,16 @@ module _ {T E : Type 0} where
       on_ok₂ r
       (λ (x : own' ≡ own ++ f) (y : es' ≡ es ++ made_of own f ∷ []). rw (x, y)
       (add_texts own kept es h f)) a b
+
+  -- entries are cut off before, whatever the kept symbols are
+  pub put_says : (r : Result T E) (own own' own'' f : List ℕ) (es es' es'' : List Span) (n : ℕ)
+      → es' ≡ take n es → own' ≡ take (first_own (drop n es) (length own)) own
+      → OnOk r (own'' ≡ own' ++ f) → OnOk r (es'' ≡ es' ++ made_of own' f ∷ [])
+      → OnOk r ((kept : List ℕ) → IsStack own kept es
+      → texts (arena own'' kept) es'' ≡ take n (texts (arena own kept) es) ++ f ∷ [])
+  put_says r own own' own'' f es es' es'' n cut less a b =
+      on_ok₂ r
+      (λ (x : own'' ≡ own' ++ f) (y : es'' ≡ es' ++ made_of own' f ∷ []).
+      λ (kept : List ℕ) (h : IsStack own kept es). rw (x, y)
+      (add_texts own' kept es' (cut_here own kept es n own' es' cut less h) f
+      ∙ ap (λ u. u ++ f ∷ []) (cut_says own kept es n own' es' cut less h))) a b

@@ -1,20 +1,20 @@
 -- The lists of symbols grow and are cut, and the entries stay.
 use Rattle.std.proofs.Common.{◌≡◌, ℕ, zero, suc, ◌-◌, ◌<◌, ◌≤◌, List, [], ◌∷◌, ◌++◌, length, take}
-use Rattle.std.proofs.Common.{drop, get_or, slice_range, refl, ap, ap₂, ◌∙◌, arith, All}
+use Rattle.std.proofs.Common.{drop, get_or, slice_range, refl, sym, ap, ap₂, ◌∙◌, subst, arith, All}
 use Rattle.std.proofs.Common.{length-append}
 use Rattle.std.specs.List.{AllByRecursion}
 use Rattle.std.proofs.lemmas.List.{drop_at, take_all, take_at}
 use Rattle.std.proofs.lemmas.List.Elements.{All-from_recursion, recursion_from_All, All-weaker}
-use Rattle.std.proofs.lemmas.List.Elements.{All-take, All-append, All-drop, All-nil}
+use Rattle.std.proofs.lemmas.List.Elements.{All-take, All-append, All-drop, All-nil, All-get_or}
 use Rattle.mm_machine.specs.declared.arena.Span.{Span}
 use Rattle.mm_machine.specs.declared.arena.Store.{Store}
 use Rattle.mm_machine.specs.declared.arena.Store.TheVariants.{Own, Kept}
 use Rattle.mm_rule.specs.declared.rule.RuleSymbol.{RuleSymbol}
 use Rattle.mm_rule.specs.declared.rule.RuleSymbol.TheVariants.{Constant, Variable}
 use Rattle.mm_machine.specs.Arena.{Arena, arena, symbols_of, span, nothing, rest, text_of, IsIn}
-use Rattle.mm_rule.specs.Rule.{IsKnown}
+use Rattle.mm_rule.specs.Rule.{IsKnown, IsBelow}
 use Rattle.mm_rule.proofs.SliceLaw.{stretch_more}
-use Rattle.mm_machine.specs.Replaced.{told, replaced}
+use Rattle.mm_machine.specs.Replaced.{replaced_part, replaced}
 use Rattle.mm_machine.specs.State.{texts, made_of, IsKept}
 
 -- an entry of the one arena that is one of the other, of the same formula
@@ -136,7 +136,7 @@ pub replaced_known : (n : ℕ) (a : Arena) (es : List Span) (f : List RuleSymbol
     → All (λ s. s < n) a.kept → All (IsKnown n) f → All (λ s. s < n) (replaced a es f)
 replaced_known n a es f ho hk hf = go f (recursion_from_All (IsKnown n) f hf)
   where
-    span : (p : RuleSymbol) → IsKnown n p → All (λ s. s < n) (told a es p)
+    span : (p : RuleSymbol) → IsKnown n p → All (λ s. s < n) (replaced_part a es p)
     span (Variable j) h = text_known n a (rest (get_or es j nothing)) ho hk
     span (Constant s) h = All-from_recursion (λ s. s < n) (s ∷ []) (h, tt)
 
@@ -154,3 +154,16 @@ pub stretch_in : (a : Arena) (es : List Span) (from to : ℕ) → All (IsIn a) e
     → All (IsIn a) (slice_range es from to)
 stretch_in a es from to h =
     All-take (IsIn a) (to - from) (drop from es) (All-drop (IsIn a) from es h)
+
+-- what replaces a variable is in the arena
+pub premise_in : (a : Arena) (es : List Span) (j : ℕ) (e : Span) → All (IsIn a) es → j < length es
+    → e ≡ rest (get_or es j nothing) → IsIn a e
+premise_in a es j e h l is =
+    let p : IsIn a (get_or es j nothing) = All-get_or (IsIn a) es j nothing l h in
+    subst (IsIn a) (sym is) (record { rising = omega arith; within = p.within })
+
+pub variable_in : (a : Arena) (es : List Span) (parts : List RuleSymbol) (i : ℕ) (p : RuleSymbol) (j : ℕ)
+    → (e : Span) → All (IsIn a) es → All (IsBelow (length es)) parts → i < length parts
+    → p ≡ get_or parts i p → p ≡ Variable j → e ≡ rest (get_or es j nothing) → IsIn a e
+variable_in a es parts i p j e h below l here is made =
+    premise_in a es j e h (subst (IsBelow (length es)) (sym here ∙ is) (below i p l)) made

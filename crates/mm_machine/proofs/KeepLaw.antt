@@ -14,11 +14,19 @@ pub moved_machine : (own kept : List ℕ) (es : List Span) (marks : List ℕ) (m
     → IsMachine own kept es marks marked width → Moves own kept own' kept' → IsStack own' kept' es'
     → IsMachine own' kept' es' marks marked width
 moved_machine own kept es marks marked width own' kept' es' m v s =
-    let k = v.known width m.known_own in
+    let k = v.known width m.stack.known.own in
     record {
-      known_own = k.1;
-      known_kept = rw v.kept_is (All-append (λ s. s < width) kept v.more m.known_kept k.0);
-      is_stack = s;
+      stack =
+          record {
+            known =
+                record {
+                  own = k.1;
+                  kept =
+                      rw v.kept_is
+                      (All-append (λ s. s < width) kept v.more m.stack.known.kept k.0);
+                };
+            is_stack = s;
+          };
       marked_in = rw v.kept_is (kept_all_more kept v.more marked m.marked_in);
       rising = m.rising;
       count = m.count;
@@ -29,9 +37,7 @@ pub marked_more : (own kept : List ℕ) (es : List Span) (marks : List ℕ) (mar
     → IsMachine own kept es marks marked width → IsKept kept e
     → IsMachine own kept es marks (marked ++ e ∷ []) width
 marked_more own kept es marks marked width e m k = record {
-  known_own = m.known_own;
-  known_kept = m.known_kept;
-  is_stack = m.is_stack;
+  stack = m.stack;
   marked_in = All-push (IsKept kept) marked e m.marked_in k;
   rising = m.rising;
   count = omega (arith, m.count, length-append marked (e ∷ []));
@@ -42,9 +48,7 @@ pub both_more : (own kept : List ℕ) (es : List Span) (marks : List ℕ) (marke
     → IsMachine own kept es marks marked width → IsKept kept e → All (λ j. j < step) marks
     → IsMachine own kept es (marks ++ step ∷ []) (marked ++ e ∷ []) width
 both_more own kept es marks marked width e step m k later = record {
-  known_own = m.known_own;
-  known_kept = m.known_kept;
-  is_stack = m.is_stack;
+  stack = m.stack;
   marked_in = All-push (IsKept kept) marked e m.marked_in k;
   rising = rising_more marks step m.rising later;
   count = omega (arith, m.count, length-append marked (e ∷ []), length-append marks (step ∷ []));

@@ -6,29 +6,31 @@ use Rattle.std.proofs.lemmas.List.Concat.{flat_map-append}
 use Rattle.mm_machine.specs.declared.arena.Span.{Span}
 use Rattle.mm_rule.specs.declared.rule.RuleSymbol.{RuleSymbol}
 use Rattle.mm_machine.specs.Arena.{Arena}
-use Rattle.mm_machine.specs.Replaced.{told, replaced}
+use Rattle.mm_machine.specs.Replaced.{replaced_part, replaced}
 
 module _ (a : Arena) (es : List Span) where
   pub longer : (f : List RuleSymbol) (i : ℕ) (p : RuleSymbol) (u : List ℕ) → i < length f → get_or f i p ≡ p
-      → told a es p ≡ u → length (replaced a es (take i f)) + length u ≤ length (replaced a es f)
+      → replaced_part a es p ≡ u
+      → length (replaced a es (take i f)) + length u ≤ length (replaced a es f)
   longer [] i p u h e is = absurd (omega arith)
   longer (q ∷ f) zero p u h e is =
-      let here : length (told a es q) ≡ length u =
-      ap (λ z. length (told a es z)) e ∙ ap length is in
-      omega (arith, here, length-append (told a es q) (replaced a es f))
+      let here : length (replaced_part a es q) ≡ length u =
+      ap (λ z. length (replaced_part a es z)) e ∙ ap length is in
+      omega (arith, here, length-append (replaced_part a es q) (replaced a es f))
   longer (q ∷ f) (suc i) p u h e is =
       let r = longer f i p u (omega arith) e is in
       omega (
         arith,
         r,
-        length-append (told a es q) (replaced a es f),
-        length-append (told a es q)
+        length-append (replaced_part a es q) (replaced a es f),
+        length-append (replaced_part a es q)
             (replaced a es (take i f)),
       )
 
   pub replaced_more : (f : List RuleSymbol) (i : ℕ) (d : RuleSymbol) → i < length f
-      → replaced a es (take (i + 1) f) ≡ replaced a es (take i f) ++ told a es (get_or f i d)
+      → replaced a es (take (i + 1) f)
+      ≡ replaced a es (take i f) ++ replaced_part a es (get_or f i d)
   replaced_more f i d h =
       ap (replaced a es) (take_more f i d h)
-      ∙ flat_map-append (told a es) (take i f) (get_or f i d ∷ [])
-      ∙ ap (λ z. replaced a es (take i f) ++ z) (append-nil (told a es (get_or f i d)))
+      ∙ flat_map-append (replaced_part a es) (take i f) (get_or f i d ∷ [])
+      ∙ ap (λ z. replaced a es (take i f) ++ z) (append-nil (replaced_part a es (get_or f i d)))

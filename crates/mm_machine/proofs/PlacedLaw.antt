@@ -1,7 +1,8 @@
 -- What stands after a step that was tested, once its formula is made.
-use Rattle.std.proofs.Common.{◌≡◌, ℕ, ◌≤◌, ◌<◌, true, false, List, [], ◌∷◌, ◌++◌, length, take}
-use Rattle.std.proofs.Common.{drop, nat_le, Ok, Err, sym, ap, ap₂, ◌∙◌, subst, All, arith}
-use Rattle.std.proofs.Common.{length-take, le-leb, slice_range}
+use Rattle.std.proofs.Common.{◌≡◌, ℕ, ◌≤◌, ◌<◌, Bool, true, false, List, [], ◌∷◌, ◌++◌, length}
+use Rattle.std.proofs.Common.{take, drop, nat_le, Result, Ok, Err, OnOk, IfErr, sym, ap, ap₂, ◌∙◌}
+use Rattle.std.proofs.Common.{subst, All, arith, length-take, length-drop, length-append, le-leb}
+use Rattle.std.proofs.Common.{slice_range}
 use Rattle.std.proofs.lemmas.List.{take_rest}
 use Rattle.mm_spec.specs.Statement.{Statement}
 use Rattle.mm_spec.specs.Derivation.{Formula}
@@ -10,57 +11,156 @@ use Rattle.mm_spec.specs.Valid.{too_long}
 use Rattle.mm_spec.specs.Frame.{symbol_names}
 use Rattle.mm_spec.specs.Laws.Stack.{pick}
 use Rattle.mm_machine.specs.declared.arena.Span.{Span}
+use Rattle.mm_machine.specs.declared.arena.Reason.{Reason}
+use Rattle.mm_machine.specs.declared.machine.Stopped.{Stopped}
 use Rattle.mm_rule.specs.declared.rule.RuleSymbol.{RuleSymbol}
-use Rattle.mm_machine.specs.Arena.{arena}
-use Rattle.mm_rule.specs.Rule.{Compiled, IsCompiled}
+use Rattle.mm_rule.specs.Rule.{Compiled, IsCompiled, IsBelow, IsKnown}
+use Rattle.mm_machine.specs.Arena.{Arena, arena, AreEntries}
 use Rattle.mm_machine.specs.Replaced.{replaced}
-use Rattle.mm_machine.specs.State.{texts, applied, TestsRule}
+use Rattle.mm_machine.specs.State.{texts, applied, entries_after, TestsRule, IsStack, IsStackOf}
+use Rattle.mm_machine.specs.State.{IsMachine}
+use Rattle.mm_machine.specs.Stops.{Stops}
+use Rattle.mm_machine.proofs.FollowLaw.{on_ok, on_err}
 use Rattle.mm_machine.proofs.GrowLaw.{replaced_known}
 
-module _ (k : List Statement) (t : ℕ) (c : Compiled) (own kept : List ℕ) (stack : List Span)
-    (below : ℕ) where
-  module _ (made : Formula) (h : TestsRule k t c (arena own kept) stack (Ok below))
-      (is : made ≡ replaced (arena own kept) (drop below stack) c.formula) where
+-- ---- the formula
+
+module _ (own kept : List ℕ) (stack : List Span) (below : ℕ) (parts : List RuleSymbol) where
+  module _ (made : Formula) (is : made ≡ replaced (arena own kept) (drop below stack) parts) where
     pub placed : nat_le (length made) formula_limit ≡ true
-        → applied k t c.assertion (texts (arena own kept) stack)
+        → entries_after (arena own kept) stack below parts
         ≡ Ok (take below (texts (arena own kept) stack) ++ made ∷ [])
     placed l =
-        h.1
-        ∙ ap₂ (λ b z. pick true true true b (take below (texts (arena own kept) stack) ++ z ∷ []))
+        ap₂ (λ b z. pick true true true b (take below (texts (arena own kept) stack) ++ z ∷ []))
         (ap (λ z. nat_le (length z) formula_limit) (sym is) ∙ l) (sym is)
 
-    pub made_known : IsCompiled k c → All (λ s. s < length (symbol_names k)) own
-        → All (λ s. s < length (symbol_names k)) kept → All (λ s. s < length (symbol_names k)) made
-    made_known rule o e =
-        subst (All (λ s. s < length (symbol_names k))) (sym is)
-        (replaced_known (length (symbol_names k)) (arena own kept)
-        (drop below stack) c.formula o e rule.formula_known)
+    pub made_known : (w : ℕ) → IsStackOf w own kept stack → All (IsKnown w) parts
+        → All (λ s. s < w) made
+    made_known w h known =
+        subst (All (λ s. s < w)) (sym is)
+        (replaced_known w (arena own kept) (drop below stack) parts h.known.own h.known.kept known)
 
-  pub too_long_here : TestsRule k t c (arena own kept) stack (Ok below)
-      → nat_le (length (replaced (arena own kept) (drop below stack) c.formula)) formula_limit
-      ≡ false → applied k t c.assertion (texts (arena own kept) stack) ≡ Err too_long
-  too_long_here h l =
-      h.1 ∙ ap
-      (λ b. pick true true true b
+  pub too_long_here : nat_le (length (replaced (arena own kept) (drop below stack) parts))
+      formula_limit ≡ false → entries_after (arena own kept) stack below parts ≡ Err too_long
+  too_long_here l =
+      ap (λ b. pick true true true b
       (take below (texts (arena own kept) stack)
-      ++ replaced (arena own kept) (drop below stack) c.formula ∷ [])) l
+      ++ replaced (arena own kept) (drop below stack) parts ∷ [])) l
 
   -- by the lists that the code has
-  pub same_formula : (own' : List ℕ) (stack' : List Span) (f : List RuleSymbol) → own' ≡ own
-      → stack' ≡ stack → f ≡ c.formula
-      → replaced (arena own' kept) (slice_range stack' below (length stack')) f
-      ≡ replaced (arena own kept) (drop below stack) c.formula
-  same_formula own' stack' f e1 e2 e3 =
-      rw (e1, e2, e3) (ap (λ z. replaced (arena own kept) z c.formula) (take_rest stack below))
+  pub same_formula : (own' : List ℕ) (stack' : List Span) → own' ≡ own → stack' ≡ stack
+      → replaced (arena own' kept) (slice_range stack' below (length stack')) parts
+      ≡ replaced (arena own kept) (drop below stack) parts
+  same_formula own' stack' e1 e2 =
+      rw (e1, e2) (ap (λ z. replaced (arena own kept) z parts) (take_rest stack below))
+
+  pub same_count : (stack' : List Span) → stack' ≡ stack
+      → All (IsBelow (length (drop below stack))) parts
+      → All (IsBelow (length (slice_range stack' below (length stack')))) parts
+  same_count stack' e h =
+      subst (λ z. All (IsBelow (length z)) parts)
+      (sym (ap (λ z. slice_range z below (length z)) e ∙ take_rest stack below)) h
 
 pub short_enough : (n : ℕ) (xs : List ℕ) → n ≤ formula_limit
     → nat_le (length (take n xs)) formula_limit ≡ true
 short_enough n xs h = le-leb _ _ (omega (arith, h, length-take n xs))
 
-pub judged_here : (k : List Statement) (t : ℕ) (c : Compiled) (own own' kept : List ℕ)
-    → (stack stack' : List Span) (below : ℕ)
-    → own' ≡ own → stack' ≡ stack → TestsRule k t c (arena own' kept) stack' (Ok below)
-    → TestsRule k t c (arena own kept) stack (Ok below)
-judged_here k t c own own' kept stack stack' below e1 e2 h =
-    subst (λ (z : List ℕ). TestsRule k t c (arena z kept) stack (Ok below)) e1
-    (subst (λ (z : List Span). TestsRule k t c (arena own' kept) z (Ok below)) e2 h)
+pub some_entry : (a : Arena) (es : List Span) (below : ℕ) (parts : List RuleSymbol) (out : List Formula)
+    → entries_after a es below parts ≡ Ok out → 0 < length out
+some_entry a es below parts out h =
+    by (nat_le (length (replaced a (drop below es) parts)) formula_limit) h
+  where
+    first : List Formula
+    first = take below (texts a es)
+
+    made : Formula
+    made = replaced a (drop below es) parts
+
+    by : (b : Bool) → pick true true true b (first ++ made ∷ []) ≡ Ok out → 0 < length out
+    by false e = absurd (cc)
+    by true e =
+        let same : first ++ made ∷ [] ≡ out = cc in
+        let n = ap length same in omega (arith, n, length-append first (made ∷ []))
+
+-- ---- the step
+
+-- the test, by the lists that the code has
+pub judged_here : (k : List Statement) (t : ℕ) (c : Compiled) (own own' kept kept' : List ℕ)
+    → (stack stack' : List Span) (r : Result ℕ Reason) → own' ≡ own → kept' ≡ kept
+    → stack' ≡ stack → TestsRule k t c (arena own' kept') stack' r
+    → TestsRule k t c (arena own kept) stack r
+judged_here k t c own own' kept kept' stack stack' r e1 e2 e3 h =
+    subst (λ (z : List ℕ). TestsRule k t c (arena z kept) stack r) e1
+    (subst (λ (z : List ℕ). TestsRule k t c (arena own' z) stack r) e2
+    (subst (λ (z : List Span). TestsRule k t c (arena own' kept') z r) e3 h))
+
+module _ (k : List Statement) (t : ℕ) (c : Compiled) (own kept kept' : List ℕ) (stack : List Span)
+    (below : ℕ) (parts : List RuleSymbol) (same : kept' ≡ kept) (parts_are : parts ≡ c.formula)
+    (tested : TestsRule k t c (arena own kept) stack (Ok below)) where
+  said : applied k t c.assertion (texts (arena own kept) stack)
+      ≡ entries_after (arena own kept') stack below parts
+  said =
+      tested.1 ∙ ap₂ (λ z f. entries_after (arena own z) stack below f) (sym same) (sym parts_are)
+
+  module _ {T : Type 0} (r : Result T Stopped) (own' : List ℕ) (stack' : List Span) where
+    -- it was made, by the lists that the code has
+    pub step_made : OnOk r (entries_after (arena own kept') stack below parts
+        ≡ Ok (texts (arena own' kept') stack'))
+        → OnOk r (applied k t c.assertion (texts (arena own kept) stack)
+        ≡ Ok (texts (arena own' kept) stack'))
+    step_made h =
+        on_ok r
+        (λ (e : entries_after (arena own kept') stack below parts
+        ≡ Ok (texts (arena own' kept') stack')).
+        said ∙ e ∙ ap (λ z. Ok (texts (arena own' z) stack')) same) h
+
+    pub step_entry : OnOk r (entries_after (arena own kept') stack below parts
+        ≡ Ok (texts (arena own' kept') stack'))
+        → OnOk r (0 < length (texts (arena own' kept) stack'))
+    step_entry h =
+        on_ok r
+        (λ (e : entries_after (arena own kept') stack below parts
+        ≡ Ok (texts (arena own' kept') stack')).
+        subst (λ z. 0 < length (texts (arena own' z) stack')) same
+        (some_entry (arena own kept') stack below parts (texts (arena own' kept') stack') e)) h
+
+    pub step_stopped : IfErr r (λ e. Stops e (entries_after (arena own kept') stack below parts))
+        → IfErr r (λ e. Stops e (applied k t c.assertion (texts (arena own kept) stack)))
+    step_stopped h = on_err r (λ e s. subst (Stops e) (sym said) s) h
+
+  pub parts_below : IsCompiled k c → All (IsBelow (length (drop below stack))) parts
+  parts_below rule =
+      let count : length c.hypotheses ≡ length (drop below stack) =
+      (let n = tested.0 in omega (arith, n, length-drop below stack)) in
+      rw parts_are (subst (λ n. All (IsBelow n) c.formula) count rule.formula_in)
+
+  pub parts_known : IsCompiled k c → (width : ℕ) → width ≡ length (symbol_names k)
+      → All (IsKnown width) parts
+  parts_known rule width is = rw (parts_are, is) rule.formula_known
+
+-- ---- the machine
+
+module _ (own kept : List ℕ) (es : List Span) (marks : List ℕ) (marked : List Span) (width : ℕ)
+    (m : IsMachine own kept es marks marked width) where
+  -- its entries, by the lists that the code has
+  pub entries_here : (n : ℕ) (own' kept' : List ℕ) (es' : List Span) → width ≡ n → own' ≡ own
+      → kept' ≡ kept → es' ≡ es → AreEntries n (arena own' kept') es'
+  entries_here n own' kept' es' e1 e2 e3 e4 =
+      rw (sym e1, e2, e3, e4) (record { known = m.stack.known; inside = m.stack.is_stack.inside })
+
+  pub stack_here : (kept' : List ℕ) → kept' ≡ kept → IsStack own kept' es
+  stack_here kept' same = rw same m.stack.is_stack
+
+  -- after a step
+  pub next_machine : (parts : List RuleSymbol) (own' kept' : List ℕ) (es' : List Span) → kept' ≡ kept
+      → All (IsKnown width) parts
+      → ((w : ℕ) → All (IsKnown w) parts → IsStackOf w own kept' es → IsStackOf w own' kept' es')
+      → IsMachine own' kept es' marks marked width
+  next_machine parts own' kept' es' same known step = record {
+    stack =
+        subst (λ z. IsStackOf width own' z es') same
+        (step width known (subst (λ z. IsStackOf width own z es) (sym same) m.stack));
+    marked_in = m.marked_in;
+    rising = m.rising;
+    count = m.count;
+  }

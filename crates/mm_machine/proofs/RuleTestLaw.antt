@@ -21,7 +21,7 @@ use Rattle.mm_spec.specs.Frame.{is_variable_number, frame_at}
 use Rattle.mm_spec.specs.Citation.{context_at}
 use Rattle.mm_machine.specs.Arena.{Arena, symbols_of, nothing, text_of, IsIn}
 use Rattle.mm_rule.specs.Rule.{first, parts_of, all_parts, Compiled, IsCompiled}
-use Rattle.mm_machine.specs.Replaced.{stands, told}
+use Rattle.mm_machine.specs.Replaced.{stands, replaced_part}
 use Rattle.mm_machine.specs.Replaced.{replaced}
 use Rattle.mm_machine.specs.State.{texts, applied}
 use Rattle.mm_rule.proofs.FirstLaw.{first_below, found_first}
@@ -56,7 +56,8 @@ module _ (k : List Statement) (t : ℕ) (hs : List Formula) (xs : Arena) (es : L
   one_same (s ∷ f) b = ap₂ (λ u v. u ++ v) (go (is_variable_number k s) b.0) (one_same f b.1)
     where
       go : (v : Bool) → (IsTrue v → IsBound (context_at k t) hs s)
-          → told xs es (cond v (Variable (first k hs s)) (Constant s)) ≡ cond v (σ s) (s ∷ [])
+          → replaced_part xs es (cond v (Variable (first k hs s)) (Constant s))
+          ≡ cond v (σ s) (s ∷ [])
       go true h = stands_is s (h refl)
       go false h = refl
 

@@ -8,7 +8,7 @@ use Rattle.std.proofs.lemmas.List.{drop-drop, drop_more, length-take-le}
 use Rattle.mm_machine.specs.declared.arena.Span.{Span}
 use Rattle.mm_rule.specs.declared.rule.RuleSymbol.{RuleSymbol}
 use Rattle.mm_machine.specs.Arena.{Arena, symbols_of, text_of, IsIn}
-use Rattle.mm_machine.specs.Replaced.{told, replaced}
+use Rattle.mm_machine.specs.Replaced.{replaced_part, replaced}
 use Rattle.mm_spec.specs.Laws.Stack.{tail}
 use Rattle.std.proofs.lemmas.Bool.{cases_lt, and_parts}
 use Rattle.std.proofs.Math.Bool.{and-true}
@@ -66,13 +66,13 @@ module _ (all : Arena) (es : List Span) (xs : List ℕ) (w : List RuleSymbol) (i
   rest_fits n = bytes_eq (slice_range xs (a + n) e) (replaced all es (drop (i + 1) w))
 
   -- one part more
-  pub one_more : (p : RuleSymbol) (u : List ℕ) → get_or w i p ≡ p → told all es p ≡ u
+  pub one_more : (p : RuleSymbol) (u : List ℕ) → get_or w i p ≡ p → replaced_part all es p ≡ u
       → bytes_eq (slice_range xs a e) (replaced all es (drop i w))
       ≡ (starts_with nat_eq (slice_range xs a e) u && rest_fits (length u))
   one_more p u here is =
       ap (λ z. bytes_eq (slice_range xs a e) (replaced all es z)) (drop_more w i p inside)
       ∙ ap (λ y. bytes_eq (slice_range xs a e) (y ++ replaced all es (drop (i + 1) w)))
-      (ap (told all es) here ∙ is)
+      (ap (replaced_part all es) here ∙ is)
       ∙ peel u (slice_range xs a e) (replaced all es (drop (i + 1) w))
       ∙ ap (λ z. starts_with nat_eq (slice_range xs a e) u
       && bytes_eq z (replaced all es (drop (i + 1) w))) (rest_of xs a e (length u))

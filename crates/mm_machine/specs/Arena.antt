@@ -1,5 +1,6 @@
 -- Formulas as stretches of two lists of symbols.
-use Rattle.std.specs.Prelude.{◌≡◌, ℕ, ◌+◌, ◌≤◌, true, All, List, length, slice_range, min}
+use Rattle.std.specs.Prelude.{◌≡◌, ℕ, ◌+◌, ◌≤◌, ◌<◌, true, All, List, [], ◌∷◌, ◌++◌, length, get_or}
+use Rattle.std.specs.Prelude.{◌⊎◌, slice_range, min}
 use Rattle.mm_spec.specs.Statement.{Statement}
 use Rattle.mm_spec.specs.Derivation.{Formula, are_disjoint}
 use Rattle.mm_spec.specs.Citation.{context_at}
@@ -33,9 +34,28 @@ pub record IsIn (a : Arena) (e : Span) : Type 0 where
   pub rising : e.start ≤ e.end
   pub within : e.end ≤ length (symbols_of a e.store)
 
+-- an arena for `width` symbols: each of its symbols is less than that
+pub record IsArena (width : ℕ) (a : Arena) : Type 0 where
+  pub own : All (λ s. s < width) a.own
+  pub kept : All (λ s. s < width) a.kept
+
+-- entries of an arena for `width` symbols
+pub record AreEntries (width : ℕ) (a : Arena) (es : List Span) : Type 0 where
+  pub known : IsArena width a
+  pub inside : All (IsIn a) es
+
 -- the entry without its first symbol
 abbrev pub rest : Span → Span
 rest e = span e.store (min (e.start + 1) e.end) e.end
+
+-- the pair of symbols is in the list, in this order
+abbrev pub HasPair : List (ℕ × ℕ) → ℕ → ℕ → Type 0
+HasPair ps s t =
+    (n : ℕ) × (n < length ps) × ((get_or ps n (s, t)).0 ≡ s) × ((get_or ps n (s, t)).1 ≡ t)
+
+-- the list stays, or the pair of symbols is appended, in this order
+abbrev pub KeepsPair : List (ℕ × ℕ) → ℕ → ℕ → List (ℕ × ℕ) → Type 0
+KeepsPair ps s t qs = (qs ≡ ps) ⊎ (qs ≡ ps ++ (s, t) ∷ [])
 
 -- each of the pairs of symbols is disjoint at the theorem
 abbrev pub AreDisjointAt : List Statement → ℕ → List (ℕ × ℕ) → Type 0

@@ -10,10 +10,10 @@ use Rattle.mm_machine.specs.Arena.{Arena, nothing, rest, text_of}
 abbrev pub stands : Arena → List Span → ℕ → List ℕ
 stands a es j = text_of a (rest (get_or es j nothing))
 
-abbrev pub told : Arena → List Span → RuleSymbol → List ℕ
-told a es (Constant s) = s ∷ []
-told a es (Variable j) = stands a es j
+abbrev pub replaced_part : Arena → List Span → RuleSymbol → List ℕ
+replaced_part a es (Constant s) = s ∷ []
+replaced_part a es (Variable j) = stands a es j
 
 -- the parts with each variable replaced
 abbrev pub replaced : Arena → List Span → List RuleSymbol → Formula
-replaced a es f = flat_map (told a es) f
+replaced a es f = flat_map (replaced_part a es) f

@@ -12,26 +12,35 @@ use Rattle.mm_machine.specs.declared.arena.Span.{Span}
 use Rattle.mm_machine.specs.declared.arena.Reason.{Reason}
 use Rattle.mm_machine.specs.declared.arena.Reason.TheVariants.{TooFew, Unmatched, NotDisjoint, TooLong}
 use Rattle.mm_machine.specs.declared.arena.Store.TheVariants.{Own, Kept}
-use Rattle.mm_machine.specs.Arena.{Arena, arena, span, text_of, IsIn}
+use Rattle.mm_machine.specs.Arena.{Arena, arena, span, text_of, IsIn, IsArena}
+use Rattle.mm_rule.specs.declared.rule.RuleSymbol.{RuleSymbol}
 use Rattle.mm_rule.specs.Rule.{Compiled}
 use Rattle.mm_machine.specs.Replaced.{replaced}
 
 -- the formulas of the entries, the marked steps so far, the formulas with which they ended, and how
 -- many symbols there are
-pub record State : Type 0 where
+pub record MachineState : Type 0 where
   pub stack : List Formula
   pub marks : List ℕ
   pub formulas : List Formula
   pub width : ℕ
 
-abbrev pub state : List Formula → List ℕ → List Formula → ℕ → State
-state stack marks formulas width =
+abbrev pub machine_state : List Formula → List ℕ → List Formula → ℕ → MachineState
+machine_state stack marks formulas width =
     record { stack = stack; marks = marks; formulas = formulas; width = width }
 
 -- the state after step `i`, whose formula is kept if the step is marked
-abbrev pub with_mark : Bool → ℕ → State → State
+abbrev pub with_mark : Bool → ℕ → MachineState → MachineState
 with_mark false i s = s
-with_mark true i s = state s.stack (s.marks ++ i ∷ []) (s.formulas ++ top s.stack ∷ []) s.width
+with_mark true i s =
+    machine_state s.stack (s.marks ++ i ∷ []) (s.formulas ++ top s.stack ∷ []) s.width
+
+-- The state `t` comes of the state `s` when the formula with which the marked step `j` ended is
+-- pushed again.
+abbrev pub Repeats : ℕ → MachineState → MachineState → Type 0
+Repeats j s t =
+    (n : ℕ) × (n < length s.formulas) × (n < length s.marks) × (get_or s.marks n 0 ≡ j)
+    × (t ≡ machine_state (s.stack ++ get_or s.formulas n [] ∷ []) s.marks s.formulas s.width)
 
 abbrev pub texts : Arena → List Span → List Formula
 texts a es = map (text_of a) es
@@ -54,6 +63,11 @@ pub record IsStack (own kept : List ℕ) (es : List Span) : Type 0 where
   pub inside : All (IsIn (arena own kept)) es
   pub follow : Follow 0 es (length own)
 
+-- the entries of a machine for `width` symbols: each symbol is less than that
+pub record IsStackOf (width : ℕ) (own kept : List ℕ) (es : List Span) : Type 0 where
+  pub known : IsArena width (arena own kept)
+  pub is_stack : IsStack own kept es
+
 -- the entry of a formula that was appended to the own ones
 abbrev pub made_of : List ℕ → Formula → Span
 made_of own f = span Own (length own) (length (own ++ f))
@@ -73,12 +87,10 @@ pub record IsKept (kept : List ℕ) (e : Span) : Type 0 where
 abbrev pub IsRising : List ℕ → Type 0
 IsRising ns = (a b : ℕ) → a ≤ b → b < length ns → get_or ns a 0 ≤ get_or ns b 0
 
--- all symbols are less than `width`, and the lists fit together
+-- the entries are those of a machine for `width` symbols, and the lists fit together
 pub record IsMachine (own kept : List ℕ) (es : List Span) (marks : List ℕ) (marked : List Span)
     (width : ℕ) : Type 0 where
-  pub known_own : All (λ s. s < width) own
-  pub known_kept : All (λ s. s < width) kept
-  pub is_stack : IsStack own kept es
+  pub stack : IsStackOf width own kept es
   pub marked_in : All (IsKept kept) marked
   pub rising : IsRising marks
   pub count : length marks ≤ length marked
@@ -93,14 +105,18 @@ reason_of TooLong = too_long
 abbrev pub applied : List Statement → ℕ → ℕ → List Formula → Result (List Formula) SpecReason
 applied k t a es = step (context_at k t) (Some (assertion (frame_at k a))) es
 
+-- The entries after a step that takes those from index `below` on as its premises, and pushes the
+-- parts with each variable replaced. It fails if that formula is too long.
+abbrev pub entries_after : Arena → List Span → ℕ → List RuleSymbol → Result (List Formula) SpecReason
+entries_after a es below parts =
+    pick true true true (nat_le (length (replaced a (drop below es) parts)) formula_limit)
+    (take below (texts a es) ++ replaced a (drop below es) parts ∷ [])
+
 -- what a test of a rule says: how many entries stay below the formula that the step pushes if it is
 -- short enough, or why the step fails
 abbrev pub TestsRule : List Statement → ℕ → Compiled → Arena → List Span → Result ℕ Reason → Type 0
 TestsRule k t c symbols stack (Ok below) =
     (length stack ≡ below + length c.hypotheses)
-    × (applied k t c.assertion (texts symbols stack)
-    ≡ pick true true true
-    (nat_le (length (replaced symbols (drop below stack) c.formula)) formula_limit)
-    (take below (texts symbols stack) ++ replaced symbols (drop below stack) c.formula ∷ []))
+    × (applied k t c.assertion (texts symbols stack) ≡ entries_after symbols stack below c.formula)
 TestsRule k t c symbols stack (Err reason) =
     applied k t c.assertion (texts symbols stack) ≡ Err (reason_of reason)

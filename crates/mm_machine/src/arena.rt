@@ -10,7 +10,8 @@ ghost use Rattle.mm_spec.specs.Limits.{formula_limit};
 ghost use Rattle.mm_spec.specs.Frame.{symbol_names};
 ghost use Rattle.mm_spec.specs.Citation.{context_at};
 ghost use Rattle.mm_spec.specs.Laws.Stack.{same};
-ghost use Rattle.mm_machine.specs.Arena.{nothing, rest, symbols_of, text_of, IsIn, AreDisjointAt};
+ghost use Rattle.mm_machine.specs.Arena.{nothing, rest, symbols_of, text_of, IsIn, AreEntries};
+ghost use Rattle.mm_machine.specs.Arena.{AreDisjointAt};
 ghost use Rattle.mm_rule.specs.Rule.{IsHypothesisIn, IsBelow, IsCompiled, all_parts};
 ghost use Rattle.mm_machine.specs.Replaced.{stands};
 ghost use Rattle.mm_machine.specs.Replaced.{replaced};
@@ -99,7 +100,6 @@ fn begins(symbols: &Symbols, store: Store, from: usize, to: usize, span: Span) -
 
 /// An entry without its first symbol.
 fn rest_of(span: Span) -> Span
-    requires { span.start ≤ span.end }
     ensures { result ≡ rest span }
 {
     let end = span.end;
@@ -115,11 +115,9 @@ fn rest_of(span: Span) -> Span
 }
 
 /// What replaces the variable of hypothesis `j`.
-pub fn span_of(_symbols: &Symbols, premises: &[Span], j: u32) -> Span
-    requires index { j < length premises.now }
-    requires premises { All (IsIn _symbols.now) premises.now }
-    ensures span { result ≡ rest (get_or premises.now j nothing) }
-    ensures inside { IsIn _symbols.now result }
+pub fn span_of(premises: &[Span], j: u32) -> Span
+    requires { j < length premises.now }
+    ensures { result ≡ rest (get_or premises.now j nothing) }
 {
     rest_of(premises[j as usize])
 }
@@ -139,7 +137,7 @@ fn fits(symbols: &Symbols, premises: &[Span], wanted: &[RuleSymbol], premise: Sp
     for part in wanted {
         match *part {
             RuleSymbol::Variable(j) => {
-                let span = span_of(symbols, premises, j);
+                let span = span_of(premises, j);
                 if !begins(symbols, premise.store, at, premise.end, span) {
                     return false;
                 }
@@ -210,13 +208,13 @@ fn are_disjoint<A: Allocator>(
     ensures value { result ≡ disjoint_pair (context_at db.now.statements theorem) s t }
     ensures cache { AreDisjointAt db.now.statements theorem cache.new }
 {
-    if cache.has(db, theorem, s, t) {
+    if cache.has(s, t) {
         return true;
     }
     if !are_disjoint_by(db, theorem, s, t) {
         return false;
     }
-    cache.keep(db, theorem, s, t);
+    cache.keep(s, t);
     true
 }
 
@@ -291,9 +289,8 @@ fn pairs_are_disjoint<A: Allocator>(
     cache: &mut DisjointCache<A>,
 ) -> bool
     requires theorem { theorem < length db.now.statements }
-    requires premises { All (IsIn symbols.now) premises.now }
-    requires own { All (λ s. s < length (symbol_names db.now.statements)) symbols.now.own }
-    requires kept { All (λ s. s < length (symbol_names db.now.statements)) symbols.now.kept }
+    requires premises { AreEntries (length (symbol_names db.now.statements)) symbols.now
+        premises.now }
     requires pairs { All
         (λ (p : ℕ × ℕ). (p.0 < length premises.now) × (p.1 < length premises.now)) pairs.now }
     requires cache { AreDisjointAt db.now.statements theorem cache.old }
@@ -304,8 +301,8 @@ fn pairs_are_disjoint<A: Allocator>(
     ensures cache { AreDisjointAt db.now.statements theorem cache.new }
 {
     for pair in pairs {
-        let first = symbols.text(span_of(symbols, premises, pair.0));
-        let second = symbols.text(span_of(symbols, premises, pair.1));
+        let first = symbols.text(span_of(premises, pair.0));
+        let second = symbols.text(span_of(premises, pair.1));
         if !are_all_disjoint(db, theorem, first, second, cache) {
             return false;
         }
@@ -344,7 +341,7 @@ pub fn build<A: Allocator>(
     for part in formula {
         match *part {
             RuleSymbol::Variable(j) => {
-                append_text(symbols.text(span_of(symbols, premises, j)), made)?;
+                append_text(symbols.text(span_of(premises, j)), made)?;
                 if made.len() > FORMULA_LIMIT {
                     return Ok(false);
                 }
@@ -368,9 +365,7 @@ pub fn test_rule<A: Allocator>(
 ) -> Result<usize, Reason>
     requires theorem { theorem < length db.now.statements }
     requires rule { IsCompiled db.now.statements rule.now }
-    requires own { All (λ s. s < length (symbol_names db.now.statements)) symbols.now.own }
-    requires kept { All (λ s. s < length (symbol_names db.now.statements)) symbols.now.kept }
-    requires stack { All (IsIn symbols.now) stack.now }
+    requires stack { AreEntries (length (symbol_names db.now.statements)) symbols.now stack.now }
     requires cache { AreDisjointAt db.now.statements theorem cache.old }
     ensures cache { AreDisjointAt db.now.statements theorem cache.new }
     ensures judged { TestsRule db.now.statements theorem rule.now symbols.now stack.now result }

@@ -1,9 +1,7 @@
 //! Pairs of symbols that are known to be disjoint at a theorem.
 
-ghost use Rattle.std.specs.Prelude.{◌≡◌, ◌<◌, [], ℕ, length, get_or, true, IfOk};
-ghost use Rattle.mm_spec.specs.Derivation.{are_disjoint};
-ghost use Rattle.mm_spec.specs.Citation.{context_at};
-ghost use Rattle.mm_machine.specs.Arena.{AreDisjointAt};
+ghost use Rattle.std.specs.Prelude.{◌≡◌, ◌⊎◌, [], true, IfOk};
+ghost use Rattle.mm_machine.specs.Arena.{AreDisjointAt, HasPair, KeepsPair};
 ghost use Rattle.mm_rule.specs.Assertions.{is_assertion_at};
 
 use mm_database::{Database, Sym};
@@ -52,9 +50,7 @@ impl<A: Allocator> DisjointCache<A> {
     /// Whether the pair, with the lower symbol first, is in `pairs` where its slot says.
     #[inline(always)]
     fn has_pair(&self, low: Sym, high: Sym) -> bool
-        ensures { result ≡ true
-            → (n : ℕ) × (n < length self.now) × ((get_or self.now n (low, high)).0 ≡ low)
-            × ((get_or self.now n (low, high)).1 ≡ high) }
+        ensures { result ≡ true → HasPair self.now low high }
     {
         let slot = slot_of(low, high);
         if slot >= self.slots.len() {
@@ -64,11 +60,10 @@ impl<A: Allocator> DisjointCache<A> {
         n < self.pairs.len() && self.pairs[n].0 == low && self.pairs[n].1 == high
     }
 
-    /// Whether two symbols are known to be disjoint.
+    /// Whether two symbols are known to be disjoint: in one order or the other they are a pair.
     #[inline(always)]
-    pub fn has(&self, _db: &Database<A>, _theorem: u32, s: Sym, t: Sym) -> bool
-        requires { AreDisjointAt _db.now.statements _theorem self.now }
-        ensures { result ≡ true → are_disjoint (context_at _db.now.statements _theorem) s t ≡ true }
+    pub fn has(&self, s: Sym, t: Sym) -> bool
+        ensures { result ≡ true → HasPair self.now s t ⊎ HasPair self.now t s }
     {
         if s.number() < t.number() {
             self.has_pair(s, t)
@@ -78,10 +73,8 @@ impl<A: Allocator> DisjointCache<A> {
     }
 
     /// Keeps a pair of disjoint symbols, the lower first, if there is room for it.
-    fn keep_pair(&mut self, _db: &Database<A>, _theorem: u32, low: Sym, high: Sym)
-        requires cache { AreDisjointAt _db.now.statements _theorem self.old }
-        requires disjoint { are_disjoint (context_at _db.now.statements _theorem) low high ≡ true }
-        ensures { AreDisjointAt _db.now.statements _theorem self.new }
+    fn keep_pair(&mut self, low: Sym, high: Sym)
+        ensures { KeepsPair self.old low high self.new }
     {
         let n = self.pairs.len();
         if n < PAIR_SLOTS {
@@ -93,15 +86,13 @@ impl<A: Allocator> DisjointCache<A> {
     }
 
     /// Keeps a pair of disjoint symbols, given in either order.
-    pub fn keep(&mut self, db: &Database<A>, theorem: u32, s: Sym, t: Sym)
-        requires cache { AreDisjointAt db.now.statements theorem self.old }
-        requires disjoint { are_disjoint (context_at db.now.statements theorem) s t ≡ true }
-        ensures { AreDisjointAt db.now.statements theorem self.new }
+    pub fn keep(&mut self, s: Sym, t: Sym)
+        ensures { KeepsPair self.old s t self.new ⊎ KeepsPair self.old t s self.new }
     {
         if s.number() < t.number() {
-            self.keep_pair(db, theorem, s, t);
+            self.keep_pair(s, t);
         } else {
-            self.keep_pair(db, theorem, t, s);
+            self.keep_pair(t, s);
         }
     }
 
@@ -112,7 +103,7 @@ impl<A: Allocator> DisjointCache<A> {
     {
         self.pairs.clear();
         for pair in pairs(db, theorem) {
-            self.keep_pair(db, theorem, pair.0, pair.1);
+            self.keep_pair(pair.0, pair.1);
         }
     }
 }

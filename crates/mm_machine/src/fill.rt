@@ -140,7 +140,7 @@ pub fn fill(
     for part in formula {
         match *part {
             RuleSymbol::Variable(j) => {
-                let text = symbols.text(span_of(symbols, premises, j));
+                let text = symbols.text(span_of(premises, j));
                 if text.len() > room + 1 {
                     return None;
                 }

@@ -7,8 +7,6 @@
 //!
 //! A caller makes a [`Machine`] once, and begins each proof with [`Machine::restart`] and
 //! [`DisjointCache::restart`].
-//!
-//! A parameter whose name begins with `_` is used only by the contracts.
 #![tactic(auto)]
 
 mod disjoint_cache;

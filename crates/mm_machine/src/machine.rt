@@ -1,18 +1,16 @@
 //! The entries of a proof in progress, and the steps on them.
 
-ghost use Rattle.std.specs.Prelude.{◌≡◌, ◌<◌, ◌≤◌, ◌++◌, ◌∷◌, ◌≢◌, [], ℕ, All, List, length, map};
+ghost use Rattle.std.specs.Prelude.{◌≡◌, ◌<◌, ◌≤◌, ◌++◌, ◌∷◌, ◌≢◌, [], ℕ, All, List, length};
 ghost use Rattle.std.specs.Prelude.{get_or, take, drop, true, IfOk, IfErr, IfSome, IfNone, OnOk};
 ghost use Rattle.std.specs.Prelude.{OnErr, Ok, vec_len};
 ghost use Rattle.std.specs.List.{Contains};
-ghost use Rattle.mm_spec.specs.Statement.{Statement};
 ghost use Rattle.mm_spec.specs.Frame.{symbol_names};
-ghost use Rattle.mm_machine.specs.Arena.{arena, text_of, AreDisjointAt};
-ghost use Rattle.mm_rule.specs.Rule.{IsCompiled};
 ghost use Rattle.mm_spec.specs.Laws.Stack.{top};
-ghost use Rattle.mm_machine.specs.State.{State, state, with_mark, applied, texts, made_of};
-ghost use Rattle.mm_machine.specs.State.{first_own as first_own_of, TestsRule, Moves, IsKept};
-ghost use Rattle.mm_machine.specs.State.{IsMachine};
-ghost use Rattle.mm_machine.specs.State.{IsStack, IsRising};
+ghost use Rattle.mm_rule.specs.Rule.{IsBelow, IsKnown, IsCompiled};
+ghost use Rattle.mm_machine.specs.Arena.{arena, text_of, AreDisjointAt};
+ghost use Rattle.mm_machine.specs.State.{machine_state, with_mark, Repeats, applied, texts};
+ghost use Rattle.mm_machine.specs.State.{first_own as first_own_of, made_of, entries_after};
+ghost use Rattle.mm_machine.specs.State.{IsStack, IsStackOf, IsRising, IsKept, Moves};
 ghost use Rattle.mm_machine.specs.Stops.{Stops};
 
 use crate::disjoint_cache::DisjointCache;
@@ -76,11 +74,11 @@ impl<A: Allocator> Drop for Machine<A> {
 impl<A: Allocator> Model for Machine<A> {
     ghost use Rattle.std.specs.Prelude.{length, []};
     ghost use Rattle.mm_machine.specs.Arena.{arena};
-    ghost use Rattle.mm_machine.specs.State.{State, state, texts, IsMachine};
+    ghost use Rattle.mm_machine.specs.State.{MachineState, machine_state, texts, IsMachine};
 
-    ghost Value = { State };
+    ghost Value = { MachineState };
 
-    ghost view = { λ m. state
+    ghost view = { λ m. machine_state
         (texts (arena m.own m.kept) m.stack.items) m.marks.items
         (texts (arena [] m.kept) m.marked.items) m.width };
 
@@ -114,7 +112,7 @@ impl<A: Allocator> Machine<A> {
     pub fn new(alloc: A, width: usize) -> Result<Self, AllocError>
     where
         A: Copy,
-        ensures { IfOk result (λ m. m ≡ state [] [] [] width) }
+        ensures { IfOk result (λ m. m ≡ machine_state [] [] [] width) }
     {
         let slots = zeros(alloc, MARK_SLOTS)?;
         let mut short = Vec::with_capacity(alloc, MAX_SHORT_FORMULA)?;
@@ -134,7 +132,7 @@ impl<A: Allocator> Machine<A> {
 
     /// Removes all entries and marks, and keeps the memory of the lists, except that of long ones.
     pub fn restart(&mut self)
-        ensures { self.new ≡ state [] [] [] self.old.width }
+        ensures { self.new ≡ machine_state [] [] [] self.old.width }
     {
         self.own.empty();
         self.kept.empty();
@@ -149,7 +147,7 @@ impl<A: Allocator> Machine<A> {
         requires { All (λ s. s < self.old.width) formula.now }
         ensures ok { OnOk result
             (self.new
-            ≡ state (self.old.stack ++ formula.now ∷ []) self.old.marks self.old.formulas
+            ≡ machine_state (self.old.stack ++ formula.now ∷ []) self.old.marks self.old.formulas
             self.old.width) }
         ensures width { self.new.width ≡ self.old.width }
     {
@@ -159,12 +157,7 @@ impl<A: Allocator> Machine<A> {
     /// Pushes the formula of the earlier, marked step `j` again.
     pub fn repeat(&mut self, j: u32) -> Result<(), AllocError>
         requires { Contains self.old.marks j }
-        ensures ok { OnOk result
-            ((n : ℕ) × (n < length self.old.formulas) × (n < length self.old.marks)
-            × (get_or self.old.marks n 0 ≡ j)
-            × (self.new
-            ≡ state (self.old.stack ++ get_or self.old.formulas n [] ∷ []) self.old.marks
-            self.old.formulas self.old.width)) }
+        ensures ok { OnOk result (Repeats j self.old self.new) }
         ensures width { self.new.width ≡ self.old.width }
     {
         let n = find(&self.marks, j as usize, &self.slots);
@@ -211,17 +204,22 @@ impl<A: Allocator> Machine<A> {
             (λ e. Stops e
             (applied db.now.statements theorem rule.now.assertion self.old.stack)) }
     {
-        put_judged(
-            db,
-            theorem,
-            rule,
-            &mut self.own,
-            self.kept.as_slice(),
-            &mut self.stack,
-            &mut self.short,
-            &mut self.made,
-            cache,
-        )
+        let symbols = Symbols {
+            own: self.own.as_slice(),
+            kept: self.kept.as_slice(),
+        };
+        match test_rule(db, theorem, rule, &symbols, &self.stack, cache) {
+            Err(reason) => Err(Stopped::Fault(reason)),
+            Ok(below) => put_formula(
+                below,
+                rule.formula(),
+                &mut self.own,
+                self.kept.as_slice(),
+                &mut self.stack,
+                &mut self.short,
+                &mut self.made,
+            ),
+        }
     }
 
     /// The formula of the only entry; `None` if there isn't exactly one.
@@ -331,95 +329,66 @@ fn keep<A: Allocator>(
     }
 }
 
-/// Tests the step of an assertion, and replaces the entries that it takes by its formula.
+/// Replaces the entries from index `below` on by the formula of a step that takes them as its
+/// premises. The formula is built in `short` if there is room.
 #[inline(always)]
-fn put_judged<A: Allocator>(
-    db: &Database<A>,
-    theorem: u32,
-    rule: &Rule,
+fn put_formula<A: Allocator>(
+    below: usize,
+    formula: &[RuleSymbol],
     own: &mut SymbolList<A>,
     kept: &[Sym],
     stack: &mut Vec<Span, A>,
     short: &mut [Sym],
     made: &mut Vec<Sym, A>,
-    cache: &mut DisjointCache<A>,
 ) -> Result<(), Stopped>
-    requires theorem { theorem < length db.now.statements }
-    requires rule { IsCompiled db.now.statements rule.now }
+    requires below { below ≤ vec_len stack.old }
+    requires formula { All (IsBelow (length (drop below stack.old.items))) formula.now }
     requires stack { IsStack own.old kept.now stack.old.items }
-    requires known_own { All (λ s. s < length (symbol_names db.now.statements)) own.old }
-    requires known_kept { All (λ s. s < length (symbol_names db.now.statements)) kept.now }
-    requires cache { AreDisjointAt db.now.statements theorem cache.old }
-    ensures cache { AreDisjointAt db.now.statements theorem cache.new }
-    ensures stack { IsStack own.new kept.now stack.new.items }
-    ensures known_own { All (λ s. s < length (symbol_names db.now.statements)) own.new }
+    ensures stack { (w : ℕ) → All (IsKnown w) formula.now
+        → IsStackOf w own.old kept.now stack.old.items
+        → IsStackOf w own.new kept.now stack.new.items }
     ensures made { OnOk result
-        (applied db.now.statements theorem rule.now.assertion
-        (texts (arena own.old kept.now) stack.old.items)
+        (entries_after (arena own.old kept.now) stack.old.items below formula.now
         ≡ Ok (texts (arena own.new kept.now) stack.new.items)) }
-    ensures entry { OnOk result (0 < length stack.new.items) }
     ensures stopped { IfErr result
         (λ e. Stops e
-        (applied db.now.statements theorem rule.now.assertion
-        (texts (arena own.old kept.now) stack.old.items))) }
+        (entries_after (arena own.old kept.now) stack.old.items below formula.now)) }
 {
     let symbols = Symbols {
         own: own.as_slice(),
         kept,
     };
-    match test_rule(db, theorem, rule, &symbols, stack, cache) {
-        Err(reason) => Err(Stopped::Fault(reason)),
-        Ok(below) => match fill(&symbols, &stack[below..], rule.formula(), short) {
-            Some(n) => match put(below, &short[..n], own, kept, stack) {
-                Err(_) => Err(Stopped::Memory),
-                Ok(()) => Ok(()),
-            },
-            None => put_long(
-                db,
-                theorem,
-                rule,
-                rule.formula(),
-                below,
-                own,
-                kept,
-                stack,
-                made,
-            ),
+    match fill(&symbols, &stack[below..], formula, short) {
+        Some(n) => match put(below, &short[..n], own, stack) {
+            Err(_) => Err(Stopped::Memory),
+            Ok(()) => Ok(()),
         },
+        None => put_long(below, formula, own, kept, stack, made),
     }
 }
 
-/// The same for a step that was tested: builds its formula in a list that grows.
+/// The same, with the formula built in a list that grows.
 #[inline(never)]
 fn put_long<A: Allocator>(
-    _db: &Database<A>,
-    _theorem: u32,
-    _rule: &Rule,
-    formula: &[RuleSymbol],
     below: usize,
+    formula: &[RuleSymbol],
     own: &mut SymbolList<A>,
     kept: &[Sym],
     stack: &mut Vec<Span, A>,
     made: &mut Vec<Sym, A>,
 ) -> Result<(), Stopped>
-    requires rule { IsCompiled _db.now.statements _rule.now }
-    requires formula { formula.now ≡ _rule.now.formula }
-    requires judged { TestsRule _db.now.statements _theorem _rule.now
-        (arena own.old kept.now) stack.old.items (Ok below) }
+    requires below { below ≤ vec_len stack.old }
+    requires formula { All (IsBelow (length (drop below stack.old.items))) formula.now }
     requires stack { IsStack own.old kept.now stack.old.items }
-    requires known_own { All (λ s. s < length (symbol_names _db.now.statements)) own.old }
-    requires known_kept { All (λ s. s < length (symbol_names _db.now.statements)) kept.now }
-    ensures stack { IsStack own.new kept.now stack.new.items }
-    ensures known_own { All (λ s. s < length (symbol_names _db.now.statements)) own.new }
+    ensures stack { (w : ℕ) → All (IsKnown w) formula.now
+        → IsStackOf w own.old kept.now stack.old.items
+        → IsStackOf w own.new kept.now stack.new.items }
     ensures made { OnOk result
-        (applied _db.now.statements _theorem _rule.now.assertion
-        (texts (arena own.old kept.now) stack.old.items)
+        (entries_after (arena own.old kept.now) stack.old.items below formula.now
         ≡ Ok (texts (arena own.new kept.now) stack.new.items)) }
-    ensures entry { OnOk result (0 < length stack.new.items) }
     ensures stopped { IfErr result
         (λ e. Stops e
-        (applied _db.now.statements _theorem _rule.now.assertion
-        (texts (arena own.old kept.now) stack.old.items))) }
+        (entries_after (arena own.old kept.now) stack.old.items below formula.now)) }
 {
     let symbols = Symbols {
         own: own.as_slice(),
@@ -428,31 +397,29 @@ fn put_long<A: Allocator>(
     match build(&symbols, &stack[below..], formula, made) {
         Err(_) => Err(Stopped::Memory),
         Ok(false) => Err(Stopped::Fault(Reason::TooLong)),
-        Ok(true) => match put(below, made, own, kept, stack) {
+        Ok(true) => match put(below, made, own, stack) {
             Err(_) => Err(Stopped::Memory),
             Ok(()) => Ok(()),
         },
     }
 }
 
-/// Replaces the entries from index `below` on by a formula.
+/// Replaces the entries from index `below` on by a formula. The kept symbols, of which the clauses
+/// speak, stay as they are.
 #[inline(always)]
 fn put<A: Allocator>(
     below: usize,
     made: &[Sym],
     own: &mut SymbolList<A>,
-    _kept: &[Sym],
     stack: &mut Vec<Span, A>,
 ) -> Result<(), AllocError>
-    requires below { below ≤ vec_len stack.old }
-    requires is_stack { IsStack own.old _kept.now stack.old.items }
-    ensures is_stack { IsStack own.new _kept.now stack.new.items }
-    ensures known_own { (w : ℕ) → All (λ s. s < w) own.old → All (λ s. s < w) made.now
-        → All (λ s. s < w) own.new }
-    ensures stack { OnOk result
-        (texts (arena own.new _kept.now) stack.new.items
-        ≡ take below (texts (arena own.old _kept.now) stack.old.items) ++ made.now ∷ []) }
-    ensures entry { OnOk result (0 < length stack.new.items) }
+    requires { below ≤ vec_len stack.old }
+    ensures stack { (w : ℕ) (kept : List ℕ) → All (λ s. s < w) made.now
+        → IsStackOf w own.old kept stack.old.items
+        → IsStackOf w own.new kept stack.new.items }
+    ensures texts { OnOk result ((kept : List ℕ) → IsStack own.old kept stack.old.items
+        → texts (arena own.new kept) stack.new.items
+        ≡ take below (texts (arena own.old kept) stack.old.items) ++ made.now ∷ []) }
 {
     cut(below, own, stack);
     add(made, own, stack)

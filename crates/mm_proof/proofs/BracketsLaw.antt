@@ -24,6 +24,17 @@ use Rattle.mm_proof.specs.Letters.{InOrder, closed}
 abbrev pub after : List Token → Compressed → Compressed
 after ts p = record { labels = ts ++ p.labels; letters = p.letters }
 
+-- the brackets close at a `)`
+pub brackets_close : (done : List Token) (t : Token) (ts : List Token)
+    → bytes_eq t.word (codes ")") ≡ true → after done (bracketed (t ∷ ts)) ≡ closed done ts
+brackets_close done t ts e =
+    ap (λ b. after done
+    (elim b [
+      | true ↦ record { labels = []; letters = Some ts }
+      | false ↦ with_label t (bracketed ts)
+    ])) e
+    ∙ ap (λ ls. closed ls ts) (append-nil done)
+
 module _ (db : List Statement) (k end : ℕ) where
   -- after labels without faults stands a word that is no label that is usable
   pub label_first : (done : List Token) (t : Token) (ts : List Token)

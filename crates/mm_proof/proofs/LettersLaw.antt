@@ -2,8 +2,9 @@
 use Rattle.std.proofs.Common.{◌≡◌, ◌∙◌, ℕ, zero, suc, ◌+◌, ◌-◌, ◌*◌, ◌<◌, ◌≤◌, ◌==◌, Bool, true}
 use Rattle.std.proofs.Common.{false, List, [], ◌∷◌, ◌++◌, map, length, Option, Some, None}
 use Rattle.std.proofs.Common.{slice_get, nat_le, nat_lt, refl, sym, ap, subst, arith, append_assoc}
-use Rattle.std.proofs.Common.{length-append, leb-true, eqb-true, Result, Ok, Err, IfErr}
-use Rattle.std.proofs.Common.{slice_range, get_or, take, drop, true≢false, is_some}
+use Rattle.std.proofs.Common.{length-append, length-take, length-drop, leb-true, eqb-true, Result}
+use Rattle.std.proofs.Common.{Ok, Err, IfErr, slice_range, get_or, take, drop, true≢false, is_some}
+use Rattle.std.proofs.Common.{fold}
 use Rattle.std.specs.Result.{IsErrAnd}
 use Rattle.std.proofs.lemmas.List.{drop_more, append-nil}
 use Rattle.std.proofs.lemmas.Bool.{and_parts, le-ltb, lt-ltb}
@@ -20,9 +21,9 @@ use Rattle.mm_spec.specs.declared.Code.TheVariants.{OpenNumber, MarkBeforeStep, 
 use Rattle.mm_spec.specs.declared.Code.TheVariants.{IncompleteProof, BadLetter}
 use Rattle.mm_spec.specs.declared.Word.{Word as Place}
 use Rattle.mm_outline.specs.Parts.{as_tokens, token_of}
-use Rattle.mm_proof.specs.Number.{told}
-use Rattle.mm_proof.specs.Letters.{State, state, letter, Begins, Continues, Reads, begun_at}
-use Rattle.mm_proof.specs.Letters.{StandsAt, InOrder}
+use Rattle.mm_proof.specs.Number.{saturated}
+use Rattle.mm_proof.specs.Letters.{LettersState, letters_state, letter, Begins, Continues, begun_at}
+use Rattle.mm_proof.specs.Letters.{StandsAt, InOrder, early_value}
 use Rattle.mm_proof.specs.Refused.{StartsWith}
 use Rattle.mm_proof.specs.declared.refused.ProofRefused.{ProofRefused}
 use Rattle.mm_proof.specs.declared.refused.ProofRefused.TheVariants.{Fault as Faulty, Memory}
@@ -55,8 +56,23 @@ letters_end text i end l =
     ap (λ n. letters_from i (take n (drop i text))) (let none : end - i ≡ 0 = omega arith in none)
 
 -- what was read stands before the words that are left
-abbrev pub StandsBefore : State → List Token → ℕ → Type 0
+abbrev pub StandsBefore : LettersState → List Token → ℕ → Type 0
 StandsBefore s ts end = (from : ℕ) × StandsAt s from × InOrder from ts end
+
+-- the same after the first of these words
+pub stands_after : (s new : LettersState) (text : List ℕ) (w : Place) (ws : List Place) (end : ℕ)
+    → w.start ≤ w.end → w.end ≤ length text → StandsBefore s (as_tokens text (w ∷ ws)) end
+    → StandsAt new w.end → StandsBefore new (as_tokens text ws) end
+stands_after s new text w ws end rising within before here =
+    let word = slice_range text w.start w.end in
+    let long : w.end ≡ w.start + length word = omega (
+      arith,
+      rising,
+      within,
+      length-take (w.end - w.start) (drop w.start text),
+      length-drop w.start text,
+    ) in
+    (w.start + length word, subst (StandsAt new) long here, before.2.2)
 
 abbrev group : List Letter → ℕ → ℕ → Group
 group early at byte = record { early = early; last = letter at byte }
@@ -66,10 +82,12 @@ starts : (number : Option Begun) (early : List Letter) (at byte : ℕ) → Begin
 starts None early at byte b = ap (λ es. starts_at (group es at byte)) b
 starts (Some n) early at byte b = ap (λ es. starts_at (group es at byte)) b.2 ∙ sym b.3
 
-told_value : (number : Option Begun) (early : List Letter) (at byte : ℕ) → Begins number early
-    → told (20 * (begun_at number at).value + (byte - 64)) ≡ told (value (group early at byte))
-told_value None early at byte b = sym (ap (λ es. told (value (group es at byte))) b ∙ (omega arith))
-told_value (Some n) early at byte b = let e = b.4 in omega (arith, e)
+saturated_value : (number : Option Begun) (early : List Letter) (at byte : ℕ) → Begins number early
+    → saturated (20 * (begun_at number at).value + (byte - 64))
+    ≡ saturated (value (group early at byte))
+saturated_value None early at byte b =
+    sym (ap (λ es. saturated (value (group es at byte))) b ∙ (omega arith))
+saturated_value (Some n) early at byte b = let e = b.4 in omega (arith, e)
 
 -- what is named has a number that isn't too large
 named_within : (labels marks : List ℕ) (n : ℕ) (s : spec.Step) → step_of labels marks n ≡ s ∷ []
@@ -104,10 +122,12 @@ no_mark byte l = by (byte == 90) refl
 pub last_reads : (t : ℕ) (labels marks : List ℕ) (number : Option Begun) (steps : List PlacedStep)
     → (place byte : ℕ) (s : spec.Step)
     → is_early byte ≡ false → is_last byte ≡ true
-    → ((n : ℕ) → told (20 * (begun_at number place).value + (byte - 64)) ≡ told n
+    → ((n : ℕ) → saturated (20 * (begun_at number place).value + (byte - 64)) ≡ saturated n
     → step_of labels marks n ≡ s ∷ [])
-    → Reads (state t labels marks number steps) (letter place byte ∷ [])
-    (state t labels marks None (steps ++ placed (begun_at number place).at s ∷ []))
+    → (all left : List Letter)
+    → Continues (letters_state t labels marks number steps) all (letter place byte ∷ left)
+    → Continues
+    (letters_state t labels marks None (steps ++ placed (begun_at number place).at s ∷ [])) all left
 last_reads t labels marks number steps place byte s e l named all left h =
     record {
       early = [];
@@ -135,7 +155,7 @@ last_reads t labels marks number steps place byte s e l named all left h =
     gs = (groups [] left).0
 
     is : step_of labels marks (value g) ≡ s ∷ []
-    is = named (value g) (told_value number h.early place byte h.begins)
+    is = named (value g) (saturated_value number h.early place byte h.begins)
 
     split : groups h.early (letter place byte ∷ left) ≡ (g ∷ gs, (groups [] left).1)
     split =
@@ -187,11 +207,84 @@ last_reads t labels marks number steps place byte s e l named all left h =
         ∙ sym (append_assoc steps (first ∷ []) (group_steps labels marks (length steps + 1) gs))
         ∙ ap (λ n. (steps ++ first ∷ []) ++ group_steps labels marks n gs) (sym longer)
 
+-- an early letter
+pub early_reads : (t : ℕ) (labels marks : List ℕ) (number : Option Begun) (steps : List PlacedStep)
+    → (place byte : ℕ) (begun : Begun) → is_early byte ≡ true
+    → begun.at ≡ (begun_at number place).at
+    → begun.value ≡ saturated (5 * (begun_at number place).value + (byte - 84))
+    → (all left : List Letter)
+    → Continues (letters_state t labels marks number steps) all (letter place byte ∷ left)
+    → Continues (letters_state t labels marks (Some begun) steps) all left
+early_reads t labels marks number steps place byte begun e place_is value_is all left h =
+    record {
+      early = h.early ++ x ∷ [];
+      begins = begins number h.early h.begins place_is value_is;
+      steps = h.steps ∙ ap (λ r. steps ++ group_steps labels marks (length steps) r.0) split;
+      faults =
+          h.faults ∙ ap (λ r. group_faults (length labels) (length marks) (length steps) r.0) split;
+      run = h.run ∙ ap (λ r. r.1) split;
+    }
+  where
+    x : Letter
+    x = letter place byte
+
+    split : groups h.early (x ∷ left) ≡ groups (h.early ++ x ∷ []) left
+    split =
+        ap (λ b. elim b [
+          | true ↦ groups (h.early ++ x ∷ []) left
+          | false ↦ let r = groups [] left in (record { early = h.early; last = x } ∷ r.0, r.1)
+        ]) e
+
+    more : (n : ℕ) (es : List Letter)
+        → fold (λ (n : ℕ) (y : Letter). 5 * n + (y.byte - 84)) n (es ++ x ∷ [])
+        ≡ 5 * fold (λ (n : ℕ) (y : Letter). 5 * n + (y.byte - 84)) n es + (byte - 84)
+    more n [] = refl
+    more n (y ∷ es) = more (5 * n + (y.byte - 84)) es
+
+    begins : (number : Option Begun) (early : List Letter) → Begins number early
+        → begun.at ≡ (begun_at number place).at
+        → begun.value ≡ saturated (5 * (begun_at number place).value + (byte - 84))
+        → Begins (Some begun) (early ++ x ∷ [])
+    begins None early r p v =
+        subst (λ es. Begins (Some begun) (es ++ x ∷ [])) (sym r) (x, [], refl, p, v)
+    begins (Some n) early r p v =
+        let same : saturated (5 * n.value + (byte - 84)) ≡ saturated (early_value (early ++ x ∷ []))
+        = let m = more 0 early in let b = r.4 in omega (arith, m, b) in
+        (r.0, r.1 ++ x ∷ [], ap (λ es. es ++ x ∷ []) r.2, p ∙ r.3, v ∙ same)
+
+-- a `Z` after the last letter of a number
+pub mark_reads : (t : ℕ) (labels marks : List ℕ) (steps : List PlacedStep) (place : ℕ)
+    → (length steps == 0) ≡ false → (all left : List Letter)
+    → Continues (letters_state t labels marks None steps) all (letter place 90 ∷ left)
+    → Continues (letters_state t labels (marks ++ (length steps - 1) ∷ []) None steps) all left
+mark_reads t labels marks steps place some all left h =
+    record {
+      early = [];
+      begins = refl;
+      steps = h.steps ∙ ap (λ r. steps ++ group_steps labels marks (length steps) r.0) split;
+      faults =
+          h.faults ∙ ap (λ r. group_faults (length labels) (length marks) (length steps) r.0) split
+          ∙ ap (λ b. at place (when b MarkBeforeStep)
+          ++ group_faults (length labels) (length marks + 1) (length steps) gs) some
+          ∙ ap (λ n. group_faults (length labels) n (length steps) gs) (sym longer);
+      run = h.run ∙ ap (λ r. r.1) split;
+    }
+  where
+    gs : List Group
+    gs = (groups [] left).0
+
+    split : groups h.early (letter place 90 ∷ left)
+        ≡ (group [] place 90 ∷ gs, (groups [] left).1)
+    split = ap (λ es. groups es (letter place 90 ∷ left)) h.begins
+
+    longer : length (marks ++ (length steps - 1) ∷ []) ≡ length marks + 1
+    longer = length-append marks ((length steps - 1) ∷ [])
+
 -- ---- all letters
 
 -- before the first letter
 pub whole : (t : ℕ) (labels : List ℕ) (all : List Letter)
-    → Continues (state t labels [] None []) all all
+    → Continues (letters_state t labels [] None []) all all
 whole t labels all = record { early = []; begins = refl; steps = refl; faults = refl; run = refl }
 
 -- a fault of the letters is one of the proof
@@ -210,27 +303,27 @@ is_run None early b = ap (λ es. nat_lt 0 (length es)) b
 is_run (Some n) early b =
     ap (λ es. nat_lt 0 (length es)) b.2 ∙ lt-ltb 0 (suc (length b.1)) (omega arith)
 
-end_faults : (s : State) (end : ℕ) (x : Letter) (xs : List Letter) → Continues s (x ∷ xs) []
+end_faults : (s : LettersState) (end : ℕ) (x : Letter) (xs : List Letter) → Continues s (x ∷ xs) []
     → letter_faults (length s.labels) end (x ∷ xs) ≡ at end (when (is_some s.number) OpenNumber)
 end_faults s end x xs h =
     ap (λ fs. fs ++ at end (when (nat_lt 0 (length (groups [] (x ∷ xs)).1)) OpenNumber)) h.faults
     ∙ ap (λ es. at end (when (nat_lt 0 (length es)) OpenNumber)) h.run
     ∙ ap (λ b. at end (when b OpenNumber)) (is_run s.number h.early h.begins)
 
-pub open_fault : (s : State) (end : ℕ) (all : List Letter) → is_some s.number ≡ true → ¬ (all ≡ [])
-    → Continues s all []
+pub open_fault : (s : LettersState) (end : ℕ) (all : List Letter) → is_some s.number ≡ true
+    → ¬ (all ≡ []) → Continues s all []
     → StartsWith (letter_faults (length s.labels) end all) (Faulty (fault end OpenNumber))
 open_fault s end [] n some h = absurd (some refl)
 open_fault s end (x ∷ xs) n some h =
     ([], end_faults s end x xs h ∙ ap (λ b. at end (when b OpenNumber)) n)
 
-pub no_fault : (s : State) (end : ℕ) (all : List Letter) → is_some s.number ≡ false → ¬ (all ≡ [])
-    → Continues s all [] → letter_faults (length s.labels) end all ≡ []
+pub no_fault : (s : LettersState) (end : ℕ) (all : List Letter) → is_some s.number ≡ false
+    → ¬ (all ≡ []) → Continues s all [] → letter_faults (length s.labels) end all ≡ []
 no_fault s end [] n some h = absurd (some refl)
 no_fault s end (x ∷ xs) n some h = end_faults s end x xs h ∙ ap (λ b. at end (when b OpenNumber)) n
 
 -- all letters are after the last word
-pub all_read : (s : State) (text : List ℕ) (ws : List Place) (n : ℕ) (all : List Letter)
+pub all_read : (s : LettersState) (text : List ℕ) (ws : List Place) (n : ℕ) (all : List Letter)
     → length ws ≤ n → Continues s all (letters_of (as_tokens text (drop n ws))) → Continues s all []
 all_read s text ws n all l h =
     subst (λ vs. Continues s all (letters_of (as_tokens text vs))) (none n ws l) h
@@ -241,7 +334,7 @@ all_read s text ws n all l h =
     none (suc n) [] l = refl
     none (suc n) (w ∷ ws) l = none n ws (omega arith)
 
-pub all_steps : (s : State) (all : List Letter) → Continues s all []
+pub all_steps : (s : LettersState) (all : List Letter) → Continues s all []
     → s.steps ≡ group_steps s.labels [] 0 (groups [] all).0
 all_steps s all h = sym (h.steps ∙ append-nil s.steps)
 
@@ -258,12 +351,13 @@ some_letters from end text (v ∷ ws) o l e = by (token_of text v).word o.1 e
     by (b ∷ bs) l e = cc
 
 -- a letter without a step
-pub stands_later : (s : State) (at : ℕ) → StandsAt s at → StandsAt s (at + 1)
+pub stands_later : (s : LettersState) (at : ℕ) → StandsAt s at → StandsAt s (at + 1)
 stands_later s at h = record { few = (let f = h.few in omega (arith, f)); earlier = h.earlier }
 
 -- a letter with a step
-pub stands_step : (s new : State) (at : ℕ) (x : PlacedStep) → StandsAt s at
-    → new ≡ state s.theorem s.labels s.marks None (s.steps ++ x ∷ []) → StandsAt new (at + 1)
+pub stands_step : (s new : LettersState) (at : ℕ) (x : PlacedStep) → StandsAt s at
+    → new ≡ letters_state s.theorem s.labels s.marks None (s.steps ++ x ∷ [])
+    → StandsAt new (at + 1)
 stands_step s new at x h e =
     let l = length-append s.steps (x ∷ []) in
     let f = h.few in

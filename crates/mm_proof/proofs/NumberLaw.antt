@@ -9,7 +9,7 @@ use Rattle.std.specs.Result.{OkIff, result_ok}
 use Rattle.std.proofs.lemmas.List.{same_from_push}
 use Rattle.mm_proof.specs.declared.digits.LetterKind.{LetterKind}
 use Rattle.mm_proof.specs.declared.digits.LetterKind.TheVariants.{Early, Last, Mark, Unknown, Other}
-use Rattle.mm_proof.specs.Number.{IsNumber, IsLetter, told}
+use Rattle.mm_proof.specs.Number.{IsNumber, IsLetter, saturated}
 
 abbrev bytes : List Letter → List ℕ
 bytes xs = map (λ x. x.byte) xs
@@ -85,19 +85,22 @@ not_early bs b n i d k l h e s =
     true≢false
     (sym (each_early bs i d (spelled bs b n s).early l) ∙ kind_early k (get_or bs i d) h e)
 
--- the value that the code has told, by the conversion to 32 bits
-pub told_some : {E : Type 0} (r : Result ℕ E) (bs : List ℕ) (b v w : ℕ) → OkIff r (w < 4294967296) w
-    → v ≡ told (early_bytes bs) → w ≡ told (20 * v + (b - 64)) → list_all is_early bs ≡ true
-    → is_last b ≡ true → IfSome (result_ok r) (λ n. IsNumber (bs ++ b ∷ []) n)
-told_some (Ok x) bs b v w o e f a l =
+-- the value that the code has, by the conversion to 32 bits
+pub saturated_some : {E : Type 0} (r : Result ℕ E) (bs : List ℕ) (b v w : ℕ)
+    → OkIff r (w < 4294967296) w
+    → v ≡ saturated (early_bytes bs) → w ≡ saturated (20 * v + (b - 64))
+    → list_all is_early bs ≡ true → is_last b ≡ true
+    → IfSome (result_ok r) (λ n. IsNumber (bs ++ b ∷ []) n)
+saturated_some (Ok x) bs b v w o e f a l =
     made bs b x a l (let small = o.0 in let same = o.1 in omega (arith, small, same, e, f))
-told_some (Err x) bs b v w o e f a l = tt
+saturated_some (Err x) bs b v w o e f a l = tt
 
-pub told_none : {E : Type 0} (r : Result ℕ E) (bs : List ℕ) (b v w : ℕ) → OkIff r (w < 4294967296) w
-    → v ≡ told (early_bytes bs) → w ≡ told (20 * v + (b - 64))
+pub saturated_none : {E : Type 0} (r : Result ℕ E) (bs : List ℕ) (b v w : ℕ)
+    → OkIff r (w < 4294967296) w
+    → v ≡ saturated (early_bytes bs) → w ≡ saturated (20 * v + (b - 64))
     → IfNone (result_ok r) ((n : ℕ) → IsNumber (bs ++ b ∷ []) n → 4294967295 < n)
-told_none (Ok x) bs b v w o e f = tt
-told_none (Err x) bs b v w o e f = λ n h. by n (spelled bs b n h).is (cases_lt w 4294967296)
+saturated_none (Ok x) bs b v w o e f = tt
+saturated_none (Err x) bs b v w o e f = λ n h. by n (spelled bs b n h).is (cases_lt w 4294967296)
   where
     by : (n : ℕ) → early_bytes bs * 20 + (b - 64) ≡ n → (w < 4294967296) ⊎ (4294967296 ≤ w)
         → 4294967295 < n

@@ -1,12 +1,17 @@
 -- What has been read of the letters of a compressed proof.
 use Rattle.std.specs.Prelude.{◌≡◌, ℕ, ◌+◌, ◌-◌, ◌*◌, ◌<◌, ◌≤◌, All, List, [], ◌∷◌, ◌++◌, length}
-use Rattle.std.specs.Prelude.{Option, Some, None, fold}
+use Rattle.std.specs.Prelude.{Option, Some, None, fold, take, drop, flat_map}
+use Rattle.mm_spec.specs.declared.Word.{Word}
 use Rattle.mm_spec.specs.Text.{Token}
+use Rattle.mm_spec.specs.Statement.{Statement}
+use Rattle.mm_spec.specs.NormalProof.{usable, proof_label_faults}
 use Rattle.mm_spec.specs.Steps as spec
 use Rattle.mm_spec.specs.Steps.{PlacedStep}
 use Rattle.mm_spec.specs.CompressedProof.{Compressed, Letter, groups, group_steps, group_faults}
-use Rattle.mm_proof.specs.Number.{told}
-use Rattle.mm_steps.specs.Read.{step_of}
+use Rattle.mm_spec.specs.CompressedProof.{bracketed}
+use Rattle.mm_outline.specs.Parts.{as_tokens}
+use Rattle.mm_proof.specs.Number.{saturated}
+use Rattle.mm_steps.specs.Read.{as_step}
 use Rattle.mm_proof.specs.Refused.{StartsWith}
 use Rattle.mm_proof.specs.declared.letters.Begun.{Begun}
 use Rattle.mm_steps.specs.declared.placed.Step.{Step}
@@ -14,20 +19,20 @@ use Rattle.mm_proof.specs.declared.refused.ProofRefused.{ProofRefused}
 
 -- the theorem, the labels that have numbers, the steps that were marked, the number whose last
 -- letter hasn't been read yet, and the steps
-pub record State : Type 0 where
+pub record LettersState : Type 0 where
   pub theorem : ℕ
   pub labels : List ℕ
   pub marks : List ℕ
   pub number : Option Begun
   pub steps : List PlacedStep
 
-abbrev pub state : ℕ → List ℕ → List ℕ → Option Begun → List PlacedStep → State
-state t labels marks number steps =
+abbrev pub letters_state : ℕ → List ℕ → List ℕ → Option Begun → List PlacedStep → LettersState
+letters_state t labels marks number steps =
     record { theorem = t; labels = labels; marks = marks; number = number; steps = steps }
 
 -- the same state, except for the number
-abbrev pub with_number : State → Option Begun → State
-with_number s number = state s.theorem s.labels s.marks number s.steps
+abbrev pub with_number : LettersState → Option Begun → LettersState
+with_number s number = letters_state s.theorem s.labels s.marks number s.steps
 
 abbrev pub letter : ℕ → ℕ → Letter
 letter at byte = record { at = at; byte = byte }
@@ -42,11 +47,11 @@ abbrev pub Begins : Option Begun → List Letter → Type 0
 Begins None early = early ≡ []
 Begins (Some b) early =
     (first : Letter) × (more : List Letter) × (early ≡ first ∷ more) × (b.at ≡ first.at)
-    × (b.value ≡ told (early_value early))
+    × (b.value ≡ saturated (early_value early))
 
 -- Of the letters `all`, the letters `left` are left to be read. The steps of `all` are the steps so
 -- far and those of `left`, and the faults of `all` are those of `left`.
-pub record Continues (s : State) (all left : List Letter) : Type 0 where
+pub record Continues (s : LettersState) (all left : List Letter) : Type 0 where
   pub early : List Letter
   pub begins : Begins s.number early
   pub steps : group_steps s.labels [] 0 (groups [] all).0
@@ -56,18 +61,20 @@ pub record Continues (s : State) (all left : List Letter) : Type 0 where
   pub run : (groups [] all).1 ≡ (groups early left).1
 
 -- each mark is of a step so far, and there are no more steps than bytes before the place
-pub record StandsAt (s : State) (at : ℕ) : Type 0 where
+pub record StandsAt (s : LettersState) (at : ℕ) : Type 0 where
   pub few : length s.steps ≤ at
   pub earlier : All (λ j. j < length s.steps) s.marks
 
--- these letters lead from the state `old` to the state `new`
-abbrev pub Reads : State → List Letter → State → Type 0
-Reads old xs new =
-    (all left : List Letter) → Continues old all (xs ++ left) → Continues new all left
+-- these letters lead from the state `old` to the state `new`, of the same theorem and labels
+pub record ReadsLetters (old : LettersState) (xs : List Letter) (new : LettersState) : Type 0 where
+  pub theorem : new.theorem ≡ old.theorem
+  pub labels : new.labels ≡ old.labels
+  pub continues : (all left : List Letter) → Continues old all (xs ++ left)
+      → Continues new all left
 
 -- these letters have a fault, which is the first fault of all letters
-abbrev pub Stops : State → List Letter → ProofRefused → Type 0
-Stops old xs e =
+abbrev pub RefusesLetters : LettersState → List Letter → ProofRefused → Type 0
+RefusesLetters old xs e =
     (all left : List Letter) → Continues old all (xs ++ left)
     → StartsWith (group_faults (length old.labels) 0 0 (groups [] all).0) e
 
@@ -79,7 +86,7 @@ begun_at (Some b) at = b
 -- the step that a number names, if it names one
 abbrev pub named : Option Step → List spec.Step
 named None = []
-named (Some s) = step_of s ∷ []
+named (Some s) = as_step s ∷ []
 
 -- from place `from` on, each token is a word that isn't empty and doesn't begin before the end of
 -- the one before it, and none goes past `end`
@@ -91,3 +98,15 @@ InOrder from (t ∷ ts) end =
 -- brackets that are closed, and the letters after them
 abbrev pub closed : List Token → List Token → Compressed
 closed labels letters = record { labels = labels; letters = Some letters }
+
+-- What was read of the labels in brackets: they are the first `n` words, before a `)`. They have no
+-- fault, and the statements that they name were appended to the list `old`.
+pub record ReadsLabels (db : List Statement) (k : ℕ) (text : List ℕ) (words : List Word) (n : ℕ)
+    (old new : List ℕ) : Type 0 where
+  pub some : n < length words
+  pub brackets : bracketed (as_tokens text words)
+      ≡ closed (as_tokens text (take n words)) (as_tokens text (drop (n + 1) words))
+  pub labels : new
+      ≡ old ++ flat_map (λ t. usable db k t.word) (as_tokens text (take n words))
+  pub many : length new ≡ length old + n
+  pub sound : flat_map (proof_label_faults db k) (as_tokens text (take n words)) ≡ []

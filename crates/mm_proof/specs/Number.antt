@@ -24,5 +24,5 @@ IsLetter b Other =
     (is_early b ≡ false) × (is_last b ≡ false) × ((b == 90) ≡ false) × ((b == 63) ≡ false)
 
 -- a number as 64 bits hold it: all that are above the greatest 64-bit number become that number
-abbrev pub told : ℕ → ℕ
-told n = min n 18446744073709551615
+abbrev pub saturated : ℕ → ℕ
+saturated n = min n 18446744073709551615

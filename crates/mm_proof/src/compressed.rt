@@ -1,13 +1,11 @@
 //! The reader of compressed proofs.
 
-ghost use Rattle.std.specs.Prelude.{◌≡◌, ◌<◌, ◌+◌, ◌++◌, [], length, take, drop, flat_map, IfOk};
-ghost use Rattle.std.specs.Prelude.{IfErr, IsTrue};
-ghost use Rattle.mm_spec.specs.NormalProof.{usable, proof_label_faults};
+ghost use Rattle.std.specs.Prelude.{◌≡◌, ◌<◌, [], length, IfOk, IfErr, IsTrue};
 ghost use Rattle.mm_spec.specs.CompressedProof.{bracketed, compressed_faults, compressed_steps};
 ghost use Rattle.mm_spec.specs.Output.{is_theorem_at};
 ghost use Rattle.mm_outline.specs.Parts.{as_tokens, AreWithin};
 ghost use Rattle.mm_steps.specs.Read.{read};
-ghost use Rattle.mm_proof.specs.Letters.{InOrder, closed};
+ghost use Rattle.mm_proof.specs.Letters.{InOrder, ReadsLabels};
 ghost use Rattle.mm_proof.specs.Refused.{StartsWith};
 
 use crate::labels::usable_label;
@@ -29,21 +27,9 @@ fn read_labels<A: Allocator>(
 ) -> Result<usize, ProofRefused>
     requires theorem { theorem < length database.now.statements }
     requires within { AreWithin database.now.text words.now }
-    ensures some { IfOk result (λ n. n < length words.now) }
-    ensures closed { IfOk result
-        (λ n. bracketed (as_tokens database.now.text words.now)
-        ≡ closed (as_tokens database.now.text (take n words.now))
-        (as_tokens database.now.text (drop (n + 1) words.now))) }
     ensures labels { IfOk result
-        (λ n. labels.new.items
-        ≡ labels.old.items
-        ++ flat_map (λ t. usable database.now.statements theorem t.word)
-        (as_tokens database.now.text (take n words.now))) }
-    ensures many { IfOk result (λ n. length labels.new.items ≡ length labels.old.items + n) }
-    ensures sound { IfOk result
-        (λ n. flat_map (proof_label_faults database.now.statements theorem)
-        (as_tokens database.now.text (take n words.now))
-        ≡ []) }
+        (λ n. ReadsLabels database.now.statements theorem database.now.text words.now n
+        labels.old.items labels.new.items) }
     ensures fault { IfErr result
         (λ e. StartsWith
         (compressed_faults database.now.statements theorem end

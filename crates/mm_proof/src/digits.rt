@@ -1,7 +1,7 @@
 //! The letters of compressed proofs, and the numbers that they spell.
 
 ghost use Rattle.std.specs.Prelude.{◌≡◌, ◌+◌, ◌*◌, ◌<◌, ◌≤◌, ℕ, IfSome, IfNone};
-ghost use Rattle.mm_proof.specs.Number.{IsNumber, IsLetter, told};
+ghost use Rattle.mm_proof.specs.Number.{IsNumber, IsLetter, saturated};
 
 /// What a byte after the brackets of a compressed proof is (Metamath book, "Compressed Proofs").
 #[derive(Clone, Copy)]
@@ -41,7 +41,7 @@ pub(crate) fn letter_of(byte: u8) -> LetterKind
 pub(crate) fn with_digit(number: u64, base: u64, digit: u64) -> u64
     requires base { base ≤ 20 }
     requires digit { digit ≤ 20 }
-    ensures { result ≡ told (base * number + digit) }
+    ensures { result ≡ saturated (base * number + digit) }
 {
     // For a small number nothing can wrap.
     if number <= 0x7fff_ffff {

@@ -4,14 +4,13 @@ ghost use Rattle.std.specs.Prelude.{All, IfSome, ◌≡◌, ◌<◌, ◌≤◌, 
 ghost use Rattle.std.specs.Prelude.{length, slice_range, IfOk, IfErr, IfNone, OnOk};
 ghost use Rattle.mm_spec.specs.Steps.{placed};
 ghost use Rattle.mm_spec.specs.CompressedProof.{letters_from, letters_of, letter_faults, groups};
-ghost use Rattle.mm_spec.specs.CompressedProof.{group_steps};
-ghost use Rattle.mm_spec.specs.CompressedProof as compressed;
+ghost use Rattle.mm_spec.specs.CompressedProof.{step_of, group_steps};
 ghost use Rattle.mm_outline.specs.Parts.{as_tokens, AreWithin};
-ghost use Rattle.mm_steps.specs.Read.{read, step_of, IsEarlier};
-ghost use Rattle.mm_proof.specs.Number.{IsLetter, told};
+ghost use Rattle.mm_steps.specs.Read.{read, as_step, IsEarlier};
+ghost use Rattle.mm_proof.specs.Number.{IsLetter, saturated};
 ghost use Rattle.mm_proof.specs.declared.digits.LetterKind.TheVariants.{Last};
-ghost use Rattle.mm_proof.specs.Letters.{State, state, letter, StandsAt, with_number, Reads, Stops};
-ghost use Rattle.mm_proof.specs.Letters.{begun_at, named, InOrder};
+ghost use Rattle.mm_proof.specs.Letters.{letters_state, letter, with_number, begun_at, named};
+ghost use Rattle.mm_proof.specs.Letters.{InOrder, StandsAt, ReadsLetters, RefusesLetters};
 ghost use Rattle.mm_proof.specs.Refused.{StartsWith};
 
 use crate::digits::{LetterKind, letter_of, with_digit};
@@ -39,7 +38,7 @@ fn begun_by(number: Option<Begun>, at: u32, base: u64, digit: u64) -> Begun
     requires base { base ≤ 20 }
     requires digit { digit ≤ 20 }
     ensures at { result.at ≡ (begun_at number at).at }
-    ensures value { result.value ≡ told (base * (begun_at number at).value + digit) }
+    ensures value { result.value ≡ saturated (base * (begun_at number at).value + digit) }
 {
     match number {
         Some(begun) => Begun {
@@ -64,11 +63,12 @@ pub(crate) struct Progress<A: Allocator> {
 
 impl<A: Allocator> Model for Progress<A> {
     ghost use Rattle.std.specs.Prelude.{None};
-    ghost use Rattle.mm_proof.specs.Letters.{State, state};
+    ghost use Rattle.mm_proof.specs.Letters.{LettersState, letters_state};
 
-    ghost Value = { State };
+    ghost Value = { LettersState };
 
-    ghost view = { λ p. state p.steps.theorem p.labels.items p.marks.items None p.steps.steps };
+    ghost view = { λ p. letters_state p.steps.theorem p.labels.items p.marks.items None
+        p.steps.steps };
 }
 
 impl<A: Allocator> Progress<A> {
@@ -77,7 +77,7 @@ impl<A: Allocator> Progress<A> {
     pub(crate) fn none(alloc: A, theorem: u32, labels: Vec<u32, A>, most: usize) -> Self
     where
         A: Copy,
-        ensures { result ≡ state theorem labels.items [] None [] }
+        ensures { result ≡ letters_state theorem labels.items [] None [] }
     {
         Progress {
             labels,
@@ -97,12 +97,12 @@ impl<A: Allocator> Progress<A> {
     /// greatest 64-bit number if that is smaller.
     fn named(&self, value: u64) -> Option<Step>
         requires { 0 < value }
-        ensures step { (n : ℕ) → value ≡ told n
-            → compressed.step_of self.now.labels self.now.marks n ≡ named result }
+        ensures step { (n : ℕ) → value ≡ saturated n
+            → step_of self.now.labels self.now.marks n ≡ named result }
         ensures large { IfNone result
-            ((n : ℕ) → value ≡ told n → length self.now.labels + length self.now.marks < n) }
+            ((n : ℕ) → value ≡ saturated n → length self.now.labels + length self.now.marks < n) }
         ensures earlier { IfSome result
-            (λ s. (n : ℕ) → All (λ j. j < n) self.now.marks → IsEarlier (step_of s) n) }
+            (λ s. (n : ℕ) → All (λ j. j < n) self.now.marks → IsEarlier (as_step s) n) }
     {
         let labels = self.labels.as_slice();
         let marks = self.marks.as_slice();
@@ -120,11 +120,11 @@ impl<A: Allocator> Progress<A> {
 
     /// Appends the step of a number that ends. The step is a label or an earlier step.
     fn add_step(&mut self, at: u32, step: Step) -> Result<(), AllocError>
-        requires earlier { IsEarlier (step_of step) (length self.old.steps) }
+        requires earlier { IsEarlier (as_step step) (length self.old.steps) }
         ensures { OnOk result
             (self.new
-            ≡ state self.old.theorem self.old.labels self.old.marks None
-            (self.old.steps ++ placed at (step_of step) ∷ [])) }
+            ≡ letters_state self.old.theorem self.old.labels self.old.marks None
+            (self.old.steps ++ placed at (as_step step) ∷ [])) }
     {
         self.steps.push(at, step)?;
         Ok(())
@@ -135,14 +135,12 @@ impl<A: Allocator> Progress<A> {
         requires digit { 0 < digit }
         requires small { digit ≤ 20 }
         requires stands { StandsAt self.old at }
-        ensures theorem { OnOk result (self.new.theorem ≡ self.old.theorem) }
-        ensures labels { OnOk result (self.new.labels ≡ self.old.labels) }
         ensures stands { OnOk result (StandsAt self.new (at + 1)) }
         ensures reads { OnOk result ((byte : ℕ) → IsLetter byte (Last digit)
-            → Reads (with_number self.old number) (letter at byte ∷ [])
+            → ReadsLetters (with_number self.old number) (letter at byte ∷ [])
             (with_number self.new None)) }
-        ensures stops { IfErr result (λ e. (byte : ℕ) → IsLetter byte (Last digit)
-            → Stops (with_number self.old number) (letter at byte ∷ []) e) }
+        ensures refuses { IfErr result (λ e. (byte : ℕ) → IsLetter byte (Last digit)
+            → RefusesLetters (with_number self.old number) (letter at byte ∷ []) e) }
     {
         let begun = begun_by(number, at, 20, digit);
         let Some(step) = self.named(begun.value) else {
@@ -155,13 +153,12 @@ impl<A: Allocator> Progress<A> {
     /// Reads a `Z` after a number that has ended.
     fn mark(&mut self, at: u32) -> Result<(), ProofRefused>
         requires stands { StandsAt self.old at }
-        ensures theorem { OnOk result (self.new.theorem ≡ self.old.theorem) }
-        ensures labels { OnOk result (self.new.labels ≡ self.old.labels) }
         ensures stands { OnOk result (StandsAt self.new (at + 1)) }
-        ensures reads { OnOk result (Reads (with_number self.old None) (letter at 90 ∷ [])
+        ensures reads { OnOk result
+            (ReadsLetters (with_number self.old None) (letter at 90 ∷ [])
             (with_number self.new None)) }
-        ensures stops { IfErr result
-            (λ e. Stops (with_number self.old None) (letter at 90 ∷ []) e) }
+        ensures refuses { IfErr result
+            (λ e. RefusesLetters (with_number self.old None) (letter at 90 ∷ []) e) }
     {
         if self.steps.len() == 0 {
             return Err(refused(at, Code::MarkBeforeStep));
@@ -178,13 +175,12 @@ impl<A: Allocator> Progress<A> {
         byte: u8,
     ) -> Result<Option<Begun>, ProofRefused>
         requires stands { StandsAt self.old at }
-        ensures theorem { OnOk result (self.new.theorem ≡ self.old.theorem) }
-        ensures labels { OnOk result (self.new.labels ≡ self.old.labels) }
         ensures stands { OnOk result (StandsAt self.new (at + 1)) }
-        ensures reads { IfOk result (λ n. Reads (with_number self.old number) (letter at byte ∷ [])
+        ensures reads { IfOk result
+            (λ n. ReadsLetters (with_number self.old number) (letter at byte ∷ [])
             (with_number self.new n)) }
-        ensures stops { IfErr result (λ e.
-            Stops (with_number self.old number) (letter at byte ∷ []) e) }
+        ensures refuses { IfErr result
+            (λ e. RefusesLetters (with_number self.old number) (letter at byte ∷ []) e) }
     {
         match letter_of(byte) {
             LetterKind::Early(digit) => Ok(Some(begun_by(number, at, 5, digit))),
@@ -214,13 +210,13 @@ impl<A: Allocator> Progress<A> {
         requires order { word.start ≤ word.end }
         requires within { word.end ≤ length text.now }
         requires stands { StandsAt self.old word.start }
-        ensures theorem { OnOk result (self.new.theorem ≡ self.old.theorem) }
-        ensures labels { OnOk result (self.new.labels ≡ self.old.labels) }
         ensures stands { OnOk result (StandsAt self.new word.end) }
-        ensures reads { IfOk result (λ n. Reads (with_number self.old number)
+        ensures reads { IfOk result
+            (λ n. ReadsLetters (with_number self.old number)
             (letters_from word.start (slice_range text.now word.start word.end))
             (with_number self.new n)) }
-        ensures stops { IfErr result (λ e. Stops (with_number self.old number)
+        ensures refuses { IfErr result
+            (λ e. RefusesLetters (with_number self.old number)
             (letters_from word.start (slice_range text.now word.start word.end)) e) }
     {
         let mut begun = number;
@@ -239,7 +235,7 @@ impl<A: Allocator> Progress<A> {
     ) -> Result<(), ProofRefused>
         requires within { AreWithin text.now words.now }
         requires in_order { InOrder 0 (as_tokens text.now words.now) end }
-        requires none { self.old ≡ state self.old.theorem self.old.labels [] None [] }
+        requires none { self.old ≡ letters_state self.old.theorem self.old.labels [] None [] }
         ensures theorem { OnOk result (self.new.theorem ≡ self.old.theorem) }
         ensures steps { OnOk result
             (self.new.steps

@@ -1,6 +1,6 @@
 //! The reader of proofs.
 
-ghost use Rattle.std.specs.Prelude.{◌≡◌, ◌<◌, ◌≤◌, [], length, slice_range, flat_map, OnOk, IfOk};
+ghost use Rattle.std.specs.Prelude.{◌≡◌, ◌<◌, ◌≤◌, [], length, slice_range, flat_map, IfOk};
 ghost use Rattle.std.specs.Prelude.{IfErr, IsTrue, true};
 ghost use Rattle.std.specs.List.{AllPairs};
 ghost use Rattle.mm_spec.specs.NormalProof.{usable, normal_steps};
@@ -18,29 +18,29 @@ use mm_steps::{Step, Steps};
 use std::alloc::Allocator;
 
 /// Reads the words of a normal proof.
-fn read_words<A: Allocator>(
+fn read_words<A: Allocator + Copy>(
+    alloc: A,
     database: &Database<A>,
     theorem: u32,
     words: &[Word],
-    steps: &mut Steps<A>,
-) -> Result<(), ProofRefused>
+) -> Result<Steps<A>, ProofRefused>
     requires theorem { theorem < length database.now.statements }
     requires within { AreWithin database.now.text words.now }
     requires rising { AllPairs (λ t u. t.at < u.at) (as_tokens database.now.text words.now) }
-    requires none { steps.old ≡ read theorem [] }
-    ensures ok { OnOk result
-        (flat_map (word_faults database.now.statements theorem)
-        (as_tokens database.now.text words.now)
-        ≡ []) }
-    ensures steps { OnOk result
-        (steps.new
+    ensures steps { IfOk result
+        (λ s. s
         ≡ read theorem
         (normal_steps database.now.statements theorem (as_tokens database.now.text words.now))) }
+    ensures sound { IfOk result
+        (λ s. flat_map (word_faults database.now.statements theorem)
+        (as_tokens database.now.text words.now)
+        ≡ []) }
     ensures fault { IfErr result
         (λ e. IsProofRefusal
         (flat_map (word_faults database.now.statements theorem)
         (as_tokens database.now.text words.now)) e) }
 {
+    let mut steps = Steps::none(alloc, theorem, words.len());
     let text = database.text();
     for word in words {
         let label = word.bytes(text);
@@ -52,7 +52,7 @@ fn read_words<A: Allocator>(
             Some(statement) => steps.push(word.start, Step::Label(statement))?,
         }
     }
-    Ok(())
+    Ok(steps)
 }
 
 /// Reads the proof of `theorem`, the number of a `$p` statement. Fails with the first reading fault
@@ -78,7 +78,5 @@ pub fn read_proof<A: Allocator + Copy>(
     if first.bytes(database.text()) == b"(".as_slice() {
         return read_compressed(alloc, database, theorem, rest, end);
     }
-    let mut steps = Steps::none(alloc, theorem, words.len());
-    read_words(database, theorem, words, &mut steps)?;
-    Ok(steps)
+    read_words(alloc, database, theorem, words)
 }

@@ -19,7 +19,8 @@ use Rattle.mm_rule.specs.declared.rule.Stretch.{Stretch}
 use Rattle.mm_rule.specs.Rule.{first, parts_of, hypothesis_parts, all_parts, IsHypothesisIn}
 use Rattle.mm_rule.specs.Rule.{IsBelow, IsKnown}
 use Rattle.mm_rule.specs.Rule.{compiled, IsCompiled}
-use Rattle.mm_rules.specs.Rules.{AreCovered, ArePairs, AreFirstNumbers}
+use Rattle.mm_rules.specs.Rules.{AreCovered, AreFirstNumbers, AreCompiled, numbered_parts}
+use Rattle.mm_rules.specs.Rules.{numbered_pairs}
 use Rattle.mm_rule.specs.Assertions.{paired}
 use Rattle.mm_rule.specs.Assertions.{is_assertion_at}
 use Rattle.mm_rule.proofs.FirstLaw.{first_below}
@@ -175,17 +176,36 @@ module _ (k : List Statement) (hs : List Formula) where
   abbrev Both : Pair → Type 0
   Both p = IsBound (context_at k 0) hs p.low × IsBound (context_at k 0) hs p.high
 
-  pub pairs_covered : (ps : List (ℕ × ℕ)) → AllByRecursion Both (paired ps) → ArePairs k hs ps
-  pairs_covered ps h =
-      All-from_recursion
-      (λ (p : ℕ × ℕ). IsBound (context_at k 0) hs p.0 × IsBound (context_at k 0) hs p.1) ps
-      (go ps h)
+  -- the numbers of the variables are the places of their `$f`
+  pub numbered_same : (numbers : List ℕ) → AreFirstNumbers k hs numbers → (f : Formula)
+      → AreCovered k hs f → numbered_parts k numbers f ≡ parts_of k hs f
+  numbered_same numbers placed f h =
+      go f (recursion_from_All
+      (λ x. is_variable_number k x ≡ true → IsBound (context_at k 0) hs x) f h)
     where
-      go : (ps : List (ℕ × ℕ)) → AllByRecursion Both (paired ps)
-          → AllByRecursion
-          (λ (p : ℕ × ℕ). IsBound (context_at k 0) hs p.0 × IsBound (context_at k 0) hs p.1) ps
-      go [] h = tt
-      go (p ∷ ps) h = (h.0, go ps h.1)
+      one : (s : ℕ) (v : Bool) → (v ≡ true → IsBound (context_at k 0) hs s)
+          → cond v (Variable (get_or numbers s 0)) (Constant s)
+          ≡ cond v (Variable (first k hs s)) (Constant s)
+      one s true b = ap Variable (placed s (b refl))
+      one s false b = refl
+
+      go : (f : Formula)
+          → AllByRecursion (λ x. is_variable_number k x ≡ true → IsBound (context_at k 0) hs x) f
+          → numbered_parts k numbers f ≡ parts_of k hs f
+      go [] h = refl
+      go (s ∷ f) h =
+          ap₂ (λ (p : RuleSymbol) (ps : List RuleSymbol). p ∷ ps) (one s (is_variable_number k s) h.0)
+          (go f h.1)
+
+  numbered_first : (numbers : List ℕ) → AreFirstNumbers k hs numbers → (ps : List (ℕ × ℕ))
+      → AllByRecursion Both (paired ps)
+      → numbered_pairs numbers ps
+      ≡ map {B = ℕ × ℕ} (λ (p : ℕ × ℕ). (first k hs p.0, first k hs p.1)) ps
+  numbered_first numbers placed [] h = refl
+  numbered_first numbers placed (p ∷ ps) h =
+      ap₂ (λ (u : ℕ × ℕ) (us : List (ℕ × ℕ)). u ∷ us)
+      (ap₂ (λ (a b : ℕ). (a, b)) (placed p.0 h.0.0) (placed p.1 h.0.1))
+      (numbered_first numbers placed ps h.1)
 
   pairs_below : (ps : List Pair) → AllByRecursion Both ps
       → All (λ (p : ℕ × ℕ). (p.0 < length hs) × (p.1 < length hs))
@@ -211,26 +231,24 @@ module _ (k : List Statement) (a : ℕ) (is : is_assertion_at k a ≡ true)
   abbrev frame_hyps : List Formula
   frame_hyps = map (formula_at k) (mandatory_hypotheses k a)
 
-  rule_is : (from : List (ℕ × ℕ)) (f : Formula) (hypotheses : List Hypothesis)
+  rule_is : (from : List (ℕ × ℕ)) (f : Formula) (numbers : List ℕ) (hypotheses : List Hypothesis)
       (pairs : List (ℕ × ℕ))
       → (parts formula : List RuleSymbol)
       → paired from ≡ mandatory_pairs k a → f ≡ formula_at k a
       → All (λ s. s < length (symbol_names k)) f
-      → all_parts parts 0 hypotheses ≡ map (parts_of k frame_hyps) frame_hyps
-      → length hypotheses ≡ length (mandatory_hypotheses k a) → All (IsHypothesisIn (length parts))
-      hypotheses
-      → All (IsBelow (length (mandatory_hypotheses k a))) parts
-      → pairs ≡ map {B = ℕ × ℕ}
-      (λ (p : ℕ × ℕ). (first k frame_hyps p.0, first k frame_hyps p.1)) from
+      → AreCompiled k (mandatory_hypotheses k a) hypotheses parts
+      → AreFirstNumbers k frame_hyps numbers → pairs ≡ numbered_pairs numbers from
       → formula ≡ parts_of k frame_hyps f → IsCompiled k (compiled a hypotheses pairs parts formula)
-  rule_is from f hypotheses pairs parts formula pairs_is f_is known made count within below
-      pairs_made
-      formula_made =
+  rule_is from f numbers hypotheses pairs parts formula pairs_is f_is known made placed
+      pairs_made formula_made =
       let same : length hypotheses ≡ length frame_hyps =
-      count ∙ sym (length-map (mandatory_hypotheses k a) (formula_at k)) in
+      made.count ∙ sym (length-map (mandatory_hypotheses k a) (formula_at k)) in
+      let bound = subst (λ (ps : List Pair). AllByRecursion (Both k frame_hyps) ps) (sym pairs_is)
+      complete.pairs in
       let pairs_are : pairs
       ≡ map {B = ℕ × ℕ} (λ (p : Pair). (first k frame_hyps p.low, first k frame_hyps p.high))
       (mandatory_pairs k a) = pairs_made
+      ∙ numbered_first k frame_hyps numbers placed from bound
       ∙ pairs_same k frame_hyps from
       ∙ ap (map {B = ℕ × ℕ}
       (λ (p : Pair). (first k frame_hyps p.low, first k frame_hyps p.high))) pairs_is in
@@ -239,8 +257,8 @@ module _ (k : List Statement) (a : ℕ) (is : is_assertion_at k a ≡ true)
       record {
         is_assertion = is;
         complete = complete;
-        within = within;
-        parts_in = subst (λ n. All (IsBelow n) parts) (sym count) below;
+        within = made.within;
+        parts_in = subst (λ n. All (IsBelow n) parts) (sym made.count) made.below;
         pairs_in =
             rw (pairs_are, same) (pairs_below k frame_hyps (mandatory_pairs k a) complete.pairs);
         formula_in =
@@ -249,36 +267,26 @@ module _ (k : List Statement) (a : ℕ) (is : is_assertion_at k a ≡ true)
             (covered k frame_hyps (formula_at k a) complete.formula));
         formula_known =
             rw formula_made (parts_known k frame_hyps (length (symbol_names k)) f known);
-        hypotheses_are = made;
+        hypotheses_are = made.parts_are;
         pairs_are = pairs_are;
         formula_is = formula_are;
       }
 
-  pub made_rule : (hyps : List ℕ) (from : List (ℕ × ℕ)) (f : Formula) (hypotheses : List Hypothesis)
-      → (pairs : List (ℕ × ℕ)) (parts formula : List RuleSymbol)
+  pub made_rule : (hyps : List ℕ) (from : List (ℕ × ℕ)) (f : Formula) (numbers : List ℕ)
+      → (hypotheses : List Hypothesis) (pairs : List (ℕ × ℕ)) (parts formula : List RuleSymbol)
       → hyps ≡ mandatory_hypotheses k a → paired from ≡ mandatory_pairs k a → f ≡ formula_at k a
       → All (λ s. s < length (symbol_names k)) f
-      → all_parts parts 0 hypotheses
-      ≡ map (parts_of k (map (formula_at k) hyps)) (map (formula_at k) hyps)
-      → length hypotheses ≡ length hyps → All (IsHypothesisIn (length parts)) hypotheses
-      → All (IsBelow (length hyps)) parts
-      → pairs ≡ map {B = ℕ × ℕ}
-      (λ (p : ℕ × ℕ).
-      (first k (map (formula_at k) hyps) p.0, first k (map (formula_at k) hyps) p.1)) from
+      → AreCompiled k hyps hypotheses parts
+      → AreFirstNumbers k (map (formula_at k) hyps) numbers → pairs ≡ numbered_pairs numbers from
       → formula ≡ parts_of k (map (formula_at k) hyps) f
       → IsCompiled k (compiled a hypotheses pairs parts formula)
-  made_rule hyps from f hypotheses pairs parts formula hyps_is pairs_is f_is known made count within
-      below pairs_made formula_made =
-      rule_is from f hypotheses pairs parts formula pairs_is f_is known
-      (subst (λ h. all_parts parts 0 hypotheses
-      ≡ map (parts_of k (map (formula_at k) h)) (map (formula_at k) h)) hyps_is made)
-      (count ∙ ap length hyps_is) within
-      (subst (λ h. All (IsBelow (length h)) parts) hyps_is below)
-      (subst (λ h. pairs
-      ≡ map {B = ℕ × ℕ}
-      (λ (p : ℕ × ℕ). (first k (map (formula_at k) h) p.0, first k (map (formula_at k) h) p.1))
-      from) hyps_is pairs_made)
-      (subst (λ h. formula ≡ parts_of k (map (formula_at k) h) f) hyps_is formula_made)
+  made_rule hyps from f numbers hypotheses pairs parts formula hyps_is pairs_is f_is known made
+      placed pairs_made formula_made =
+      rule_is from f numbers hypotheses pairs parts formula pairs_is f_is known
+      (subst (λ (h : List ℕ). AreCompiled k h hypotheses parts) hyps_is made)
+      (subst (λ (h : List ℕ). AreFirstNumbers k (map (formula_at k) h) numbers) hyps_is placed)
+      pairs_made
+      (subst (λ (h : List ℕ). formula ≡ parts_of k (map (formula_at k) h) f) hyps_is formula_made)
 
 -- the numbers in a list to which they were written back
 pub numbered : (k : List Statement) (hs : List Formula) (new old : List ℕ) (n : ℕ) (now : List ℕ)

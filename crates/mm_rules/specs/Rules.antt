@@ -1,32 +1,49 @@
 -- The rules of a database, and how they are made of its frames.
-use Rattle.std.specs.Prelude.{◌≡◌, ℕ, suc, ◌<◌, ◌≤◌, true, List, [], ◌∷◌, map, flat_map, length}
-use Rattle.std.specs.Prelude.{get_or, slice_range, All, if◌then◌else◌}
+use Rattle.std.specs.Prelude.{◌≡◌, ℕ, ◌<◌, ◌≤◌, true, List, map, length, get_or, slice_range, All}
+use Rattle.std.specs.Prelude.{if◌then◌else◌}
 use Rattle.mm_spec.specs.Statement.{Statement}
 use Rattle.mm_spec.specs.Derivation.{Formula}
-use Rattle.mm_spec.specs.Laws.Complete.{binds, IsBound, IsComplete}
+use Rattle.mm_spec.specs.Laws.Complete.{IsBound}
 use Rattle.mm_spec.specs.Citation.{context_at}
-use Rattle.mm_spec.specs.Frame.{is_variable_number, symbol_names, frame_at}
+use Rattle.mm_spec.specs.Frame.{is_variable_number, formula_at}
 use Rattle.mm_rule.specs.declared.rule.RuleSymbol.{RuleSymbol}
 use Rattle.mm_rule.specs.declared.rule.RuleSymbol.TheVariants.{Constant, Variable}
 use Rattle.mm_rule.specs.declared.rule.Hypothesis.{Hypothesis}
 use Rattle.mm_rule.specs.declared.rule.Stretch.{Stretch}
 use Rattle.mm_rules.specs.declared.rules.RuleStretches.{RuleStretches}
-use Rattle.mm_rule.specs.declared.rule.Hypothesis.TheVariants.{Floating, Essential}
-use Rattle.mm_rule.specs.Rule.{Compiled, compiled, IsCompiled, first}
+use Rattle.mm_rule.specs.Rule.{Compiled, compiled, IsCompiled, first, parts_of, all_parts}
+use Rattle.mm_rule.specs.Rule.{IsHypothesisIn, IsBelow}
 
 -- for each variable that has a `$f`, the list has the place of the first one
 abbrev pub AreFirstNumbers : List Statement → List Formula → List ℕ → Type 0
-AreFirstNumbers k hs places = (x : ℕ) → IsBound (context_at k 0) hs x → get_or places x 0 ≡ first k
-    hs x
+AreFirstNumbers k hs places =
+    (x : ℕ) → IsBound (context_at k 0) hs x → get_or places x 0 ≡ first k hs x
 
 -- each variable of the formula has a `$f`
 abbrev pub AreCovered : List Statement → List Formula → Formula → Type 0
 AreCovered k hs f = All (λ x. is_variable_number k x ≡ true → IsBound (context_at k 0) hs x) f
 
--- each variable of the pairs has a `$f`
-abbrev pub ArePairs : List Statement → List Formula → List (ℕ × ℕ) → Type 0
-ArePairs k hs ps =
-    All (λ (p : ℕ × ℕ). IsBound (context_at k 0) hs p.0 × IsBound (context_at k 0) hs p.1) ps
+-- a symbol as a part: a constant, or a variable given by its number
+abbrev pub numbered_part : List Statement → List ℕ → ℕ → RuleSymbol
+numbered_part k numbers s =
+    if is_variable_number k s then Variable (get_or numbers s 0) else Constant s
+
+abbrev pub numbered_parts : List Statement → List ℕ → Formula → List RuleSymbol
+numbered_parts k numbers f = map (numbered_part k numbers) f
+
+-- the pairs of symbols as pairs of their numbers
+abbrev pub numbered_pairs : List ℕ → List (ℕ × ℕ) → List (ℕ × ℕ)
+numbered_pairs numbers ps = map (λ (p : ℕ × ℕ). (get_or numbers p.0 0, get_or numbers p.1 0)) ps
+
+-- The lists have what the hypotheses `hyps` require: for each of them the parts of its formula, in
+-- which a variable is given by the place of its `$f`.
+pub record AreCompiled (k : List Statement) (hyps : List ℕ) (hypotheses : List Hypothesis)
+    (parts : List RuleSymbol) : Type 0 where
+  pub parts_are : all_parts parts 0 hypotheses
+      ≡ map (parts_of k (map (formula_at k) hyps)) (map (formula_at k) hyps)
+  pub count : length hypotheses ≡ length hyps
+  pub within : All (IsHypothesisIn (length parts)) hypotheses
+  pub below : All (IsBelow (length hyps)) parts
 
 -- a compiler of rules: how many symbols it knows, and the rule that it compiled last
 pub record CompilerState : Type 0 where
@@ -66,8 +83,8 @@ module _ {X : Type 0} where
   stretch_of xs s = slice_range xs s.start s.end
 
 -- the rule in these stretches
-abbrev pub rule_at : RuleLists → RuleStretches → Compiled
-rule_at l s =
+abbrev pub rule_in : RuleLists → RuleStretches → Compiled
+rule_in l s =
     compiled s.assertion (stretch_of l.hypotheses s.hypotheses) (stretch_of l.pairs s.pairs)
     (stretch_of l.parts s.parts) (stretch_of l.parts s.formula)
 
@@ -82,7 +99,7 @@ pub record HasRule (k : List Statement) (l : RuleLists) (s : RuleStretches) : Ty
   pub pairs : IsStretch (length l.pairs) s.pairs
   pub parts : IsStretch (length l.parts) s.parts
   pub formula : IsStretch (length l.parts) s.formula
-  pub compiled : IsCompiled k (rule_at l s)
+  pub compiled : IsCompiled k (rule_in l s)
 
 abbrev pub AreRules : List Statement → RuleLists → Type 0
 AreRules k l = All (HasRule k l) l.stretches

@@ -1,19 +1,16 @@
 //! Compiling the rule of an assertion.
 
-ghost use Rattle.std.specs.Prelude.{◌≡◌, ◌<◌, ◌^◌, ◌++◌, ◌∷◌, [], ℕ, All, length, map, drop};
+ghost use Rattle.std.specs.Prelude.{◌≡◌, ◌<◌, ◌^◌, ◌++◌, ◌∷◌, [], ℕ, All, length, map};
 ghost use Rattle.std.specs.Prelude.{nat_eq, get_or, slice_set, true, false, IfSome, IfNone, OnOk};
-ghost use Rattle.std.specs.Prelude.{IfOk, vec_len};
-ghost use Rattle.mm_spec.specs.Derivation.{Pair};
-ghost use Rattle.mm_spec.specs.Frame.{symbol_names, is_variable_number, formula_at, frame_at};
-ghost use Rattle.mm_spec.specs.Frame.{mandatory_hypotheses};
+ghost use Rattle.std.specs.Prelude.{IfOk};
+ghost use Rattle.mm_spec.specs.Frame.{symbol_names, formula_at, frame_at};
 ghost use Rattle.mm_spec.specs.Citation.{context_at};
-ghost use Rattle.mm_spec.specs.Laws.Complete.{binds, IsBound, IsComplete};
+ghost use Rattle.mm_spec.specs.Laws.Complete.{binds, IsComplete};
 ghost use Rattle.mm_rule.specs.Assertions.{is_assertion_at};
-ghost use Rattle.mm_rule.specs.Rule.{first, part_of, parts_of, all_parts, compiled};
-ghost use Rattle.mm_rule.specs.Rule.{IsHypothesisIn};
-ghost use Rattle.mm_rule.specs.Rule.{IsBelow, IsCompiled};
-ghost use Rattle.mm_rules.specs.Rules.{AreCovered, AreFirstNumbers, ArePairs};
+ghost use Rattle.mm_rule.specs.Rule.{IsCompiled};
 ghost use Rattle.mm_rule.specs.declared.rule.RuleSymbol.TheVariants.{Constant, Variable};
+ghost use Rattle.mm_rules.specs.Rules.{AreCovered, AreFirstNumbers, AreCompiled, numbered_part};
+ghost use Rattle.mm_rules.specs.Rules.{numbered_parts, numbered_pairs};
 
 use mm_database::{Database, Sym};
 use mm_rule::{Hypothesis, RuleSymbol, Rule, Stretch, empty, hyps, pairs, zeros};
@@ -76,20 +73,10 @@ fn number_variables<A: Allocator>(db: &Database<A>, hyps: &[u32], numbers: &mut 
 }
 
 /// The part of a symbol.
-fn compile_symbol<A: Allocator>(
-    db: &Database<A>,
-    _hyps: &[u32],
-    numbers: &[u32],
-    s: Sym,
-) -> RuleSymbol
+fn compile_symbol<A: Allocator>(db: &Database<A>, numbers: &[u32], s: Sym) -> RuleSymbol
     requires width { length numbers.now ≡ length (symbol_names db.now.statements) }
-    requires placed { AreFirstNumbers db.now.statements
-        (map (formula_at db.now.statements) _hyps.now) numbers.now }
     requires known { s < length (symbol_names db.now.statements) }
-    requires bound { is_variable_number db.now.statements s ≡ true
-        → IsBound (context_at db.now.statements 0)
-        (map (formula_at db.now.statements) _hyps.now) s }
-    ensures { result ≡ part_of db.now.statements (map (formula_at db.now.statements) _hyps.now) s }
+    ensures { result ≡ numbered_part db.now.statements numbers.now s }
 {
     if db.is_variable(s) {
         RuleSymbol::Variable(number_of(numbers, s))
@@ -101,45 +88,30 @@ fn compile_symbol<A: Allocator>(
 /// Appends the parts of a formula to `parts`.
 fn compile_formula<A: Allocator>(
     db: &Database<A>,
-    hyps: &[u32],
     numbers: &[u32],
     formula: &[Sym],
     parts: &mut Vec<RuleSymbol, A>,
 ) -> Result<(), AllocError>
     requires width { length numbers.now ≡ length (symbol_names db.now.statements) }
-    requires placed { AreFirstNumbers db.now.statements
-        (map (formula_at db.now.statements) hyps.now) numbers.now }
     requires known { All (λ s. s < length (symbol_names db.now.statements)) formula.now }
-    requires bound { AreCovered db.now.statements
-        (map (formula_at db.now.statements) hyps.now) formula.now }
     ensures { OnOk result
         (parts.new.items
-        ≡ parts.old.items
-        ++ parts_of db.now.statements (map (formula_at db.now.statements) hyps.now) formula.now) }
+        ≡ parts.old.items ++ numbered_parts db.now.statements numbers.now formula.now) }
 {
     for s in formula {
-        parts.push(compile_symbol(db, hyps, numbers, *s))?;
+        parts.push(compile_symbol(db, numbers, *s))?;
     }
     Ok(())
 }
 
-/// Whether hypothesis `j`, which has this formula, is the first `$f` of its variable.
-fn is_first<A: Allocator>(
-    db: &Database<A>,
-    _hyps: &[u32],
-    numbers: &[u32],
-    j: usize,
-    formula: &[Sym],
-) -> bool
+/// Whether a formula is a constant and a variable with number `j`. Hypothesis `j` then is the first
+/// `$f` of this variable.
+fn is_first<A: Allocator>(db: &Database<A>, numbers: &[u32], j: usize, formula: &[Sym]) -> bool
     requires width { length numbers.now ≡ length (symbol_names db.now.statements) }
-    requires placed { AreFirstNumbers db.now.statements
-        (map (formula_at db.now.statements) _hyps.now) numbers.now }
     requires known { All (λ s. s < length (symbol_names db.now.statements)) formula.now }
-    requires bound { AreCovered db.now.statements
-        (map (formula_at db.now.statements) _hyps.now) formula.now }
     ensures { result ≡ true
         → (0 < length formula.now)
-        × (parts_of db.now.statements (map (formula_at db.now.statements) _hyps.now) formula.now
+        × (numbered_parts db.now.statements numbers.now formula.now
         ≡ Constant (get_or formula.now 0 0) ∷ Variable j ∷ []) }
 {
     formula.len() == 2
@@ -148,7 +120,7 @@ fn is_first<A: Allocator>(
         && number_of(numbers, formula[1]) as usize == j
 }
 
-/// Builds what the hypotheses require.
+/// Builds what the hypotheses require, in lists that are emptied first.
 fn compile_hypotheses<A: Allocator>(
     db: &Database<A>,
     hyps: &[u32],
@@ -163,25 +135,19 @@ fn compile_hypotheses<A: Allocator>(
     requires bound { All
         (λ h. AreCovered db.now.statements (map (formula_at db.now.statements) hyps.now)
         (formula_at db.now.statements h)) hyps.now }
-    requires hypotheses { hypotheses.old.items ≡ [] }
-    requires parts { parts.old.items ≡ [] }
-    ensures hypotheses { OnOk result
-        (all_parts parts.new.items 0 hypotheses.new.items
-        ≡ map (parts_of db.now.statements (map (formula_at db.now.statements) hyps.now))
-        (map (formula_at db.now.statements) hyps.now)) }
-    ensures count { OnOk result (length hypotheses.new.items ≡ length hyps.now) }
-    ensures within { OnOk result (All (IsHypothesisIn (length parts.new.items))
-        hypotheses.new.items) }
-    ensures parts { OnOk result (All (IsBelow (length hyps.now)) parts.new.items) }
+    ensures { OnOk result
+        (AreCompiled db.now.statements hyps.now hypotheses.new.items parts.new.items) }
 {
+    empty(hypotheses);
+    empty(parts);
     for j in 0..hyps.len() {
         let h = hyps[j];
         let formula = db.formula(h);
-        if is_first(db, hyps, numbers, j, formula) {
+        if is_first(db, numbers, j, formula) {
             hypotheses.push(Hypothesis::Floating(formula[0]))?;
         } else {
             let start = parts.len();
-            compile_formula(db, hyps, numbers, formula, parts)?;
+            compile_formula(db, numbers, formula, parts)?;
             hypotheses.push(Hypothesis::Essential(Stretch {
                 start,
                 end: parts.len(),
@@ -191,32 +157,18 @@ fn compile_hypotheses<A: Allocator>(
     Ok(())
 }
 
-/// Builds the mandatory pairs of disjoint variables.
+/// Builds the mandatory pairs of disjoint variables, as pairs of their numbers, in a list that is
+/// emptied first.
 fn compile_pairs<A: Allocator>(
-    _db: &Database<A>,
-    _hyps: &[u32],
     numbers: &[u32],
     from: &[(Sym, Sym)],
     pairs: &mut Vec<(u32, u32), A>,
 ) -> Result<(), AllocError>
-    requires width { length numbers.now ≡ length (symbol_names _db.now.statements) }
-    requires placed { AreFirstNumbers _db.now.statements
-        (map (formula_at _db.now.statements) _hyps.now) numbers.now }
-    requires known { All
-        (λ (p : ℕ × ℕ). (p.0 < length (symbol_names _db.now.statements))
-        × (p.1 < length (symbol_names _db.now.statements))) from.now }
-    requires bound { ArePairs _db.now.statements
-        (map (formula_at _db.now.statements) _hyps.now) from.now }
-    requires pairs { pairs.old.items ≡ [] }
-    ensures { OnOk result
-        (pairs.new.items
-        ≡ map (λ (p : ℕ × ℕ). (
-          first _db.now.statements
-              (map (formula_at _db.now.statements) _hyps.now) p.0,
-          first _db.now.statements
-              (map (formula_at _db.now.statements) _hyps.now) p.1,
-        )) from.now) }
+    requires { All (λ (p : ℕ × ℕ). (p.0 < length numbers.now) × (p.1 < length numbers.now))
+        from.now }
+    ensures { OnOk result (pairs.new.items ≡ numbered_pairs numbers.now from.now) }
 {
+    empty(pairs);
     for p in from {
         let low = number_of(numbers, p.0);
         let high = number_of(numbers, p.1);
@@ -304,10 +256,6 @@ impl<A: Allocator> RuleCompiler<A> {
     {
         let hyps = hyps(db, k);
         self.assertion = k;
-        empty(&mut self.hypotheses);
-        empty(&mut self.pairs);
-        empty(&mut self.parts);
-        empty(&mut self.formula);
         number_variables(db, hyps, &mut self.numbers);
         compile_hypotheses(
             db,
@@ -316,7 +264,8 @@ impl<A: Allocator> RuleCompiler<A> {
             &mut self.hypotheses,
             &mut self.parts,
         )?;
-        compile_pairs(db, hyps, &self.numbers, pairs(db, k), &mut self.pairs)?;
-        compile_formula(db, hyps, &self.numbers, db.formula(k), &mut self.formula)
+        compile_pairs(&self.numbers, pairs(db, k), &mut self.pairs)?;
+        empty(&mut self.formula);
+        compile_formula(db, &self.numbers, db.formula(k), &mut self.formula)
     }
 }

@@ -13,9 +13,9 @@ pub record Read : Type 0 where
 abbrev pub read : ℕ → List PlacedStep → Read
 read t steps = record { theorem = t; steps = steps }
 
-abbrev pub step_of : Step → spec.Step
-step_of (Label k) = label k
-step_of (Marked j) = marked j
+abbrev pub as_step : Step → spec.Step
+as_step (Label k) = label k
+as_step (Marked j) = marked j
 
 abbrev pub step_at : List PlacedStep → ℕ → PlacedStep
 step_at steps i = get_or steps i (placed 0 (label 0))

@@ -2,7 +2,7 @@
 
 ghost use Rattle.std.specs.Prelude.{◌≡◌, ◌<◌, ◌++◌, ◌∷◌, [], length, OnOk, OnErr};
 ghost use Rattle.mm_spec.specs.Steps.{placed};
-ghost use Rattle.mm_steps.specs.Read.{Read, read, step_of, step_at, is_marked as marked_in};
+ghost use Rattle.mm_steps.specs.Read.{Read, read, as_step, step_at, is_marked as marked_in};
 ghost use Rattle.mm_steps.specs.Read.{IsEarlier};
 
 use std::alloc::{AllocError, Allocator};
@@ -70,9 +70,9 @@ impl<A: Allocator> Steps<A> {
     /// subproof of an earlier step, which is then marked. Fails only if out of memory, and then
     /// nothing was appended.
     pub fn push(&mut self, at: u32, step: Step) -> Result<(), AllocError>
-        requires { IsEarlier (step_of step) (length self.old.steps) }
+        requires { IsEarlier (as_step step) (length self.old.steps) }
         ensures ok { OnOk result
-            (self.new ≡ read self.old.theorem (self.old.steps ++ placed at (step_of step) ∷ [])) }
+            (self.new ≡ read self.old.theorem (self.old.steps ++ placed at (as_step step) ∷ [])) }
         ensures err { OnErr result (self.new ≡ self.old) }
     {
         match step {
@@ -112,7 +112,7 @@ impl<A: Allocator> Steps<A> {
     /// Step `i`.
     pub fn step(&self, i: usize) -> Step
         requires { i < length self.now.steps }
-        ensures { step_of result ≡ (step_at self.now.steps i).step }
+        ensures { as_step result ≡ (step_at self.now.steps i).step }
     {
         let placed = self.steps[i];
         match placed.kind {

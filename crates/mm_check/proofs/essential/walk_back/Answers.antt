@@ -4,7 +4,7 @@ use Rattle.std.proofs.lemmas.Result.{IfOk-from_err}
 use Rattle.std.proofs.lemmas.Bool.{or_left}
 use Rattle.std.proofs.lemmas.List.{get_or_default}
 use Rattle.mm_spec.specs.Citation.{context_at}
-use Rattle.mm_steps.specs.Read.{step_of}
+use Rattle.mm_steps.specs.Read.{as_step}
 use Rattle.mm_check.specs.Flags.{wanted_flags}
 use Rattle.mm_check.proofs.CompilerStateLaw.{good_labels}
 use Rattle.mm_check.proofs.ReachLaw.{good_here}
@@ -40,9 +40,9 @@ undo-requires-clause-known g c =
     let i = c.loop-i.i - 1 in
     let inside : i < length steps =
     omega (arith, c.loop-i-test.true, c.loop-i.auto.i, c.len-i.ensures) in
-    good_labels db c.args.theorem i (step_of c.step.result)
+    good_labels db c.args.theorem i (as_step c.step.result)
     (good_here (context_at db c.args.theorem) steps i i
-    (step_of c.step.result) inside c.requires.steps.good refl c.step.ensures)
+    (as_step c.step.result) inside c.requires.steps.good refl c.step.ensures)
 
 pub undo-requires-clause-earlier : goal.undo-requires-clause-earlier
 undo-requires-clause-earlier g c =
@@ -53,9 +53,9 @@ undo-requires-clause-earlier g c =
     omega (arith, c.loop-i-test.true, c.loop-i.auto.i, c.len-i.ensures) in
     let many = ap length c.deref_mut.ensures.value ∙ c.loop-i.invariant.many in
     earlier_of (context_at db c.args.theorem) i (length c.deref_mut.result.now)
-    (step_of c.step.result) (omega (arith, inside, many))
+    (as_step c.step.result) (omega (arith, inside, many))
     (good_here (context_at db c.args.theorem) steps i i
-    (step_of c.step.result) inside c.requires.steps.good refl c.step.ensures)
+    (as_step c.step.result) inside c.requires.steps.good refl c.step.ensures)
 
 pub loop-i-preserved : goal.loop-i-preserved
 loop-i-preserved g c =
@@ -77,20 +77,20 @@ loop-i-preserved g c =
     ] in
     let want : c.undo.new.wanted
     ≡ wanted_flags c.if-flag.is_essential
-    (step_of c.step.result) wanted = c.in_ok-undo.ensures.wanted
-    ∙ ap (wanted_flags c.if-flag.is_essential (step_of c.step.result))
+    (as_step c.step.result) wanted = c.in_ok-undo.ensures.wanted
+    ∙ ap (wanted_flags c.if-flag.is_essential (as_step c.step.result))
     c.deref_mut.ensures.value in
     let long : length wanted ≡ c.loop-i.wanted.len = search rules in
     let whole : take c.loop-i.wanted.len
     (c.undo.new.wanted ++ drop (length c.undo.new.wanted) wanted)
     ≡ c.undo.new.wanted = take_at c.undo.new.wanted
     (drop (length c.undo.new.wanted) wanted) c.loop-i.wanted.len
-    (ap length want ∙ wanted_count c.if-flag.is_essential (step_of c.step.result) wanted
+    (ap length want ∙ wanted_count c.if-flag.is_essential (as_step c.step.result) wanted
     ∙ long) in
     walk_here db c.args.theorem steps c.loop-i.i i c.loop-i.waiting.items wanted
     c.loop-i.noted c.loop-i.invariant inside next c.pop_flag-flag.new.waiting.items
     c.pop_flag-flag.result c.if-flag.is_essential
-    (step_of c.step.result) c.undo.new.waiting.items _ c.undo.new.noted
+    (as_step c.step.result) c.undo.new.waiting.items _ c.undo.new.noted
     c.pop_flag-flag.ensures needed c.requires.steps.good c.step.ensures c.in_ok-undo.ensures.waiting
     (whole ∙ want) c.in_ok-undo.ensures.noted
 

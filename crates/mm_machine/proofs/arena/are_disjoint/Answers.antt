@@ -1,7 +1,11 @@
+use Rattle.std.proofs.Common.{sym, ◌∙◌}
+use Rattle.mm_machine.proofs.ApartLaw.{either_disjoint, either_kept}
 use Rattle.mm_machine.proofs.arena.are_disjoint.Goals as goal
 
-pub has-requires : goal.has-requires
-has-requires g c = c.requires.cache
+pub returns-then-has-clause-value : goal.returns-then-has-clause-value
+returns-then-has-clause-value g c =
+    sym (either_disjoint c.args.db.now.statements c.args.theorem c.args.cache.now c.requires.cache
+    c.args.s c.args.t (c.has.ensures c.if-has.true))
 
 pub returns-then-has-clause-cache : goal.returns-then-has-clause-cache
 returns-then-has-clause-cache g c = c.requires.cache
@@ -19,8 +23,8 @@ pub returns-then-not-are_disjoint_by-clause-cache :
     goal.returns-then-not-are_disjoint_by-clause-cache
 returns-then-not-are_disjoint_by-clause-cache g c = c.requires.cache
 
-pub keep-requires-clause-cache : goal.keep-requires-clause-cache
-keep-requires-clause-cache g c = c.requires.cache
-
 pub returns-clause-cache : goal.returns-clause-cache
-returns-clause-cache g c = c.keep.ensures
+returns-clause-cache g c =
+    either_kept c.args.db.now.statements c.args.theorem c.args.cache.now c.requires.cache
+    c.args.s c.args.t c.keep.new.self
+    (sym c.are_disjoint_by.ensures ∙ c.if-not-are_disjoint_by.false) c.keep.ensures

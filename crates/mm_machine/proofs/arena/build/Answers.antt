@@ -5,7 +5,8 @@ use Rattle.std.proofs.lemmas.Bool.{lt-leb}
 use Rattle.std.proofs.lemmas.List.{take_all}
 use Rattle.mm_spec.specs.Limits.{formula_limit}
 use Rattle.mm_machine.specs.Arena.{text_of}
-use Rattle.mm_machine.specs.Replaced.{told, replaced}
+use Rattle.mm_machine.specs.Replaced.{replaced_part, replaced}
+use Rattle.mm_machine.proofs.GrowLaw.{variable_in}
 use Rattle.mm_machine.proofs.LongerLaw.{longer, replaced_more}
 use Rattle.mm_machine.proofs.arena.build.Goals.{in-Variable+in_ok-append_text-in-Variable+else-len-gt-FORMULA_LIMIT}
 use Rattle.mm_machine.proofs.arena.build.Goals.{in-Constant+in_ok-push-in-Constant}
@@ -20,9 +21,9 @@ returns-then-len-gt-FORMULA_LIMIT-clause-short g c =
     let i = c.loop-part.part-index in
     let u = c.text.result.now in
     let inside : i < length f = c.loop-part-test.true in
-    let is : told xs es c.part-item.result ≡ u =
-    ap (told xs es) c.in-Variable.is
-    ∙ sym (c.text.ensures ∙ ap (text_of xs) c.span_of.ensures.span) in
+    let is : replaced_part xs es c.part-item.result ≡ u =
+    ap (replaced_part xs es) c.in-Variable.is
+    ∙ sym (c.text.ensures ∙ ap (text_of xs) c.span_of.ensures) in
     let l : length (replaced xs es (take i f)) + length u ≤ length (replaced xs es f) =
     longer xs es f i c.part-item.result u inside (sym c.part-item.is) is in
     let m : length c.append_text.new.list.items ≡ length (replaced xs es (take i f)) + length u =
@@ -34,11 +35,11 @@ returns-then-len-gt-FORMULA_LIMIT-clause-short g c =
 pub offset_bounds-formula-part-index : goal.offset_bounds-formula-part-index
 offset_bounds-formula-part-index g c = omega arith
 
-pub span_of-requires-clause-premises : goal.span_of-requires-clause-premises
-span_of-requires-clause-premises g c = c.requires.premises
-
 pub text-requires : goal.text-requires
-text-requires g c = c.span_of.ensures.inside
+text-requires g c =
+    variable_in c.args.symbols.now c.args.premises.now c.args.formula.now c.loop-part.part-index
+    c.part-item.result c.in-Variable.j c.span_of.result c.requires.premises c.requires.formula
+    c.loop-part-test.true c.part-item.is c.in-Variable.is c.span_of.ensures
 
 pub returns-then-len-gt-FORMULA_LIMIT-clause-made :
     goal.returns-then-len-gt-FORMULA_LIMIT-clause-made
@@ -51,20 +52,21 @@ loop-part-preserved g c =
     let f = c.args.formula.now in
     let i = c.loop-part.part-index in
     let p = c.part-item.result in
-    let next : replaced xs es (take (i + 1) f) ≡ replaced xs es (take i f) ++ told xs es p =
+    let next : replaced xs es (take (i + 1) f)
+    ≡ replaced xs es (take i f) ++ replaced_part xs es p =
     replaced_more xs es f i p c.loop-part-test.true
-    ∙ ap (λ z. replaced xs es (take i f) ++ told xs es z) (sym c.part-item.is) in
+    ∙ ap (λ z. replaced xs es (take i f) ++ replaced_part xs es z) (sym c.part-item.is) in
     elim c.match-part.branch [
       | in-Variable+in_ok-append_text-in-Variable+else-len-gt-FORMULA_LIMIT w ↦
-          let is : w.text.result.now ≡ told xs es p =
-          w.text.ensures ∙ ap (text_of xs) w.span_of.ensures.span
-          ∙ sym (ap (told xs es) w.in-Variable.is) in
+          let is : w.text.result.now ≡ replaced_part xs es p =
+          w.text.ensures ∙ ap (text_of xs) w.span_of.ensures
+          ∙ sym (ap (replaced_part xs es) w.in-Variable.is) in
           rw (w.made-is, w.in_ok-append_text-in-Variable.ensures)
           (ap₂ (λ u v. u ++ v) c.loop-part.invariant is ∙ sym next)
       | in-Constant+in_ok-push-in-Constant w ↦
           rw (w.made-is, w.in_ok-push-in-Constant.ensures.items)
-          (ap₂ (λ u v. u ++ v) c.loop-part.invariant (sym (ap (told xs es) w.in-Constant.is))
-          ∙ sym next)
+          (ap₂ (λ u v. u ++ v) c.loop-part.invariant
+          (sym (ap (replaced_part xs es) w.in-Constant.is)) ∙ sym next)
     ]
 
 pub returns-clause-short : goal.returns-clause-short

@@ -5,10 +5,11 @@ use Rattle.std.proofs.lemmas.Grind.{common_steps}
 use Rattle.std.proofs.lemmas.List.{get_or_default}
 use Rattle.std.proofs.lemmas.Bool.{not-false}
 use Rattle.mm_machine.specs.Arena.{symbols_of, text_of}
-use Rattle.mm_machine.specs.Replaced.{told}
+use Rattle.mm_machine.specs.Replaced.{replaced_part}
 use Rattle.mm_machine.proofs.StretchLaw.{one_more, rest_fits, first_is, fits_in, length_text}
 use Rattle.mm_machine.proofs.arena.fits.Goals.{in-Variable+else-not-begins}
 use Rattle.mm_machine.proofs.arena.fits.Goals.{in-Constant+else-at-premise+else-ne}
+use Rattle.mm_machine.proofs.GrowLaw.{variable_in}
 use Rattle.mm_machine.proofs.arena.fits.Goals as goal
 
 pub returns-then-not-begins : goal.returns-then-not-begins
@@ -22,8 +23,9 @@ returns-then-not-begins c =
     let e = c.args.premise.end in
     let p = c.span_of-span.result in
     let inside : i < length w = c.loop-part-test.true in
-    let is : told arena es c.part-item.result ≡ text_of arena p =
-    ap (told arena es) c.in-Variable.is ∙ sym (ap (text_of arena) c.span_of-span.ensures.span) in
+    let is : replaced_part arena es c.part-item.result ≡ text_of arena p =
+    ap (replaced_part arena es) c.in-Variable.is
+    ∙ sym (ap (text_of arena) c.span_of-span.ensures) in
     let no : starts_with nat_eq (slice_range xs a e) (text_of arena p) ≡ false =
     sym c.begins.ensures.value ∙ c.if-not-begins.true in
     sym (c.loop-part.invariant.left
@@ -44,15 +46,17 @@ loop-part-preserved c =
     elim c.match-part.branch [
       | in-Variable+else-not-begins b ↦
           let p = b.span_of-span.result in
-          let is : told arena es c.part-item.result ≡ text_of arena p =
-          ap (told arena es) b.in-Variable.is
-          ∙ sym (ap (text_of arena) b.span_of-span.ensures.span) in
+          let is : replaced_part arena es c.part-item.result ≡ text_of arena p =
+          ap (replaced_part arena es) b.in-Variable.is
+          ∙ sym (ap (text_of arena) b.span_of-span.ensures) in
           let yes : starts_with nat_eq (slice_range xs a e) (text_of arena p) ≡ true =
           sym b.begins.ensures.value ∙ b.if-not-begins.false in
           let upto : a + length (text_of arena p) ≤ e =
           fits_in xs a e (text_of arena p) c.loop-part.invariant.upto yes in
           let long : length (text_of arena p) ≡ p.end - p.start =
-          length_text arena p b.span_of-span.ensures.inside in
+          length_text arena p
+          (variable_in arena es w i c.part-item.result b.in-Variable.j p c.requires.premises
+          c.requires.wanted inside c.part-item.is b.in-Variable.is b.span_of-span.ensures) in
           rw b.at-is (record {
             from = omega (arith, c.loop-part.invariant.from);
             upto = omega (arith, upto, long);
@@ -80,16 +84,13 @@ loop-part-preserved c =
             left =
                 c.loop-part.invariant.left
                 ∙ one_more arena es xs w i a e inside c.part-item.result (s ∷ [])
-                (sym c.part-item.is) (ap (told arena es) b.in-Constant.is)
+                (sym c.part-item.is) (ap (replaced_part arena es) b.in-Constant.is)
                 ∙ ap (λ z. z && rest_fits arena es xs w i a e inside 1) yes;
           })
     ]
 
 pub offset_bounds-wanted-part-index : goal.offset_bounds-wanted-part-index
 offset_bounds-wanted-part-index c = omega arith
-
-pub span_of-span-requires-clause-premises : goal.span_of-span-requires-clause-premises
-span_of-span-requires-clause-premises c = c.requires.premises
 
 pub begins-requires-clause-order : goal.begins-requires-clause-order
 begins-requires-clause-order c = c.loop-part.invariant.upto
@@ -98,10 +99,16 @@ pub begins-requires-clause-within : goal.begins-requires-clause-within
 begins-requires-clause-within c = c.requires.premise.within
 
 pub begins-requires-clause-span : goal.begins-requires-clause-span
-begins-requires-clause-span c = c.span_of-span.ensures.inside
+begins-requires-clause-span c =
+    variable_in c.args.symbols.now c.args.premises.now c.args.wanted.now c.loop-part.part-index
+    c.part-item.result c.in-Variable.j c.span_of-span.result c.requires.premises c.requires.wanted
+    c.loop-part-test.true c.part-item.is c.in-Variable.is c.span_of-span.ensures
 
 pub overflow_sub-at : goal.overflow_sub-at
-overflow_sub-at c = omega arith
+overflow_sub-at c =
+    let s = ap (λ p. p.start) c.span_of-span.ensures in
+    let e = ap (λ p. p.end) c.span_of-span.ensures in
+    omega (arith, s, e)
 
 pub overflow_add-at : goal.overflow_add-at
 overflow_add-at c = grind (arith, common_steps)

@@ -9,7 +9,7 @@ use Rattle.mm_spec.specs.Citation.{context_at}
 use Rattle.mm_spec.specs.Frame.{symbol_names}
 use Rattle.mm_machine.specs.Arena.{text_of}
 use Rattle.mm_machine.specs.Replaced.{stands}
-use Rattle.mm_machine.proofs.GrowLaw.{text_known}
+use Rattle.mm_machine.proofs.GrowLaw.{text_known, premise_in}
 use Rattle.mm_machine.proofs.arena.pairs_are_disjoint.Goals as goal
 
 -- a pair that fails
@@ -27,8 +27,8 @@ returns-then-not-are_all_disjoint-clause-value g c =
     let es = c.args.premises.now in
     let p = get_or c.args.pairs.now c.loop-pair.pair-index (0, 0) in
     let fails : are_all_disjoint k (stands xs es p.0) (stands xs es p.1) ≡ false =
-    ap₂ (are_all_disjoint k) (sym (c.text-first.ensures ∙ ap (text_of xs) c.span_of.ensures.span))
-    (sym (c.text-second.ensures ∙ ap (text_of xs) c.span_of-in-loop-pair.ensures.span))
+    ap₂ (are_all_disjoint k) (sym (c.text-first.ensures ∙ ap (text_of xs) c.span_of.ensures))
+    (sym (c.text-second.ensures ∙ ap (text_of xs) c.span_of-in-loop-pair.ensures))
     ∙ sym c.are_all_disjoint.ensures.value ∙ c.if-not-are_all_disjoint.true in
     sym (fails_at
     (λ (q : ℕ × ℕ). are_all_disjoint k (stands xs es q.0) (stands xs es q.1)) c.args.pairs.now
@@ -38,24 +38,24 @@ pub are_all_disjoint-requires-clause-second : goal.are_all_disjoint-requires-cla
 are_all_disjoint-requires-clause-second g c =
     let n = length (symbol_names c.args.db.now.statements) in
     subst (All (λ s. s < n)) (sym c.text-second.ensures)
-    (text_known n c.args.symbols.now c.span_of-in-loop-pair.result c.requires.own
-    c.requires.kept)
+    (text_known n c.args.symbols.now c.span_of-in-loop-pair.result c.requires.premises.known.own
+    c.requires.premises.known.kept)
 
 pub offset_bounds-pairs-pair-index : goal.offset_bounds-pairs-pair-index
 offset_bounds-pairs-pair-index g c = omega arith
 
-pub span_of-requires-clause-premises : goal.span_of-requires-clause-premises
-span_of-requires-clause-premises g c = c.requires.premises
-
 pub text-first-requires : goal.text-first-requires
-text-first-requires g c = c.span_of.ensures.inside
-
-pub span_of-requires-in-loop-pair-clause-premises :
-    goal.span_of-requires-in-loop-pair-clause-premises
-span_of-requires-in-loop-pair-clause-premises g c = c.requires.premises
+text-first-requires g c =
+    premise_in c.args.symbols.now c.args.premises.now _ c.span_of.result
+    c.requires.premises.inside
+    (c.requires.pairs c.loop-pair.pair-index (0, 0) c.loop-pair-test.true).0 c.span_of.ensures
 
 pub text-second-requires : goal.text-second-requires
-text-second-requires g c = c.span_of-in-loop-pair.ensures.inside
+text-second-requires g c =
+    premise_in c.args.symbols.now c.args.premises.now _ c.span_of-in-loop-pair.result
+    c.requires.premises.inside
+    (c.requires.pairs c.loop-pair.pair-index (0, 0) c.loop-pair-test.true).1
+    c.span_of-in-loop-pair.ensures
 
 pub are_all_disjoint-requires-clause-theorem : goal.are_all_disjoint-requires-clause-theorem
 are_all_disjoint-requires-clause-theorem g c = c.requires.theorem
@@ -63,7 +63,8 @@ are_all_disjoint-requires-clause-theorem g c = c.requires.theorem
 pub are_all_disjoint-requires-clause-first : goal.are_all_disjoint-requires-clause-first
 are_all_disjoint-requires-clause-first g c = let n = length (symbol_names c.args.db.now.statements) in
     subst (All (λ s. s < n)) (sym c.text-first.ensures)
-    (text_known n c.args.symbols.now c.span_of.result c.requires.own c.requires.kept)
+    (text_known n c.args.symbols.now c.span_of.result c.requires.premises.known.own
+    c.requires.premises.known.kept)
 
 pub are_all_disjoint-requires-clause-cache : goal.are_all_disjoint-requires-clause-cache
 are_all_disjoint-requires-clause-cache g c = c.loop-pair.invariant.cache

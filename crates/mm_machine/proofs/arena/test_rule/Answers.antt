@@ -19,7 +19,7 @@ returns-then-not-all_fit-clause-judged g c =
     (slice_range stack (length stack - n) (length stack)) n (length stack - n) c.requires.rule
     (ap length c.hypotheses-hypotheses.ensures) (let l = c.if-stack-hypotheses.false in omega
     (arith, l)) refl
-    (take_rest stack (length stack - n)) c.requires.stack _ refl false _
+    (take_rest stack (length stack - n)) c.requires.stack.inside _ refl false _
     (sym c.if-not-all_fit.true ∙ c.all_fit.ensures) refl
 
 pub returns-then-not-pairs_are_disjoint-clause-judged : goal.returns-then-not-pairs_are_disjoint-clause-judged
@@ -30,7 +30,7 @@ returns-then-not-pairs_are_disjoint-clause-judged g c =
     (slice_range stack (length stack - n) (length stack)) n (length stack - n) c.requires.rule
     (ap length c.hypotheses-hypotheses.ensures) (let l = c.if-stack-hypotheses.false in omega
     (arith, l)) refl
-    (take_rest stack (length stack - n)) c.requires.stack c.pairs-pairs.result.now
+    (take_rest stack (length stack - n)) c.requires.stack.inside c.pairs-pairs.result.now
     c.pairs-pairs.ensures true false (sym c.if-not-all_fit.false ∙ c.all_fit.ensures)
     (sym c.if-not-pairs_are_disjoint.true ∙ c.pairs_are_disjoint.ensures.value)
 
@@ -43,7 +43,7 @@ returns-clause-judged g c =
       judged_at c.args.db.now.statements c.args.theorem c.args.rule.now c.args.symbols.now stack
           (slice_range stack (length stack - n) (length stack)) n (length stack - n) c.requires.rule
           (ap length c.hypotheses-hypotheses.ensures) (omega (arith, l)) refl
-          (take_rest stack (length stack - n)) c.requires.stack c.pairs-pairs.result.now
+          (take_rest stack (length stack - n)) c.requires.stack.inside c.pairs-pairs.result.now
           c.pairs-pairs.ensures true true (sym c.if-not-all_fit.false ∙ c.all_fit.ensures)
           (sym c.if-not-pairs_are_disjoint.false ∙ c.pairs_are_disjoint.ensures.value),
     )
@@ -67,7 +67,7 @@ pub slice_bounds-premises-end : goal.slice_bounds-premises-end
 slice_bounds-premises-end g c = omega arith
 
 pub all_fit-requires-clause-premises : goal.all_fit-requires-clause-premises
-all_fit-requires-clause-premises g c = stretch_in _ _ _ _ c.requires.stack
+all_fit-requires-clause-premises g c = stretch_in _ _ _ _ c.requires.stack.inside
 
 pub returns-then-not-all_fit-clause-cache : goal.returns-then-not-all_fit-clause-cache
 returns-then-not-all_fit-clause-cache g c = c.requires.cache
@@ -76,13 +76,11 @@ pub pairs_are_disjoint-requires-clause-theorem : goal.pairs_are_disjoint-require
 pairs_are_disjoint-requires-clause-theorem g c = c.requires.theorem
 
 pub pairs_are_disjoint-requires-clause-premises : goal.pairs_are_disjoint-requires-clause-premises
-pairs_are_disjoint-requires-clause-premises g c = stretch_in _ _ _ _ c.requires.stack
-
-pub pairs_are_disjoint-requires-clause-own : goal.pairs_are_disjoint-requires-clause-own
-pairs_are_disjoint-requires-clause-own g c = c.requires.own
-
-pub pairs_are_disjoint-requires-clause-kept : goal.pairs_are_disjoint-requires-clause-kept
-pairs_are_disjoint-requires-clause-kept g c = c.requires.kept
+pairs_are_disjoint-requires-clause-premises g c =
+    record {
+      known = c.requires.stack.known;
+      inside = stretch_in _ _ _ _ c.requires.stack.inside;
+    }
 
 pub pairs_are_disjoint-requires-clause-cache : goal.pairs_are_disjoint-requires-clause-cache
 pairs_are_disjoint-requires-clause-cache g c = c.requires.cache

@@ -1,15 +1,16 @@
 use Rattle.std.proofs.Common.{arith}
 use Rattle.std.proofs.lemmas.Grind.{common_steps}
+use Rattle.mm_machine.proofs.GrowLaw.{variable_in}
 use Rattle.mm_machine.proofs.fill.fill.Goals as goal
 
 pub offset_bounds-formula-part-index : goal.offset_bounds-formula-part-index
 offset_bounds-formula-part-index c = omega arith
 
-pub span_of-requires-clause-premises : goal.span_of-requires-clause-premises
-span_of-requires-clause-premises c = c.requires.premises
-
 pub text-text-requires : goal.text-text-requires
-text-text-requires c = c.span_of.ensures.inside
+text-text-requires c =
+    variable_in c.args.symbols.now c.args.premises.now c.args.formula.now c.loop-part.part-index
+    c.part-item.result c.in-Variable.j c.span_of.result c.requires.premises c.requires.formula
+    c.loop-part-test.true c.part-item.is c.in-Variable.is c.span_of.ensures
 
 pub overflow_add-room : goal.overflow_add-room
 overflow_add-room c = omega arith

@@ -8,7 +8,7 @@ use Rattle.mm_proof.proofs.BracketsLaw.{order_drop, read_steps, faults_closed}
 use Rattle.std.proofs.lemmas.Result.{IfOk-from_err}
 use Rattle.mm_proof.proofs.LettersLaw.{err_same}
 use Rattle.mm_proof.specs.declared.refused.ProofRefused.TheVariants.{Memory}
-use Rattle.mm_proof.specs.Letters.{state}
+use Rattle.mm_proof.specs.Letters.{letters_state}
 use Rattle.mm_proof.specs.Refused.{StartsWith}
 use Rattle.mm_spec.specs.Citation.{is_theorem}
 use Rattle.mm_outline.proofs.StatementsLaw.{is_there}
@@ -33,7 +33,7 @@ returns-clause-steps g c =
     ∙ ap₂ (λ xs ys. xs ++ ys) c.with_room-labels.ensures
     (c.as_slice.ensures.value ∙ c.frame.ensures.hypotheses) in
     let labels =
-    c.in_ok-count.ensures.labels
+    c.in_ok-count.ensures.labels.labels
     ∙ ap (λ xs. xs
     ++ flat_map (λ t. usable db c.args.theorem t.word) (as_tokens text (take n words)))
     hypotheses in
@@ -42,7 +42,7 @@ returns-clause-steps g c =
     ∙ read_steps db c.args.theorem (bracketed (as_tokens text words))
     (as_tokens text (take n words))
     (as_tokens text (drop (n + 1) words)) c.read_labels.new.labels.items _ _
-    c.in_ok-count.ensures.closed labels theorem steps
+    c.in_ok-count.ensures.labels.brackets labels theorem steps
 
 pub returns-in_err-extend_from_slice-clause-fault :
     goal.returns-in_err-extend_from_slice-clause-fault
@@ -90,27 +90,27 @@ read_labels-requires-clause-within g c = c.requires.within
 pub read_all-requires-clause-none : goal.read_all-requires-clause-none
 read_all-requires-clause-none g c =
     c.none-progress.ensures
-    ∙ sym (ap (λ s. state s.theorem s.labels [] None []) c.none-progress.ensures)
+    ∙ sym (ap (λ s. letters_state s.theorem s.labels [] None []) c.none-progress.ensures)
 
 pub offset_bounds-words-count : goal.offset_bounds-words-count
 offset_bounds-words-count g c =
-    let s = c.in_ok-count.ensures.some in omega (arith, s)
+    let s = c.in_ok-count.ensures.labels.some in omega (arith, s)
 
 pub overflow_add-rest : goal.overflow_add-rest
 overflow_add-rest g c =
-    let s = c.in_ok-count.ensures.some in omega (arith, s)
+    let s = c.in_ok-count.ensures.labels.some in omega (arith, s)
 
 pub slice_bounds-rest-count : goal.slice_bounds-rest-count
 slice_bounds-rest-count g c =
-    let s = c.in_ok-count.ensures.some in omega (arith, s)
+    let s = c.in_ok-count.ensures.labels.some in omega (arith, s)
 
 pub slice_bounds-rest-end : goal.slice_bounds-rest-end
 slice_bounds-rest-end g c =
-    let s = c.in_ok-count.ensures.some in omega (arith, s)
+    let s = c.in_ok-count.ensures.labels.some in omega (arith, s)
 
 pub slice_bounds-rest-start : goal.slice_bounds-rest-start
 slice_bounds-rest-start g c =
-    let s = c.in_ok-count.ensures.some in omega (arith, s)
+    let s = c.in_ok-count.ensures.labels.some in omega (arith, s)
 
 pub returns-clause-sound : goal.returns-clause-sound
 returns-clause-sound g c =
@@ -120,8 +120,9 @@ returns-clause-sound g c =
     (c.as_slice.ensures.value ∙ c.frame.ensures.hypotheses) in
     faults_closed c.args.database.now.statements c.args.theorem c.args.end c.args.database.now.text
     c.args.words.now c.in_ok-count.count c.extend_from_slice.new.self.items
-    c.read_labels.new.labels.items c.in_ok-count.ensures.some hypotheses
-    c.in_ok-count.ensures.many c.in_ok-count.ensures.closed c.in_ok-count.ensures.sound
+    c.read_labels.new.labels.items c.in_ok-count.ensures.labels.some hypotheses
+    c.in_ok-count.ensures.labels.many c.in_ok-count.ensures.labels.brackets
+    c.in_ok-count.ensures.labels.sound
     ∙ rw (c.none-progress.ensures, c.text.ensures, take_rest) at c.in_ok-read_all.ensures.sound
 
 pub returns-in_err-read_all-clause-fault : goal.returns-in_err-read_all-clause-fault
@@ -133,8 +134,9 @@ returns-in_err-read_all-clause-fault g c =
     let faults =
     faults_closed c.args.database.now.statements c.args.theorem c.args.end c.args.database.now.text
     c.args.words.now c.in_ok-count.count c.extend_from_slice.new.self.items
-    c.read_labels.new.labels.items c.in_ok-count.ensures.some hypotheses
-    c.in_ok-count.ensures.many c.in_ok-count.ensures.closed c.in_ok-count.ensures.sound in
+    c.read_labels.new.labels.items c.in_ok-count.ensures.labels.some hypotheses
+    c.in_ok-count.ensures.labels.many c.in_ok-count.ensures.labels.brackets
+    c.in_ok-count.ensures.labels.sound in
     let fault =
     rw (c.none-progress.ensures, c.text.ensures, take_rest) at c.in_err-read_all.ensures.fault in
     err_same c.from_residual-in_err-read_all.result c.in_err-read_all.field-0.0 _

@@ -1,11 +1,11 @@
 use Rattle.std.proofs.Common.{◌≡◌, ◌∙◌, ◌+◌, ap, ap₂, sym, take, drop, get_or, bytes_eq, codes}
-use Rattle.std.proofs.Common.{slice_range, false, [], arith, length}
+use Rattle.std.proofs.Common.{slice_range, true, false, [], arith, length}
 use Rattle.mm_spec.specs.declared.Word.{Word}
 use Rattle.mm_spec.specs.CompressedProof.{bracketed, compressed_faults}
 use Rattle.mm_spec.specs.NormalProof.{usable}
 use Rattle.mm_outline.specs.Parts.{as_tokens, token_of}
 use Rattle.mm_proof.proofs.BracketsLaw.{after, label_first, brackets_first, tokens_more}
-use Rattle.mm_proof.proofs.BracketsLaw.{tokens_end}
+use Rattle.mm_proof.proofs.BracketsLaw.{tokens_end, brackets_close}
 use Rattle.std.proofs.lemmas.Result.{IfOk-from_err}
 use Rattle.mm_proof.proofs.LettersLaw.{err_same}
 use Rattle.mm_proof.specs.declared.refused.ProofRefused.TheVariants.{Memory}
@@ -51,54 +51,14 @@ returns-clause-fault g c =
           ∙ brackets_first db c.args.theorem c.args.end done c.loop-n.invariant.sound,
     )
 
-pub returns-in-None-clause-closed : goal.returns-in-None-clause-closed
-returns-in-None-clause-closed g c = tt
-
 pub returns-in-None-clause-labels : goal.returns-in-None-clause-labels
 returns-in-None-clause-labels g c = tt
-
-pub returns-in-None-clause-many : goal.returns-in-None-clause-many
-returns-in-None-clause-many g c = tt
-
-pub returns-in-None-clause-some : goal.returns-in-None-clause-some
-returns-in-None-clause-some g c = tt
-
-pub returns-in-None-clause-sound : goal.returns-in-None-clause-sound
-returns-in-None-clause-sound g c = tt
-
-pub returns-clause-closed : goal.returns-clause-closed
-returns-clause-closed g c = tt
 
 pub returns-clause-labels : goal.returns-clause-labels
 returns-clause-labels g c = tt
 
-pub returns-clause-many : goal.returns-clause-many
-returns-clause-many g c = tt
-
-pub returns-clause-some : goal.returns-clause-some
-returns-clause-some g c = tt
-
-pub returns-clause-sound : goal.returns-clause-sound
-returns-clause-sound g c = tt
-
-pub returns-in_err-push-in-Some-clause-closed : goal.returns-in_err-push-in-Some-clause-closed
-returns-in_err-push-in-Some-clause-closed g c =
-    IfOk-from_err c.from_residual.result _ c.from_residual.ensures.0
-
 pub returns-in_err-push-in-Some-clause-labels : goal.returns-in_err-push-in-Some-clause-labels
 returns-in_err-push-in-Some-clause-labels g c =
-    IfOk-from_err c.from_residual.result _ c.from_residual.ensures.0
-
-pub returns-in_err-push-in-Some-clause-many : goal.returns-in_err-push-in-Some-clause-many
-returns-in_err-push-in-Some-clause-many g c =
-    IfOk-from_err c.from_residual.result _ c.from_residual.ensures.0
-
-pub returns-in_err-push-in-Some-clause-some : goal.returns-in_err-push-in-Some-clause-some
-returns-in_err-push-in-Some-clause-some g c =
-    IfOk-from_err c.from_residual.result _ c.from_residual.ensures.0
-
-pub returns-in_err-push-in-Some-clause-sound : goal.returns-in_err-push-in-Some-clause-sound
-returns-in_err-push-in-Some-clause-sound g c =
     IfOk-from_err c.from_residual.result _ c.from_residual.ensures.0
 
 pub returns-in_err-push-in-Some-clause-fault : goal.returns-in_err-push-in-Some-clause-fault
@@ -108,17 +68,28 @@ returns-in_err-push-in-Some-clause-fault g c =
 pub returns-then-eq-clause-fault : goal.returns-then-eq-clause-fault
 returns-then-eq-clause-fault g c = tt
 
-pub returns-then-eq-clause-some : goal.returns-then-eq-clause-some
-returns-then-eq-clause-some g c = c.loop-n-test.true
-
-pub returns-then-eq-clause-many : goal.returns-then-eq-clause-many
-returns-then-eq-clause-many g c = c.loop-n.invariant.many
-
 pub returns-then-eq-clause-labels : goal.returns-then-eq-clause-labels
-returns-then-eq-clause-labels g c = c.loop-n.invariant.labels
-
-pub returns-then-eq-clause-sound : goal.returns-then-eq-clause-sound
-returns-then-eq-clause-sound g c = c.loop-n.invariant.sound
+returns-then-eq-clause-labels g c =
+    let text = c.args.database.now.text in
+    let words = c.args.words.now in
+    let n = c.loop-n.n in
+    let none : Word = record { start = 0; end = 0 } in
+    let w = get_or words n none in
+    let done = as_tokens text (take n words) in
+    let label = c.bytes-label.ensures ∙ ap (λ t. slice_range t w.start w.end) c.text-text.ensures in
+    let test : bytes_eq (slice_range text w.start w.end) (codes ")") ≡ true =
+    ap₂ bytes_eq (sym label) (sym c.as_slice.ensures) ∙ sym c.eq.ensures ∙ c.if-eq.true in
+    record {
+      some = c.loop-n-test.true;
+      brackets =
+          c.loop-n.invariant.bracketed
+          ∙ ap (λ ts. after done (bracketed ts))
+          (tokens_more text words n none c.loop-n-test.true)
+          ∙ brackets_close done (token_of text w) (as_tokens text (drop (n + 1) words)) test;
+      labels = c.loop-n.invariant.labels;
+      many = c.loop-n.invariant.many;
+      sound = c.loop-n.invariant.sound;
+    }
 
 pub bounds-words-n : goal.bounds-words-n
 bounds-words-n g c = omega arith

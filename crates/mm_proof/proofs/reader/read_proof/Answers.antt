@@ -8,10 +8,9 @@ use Rattle.mm_proof.specs.Refused.{IsProofRefusal}
 use Rattle.mm_proof.proofs.RisingLaw.{proof_rising, proof_in_order}
 use Rattle.mm_proof.proofs.OrderLaw.{first_fault}
 use Rattle.mm_proof.proofs.BracketsLaw.{order_rest}
-use Rattle.mm_proof.proofs.LettersLaw.{err_then, err_same}
+use Rattle.mm_proof.proofs.LettersLaw.{err_then}
 use Rattle.mm_proof.proofs.ReadLaw.{theorem_is, theorem_within, end_is, compressed_at, normal_at}
 use Rattle.mm_proof.proofs.ReadLaw.{normal_steps_at, compressed_steps_at, empty_at, no_words}
-use Rattle.std.proofs.lemmas.Result.{IfOk-from_err}
 use Rattle.mm_outline.proofs.ResultsLaw.{ok_then}
 use Rattle.mm_steps.specs.Read.{read}
 use Rattle.mm_spec.specs.Lawful.{least}
@@ -71,28 +70,14 @@ returns-then-eq-clause-fault g c =
     (λ r s. subst (λ fs. IsProofRefusal fs r) (sym faults)
     (first_fault db c.args.theorem c.end_at-end.result 0 rest r order s))
 
-pub returns-clause-fault : goal.returns-clause-fault
-returns-clause-fault g c = tt
-
 pub returns-in_default-clause-sound : goal.returns-in_default-clause-sound
 returns-in_default-clause-sound g c = tt
 
 pub returns-in_default-clause-steps : goal.returns-in_default-clause-steps
 returns-in_default-clause-steps g c = tt
 
-pub returns-in_err-read_words-clause-sound : goal.returns-in_err-read_words-clause-sound
-returns-in_err-read_words-clause-sound g c =
-    IfOk-from_err c.from_residual.result _ c.from_residual.ensures.0
-
-pub returns-in_err-read_words-clause-steps : goal.returns-in_err-read_words-clause-steps
-returns-in_err-read_words-clause-steps g c =
-    IfOk-from_err c.from_residual.result _ c.from_residual.ensures.0
-
 pub read_compressed-requires-clause-theorem : goal.read_compressed-requires-clause-theorem
 read_compressed-requires-clause-theorem g c = c.requires
-
-pub read_words-requires-clause-none : goal.read_words-requires-clause-none
-read_words-requires-clause-none g c = c.none-steps.ensures
 
 pub returns-clause-steps : goal.returns-clause-steps
 returns-clause-steps g c =
@@ -103,10 +88,10 @@ returns-clause-steps g c =
     let label = c.bytes.ensures ∙ ap (λ t. slice_range t first.start first.end) c.text.ensures in
     let test : bytes_eq (slice_range text first.start first.end) (codes "(") ≡ false =
     ap₂ bytes_eq (sym label) (sym c.as_slice.ensures) ∙ sym c.eq.ensures ∙ c.if-eq.false in
-    c.in_ok-read_words.ensures.steps
+    ok_then c.read_words.result c.read_words.ensures.steps (λ s e. e
     ∙ ap (read c.args.theorem) (sym (normal_steps_at db c.args.theorem _ t (token_of text first)
     (as_tokens text c.in-Some.rest.now)
-    (ap (as_tokens text) c.in-Some.ensures.cases.0) test))
+    (ap (as_tokens text) c.in-Some.ensures.cases.0) test)))
 
 pub returns-clause-sound : goal.returns-clause-sound
 returns-clause-sound g c =
@@ -117,12 +102,12 @@ returns-clause-sound g c =
     let label = c.bytes.ensures ∙ ap (λ t. slice_range t first.start first.end) c.text.ensures in
     let test : bytes_eq (slice_range text first.start first.end) (codes "(") ≡ false =
     ap₂ bytes_eq (sym label) (sym c.as_slice.ensures) ∙ sym c.eq.ensures ∙ c.if-eq.false in
-    normal_at db c.args.theorem _ t (token_of text first) (as_tokens text c.in-Some.rest.now)
-    (ap (as_tokens text) c.in-Some.ensures.cases.0) test
-    ∙ c.in_ok-read_words.ensures.ok
+    ok_then c.read_words.result c.read_words.ensures.sound (λ s h. normal_at db c.args.theorem _ t
+    (token_of text first) (as_tokens text c.in-Some.rest.now)
+    (ap (as_tokens text) c.in-Some.ensures.cases.0) test ∙ h)
 
-pub returns-in_err-read_words-clause-fault : goal.returns-in_err-read_words-clause-fault
-returns-in_err-read_words-clause-fault g c =
+pub returns-clause-fault : goal.returns-clause-fault
+returns-clause-fault g c =
     let db = c.args.database.now.statements in
     let text = c.args.database.now.text in
     let t = theorem_is db c.args.theorem _ c.requires c.proof_words-words.ensures.words in
@@ -130,11 +115,10 @@ returns-in_err-read_words-clause-fault g c =
     let label = c.bytes.ensures ∙ ap (λ t. slice_range t first.start first.end) c.text.ensures in
     let test : bytes_eq (slice_range text first.start first.end) (codes "(") ≡ false =
     ap₂ bytes_eq (sym label) (sym c.as_slice.ensures) ∙ sym c.eq.ensures ∙ c.if-eq.false in
-    err_same c.from_residual.result c.in_err-read_words.field-0.0 _ c.from_residual.ensures.1
-    (subst (λ fs. IsProofRefusal fs c.in_err-read_words.field-0.0)
+    err_then c.read_words.result c.read_words.ensures.fault
+    (λ r s. subst (λ fs. IsProofRefusal fs r)
     (sym (normal_at db c.args.theorem _ t (token_of text first) (as_tokens text c.in-Some.rest.now)
-    (ap (as_tokens text) c.in-Some.ensures.cases.0) test))
-    c.in_err-read_words.ensures.fault)
+    (ap (as_tokens text) c.in-Some.ensures.cases.0) test)) s)
 
 pub returns-then-eq-clause-steps : goal.returns-then-eq-clause-steps
 returns-then-eq-clause-steps g c =

@@ -8,9 +8,9 @@ use Rattle.mm_rule.specs.declared.rule.RuleSymbol.TheVariants.{Constant, Variabl
 use Rattle.mm_rule.specs.declared.rule.Hypothesis.TheVariants.{Floating, Essential}
 use Rattle.mm_rule.specs.declared.rule.Stretch.{Stretch}
 use Rattle.mm_rule.specs.Rule.{parts_of, IsBelow}
-use Rattle.mm_rules.specs.Rules.{AreCovered}
+use Rattle.mm_rules.specs.Rules.{AreCovered, numbered_parts}
 use Rattle.mm_rules.proofs.RuleLaw.{map_take_more, map_push, typed_more, typed_within}
-use Rattle.mm_rules.proofs.RuleLaw.{essential_more, essential_within, parts_below}
+use Rattle.mm_rules.proofs.RuleLaw.{essential_more, essential_within, parts_below, numbered_same}
 use Rattle.mm_rules.proofs.compile.compile_hypotheses.Goals.{then-is_first+in_ok-push}
 use Rattle.mm_rules.proofs.compile.compile_hypotheses.Goals.{else-is_first+in_ok-compile_formula+in_ok-push-2}
 use Rattle.mm_rules.proofs.compile.compile_hypotheses.Goals as goal
@@ -36,6 +36,8 @@ loop-j-preserved g c =
     ∙ ap (λ z. us ++ parts_of k hs z ∷ []) (sym is) in
     let covered : AreCovered k hs f =
     subst (AreCovered k hs) (sym is) (c.requires.bound j 0 inside) in
+    let same : numbered_parts k c.args.numbers.now f ≡ parts_of k hs f =
+    numbered_same k hs c.args.numbers.now c.requires.placed f covered in
     elim c.if-is_first.branch [
       | then-is_first+in_ok-push w ↦
           let t = w.index-formula-0.result in
@@ -43,7 +45,7 @@ loop-j-preserved g c =
           let typecode : get_or f 0 0 ≡ t =
           get_or_default f 0 0 t first.0 ∙ sym w.index-formula-0.is in
           let one : parts_of k hs f ≡ Constant t ∷ Variable j ∷ [] =
-          first.1 ∙ ap (λ z. Constant z ∷ Variable j ∷ []) typecode in
+          sym same ∙ first.1 ∙ ap (λ z. Constant z ∷ Variable j ∷ []) typecode in
           rw (w.hypotheses-is, w.parts-is, w.in_ok-push.ensures.items) (record {
             made =
                 typed_more parts hypotheses j t us v.count v.made ∙ ap (λ z. us ++ z ∷ []) (sym one)
@@ -56,13 +58,14 @@ loop-j-preserved g c =
           let more = parts_of k hs f in
           let s : Stretch = record { start = w.len-start.result; end = w.len.result } in
           let start : w.len-start.result ≡ length parts = omega (arith, w.len-start.ensures) in
+          let grown = w.in_ok-compile_formula.ensures ∙ ap (λ z. parts ++ z) same in
           let to : w.len.result ≡ length (parts ++ more) =
-          let n = ap length w.in_ok-compile_formula.ensures in omega (arith, w.len.ensures, n) in
+          let n = ap length grown in omega (arith, w.len.ensures, n) in
           rw (
             w.hypotheses-is,
             w.parts-is,
             w.in_ok-push-2.ensures.items,
-            w.in_ok-compile_formula.ensures,
+            grown,
           ) (record {
             made = essential_more parts more hypotheses s start to v.within us v.made ∙ sym next;
             count = omega (arith, v.count, length-append hypotheses (Essential s ∷ []));
@@ -83,17 +86,8 @@ bounds-hyps-j g c = omega arith
 pub is_first-requires-clause-width : goal.is_first-requires-clause-width
 is_first-requires-clause-width g c = c.requires.width
 
-pub is_first-requires-clause-placed : goal.is_first-requires-clause-placed
-is_first-requires-clause-placed g c = c.requires.placed
-
 pub is_first-requires-clause-known : goal.is_first-requires-clause-known
 is_first-requires-clause-known g c = c.formula-formula.ensures.known
-
-pub is_first-requires-clause-bound : goal.is_first-requires-clause-bound
-is_first-requires-clause-bound g c = let k = c.args.db.now.statements in
-    let hs = map (formula_at k) c.args.hyps.now in
-    subst (AreCovered k hs) (sym c.formula-formula.ensures.formula)
-    (c.requires.bound c.loop-j.j 0 c.loop-j-test.true)
 
 pub bounds-formula-0 : goal.bounds-formula-0
 bounds-formula-0 g c = (c.is_first.ensures c.if-is_first.true).0
@@ -101,80 +95,32 @@ bounds-formula-0 g c = (c.is_first.ensures c.if-is_first.true).0
 pub compile_formula-requires-clause-width : goal.compile_formula-requires-clause-width
 compile_formula-requires-clause-width g c = c.requires.width
 
-pub compile_formula-requires-clause-placed : goal.compile_formula-requires-clause-placed
-compile_formula-requires-clause-placed g c = c.requires.placed
-
 pub compile_formula-requires-clause-known : goal.compile_formula-requires-clause-known
 compile_formula-requires-clause-known g c = c.formula-formula.ensures.known
 
-pub compile_formula-requires-clause-bound : goal.compile_formula-requires-clause-bound
-compile_formula-requires-clause-bound g c = let k = c.args.db.now.statements in
+pub returns : goal.returns
+returns g c = let k = c.args.db.now.statements in
     let hs = map (formula_at k) c.args.hyps.now in
-    subst (AreCovered k hs) (sym c.formula-formula.ensures.formula)
-    (c.requires.bound c.loop-j.j 0 c.loop-j-test.true)
+    record {
+      parts_are =
+          c.loop-j.invariant.made
+          ∙ ap (λ z. map (parts_of k hs) (map (formula_at k) z))
+          (take_all c.loop-j.j c.args.hyps.now c.loop-j-test.false);
+      count =
+          let n = c.loop-j.invariant.count in let l = c.loop-j-test.false in
+          omega (arith, n, l);
+      within = c.loop-j.invariant.within;
+      below = c.loop-j.invariant.below;
+    }
 
-pub returns-clause-hypotheses : goal.returns-clause-hypotheses
-returns-clause-hypotheses g c = let k = c.args.db.now.statements in
-    let hs = map (formula_at k) c.args.hyps.now in
-    c.loop-j.invariant.made
-    ∙ ap (λ z. map (parts_of k hs) (map (formula_at k) z))
-    (take_all c.loop-j.j c.args.hyps.now c.loop-j-test.false)
+pub returns-in_err-push : goal.returns-in_err-push
+returns-in_err-push g c = IfOk-from_err c.from_residual.result _ c.from_residual.ensures.0
 
-pub returns-clause-within : goal.returns-clause-within
-returns-clause-within g c = c.loop-j.invariant.within
-
-pub returns-clause-parts : goal.returns-clause-parts
-returns-clause-parts g c = c.loop-j.invariant.below
-
-pub returns-in_err-push-clause-hypotheses : goal.returns-in_err-push-clause-hypotheses
-returns-in_err-push-clause-hypotheses g c =
-    IfOk-from_err c.from_residual.result _ c.from_residual.ensures.0
-
-pub returns-in_err-push-clause-count : goal.returns-in_err-push-clause-count
-returns-in_err-push-clause-count g c =
-    IfOk-from_err c.from_residual.result _ c.from_residual.ensures.0
-
-pub returns-in_err-push-clause-within : goal.returns-in_err-push-clause-within
-returns-in_err-push-clause-within g c =
-    IfOk-from_err c.from_residual.result _ c.from_residual.ensures.0
-
-pub returns-in_err-push-clause-parts : goal.returns-in_err-push-clause-parts
-returns-in_err-push-clause-parts g c =
-    IfOk-from_err c.from_residual.result _ c.from_residual.ensures.0
-
-pub returns-in_err-compile_formula-clause-hypotheses :
-    goal.returns-in_err-compile_formula-clause-hypotheses
-returns-in_err-compile_formula-clause-hypotheses g c =
+pub returns-in_err-compile_formula : goal.returns-in_err-compile_formula
+returns-in_err-compile_formula g c =
     IfOk-from_err c.from_residual-in_err-compile_formula.result _
     c.from_residual-in_err-compile_formula.ensures.0
 
-pub returns-in_err-compile_formula-clause-count : goal.returns-in_err-compile_formula-clause-count
-returns-in_err-compile_formula-clause-count g c =
-    IfOk-from_err c.from_residual-in_err-compile_formula.result _
-    c.from_residual-in_err-compile_formula.ensures.0
-
-pub returns-in_err-compile_formula-clause-within : goal.returns-in_err-compile_formula-clause-within
-returns-in_err-compile_formula-clause-within g c =
-    IfOk-from_err c.from_residual-in_err-compile_formula.result _
-    c.from_residual-in_err-compile_formula.ensures.0
-
-pub returns-in_err-compile_formula-clause-parts : goal.returns-in_err-compile_formula-clause-parts
-returns-in_err-compile_formula-clause-parts g c =
-    IfOk-from_err c.from_residual-in_err-compile_formula.result _
-    c.from_residual-in_err-compile_formula.ensures.0
-
-pub returns-in_err-push-2-clause-hypotheses : goal.returns-in_err-push-2-clause-hypotheses
-returns-in_err-push-2-clause-hypotheses g c =
-    IfOk-from_err c.from_residual-in_err-push-2.result _ c.from_residual-in_err-push-2.ensures.0
-
-pub returns-in_err-push-2-clause-count : goal.returns-in_err-push-2-clause-count
-returns-in_err-push-2-clause-count g c =
-    IfOk-from_err c.from_residual-in_err-push-2.result _ c.from_residual-in_err-push-2.ensures.0
-
-pub returns-in_err-push-2-clause-within : goal.returns-in_err-push-2-clause-within
-returns-in_err-push-2-clause-within g c =
-    IfOk-from_err c.from_residual-in_err-push-2.result _ c.from_residual-in_err-push-2.ensures.0
-
-pub returns-in_err-push-2-clause-parts : goal.returns-in_err-push-2-clause-parts
-returns-in_err-push-2-clause-parts g c =
+pub returns-in_err-push-2 : goal.returns-in_err-push-2
+returns-in_err-push-2 g c =
     IfOk-from_err c.from_residual-in_err-push-2.result _ c.from_residual-in_err-push-2.ensures.0

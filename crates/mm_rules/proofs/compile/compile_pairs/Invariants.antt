@@ -1,13 +1,6 @@
-use Rattle.std.proofs.Common.{◌≡◌, ℕ, take, map}
-use Rattle.mm_spec.specs.Frame.{formula_at}
-use Rattle.mm_rule.specs.Rule.{first}
+use Rattle.std.proofs.Common.{◌≡◌, take}
+use Rattle.mm_rules.specs.Rules.{numbered_pairs}
 use Rattle.mm_rules.proofs.compile.compile_pairs.Given as goal
 
 abbrev pub invariant-loop-p : goal.invariant-loop-p
-invariant-loop-p g l =
-    l.pairs.items
-    ≡ map (λ (p : ℕ × ℕ). (
-      first l._db.statements (map (formula_at l._db.statements) l._hyps) p.0,
-      first l._db.statements
-          (map (formula_at l._db.statements) l._hyps) p.1,
-    )) (take l.p-index l.from)
+invariant-loop-p g l = l.pairs.items ≡ numbered_pairs l.numbers (take l.p-index l.from)

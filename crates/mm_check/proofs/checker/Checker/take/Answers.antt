@@ -1,6 +1,6 @@
 use Rattle.std.proofs.Common.{true, false, refl, sym, ◌∙◌, subst}
 use Rattle.std.proofs.lemmas.Result.{IfOk-from_err}
-use Rattle.mm_steps.specs.Read.{step_of}
+use Rattle.mm_steps.specs.Read.{as_step}
 use Rattle.mm_check.specs.Checker.{CheckerState, IsAt, Performs}
 use Rattle.mm_check.proofs.RanLaw.{ready, stops_here, performs_next}
 use Rattle.mm_check.proofs.checker.Checker.take.Goals as goal
@@ -8,20 +8,20 @@ use Rattle.mm_check.proofs.checker.Checker.take.Goals as goal
 pub make-requires-clause-ready : goal.make-requires-clause-ready
 make-requires-clause-ready g c =
     ready c.args.db.now.statements c.args.theorem c.args.steps.now.steps c.args.i c.args.self.now
-    c.requires.performed c.requires.step (step_of c.step.result) c.step.ensures
+    c.requires.performed c.requires.step (as_step c.step.result) c.step.ensures
 
 pub returns-in-Err-clause-fault : goal.returns-in-Err-clause-fault
 returns-in-Err-clause-fault g c =
     rw c.refusal.ensures
     (stops_here c.args.db.now.statements c.args.theorem c.args.steps.now.steps c.args.i
-    c.args.self.now c.requires.performed c.requires.step (step_of c.step.result) c.step.ensures
+    c.args.self.now c.requires.performed c.requires.step (as_step c.step.result) c.step.ensures
     c.place.result c.in-Err.stopped c.place.ensures c.in-Err.ensures.stopped)
 
 pub returns-in_ok-mark-clause-performed : goal.returns-in_ok-mark-clause-performed
 returns-in_ok-mark-clause-performed g c =
     let db = c.args.db.now.statements in
     let t = c.args.theorem in
-    let a = step_of c.step.result in
+    let a = as_step c.step.result in
     performs_next db t c.args.steps.now.steps c.args.i c.args.self.now c.requires.performed
     c.requires.step a c.step.ensures _ c.mark.new.self true
     (sym c.is_marked.ensures ∙ c.if-is_marked.true)
@@ -33,7 +33,7 @@ returns-in_ok-mark-clause-performed g c =
 pub returns-else-is_marked-clause-performed : goal.returns-else-is_marked-clause-performed
 returns-else-is_marked-clause-performed g c =
     performs_next c.args.db.now.statements c.args.theorem c.args.steps.now.steps c.args.i
-    c.args.self.now c.requires.performed c.requires.step (step_of c.step.result) c.step.ensures
+    c.args.self.now c.requires.performed c.requires.step (as_step c.step.result) c.step.ensures
     c.make.new.self c.make.new.self.machine false (sym c.is_marked.ensures ∙ c.if-is_marked.false)
     c.in_default.ensures.performs c.make.ensures.at refl refl
 

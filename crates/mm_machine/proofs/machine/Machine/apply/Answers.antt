@@ -1,50 +1,127 @@
-use Rattle.std.proofs.Common.{arith, ◌≡◌, OnOk, IfErr, Ok, subst}
-use Rattle.std.proofs.lemmas.Grind.{common_steps}
+use Rattle.std.proofs.Common.{arith, ◌≡◌, length, OnOk, IfErr, Ok, Err, ap, ◌∙◌, subst}
+use Rattle.mm_spec.specs.Frame.{symbol_names}
 use Rattle.mm_machine.specs.Arena.{arena}
-use Rattle.mm_machine.specs.State.{texts, applied, State}
+use Rattle.mm_machine.specs.State.{MachineState, TestsRule, texts, applied, reason_of}
 use Rattle.mm_machine.specs.Stops.{Stops}
+use Rattle.mm_machine.proofs.PlacedLaw.{judged_here, step_made, step_entry, step_stopped}
+use Rattle.mm_machine.proofs.PlacedLaw.{parts_below, parts_known, entries_here}
+use Rattle.mm_machine.proofs.PlacedLaw.{stack_here, next_machine}
+use Rattle.mm_machine.proofs.machine.Machine.apply.Given.{Over}
+use Rattle.mm_machine.proofs.machine.Machine.apply.Goals.{In-Ok}
 use Rattle.mm_machine.proofs.machine.Machine.apply.Goals as goal
 
-pub returns-clause-made : goal.returns-clause-made
-returns-clause-made g c =
+-- the test of the rule, on the lists of the machine
+tested : (g : Over) (c : In-Ok g)
+    → TestsRule c.args.db.now.statements c.args.theorem c.args.rule.now
+    (arena c.self.inside.own c.self.inside.kept) c.self.inside.stack.items (Ok c.in-Ok.below)
+tested g c =
+    let i = c.self.inside in
+    judged_here c.args.db.now.statements c.args.theorem c.args.rule.now
+    i.own c.as_slice.result.now i.kept c.as_slice-2.result.now
+    i.stack.items c.deref.result.now (Ok c.in-Ok.below)
+    c.as_slice.ensures c.as_slice-2.ensures c.deref.ensures.value c.in-Ok.ensures.judged
+
+pub invariant_of-self : goal.invariant_of-self
+invariant_of-self g c =
+    let i = c.self.inside in
+    let k = c.args.db.now.statements in
+    let width : i.width ≡ length (symbol_names k) =
+    ap (λ s. s.width) c.self.view_is ∙ c.requires.width in
+    next_machine i.own i.kept i.stack.items i.marks.items i.marked.items i.width c.self.invariant
+    c.formula.result.now c.put_formula.new.own c.as_slice-in-Ok.result.now
+    c.put_formula.new.stack.items c.as_slice-in-Ok.ensures
+    (parts_known k c.args.theorem c.args.rule.now i.own i.kept c.as_slice-in-Ok.result.now
+    i.stack.items c.in-Ok.below c.formula.result.now c.as_slice-in-Ok.ensures c.formula.ensures
+    (tested g (goal.at.invariant_of-self g c).In-Ok) c.requires.rule i.width width)
+    c.put_formula.ensures.stack
+
+pub returns-in-Err-clause-stopped : goal.returns-in-Err-clause-stopped
+returns-in-Err-clause-stopped g c =
+    let i = c.self.inside in
+    let k = c.args.db.now.statements in
+    subst (λ (s : MachineState). applied k c.args.theorem c.args.rule.now.assertion s.stack
+    ≡ Err (reason_of c.in-Err.reason)) c.self.view_is
+    (judged_here k c.args.theorem c.args.rule.now i.own c.as_slice.result.now
+    i.kept c.as_slice-2.result.now i.stack.items c.deref.result.now (Err c.in-Err.reason)
+    c.as_slice.ensures c.as_slice-2.ensures c.deref.ensures.value c.in-Err.ensures.judged)
+
+pub returns-in-Ok-clause-made : goal.returns-in-Ok-clause-made
+returns-in-Ok-clause-made g c =
+    let i = c.self.inside in
     let k = c.args.db.now.statements in
     let a = c.args.rule.now.assertion in
-    let own = c.self.inside.own in
-    let es = c.self.inside.stack.items in
-    let done = c.put_judged in
-    subst (λ (s : State). OnOk done.result
+    let done = c.put_formula in
+    subst (λ (s : MachineState). OnOk done.result
     (applied k c.args.theorem a s.stack
-    ≡ Ok (texts (arena done.new.own c.self.inside.kept) done.new.stack.items)))
+    ≡ Ok (texts (arena done.new.own i.kept) done.new.stack.items)))
     c.self.view_is
-    (subst (λ z. OnOk done.result
-    (applied k c.args.theorem a (texts (arena own z) es)
-    ≡ Ok (texts (arena done.new.own z) done.new.stack.items))) c.as_slice.ensures
-    done.ensures.made)
+    (step_made k c.args.theorem c.args.rule.now i.own i.kept c.as_slice-in-Ok.result.now
+    i.stack.items c.in-Ok.below c.formula.result.now c.as_slice-in-Ok.ensures c.formula.ensures
+    (tested g (goal.at.returns-in-Ok-clause-made g c).In-Ok)
+    done.result done.new.own done.new.stack.items done.ensures.made)
 
-pub returns-clause-stopped : goal.returns-clause-stopped
-returns-clause-stopped g c =
+pub returns-in-Ok-clause-entry : goal.returns-in-Ok-clause-entry
+returns-in-Ok-clause-entry g c =
+    let i = c.self.inside in
+    let done = c.put_formula in
+    step_entry c.args.db.now.statements c.args.theorem c.args.rule.now i.own i.kept
+    c.as_slice-in-Ok.result.now i.stack.items c.in-Ok.below c.formula.result.now
+    c.as_slice-in-Ok.ensures c.formula.ensures
+    (tested g (goal.at.returns-in-Ok-clause-entry g c).In-Ok)
+    done.result done.new.own done.new.stack.items done.ensures.made
+
+pub returns-in-Ok-clause-stopped : goal.returns-in-Ok-clause-stopped
+returns-in-Ok-clause-stopped g c =
+    let i = c.self.inside in
     let k = c.args.db.now.statements in
     let a = c.args.rule.now.assertion in
-    let done = c.put_judged in
-    subst (λ (s : State). IfErr done.result (λ e. Stops e (applied k c.args.theorem a s.stack)))
-    c.self.view_is
-    (subst (λ z. IfErr done.result
-    (λ e. Stops e
-    (applied k c.args.theorem a
-    (texts (arena c.self.inside.own z) c.self.inside.stack.items)))) c.as_slice.ensures
-    done.ensures.stopped)
+    let done = c.put_formula in
+    subst (λ (s : MachineState). IfErr done.result
+    (λ e. Stops e (applied k c.args.theorem a s.stack))) c.self.view_is
+    (step_stopped k c.args.theorem c.args.rule.now i.own i.kept c.as_slice-in-Ok.result.now
+    i.stack.items c.in-Ok.below c.formula.result.now c.as_slice-in-Ok.ensures c.formula.ensures
+    (tested g (goal.at.returns-in-Ok-clause-stopped g c).In-Ok)
+    done.result done.new.own done.new.stack.items done.ensures.stopped)
 
-pub put_judged-requires-clause-theorem : goal.put_judged-requires-clause-theorem
-put_judged-requires-clause-theorem g c = c.requires.theorem
+pub test_rule-requires-clause-theorem : goal.test_rule-requires-clause-theorem
+test_rule-requires-clause-theorem g c = c.requires.theorem
 
-pub put_judged-requires-clause-rule : goal.put_judged-requires-clause-rule
-put_judged-requires-clause-rule g c = c.requires.rule
+pub test_rule-requires-clause-rule : goal.test_rule-requires-clause-rule
+test_rule-requires-clause-rule g c = c.requires.rule
 
-pub put_judged-requires-clause-cache : goal.put_judged-requires-clause-cache
-put_judged-requires-clause-cache g c = c.requires.cache
+pub test_rule-requires-clause-stack : goal.test_rule-requires-clause-stack
+test_rule-requires-clause-stack g c =
+    let i = c.self.inside in
+    entries_here i.own i.kept i.stack.items i.marks.items i.marked.items i.width c.self.invariant
+    (length (symbol_names c.args.db.now.statements)) c.as_slice.result.now
+    c.as_slice-2.result.now c.deref.result.now
+    (ap (λ s. s.width) c.self.view_is ∙ c.requires.width)
+    c.as_slice.ensures c.as_slice-2.ensures c.deref.ensures.value
 
-pub returns-clause-cache : goal.returns-clause-cache
-returns-clause-cache g c = c.put_judged.ensures.cache
+pub test_rule-requires-clause-cache : goal.test_rule-requires-clause-cache
+test_rule-requires-clause-cache g c = c.requires.cache
 
-pub returns-clause-entry : goal.returns-clause-entry
-returns-clause-entry g c = grind (arith, common_steps)
+pub put_formula-requires-clause-below : goal.put_formula-requires-clause-below
+put_formula-requires-clause-below g c =
+    let n = (tested g (goal.at.put_formula-requires-clause-below g c).In-Ok).0 in
+    omega (arith, n, c.self.inside.stack.ok.0)
+
+pub put_formula-requires-clause-formula : goal.put_formula-requires-clause-formula
+put_formula-requires-clause-formula g c =
+    let i = c.self.inside in
+    parts_below c.args.db.now.statements c.args.theorem c.args.rule.now i.own i.kept
+    c.as_slice-in-Ok.result.now i.stack.items c.in-Ok.below c.formula.result.now
+    c.as_slice-in-Ok.ensures c.formula.ensures
+    (tested g (goal.at.put_formula-requires-clause-formula g c).In-Ok) c.requires.rule
+
+pub put_formula-requires-clause-stack : goal.put_formula-requires-clause-stack
+put_formula-requires-clause-stack g c =
+    let i = c.self.inside in
+    stack_here i.own i.kept i.stack.items i.marks.items i.marked.items i.width c.self.invariant
+    c.as_slice-in-Ok.result.now c.as_slice-in-Ok.ensures
+
+pub returns-in-Err-clause-cache : goal.returns-in-Err-clause-cache
+returns-in-Err-clause-cache g c = c.test_rule.ensures.cache
+
+pub returns-in-Ok-clause-cache : goal.returns-in-Ok-clause-cache
+returns-in-Ok-clause-cache g c = c.test_rule.ensures.cache

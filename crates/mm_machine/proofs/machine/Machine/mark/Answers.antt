@@ -3,7 +3,7 @@ use Rattle.std.proofs.lemmas.Result.{IfOk-from_err}
 use Rattle.std.proofs.lemmas.Grind.{common_steps}
 use Rattle.mm_spec.specs.Laws.Stack.{top}
 use Rattle.mm_machine.specs.Arena.{arena}
-use Rattle.mm_machine.specs.State.{state, texts}
+use Rattle.mm_machine.specs.State.{machine_state, texts}
 use Rattle.mm_machine.proofs.KeepLaw.{moved_machine, marked_more, both_more, marked_texts}
 use Rattle.mm_machine.proofs.machine.Machine.mark.Goals as goal
 
@@ -59,17 +59,17 @@ returns-clause-ok g c =
     ∙ marked_texts i.own i.kept new.own new.kept i.marked.items
     c.in_ok-made.made
     (top old) c.keep.ensures.moved c.self.invariant.marked_in c.in_ok-made.ensures.made.1 in
-    ap (λ z. state z c.push-2.new.self.items
+    ap (λ z. machine_state z c.push-2.new.self.items
     (texts (arena [] new.kept) c.push.new.self.items) i.width) c.keep.ensures.texts
-    ∙ ap₂ (λ m f. state old m f i.width) c.in_ok-push-2.ensures.items kept
-    ∙ ap (λ s. state s.stack (s.marks ++ c.args.step ∷ [])
+    ∙ ap₂ (λ m f. machine_state old m f i.width) c.in_ok-push-2.ensures.items kept
+    ∙ ap (λ s. machine_state s.stack (s.marks ++ c.args.step ∷ [])
     (s.formulas ++ top s.stack ∷ []) s.width) c.self.view_is
 
 pub keep-requires-clause-entry : goal.keep-requires-clause-entry
 keep-requires-clause-entry g c = grind (arith, common_steps)
 
 pub keep-requires-clause-stack : goal.keep-requires-clause-stack
-keep-requires-clause-stack g c = c.self.invariant.is_stack
+keep-requires-clause-stack g c = c.self.invariant.stack.is_stack
 
 pub returns-in_err-made-clause-ok : goal.returns-in_err-made-clause-ok
 returns-in_err-made-clause-ok g c = IfOk-from_err c.from_residual.result _ c.from_residual.ensures.0

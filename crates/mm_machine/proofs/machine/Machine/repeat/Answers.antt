@@ -18,12 +18,14 @@ invariant_of-self-2 g c =
     (IsKept c.self.inside.kept) c.self.inside.marked.items c.find-n.result e inside
     i.marked_in) in
     record {
-      known_own = i.known_own;
-      known_kept = i.known_kept;
-      is_stack =
-          rw c.in_ok-push.ensures.items
-          (repeat_stack c.self.inside.own c.self.inside.kept c.self.inside.stack.items
-          i.is_stack e kept);
+      stack =
+          record {
+            known = i.stack.known;
+            is_stack =
+                rw c.in_ok-push.ensures.items
+                (repeat_stack c.self.inside.own c.self.inside.kept c.self.inside.stack.items
+                i.stack.is_stack e kept);
+          };
       marked_in = i.marked_in;
       rising = i.rising;
       count = i.count;

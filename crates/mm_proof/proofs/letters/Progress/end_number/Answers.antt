@@ -1,5 +1,5 @@
-use Rattle.std.proofs.Common.{◌∙◌, ◌*◌, ◌+◌, ap}
-use Rattle.mm_proof.specs.Number.{told}
+use Rattle.std.proofs.Common.{◌∙◌, ◌*◌, ◌+◌, ap, refl}
+use Rattle.mm_proof.specs.Number.{saturated}
 use Rattle.mm_proof.specs.Letters.{begun_at}
 use Rattle.mm_proof.proofs.LettersLaw.{last_reads, err_same, stands_step}
 use Rattle.std.proofs.lemmas.Result.{IfOk-from_err}
@@ -10,30 +10,21 @@ pub returns-clause-reads : goal.returns-clause-reads
 returns-clause-reads g c = λ byte k.
     let s = c.args.self.now in
     rw (c.in_ok-add_step.ensures, c.begun_by-begun.ensures.at)
-    (last_reads s.theorem s.labels s.marks c.args.number s.steps c.args.at byte _ k.0 k.1
-    (λ n e. c.in-Some.ensures.step n
-    (c.begun_by-begun.ensures.value
-    ∙ ap (λ d. told (20 * (begun_at c.args.number c.args.at).value + d)) k.2 ∙ e)))
-
-pub returns-in_default-clause-labels : goal.returns-in_default-clause-labels
-returns-in_default-clause-labels g c = tt
-
-pub returns-in_default-clause-theorem : goal.returns-in_default-clause-theorem
-returns-in_default-clause-theorem g c = tt
+    (record {
+      theorem = refl;
+      labels = refl;
+      continues =
+          last_reads s.theorem s.labels s.marks c.args.number s.steps c.args.at byte _ k.0 k.1
+          (λ n e. c.in-Some.ensures.step n
+          (c.begun_by-begun.ensures.value
+          ∙ ap (λ d. saturated (20 * (begun_at c.args.number c.args.at).value + d)) k.2 ∙ e));
+    })
 
 pub returns-in_default-clause-stands : goal.returns-in_default-clause-stands
 returns-in_default-clause-stands g c = tt
 
 pub returns-in_default-clause-reads : goal.returns-in_default-clause-reads
 returns-in_default-clause-reads g c = tt
-
-pub returns-in_err-add_step-clause-labels : goal.returns-in_err-add_step-clause-labels
-returns-in_err-add_step-clause-labels g c =
-    IfOk-from_err c.from_residual.result _ c.from_residual.ensures.0
-
-pub returns-in_err-add_step-clause-theorem : goal.returns-in_err-add_step-clause-theorem
-returns-in_err-add_step-clause-theorem g c =
-    IfOk-from_err c.from_residual.result _ c.from_residual.ensures.0
 
 pub returns-in_err-add_step-clause-stands : goal.returns-in_err-add_step-clause-stands
 returns-in_err-add_step-clause-stands g c =
@@ -43,18 +34,12 @@ pub returns-in_err-add_step-clause-reads : goal.returns-in_err-add_step-clause-r
 returns-in_err-add_step-clause-reads g c =
     IfOk-from_err c.from_residual.result _ c.from_residual.ensures.0
 
-pub returns-in_err-add_step-clause-stops : goal.returns-in_err-add_step-clause-stops
-returns-in_err-add_step-clause-stops g c =
+pub returns-in_err-add_step-clause-refuses : goal.returns-in_err-add_step-clause-refuses
+returns-in_err-add_step-clause-refuses g c =
     err_same c.from_residual.result Memory _ c.from_residual.ensures.1 (λ byte k all left h. tt)
 
-pub returns-clause-stops : goal.returns-clause-stops
-returns-clause-stops g c = tt
-
-pub returns-clause-labels : goal.returns-clause-labels
-returns-clause-labels g c = ap (λ s. s.labels) c.in_ok-add_step.ensures
-
-pub returns-clause-theorem : goal.returns-clause-theorem
-returns-clause-theorem g c = ap (λ s. s.theorem) c.in_ok-add_step.ensures
+pub returns-clause-refuses : goal.returns-clause-refuses
+returns-clause-refuses g c = tt
 
 pub returns-clause-stands : goal.returns-clause-stands
 returns-clause-stands g c =

@@ -1,28 +1,15 @@
-use Rattle.std.proofs.Common.{ap}
+use Rattle.std.proofs.Common.{ap, sym, ◌∙◌, ◌==◌, refl}
+use Rattle.std.proofs.lemmas.Bool.{ne_eqb}
 use Rattle.std.proofs.lemmas.Result.{IfOk-from_err}
-use Rattle.mm_proof.proofs.LettersLaw.{err_same}
+use Rattle.mm_proof.proofs.LettersLaw.{err_same, mark_reads}
 use Rattle.mm_proof.specs.declared.refused.ProofRefused.TheVariants.{Memory}
 use Rattle.mm_proof.proofs.letters.Progress.mark.Goals as goal
-
-pub returns-then-len-eq0-clause-labels : goal.returns-then-len-eq0-clause-labels
-returns-then-len-eq0-clause-labels g c = tt
-
-pub returns-then-len-eq0-clause-theorem : goal.returns-then-len-eq0-clause-theorem
-returns-then-len-eq0-clause-theorem g c = tt
 
 pub returns-then-len-eq0-clause-stands : goal.returns-then-len-eq0-clause-stands
 returns-then-len-eq0-clause-stands g c = tt
 
 pub returns-then-len-eq0-clause-reads : goal.returns-then-len-eq0-clause-reads
 returns-then-len-eq0-clause-reads g c = tt
-
-pub returns-in_err-push-clause-labels : goal.returns-in_err-push-clause-labels
-returns-in_err-push-clause-labels g c =
-    IfOk-from_err c.from_residual.result _ c.from_residual.ensures.0
-
-pub returns-in_err-push-clause-theorem : goal.returns-in_err-push-clause-theorem
-returns-in_err-push-clause-theorem g c =
-    IfOk-from_err c.from_residual.result _ c.from_residual.ensures.0
 
 pub returns-in_err-push-clause-stands : goal.returns-in_err-push-clause-stands
 returns-in_err-push-clause-stands g c =
@@ -32,15 +19,21 @@ pub returns-in_err-push-clause-reads : goal.returns-in_err-push-clause-reads
 returns-in_err-push-clause-reads g c =
     IfOk-from_err c.from_residual.result _ c.from_residual.ensures.0
 
-pub returns-in_err-push-clause-stops : goal.returns-in_err-push-clause-stops
-returns-in_err-push-clause-stops g c =
+pub returns-in_err-push-clause-refuses : goal.returns-in_err-push-clause-refuses
+returns-in_err-push-clause-refuses g c =
     err_same c.from_residual.result Memory _ c.from_residual.ensures.1 (λ all left h. tt)
 
-pub returns-clause-stops : goal.returns-clause-stops
-returns-clause-stops g c = tt
+pub returns-clause-refuses : goal.returns-clause-refuses
+returns-clause-refuses g c = tt
 
-pub returns-clause-labels : goal.returns-clause-labels
-returns-clause-labels g c = ap (λ s. s.labels) c.self.view_is
-
-pub returns-clause-theorem : goal.returns-clause-theorem
-returns-clause-theorem g c = ap (λ s. s.theorem) c.self.view_is
+pub returns-clause-reads : goal.returns-clause-reads
+returns-clause-reads g c =
+    let i = c.self.inside in
+    rw (← c.self.view_is, c.in_ok-push.ensures.items, c.len-2.ensures)
+    (record {
+      theorem = refl;
+      labels = refl;
+      continues =
+          mark_reads i.steps.theorem i.labels.items i.marks.items i.steps.steps c.args.at
+          (ap (λ n. n == 0) (sym c.len.ensures) ∙ ne_eqb c.len.result 0 c.if-len-eq0.false);
+    })

@@ -1,5 +1,6 @@
 use Rattle.std.proofs.Common.{◌≡◌, ◌∙◌, ◌+◌, [], ap, sym, subst, length, drop, is_some, true, false}
-use Rattle.std.proofs.Common.{arith}
+use Rattle.std.proofs.Common.{arith, get_or}
+use Rattle.mm_spec.specs.declared.Word.{Word}
 use Rattle.mm_spec.specs.CompressedProof.{letters_of, letter_faults, groups, group_faults}
 use Rattle.mm_spec.specs.CompressedProof.{group_steps}
 use Rattle.mm_outline.specs.Parts.{as_tokens}
@@ -10,7 +11,7 @@ use Rattle.mm_proof.specs.declared.refused.ProofRefused.TheVariants.{Fault as Fa
 use Rattle.mm_proof.specs.Refused.{StartsWith}
 use Rattle.std.proofs.lemmas.List.{drop_more}
 use Rattle.mm_proof.proofs.LettersLaw.{err_same, whole, fault_first, open_fault, no_fault, all_read}
-use Rattle.mm_proof.proofs.LettersLaw.{all_steps, some_letters}
+use Rattle.mm_proof.proofs.LettersLaw.{all_steps, some_letters, StandsBefore, stands_after}
 use Rattle.std.proofs.lemmas.Result.{IfOk-from_err}
 use Rattle.mm_proof.proofs.letters.Progress.read_all.Goals as goal
 
@@ -34,7 +35,7 @@ returns-in_err-begun-clause-fault g c =
     (fault_first (length c.args.self.now.labels) c.args.end all e
     (subst (λ ls. StartsWith (group_faults (length ls) 0 0 (groups [] all).0) e)
     c.loop-word.invariant.labels
-    (c.in_err-begun.ensures.stops all
+    (c.in_err-begun.ensures.refuses all
     (letters_of (as_tokens c.args.text.now (drop (i + 1) words))) here)))
 
 pub returns-then-is_some-clause-fault : goal.returns-then-is_some-clause-fault
@@ -136,3 +137,26 @@ read_word-requires-clause-order g c =
 pub read_word-requires-clause-within : goal.read_word-requires-clause-within
 read_word-requires-clause-within g c =
     (c.requires.within c.loop-word.word-index _ c.loop-word-test.true).1
+
+pub loop-word-preserved : goal.loop-word-preserved
+loop-word-preserved g c =
+    let text = c.args.text.now in
+    let words = c.args.words.now in
+    let i = c.loop-word.word-index in
+    let none : Word = record { start = 0; end = 0 } in
+    let next = drop_more words i none c.loop-word-test.true in
+    let within = c.requires.within i none c.loop-word-test.true in
+    let done = c.in_ok-begun.ensures in
+    record {
+      theorem = done.reads.theorem ∙ c.loop-word.invariant.theorem;
+      labels = done.reads.labels ∙ c.loop-word.invariant.labels;
+      stands =
+          stands_after c.loop-word.self _ text (get_or words i none) (drop (i + 1) words)
+          c.args.end within.0 within.1
+          (subst (λ vs. StandsBefore c.loop-word.self (as_tokens text vs) c.args.end) next
+          c.loop-word.invariant.stands) done.stands;
+      reads =
+          λ all h. done.reads.continues all (letters_of (as_tokens text (drop (i + 1) words)))
+          (subst (λ vs. Continues (with_number c.loop-word.self c.loop-word.begun) all
+          (letters_of (as_tokens text vs))) next (c.loop-word.invariant.reads all h));
+    }

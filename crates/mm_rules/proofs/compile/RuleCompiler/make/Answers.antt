@@ -1,13 +1,12 @@
 use Rattle.std.proofs.Common.{refl, arith, ◌++◌, map, sym, ap, ◌∙◌, subst}
 use Rattle.std.specs.List.{AllByRecursion}
 use Rattle.std.proofs.lemmas.Result.{IfOk-from_err, on_ok_weaker}
-use Rattle.mm_spec.specs.Derivation.{Pair}
-use Rattle.mm_spec.specs.Frame.{formula_at, mandatory_pairs, mandatory_hypotheses}
+use Rattle.mm_spec.specs.Frame.{formula_at, mandatory_hypotheses}
 use Rattle.mm_spec.specs.Citation.{context_at, is_assertion}
-use Rattle.mm_spec.specs.Laws.Complete.{IsBound, AreBound}
+use Rattle.mm_spec.specs.Laws.Complete.{AreBound}
 use Rattle.mm_outline.proofs.StatementsLaw.{is_there}
-use Rattle.mm_rule.specs.Rule.{parts_of}
-use Rattle.mm_rules.proofs.RuleLaw.{covered, covered_all, pairs_covered, made_rule, numbered}
+use Rattle.mm_rules.specs.Rules.{AreFirstNumbers, numbered_parts}
+use Rattle.mm_rules.proofs.RuleLaw.{covered, covered_all, made_rule, numbered, numbered_same}
 use Rattle.mm_rules.proofs.compile.RuleCompiler.make.Goals as goal
 
 pub compile_hypotheses-requires-clause-bound : goal.compile_hypotheses-requires-clause-bound
@@ -17,20 +16,6 @@ compile_hypotheses-requires-clause-bound g c =
     (subst (λ h. AllByRecursion (AreBound (context_at k 0) (map (formula_at k) h))
     (map (formula_at k) h)) (sym c.hyps-hyps.ensures.are) c.requires.complete.hypotheses)
 
-pub compile_pairs-requires-clause-bound : goal.compile_pairs-requires-clause-bound
-compile_pairs-requires-clause-bound g c =
-    let k = c.args.db.now.statements in
-    let bound =
-    subst (λ h. AllByRecursion
-    (λ (p : Pair). IsBound (context_at k 0) (map (formula_at k) h) p.low
-    × IsBound (context_at k 0) (map (formula_at k) h) p.high) (mandatory_pairs k c.args.k))
-    (sym c.hyps-hyps.ensures.are) c.requires.complete.pairs in
-    pairs_covered k (map (formula_at k) c.hyps-hyps.result.now) c.pairs.result.now
-    (subst (AllByRecursion
-    (λ (p : Pair). IsBound (context_at k 0) (map (formula_at k) c.hyps-hyps.result.now) p.low
-    × IsBound (context_at k 0) (map (formula_at k) c.hyps-hyps.result.now) p.high))
-    (sym c.pairs.ensures.are) bound)
-
 pub formula-requires : goal.formula-requires
 formula-requires g c = is_there is_assertion c.args.db.now.statements c.args.k c.requires.assertion
 
@@ -39,16 +24,31 @@ returns-clause-made g c =
     let k = c.args.db.now.statements in
     let hyps = c.hyps-hyps.result.now in
     let f = c.formula.result.now in
-    let hypotheses = c.in_ok-compile_hypotheses.ensures in
+    let numbers = c.deref-2.result.now in
+    let placed : AreFirstNumbers k (map (formula_at k) hyps) numbers =
+    numbered k (map (formula_at k) hyps) c.number_variables.new.numbers
+    c.self.inside.numbers.items c.self.inside.numbers.len numbers
+    c.deref-2.ensures.value (omega arith) c.number_variables.ensures in
+    let hs = map (formula_at k) hyps in
+    let bound =
+    covered k hs f
+    (subst (λ h. AreBound (context_at k 0) (map (formula_at k) h) f) (sym c.hyps-hyps.ensures.are)
+    (subst (AreBound (context_at k 0) (map (formula_at k) (mandatory_hypotheses k c.args.k)))
+    (sym c.formula.ensures.formula) c.requires.complete.formula)) in
+    let last = c.deref-3.result.now in
+    let same =
+    numbered_same k hs last
+    (numbered k hs c.number_variables.new.numbers
+    c.self.inside.numbers.items c.self.inside.numbers.len last
+    c.deref-3.ensures.value (omega arith) c.number_variables.ensures) f bound in
     on_ok_weaker c.compile_formula.result
     (λ made. made_rule k c.args.k c.requires.assertion c.requires.complete hyps c.pairs.result.now f
-    c.compile_hypotheses.new.hypotheses.items c.compile_pairs.new.pairs.items
+    numbers c.compile_hypotheses.new.hypotheses.items c.compile_pairs.new.pairs.items
     c.compile_hypotheses.new.parts.items c.compile_formula.new.parts.items
     c.hyps-hyps.ensures.are c.pairs.ensures.are c.formula.ensures.formula
-    c.formula.ensures.known hypotheses.hypotheses hypotheses.count hypotheses.within
-    hypotheses.parts
+    c.formula.ensures.known c.in_ok-compile_hypotheses.ensures placed
     c.in_ok-compile_pairs.ensures
-    (made ∙ ap (λ z. z ++ parts_of k (map (formula_at k) hyps) f) c.empty-4.ensures))
+    (made ∙ ap (λ z. z ++ numbered_parts k last f) c.empty.ensures ∙ same))
     c.compile_formula.ensures
 
 pub returns-clause-assertion : goal.returns-clause-assertion
@@ -67,29 +67,6 @@ compile_hypotheses-requires-clause-placed g c =
 
 pub pairs-requires : goal.pairs-requires
 pairs-requires g c = c.requires.assertion
-
-pub compile_pairs-requires-clause-placed : goal.compile_pairs-requires-clause-placed
-compile_pairs-requires-clause-placed g c =
-    let k = c.args.db.now.statements in
-    numbered k (map (formula_at k) c.hyps-hyps.result.now) c.number_variables.new.numbers
-    c.self.inside.numbers.items c.self.inside.numbers.len c.deref-2.result.now
-    c.deref-2.ensures.value (omega arith) c.number_variables.ensures
-
-pub compile_formula-requires-clause-placed : goal.compile_formula-requires-clause-placed
-compile_formula-requires-clause-placed g c =
-    let k = c.args.db.now.statements in
-    numbered k (map (formula_at k) c.hyps-hyps.result.now) c.number_variables.new.numbers
-    c.self.inside.numbers.items c.self.inside.numbers.len c.deref-3.result.now
-    c.deref-3.ensures.value (omega arith) c.number_variables.ensures
-
-pub compile_formula-requires-clause-bound : goal.compile_formula-requires-clause-bound
-compile_formula-requires-clause-bound g c =
-    let k = c.args.db.now.statements in
-    let f = c.formula.result.now in
-    covered k (map (formula_at k) c.hyps-hyps.result.now) f
-    (subst (λ h. AreBound (context_at k 0) (map (formula_at k) h) f) (sym c.hyps-hyps.ensures.are)
-    (subst (AreBound (context_at k 0) (map (formula_at k) (mandatory_hypotheses k c.args.k)))
-    (sym c.formula.ensures.formula) c.requires.complete.formula))
 
 pub returns-in_err-compile_hypotheses-clause-assertion :
     goal.returns-in_err-compile_hypotheses-clause-assertion

@@ -4,7 +4,7 @@ use Rattle.std.proofs.lemmas.List.{get_or_default, length-map}
 use Rattle.mm_spec.specs.Steps.{placed}
 use Rattle.mm_steps.specs.declared.placed.Placed.{Placed}
 use Rattle.mm_steps.specs.declared.placed.Kind.TheVariants.{Marked}
-use Rattle.mm_steps.specs.Read.{read, step_of, IsEarlier}
+use Rattle.mm_steps.specs.Read.{read, as_step, IsEarlier}
 use Rattle.mm_steps.specs.Flags.{told, told_one, nothing}
 use Rattle.mm_steps.proofs.FlagsLaw.{flag_more, told_set, told_more}
 use Rattle.mm_steps.proofs.placed.Steps.push.Goals as goal
@@ -18,7 +18,7 @@ invariant_of-self-in-Marked g c =
     let p : Placed = record { at = c.args.at; number = j; kind = Marked; is_marked = false } in
     let more : qs ≡ ps ++ p ∷ [] = c.in_ok-push-in-Marked.ensures.items in
     let early : j < length c.args.self.now.steps =
-    subst (λ s. IsEarlier (step_of s) (length c.args.self.now.steps)) c.in-Marked.is c.requires in
+    subst (λ s. IsEarlier (as_step s) (length c.args.self.now.steps)) c.in-Marked.is c.requires in
     let long : length c.args.self.now.steps ≡ length ps =
     ap (λ r. length r.steps) (sym c.self.view_is) ∙ length-map ps told_one in
     let inside : j < length qs =
@@ -37,7 +37,7 @@ returns-in_ok-push-in-Marked-clause-ok g c =
     let p : Placed = record { at = c.args.at; number = j; kind = Marked; is_marked = false } in
     let more : qs ≡ ps ++ p ∷ [] = c.in_ok-push-in-Marked.ensures.items in
     let early : j < length c.args.self.now.steps =
-    subst (λ s. IsEarlier (step_of s) (length c.args.self.now.steps)) c.in-Marked.is c.requires in
+    subst (λ s. IsEarlier (as_step s) (length c.args.self.now.steps)) c.in-Marked.is c.requires in
     let long : length c.args.self.now.steps ≡ length ps =
     ap (λ r. length r.steps) (sym c.self.view_is) ∙ length-map ps told_one in
     let inside : j < length qs =
@@ -46,6 +46,6 @@ returns-in_ok-push-in-Marked-clause-ok g c =
     c.index_mut.ensures.value ∙ sym (get_or_default qs j nothing now inside) in
     ap (read c.self.inside.theorem)
     (told_set qs j _ (ap told_one there) ∙ ap told more ∙ told_more ps p
-    ∙ ap (λ s. told ps ++ placed c.args.at (step_of s) ∷ []) (sym c.in-Marked.is))
-    ∙ ap (λ r. read r.theorem (r.steps ++ placed c.args.at (step_of c.args.step) ∷ []))
+    ∙ ap (λ s. told ps ++ placed c.args.at (as_step s) ∷ []) (sym c.in-Marked.is))
+    ∙ ap (λ r. read r.theorem (r.steps ++ placed c.args.at (as_step c.args.step) ∷ []))
     c.self.view_is

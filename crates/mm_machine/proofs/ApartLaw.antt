@@ -1,0 +1,32 @@
+-- The pairs that are kept are disjoint, in whichever order their symbols come.
+use Rattle.std.proofs.Common.{◌≡◌, ℕ, ◌⊎◌, inl, inr, true, List, sym, subst}
+use Rattle.std.proofs.lemmas.List.Elements.{All-push}
+use Rattle.mm_spec.specs.Statement.{Statement}
+use Rattle.mm_spec.specs.Derivation.{are_disjoint}
+use Rattle.mm_spec.specs.Citation.{context_at}
+use Rattle.mm_rule.proofs.DisjointLaw.{either_order}
+use Rattle.mm_machine.specs.Arena.{AreDisjointAt, HasPair, KeepsPair}
+
+module _ (k : List Statement) (t : ℕ) (ps : List (ℕ × ℕ)) (h : AreDisjointAt k t ps) where
+  abbrev Disjoint : ℕ → ℕ → Type 0
+  Disjoint a b = are_disjoint (context_at k t) a b ≡ true
+
+  has_disjoint : (a b : ℕ) → HasPair ps a b → Disjoint a b
+  has_disjoint a b p =
+      subst (λ x. Disjoint x b) p.2 (subst (Disjoint _) p.3 (h p.0 (a, b) p.1))
+
+  pub either_disjoint : (a b : ℕ) → HasPair ps a b ⊎ HasPair ps b a → Disjoint a b
+  either_disjoint a b (inl p) = has_disjoint a b p
+  either_disjoint a b (inr p) = either_order k t b a (has_disjoint b a p)
+
+  pub kept_apart : (a b : ℕ) (qs : List (ℕ × ℕ)) → Disjoint a b → KeepsPair ps a b qs
+      → AreDisjointAt k t qs
+  kept_apart a b qs d (inl e) = subst (AreDisjointAt k t) (sym e) h
+  kept_apart a b qs d (inr e) =
+      subst (AreDisjointAt k t) (sym e)
+      (All-push (λ (p : ℕ × ℕ). are_disjoint (context_at k t) p.0 p.1 ≡ true) ps (a, b) h d)
+
+  pub either_kept : (a b : ℕ) (qs : List (ℕ × ℕ)) → Disjoint a b
+      → KeepsPair ps a b qs ⊎ KeepsPair ps b a qs → AreDisjointAt k t qs
+  either_kept a b qs d (inl e) = kept_apart a b qs d e
+  either_kept a b qs d (inr e) = kept_apart b a qs (either_order k t a b d) e
