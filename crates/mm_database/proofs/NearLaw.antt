@@ -11,6 +11,7 @@ use Rattle.mm_spec.specs.Derivation.{is_member}
 use Rattle.mm_spec.specs.Frame.{formula_at, is_disjoint_statement, active_of}
 use Rattle.mm_outline.specs.declared.parts.Kind.TheVariants as kind
 use Rattle.mm_database.specs.Database.{kind_of}
+use Rattle.mm_database.specs.Together.{are_together_at}
 use Rattle.mm_spec.proofs.MemberLaw.{member_filter, member_range, any_of}
 
 is_disjoint_kind : (s : Statement) → kind_of s ≡ kind.Disjoint → is_disjoint_statement s ≡ true
@@ -37,9 +38,7 @@ is_disjoint_at db j e = by (slice_get db j) e
 pub near_is : (db : List Statement) (j k x y : ℕ)
     → option_map kind_of (slice_get db j) ≡ Some kind.Disjoint → is_active db j k ≡ true
     → is_member (formula_at db j) x ≡ true → is_member (formula_at db j) y ≡ true
-    → list_any (λ i. is_member (formula_at db i) x && is_member (formula_at db i) y)
-    (active_of is_disjoint_statement db k)
-    ≡ true
+    → are_together_at db k x y ≡ true
 near_is db j k x y d a ex ey =
     any_of (λ i. is_member (formula_at db i) x && is_member (formula_at db i) y)
     (active_of is_disjoint_statement db k) j

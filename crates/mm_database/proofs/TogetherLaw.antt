@@ -12,6 +12,7 @@ use Rattle.mm_spec.proofs.MemberLaw.{active_member, disjoint_local, any_witness,
 use Rattle.mm_outline.specs.Blocks.{BlockLists, IsBlocks, end_of}
 use Rattle.mm_database.specs.DisjointIndex.{has_symbol, is_live}
 use Rattle.mm_database.specs.Pairs.{has_pair}
+use Rattle.mm_database.specs.Together.{are_together_at}
 
 module _ (db : List Statement) (b : BlockLists) (blocks : IsBlocks db b) (k : ℕ)
     (h : k ≤ length db) where
@@ -19,11 +20,14 @@ module _ (db : List Statement) (b : BlockLists) (blocks : IsBlocks db b) (k : �
       → is_live b j k ≡ is_member (active_of is_disjoint_statement db k) j
   live_is j t = by (cases_lt j k) ∙ sym (active_member is_disjoint_statement db disjoint_local k j)
     where
-      by : (j < k) ⊎ (k ≤ j) → is_live b j k ≡ (nat_lt j k && (list_any is_disjoint_statement (statement_at db j) && stays db j k))
+      by : (j < k) ⊎ (k ≤ j)
+          → is_live b j k
+          ≡ (nat_lt j k && (list_any is_disjoint_statement (statement_at db j) && stays db j k))
       by (inl l) = ap (λ c. nat_lt j k && c) (sym (ap₂ (λ p q. p && q) t (blocks.ended j k l h)))
       by (inr g) =
           ap (λ c. c && nat_le k (end_of b j)) (le-ltb j k g)
-          ∙ sym (ap (λ c. c && (list_any is_disjoint_statement (statement_at db j) && stays db j k)) (le-ltb j k g))
+          ∙ sym (ap (λ c. c
+          && (list_any is_disjoint_statement (statement_at db j) && stays db j k)) (le-ltb j k g))
 
   pub kind_of_active : (j : ℕ) → is_member (active_of is_disjoint_statement db k) j ≡ true
       → list_any is_disjoint_statement (statement_at db j) ≡ true
@@ -39,17 +43,11 @@ module _ (db : List Statement) (b : BlockLists) (blocks : IsBlocks db b) (k : �
         → (j : ℕ) × (has_pair ps x j ≡ true) × (has_pair ps y j ≡ true) × (is_live b j k ≡ true))
         → (r ≡ false → (j : ℕ) → has_pair ps x j ≡ true → has_pair ps y j ≡ true
         → is_live b j k ≡ false)
-        → r ≡ list_any (λ j. is_member (formula_at db j) x && is_member (formula_at db j) y)
-        (active_of is_disjoint_statement db k)
+        → r ≡ are_together_at db k x y
     together_is r x y found none =
-        same_tests r
-        (list_any (λ j. is_member (formula_at db j) x && is_member (formula_at db j) y)
-        (active_of is_disjoint_statement db k)) forth (λ e. back r refl e)
+        same_tests r (are_together_at db k x y) forth (λ e. back r refl e)
       where
-        forth : r ≡ true
-            → list_any (λ j. is_member (formula_at db j) x && is_member (formula_at db j) y)
-            (active_of is_disjoint_statement db k)
-            ≡ true
+        forth : r ≡ true → are_together_at db k x y ≡ true
         forth e =
             let w = found e in
             let j = w.0 in
@@ -66,11 +64,7 @@ module _ (db : List Statement) (b : BlockLists) (blocks : IsBlocks db b) (k : �
             (and_parts (list_any is_disjoint_statement (statement_at db j))
             (is_member (formula_at db j) y) ey).1)
 
-        back : (c : Bool) → r ≡ c
-            → list_any (λ j. is_member (formula_at db j) x && is_member (formula_at db j) y)
-            (active_of is_disjoint_statement db k)
-            ≡ true
-            → r ≡ true
+        back : (c : Bool) → r ≡ c → are_together_at db k x y ≡ true → r ≡ true
         back true e t = e
         back false e t =
             let w =

@@ -6,6 +6,7 @@ pub mod Names
 pub mod Labels
 pub mod Pairs
 pub mod Starts
+pub mod Together
 pub mod DisjointIndex
 pub mod Frames
 pub mod Kept

@@ -1,9 +1,8 @@
 //! The `$d` shortly before a statement, which answer most calls of `disjoint_at`.
 
-ghost use Rattle.std.specs.Prelude.{◌≡◌, ◌≤◌, ◌&&◌, length, true};
-ghost use Rattle.std.specs.List.{list_any};
+ghost use Rattle.std.specs.Prelude.{◌≡◌, ◌≤◌, length, true};
 ghost use Rattle.mm_spec.specs.Derivation.{is_member};
-ghost use Rattle.mm_spec.specs.Frame.{formula_at, is_disjoint_statement, active_of};
+ghost use Rattle.mm_database.specs.Together.{are_together_at};
 
 use crate::database::Database;
 use mm_outline::parts::Kind;
@@ -38,12 +37,7 @@ pub(crate) fn are_together_near<A: Allocator>(
     y: Sym,
 ) -> bool
     requires { statement ≤ length database.now.statements }
-    ensures { result ≡ true
-        → list_any
-        (λ j. is_member (formula_at database.now.statements j) x
-        && is_member (formula_at database.now.statements j) y)
-        (active_of is_disjoint_statement database.now.statements statement)
-        ≡ true }
+    ensures { result ≡ true → are_together_at database.now.statements statement x y ≡ true }
 {
     let last = statement.saturating_sub(MAX_STATEMENTS);
     let mut left = statement;

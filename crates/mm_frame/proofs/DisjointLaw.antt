@@ -20,6 +20,7 @@ use Rattle.mm_database.specs.DisjointIndex.{has_symbol, is_live}
 use Rattle.mm_database.specs.Pairs.{has_pair, IsBefore, AreRising}
 use Rattle.mm_database.proofs.TogetherLaw.{live_is, kind_of_active}
 use Rattle.mm_database.proofs.DisjointIndexLaw.{has_at, at_has, rising_at}
+use Rattle.mm_frame.specs.Together.{has_later}
 use Rattle.mm_frame.proofs.HypothesesLaw.{mandatory_named}
 use Rattle.mm_frame.proofs.PairsLaw.{has_map, sorted_map, unique, has_filter, has_rows}
 use Rattle.mm_frame.proofs.PairsLaw.{sorted_filter, sorted_pairs}
@@ -133,8 +134,7 @@ module _ (had : List (ℕ × ℕ)) (rising : AreRising had) (place : ℕ)
   pub after_end : (at : ℕ) (old now : List (ℕ × ℕ)) → AddsLater had place at old now
       → (at < length had → (get_or had at (0, 0)).0 ≢ j)
       → (x y : ℕ)
-      → has_pair now x y
-      ≡ (has_pair old x y || (nat_eq x low && (has_pair had j y && nat_lt x y)))
+      → has_pair now x y ≡ (has_pair old x y || has_later had (get_or had place (0, 0)) x y)
   after_end at old now b stop x y =
       same_tests (has_pair now x y)
       (has_pair old x y || (nat_eq x low && (has_pair had j y && nat_lt x y)))
@@ -253,7 +253,7 @@ module _ (db : List Statement) (b : BlockLists) (blocks : IsBlocks db b) (k : �
 
   -- both stand in one statement
   abbrev pub together : ℕ → ℕ → Bool
-  together x y = list_any (λ p. nat_eq x p.1 && (has_pair had p.0 y && nat_lt x y)) had
+  together x y = list_any (λ p. has_later had p x y) had
 
   in_range : (x : ℕ) → is_member vs x ≡ true → is_member (range_with_len 0 count) x ≡ true
   in_range x e =
@@ -290,7 +290,7 @@ module _ (db : List Statement) (b : BlockLists) (blocks : IsBlocks db b) (k : �
       && (is_member (range_with_len 0 count) x && is_member (range_with_len 0 count) y))
       ≡ true
   forth x y e =
-      let w = any_pair (λ p. nat_eq x p.1 && (has_pair had p.0 y && nat_lt x y)) had e in
+      let w = any_pair (λ p. has_later had p x y) had e in
       let j = (get_or had w.0 (0, 0)).0 in
       let s =
       eqb-true x (get_or had w.0 (0, 0)).1
@@ -342,7 +342,7 @@ module _ (db : List Statement) (b : BlockLists) (blocks : IsBlocks db b) (k : �
       had_if j y my
       (and_parts (is_member (formula_at db j) x) (is_member (formula_at db j) y) w.2).1 w.1 in
       let v = has_at had j x hx in
-      list_any_at (λ p. nat_eq x p.1 && (has_pair had p.0 y && nat_lt x y)) had v.0 (0, 0) v.1
+      list_any_at (λ p. has_later had p x y) had v.0 (0, 0) v.1
       (ap₂ (λ a b. a && b) (eq-eqb x (get_or had v.0 (0, 0)).1 (sym v.3))
       (ap₂ (λ a b. a && b) (ap (λ i. has_pair had i y) v.2 ∙ hy) less))
 

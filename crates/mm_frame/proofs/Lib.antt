@@ -6,8 +6,8 @@
 -- (`DisjointLaw.antt`) the pairs.
 -- (`TablesLaw.antt`: what an outline says of its statement; `SkipsLaw.antt`: the loops of
 -- `skips_of`; `LoopsLaw.antt`: one more element in the loops that collect.)
--- The loop of `frames_of` keeps `AreFramesUpTo` by `frames_more` and `frames_pass`
--- (`FramesLaw.antt`). So `gather` has `AreFrames`.
+-- The loop of `frames_of` keeps `HasFramesUpTo` by `frames_more` and `frames_pass`
+-- (`FramesLaw.antt`). So `gather` has `IsBeside`.
 pub mod DisjointLaw
 pub mod FloatLaw
 pub mod FramesLaw

@@ -1,7 +1,10 @@
--- The `$d` statements of each symbol, as a chain of links. Link n is the one with index n - 1, and no
--- link has the number 0, which ends a chain. A link has a statement and the number of the next link.
-use Rattle.std.specs.Prelude.{◌≡◌, ℕ, ◌<◌, ◌≤◌, ◌+◌, ◌-◌, Bool, List, [], ◌∷◌, length, get_or}
+-- The `$d` statements of each symbol, as a chain of links. Link n is the one with index n - 1, and
+-- no link has the number 0, which ends a chain. A link has a statement and the number of the next
+-- link.
+use Rattle.std.specs.Prelude.{◌≡◌, ℕ, ◌<◌, ◌≤◌, ◌+◌, ◌-◌, Bool, ◌&&◌, ◌||◌, List, [], ◌∷◌, length}
+use Rattle.std.specs.Prelude.{get_or, nat_eq}
 use Rattle.mm_spec.specs.Derivation.{is_member}
+use Rattle.mm_frame.specs.declared.chains.Chains.{Chains}
 
 -- ascending, from `least` on
 abbrev pub IsRisingFrom : ℕ → List ℕ → Type 0
@@ -32,3 +35,11 @@ pub record HasChain (has : ℕ → Bool) (least : ℕ) (links : List (ℕ × ℕ
 abbrev pub AreChains : (ℕ → ℕ → Bool) → ℕ → List ℕ → List (ℕ × ℕ) → Type 0
 AreChains has least heads links =
     (x : ℕ) → x < length heads → HasChain (has x) least links (get_or heads x 0)
+
+module _ {A : Type 0} where
+  -- Statement k is put in front of the chains of the symbols that pass the test. If no statement of
+  -- the chains was before k, these then have k beside what they had, and the others what they had.
+  abbrev pub AddsInFront : (ℕ → Bool) → ℕ → Chains A → Chains A → Type 0
+  AddsInFront test k old new =
+      (has : ℕ → ℕ → Bool) → AreChains has k old.heads.items old.links.items
+      → AreChains (λ x j. has x j || (test x && nat_eq j k)) k new.heads.items new.links.items

@@ -27,6 +27,12 @@ pub record AreTyped (db : List Statement) (k : ℕ) (typed : List ℕ) : Type 0 
   pub alone : (j v : ℕ) → j < k → v < length (symbol_names db) → typed_at db j ≡ Some v
       → stays db j k ≡ true → slice_index typed v ≡ j
 
+-- What a walk keeps for the symbols is ready for statement k: the last `$f` of each variable before
+-- k, and for each symbol a stamp that isn't after k.
+pub record AreReady (db : List Statement) (k : ℕ) (typed seen : List ℕ) : Type 0 where
+  pub typed_are : AreTyped db k typed
+  pub fresh : IsFresh (length (symbol_names db)) k seen
+
 -- statement j is the last `$f` of the variable, and active
 abbrev pub is_float_of : List Statement → ℕ → List ℕ → ℕ → ℕ → Bool
 is_float_of db k typed j v =

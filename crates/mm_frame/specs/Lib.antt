@@ -3,3 +3,5 @@ pub mod Tables
 pub mod Hypotheses
 pub mod Chains
 pub mod Sources
+pub mod Together
+pub mod Beside

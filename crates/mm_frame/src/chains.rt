@@ -2,11 +2,11 @@
 //! last to the first puts each `$d` in front of the chains of its symbols. So each chain is in
 //! ascending order.
 
-ghost use Rattle.std.specs.Prelude.{◌≡◌, ◌≢◌, ◌<◌, ◌≤◌, ◌-◌, ◌&&◌, ◌||◌, ◌++◌, ℕ, IfOk, OnOk};
-ghost use Rattle.std.specs.Prelude.{All, Bool, List, length, map, get_or, nat_eq, true, false};
+ghost use Rattle.std.specs.Prelude.{◌≡◌, ◌≢◌, ◌<◌, ◌≤◌, ◌-◌, ◌++◌, ℕ, IfOk, OnOk};
+ghost use Rattle.std.specs.Prelude.{All, List, length, map, get_or, nat_eq, true, false};
 ghost use Rattle.mm_spec.specs.Derivation.{is_member};
 ghost use Rattle.mm_spec.specs.Frame.{symbol_names};
-ghost use Rattle.mm_frame.specs.Chains.{AreChains, AreLinked, IsChain};
+ghost use Rattle.mm_frame.specs.Chains.{AddsInFront, AreChains, AreLinked, IsChain};
 ghost use Rattle.mm_database.specs.DisjointIndex.{has_symbol};
 ghost use Rattle.mm_database.specs.Pairs.{has_pair, AreRising};
 
@@ -52,10 +52,7 @@ fn add_link<A: Allocator>(
     ensures count { OnOk result (length chains.new.heads.items ≡ length chains.old.heads.items) }
     ensures linked { OnOk result (AreLinked chains.new.heads.items chains.new.links.items) }
     ensures chains { OnOk result
-        ((has : ℕ → ℕ → Bool)
-        → AreChains has statement chains.old.heads.items chains.old.links.items
-        → AreChains (λ x j. has x j || (nat_eq x symbol && nat_eq j statement)) statement
-        chains.new.heads.items chains.new.links.items) }
+        (AddsInFront (λ x. nat_eq x symbol) statement chains.old chains.new) }
 {
     let place = symbol.number() as usize;
     let head = chains.heads[place];
@@ -77,10 +74,7 @@ fn add_links<A: Allocator>(
     ensures count { OnOk result (length chains.new.heads.items ≡ length chains.old.heads.items) }
     ensures linked { OnOk result (AreLinked chains.new.heads.items chains.new.links.items) }
     ensures chains { OnOk result
-        ((has : ℕ → ℕ → Bool)
-        → AreChains has statement chains.old.heads.items chains.old.links.items
-        → AreChains (λ x j. has x j || (is_member symbols.now x && nat_eq j statement)) statement
-        chains.new.heads.items chains.new.links.items) }
+        (AddsInFront (is_member symbols.now) statement chains.old chains.new) }
 {
     for symbol in symbols {
         add_link(*symbol, statement, chains)?;

@@ -1,12 +1,13 @@
 //! The mandatory pairs of disjoint variables of assertions.
 
 ghost use Rattle.std.specs.Prelude.{◌≡◌, ◌<◌, ◌&&◌, ◌||◌, ℕ, OnOk, IfOk, length, get_or};
-ghost use Rattle.std.specs.Prelude.{nat_eq, nat_lt, map};
+ghost use Rattle.std.specs.Prelude.{map};
 ghost use Rattle.std.specs.List.{list_any};
 ghost use Rattle.mm_spec.specs.Derivation.{is_member, pair};
 ghost use Rattle.mm_spec.specs.Frame.{mandatory_variables, mandatory_pairs};
 ghost use Rattle.mm_database.specs.DisjointIndex.{is_live, IsOrdered};
 ghost use Rattle.mm_frame.specs.Sources.{AreSources};
+ghost use Rattle.mm_frame.specs.Together.{has_later};
 ghost use Rattle.mm_database.specs.Pairs.{has_pair, AreRising};
 
 use crate::disjoint_index::sort_and_dedup;
@@ -28,8 +29,7 @@ fn add_later_pairs<A: Allocator>(
         ((x y : ℕ)
         → has_pair pairs.new.items x y
         ≡ (has_pair pairs.old.items x y
-        || (nat_eq x (get_or had.now place (0, 0)).1
-        && (has_pair had.now (get_or had.now place (0, 0)).0 y && nat_lt x y)))) }
+        || has_later had.now (get_or had.now place (0, 0)) x y)) }
 {
     let mut at = place + 1;
     while at < had.len() && had[at].0 == had[place].0 {
@@ -49,8 +49,7 @@ fn add_together<A: Allocator>(
     ensures { OnOk result
         ((x y : ℕ)
         → has_pair pairs.new.items x y
-        ≡ (has_pair pairs.old.items x y
-        || list_any (λ p. nat_eq x p.1 && (has_pair had.now p.0 y && nat_lt x y)) had.now)) }
+        ≡ (has_pair pairs.old.items x y || list_any (λ p. has_later had.now p x y) had.now)) }
 {
     for place in 0..had.len() {
         add_later_pairs(had, place, pairs)?;
@@ -73,9 +72,7 @@ fn add_all_active<A: Allocator>(
         → has_pair into.new.items j y
         ≡ (has_pair into.old.items j y
         || (is_member symbols.now y
-        && (has_pair disjoint_index.now.pairs.items y j
-        && is_live
-        blocks.now j at)))) }
+        && (has_pair disjoint_index.now.pairs.items y j && is_live blocks.now j at)))) }
 {
     for symbol in symbols {
         add_active(blocks, disjoint_index, *symbol, at, into)?;
@@ -112,7 +109,8 @@ pub(crate) fn pairs_of<A: Allocator + Copy>(
     requires sources { AreSources sources.now }
     requires assertion { assertion < length sources.now.tables.now }
     requires found { (x : ℕ)
-        → is_member found.now x ≡ is_member (mandatory_variables sources.now.tables.now assertion) x }
+        → is_member found.now x
+        ≡ is_member (mandatory_variables sources.now.tables.now assertion) x }
     ensures { IfOk result
         (λ v. map (λ p. pair p.0 p.1) v.items ≡ mandatory_pairs sources.now.tables.now assertion) }
 {

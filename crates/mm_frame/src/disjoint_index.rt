@@ -31,10 +31,7 @@ fn is_covered<A: Allocator>(blocks: &Blocks<A>, pair: (u32, u32), by: (u32, u32)
     requires by { (by.1 < length blocks.now.of)
         × (get_or blocks.now.of by.1 0 < length blocks.now.ends) }
     ensures { result
-        ≡ (nat_eq pair.0 by.0
-        && nat_le
-        (end_of blocks.now pair.1)
-        (end_of blocks.now by.1)) }
+        ≡ (nat_eq pair.0 by.0 && nat_le (end_of blocks.now pair.1) (end_of blocks.now by.1)) }
 {
     pair.0 == by.0 && blocks.end_of(pair.1) <= blocks.end_of(by.1)
 }
@@ -45,12 +42,8 @@ fn skips_of<A: Allocator + Copy>(
     blocks: &Blocks<A>,
     pairs: &[(u32, u32)],
 ) -> Result<Vec<usize, A>, AllocError>
-    requires known { AreKnown
-        blocks.now pairs.now }
-    ensures { IfOk result
-        (λ v. AreSkips
-        blocks.now pairs.now
-        v.items) }
+    requires known { AreKnown blocks.now pairs.now }
+    ensures { IfOk result (λ v. AreSkips blocks.now pairs.now v.items) }
 {
     let mut skips = Vec::new(alloc);
     for at in 0..pairs.len() {
@@ -86,12 +79,9 @@ pub(crate) fn disjoint_index_of<A: Allocator + Copy>(
     tables: &Tables<A>,
     blocks: &Blocks<A>,
 ) -> Result<DisjointIndex<A>, AllocError>
-    requires { IsBlocks tables.now
-        blocks.now }
+    requires { IsBlocks tables.now blocks.now }
     ensures { IfOk result
-        (λ m. IsDisjointIndex tables.now
-        blocks.now m.pairs.items
-        m.skips.items) }
+        (λ m. IsDisjointIndex tables.now blocks.now m.pairs.items m.skips.items) }
 {
     let pairs = pairs_by_symbol(alloc, tables)?;
     let skips = skips_of(alloc, blocks, &pairs)?;

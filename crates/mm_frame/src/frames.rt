@@ -4,11 +4,12 @@ ghost use Rattle.std.specs.Prelude.{◌≡◌, ◌<◌, ◌+◌, ℕ, IfOk, OnOk
 ghost use Rattle.mm_spec.specs.Derivation.{pair};
 ghost use Rattle.mm_spec.specs.Frame.{symbol_names};
 ghost use Rattle.mm_outline.specs.Blocks.{IsBlocks};
-ghost use Rattle.mm_database.specs.Frames.{AreFrames, AreFramesUpTo, IsFrame};
+ghost use Rattle.mm_database.specs.Frames.{IsFrame};
 ghost use Rattle.mm_database.specs.DisjointIndex.{IsDisjointIndex};
 ghost use Rattle.mm_frame.specs.Sources.{AreSources};
 ghost use Rattle.mm_frame.specs.Tables.{IsSound};
-ghost use Rattle.mm_frame.specs.Hypotheses.{AreTyped, IsFresh};
+ghost use Rattle.mm_frame.specs.Hypotheses.{AreReady, AreTyped, IsFresh};
+ghost use Rattle.mm_frame.specs.Beside.{HasFrames, HasFramesUpTo, IsBeside};
 
 use crate::active::latest_essentials;
 use crate::disjoint::pairs_of;
@@ -84,9 +85,7 @@ fn frame_of<A: Allocator + Copy>(
 ) -> Result<Frame<A>, AllocError>
     requires sources { AreSources sources.now }
     requires assertion { assertion < length sources.now.tables.now }
-    requires typed { AreTyped sources.now.tables.now assertion typed.now }
-    requires seen { IsFresh (length (symbol_names sources.now.tables.now)) assertion
-        scratch.old.seen.items }
+    requires ready { AreReady sources.now.tables.now assertion typed.now scratch.old.seen.items }
     ensures seen { OnOk result
         (IsFresh (length (symbol_names sources.now.tables.now)) (assertion + 1)
         scratch.new.seen.items) }
@@ -125,19 +124,13 @@ fn add_frame<A: Allocator + Copy>(
 ) -> Result<(), AllocError>
     requires sources { AreSources sources.now }
     requires statement { statement < length sources.now.tables.now }
-    requires typed { AreTyped sources.now.tables.now statement typed.now }
-    requires seen { IsFresh (length (symbol_names sources.now.tables.now)) statement
-        scratch.old.seen.items }
-    requires frames { AreFramesUpTo sources.now.tables.now statement frames.old.places.items
-        (map (λ f. f.hyps.items) frames.old.list.items)
-        (map (λ f. map (λ p. pair p.0 p.1) f.pairs.items) frames.old.list.items) }
+    requires ready { AreReady sources.now.tables.now statement typed.now scratch.old.seen.items }
+    requires frames { HasFramesUpTo sources.now.tables.now statement frames.old }
     ensures seen { OnOk result
         (IsFresh (length (symbol_names sources.now.tables.now)) (statement + 1)
         scratch.new.seen.items) }
     ensures frames { OnOk result
-        (AreFramesUpTo sources.now.tables.now (statement + 1) frames.new.places.items
-        (map (λ f. f.hyps.items) frames.new.list.items)
-        (map (λ f. map (λ p. pair p.0 p.1) f.pairs.items) frames.new.list.items)) }
+        (HasFramesUpTo sources.now.tables.now (statement + 1) frames.new) }
 {
     frames.places.push(frames.list.len() as u32)?;
     if sources.tables.is_assertion(statement) {
@@ -154,14 +147,10 @@ pub(crate) fn frames_of<A: Allocator + Copy>(
     blocks: &Blocks<A>,
     disjoint_index: &DisjointIndex<A>,
 ) -> Result<Frames<A>, AllocError>
-    requires blocks { IsBlocks tables.now
-        blocks.now }
-    requires disjoint_index { IsDisjointIndex tables.now
-        blocks.now
+    requires blocks { IsBlocks tables.now blocks.now }
+    requires disjoint_index { IsDisjointIndex tables.now blocks.now
         disjoint_index.now.pairs.items disjoint_index.now.skips.items }
-    ensures { IfOk result
-        (λ v. AreFrames tables.now v.places.items (map (λ f. f.hyps.items) v.list.items)
-        (map (λ f. map (λ p. pair p.0 p.1) f.pairs.items) v.list.items)) }
+    ensures { IfOk result (λ v. HasFrames tables.now v) }
 {
     let count = tables.len();
     let essentials = latest_essentials(alloc, tables)?;
@@ -196,16 +185,8 @@ pub fn gather<A: Allocator + Copy>(
     tables: &Tables<A>,
     blocks: &Blocks<A>,
 ) -> Result<Beside<A>, AllocError>
-    requires { IsBlocks tables.now
-        blocks.now }
-    ensures disjoint_index { IfOk result
-        (λ b. IsDisjointIndex tables.now
-        blocks.now
-        b.disjoint_index.pairs.items b.disjoint_index.skips.items) }
-    ensures frames { IfOk result
-        (λ b. AreFrames tables.now b.frames.places.items
-        (map (λ f. f.hyps.items) b.frames.list.items)
-        (map (λ f. map (λ p. pair p.0 p.1) f.pairs.items) b.frames.list.items)) }
+    requires { IsBlocks tables.now blocks.now }
+    ensures { IfOk result (λ b. IsBeside tables.now blocks.now b) }
 {
     let disjoint_index = disjoint_index_of(alloc, tables, blocks)?;
     let frames = frames_of(alloc, tables, blocks, &disjoint_index)?;

@@ -8,7 +8,7 @@ ghost use Rattle.mm_spec.specs.Derivation.{is_member};
 ghost use Rattle.mm_spec.specs.Frame.{symbol_names, is_variable_number, is_essential, active_of};
 ghost use Rattle.mm_spec.specs.Frame.{mandatory_variables, mandatory_hypotheses};
 ghost use Rattle.mm_frame.specs.Sources.{AreSources};
-ghost use Rattle.mm_frame.specs.Hypotheses.{AreMarks, AreTyped, IsFresh, is_float_of};
+ghost use Rattle.mm_frame.specs.Hypotheses.{AreMarks, AreReady, AreTyped, IsFresh, is_float_of};
 
 use crate::active::active_essentials;
 use crate::sources::Sources;
@@ -70,7 +70,8 @@ fn note<A: Allocator>(
     Ok(())
 }
 
-/// Marks and lists the mandatory variables of an assertion.
+/// Marks the mandatory variables of an assertion, and lists them in `found`. Replaces what `found`
+/// has.
 fn mandatory<A: Allocator>(
     tables: &Tables<A>,
     essentials: &[u32],
@@ -83,9 +84,7 @@ fn mandatory<A: Allocator>(
     requires essentials { (i : ℕ)
         → is_member essentials.now i
         ≡ is_member (active_of is_essential tables.now assertion) i }
-    requires marks { AreMarks (length (symbol_names tables.now))
-        (assertion + 1) seen.old.items found.old.items }
-    requires none { length found.old.items ≡ 0 }
+    requires fresh { IsFresh (length (symbol_names tables.now)) assertion seen.old.items }
     ensures marks { OnOk result
         (AreMarks (length (symbol_names tables.now))
         (assertion + 1) seen.new.items found.new.items) }
@@ -93,6 +92,7 @@ fn mandatory<A: Allocator>(
         ((x : ℕ)
         → is_member found.new.items x ≡ is_member (mandatory_variables tables.now assertion) x) }
 {
+    found.clear();
     note(
         tables,
         tables.formula(assertion),
@@ -161,18 +161,18 @@ pub(crate) fn hypotheses<A: Allocator>(
 ) -> Result<(), AllocError>
     requires sources { AreSources sources.now }
     requires assertion { assertion < length sources.now.tables.now }
-    requires typed { AreTyped sources.now.tables.now assertion typed.now }
-    requires seen { IsFresh (length (symbol_names sources.now.tables.now)) assertion seen.old.items }
+    requires ready { AreReady sources.now.tables.now assertion typed.now seen.old.items }
     ensures marks { OnOk result
         (AreMarks (length (symbol_names sources.now.tables.now))
         (assertion + 1) seen.new.items found.new.items) }
     ensures found { OnOk result
         ((x : ℕ)
-        → is_member found.new.items x ≡ is_member (mandatory_variables sources.now.tables.now assertion) x) }
-    ensures hyps { OnOk result (hyps.new.items ≡ mandatory_hypotheses sources.now.tables.now assertion) }
+        → is_member found.new.items x
+        ≡ is_member (mandatory_variables sources.now.tables.now assertion) x) }
+    ensures hyps { OnOk result
+        (hyps.new.items ≡ mandatory_hypotheses sources.now.tables.now assertion) }
 {
     let tables = sources.tables;
-    found.clear();
     active_essentials(tables, sources.essentials, assertion, hyps)?;
     mandatory(tables, hyps, assertion, seen, found)?;
     add_floats(tables, typed, assertion, found, hyps)?;

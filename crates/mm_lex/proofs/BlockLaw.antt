@@ -25,6 +25,7 @@ use Rattle.mm_spec.proofs.WordRunsLaw.{words_between_take}
 use Rattle.mm_spec.proofs.WordsLaw.{begins_word_boundary, begins_word_ink, IsWord_is}
 use Rattle.mm_spec.proofs.BitLaw.{shifted}
 use Rattle.mm_lex.specs.Plain.{plain_at, IsPlain}
+use Rattle.mm_lex.specs.Beginnings.{IsFirst, IsPassed}
 use Rattle.mm_lex.proofs.MaskLaw.{all_from, bit_one, none_in, bit_zero, inside, one_of}
 use Rattle.mm_lex.proofs.MaskLaw.{zero_of}
 
@@ -349,16 +350,16 @@ module _ (text : List ℕ) (start end : ℕ) (begins : begins_word text start �
         white_after = after;
       }
 
-  -- the words that begin from the place `from` on are this one, and those that begin from `upto` on
-  pub found_next : (from upto to : ℕ) → from ≤ start
-      → ((i : ℕ) → from ≤ i → i < start → begins_word text i ≡ false) → start < to → start < upto
-      → ((i : ℕ) → start < i → i < upto → begins_word text i ≡ false) →
-      words_between text from to ≡ record { start = start; end = end } ∷ words_between text upto to
-  found_next from upto to low before lt more none =
-      between_on text from start to low (λ i a b _. before i a b)
-      ∙ words_between_take text start to lt begins
-      ∙ ap₂ (λ (w : Word) (ws : List Word). w ∷ ws) (IsWord_is found_word)
-      (between_on text (start + 1) upto to (omega arith) (λ i a b _. none i (omega arith) b))
+-- the words that begin from the place `from` on are this one, and those that begin from `upto` on
+pub found_next : (text : List ℕ) (w : Word) (from upto to : ℕ) → IsWord text w
+    → IsFirst text from to w.start → IsPassed text w.start upto
+    → words_between text from to ≡ w ∷ words_between text upto to
+found_next text w from upto to word first passed =
+    between_on text from w.start to first.low (λ i a b _. first.before i a b)
+    ∙ words_between_take text w.start to first.within first.begins
+    ∙ ap₂ (λ (v : Word) (ws : List Word). v ∷ ws) (IsWord_is word)
+    (between_on text (w.start + 1) upto to (omega (arith, passed.later))
+    (λ i a b _. passed.none i (omega arith) b))
 
 -- a word of plain bytes
 no_dollars : (xs : List ℕ) → list_all (λ x. not (x == 36)) xs ≡ true → has_dollar xs ≡ false

@@ -248,15 +248,7 @@ module _ (text : List ℕ) (a b c : ℕ) where
             rw (head, tail, join_words x.broken y.broken) (readings _ _ x.readings y.readings);
       }
 
--- the piece of the whole text has what lies between head and tail, and that is the whole text
-pub whole_some : (text : List ℕ) (piece : Stretch) → IsSummary text piece → piece.from ≡ 0
-    → piece.between ≡ None → ⊥
-whole_some text piece s from e =
-    let x : IsUnbroken text piece.from piece.to =
-    subst (λ (o : Option Between). MatchOption o (IsUnbroken text piece.from piece.to)
-    (IsBetween text piece.from piece.to)) e s in
-    omega (arith, x.first)
-
+-- what lies between head and tail of the piece of the whole text is the whole text
 pub whole_reading : (text : List ℕ) (piece : Stretch) (inner : Between) → IsSummary text piece
     → piece.from ≡ 0 → piece.to ≡ length text → piece.between ≡ Some inner →
     reading text None (words_of text) ≡ seen 0 inner.outside

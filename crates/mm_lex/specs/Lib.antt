@@ -4,3 +4,4 @@ pub mod Inners
 pub mod Cuts
 pub mod Places
 pub mod Plain
+pub mod Beginnings

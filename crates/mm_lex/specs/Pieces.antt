@@ -1,6 +1,7 @@
 -- What is known from a stretch of a text alone, in both comment modes.
-use Rattle.std.specs.Prelude.{◌≡◌, ℕ, Bool, List, [], Option, Some, None, MatchOption}
+use Rattle.std.specs.Prelude.{◌≡◌, ℕ, ◌≤◌, Bool, List, [], length, Option, Some, None, MatchOption}
 use Rattle.std.specs.Prelude.{if◌then◌else◌}
+use Rattle.mm_spec.specs.Limits.{text_limit}
 use Rattle.mm_spec.specs.Words.{words_between}
 use Rattle.mm_spec.specs.Readings.{Reading, reading}
 use Rattle.mm_spec.specs.declared.Word.{Word}
@@ -59,6 +60,13 @@ pub record IsBetween (text : List ℕ) (from to : ℕ) (b : Between) : Type 0 wh
 -- the summary of the stretch
 abbrev pub IsSummary : List ℕ → Stretch → Type 0
 IsSummary text s = MatchOption s.between (IsUnbroken text s.from s.to) (IsBetween text s.from s.to)
+
+-- the stretch is a whole text that isn't too long, and this is its summary
+pub record IsWhole (text : List ℕ) (s : Stretch) : Type 0 where
+  pub short : length text ≤ text_limit
+  pub summary : IsSummary text s
+  pub begins : s.from ≡ 0
+  pub ends : s.to ≡ length text
 
 -- ---- what its calls return
 

@@ -47,5 +47,5 @@ pub fn lex<R: Threads + Sync, A: Allocator + Copy + Send + Sync>(
         });
     }
     let whole = read_text(rt, alloc, text, cuts.places())?;
-    Ok(whole.into_lexed(text))
+    Ok(whole.into_lexed())
 }

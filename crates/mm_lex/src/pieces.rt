@@ -4,7 +4,7 @@ ghost use Rattle.std.specs.Prelude.{◌≡◌, ◌<◌, ◌≤◌, ◌+◌, ℕ,
 ghost use Rattle.std.specs.Prelude.{if◌then◌else◌};
 ghost use Rattle.std.specs.Option.{option_map};
 ghost use Rattle.mm_lex.specs.Pieces.{fault_in_mode, head_of, resolved, stretch, tail_of};
-ghost use Rattle.mm_lex.specs.Pieces.{tokens_in_mode, AreReadings, IsSummary, Stretch};
+ghost use Rattle.mm_lex.specs.Pieces.{tokens_in_mode, AreReadings, IsSummary, IsWhole, Stretch};
 ghost use Rattle.mm_lex.specs.Inners.{between, IsJoined, side};
 ghost use Rattle.mm_lex.specs.Stretches.{joined_word};
 ghost use Rattle.mm_spec.specs.Lexed.{fault_in, lexical_fault, tokens_of};
@@ -109,17 +109,14 @@ impl<A: Allocator> Piece<A> {
             .and_then(|inner| inner.reading(inside).fault)
     }
 
-    /// The tokens and the lexical fault of a whole text, by its reading outside a comment.
-    pub(crate) fn into_lexed(self, text: &[u8]) -> Lexed<A>
-        requires short { length text.now ≤ TEXT_LIMIT }
-        requires summary { IsSummary text.now self }
-        requires from { self.from ≡ 0 }
-        requires to { self.to ≡ length text.now }
-        ensures tokens { result.tokens.items ≡ tokens_of text.now }
-        ensures fault { result.fault ≡ lexical_fault text.now }
+    /// The tokens and the lexical fault of the whole text that this is the summary of, by its
+    /// reading outside a comment.
+    pub(crate) fn into_lexed(self) -> Lexed<A>
+        requires { (text : List ℕ) × IsWhole text self }
+        ensures tokens { (text : List ℕ) → IsWhole text self
+            → result.tokens.items ≡ tokens_of text }
+        ensures fault { (text : List ℕ) → IsWhole text self → result.fault ≡ lexical_fault text }
     {
-        // Only the contract needs the text.
-        let _ = text;
         let reading = match self.inner {
             Some(inner) => inner.outside,
             None => unreachable!("a stretch that begins the text isn't unbroken"),

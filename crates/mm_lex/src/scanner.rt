@@ -10,6 +10,7 @@ ghost use Rattle.mm_spec.specs.Readings.{bytes_of};
 ghost use Rattle.mm_spec.specs.Words.{begins_word, white_at, words_between};
 ghost use Rattle.mm_spec.specs.Laws.Words.{IsWord};
 ghost use Rattle.mm_lex.specs.Plain.{plain_at, IsPlain};
+ghost use Rattle.mm_lex.specs.Beginnings.{IsFirst, IsTaken, IsPassed, IsWordFrom};
 
 use crate::bytes::is_white;
 use crate::masks::first_one;
@@ -167,24 +168,11 @@ impl<'a> WordScanner<'a> {
     /// The word that begins at `start`, and the blocks from its end on. `start` is in the current
     /// block, and is the beginning that was taken last.
     fn word_from(self, start: usize) -> (WordScanner<'a>, FoundWord)
-        requires from { self.from ≡ start + 1 }
-        requires low { self.base ≤ start }
-        requires within { start < length self.text.now }
+        requires taken { IsTaken self.text.now self.base self.from start }
         requires short { length self.text.now ≤ TEXT_LIMIT }
-        requires ink { white_at self.text.now start ≡ false }
         ensures text { result.0.text.now ≡ self.entry.text.now }
-        ensures after { start < result.0.from }
-        ensures none { (i : ℕ) → start < i → i < result.0.from
-            → begins_word self.entry.text.now i ≡ false }
-        ensures start { result.1.word.start ≡ start }
-        ensures order { start ≤ result.1.word.end }
-        ensures within { result.1.word.end ≤ length self.entry.text.now }
-        ensures solid { (i : ℕ) → start ≤ i → i < result.1.word.end
-            → white_at self.entry.text.now i ≡ false }
-        ensures white { result.1.word.end < length self.entry.text.now
-            → white_at self.entry.text.now result.1.word.end ≡ true }
-        ensures plain { result.1.plain ≡ true → (i : ℕ) → start ≤ i → i < result.1.word.end
-            → plain_at self.entry.text.now i ≡ true }
+        ensures onward { IsPassed self.entry.text.now start result.0.from }
+        ensures word { IsWordFrom self.entry.text.now start result.1.word result.1.plain }
     {
         let len = self.text.len();
         let mut blocks = self;
@@ -209,16 +197,11 @@ impl<'a> WordScanner<'a> {
         requires within { to ≤ length self.old.text.now }
         requires short { length self.old.text.now ≤ TEXT_LIMIT }
         ensures text { self.new.text.now ≡ self.old.text.now }
-        ensures before { MatchOption result
+        ensures first { MatchOption result
             (words_between self.old.text.now self.old.from to ≡ [])
-            (λ start. (i : ℕ) → self.old.from ≤ i → i < start
-            → begins_word self.old.text.now i ≡ false) }
+            (IsFirst self.old.text.now self.old.from to) }
         ensures done { IfNone result (words_between self.old.text.now self.new.from to ≡ []) }
-        ensures begins { IfSome result (λ start. begins_word self.old.text.now start ≡ true) }
-        ensures low { IfSome result (λ start. self.old.from ≤ start) }
-        ensures within { IfSome result (λ start. start < to) }
-        ensures base { IfSome result (λ start. self.new.base ≤ start) }
-        ensures from { IfSome result (λ start. self.new.from ≡ start + 1) }
+        ensures taken { IfSome result (IsTaken self.new.text.now self.new.base self.new.from) }
     {
         while self.starts == 0 {
             if to <= self.base + 64 {

@@ -2,6 +2,7 @@ pub mod Blocks
 pub mod NextStatement
 pub mod Numbered
 pub mod Parts
+pub mod Passed
 pub mod Statements
 pub mod Tokens
 pub mod Typed

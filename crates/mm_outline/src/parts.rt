@@ -1,13 +1,14 @@
 //! A statement, token by token.
 
-ghost use Rattle.std.specs.Prelude.{◌≡◌, ◌<◌, ◌≤◌, ◌^◌, ℕ, [], length, slice_range, All, false};
+ghost use Rattle.std.specs.Prelude.{◌≡◌, ◌<◌, ◌≤◌, ◌^◌, ℕ, length, false};
 ghost use Rattle.mm_spec.specs.Text.{fault, has_dollar, is_label as spec_is_label};
 ghost use Rattle.mm_spec.specs.Statement.{shape_code};
-ghost use Rattle.mm_outline.specs.NextStatement.{IsNextStatement, Leads, tokens_from};
+ghost use Rattle.mm_outline.specs.NextStatement.{IsNextStatement};
 ghost use Rattle.mm_outline.specs.NextStatement.{is_start as spec_is_start};
 ghost use Rattle.mm_spec.specs.Laws.Table.{class, transition};
-ghost use Rattle.mm_outline.specs.Parts.{IsPart, Holds, AreWithin, reading, token_at, turn_of};
+ghost use Rattle.mm_outline.specs.Parts.{IsPart, Holds, reading, token_at, turn_of};
 ghost use Rattle.mm_outline.specs.Parts.{turn_for, single_of, AtStart};
+ghost use Rattle.mm_outline.specs.Passed.{ArePassed};
 ghost use Rattle.mm_outline.specs.Tokens.{AreTokens};
 
 use crate::words::{Class, classify, has_dollar, is_label};
@@ -229,12 +230,7 @@ fn pass_words(text: &[u8], tokens: &[Word], part: Part, at: u32) -> u32
     requires limit { length tokens.now < 2 ^ 31 }
     requires inside { at ≤ length tokens.now }
     requires part { IsPart part at }
-    ensures later { at ≤ result }
-    ensures within { result ≤ length tokens.now }
-    ensures part { IsPart part result }
-    ensures leads { (d : ℕ)
-        → Leads (reading text.now tokens.now d part at) (tokens_from text.now tokens.now at) []
-        (reading text.now tokens.now d part result) (tokens_from text.now tokens.now result) }
+    ensures { ArePassed text.now tokens.now part at result }
 {
     match part {
         Part::Start | Part::Labelled(_) => at,

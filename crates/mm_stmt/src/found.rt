@@ -1,14 +1,12 @@
 //! What is found out of the statements once and kept beside them.
 
-ghost use Rattle.std.specs.Prelude.{◌<◌, ◌^◌, Bool, IfOk, length, map};
-ghost use Rattle.mm_spec.specs.Derivation.{pair};
+ghost use Rattle.std.specs.Prelude.{◌<◌, ◌^◌, Bool, IfOk, length};
 ghost use Rattle.mm_spec.specs.Lexed.{tokens_of};
 ghost use Rattle.mm_outline.specs.Numbered.{AreSymbols};
 ghost use Rattle.mm_outline.specs.Statements.{statements};
 ghost use Rattle.mm_scope.specs.Keeps.{IsKeptOf, kept_by};
 ghost use Rattle.mm_database.specs.Names.{names_of};
-ghost use Rattle.mm_database.specs.DisjointIndex.{IsDisjointIndex};
-ghost use Rattle.mm_database.specs.Frames.{AreFrames};
+ghost use Rattle.mm_frame.specs.Beside.{IsBeside};
 ghost use Rattle.mm_frame.specs.Tables.{IsSound};
 ghost use Rattle.mm_stmt.specs.Found.{IsFound, IsTaken};
 
@@ -34,14 +32,9 @@ fn beside_of<'a, A: Allocator + Copy>(
     requires symbols { AreSymbols (statements text.now (tokens_of text.now) read.now.outlines.items)
         (names_of read.now.scope.names.symbols) variables.now }
     requires few_symbols { length variables.now < 2 ^ 31 }
-    ensures disjoint_index { IfOk result
-        (λ b. IsDisjointIndex (statements text.now (tokens_of text.now) read.now.outlines.items)
-        read.now.scope.blocks b.disjoint_index.pairs.items
-        b.disjoint_index.skips.items) }
-    ensures frames { IfOk result
-        (λ b. AreFrames (statements text.now (tokens_of text.now) read.now.outlines.items)
-        b.frames.places.items (map (λ f. f.hyps.items) b.frames.list.items)
-        (map (λ f. map (λ p. pair p.0 p.1) f.pairs.items) b.frames.list.items)) }
+    ensures { IfOk result
+        (λ b. IsBeside (statements text.now (tokens_of text.now) read.now.outlines.items)
+        read.now.scope.blocks b) }
 {
     gather(
         alloc,

@@ -1,6 +1,6 @@
-use Rattle.std.proofs.Common.{◌∙◌, ℕ, List, ◌&&◌, ◌||◌, nat_eq, subst, arith, take_all}
+use Rattle.std.proofs.Common.{◌∙◌, ℕ, List, subst, arith, take_all}
 use Rattle.mm_spec.specs.Derivation.{is_member}
-use Rattle.mm_frame.specs.Chains.{AreChains}
+use Rattle.mm_frame.specs.Chains.{AddsInFront}
 use Rattle.mm_frame.proofs.ChainsLaw.{more_symbols, same_chains}
 use Rattle.std.proofs.lemmas.Result.{IfOk-from_err}
 use Rattle.mm_frame.proofs.chains.add_links.Goals as goal
@@ -17,11 +17,11 @@ loop-symbol-preserved g c = record {
 }
 
 pub returns-clause-chains : goal.returns-clause-chains
-returns-clause-chains g c = λ has h.
-    subst (λ (ys : List ℕ). AreChains (λ x j. has x j || (is_member ys x && nat_eq j c.args.statement))
-    c.args.statement c.loop-symbol.chains.heads.items c.loop-symbol.chains.links.items)
+returns-clause-chains g c =
+    subst (λ (ys : List ℕ). AddsInFront (is_member ys) c.args.statement c.args.chains.now
+    c.loop-symbol.chains)
     (take_all c.loop-symbol.symbol-index c.args.symbols.now c.loop-symbol-test.false)
-    (c.loop-symbol.invariant.chains has h)
+    c.loop-symbol.invariant.chains
 
 pub returns-in_err-add_link-clause-count : goal.returns-in_err-add_link-clause-count
 returns-in_err-add_link-clause-count g c =

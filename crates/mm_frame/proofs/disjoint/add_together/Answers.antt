@@ -1,7 +1,8 @@
-use Rattle.std.proofs.Common.{ℕ, List, ap, ◌∙◌, ◌&&◌, ◌||◌, take_all, nat_eq, nat_lt}
+use Rattle.std.proofs.Common.{ℕ, List, ap, ◌∙◌, ◌||◌, take_all}
 use Rattle.std.proofs.lemmas.Result.{IfOk-from_err}
 use Rattle.std.specs.List.{list_any}
 use Rattle.mm_database.specs.Pairs.{has_pair}
+use Rattle.mm_frame.specs.Together.{has_later}
 use Rattle.mm_frame.proofs.LoopsLaw.{none_so_far, any_next}
 use Rattle.mm_frame.proofs.disjoint.add_together.Goals as goal
 
@@ -20,13 +21,12 @@ add_later_pairs-requires-clause-place g c = c.loop-place-test.true
 
 pub loop-place-preserved : goal.loop-place-preserved
 loop-place-preserved g c = λ x y.
-    any_next (λ p. nat_eq x p.1 && (has_pair c.args.had.now p.0 y && nat_lt x y)) c.args.had.now
-    c.loop-place.place (0, 0) _ _ _ c.loop-place-test.true (c.loop-place.invariant x y)
-    (c.in_ok-add_later_pairs.ensures x y)
+    any_next (λ p. has_later c.args.had.now p x y) c.args.had.now c.loop-place.place (0, 0) _ _ _
+    c.loop-place-test.true (c.loop-place.invariant x y) (c.in_ok-add_later_pairs.ensures x y)
 
 pub returns : goal.returns
 returns g c = λ x y.
     c.loop-place.invariant x y
     ∙ ap (λ (ps : List (ℕ × ℕ)). has_pair c.args.pairs.now.items x y
-    || list_any (λ p. nat_eq x p.1 && (has_pair c.args.had.now p.0 y && nat_lt x y)) ps)
+    || list_any (λ p. has_later c.args.had.now p x y) ps)
     (take_all c.loop-place.place c.args.had.now c.loop-place-test.false)

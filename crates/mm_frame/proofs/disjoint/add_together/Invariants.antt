@@ -1,6 +1,7 @@
-use Rattle.std.proofs.Common.{◌≡◌, ℕ, ◌&&◌, ◌||◌, take, nat_eq, nat_lt}
+use Rattle.std.proofs.Common.{◌≡◌, ℕ, ◌||◌, take}
 use Rattle.std.specs.List.{list_any}
 use Rattle.mm_database.specs.Pairs.{has_pair}
+use Rattle.mm_frame.specs.Together.{has_later}
 use Rattle.mm_frame.proofs.disjoint.add_together.Given as goal
 
 abbrev pub invariant-loop-place : goal.invariant-loop-place
@@ -8,4 +9,4 @@ invariant-loop-place g l =
     (x y : ℕ)
     → has_pair l.pairs.items x y
     ≡ (has_pair l.initial.pairs.items x y
-    || list_any (λ p. nat_eq x p.1 && (has_pair l.had p.0 y && nat_lt x y)) (take l.place l.had))
+    || list_any (λ p. has_later l.had p x y) (take l.place l.had))

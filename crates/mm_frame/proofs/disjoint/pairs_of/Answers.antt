@@ -1,9 +1,10 @@
-use Rattle.std.proofs.Common.{◌∙◌, ℕ, ◌≤◌, ◌&&◌, ◌||◌, List, length, map, nat_eq, nat_lt, ap, arith}
+use Rattle.std.proofs.Common.{◌∙◌, ℕ, ◌≤◌, ◌&&◌, ◌||◌, List, length, map, ap, arith}
 use Rattle.std.proofs.Common.{subst, sym}
 use Rattle.std.specs.List.{list_any}
 use Rattle.mm_spec.specs.Derivation.{pair, is_member}
 use Rattle.mm_database.specs.DisjointIndex.{is_live}
 use Rattle.mm_database.specs.Pairs.{has_pair, AreRising}
+use Rattle.mm_frame.specs.Together.{has_later}
 use Rattle.mm_outline.proofs.ResultsLaw.{ok_then}
 use Rattle.mm_frame.proofs.DisjointLaw.{pairs_are}
 use Rattle.std.proofs.lemmas.Result.{IfOk-from_err}
@@ -28,11 +29,9 @@ returns g c = ok_then c.symbols_of.result c.symbols_of.ensures (λ v e.
     c.sort_and_dedup-2.new.pairs.items c.sort_and_dedup-2.ensures.rising
     (λ x y. c.sort_and_dedup-2.ensures.same x y ∙ c.in_ok-add_together.ensures x y
     ∙ ap (λ (xs : List (ℕ × ℕ)). has_pair xs x y
-    || list_any
-    (λ p. nat_eq x p.1 && (has_pair c.deref.result.now p.0 y && nat_lt x y)) c.deref.result.now)
+    || list_any (λ p. has_later c.deref.result.now p x y) c.deref.result.now)
     c.clear-2.ensures.items
-    ∙ ap (λ (hs : List (ℕ × ℕ)). list_any
-    (λ p. nat_eq x p.1 && (has_pair hs p.0 y && nat_lt x y)) hs) c.deref.ensures.value))
+    ∙ ap (λ (hs : List (ℕ × ℕ)). list_any (λ p. has_later hs p x y) hs) c.deref.ensures.value))
 
 pub add_all_active-requires : goal.add_all_active-requires
 add_all_active-requires g c = record { ordered = c.requires.sources.index_is.ordered }

@@ -59,19 +59,16 @@ frame_of-requires-clause-sources g c = c.requires.sources
 pub frame_of-requires-clause-assertion : goal.frame_of-requires-clause-assertion
 frame_of-requires-clause-assertion g c = c.requires.statement
 
-pub frame_of-requires-clause-typed : goal.frame_of-requires-clause-typed
-frame_of-requires-clause-typed g c = c.requires.typed
-
-pub frame_of-requires-clause-seen : goal.frame_of-requires-clause-seen
-frame_of-requires-clause-seen g c = c.requires.seen
+pub frame_of-requires-clause-ready : goal.frame_of-requires-clause-ready
+frame_of-requires-clause-ready g c = c.requires.ready
 
 pub returns-in_ok-push-2-clause-seen : goal.returns-in_ok-push-2-clause-seen
 returns-in_ok-push-2-clause-seen g c = c.in_ok-frame.ensures.seen
 
 pub returns-else-is_assertion-clause-seen : goal.returns-else-is_assertion-clause-seen
 returns-else-is_assertion-clause-seen g c = record {
-  count = c.requires.seen.count;
-  within = λ x h. let l = c.requires.seen.within x h in omega (arith, l);
+  count = c.requires.ready.fresh.count;
+  within = λ x h. let l = c.requires.ready.fresh.within x h in omega (arith, l);
 }
 
 pub returns-in_err-push-clause-seen : goal.returns-in_err-push-clause-seen

@@ -9,11 +9,8 @@ hypotheses-requires-clause-sources g c = c.requires.sources
 pub hypotheses-requires-clause-assertion : goal.hypotheses-requires-clause-assertion
 hypotheses-requires-clause-assertion g c = c.requires.assertion
 
-pub hypotheses-requires-clause-typed : goal.hypotheses-requires-clause-typed
-hypotheses-requires-clause-typed g c = c.requires.typed
-
-pub hypotheses-requires-clause-seen : goal.hypotheses-requires-clause-seen
-hypotheses-requires-clause-seen g c = c.requires.seen
+pub hypotheses-requires-clause-ready : goal.hypotheses-requires-clause-ready
+hypotheses-requires-clause-ready g c = c.requires.ready
 
 pub pairs_of-requires-clause-sources : goal.pairs_of-requires-clause-sources
 pairs_of-requires-clause-sources g c = c.requires.sources

@@ -2,23 +2,20 @@ use Rattle.std.proofs.Common.{◌≡◌, length, map, ap, sym, ◌∙◌, subst,
 use Rattle.std.proofs.lemmas.Result.{IfOk-from_err}
 use Rattle.mm_spec.specs.Derivation.{pair}
 use Rattle.mm_spec.specs.Frame.{is_essential}
-use Rattle.mm_database.specs.Frames.{AreFramesUpTo}
 use Rattle.mm_frame.specs.Latest.{AreLatest}
 use Rattle.mm_frame.specs.Hypotheses.{AreTyped}
+use Rattle.mm_frame.specs.Beside.{HasFramesUpTo}
 use Rattle.mm_frame.proofs.FramesLaw.{typed_start, frames_start}
 use Rattle.mm_frame.proofs.frames.frames_of.Goals as goal
 
 pub returns : goal.returns
 returns g c =
-    let fs = c.loop-k.frames in
     let db = c.args.tables.now in
     let e = c.loop-k.auto.k-end in
     let n = c.len-count.ensures.len in
     let m = c.loop-k-test.false in
     let all : c.loop-k.k ≡ length db = omega (arith, e, n, m) in
-    subst (λ k. AreFramesUpTo db k fs.places.items (map (λ x. x.hyps.items) fs.list.items)
-    (map (λ x. map (λ p. pair p.0 p.1) x.pairs.items) fs.list.items)) all
-    c.loop-k.invariant.frames
+    subst (λ k. HasFramesUpTo db k c.loop-k.frames) all c.loop-k.invariant.frames
 
 pub returns-in_err-essentials : goal.returns-in_err-essentials
 returns-in_err-essentials g c =
@@ -53,17 +50,17 @@ add_frame-requires-clause-sources g c = record {
   index_is = c.requires.disjoint_index;
 }
 
-pub add_frame-requires-clause-typed : goal.add_frame-requires-clause-typed
-add_frame-requires-clause-typed g c =
-    subst (λ xs. AreTyped c.args.tables.now c.loop-k.k xs) (sym c.deref-in-loop-k.ensures.value)
-    c.loop-k.invariant.typed
+pub add_frame-requires-clause-ready : goal.add_frame-requires-clause-ready
+add_frame-requires-clause-ready g c = record {
+  typed_are =
+      subst (λ xs. AreTyped c.args.tables.now c.loop-k.k xs) (sym c.deref-in-loop-k.ensures.value)
+      c.loop-k.invariant.typed;
+  fresh = c.loop-k.invariant.seen;
+}
 
 pub add_frame-requires-clause-statement : goal.add_frame-requires-clause-statement
 add_frame-requires-clause-statement g c =
     let t = c.loop-k-test.true in let n = c.len-count.ensures.len in omega (arith, t, n)
-
-pub add_frame-requires-clause-seen : goal.add_frame-requires-clause-seen
-add_frame-requires-clause-seen g c = c.loop-k.invariant.seen
 
 pub add_frame-requires-clause-frames : goal.add_frame-requires-clause-frames
 add_frame-requires-clause-frames g c = c.loop-k.invariant.frames

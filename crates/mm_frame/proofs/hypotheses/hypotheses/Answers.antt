@@ -5,7 +5,6 @@ use Rattle.mm_spec.specs.Frame.{symbol_names}
 use Rattle.mm_frame.specs.Hypotheses.{is_float_of}
 use Rattle.mm_frame.proofs.HypothesesLaw.{found_below, hypotheses_are}
 use Rattle.std.proofs.lemmas.Result.{IfOk-from_err}
-use Rattle.mm_frame.proofs.MarksLaw.{marks_fresh}
 use Rattle.mm_frame.proofs.hypotheses.hypotheses.Goals as goal
 
 pub add_floats-requires-clause-found : goal.add_floats-requires-clause-found
@@ -23,8 +22,8 @@ returns-clause-hyps g c =
     let ts = c.args.typed.now in
     let h = c.requires.assertion in
     let l : k ≤ length db = omega (arith, h) in
-    hypotheses_are db k c.requires.sources.sound l ts c.requires.typed c.mandatory.new.found.items
-    c.in_ok-mandatory.ensures.found c.active_essentials.new.into.items
+    hypotheses_are db k c.requires.sources.sound l ts c.requires.ready.typed_are
+    c.mandatory.new.found.items c.in_ok-mandatory.ensures.found c.active_essentials.new.into.items
     c.sort_and_dedup.new.numbers.items
     c.in_ok-active_essentials.ensures c.sort_and_dedup.ensures.rising
     (λ j. c.sort_and_dedup.ensures.same j ∙ c.in_ok-add_floats.ensures j
@@ -47,20 +46,14 @@ pub mandatory-requires-clause-essentials : goal.mandatory-requires-clause-essent
 mandatory-requires-clause-essentials g c = λ i.
     ap (λ xs. is_member xs i) c.deref.ensures.value ∙ c.in_ok-active_essentials.ensures i
 
-pub mandatory-requires-clause-marks : goal.mandatory-requires-clause-marks
-mandatory-requires-clause-marks g c =
-    marks_fresh (length (symbol_names c.args.sources.now.tables.now)) c.args.assertion
-    c.args.seen.now.items c.clear.new.self.items c.requires.seen.count c.requires.seen.within
-    c.clear.ensures.items
-
-pub mandatory-requires-clause-none : goal.mandatory-requires-clause-none
-mandatory-requires-clause-none g c = ap length c.clear.ensures.items
+pub mandatory-requires-clause-fresh : goal.mandatory-requires-clause-fresh
+mandatory-requires-clause-fresh g c = c.requires.ready.fresh
 
 pub add_floats-requires-clause-at : goal.add_floats-requires-clause-at
 add_floats-requires-clause-at g c = omega arith
 
 pub add_floats-requires-clause-typed : goal.add_floats-requires-clause-typed
-add_floats-requires-clause-typed g c = c.requires.typed
+add_floats-requires-clause-typed g c = c.requires.ready.typed_are
 
 pub returns-clause-marks : goal.returns-clause-marks
 returns-clause-marks g c = c.in_ok-mandatory.ensures.marks

@@ -1,9 +1,10 @@
-use Rattle.std.proofs.Common.{◌&&◌, ◌||◌, ap, ◌∙◌, arith, take_all}
+use Rattle.std.proofs.Common.{◌&&◌, ◌||◌, ap, ◌∙◌, arith, length, take_all}
 use Rattle.std.specs.List.{list_any}
 use Rattle.mm_spec.specs.Derivation.{is_member}
-use Rattle.mm_spec.specs.Frame.{is_variable_number, formula_at}
+use Rattle.mm_spec.specs.Frame.{symbol_names, is_variable_number, formula_at}
 use Rattle.mm_frame.proofs.HypothesesLaw.{mandatory_is, essential_before}
 use Rattle.std.proofs.lemmas.Result.{IfOk-from_err}
+use Rattle.mm_frame.proofs.MarksLaw.{marks_fresh}
 use Rattle.mm_frame.proofs.LoopsLaw.{mandatory_first, mandatory_next}
 use Rattle.mm_frame.proofs.hypotheses.mandatory.Goals as goal
 
@@ -53,16 +54,18 @@ pub note-requires-clause-symbols : goal.note-requires-clause-symbols
 note-requires-clause-symbols g c = c.formula.ensures.known
 
 pub note-requires-clause-marks : goal.note-requires-clause-marks
-note-requires-clause-marks g c = c.requires.marks
+note-requires-clause-marks g c =
+    marks_fresh (length (symbol_names c.args.tables.now)) c.args.assertion c.args.seen.now.items
+    c.clear.new.self.items c.requires.fresh.count c.requires.fresh.within c.clear.ensures.items
 
 pub loop-essential-init : goal.loop-essential-init
 loop-essential-init g c = record {
   marks = c.in_ok-note.ensures.marks;
   found =
       λ x.
-      mandatory_first x c.args.found.now.items c.formula.result.now
+      mandatory_first x c.clear.new.self.items c.formula.result.now
       (formula_at c.args.tables.now c.args.assertion) _ (is_variable_number c.args.tables.now x)
-      c.requires.none c.formula.ensures.formula (c.in_ok-note.ensures.found x);
+      (ap length c.clear.ensures.items) c.formula.ensures.formula (c.in_ok-note.ensures.found x);
 }
 
 pub offset_bounds-essentials-essential-index : goal.offset_bounds-essentials-essential-index

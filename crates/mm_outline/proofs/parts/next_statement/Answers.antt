@@ -24,7 +24,7 @@ loop-at-preserved c =
     let text = c.args.text.now in
     let ws = c.args.tokens.now in
     record {
-      part = passed.part;
+      part = passed.is_part;
       later = omega arith;
       within = passed.within;
       leads =

@@ -11,7 +11,7 @@ returns-in_default c =
     record {
       later = found.later;
       within = found.within;
-      part =
+      is_part =
           part_later c.args.part c.args.at c.next_keyword.result takes found.later c.requires.part;
       leads =
           λ d. passed_upto c.args.text.now c.args.tokens.now d c.args.part c.args.at

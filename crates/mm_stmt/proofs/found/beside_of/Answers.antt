@@ -22,21 +22,17 @@ new-requires-clause-numbered g c =
 
 pub gather-requires : goal.gather-requires
 gather-requires g c =
-    let tables : _ ≡ statements c.args.text.now (words_of c.args.text.now) c.args.read.now.outlines.items =
-    c.new.ensures ∙ ap (statements c.args.text.now (words_of c.args.text.now)) c.deref.ensures.value in
+    let text = c.args.text.now in
+    let tables : _ ≡ statements text (words_of text) c.args.read.now.outlines.items =
+    c.new.ensures ∙ ap (statements text (words_of text)) c.deref.ensures.value in
     rw tables c.requires.kept.keeps.blocks
 
-pub returns-clause-disjoint_index : goal.returns-clause-disjoint_index
-returns-clause-disjoint_index g c =
-    let tables : _ ≡ statements c.args.text.now (words_of c.args.text.now) c.args.read.now.outlines.items =
-    c.new.ensures ∙ ap (statements c.args.text.now (words_of c.args.text.now)) c.deref.ensures.value in
-    rw (sym tables) c.gather.ensures.disjoint_index
-
-pub returns-clause-frames : goal.returns-clause-frames
-returns-clause-frames g c =
-    let tables : _ ≡ statements c.args.text.now (words_of c.args.text.now) c.args.read.now.outlines.items =
-    c.new.ensures ∙ ap (statements c.args.text.now (words_of c.args.text.now)) c.deref.ensures.value in
-    rw (sym tables) c.gather.ensures.frames
+pub returns : goal.returns
+returns g c =
+    let text = c.args.text.now in
+    let tables : _ ≡ statements text (words_of text) c.args.read.now.outlines.items =
+    c.new.ensures ∙ ap (statements text (words_of text)) c.deref.ensures.value in
+    rw (sym tables) c.gather.ensures
 
 pub new-requires-clause-few_symbols : goal.new-requires-clause-few_symbols
 new-requires-clause-few_symbols g c = c.requires.few_symbols

@@ -33,8 +33,10 @@ returns g c w taken =
           (are_symbols _ _ _ _ names.keeps (names_of read.scope.names.symbols)
           c.in_ok-variables.variables.items names.names_are c.in_ok-variables.ensures.count
           c.in_ok-variables.ensures.each);
-      disjoint_index = members_held w db _ _ _ c.in_ok-beside.ensures.disjoint_index;
-      frames = frames_held w db _ _ _ c.in_ok-beside.ensures.frames;
+      beside_is = record {
+        disjoint_index = members_held w db _ _ _ c.in_ok-beside.ensures.disjoint_index;
+        frames = frames_held w db _ _ _ c.in_ok-beside.ensures.frames;
+      };
       taken = taken;
     }
 

@@ -1,11 +1,10 @@
 use Rattle.std.proofs.Common.{◌≡◌, ◌∙◌, ◌≤◌, ◌&&◌, not, length, sym, ap, subst, nat_eq, false}
 use Rattle.std.proofs.lemmas.Bool.{ne_eqb}
-use Rattle.std.specs.List.{list_any}
 use Rattle.mm_spec.specs.Lexed.{tokens_of as words_of}
-use Rattle.mm_spec.specs.Derivation.{is_member}
-use Rattle.mm_spec.specs.Frame.{disjoint_at, is_disjoint_statement, active_of, formula_at}
+use Rattle.mm_spec.specs.Frame.{disjoint_at}
 use Rattle.mm_outline.specs.Statements.{statements}
 use Rattle.mm_database.specs.Database.{held, Contents}
+use Rattle.mm_database.specs.Together.{are_together_at}
 use Rattle.mm_database.proofs.TogetherLaw.{together_is}
 use Rattle.mm_database.proofs.HeldLaw.{blocks_held}
 use Rattle.mm_database.proofs.database.Database.disjoint_at.Goals as goal
@@ -29,7 +28,4 @@ returns-else-are_together_near g c =
     within f.found.beside.disjoint_index.pairs.items c.self.invariant.disjoint_index_is.are
     c.are_together.result x y
     c.are_together.ensures.found c.are_together.ensures.none
-    ∙ sym (ap
-    (λ t. not t
-    && list_any (λ j. is_member (formula_at db j) x && is_member (formula_at db j) y)
-    (active_of is_disjoint_statement db k)) apart))
+    ∙ sym (ap (λ t. not t && are_together_at db k x y) apart))

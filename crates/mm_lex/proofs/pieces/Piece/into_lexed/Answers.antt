@@ -7,14 +7,14 @@ use Rattle.mm_lex.proofs.PiecesLaw.{whole_reading}
 use Rattle.mm_lex.proofs.pieces.Piece.into_lexed.Goals as goal
 
 pub returns-clause-tokens : goal.returns-clause-tokens
-returns-clause-tokens g c = sym (tokens_of_read c.args.text.now _ c.requires.short
-    (whole_reading c.args.text.now c.args.self _ c.requires.summary c.requires.from c.requires.to
+returns-clause-tokens g c text whole = sym (tokens_of_read text _ whole.short
+    (whole_reading text c.args.self _ whole.summary whole.begins whole.ends
     (ap (λ (s : Stretch). s.between) (sym c.self.view_is)
     ∙ ap (option_map between) (c.in-Some.is ∙ ap Some (sym c.in-Some.inner-is)))))
 
 pub returns-clause-fault : goal.returns-clause-fault
-returns-clause-fault g c =
-    c.fault_of.ensures ∙ sym (lexical_fault_read c.args.text.now _ c.requires.short
-    (whole_reading c.args.text.now c.args.self _ c.requires.summary c.requires.from c.requires.to
+returns-clause-fault g c text whole =
+    c.fault_of.ensures ∙ sym (lexical_fault_read text _ whole.short
+    (whole_reading text c.args.self _ whole.summary whole.begins whole.ends
     (ap (λ (s : Stretch). s.between) (sym c.self.view_is)
     ∙ ap (option_map between) (c.in-Some.is ∙ ap Some (sym c.in-Some.inner-is)))))

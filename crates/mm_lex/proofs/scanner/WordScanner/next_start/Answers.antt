@@ -1,5 +1,5 @@
-use Rattle.std.proofs.Common.{◌≡◌, ◌<◌, ◌+◌, ◌∙◌, ℕ, true, false, List, length, sym, ap, subst, w64}
-use Rattle.std.proofs.Common.{arith}
+use Rattle.std.proofs.Common.{◌≡◌, ◌<◌, ◌+◌, ◌∙◌, ℕ, true, false, List, length, refl, sym, ap}
+use Rattle.std.proofs.Common.{subst, arith, w64}
 use Rattle.std.specs.Int.{bit_at, trailing_zeros}
 use Rattle.std.proofs.lemmas.Nat.Bits.{bit_at-trailing_zeros, bit_at-zero}
 use Rattle.mm_spec.specs.Words.{begins_word}
@@ -7,8 +7,8 @@ use Rattle.mm_lex.proofs.BlockLaw.{between_none, cleared_above, cleared_one, cle
 use Rattle.mm_lex.proofs.BlockLaw.{run_on}
 use Rattle.mm_lex.proofs.scanner.WordScanner.next_start.Goals as goal
 
-pub returns-then-to-self-clause-before : goal.returns-then-to-self-clause-before
-returns-then-to-self-clause-before c =
+pub returns-then-to-self-clause-first : goal.returns-then-to-self-clause-first
+returns-then-to-self-clause-first c =
     let b = c.loop-self.self in
     let text = c.args.self.now.text.now in
     let before = c.loop-self.invariant in
@@ -36,8 +36,8 @@ loop-self-preserved c =
           (omega (arith, c.next_block.ensures.from)) lt;
     }
 
-pub returns-then-to-start-clause-before : goal.returns-then-to-start-clause-before
-returns-then-to-start-clause-before c =
+pub returns-then-to-start-clause-first : goal.returns-then-to-start-clause-first
+returns-then-to-start-clause-first c =
     let b = c.loop-self.self in
     let text = c.args.self.now.text.now in
     let before = c.loop-self.invariant in
@@ -75,40 +75,44 @@ invariant_of-self-clause-none c i lt within le none =
     (λ e. omega (arith, e, le)))
     ∙ none)
 
-pub returns-clause-before : goal.returns-clause-before
-returns-clause-before c i low high =
+pub returns-clause-first : goal.returns-clause-first
+returns-clause-first c =
     let b = c.loop-self.self in
     let text = c.args.self.now.text.now in
     let before = c.loop-self.invariant in
     let place =
     bit_at-trailing_zeros w64 b.starts (omega (arith, c.loop-self-test.false)) (omega arith) in
-    run_on (λ t k. begins_word t k ≡ false) b.text.now text b.starts c.args.self.now.from b.from
-    b.base (trailing_zeros w64 b.starts) before.same b.low (omega (arith, place.0)) before.none
-    (λ k _ under. place.2 k under) b.none i low high
-    (omega (arith, c.requires.within, c.if-to-start.false))
+    let within : b.base + trailing_zeros w64 b.starts < length b.text.now =
+    subst (λ (t : List ℕ). b.base + trailing_zeros w64 b.starts < length t) (sym before.same)
+    (omega (arith, c.requires.within, c.if-to-start.false)) in
+    record {
+      low =
+          omega (arith, before.rises, b.further (trailing_zeros w64 b.starts) place.0 place.1);
+      within = omega (arith, c.if-to-start.false);
+      begins =
+          subst (λ (t : List ℕ). begins_word t (b.base + trailing_zeros w64 b.starts) ≡ true)
+          before.same (b.begins (trailing_zeros w64 b.starts) place.0 within place.1);
+      before =
+          λ i low high. run_on (λ t k. begins_word t k ≡ false) b.text.now text b.starts
+          c.args.self.now.from b.from b.base (trailing_zeros w64 b.starts) before.same b.low
+          (omega (arith, place.0)) before.none (λ k _ under. place.2 k under) b.none i low high
+          (omega (arith, c.requires.within, c.if-to-start.false));
+    }
 
-pub returns-clause-begins : goal.returns-clause-begins
-returns-clause-begins c =
+pub returns-clause-taken : goal.returns-clause-taken
+returns-clause-taken c =
     let b = c.loop-self.self in
     let place =
     bit_at-trailing_zeros w64 b.starts (omega (arith, c.loop-self-test.false)) (omega arith) in
     let within : b.base + trailing_zeros w64 b.starts < length b.text.now =
     subst (λ (t : List ℕ). b.base + trailing_zeros w64 b.starts < length t)
     (sym c.loop-self.invariant.same) (omega (arith, c.requires.within, c.if-to-start.false)) in
-    subst (λ (t : List ℕ). begins_word t (b.base + trailing_zeros w64 b.starts) ≡ true)
-    c.loop-self.invariant.same (b.begins (trailing_zeros w64 b.starts) place.0 within place.1)
-
-pub returns-clause-low : goal.returns-clause-low
-returns-clause-low c =
-    let b = c.loop-self.self in
-    let place =
-    bit_at-trailing_zeros w64 b.starts (omega (arith, c.loop-self-test.false)) (omega arith) in
-    omega (
-      arith,
-      c.loop-self.invariant.rises,
-      b.further
-          (trailing_zeros w64 b.starts) place.0 place.1,
-    )
+    record {
+      next = refl;
+      in_block = omega arith;
+      within = within;
+      begins = b.begins (trailing_zeros w64 b.starts) place.0 within place.1;
+    }
 
 pub returns-then-to-self-clause-done : goal.returns-then-to-self-clause-done
 returns-then-to-self-clause-done c =

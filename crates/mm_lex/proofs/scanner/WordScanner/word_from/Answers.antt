@@ -1,9 +1,10 @@
-use Rattle.std.proofs.Common.{◌≡◌, ◌<◌, ◌+◌, ◌∙◌, ℕ, true, false, List, sym, subst, refl}
-use Rattle.std.proofs.Common.{true≢false, arith}
+use Rattle.std.proofs.Common.{◌≡◌, ◌<◌, ◌≤◌, ◌+◌, ◌∙◌, ℕ, true, false, List, length, sym, subst}
+use Rattle.std.proofs.Common.{refl, true≢false, arith}
 use Rattle.std.proofs.lemmas.Bool.{eqb-true}
 use Rattle.mm_spec.specs.Words.{white_at}
 use Rattle.mm_lex.specs.Plain.{plain_at}
-use Rattle.mm_lex.proofs.BlockLaw.{none_inside, run_on, white_one, white_zero}
+use Rattle.mm_lex.proofs.BlockLaw.{found_word, none_inside, plain_word, run_on, white_one}
+use Rattle.mm_lex.proofs.BlockLaw.{white_zero}
 use Rattle.mm_lex.proofs.scanner.WordScanner.word_from.Goals as goal
 use Rattle.mm_lex.proofs.scanner.WordScanner.word_from.Goals.{then-loop-white-test+else-len-blocks-gt64}
 use Rattle.mm_lex.proofs.scanner.WordScanner.word_from.Goals.{else-loop-white-test}
@@ -15,19 +16,19 @@ loop-white-init c =
     let found = c.first_one-white in
     record {
       same = refl;
-      after = omega (arith, c.requires.from);
-      none = λ i low high. absurd (omega (arith, c.requires.from));
-      order = omega (arith, found.ensures.from_here, c.requires.low);
+      after = omega (arith, c.requires.taken.next);
+      none = λ i low high. absurd (omega (arith, c.requires.taken.next));
+      order = omega (arith, found.ensures.from_here, c.requires.taken.in_block);
       few = found.ensures.up_to;
       solid =
           run_on (λ t i. white_at t i ≡ false) text text b.white c.args.start c.args.start b.base
-          found.result refl c.requires.low found.ensures.up_to
+          found.result refl c.requires.taken.in_block found.ensures.up_to
           (λ i low high _. absurd (omega arith)) found.ensures.zeros
           (λ i lt inside _. white_zero text b.base b.white b.white_is i lt inside);
       ends = found.ensures.one;
       plain = λ quiet. let same = eqb-true c.first_one.result found.result quiet in
           run_on (λ t i. plain_at t i ≡ true) text text b.stops c.args.start c.args.start b.base
-          found.result refl c.requires.low found.ensures.up_to
+          found.result refl c.requires.taken.in_block found.ensures.up_to
           (λ i low high _. absurd (omega arith))
           (λ i low high. c.first_one.ensures.zeros i low (omega (arith, same)))
           (λ i lt inside _. b.plain i lt inside);
@@ -122,9 +123,24 @@ loop-white-preserved c =
       plain = λ quiet. absurd (true≢false (sym quiet ∙ c.if-plain.false));
     }
 
-pub returns-clause-white : goal.returns-clause-white
-returns-clause-white c inside =
+pub returns-clause-onward : goal.returns-clause-onward
+returns-clause-onward c = record {
+  later = c.loop-white.invariant.after;
+  none = c.loop-white.invariant.none;
+}
+
+pub returns-clause-word : goal.returns-clause-word
+returns-clause-word c =
+    let text = c.args.self.text.now in
+    let start = c.args.start in
+    let end = c.min-end.result in
     let b = c.loop-white.blocks in
+    let known = c.loop-white.invariant in
+    let begun = c.requires.taken in
+    let order : start ≤ end =
+    omega (arith, known.order, begun.within, c.min-end.ensures) in
+    let within : end ≤ length text = omega (arith, c.min-end.ensures) in
+    let after : end < length text → white_at text end ≡ true = λ inside.
     let small : c.loop-white.white < 64 = elim c.loop-white-test.branch [
       | then-loop-white-test+else-len-blocks-gt64 w ↦ absurd
           (omega (
@@ -136,11 +152,21 @@ returns-clause-white c inside =
           ))
       | else-loop-white-test w ↦ omega (arith, c.loop-white.invariant.few, w.loop-white-test.false)
     ] in
-    let here : b.base + c.loop-white.white ≡ c.min-end.result =
-    omega (arith, inside, c.min-end.ensures) in
+    let here : b.base + c.loop-white.white ≡ end = omega (arith, inside, c.min-end.ensures) in
     let one =
     (white_one b.text.now b.base b.white b.white_is c.loop-white.white small
-    (c.loop-white.invariant.ends small)).1 in
-    subst (λ (i : ℕ). white_at c.args.self.text.now i ≡ true) here
-    (subst (λ (t : List ℕ). white_at t (b.base + c.loop-white.white) ≡ true)
-    c.loop-white.invariant.same one)
+    (known.ends small)).1 in
+    subst (λ (i : ℕ). white_at text i ≡ true) here
+    (subst (λ (t : List ℕ). white_at t (b.base + c.loop-white.white) ≡ true) known.same one) in
+    record {
+      start_is = refl;
+      is_word =
+          found_word text start end begun.begins begun.within order within
+          (λ i low high. known.solid i low (omega (arith, high, c.min-end.ensures))
+          (omega (arith, high, within)))
+          after;
+      is_plain =
+          λ quiet. plain_word text start end order within
+          (λ i low high. known.plain quiet i low (omega (arith, high, c.min-end.ensures))
+          (omega (arith, high, within)));
+    }

@@ -1,0 +1,34 @@
+-- The words of a text, one after another: where the next one begins, and what it is.
+use Rattle.std.specs.Prelude.{◌≡◌, ℕ, ◌+◌, ◌<◌, ◌≤◌, Bool, true, false, List, length}
+use Rattle.mm_spec.specs.Words.{begins_word}
+use Rattle.mm_spec.specs.Laws.Words.{IsWord}
+use Rattle.mm_spec.specs.Readings.{bytes_of}
+use Rattle.mm_spec.specs.declared.Word.{Word}
+use Rattle.mm_lex.specs.Plain.{IsPlain}
+
+module _ (text : List ℕ) where
+  -- the first place from `from` on, and before `to`, at which a word begins
+  pub record IsFirst (from to start : ℕ) : Type 0 where
+    pub low : from ≤ start
+    pub within : start < to
+    pub begins : begins_word text start ≡ true
+    pub before : (i : ℕ) → from ≤ i → i < start → begins_word text i ≡ false
+
+  -- A word begins at `start`, which isn't before the block at `base`, and of the words those that
+  -- begin before `from`, the place after `start`, have been taken or left out.
+  pub record IsTaken (base from start : ℕ) : Type 0 where
+    pub next : from ≡ start + 1
+    pub in_block : base ≤ start
+    pub within : start < length text
+    pub begins : begins_word text start ≡ true
+
+  -- no word begins after `start` and before `from`, which is a later place
+  pub record IsPassed (start from : ℕ) : Type 0 where
+    pub later : start < from
+    pub none : (i : ℕ) → start < i → i < from → begins_word text i ≡ false
+
+  -- the word that begins at `start`; if `plain` is true, it is plain
+  pub record IsWordFrom (start : ℕ) (word : Word) (plain : Bool) : Type 0 where
+    pub start_is : word.start ≡ start
+    pub is_word : IsWord text word
+    pub is_plain : plain ≡ true → IsPlain (bytes_of text word)
