@@ -18,7 +18,7 @@ use Rattle.mm_database.specs.Database.{kind_of, last_place, Contents, contents, 
 use Rattle.mm_database.specs.Kept.{is_labelled_kind}
 use Rattle.mm_database.specs.Kinds.{counted_as, is_theorem_kind, is_axiom_kind}
 use Rattle.mm_database.proofs.KindsLaw.{own_kind, still_theorem, open_made, proof_made}
-use Rattle.mm_spec.specs.Opened.{as_axiom, is_open}
+use Rattle.mm_spec.specs.Opened.{as_axiom, is_open_theorem}
 use Rattle.mm_spec.proofs.OpenedLaw.{got_axiom, counted_got, counted_then, counted_length}
 use Rattle.mm_outline.specs.declared.parts.Kind.{Kind}
 use Rattle.mm_outline.specs.declared.parts.Kind.TheVariants as kind
@@ -123,7 +123,7 @@ module _ (text : List ℕ) (ws : List Word) where
   pub open_is : (w : Bool) (os : List Outline) (k : ℕ) (d : Outline) (x : Kind) → k < length os
       → option_map kind_of (slice_get (held text ws os w) k) ≡ Some x
       → (is_theorem_kind (get_or os k d).kind && is_axiom_kind x)
-      ≡ (w && list_any is_open (statement_at (statements text ws os) k))
+      ≡ (w && list_any is_open_theorem (statement_at (statements text ws os) k))
   open_is w os k d x h e =
       let o = get_or os k d in
       let some : Some (kind_of (counted_as w (statement_of text ws o))) ≡ Some x =
@@ -131,7 +131,7 @@ module _ (text : List ℕ) (ws : List Word) where
       let is : kind_of (counted_as w (statement_of text ws o)) ≡ x = cc in
       ap (λ c. is_theorem_kind o.kind && is_axiom_kind c) (sym is)
       ∙ open_made text ws w o.kind o.keyword o.middle o.end
-      ∙ ap (λ s. w && list_any is_open (elim s [ None ↦ [] | Some s ↦ s ∷ [] ]))
+      ∙ ap (λ s. w && list_any is_open_theorem (elim s [ None ↦ [] | Some s ↦ s ∷ [] ]))
       (sym (statement_is text ws os k d h))
 
   pub label_stands : (o : Outline) → IsOutline o × (o.end < length ws) → AreWithin text ws

@@ -10,7 +10,7 @@ use Rattle.std.proofs.lemmas.List.{length-map, map-append, take_more}
 use Rattle.std.proofs.lemmas.Option.{slice_get-get_or}
 use Rattle.mm_spec.specs.Statement.{Statement, constants, variables, disjoint, floating, essential}
 use Rattle.mm_spec.specs.Statement.{axiomatic, provable, opening, closing, proof_of}
-use Rattle.mm_spec.specs.Opened.{is_open_proof, is_open, as_axiom, counted}
+use Rattle.mm_spec.specs.Opened.{is_open_proof, is_open_theorem, as_axiom, counted}
 use Rattle.mm_spec.specs.Scope.{statement_at}
 use Rattle.mm_spec.specs.Citation.{is_theorem}
 use Rattle.mm_spec.specs.Output.{is_column, theorems, columns}
@@ -184,7 +184,7 @@ module _ (text : List ℕ) (ws : List Word) where
   -- what is a theorem and counts as an axiom is an open one
   pub open_made : (w : Bool) (o : Kind) (k m e : ℕ)
       → (is_theorem_kind o && is_axiom_kind (kind_of (counted_as w (made text ws o k m e))))
-      ≡ (w && list_any is_open (made text ws o k m e ∷ []))
+      ≡ (w && list_any is_open_theorem (made text ws o k m e ∷ []))
   open_made false kind.Theorem k m e = refl
   open_made false kind.Open k m e = refl
   open_made false kind.Close k m e = refl

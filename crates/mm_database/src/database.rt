@@ -7,7 +7,7 @@ ghost use Rattle.std.specs.Prelude.{false};
 ghost use Rattle.std.specs.Option.{option_map, option_copied, option_and_then};
 ghost use Rattle.std.specs.List.{list_any};
 ghost use Rattle.mm_spec.specs.Statement.{label_of, proof_of};
-ghost use Rattle.mm_spec.specs.Opened.{counted, is_open};
+ghost use Rattle.mm_spec.specs.Opened.{counted, is_open_theorem};
 ghost use Rattle.mm_spec.specs.Scope.{is_active, statement_at};
 ghost use Rattle.mm_spec.specs.Derivation.{pair};
 ghost use Rattle.mm_spec.specs.Frame.{symbol_names, is_variable_number, formula_at};
@@ -134,9 +134,10 @@ impl<'a, A: Allocator> Database<'a, A> {
     }
 
     /// Whether there is such a statement and it is an open theorem that counts as an axiom.
-    pub fn is_open(&self, statement: u32) -> bool
+    pub fn is_open_theorem(&self, statement: u32) -> bool
         ensures { result
-            ≡ (self.now.with_open && list_any is_open (statement_at self.now.read statement)) }
+            ≡ (self.now.with_open
+            && list_any is_open_theorem (statement_at self.now.read statement)) }
     {
         if statement >= self.len() {
             return false;

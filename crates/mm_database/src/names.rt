@@ -1,6 +1,7 @@
 //! The names before a statement: symbols and labels.
 
-ghost use Rattle.std.specs.Prelude.{◌≡◌, OnOk, IfOk, IfSome, true, false, length, slice_get, get_or};
+ghost use Rattle.std.specs.Prelude.{◌≡◌, OnOk, IfOk, IfSome, true, false, length, slice_get};
+ghost use Rattle.std.specs.Prelude.{get_or};
 ghost use Rattle.std.specs.Prelude.{ℕ, List, [], is_some, Some, None, if◌then◌else◌, bytes_eq};
 ghost use Rattle.std.specs.Option.{option_map};
 ghost use Rattle.mm_spec.specs.Frame.{place_of};

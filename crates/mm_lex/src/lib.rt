@@ -6,7 +6,6 @@
 ghost use Rattle.std.specs.Prelude.{◌≡◌, ◌<◌, ◌≤◌, ◌+◌, length, IfOk, is_some};
 ghost use Rattle.mm_spec.specs.Lexed.{fault_in, lexical_fault, tokens_of};
 
-mod scanner;
 mod bytes;
 mod cuts;
 mod ends;
@@ -15,6 +14,7 @@ mod modes;
 mod pieces;
 mod roles;
 mod runs;
+mod scanner;
 
 use crate::runs::read_text;
 pub use cuts::{Cuts, CutsFault};

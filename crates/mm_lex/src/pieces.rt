@@ -10,9 +10,9 @@ ghost use Rattle.mm_lex.specs.Stretches.{joined_word};
 ghost use Rattle.mm_spec.specs.Lexed.{fault_in, lexical_fault, tokens_of};
 ghost use Rattle.mm_spec.specs.Words.{words_between};
 
-use crate::scanner::WordScanner;
 use crate::ends::bounds;
-use crate::modes::{ModeReading, CommentState};
+use crate::modes::{CommentState, ModeReading};
+use crate::scanner::WordScanner;
 use crate::{Code, Fault, Lexed, TEXT_LIMIT, Word};
 use std::alloc::{AllocError, Allocator};
 use std::marker::Model;

@@ -74,10 +74,10 @@ simple_parts a h =
     }
 
 -- the argument at a place, and its rule
-pub rule_at : (xs : List Arg) (rules : List Rule) (k : ℕ) (d : Arg) (r : Rule)
+pub rule_in_place : (xs : List Arg) (rules : List Rule) (k : ℕ) (d : Arg) (r : Rule)
     → map rule_of xs ≡ rules → k < length xs
     → rule_of (slice_index_or xs k d) ≡ slice_index_or rules k r
-rule_at xs rules k d r e lt =
+rule_in_place xs rules k d r e lt =
     sym (get_or-map rule_of xs k d r lt) ∙ ap (λ (l : List Rule). slice_index_or l k r) e
 
 -- an entry is found by its id

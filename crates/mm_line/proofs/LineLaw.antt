@@ -47,7 +47,7 @@ use Rattle.mm_line.specs.Lines.{command_of, flag_rule, number_rule, only_rule, r
 use Rattle.mm_line.specs.Lines.{file_rule, form_rule, form_word, form_words, report_word}
 use Rattle.mm_line.specs.Lines.{report_words, Says}
 use Rattle.mm_line.specs.Found.{Finds, HasForm, HasNumber, HasReport, IsFor}
-use Rattle.mm_line.proofs.EntryLaw.{Defaulted, default_reads, nothing_in, rule_at, simple_parts}
+use Rattle.mm_line.proofs.EntryLaw.{Defaulted, default_reads, nothing_in, rule_in_place, simple_parts}
 use Rattle.mm_plan.specs.declared.Cutting.TheVariants.{Count}
 use Rattle.mm_plan.specs.Plans.{IsLawfulCutting, only_of}
 use Rattle.mm_line.specs.declared.command_line.Line.{Line}
@@ -299,7 +299,7 @@ module _ (names forms : Bor (List (Bor Text))) where
         let some = some_arg (args_of c) k inside in
         let a = some.0 in
         let rule : rule_of a ≡ slice_index_or the_rules k file_rule =
-        ap rule_of (sym some.1) ∙ rule_at (args_of c) the_rules k a file_rule rules inside in
+        ap rule_of (sym some.1) ∙ rule_in_place (args_of c) the_rules k a file_rule rules inside in
         let same_id : a.id.now ≡ id = ap (λ (r : Rule). r.id) rule ∙ id_is in (
           a,
           record {
@@ -317,7 +317,7 @@ module _ (names forms : Bor (List (Bor Text))) where
             unique =
                 λ j e l h. only j (subst (λ (n : ℕ). j < n) count l)
                 (subst (λ (r : Rule). bytes_eq r.id id ≡ true)
-                (rule_at (args_of c) the_rules j e file_rule rules l) h);
+                (rule_in_place (args_of c) the_rules j e file_rule rules l) h);
             named = named;
             own =
                 λ auto. own

@@ -69,16 +69,16 @@ module _ (k : List Statement) (t : ℕ) (hs : List Formula) (xs : Arena) (es : L
   abbrev pub cache : ℕ × ℕ → Bool
   cache p = are_all_disjoint (context_at k t) (stands xs es p.0) (stands xs es p.1)
 
-  pub apart_same : (pairs : List Pair)
+  pub disjoint_same : (pairs : List Pair)
       → AllByRecursion
       (λ p. IsBound (context_at k t) hs p.low × IsBound (context_at k t) hs p.high) pairs
       → list_all cache (map (λ (p : Pair). (first k hs p.low, first k hs p.high)) pairs)
       ≡ list_all (λ p. are_all_disjoint (context_at k t) (σ p.low) (σ p.high)) pairs
-  apart_same [] b = refl
-  apart_same (p ∷ pairs) b =
+  disjoint_same [] b = refl
+  disjoint_same (p ∷ pairs) b =
       ap₂ (λ u v. u && v)
       (ap₂ (are_all_disjoint (context_at k t)) (stands_is p.low b.0.0) (stands_is p.high b.0.1))
-      (apart_same pairs b.1)
+      (disjoint_same pairs b.1)
 
 pub length_all_parts : (parts : List RuleSymbol) (j : ℕ) (more : List Hypothesis)
     → length (all_parts parts j more) ≡ length more
@@ -123,7 +123,7 @@ judged k t c xs stack premises rule fits top inside many b1 b2 e1 e2 =
     (all_same k t hs xs premises inside count hs rule.complete.hypotheses)
     ∙ ap (map (replaced xs premises)) (sym rule.hypotheses_are) in
     let p : list_all (λ p. are_all_disjoint (context_at k t) (σ' p.low) (σ' p.high)) a.pairs ≡ b2 =
-    sym (apart_same k t hs xs premises inside count a.pairs rule.complete.pairs)
+    sym (disjoint_same k t hs xs premises inside count a.pairs rule.complete.pairs)
     ∙ ap (list_all (cache k t hs xs premises inside count)) (sym rule.pairs_are) ∙ sym e2 in
     let f : substitute (context_at k t) σ' a.formula ≡ replaced xs premises c.formula =
     sym (one_same k t hs xs premises inside count a.formula rule.complete.formula)

@@ -107,7 +107,8 @@ applied k t a es = step (context_at k t) (Some (assertion (frame_at k a))) es
 
 -- The entries after a step that takes those from index `below` on as its premises, and pushes the
 -- parts with each variable replaced. It fails if that formula is too long.
-abbrev pub entries_after : Arena → List Span → ℕ → List RuleSymbol → Result (List Formula) SpecReason
+abbrev pub entries_after : Arena → List Span → ℕ → List RuleSymbol
+    → Result (List Formula) SpecReason
 entries_after a es below parts =
     pick true true true (nat_le (length (replaced a (drop below es) parts)) formula_limit)
     (take below (texts a es) ++ replaced a (drop below es) parts ∷ [])

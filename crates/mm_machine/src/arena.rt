@@ -4,7 +4,8 @@ ghost use Rattle.std.specs.Prelude.{◌≡◌, ◌<◌, ◌≤◌, ℕ, All, len
 ghost use Rattle.std.specs.Prelude.{map, List, OnOk, IfOk, true, ◌++◌, ◌∷◌, nat_le, get_or};
 ghost use Rattle.std.specs.Prelude.{◌+◌};
 ghost use Rattle.std.specs.List.{starts_with, list_all};
-ghost use Rattle.mm_spec.specs.Derivation.{are_all_disjoint as apart_lists, is_disjoint_from as apart_symbol};
+ghost use Rattle.mm_spec.specs.Derivation.{are_all_disjoint as disjoint_lists};
+ghost use Rattle.mm_spec.specs.Derivation.{is_disjoint_from as disjoint_symbol};
 ghost use Rattle.mm_spec.specs.Derivation.{are_disjoint as disjoint_pair};
 ghost use Rattle.mm_spec.specs.Limits.{formula_limit};
 ghost use Rattle.mm_spec.specs.Frame.{symbol_names};
@@ -19,7 +20,7 @@ ghost use Rattle.mm_machine.specs.State.{TestsRule};
 
 use crate::disjoint_cache::DisjointCache;
 use mm_database::{Database, Sym};
-use mm_rule::{Hypothesis, RuleSymbol, Rule};
+use mm_rule::{Hypothesis, Rule, RuleSymbol};
 use mm_spec::FORMULA_LIMIT;
 use std::alloc::{AllocError, Allocator};
 use std::marker::Model;
@@ -240,7 +241,7 @@ fn is_disjoint_from<A: Allocator>(
     requires s { s < length (symbol_names db.now.statements) }
     requires others { All (λ s. s < length (symbol_names db.now.statements)) others.now }
     requires cache { AreDisjointAt db.now.statements theorem cache.old }
-    ensures value { result ≡ apart_symbol (context_at db.now.statements theorem) s others.now }
+    ensures value { result ≡ disjoint_symbol (context_at db.now.statements theorem) s others.now }
     ensures cache { AreDisjointAt db.now.statements theorem cache.new }
 {
     if !db.is_variable(s) {
@@ -267,7 +268,7 @@ fn are_all_disjoint<A: Allocator>(
     requires second { All (λ s. s < length (symbol_names db.now.statements)) second.now }
     requires cache { AreDisjointAt db.now.statements theorem cache.old }
     ensures value { result
-        ≡ apart_lists (context_at db.now.statements theorem) first.now second.now }
+        ≡ disjoint_lists (context_at db.now.statements theorem) first.now second.now }
     ensures cache { AreDisjointAt db.now.statements theorem cache.new }
 {
     for s in first {
@@ -296,7 +297,7 @@ fn pairs_are_disjoint<A: Allocator>(
     requires cache { AreDisjointAt db.now.statements theorem cache.old }
     ensures value { result
         ≡ list_all
-        (λ (p : ℕ × ℕ). apart_lists (context_at db.now.statements theorem)
+        (λ (p : ℕ × ℕ). disjoint_lists (context_at db.now.statements theorem)
         (stands symbols.now premises.now p.0) (stands symbols.now premises.now p.1)) pairs.now }
     ensures cache { AreDisjointAt db.now.statements theorem cache.new }
 {

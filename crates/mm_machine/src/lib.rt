@@ -9,12 +9,12 @@
 //! [`DisjointCache::restart`].
 #![tactic(auto)]
 
-mod disjoint_cache;
 mod arena;
+mod disjoint_cache;
 mod fill;
 mod machine;
 mod symbol_list;
 
-pub use disjoint_cache::DisjointCache;
 pub use arena::Reason;
+pub use disjoint_cache::DisjointCache;
 pub use machine::{Machine, Stopped};

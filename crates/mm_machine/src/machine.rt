@@ -13,12 +13,12 @@ ghost use Rattle.mm_machine.specs.State.{first_own as first_own_of, made_of, ent
 ghost use Rattle.mm_machine.specs.State.{IsStack, IsStackOf, IsRising, IsKept, Moves};
 ghost use Rattle.mm_machine.specs.Stops.{Stops};
 
-use crate::disjoint_cache::DisjointCache;
 use crate::arena::{Reason, Span, Store, Symbols, build, test_rule};
+use crate::disjoint_cache::DisjointCache;
 use crate::fill::fill;
 use crate::symbol_list::SymbolList;
 use mm_database::{Database, Sym};
-use mm_rule::{RuleSymbol, Rule, empty, put_number, zeros};
+use mm_rule::{Rule, RuleSymbol, empty, put_number, zeros};
 use std::alloc::{AllocError, Allocator};
 use std::marker::Model;
 

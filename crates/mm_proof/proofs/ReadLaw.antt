@@ -19,7 +19,7 @@ use Rattle.mm_spec.specs.declared.Word.{Word}
 use Rattle.mm_outline.specs.Parts.{as_tokens}
 
 -- a theorem with these words after its `$=`
-pub record IsTheorem (db : List Statement) (k : ℕ) (ps : List Token) : Type 0 where
+pub record IsProvable (db : List Statement) (k : ℕ) (ps : List Token) : Type 0 where
   pub label : Token
   pub keyword : ℕ
   pub symbols : List Token
@@ -28,12 +28,12 @@ pub record IsTheorem (db : List Statement) (k : ℕ) (ps : List Token) : Type 0 
   pub is : slice_get db k ≡ Some (provable label keyword symbols equals ps dot)
 
 pub theorem_is : (db : List Statement) (k : ℕ) (ps : List Token) → is_theorem_at db k ≡ true
-    → option_map proof_of (slice_get db k) ≡ Some ps → IsTheorem db k ps
+    → option_map proof_of (slice_get db k) ≡ Some ps → IsProvable db k ps
 theorem_is db k ps h q = by (slice_get db k) refl h q
   where
     by : (o : Option Statement) → slice_get db k ≡ o
         → list_any is_theorem (elim o [ None ↦ [] | Some s ↦ s ∷ [] ]) ≡ true
-        → option_map proof_of o ≡ Some ps → IsTheorem db k ps
+        → option_map proof_of o ≡ Some ps → IsProvable db k ps
     by None e h q = absurd (true≢false (sym h))
     by (Some (provable l p xs a qs d)) e h q =
         let same : qs ≡ ps = cc in
@@ -47,7 +47,7 @@ theorem_is db k ps h q = by (slice_get db k) refl h q
         }
     by (Some s) e h q = absurd (true≢false (sym h))
 
-pub theorem_within : (db : List Statement) (k : ℕ) (ps : List Token) → IsTheorem db k ps
+pub theorem_within : (db : List Statement) (k : ℕ) (ps : List Token) → IsProvable db k ps
     → k < length db
 theorem_within db k ps t = within db k _ t.is
   where
@@ -58,13 +58,13 @@ theorem_within db k ps t = within db k _ t.is
     within (x ∷ db) (suc k) s e = let h = within db k s e in omega (arith, h)
 
 -- its last token is the one at its end
-pub end_is : (db : List Statement) (k end : ℕ) (ps : List Token) (t : IsTheorem db k ps)
+pub end_is : (db : List Statement) (k end : ℕ) (ps : List Token) (t : IsProvable db k ps)
     → option_map last_place (slice_get db k) ≡ Some end → t.dot ≡ end
 end_is db k end ps t e =
     let same : Some t.dot ≡ Some end = sym (ap (option_map last_place) t.is) ∙ e in cc
 
 -- the reading faults of a compressed proof
-pub compressed_at : (db : List Statement) (k : ℕ) (ps : List Token) (t : IsTheorem db k ps)
+pub compressed_at : (db : List Statement) (k : ℕ) (ps : List Token) (t : IsProvable db k ps)
     → (first : Token) (rest : List Token)
     → ps ≡ first ∷ rest → bytes_eq first.word (codes "(") ≡ true
     → reading_faults_at db k ≡ compressed_faults db k t.dot (bracketed rest)
@@ -77,14 +77,14 @@ compressed_at db k ps t first rest is e =
     ]) e
 
 -- the faults of a proof without words
-pub empty_at : (db : List Statement) (k : ℕ) (ps : List Token) (t : IsTheorem db k ps) → ps ≡ []
+pub empty_at : (db : List Statement) (k : ℕ) (ps : List Token) (t : IsProvable db k ps) → ps ≡ []
     → reading_faults_at db k ≡ fault t.dot EmptyProof ∷ []
 empty_at db k ps t is =
     ap (λ o. elim o [ Some (provable l p xs a qs d) ↦ reading_faults db k d qs | _ ↦ [] ]) t.is
     ∙ ap (reading_faults db k t.dot) is
 
 -- those of a normal proof
-pub normal_at : (db : List Statement) (k : ℕ) (ps : List Token) (t : IsTheorem db k ps)
+pub normal_at : (db : List Statement) (k : ℕ) (ps : List Token) (t : IsProvable db k ps)
     → (first : Token) (rest : List Token)
     → ps ≡ first ∷ rest → bytes_eq first.word (codes "(") ≡ false
     → reading_faults_at db k ≡ flat_map (word_faults db k) ps
@@ -98,12 +98,12 @@ normal_at db k ps t first rest is e =
     ∙ ap (flat_map (word_faults db k)) (sym is)
 
 -- the steps of a proof
-theorem_steps : (db : List Statement) (k : ℕ) (ps : List Token) (t : IsTheorem db k ps)
+theorem_steps : (db : List Statement) (k : ℕ) (ps : List Token) (t : IsProvable db k ps)
     → steps_at db k ≡ steps db k ps
 theorem_steps db k ps t =
     ap (λ o. elim o [ Some (provable l p xs a qs d) ↦ steps db k qs | _ ↦ [] ]) t.is
 
-pub compressed_steps_at : (db : List Statement) (k : ℕ) (ps : List Token) (t : IsTheorem db k ps)
+pub compressed_steps_at : (db : List Statement) (k : ℕ) (ps : List Token) (t : IsProvable db k ps)
     → (first : Token) (rest : List Token)
     → ps ≡ first ∷ rest → bytes_eq first.word (codes "(") ≡ true
     → steps_at db k ≡ compressed_steps db k (bracketed rest)
@@ -114,7 +114,7 @@ compressed_steps_at db k ps t first rest is e =
       | false ↦ normal_steps db k (first ∷ rest)
     ]) e
 
-pub normal_steps_at : (db : List Statement) (k : ℕ) (ps : List Token) (t : IsTheorem db k ps)
+pub normal_steps_at : (db : List Statement) (k : ℕ) (ps : List Token) (t : IsProvable db k ps)
     → (first : Token) (rest : List Token)
     → ps ≡ first ∷ rest → bytes_eq first.word (codes "(") ≡ false
     → steps_at db k ≡ normal_steps db k ps

@@ -2,7 +2,7 @@
 
 ghost use Rattle.std.specs.Prelude.{◌≡◌, ◌&&◌, count_by, length};
 ghost use Rattle.std.specs.List.{list_any};
-ghost use Rattle.mm_spec.specs.Opened.{is_open};
+ghost use Rattle.mm_spec.specs.Opened.{is_open_theorem};
 ghost use Rattle.mm_spec.specs.Scope.{statement_at};
 ghost use Rattle.mm_report.specs.Rows.{open_theorems as spec_open_theorems};
 
@@ -28,12 +28,12 @@ pub(crate) fn open_theorems<A: Allocator, D: Allocator>(
 fn open_count<A: Allocator, D: Allocator>(database: &Database<'_, D>, chosen: &Columns<A>) -> u64
     ensures { result
         ≡ count_by
-        (λ a. database.now.with_open && list_any is_open (statement_at database.now.read a))
+        (λ a. database.now.with_open && list_any is_open_theorem (statement_at database.now.read a))
         chosen.now }
 {
     let mut count = 0u64;
     for statement in chosen.statements() {
-        if database.is_open(*statement) {
+        if database.is_open_theorem(*statement) {
             count += 1;
         }
     }

@@ -15,4 +15,4 @@ mod rule;
 pub use frames::{hyps, is_assertion, is_essential_hypothesis, pairs};
 pub use lists::empty;
 pub use numbers::{put_number, zeros};
-pub use rule::{Hypothesis, RuleSymbol, Rule, Stretch};
+pub use rule::{Hypothesis, Rule, RuleSymbol, Stretch};

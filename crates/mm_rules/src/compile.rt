@@ -13,7 +13,7 @@ ghost use Rattle.mm_rules.specs.Rules.{AreCovered, AreFirstNumbers, AreCompiled,
 ghost use Rattle.mm_rules.specs.Rules.{numbered_parts, numbered_pairs};
 
 use mm_database::{Database, Sym};
-use mm_rule::{Hypothesis, RuleSymbol, Rule, Stretch, empty, hyps, pairs, zeros};
+use mm_rule::{Hypothesis, Rule, RuleSymbol, Stretch, empty, hyps, pairs, zeros};
 use std::alloc::{AllocError, Allocator};
 use std::marker::Model;
 

@@ -8,7 +8,7 @@ ghost use Rattle.mm_rules.specs.Rules.{AreRules, IsRuleNumber, lists, no_stretch
 
 use crate::compile::RuleCompiler;
 use mm_database::Database;
-use mm_rule::{Hypothesis, RuleSymbol, Rule, Stretch, is_assertion, put_number, zeros};
+use mm_rule::{Hypothesis, Rule, RuleSymbol, Stretch, is_assertion, put_number, zeros};
 use std::alloc::{AllocError, Allocator};
 use std::marker::Model;
 

@@ -4,7 +4,7 @@ use Rattle.std.proofs.Common.{None, refl, ap, ap₂, subst, inr, if◌then◌els
 use Rattle.std.specs.Prelude.{count_by}
 use Rattle.std.specs.List.{list_any}
 use Rattle.mm_spec.specs.Text.{Bytes}
-use Rattle.mm_spec.specs.Opened.{is_open, counted}
+use Rattle.mm_spec.specs.Opened.{is_open_theorem, counted}
 use Rattle.mm_spec.specs.Scope.{statement_at}
 use Rattle.mm_spec.specs.Request.{Request}
 use Rattle.mm_spec.specs.Output.{columns, lexed_of, HasNoFault, IsReportOf, IsOutput}
@@ -12,17 +12,17 @@ use Rattle.mm_database.specs.Database.{Contents}
 use Rattle.mm_report.specs.Rows.{open_theorems}
 use Rattle.mm_run.specs.Counted.{IsCounted}
 
-told : (d : Contents) (w : Bool) (only : Option Bytes) (axioms : List ℕ) → IsCounted w d
+open_line_is : (d : Contents) (w : Bool) (only : Option Bytes) (axioms : List ℕ) → IsCounted w d
     → axioms ≡ columns d.statements only
     → open_theorems w d axioms
     ≡ (if w then Some
-    (count_by (λ a. list_any is_open (statement_at d.read a))
+    (count_by (λ a. list_any is_open_theorem (statement_at d.read a))
     (columns (counted true d.read) only)) else None)
-told d true only axioms h is =
+open_line_is d true only axioms h is =
     ap₂ (λ (b : Bool) (xs : List ℕ). Some
-    (count_by (λ a. b && list_any is_open (statement_at d.read a)) xs)) h.flag (is
+    (count_by (λ a. b && list_any is_open_theorem (statement_at d.read a)) xs)) h.flag (is
     ∙ ap (λ db. columns db only) h.statements)
-told d false only axioms h is = refl
+open_line_is d false only axioms h is = refl
 
 pub written : (text : List ℕ) (request : Request) (d : Contents) (axioms bytes : List ℕ)
     → IsCounted request.with_open d
@@ -36,7 +36,7 @@ written text request d axioms bytes h sound is report =
       d.read,
       sound,
       subst (λ o. IsReportOf request.choice (counted request.with_open d.read) o request bytes)
-          (told d request.with_open request.only axioms h is)
+          (open_line_is d request.with_open request.only axioms h is)
           (subst (λ db. IsReportOf request.choice db
           (open_theorems request.with_open d axioms) request bytes) h.statements report),
     )

@@ -13,8 +13,8 @@ abbrev pub size : Trees → ℕ
 size none = 0
 size (more ts l f cs) = suc (size ts)
 
--- Some node that counts has this label. The root at place n of the forest counts if `place n`; child
--- n of a node that counts and has label l counts if `counts l n`. Places are counted from 0.
+-- Some node that counts has this label. The root at place n of the forest counts if `place n`;
+-- child n of a node that counts and has label l counts if `counts l n`. Places are counted from 0.
 abbrev pub HasNode : (ℕ → ℕ → Bool) → (ℕ → Bool) → Trees → ℕ → Type 0
 HasNode counts place none a = ⊥
 HasNode counts place (more ts l f cs) a =

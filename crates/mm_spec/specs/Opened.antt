@@ -12,9 +12,9 @@ is_open_proof (t ∷ u ∷ v ∷ []) =
     bytes_eq t.word (codes "(") && bytes_eq u.word (codes ")") && bytes_eq v.word (codes "?")
 is_open_proof _ = false
 
-abbrev pub is_open : Statement → Bool
-is_open (provable l k xs e ps d) = is_open_proof ps
-is_open _ = false
+abbrev pub is_open_theorem : Statement → Bool
+is_open_theorem (provable l k xs e ps d) = is_open_proof ps
+is_open_theorem _ = false
 
 -- an open theorem becomes the `$a` with its label, symbols and end; any other statement stays
 abbrev pub as_axiom : Statement → Statement

@@ -8,7 +8,7 @@ use Rattle.mm_spec.specs.Readings.{bytes_of}
 use Rattle.mm_spec.specs.Lexed.{tokens_of, lexical_fault}
 use Rattle.mm_spec.specs.Statement.{Statement, axiomatic, provable, AreLongestStatements, ShapeFault}
 use Rattle.mm_spec.specs.Statement.{FileEndFault, symbols_of}
-use Rattle.mm_spec.specs.Opened.{is_open, counted}
+use Rattle.mm_spec.specs.Opened.{is_open_theorem, counted}
 use Rattle.mm_spec.specs.Scope.{statement_at, label_words}
 use Rattle.mm_spec.specs.Lawful.{least, scope_fault, IsLawful}
 use Rattle.mm_spec.specs.Frame.{formula_at}
@@ -145,7 +145,8 @@ IsCitingRowOf db request t r =
 abbrev pub open_columns : List Statement → Request → Option ℕ
 open_columns db request =
     if request.with_open then Some
-    (count_by (λ a. list_any is_open (statement_at db a)) (columns (counted true db) request.only))
+    (count_by (λ a. list_any is_open_theorem (statement_at db a))
+    (columns (counted true db) request.only))
     else None
 
 -- the report on a database: on what its theorems cite, or on what they rest on; `open_theorems`

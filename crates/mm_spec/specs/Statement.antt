@@ -135,4 +135,5 @@ pub record FileEndFault (len : ℕ) (tokens : List Token) (f : Fault) : Type 0 w
   pub are_statements : AreLongestStatements tokens statements
   pub code : ((are_statements.rest ≢ []) × (f ≡ fault len OpenStatement))
       ⊎ ((are_statements.rest ≡ [])
-      × (count_by is_closing statements < count_by is_opening statements) × (f ≡ fault len OpenBlock))
+      × (count_by is_closing statements < count_by is_opening statements)
+      × (f ≡ fault len OpenBlock))

@@ -9,17 +9,19 @@ use Rattle.mm_spec.specs.Steps.{marked}
 use Rattle.mm_spec.proofs.BoolLaw.{or_none}
 use Rattle.mm_steps.specs.declared.placed.Placed.{Placed}
 use Rattle.mm_steps.specs.Read.{is_marked, takes_up}
-use Rattle.mm_steps.specs.Flags.{step_by, told_one, told, nothing, AreFlags}
+use Rattle.mm_steps.specs.Flags.{step_by, placed_of, placed_steps, nothing, AreFlags}
 
--- a step that is told as before changes no other
-pub told_set : (ps : List Placed) (j : ℕ) (q : Placed) → told_one q ≡ told_one (get_or ps j nothing)
-    → told (slice_set ps j q) ≡ told ps
-told_set [] j q e = refl
-told_set (p ∷ ps) zero q e = ap (λ z. z ∷ told ps) e
-told_set (p ∷ ps) (suc j) q e = ap (λ z. told_one p ∷ z) (told_set ps j q e)
+-- a step that is placed_steps as before changes no other
+pub placed_steps_set : (ps : List Placed) (j : ℕ) (q : Placed)
+    → placed_of q ≡ placed_of (get_or ps j nothing)
+    → placed_steps (slice_set ps j q) ≡ placed_steps ps
+placed_steps_set [] j q e = refl
+placed_steps_set (p ∷ ps) zero q e = ap (λ z. z ∷ placed_steps ps) e
+placed_steps_set (p ∷ ps) (suc j) q e = ap (λ z. placed_of p ∷ z) (placed_steps_set ps j q e)
 
-pub told_more : (ps : List Placed) (p : Placed) → told (ps ++ p ∷ []) ≡ told ps ++ told_one p ∷ []
-told_more ps p = map-append told_one ps (p ∷ [])
+pub placed_steps_more : (ps : List Placed) (p : Placed)
+    → placed_steps (ps ++ p ∷ []) ≡ placed_steps ps ++ placed_of p ∷ []
+placed_steps_more ps p = map-append placed_of ps (p ∷ [])
 
 unflagged : (ps : List Placed) (p : Placed) (i : ℕ) → p.is_marked ≡ false
     → (get_or (ps ++ p ∷ []) i nothing).is_marked ≡ (get_or ps i nothing).is_marked
@@ -34,34 +36,34 @@ or_end false true = refl
 or_end false false = refl
 
 one_more : (ps : List Placed) (p : Placed) (i : ℕ)
-    → is_marked (told (ps ++ p ∷ [])) i
-    ≡ (is_marked (told ps) i || takes_up i (step_by p.kind p.number))
+    → is_marked (placed_steps (ps ++ p ∷ [])) i
+    ≡ (is_marked (placed_steps ps) i || takes_up i (step_by p.kind p.number))
 one_more ps p i =
-    ap (λ z. is_marked z i) (told_more ps p)
-    ∙ list_any-append (λ s. takes_up i s.step) (told ps) (told_one p ∷ [])
-    ∙ or_end (is_marked (told ps) i) (takes_up i (step_by p.kind p.number))
+    ap (λ z. is_marked z i) (placed_steps_more ps p)
+    ∙ list_any-append (λ s. takes_up i s.step) (placed_steps ps) (placed_of p ∷ [])
+    ∙ or_end (is_marked (placed_steps ps) i) (takes_up i (step_by p.kind p.number))
 
 -- a marked step more, and the flag of the one that it takes up
 pub flag_more : (ps qs : List Placed) (p q : Placed) (j : ℕ) → AreFlags ps → qs ≡ ps ++ p ∷ []
     → p.is_marked ≡ false → step_by p.kind p.number ≡ marked j → j < length ps
-    → told_one q ≡ told_one (get_or qs j nothing) → q.is_marked ≡ true → AreFlags (slice_set qs j q)
+    → placed_of q ≡ placed_of (get_or qs j nothing) → q.is_marked ≡ true → AreFlags (slice_set qs j q)
 flag_more ps qs p q j old more plain takes inside same flag i = by (i == j) refl
   where
-    now : is_marked (told (slice_set qs j q)) i ≡ (is_marked (told ps) i || (i == j))
+    now : is_marked (placed_steps (slice_set qs j q)) i ≡ (is_marked (placed_steps ps) i || (i == j))
     now =
-        ap (λ z. is_marked z i) (told_set qs j q same) ∙ ap (λ z. is_marked (told z) i) more
-        ∙ one_more ps p i ∙ ap (λ s. is_marked (told ps) i || takes_up i s) takes
+        ap (λ z. is_marked z i) (placed_steps_set qs j q same) ∙ ap (λ z. is_marked (placed_steps z) i) more
+        ∙ one_more ps p i ∙ ap (λ s. is_marked (placed_steps ps) i || takes_up i s) takes
 
     by : (b : Bool) → (i == j) ≡ b
-        → (get_or (slice_set qs j q) i nothing).is_marked ≡ is_marked (told (slice_set qs j q)) i
+        → (get_or (slice_set qs j q) i nothing).is_marked ≡ is_marked (placed_steps (slice_set qs j q)) i
     by true e =
         ap (λ z. (get_or (slice_set qs j q) z nothing).is_marked) (eqb-true i j e)
         ∙ ap (λ z. z.is_marked)
         (get_or-set_same qs j q nothing
         (let n = ap length more in omega (arith, n, length-append ps (p ∷ []))))
-        ∙ flag ∙ sym (now ∙ or_right (is_marked (told ps) i) (i == j) e)
+        ∙ flag ∙ sym (now ∙ or_right (is_marked (placed_steps ps) i) (i == j) e)
     by false e =
         ap (λ z. z.is_marked)
         (get_or-set_other qs j i q nothing (λ h. true≢false (sym (eq-eqb i j h) ∙ e)))
         ∙ ap (λ z. (get_or z i nothing).is_marked) more
-        ∙ unflagged ps p i plain ∙ old i ∙ sym (now ∙ or_none (is_marked (told ps) i) (i == j) e)
+        ∙ unflagged ps p i plain ∙ old i ∙ sym (now ∙ or_none (is_marked (placed_steps ps) i) (i == j) e)

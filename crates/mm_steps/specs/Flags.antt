@@ -11,12 +11,12 @@ abbrev pub step_by : Kind → ℕ → spec.Step
 step_by Label n = label n
 step_by Marked n = marked n
 
-abbrev pub told_one : Placed → PlacedStep
-told_one p = placed p.at (step_by p.kind p.number)
+abbrev pub placed_of : Placed → PlacedStep
+placed_of p = placed p.at (step_by p.kind p.number)
 
 -- the steps that the stored ones stand for
-abbrev pub told : List Placed → List PlacedStep
-told ps = map told_one ps
+abbrev pub placed_steps : List Placed → List PlacedStep
+placed_steps ps = map placed_of ps
 
 -- no step
 abbrev pub nothing : Placed
@@ -24,4 +24,4 @@ nothing = record { at = 0; number = 0; kind = Label; is_marked = false }
 
 -- each step's flag says whether the step is marked, and past the last step none is
 abbrev pub AreFlags : List Placed → Type 0
-AreFlags ps = (i : ℕ) → (get_or ps i nothing).is_marked ≡ is_marked (told ps) i
+AreFlags ps = (i : ℕ) → (get_or ps i nothing).is_marked ≡ is_marked (placed_steps ps) i

@@ -46,11 +46,11 @@ pub struct Steps<A: Allocator> {
 
 impl<A: Allocator> Model for Steps<A> {
     ghost use Rattle.mm_steps.specs.Read.{Read, read};
-    ghost use Rattle.mm_steps.specs.Flags.{told, AreFlags};
+    ghost use Rattle.mm_steps.specs.Flags.{placed_steps, AreFlags};
 
     ghost Value = { Read };
 
-    ghost view = { λ s. read s.theorem (told s.steps.items) };
+    ghost view = { λ s. read s.theorem (placed_steps s.steps.items) };
 
     ghost invariant = { λ s. AreFlags s.steps.items };
 }

@@ -1,5 +1,5 @@
 use Rattle.std.proofs.Common.{sym, ◌∙◌}
-use Rattle.mm_machine.proofs.ApartLaw.{either_disjoint, either_kept}
+use Rattle.mm_machine.proofs.DisjointLaw.{either_disjoint, either_kept}
 use Rattle.mm_machine.proofs.arena.are_disjoint.Goals as goal
 
 pub returns-then-has-clause-value : goal.returns-then-has-clause-value

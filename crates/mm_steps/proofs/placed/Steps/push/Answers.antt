@@ -5,8 +5,8 @@ use Rattle.mm_spec.specs.Steps.{placed}
 use Rattle.mm_steps.specs.declared.placed.Placed.{Placed}
 use Rattle.mm_steps.specs.declared.placed.Kind.TheVariants.{Marked}
 use Rattle.mm_steps.specs.Read.{read, as_step, IsEarlier}
-use Rattle.mm_steps.specs.Flags.{told, told_one, nothing}
-use Rattle.mm_steps.proofs.FlagsLaw.{flag_more, told_set, told_more}
+use Rattle.mm_steps.specs.Flags.{placed_steps, placed_of, nothing}
+use Rattle.mm_steps.proofs.FlagsLaw.{flag_more, placed_steps_set, placed_steps_more}
 use Rattle.mm_steps.proofs.placed.Steps.push.Goals as goal
 
 pub invariant_of-self-in-Marked : goal.invariant_of-self-in-Marked
@@ -20,13 +20,13 @@ invariant_of-self-in-Marked g c =
     let early : j < length c.args.self.now.steps =
     subst (λ s. IsEarlier (as_step s) (length c.args.self.now.steps)) c.in-Marked.is c.requires in
     let long : length c.args.self.now.steps ≡ length ps =
-    ap (λ r. length r.steps) (sym c.self.view_is) ∙ length-map ps told_one in
+    ap (λ r. length r.steps) (sym c.self.view_is) ∙ length-map ps placed_of in
     let inside : j < length qs =
     let n = ap length more in omega (arith, early, long, n, length-append ps (p ∷ [])) in
     let there : now ≡ get_or qs j nothing =
     c.index_mut.ensures.value ∙ sym (get_or_default qs j nothing now inside) in
     flag_more ps qs p _ j c.self.invariant more refl refl (omega (arith, early, long))
-    (ap told_one there) refl
+    (ap placed_of there) refl
 
 pub returns-in_ok-push-in-Marked-clause-ok : goal.returns-in_ok-push-in-Marked-clause-ok
 returns-in_ok-push-in-Marked-clause-ok g c =
@@ -39,13 +39,13 @@ returns-in_ok-push-in-Marked-clause-ok g c =
     let early : j < length c.args.self.now.steps =
     subst (λ s. IsEarlier (as_step s) (length c.args.self.now.steps)) c.in-Marked.is c.requires in
     let long : length c.args.self.now.steps ≡ length ps =
-    ap (λ r. length r.steps) (sym c.self.view_is) ∙ length-map ps told_one in
+    ap (λ r. length r.steps) (sym c.self.view_is) ∙ length-map ps placed_of in
     let inside : j < length qs =
     let n = ap length more in omega (arith, early, long, n, length-append ps (p ∷ [])) in
     let there : now ≡ get_or qs j nothing =
     c.index_mut.ensures.value ∙ sym (get_or_default qs j nothing now inside) in
     ap (read c.self.inside.theorem)
-    (told_set qs j _ (ap told_one there) ∙ ap told more ∙ told_more ps p
-    ∙ ap (λ s. told ps ++ placed c.args.at (as_step s) ∷ []) (sym c.in-Marked.is))
+    (placed_steps_set qs j _ (ap placed_of there) ∙ ap placed_steps more ∙ placed_steps_more ps p
+    ∙ ap (λ s. placed_steps ps ++ placed c.args.at (as_step s) ∷ []) (sym c.in-Marked.is))
     ∙ ap (λ r. read r.theorem (r.steps ++ placed c.args.at (as_step c.args.step) ∷ []))
     c.self.view_is
