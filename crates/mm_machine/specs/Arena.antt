@@ -39,7 +39,7 @@ pub record IsArena (width : ℕ) (a : Arena) : Type 0 where
   pub own : All (λ s. s < width) a.own
   pub kept : All (λ s. s < width) a.kept
 
--- entries of an arena for `width` symbols
+-- entries of an arena for `width` symbols: each is a stretch of one of its lists
 pub record AreEntries (width : ℕ) (a : Arena) (es : List Span) : Type 0 where
   pub known : IsArena width a
   pub inside : All (IsIn a) es

@@ -63,7 +63,8 @@ pub record IsStack (own kept : List ℕ) (es : List Span) : Type 0 where
   pub inside : All (IsIn (arena own kept)) es
   pub follow : Follow 0 es (length own)
 
--- the entries of a machine for `width` symbols: each symbol is less than that
+-- the stack of a machine for `width` symbols: entries as above, over symbols that are each less than
+-- that
 pub record IsStackOf (width : ℕ) (own kept : List ℕ) (es : List Span) : Type 0 where
   pub known : IsArena width (arena own kept)
   pub is_stack : IsStack own kept es

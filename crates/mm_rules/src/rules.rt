@@ -1,6 +1,7 @@
 //! The rules of the assertions of a database.
 
-ghost use Rattle.std.specs.Prelude.{◌≡◌, ◌<◌, ◌++◌, [], length, get_or, OnOk, IfOk, IfSome};
+ghost use Rattle.std.specs.Prelude.{◌≡◌, ◌<◌, ◌++◌, [], List, length, get_or, OnOk, IfOk, IfSome};
+ghost use Rattle.mm_spec.specs.Statement.{Statement};
 ghost use Rattle.mm_spec.specs.Frame.{symbol_names};
 ghost use Rattle.mm_spec.specs.Laws.Complete.{AreComplete};
 ghost use Rattle.mm_rule.specs.Rule.{IsCompiled};
@@ -124,7 +125,7 @@ impl<A: Allocator> Rules<A> {
             return Ok(());
         }
         compiler.make(db, k)?;
-        self.add(db, compiler.rule())
+        self.add(compiler.rule())
     }
 
     /// Whether there is room for one more rule.
@@ -133,11 +134,10 @@ impl<A: Allocator> Rules<A> {
         held.saturating_add(self.parts.len()) < MAX_HELD
     }
 
-    /// Adds a rule.
-    fn add(&mut self, _db: &Database<A>, rule: Rule) -> Result<(), AllocError>
-        requires rules { AreRules _db.now.statements self.old }
-        requires rule { IsCompiled _db.now.statements rule }
-        ensures { OnOk result (AreRules _db.now.statements self.new) }
+    /// Adds a rule. If the rules are those of a database, and this is one of them, they still are.
+    fn add(&mut self, rule: Rule) -> Result<(), AllocError>
+        ensures { OnOk result ((k : List Statement) → AreRules k self.old → IsCompiled k rule.entry
+            → AreRules k self.new) }
     {
         let number = self.stretches.len();
         let hypotheses = put(&mut self.hypotheses, rule.hypotheses)?;

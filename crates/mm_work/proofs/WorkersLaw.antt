@@ -171,22 +171,6 @@ module _ {A : Type 0} (job : Job A) where
     over = λ short. absurd (true≢false (sym out ∙ short));
   }
 
-  -- a worker that found no number left
-  pub ended : (w : Worked A) (s : SeatValue) → IsBetweenTheorems job w → IsSeatOf job.board.now s
-      → s.view ≡ record w.seat.view { over = true }
-      → IsDone job (record { seat = s; found = w.found })
-  ended w s b at is = record {
-    between =
-        record {
-          at = at;
-          closed = ap (λ (v : View). v.open_number) is ∙ b.closed;
-          tells =
-              λ short. same_told w s (ap (λ (v : View). v.settled) is)
-              (ap (λ (v : View). v.reported) is) (b.tells short);
-        };
-    over = λ short. ap (λ (v : View). v.over) is;
-  }
-
   -- a worker that claimed number i
   pub claimed : (i : ℕ) (w : Worked A) (s : SeatValue) → IsOfDatabase job → IsBetweenTheorems job w
       → i < job.board.now.count → IsSeatOf job.board.now s

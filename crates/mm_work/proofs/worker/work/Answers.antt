@@ -1,6 +1,6 @@
 use Rattle.std.proofs.Common.{◌∙◌, Bool, ap, refl}
 use Rattle.mm_board.specs.declared.views.View.{View}
-use Rattle.mm_work.proofs.WorkersLaw.{begun, not_begun, claimed, ended, fresh_drawn}
+use Rattle.mm_work.proofs.WorkersLaw.{begun, not_begun, claimed, fresh_drawn}
 use Rattle.mm_work.proofs.worker.work.Goals as goal
 
 pub returns-in_default : goal.returns-in_default
@@ -49,8 +49,3 @@ loop-index-preserved g c = record {
       c.settle_drawn.ensures.over ∙ ap (λ (v : View). v.over) c.in-Some.ensures.some
       ∙ c.loop-index.invariant.not_over;
 }
-
-pub returns : goal.returns
-returns g c =
-    ended c.args.job.now c.loop-index.worked c.claim.new.seat c.loop-index.invariant.between
-    c.claim.ensures.home c.in_default-claim.ensures.none

@@ -7,14 +7,13 @@ use Rattle.mm_rules.proofs.rules.Rules.add.Goals as goal
 
 pub returns : goal.returns
 returns g c =
-    let k = c.args._db.now.statements in
     let i = c.self.inside in
     let r = c.rule.inside in
     let a = c.in_ok-hypotheses in
     let p = c.in_ok-pairs in
     let q = c.in_ok-parts in
     let f = c.in_ok-formula in
-    added_at k i.stretches.items c.push.new.self.items i.hypotheses.items r.hypotheses.now
+    λ k rules rule. added_at k i.stretches.items c.push.new.self.items i.hypotheses.items r.hypotheses.now
     c.put.new.list.items
     i.pairs.items r.pairs.now c.put-2.new.list.items i.parts.items r.parts.now r.formula.now
     c.put-3.new.list.items c.put-4.new.list.items
@@ -22,8 +21,8 @@ returns g c =
     c.in_ok-push.ensures.items a.ensures.items p.ensures.items q.ensures.items f.ensures.items
     a.ensures.start a.ensures.end p.ensures.start p.ensures.end q.ensures.start q.ensures.end
     f.ensures.start f.ensures.end
-    (subst (λ (z : Compiled). IsCompiled k z) (sym c.rule.view_is) c.requires.rule)
-    (subst (λ (z : RuleLists). AreRules k z) (sym c.self.view_is) c.requires.rules)
+    (subst (λ (z : Compiled). IsCompiled k z) (sym c.rule.view_is) rule)
+    (subst (λ (z : RuleLists). AreRules k z) (sym c.self.view_is) rules)
 
 pub overflow_cast-rule-inside : goal.overflow_cast-rule-inside
 overflow_cast-rule-inside g c = omega arith

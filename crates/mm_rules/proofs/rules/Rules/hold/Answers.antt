@@ -1,5 +1,6 @@
-use Rattle.std.proofs.Common.{sym, ◌∙◌}
-use Rattle.std.proofs.lemmas.Result.{IfOk-from_err}
+use Rattle.std.proofs.Common.{sym, subst, ◌∙◌}
+use Rattle.std.proofs.lemmas.Result.{IfOk-from_err, on_ok_weaker}
+use Rattle.mm_rule.specs.Rule.{IsCompiled}
 use Rattle.mm_rules.proofs.CompleteLaw.{complete_at}
 use Rattle.mm_rules.proofs.rules.Rules.hold.Goals as goal
 
@@ -11,3 +12,10 @@ make-requires-clause-complete g c =
 pub returns-in_err-make-clause-rules : goal.returns-in_err-make-clause-rules
 returns-in_err-make-clause-rules g c =
     IfOk-from_err c.from_residual.result _ c.from_residual.ensures.0
+
+pub returns-clause-rules : goal.returns-clause-rules
+returns-clause-rules g c =
+    on_ok_weaker c.add.result
+    (λ keeps. keeps c.args.db.now.statements c.requires.rules
+    (subst (IsCompiled c.args.db.now.statements) (sym c.rule.ensures) c.in_ok-make.ensures.made))
+    c.add.ensures
