@@ -8,11 +8,7 @@ use std::alloc::{AllocError, Allocator};
 pub fn zeros<A: Allocator>(alloc: A, count: usize) -> Result<Vec<u32, A>, AllocError>
     ensures { IfOk result (λ p. length p.items ≡ count) }
 {
-    let mut numbers = Vec::with_capacity(alloc, count)?;
-    for _ in 0..count {
-        numbers.push(0)?;
-    }
-    Ok(numbers)
+    vec![in alloc; 0; count]
 }
 
 /// Writes `number` at index `i`, if the list has that index and the number fits in 32 bits.
