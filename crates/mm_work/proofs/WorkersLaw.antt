@@ -354,7 +354,8 @@ module _ {A : Type 0} (job : Job A) where
 
   -- one more worker's seat
   pub gathered_more : (s u : SeatValue) (fs gs : List (Findings A)) (w : Worked A)
-      → gs ≡ fs ++ w.found ∷ [] → AreGathered job s fs → IsDone job w → w.found.short_of_memory ≡ false
+      → gs ≡ fs ++ w.found ∷ [] → AreGathered job s fs → IsDone job w
+      → w.found.short_of_memory ≡ false
       → IsSeatOf job.board.now u → u.view ≡ after_join s.view w.seat.view
       → AreGathered job u gs
   gathered_more s u fs gs w are h d short at is =

@@ -49,7 +49,8 @@ loop-one-preserved g c =
     c.loop-one-test.true
     (elim c.in_default.branch [
       | in_default-via-in-None-1 w ↦ grind arith
-      | in_default-via-in-Some+else-faulty-index w ↦ other_index _ _ _ w.in-Some.is w.if-faulty-index.false
+      | in_default-via-in-Some+else-faulty-index w ↦
+          other_index _ _ _ w.in-Some.is w.if-faulty-index.false
     ])
     c.loop-one.invariant
 
