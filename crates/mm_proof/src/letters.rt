@@ -229,8 +229,8 @@ impl<A: Allocator> Progress<A> {
             (letters_from word.start (slice_range text.now word.start word.end)) e) }
     {
         begin_at(number, word.start);
-        for at in word.start..word.end {
-            self.read(number, at, text[at as usize])?;
+        for i in word.start as usize..word.end as usize {
+            self.read(number, i as u32, text[i])?;
         }
         Ok(())
     }
