@@ -1,158 +1,298 @@
--- Words that are kept: those of one statement more, and those of a statement.
-use Rattle.std.proofs.Common.{◌≡◌, ℕ, zero, suc, ◌+◌, ◌-◌, ◌<◌, ◌≤◌, true, List, [], ◌∷◌, ◌++◌}
-use Rattle.std.proofs.Common.{length, flat_map, take, drop, get_or, slice_range, if◌then◌else◌}
-use Rattle.std.proofs.Common.{refl, sym, ap, ap₂, ◌∙◌, arith, append-nil, append_assoc}
-use Rattle.std.proofs.Common.{length-append, ◌⊎◌, inl, inr}
-use Rattle.std.proofs.lemmas.List.{get_or_push, get_or_append_left, take-append-le}
-use Rattle.std.proofs.lemmas.Grind.{flat_map-append}
-use Rattle.std.proofs.lemmas.Bool.{cases_lt}
-use Rattle.std.proofs.Math.Seq.{take-length, take-append_seam, get_or-append_seam}
+-- The kept words of statements: that they are the tokens of these, and what they answer.
+use Rattle.std.proofs.Common.{◌≡◌, ℕ, zero, suc, ◌+◌, ◌-◌, ◌<◌, ◌≤◌, Bool, true, false, List, []}
+use Rattle.std.proofs.Common.{◌∷◌, ◌++◌, length, map, take, drop, get_or, slice_get, slice_range}
+use Rattle.std.proofs.Common.{All}
+use Rattle.std.proofs.Common.{Option, Some, None, refl, sym, ap, ap₂, ◌∙◌, subst, arith}
+use Rattle.std.proofs.Common.{append_assoc}
+use Rattle.std.proofs.Common.{length-append, if◌then◌else◌}
+use Rattle.std.specs.Option.{option_map, option_and_then}
+use Rattle.std.proofs.lemmas.List.{length-map}
+use Rattle.std.proofs.lemmas.List.Elements.{All-append, All-take, All-drop}
+use Rattle.std.proofs.lemmas.Option.{slice_get-get_or, slice_get_within}
+use Rattle.std.proofs.Math.Seq.{take-append_seam, get_or-append_seam}
+use Rattle.mm_spec.specs.Text.{Token}
+use Rattle.mm_spec.specs.Statement.{Statement, constants, variables, disjoint, floating, essential}
+use Rattle.mm_spec.specs.Statement.{axiomatic, provable, opening, closing, label_of, proof_of}
+use Rattle.mm_spec.specs.Opened.{counted}
+use Rattle.mm_spec.specs.declared.Fault.{Fault}
 use Rattle.mm_spec.specs.declared.Word.{Word}
-use Rattle.mm_outline.specs.Parts.{nth_word}
+use Rattle.mm_spec.proofs.OpenedLaw.{counted_got, counted_then, counted_length}
+use Rattle.mm_outline.specs.Parts.{AreWithin, HasEnd, IsOutline, as_tokens, between, made, nth_word}
+use Rattle.mm_outline.specs.Parts.{statement_of, token_of}
+use Rattle.mm_outline.specs.Statements.{statements}
+use Rattle.mm_outline.specs.declared.parts.Kind.{Kind}
+use Rattle.mm_outline.specs.declared.parts.Kind.TheVariants as kind
 use Rattle.mm_outline.specs.declared.parts.Outline.{Outline}
-use Rattle.mm_database.specs.Kept.{AreKept, kept_words, label_word, is_labelled_kind}
-use Rattle.mm_database.proofs.SpacedLaw.{slice_flat_map, prefixes_rise, prefix_within}
+use Rattle.mm_outline.proofs.StatementsLaw.{get_mapped, statement_is}
+use Rattle.mm_database.specs.Database.{Contents, contents, kind_of}
+use Rattle.mm_database.specs.Kept.{AreKept, IsKept, is_labelled_kind, kept_words, label_tokens}
+use Rattle.mm_database.specs.Kept.{label_word, last_place}
+use Rattle.mm_database.proofs.KindsLaw.{theorem_at}
 
-first : {X : Type 0} (xs : List X) (k : ℕ) (d : X) → k < length xs
-    → take 1 (drop k xs) ≡ get_or xs k d ∷ []
-first [] k d h = absurd (omega arith)
-first (x ∷ xs) zero d h = refl
-first (x ∷ xs) (suc k) d h = first xs k d (omega arith)
+-- ---- what is kept of an outline is that of its statement
 
--- no statements
-pub kept_none : (ws words : List Word) (starts : List ℕ) → words ≡ [] → starts ≡ 0 ∷ []
-    → AreKept ws [] words starts
-kept_none ws words starts none e =
-    record {
-      words_are = none;
-      count = ap length e;
-      start = λ k l. ap (λ ss. get_or ss k 0) e ∙ by k l;
+module _ (text : List ℕ) (ws : List Word) where
+  label_made : (o : Kind) (k m e : ℕ)
+      → as_tokens text (label_word ws (record { kind = o; keyword = k; middle = m; end = e }))
+      ≡ label_tokens (made text ws o k m e)
+  label_made kind.Theorem k m e = refl
+  label_made kind.Open k m e = refl
+  label_made kind.Close k m e = refl
+  label_made kind.Constants k m e = refl
+  label_made kind.Variables k m e = refl
+  label_made kind.Disjoint k m e = refl
+  label_made kind.Floating k m e = refl
+  label_made kind.Essential k m e = refl
+  label_made kind.Axiom k m e = refl
+
+  none_between : (m e : ℕ) → m ≡ e → between text ws (m + 1) e ≡ []
+  none_between m e h =
+      let n : e - (m + 1) ≡ 0 = omega arith in ap (λ n. as_tokens text (take n (drop (m + 1) ws))) n
+
+  proof_made : (o : Kind) (k m e : ℕ) → HasEnd o k m e
+      → between text ws (m + 1) e ≡ proof_of (made text ws o k m e)
+  proof_made kind.Theorem k m e h = refl
+  proof_made kind.Open k m e h = none_between m e h.1
+  proof_made kind.Close k m e h = none_between m e h.1
+  proof_made kind.Constants k m e h = none_between m e h
+  proof_made kind.Variables k m e h = none_between m e h
+  proof_made kind.Disjoint k m e h = none_between m e h
+  proof_made kind.Floating k m e h = none_between m e h
+  proof_made kind.Essential k m e h = none_between m e h
+  proof_made kind.Axiom k m e h = none_between m e h
+
+  last_made : (o : Kind) (k m e : ℕ) → HasEnd o k m e
+      → (nth_word ws e).start ≡ last_place (made text ws o k m e)
+  last_made kind.Theorem k m e h = refl
+  last_made kind.Open k m e h = ap (λ i. (nth_word ws i).start) (sym (h.0 ∙ h.1))
+  last_made kind.Close k m e h = ap (λ i. (nth_word ws i).start) (sym (h.0 ∙ h.1))
+  last_made kind.Constants k m e h = ap (λ i. (nth_word ws i).start) (sym h)
+  last_made kind.Variables k m e h = ap (λ i. (nth_word ws i).start) (sym h)
+  last_made kind.Disjoint k m e h = ap (λ i. (nth_word ws i).start) (sym h)
+  last_made kind.Floating k m e h = ap (λ i. (nth_word ws i).start) (sym h)
+  last_made kind.Essential k m e h = ap (λ i. (nth_word ws i).start) (sym h)
+  last_made kind.Axiom k m e h = ap (λ i. (nth_word ws i).start) (sym h)
+
+  module _ (words : AreWithin text ws) where
+    abbrev IsInside : Word → Type 0
+    IsInside w = (w.start ≤ w.end) × (w.end ≤ length text)
+
+    within_one : (i : ℕ) → i < length ws → AreWithin text (nth_word ws i ∷ [])
+    within_one i l zero d h = words i (record { start = 0; end = 0 }) l
+    within_one i l (suc n) d h = absurd (omega arith)
+
+    within_label : (o : Outline) → IsOutline o × (o.end < length ws)
+        → AreWithin text (label_word ws o)
+    within_label o h = by (is_labelled_kind o.kind)
+      where
+        by : (b : Bool) → AreWithin text (if b then nth_word ws (o.keyword - 1) ∷ [] else [])
+        by true =
+            let a = h.0.2 in let b = h.0.3 in let e = h.1 in
+            within_one (o.keyword - 1) (omega (arith, a, b, e))
+        by false = λ k d l. absurd (omega arith)
+
+    kept_is : (o : Outline) → IsOutline o × (o.end < length ws)
+        → IsKept text (statement_of text ws o) (kept_words ws o)
+    kept_is o h = record {
+      label = label_word ws o;
+      proof = slice_range ws (o.middle + 1) o.end;
+      last = nth_word ws o.end;
+      words_are = refl;
+      within =
+          All-append IsInside (label_word ws o) _ (within_label o h)
+          (All-append IsInside (slice_range ws (o.middle + 1) o.end) _
+          (All-take IsInside (o.end - (o.middle + 1)) (drop (o.middle + 1) ws)
+          (All-drop IsInside (o.middle + 1) ws words))
+          (within_one o.end h.1));
+      label_is = label_made o.kind o.keyword o.middle o.end;
+      proof_is = proof_made o.kind o.keyword o.middle o.end h.0.4;
+      last_is = last_made o.kind o.keyword o.middle o.end h.0.4;
     }
-  where
-    by : (k : ℕ) → k ≤ 0 → get_or (0 ∷ []) k 0 ≡ length (flat_map (kept_words ws) (take k []))
-    by zero l = refl
-    by (suc k) l = absurd (omega arith)
 
--- one statement more
-pub kept_more : (ws : List Word) (os : List Outline) (o : Outline) (words : List Word)
-    → (starts : List ℕ)
-    → AreKept ws os words starts
-    → AreKept ws (os ++ o ∷ []) (words ++ kept_words ws o)
-    (starts ++ length (words ++ kept_words ws o) ∷ [])
-kept_more ws os o words starts h = record {
-  words_are = more;
-  count =
-      length-append starts (length (words ++ kept_words ws o) ∷ []) ∙ ap (λ n. n + 1) h.count
-      ∙ ap (λ n. n + 1) (sym counts);
-  start = λ i l. by i l (cases_lt i (length os + 1));
-}
-  where
-    counts : length (os ++ o ∷ []) ≡ length os + 1
-    counts = length-append os (o ∷ [])
+    pub kept_are : (os : List Outline) → All (λ o. IsOutline o × (o.end < length ws)) os
+        → AreKept text (statements text ws os) (map (kept_words ws) os)
+    kept_are os h =
+        record {
+          count = length-map os (kept_words ws) ∙ sym (length-map os (statement_of text ws));
+          each = each;
+        }
+      where
+        each : (k : ℕ) (s : Statement) → slice_get (statements text ws os) k ≡ Some s
+            → IsKept text s (get_or (map (kept_words ws) os) k [])
+        each k s e =
+            let d : Outline = record { kind = kind.Open; keyword = 0; middle = 0; end = 0 } in
+            let n = length-map os (statement_of text ws) in
+            let l : k < length os =
+            let m = slice_get_within (statements text ws os) k s e in omega (arith, m, n) in
+            let is : Some (statement_of text ws (get_or os k d)) ≡ Some s =
+            sym (statement_is text ws os k d l) ∙ e in
+            let same : statement_of text ws (get_or os k d) ≡ s = cc in
+            subst (λ t. IsKept text t (get_or (map (kept_words ws) os) k [])) same
+            (subst (IsKept text (statement_of text ws (get_or os k d)))
+            (sym (get_mapped (kept_words ws) os k d [] l)) (kept_is (get_or os k d) (h k d l)))
 
-    more : words ++ kept_words ws o ≡ flat_map (kept_words ws) (os ++ o ∷ [])
-    more =
-        ap₂ (λ x y. x ++ y) h.words_are (sym (append-nil (kept_words ws o)))
-        ∙ sym (flat_map-append (kept_words ws) os (o ∷ []))
+-- ---- what the kept words of a statement answer
 
-    by : (i : ℕ) → i ≤ length (os ++ o ∷ []) → (i < length os + 1) ⊎ (length os + 1 ≤ i)
-        → get_or (starts ++ length (words ++ kept_words ws o) ∷ []) i 0
-        ≡ length (flat_map (kept_words ws) (take i (os ++ o ∷ [])))
-    by i l (inl s) =
-        let c = h.count in
-        get_or_append_left starts (length (words ++ kept_words ws o) ∷ []) 0 i (omega (arith, c, s))
-        ∙ h.start i (omega (arith, s))
-        ∙ ap (λ l. length (flat_map (kept_words ws) l))
-        (sym (take-append-le i os (o ∷ []) (omega (arith, s))))
-    by i l (inr s) =
-        let e : i ≡ length (os ++ o ∷ []) = omega (arith, l, s, counts) in
-        get_or_push starts (length (words ++ kept_words ws o)) 0 i (h.count ∙ sym counts ∙ sym e)
-        ∙ ap length more
-        ∙ ap (λ l. length (flat_map (kept_words ws) l))
-        (sym (take-length (os ++ o ∷ [])) ∙ ap (λ n. take n (os ++ o ∷ [])) (sym e))
+has_label : (s : Statement) → is_labelled_kind (kind_of s) ≡ true
+    → (l : Token) × (label_of s ≡ Some l)
+has_label (floating l k xs d) h = (l, refl)
+has_label (essential l k xs d) h = (l, refl)
+has_label (axiomatic l k xs d) h = (l, refl)
+has_label (provable l k xs e ps d) h = (l, refl)
+has_label (constants k xs d) h = absurd (let f : false ≡ true = h in cc)
+has_label (variables k xs d) h = absurd (let f : false ≡ true = h in cc)
+has_label (disjoint k xs d) h = absurd (let f : false ≡ true = h in cc)
+has_label (opening k) h = absurd (let f : false ≡ true = h in cc)
+has_label (closing k) h = absurd (let f : false ≡ true = h in cc)
 
-module _ (ws : List Word) (os : List Outline) (words : List Word) (starts : List ℕ)
-    (h : AreKept ws os words starts) (k : ℕ) (there : k < length os) where
-  pub kept_inside : k + 1 < length starts
-  kept_inside = let c = h.count in omega (arith, c, there)
+has_none : (s : Statement) → is_labelled_kind (kind_of s) ≡ false → label_of s ≡ None
+has_none (floating l k xs d) h = absurd (let f : true ≡ false = h in cc)
+has_none (essential l k xs d) h = absurd (let f : true ≡ false = h in cc)
+has_none (axiomatic l k xs d) h = absurd (let f : true ≡ false = h in cc)
+has_none (provable l k xs e ps d) h = absurd (let f : true ≡ false = h in cc)
+has_none (constants k xs d) h = refl
+has_none (variables k xs d) h = refl
+has_none (disjoint k xs d) h = refl
+has_none (opening k) h = refl
+has_none (closing k) h = refl
 
-  pub kept_order : get_or starts k 0 ≤ get_or starts (k + 1) 0
-  kept_order =
-      let p = h.start k (omega arith) in
-      let q = h.start (k + 1) (omega arith) in
-      let r = prefixes_rise (kept_words ws) os k (k + 1) (omega arith) in
-      omega (arith, p, q, r)
+-- the only word of a label
+only_word : (text : List ℕ) (label : List Word) (l : Token) → as_tokens text label ≡ l ∷ []
+    → (w : Word) × (label ≡ w ∷ []) × (token_of text w ≡ l)
+only_word text [] l e = absurd (let n = ap length e in omega (arith, n))
+only_word text (w ∷ []) l e = (w, refl, ap (λ ts. get_or ts 0 l) e)
+only_word text (w ∷ v ∷ ws) l e = absurd (let n = ap length e in omega (arith, n))
 
-  pub kept_within : get_or starts (k + 1) 0 ≤ length words
-  kept_within =
-      let q = h.start (k + 1) (omega arith) in
-      let r = prefix_within (kept_words ws) os (k + 1) in
-      let n = ap length h.words_are in
-      omega (arith, q, r, n)
+module _ (text : List ℕ) (db : List Statement) (w : Bool) (fault : Option Fault) (n : Contents)
+    (is : contents text db w fault ≡ n) (k : ℕ) (there : k < length n.statements) where
+  below : k < length db
+  below =
+      let q = ap (λ (m : Contents). length m.statements) is in
+      let c = counted_length w db in omega (arith, q, c, there)
 
-  one : (k + 1) - k ≡ 1
-  one = omega arith
+  abbrev s : Statement
+  s = get_or db k (opening 0)
 
-  -- those of a statement
-  pub kept_at : (d : Outline)
-      → slice_range words (get_or starts k 0) (get_or starts (k + 1) 0)
-      ≡ kept_words ws (get_or os k d)
-  kept_at d =
-      ap₂ (slice_range words) (h.start k (omega arith)) (h.start (k + 1) (omega arith))
-      ∙ ap (λ l. slice_range l (length (flat_map (kept_words ws) (take k os)))
-      (length (flat_map (kept_words ws) (take (k + 1) os)))) h.words_are
-      ∙ slice_flat_map (kept_words ws) os k (k + 1) (omega arith)
-      ∙ ap (flat_map (kept_words ws)) (ap (λ n. take n (drop k os)) one ∙ first os k d there)
-      ∙ append-nil (kept_words ws (get_or os k d))
+  got : slice_get db k ≡ Some s
+  got = slice_get-get_or db k (opening 0) below
 
--- ---- what is kept of one statement, word by word
+  kind_here : (x : Kind) → option_map kind_of (slice_get db k) ≡ Some x → kind_of s ≡ x
+  kind_here x h = let e : Some (kind_of s) ≡ Some x = sym (ap (option_map kind_of) got) ∙ h in cc
 
-module _ (ws : List Word) (o : Outline) (xs : List Word) (is : xs ≡ kept_words ws o) where
-  abbrev front : List Word
-  front = label_word ws o ++ slice_range ws (o.middle + 1) o.end
+  label_read : option_map (λ t. t.word) (option_and_then label_of (slice_get n.statements k))
+      ≡ option_map (λ t. t.word) (label_of s)
+  label_read =
+      subst (λ (n : Contents). option_map (λ t. t.word)
+      (option_and_then label_of (slice_get n.statements k))
+      ≡ option_map (λ t. t.word) (label_of s)) is
+      (ap (option_map (λ t. t.word))
+      (counted_then w db label_of (λ l k xs e ps d. refl) k ∙ ap (option_and_then label_of) got))
 
-  split : xs ≡ front ++ nth_word ws o.end ∷ []
-  split =
-      is ∙ sym
-      (append_assoc (label_word ws o) (slice_range ws (o.middle + 1) o.end)
-      (nth_word ws o.end ∷ []))
+  -- no label
+  pub label_missing : (x : Kind) → option_map kind_of (slice_get db k) ≡ Some x
+      → is_labelled_kind x ≡ false
+      → None ≡ option_map (λ t. t.word) (option_and_then label_of (slice_get n.statements k))
+  label_missing x kind labelled =
+      sym (label_read
+      ∙ ap (option_map (λ t. t.word))
+      (has_none s (ap is_labelled_kind (kind_here x kind) ∙ labelled)))
 
-  size : length xs ≡ length front + 1
-  size = ap length split ∙ length-append front (nth_word ws o.end ∷ [])
+  module _ (kept : List (List Word)) (h : AreKept text db kept) where
+    pub kept_below : k < length kept
+    kept_below = let c = h.count in let l = below in omega (arith, c, l)
 
-  pub kept_some : 0 < length xs
-  kept_some = omega (arith, size)
+    module _ (words : List Word) (e : words ≡ get_or kept k []) where
+      one : IsKept text s words
+      one = subst (IsKept text s) (sym e) (h.each k s got)
 
-  -- the last token
-  pub kept_last : (d : Word) → get_or xs (length xs - 1) d ≡ nth_word ws o.end
-  kept_last d =
-      let n : length xs - 1 ≡ length front = omega (arith, size) in
-      ap₂ (λ ys i. get_or ys i d) split n ∙ get_or-append_seam front (nth_word ws o.end) [] d
+      front : words ≡ (one.label ++ one.proof) ++ one.last ∷ []
+      front = one.words_are ∙ sym (append_assoc one.label one.proof (one.last ∷ []))
 
-  module _ (labelled : is_labelled_kind o.kind ≡ true) where
-    with_label : xs
-        ≡ nth_word ws (o.keyword - 1)
-        ∷ (slice_range ws (o.middle + 1) o.end ++ nth_word ws o.end ∷ [])
-    with_label =
-        is ∙ ap (λ b. (if b then nth_word ws (o.keyword - 1) ∷ [] else [])
-        ++ (slice_range ws (o.middle + 1) o.end ++ nth_word ws o.end ∷ [])) labelled
+      long : length words ≡ length (one.label ++ one.proof) + 1
+      long = ap length front ∙ length-append (one.label ++ one.proof) (one.last ∷ [])
 
-    -- the label
-    pub kept_label : (d : Word) → get_or xs 0 d ≡ nth_word ws (o.keyword - 1)
-    kept_label d = ap (λ ys. get_or ys 0 d) with_label
+      pub some_kept : 0 < length words
+      some_kept = omega (arith, long)
 
-    long : length xs ≡ suc (length (slice_range ws (o.middle + 1) o.end) + 1)
-    long =
-        ap length with_label
-        ∙ ap suc (length-append (slice_range ws (o.middle + 1) o.end) (nth_word ws o.end ∷ []))
+      pub word_within : AreWithin text words
+      word_within = one.within
 
-    pub kept_long : 2 ≤ length xs
-    kept_long = omega (arith, long)
+      -- the last token
+      pub last_kept : (d : Word)
+          → option_map last_place (slice_get n.statements k)
+          ≡ Some (get_or words (length words - 1) d).start
+      last_kept d =
+          let m : length words - 1 ≡ length (one.label ++ one.proof) = omega (arith, long) in
+          let last =
+          ap₂ (λ ys i. get_or ys i d) front m
+          ∙ get_or-append_seam (one.label ++ one.proof) one.last [] d in
+          subst (λ (n : Contents). option_map last_place (slice_get n.statements k)
+          ≡ Some (get_or words (length words - 1) d).start) is
+          (counted_got w db last_place (λ l k xs e ps d. refl) k ∙ ap (option_map last_place) got
+          ∙ ap Some (sym one.last_is) ∙ ap (λ x. Some x.start) (sym last))
 
-    -- the words of the proof
-    pub kept_proof : slice_range xs 1 (length xs - 1) ≡ slice_range ws (o.middle + 1) o.end
-    kept_proof =
-        let proof = slice_range ws (o.middle + 1) o.end in
-        let n : (length xs - 1) - 1 ≡ length proof = omega (arith, long) in
-        ap₂ (λ m ys. take m (drop 1 ys)) n with_label
-        ∙ take-append_seam proof (nth_word ws o.end ∷ [])
+      module _ (x : Kind) (kind : kind_of s ≡ x) (of_kind : is_labelled_kind x ≡ true) where
+        labelled : is_labelled_kind (kind_of s) ≡ true
+        labelled = ap is_labelled_kind kind ∙ of_kind
+
+        first : (v : Word) × (one.label ≡ v ∷ []) × (token_of text v ≡ (has_label s labelled).0)
+        first =
+            let l = has_label s labelled in
+            only_word text one.label l.0
+            (one.label_is ∙ ap (λ o. elim o [ None ↦ [] | Some l ↦ l ∷ [] ]) l.1)
+
+        begins : words ≡ first.0 ∷ (one.proof ++ one.last ∷ [])
+        begins = one.words_are ∙ ap (λ l. l ++ (one.proof ++ one.last ∷ [])) first.1
+
+        label_first : (d : Word)
+            → Some (slice_range text (get_or words 0 d).start (get_or words 0 d).end)
+            ≡ option_map (λ t. t.word) (option_and_then label_of (slice_get n.statements k))
+        label_first d =
+            ap (λ ys. Some (token_of text (get_or ys 0 d)).word) begins
+            ∙ ap (λ t. Some t.word) first.2
+            ∙ sym (label_read ∙ ap (option_map (λ t. t.word)) (has_label s labelled).1)
+
+        two : length words ≡ suc (length one.proof + 1)
+        two = ap length begins ∙ ap suc (length-append one.proof (one.last ∷ []))
+
+        long_kept : 2 ≤ length words
+        long_kept = omega (arith, two)
+
+        -- the words of the proof
+        proof_words : slice_range words 1 (length words - 1) ≡ one.proof
+        proof_words =
+            let m : (length words - 1) - 1 ≡ length one.proof = omega (arith, two) in
+            ap₂ (λ m ys. take m (drop 1 ys)) m begins
+            ∙ take-append_seam one.proof (one.last ∷ [])
+
+      -- the label
+      pub label_kept : (x : Kind) → option_map kind_of (slice_get db k) ≡ Some x
+          → is_labelled_kind x ≡ true → (d : Word)
+          → Some (slice_range text (get_or words 0 d).start (get_or words 0 d).end)
+          ≡ option_map (λ t. t.word) (option_and_then label_of (slice_get n.statements k))
+      label_kept x kind labelled d = label_first x (kind_here x kind) labelled d
+
+      module _ (counts : option_map kind_of (slice_get n.statements k) ≡ Some kind.Theorem) where
+        theorem : (kind_of s ≡ kind.Theorem) × (slice_get (counted w db) k ≡ Some s)
+        theorem =
+            theorem_at w db k s got
+            (subst (λ (n : Contents). option_map kind_of (slice_get n.statements k)
+            ≡ Some kind.Theorem) (sym is) counts)
+
+        pub theorem_long : 2 ≤ length words
+        theorem_long = long_kept kind.Theorem theorem.0 refl
+
+        pub proof_kept : option_map proof_of (slice_get n.statements k)
+            ≡ Some (as_tokens n.text (slice_range words 1 (length words - 1)))
+        proof_kept =
+            subst (λ (n : Contents). option_map proof_of (slice_get n.statements k)
+            ≡ Some (as_tokens n.text (slice_range words 1 (length words - 1)))) is
+            (ap (option_map proof_of) theorem.1 ∙ ap Some (sym one.proof_is)
+            ∙ ap (λ xs. Some (as_tokens text xs)) (sym (proof_words kind.Theorem theorem.0 refl)))
+
+        pub proof_within : AreWithin n.text (slice_range words 1 (length words - 1))
+        proof_within =
+            subst (λ (n : Contents). AreWithin n.text (slice_range words 1 (length words - 1))) is
+            (All-take (λ w. (w.start ≤ w.end) × (w.end ≤ length text)) (length words - 1 - 1)
+            (drop 1 words)
+            (All-drop (λ w. (w.start ≤ w.end) × (w.end ≤ length text)) 1 words one.within))

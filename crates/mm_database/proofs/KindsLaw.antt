@@ -1,7 +1,7 @@
 -- What statements count as, and the numbers of the theorems and of the axioms by that.
 use Rattle.std.proofs.Common.{cond, ◌≡◌, ℕ, zero, suc, ◌+◌, ◌^◌, ◌<◌, Bool, true, false, ◌&&◌, ◌||◌}
 use Rattle.std.proofs.Common.{List, [], ◌∷◌, ◌++◌, length, map, take, get_or, slice_get, Option}
-use Rattle.std.proofs.Common.{Some, None, refl, sym, ap, ◌∙◌, arith, append-nil}
+use Rattle.std.proofs.Common.{Some, None, refl, sym, ap, ap₂, ◌∙◌, arith, append-nil}
 use Rattle.std.specs.Option.{option_map}
 use Rattle.std.specs.List.{list_any, range_with_len, filter}
 use Rattle.std.proofs.lemmas.List.Elements.{filter-append}
@@ -9,21 +9,23 @@ use Rattle.std.proofs.Math.Path.{fun_ext}
 use Rattle.std.proofs.lemmas.List.{length-map, map-append, take_more}
 use Rattle.std.proofs.lemmas.Option.{slice_get-get_or}
 use Rattle.mm_spec.specs.Statement.{Statement, constants, variables, disjoint, floating, essential}
-use Rattle.mm_spec.specs.Statement.{axiomatic, provable, opening, closing, proof_of}
+use Rattle.mm_spec.specs.Statement.{axiomatic, provable, opening, closing}
 use Rattle.mm_spec.specs.Opened.{is_open_proof, is_open_theorem, as_axiom, counted}
 use Rattle.mm_spec.specs.Scope.{statement_at}
-use Rattle.mm_spec.specs.Citation.{is_theorem}
+use Rattle.mm_spec.specs.Citation.{is_theorem, is_assertion}
+use Rattle.mm_spec.specs.Frame.{is_essential, is_floating, is_disjoint_statement}
 use Rattle.mm_spec.specs.Output.{is_column, theorems, columns}
 use Rattle.mm_spec.specs.declared.Word.{Word}
 use Rattle.mm_spec.proofs.ActivityLaw.{range_more}
-use Rattle.mm_spec.proofs.OpenedLaw.{counted_length}
-use Rattle.mm_outline.specs.Parts.{between, label_before, place, made, statement_of}
+use Rattle.mm_spec.proofs.OpenedLaw.{counted_length, got_axiom}
+use Rattle.mm_outline.specs.Parts.{made, statement_of}
 use Rattle.mm_outline.specs.Statements.{statements}
 use Rattle.mm_outline.specs.declared.parts.Kind.{Kind}
 use Rattle.mm_outline.specs.declared.parts.Kind.TheVariants as kind
 use Rattle.mm_outline.specs.declared.parts.Outline.{Outline}
-use Rattle.mm_database.specs.Database.{kind_of, held}
-use Rattle.mm_database.specs.Kinds.{counted_as, is_theorem_kind, is_axiom_kind, numbers_of}
+use Rattle.mm_database.specs.Kinds.{counted_as, kind_of, is_theorem_kind, is_axiom_kind, numbers_of}
+use Rattle.mm_database.specs.Kinds.{is_assertion_kind, is_essential_kind, is_floating_kind}
+use Rattle.mm_database.specs.Kinds.{is_disjoint_kind}
 
 -- ---- the numbers that pass a test
 
@@ -136,23 +138,25 @@ kind_at test kinds j d h =
 pub kinds_more : (text : List ℕ) (ws : List Word) (os : List Outline) (w : Bool) (i : ℕ)
     → (d : Outline)
     → i < length os
-    → map kind_of (held text ws (take (i + 1) os) w)
-    ≡ map kind_of (held text ws (take i os) w)
+    → map kind_of (counted w (statements text ws (take (i + 1) os)))
+    ≡ map kind_of (counted w (statements text ws (take i os)))
     ++ kind_of (counted_as w (statement_of text ws (get_or os i d))) ∷ []
 kinds_more text ws os w i d h =
     let s = statement_of text ws (get_or os i d) in
     let before = statements text ws (take i os) in
-    ap (λ os. map kind_of (held text ws os w)) (take_more os i d h)
+    ap (λ os. map kind_of (counted w (statements text ws os))) (take_more os i d h)
     ∙ ap (λ db. map kind_of (counted w db))
     (map-append (statement_of text ws) (take i os) (get_or os i d ∷ []))
     ∙ ap (map kind_of) (counted_more w before s)
     ∙ map-append kind_of (counted w before) (counted_as w s ∷ [])
 
 pub kinds_few : (text : List ℕ) (ws : List Word) (os : List Outline) (w : Bool) (kinds : List Kind)
-    → kinds ≡ map kind_of (held text ws os w) → length os < 2 ^ 31 → length kinds < 2 ^ 31
+    → kinds ≡ map kind_of (counted w (statements text ws os)) → length os < 2 ^ 31
+    → length kinds < 2 ^ 31
 kinds_few text ws os w kinds e few =
     let n =
-    ap length e ∙ length-map (held text ws os w) kind_of ∙ counted_length w (statements text ws os)
+    ap length e ∙ length-map (counted w (statements text ws os)) kind_of
+    ∙ counted_length w (statements text ws os)
     ∙ length-map os (statement_of text ws) in
     omega (arith, n, few)
 
@@ -180,51 +184,129 @@ still_theorem true (provable l k xs e ps d) h = by (is_open_proof ps) h
 still_theorem true (opening k) h = refl
 still_theorem true (closing k) h = refl
 
-module _ (text : List ℕ) (ws : List Word) where
-  -- what is a theorem and counts as an axiom is an open one
-  pub open_made : (w : Bool) (o : Kind) (k m e : ℕ)
-      → (is_theorem_kind o && is_axiom_kind (kind_of (counted_as w (made text ws o k m e))))
-      ≡ (w && list_any is_open_theorem (made text ws o k m e ∷ []))
-  open_made false kind.Theorem k m e = refl
-  open_made false kind.Open k m e = refl
-  open_made false kind.Close k m e = refl
-  open_made false kind.Constants k m e = refl
-  open_made false kind.Variables k m e = refl
-  open_made false kind.Disjoint k m e = refl
-  open_made false kind.Floating k m e = refl
-  open_made false kind.Essential k m e = refl
-  open_made false kind.Axiom k m e = refl
-  open_made true kind.Theorem k m e = by (is_open_proof (between text ws (m + 1) e))
-    where
-      by : (b : Bool)
-          → is_axiom_kind
-          (kind_of
-          (elim b [
-            | true ↦ axiomatic (label_before text ws k) (place text ws k)
-                (between text ws (k + 1) m) (place text ws e)
-            | false ↦ made text ws kind.Theorem k m e
-          ]))
-          ≡ (b || false)
-      by true = refl
-      by false = refl
-  open_made true kind.Open k m e = refl
-  open_made true kind.Close k m e = refl
-  open_made true kind.Constants k m e = refl
-  open_made true kind.Variables k m e = refl
-  open_made true kind.Disjoint k m e = refl
-  open_made true kind.Floating k m e = refl
-  open_made true kind.Essential k m e = refl
-  open_made true kind.Axiom k m e = refl
+-- a statement as it counts
+pub counted_at : (w : Bool) (db : List Statement) (k : ℕ) (s : Statement)
+    → slice_get db k ≡ Some s → slice_get (counted w db) k ≡ Some (counted_as w s)
+counted_at true db k s e = got_axiom db k ∙ ap (option_map as_axiom) e
+counted_at false db k s e = e
 
-  -- a theorem's proof
-  pub proof_made : (o : Kind) (k m e : ℕ) → o ≡ kind.Theorem
-      → proof_of (made text ws o k m e) ≡ between text ws (m + 1) e
-  proof_made kind.Theorem k m e h = refl
-  proof_made kind.Open k m e h = absurd (cc)
-  proof_made kind.Close k m e h = absurd (cc)
-  proof_made kind.Constants k m e h = absurd (cc)
-  proof_made kind.Variables k m e h = absurd (cc)
-  proof_made kind.Disjoint k m e h = absurd (cc)
-  proof_made kind.Floating k m e h = absurd (cc)
-  proof_made kind.Essential k m e h = absurd (cc)
-  proof_made kind.Axiom k m e h = absurd (cc)
+pub theorem_at : (w : Bool) (db : List Statement) (k : ℕ) (s : Statement)
+    → slice_get db k ≡ Some s
+    → option_map kind_of (slice_get (counted w db) k) ≡ Some kind.Theorem
+    → (kind_of s ≡ kind.Theorem) × (slice_get (counted w db) k ≡ Some s)
+theorem_at w db k s e h =
+    let at = counted_at w db k s e in
+    let some : Some (kind_of (counted_as w s)) ≡ Some kind.Theorem =
+    sym (ap (option_map kind_of) at) ∙ h in
+    let is : kind_of (counted_as w s) ≡ kind.Theorem = cc in
+    let same = still_theorem w s is in (ap kind_of (sym same) ∙ is, at ∙ ap Some same)
+
+-- what is a theorem and counts as an axiom is an open one
+open_statement : (w : Bool) (s : Statement)
+    → (is_theorem_kind (kind_of s) && is_axiom_kind (kind_of (counted_as w s)))
+    ≡ (w && list_any is_open_theorem (s ∷ []))
+open_statement false (constants k xs d) = refl
+open_statement false (variables k xs d) = refl
+open_statement false (disjoint k xs d) = refl
+open_statement false (floating l k xs d) = refl
+open_statement false (essential l k xs d) = refl
+open_statement false (axiomatic l k xs d) = refl
+open_statement false (provable l k xs e ps d) = refl
+open_statement false (opening k) = refl
+open_statement false (closing k) = refl
+open_statement true (constants k xs d) = refl
+open_statement true (variables k xs d) = refl
+open_statement true (disjoint k xs d) = refl
+open_statement true (floating l k xs d) = refl
+open_statement true (essential l k xs d) = refl
+open_statement true (axiomatic l k xs d) = refl
+open_statement true (provable l k xs e ps d) = by (is_open_proof ps)
+  where
+    by : (b : Bool)
+        → is_axiom_kind
+        (kind_of (elim b [ true ↦ axiomatic l k xs d | false ↦ provable l k xs e ps d ]))
+        ≡ (b || false)
+    by true = refl
+    by false = refl
+open_statement true (opening k) = refl
+open_statement true (closing k) = refl
+
+pub open_is : (w : Bool) (db : List Statement) (k : ℕ) (x y : Kind)
+    → option_map kind_of (slice_get db k) ≡ Some x
+    → option_map kind_of (slice_get (counted w db) k) ≡ Some y
+    → (is_theorem_kind x && is_axiom_kind y)
+    ≡ (w && list_any is_open_theorem (statement_at db k))
+open_is w db k x y h e = by (slice_get db k) refl h
+  where
+    by : (o : Option Statement) → slice_get db k ≡ o → option_map kind_of o ≡ Some x
+        → (is_theorem_kind x && is_axiom_kind y)
+        ≡ (w && list_any is_open_theorem (statement_at db k))
+    by None n i = absurd (cc)
+    by (Some s) n i =
+        let own : kind_of s ≡ x = cc in
+        let some : Some (kind_of (counted_as w s)) ≡ Some y =
+        sym (ap (option_map kind_of) (counted_at w db k s n)) ∙ e in
+        let counts : kind_of (counted_as w s) ≡ y = cc in
+        ap₂ (λ a b. is_theorem_kind a && is_axiom_kind b) (sym own) (sym counts)
+        ∙ open_statement w s
+        ∙ ap (λ o. w && list_any is_open_theorem (elim o [ None ↦ [] | Some s ↦ s ∷ [] ])) (sym n)
+
+-- ---- tests of a statement by its kind
+
+pub kind_tells : (p : Statement → Bool) (test : Kind → Bool)
+    → ((s : Statement) → test (kind_of s) ≡ list_any p (s ∷ [])) → (db : List Statement) (k : ℕ)
+    → (x : Kind)
+    → option_map kind_of (slice_get db k) ≡ Some x → test x ≡ list_any p (statement_at db k)
+kind_tells p test each db k x h = by (slice_get db k) h
+  where
+    by : (o : Option Statement) → option_map kind_of o ≡ Some x
+        → test x ≡ list_any p (elim o [ None ↦ [] | Some s ↦ s ∷ [] ])
+    by None i = absurd (cc)
+    by (Some s) i = let own : x ≡ kind_of s = cc in ap test own ∙ each s
+
+pub assertion_kind : (s : Statement) → is_assertion_kind (kind_of s)
+    ≡ list_any is_assertion (s ∷ [])
+assertion_kind (constants k xs d) = refl
+assertion_kind (variables k xs d) = refl
+assertion_kind (disjoint k xs d) = refl
+assertion_kind (floating l k xs d) = refl
+assertion_kind (essential l k xs d) = refl
+assertion_kind (axiomatic l k xs d) = refl
+assertion_kind (provable l k xs e ps d) = refl
+assertion_kind (opening k) = refl
+assertion_kind (closing k) = refl
+
+pub essential_kind : (s : Statement) → is_essential_kind (kind_of s)
+    ≡ list_any is_essential (s ∷ [])
+essential_kind (constants k xs d) = refl
+essential_kind (variables k xs d) = refl
+essential_kind (disjoint k xs d) = refl
+essential_kind (floating l k xs d) = refl
+essential_kind (essential l k xs d) = refl
+essential_kind (axiomatic l k xs d) = refl
+essential_kind (provable l k xs e ps d) = refl
+essential_kind (opening k) = refl
+essential_kind (closing k) = refl
+
+pub floating_kind : (s : Statement) → is_floating_kind (kind_of s) ≡ list_any is_floating (s ∷ [])
+floating_kind (constants k xs d) = refl
+floating_kind (variables k xs d) = refl
+floating_kind (disjoint k xs d) = refl
+floating_kind (floating l k xs d) = refl
+floating_kind (essential l k xs d) = refl
+floating_kind (axiomatic l k xs d) = refl
+floating_kind (provable l k xs e ps d) = refl
+floating_kind (opening k) = refl
+floating_kind (closing k) = refl
+
+pub disjoint_kind : (s : Statement) → is_disjoint_kind (kind_of s)
+    ≡ list_any is_disjoint_statement (s ∷ [])
+disjoint_kind (constants k xs d) = refl
+disjoint_kind (variables k xs d) = refl
+disjoint_kind (disjoint k xs d) = refl
+disjoint_kind (floating l k xs d) = refl
+disjoint_kind (essential l k xs d) = refl
+disjoint_kind (axiomatic l k xs d) = refl
+disjoint_kind (provable l k xs e ps d) = refl
+disjoint_kind (opening k) = refl
+disjoint_kind (closing k) = refl

@@ -1,6 +1,8 @@
 -- What a map of names says of them.
-use Rattle.std.proofs.Common.{Result, Ok, Err, OnOk, is_some, ◌≡◌, ℕ, zero, suc, ◌≤◌, Bool, true}
-use Rattle.std.proofs.Common.{false, ◌||◌, List, [], ◌∷◌, ◌++◌, length, map, slice_get, Option, None}
+use Rattle.std.proofs.Common.{Result, Ok, Err, OnOk, is_some, ◌≡◌, ℕ, zero, suc, ◌≤◌, ◌<◌, Bool}
+use Rattle.std.proofs.Common.{true}
+use Rattle.std.proofs.Common.{false, ◌||◌, List, [], ◌∷◌, ◌++◌, length, map, slice_get, Option}
+use Rattle.std.proofs.Common.{None}
 use Rattle.std.proofs.Common.{Some, bytes_eq, if◌then◌else◌, refl, sym, ap, ◌∙◌, arith}
 use Rattle.std.proofs.lemmas.List.{length-map}
 use Rattle.std.proofs.lemmas.Map.Made.{is_some-lookup}
@@ -15,7 +17,8 @@ use Rattle.mm_database.proofs.SymbolsLaw.{keys_in, missing_place}
 
 -- the keys of a map with one entry more
 pub names_inserted : {V : Type 0} (es : List (Name × V)) (k : Name) (v : V)
-    → map (λ x. x.bytes.now) (keys_of (insert_entry (λ (a b : Name). bytes_eq a.bytes.now b.bytes.now) es k v))
+    → map (λ x. x.bytes.now)
+    (keys_of (insert_entry (λ (a b : Name). bytes_eq a.bytes.now b.bytes.now) es k v))
     ≡ with_name k.bytes.now (map (λ x. x.bytes.now) (keys_of es))
 names_inserted [] k v = refl
 names_inserted (e ∷ es) k v = by (bytes_eq k.bytes.now e.0.bytes.now) (names_inserted es k v)
@@ -42,7 +45,8 @@ names_inserted (e ∷ es) k v = by (bytes_eq k.bytes.now e.0.bytes.now) (names_i
         (keys_of
         (if b then ((e.0, v) ∷ es) else
         (e ∷ insert_entry (λ (a b : Name). bytes_eq a.bytes.now b.bytes.now) es k v)))
-        ≡ (if b || is_in k.bytes.now ns then (e.0.bytes.now ∷ ns) else ((e.0.bytes.now ∷ ns) ++ k.bytes.now ∷ []))
+        ≡ (if b || is_in k.bytes.now ns then (e.0.bytes.now ∷ ns) else
+        ((e.0.bytes.now ∷ ns) ++ k.bytes.now ∷ []))
     by true h = refl
     by false h = after (is_in k.bytes.now ns) h
 
@@ -97,8 +101,16 @@ name_at (x ∷ es) zero k v w h e =
 name_at (x ∷ es) (suc i) k v w h e = name_at es i k v w h e
 
 pub got_name : {V : Type 0} (es : List (Name × V)) (i : ℕ) (k : Name) (v : V)
-    → slice_get es i ≡ Some (k, v) → slice_get (map (λ x. x.bytes.now) (keys_of es)) i ≡ Some k.bytes.now
+    → slice_get es i ≡ Some (k, v) → slice_get (map (λ x. x.bytes.now) (keys_of es)) i
+    ≡ Some k.bytes.now
 got_name [] zero k v h = absurd (let q : None ≡ Some (k, v) = h in cc)
 got_name [] (suc i) k v h = absurd (let q : None ≡ Some (k, v) = h in cc)
 got_name (x ∷ es) zero k v h = ap (option_map (λ y. y.0.bytes.now)) h
 got_name (x ∷ es) (suc i) k v h = got_name es i k v h
+
+-- where there is an entry, it isn't missing
+pub not_missing : {V : Type 0} (es : List (Name × V)) (i : ℕ)
+    → i < length (map (λ x. x.bytes.now) (keys_of es)) → slice_get es i ≡ None → ⊥
+not_missing [] i l h = omega (arith, l)
+not_missing (x ∷ es) zero l h = cc
+not_missing (x ∷ es) (suc i) l h = not_missing es i (omega (arith, l)) h

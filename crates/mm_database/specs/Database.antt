@@ -1,32 +1,22 @@
 -- What a database of statements is to its callers, and what its fields keep.
-use Rattle.std.specs.Prelude.{◌≡◌, ℕ, ◌<◌, ◌^◌, Bool, List, length, map, slice_get, if◌then◌else◌}
-use Rattle.std.specs.Prelude.{All, Option, None}
+use Rattle.std.specs.Prelude.{◌≡◌, ℕ, ◌<◌, ◌^◌, ◌∷◌, Bool, List, length, map, slice_get}
+use Rattle.std.specs.Prelude.{if◌then◌else◌, Option, None}
 use Rattle.std.specs.List.{list_any}
 use Rattle.mm_spec.specs.declared.Fault.{Fault}
-use Rattle.mm_spec.specs.Statement.{Statement, constants, variables, disjoint, floating, essential}
-use Rattle.mm_spec.specs.Statement.{axiomatic, provable, opening, closing}
+use Rattle.mm_spec.specs.Statement.{Statement}
 use Rattle.mm_spec.specs.Opened.{counted}
 use Rattle.mm_spec.specs.Scope.{statement_at}
-use Rattle.mm_spec.specs.Derivation.{Pair, pair}
 use Rattle.mm_spec.specs.Frame.{symbol_names, formula_at}
+use Rattle.mm_spec.specs.Output.{IsRead, lexed_of, theorems, columns, label_at}
+use Rattle.mm_database.specs.Beside.{IsBeside}
 use Rattle.mm_database.specs.Labels.{AreLabels}
 use Rattle.mm_database.specs.Names.{find, names_of}
+use Rattle.mm_database.specs.Kept.{AreKept}
 use Rattle.mm_database.specs.declared.reading.Reading.{Reading}
 use Rattle.mm_database.specs.declared.found.Found.{Found}
-use Rattle.mm_spec.specs.Output.{IsRead, lexed_of, theorems, columns, label_at}
-use Rattle.mm_spec.specs.declared.Word.{Word}
-use Rattle.mm_outline.specs.Numbered.{AreNumbered, AreSymbols}
-use Rattle.mm_database.specs.Frames.{AreFrames}
-use Rattle.mm_outline.specs.Parts.{AreWithin, IsOutline}
-use Rattle.mm_outline.specs.Statements.{statements}
-use Rattle.mm_outline.specs.Blocks.{BlockLists, lists, IsBlocks}
-use Rattle.mm_database.specs.DisjointIndex.{IsDisjointIndex}
-use Rattle.mm_database.specs.Spaced.{AreSpaced}
-use Rattle.mm_database.specs.Kept.{AreKept}
-pub use Rattle.mm_database.specs.Kept.{is_labelled_kind}
-use Rattle.mm_outline.specs.declared.parts.Kind.{Kind}
-use Rattle.mm_outline.specs.declared.parts.Kind.TheVariants as kind
-use Rattle.mm_outline.specs.declared.parts.Outline.{Outline}
+use Rattle.mm_database.specs.declared.listed.Listed.{Listed}
+pub use Rattle.mm_database.specs.Kept.{is_labelled_kind, last_place}
+pub use Rattle.mm_database.specs.Kinds.{kind_of}
 
 -- A text; its statements up to the first malformed or unlawful one, as they were read and as they
 -- count; and the fault there. If `with_open` is set, open theorems count as axioms.
@@ -47,106 +37,34 @@ contents text db with_open fault =
       fault = fault;
     }
 
--- which of the nine shapes a statement has
-abbrev pub kind_of : Statement → Kind
-kind_of (constants k xs d) = kind.Constants
-kind_of (variables k xs d) = kind.Variables
-kind_of (disjoint k xs d) = kind.Disjoint
-kind_of (floating l k xs d) = kind.Floating
-kind_of (essential l k xs d) = kind.Essential
-kind_of (axiomatic l k xs d) = kind.Axiom
-kind_of (provable l k xs e ps d) = kind.Theorem
-kind_of (opening k) = kind.Open
-kind_of (closing k) = kind.Close
-
--- the place of a statement's last token
-abbrev pub last_place : Statement → ℕ
-last_place (constants k xs d) = d
-last_place (variables k xs d) = d
-last_place (disjoint k xs d) = d
-last_place (floating l k xs d) = d
-last_place (essential l k xs d) = d
-last_place (axiomatic l k xs d) = d
-last_place (provable l k xs e ps d) = d
-last_place (opening k) = k
-last_place (closing k) = k
-
 abbrev pub typecode_of : List Statement → ℕ → Option ℕ
 typecode_of db k =
     if list_any (λ s. is_labelled_kind (kind_of s)) (statement_at db k) then slice_get
     (formula_at db k) 0 else None
 
--- what is kept beside the statements
-pub record Fields : Type 0 where
-  pub kept : List Word
-  pub kept_starts : List ℕ
-  pub blocks : BlockLists
-  pub find : List ℕ → Option ℕ
-  pub names : List (List ℕ)
-  pub variables : List Bool
-  pub numbers : List ℕ
-  pub places : List ℕ
-  pub frame_places : List ℕ
-  pub hyps : List (List ℕ)
-  pub pairs : List (List Pair)
-  pub disjoint_index : List (ℕ × ℕ)
-  pub skips : List ℕ
-  pub kinds : List Kind
-  pub theorems : List ℕ
-  pub axioms : List ℕ
-  pub label_bytes : List ℕ
-  pub label_starts : List ℕ
+-- the labels of the theorems, each after a space
+abbrev pub spaced_labels : List Statement → List (List ℕ)
+spaced_labels db = map (λ k. 32 ∷ label_at db k) (theorems db)
 
 module _ {A : Type 0} where
-  -- the lists that are kept
-  abbrev pub fields_of : Reading A → Found A → Fields
-  fields_of r f = record {
-    kept = f.kept.words.items;
-    kept_starts = f.kept.starts.items;
-    blocks = r.blocks;
-    find = find r.names.labels;
-    names = names_of r.names.symbols;
-    variables = f.variables.items;
-    numbers = r.formulas.numbers.items;
-    places = r.formulas.places.items;
-    frame_places = f.beside.frames.places.items;
-    hyps = map (λ x. x.hyps.items) f.beside.frames.list.items;
-    pairs = map (λ x. map (λ p. pair p.0 p.1) x.pairs.items) f.beside.frames.list.items;
-    disjoint_index = f.beside.disjoint_index.pairs.items;
-    skips = f.beside.disjoint_index.skips.items;
-    kinds = f.listed.kinds.items;
-    theorems = f.listed.theorems.items;
-    axioms = f.listed.axioms.items;
-    label_bytes = f.listed.spaced.bytes.items;
-    label_starts = f.listed.spaced.starts.items;
-  }
+  -- the lists are those of the statements, as these count
+  pub record IsListed (db : List Statement) (l : Listed A) : Type 0 where
+    pub kinds_are : l.kinds.items ≡ map kind_of db
+    pub theorems_are : l.theorems.items ≡ theorems db
+    pub axioms_are : l.axioms.items ≡ columns db None
+    pub spaced_are : l.spaced ≡ spaced_labels db
 
--- the statements of outlines, as they count
-abbrev pub held : List ℕ → List Word → List Outline → Bool → List Statement
-held text ws os with_open = counted with_open (statements text ws os)
+  abbrev pub contents_of : Bool → Reading A → Contents
+  contents_of with_open r =
+      contents r.statements.text r.statements.list with_open r.fault
 
--- the fields are those of the statements, and the statements are the reading of the text
-pub record IsDatabase (text : List ℕ) (ws : List Word) (os : List Outline) (with_open : Bool)
-    (fault : Option Fault) (f : Fields) : Type 0 where
-  pub words : AreWithin text ws
-  pub few : length os < 2 ^ 31
-  pub outlines : All (λ o. IsOutline o × (o.end < length ws)) os
-  pub kept_are : AreKept ws os f.kept f.kept_starts
-  pub blocks : IsBlocks (statements text ws os) f.blocks
-  pub labels : AreLabels (held text ws os with_open) f.find
-  pub symbols : AreSymbols (held text ws os with_open) f.names f.variables
-  pub below : (k : ℕ) → k < length os
-      → All (λ s. s < length (symbol_names (held text ws os with_open)))
-      (formula_at (held text ws os with_open) k)
-  pub numbered : AreNumbered (held text ws os with_open) f.numbers f.places
-  pub frames : AreFrames (held text ws os with_open) f.frame_places f.hyps f.pairs
-  pub disjoint_index_is : IsDisjointIndex (held text ws os with_open) f.blocks f.disjoint_index
-      f.skips
-  pub kinds_are : f.kinds ≡ map kind_of (held text ws os with_open)
-  pub theorems_are : f.theorems ≡ theorems (held text ws os with_open)
-  pub axioms_are : f.axioms ≡ columns (held text ws os with_open) None
-  pub spaced : AreSpaced
-      (map (label_at (held text ws os with_open)) (theorems (held text ws os with_open)))
-      f.label_bytes f.label_starts
-  pub few_symbols : length f.names < 2 ^ 31
-  pub read : IsRead (length text) (lexed_of text) (statements text ws os) fault
+  -- the statements are the reading of the text, and all that is kept is theirs
+  pub record IsDatabase (with_open : Bool) (r : Reading A) (f : Found A) : Type 0 where
+    pub few : length r.statements.list < 2 ^ 31
+    pub read : IsRead (length r.statements.text) (lexed_of r.statements.text)
+        r.statements.list r.fault
+    pub labels : AreLabels r.statements.list (find r.names.labels)
+    pub names_are : names_of r.names.symbols ≡ symbol_names r.statements.list
+    pub beside_is : IsBeside r.statements.list r.statements.blocks f.beside
+    pub listed_is : IsListed (counted with_open r.statements.list) f.listed
+    pub kept_are : AreKept r.statements.text r.statements.list f.kept

@@ -1,8 +1,12 @@
 -- The words of statements that are needed again.
-use Rattle.std.specs.Prelude.{◌≡◌, ℕ, ◌+◌, ◌-◌, ◌≤◌, Bool, true, false, List, [], ◌∷◌, ◌++◌, length}
-use Rattle.std.specs.Prelude.{take, flat_map, slice_index, slice_range, if◌then◌else◌}
+use Rattle.std.specs.Prelude.{◌≡◌, ℕ, ◌+◌, ◌-◌, Bool, true, false, List, [], ◌∷◌, ◌++◌, length}
+use Rattle.std.specs.Prelude.{slice_get, slice_index_or, slice_range, if◌then◌else◌}
+use Rattle.std.specs.Prelude.{None, Some}
+use Rattle.mm_spec.specs.Text.{Token}
+use Rattle.mm_spec.specs.Statement.{Statement, constants, variables, disjoint, floating, essential}
+use Rattle.mm_spec.specs.Statement.{axiomatic, provable, opening, closing, label_of, proof_of}
 use Rattle.mm_spec.specs.declared.Word.{Word}
-use Rattle.mm_outline.specs.Parts.{nth_word}
+use Rattle.mm_outline.specs.Parts.{nth_word, as_tokens, AreWithin}
 use Rattle.mm_outline.specs.declared.parts.Kind.{Kind}
 use Rattle.mm_outline.specs.declared.parts.Kind.TheVariants as kind
 use Rattle.mm_outline.specs.declared.parts.Outline.{Outline}
@@ -22,11 +26,35 @@ label_word ws o = if is_labelled_kind o.kind then nth_word ws (o.keyword - 1) �
 abbrev pub kept_words : List Word → Outline → List Word
 kept_words ws o = label_word ws o ++ (slice_range ws (o.middle + 1) o.end ++ nth_word ws o.end ∷ [])
 
--- the kept words of all statements, concatenated; where those of each statement begin, and where
--- they all end
-pub record AreKept (ws : List Word) (os : List Outline) (words : List Word)
-    (starts : List ℕ) : Type 0 where
-  pub words_are : words ≡ flat_map (kept_words ws) os
-  pub count : length starts ≡ length os + 1
-  pub start : (k : ℕ) → k ≤ length os
-      → slice_index starts k ≡ length (flat_map (kept_words ws) (take k os))
+-- the place of a statement's last token
+abbrev pub last_place : Statement → ℕ
+last_place (constants k xs d) = d
+last_place (variables k xs d) = d
+last_place (disjoint k xs d) = d
+last_place (floating l k xs d) = d
+last_place (essential l k xs d) = d
+last_place (axiomatic l k xs d) = d
+last_place (provable l k xs e ps d) = d
+last_place (opening k) = k
+last_place (closing k) = k
+
+-- the label if there is one
+abbrev pub label_tokens : Statement → List Token
+label_tokens s = elim (label_of s) [ None ↦ [] | Some l ↦ l ∷ [] ]
+
+-- the words are the label of the statement, if it has one, those of its proof, and its last token
+pub record IsKept (text : List ℕ) (s : Statement) (words : List Word) : Type 0 where
+  pub label : List Word
+  pub proof : List Word
+  pub last : Word
+  pub words_are : words ≡ label ++ (proof ++ last ∷ [])
+  pub within : AreWithin text words
+  pub label_is : as_tokens text label ≡ label_tokens s
+  pub proof_is : as_tokens text proof ≡ proof_of s
+  pub last_is : last.start ≡ last_place s
+
+-- the kept words of each statement
+pub record AreKept (text : List ℕ) (db : List Statement) (kept : List (List Word)) : Type 0 where
+  pub count : length kept ≡ length db
+  pub each : (k : ℕ) (s : Statement) → slice_get db k ≡ Some s
+      → IsKept text s (slice_index_or kept k [])

@@ -9,7 +9,9 @@ pub mod Starts
 pub mod Together
 pub mod DisjointIndex
 pub mod Frames
-pub mod Kept
+pub mod Beside
+pub mod Parsed
+pub mod Cuts
 pub mod Kinds
-pub mod Spaced
+pub mod Kept
 pub mod Database

@@ -17,10 +17,8 @@ ghost use Rattle.mm_spec.specs.Citation.{is_assertion};
 ghost use Rattle.mm_spec.specs.Laws.Complete.{AreComplete};
 ghost use Rattle.mm_spec.specs.Output.{IsRead, lexed_of, theorems, columns, label_at};
 ghost use Rattle.mm_outline.specs.Parts.{as_tokens, AreWithin};
-ghost use Rattle.mm_spec.specs.Lexed.{tokens_of};
-ghost use Rattle.mm_outline.specs.Statements.{active_kind, statements};
-ghost use Rattle.mm_database.specs.Database.{kind_of, last_place, typecode_of, contents};
-ghost use Rattle.mm_database.specs.Database.{fields_of, IsDatabase};
+ghost use Rattle.mm_database.specs.Database.{kind_of, last_place, typecode_of, contents_of};
+ghost use Rattle.mm_database.specs.Database.{IsDatabase};
 ghost use Rattle.mm_database.specs.Kinds.{is_axiom_kind, is_theorem_kind};
 
 use crate::disjoint_index::are_together;
@@ -39,17 +37,15 @@ use std::marker::Model;
 /// The statements of a text up to the first malformed or unlawful one, by their numbers from
 /// 0 in file order.
 pub struct Database<'a, A: Allocator> {
-    pub(crate) text: &'a [u8],
-    pub(crate) with_open: bool,
-    pub(crate) read: Reading<'a, A>,
-    pub(crate) found: Found<A>,
+    with_open: bool,
+    read: Reading<'a, A>,
+    found: Found<A>,
 }
 
 /// Lets all fields go in one call, so that a proof has one step for it at each exit.
 impl<'a, A: Allocator> Drop for Database<'a, A> {
     fn drop(self) {
         let Self {
-            text: _,
             with_open: _,
             read: _,
             found: _,
@@ -58,38 +54,23 @@ impl<'a, A: Allocator> Drop for Database<'a, A> {
 }
 
 impl<'a, A: Allocator> Model for Database<'a, A> {
-    ghost use Rattle.mm_spec.specs.Lexed.{tokens_of as words_of};
-    ghost use Rattle.mm_outline.specs.Statements.{statements};
-    ghost use Rattle.mm_database.specs.Database.{Contents, contents, fields_of, IsDatabase};
+    ghost use Rattle.mm_database.specs.Database.{Contents, contents_of, IsDatabase};
 
     ghost Value = { Contents };
 
-    ghost view = { λ d. contents d.text.now
-        (statements d.text.now (words_of d.text.now) d.read.outlines.items) d.with_open
-        d.read.fault };
+    ghost view = { λ d. contents_of d.with_open d.read };
 
-    ghost invariant = { λ d. IsDatabase d.text.now (words_of d.text.now) d.read.outlines.items
-        d.with_open d.read.fault (fields_of d.read d.found) };
+    ghost invariant = { λ d. IsDatabase d.with_open d.read d.found };
 }
 
 impl<'a, A: Allocator> Database<'a, A> {
     /// Returns the database of what was read of a text and of what was found out of that. If
     /// `with_open` is set, open theorems count as axioms.
-    pub fn new(
-        text: &'a [u8],
-        with_open: bool,
-        read: Reading<'a, A>,
-        found: Found<A>,
-    ) -> Database<'a, A>
-        requires { IsDatabase text.now (tokens_of text.now) read.outlines.items with_open
-            read.fault (fields_of read found) }
-        ensures { result
-            ≡ contents text.now
-            (statements text.now (tokens_of text.now) read.entry.outlines.items) with_open
-            read.entry.fault }
+    pub fn new(with_open: bool, read: Reading<'a, A>, found: Found<A>) -> Database<'a, A>
+        requires { IsDatabase with_open read found }
+        ensures { result ≡ contents_of with_open read.entry }
     {
         Database {
-            text,
             with_open,
             read,
             found,
@@ -100,7 +81,7 @@ impl<'a, A: Allocator> Database<'a, A> {
     pub fn text(&self) -> &'a [u8]
         ensures { result.now ≡ self.now.text }
     {
-        self.text
+        self.read.statements.text()
     }
 
     /// Returns the fault after the statements: the first fault of words, shape, symbols, labels or
@@ -121,7 +102,7 @@ impl<'a, A: Allocator> Database<'a, A> {
         ensures counted { self.now.statements ≡ counted self.now.with_open self.now.read }
         ensures complete { AreComplete self.now.statements }
     {
-        self.read.outlines.len() as u32
+        self.read.statements.len()
     }
 
     /// Returns which of the nine shapes a statement has. An open theorem has the kind of an axiom,
@@ -142,8 +123,8 @@ impl<'a, A: Allocator> Database<'a, A> {
         if statement >= self.len() {
             return false;
         }
-        let outline = self.read.outlines[statement as usize];
-        counts_otherwise(outline.kind, self.kind(statement))
+        let is = self.read.statements.kind(statement);
+        counts_otherwise(is, self.kind(statement))
     }
 
     /// Returns the place of a statement's last token, a byte offset from 0.
@@ -162,10 +143,9 @@ impl<'a, A: Allocator> Database<'a, A> {
             ≡ option_map (λ t. t.word)
             (option_and_then label_of (slice_get self.now.statements statement)) }
     {
-        let outline = self.read.outlines[statement as usize];
-        if has_label(outline.kind) {
+        if has_label(self.read.statements.kind(statement)) {
             let word = self.found.kept.of(statement)[0];
-            Some(word.bytes(self.text))
+            Some(word.bytes(self.text()))
         } else {
             None
         }
@@ -196,9 +176,7 @@ impl<'a, A: Allocator> Database<'a, A> {
         ensures formula { result.now ≡ formula_at self.now.statements statement }
         ensures known { All (λ s. s < length (symbol_names self.now.statements)) result.now }
     {
-        let from = self.read.formulas.places[statement as usize] as usize;
-        let to = self.read.formulas.places[statement as usize + 1] as usize;
-        &self.read.formulas.numbers[from..to]
+        self.read.statements.formula(statement)
     }
 
     /// Returns the typecode of a `$f`, `$e`, `$a` or `$p`, and `None` for other statements.
@@ -218,7 +196,7 @@ impl<'a, A: Allocator> Database<'a, A> {
     pub fn symbol_count(&self) -> u32
         ensures count { result ≡ length (symbol_names self.now.statements) }
     {
-        self.found.variables.len() as u32
+        self.read.statements.symbol_count()
     }
 
     /// Returns the name of a symbol.
@@ -238,7 +216,7 @@ impl<'a, A: Allocator> Database<'a, A> {
         requires { symbol < length (symbol_names self.now.statements) }
         ensures { result ≡ is_variable_number self.now.statements symbol }
     {
-        self.found.variables[symbol.number() as usize]
+        self.read.statements.is_variable(symbol)
     }
 
     /// Whether a statement is active at the statement `at`, or at the end, which is `len()`. A `${`
@@ -248,8 +226,7 @@ impl<'a, A: Allocator> Database<'a, A> {
         requires at { at ≤ length self.now.statements }
         ensures { result ≡ is_active self.now.statements statement at }
     {
-        let kind = self.read.outlines[statement as usize].kind;
-        statement < at && is_active_kind(kind, self.read.blocks.is_open_at(statement, at))
+        self.read.statements.is_active(statement, at)
     }
 
     /// Returns the frame of an assertion.
@@ -273,7 +250,7 @@ impl<'a, A: Allocator> Database<'a, A> {
         x.number() != y.number()
             && (are_together_near(self, statement, x, y)
                 || are_together(
-                    &self.read.blocks,
+                    self.read.statements.blocks(),
                     &self.found.beside.disjoint_index,
                     x,
                     y,
@@ -289,7 +266,6 @@ impl<'a, A: Allocator> Database<'a, A> {
             ≡ Some (as_tokens self.now.text result.now) }
         ensures within { AreWithin self.now.text result.now }
     {
-        let outline = self.read.outlines[statement as usize];
         match self.kind(statement) {
             Kind::Theorem => {
                 let kept = self.found.kept.of(statement);
@@ -326,9 +302,7 @@ impl<'a, A: Allocator> Database<'a, A> {
             ≡ flat_map (λ k. 32 ∷ label_at self.now.statements k)
             (slice_range (theorems self.now.statements) from to) }
     {
-        let begin = self.found.listed.spaced.starts[from as usize];
-        let end = self.found.listed.spaced.starts[to as usize];
-        &self.found.listed.spaced.bytes[begin..end]
+        self.found.listed.spaced.between(from, to)
     }
 }
 
@@ -342,16 +316,5 @@ fn counts_otherwise(is: Kind, counts_as: Kind) -> bool
             _ => false,
         },
         _ => false,
-    }
-}
-
-/// Whether a statement of this kind is active. `is_open` says whether its block is open.
-fn is_active_kind(kind: Kind, is_open: bool) -> bool
-    ensures { result ≡ active_kind kind is_open }
-{
-    match kind {
-        Kind::Constants | Kind::Axiom | Kind::Theorem => true,
-        Kind::Open | Kind::Close => false,
-        _ => is_open,
     }
 }

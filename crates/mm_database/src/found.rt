@@ -5,10 +5,9 @@ use crate::kept::Kept;
 use crate::listed::Listed;
 use std::alloc::Allocator;
 
-/// For each symbol whether it is a variable; the frames and the `$d` by variables; the lists of
-/// statements as they count; and the words that are needed again.
+/// The frames and the `$d` by variables; the lists of statements as they count; and the words that
+/// are needed again.
 pub struct Found<A: Allocator> {
-    pub variables: Vec<bool, A>,
     pub beside: Beside<A>,
     pub listed: Listed<A>,
     pub kept: Kept<A>,
@@ -18,7 +17,6 @@ pub struct Found<A: Allocator> {
 impl<A: Allocator> Drop for Found<A> {
     fn drop(self) {
         let Self {
-            variables: _,
             beside: _,
             listed: _,
             kept: _,

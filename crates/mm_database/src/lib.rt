@@ -6,6 +6,7 @@
 
 pub mod database;
 pub mod disjoint_index;
+pub mod formulas;
 pub mod found;
 pub mod frames;
 pub mod kept;
@@ -14,6 +15,7 @@ pub mod name;
 pub mod names;
 mod near;
 pub mod reading;
+pub mod statements;
 
 pub use database::Database;
 pub use frames::Frame;

@@ -6,7 +6,8 @@ use Rattle.std.proofs.Common.{length-append, ◌⊎◌, inl, inr, All, take}
 use Rattle.std.proofs.lemmas.Bool.{cases_eq, cases_order, and_parts, or_cases, or_right, ne_eqb}
 use Rattle.std.proofs.lemmas.Bool.{lt-ltb, le-ltb, ltb-true, lt-leb, le-leb}
 use Rattle.std.proofs.lemmas.List.{get_or_push, get_or_append_left, get_or-set_same}
-use Rattle.std.proofs.lemmas.List.{get_or-set_other, length-set, append-nil, append_assoc, take_more}
+use Rattle.std.proofs.lemmas.List.{get_or-set_other, length-set, append-nil, append_assoc}
+use Rattle.std.proofs.lemmas.List.{take_more}
 use Rattle.std.proofs.lemmas.List.Elements.{All-head, All-tail}
 use Rattle.std.proofs.lemmas.List.Folds.{list_any-append}
 use Rattle.std.proofs.Math.Bool.{and-false, and-true, or-false, or-true}
@@ -19,7 +20,7 @@ use Rattle.mm_outline.proofs.StatementsLaw.{is_there}
 use Rattle.mm_frame.specs.Chains.{IsRisingFrom, IsChain, AreLinked, HasChain, AreChains}
 use Rattle.mm_database.specs.DisjointIndex.{has_symbol}
 use Rattle.mm_database.specs.Pairs.{has_pair, IsBefore, AreRising}
-use Rattle.mm_frame.specs.Tables.{IsSound}
+use Rattle.mm_database.specs.Parsed.{IsSound}
 
 -- ---- one chain
 

@@ -15,7 +15,7 @@ use Rattle.mm_spec.specs.Derivation.{Pair}
 use Rattle.mm_spec.specs.Frame.{symbol_names}
 use Rattle.mm_outline.specs.Blocks.{never}
 use Rattle.mm_database.specs.Frames.{IsFrame, AreFramesUpTo}
-use Rattle.mm_frame.specs.Tables.{IsSound, typed_at}
+use Rattle.mm_database.specs.Parsed.{IsSound, typed_at}
 use Rattle.mm_frame.specs.Hypotheses.{AreTyped}
 use Rattle.mm_frame.proofs.NestedLaw.{stays_earlier}
 use Rattle.mm_frame.proofs.FloatLaw.{typed_float, typed_once, variable_below}

@@ -1,11 +1,12 @@
 -- Lists are identified by their members: an ascending list with the right members is the right list
 -- (`filter_is` of `mm_spec`, `unique` in `PairsLaw.antt`). `candidate_open` and `walked_end`
 -- (`LatestLaw.antt`) find the active `$e`, `mandatory_is` the variables, and `hypotheses_are`
--- (`HypothesesLaw.antt`) the hypotheses. `with_disjoint` and `pairs_more` (`ChainsLaw.antt`) give the
+-- (`HypothesesLaw.antt`) the hypotheses. `with_disjoint` and `pairs_more` (`ChainsLaw.antt`) give
+-- the
 -- `$d` by variables, with `are_known` of `mm_database` `IsDisjointIndex`, and `pairs_are`
 -- (`DisjointLaw.antt`) the pairs.
--- (`TablesLaw.antt`: what an outline says of its statement; `SkipsLaw.antt`: the loops of
--- `skips_of`; `LoopsLaw.antt`: one more element in the loops that collect.)
+-- (`SkipsLaw.antt`: the loops of `skips_of`; `LoopsLaw.antt`: one more element in the loops that
+-- collect.)
 -- The loop of `frames_of` keeps `HasFramesUpTo` by `frames_more` and `frames_pass`
 -- (`FramesLaw.antt`). So `gather` has `IsBeside`.
 pub mod DisjointLaw
@@ -17,6 +18,5 @@ pub mod MarksLaw
 pub mod NestedLaw
 pub mod PairsLaw
 pub mod SkipsLaw
-pub mod TablesLaw
 pub mod HypothesesLaw
 pub mod ChainsLaw

@@ -5,21 +5,21 @@ ghost use Rattle.mm_spec.specs.Derivation.{is_member};
 ghost use Rattle.mm_spec.specs.Frame.{active_of, is_essential};
 ghost use Rattle.mm_frame.specs.Latest.{IsCandidate, IsLatest, AreLatest};
 
-use crate::tables::Tables;
+use mm_database::statements::Statements;
 use mm_outline::blocks::NEVER;
 use std::alloc::{AllocError, Allocator};
 
 /// Returns the last `$e` that is active at `at`, or `NEVER`. Goes back from the candidate `first`.
-fn last_open<A: Allocator>(tables: &Tables<A>, latest: &[u32], first: u32, at: u32) -> u32
-    requires at { at ≤ length tables.now }
+fn last_open<A: Allocator>(statements: &Statements<A>, latest: &[u32], first: u32, at: u32) -> u32
+    requires at { at ≤ length statements.now.list }
     requires long { at ≤ length latest.now }
     requires latest { (k : ℕ) → k < at
-        → IsLatest is_essential tables.now k (slice_index latest.now k) }
-    requires first { IsCandidate is_essential tables.now at first }
-    ensures { IsLatest is_essential tables.now at result }
+        → IsLatest is_essential statements.now.list k (slice_index latest.now k) }
+    requires first { IsCandidate is_essential statements.now.list at first }
+    ensures { IsLatest is_essential statements.now.list at result }
 {
     let mut last = first;
-    while last != NEVER && !tables.is_open(last, at) {
+    while last != NEVER && !statements.is_open(last, at) {
         last = latest[last as usize];
     }
     last
@@ -28,19 +28,19 @@ fn last_open<A: Allocator>(tables: &Tables<A>, latest: &[u32], first: u32, at: u
 /// Returns, for each statement and for the end, the last `$e` that is active there, or `NEVER`.
 pub(crate) fn latest_essentials<A: Allocator + Copy>(
     alloc: A,
-    tables: &Tables<A>,
+    statements: &Statements<A>,
 ) -> Result<Vec<u32, A>, AllocError>
-    ensures { IfOk result (λ v. AreLatest is_essential tables.now v.items) }
+    ensures { IfOk result (λ v. AreLatest is_essential statements.now.list v.items) }
 {
     let mut latest = Vec::new(alloc);
     latest.push(NEVER)?;
-    for k in 0..tables.len() {
-        let first = if tables.is_essential(k) {
+    for k in 0..statements.len() {
+        let first = if statements.is_essential(k) {
             k
         } else {
             latest[k as usize]
         };
-        let last = last_open(tables, &latest, first, k + 1);
+        let last = last_open(statements, &latest, first, k + 1);
         latest.push(last)?;
     }
     Ok(latest)
@@ -48,16 +48,17 @@ pub(crate) fn latest_essentials<A: Allocator + Copy>(
 
 /// Lists the `$e` that are active at `at`, in some order. Replaces what `into` has.
 pub(crate) fn active_essentials<A: Allocator>(
-    tables: &Tables<A>,
+    statements: &Statements<A>,
     latest: &[u32],
     at: u32,
     into: &mut Vec<u32, A>,
 ) -> Result<(), AllocError>
-    requires at { at ≤ length tables.now }
-    requires latest { AreLatest is_essential tables.now latest.now }
+    requires at { at ≤ length statements.now.list }
+    requires latest { AreLatest is_essential statements.now.list latest.now }
     ensures { OnOk result
         ((i : ℕ)
-        → is_member into.new.items i ≡ is_member (active_of is_essential tables.now at) i) }
+        → is_member into.new.items i
+        ≡ is_member (active_of is_essential statements.now.list at) i) }
 {
     into.clear();
     let mut last = latest[at as usize];

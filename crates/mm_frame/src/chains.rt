@@ -10,7 +10,7 @@ ghost use Rattle.mm_frame.specs.Chains.{AddsInFront, AreChains, AreLinked, IsCha
 ghost use Rattle.mm_database.specs.DisjointIndex.{has_symbol};
 ghost use Rattle.mm_database.specs.Pairs.{has_pair, AreRising};
 
-use crate::tables::Tables;
+use mm_database::statements::Statements;
 use mm_outline::symbol::Sym;
 use std::alloc::{AllocError, Allocator};
 
@@ -83,25 +83,28 @@ fn add_links<A: Allocator>(
 }
 
 /// Returns the `$d` of each symbol.
-fn chains_of<A: Allocator + Copy>(alloc: A, tables: &Tables<A>) -> Result<Chains<A>, AllocError>
+fn chains_of<A: Allocator + Copy>(
+    alloc: A,
+    statements: &Statements<A>,
+) -> Result<Chains<A>, AllocError>
     ensures count { IfOk result
-        (λ c. length c.heads.items ≡ length (symbol_names tables.now)) }
+        (λ c. length c.heads.items ≡ length (symbol_names statements.now.list)) }
     ensures all { IfOk result
-        (λ c. (x j : ℕ) → has_symbol tables.now x j ≡ true → x < length c.heads.items) }
+        (λ c. (x j : ℕ) → has_symbol statements.now.list x j ≡ true → x < length c.heads.items) }
     ensures linked { IfOk result (λ c. AreLinked c.heads.items c.links.items) }
     ensures chains { IfOk result
-        (λ c. AreChains (has_symbol tables.now) 0 c.heads.items c.links.items) }
+        (λ c. AreChains (has_symbol statements.now.list) 0 c.heads.items c.links.items) }
 {
-    let heads = vec![in alloc; 0; tables.symbol_count() as usize]?;
+    let heads = vec![in alloc; 0; statements.symbol_count() as usize]?;
     let mut chains = Chains {
         heads,
         links: Vec::new(alloc),
     };
-    let mut left = tables.len();
+    let mut left = statements.len();
     while left > 0 {
         left -= 1;
-        if tables.is_disjoint(left) {
-            add_links(tables.formula(left), left, &mut chains)?;
+        if statements.is_disjoint(left) {
+            add_links(statements.formula(left), left, &mut chains)?;
         }
     }
     Ok(chains)
@@ -132,14 +135,15 @@ fn add_chain<A: Allocator>(
 /// Returns each symbol with each `$d` that has it, in ascending order.
 pub(crate) fn pairs_by_symbol<A: Allocator + Copy>(
     alloc: A,
-    tables: &Tables<A>,
+    statements: &Statements<A>,
 ) -> Result<Vec<(u32, u32), A>, AllocError>
     ensures rising { IfOk result (λ v. AreRising v.items) }
-    ensures are { IfOk result (λ v. (x j : ℕ) → has_pair v.items x j ≡ has_symbol tables.now x j) }
+    ensures are { IfOk result (λ v. (x j : ℕ) → has_pair v.items x j
+        ≡ has_symbol statements.now.list x j) }
 {
-    let chains = chains_of(alloc, tables)?;
+    let chains = chains_of(alloc, statements)?;
     let mut pairs = Vec::with_capacity(alloc, chains.links.len())?;
-    for symbol in 0..tables.symbol_count() {
+    for symbol in 0..statements.symbol_count() {
         add_chain(&chains, symbol, &mut pairs)?;
     }
     Ok(pairs)

@@ -107,16 +107,17 @@ pub(crate) fn pairs_of<A: Allocator + Copy>(
     together: &mut Vec<(u32, u32), A>,
 ) -> Result<Vec<(Sym, Sym), A>, AllocError>
     requires sources { AreSources sources.now }
-    requires assertion { assertion < length sources.now.tables.now }
+    requires assertion { assertion < length sources.now.statements.now.list }
     requires found { (x : ℕ)
         → is_member found.now x
-        ≡ is_member (mandatory_variables sources.now.tables.now assertion) x }
+        ≡ is_member (mandatory_variables sources.now.statements.now.list assertion) x }
     ensures { IfOk result
-        (λ v. map (λ p. pair p.0 p.1) v.items ≡ mandatory_pairs sources.now.tables.now assertion) }
+        (λ v. map (λ p. pair p.0 p.1) v.items
+        ≡ mandatory_pairs sources.now.statements.now.list assertion) }
 {
     had.clear();
     add_all_active(
-        sources.blocks,
+        sources.statements.blocks(),
         sources.disjoint_index,
         found,
         assertion,

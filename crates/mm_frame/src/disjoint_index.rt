@@ -2,15 +2,15 @@
 
 ghost use Rattle.std.specs.Prelude.{◌≡◌, ◌<◌, ◌+◌, ◌-◌, ◌&&◌, ℕ, IfOk};
 ghost use Rattle.std.specs.Prelude.{length, get_or, nat_eq, nat_le};
-ghost use Rattle.mm_outline.specs.Blocks.{IsBlocks, end_of};
+ghost use Rattle.mm_outline.specs.Blocks.{end_of};
 ghost use Rattle.mm_database.specs.DisjointIndex.{AreKnown, AreSkips};
 ghost use Rattle.mm_database.specs.DisjointIndex.{IsDisjointIndex};
 ghost use Rattle.mm_database.specs.Pairs.{has_pair, AreRising};
 ghost use Rattle.mm_database.specs.Starts.{AreStarts};
 
 use crate::chains::pairs_by_symbol;
-use crate::tables::Tables;
 use mm_database::disjoint_index::DisjointIndex;
+use mm_database::statements::Statements;
 use mm_outline::blocks::Blocks;
 use mm_outline::symbol::Sym;
 use std::alloc::{AllocError, Allocator};
@@ -76,15 +76,14 @@ fn starts_of<A: Allocator + Copy>(
 /// Returns the index of the `$d` statements by their variables.
 pub(crate) fn disjoint_index_of<A: Allocator + Copy>(
     alloc: A,
-    tables: &Tables<A>,
-    blocks: &Blocks<A>,
+    statements: &Statements<A>,
 ) -> Result<DisjointIndex<A>, AllocError>
-    requires { IsBlocks tables.now blocks.now }
     ensures { IfOk result
-        (λ m. IsDisjointIndex tables.now blocks.now m.pairs.items m.skips.items) }
+        (λ m. IsDisjointIndex statements.now.list statements.now.blocks m.pairs.items
+        m.skips.items) }
 {
-    let pairs = pairs_by_symbol(alloc, tables)?;
-    let skips = skips_of(alloc, blocks, &pairs)?;
+    let pairs = pairs_by_symbol(alloc, statements)?;
+    let skips = skips_of(alloc, statements.blocks(), &pairs)?;
     let starts = starts_of(alloc, &pairs)?;
     Ok(DisjointIndex::new(pairs, skips, starts))
 }

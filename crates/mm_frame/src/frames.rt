@@ -3,23 +3,22 @@
 ghost use Rattle.std.specs.Prelude.{◌≡◌, ◌<◌, ◌+◌, ℕ, IfOk, OnOk, length, map, slice_index};
 ghost use Rattle.mm_spec.specs.Derivation.{pair};
 ghost use Rattle.mm_spec.specs.Frame.{symbol_names};
-ghost use Rattle.mm_outline.specs.Blocks.{IsBlocks};
 ghost use Rattle.mm_database.specs.Frames.{IsFrame};
 ghost use Rattle.mm_database.specs.DisjointIndex.{IsDisjointIndex};
 ghost use Rattle.mm_frame.specs.Sources.{AreSources};
-ghost use Rattle.mm_frame.specs.Tables.{IsSound};
+ghost use Rattle.mm_database.specs.Parsed.{IsSound};
 ghost use Rattle.mm_frame.specs.Hypotheses.{AreReady, AreTyped, IsFresh};
-ghost use Rattle.mm_frame.specs.Beside.{HasFrames, HasFramesUpTo, IsBeside};
+ghost use Rattle.mm_database.specs.Beside.{HasFrames, HasFramesUpTo, IsBeside};
 
 use crate::active::latest_essentials;
 use crate::disjoint::pairs_of;
 use crate::disjoint_index::disjoint_index_of;
 use crate::hypotheses::hypotheses;
 use crate::sources::Sources;
-use crate::tables::Tables;
 use mm_database::disjoint_index::DisjointIndex;
 use mm_database::frames::{Beside, Frame, Frames};
-use mm_outline::blocks::{Blocks, NEVER};
+use mm_database::statements::Statements;
+use mm_outline::blocks::NEVER;
 use mm_outline::symbol::Sym;
 use std::alloc::{AllocError, Allocator};
 
@@ -32,13 +31,13 @@ fn filled<A: Allocator + Copy>(alloc: A, value: u32, count: u32) -> Result<Vec<u
 }
 
 /// Notes the statement, if it is a `$f`, as the last `$f` of its variable.
-fn give_type<A: Allocator>(tables: &Tables<A>, statement: u32, typed: &mut Vec<u32, A>)
-    requires sound { IsSound tables.now }
-    requires statement { statement < length tables.now }
-    requires typed { AreTyped tables.now statement typed.old.items }
-    ensures { AreTyped tables.now (statement + 1) typed.new.items }
+fn give_type<A: Allocator>(statements: &Statements<A>, statement: u32, typed: &mut Vec<u32, A>)
+    requires sound { IsSound statements.now.list }
+    requires statement { statement < length statements.now.list }
+    requires typed { AreTyped statements.now.list statement typed.old.items }
+    ensures { AreTyped statements.now.list (statement + 1) typed.new.items }
 {
-    if let Some(variable) = tables.typed(statement) {
+    if let Some(variable) = statements.typed(statement) {
         typed[variable.number() as usize] = statement;
     }
 }
@@ -84,13 +83,14 @@ fn frame_of<A: Allocator + Copy>(
     scratch: &mut Scratch<A>,
 ) -> Result<Frame<A>, AllocError>
     requires sources { AreSources sources.now }
-    requires assertion { assertion < length sources.now.tables.now }
-    requires ready { AreReady sources.now.tables.now assertion typed.now scratch.old.seen.items }
+    requires assertion { assertion < length sources.now.statements.now.list }
+    requires ready { AreReady sources.now.statements.now.list assertion typed.now
+        scratch.old.seen.items }
     ensures seen { OnOk result
-        (IsFresh (length (symbol_names sources.now.tables.now)) (assertion + 1)
+        (IsFresh (length (symbol_names sources.now.statements.now.list)) (assertion + 1)
         scratch.new.seen.items) }
     ensures frame { IfOk result
-        (λ f. IsFrame sources.now.tables.now assertion f.hyps.items
+        (λ f. IsFrame sources.now.statements.now.list assertion f.hyps.items
         (map (λ p. pair p.0 p.1) f.pairs.items)) }
 {
     hypotheses(
@@ -123,17 +123,18 @@ fn add_frame<A: Allocator + Copy>(
     frames: &mut Frames<A>,
 ) -> Result<(), AllocError>
     requires sources { AreSources sources.now }
-    requires statement { statement < length sources.now.tables.now }
-    requires ready { AreReady sources.now.tables.now statement typed.now scratch.old.seen.items }
-    requires frames { HasFramesUpTo sources.now.tables.now statement frames.old }
+    requires statement { statement < length sources.now.statements.now.list }
+    requires ready { AreReady sources.now.statements.now.list statement typed.now
+        scratch.old.seen.items }
+    requires frames { HasFramesUpTo sources.now.statements.now.list statement frames.old }
     ensures seen { OnOk result
-        (IsFresh (length (symbol_names sources.now.tables.now)) (statement + 1)
+        (IsFresh (length (symbol_names sources.now.statements.now.list)) (statement + 1)
         scratch.new.seen.items) }
     ensures frames { OnOk result
-        (HasFramesUpTo sources.now.tables.now (statement + 1) frames.new) }
+        (HasFramesUpTo sources.now.statements.now.list (statement + 1) frames.new) }
 {
     frames.places.push(frames.list.len() as u32)?;
-    if sources.tables.is_assertion(statement) {
+    if sources.statements.is_assertion(statement) {
         let frame = frame_of(alloc, sources, typed, statement, scratch)?;
         frames.list.push(frame)?;
     }
@@ -143,26 +144,23 @@ fn add_frame<A: Allocator + Copy>(
 /// Returns the frames of the assertions.
 pub(crate) fn frames_of<A: Allocator + Copy>(
     alloc: A,
-    tables: &Tables<A>,
-    blocks: &Blocks<A>,
+    statements: &Statements<A>,
     disjoint_index: &DisjointIndex<A>,
 ) -> Result<Frames<A>, AllocError>
-    requires blocks { IsBlocks tables.now blocks.now }
-    requires disjoint_index { IsDisjointIndex tables.now blocks.now
+    requires { IsDisjointIndex statements.now.list statements.now.blocks
         disjoint_index.now.pairs.items disjoint_index.now.skips.items }
-    ensures { IfOk result (λ v. HasFrames tables.now v) }
+    ensures { IfOk result (λ v. HasFrames statements.now.list v) }
 {
-    let count = tables.len();
-    let essentials = latest_essentials(alloc, tables)?;
+    let count = statements.len();
+    let essentials = latest_essentials(alloc, statements)?;
     let sources = Sources {
-        tables,
-        blocks,
+        statements,
         essentials: &essentials,
         disjoint_index,
     };
-    let mut typed = filled(alloc, NEVER, tables.symbol_count())?;
+    let mut typed = filled(alloc, NEVER, statements.symbol_count())?;
     let mut scratch = Scratch {
-        seen: filled(alloc, 0, tables.symbol_count())?,
+        seen: filled(alloc, 0, statements.symbol_count())?,
         found: Vec::new(alloc),
         hyps: Vec::new(alloc),
         had: Vec::new(alloc),
@@ -174,7 +172,7 @@ pub(crate) fn frames_of<A: Allocator + Copy>(
     };
     for k in 0..count {
         add_frame(alloc, &sources, &typed, k, &mut scratch, &mut frames)?;
-        give_type(tables, k, &mut typed);
+        give_type(statements, k, &mut typed);
     }
     Ok(frames)
 }
@@ -182,14 +180,13 @@ pub(crate) fn frames_of<A: Allocator + Copy>(
 /// Returns all that is kept beside lawful statements.
 pub fn gather<A: Allocator + Copy>(
     alloc: A,
-    tables: &Tables<A>,
-    blocks: &Blocks<A>,
+    statements: &Statements<A>,
 ) -> Result<Beside<A>, AllocError>
-    requires { IsBlocks tables.now blocks.now }
-    ensures { IfOk result (λ b. IsBeside tables.now blocks.now b) }
+    ensures { IfOk result
+        (λ b. IsBeside statements.now.list statements.now.blocks b) }
 {
-    let disjoint_index = disjoint_index_of(alloc, tables, blocks)?;
-    let frames = frames_of(alloc, tables, blocks, &disjoint_index)?;
+    let disjoint_index = disjoint_index_of(alloc, statements)?;
+    let frames = frames_of(alloc, statements, &disjoint_index)?;
     Ok(Beside {
         disjoint_index,
         frames,

@@ -12,30 +12,32 @@ ghost use Rattle.mm_frame.specs.Hypotheses.{AreMarks, AreReady, AreTyped, IsFres
 
 use crate::active::active_essentials;
 use crate::sources::Sources;
-use crate::tables::Tables;
+use mm_database::statements::Statements;
 use mm_outline::blocks::NEVER;
 use mm_outline::symbol::Sym;
 use std::alloc::{AllocError, Allocator};
 
 /// Marks and lists a symbol if it is a variable and isn't marked yet.
 fn mark<A: Allocator>(
-    tables: &Tables<A>,
+    statements: &Statements<A>,
     symbol: Sym,
     stamp: u32,
     seen: &mut Vec<u32, A>,
     found: &mut Vec<Sym, A>,
 ) -> Result<(), AllocError>
-    requires symbol { symbol < length (symbol_names tables.now) }
+    requires symbol { symbol < length (symbol_names statements.now.list) }
     requires marks { AreMarks
-        (length (symbol_names tables.now)) stamp seen.old.items found.old.items }
+        (length (symbol_names statements.now.list)) stamp seen.old.items found.old.items }
     ensures marks { OnOk result
-        (AreMarks (length (symbol_names tables.now)) stamp seen.new.items found.new.items) }
+        (AreMarks (length (symbol_names statements.now.list)) stamp seen.new.items
+        found.new.items) }
     ensures found { OnOk result
         ((x : ℕ)
         → is_member found.new.items x
-        ≡ (is_member found.old.items x || (is_variable_number tables.now x && nat_eq x symbol))) }
+        ≡ (is_member found.old.items x ||
+        (is_variable_number statements.now.list x && nat_eq x symbol))) }
 {
-    if tables.is_variable(symbol) {
+    if statements.is_variable(symbol) {
         let place = symbol.number() as usize;
         if seen[place] != stamp {
             seen[place] = stamp;
@@ -47,25 +49,26 @@ fn mark<A: Allocator>(
 
 /// Marks and lists the variables of a formula.
 fn note<A: Allocator>(
-    tables: &Tables<A>,
+    statements: &Statements<A>,
     symbols: &[Sym],
     stamp: u32,
     seen: &mut Vec<u32, A>,
     found: &mut Vec<Sym, A>,
 ) -> Result<(), AllocError>
-    requires symbols { All (λ s. s < length (symbol_names tables.now)) symbols.now }
+    requires symbols { All (λ s. s < length (symbol_names statements.now.list)) symbols.now }
     requires marks { AreMarks
-        (length (symbol_names tables.now)) stamp seen.old.items found.old.items }
+        (length (symbol_names statements.now.list)) stamp seen.old.items found.old.items }
     ensures marks { OnOk result
-        (AreMarks (length (symbol_names tables.now)) stamp seen.new.items found.new.items) }
+        (AreMarks (length (symbol_names statements.now.list)) stamp seen.new.items
+        found.new.items) }
     ensures found { OnOk result
         ((x : ℕ)
         → is_member found.new.items x
         ≡ (is_member found.old.items x
-        || (is_variable_number tables.now x && is_member symbols.now x))) }
+        || (is_variable_number statements.now.list x && is_member symbols.now x))) }
 {
     for symbol in symbols {
-        mark(tables, *symbol, stamp, seen, found)?;
+        mark(statements, *symbol, stamp, seen, found)?;
     }
     Ok(())
 }
@@ -73,37 +76,38 @@ fn note<A: Allocator>(
 /// Marks the mandatory variables of an assertion, and lists them in `found`. Replaces what `found`
 /// has.
 fn mandatory<A: Allocator>(
-    tables: &Tables<A>,
+    statements: &Statements<A>,
     essentials: &[u32],
     assertion: u32,
     seen: &mut Vec<u32, A>,
     found: &mut Vec<Sym, A>,
 ) -> Result<(), AllocError>
-    requires few { length tables.now < 2 ^ 31 }
-    requires assertion { assertion < length tables.now }
+    requires few { length statements.now.list < 2 ^ 31 }
+    requires assertion { assertion < length statements.now.list }
     requires essentials { (i : ℕ)
         → is_member essentials.now i
-        ≡ is_member (active_of is_essential tables.now assertion) i }
-    requires fresh { IsFresh (length (symbol_names tables.now)) assertion seen.old.items }
+        ≡ is_member (active_of is_essential statements.now.list assertion) i }
+    requires fresh { IsFresh (length (symbol_names statements.now.list)) assertion seen.old.items }
     ensures marks { OnOk result
-        (AreMarks (length (symbol_names tables.now))
+        (AreMarks (length (symbol_names statements.now.list))
         (assertion + 1) seen.new.items found.new.items) }
     ensures found { OnOk result
         ((x : ℕ)
-        → is_member found.new.items x ≡ is_member (mandatory_variables tables.now assertion) x) }
+        → is_member found.new.items x
+        ≡ is_member (mandatory_variables statements.now.list assertion) x) }
 {
     found.clear();
     note(
-        tables,
-        tables.formula(assertion),
+        statements,
+        statements.formula(assertion),
         assertion + 1,
         seen,
         found,
     )?;
     for essential in essentials {
         note(
-            tables,
-            tables.formula(*essential),
+            statements,
+            statements.formula(*essential),
             assertion + 1,
             seen,
             found,
@@ -114,25 +118,25 @@ fn mandatory<A: Allocator>(
 
 /// Appends the active `$f` statements of the variables.
 fn add_floats<A: Allocator>(
-    tables: &Tables<A>,
+    statements: &Statements<A>,
     typed: &[u32],
     at: u32,
     found: &[Sym],
     hyps: &mut Vec<u32, A>,
 ) -> Result<(), AllocError>
-    requires at { at ≤ length tables.now }
-    requires typed { AreTyped tables.now at typed.now }
-    requires found { All (λ s. s < length (symbol_names tables.now)) found.now }
+    requires at { at ≤ length statements.now.list }
+    requires typed { AreTyped statements.now.list at typed.now }
+    requires found { All (λ s. s < length (symbol_names statements.now.list)) found.now }
     ensures { OnOk result
         ((j : ℕ)
         → is_member hyps.new.items j
         ≡ (is_member hyps.old.items j
-        || list_any (is_float_of tables.now at typed.now j) found.now)) }
+        || list_any (is_float_of statements.now.list at typed.now j) found.now)) }
 {
     for symbol in found {
         let floating = typed[symbol.number() as usize];
         if floating != NEVER {
-            if tables.is_open(floating, at) {
+            if statements.is_open(floating, at) {
                 hyps.push(floating)?;
             }
         }
@@ -160,22 +164,22 @@ pub(crate) fn hypotheses<A: Allocator>(
     hyps: &mut Vec<u32, A>,
 ) -> Result<(), AllocError>
     requires sources { AreSources sources.now }
-    requires assertion { assertion < length sources.now.tables.now }
-    requires ready { AreReady sources.now.tables.now assertion typed.now seen.old.items }
+    requires assertion { assertion < length sources.now.statements.now.list }
+    requires ready { AreReady sources.now.statements.now.list assertion typed.now seen.old.items }
     ensures marks { OnOk result
-        (AreMarks (length (symbol_names sources.now.tables.now))
+        (AreMarks (length (symbol_names sources.now.statements.now.list))
         (assertion + 1) seen.new.items found.new.items) }
     ensures found { OnOk result
         ((x : ℕ)
         → is_member found.new.items x
-        ≡ is_member (mandatory_variables sources.now.tables.now assertion) x) }
+        ≡ is_member (mandatory_variables sources.now.statements.now.list assertion) x) }
     ensures hyps { OnOk result
-        (hyps.new.items ≡ mandatory_hypotheses sources.now.tables.now assertion) }
+        (hyps.new.items ≡ mandatory_hypotheses sources.now.statements.now.list assertion) }
 {
-    let tables = sources.tables;
-    active_essentials(tables, sources.essentials, assertion, hyps)?;
-    mandatory(tables, hyps, assertion, seen, found)?;
-    add_floats(tables, typed, assertion, found, hyps)?;
+    let statements = sources.statements;
+    active_essentials(statements, sources.essentials, assertion, hyps)?;
+    mandatory(statements, hyps, assertion, seen, found)?;
+    add_floats(statements, typed, assertion, found, hyps)?;
     sort_and_dedup(hyps);
     Ok(())
 }

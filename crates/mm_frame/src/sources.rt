@@ -1,15 +1,13 @@
 //! What frames are found from.
 
-use crate::tables::Tables;
 use mm_database::disjoint_index::DisjointIndex;
-use mm_outline::blocks::Blocks;
+use mm_database::statements::Statements;
 use std::alloc::Allocator;
 
-/// The statements, their blocks, the last active `$e` at each, and the `$d` by their variables.
+/// The statements, the last active `$e` at each, and the `$d` by their variables.
 #[derive(Drop)]
 pub struct Sources<'s, 't, A: Allocator> {
-    pub tables: &'s Tables<'t, A>,
-    pub blocks: &'s Blocks<A>,
+    pub statements: &'s Statements<'t, A>,
     pub essentials: &'s [u32],
     pub disjoint_index: &'s DisjointIndex<A>,
 }

@@ -4,7 +4,7 @@ use Rattle.std.proofs.Common.{false, List, [], ◌∷◌, ◌++◌, map, length,
 use Rattle.std.proofs.Common.{slice_get, nat_le, nat_lt, refl, sym, ap, subst, arith, append_assoc}
 use Rattle.std.proofs.Common.{length-append, length-take, length-drop, leb-true, eqb-true, Result}
 use Rattle.std.proofs.Common.{Ok, Err, IfErr, slice_range, get_or, take, drop, true≢false, is_some}
-use Rattle.std.proofs.Common.{fold}
+use Rattle.std.proofs.Common.{fold, ap₂, if◌then◌else◌}
 use Rattle.std.specs.Result.{IsErrAnd}
 use Rattle.std.proofs.lemmas.List.{drop_more, append-nil}
 use Rattle.std.proofs.lemmas.Bool.{and_parts, le-ltb, lt-ltb}
@@ -23,7 +23,7 @@ use Rattle.mm_spec.specs.declared.Word.{Word as Place}
 use Rattle.mm_outline.specs.Parts.{as_tokens, token_of}
 use Rattle.mm_proof.specs.Number.{saturated}
 use Rattle.mm_proof.specs.Letters.{LettersState, letters_state, letter, Begins, Continues, begun_at}
-use Rattle.mm_proof.specs.Letters.{StandsAt, InOrder, early_value}
+use Rattle.mm_proof.specs.Letters.{StandsAt, BeginsAt, if_begun, InOrder, early_value}
 use Rattle.mm_proof.specs.Refused.{StartsWith}
 use Rattle.mm_proof.specs.declared.refused.ProofRefused.{ProofRefused}
 use Rattle.mm_proof.specs.declared.refused.ProofRefused.TheVariants.{Fault as Faulty, Memory}
@@ -252,6 +252,72 @@ early_reads t labels marks number steps place byte begun e place_is value_is all
         = let m = more 0 early in let b = r.4 in omega (arith, m, b) in
         (r.0, r.1 ++ x ∷ [], ap (λ es. es ++ x ∷ []) r.2, p ∙ r.3, v ∙ same)
 
+pub early_digit : (byte digit : ℕ) → is_early byte ≡ true → digit ≡ byte - 84
+    → (0 < digit) × (digit ≤ 20)
+early_digit byte digit l e =
+    let p = and_parts (nat_le 85 byte) (nat_le byte 89) l in
+    let low = leb-true 85 byte p.0 in
+    let high = leb-true byte 89 p.1 in
+    (omega (arith, low, e), omega (arith, high, e))
+
+-- the number to which the letter at a place belongs
+abbrev begun : ℕ → ℕ → Begun
+begun at value = record { at = at; value = value }
+
+begun_is : (b : Begun) (place : ℕ) → BeginsAt b place → begun_at (if_begun b) place ≡ b
+begun_is b place h = by (b.value == 0) refl
+  where
+    by : (t : Bool) → (b.value == 0) ≡ t → begun_at (if t then None else Some b) place ≡ b
+    by true e =
+        let none = eqb-true b.value 0 e in ap₂ begun (sym (h none)) (sym none)
+    by false e = refl
+
+pub some_begun : (b : Begun) → 0 < b.value → if_begun b ≡ Some b
+some_begun b l = by (b.value == 0) refl
+  where
+    by : (t : Bool) → (b.value == 0) ≡ t → (if t then None else Some b) ≡ Some b
+    by true e = let none = eqb-true b.value 0 e in absurd (omega arith)
+    by false e = refl
+
+pub none_begun : (b : Begun) → b.value ≡ 0 → if_begun b ≡ None
+none_begun b e = ap (λ n. if n == 0 then None else Some b) e
+
+-- the last letter of this number
+pub last_here : (t : ℕ) (labels marks : List ℕ) (number : Begun) (steps : List PlacedStep)
+    → (place byte : ℕ) (s : spec.Step)
+    → BeginsAt number place → is_early byte ≡ false → is_last byte ≡ true
+    → ((n : ℕ) → saturated (20 * number.value + (byte - 64)) ≡ saturated n
+    → step_of labels marks n ≡ s ∷ [])
+    → (all left : List Letter)
+    → Continues (letters_state t labels marks (if_begun number) steps) all
+    (letter place byte ∷ left)
+    → Continues (letters_state t labels marks None (steps ++ placed number.at s ∷ [])) all left
+last_here t labels marks number steps place byte s b e l named all left h =
+    let is = begun_is number place b in
+    subst (λ (b : Begun). Continues (letters_state t labels marks None
+    (steps ++ placed b.at s ∷ [])) all left) is
+    (last_reads t labels marks (if_begun number) steps place byte s e l
+    (λ n q. named n (ap (λ (b : Begun). saturated (20 * b.value + (byte - 64))) (sym is) ∙ q))
+    all left h)
+
+-- an early letter of this number
+pub early_here : (t : ℕ) (labels marks : List ℕ) (number : Begun) (steps : List PlacedStep)
+    → (place byte : ℕ) (next : Begun) → BeginsAt number place → is_early byte ≡ true
+    → next.at ≡ number.at → next.value ≡ saturated (5 * number.value + (byte - 84))
+    → (all left : List Letter)
+    → Continues (letters_state t labels marks (if_begun number) steps) all
+    (letter place byte ∷ left)
+    → Continues (letters_state t labels marks (if_begun next) steps) all left
+early_here t labels marks number steps place byte next b e place_is value_is all left h =
+    let is = begun_is number place b in
+    let d = early_digit byte (byte - 84) e refl in
+    let some : 0 < next.value = omega (arith, value_is, d.0) in
+    subst (λ o. Continues (letters_state t labels marks o steps) all left)
+    (sym (some_begun next some))
+    (early_reads t labels marks (if_begun number) steps place byte next e
+    (place_is ∙ ap (λ (b : Begun). b.at) (sym is))
+    (value_is ∙ ap (λ (b : Begun). saturated (5 * b.value + (byte - 84))) (sym is)) all left h)
+
 -- a `Z` after the last letter of a number
 pub mark_reads : (t : ℕ) (labels marks : List ℕ) (steps : List PlacedStep) (place : ℕ)
     → (length steps == 0) ≡ false → (all left : List Letter)
@@ -375,13 +441,3 @@ last_digit byte digit l e =
     let low = leb-true 65 byte p.0 in
     let high = leb-true byte 84 p.1 in
     (omega (arith, low, e), omega (arith, high, e))
-
-pub early_digit : (byte digit : ℕ) → is_early byte ≡ true → digit ≡ byte - 84 → digit ≤ 20
-early_digit byte digit l e =
-    let high = leb-true byte 89 (and_parts (nat_le 85 byte) (nat_le byte 89) l).1 in
-    omega (arith, high, e)
-
--- a number that isn't there
-pub no_number : (n : Option Begun) → is_some n ≡ false → n ≡ None
-no_number None e = refl
-no_number (Some b) e = absurd (true≢false e)

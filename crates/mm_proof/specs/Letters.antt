@@ -1,6 +1,7 @@
 -- What has been read of the letters of a compressed proof.
 use Rattle.std.specs.Prelude.{◌≡◌, ℕ, ◌+◌, ◌-◌, ◌*◌, ◌<◌, ◌≤◌, All, List, [], ◌∷◌, ◌++◌, length}
-use Rattle.std.specs.Prelude.{Option, Some, None, fold, take, drop, flat_map}
+use Rattle.std.specs.Prelude.{Option, Some, None, fold, take, drop, flat_map, ◌==◌}
+use Rattle.std.specs.Prelude.{if◌then◌else◌}
 use Rattle.mm_spec.specs.declared.Word.{Word}
 use Rattle.mm_spec.specs.Text.{Token}
 use Rattle.mm_spec.specs.Statement.{Statement}
@@ -64,6 +65,19 @@ pub record Continues (s : LettersState) (all left : List Letter) : Type 0 where
 pub record StandsAt (s : LettersState) (at : ℕ) : Type 0 where
   pub few : length s.steps ≤ at
   pub earlier : All (λ j. j < length s.steps) s.marks
+
+-- a number that has no letters yet begins at the place
+abbrev pub BeginsAt : Begun → ℕ → Type 0
+BeginsAt number at = number.value ≡ 0 → number.at ≡ at
+
+-- the same, with the number to which the letter at the place belongs
+pub record StandsWith (s : LettersState) (number : Begun) (at : ℕ) : Type 0 where
+  pub stands : StandsAt s at
+  pub begins : BeginsAt number at
+
+-- the number if it has letters
+abbrev pub if_begun : Begun → Option Begun
+if_begun number = if number.value == 0 then None else Some number
 
 -- these letters lead from the state `old` to the state `new`, of the same theorem and labels
 pub record ReadsLetters (old : LettersState) (xs : List Letter) (new : LettersState) : Type 0 where

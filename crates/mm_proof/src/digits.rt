@@ -43,8 +43,8 @@ pub(crate) fn with_digit(number: u64, base: u64, digit: u64) -> u64
     requires digit { digit ≤ 20 }
     ensures { result ≡ saturated (base * number + digit) }
 {
-    // For a small number nothing can wrap.
-    if number <= 0x7fff_ffff {
+    // For a small number nothing can wrap. (This bound fits in an instruction, 32 bits don't.)
+    if number < 0x4000_0000 {
         base * number + digit
     } else {
         number.saturating_mul(base).saturating_add(digit)

@@ -9,8 +9,9 @@ ghost use Rattle.mm_outline.specs.Parts.{as_tokens, AreWithin};
 ghost use Rattle.mm_steps.specs.Read.{read, as_step, IsEarlier};
 ghost use Rattle.mm_proof.specs.Number.{IsLetter, saturated};
 ghost use Rattle.mm_proof.specs.declared.digits.LetterKind.TheVariants.{Last};
-ghost use Rattle.mm_proof.specs.Letters.{letters_state, letter, with_number, begun_at, named};
-ghost use Rattle.mm_proof.specs.Letters.{InOrder, StandsAt, ReadsLetters, RefusesLetters};
+ghost use Rattle.mm_proof.specs.Letters.{letters_state, letter, with_number, named, if_begun};
+ghost use Rattle.mm_proof.specs.Letters.{InOrder, StandsAt, StandsWith, BeginsAt};
+ghost use Rattle.mm_proof.specs.Letters.{ReadsLetters, RefusesLetters};
 ghost use Rattle.mm_proof.specs.Refused.{StartsWith};
 
 use crate::digits::{LetterKind, letter_of, with_digit};
@@ -24,33 +25,41 @@ use std::marker::Model;
 /// The number of marks for which room is reserved at first. Most proofs have fewer.
 const ROOM: usize = 64;
 
-/// A number whose last letter hasn't been read yet.
+/// The number to which the next letter belongs, if that is a letter of a number.
 #[derive(Clone, Copy)]
 pub(crate) struct Begun {
     /// The place of its first letter.
     at: u32,
-    /// The value of its letters so far, or the greatest 64-bit number if that is smaller.
+    /// The value of its letters so far, or the greatest 64-bit number if that is smaller: 0 as long
+    /// as it has none.
     value: u64,
 }
 
-/// A number with one more digit, whose letter is at place `at`.
-fn begun_by(number: Option<Begun>, at: u32, base: u64, digit: u64) -> Begun
+/// A number with one more digit.
+fn begun_by(number: Begun, base: u64, digit: u64) -> Begun
     requires base { base ≤ 20 }
     requires digit { digit ≤ 20 }
-    ensures at { result.at ≡ (begun_at number at).at }
-    ensures value { result.value ≡ saturated (base * (begun_at number at).value + digit) }
+    ensures at { result.at ≡ number.at }
+    ensures value { result.value ≡ saturated (base * number.value + digit) }
 {
-    match number {
-        Some(begun) => Begun {
-            at: begun.at,
-            value: with_digit(begun.value, base, digit),
-        },
-        None => Begun { at, value: digit },
+    Begun {
+        at: number.at,
+        value: with_digit(number.value, base, digit),
+    }
+}
+
+/// Lets a number that has no letters yet begin at place `at`.
+fn begin_at(number: &mut Begun, at: u32)
+    ensures at { BeginsAt number.new at }
+    ensures same { if_begun number.new ≡ if_begun number.old }
+{
+    if number.value == 0 {
+        number.at = at;
     }
 }
 
 /// What the letters so far stand for, except for a number whose last letter hasn't been read yet.
-/// That number is passed as an argument, so that it stays in registers.
+/// That number is passed as an argument of its own, so that it stays in registers.
 #[derive(Drop)]
 pub(crate) struct Progress<A: Allocator> {
     /// The statements whose labels have numbers: the theorem's mandatory hypotheses, and those in
@@ -130,19 +139,19 @@ impl<A: Allocator> Progress<A> {
         Ok(())
     }
 
-    /// Reads the last letter of a number.
-    fn end_number(&mut self, number: Option<Begun>, at: u32, digit: u64) -> Result<(), ProofRefused>
+    /// Reads the last letter of a number, which is at place `_at`.
+    fn end_number(&mut self, number: Begun, _at: u32, digit: u64) -> Result<(), ProofRefused>
         requires digit { 0 < digit }
         requires small { digit ≤ 20 }
-        requires stands { StandsAt self.old at }
-        ensures stands { OnOk result (StandsAt self.new (at + 1)) }
+        requires stands { StandsWith self.old number _at }
+        ensures stands { OnOk result (StandsAt self.new (_at + 1)) }
         ensures reads { OnOk result ((byte : ℕ) → IsLetter byte (Last digit)
-            → ReadsLetters (with_number self.old number) (letter at byte ∷ [])
+            → ReadsLetters (with_number self.old (if_begun number)) (letter _at byte ∷ [])
             (with_number self.new None)) }
         ensures refuses { IfErr result (λ e. (byte : ℕ) → IsLetter byte (Last digit)
-            → RefusesLetters (with_number self.old number) (letter at byte ∷ []) e) }
+            → RefusesLetters (with_number self.old (if_begun number)) (letter _at byte ∷ []) e) }
     {
-        let begun = begun_by(number, at, 20, digit);
+        let begun = begun_by(number, 20, digit);
         let Some(step) = self.named(begun.value) else {
             return Err(refused(begun.at, Code::NumberTooLarge));
         };
@@ -167,63 +176,63 @@ impl<A: Allocator> Progress<A> {
         Ok(())
     }
 
-    /// Reads a letter, and returns the number that is open after it.
-    fn read(
-        &mut self,
-        number: Option<Begun>,
-        at: u32,
-        byte: u8,
-    ) -> Result<Option<Begun>, ProofRefused>
-        requires stands { StandsAt self.old at }
-        ensures stands { OnOk result (StandsAt self.new (at + 1)) }
-        ensures reads { IfOk result
-            (λ n. ReadsLetters (with_number self.old number) (letter at byte ∷ [])
-            (with_number self.new n)) }
+    /// Reads a letter.
+    fn read(&mut self, number: &mut Begun, at: u32, byte: u8) -> Result<(), ProofRefused>
+        requires more { at < 4294967295 }
+        requires stands { StandsWith self.old number.old at }
+        ensures stands { OnOk result (StandsWith self.new number.new (at + 1)) }
+        ensures reads { OnOk result
+            (ReadsLetters (with_number self.old (if_begun number.old)) (letter at byte ∷ [])
+            (with_number self.new (if_begun number.new))) }
         ensures refuses { IfErr result
-            (λ e. RefusesLetters (with_number self.old number) (letter at byte ∷ []) e) }
+            (λ e. RefusesLetters (with_number self.old (if_begun number.old))
+            (letter at byte ∷ []) e) }
     {
         match letter_of(byte) {
-            LetterKind::Early(digit) => Ok(Some(begun_by(number, at, 5, digit))),
+            LetterKind::Early(digit) => {
+                *number = begun_by(*number, 5, digit);
+                Ok(())
+            }
             LetterKind::Last(digit) => {
-                self.end_number(number, at, digit)?;
-                Ok(None)
+                self.end_number(*number, at, digit)?;
+                *number = Begun {
+                    at: at + 1,
+                    value: 0,
+                };
+                Ok(())
             }
             LetterKind::Mark => {
-                if number.is_some() {
+                if number.value > 0 {
                     return Err(refused(at, Code::OpenNumber));
                 }
                 self.mark(at)?;
-                Ok(None)
+                number.at = at + 1;
+                Ok(())
             }
             LetterKind::Unknown => Err(refused(at, Code::IncompleteProof)),
             LetterKind::Other => Err(refused(at, Code::BadLetter)),
         }
     }
 
-    /// Reads the letters of a word, and returns the number that is open after it.
-    fn read_word(
-        &mut self,
-        number: Option<Begun>,
-        text: &[u8],
-        word: Word,
-    ) -> Result<Option<Begun>, ProofRefused>
+    /// Reads the letters of a word.
+    fn read_word(&mut self, number: &mut Begun, text: &[u8], word: Word) -> Result<(), ProofRefused>
         requires order { word.start ≤ word.end }
         requires within { word.end ≤ length text.now }
         requires stands { StandsAt self.old word.start }
         ensures stands { OnOk result (StandsAt self.new word.end) }
-        ensures reads { IfOk result
-            (λ n. ReadsLetters (with_number self.old number)
+        ensures reads { OnOk result
+            (ReadsLetters (with_number self.old (if_begun number.old))
             (letters_from word.start (slice_range text.now word.start word.end))
-            (with_number self.new n)) }
+            (with_number self.new (if_begun number.new))) }
         ensures refuses { IfErr result
-            (λ e. RefusesLetters (with_number self.old number)
+            (λ e. RefusesLetters (with_number self.old (if_begun number.old))
             (letters_from word.start (slice_range text.now word.start word.end)) e) }
     {
-        let mut begun = number;
-        for at in word.start..word.end {
-            begun = self.read(begun, at, text[at as usize])?;
+        begin_at(number, word.start);
+        for i in word.start as usize..word.end as usize {
+            self.read(number, i as u32, text[i])?;
         }
-        Ok(begun)
+        Ok(())
     }
 
     /// Reads all letters, which end at place `end`.
@@ -253,11 +262,11 @@ impl<A: Allocator> Progress<A> {
         if words.is_empty() {
             return Err(refused(end, Code::EmptyProof));
         }
-        let mut begun = None;
+        let mut begun = Begun { at: 0, value: 0 };
         for word in words {
-            begun = self.read_word(begun, text, *word)?;
+            self.read_word(&mut begun, text, *word)?;
         }
-        if begun.is_some() {
+        if begun.value > 0 {
             return Err(refused(end, Code::OpenNumber));
         }
         Ok(())

@@ -1,16 +1,12 @@
 -- Symbols keep their numbers when statements are added.
-use Rattle.std.proofs.Common.{◌≡◌, ℕ, zero, suc, ◌+◌, ◌-◌, ◌<◌, ◌≤◌}
+use Rattle.std.proofs.Common.{◌≡◌, ℕ, suc, ◌+◌, ◌<◌, ◌≤◌}
 use Rattle.std.proofs.Common.{Bool, true, false, ◌||◌, List, [], ◌∷◌, ◌++◌, length, map, flat_map}
-use Rattle.std.proofs.Common.{take, drop, get_or, slice_get, slice_range, None, Some}
+use Rattle.std.proofs.Common.{get_or, slice_get, None, Some}
 use Rattle.std.proofs.Common.{bytes_eq, if◌then◌else◌, refl, sym, ap, ap₂, ◌∙◌, subst, arith}
-use Rattle.std.proofs.Common.{true≢false, ◌⊎◌, inl, inr, append_assoc, append-nil, length-append}
-use Rattle.std.proofs.Common.{take_all, le_refl}
-use Rattle.std.proofs.lemmas.List.{map-append, take_more, get_or_push}
-use Rattle.std.proofs.lemmas.List.{get_or_append_left, take-append-drop}
+use Rattle.std.proofs.Common.{true≢false, append_assoc, append-nil, length-append}
+use Rattle.std.proofs.lemmas.List.{map-append}
 use Rattle.std.proofs.lemmas.Grind.{flat_map-append}
-use Rattle.std.proofs.lemmas.Bool.{cases_lt}
 use Rattle.std.proofs.lemmas.Option.{slice_get_within, slice_get-get_or}
-use Rattle.std.proofs.Math.Seq.{drop-append_seam, take-append_seam}
 use Rattle.mm_spec.specs.Text.{Bytes, Token, is_in, words}
 use Rattle.std.proofs.Math.Bool.{or-true}
 use Rattle.mm_spec.specs.Statement.{Statement, symbols_of, constants, variables, disjoint, floating}
@@ -18,12 +14,16 @@ use Rattle.mm_spec.specs.Statement.{essential, axiomatic, provable, opening, clo
 use Rattle.mm_spec.specs.Scope.{constants_of, variables_of}
 use Rattle.mm_spec.specs.Lawful.{scope_fault}
 use Rattle.mm_spec.specs.Frame.{first_occurrences, symbol_names, place_of, formula_of}
-use Rattle.mm_spec.proofs.LocalLaw.{get_front}
 use Rattle.mm_spec.specs.declared.Word as place
 use Rattle.mm_outline.specs.Numbered.{AreNumbered}
 use Rattle.mm_outline.specs.Parts.{between, token_at}
 use Rattle.mm_outline.proofs.TurnsLaw.{between_more, between_none}
+use Rattle.mm_database.specs.Cuts.{AreJoined, joined}
 use Rattle.mm_database.specs.Names.{with_name}
+use Rattle.mm_database.proofs.CutsLaw.{more_joined}
+use Rattle.mm_outline.proofs.StatementsLaw.{get_mapped}
+use Rattle.std.proofs.lemmas.List.Folds.{flat_map-map}
+use Rattle.std.proofs.lemmas.List.{length-map}
 use Rattle.mm_scope.specs.Formulas.{AreFormulas, numbers_in, judged, unjudged}
 use Rattle.mm_database.proofs.SymbolsLaw.{first_added, if_new, itself}
 use Rattle.mm_scope.proofs.BoundsLaw.{symbol_known}
@@ -107,11 +107,10 @@ same_places ns ms (w ∷ ws) h =
     (same_places ns ms ws (λ v e. h v (ap (λ b. bytes_eq v w || b) e ∙ or-true (bytes_eq v w))))
 
 same_maps : (f g : Statement → List ℕ) (xs : List Statement)
-    → ((k : ℕ) (t : Statement) → slice_get xs k ≡ Some t → f t ≡ g t)
-    → flat_map f xs ≡ flat_map g xs
+    → ((k : ℕ) (t : Statement) → slice_get xs k ≡ Some t → f t ≡ g t) → map f xs ≡ map g xs
 same_maps f g [] h = refl
 same_maps f g (x ∷ xs) h =
-    ap₂ (λ a b. a ++ b) (h 0 x refl) (same_maps f g xs (λ k t e. h (suc k) t e))
+    ap₂ (λ a b. a ∷ b) (h 0 x refl) (same_maps f g xs (λ k t e. h (suc k) t e))
 
 module _ (db : List Statement) (lawful : (k : ℕ) → k < length db → scope_fault db k ≡ None)
     (s : Statement) where
@@ -127,119 +126,37 @@ module _ (db : List Statement) (lawful : (k : ℕ) → k < length db → scope_f
       ∙ place_front w (symbol_names db) g.0
       (symbol_known db lawful k (slice_get_within db k t e) t e w h))
 
-  front-kept : (j : ℕ)
-      → flat_map (formula_of all) (take j db) ≡ flat_map (formula_of db) (take j db)
-  front-kept j =
-      same_maps (formula_of all) (formula_of db) (take j db)
-      (λ k t e. formula-kept k t
-      (ap (λ l. slice_get l k) (sym (take-append-drop j db))
-      ∙ get_front (take j db) (drop j db) k (slice_get_within (take j db) k t e) ∙ e))
-
-  all-kept : flat_map (formula_of all) db ≡ flat_map (formula_of db) db
-  all-kept =
-      let e : take (length db) db ≡ db = take_all (length db) db (le_refl (length db)) in
-      subst (λ l. flat_map (formula_of all) l ≡ flat_map (formula_of db) l) e
-      (front-kept (length db))
-
-  numbers-next : flat_map (formula_of all) all ≡ flat_map (formula_of db) db ++ formula_of all s
-  numbers-next =
-      flat_map-append (formula_of all) db (s ∷ [])
-      ∙ ap₂ (λ a b. a ++ b) all-kept (append-nil (formula_of all s))
-
-  take-front : (j : ℕ) → j ≤ length db → take j all ≡ take j db
-  take-front j h = front db j h
-    where
-      front : (xs : List Statement) (j : ℕ) → j ≤ length xs → take j (xs ++ s ∷ []) ≡ take j xs
-      front xs zero h = refl
-      front [] (suc j) h = absurd (omega arith)
-      front (x ∷ xs) (suc j) h = ap (λ l. x ∷ l) (front xs j (omega arith))
+  formulas-next : map (formula_of db) db ++ formula_of all s ∷ [] ≡ map (formula_of all) all
+  formulas-next =
+      ap (λ fs. fs ++ formula_of all s ∷ [])
+      (same_maps (formula_of db) (formula_of all) db (λ k t e. sym (formula-kept k t e)))
+      ∙ sym (map-append (formula_of all) db (s ∷ []))
 
   -- one statement more
   pub formulas_more : (numbers places : List ℕ) → AreFormulas db numbers places → (more : List ℕ)
       → more ≡ numbers ++ formula_of all s → (at : ℕ) → at ≡ length more
       → AreFormulas all more (places ++ at ∷ [])
-  formulas_more numbers places f more e at a = record {
-    numbers_are = whole;
-    count = length-append places (at ∷ []) ∙ ap (λ n. n + 1) f.count ∙ ap (λ n. n + 1) (sym long);
-    place = λ k h. by k (cases_lt k (length db + 1)) h;
-  }
-    where
-      long : length all ≡ length db + 1
-      long = length-append db (s ∷ [])
+  formulas_more numbers places f more e at a =
+      rw (a, e)
+      (subst (λ fs. AreJoined fs (numbers ++ formula_of all s)
+      (places ++ length (numbers ++ formula_of all s) ∷ [])) formulas-next
+      (more_joined (map (formula_of db) db) (formula_of all s) numbers places f))
 
-      whole : more ≡ flat_map (formula_of all) all
-      whole = e ∙ ap (λ l. l ++ formula_of all s) f.numbers_are ∙ sym numbers-next
+-- ---- the formulas one by one, and side by side
 
-      by : (k : ℕ) → (k < length db + 1) ⊎ (length db + 1 ≤ k) → k ≤ length all
-          → get_or (places ++ at ∷ []) k 0 ≡ length (flat_map (formula_of all) (take k all))
-      by k (inl l) h =
-          get_or_append_left places (at ∷ []) 0 k (let c = f.count in omega (arith, c, l))
-          ∙ f.place k (omega (arith, l))
-          ∙ ap length (sym (front-kept k))
-          ∙ ap (λ l. length (flat_map (formula_of all) l))
-          (sym (take-front k (omega (arith, l))))
-      by k (inr l) h =
-          let is : k ≡ length db + 1 = omega (arith, l, h, long) in
-          get_or_push places at 0 k (f.count ∙ sym is) ∙ a ∙ ap length whole
-          ∙ ap (λ l. length (flat_map (formula_of all) l))
-          (sym (take_all k all (let n : length all ≤ k = omega (arith, is, long) in n)))
+pub formulas_numbered : (db : List Statement) → AreNumbered db (map (formula_of db) db)
+formulas_numbered db = record {
+  count = length-map db (formula_of db);
+  formula = λ k l.
+      get_mapped (formula_of db) db k (opening 0) [] l
+      ∙ sym (ap (λ o. flat_map (formula_of db) (elim o [ None ↦ [] | Some s ↦ s ∷ [] ]))
+      (slice_get-get_or db k (opening 0) l)
+      ∙ append-nil (formula_of db (get_or db k (opening 0))));
+}
 
--- ---- the formula of each statement stands between its places
-
-module _ (db : List Statement) (numbers places : List ℕ) (f : AreFormulas db numbers places) where
-  abbrev upto : ℕ → List ℕ
-  upto k = flat_map (formula_of db) (take k db)
-
-  upto-more : (k : ℕ) → k < length db
-      → upto (k + 1) ≡ upto k ++ formula_of db (get_or db k (opening 0))
-  upto-more k h =
-      ap (flat_map (formula_of db)) (take_more db k (opening 0) h)
-      ∙ flat_map-append (formula_of db) (take k db) (get_or db k (opening 0) ∷ [])
-      ∙ ap (λ l. upto k ++ l) (append-nil (formula_of db (get_or db k (opening 0))))
-
-  rest-of : (k : ℕ) → numbers ≡ upto k ++ flat_map (formula_of db) (drop k db)
-  rest-of k =
-      f.numbers_are ∙ ap (flat_map (formula_of db)) (sym (take-append-drop k db))
-      ∙ flat_map-append (formula_of db) (take k db) (drop k db)
-
-  pub formulas_numbered : AreNumbered db numbers places
-  formulas_numbered = record {
-    count = f.count;
-    order = λ k l.
-        let p = f.place k (omega (arith, l)) in
-        let q = f.place (k + 1) (omega (arith, l)) in
-        let n =
-        ap length (upto-more k l)
-        ∙ length-append (upto k) (formula_of db (get_or db k (opening 0))) in
-        omega (arith, p, q, n);
-    within = λ k l.
-        let q = f.place (k + 1) (omega (arith, l)) in
-        let n =
-        ap length (rest-of (k + 1))
-        ∙ length-append (upto (k + 1)) (flat_map (formula_of db) (drop (k + 1) db)) in
-        omega (arith, q, n);
-    formula = λ k l.
-        let xs = upto k in
-        let ys = formula_of db (get_or db k (opening 0)) in
-        let zs = flat_map (formula_of db) (drop (k + 1) db) in
-        let split : numbers ≡ (xs ++ ys) ++ zs =
-        rest-of (k + 1) ∙ ap (λ l. l ++ zs) (upto-more k l) in
-        let p = f.place k (omega (arith, l)) in
-        let q = f.place (k + 1) (omega (arith, l)) ∙ ap length (upto-more k l) in
-        ap₂ (slice_range numbers) p q
-        ∙ ap (λ l. slice_range l (length xs) (length (xs ++ ys))) split ∙ middle xs ys zs
-        ∙ sym (ap (λ o. flat_map (formula_of db) (elim o [ None ↦ [] | Some s ↦ s ∷ [] ]))
-        (slice_get-get_or db k (opening 0) l)
-        ∙ append-nil ys);
-  }
-    where
-      middle : (xs ys zs : List ℕ)
-          → slice_range ((xs ++ ys) ++ zs) (length xs) (length (xs ++ ys)) ≡ ys
-      middle xs ys zs =
-          let n : length (xs ++ ys) - length xs ≡ length ys = omega (arith, length-append xs ys) in
-          ap₂ (λ n l. take n l) n
-          (ap (drop (length xs)) (append_assoc xs ys zs) ∙ drop-append_seam xs (ys ++ zs))
-          ∙ take-append_seam ys zs
+pub formulas_joined : (db : List Statement)
+    → joined (map (formula_of db) db) ≡ flat_map (formula_of db) db
+formulas_joined db = flat_map-map (λ (f : List ℕ). f) (formula_of db) db
 
 -- ---- words numbered one by one
 

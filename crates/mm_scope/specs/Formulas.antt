@@ -1,9 +1,10 @@
 -- The symbols of statements by their numbers, concatenated.
-use Rattle.std.specs.Prelude.{◌≡◌, ℕ, ◌+◌, ◌≤◌, List, [], length, map, flat_map, take, get_or}
+use Rattle.std.specs.Prelude.{ℕ, List, [], map}
 use Rattle.mm_spec.specs.Text.{Bytes, Token, words}
 use Rattle.mm_spec.specs.Statement.{Statement, constants, variables, disjoint, floating, essential}
 use Rattle.mm_spec.specs.Statement.{axiomatic, provable}
 use Rattle.mm_spec.specs.Frame.{place_of, formula_of}
+use Rattle.mm_database.specs.Cuts.{AreJoined}
 
 -- the numbers of words, by the names of the symbols
 abbrev pub numbers_in : List Bytes → List Token → List ℕ
@@ -24,9 +25,6 @@ unjudged names (disjoint k xs d) = numbers_in names xs
 unjudged names (floating l k xs d) = numbers_in names xs
 unjudged names _ = []
 
--- the symbols of all statements; where those of each begin, and where they all end
-pub record AreFormulas (db : List Statement) (numbers places : List ℕ) : Type 0 where
-  pub numbers_are : numbers ≡ flat_map (formula_of db) db
-  pub count : length places ≡ length db + 1
-  pub place : (k : ℕ) → k ≤ length db
-      → get_or places k 0 ≡ length (flat_map (formula_of db) (take k db))
+-- the symbols of all statements, concatenated; where those of each begin, and where they all end
+abbrev pub AreFormulas : List Statement → List ℕ → List ℕ → Type 0
+AreFormulas db numbers places = AreJoined (map (formula_of db) db) numbers places

@@ -4,12 +4,15 @@ use Rattle.std.specs.Prelude.{is_some, true, ◌≢◌}
 use Rattle.mm_spec.specs.Statement.{is_closing, Statement}
 use Rattle.mm_spec.specs.Scope.{depth, label_words, names_before}
 use Rattle.mm_spec.specs.Lawful.{least, scope_fault, scope_faults}
+use Rattle.mm_spec.specs.Lexed.{tokens_of}
 use Rattle.mm_spec.specs.declared.Word.{Word}
 use Rattle.mm_outline.specs.Parts.{statement_of}
 use Rattle.mm_outline.specs.Statements.{statements}
 use Rattle.mm_outline.specs.declared.parts.Outline.{Outline}
 use Rattle.mm_spec.specs.Frame.{symbol_names, formula_of}
 use Rattle.mm_outline.specs.Blocks.{BlockLists, IsBlocks}
+use Rattle.mm_database.specs.Cuts.{cut_at}
+use Rattle.mm_database.specs.Parsed.{parsed}
 use Rattle.mm_database.specs.Names.{find, names_of}
 use Rattle.mm_scope.specs.Formulas.{AreFormulas}
 use Rattle.mm_scope.specs.declared.reading.Outlined.{Outlined}
@@ -49,8 +52,8 @@ module _ {A : Type 0} where
     labels = find r.scope.names.labels;
     blocks = r.scope.blocks;
     names = names_of r.scope.names.symbols;
-    numbers = r.formulas.numbers.items;
-    places = r.formulas.places.items;
+    numbers = r.numbers.items;
+    places = r.places.items;
   }
 
   -- what there is after a statement was taken: its fault, and where it has none, all with it
@@ -65,13 +68,16 @@ module _ {A : Type 0} where
     pub stays : r.fault ≢ None
         → (r.outlines.items ≡ before) × IsKeptOf (statements text tokens before) (kept_by r)
 
-  -- what was read, with names and blocks each by itself
-  abbrev pub reading_of : Outlined A → Reading A
-  reading_of r = record {
-    outlines = r.outlines;
+  -- the symbols of each statement
+  abbrev pub formulas_of : Outlined A → List (List ℕ)
+  formulas_of r = cut_at r.places.items r.numbers.items
+
+  -- what was read of the text, the names by themselves
+  abbrev pub reading_of : List ℕ → Outlined A → Reading A
+  reading_of text r = record {
+    statements =
+        parsed text (statements text (tokens_of text) r.outlines.items) r.scope.blocks;
     names = r.scope.names;
-    blocks = r.scope.blocks;
-    formulas = r.formulas;
     fault = r.fault;
   }
 

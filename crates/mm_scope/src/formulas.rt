@@ -1,28 +1,17 @@
 //! The symbols of the statements by their numbers.
 
-ghost use Rattle.std.specs.Prelude.{◌≡◌, ◌<◌, ◌≤◌, ◌^◌, ◌+◌, ◌++◌, [], IfOk, OnOk, length};
+ghost use Rattle.std.specs.Prelude.{◌≡◌, ◌<◌, ◌≤◌, ◌^◌, ◌+◌, ◌++◌, OnOk, length};
 ghost use Rattle.mm_outline.specs.Parts.{AreWithin, IsOutline, between, statement_of};
 ghost use Rattle.mm_database.specs.Names.{names_of};
-ghost use Rattle.mm_scope.specs.Formulas.{AreFormulas, numbers_in, unjudged};
+ghost use Rattle.mm_scope.specs.Formulas.{numbers_in, unjudged};
 ghost use Rattle.mm_scope.specs.Scopes.{names_in};
 
 use crate::scope::Scope;
 use mm_database::names::Names;
-use mm_database::reading::Formulas;
 use mm_outline::parts::{Kind, Outline};
 use mm_outline::symbol::Sym;
 use mm_spec::Word;
 use std::alloc::{AllocError, Allocator};
-
-/// Returns the symbols of no statements.
-pub(crate) fn no_formulas<A: Allocator + Copy>(alloc: A) -> Result<Formulas<A>, AllocError>
-    ensures { IfOk result (λ f. AreFormulas [] f.numbers.items f.places.items) }
-{
-    let numbers = Vec::new(alloc);
-    let mut places = Vec::new(alloc);
-    places.push(0)?;
-    Ok(Formulas { numbers, places })
-}
 
 /// Appends the numbers of the symbols of the tokens from `from` up to `to`.
 fn number_all<'a, A: Allocator + Copy>(

@@ -4,7 +4,10 @@ ghost use Rattle.std.specs.Prelude.{◌≡◌, ◌<◌, ◌≤◌, ◌^◌, ◌+
 ghost use Rattle.std.specs.Prelude.{OnOk, IfOk};
 ghost use Rattle.mm_spec.specs.Statement.{Statement, label_of};
 ghost use Rattle.mm_spec.specs.Output.{IsRead};
+ghost use Rattle.mm_spec.specs.Lexed.{tokens_of};
+ghost use Rattle.mm_database.specs.Cuts.{AreJoined};
 ghost use Rattle.mm_database.specs.Names.{find as find_in};
+ghost use Rattle.mm_database.specs.Parsed.{AreParts};
 ghost use Rattle.std.specs.Prelude.{◌+◌, ◌-◌, ℕ, Some, if◌then◌else◌, bytes_eq, true};
 ghost use Rattle.mm_spec.specs.Text.{words};
 ghost use Rattle.mm_scope.specs.Judge.{after_declaring, after_typing, declared_entry, entry_of};
@@ -16,23 +19,28 @@ ghost use Rattle.mm_outline.specs.Statements.{end_fault_of, lexed, statements};
 ghost use Rattle.mm_scope.specs.Scopes.{Declares, IsAmong, IsScopeAfter, MayFollow};
 ghost use Rattle.mm_scope.specs.Scopes.{declared_words};
 ghost use Rattle.mm_scope.specs.Scopes.{entry_in, label_in, names_in};
-ghost use Rattle.mm_scope.specs.Keeps.{HasTaken, IsKeptOf, MayTake, kept_by, reading_of};
+ghost use Rattle.mm_scope.specs.Keeps.{HasTaken, IsKeptOf, MayTake, formulas_of, kept_by};
+ghost use Rattle.mm_scope.specs.Keeps.{reading_of};
 
-use crate::formulas::no_formulas;
 use crate::scope::Scope;
+use mm_database::formulas::Formulas;
 use mm_database::names::{Names, Symbol, no_names};
-use mm_database::reading::{Formulas, Reading};
+use mm_database::reading::Reading;
+use mm_database::statements::Statements;
 use mm_outline::blocks::{NEVER, no_blocks};
 use mm_outline::parts::{Kind, NextStatement, Outline, Part, next_statement};
+use mm_outline::symbol::Sym;
 use mm_spec::{Code, Fault, Word};
 use std::alloc::{AllocError, Allocator};
 
-/// The lawful statements of a text as outlines, the names after them, their symbols by number, and
-/// the fault that stopped the reading, if any.
+/// The lawful statements of a text as outlines, the names after them, their symbols by number,
+/// concatenated, with the places where those of each begin, and the fault that stopped the reading,
+/// if any.
 pub struct Outlined<'a, A: Allocator> {
     pub outlines: Vec<Outline, A>,
     pub scope: Scope<'a, A>,
-    pub formulas: Formulas<A>,
+    pub numbers: Vec<Sym, A>,
+    pub places: Vec<u32, A>,
     pub fault: Option<Fault>,
 }
 
@@ -42,29 +50,35 @@ impl<'a, A: Allocator> Drop for Outlined<'a, A> {
         let Self {
             outlines: _,
             scope: _,
-            formulas: _,
+            numbers: _,
+            places: _,
             fault: _,
         } = self;
     }
 }
 
 impl<'a, A: Allocator> Outlined<'a, A> {
-    /// Returns what was read, with names and blocks each by itself.
-    pub fn into_reading(self) -> Reading<'a, A>
-        ensures { result ≡ reading_of self.entry }
+    /// Returns what was read of the text, the names by themselves. `variables` says for each symbol
+    /// whether it is a variable.
+    pub fn into_reading(self, text: &'a [u8], variables: Vec<bool, A>) -> Reading<'a, A>
+        requires joined { AreJoined (formulas_of self) self.numbers.items self.places.items }
+        requires parts { AreParts
+            (statements text.now (tokens_of text.now) self.outlines.items) self.scope.blocks
+            (formulas_of self) variables.items }
+        ensures { result ≡ reading_of text.now self.entry }
     {
         let Outlined {
             outlines,
             scope,
-            formulas,
+            numbers,
+            places,
             fault,
         } = self;
         let Scope { names, blocks } = scope;
+        let formulas = Formulas::new(numbers, places);
         Reading {
-            outlines,
+            statements: Statements::new(text, outlines, blocks, formulas, variables),
             names,
-            blocks,
-            formulas,
             fault,
         }
     }
@@ -125,11 +139,13 @@ fn nothing<'a, A: Allocator + Copy>(alloc: A) -> Result<Outlined<'a, A>, AllocEr
         (λ r. (r.outlines.items ≡ []) × (r.fault ≡ None) × IsKeptOf [] (kept_by r)) }
 {
     let scope = no_scope(alloc)?;
-    let formulas = no_formulas(alloc)?;
+    let mut places = Vec::new(alloc);
+    places.push(0)?;
     Ok(Outlined {
         outlines: Vec::new(alloc),
         scope,
-        formulas,
+        numbers: Vec::new(alloc),
+        places,
         fault: None,
     })
 }
@@ -154,25 +170,18 @@ impl<'a, A: Allocator + Copy> Outlined<'a, A> {
         ensures { OnOk result
             (HasTaken text.now tokens.now self.old.outlines.items deep outline self.new) }
     {
-        let begin = self.formulas.numbers.len();
-        self.fault = self.scope.fault(
-            alloc,
-            text,
-            tokens,
-            deep,
-            outline,
-            &mut self.formulas.numbers,
-        )?;
+        let begin = self.numbers.len();
+        self.fault = self
+            .scope
+            .fault(alloc, text, tokens, deep, outline, &mut self.numbers)?;
         if self.fault.is_some() {
-            self.formulas.numbers.truncate(begin);
+            self.numbers.truncate(begin);
             return Ok(());
         }
         self.scope.add(text, tokens, outline)?;
         self.scope
-            .number_others(text, tokens, outline, &mut self.formulas.numbers)?;
-        self.formulas
-            .places
-            .push(self.formulas.numbers.len() as u32)?;
+            .number_others(text, tokens, outline, &mut self.numbers)?;
+        self.places.push(self.numbers.len() as u32)?;
         self.outlines.push(outline)?;
         Ok(())
     }

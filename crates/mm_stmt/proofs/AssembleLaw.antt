@@ -10,7 +10,7 @@ use Rattle.mm_outline.specs.Blocks.{BlockLists}
 use Rattle.mm_outline.specs.Parts.{statement_of, token_of}
 use Rattle.mm_outline.specs.Statements.{lexed, statements}
 use Rattle.mm_scope.specs.Keeps.{Keeps}
-use Rattle.mm_frame.specs.Tables.{IsSound}
+use Rattle.mm_database.specs.Parsed.{IsSound}
 use Rattle.mm_database.specs.declared.names.Symbol.{Symbol}
 use Rattle.mm_outline.specs.declared.parts.Outline.{Outline}
 use Rattle.mm_scope.proofs.BoundsLaw.{few_symbols}
@@ -34,7 +34,8 @@ module _ (text : List ℕ) (ws : List Word) (os : List Outline) (lexical fault :
   names_few names e =
       let n = ap length e in
       let f =
-      few_symbols (lexed text ws lexical).tokens r.are_statements.rest r.statements r.are_statements.splits
+      few_symbols (lexed text ws lexical).tokens r.are_statements.rest r.statements
+      r.are_statements.splits
       (statements text ws os) r.rest r.splits in
       let w = length-map ws (token_of text) in
       omega (arith, n, f, w, small)

@@ -1,8 +1,8 @@
 //! The words of statements that are needed again.
 
-ghost use Rattle.std.specs.Prelude.{◌≡◌, ◌<◌, ◌+◌, ◌++◌, All, IfOk, OnOk, length};
+ghost use Rattle.std.specs.Prelude.{◌≡◌, ◌<◌, ◌+◌, ◌++◌, All, IfOk, OnOk, length, map};
 ghost use Rattle.mm_outline.specs.Parts.{IsOutline};
-ghost use Rattle.mm_database.specs.Kept.{kept_words, AreKept};
+ghost use Rattle.mm_database.specs.Kept.{kept_words};
 
 use mm_database::kept::{Kept, has_label};
 use mm_outline::parts::Outline;
@@ -37,7 +37,7 @@ pub(crate) fn keep_all<A: Allocator + Copy>(
     outlines: &[Outline],
 ) -> Result<Kept<A>, AllocError>
     requires { All (λ o. IsOutline o × (o.end < length tokens.now)) outlines.now }
-    ensures { IfOk result (λ k. AreKept tokens.now outlines.now k.words.items k.starts.items) }
+    ensures { IfOk result (λ k. k ≡ map (kept_words tokens.now) outlines.now) }
 {
     let mut words = Vec::new(alloc);
     let mut starts = Vec::new(alloc);
@@ -46,5 +46,5 @@ pub(crate) fn keep_all<A: Allocator + Copy>(
         keep(tokens, *outline, &mut words)?;
     }
     starts.push(words.len())?;
-    Ok(Kept { words, starts })
+    Ok(Kept::new(words, starts))
 }

@@ -4,11 +4,11 @@
 //! one, and that the fault is the fault there (`Rattle.mm_spec.specs.Output.IsRead`).
 #![tactic(auto)]
 
-mod found;
 mod kept;
 mod kinds;
 mod listed;
 mod reader;
+mod reading;
 mod spaced;
 
 pub use mm_database::{Code, Database, Fault, Frame, Kind, Sym, Word};

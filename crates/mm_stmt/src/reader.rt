@@ -5,10 +5,12 @@ ghost use Rattle.mm_spec.specs.Lexed.{tokens_of, lexical_fault};
 ghost use Rattle.mm_spec.specs.Opened.{counted};
 ghost use Rattle.mm_spec.specs.Output.{IsRead, lexed_of};
 
-use crate::found::found_in;
 use crate::kept::keep_all;
 use crate::listed::list_all;
+use crate::reading::reading_of;
 use mm_database::Database;
+use mm_database::found::Found;
+use mm_frame::frames::gather;
 use mm_scope::reading::outline;
 use mm_spec::Lexed;
 use std::alloc::{AllocError, Allocator};
@@ -35,11 +37,17 @@ pub fn read<'a, A: Allocator + Copy>(
 {
     let Lexed { tokens, fault } = lexed;
     let words = tokens.as_slice();
-    let read = outline(alloc, text, words, fault)?;
-    let listed = list_all(alloc, text, words, &read.outlines, with_open)?;
-    let kept = keep_all(alloc, words, &read.outlines)?;
+    let outlined = outline(alloc, text, words, fault)?;
+    let listed = list_all(alloc, text, words, &outlined.outlines, with_open)?;
+    let kept = keep_all(alloc, words, &outlined.outlines)?;
     // Frames and the index of the `$d` need no tokens, and their memory.
     drop(tokens);
-    let found = found_in(alloc, text, &read, listed, kept)?;
-    Ok(Database::new(text, with_open, read.into_reading(), found))
+    let read = reading_of(alloc, text, outlined)?;
+    let beside = gather(alloc, &read.statements)?;
+    let found = Found {
+        beside,
+        listed,
+        kept,
+    };
+    Ok(Database::new(with_open, read, found))
 }

@@ -1,10 +1,9 @@
 //! The labels of the theorems side by side.
 
-ghost use Rattle.std.specs.Prelude.{◌≡◌, ◌<◌, ◌-◌, All, IfOk, IsTrue, length, map};
+ghost use Rattle.std.specs.Prelude.{◌≡◌, ◌<◌, ◌-◌, ◌∷◌, All, IfOk, IsTrue, length, map};
 ghost use Rattle.mm_spec.specs.Output.{is_theorem_at, label_at};
 ghost use Rattle.mm_outline.specs.Parts.{AreWithin, IsOutline};
 ghost use Rattle.mm_outline.specs.Statements.{statements};
-ghost use Rattle.mm_database.specs.Spaced.{AreSpaced};
 
 use mm_database::listed::SpacedLabels;
 use mm_outline::parts::Outline;
@@ -38,9 +37,9 @@ pub fn spaced_labels_of<A: Allocator + Copy>(
         (λ k. IsTrue (is_theorem_at (statements text.now tokens.now outlines.now) k))
         theorems.now }
     ensures { IfOk result
-        (λ l. AreSpaced
-        (map (label_at (statements text.now tokens.now outlines.now)) theorems.now)
-        l.bytes.items l.starts.items) }
+        (λ l. l
+        ≡ map (λ k. 32 ∷ label_at (statements text.now tokens.now outlines.now) k)
+        theorems.now) }
 {
     let mut bytes = Vec::new(alloc);
     let mut starts = Vec::new(alloc);
@@ -50,5 +49,5 @@ pub fn spaced_labels_of<A: Allocator + Copy>(
         bytes.extend_from_slice(label_of(text, tokens, outlines, *theorem))?;
     }
     starts.push(bytes.len())?;
-    Ok(SpacedLabels { bytes, starts })
+    Ok(SpacedLabels::new(bytes, starts))
 }

@@ -9,9 +9,9 @@ use Rattle.mm_spec.proofs.MemberLaw.{essential_local}
 pub loop-last-init : goal.loop-last-init
 loop-last-init g c =
     let last = get_or c.args.latest.now c.args.at 0 in
-    subst (λ (xs : List ℕ). IsWalked is_essential c.args.tables.now c.args.at xs last)
+    subst (λ (xs : List ℕ). IsWalked is_essential c.args.statements.now.list c.args.at xs last)
     (sym c.clear.ensures.items)
-    (walked_start is_essential c.args.tables.now c.args.at last
+    (walked_start is_essential c.args.statements.now.list c.args.at last
     (c.requires.latest.each c.args.at c.requires.at))
 
 pub loop-last-preserved : goal.loop-last-preserved
@@ -20,9 +20,10 @@ loop-last-preserved g c =
     let next = get_or c.args.latest.now last 0 in
     let f = (c.loop-last.invariant.found c.loop-last-test.true).0 in
     let h = c.requires.at in
-    let l : last ≤ length c.args.tables.now = omega (arith, f, h) in
+    let l : last ≤ length c.args.statements.now.list = omega (arith, f, h) in
     rw c.in_ok-push.ensures.items
-    (walked_next is_essential c.args.tables.now c.args.at c.loop-last.into.items last next h
+    (walked_next is_essential c.args.statements.now.list c.args.at c.loop-last.into.items last next
+    h
     c.loop-last.invariant c.loop-last-test.true (c.requires.latest.each last l))
 
 pub loop-last-smaller : goal.loop-last-smaller
@@ -30,13 +31,14 @@ loop-last-smaller g c =
     let last = c.loop-last.last in
     let f = (c.loop-last.invariant.found c.loop-last-test.true).0 in
     let h = c.requires.at in
-    let l : last ≤ length c.args.tables.now = omega (arith, f, h) in
-    height_less is_essential c.args.tables.now c.args.at last
+    let l : last ≤ length c.args.statements.now.list = omega (arith, f, h) in
+    height_less is_essential c.args.statements.now.list c.args.at last
     (get_or c.args.latest.now last 0) c.loop-last-test.true (c.requires.latest.each last l)
 
 pub returns : goal.returns
 returns g c =
-    walked_end is_essential c.args.tables.now essential_local c.args.at c.loop-last.into.items
+    walked_end is_essential c.args.statements.now.list essential_local c.args.at
+    c.loop-last.into.items
     c.loop-last.last c.loop-last.invariant c.loop-last-test.false
 
 pub offset_bounds-latest-at : goal.offset_bounds-latest-at

@@ -5,19 +5,21 @@ use Rattle.mm_frame.proofs.active.last_open.Goals as goal
 
 pub returns-after-loop-last : goal.returns-after-loop-last
 returns-after-loop-last g c =
-    candidate_open is_essential c.args.tables.now c.args.at c.loop-last.last c.loop-last.invariant
+    candidate_open is_essential c.args.statements.now.list c.args.at c.loop-last.last
+    c.loop-last.invariant
     (λ n. absurd (n c.loop-last-test.false))
 
 pub returns-else-not-is_open : goal.returns-else-not-is_open
 returns-else-not-is_open g c =
-    candidate_open is_essential c.args.tables.now c.args.at c.loop-last.last c.loop-last.invariant
+    candidate_open is_essential c.args.statements.now.list c.args.at c.loop-last.last
+    c.loop-last.invariant
     (λ n. sym c.is_open.ensures ∙ c.if-not-is_open.false)
 
 pub loop-last-preserved : goal.loop-last-preserved
 loop-last-preserved g c =
     let last = c.loop-last.last in
     let f = (c.loop-last.invariant.found c.loop-last-test.true).0 in
-    candidate_next is_essential c.args.tables.now c.args.at last
+    candidate_next is_essential c.args.statements.now.list c.args.at last
     (get_or c.args.latest.now last 0) c.loop-last.invariant c.loop-last-test.true
     (sym c.is_open.ensures ∙ c.if-not-is_open.true) (c.requires.latest last f)
 
@@ -25,5 +27,5 @@ pub loop-last-smaller : goal.loop-last-smaller
 loop-last-smaller g c =
     let last = c.loop-last.last in
     let f = (c.loop-last.invariant.found c.loop-last-test.true).0 in
-    height_less is_essential c.args.tables.now c.args.at last
+    height_less is_essential c.args.statements.now.list c.args.at last
     (get_or c.args.latest.now last 0) c.loop-last-test.true (c.requires.latest last f)

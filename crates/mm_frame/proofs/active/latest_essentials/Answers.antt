@@ -12,7 +12,7 @@ pub last_open-last-requires-clause-first : goal.last_open-last-requires-clause-f
 last_open-last-requires-clause-first g c =
     let k = c.loop-k.k in
     let t = is_essential in
-    let db = c.args.tables.now in
+    let db = c.args.statements.now.list in
     let s = c.len-k-end.ensures.sound.few in
     let e = c.loop-k.auto.k-end in
     let n = c.len-k-end.ensures.len in
@@ -35,7 +35,8 @@ last_open-last-requires-clause-first g c =
 pub loop-k-preserved : goal.loop-k-preserved
 loop-k-preserved g c =
     let m = c.loop-k.invariant.count in
-    each_pushed is_essential c.args.tables.now c.loop-k.latest.items c.push-in-loop-k.new.self.items
+    each_pushed is_essential c.args.statements.now.list c.loop-k.latest.items
+    c.push-in-loop-k.new.self.items
     c.last_open-last.result c.loop-k.k m c.in_ok-push-2.ensures.items c.loop-k.invariant.each
     c.last_open-last.ensures
 

@@ -8,7 +8,7 @@ use Rattle.mm_frame.proofs.chains.chains_of.Goals as goal
 
 pub loop-left-init : goal.loop-left-init
 loop-left-init g c =
-    let db = c.args.tables.now in
+    let db = c.args.statements.now.list in
     let heads = c.in_ok-heads.heads.items in
     let n = c.symbol_count.result in
     let are : heads ≡ replicate n 0 = c.in_ok-heads.ensures.items_if_clones_equal (λ y e. e) in
@@ -25,7 +25,7 @@ loop-left-init g c =
 
 pub loop-left-preserved-in-Continue-branch-2 : goal.loop-left-preserved-in-Continue-branch-2
 loop-left-preserved-in-Continue-branch-2 g c =
-    let db = c.args.tables.now in
+    let db = c.args.statements.now.list in
     let left = c.loop-left.left in
     let some = c.loop-left-test.true in
     let e : left ≡ (left - 1) + 1 = omega (arith, some) in
@@ -44,7 +44,7 @@ loop-left-preserved-in-Continue-branch-2 g c =
 
 pub loop-left-preserved : goal.loop-left-preserved
 loop-left-preserved g c =
-    let db = c.args.tables.now in
+    let db = c.args.statements.now.list in
     let left = c.loop-left.left in
     let some = c.loop-left-test.true in
     let e : left ≡ (left - 1) + 1 = omega (arith, some) in
@@ -61,7 +61,7 @@ loop-left-preserved g c =
 
 pub returns-clause-all : goal.returns-clause-all
 returns-clause-all g c = λ x j e.
-    let l = symbol_below c.args.tables.now c.len-left.ensures.sound x j e in
+    let l = symbol_below c.args.statements.now.list c.len-left.ensures.sound x j e in
     omega (arith, l, c.loop-left.invariant.count)
 
 pub overflow_cast-symbol_count : goal.overflow_cast-symbol_count

@@ -6,10 +6,10 @@ use Rattle.mm_frame.proofs.chains.chains_of.Given as goal
 
 abbrev pub invariant-loop-left : goal.invariant-loop-left
 invariant-loop-left g l = record {
-  within : l.left ≤ length l.tables;
-  count : length l.chains.heads.items ≡ length (symbol_names l.tables);
+  within : l.left ≤ length l.statements.list;
+  count : length l.chains.heads.items ≡ length (symbol_names l.statements.list);
   linked : AreLinked l.chains.heads.items l.chains.links.items;
-  chains : AreChains (λ x j. nat_le l.left j && has_symbol l.tables x j) l.left
+  chains : AreChains (λ x j. nat_le l.left j && has_symbol l.statements.list x j) l.left
       l.chains.heads.items l.chains.links.items;
 }
 

@@ -14,7 +14,7 @@ loop-symbol-preserved g c =
     omega (arith, test, end, c.symbol_count-symbol-end.ensures.count, c.in_ok-chains.ensures.count)
     in
     let chain = c.in_ok-chains.ensures.chains x here in
-    pairs_more c.args.tables.now x (get_or heads x 0) links c.loop-symbol.pairs.items
+    pairs_more c.args.statements.now.list x (get_or heads x 0) links c.loop-symbol.pairs.items
     c.add_chain.new.pairs.items chain c.loop-symbol.invariant
     (c.in_ok-add_chain.ensures chain.statements chain.chain)
 
@@ -27,7 +27,7 @@ returns-clause-are g c =
     let all : length heads ≤ x =
     omega (arith, test, end, c.symbol_count-symbol-end.ensures.count, c.in_ok-chains.ensures.count)
     in
-    pairs_all c.args.tables.now x c.loop-symbol.pairs.items
+    pairs_all c.args.statements.now.list x c.loop-symbol.pairs.items
     (λ y j e. let l = c.in_ok-chains.ensures.all y j e in omega (arith, l, all))
     c.loop-symbol.invariant
 

@@ -12,18 +12,19 @@ use Rattle.mm_frame.proofs.disjoint.pairs_of.Goals as goal
 
 pub returns : goal.returns
 returns g c = ok_then c.symbols_of.result c.symbols_of.ensures (λ v e.
-    let db = c.args.sources.now.tables.now in
-    let b = c.args.sources.now.blocks.now in
+    let db = c.args.sources.now.statements.now.list in
+    let b = c.args.sources.now.statements.now.blocks in
     let k = c.args.assertion in
     let m = c.requires.assertion in
     let h : k ≤ length db = omega (arith, m) in
     let ps = c.args.sources.now.disjoint_index.now.pairs.items in
     let found = c.args.found.now in
     e ∙ ap (map (λ p. pair p.0 p.1)) c.deref-2.ensures.value
-    ∙ pairs_are db b c.requires.sources.blocks_are k h ps c.requires.sources.index_is.are found
+    ∙ pairs_are db b c.blocks-2.ensures.theirs k h ps c.requires.sources.index_is.are found
     c.sort_and_dedup.new.pairs.items
     c.requires.found
-    (λ j y. c.sort_and_dedup.ensures.same j y ∙ c.in_ok-add_all_active.ensures j y
+    (λ j y. c.sort_and_dedup.ensures.same j y
+    ∙ rw (← c.blocks-2.ensures.blocks) (c.in_ok-add_all_active.ensures j y)
     ∙ ap (λ (xs : List (ℕ × ℕ)). has_pair xs j y
     || (is_member found y && (has_pair ps y j && is_live b j k))) c.clear.ensures.items)
     c.sort_and_dedup-2.new.pairs.items c.sort_and_dedup-2.ensures.rising
@@ -34,7 +35,9 @@ returns g c = ok_then c.symbols_of.result c.symbols_of.ensures (λ v e.
     ∙ ap (λ (hs : List (ℕ × ℕ)). list_any (λ p. has_later hs p x y) hs) c.deref.ensures.value))
 
 pub add_all_active-requires : goal.add_all_active-requires
-add_all_active-requires g c = record { ordered = c.requires.sources.index_is.ordered }
+add_all_active-requires g c = record {
+  ordered = rw c.blocks-2.ensures.blocks c.requires.sources.index_is.ordered;
+}
 
 pub add_together-requires : goal.add_together-requires
 add_together-requires g c = record {

@@ -1,32 +1,34 @@
-use Rattle.std.proofs.Common.{sym, subst, ap, ℕ, List}
-use Rattle.mm_database.specs.DisjointIndex.{AreKnown, AreSkips, IsDisjointIndex}
+use Rattle.std.proofs.Common.{subst, ap, ℕ, List}
+use Rattle.mm_database.specs.DisjointIndex.{AreSkips, IsDisjointIndex}
 use Rattle.mm_database.proofs.DisjointIndexLaw.{are_known}
 use Rattle.std.proofs.lemmas.Result.{IfOk-from_err}
 use Rattle.mm_frame.proofs.disjoint_index.disjoint_index_of.Goals as goal
 
 pub skips_of-requires : goal.skips_of-requires
 skips_of-requires g c =
-    let b = c.args.blocks.now in
     record {
-      known = subst (AreKnown b) (sym c.deref.ensures.value)
-          (are_known c.args.tables.now b c.requires c.in_ok-pairs.pairs.items
-          c.in_ok-pairs.ensures.are);
+      known =
+          rw (c.blocks-2.ensures.blocks, c.deref.ensures.value)
+          (are_known c.args.statements.now.list _ c.blocks-2.ensures.theirs
+          c.in_ok-pairs.pairs.items c.in_ok-pairs.ensures.are);
     }
 
 pub returns : goal.returns
 returns g c =
-    let b = c.args.blocks.now in
+    let b = c.args.statements.now.blocks in
     let ps = c.in_ok-pairs.pairs.items in
     let ss = c.in_ok-skips.skips.items in
-    let is : IsDisjointIndex c.args.tables.now b ps ss =
+    let is : IsDisjointIndex c.args.statements.now.list b ps ss =
     record {
       are = c.in_ok-pairs.ensures.are;
       ordered = record {
         rising = c.in_ok-pairs.ensures.rising;
-        known = are_known c.args.tables.now b c.requires ps c.in_ok-pairs.ensures.are;
+        known =
+            are_known c.args.statements.now.list b c.blocks-2.ensures.theirs ps
+            c.in_ok-pairs.ensures.are;
         skips_are =
             subst (λ (ps : List (ℕ × ℕ)). AreSkips b ps ss) c.deref.ensures.value
-            c.in_ok-skips.ensures;
+            (rw (← c.blocks-2.ensures.blocks) c.in_ok-skips.ensures);
       };
     } in
     rw (ap (λ v. v.items) c.new.ensures.pairs, ap (λ v. v.items) c.new.ensures.skips) is

@@ -16,7 +16,7 @@ overflow_cast-len g c =
 
 pub returns-in_ok-push-2-clause-frames : goal.returns-in_ok-push-2-clause-frames
 returns-in_ok-push-2-clause-frames g c =
-    let db = c.args.sources.now.tables.now in
+    let db = c.args.sources.now.statements.now.list in
     let k = c.args.statement in
     let fs = c.args.frames.now.list.items in
     let f = c.in_ok-frame.frame in
@@ -37,7 +37,7 @@ returns-in_ok-push-2-clause-frames g c =
 
 pub returns-else-is_assertion-clause-frames : goal.returns-else-is_assertion-clause-frames
 returns-else-is_assertion-clause-frames g c =
-    let db = c.args.sources.now.tables.now in
+    let db = c.args.sources.now.statements.now.list in
     let k = c.args.statement in
     let fs = c.args.frames.now.list.items in
     let hs = map (λ x. x.hyps.items) fs in

@@ -4,13 +4,13 @@ use Rattle.mm_spec.specs.Derivation.{pair}
 use Rattle.mm_spec.specs.Frame.{is_essential}
 use Rattle.mm_frame.specs.Latest.{AreLatest}
 use Rattle.mm_frame.specs.Hypotheses.{AreTyped}
-use Rattle.mm_frame.specs.Beside.{HasFramesUpTo}
+use Rattle.mm_database.specs.Beside.{HasFramesUpTo}
 use Rattle.mm_frame.proofs.FramesLaw.{typed_start, frames_start}
 use Rattle.mm_frame.proofs.frames.frames_of.Goals as goal
 
 pub returns : goal.returns
 returns g c =
-    let db = c.args.tables.now in
+    let db = c.args.statements.now.list in
     let e = c.loop-k.auto.k-end in
     let n = c.len-count.ensures.len in
     let m = c.loop-k-test.false in
@@ -24,7 +24,7 @@ returns-in_err-essentials g c =
 pub loop-k-init : goal.loop-k-init
 loop-k-init g c = record {
   typed =
-      typed_start c.args.tables.now c.in_ok-typed.typed.items c.symbol_count.result
+      typed_start c.args.statements.now.list c.in_ok-typed.typed.items c.symbol_count.result
       c.symbol_count.ensures.count c.in_ok-typed.ensures.count c.in_ok-typed.ensures.each;
   seen = record {
     count = c.in_ok-filled.ensures.count ∙ c.symbol_count-2.ensures.count;
@@ -35,7 +35,7 @@ loop-k-init g c = record {
         omega (arith, e);
   };
   frames =
-      frames_start c.args.tables.now _ _ _ c.new-6.ensures.items
+      frames_start c.args.statements.now.list _ _ _ c.new-6.ensures.items
       (ap (map (λ f. f.hyps.items)) c.new-5.ensures.items)
       (ap (map (λ f. map (λ p. pair p.0 p.1) f.pairs.items)) c.new-5.ensures.items);
 }
@@ -43,17 +43,17 @@ loop-k-init g c = record {
 pub add_frame-requires-clause-sources : goal.add_frame-requires-clause-sources
 add_frame-requires-clause-sources g c = record {
   sound = c.len-count.ensures.sound;
-  blocks_are = c.requires.blocks;
   essentials_are =
-      subst (λ xs. AreLatest is_essential c.args.tables.now xs) (sym c.deref.ensures.value)
+      subst (λ xs. AreLatest is_essential c.args.statements.now.list xs) (sym c.deref.ensures.value)
       c.in_ok-essentials.ensures;
-  index_is = c.requires.disjoint_index;
+  index_is = c.requires;
 }
 
 pub add_frame-requires-clause-ready : goal.add_frame-requires-clause-ready
 add_frame-requires-clause-ready g c = record {
   typed_are =
-      subst (λ xs. AreTyped c.args.tables.now c.loop-k.k xs) (sym c.deref-in-loop-k.ensures.value)
+      subst (λ xs. AreTyped c.args.statements.now.list c.loop-k.k xs)
+      (sym c.deref-in-loop-k.ensures.value)
       c.loop-k.invariant.typed;
   fresh = c.loop-k.invariant.seen;
 }

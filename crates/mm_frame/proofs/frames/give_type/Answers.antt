@@ -4,11 +4,11 @@ use Rattle.mm_frame.proofs.frames.give_type.Goals as goal
 
 pub returns-in-Some : goal.returns-in-Some
 returns-in-Some g c =
-    typed_some c.args.tables.now c.requires.sound c.args.statement c.number.result
+    typed_some c.args.statements.now.list c.requires.sound c.args.statement c.number.result
     c.args.typed.now.items c.requires.statement c.requires.typed
     (sym c.in-Some.ensures ∙ ap Some (sym c.number.ensures))
 
 pub returns-in_default : goal.returns-in_default
 returns-in_default g c =
-    typed_none c.args.tables.now c.args.statement c.args.typed.now.items c.requires.typed
+    typed_none c.args.statements.now.list c.args.statement c.args.typed.now.items c.requires.typed
     (sym c.typed.ensures ∙ c.in_default.is)

@@ -49,7 +49,7 @@ is_open-requires-clause-within g c = c.requires.at
 
 pub loop-symbol-preserved : goal.loop-symbol-preserved
 loop-symbol-preserved g c = λ j.
-    let db = c.args.tables.now in
+    let db = c.args.statements.now.list in
     let at = c.args.at in
     let typed = c.args.typed.now in
     let v = c.number.result in
@@ -79,5 +79,5 @@ pub returns : goal.returns
 returns g c = λ j.
     c.loop-symbol.invariant j
     ∙ ap (λ (xs : List ℕ). is_member c.args.hyps.now.items j
-    || list_any (is_float_of c.args.tables.now c.args.at c.args.typed.now j) xs)
+    || list_any (is_float_of c.args.statements.now.list c.args.at c.args.typed.now j) xs)
     (take_all c.loop-symbol.symbol-index c.args.found.now c.loop-symbol-test.false)

@@ -9,7 +9,7 @@ use Rattle.mm_frame.proofs.hypotheses.hypotheses.Goals as goal
 
 pub add_floats-requires-clause-found : goal.add_floats-requires-clause-found
 add_floats-requires-clause-found g c =
-    let db = c.args.sources.now.tables.now in
+    let db = c.args.sources.now.statements.now.list in
     subst (λ (xs : List ℕ). All (λ s. s < length (symbol_names db)) xs)
     (sym c.deref-2.ensures.value)
     (found_below db c.args.assertion c.mandatory.new.found.items
@@ -17,7 +17,7 @@ add_floats-requires-clause-found g c =
 
 pub returns-clause-hyps : goal.returns-clause-hyps
 returns-clause-hyps g c =
-    let db = c.args.sources.now.tables.now in
+    let db = c.args.sources.now.statements.now.list in
     let k = c.args.assertion in
     let ts = c.args.typed.now in
     let h = c.requires.assertion in

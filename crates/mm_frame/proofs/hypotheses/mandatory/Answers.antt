@@ -13,13 +13,14 @@ formula-requires-in-loop-essential g c =
     let i = c.loop-essential.essential-index in
     let h = c.requires.assertion in
     let l =
-    essential_before c.args.tables.now c.args.assertion c.args.essentials.now c.requires.essentials
+    essential_before c.args.statements.now.list c.args.assertion c.args.essentials.now
+    c.requires.essentials
     i c.loop-essential-test.true in
     omega (arith, l, h)
 
 pub returns-clause-found : goal.returns-clause-found
 returns-clause-found g c = λ x.
-    let db = c.args.tables.now in
+    let db = c.args.statements.now.list in
     let xs = c.args.essentials.now in
     c.loop-essential.invariant.found x
     ∙ ap (λ ys. is_variable_number db x
@@ -55,7 +56,8 @@ note-requires-clause-symbols g c = c.formula.ensures.known
 
 pub note-requires-clause-marks : goal.note-requires-clause-marks
 note-requires-clause-marks g c =
-    marks_fresh (length (symbol_names c.args.tables.now)) c.args.assertion c.args.seen.now.items
+    marks_fresh (length (symbol_names c.args.statements.now.list)) c.args.assertion
+    c.args.seen.now.items
     c.clear.new.self.items c.requires.fresh.count c.requires.fresh.within c.clear.ensures.items
 
 pub loop-essential-init : goal.loop-essential-init
@@ -64,7 +66,8 @@ loop-essential-init g c = record {
   found =
       λ x.
       mandatory_first x c.clear.new.self.items c.formula.result.now
-      (formula_at c.args.tables.now c.args.assertion) _ (is_variable_number c.args.tables.now x)
+      (formula_at c.args.statements.now.list c.args.assertion) _
+      (is_variable_number c.args.statements.now.list x)
       (ap length c.clear.ensures.items) c.formula.ensures.formula (c.in_ok-note.ensures.found x);
 }
 
@@ -86,10 +89,11 @@ loop-essential-preserved g c = record {
   marks = c.in_ok-note-2.ensures.marks;
   found =
       λ x.
-      mandatory_next x (formula_at c.args.tables.now) c.args.essentials.now
+      mandatory_next x (formula_at c.args.statements.now.list) c.args.essentials.now
       c.loop-essential.essential-index 0 c.formula-in-loop-essential.result.now _ _
-      (is_variable_number c.args.tables.now x)
-      (is_member (formula_at c.args.tables.now c.args.assertion) x) c.loop-essential-test.true
+      (is_variable_number c.args.statements.now.list x)
+      (is_member (formula_at c.args.statements.now.list c.args.assertion) x)
+      c.loop-essential-test.true
       c.formula-in-loop-essential.ensures.formula (c.loop-essential.invariant.found x)
       (c.in_ok-note-2.ensures.found x);
 }

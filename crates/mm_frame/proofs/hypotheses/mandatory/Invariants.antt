@@ -7,11 +7,12 @@ use Rattle.mm_frame.proofs.hypotheses.mandatory.Given as goal
 
 abbrev pub invariant-loop-essential : goal.invariant-loop-essential
 invariant-loop-essential g l = record {
-  marks : AreMarks (length (symbol_names l.tables)) (l.assertion + 1) l.seen.items l.found.items;
+  marks : AreMarks (length (symbol_names l.statements.list)) (l.assertion + 1) l.seen.items
+      l.found.items;
   found : (x : ℕ)
       → is_member l.found.items x
-      ≡ (is_variable_number l.tables x
-      && (is_member (formula_at l.tables l.assertion) x
-      || list_any (λ j. is_member (formula_at l.tables j) x)
+      ≡ (is_variable_number l.statements.list x
+      && (is_member (formula_at l.statements.list l.assertion) x
+      || list_any (λ j. is_member (formula_at l.statements.list j) x)
       (take l.essential-index l.essentials)));
 }

@@ -29,7 +29,7 @@ index_mut-requires g c = omega arith
 
 pub returns-in_ok-push-clause-marks : goal.returns-in_ok-push-clause-marks
 returns-in_ok-push-clause-marks g c =
-    let n = length (symbol_names c.args.tables.now) in
+    let n = length (symbol_names c.args.statements.now.list) in
     let seen = c.args.seen.now.items in
     let found = c.args.found.now.items in
     let s = c.args.symbol in
@@ -43,7 +43,7 @@ pub returns-in_ok-push-clause-found : goal.returns-in_ok-push-clause-found
 returns-in_ok-push-clause-found g c = λ x.
     let found = c.args.found.now.items in
     ap (λ fs. is_member fs x) c.in_ok-push.ensures.items ∙ member_push found c.args.symbol x
-    ∙ noted_new (is_variable_number c.args.tables.now) c.args.symbol x (is_member found x)
+    ∙ noted_new (is_variable_number c.args.statements.now.list) c.args.symbol x (is_member found x)
     (sym c.is_variable.ensures ∙ c.if-is_variable.true)
 
 pub returns-else-index-stamp-clause-marks : goal.returns-else-index-stamp-clause-marks
@@ -52,8 +52,9 @@ returns-else-index-stamp-clause-marks g c = c.requires.marks
 pub returns-else-index-stamp-clause-found : goal.returns-else-index-stamp-clause-found
 returns-else-index-stamp-clause-found g c = λ x.
     let found = c.args.found.now.items in
-    noted_again (is_variable_number c.args.tables.now) (is_member found) c.args.symbol x
-    (found_again (length (symbol_names c.args.tables.now)) c.args.stamp c.args.seen.now.items found
+    noted_again (is_variable_number c.args.statements.now.list) (is_member found) c.args.symbol x
+    (found_again (length (symbol_names c.args.statements.now.list)) c.args.stamp
+    c.args.seen.now.items found
     c.args.symbol c.number-place.result c.index.result.now c.requires.marks c.requires.symbol
     c.number-place.ensures c.index.ensures c.if-index-stamp.false)
 
@@ -62,5 +63,5 @@ returns-else-is_variable-clause-marks g c = c.requires.marks
 
 pub returns-else-is_variable-clause-found : goal.returns-else-is_variable-clause-found
 returns-else-is_variable-clause-found g c = λ x.
-    noted_not (is_variable_number c.args.tables.now) (is_member c.args.found.now.items)
+    noted_not (is_variable_number c.args.statements.now.list) (is_member c.args.found.now.items)
     c.args.symbol x (sym c.is_variable.ensures ∙ c.if-is_variable.false)

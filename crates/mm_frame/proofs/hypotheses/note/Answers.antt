@@ -17,7 +17,8 @@ pub loop-symbol-init : goal.loop-symbol-init
 loop-symbol-init g c = record {
   marks = c.requires.marks;
   found =
-      λ x. noted_none (is_member c.args.found.now.items x) (is_variable_number c.args.tables.now x);
+      λ x. noted_none (is_member c.args.found.now.items x)
+      (is_variable_number c.args.statements.now.list x);
 }
 
 pub offset_bounds-symbols-symbol-index : goal.offset_bounds-symbols-symbol-index
@@ -39,7 +40,7 @@ loop-symbol-preserved g c = record {
   found =
       λ x.
       noted_next c.args.symbols.now c.loop-symbol.symbol-index c.symbol-item.result x _ _ _
-      (is_variable_number c.args.tables.now x) c.loop-symbol-test.true c.symbol-item.is
+      (is_variable_number c.args.statements.now.list x) c.loop-symbol-test.true c.symbol-item.is
       (c.loop-symbol.invariant.found x) (c.in_ok-mark.ensures.found x);
 }
 
@@ -50,5 +51,5 @@ pub returns-clause-found : goal.returns-clause-found
 returns-clause-found g c = λ x.
     c.loop-symbol.invariant.found x
     ∙ ap (λ (xs : List ℕ). is_member c.args.found.now.items x
-    || (is_variable_number c.args.tables.now x && is_member xs x))
+    || (is_variable_number c.args.statements.now.list x && is_member xs x))
     (take_all c.loop-symbol.symbol-index c.args.symbols.now c.loop-symbol-test.false)

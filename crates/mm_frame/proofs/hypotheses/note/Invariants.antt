@@ -6,9 +6,9 @@ use Rattle.mm_frame.proofs.hypotheses.note.Given as goal
 
 abbrev pub invariant-loop-symbol : goal.invariant-loop-symbol
 invariant-loop-symbol g l = record {
-  marks : AreMarks (length (symbol_names l.tables)) l.stamp l.seen.items l.found.items;
+  marks : AreMarks (length (symbol_names l.statements.list)) l.stamp l.seen.items l.found.items;
   found : (x : ℕ)
       → is_member l.found.items x
       ≡ (is_member l.initial.found.items x
-      || (is_variable_number l.tables x && is_member (take l.symbol-index l.symbols) x));
+      || (is_variable_number l.statements.list x && is_member (take l.symbol-index l.symbols) x));
 }

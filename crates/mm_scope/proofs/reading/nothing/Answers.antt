@@ -1,4 +1,5 @@
-use Rattle.std.proofs.Common.{refl}
+use Rattle.std.proofs.Common.{◌∙◌, ◌++◌, ◌∷◌, [], List, ℕ, ap, refl}
+use Rattle.mm_database.proofs.CutsLaw.{none_joined}
 use Rattle.mm_scope.proofs.reading.nothing.Goals as goal
 
 pub returns : goal.returns
@@ -8,6 +9,8 @@ returns g c = (
   record {
     keeps = c.in_ok-scope.ensures.keeps;
     names_are = c.in_ok-scope.ensures.names;
-    formulas = c.in_ok-formulas.ensures;
+    formulas =
+        none_joined _ _ c.new-2.ensures.items (c.in_ok-push.ensures.items
+        ∙ ap (λ (ps : List ℕ). ps ++ 0 ∷ []) c.new-places.ensures.items);
   },
 )

@@ -1,21 +1,18 @@
-use Rattle.std.proofs.Common.{◌≡◌, ◌∙◌, ◌+◌, ◌++◌, ◌∷◌, List, [], length, take, get_or, ap, ap₂}
-use Rattle.std.proofs.Common.{subst, arith}
+use Rattle.std.proofs.Common.{◌≡◌, ◌∙◌, ◌+◌, ◌++◌, ◌∷◌, ℕ, List, [], length, map, take, get_or, ap}
+use Rattle.std.proofs.Common.{ap₂, arith}
 use Rattle.std.proofs.lemmas.Result.{IfOk-from_err}
-use Rattle.std.proofs.lemmas.List.{take_more}
-use Rattle.std.proofs.Math.Seq.{take-length}
+use Rattle.std.proofs.lemmas.List.{take_more, map-append}
 use Rattle.mm_outline.specs.Parts.{outline}
 use Rattle.mm_outline.specs.declared.parts.Kind.TheVariants.{Constants}
-use Rattle.mm_outline.specs.declared.parts.Outline.{Outline}
-use Rattle.mm_database.specs.Kept.{AreKept}
-use Rattle.mm_database.proofs.KeptLaw.{kept_none, kept_more}
+use Rattle.mm_database.specs.Kept.{kept_words}
+use Rattle.mm_database.proofs.CutsLaw.{cut_joined, joined_all, joined_cut, more_joined, none_joined}
 use Rattle.mm_stmt.proofs.kept.keep_all.Goals as goal
 
 pub loop-outline-init : goal.loop-outline-init
 loop-outline-init g c =
     let none = c.new-words.ensures.items in
-    kept_none c.args.tokens.now c.new-words.result.items
-    (c.new-starts.result.items ++ length c.new-words.result.items ∷ []) none
-    (ap₂ (λ ss n. ss ++ n ∷ []) c.new-starts.ensures.items (ap length none))
+    none_joined _ _ none
+    (ap₂ (λ (ss : List ℕ) n. ss ++ n ∷ []) c.new-starts.ensures.items (ap length none))
 
 pub loop-outline-preserved : goal.loop-outline-preserved
 loop-outline-preserved g c =
@@ -25,31 +22,43 @@ loop-outline-preserved g c =
     let words = c.loop-outline.words.items in
     let starts = c.loop-outline.starts.items in
     let o = get_or os i (outline Constants 0 0 0) in
-    let more : take (i + 1) os ≡ take i os ++ o ∷ [] =
-    take_more os i (outline Constants 0 0 0) (omega arith) in
+    let more : map (kept_words ws) (take (i + 1) os)
+    ≡ map (kept_words ws) (take i os) ++ kept_words ws o ∷ [] =
+    ap (map (kept_words ws)) (take_more os i (outline Constants 0 0 0) (omega arith))
+    ∙ map-append (kept_words ws) (take i os) (o ∷ []) in
     let begun : c.push.new.self.items ≡ starts ++ length words ∷ [] =
     c.in_ok-push.ensures.items
     ∙ ap (λ n. starts ++ n ∷ []) (c.len.ensures ∙ c.loop-outline.words.ok.0) in
     rw (more, begun, c.in_ok-keep.ensures)
-    (kept_more ws (take i os) o words (starts ++ length words ∷ []) c.loop-outline.invariant)
+    (more_joined (map (kept_words ws) (take i os)) (kept_words ws o) words
+    (starts ++ length words ∷ []) c.loop-outline.invariant)
+
+pub new-requires : goal.new-requires
+new-requires g c =
+    let end = c.loop-outline.auto.outline-index-end in
+    let test = c.loop-outline-test.false in
+    let ended =
+    c.in_ok-push-2.ensures.items
+    ∙ ap (λ n. c.loop-outline.starts.items ++ n ∷ []) (c.len-2.ensures
+    ∙ c.loop-outline.words.ok.0) in
+    rw ended
+    (joined_cut _ _ _
+    (joined_all (kept_words c.args.tokens.now) c.args.outlines.now c.loop-outline.outline-index _ _
+    (omega (arith, end, test)) c.loop-outline.invariant))
 
 pub returns : goal.returns
 returns g c =
-    let ws = c.args.tokens.now in
-    let os = c.args.outlines.now in
-    let i = c.loop-outline.outline-index in
-    let words = c.loop-outline.words.items in
-    let starts = c.loop-outline.starts.items in
     let end = c.loop-outline.auto.outline-index-end in
     let test = c.loop-outline-test.false in
-    let all : i ≡ length os = omega (arith, end, test) in
-    let whole : take i os ≡ os = ap (λ n. take n os) all ∙ take-length os in
-    let ended : c.push-2.new.self.items ≡ starts ++ length words ∷ [] =
+    let ended =
     c.in_ok-push-2.ensures.items
-    ∙ ap (λ n. starts ++ n ∷ []) (c.len-2.ensures ∙ c.loop-outline.words.ok.0) in
-    rw ended
-    (subst (λ (xs : List Outline). AreKept ws xs words (starts ++ length words ∷ [])) whole
-    c.loop-outline.invariant)
+    ∙ ap (λ n. c.loop-outline.starts.items ++ n ∷ []) (c.len-2.ensures
+    ∙ c.loop-outline.words.ok.0) in
+    c.new.ensures
+    ∙ rw ended
+    (cut_joined _ _ _
+    (joined_all (kept_words c.args.tokens.now) c.args.outlines.now c.loop-outline.outline-index _ _
+    (omega (arith, end, test)) c.loop-outline.invariant))
 
 pub offset_bounds-outlines-outline-index : goal.offset_bounds-outlines-outline-index
 offset_bounds-outlines-outline-index g c = omega arith

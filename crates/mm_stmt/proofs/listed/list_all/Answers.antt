@@ -1,10 +1,9 @@
-use Rattle.std.proofs.Common.{◌≡◌, ◌∙◌, ℕ, List, All, IsTrue, map, sym, ap, subst}
+use Rattle.std.proofs.Common.{◌≡◌, ◌∙◌, ◌∷◌, ℕ, List, All, IsTrue, map, sym, ap, subst}
 use Rattle.std.proofs.lemmas.Result.{IfOk-from_err}
 use Rattle.mm_spec.specs.Output.{theorems, is_theorem_at, label_at}
 use Rattle.mm_spec.specs.Opened.{counted}
 use Rattle.mm_spec.proofs.OpenedLaw.{counted_label, theorem_still}
 use Rattle.mm_outline.specs.Statements.{statements}
-use Rattle.mm_database.specs.Spaced.{AreSpaced}
 use Rattle.mm_database.proofs.KindsLaw.{theorems_by_kind, axioms_by_kind, kinds_few}
 use Rattle.mm_database.proofs.SpacedLaw.{theorems_are}
 use Rattle.mm_stmt.proofs.listed.list_all.Goals as goal
@@ -30,35 +29,27 @@ spaced_labels_of-requires-clause-theorems g c =
     subst (λ (ks : List ℕ). All (λ k. IsTrue (is_theorem_at db k)) ks) (sym listed)
     (λ i d l. theorem_still w db _ (theorems_are (counted w db) i d l))
 
-pub returns-clause-theorems : goal.returns-clause-theorems
-returns-clause-theorems g c =
-    c.in_ok-theorems.ensures
-    ∙ theorems_by_kind
-    (counted c.args.with_open
-    (statements c.args.text.now c.args.tokens.now c.args.outlines.now)) c.deref.result.now
-    (c.deref.ensures.value ∙ c.in_ok-kinds.ensures)
-
-pub returns-clause-axioms : goal.returns-clause-axioms
-returns-clause-axioms g c =
-    c.in_ok-axioms.ensures
-    ∙ axioms_by_kind
-    (counted c.args.with_open
-    (statements c.args.text.now c.args.tokens.now c.args.outlines.now)) c.deref-2.result.now
-    (c.deref-2.ensures.value ∙ c.in_ok-kinds.ensures)
-
-pub returns-clause-spaced : goal.returns-clause-spaced
-returns-clause-spaced g c =
+pub returns : goal.returns
+returns g c =
     let w = c.args.with_open in
     let db = statements c.args.text.now c.args.tokens.now c.args.outlines.now in
-    let spaced = c.in_ok-spaced.spaced in
+    let kinds = c.deref.ensures.value ∙ c.in_ok-kinds.ensures in
     let listed : c.deref-3.result.now ≡ theorems (counted w db) =
     c.deref-3.ensures.value ∙ c.in_ok-theorems.ensures
-    ∙ theorems_by_kind (counted w db) c.deref.result.now
-    (c.deref.ensures.value ∙ c.in_ok-kinds.ensures) in
-    subst (λ (labels : List (List ℕ)). AreSpaced labels spaced.bytes.items spaced.starts.items)
-    (ap (map (label_at db)) listed
-    ∙ ap (λ (f : ℕ → List ℕ). map f (theorems (counted w db))) (sym (counted_label w db)))
-    c.in_ok-spaced.ensures
+    ∙ theorems_by_kind (counted w db) c.deref.result.now kinds in
+    record {
+      kinds_are = c.in_ok-kinds.ensures;
+      theorems_are =
+          c.in_ok-theorems.ensures ∙ theorems_by_kind (counted w db) c.deref.result.now kinds;
+      axioms_are =
+          c.in_ok-axioms.ensures
+          ∙ axioms_by_kind (counted w db) c.deref-2.result.now
+          (c.deref-2.ensures.value ∙ c.in_ok-kinds.ensures);
+      spaced_are =
+          c.in_ok-spaced.ensures ∙ ap (map (λ k. 32 ∷ label_at db k)) listed
+          ∙ ap (λ (f : ℕ → List ℕ). map (λ k. 32 ∷ f k) (theorems (counted w db)))
+          (sym (counted_label w db));
+    }
 
 pub kinds_of-requires-clause-words : goal.kinds_of-requires-clause-words
 kinds_of-requires-clause-words g c = c.requires.words
@@ -66,75 +57,24 @@ kinds_of-requires-clause-words g c = c.requires.words
 pub kinds_of-requires-clause-outlines : goal.kinds_of-requires-clause-outlines
 kinds_of-requires-clause-outlines g c = c.requires.outlines
 
-pub returns-in_err-kinds-clause-kinds : goal.returns-in_err-kinds-clause-kinds
-returns-in_err-kinds-clause-kinds g c =
-    IfOk-from_err c.from_residual.result _ c.from_residual.ensures.0
-
-pub returns-in_err-kinds-clause-theorems : goal.returns-in_err-kinds-clause-theorems
-returns-in_err-kinds-clause-theorems g c =
-    IfOk-from_err c.from_residual.result _ c.from_residual.ensures.0
-
-pub returns-in_err-kinds-clause-axioms : goal.returns-in_err-kinds-clause-axioms
-returns-in_err-kinds-clause-axioms g c =
-    IfOk-from_err c.from_residual.result _ c.from_residual.ensures.0
-
-pub returns-in_err-kinds-clause-spaced : goal.returns-in_err-kinds-clause-spaced
-returns-in_err-kinds-clause-spaced g c =
-    IfOk-from_err c.from_residual.result _ c.from_residual.ensures.0
-
-pub returns-in_err-theorems-clause-kinds : goal.returns-in_err-theorems-clause-kinds
-returns-in_err-theorems-clause-kinds g c =
-    IfOk-from_err c.from_residual-in_err-theorems.result _ c.from_residual-in_err-theorems.ensures.0
-
-pub returns-in_err-theorems-clause-theorems : goal.returns-in_err-theorems-clause-theorems
-returns-in_err-theorems-clause-theorems g c =
-    IfOk-from_err c.from_residual-in_err-theorems.result _ c.from_residual-in_err-theorems.ensures.0
-
-pub returns-in_err-theorems-clause-axioms : goal.returns-in_err-theorems-clause-axioms
-returns-in_err-theorems-clause-axioms g c =
-    IfOk-from_err c.from_residual-in_err-theorems.result _ c.from_residual-in_err-theorems.ensures.0
-
-pub returns-in_err-theorems-clause-spaced : goal.returns-in_err-theorems-clause-spaced
-returns-in_err-theorems-clause-spaced g c =
-    IfOk-from_err c.from_residual-in_err-theorems.result _ c.from_residual-in_err-theorems.ensures.0
-
-pub returns-in_err-axioms-clause-kinds : goal.returns-in_err-axioms-clause-kinds
-returns-in_err-axioms-clause-kinds g c =
-    IfOk-from_err c.from_residual-in_err-axioms.result _ c.from_residual-in_err-axioms.ensures.0
-
-pub returns-in_err-axioms-clause-theorems : goal.returns-in_err-axioms-clause-theorems
-returns-in_err-axioms-clause-theorems g c =
-    IfOk-from_err c.from_residual-in_err-axioms.result _ c.from_residual-in_err-axioms.ensures.0
-
-pub returns-in_err-axioms-clause-axioms : goal.returns-in_err-axioms-clause-axioms
-returns-in_err-axioms-clause-axioms g c =
-    IfOk-from_err c.from_residual-in_err-axioms.result _ c.from_residual-in_err-axioms.ensures.0
-
-pub returns-in_err-axioms-clause-spaced : goal.returns-in_err-axioms-clause-spaced
-returns-in_err-axioms-clause-spaced g c =
-    IfOk-from_err c.from_residual-in_err-axioms.result _ c.from_residual-in_err-axioms.ensures.0
-
 pub spaced_labels_of-requires-clause-words : goal.spaced_labels_of-requires-clause-words
 spaced_labels_of-requires-clause-words g c = c.requires.words
 
 pub spaced_labels_of-requires-clause-outlines : goal.spaced_labels_of-requires-clause-outlines
 spaced_labels_of-requires-clause-outlines g c = c.requires.outlines
 
-pub returns-in_err-spaced-clause-kinds : goal.returns-in_err-spaced-clause-kinds
-returns-in_err-spaced-clause-kinds g c =
-    IfOk-from_err c.from_residual-in_err-spaced.result _ c.from_residual-in_err-spaced.ensures.0
+pub returns-in_err-kinds : goal.returns-in_err-kinds
+returns-in_err-kinds g c =
+    IfOk-from_err c.from_residual.result _ c.from_residual.ensures.0
 
-pub returns-in_err-spaced-clause-theorems : goal.returns-in_err-spaced-clause-theorems
-returns-in_err-spaced-clause-theorems g c =
-    IfOk-from_err c.from_residual-in_err-spaced.result _ c.from_residual-in_err-spaced.ensures.0
+pub returns-in_err-theorems : goal.returns-in_err-theorems
+returns-in_err-theorems g c =
+    IfOk-from_err c.from_residual-in_err-theorems.result _ c.from_residual-in_err-theorems.ensures.0
 
-pub returns-in_err-spaced-clause-axioms : goal.returns-in_err-spaced-clause-axioms
-returns-in_err-spaced-clause-axioms g c =
-    IfOk-from_err c.from_residual-in_err-spaced.result _ c.from_residual-in_err-spaced.ensures.0
+pub returns-in_err-axioms : goal.returns-in_err-axioms
+returns-in_err-axioms g c =
+    IfOk-from_err c.from_residual-in_err-axioms.result _ c.from_residual-in_err-axioms.ensures.0
 
-pub returns-in_err-spaced-clause-spaced : goal.returns-in_err-spaced-clause-spaced
-returns-in_err-spaced-clause-spaced g c =
+pub returns-in_err-spaced : goal.returns-in_err-spaced
+returns-in_err-spaced g c =
     IfOk-from_err c.from_residual-in_err-spaced.result _ c.from_residual-in_err-spaced.ensures.0
-
-pub returns-clause-kinds : goal.returns-clause-kinds
-returns-clause-kinds g c = c.in_ok-kinds.ensures

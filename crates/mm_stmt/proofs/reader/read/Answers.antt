@@ -9,13 +9,13 @@ use Rattle.mm_outline.specs.Statements.{statements}
 use Rattle.mm_outline.specs.Tokens.{AreTokens}
 use Rattle.mm_outline.proofs.TokensLaw.{tokens_stand, tokens_tell, tokens_small, short_text}
 use Rattle.mm_database.specs.Names.{names_of}
-use Rattle.mm_database.specs.Database.{Contents, IsDatabase, fields_of}
+use Rattle.mm_database.specs.Beside.{IsBeside}
+use Rattle.mm_database.specs.Database.{Contents, IsDatabase, IsListed}
 use Rattle.mm_database.specs.declared.reading.Reading.{Reading}
-use Rattle.mm_database.proofs.HeldLaw.{labels_held, below_held, numbered_held}
-use Rattle.mm_scope.proofs.NumberedLaw.{formulas_numbered}
-use Rattle.mm_scope.specs.Keeps.{IsKeptOf, kept_by, reading_of}
-use Rattle.mm_frame.specs.Tables.{IsSound}
-use Rattle.mm_stmt.specs.Found.{IsTaken}
+use Rattle.mm_database.proofs.KeptLaw.{kept_are}
+use Rattle.mm_scope.specs.Keeps.{IsKeptOf, kept_by}
+use Rattle.mm_database.specs.Parsed.{IsSound}
+use Rattle.mm_spec.specs.Opened.{counted}
 use Rattle.mm_stmt.proofs.AssembleLaw.{is_read, names_few, sound}
 use Rattle.mm_stmt.proofs.reader.read.Goals as goal
 
@@ -44,171 +44,138 @@ list_all-requires-clause-words g c =
     (sym (c.as_slice-words.ensures.value ∙ c.requires.tokens)) (tokens_stand c.args.text.now)
 
 pub list_all-requires-clause-outlines : goal.list_all-requires-clause-outlines
-list_all-requires-clause-outlines g c = rw c.deref.ensures.value c.in_ok-read.ensures.outlines
+list_all-requires-clause-outlines g c = rw c.deref.ensures.value c.in_ok-outlined.ensures.outlines
 
 pub list_all-requires-clause-few : goal.list_all-requires-clause-few
-list_all-requires-clause-few g c = rw c.deref.ensures.value c.in_ok-read.ensures.few
+list_all-requires-clause-few g c = rw c.deref.ensures.value c.in_ok-outlined.ensures.few
 
 pub keep_all-requires : goal.keep_all-requires
-keep_all-requires g c = rw c.deref-2.ensures.value c.in_ok-read.ensures.outlines
+keep_all-requires g c = rw c.deref-2.ensures.value c.in_ok-outlined.ensures.outlines
 
-pub found_in-requires-clause-sound : goal.found_in-requires-clause-sound
-found_in-requires-clause-sound g c =
+pub reading_of-requires : goal.reading_of-requires
+reading_of-requires g c =
     let text = c.args.text.now in
     let ws = c.as_slice-words.result.now in
-    let os = c.in_ok-read.read.outlines.items in
+    let read = c.in_ok-outlined.outlined in
+    let os = read.outlines.items in
     let lent = c.as_slice-words.ensures.value ∙ c.requires.tokens in
+    let outlined = c.in_ok-outlined.ensures in
     let small = subst (λ (ws : List Word). length ws < 2 ^ 31) (sym lent) (tokens_small text) in
-    subst (λ (ws : List Word). IsSound (statements text ws os)) lent
-    (sound text ws os _ _ c.in_ok-read.ensures.read small _ _ _
-    c.in_ok-read.ensures.kept.keeps c.in_ok-read.ensures.few)
-
-pub found_in-requires-clause-names : goal.found_in-requires-clause-names
-found_in-requires-clause-names g c =
-    let text = c.args.text.now in
-    let read = c.in_ok-read.read in
-    subst (λ (ws : List Word). IsKeptOf (statements text ws read.outlines.items) (kept_by read))
-    (c.as_slice-words.ensures.value ∙ c.requires.tokens) c.in_ok-read.ensures.kept
-
-pub found_in-requires-clause-few_symbols : goal.found_in-requires-clause-few_symbols
-found_in-requires-clause-few_symbols g c =
-    let text = c.args.text.now in
-    let ws = c.as_slice-words.result.now in
-    let small =
-    subst (λ (ws : List Word). length ws < 2 ^ 31)
-    (sym (c.as_slice-words.ensures.value ∙ c.requires.tokens)) (tokens_small text) in
-    names_few text ws c.in_ok-read.read.outlines.items _ _ c.in_ok-read.ensures.read small
-    (names_of c.in_ok-read.read.scope.names.symbols) c.in_ok-read.ensures.kept.names_are
+    record {
+      sound =
+          subst (λ (ws : List Word). IsSound (statements text ws os)) lent
+          (sound text ws os _ _ outlined.read small _ _ _ outlined.kept.keeps outlined.few);
+      kept =
+          subst (λ (ws : List Word). IsKeptOf (statements text ws os) (kept_by read)) lent
+          outlined.kept;
+      few_symbols =
+          names_few text ws os _ _ outlined.read small (names_of read.scope.names.symbols)
+          outlined.kept.names_are;
+    }
 
 pub new-requires : goal.new-requires
 new-requires g c =
     let text = c.args.text.now in
     let words = words_of text in
     let ws = c.as_slice-words.result.now in
-    let r = c.in_ok-read.read in
-    let os = r.outlines.items in
+    let outlined = c.in_ok-outlined.ensures in
+    let os = c.in_ok-outlined.outlined.outlines.items in
     let w = c.args.with_open in
-    let kept = c.in_ok-read.ensures.kept in
     let lent : ws ≡ words = c.as_slice-words.ensures.value ∙ c.requires.tokens in
-    let db = statements text words os in
-    let same : statements text ws os ≡ db = ap (λ ws. statements text ws os) lent in
-    let small = subst (λ (ws : List Word). length ws < 2 ^ 31) (sym lent) (tokens_small text) in
-    let listed = c.in_ok-listed.ensures in
-    let held_here = sym c.deref.ensures.value in
-    let taken : IsTaken text ws w os c.in_ok-listed.listed c.in_ok-kept.kept = record {
-      kinds = rw held_here listed.kinds;
-      theorems_are = rw held_here listed.theorems;
-      axioms_are = rw held_here listed.axioms;
-      spaced = rw held_here listed.spaced;
-      kept = rw (sym c.deref-2.ensures.value) c.in_ok-kept.ensures;
-    } in
-    let found =
-    c.in_ok-found.ensures w
-    (subst (λ (ws : List Word). IsTaken text ws w os c.in_ok-listed.listed c.in_ok-kept.kept) lent
-    taken) in
-    let is : IsDatabase text words os w r.fault (fields_of (reading_of r) c.in_ok-found.found) =
-    record {
-      words = tokens_stand text;
-      few = c.in_ok-read.ensures.few;
-      outlines = rw (sym lent) c.in_ok-read.ensures.outlines;
-      kept_are = found.taken.kept;
-      blocks = rw (sym same) kept.keeps.blocks;
-      labels = labels_held w db _ (rw (sym same) kept.keeps.labels_are);
-      symbols = found.symbols;
-      numbered = numbered_held w db _ _ (rw (sym same) (formulas_numbered _ _ _ kept.formulas));
-      frames = found.beside_is.frames;
-      disjoint_index_is = found.beside_is.disjoint_index;
-      kinds_are = found.taken.kinds;
-      theorems_are = found.taken.theorems_are;
-      axioms_are = found.taken.axioms_are;
-      below =
-          below_held w db (length os)
-          (λ k h. (subst IsSound same
-          (sound text ws os _ _ c.in_ok-read.ensures.read small _ _ _ kept.keeps
-          c.in_ok-read.ensures.few)).below k (let m = length-map os (statement_of text words) in
-          omega (arith, m, h)));
-      spaced = found.taken.spaced;
-      few_symbols =
-          names_few text ws os _ _ c.in_ok-read.ensures.read small
-          (names_of r.scope.names.symbols) kept.names_are;
-      read = is_read text ws words os _ _ lent refl c.requires.fault c.in_ok-read.ensures.read;
-    } in
-    subst (λ (x : Reading _). IsDatabase text words x.outlines.items w x.fault
-    (fields_of x c.in_ok-found.found)) (sym c.into_reading.ensures) is
+    let kept =
+    subst (λ (us : List Word). IsKeptOf (statements text us os) (kept_by c.in_ok-outlined.outlined))
+    lent outlined.kept in
+    let listed =
+    subst (λ (us : List Word). IsListed (counted w (statements text us os)) c.in_ok-listed.listed)
+    lent (rw (sym c.deref.ensures.value) c.in_ok-listed.ensures) in
+    let same = c.in_ok-read.ensures in
+    subst (λ (r : Reading _). IsDatabase w r (record {
+      beside = c.in_ok-beside.beside;
+      listed = c.in_ok-listed.listed;
+      kept = c.in_ok-kept.kept;
+    })) (sym same)
+    (record {
+      few = let n = length-map os (statement_of text words) in
+          let few = outlined.few in omega (arith, n, few);
+      read = is_read text ws words os _ _ lent refl c.requires.fault outlined.read;
+      labels = kept.keeps.labels_are;
+      names_are = kept.names_are;
+      beside_is =
+          subst (λ (r : Reading _). IsBeside r.statements.list r.statements.blocks
+          c.in_ok-beside.beside) same c.in_ok-beside.ensures;
+      listed_is = listed;
+      kept_are =
+          rw (c.in_ok-kept.ensures, c.deref-2.ensures.value, lent)
+          (kept_are text words (tokens_stand text) os (rw (sym lent) outlined.outlines));
+    })
 
-pub returns-clause-read : goal.returns-clause-read
-returns-clause-read g c =
+pub returns : goal.returns
+returns g c =
     let text = c.args.text.now in
     let words = words_of text in
+    let os = c.in_ok-outlined.outlined.outlines.items in
     let is =
-    is_read text c.as_slice-words.result.now words c.in_ok-read.read.outlines.items _ _
+    is_read text c.as_slice-words.result.now words os _ _
     (c.as_slice-words.ensures.value ∙ c.requires.tokens) refl c.requires.fault
-    c.in_ok-read.ensures.read in
-    subst (λ (d : Contents). IsRead (length text) (lexed_of text) d.read d.fault)
-    (sym c.new.ensures)
-    (subst (λ (x : Reading _). IsRead (length text) (lexed_of text)
-    (statements text words x.outlines.items) x.fault) (sym c.into_reading.ensures) is)
+    c.in_ok-outlined.ensures.read in
+    let same = c.in_ok-read.ensures in
+    let made = c.new.ensures in
+    record {
+      text = ap (λ (d : Contents). d.text) made ∙ ap (λ (r : Reading _). r.statements.text) same;
+      flag = ap (λ (d : Contents). d.with_open) made;
+      read =
+          subst (λ (d : Contents). IsRead (length text) (lexed_of text) d.read d.fault) (sym made)
+          (subst (λ (r : Reading _). IsRead (length text) (lexed_of text)
+          r.statements.list r.fault) (sym same) is);
+      counted = rw made refl;
+    }
 
-pub returns-in_err-read-clause-text : goal.returns-in_err-read-clause-text
-returns-in_err-read-clause-text g c =
-    IfOk-from_err c.from_residual.result _ c.from_residual.ensures.0
+pub returns-in_err-outlined : goal.returns-in_err-outlined
+returns-in_err-outlined g c =
+    let err = c.from_residual.ensures.0 in
+    record {
+      text = IfOk-from_err c.from_residual.result _ err;
+      flag = IfOk-from_err c.from_residual.result _ err;
+      read = IfOk-from_err c.from_residual.result _ err;
+      counted = IfOk-from_err c.from_residual.result _ err;
+    }
 
-pub returns-in_err-read-clause-flag : goal.returns-in_err-read-clause-flag
-returns-in_err-read-clause-flag g c =
-    IfOk-from_err c.from_residual.result _ c.from_residual.ensures.0
+pub returns-in_err-listed : goal.returns-in_err-listed
+returns-in_err-listed g c =
+    let err = c.from_residual-in_err-listed.ensures.0 in
+    record {
+      text = IfOk-from_err c.from_residual-in_err-listed.result _ err;
+      flag = IfOk-from_err c.from_residual-in_err-listed.result _ err;
+      read = IfOk-from_err c.from_residual-in_err-listed.result _ err;
+      counted = IfOk-from_err c.from_residual-in_err-listed.result _ err;
+    }
 
-pub returns-in_err-read-clause-read : goal.returns-in_err-read-clause-read
-returns-in_err-read-clause-read g c =
-    IfOk-from_err c.from_residual.result _ c.from_residual.ensures.0
+pub returns-in_err-kept : goal.returns-in_err-kept
+returns-in_err-kept g c =
+    let err = c.from_residual-in_err-kept.ensures.0 in
+    record {
+      text = IfOk-from_err c.from_residual-in_err-kept.result _ err;
+      flag = IfOk-from_err c.from_residual-in_err-kept.result _ err;
+      read = IfOk-from_err c.from_residual-in_err-kept.result _ err;
+      counted = IfOk-from_err c.from_residual-in_err-kept.result _ err;
+    }
 
-pub returns-in_err-read-clause-counted : goal.returns-in_err-read-clause-counted
-returns-in_err-read-clause-counted g c =
-    IfOk-from_err c.from_residual.result _ c.from_residual.ensures.0
+pub returns-in_err-read : goal.returns-in_err-read
+returns-in_err-read g c =
+    let err = c.from_residual-in_err-read.ensures.0 in
+    record {
+      text = IfOk-from_err c.from_residual-in_err-read.result _ err;
+      flag = IfOk-from_err c.from_residual-in_err-read.result _ err;
+      read = IfOk-from_err c.from_residual-in_err-read.result _ err;
+      counted = IfOk-from_err c.from_residual-in_err-read.result _ err;
+    }
 
-pub returns-in_err-listed-clause-text : goal.returns-in_err-listed-clause-text
-returns-in_err-listed-clause-text g c =
-    IfOk-from_err c.from_residual-in_err-listed.result _ c.from_residual-in_err-listed.ensures.0
-
-pub returns-in_err-listed-clause-flag : goal.returns-in_err-listed-clause-flag
-returns-in_err-listed-clause-flag g c =
-    IfOk-from_err c.from_residual-in_err-listed.result _ c.from_residual-in_err-listed.ensures.0
-
-pub returns-in_err-listed-clause-read : goal.returns-in_err-listed-clause-read
-returns-in_err-listed-clause-read g c =
-    IfOk-from_err c.from_residual-in_err-listed.result _ c.from_residual-in_err-listed.ensures.0
-
-pub returns-in_err-listed-clause-counted : goal.returns-in_err-listed-clause-counted
-returns-in_err-listed-clause-counted g c =
-    IfOk-from_err c.from_residual-in_err-listed.result _ c.from_residual-in_err-listed.ensures.0
-
-pub returns-in_err-kept-clause-text : goal.returns-in_err-kept-clause-text
-returns-in_err-kept-clause-text g c =
-    IfOk-from_err c.from_residual-in_err-kept.result _ c.from_residual-in_err-kept.ensures.0
-
-pub returns-in_err-kept-clause-flag : goal.returns-in_err-kept-clause-flag
-returns-in_err-kept-clause-flag g c =
-    IfOk-from_err c.from_residual-in_err-kept.result _ c.from_residual-in_err-kept.ensures.0
-
-pub returns-in_err-kept-clause-read : goal.returns-in_err-kept-clause-read
-returns-in_err-kept-clause-read g c =
-    IfOk-from_err c.from_residual-in_err-kept.result _ c.from_residual-in_err-kept.ensures.0
-
-pub returns-in_err-kept-clause-counted : goal.returns-in_err-kept-clause-counted
-returns-in_err-kept-clause-counted g c =
-    IfOk-from_err c.from_residual-in_err-kept.result _ c.from_residual-in_err-kept.ensures.0
-
-pub returns-in_err-found-clause-text : goal.returns-in_err-found-clause-text
-returns-in_err-found-clause-text g c =
-    IfOk-from_err c.from_residual-in_err-found.result _ c.from_residual-in_err-found.ensures.0
-
-pub returns-in_err-found-clause-flag : goal.returns-in_err-found-clause-flag
-returns-in_err-found-clause-flag g c =
-    IfOk-from_err c.from_residual-in_err-found.result _ c.from_residual-in_err-found.ensures.0
-
-pub returns-in_err-found-clause-read : goal.returns-in_err-found-clause-read
-returns-in_err-found-clause-read g c =
-    IfOk-from_err c.from_residual-in_err-found.result _ c.from_residual-in_err-found.ensures.0
-
-pub returns-in_err-found-clause-counted : goal.returns-in_err-found-clause-counted
-returns-in_err-found-clause-counted g c =
-    IfOk-from_err c.from_residual-in_err-found.result _ c.from_residual-in_err-found.ensures.0
+pub returns-in_err-beside : goal.returns-in_err-beside
+returns-in_err-beside g c =
+    let err = c.from_residual-in_err-beside.ensures.0 in
+    record {
+      text = IfOk-from_err c.from_residual-in_err-beside.result _ err;
+      flag = IfOk-from_err c.from_residual-in_err-beside.result _ err;
+      read = IfOk-from_err c.from_residual-in_err-beside.result _ err;
+      counted = IfOk-from_err c.from_residual-in_err-beside.result _ err;
+    }

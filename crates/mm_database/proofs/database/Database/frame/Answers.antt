@@ -1,27 +1,29 @@
-use Rattle.std.proofs.Common.{◌≡◌, ◌∙◌, ◌<◌, [], length, map, get_or, slice_index, true, sym, ap}
-use Rattle.std.proofs.Common.{subst, arith}
+use Rattle.std.proofs.Common.{◌≡◌, ◌∙◌, ◌<◌, ℕ, List, [], length, map, get_or, slice_index, true}
+use Rattle.std.proofs.Common.{sym}
+use Rattle.std.proofs.Common.{ap, subst, arith, refl}
 use Rattle.std.proofs.lemmas.List.{length-map, get_or_default}
 use Rattle.std.specs.List.{list_any}
-use Rattle.mm_spec.specs.Lexed.{tokens_of as words_of}
 use Rattle.mm_spec.specs.Scope.{statement_at}
-use Rattle.mm_spec.specs.Derivation.{pair}
+use Rattle.mm_spec.specs.Derivation.{Pair, pair}
 use Rattle.mm_spec.specs.Citation.{is_assertion}
 use Rattle.mm_spec.specs.Frame.{mandatory_hypotheses, mandatory_pairs}
-use Rattle.mm_database.specs.Database.{held, Contents}
+use Rattle.mm_spec.proofs.OpenedLaw.{counted_any, counted_hypotheses, counted_pairs}
+use Rattle.mm_database.specs.Database.{Contents}
 use Rattle.mm_outline.proofs.StatementsLaw.{is_there, get_mapped}
 use Rattle.mm_database.proofs.database.Database.frame.Goals as goal
 
 pub returns : goal.returns
 returns g c =
-    let f = c.self.inside in
-    let db = held f.text.now (words_of f.text.now) f.read.outlines.items f.with_open in
+    let with_open = c.self.inside.with_open in
+    let db = c.self.inside.read.statements.list in
     let k = c.args.assertion in
-    let fs = f.found.beside.frames.list.items in
-    let ps = f.found.beside.frames.places.items in
-    let frames = c.self.invariant.frames in
+    let fs = c.self.inside.found.beside.frames.list.items in
+    let ps = c.self.inside.found.beside.frames.places.items in
+    let frames = c.self.invariant.beside_is.frames in
     let x = c.index.result.now in
-    let is =
-    subst (λ (n : Contents). list_any is_assertion (statement_at n.statements k) ≡ true)
+    let is : list_any is_assertion (statement_at db k) ≡ true =
+    sym (counted_any with_open db is_assertion (λ l k xs e ps d. refl) k)
+    ∙ subst (λ (n : Contents). list_any is_assertion (statement_at n.statements k) ≡ true)
     (sym c.self.view_is) c.requires in
     let there : k < length db = is_there is_assertion db k is in
     let count = frames.count in
@@ -38,11 +40,11 @@ returns g c =
     let frame = frames.each k there in
     record {
       hypotheses =
-          subst (λ (n : Contents). x.hyps.items ≡ mandatory_hypotheses n.statements k)
-          c.self.view_is
-          (ap (λ y. y.hyps.items) at ∙ sym hyps ∙ frame.hypotheses is);
+          ap (λ y. y.hyps.items) at ∙ sym hyps ∙ frame.hypotheses is
+          ∙ ap (λ (f : ℕ → List ℕ). f k) (sym (counted_hypotheses with_open db))
+          ∙ ap (λ (n : Contents). mandatory_hypotheses n.statements k) c.self.view_is;
       pairs =
-          subst (λ (n : Contents). map (λ p. pair p.0 p.1) x.pairs.items
-          ≡ mandatory_pairs n.statements k) c.self.view_is
-          (ap (λ y. map (λ p. pair p.0 p.1) y.pairs.items) at ∙ sym pairs ∙ frame.disjoint is);
+          ap (λ y. map (λ p. pair p.0 p.1) y.pairs.items) at ∙ sym pairs ∙ frame.disjoint is
+          ∙ ap (λ (f : ℕ → List Pair). f k) (sym (counted_pairs with_open db))
+          ∙ ap (λ (n : Contents). mandatory_pairs n.statements k) c.self.view_is;
     }

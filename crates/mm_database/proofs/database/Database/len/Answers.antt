@@ -1,30 +1,28 @@
-use Rattle.std.proofs.Common.{◌≤◌, length, subst, arith}
-use Rattle.std.proofs.lemmas.List.{length-map}
-use Rattle.mm_spec.specs.Lexed.{tokens_of as words_of}
+use Rattle.std.proofs.Common.{◌∙◌, length, subst, sym, ap, arith}
 use Rattle.mm_spec.specs.Laws.Complete.{AreComplete}
 use Rattle.mm_spec.specs.Output.{lexed_of}
 use Rattle.mm_spec.proofs.CompleteLaw.{reads_complete}
 use Rattle.mm_spec.proofs.OpenedLaw.{counted_complete}
-use Rattle.mm_outline.specs.Parts.{statement_of}
-use Rattle.mm_outline.specs.Statements.{statements}
 use Rattle.mm_database.specs.Database.{Contents}
+use Rattle.mm_database.proofs.DatabaseLaw.{as_many}
 use Rattle.mm_database.proofs.LengthLaw.{statements_few}
 use Rattle.mm_database.proofs.database.Database.len.Goals as goal
 
+pub returns-clause-len : goal.returns-clause-len
+returns-clause-len g c = c.len.ensures.len ∙ sym (as_many _ _ _ _ _ c.self.view_is)
+
 pub returns-clause-complete : goal.returns-clause-complete
 returns-clause-complete g c =
-    let f = c.self.inside in
-    let db = statements f.text.now (words_of f.text.now) f.read.outlines.items in
+    let s = c.self.inside.read.statements in
     subst (λ (n : Contents). AreComplete n.statements) c.self.view_is
-    (counted_complete f.with_open db
-    (reads_complete (length f.text.now) (lexed_of f.text.now) db f.read.fault c.self.invariant.read))
+    (counted_complete c.self.inside.with_open s.list
+    (reads_complete (length s.text) (lexed_of s.text) s.list c.self.inside.read.fault
+    c.self.invariant.read))
 
 pub returns-clause-few : goal.returns-clause-few
 returns-clause-few g c =
-    let f = c.self.inside in
-    let db = statements f.text.now (words_of f.text.now) f.read.outlines.items in
-    let few = statements_few f.text.now db f.read.fault c.self.invariant.read in
-    let same = length-map f.read.outlines.items (statement_of f.text.now (words_of f.text.now)) in
-    let within =
-    subst (λ (n : Contents). length f.read.outlines.items ≤ length n.text) c.self.view_is
-    (omega (arith, few, same)) in omega (arith, within, c.len.ensures)
+    let s = c.self.inside.read.statements in
+    let few = statements_few s.text s.list c.self.inside.read.fault c.self.invariant.read in
+    let text = ap (λ (n : Contents). length n.text) c.self.view_is in
+    let len = c.len.ensures.len in
+    omega (arith, few, text, len)

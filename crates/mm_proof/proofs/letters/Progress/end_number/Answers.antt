@@ -1,7 +1,6 @@
 use Rattle.std.proofs.Common.{◌∙◌, ◌*◌, ◌+◌, ap, refl}
 use Rattle.mm_proof.specs.Number.{saturated}
-use Rattle.mm_proof.specs.Letters.{begun_at}
-use Rattle.mm_proof.proofs.LettersLaw.{last_reads, err_same, stands_step}
+use Rattle.mm_proof.proofs.LettersLaw.{last_here, err_same, stands_step}
 use Rattle.std.proofs.lemmas.Result.{IfOk-from_err}
 use Rattle.mm_proof.specs.declared.refused.ProofRefused.TheVariants.{Memory}
 use Rattle.mm_proof.proofs.letters.Progress.end_number.Goals as goal
@@ -14,10 +13,11 @@ returns-clause-reads g c = λ byte k.
       theorem = refl;
       labels = refl;
       continues =
-          last_reads s.theorem s.labels s.marks c.args.number s.steps c.args.at byte _ k.0 k.1
+          last_here s.theorem s.labels s.marks c.args.number s.steps c.args._at byte _
+          c.requires.stands.begins k.0 k.1
           (λ n e. c.in-Some.ensures.step n
           (c.begun_by-begun.ensures.value
-          ∙ ap (λ d. saturated (20 * (begun_at c.args.number c.args.at).value + d)) k.2 ∙ e));
+          ∙ ap (λ d. saturated (20 * c.args.number.value + d)) k.2 ∙ e));
     })
 
 pub returns-in_default-clause-stands : goal.returns-in_default-clause-stands
@@ -43,5 +43,5 @@ returns-clause-refuses g c = tt
 
 pub returns-clause-stands : goal.returns-clause-stands
 returns-clause-stands g c =
-    stands_step c.args.self.now c.add_step.new.self c.args.at _ c.requires.stands
+    stands_step c.args.self.now c.add_step.new.self c.args._at _ c.requires.stands.stands
     c.in_ok-add_step.ensures

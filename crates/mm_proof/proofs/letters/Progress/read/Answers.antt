@@ -1,8 +1,9 @@
-use Rattle.std.proofs.Common.{◌∷◌, [], refl, arith, sym, ap, ◌∙◌, ◌*◌, ◌+◌, subst, None}
+use Rattle.std.proofs.Common.{◌∷◌, [], refl, arith, sym, ap, ◌∙◌, ◌*◌, ◌+◌, ◌≡◌, subst, None}
 use Rattle.mm_proof.specs.Number.{saturated}
-use Rattle.mm_proof.specs.Letters.{RefusesLetters, letter, with_number, ReadsLetters, begun_at}
-use Rattle.mm_proof.proofs.LettersLaw.{err_same, stands_later, last_digit, early_digit, no_number}
-use Rattle.mm_proof.proofs.LettersLaw.{early_reads}
+use Rattle.mm_proof.specs.declared.letters.Begun.{Begun}
+use Rattle.mm_proof.specs.Letters.{RefusesLetters, letter, with_number, ReadsLetters, if_begun}
+use Rattle.mm_proof.proofs.LettersLaw.{err_same, stands_later, last_digit, early_digit}
+use Rattle.mm_proof.proofs.LettersLaw.{early_here, none_begun}
 use Rattle.std.proofs.lemmas.Result.{IfOk-from_err}
 use Rattle.mm_proof.proofs.letters.Progress.read.Goals as goal
 
@@ -10,7 +11,8 @@ pub returns-in_err-end_number-in-Last-clause-refuses :
     goal.returns-in_err-end_number-in-Last-clause-refuses
 returns-in_err-end_number-in-Last-clause-refuses g c =
     err_same c.from_residual.result c.in_err-end_number-in-Last.field-0.0
-    (RefusesLetters (with_number c.args.self.now c.args.number) (letter c.args.at c.args.byte ∷ []))
+    (RefusesLetters (with_number c.args.self.now (if_begun c.args.number.now))
+    (letter c.args.at c.args.byte ∷ []))
     c.from_residual.ensures.1
     (c.in_err-end_number-in-Last.ensures.refuses c.args.byte c.in-Last.ensures)
 
@@ -28,12 +30,6 @@ returns-in-Unknown-clause-stands g c = tt
 
 pub returns-in-Unknown-clause-reads : goal.returns-in-Unknown-clause-reads
 returns-in-Unknown-clause-reads g c = tt
-
-pub returns-then-is_some-clause-stands : goal.returns-then-is_some-clause-stands
-returns-then-is_some-clause-stands g c = tt
-
-pub returns-then-is_some-clause-reads : goal.returns-then-is_some-clause-reads
-returns-then-is_some-clause-reads g c = tt
 
 pub returns-in_err-end_number-in-Last-clause-stands :
     goal.returns-in_err-end_number-in-Last-clause-stands
@@ -57,7 +53,8 @@ returns-in_err-mark-in-Mark-clause-reads g c =
 
 pub returns-in_ok-end_number-in-Last-clause-stands :
     goal.returns-in_ok-end_number-in-Last-clause-stands
-returns-in_ok-end_number-in-Last-clause-stands g c = c.in_ok-end_number-in-Last.ensures.stands
+returns-in_ok-end_number-in-Last-clause-stands g c =
+    record { stands = c.in_ok-end_number-in-Last.ensures.stands; begins = λ e. refl }
 
 pub returns-in_ok-end_number-in-Last-clause-reads :
     goal.returns-in_ok-end_number-in-Last-clause-reads
@@ -69,7 +66,8 @@ pub returns-in_ok-end_number-in-Last-clause-refuses :
 returns-in_ok-end_number-in-Last-clause-refuses g c = tt
 
 pub returns-in_ok-mark-in-Mark-clause-stands : goal.returns-in_ok-mark-in-Mark-clause-stands
-returns-in_ok-mark-in-Mark-clause-stands g c = c.in_ok-mark-in-Mark.ensures.stands
+returns-in_ok-mark-in-Mark-clause-stands g c =
+    record { stands = c.in_ok-mark-in-Mark.ensures.stands; begins = λ e. refl }
 
 pub returns-in_ok-mark-in-Mark-clause-refuses : goal.returns-in_ok-mark-in-Mark-clause-refuses
 returns-in_ok-mark-in-Mark-clause-refuses g c = tt
@@ -78,10 +76,16 @@ pub end_number-requires-clause-stands : goal.end_number-requires-clause-stands
 end_number-requires-clause-stands g c = c.requires.stands
 
 pub mark-requires : goal.mark-requires
-mark-requires g c = record { stands = c.requires.stands }
+mark-requires g c = record { stands = c.requires.stands.stands }
 
 pub returns-in-Early-clause-stands : goal.returns-in-Early-clause-stands
-returns-in-Early-clause-stands g c = stands_later c.args.self.now c.args.at c.requires.stands
+returns-in-Early-clause-stands g c =
+    let d = early_digit c.args.byte c.in-Early.digit c.in-Early.ensures.0 c.in-Early.ensures.1 in
+    let v = c.begun_by.ensures.value in
+    record {
+      stands = stands_later c.args.self.now c.args.at c.requires.stands.stands;
+      begins = λ e. absurd (omega (arith, e, v, d.0));
+    }
 
 pub begun_by-requires-clause-base : goal.begun_by-requires-clause-base
 begun_by-requires-clause-base g c = omega arith
@@ -96,25 +100,32 @@ end_number-requires-clause-small g c =
 
 pub begun_by-requires-clause-digit : goal.begun_by-requires-clause-digit
 begun_by-requires-clause-digit g c =
-    early_digit c.args.byte c.in-Early.digit c.in-Early.ensures.0 c.in-Early.ensures.1
+    (early_digit c.args.byte c.in-Early.digit c.in-Early.ensures.0 c.in-Early.ensures.1).1
 
 pub returns-in_err-mark-in-Mark-clause-refuses : goal.returns-in_err-mark-in-Mark-clause-refuses
 returns-in_err-mark-in-Mark-clause-refuses g c =
-    let n = no_number c.args.number (sym c.is_some.ensures ∙ c.if-is_some.false) in
+    let zero : c.args.number.now.value ≡ 0 = omega arith in
+    let n = none_begun c.args.number.now zero in
     err_same c.from_residual-in_err-mark-in-Mark.result c.in_err-mark-in-Mark.field-0.0 _
     c.from_residual-in_err-mark-in-Mark.ensures.1
-    (subst (λ b. RefusesLetters (with_number c.args.self.now c.args.number)
+    (subst (λ b. RefusesLetters (with_number c.args.self.now (if_begun c.args.number.now))
     (letter c.args.at b ∷ []) c.in_err-mark-in-Mark.field-0.0) (sym c.in-Mark.ensures)
     (subst (λ m. RefusesLetters (with_number c.args.self.now m) (letter c.args.at 90 ∷ [])
     c.in_err-mark-in-Mark.field-0.0) (sym n) c.in_err-mark-in-Mark.ensures.refuses))
 
 pub returns-in_ok-mark-in-Mark-clause-reads : goal.returns-in_ok-mark-in-Mark-clause-reads
 returns-in_ok-mark-in-Mark-clause-reads g c =
-    let n = no_number c.args.number (sym c.is_some.ensures ∙ c.if-is_some.false) in
-    subst (λ b. ReadsLetters (with_number c.args.self.now c.args.number) (letter c.args.at b ∷ [])
-    (with_number c.mark.new.self None)) (sym c.in-Mark.ensures)
-    (subst (λ m. ReadsLetters (with_number c.args.self.now m) (letter c.args.at 90 ∷ [])
-    (with_number c.mark.new.self None)) (sym n) c.in_ok-mark-in-Mark.ensures.reads)
+    let zero : c.args.number.now.value ≡ 0 = omega arith in
+    let n = none_begun c.args.number.now zero in
+    let after : Begun = record { at = c.args.at + 1; value = c.args.number.now.value } in
+    let m = none_begun after zero in
+    subst (λ b. ReadsLetters (with_number c.args.self.now (if_begun c.args.number.now))
+    (letter c.args.at b ∷ []) (with_number c.mark.new.self (if_begun after)))
+    (sym c.in-Mark.ensures)
+    (subst (λ o. ReadsLetters (with_number c.args.self.now (if_begun c.args.number.now))
+    (letter c.args.at 90 ∷ []) (with_number c.mark.new.self o)) (sym m)
+    (subst (λ o. ReadsLetters (with_number c.args.self.now o) (letter c.args.at 90 ∷ [])
+    (with_number c.mark.new.self None)) (sym n) c.in_ok-mark-in-Mark.ensures.reads))
 
 pub returns-in-Early-clause-reads : goal.returns-in-Early-clause-reads
 returns-in-Early-clause-reads g c =
@@ -123,9 +134,8 @@ returns-in-Early-clause-reads g c =
       theorem = refl;
       labels = refl;
       continues =
-          early_reads s.theorem s.labels s.marks c.args.number s.steps c.args.at c.args.byte
-          c.begun_by.result c.in-Early.ensures.0 c.begun_by.ensures.at
+          early_here s.theorem s.labels s.marks c.args.number.now s.steps c.args.at c.args.byte
+          c.begun_by.result c.requires.stands.begins c.in-Early.ensures.0 c.begun_by.ensures.at
           (c.begun_by.ensures.value
-          ∙ ap (λ d. saturated (5 * (begun_at c.args.number c.args.at).value + d))
-          c.in-Early.ensures.1);
+          ∙ ap (λ d. saturated (5 * c.args.number.now.value + d)) c.in-Early.ensures.1);
     }

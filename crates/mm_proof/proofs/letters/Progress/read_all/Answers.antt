@@ -1,10 +1,10 @@
-use Rattle.std.proofs.Common.{◌≡◌, ◌∙◌, ◌+◌, [], ap, sym, subst, length, drop, is_some, true, false}
+use Rattle.std.proofs.Common.{◌≡◌, ◌∙◌, ◌+◌, [], ap, sym, subst, length, drop, is_some}
 use Rattle.std.proofs.Common.{arith, get_or}
 use Rattle.mm_spec.specs.declared.Word.{Word}
 use Rattle.mm_spec.specs.CompressedProof.{letters_of, letter_faults, groups, group_faults}
 use Rattle.mm_spec.specs.CompressedProof.{group_steps}
 use Rattle.mm_outline.specs.Parts.{as_tokens}
-use Rattle.mm_proof.specs.Letters.{Continues, with_number}
+use Rattle.mm_proof.specs.Letters.{Continues, with_number, if_begun}
 use Rattle.mm_spec.specs.Text.{fault}
 use Rattle.mm_spec.specs.declared.Code.TheVariants.{OpenNumber}
 use Rattle.mm_proof.specs.declared.refused.ProofRefused.TheVariants.{Fault as Faulty}
@@ -12,20 +12,21 @@ use Rattle.mm_proof.specs.Refused.{StartsWith}
 use Rattle.std.proofs.lemmas.List.{drop_more}
 use Rattle.mm_proof.proofs.LettersLaw.{err_same, whole, fault_first, open_fault, no_fault, all_read}
 use Rattle.mm_proof.proofs.LettersLaw.{all_steps, some_letters, StandsBefore, stands_after}
+use Rattle.mm_proof.proofs.LettersLaw.{some_begun, none_begun}
 use Rattle.std.proofs.lemmas.Result.{IfOk-from_err}
 use Rattle.mm_proof.proofs.letters.Progress.read_all.Goals as goal
 
-pub returns-in_err-begun-clause-fault : goal.returns-in_err-begun-clause-fault
-returns-in_err-begun-clause-fault g c =
+pub returns-in_err-read_word-clause-fault : goal.returns-in_err-read_word-clause-fault
+returns-in_err-read_word-clause-fault g c =
     let all = letters_of (as_tokens c.args.text.now c.args.words.now) in
     let start : Continues c.args.self.now all all =
     subst (λ s. Continues s all all) (sym c.requires.none)
     (whole c.args.self.now.theorem c.args.self.now.labels all) in
-    let e = c.in_err-begun.field-0.0 in
+    let e = c.in_err-read_word.field-0.0 in
     let words = c.args.words.now in
     let i = c.loop-word.word-index in
     let here =
-    subst (λ vs. Continues (with_number c.loop-word.self c.loop-word.begun) all
+    subst (λ vs. Continues (with_number c.loop-word.self (if_begun c.loop-word.begun)) all
     (letters_of (as_tokens c.args.text.now vs)))
     (drop_more words i (record { start = 0; end = 0 }) c.loop-word-test.true)
     (c.loop-word.invariant.reads all start) in
@@ -35,28 +36,29 @@ returns-in_err-begun-clause-fault g c =
     (fault_first (length c.args.self.now.labels) c.args.end all e
     (subst (λ ls. StartsWith (group_faults (length ls) 0 0 (groups [] all).0) e)
     c.loop-word.invariant.labels
-    (c.in_err-begun.ensures.refuses all
+    (c.in_err-read_word.ensures.refuses all
     (letters_of (as_tokens c.args.text.now (drop (i + 1) words))) here)))
 
-pub returns-then-is_some-clause-fault : goal.returns-then-is_some-clause-fault
-returns-then-is_some-clause-fault g c =
+pub returns-then-begun-gt0-clause-fault : goal.returns-then-begun-gt0-clause-fault
+returns-then-begun-gt0-clause-fault g c =
     let all = letters_of (as_tokens c.args.text.now c.args.words.now) in
     let start : Continues c.args.self.now all all =
     subst (λ s. Continues s all all) (sym c.requires.none)
     (whole c.args.self.now.theorem c.args.self.now.labels all) in
     let last =
     all_read
-    (with_number c.loop-word.self c.loop-word.begun) c.args.text.now c.args.words.now
+    (with_number c.loop-word.self (if_begun c.loop-word.begun)) c.args.text.now c.args.words.now
     c.loop-word.word-index all c.loop-word-test.false (c.loop-word.invariant.reads all start) in
     let some =
     some_letters 0 c.args.end c.args.text.now c.args.words.now c.requires.in_order
     (sym c.is_empty.ensures ∙ c.if-is_empty.false) in
-    let number : is_some c.loop-word.begun ≡ true = sym c.is_some.ensures ∙ c.if-is_some.true in
-    rw c.refused-then-is_some.ensures
+    let number = ap is_some (some_begun c.loop-word.begun c.if-begun-gt0.true) in
+    rw c.refused-then-begun-gt0.ensures
     (subst (λ ls. StartsWith (letter_faults (length ls) c.args.end all)
     (Faulty (fault c.args.end OpenNumber))) c.loop-word.invariant.labels
     (open_fault
-    (with_number c.loop-word.self c.loop-word.begun) c.args.end all number some last))
+    (with_number c.loop-word.self (if_begun c.loop-word.begun)) c.args.end all number some
+    last))
 
 pub returns-clause-steps : goal.returns-clause-steps
 returns-clause-steps g c =
@@ -66,9 +68,9 @@ returns-clause-steps g c =
     (whole c.args.self.now.theorem c.args.self.now.labels all) in
     let last =
     all_read
-    (with_number c.loop-word.self c.loop-word.begun) c.args.text.now c.args.words.now
+    (with_number c.loop-word.self (if_begun c.loop-word.begun)) c.args.text.now c.args.words.now
     c.loop-word.word-index all c.loop-word-test.false (c.loop-word.invariant.reads all start) in
-    all_steps (with_number c.loop-word.self c.loop-word.begun) all last
+    all_steps (with_number c.loop-word.self (if_begun c.loop-word.begun)) all last
     ∙ ap (λ ls. group_steps ls [] 0 (groups [] all).0) c.loop-word.invariant.labels
 
 pub returns-clause-sound : goal.returns-clause-sound
@@ -79,25 +81,27 @@ returns-clause-sound g c =
     (whole c.args.self.now.theorem c.args.self.now.labels all) in
     let last =
     all_read
-    (with_number c.loop-word.self c.loop-word.begun) c.args.text.now c.args.words.now
+    (with_number c.loop-word.self (if_begun c.loop-word.begun)) c.args.text.now c.args.words.now
     c.loop-word.word-index all c.loop-word-test.false (c.loop-word.invariant.reads all start) in
     let some =
     some_letters 0 c.args.end c.args.text.now c.args.words.now c.requires.in_order
     (sym c.is_empty.ensures ∙ c.if-is_empty.false) in
-    let number : is_some c.loop-word.begun ≡ false = sym c.is_some.ensures ∙ c.if-is_some.false in
+    let zero : c.loop-word.begun.value ≡ 0 = omega arith in
+    let number = ap is_some (none_begun c.loop-word.begun zero) in
     subst (λ ls. letter_faults (length ls) c.args.end all ≡ []) c.loop-word.invariant.labels
-    (no_fault (with_number c.loop-word.self c.loop-word.begun) c.args.end all number some last)
+    (no_fault (with_number c.loop-word.self (if_begun c.loop-word.begun)) c.args.end all number
+    some last)
 
-pub returns-in_err-begun-clause-sound : goal.returns-in_err-begun-clause-sound
-returns-in_err-begun-clause-sound g c =
+pub returns-in_err-read_word-clause-sound : goal.returns-in_err-read_word-clause-sound
+returns-in_err-read_word-clause-sound g c =
     IfOk-from_err c.from_residual.result _ c.from_residual.ensures.0
 
-pub returns-in_err-begun-clause-steps : goal.returns-in_err-begun-clause-steps
-returns-in_err-begun-clause-steps g c =
+pub returns-in_err-read_word-clause-steps : goal.returns-in_err-read_word-clause-steps
+returns-in_err-read_word-clause-steps g c =
     IfOk-from_err c.from_residual.result _ c.from_residual.ensures.0
 
-pub returns-in_err-begun-clause-theorem : goal.returns-in_err-begun-clause-theorem
-returns-in_err-begun-clause-theorem g c =
+pub returns-in_err-read_word-clause-theorem : goal.returns-in_err-read_word-clause-theorem
+returns-in_err-read_word-clause-theorem g c =
     IfOk-from_err c.from_residual.result _ c.from_residual.ensures.0
 
 pub returns-then-is_empty-clause-sound : goal.returns-then-is_empty-clause-sound
@@ -109,14 +113,14 @@ returns-then-is_empty-clause-steps g c = tt
 pub returns-then-is_empty-clause-theorem : goal.returns-then-is_empty-clause-theorem
 returns-then-is_empty-clause-theorem g c = tt
 
-pub returns-then-is_some-clause-sound : goal.returns-then-is_some-clause-sound
-returns-then-is_some-clause-sound g c = tt
+pub returns-then-begun-gt0-clause-sound : goal.returns-then-begun-gt0-clause-sound
+returns-then-begun-gt0-clause-sound g c = tt
 
-pub returns-then-is_some-clause-steps : goal.returns-then-is_some-clause-steps
-returns-then-is_some-clause-steps g c = tt
+pub returns-then-begun-gt0-clause-steps : goal.returns-then-begun-gt0-clause-steps
+returns-then-begun-gt0-clause-steps g c = tt
 
-pub returns-then-is_some-clause-theorem : goal.returns-then-is_some-clause-theorem
-returns-then-is_some-clause-theorem g c = tt
+pub returns-then-begun-gt0-clause-theorem : goal.returns-then-begun-gt0-clause-theorem
+returns-then-begun-gt0-clause-theorem g c = tt
 
 pub returns-clause-fault : goal.returns-clause-fault
 returns-clause-fault g c = tt
@@ -146,7 +150,7 @@ loop-word-preserved g c =
     let none : Word = record { start = 0; end = 0 } in
     let next = drop_more words i none c.loop-word-test.true in
     let within = c.requires.within i none c.loop-word-test.true in
-    let done = c.in_ok-begun.ensures in
+    let done = c.in_ok-read_word.ensures in
     record {
       theorem = done.reads.theorem ∙ c.loop-word.invariant.theorem;
       labels = done.reads.labels ∙ c.loop-word.invariant.labels;
@@ -157,6 +161,6 @@ loop-word-preserved g c =
           c.loop-word.invariant.stands) done.stands;
       reads =
           λ all h. done.reads.continues all (letters_of (as_tokens text (drop (i + 1) words)))
-          (subst (λ vs. Continues (with_number c.loop-word.self c.loop-word.begun) all
+          (subst (λ vs. Continues (with_number c.loop-word.self (if_begun c.loop-word.begun)) all
           (letters_of (as_tokens text vs))) next (c.loop-word.invariant.reads all h));
     }

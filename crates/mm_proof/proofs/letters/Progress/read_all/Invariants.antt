@@ -1,7 +1,7 @@
 use Rattle.std.proofs.Common.{◌≡◌, List, drop}
 use Rattle.mm_spec.specs.CompressedProof.{Letter, letters_of}
 use Rattle.mm_outline.specs.Parts.{as_tokens}
-use Rattle.mm_proof.specs.Letters.{Continues, with_number}
+use Rattle.mm_proof.specs.Letters.{Continues, with_number, if_begun}
 use Rattle.mm_proof.proofs.LettersLaw.{StandsBefore}
 use Rattle.mm_proof.proofs.letters.Progress.read_all.Given as goal
 
@@ -11,6 +11,6 @@ invariant-loop-word g l = record {
   labels : l.self.labels ≡ l.fn.self.labels;
   stands : StandsBefore l.self (as_tokens l.text (drop l.word-index l.words)) l.end;
   reads : (all : List Letter) → Continues l.fn.self all (letters_of (as_tokens l.text l.words))
-      → Continues (with_number l.self l.begun) all
+      → Continues (with_number l.self (if_begun l.begun)) all
       (letters_of (as_tokens l.text (drop l.word-index l.words)));
 }

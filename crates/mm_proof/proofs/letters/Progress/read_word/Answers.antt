@@ -1,42 +1,55 @@
-use Rattle.std.proofs.Common.{rules, [], length, slice_range, subst, ◌∙◌}
+use Rattle.std.proofs.Common.{[], ◌++◌, refl, length, slice_range, subst, sym, ◌∙◌}
 use Rattle.mm_proof.specs.Refused.{StartsWith}
-use Rattle.mm_proof.specs.Letters.{RefusesLetters, with_number}
+use Rattle.mm_proof.specs.Letters.{RefusesLetters, Continues, with_number, if_begun}
 use Rattle.mm_spec.specs.CompressedProof.{letters_from, groups, group_faults}
 use Rattle.mm_proof.proofs.LettersLaw.{err_same, letters_more, letters_end}
 use Rattle.mm_proof.proofs.letters.Progress.read_word.Goals as goal
 
-pub returns-in_err-begun-clause-refuses : goal.returns-in_err-begun-clause-refuses
-returns-in_err-begun-clause-refuses g c =
+pub loop-i-init : goal.loop-i-init
+loop-i-init g c =
+    let all_of = letters_from c.args.word.start
+    (slice_range c.args.text.now c.args.word.start c.args.word.end) in
+    record {
+      theorem = refl;
+      labels = refl;
+      stands = record { stands = c.requires.stands; begins = c.begin_at.ensures.at };
+      reads =
+          λ all left h. subst (λ o. Continues (with_number c.args.self.now o) all (all_of ++ left))
+          (sym c.begin_at.ensures.same) h;
+    }
+
+pub returns-in_err-read-clause-refuses : goal.returns-in_err-read-clause-refuses
+returns-in_err-read-clause-refuses g c =
     let more =
-    letters_more c.args.text.now c.loop-at.at c.args.word.end c.loop-at-test.true
+    letters_more c.args.text.now c.loop-i.i c.args.word.end c.loop-i-test.true
     c.requires.within in
-    let reads = rw more at c.loop-at.invariant.reads in
-    err_same c.from_residual.result c.in_err-begun.field-0.0
-    (RefusesLetters (with_number c.args.self.now c.args.number)
+    let reads = rw more at c.loop-i.invariant.reads in
+    err_same c.from_residual.result c.in_err-read.field-0.0
+    (RefusesLetters (with_number c.args.self.now (if_begun c.args.number.now))
     (letters_from c.args.word.start
     (slice_range c.args.text.now c.args.word.start c.args.word.end))) c.from_residual.ensures.1
     (λ all left h. subst
-    (λ ls. StartsWith (group_faults (length ls) 0 0 (groups [] all).0) c.in_err-begun.field-0.0)
-    c.loop-at.invariant.labels (c.in_err-begun.ensures.refuses all _ (reads all left h)))
+    (λ ls. StartsWith (group_faults (length ls) 0 0 (groups [] all).0) c.in_err-read.field-0.0)
+    c.loop-i.invariant.labels (c.in_err-read.ensures.refuses all _ (reads all left h)))
 
-pub loop-at-preserved : goal.loop-at-preserved
-loop-at-preserved g c =
+pub loop-i-preserved : goal.loop-i-preserved
+loop-i-preserved g c =
     let more =
-    letters_more c.args.text.now c.loop-at.at c.args.word.end c.loop-at-test.true
+    letters_more c.args.text.now c.loop-i.i c.args.word.end c.loop-i-test.true
     c.requires.within in
-    let reads = rw more at c.loop-at.invariant.reads in
+    let reads = rw more at c.loop-i.invariant.reads in
     record {
-      theorem = c.in_ok-begun.ensures.reads.theorem ∙ c.loop-at.invariant.theorem;
-      labels = c.in_ok-begun.ensures.reads.labels ∙ c.loop-at.invariant.labels;
-      stands = search rules;
-      reads = λ all left h. c.in_ok-begun.ensures.reads.continues all _ (reads all left h);
+      theorem = c.in_ok-read.ensures.reads.theorem ∙ c.loop-i.invariant.theorem;
+      labels = c.in_ok-read.ensures.reads.labels ∙ c.loop-i.invariant.labels;
+      stands = c.in_ok-read.ensures.stands;
+      reads = λ all left h. c.in_ok-read.ensures.reads.continues all _ (reads all left h);
     }
 
 pub returns-clause-reads : goal.returns-clause-reads
 returns-clause-reads g c = record {
-  theorem = c.loop-at.invariant.theorem;
-  labels = c.loop-at.invariant.labels;
+  theorem = c.loop-i.invariant.theorem;
+  labels = c.loop-i.invariant.labels;
   continues =
-      rw (letters_end c.args.text.now c.loop-at.at c.args.word.end c.loop-at-test.false) at
-      c.loop-at.invariant.reads;
+      rw (letters_end c.args.text.now c.loop-i.i c.args.word.end c.loop-i-test.false) at
+      c.loop-i.invariant.reads;
 }

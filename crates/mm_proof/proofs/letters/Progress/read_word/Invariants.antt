@@ -1,16 +1,16 @@
 use Rattle.std.proofs.Common.{◌≡◌, ◌++◌, List, slice_range}
 use Rattle.mm_spec.specs.CompressedProof.{Letter, letters_from}
-use Rattle.mm_proof.specs.Letters.{StandsAt, Continues, with_number}
+use Rattle.mm_proof.specs.Letters.{StandsWith, Continues, with_number, if_begun}
 use Rattle.mm_proof.proofs.letters.Progress.read_word.Given as goal
 
-abbrev pub invariant-loop-at : goal.invariant-loop-at
-invariant-loop-at g l = record {
+abbrev pub invariant-loop-i : goal.invariant-loop-i
+invariant-loop-i g l = record {
   theorem : l.self.theorem ≡ l.fn.self.theorem;
   labels : l.self.labels ≡ l.fn.self.labels;
-  stands : StandsAt l.self l.at;
+  stands : StandsWith l.self l.number l.i;
   reads : (all left : List Letter)
-      → Continues (with_number l.fn.self l.fn.number) all
+      → Continues (with_number l.fn.self (if_begun l.fn.number)) all
       (letters_from l.fn.word.start (slice_range l.text l.fn.word.start l.fn.word.end) ++ left)
-      → Continues (with_number l.self l.begun) all
-      (letters_from l.at (slice_range l.text l.at l.fn.word.end) ++ left);
+      → Continues (with_number l.self (if_begun l.number)) all
+      (letters_from l.i (slice_range l.text l.i l.fn.word.end) ++ left);
 }

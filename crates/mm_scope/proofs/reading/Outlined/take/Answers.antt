@@ -1,4 +1,5 @@
-use Rattle.std.proofs.Common.{rules, refl, le_refl, take, take_all, ap₂, ◌≡◌, ℕ, ◌<◌, ◌++◌, ◌∷◌, [], List, length, sym, ap, ◌∙◌, subst, arith}
+use Rattle.std.proofs.Common.{rules, refl, le_refl, take, take_all, ap₂, ◌≡◌, ℕ, ◌<◌, ◌++◌, ◌∷◌, []}
+use Rattle.std.proofs.Common.{List, length, sym, ap, ◌∙◌, subst, arith}
 use Rattle.std.proofs.lemmas.List.{length-map, take-append-le}
 use Rattle.mm_spec.specs.Scope.{names_before}
 use Rattle.mm_spec.specs.Lawful.{least, scope_faults}
@@ -10,7 +11,7 @@ use Rattle.mm_scope.specs.Scopes.{names_in}
 use Rattle.mm_database.specs.Names.{find, names_of}
 use Rattle.mm_scope.proofs.KnowsLaw.{knows_is}
 use Rattle.mm_scope.proofs.NumberedLaw.{declared, names_shorter, names_next, taken_numbers}
-use Rattle.mm_scope.proofs.NumberedLaw.{formulas_more}
+use Rattle.mm_scope.proofs.NumberedLaw.{formulas_joined, formulas_more}
 use Rattle.mm_scope.proofs.reading.Outlined.take.Goals as goal
 
 pub fault-requires-clause-few : goal.fault-requires-clause-few
@@ -38,10 +39,10 @@ returns-then-is_some g c =
     c.in_ok-self.ensures.fault (names_before db (length db))
     (knows_is db (find c.args.self.now.scope.names.symbols)
     (find c.args.self.now.scope.names.labels) b k.keeps few_blocks) in
-    let begun = c.args.self.now.formulas.numbers.items in
+    let begun = c.args.self.now.numbers.items in
     let untouched : c.truncate.new.self.items ≡ begun =
     c.truncate.ensures.items
-    ∙ ap₂ take (c.len-begin.ensures ∙ c.args.self.now.formulas.numbers.ok.0)
+    ∙ ap₂ take (c.len-begin.ensures ∙ c.args.self.now.numbers.ok.0)
     c.in_ok-self.ensures.numbers
     ∙ take-append-le (length begun) begun (judged (names_in c.args.self.now.scope) s)
     (le_refl (length begun))
@@ -58,7 +59,7 @@ returns-then-is_some g c =
           names_are = k.names_are;
           formulas =
               subst
-              (λ (ns : List ℕ). AreFormulas db ns c.args.self.now.formulas.places.items)
+              (λ (ns : List ℕ). AreFormulas db ns c.args.self.now.places.items)
               (sym untouched) k.formulas;
         },
       );
@@ -77,18 +78,18 @@ overflow_cast-len g c =
     names_next db s (names_of c.add.new.self.names.symbols)
     (c.in_ok-add.ensures.names (declared db) k.names_are) in
     let more =
-    taken_numbers db s c.args.self.now.formulas.numbers.items c.fault.new.numbers.items
+    taken_numbers db s c.args.self.now.numbers.items c.fault.new.numbers.items
     c.number_others.new.numbers.items (names_of c.args.self.now.scope.names.symbols)
     (names_of c.add.new.self.names.symbols) k.names_are names c.in_ok-self.ensures.numbers
     c.in_ok-number_others.ensures in
     let at : c.len.result ≡ length c.number_others.new.numbers.items =
     c.len.ensures ∙ c.number_others.new.numbers.ok.0 in
     let formulas =
-    formulas_more db next.lawful s c.args.self.now.formulas.numbers.items
-    c.args.self.now.formulas.places.items k.formulas c.number_others.new.numbers.items more
+    formulas_more db next.lawful s c.args.self.now.numbers.items
+    c.args.self.now.places.items k.formulas c.number_others.new.numbers.items more
     c.len.result at in
     let small = next.few_numbers in
-    let long = ap length formulas.numbers_are in
+    let long = ap length (formulas.all_are ∙ formulas_joined (db ++ s ∷ [])) in
     omega (arith, at, small, long)
 
 pub returns : goal.returns
@@ -111,15 +112,15 @@ returns g c =
     names_next db s (names_of c.add.new.self.names.symbols)
     (c.in_ok-add.ensures.names (declared db) k.names_are) in
     let more =
-    taken_numbers db s c.args.self.now.formulas.numbers.items c.fault.new.numbers.items
+    taken_numbers db s c.args.self.now.numbers.items c.fault.new.numbers.items
     c.number_others.new.numbers.items (names_of c.args.self.now.scope.names.symbols)
     (names_of c.add.new.self.names.symbols) k.names_are names c.in_ok-self.ensures.numbers
     c.in_ok-number_others.ensures in
     let at : c.len.result ≡ length c.number_others.new.numbers.items =
     c.len.ensures ∙ c.number_others.new.numbers.ok.0 in
     let formulas =
-    formulas_more db next.lawful s c.args.self.now.formulas.numbers.items
-    c.args.self.now.formulas.places.items k.formulas c.number_others.new.numbers.items more
+    formulas_more db next.lawful s c.args.self.now.numbers.items
+    c.args.self.now.places.items k.formulas c.number_others.new.numbers.items more
     c.len.result at in
     record {
       fault =

@@ -1,0 +1,35 @@
+use Rattle.std.proofs.Common.{◌≡◌, ◌∙◌, ◌≤◌, ◌&&◌, length, get_or, sym, ap, ap₂, subst}
+use Rattle.std.proofs.Common.{nat_lt, nat_le, arith}
+use Rattle.std.proofs.lemmas.Bool.{lt-ltb}
+use Rattle.std.proofs.lemmas.List.{length-map}
+use Rattle.mm_spec.specs.Lexed.{tokens_of as words_of}
+use Rattle.mm_spec.specs.Scope.{is_active}
+use Rattle.mm_outline.specs.Blocks.{end_of}
+use Rattle.mm_outline.specs.Parts.{statement_of}
+use Rattle.mm_outline.specs.Statements.{active_kind}
+use Rattle.mm_outline.proofs.ActiveLaw.{active_is}
+use Rattle.mm_database.specs.Parsed.{Parsed}
+use Rattle.mm_database.proofs.DatabaseLaw.{outline_there}
+use Rattle.mm_database.proofs.statements.Statements.is_active.Goals as goal
+
+pub returns-then-statement-at : goal.returns-then-statement-at
+returns-then-statement-at g c =
+    let f = c.self.inside in
+    let ws = words_of f.text.now in
+    let os = f.outlines.items in
+    let j = c.args.statement in
+    let k = c.args.at in
+    let o = c.index.result.now in
+    let b = f.blocks in
+    let n = ap (λ (p : Parsed). length p.list) c.self.view_is in
+    let m = length-map os (statement_of f.text.now ws) in
+    let at = c.requires.at in
+    let within : k ≤ length os = omega (arith, n, m, at) in
+    let there = outline_there f.text.now ws os b _ c.self.view_is j c.requires.statement in
+    let law = active_is f.text.now ws os b c.self.invariant.blocks j k there within o in
+    let test : (nat_lt j k && active_kind (get_or os j o).kind (nat_le k (end_of b j)))
+    ≡ active_kind o.kind (nat_le k (end_of b j)) =
+    ap₂ (λ t p. t && active_kind p.kind (nat_le k (end_of b j))) (lt-ltb j k c.if-statement-at.true)
+    (sym c.index.ensures) in
+    subst (λ (p : Parsed). c.is_active_kind.result ≡ is_active p.list j k) c.self.view_is
+    (c.is_active_kind.ensures ∙ ap (active_kind o.kind) c.is_open_at.ensures ∙ sym test ∙ law)

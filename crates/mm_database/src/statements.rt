@@ -1,0 +1,265 @@
+//! The statements of a text as they were read, with their blocks and the numbers of their symbols.
+
+ghost use Rattle.std.specs.Prelude.{◌≡◌, ◌<◌, ◌≤◌, ◌^◌, All, Some, length, slice_get};
+ghost use Rattle.std.specs.List.{list_any};
+ghost use Rattle.std.specs.Option.{option_map};
+ghost use Rattle.mm_spec.specs.Lexed.{tokens_of};
+ghost use Rattle.mm_spec.specs.Scope.{statement_at, stays, is_active};
+ghost use Rattle.mm_spec.specs.Frame.{symbol_names, is_variable_number, is_disjoint_statement};
+ghost use Rattle.mm_spec.specs.Frame.{is_essential, is_floating, formula_at};
+ghost use Rattle.mm_spec.specs.Citation.{is_assertion};
+ghost use Rattle.mm_outline.specs.Blocks.{IsBlocks};
+ghost use Rattle.mm_outline.specs.Statements.{statements, active_kind};
+ghost use Rattle.mm_database.specs.Kinds.{kind_of, is_essential_kind, is_floating_kind};
+ghost use Rattle.mm_database.specs.Kinds.{is_disjoint_kind, is_assertion_kind};
+ghost use Rattle.mm_database.specs.Parsed.{parsed, AreParts, IsSound, typed_at};
+
+use crate::formulas::Formulas;
+use mm_outline::blocks::Blocks;
+use mm_outline::parts::{Kind, Outline};
+use mm_outline::symbol::Sym;
+use std::alloc::Allocator;
+use std::marker::Model;
+
+/// The lawful statements of a text up to its first fault, as they were read.
+pub struct Statements<'a, A: Allocator> {
+    text: &'a [u8],
+    outlines: Vec<Outline, A>,
+    blocks: Blocks<A>,
+    formulas: Formulas<A>,
+    /// For each symbol whether it is a variable.
+    variables: Vec<bool, A>,
+}
+
+/// Lets all fields go in one call, so that a proof has one step for it at each exit.
+impl<'a, A: Allocator> Drop for Statements<'a, A> {
+    fn drop(self) {
+        let Self {
+            text: _,
+            outlines: _,
+            blocks: _,
+            formulas: _,
+            variables: _,
+        } = self;
+    }
+}
+
+impl<'a, A: Allocator> Model for Statements<'a, A> {
+    ghost use Rattle.mm_spec.specs.Lexed.{tokens_of};
+    ghost use Rattle.mm_outline.specs.Statements.{statements};
+    ghost use Rattle.mm_database.specs.Parsed.{Parsed, parsed, AreParts};
+
+    ghost Value = { Parsed };
+
+    ghost view = { λ s. parsed s.text.now
+        (statements s.text.now (tokens_of s.text.now) s.outlines.items) s.blocks };
+
+    ghost invariant = { λ s. AreParts
+        (statements s.text.now (tokens_of s.text.now) s.outlines.items) s.blocks s.formulas
+        s.variables.items };
+}
+
+impl<'a, A: Allocator> Statements<'a, A> {
+    /// Returns the statements of these outlines, with what was found of them. `variables` says for
+    /// each symbol whether it is a variable.
+    pub fn new(
+        text: &'a [u8],
+        outlines: Vec<Outline, A>,
+        blocks: Blocks<A>,
+        formulas: Formulas<A>,
+        variables: Vec<bool, A>,
+    ) -> Statements<'a, A>
+        requires { AreParts (statements text.now (tokens_of text.now) outlines.items) blocks
+            formulas variables.items }
+        ensures { result
+            ≡ parsed text.now (statements text.now (tokens_of text.now) outlines.items)
+            blocks }
+    {
+        Statements {
+            text,
+            outlines,
+            blocks,
+            formulas,
+            variables,
+        }
+    }
+
+    /// Returns the text.
+    pub fn text(&self) -> &'a [u8]
+        ensures { result.now ≡ self.now.text }
+    {
+        self.text
+    }
+
+    /// Returns the blocks in which the statements are.
+    #[inline(always)]
+    pub fn blocks(&self) -> &Blocks<A>
+        ensures blocks { result.now ≡ self.now.blocks }
+        ensures theirs { IsBlocks self.now.list self.now.blocks }
+    {
+        &self.blocks
+    }
+
+    /// Returns the number of statements.
+    #[inline(always)]
+    pub fn len(&self) -> u32
+        ensures len { result ≡ length self.now.list }
+        ensures sound { IsSound self.now.list }
+    {
+        self.outlines.len() as u32
+    }
+
+    /// Returns the number of symbols.
+    #[inline(always)]
+    pub fn symbol_count(&self) -> u32
+        ensures count { result ≡ length (symbol_names self.now.list) }
+        ensures few { result < 2 ^ 31 }
+    {
+        self.variables.len() as u32
+    }
+
+    /// Returns which of the nine shapes a statement has.
+    #[inline(always)]
+    pub fn kind(&self, statement: u32) -> Kind
+        requires { statement < length self.now.list }
+        ensures { option_map kind_of (slice_get self.now.list statement) ≡ Some result }
+    {
+        self.outlines[statement as usize].kind
+    }
+
+    /// Whether a statement is a `$e`.
+    #[inline(always)]
+    pub fn is_essential(&self, statement: u32) -> bool
+        requires { statement < length self.now.list }
+        ensures { result ≡ list_any is_essential (statement_at self.now.list statement) }
+    {
+        is_essential_kind(self.kind(statement))
+    }
+
+    /// Whether a statement is a `$d`.
+    #[inline(always)]
+    pub fn is_disjoint(&self, statement: u32) -> bool
+        requires { statement < length self.now.list }
+        ensures { result
+            ≡ list_any is_disjoint_statement (statement_at self.now.list statement) }
+    {
+        is_disjoint_kind(self.kind(statement))
+    }
+
+    /// Whether a statement is a `$f`.
+    #[inline(always)]
+    fn is_floating(&self, statement: u32) -> bool
+        requires { statement < length self.now.list }
+        ensures { result ≡ list_any is_floating (statement_at self.now.list statement) }
+    {
+        is_floating_kind(self.kind(statement))
+    }
+
+    /// Whether a statement is an `$a` or a `$p`.
+    #[inline(always)]
+    pub fn is_assertion(&self, statement: u32) -> bool
+        requires { statement < length self.now.list }
+        ensures { result ≡ list_any is_assertion (statement_at self.now.list statement) }
+    {
+        is_assertion_kind(self.kind(statement))
+    }
+
+    /// Returns the symbols of a statement.
+    #[inline(always)]
+    pub fn formula(&self, statement: u32) -> &[Sym]
+        requires { statement < length self.now.list }
+        ensures formula { result.now ≡ formula_at self.now.list statement }
+        ensures known { All (λ s. s < length (symbol_names self.now.list)) result.now }
+    {
+        self.formulas.of(statement)
+    }
+
+    /// Returns the variable that a `$f` types, or `None` if the statement isn't a `$f`.
+    pub fn typed(&self, statement: u32) -> Option<Sym>
+        requires { statement < length self.now.list }
+        ensures { result ≡ typed_at self.now.list statement }
+    {
+        if self.is_floating(statement) {
+            self.formula(statement).get(1).copied()
+        } else {
+            None
+        }
+    }
+
+    /// Whether a symbol is a variable.
+    #[inline(always)]
+    pub fn is_variable(&self, symbol: Sym) -> bool
+        requires { symbol < length (symbol_names self.now.list) }
+        ensures { result ≡ is_variable_number self.now.list symbol }
+    {
+        self.variables[symbol.number() as usize]
+    }
+
+    /// Whether the block of a statement is still open before a later one.
+    #[inline(always)]
+    pub fn is_open(&self, statement: u32, at: u32) -> bool
+        requires before { statement < at }
+        requires within { at ≤ length self.now.list }
+        ensures { result ≡ stays self.now.list statement at }
+    {
+        self.blocks.is_open_at(statement, at)
+    }
+
+    /// Whether a statement is active at the statement `at`, or at the end, which is `len()`.
+    #[inline(always)]
+    pub fn is_active(&self, statement: u32, at: u32) -> bool
+        requires statement { statement < length self.now.list }
+        requires at { at ≤ length self.now.list }
+        ensures { result ≡ is_active self.now.list statement at }
+    {
+        let kind = self.outlines[statement as usize].kind;
+        statement < at && is_active_kind(kind, self.blocks.is_open_at(statement, at))
+    }
+}
+
+fn is_essential_kind(kind: Kind) -> bool
+    ensures { result ≡ is_essential_kind kind }
+{
+    match kind {
+        Kind::Essential => true,
+        _ => false,
+    }
+}
+
+fn is_floating_kind(kind: Kind) -> bool
+    ensures { result ≡ is_floating_kind kind }
+{
+    match kind {
+        Kind::Floating => true,
+        _ => false,
+    }
+}
+
+fn is_disjoint_kind(kind: Kind) -> bool
+    ensures { result ≡ is_disjoint_kind kind }
+{
+    match kind {
+        Kind::Disjoint => true,
+        _ => false,
+    }
+}
+
+fn is_assertion_kind(kind: Kind) -> bool
+    ensures { result ≡ is_assertion_kind kind }
+{
+    match kind {
+        Kind::Axiom | Kind::Theorem => true,
+        _ => false,
+    }
+}
+
+/// Whether a statement of this kind is active. `is_open` says whether its block is open.
+fn is_active_kind(kind: Kind, is_open: bool) -> bool
+    ensures { result ≡ active_kind kind is_open }
+{
+    match kind {
+        Kind::Constants | Kind::Axiom | Kind::Theorem => true,
+        Kind::Open | Kind::Close => false,
+        _ => is_open,
+    }
+}

@@ -1,0 +1,36 @@
+use Rattle.std.proofs.Common.{ap, arith, length}
+use Rattle.std.proofs.lemmas.Result.{IfOk-from_err}
+use Rattle.mm_spec.specs.Lexed.{tokens_of as words_of}
+use Rattle.mm_outline.specs.Statements.{statements}
+use Rattle.mm_database.specs.Names.{names_of}
+use Rattle.mm_database.proofs.CutsLaw.{cut_joined, joined_cut}
+use Rattle.mm_scope.proofs.NumberedLaw.{formulas_numbered}
+use Rattle.mm_stmt.proofs.SoundLaw.{are_symbols}
+use Rattle.mm_stmt.proofs.reading.reading_of.Goals as goal
+
+pub into_reading-requires : goal.into_reading-requires
+into_reading-requires g c =
+    let read = c.args.read in
+    let db = statements c.args.text.now (words_of c.args.text.now) read.outlines.items in
+    let kept = c.requires.kept in
+    let symbols =
+    are_symbols _ _ _ _ kept.keeps (names_of read.scope.names.symbols)
+    c.in_ok-variables.variables.items kept.names_are c.in_ok-variables.ensures.count
+    c.in_ok-variables.ensures.each in
+    let names = ap length kept.names_are in
+    let few = c.requires.few_symbols in
+    let count = c.in_ok-variables.ensures.count in
+    record {
+      joined = joined_cut _ _ _ kept.formulas;
+      parts = record {
+        sound = c.requires.sound;
+        blocks = kept.keeps.blocks;
+        numbered = rw (cut_joined _ _ _ kept.formulas) (formulas_numbered db);
+        few_symbols = omega (arith, few, count);
+        count = omega (arith, count, names);
+        variable = λ s l. symbols.variable s (omega (arith, l, names));
+      };
+    }
+
+pub returns-in_err-variables : goal.returns-in_err-variables
+returns-in_err-variables g c = IfOk-from_err c.from_residual.result _ c.from_residual.ensures.0

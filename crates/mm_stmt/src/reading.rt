@@ -1,0 +1,28 @@
+//! What was read of a text, with what its names say of its symbols.
+
+ghost use Rattle.std.specs.Prelude.{◌≡◌, ◌<◌, ◌^◌, IfOk, length};
+ghost use Rattle.mm_spec.specs.Lexed.{tokens_of};
+ghost use Rattle.mm_outline.specs.Statements.{statements};
+ghost use Rattle.mm_scope.specs.Keeps.{IsKeptOf, kept_by, reading_of};
+ghost use Rattle.mm_database.specs.Names.{names_of};
+ghost use Rattle.mm_database.specs.Parsed.{IsSound};
+
+use mm_database::reading::Reading;
+use mm_scope::reading::Outlined;
+use std::alloc::{AllocError, Allocator};
+
+/// Returns what was read, and for each symbol whether it is a variable.
+pub(crate) fn reading_of<'a, A: Allocator + Copy>(
+    alloc: A,
+    text: &'a [u8],
+    read: Outlined<'a, A>,
+) -> Result<Reading<'a, A>, AllocError>
+    requires sound { IsSound (statements text.now (tokens_of text.now) read.outlines.items) }
+    requires kept { IsKeptOf (statements text.now (tokens_of text.now) read.outlines.items)
+        (kept_by read) }
+    requires few_symbols { length (names_of read.scope.names.symbols) < 2 ^ 31 }
+    ensures { IfOk result (λ r. r ≡ reading_of text.now read.entry) }
+{
+    let variables = read.scope.names.variables(alloc)?;
+    Ok(read.into_reading(text, variables))
+}
