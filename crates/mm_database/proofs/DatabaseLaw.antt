@@ -1,7 +1,6 @@
 -- What the contents of a database say of the statements that were read.
 use Rattle.std.proofs.Common.{◌≡◌, ℕ, zero, suc, ◌<◌, ◌≤◌, Bool, false, List, [], ◌∷◌, length}
-use Rattle.std.proofs.Common.{get_or}
-use Rattle.std.proofs.Common.{Option, Some, None, refl, sym, ap, ◌∙◌, arith, slice_get, IfSome}
+use Rattle.std.proofs.Common.{Option, Some, None, refl, sym, ap, ◌∙◌, arith, IfSome}
 use Rattle.std.proofs.Common.{IfNone, IsTrue, true}
 use Rattle.std.specs.Option.{option_map}
 use Rattle.std.specs.List.{list_any}
@@ -19,11 +18,9 @@ use Rattle.mm_outline.specs.Statements.{statements}
 use Rattle.mm_outline.specs.declared.parts.Kind.{Kind}
 use Rattle.mm_outline.specs.declared.parts.Kind.TheVariants as kind
 use Rattle.mm_outline.specs.declared.parts.Outline.{Outline}
-use Rattle.mm_outline.proofs.StatementsLaw.{statement_is}
 use Rattle.mm_database.specs.Database.{kind_of, Contents, contents}
 use Rattle.mm_database.specs.Labels.{AreLabels}
 use Rattle.mm_database.specs.Parsed.{Parsed, parsed}
-use Rattle.mm_database.proofs.KindsLaw.{own_kind}
 
 -- each statement has an outline
 pub outline_there : (text : List ℕ) (ws : List Word) (os : List Outline) (b : BlockLists)
@@ -32,15 +29,6 @@ pub outline_there : (text : List ℕ) (ws : List Word) (os : List Outline) (b : 
 outline_there text ws os b p e k h =
     let n = ap (λ (q : Parsed). length q.list) e in
     omega (arith, h, n, length-map os (statement_of text ws))
-
--- the kind of its outline is its own
-pub kind_is : (text : List ℕ) (ws : List Word) (os : List Outline) (k : ℕ) (d : Outline)
-    → k < length os
-    → option_map kind_of (slice_get (statements text ws os) k) ≡ Some (get_or os k d).kind
-kind_is text ws os k d h =
-    let o = get_or os k d in
-    ap (option_map kind_of) (statement_is text ws os k d h)
-    ∙ ap Some (own_kind text ws o.kind o.keyword o.middle o.end)
 
 -- there are as many statements as were read
 pub as_many : (text : List ℕ) (db : List Statement) (w : Bool) (fault : Option Fault)

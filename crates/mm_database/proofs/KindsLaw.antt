@@ -18,7 +18,7 @@ use Rattle.mm_spec.specs.Output.{is_column, theorems, columns}
 use Rattle.mm_spec.specs.declared.Word.{Word}
 use Rattle.mm_spec.proofs.ActivityLaw.{range_more}
 use Rattle.mm_spec.proofs.OpenedLaw.{counted_length, got_axiom}
-use Rattle.mm_outline.specs.Parts.{made, statement_of}
+use Rattle.mm_outline.specs.Parts.{statement_of}
 use Rattle.mm_outline.specs.Statements.{statements}
 use Rattle.mm_outline.specs.declared.parts.Kind.{Kind}
 use Rattle.mm_outline.specs.declared.parts.Kind.TheVariants as kind
@@ -115,19 +115,6 @@ counted_more true db s = map-append as_axiom db (s ∷ [])
 counted_more false db s = refl
 
 -- ---- the kind of one statement
-
--- an outline's own kind
-pub own_kind : (text : List ℕ) (ws : List Word) (o : Kind) (k m e : ℕ)
-    → kind_of (made text ws o k m e) ≡ o
-own_kind text ws kind.Theorem k m e = refl
-own_kind text ws kind.Open k m e = refl
-own_kind text ws kind.Close k m e = refl
-own_kind text ws kind.Constants k m e = refl
-own_kind text ws kind.Variables k m e = refl
-own_kind text ws kind.Disjoint k m e = refl
-own_kind text ws kind.Floating k m e = refl
-own_kind text ws kind.Essential k m e = refl
-own_kind text ws kind.Axiom k m e = refl
 
 -- the test of a kind at a place
 pub kind_at : (test : Kind → Bool) (kinds : List Kind) (j : ℕ) (d : Kind) → j < length kinds
