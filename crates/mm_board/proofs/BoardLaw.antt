@@ -10,7 +10,7 @@ use Rattle.mm_board.specs.Records.{open_count, record_length, times_in, times_op
 use Rattle.mm_board.specs.Records.{HasEmptyRecord}
 use Rattle.mm_board.specs.Rule.{once_below, over_share, settled_count, SeatRule, total}
 use Rattle.mm_board.specs.Rule.{times_reported, times_skipped, IsCountOrReported, IsLeastReported}
-use Rattle.mm_board.specs.Rule.{IsAmong, BoardRule}
+use Rattle.mm_board.specs.Rule.{IsSeatView, BoardRule}
 use Rattle.mm_board.specs.Events.{IsClaimWord, IsFloorWord, open_after_look, skipped_by_look}
 use Rattle.mm_board.specs.Events.{after_look, open_list, after_report, after_settle, after_join}
 use Rattle.mm_board.proofs.SumsLaw.{le_total, below_once, at_most_once, once_here, alone}
@@ -20,7 +20,7 @@ cases_zero : (m : ℕ) → (m ≡ 0) ⊎ (0 < m)
 cases_zero m = elim (cases_lt 0 m) [ inl p ↦ inr p | inr z ↦ inl (omega arith) ]
 
 module _ (n c f d : ℕ) (views : List View) (v : View) (r : BoardRule n c f d views)
-    (here : IsAmong views v) where
+    (here : IsSeatView views v) where
   pub below : (x : ℕ) → 0 < times_recorded x v → x < min c n
   below x p =
       let l = le_total (times_recorded x) views here.0 v here.1 in let o = r.once x in

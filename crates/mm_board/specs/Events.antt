@@ -3,25 +3,25 @@
 use Rattle.std.specs.Prelude.{ℕ, ◌+◌, ◌-◌, ◌||◌, min, nat_lt, true, false, Option, None, Some, List}
 use Rattle.std.specs.Prelude.{[], ◌∷◌, ◌++◌, if◌then◌else◌}
 use Rattle.mm_board.specs.declared.views.View.{View}
-use Rattle.mm_board.specs.Rule.{BoardRule, IsAmong}
+use Rattle.mm_board.specs.Rule.{BoardRule, IsSeatView}
 
 -- x is the claim word of some state that meets the rule, in which a seat has the view v
 abbrev pub IsClaimWord : View → ℕ → Type 0
 IsClaimWord v x =
     (floor settled : ℕ) × (views : List View) × BoardRule v.count x floor settled views
-    × IsAmong views v
+    × IsSeatView views v
 
 -- the same of the floor word
 abbrev pub IsFloorWord : View → ℕ → Type 0
 IsFloorWord v x =
     (claim settled : ℕ) × (views : List View) × BoardRule v.count claim x settled views
-    × IsAmong views v
+    × IsSeatView views v
 
 -- the same of the settled word
 abbrev pub IsSettledWord : View → ℕ → Type 0
 IsSettledWord v x =
     (claim floor : ℕ) × (views : List View) × BoardRule v.count claim floor x views
-    × IsAmong views v
+    × IsSeatView views v
 
 -- what a claim that found c answers, at a board of n numbers
 abbrev pub claim_answer : ℕ → ℕ → Option ℕ

@@ -44,8 +44,8 @@ pub record IsLeastReported (n : ℕ) (views : List View) (x : ℕ) : Type 0 wher
   pub is : IsCountOrReported n views x
 
 -- some seat has this view
-abbrev pub IsAmong : List View → View → Type 0
-IsAmong views v = (seat : ℕ) × (get_elem? views seat ≡ some v)
+abbrev pub IsSeatView : List View → View → Type 0
+IsSeatView views v = (seat : ℕ) × (get_elem? views seat ≡ some v)
 
 -- what the rule requires of one seat, at the claim word and the floor word
 pub record SeatRule (n : ℕ) (views : List View) (claim_word floor_word : ℕ)

@@ -2,7 +2,7 @@
 use Rattle.std.proofs.Common.{cond, ◌≡◌, ℕ, zero, suc, ◌+◌, ◌<◌, ◌≤◌, ◌^◌, Bool, true, false, List}
 use Rattle.std.proofs.Common.{[], ◌∷◌, length, get_or, refl, arith}
 use Rattle.std.specs.List.{range_with_len, filter}
-use Rattle.mm_cites.specs.Citing.{IsRising}
+use Rattle.mm_cites.specs.Citing.{IsStatementList}
 
 -- an element of a selection passes
 pub filter_at : (p : ℕ → Bool) (xs : List ℕ) (i d : ℕ) → i < length (filter p xs)
@@ -19,7 +19,8 @@ filter_at p (x ∷ xs) i d h = by (p x) refl (filter_at p xs) i h
     by false e r i h = r i d h
 
 -- a selection of numbers in order rises
-pub filter_rising : (p : ℕ → Bool) (n : ℕ) → n < 2 ^ 31 → IsRising (filter p (range_with_len 0 n))
+pub filter_rising : (p : ℕ → Bool) (n : ℕ) → n < 2 ^ 31
+    → IsStatementList (filter p (range_with_len 0 n))
 filter_rising p n few =
     record {
       few = let l = shorter p n 0 in omega (arith, l, few);

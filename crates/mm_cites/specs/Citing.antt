@@ -16,13 +16,13 @@ abbrev pub list_at : Citing → ℕ → List ℕ
 list_at c i = slice_index_or c.cites i []
 
 -- fewer than 2^31 statements, each greater than the one before it
-pub record IsRising (xs : List ℕ) : Type 0 where
+pub record IsStatementList (xs : List ℕ) : Type 0 where
   pub few : length xs < 2 ^ 31
   pub rises : (i j : ℕ) → i < j → j < length xs → slice_index xs i < slice_index xs j
 
 -- the theorems are in file order, and each has a list, which has only statements before its own
 pub record IsFileOrder (c : Citing) : Type 0 where
-  pub rising : IsRising c.theorems
+  pub rising : IsStatementList c.theorems
   pub each : length c.cites ≡ length c.theorems
   pub earlier : (i k : ℕ) → i < length c.theorems → k < length (list_at c i)
       → slice_index (list_at c i) k < theorem_at c i

@@ -24,7 +24,7 @@ use Rattle.mm_spec.proofs.WordRunsLaw.{begins_word_inside, words_between_none, w
 use Rattle.mm_spec.proofs.WordRunsLaw.{words_between_take}
 use Rattle.mm_spec.proofs.WordsLaw.{begins_word_boundary, begins_word_ink, IsWord_is}
 use Rattle.mm_spec.proofs.BitLaw.{shifted}
-use Rattle.mm_lex.specs.Plain.{plain_at, IsPlain}
+use Rattle.mm_lex.specs.Plain.{plain_at, IsPlainWord}
 use Rattle.mm_lex.specs.Beginnings.{IsFirst, IsPassed}
 use Rattle.mm_lex.proofs.MaskLaw.{all_from, bit_one, none_in, bit_zero, inside, one_of}
 use Rattle.mm_lex.proofs.MaskLaw.{zero_of}
@@ -370,7 +370,7 @@ no_dollars (x ∷ xs) h =
 
 pub plain_word : (text : List ℕ) (start end : ℕ) → start ≤ end → end ≤ length text
     → ((i : ℕ) → start ≤ i → i < end → plain_at text i ≡ true)
-    → IsPlain (bytes_of text (record { start = start; end = end }))
+    → IsPlainWord (bytes_of text (record { start = start; end = end }))
 unfolding plain_at is_clean
 plain_word text start end order short each = record {
   clean =

@@ -11,21 +11,21 @@ use Rattle.std.proofs.lemmas.Grind.{get_or_default_zero}
 use Rattle.std.proofs.lemmas.List.{get_or_past}
 use Rattle.std.proofs.lemmas.List.Edits.{length-remove, get_or-remove_above}
 use Rattle.mm_lex.specs.Pieces.{IsSummary, Stretch}
-use Rattle.mm_lex.specs.Cuts.{cut_at, run_start, IsRun}
+use Rattle.mm_lex.specs.Cuts.{cut_place, run_start, IsRun}
 use Rattle.mm_lex.specs.Places.{cut_text, IsCutText}
 
 module _ (text places : List ℕ) (cuts : IsCutText (cut_text places (length text))) where
-  pub cut_at_within : (i : ℕ) → cut_at text places i ≤ length text
-  cut_at_within zero = omega arith
-  cut_at_within (suc i) =
+  pub cut_place_within : (i : ℕ) → cut_place text places i ≤ length text
+  cut_place_within zero = omega arith
+  cut_place_within (suc i) =
       ⊎_elim {C = get_or places i (length text) ≤ length text}
       (λ lt. rw (get_or_default_zero places i (length text) lt) (cuts.within i lt))
       (λ ge. rw (get_or_past places i (length text) ge) (omega arith))
       (cases_lt i (length places))
 
-  pub cut_at_rises : (i : ℕ) → cut_at text places i ≤ cut_at text places (i + 1)
-  cut_at_rises zero = omega arith
-  cut_at_rises (suc i) =
+  pub cut_place_rises : (i : ℕ) → cut_place text places i ≤ cut_place text places (i + 1)
+  cut_place_rises zero = omega arith
+  cut_place_rises (suc i) =
       let next : suc i + 1 ≡ suc (suc i) = omega arith in
       let more : i + 1 ≡ suc i = omega arith in
       rw next
@@ -39,13 +39,14 @@ module _ (text places : List ℕ) (cuts : IsCutText (cut_text places (length tex
         get_or_default_zero places (suc i)
             (length text) lt,
       ) rises)
-      (λ ge. rw (get_or_past places (suc i) (length text) ge) (cut_at_within (suc i)))
+      (λ ge. rw (get_or_past places (suc i) (length text) ge) (cut_place_within (suc i)))
       (cases_lt (suc i) (length places)))
 
-pub cut_at_last : (text places : List ℕ) → cut_at text places (length places + 1) ≡ length text
-cut_at_last text places =
+pub cut_place_last : (text places : List ℕ)
+    → cut_place text places (length places + 1) ≡ length text
+cut_place_last text places =
     let next : length places + 1 ≡ suc (length places) = omega arith in
-    ap (cut_at text places) next ∙ get_or_past places (length places) (length text) (omega arith)
+    ap (cut_place text places) next ∙ get_or_past places (length places) (length text) (omega arith)
 
 -- ---- runs
 
@@ -136,7 +137,7 @@ module _ (text places : List ℕ) (n runs : ℕ) where
           from = from ∙ left.run.from;
           to =
               to ∙ here.to
-              ∙ ap (λ (i : ℕ). cut_at text places (run_start n runs (i + 1))) zero_more;
+              ∙ ap (λ (i : ℕ). cut_place text places (run_start n runs (i + 1))) zero_more;
           summary = summary;
         };
         each = λ k x h.
@@ -161,7 +162,7 @@ module _ (text places : List ℕ) (n runs : ℕ) where
       subst (λ (r : Result Stretch AllocError). IfOk r
       (IsRun text places (run_start n runs (left.done + 0))
       (run_start n runs (left.done + 0 + 1)))) (sym first) (left.each 0 (Ok piece) some) in (
-        left.run.to ∙ ap (λ (i : ℕ). cut_at text places (run_start n runs i)) (sym zero_more)
+        left.run.to ∙ ap (λ (i : ℕ). cut_place text places (run_start n runs i)) (sym zero_more)
             ∙ sym here.from,
         here.summary,
       )
@@ -171,6 +172,6 @@ module _ (text places : List ℕ) (n runs : ℕ) where
       → whole.to ≡ length text
   IsLeft_end ps whole some few pieces left none =
       let done : left.done ≡ runs = omega (arith, left.count, none) in
-      left.run.to ∙ ap (λ (i : ℕ). cut_at text places (run_start n runs i)) done
-      ∙ ap (cut_at text places) (run_start_last n runs some few ∙ pieces)
-      ∙ cut_at_last text places
+      left.run.to ∙ ap (λ (i : ℕ). cut_place text places (run_start n runs i)) done
+      ∙ ap (cut_place text places) (run_start_last n runs some few ∙ pieces)
+      ∙ cut_place_last text places

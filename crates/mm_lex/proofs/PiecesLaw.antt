@@ -12,7 +12,7 @@ use Rattle.mm_lex.specs.declared.modes.CommentState.TheVariants.{Nowhere, Before
 use Rattle.mm_spec.specs.Roles.{role_of, fault_of}
 use Rattle.mm_spec.specs.Readings.{Reading, reading, with_tokens, bytes_of}
 use Rattle.mm_spec.specs.Laws.Readings.{go_on, start}
-use Rattle.mm_lex.specs.Pieces.{resolved, seen, Side, Between, Stretch, AreReadings, IsBetween}
+use Rattle.mm_lex.specs.Pieces.{resolved, seen, Side, Between, Stretch, AreReadings, IsReadBetween}
 use Rattle.mm_lex.specs.Pieces.{IsSummary}
 use Rattle.mm_lex.specs.Inners.{carried}
 use Rattle.mm_spec.specs.Words.{words_of}
@@ -196,51 +196,53 @@ go_on_three text c first mid last ws vs us a b d =
 
 module _ (text : List ℕ) (a b c : ℕ) where
   pub piece_after_unbroken : (first second : Option Between) → first ≡ None
-      → MatchOption first (IsUnbroken text a b) (IsBetween text a b) →
-      MatchOption second (IsUnbroken text b c) (IsBetween text b c)
-      → MatchOption second (IsUnbroken text a c) (IsBetween text a c)
+      → MatchOption first (IsUnbroken text a b) (IsReadBetween text a b) →
+      MatchOption second (IsUnbroken text b c) (IsReadBetween text b c)
+      → MatchOption second (IsUnbroken text a c) (IsReadBetween text a c)
   piece_after_unbroken first None e s r =
       join_unbroken
-      (subst (λ (o : Option Between). MatchOption o (IsUnbroken text a b) (IsBetween text a b)) e s)
+      (subst
+      (λ (o : Option Between). MatchOption o (IsUnbroken text a b) (IsReadBetween text a b)) e s)
       r
   piece_after_unbroken first (Some inner) e s r =
       record {
         broken = join_unbroken_broken
             (subst (λ (o : Option Between). MatchOption o (IsUnbroken text a b)
-            (IsBetween text a b))
+            (IsReadBetween text a b))
             e s) r.broken;
         readings = r.readings;
       }
 
   pub piece_before_unbroken : (first second : Option Between) (inner : Between) → first ≡ Some inner
-      → second ≡ None → MatchOption first (IsUnbroken text a b) (IsBetween text a b) →
-      MatchOption second (IsUnbroken text b c) (IsBetween text b c) → IsBetween text a c inner
+      → second ≡ None → MatchOption first (IsUnbroken text a b) (IsReadBetween text a b) →
+      MatchOption second (IsUnbroken text b c) (IsReadBetween text b c)
+      → IsReadBetween text a c inner
   piece_before_unbroken first second inner e f s r =
-      let x : IsBetween text a b inner =
-      subst (λ (o : Option Between). MatchOption o (IsUnbroken text a b) (IsBetween text a b)) e
+      let x : IsReadBetween text a b inner =
+      subst (λ (o : Option Between). MatchOption o (IsUnbroken text a b) (IsReadBetween text a b)) e
       s in
       let y : IsUnbroken text b c =
-      subst (λ (o : Option Between). MatchOption o (IsUnbroken text b c) (IsBetween text b c)) f
+      subst (λ (o : Option Between). MatchOption o (IsUnbroken text b c) (IsReadBetween text b c)) f
       r in
       record { broken = join_broken_unbroken x.broken y; readings = x.readings }
 
   pub piece_both : (first second : Option Between) (before after inner : Between)
       → first ≡ Some before → second ≡ Some after
-      → MatchOption first (IsUnbroken text a b) (IsBetween text a b) →
-      MatchOption second (IsUnbroken text b c) (IsBetween text b c) → inner.head ≡ before.head
+      → MatchOption first (IsUnbroken text a b) (IsReadBetween text a b) →
+      MatchOption second (IsUnbroken text b c) (IsReadBetween text b c) → inner.head ≡ before.head
       → inner.tail ≡ after.tail →
       ((ws us : List Word) → AreReadings text ws before.outside before.inside
       → AreReadings text us after.outside after.inside →
       AreReadings text
       (ws ++ (joined_word before.tail after.head ++ us)) inner.outside inner.inside)
       →
-      IsBetween text a c inner
+      IsReadBetween text a c inner
   piece_both first second before after inner e f s r head tail readings =
-      let x : IsBetween text a b before =
-      subst (λ (o : Option Between). MatchOption o (IsUnbroken text a b) (IsBetween text a b)) e
+      let x : IsReadBetween text a b before =
+      subst (λ (o : Option Between). MatchOption o (IsUnbroken text a b) (IsReadBetween text a b)) e
       s in
-      let y : IsBetween text b c after =
-      subst (λ (o : Option Between). MatchOption o (IsUnbroken text b c) (IsBetween text b c)) f
+      let y : IsReadBetween text b c after =
+      subst (λ (o : Option Between). MatchOption o (IsUnbroken text b c) (IsReadBetween text b c)) f
       r in
       record {
         broken = rw (head, tail) (join_broken x.broken y.broken);
@@ -253,9 +255,9 @@ pub whole_reading : (text : List ℕ) (piece : Stretch) (inner : Between) → Is
     → piece.from ≡ 0 → piece.to ≡ length text → piece.between ≡ Some inner →
     reading text None (words_of text) ≡ seen 0 inner.outside
 whole_reading text piece inner s from to e =
-    let x : IsBetween text piece.from piece.to inner =
+    let x : IsReadBetween text piece.from piece.to inner =
     subst (λ (o : Option Between). MatchOption o (IsUnbroken text piece.from piece.to)
-    (IsBetween text piece.from piece.to)) e s in
+    (IsReadBetween text piece.from piece.to)) e s in
     let broken : IsBroken text 0 (length text) inner.head inner.tail =
     subst (λ (b : ℕ). IsBroken text 0 b inner.head inner.tail) to
     (subst (λ (a : ℕ). IsBroken text a piece.to inner.head inner.tail) from x.broken) in

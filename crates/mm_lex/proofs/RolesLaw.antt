@@ -7,7 +7,7 @@ use Rattle.mm_spec.specs.Roles.{has_mark, is_mark, is_dollar_and, is_token, is_c
 use Rattle.mm_spec.specs.Roles.{role_of}
 use Rattle.mm_spec.specs.Text.{has_dollar}
 use Rattle.mm_spec.specs.declared.Role.TheVariants.{Token, Comment}
-use Rattle.mm_lex.specs.Plain.{IsPlain}
+use Rattle.mm_lex.specs.Plain.{IsPlainWord}
 
 add_one_suc : (i : ℕ) → suc (i + 1) ≡ suc i + 1
 add_one_suc i = omega arith
@@ -66,11 +66,11 @@ not_closing b (a ∷ word) h =
     rw (or_parts (a == 0x24) (has_dollar word) h).0
     (and_false (length (a ∷ word) == 2) (get_or word 0 0 == b))
 
-pub plain_token : (word : List ℕ) → IsPlain word → role_of false word ≡ Token
+pub plain_token : (word : List ℕ) → IsPlainWord word → role_of false word ≡ Token
 unfolding role_of is_token
 plain_token word plain = rw (plain.clean, plain.no_dollar) refl
 
-pub plain_comment : (word : List ℕ) → IsPlain word → role_of true word ≡ Comment
+pub plain_comment : (word : List ℕ) → IsPlainWord word → role_of true word ≡ Comment
 unfolding role_of is_comment_word
 plain_comment word plain =
     rw (not_closing 0x29 word plain.no_dollar, plain.clean, no_mark word plain.no_dollar) refl

@@ -4,7 +4,7 @@ use Rattle.mm_spec.specs.Words.{begins_word}
 use Rattle.mm_spec.specs.Laws.Words.{IsWord}
 use Rattle.mm_spec.specs.Readings.{bytes_of}
 use Rattle.mm_spec.specs.declared.Word.{Word}
-use Rattle.mm_lex.specs.Plain.{IsPlain}
+use Rattle.mm_lex.specs.Plain.{IsPlainWord}
 
 module _ (text : List ℕ) where
   -- the first place from `from` on, and before `to`, at which a word begins
@@ -31,4 +31,4 @@ module _ (text : List ℕ) where
   pub record IsWordFrom (start : ℕ) (word : Word) (plain : Bool) : Type 0 where
     pub start_is : word.start ≡ start
     pub is_word : IsWord text word
-    pub is_plain : plain ≡ true → IsPlain (bytes_of text word)
+    pub is_plain : plain ≡ true → IsPlainWord (bytes_of text word)

@@ -53,16 +53,17 @@ pub record AreReadings (text : List ℕ) (ws : List Word) (outside inside : Side
   pub within : (p : ℕ) → reading text (Some p) ws ≡ seen p inside
 
 -- head and tail of a stretch are known by its white space, and the words between them are read
-pub record IsBetween (text : List ℕ) (from to : ℕ) (b : Between) : Type 0 where
+pub record IsReadBetween (text : List ℕ) (from to : ℕ) (b : Between) : Type 0 where
   pub broken : IsBroken text from to b.head b.tail
   pub readings : AreReadings text (words_between text b.head b.tail) b.outside b.inside
 
 -- the summary of the stretch
 abbrev pub IsSummary : List ℕ → Stretch → Type 0
-IsSummary text s = MatchOption s.between (IsUnbroken text s.from s.to) (IsBetween text s.from s.to)
+IsSummary text s =
+    MatchOption s.between (IsUnbroken text s.from s.to) (IsReadBetween text s.from s.to)
 
 -- the stretch is a whole text that isn't too long, and this is its summary
-pub record IsWhole (text : List ℕ) (s : Stretch) : Type 0 where
+pub record IsWholeText (text : List ℕ) (s : Stretch) : Type 0 where
   pub short : length text ≤ text_limit
   pub summary : IsSummary text s
   pub begins : s.from ≡ 0

@@ -6,7 +6,7 @@ ghost use Rattle.mm_spec.specs.Readings.{bytes_of};
 ghost use Rattle.mm_spec.specs.Laws.Readings.{go_on, start};
 ghost use Rattle.mm_lex.specs.Pieces.{resolved, seen, AreReadings};
 ghost use Rattle.mm_lex.specs.Inners.{carried, side};
-ghost use Rattle.mm_lex.specs.Plain.{IsPlain};
+ghost use Rattle.mm_lex.specs.Plain.{IsPlainWord};
 
 use crate::roles::{role, word_fault};
 use crate::{Fault, TEXT_LIMIT, Word};
@@ -77,7 +77,7 @@ impl<A: Allocator + Copy> ModeReading<A> {
         requires order { word.start ≤ word.end }
         requires within { word.end ≤ length text.now }
         requires short { length text.now ≤ TEXT_LIMIT }
-        requires plain { plain ≡ true → IsPlain (bytes_of text.now word) }
+        requires plain { plain ≡ true → IsPlainWord (bytes_of text.now word) }
         ensures { OnOk result
             ((p : ℕ)
             → seen p (side self.new) ≡ go_on text.now (seen p (side self.old)) (word ∷ [])) }

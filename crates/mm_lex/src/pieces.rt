@@ -4,7 +4,7 @@ ghost use Rattle.std.specs.Prelude.{◌≡◌, ◌<◌, ◌≤◌, ◌+◌, ℕ,
 ghost use Rattle.std.specs.Prelude.{if◌then◌else◌};
 ghost use Rattle.std.specs.Option.{option_map};
 ghost use Rattle.mm_lex.specs.Pieces.{fault_in_mode, head_of, resolved, stretch, tail_of};
-ghost use Rattle.mm_lex.specs.Pieces.{tokens_in_mode, AreReadings, IsSummary, IsWhole, Stretch};
+ghost use Rattle.mm_lex.specs.Pieces.{tokens_in_mode, AreReadings, IsSummary, IsWholeText, Stretch};
 ghost use Rattle.mm_lex.specs.Inners.{between, IsJoined, side};
 ghost use Rattle.mm_lex.specs.Stretches.{joined_word};
 ghost use Rattle.mm_spec.specs.Lexed.{fault_in, lexical_fault, tokens_of};
@@ -112,10 +112,11 @@ impl<A: Allocator> Piece<A> {
     /// The tokens and the lexical fault of the whole text that this is the summary of, by its
     /// reading outside a comment.
     pub(crate) fn into_lexed(self) -> Lexed<A>
-        requires { (text : List ℕ) × IsWhole text self }
-        ensures tokens { (text : List ℕ) → IsWhole text self
+        requires { (text : List ℕ) × IsWholeText text self }
+        ensures tokens { (text : List ℕ) → IsWholeText text self
             → result.tokens.items ≡ tokens_of text }
-        ensures fault { (text : List ℕ) → IsWhole text self → result.fault ≡ lexical_fault text }
+        ensures fault { (text : List ℕ) → IsWholeText text self
+            → result.fault ≡ lexical_fault text }
     {
         let reading = match self.inner {
             Some(inner) => inner.outside,

@@ -6,7 +6,7 @@ ghost use Rattle.mm_spec.specs.Bytes.{is_printable};
 ghost use Rattle.mm_spec.specs.Roles.{fault_of, has_mark, is_clean, is_comment_word, is_dollar_and};
 ghost use Rattle.mm_spec.specs.Roles.{is_keyword, is_mark, is_token, role_of};
 ghost use Rattle.mm_spec.specs.Text.{has_dollar};
-ghost use Rattle.mm_lex.specs.Plain.{IsPlain};
+ghost use Rattle.mm_lex.specs.Plain.{IsPlainWord};
 
 use crate::bytes::is_printable;
 use crate::{Code, Fault};
@@ -86,7 +86,7 @@ fn is_comment_word(word: &[u8]) -> bool
 /// What a word is. If `plain` is true, the word is known to be plain.
 #[inline(always)]
 pub fn role(in_comment: bool, plain: bool, word: &[u8]) -> Role
-    requires { plain ≡ true → IsPlain word.now }
+    requires { plain ≡ true → IsPlainWord word.now }
     ensures { result ≡ role_of in_comment word.now }
 {
     match (plain, in_comment) {

@@ -2,7 +2,7 @@
 
 ghost use Rattle.std.specs.Prelude.{◌≡◌, ◌<◌, ◌≤◌, ◌+◌, ℕ, length, vec_len, slice_index_or, IfOk};
 ghost use Rattle.std.specs.Prelude.{Result};
-ghost use Rattle.mm_lex.specs.Cuts.{cut_at, run_start, IsRun, IsRunOf};
+ghost use Rattle.mm_lex.specs.Cuts.{cut_place, run_start, IsRun, IsRunOf};
 ghost use Rattle.mm_lex.specs.Pieces.{IsSummary, Stretch};
 ghost use Rattle.mm_lex.specs.Places.{cut_text, IsCutText};
 
@@ -15,8 +15,8 @@ use std::thread::{self, Threads};
 const RUNS: usize = 64;
 
 /// Where piece `index` begins, and the one before it ends.
-fn cut_at(text: &[u8], places: &[u32], index: usize) -> usize
-    ensures { result ≡ cut_at text.now places.now index }
+fn cut_place(text: &[u8], places: &[u32], index: usize) -> usize
+    ensures { result ≡ cut_place text.now places.now index }
 {
     match index.checked_sub(1) {
         None => 0,
@@ -53,11 +53,11 @@ fn read_run<A: Allocator + Copy>(
     let mut run = lex_piece(
         alloc,
         text,
-        cut_at(text, places, first),
-        cut_at(text, places, first + 1),
+        cut_place(text, places, first),
+        cut_place(text, places, first + 1),
     )?;
     for index in first + 1..after {
-        let to = cut_at(text, places, index + 1);
+        let to = cut_place(text, places, index + 1);
         let next = lex_piece(alloc, text, run.to() as usize, to)?;
         run = join(alloc, text, run, next)?;
     }

@@ -9,7 +9,7 @@ ghost use Rattle.mm_spec.specs.Bytes.{is_white};
 ghost use Rattle.mm_spec.specs.Readings.{bytes_of};
 ghost use Rattle.mm_spec.specs.Words.{begins_word, white_at, words_between};
 ghost use Rattle.mm_spec.specs.Laws.Words.{IsWord};
-ghost use Rattle.mm_lex.specs.Plain.{plain_at, IsPlain};
+ghost use Rattle.mm_lex.specs.Plain.{plain_at, IsPlainWord};
 ghost use Rattle.mm_lex.specs.Beginnings.{IsFirst, IsTaken, IsPassed, IsWordFrom};
 
 use crate::bytes::is_white;
@@ -232,7 +232,7 @@ impl<'a> WordScanner<'a> {
         ensures done { IfNone result (words_between self.old.text.now self.new.from to ≡ []) }
         ensures each { IfSome result (λ found. IsWord self.old.text.now found.word) }
         ensures plain { IfSome result
-            (λ found. found.plain ≡ true → IsPlain (bytes_of self.old.text.now found.word)) }
+            (λ found. found.plain ≡ true → IsPlainWord (bytes_of self.old.text.now found.word)) }
         ensures onward { IfSome result (λ found. self.old.from < self.new.from) }
     {
         let start = self.next_start(to)?;

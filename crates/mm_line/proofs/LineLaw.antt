@@ -45,7 +45,7 @@ use Rattle.mm_spec.specs.Derivation.{is_member}
 use Rattle.mm_line.specs.Lines.{IsCommand, IsReportRule, IsFormRule, IsFlag, IsAsking, IsLineRefusal}
 use Rattle.mm_line.specs.Lines.{command_of, flag_rule, number_rule, only_rule, report_rule}
 use Rattle.mm_line.specs.Lines.{file_rule, form_rule, form_word, form_words, report_word}
-use Rattle.mm_line.specs.Lines.{report_words, Says}
+use Rattle.mm_line.specs.Lines.{report_words, AreReadAs}
 use Rattle.mm_line.specs.Found.{Finds, HasForm, HasNumber, HasReport, IsFor}
 use Rattle.mm_line.proofs.EntryLaw.{Defaulted, default_reads, nothing_in, rule_in_place, simple_parts}
 use Rattle.mm_plan.specs.declared.Cutting.TheVariants.{Count}
@@ -434,7 +434,8 @@ pub says : (words : List Text) (m : ArgMatches) → Finds words m → (line : Li
     → first_value (found_of m) (codes "form") ≡ Some (form_word line.plan.form)
     → IsFlag (one_text (found_of m) (codes "essential")) line.plan.essential
     → IsFlag (one_text (found_of m) (codes "open")) line.plan.with_open
-    → option_map string_bytes line.file ≡ first_value (found_of m) (codes "FILE") → Says words line
+    → option_map string_bytes line.file ≡ first_value (found_of m) (codes "FILE")
+    → AreReadAs words line
 says words m f line n cuts pieces least most workers few many only choice form essential with_open
     file =
     let rows = matches_of f.app words in

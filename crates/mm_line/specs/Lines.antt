@@ -147,13 +147,13 @@ pub record IsLine (rows : List Row) (line : Line) : Type 0 where
   pub lawful : IsLawful line.plan
 
 -- the command finds no fault in the words, and the line is what they say
-abbrev pub Says : List Text → Line → Type 0
-Says words line =
+abbrev pub AreReadAs : List Text → Line → Type 0
+AreReadAs words line =
     (app : App) × IsCommand app × (fault_of app words ≡ []) × IsLine (matches_of app words) line
 
 -- the command doesn't accept the words, and the fault satisfies the predicate
-abbrev pub Faults : List Text → (ErrorKind → Type 0) → Type 0
-Faults words P =
+abbrev pub AreRefusedFor : List Text → (ErrorKind → Type 0) → Type 0
+AreRefusedFor words P =
     (app : App) × IsCommand app × (takes app words ≡ false) × (kind : ErrorKind)
     × IsAmong kind (fault_of app words) × P kind
 
@@ -163,6 +163,6 @@ IsAsking kind = (kind ≡ DisplayHelp) ⊎ (kind ≡ DisplayVersion)
 
 -- Help or the version is requested, or the words have another fault. Nothing is said of `Memory`.
 abbrev pub IsLineRefusal : List Text → LineRefused → Type 0
-IsLineRefusal words (Help text) = Faults words IsAsking
-IsLineRefusal words (Bad text) = Faults words (λ kind. ¬ IsAsking kind)
+IsLineRefusal words (Help text) = AreRefusedFor words IsAsking
+IsLineRefusal words (Bad text) = AreRefusedFor words (λ kind. ¬ IsAsking kind)
 IsLineRefusal words Memory = ⊤

@@ -5,7 +5,8 @@ ghost use Rattle.std.specs.String.{string_bytes};
 ghost use Rattle.std.specs.Str.Parse.{digits_value, without_leading_plus};
 ghost use Rattle.clap.specs.Words.{app_of, first_value, found_of, kind_of, one_text, rule_of};
 ghost use Rattle.mm_line.specs.Found.{Finds, HasForm, HasNumber, HasReport, IsFor};
-ghost use Rattle.mm_line.specs.Lines.{IsCommand, IsFormRule, IsReportRule, IsLineRefusal, Says};
+ghost use Rattle.mm_line.specs.Lines.{IsCommand, IsFormRule, IsReportRule, IsLineRefusal};
+ghost use Rattle.mm_line.specs.Lines.{AreReadAs};
 ghost use Rattle.mm_line.specs.Lines.{file_rule, flag_rule, form_word, number_rule, only_rule};
 ghost use Rattle.mm_line.specs.Lines.{report_word};
 
@@ -212,7 +213,7 @@ fn text_in(
 /// help or the version is requested, `Bad` only if the command doesn't accept the words, and
 /// `Memory` only if out of memory.
 pub fn line<S: AsStr>(alloc: Global, words: &[S]) -> Result<Line, LineRefused>
-    ensures says { IfOk result (λ l. Says (map S.text words.now) l) }
+    ensures says { IfOk result (λ l. AreReadAs (map S.text words.now) l) }
     ensures refuses { IfErr result (λ e. IsLineRefusal (map S.text words.now) e) }
 {
     let matches = parsed(alloc, words)?;

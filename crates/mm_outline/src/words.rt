@@ -71,12 +71,7 @@ pub fn classify(word: &[u8]) -> Class
 fn is_label_byte(byte: u8) -> bool
     ensures { result ≡ spec_is_label_byte byte }
 {
-    (65 <= byte && byte <= 90)
-        || (97 <= byte && byte <= 122)
-        || (48 <= byte && byte <= 57)
-        || byte == 45
-        || byte == 95
-        || byte == 46
+    matches!(byte, b'A'..=b'Z' | b'a'..=b'z' | b'0'..=b'9' | b'-' | b'_' | b'.')
 }
 
 /// Whether the word consists only of bytes that a label may have.

@@ -1,7 +1,7 @@
 -- What has been read of the letters of a compressed proof.
 use Rattle.std.specs.Prelude.{◌≡◌, ℕ, ◌+◌, ◌-◌, ◌*◌, ◌<◌, ◌≤◌, All, List, [], ◌∷◌, ◌++◌, length}
 use Rattle.std.specs.Prelude.{Option, Some, None, fold, take, drop, flat_map, ◌==◌}
-use Rattle.std.specs.Prelude.{if◌then◌else◌}
+use Rattle.std.specs.Prelude.{if◌then◌else◌, slice_range}
 use Rattle.mm_spec.specs.declared.Word.{Word}
 use Rattle.mm_spec.specs.Text.{Token}
 use Rattle.mm_spec.specs.Statement.{Statement}
@@ -9,7 +9,7 @@ use Rattle.mm_spec.specs.NormalProof.{usable, proof_label_faults}
 use Rattle.mm_spec.specs.Steps as spec
 use Rattle.mm_spec.specs.Steps.{PlacedStep}
 use Rattle.mm_spec.specs.CompressedProof.{Compressed, Letter, groups, group_steps, group_faults}
-use Rattle.mm_spec.specs.CompressedProof.{bracketed}
+use Rattle.mm_spec.specs.CompressedProof.{bracketed, letter_faults, letters_from}
 use Rattle.mm_outline.specs.Parts.{as_tokens}
 use Rattle.mm_proof.specs.Number.{saturated}
 use Rattle.mm_steps.specs.Read.{as_step}
@@ -37,6 +37,10 @@ with_number s number = letters_state s.theorem s.labels s.marks number s.steps
 
 abbrev pub letter : ℕ → ℕ → Letter
 letter at byte = record { at = at; byte = byte }
+
+-- the letters of a word of a text
+abbrev pub letters_in : List ℕ → Word → List Letter
+letters_in text word = letters_from word.start (slice_range text word.start word.end)
 
 -- the value of early letters
 abbrev pub early_value : List Letter → ℕ
@@ -85,6 +89,14 @@ pub record ReadsLetters (old : LettersState) (xs : List Letter) (new : LettersSt
   pub labels : new.labels ≡ old.labels
   pub continues : (all left : List Letter) → Continues old all (xs ++ left)
       → Continues new all left
+
+-- These are all letters of a proof that ends at a place: the steps are those that they name, and
+-- they have no fault.
+pub record ReadsAllLetters (old : LettersState) (xs : List Letter) (end : ℕ) (new : LettersState)
+    : Type 0 where
+  pub theorem : new.theorem ≡ old.theorem
+  pub steps : new.steps ≡ group_steps old.labels [] 0 (groups [] xs).0
+  pub sound : letter_faults (length old.labels) end xs ≡ []
 
 -- these letters have a fault, which is the first fault of all letters
 abbrev pub RefusesLetters : LettersState → List Letter → ProofRefused → Type 0

@@ -1,17 +1,17 @@
 //! The letters of a compressed proof.
 
 ghost use Rattle.std.specs.Prelude.{All, IfSome, ◌≡◌, ◌<◌, ◌≤◌, ◌+◌, ◌*◌, ◌∷◌, ◌++◌, [], ℕ, None};
-ghost use Rattle.std.specs.Prelude.{length, slice_range, IfOk, IfErr, IfNone, OnOk};
+ghost use Rattle.std.specs.Prelude.{length, IfOk, IfErr, IfNone, OnOk};
 ghost use Rattle.mm_spec.specs.Steps.{placed};
-ghost use Rattle.mm_spec.specs.CompressedProof.{letters_from, letters_of, letter_faults, groups};
-ghost use Rattle.mm_spec.specs.CompressedProof.{step_of, group_steps};
+ghost use Rattle.mm_spec.specs.CompressedProof.{letters_of, letter_faults, step_of};
 ghost use Rattle.mm_outline.specs.Parts.{as_tokens, AreWithin};
 ghost use Rattle.mm_steps.specs.Read.{read, as_step, IsEarlier};
 ghost use Rattle.mm_proof.specs.Number.{IsLetter, saturated};
 ghost use Rattle.mm_proof.specs.declared.digits.LetterKind.TheVariants.{Last};
 ghost use Rattle.mm_proof.specs.Letters.{letters_state, letter, with_number, named, if_begun};
 ghost use Rattle.mm_proof.specs.Letters.{InOrder, StandsAt, StandsWith, BeginsAt};
-ghost use Rattle.mm_proof.specs.Letters.{ReadsLetters, RefusesLetters};
+ghost use Rattle.mm_proof.specs.Letters.{letters_in, ReadsLetters, ReadsAllLetters};
+ghost use Rattle.mm_proof.specs.Letters.{RefusesLetters};
 ghost use Rattle.mm_proof.specs.Refused.{StartsWith};
 
 use crate::digits::{LetterKind, letter_of, with_digit};
@@ -221,12 +221,11 @@ impl<A: Allocator> Progress<A> {
         requires stands { StandsAt self.old word.start }
         ensures stands { OnOk result (StandsAt self.new word.end) }
         ensures reads { OnOk result
-            (ReadsLetters (with_number self.old (if_begun number.old))
-            (letters_from word.start (slice_range text.now word.start word.end))
+            (ReadsLetters (with_number self.old (if_begun number.old)) (letters_in text.now word)
             (with_number self.new (if_begun number.new))) }
         ensures refuses { IfErr result
             (λ e. RefusesLetters (with_number self.old (if_begun number.old))
-            (letters_from word.start (slice_range text.now word.start word.end)) e) }
+            (letters_in text.now word) e) }
     {
         begin_at(number, word.start);
         for i in word.start as usize..word.end as usize {
@@ -245,15 +244,8 @@ impl<A: Allocator> Progress<A> {
         requires within { AreWithin text.now words.now }
         requires in_order { InOrder 0 (as_tokens text.now words.now) end }
         requires none { self.old ≡ letters_state self.old.theorem self.old.labels [] None [] }
-        ensures theorem { OnOk result (self.new.theorem ≡ self.old.theorem) }
-        ensures steps { OnOk result
-            (self.new.steps
-            ≡ group_steps self.old.labels [] 0
-            (groups [] (letters_of (as_tokens text.now words.now))).0) }
-        ensures sound { OnOk result
-            (letter_faults (length self.old.labels) end
-            (letters_of (as_tokens text.now words.now))
-            ≡ []) }
+        ensures reads { OnOk result
+            (ReadsAllLetters self.old (letters_of (as_tokens text.now words.now)) end self.new) }
         ensures fault { IfErr result
             (λ e. StartsWith
             (letter_faults (length self.old.labels) end

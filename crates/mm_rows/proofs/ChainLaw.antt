@@ -15,14 +15,15 @@ use Rattle.std.proofs.lemmas.List.{take-append-le, drop_at, take_all, length-dro
 use Rattle.std.proofs.lemmas.List.{length-take}
 use Rattle.std.proofs.lemmas.Nat.{mul-le}
 use Rattle.std.proofs.Math.Nat.{add-mul}
-use Rattle.mm_cites.specs.Citing.{Citing, HasCitation, IsRising, IsFileOrder, theorem_at, list_at}
+use Rattle.mm_cites.specs.Citing.{Citing, HasCitation, IsStatementList, IsFileOrder}
+use Rattle.mm_cites.specs.Citing.{theorem_at, list_at}
 use Rattle.mm_spec.specs.Chains.{RestsOn}
 use Rattle.mm_spec.proofs.ChainsLaw.{rests_step}
 use Rattle.mm_spec.proofs.BoolLaw.{or_none}
 use Rattle.mm_rows.specs.BitRows.{IsBitRow, HasCitedRows, AreBitRows, row_at}
 
 -- a rising list has a number once
-pub once : (xs : List ℕ) (i j : ℕ) → IsRising xs → i < length xs → j < length xs
+pub once : (xs : List ℕ) (i j : ℕ) → IsStatementList xs → i < length xs → j < length xs
     → get_or xs i 0 ≡ get_or xs j 0 → i ≡ j
 once xs i j r p q e = go (cases_order i j)
   where
@@ -279,7 +280,7 @@ ready_inside c columns theorems bits t w r same found ready words =
     ((ready_row c columns theorems bits t w r same found ready).words ∙ sym words)
 
 -- the bit of the statement's column is set
-pub column_marked : (columns row new : List ℕ) (j s : ℕ) → IsRising columns
+pub column_marked : (columns row new : List ℕ) (j s : ℕ) → IsStatementList columns
     → (j < length columns) × (get_or columns j 0 ≡ s)
     → ((k : ℕ) → is_bit new k ≡ (eqb k j || is_bit row k))
     → (k : ℕ) → k < length columns

@@ -3,7 +3,7 @@ use Rattle.std.proofs.Common.{◌≡◌, ◌≢◌, ℕ, ◌+◌, ◌<◌, ◌�
 use Rattle.std.proofs.Common.{◌∙◌, arith, ◌⊎◌, inl, inr}
 use Rattle.std.proofs.lemmas.Bool.{cases_eq, cases_lt}
 use Rattle.std.proofs.lemmas.List.{get_or-set_same, get_or-set_other, get_or_default, get_or_past}
-use Rattle.mm_cites.specs.Citing.{IsRising}
+use Rattle.mm_cites.specs.Citing.{IsStatementList}
 use Rattle.mm_rows.specs.Places.{ArePlacesOf, ArePlaces}
 use Rattle.mm_rows.proofs.ChainLaw.{once}
 
@@ -23,7 +23,7 @@ places_none list places none =
     at s (inr g) = get_or_past places s 4294967295 g
 
 -- one statement more
-pub places_more : (list places : List ℕ) (n : ℕ) → IsRising list → n < length list
+pub places_more : (list places : List ℕ) (n : ℕ) → IsStatementList list → n < length list
     → get_or list n 0 < length places → ArePlacesOf list n places
     → ArePlacesOf list (n + 1) (slice_set places (get_or list n 0) n)
 places_more list places n r within room h = record {
@@ -59,7 +59,7 @@ places_more list places n r within room h = record {
         other (get_or list i 0) (λ e. ne (once list i n r (omega arith) within e)) ∙ h.all i below
 
 -- a statement that has no place isn't in the list
-pub no_place : (list places : List ℕ) (s : ℕ) → IsRising list → ArePlaces list places
+pub no_place : (list places : List ℕ) (s : ℕ) → IsStatementList list → ArePlaces list places
     → get_or places s 4294967295 ≡ 4294967295 → (i : ℕ) → i < length list → get_or list i 0 ≡ s → ⊥
 no_place list places s r h none i lt e =
     let few = r.few in

@@ -6,7 +6,7 @@ use Rattle.std.proofs.lemmas.Bool.{cases_lt}
 use Rattle.std.proofs.lemmas.List.FromFn.{get_or-map-range_with_len}
 use Rattle.std.specs.List.{range_with_len}
 use Rattle.mm_rows.specs.Bits.{is_bit, words_for, spot, AreTransposed, IsTable}
-use Rattle.mm_cites.specs.Citing.{Citing, IsRising}
+use Rattle.mm_cites.specs.Citing.{Citing, IsStatementList}
 use Rattle.mm_rows.specs.BitRows.{cells_of, marks, row_at, AreBitRows}
 use Rattle.mm_rows.specs.Marks.{Marks, mark, IsAbove, start_of, IsMatrix}
 use Rattle.mm_rows.specs.Users.{IsColumn}
@@ -165,8 +165,9 @@ module _ (m : Marks) (j : ℕ) (users : List ℕ) (h : IsColumn m j users) where
       let u = above after k up in sym (h.same k l) ∙ none k (omega arith)
 
 -- the rows of all theorems are a table
-pub table_of : (c : Citing) (columns bits : List ℕ) (rows width : ℕ) → IsRising c.theorems
-    → IsRising columns → AreBitRows c columns (length c.theorems) bits → rows ≡ length c.theorems
+pub table_of : (c : Citing) (columns bits : List ℕ) (rows width : ℕ) → IsStatementList c.theorems
+    → IsStatementList columns → AreBitRows c columns (length c.theorems) bits
+    → rows ≡ length c.theorems
     → width ≡ length columns → IsTable rows width bits
 table_of c columns bits rows width rr rc h e f =
     subst (λ n. IsTable n width bits) (sym e)

@@ -7,7 +7,7 @@ ghost use Rattle.std.specs.List.{list_any};
 ghost use Rattle.mm_spec.specs.Scope.{statement_at};
 ghost use Rattle.mm_spec.specs.Citation.{is_assertion};
 ghost use Rattle.mm_spec.specs.Output.{columns, has_typecode};
-ghost use Rattle.mm_cites.specs.Citing.{IsRising};
+ghost use Rattle.mm_cites.specs.Citing.{IsStatementList};
 
 use mm_database::Database;
 use std::alloc::{AllocError, Allocator};
@@ -24,7 +24,7 @@ impl<A: Allocator> Model for Columns<A> {
 
     ghost view = { λ c. c.statements.items };
 
-    ghost invariant = { λ c. IsRising c.statements.items };
+    ghost invariant = { λ c. IsStatementList c.statements.items };
 }
 
 /// Whether an assertion has the chosen typecode. True if `only` is `None`.
@@ -73,7 +73,7 @@ impl<A: Allocator> Columns<A> {
     /// Returns the statements of the columns.
     pub fn statements(&self) -> &[u32]
         ensures statements { result.now ≡ self.now }
-        ensures rising { IsRising self.now }
+        ensures rising { IsStatementList self.now }
     {
         self.statements.as_slice()
     }
@@ -81,7 +81,7 @@ impl<A: Allocator> Columns<A> {
     /// Returns the number of columns.
     pub fn len(&self) -> u32
         ensures len { result ≡ length self.now }
-        ensures rising { IsRising self.now }
+        ensures rising { IsStatementList self.now }
     {
         self.statements.len() as u32
     }

@@ -1,7 +1,7 @@
 //! The places of statements in an ascending list of statements.
 
 ghost use Rattle.std.specs.Prelude.{◌≡◌, ◌<◌, ℕ, length, slice_index, IfOk, IfSome, IfNone};
-ghost use Rattle.mm_cites.specs.Citing.{IsRising};
+ghost use Rattle.mm_cites.specs.Citing.{IsStatementList};
 ghost use Rattle.mm_rows.specs.Bits.{words_for};
 ghost use Rattle.mm_rows.specs.Places.{ArePlaces};
 
@@ -21,7 +21,7 @@ pub(crate) struct Places<'a, A: Allocator> {
 
 impl<'a, A: Allocator> Model for Places<'a, A> {
     ghost use Rattle.std.specs.Prelude.{ℕ, List};
-    ghost use Rattle.mm_cites.specs.Citing.{IsRising};
+    ghost use Rattle.mm_cites.specs.Citing.{IsStatementList};
     ghost use Rattle.mm_rows.specs.Places.{ArePlaces};
 
     ghost Value = { List ℕ };
@@ -29,12 +29,12 @@ impl<'a, A: Allocator> Model for Places<'a, A> {
     ghost view = { λ p. p.statements.now };
 
     ghost invariant = { λ p.
-        IsRising p.statements.now × ArePlaces p.statements.now p.places.items };
+        IsStatementList p.statements.now × ArePlaces p.statements.now p.places.items };
 }
 
 /// Returns the number of statements up to the last one in an ascending list.
 fn count_to_last(statements: &[u32]) -> usize
-    requires { IsRising statements.now }
+    requires { IsStatementList statements.now }
     ensures { (i : ℕ) → i < length statements.now → slice_index statements.now i < result }
 {
     match statements.last() {
@@ -45,7 +45,7 @@ fn count_to_last(statements: &[u32]) -> usize
 
 /// Notes the places of the statements of an ascending list. `places` must have none yet.
 fn note_places(statements: &[u32], places: &mut [u32])
-    requires rising { IsRising statements.now }
+    requires rising { IsStatementList statements.now }
     requires room { (i : ℕ) → i < length statements.now
         → slice_index statements.now i < length places.old }
     requires none { (s : ℕ) → s < length places.old → slice_index places.old s ≡ 4294967295 }
@@ -59,7 +59,7 @@ fn note_places(statements: &[u32], places: &mut [u32])
 impl<'a, A: Allocator + Copy> Places<'a, A> {
     /// Returns the places of the statements of an ascending list.
     pub(crate) fn new(alloc: A, statements: &'a [u32]) -> Result<Places<'a, A>, AllocError>
-        requires { IsRising statements.now }
+        requires { IsStatementList statements.now }
         ensures { IfOk result (λ p. p ≡ statements.now) }
     {
         let mut places = Vec::new(alloc);
@@ -79,7 +79,7 @@ impl<'a, A: Allocator> Places<'a, A> {
 
     /// Returns the place of a statement in the list, or `None` if it isn't there.
     pub(crate) fn find(&self, statement: u32) -> Option<usize>
-        ensures rising { IsRising self.now }
+        ensures rising { IsStatementList self.now }
         ensures some { IfSome result (λ i. (i < length self.now)
             × (slice_index self.now i ≡ statement)) }
         ensures none { IfNone result ((i : ℕ) → i < length self.now

@@ -5,7 +5,7 @@ ghost use Rattle.std.specs.Prelude.{◌≡◌, ◌<◌, ◌≤◌, ◌+◌, ◌*
 ghost use Rattle.std.specs.Prelude.{slice_index_or, IfOk, OnOk, All, true, false};
 ghost use Rattle.std.specs.List.{AllZip, range_with_len};
 ghost use Rattle.mm_rows.specs.Bits.{words_for};
-ghost use Rattle.mm_cites.specs.Citing.{HasCitation, IsRising, theorem_at};
+ghost use Rattle.mm_cites.specs.Citing.{HasCitation, IsStatementList, theorem_at};
 ghost use Rattle.mm_spec.specs.Laws.Chains.{IsWave};
 ghost use Rattle.mm_rows.specs.BitRows.{IsBitRow, HasCitedRows, AreBitRows, row_at};
 ghost use Rattle.mm_rows.specs.Marks.{IsMatrix};
@@ -284,7 +284,7 @@ fn all_rows<R: Threads + Sync, A: Allocator + Copy + Send + Sync>(
     citations: &Citations<A>,
     columns: &[u32],
 ) -> Result<Vec<u64, A>, AllocError>
-    requires { IsRising columns.now }
+    requires { IsStatementList columns.now }
     ensures { IfOk result
         (λ v. AreBitRows citations.now columns.now (length citations.now.theorems) v.items) }
 {

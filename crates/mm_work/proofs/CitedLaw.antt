@@ -14,7 +14,7 @@ use Rattle.mm_spec.specs.Output.{theorems, is_theorem_at, AreValid}
 use Rattle.mm_spec.proofs.FindsLaw.{filter_member, found_at, inside_of}
 use Rattle.mm_spec.proofs.CitedLaw.{cites_earlier, proof_theorem}
 use Rattle.mm_spec.proofs.ListLaw.{member_at}
-use Rattle.mm_cites.specs.Citing.{Citing, citing, HasCitation, IsRising, IsFileOrder}
+use Rattle.mm_cites.specs.Citing.{Citing, citing, HasCitation, IsStatementList, IsFileOrder}
 use Rattle.mm_cites.proofs.RisingLaw.{filter_rising}
 use Rattle.mm_work.specs.Judged.{IsCited, AreCitedUpTo, Shows}
 
@@ -58,7 +58,7 @@ pub cited_valid : (db : List Statement) (by_essential : Bool) (t : ℕ) (cites :
 cited_valid db by_essential t cites c = (c.read, c.checked.derivation, c.checked.proof)
 
 module _ (db : List Statement) (few : length db < 2 ^ 31) (complete : AreComplete db) where
-  pub theorems_rise : IsRising (theorems db)
+  pub theorems_rise : IsStatementList (theorems db)
   theorems_rise = filter_rising (λ j. list_any is_theorem (statement_at db j)) (length db) few
 
   -- the theorems before theorem i are valid

@@ -11,7 +11,7 @@ use Rattle.mm_spec.specs.Ends.{Ends}
 use Rattle.mm_spec.specs.declared.RunEnd.{RunEnd}
 use Rattle.mm_spec.specs.declared.RunEnd.TheVariants.{Accepted, Refused, ReadFailed, WriteFailed}
 use Rattle.mm_spec.specs.declared.RunEnd.TheVariants.{NoMemory as RunNoMemory}
-use Rattle.mm_line.specs.Lines.{IsLineRefusal, Says}
+use Rattle.mm_line.specs.Lines.{IsLineRefusal, AreReadAs}
 use Rattle.mm_line.specs.declared.command_line.Line.{Line}
 use Rattle.mm_line.specs.declared.command_line.LineRefused.TheVariants.{Help, Bad}
 use Rattle.mmdepend.specs.declared.ending.Ending.{Ending}
@@ -47,9 +47,10 @@ module _ {File : Type 0} (remaining : File → Option (List ℕ)) where
   -- to the output
   abbrev pub IsEndingOf : List Text → Ending → (before after held holds : Option (List ℕ)) → Type 0
   IsEndingOf words (Ran end) before after held holds =
-      (line : Line) × Says words line × Runs (opens line) end line before after held holds
+      (line : Line) × AreReadAs words line × Runs (opens line) end line before after held holds
   IsEndingOf words NotOpened before after held holds =
-      (line : Line) × Says words line × IsSome (opens line) × Keeps before after × Keeps held holds
+      (line : Line) × AreReadAs words line × IsSome (opens line) × Keeps before after
+      × Keeps held holds
   IsEndingOf words (Helped text) before after held holds =
       IsLineRefusal words (Help text) × Keeps before after × Appends held holds (string_bytes text)
   IsEndingOf words (HelpFailed text) before after held holds =

@@ -27,7 +27,8 @@ returns-clause-steps g c =
     let words = c.args.words.now in
     let n = c.in_ok-count.count in
     let steps =
-    rw (c.none-progress.ensures, c.text.ensures, take_rest) at c.in_ok-read_all.ensures.steps in
+    rw (c.none-progress.ensures, c.text.ensures, take_rest) at
+    c.in_ok-read_all.ensures.reads.steps in
     let hypotheses =
     c.in_ok-extend_from_slice.ensures.items
     ∙ ap₂ (λ xs ys. xs ++ ys) c.with_room-labels.ensures
@@ -37,7 +38,8 @@ returns-clause-steps g c =
     ∙ ap (λ xs. xs
     ++ flat_map (λ t. usable db c.args.theorem t.word) (as_tokens text (take n words)))
     hypotheses in
-    let theorem = c.in_ok-read_all.ensures.theorem ∙ ap (λ s. s.theorem) c.none-progress.ensures in
+    let theorem =
+    c.in_ok-read_all.ensures.reads.theorem ∙ ap (λ s. s.theorem) c.none-progress.ensures in
     c.into_steps.ensures
     ∙ read_steps db c.args.theorem (bracketed (as_tokens text words))
     (as_tokens text (take n words))
@@ -123,7 +125,7 @@ returns-clause-sound g c =
     c.read_labels.new.labels.items c.in_ok-count.ensures.labels.some hypotheses
     c.in_ok-count.ensures.labels.many c.in_ok-count.ensures.labels.brackets
     c.in_ok-count.ensures.labels.sound
-    ∙ rw (c.none-progress.ensures, c.text.ensures, take_rest) at c.in_ok-read_all.ensures.sound
+    ∙ rw (c.none-progress.ensures, c.text.ensures, take_rest) at c.in_ok-read_all.ensures.reads.sound
 
 pub returns-in_err-read_all-clause-fault : goal.returns-in_err-read_all-clause-fault
 returns-in_err-read_all-clause-fault g c =

@@ -60,21 +60,8 @@ returns-then-begun-gt0-clause-fault g c =
     (with_number c.loop-word.self (if_begun c.loop-word.begun)) c.args.end all number some
     last))
 
-pub returns-clause-steps : goal.returns-clause-steps
-returns-clause-steps g c =
-    let all = letters_of (as_tokens c.args.text.now c.args.words.now) in
-    let start : Continues c.args.self.now all all =
-    subst (λ s. Continues s all all) (sym c.requires.none)
-    (whole c.args.self.now.theorem c.args.self.now.labels all) in
-    let last =
-    all_read
-    (with_number c.loop-word.self (if_begun c.loop-word.begun)) c.args.text.now c.args.words.now
-    c.loop-word.word-index all c.loop-word-test.false (c.loop-word.invariant.reads all start) in
-    all_steps (with_number c.loop-word.self (if_begun c.loop-word.begun)) all last
-    ∙ ap (λ ls. group_steps ls [] 0 (groups [] all).0) c.loop-word.invariant.labels
-
-pub returns-clause-sound : goal.returns-clause-sound
-returns-clause-sound g c =
+pub returns-clause-reads : goal.returns-clause-reads
+returns-clause-reads g c =
     let all = letters_of (as_tokens c.args.text.now c.args.words.now) in
     let start : Continues c.args.self.now all all =
     subst (λ s. Continues s all all) (sym c.requires.none)
@@ -88,45 +75,29 @@ returns-clause-sound g c =
     (sym c.is_empty.ensures ∙ c.if-is_empty.false) in
     let zero : c.loop-word.begun.value ≡ 0 = omega arith in
     let number = ap is_some (none_begun c.loop-word.begun zero) in
-    subst (λ ls. letter_faults (length ls) c.args.end all ≡ []) c.loop-word.invariant.labels
-    (no_fault (with_number c.loop-word.self (if_begun c.loop-word.begun)) c.args.end all number
-    some last)
+    record {
+      theorem = c.loop-word.invariant.theorem;
+      steps =
+          all_steps (with_number c.loop-word.self (if_begun c.loop-word.begun)) all last
+          ∙ ap (λ ls. group_steps ls [] 0 (groups [] all).0) c.loop-word.invariant.labels;
+      sound =
+          subst (λ ls. letter_faults (length ls) c.args.end all ≡ []) c.loop-word.invariant.labels
+          (no_fault (with_number c.loop-word.self (if_begun c.loop-word.begun)) c.args.end all
+          number some last);
+    }
 
-pub returns-in_err-read_word-clause-sound : goal.returns-in_err-read_word-clause-sound
-returns-in_err-read_word-clause-sound g c =
+pub returns-in_err-read_word-clause-reads : goal.returns-in_err-read_word-clause-reads
+returns-in_err-read_word-clause-reads g c =
     IfOk-from_err c.from_residual.result _ c.from_residual.ensures.0
 
-pub returns-in_err-read_word-clause-steps : goal.returns-in_err-read_word-clause-steps
-returns-in_err-read_word-clause-steps g c =
-    IfOk-from_err c.from_residual.result _ c.from_residual.ensures.0
+pub returns-then-is_empty-clause-reads : goal.returns-then-is_empty-clause-reads
+returns-then-is_empty-clause-reads g c = tt
 
-pub returns-in_err-read_word-clause-theorem : goal.returns-in_err-read_word-clause-theorem
-returns-in_err-read_word-clause-theorem g c =
-    IfOk-from_err c.from_residual.result _ c.from_residual.ensures.0
-
-pub returns-then-is_empty-clause-sound : goal.returns-then-is_empty-clause-sound
-returns-then-is_empty-clause-sound g c = tt
-
-pub returns-then-is_empty-clause-steps : goal.returns-then-is_empty-clause-steps
-returns-then-is_empty-clause-steps g c = tt
-
-pub returns-then-is_empty-clause-theorem : goal.returns-then-is_empty-clause-theorem
-returns-then-is_empty-clause-theorem g c = tt
-
-pub returns-then-begun-gt0-clause-sound : goal.returns-then-begun-gt0-clause-sound
-returns-then-begun-gt0-clause-sound g c = tt
-
-pub returns-then-begun-gt0-clause-steps : goal.returns-then-begun-gt0-clause-steps
-returns-then-begun-gt0-clause-steps g c = tt
-
-pub returns-then-begun-gt0-clause-theorem : goal.returns-then-begun-gt0-clause-theorem
-returns-then-begun-gt0-clause-theorem g c = tt
+pub returns-then-begun-gt0-clause-reads : goal.returns-then-begun-gt0-clause-reads
+returns-then-begun-gt0-clause-reads g c = tt
 
 pub returns-clause-fault : goal.returns-clause-fault
 returns-clause-fault g c = tt
-
-pub returns-clause-theorem : goal.returns-clause-theorem
-returns-clause-theorem g c = c.loop-word.invariant.theorem
 
 pub bounds-words-word-index : goal.bounds-words-word-index
 bounds-words-word-index g c = omega arith

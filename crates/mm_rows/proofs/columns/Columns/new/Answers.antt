@@ -5,7 +5,7 @@ use Rattle.std.specs.List.{list_any, range_with_len, filter}
 use Rattle.std.proofs.lemmas.List.{take_all, take_more}
 use Rattle.mm_spec.specs.Scope.{statement_at}
 use Rattle.mm_spec.specs.Output.{columns, has_typecode, is_column}
-use Rattle.mm_cites.specs.Citing.{IsRising}
+use Rattle.mm_cites.specs.Citing.{IsStatementList}
 use Rattle.mm_cites.proofs.RisingLaw.{filter_at, filter_rising}
 use Rattle.mm_rows.proofs.ColumnLaw.{filter_snoc, columns_are, axiom_asserts}
 use Rattle.std.proofs.lemmas.Result.{IfOk-from_err}
@@ -58,7 +58,7 @@ invariant_of-result g c =
     let same : c.loop-statement.statements.items ≡ columns db only =
     c.loop-statement.invariant ∙ ap (filter q) (all ∙ c.axioms-axioms.ensures.axioms)
     ∙ columns_are only db in
-    subst IsRising (sym same)
+    subst IsStatementList (sym same)
     (filter_rising (λ j. list_any (is_column only) (statement_at db j))
     (length db) c.axioms-axioms.ensures.few)
 
