@@ -237,8 +237,7 @@ impl<'a, A: Allocator> Database<'a, A> {
         ensures pairs { map (λ p. pair p.0 p.1) result.now.pairs.items
             ≡ mandatory_pairs self.now.statements assertion }
     {
-        let place = self.found.beside.frames.places[assertion as usize];
-        &self.found.beside.frames.list[place as usize]
+        self.found.beside.frames.of(assertion)
     }
 
     /// Whether a `$d` that is active at the statement, or at the end, has both variables. Always
