@@ -10,6 +10,5 @@ module _ {A : Type 0} where
   -- What is kept beside the statements is theirs: the index has each variable with each `$d` that
   -- has it, and what may be skipped by these blocks; the frames are those of the assertions.
   pub record IsBeside (db : List Statement) (blocks : BlockLists) (beside : Beside A) : Type 0 where
-    pub disjoint_index : IsDisjointIndex db blocks beside.disjoint_index.pairs.items
-        beside.disjoint_index.skips.items
+    pub disjoint_index : IsDisjointIndex db blocks beside.disjoint_index
     pub frames : beside.frames ≡ frames_before db (length db)

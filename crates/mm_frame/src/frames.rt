@@ -145,8 +145,7 @@ pub(crate) fn frames_of<A: Allocator + Copy>(
     statements: &Statements<A>,
     disjoint_index: &DisjointIndex<A>,
 ) -> Result<Frames<A>, AllocError>
-    requires { IsDisjointIndex statements.now.list statements.now.blocks
-        disjoint_index.now.pairs.items disjoint_index.now.skips.items }
+    requires { IsDisjointIndex statements.now.list statements.now.blocks disjoint_index.now }
     ensures { IfOk result
         (λ v. v ≡ frames_before statements.now.list (length statements.now.list)) }
 {
