@@ -29,7 +29,8 @@ add-requires g c =
     omega (arith, n, small, k)
 
 pub returns-in_ok-frame-clause-seen : goal.returns-in_ok-frame-clause-seen
-returns-in_ok-frame-clause-seen g c = on_then c.add.result c.add.ensures (λ e. c.in_ok-frame.ensures.seen)
+returns-in_ok-frame-clause-seen g c =
+    on_then c.add.result c.add.ensures (λ e. c.in_ok-frame.ensures.seen)
 
 pub returns-in_ok-frame-clause-frames : goal.returns-in_ok-frame-clause-frames
 returns-in_ok-frame-clause-frames g c =
