@@ -16,6 +16,7 @@ pub mod LongestLaw
 pub mod DisjointIndexLaw
 pub mod StartsLaw
 pub mod TogetherLaw
+pub mod PlacesLaw
 pub mod CutsLaw
 pub mod KindsLaw
 pub mod SpacedLaw

@@ -1,4 +1,4 @@
--- What a map of names says of them.
+-- What a list of names says of them.
 use Rattle.std.proofs.Common.{Result, Ok, Err, OnOk, is_some, ◌≡◌, ℕ, zero, suc, ◌≤◌, ◌<◌, Bool}
 use Rattle.std.proofs.Common.{true}
 use Rattle.std.proofs.Common.{false, ◌||◌, List, [], ◌∷◌, ◌++◌, length, map, slice_get, Option}
@@ -8,7 +8,7 @@ use Rattle.std.proofs.lemmas.List.{length-map}
 use Rattle.std.proofs.lemmas.Map.Made.{is_some-lookup}
 use Rattle.std.specs.Option.{option_map}
 use Rattle.std.specs.Map.{keys_of, lookup}
-use Rattle.indexmap.specs.IndexMap.{IndexMap, insert_entry, keys}
+use Rattle.indexmap.specs.IndexMap.{insert_entry}
 use Rattle.mm_spec.specs.Text.{Bytes, is_in}
 use Rattle.mm_spec.specs.Frame.{place_of}
 use Rattle.mm_database.specs.declared.name.Name.{Name}
@@ -58,13 +58,13 @@ pub map_len : {V : Type 0} (es : List (Name × V))
     → length es ≡ length (map (λ x. x.bytes.now) (keys_of es))
 map_len es = sym (length-map (keys_of es) (λ x. x.bytes.now) ∙ length-map es (λ e. e.0))
 
--- the number of a name that the map doesn't have
-pub missing_number : {V S : Type 0} (w : Bytes) (m : IndexMap Name V S) → find m w ≡ None
-    → length m.entries ≡ place_of w (names_of m)
-missing_number w m h =
-    map_len m.entries
-    ∙ missing_place w (names_of m)
-    (sym (keys_in w (keys m)) ∙ sym (is_some-lookup (λ k. bytes_eq w k.bytes.now) m.entries)
+-- the number of a name that isn't there
+pub missing_number : {V : Type 0} (w : Bytes) (es : List (Name × V)) → find es w ≡ None
+    → length es ≡ place_of w (names_of es)
+missing_number w es h =
+    map_len es
+    ∙ missing_place w (names_of es)
+    (sym (keys_in w (keys_of es)) ∙ sym (is_some-lookup (λ k. bytes_eq w k.bytes.now) es)
     ∙ ap is_some h)
 
 -- a name's place
@@ -81,7 +81,7 @@ pub on_then : {A E : Type 0} {P Q : Type 0} (r : Result A E) → OnOk r P → (P
 on_then (Ok a) h f = f h
 on_then (Err e) h f = tt
 
--- a name that the map has
+-- a name that is found is there
 pub found_known : {V : Type 0} (w : Bytes) (es : List (Name × V)) (o : Option V)
     → lookup (λ (k : Name). bytes_eq w k.bytes.now) es ≡ o → is_some o ≡ true
     → is_in w (map (λ x. x.bytes.now) (keys_of es)) ≡ true

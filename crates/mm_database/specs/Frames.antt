@@ -1,31 +1,48 @@
 -- The frames of the assertions.
-use Rattle.std.specs.Prelude.{◌≡◌, ℕ, ◌<◌, ◌≤◌, true, List, [], length, get_or, slice_index}
-use Rattle.std.specs.List.{list_any}
+use Rattle.std.specs.Prelude.{◌≡◌, ℕ, ◌<◌, ◌≤◌, ◌⊎◌, List, length, map, slice_get, slice_index}
+use Rattle.std.specs.Prelude.{Option, Some, None, if◌then◌else◌}
+use Rattle.std.specs.List.{list_any, range_with_len}
+use Rattle.std.specs.Option.{option_map}
 use Rattle.mm_spec.specs.Statement.{Statement}
 use Rattle.mm_spec.specs.Scope.{statement_at}
-use Rattle.mm_spec.specs.Derivation.{Pair}
+use Rattle.mm_spec.specs.Derivation.{Pair, pair}
 use Rattle.mm_spec.specs.Frame.{mandatory_hypotheses, mandatory_pairs}
 use Rattle.mm_spec.specs.Citation.{is_assertion}
+use Rattle.mm_outline.specs.Blocks.{never}
+use Rattle.mm_database.specs.declared.frames.Frame.{Frame}
 
--- the frame of an assertion; nothing is required if statement k isn't one
-pub record IsFrame (db : List Statement) (k : ℕ) (hyps : List ℕ) (pairs : List Pair) : Type 0 where
-  pub hypotheses : list_any is_assertion (statement_at db k) ≡ true
-      → hyps ≡ mandatory_hypotheses db k
-  pub disjoint : list_any is_assertion (statement_at db k) ≡ true → pairs ≡ mandatory_pairs db k
+-- what is mandatory for an assertion: hypotheses, by their statements, and pairs of disjoint
+-- variables
+pub record Mandatory : Type 0 where
+  pub hypotheses : List ℕ
+  pub pairs : List Pair
 
--- the frames of the assertions among the first k statements, and for each statement the place of
--- its frame, if it is an assertion
-pub record AreFramesUpTo (db : List Statement) (k : ℕ) (places : List ℕ) (hyps : List (List ℕ))
-    (pairs : List (List Pair)) : Type 0 where
-  pub count : length places ≡ k
-  pub few : length hyps ≤ k
-  pub count_pairs : length pairs ≡ length hyps
-  pub there : (i : ℕ) → i < k → list_any is_assertion (statement_at db i) ≡ true
-      → slice_index places i < length hyps
-  pub each : (i : ℕ) → i < k
-      → IsFrame db i (get_or hyps (slice_index places i) [])
-      (get_or pairs (slice_index places i) [])
+abbrev pub mandatory : List ℕ → List Pair → Mandatory
+mandatory hypotheses pairs = record { hypotheses = hypotheses; pairs = pairs }
 
--- the mandatory hypotheses and pairs of the assertions
-abbrev pub AreFrames : List Statement → List ℕ → List (List ℕ) → List (List Pair) → Type 0
-AreFrames db places hyps pairs = AreFramesUpTo db (length db) places hyps pairs
+abbrev pub mandatory_at : List Statement → ℕ → Mandatory
+mandatory_at db k = mandatory (mandatory_hypotheses db k) (mandatory_pairs db k)
+
+-- what is mandatory for statement k, if it is an assertion
+abbrev pub frame_or_none : List Statement → ℕ → Option Mandatory
+frame_or_none db k =
+    if list_any is_assertion (statement_at db k) then Some (mandatory_at db k) else None
+
+-- the frames of the assertions before statement k, by statements
+abbrev pub frames_before : List Statement → ℕ → List (Option Mandatory)
+frames_before db k = map (frame_or_none db) (range_with_len 0 k)
+
+module _ {A : Type 0} where
+  abbrev pub mandatory_in : Frame A → Mandatory
+  mandatory_in f = mandatory f.hyps.items (map (λ p. pair p.0 p.1) f.pairs.items)
+
+  -- the frame of each statement by its place, none if the place is past the end of the frames
+  abbrev pub placed : List (Frame A) → List ℕ → List (Option Mandatory)
+  placed frames places = map (λ p. option_map mandatory_in (slice_get frames p)) places
+
+-- each place is that of one of the frames, or `never`, which is past their end
+pub record ArePlaces (count : ℕ) (places : List ℕ) : Type 0 where
+  pub no_more : count ≤ length places
+  pub few : count ≤ never
+  pub each : (i : ℕ) → i < length places
+      → (slice_index places i < count) ⊎ (slice_index places i ≡ never)

@@ -1,20 +1,23 @@
 -- The names that the code knows.
 use Rattle.std.specs.Prelude.{◌≡◌, ◌<◌, ℕ, Bool, true, false, ◌&&◌, not, List, Option, None, Some}
 use Rattle.std.specs.Prelude.{bytes_eq, length, map, [], ◌∷◌, ◌++◌, if◌then◌else◌}
-use Rattle.indexmap.specs.IndexMap.{IndexMap, get_by, keys}
+use Rattle.std.specs.Map.{keys_of, lookup}
 use Rattle.mm_spec.specs.Text.{is_in}
 use Rattle.mm_database.specs.declared.name.Name.{Name}
 use Rattle.mm_database.specs.declared.names.Symbol.{Symbol}
 
--- the value that the map has for a word
-module _ {V S : Type 0} where
-  abbrev pub find : IndexMap Name V S → List ℕ → Option V
-  find m w = get_by (λ k. bytes_eq w k.bytes.now) m
+module _ {V : Type 0} where
+  -- what a word stands for, by a list of names
+  abbrev pub find : List (Name × V) → List ℕ → Option V
+  find es w = lookup (λ k. bytes_eq w k.bytes.now) es
 
--- no name of the map is longer than n
-module _ {V S : Type 0} where
-  abbrev pub AreNoLonger : IndexMap Name V S → ℕ → Type 0
-  AreNoLonger m n = (w : List ℕ) → n < length w → find m w ≡ None
+  -- the names of the list, in order
+  abbrev pub names_of : List (Name × V) → List (List ℕ)
+  names_of es = map (λ k. k.bytes.now) (keys_of es)
+
+  -- no name of the list is longer than n
+  abbrev pub AreNoLonger : List (Name × V) → ℕ → Type 0
+  AreNoLonger es n = (w : List ℕ) → n < length w → find es w ≡ None
 
 abbrev pub is_constant_in : Option Symbol → Bool
 is_constant_in None = false
@@ -24,11 +27,6 @@ abbrev pub is_variable_in : Option Symbol → Bool
 is_variable_in None = false
 is_variable_in (Some s) = s.is_variable
 
--- the names that the map has, in order
-module _ {V S : Type 0} where
-  abbrev pub names_of : IndexMap Name V S → List (List ℕ)
-  names_of m = map (λ k. k.bytes.now) (keys m)
-
 -- the names with one more, if it is new
 abbrev pub with_name : List ℕ → List (List ℕ) → List (List ℕ)
 with_name w ns = if is_in w ns then ns else (ns ++ w ∷ [])
@@ -37,3 +35,18 @@ with_name w ns = if is_in w ns then ns else (ns ++ w ∷ [])
 abbrev pub are_distinct : List (List ℕ) → Bool
 are_distinct [] = true
 are_distinct (n ∷ ns) = not (is_in n ns) && are_distinct ns
+
+-- the symbols in the order of their first declarations, each with what is known of it, and the
+-- labels, each with its statement
+pub record KnownNames : Type 0 where
+  pub symbols : List (Name × Symbol)
+  pub labels : List (Name × ℕ)
+
+abbrev pub known_names : List (Name × Symbol) → List (Name × ℕ) → KnownNames
+known_names symbols labels = record { symbols = symbols; labels = labels }
+
+-- no symbol is there twice, and no name is longer than the longest
+pub record IsNameTable (n : KnownNames) (longest_symbol longest_label : ℕ) : Type 0 where
+  pub distinct : are_distinct (names_of n.symbols) ≡ true
+  pub symbols_no_longer : AreNoLonger n.symbols longest_symbol
+  pub labels_no_longer : AreNoLonger n.labels longest_label

@@ -25,7 +25,6 @@ use crate::disjoint_index::are_together;
 use crate::found::Found;
 use crate::frames::Frame;
 use crate::kept::has_label;
-use crate::name::Name;
 use crate::near::are_together_near;
 use crate::reading::Reading;
 use mm_outline::parts::Kind;
@@ -165,8 +164,7 @@ impl<'a, A: Allocator> Database<'a, A> {
             ((j : ℕ)
             → list_any (is_labelled label.now) (statement_at self.now.statements j) ≡ false) }
     {
-        let names = &self.read.names;
-        names.labels.get(Name { bytes: label }).copied()
+        self.read.names.labelled(label)
     }
 
     /// Returns the symbols of a statement, the typecode first if it has one. A `${` or `$}` has no
@@ -204,11 +202,7 @@ impl<'a, A: Allocator> Database<'a, A> {
         requires { symbol < length (symbol_names self.now.statements) }
         ensures { slice_get (symbol_names self.now.statements) symbol ≡ Some result.now }
     {
-        let names = &self.read.names;
-        match names.symbols.get_index(symbol.number() as usize) {
-            Some((name, _)) => name.bytes,
-            None => unreachable!("each symbol has a name"),
-        }
+        self.read.names.name(symbol.number() as usize)
     }
 
     /// Whether a symbol is a variable.
@@ -237,8 +231,7 @@ impl<'a, A: Allocator> Database<'a, A> {
         ensures pairs { map (λ p. pair p.0 p.1) result.now.pairs.items
             ≡ mandatory_pairs self.now.statements assertion }
     {
-        let place = self.found.beside.frames.places[assertion as usize];
-        &self.found.beside.frames.list[place as usize]
+        self.found.beside.frames.of(assertion)
     }
 
     /// Whether a `$d` that is active at the statement, or at the end, has both variables. Always

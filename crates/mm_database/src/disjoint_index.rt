@@ -4,25 +4,25 @@
 ghost use Rattle.std.specs.Prelude.{◌≡◌, ◌≢◌, ◌<◌, ◌≤◌, ◌+◌, ◌-◌, ◌&&◌, ◌||◌, ℕ, OnOk};
 ghost use Rattle.std.specs.Prelude.{length, get_or, nat_eq, nat_lt, nat_le, true, false};
 ghost use Rattle.mm_outline.specs.Blocks.{end_of};
-ghost use Rattle.mm_database.specs.DisjointIndex.{is_live, IsOrdered};
+ghost use Rattle.mm_database.specs.DisjointIndex.{disjoint_lists, is_live, IsOrdered};
 ghost use Rattle.mm_database.specs.Pairs.{has_pair, AreRising, is_before};
 ghost use Rattle.mm_database.specs.Starts.{IsStart, AreStarts};
 
 use mm_outline::blocks::Blocks;
 use mm_outline::symbol::Sym;
 use std::alloc::{AllocError, Allocator};
+use std::marker::Model;
 
 /// The `$d` statements by their variables.
 pub struct DisjointIndex<A: Allocator> {
     /// Each variable with each `$d` that has it, in ascending order.
-    pub pairs: Vec<(u32, u32), A>,
+    pairs: Vec<(u32, u32), A>,
     /// For each pair the index of an earlier one, or its own. All pairs from there up to it have
     /// its variable, and their blocks end no later than its own. So if its block is closed, all of
     /// them are skipped at once.
-    pub skips: Vec<usize, A>,
+    skips: Vec<usize, A>,
     /// For each symbol up to the last that has pairs, the number of pairs of symbols before it.
     starts: Vec<usize, A>,
-    ghost starts_are: { AreStarts pairs.items starts.items },
 }
 
 /// Lets all fields go in one call, so that a proof has one step for it at each exit.
@@ -36,6 +36,17 @@ impl<A: Allocator> Drop for DisjointIndex<A> {
     }
 }
 
+impl<A: Allocator> Model for DisjointIndex<A> {
+    ghost use Rattle.mm_database.specs.DisjointIndex.{DisjointLists, disjoint_lists};
+    ghost use Rattle.mm_database.specs.Starts.{AreStarts};
+
+    ghost Value = { DisjointLists };
+
+    ghost view = { λ i. disjoint_lists i.pairs.items i.skips.items };
+
+    ghost invariant = { λ i. AreStarts i.pairs.items i.starts.items };
+}
+
 impl<A: Allocator> DisjointIndex<A> {
     /// Returns the index with these pairs, skips and starts.
     pub fn new(
@@ -44,8 +55,7 @@ impl<A: Allocator> DisjointIndex<A> {
         starts: Vec<usize, A>,
     ) -> DisjointIndex<A>
         requires { AreStarts pairs.items starts.items }
-        ensures pairs { result.pairs ≡ pairs }
-        ensures skips { result.skips ≡ skips }
+        ensures { result ≡ disjoint_lists pairs.items skips.items }
     {
         DisjointIndex {
             pairs,
@@ -103,15 +113,11 @@ fn back<A: Allocator>(
     at: u32,
 ) -> usize
     requires some { 0 < left }
-    requires within { left ≤ length disjoint_index.now.pairs.items }
-    requires ordered { IsOrdered blocks.now disjoint_index.now.pairs.items
-        disjoint_index.now.skips.items }
+    requires within { left ≤ length disjoint_index.now.pairs }
+    requires ordered { IsOrdered blocks.now disjoint_index.now }
     ensures less { result < left }
     ensures passed { (p : ℕ) → result ≤ p → p + 1 < left
-        → nat_le at
-        (end_of blocks.now
-        (get_or disjoint_index.now.pairs.items p (0, 0)).1)
-        ≡ false }
+        → nat_le at (end_of blocks.now (get_or disjoint_index.now.pairs p (0, 0)).1) ≡ false }
 {
     if blocks.is_open_at(disjoint_index.pairs[left - 1].1, at) {
         left - 1
@@ -128,16 +134,13 @@ pub fn add_active<A: Allocator>(
     at: u32,
     into: &mut Vec<(u32, u32), A>,
 ) -> Result<(), AllocError>
-    requires ordered { IsOrdered blocks.now disjoint_index.now.pairs.items
-        disjoint_index.now.skips.items }
+    requires ordered { IsOrdered blocks.now disjoint_index.now }
     ensures { OnOk result
         ((j y : ℕ)
         → has_pair into.new.items j y
         ≡ (has_pair into.old.items j y
         || (nat_eq y symbol
-        && (has_pair disjoint_index.now.pairs.items symbol j
-        && is_live
-        blocks.now j at)))) }
+        && (has_pair disjoint_index.now.pairs symbol j && is_live blocks.now j at)))) }
 {
     let pairs = disjoint_index.pairs.as_slice();
     let starts = disjoint_index.starts.as_slice();
@@ -161,17 +164,12 @@ pub(crate) fn are_together<A: Allocator>(
     y: Sym,
     at: u32,
 ) -> bool
-    requires ordered { IsOrdered blocks.now disjoint_index.now.pairs.items
-        disjoint_index.now.skips.items }
+    requires ordered { IsOrdered blocks.now disjoint_index.now }
     ensures found { result ≡ true
-        → (j : ℕ) × (has_pair disjoint_index.now.pairs.items x j ≡ true)
-        × (has_pair disjoint_index.now.pairs.items y j ≡ true)
-        × (is_live blocks.now j at
-        ≡ true) }
-    ensures none { result ≡ false → (j : ℕ) → has_pair disjoint_index.now.pairs.items x j ≡ true
-        → has_pair disjoint_index.now.pairs.items y j ≡ true
-        → is_live blocks.now j at
-        ≡ false }
+        → (j : ℕ) × (has_pair disjoint_index.now.pairs x j ≡ true)
+        × (has_pair disjoint_index.now.pairs y j ≡ true) × (is_live blocks.now j at ≡ true) }
+    ensures none { result ≡ false → (j : ℕ) → has_pair disjoint_index.now.pairs x j ≡ true
+        → has_pair disjoint_index.now.pairs y j ≡ true → is_live blocks.now j at ≡ false }
 {
     let pairs = disjoint_index.pairs.as_slice();
     let starts = disjoint_index.starts.as_slice();

@@ -1,8 +1,14 @@
 //! What is kept beside the statements: the frames of the assertions, and the `$d` by variables.
 
+ghost use Rattle.std.specs.Prelude.{◌≡◌, ◌<◌, ◌^◌, ◌++◌, ◌∷◌, [], Some, None, OnOk, IsSome};
+ghost use Rattle.std.specs.Prelude.{get_or, length};
+ghost use Rattle.mm_database.specs.Frames.{mandatory_in};
+
 use crate::disjoint_index::DisjointIndex;
+use mm_outline::blocks::NEVER;
 use mm_outline::symbol::Sym;
-use std::alloc::Allocator;
+use std::alloc::{AllocError, Allocator};
+use std::marker::Model;
 
 /// The frame of an assertion (Metamath book, "Frames").
 #[derive(Drop)]
@@ -14,17 +20,75 @@ pub struct Frame<A: Allocator> {
     pub pairs: Vec<(Sym, Sym), A>,
 }
 
-/// The frames of the assertions in file order, and for each statement the number of frames before
-/// it, which is the place of its own frame if it is an assertion.
+/// The frame of each statement that is an assertion.
 pub struct Frames<A: Allocator> {
-    pub list: Vec<Frame<A>, A>,
-    pub places: Vec<u32, A>,
+    /// The frames, in file order.
+    list: Vec<Frame<A>, A>,
+    /// For each statement the place of its frame in the list, or `NEVER` if it is no assertion.
+    places: Vec<u32, A>,
 }
 
 /// Lets all fields go in one call, so that a proof has one step for it at each exit.
 impl<A: Allocator> Drop for Frames<A> {
     fn drop(self) {
         let Self { list: _, places: _ } = self;
+    }
+}
+
+impl<A: Allocator> Model for Frames<A> {
+    ghost use Rattle.std.specs.Prelude.{List, Option, length};
+    ghost use Rattle.mm_database.specs.Frames.{Mandatory, placed, ArePlaces};
+
+    ghost Value = { List (Option Mandatory) };
+
+    ghost view = { λ f. placed f.list.items f.places.items };
+
+    ghost invariant = { λ f. ArePlaces (length f.list.items) f.places.items };
+}
+
+impl<A: Allocator + Copy> Frames<A> {
+    /// Returns the frames before the first statement: none.
+    pub fn none(alloc: A) -> Frames<A>
+        ensures { result ≡ [] }
+    {
+        Frames {
+            list: Vec::new(alloc),
+            places: Vec::new(alloc),
+        }
+    }
+}
+
+impl<A: Allocator> Frames<A> {
+    /// Adds the next statement, an assertion, with its frame.
+    pub fn add(&mut self, frame: Frame<A>) -> Result<(), AllocError>
+        requires { length self.old < 2 ^ 31 }
+        ensures { OnOk result (self.new ≡ self.old ++ Some (mandatory_in frame) ∷ []) }
+    {
+        let place = self.list.len() as u32;
+        self.places.push(place)?;
+        if self.list.push(frame).is_err() {
+            self.places.pop();
+            return Err(AllocError);
+        }
+        Ok(())
+    }
+
+    /// Adds the next statement, which is no assertion.
+    pub fn add_none(&mut self) -> Result<(), AllocError>
+        ensures { OnOk result (self.new ≡ self.old ++ None ∷ []) }
+    {
+        self.places.push(NEVER)?;
+        Ok(())
+    }
+
+    /// Returns the frame of an assertion.
+    #[inline(always)]
+    pub(crate) fn of(&self, assertion: u32) -> &Frame<A>
+        requires { IsSome (get_or self.now assertion None) }
+        ensures { get_or self.now assertion None ≡ Some (mandatory_in result.now) }
+    {
+        let place = self.places[assertion as usize];
+        &self.list[place as usize]
     }
 }
 

@@ -1,17 +1,18 @@
 //! The names before a statement: symbols and labels.
 
-ghost use Rattle.std.specs.Prelude.{◌≡◌, OnOk, IfOk, IfSome, true, false, length, slice_get};
+ghost use Rattle.std.specs.Prelude.{◌≡◌, ◌<◌, OnOk, IfOk, IfSome, false, length, slice_get};
 ghost use Rattle.std.specs.Prelude.{get_or};
-ghost use Rattle.std.specs.Prelude.{ℕ, List, [], is_some, Some, None, if◌then◌else◌, bytes_eq};
+ghost use Rattle.std.specs.Prelude.{ℕ, List, [], is_some, Some, if◌then◌else◌, bytes_eq};
 ghost use Rattle.std.specs.Option.{option_map};
 ghost use Rattle.mm_spec.specs.Frame.{place_of};
-ghost use Rattle.mm_database.specs.Names.{find, names_of, with_name, are_distinct, AreNoLonger};
+ghost use Rattle.mm_database.specs.Names.{find, known_names, names_of, with_name};
 ghost use Rattle.mm_database.specs.Names.{is_variable_in};
 
 use crate::name::Name;
 use indexmap::IndexMap;
 use std::alloc::{AllocError, Allocator};
 use std::hash::{BuildHasherDefault, FoldHasher};
+use std::marker::Model;
 
 /// What is known of a symbol: a constant, or a variable with its last declaration, its last `$f`
 /// and the typecode of this `$f`.
@@ -32,9 +33,9 @@ const GUESSES: usize = 2048;
 const NO_GUESS: usize = 18_446_744_073_709_551_615;
 
 /// The symbols and the labels.
-pub struct Names<'a, A: Allocator> {
-    pub symbols: Map<'a, Symbol<'a>, A>,
-    pub labels: Map<'a, u32, A>,
+pub struct NameTable<'a, A: Allocator> {
+    symbols: Map<'a, Symbol<'a>, A>,
+    labels: Map<'a, u32, A>,
     /// The numbers of symbols, by the first byte, the last byte and the length of their names. A
     /// guess is verified before use, so the usual symbol is found by comparing it with one name.
     guesses: Vec<usize, A>,
@@ -43,13 +44,10 @@ pub struct Names<'a, A: Allocator> {
     longest_symbol: usize,
     /// The same for labels.
     longest_label: usize,
-    ghost distinct: { are_distinct (names_of symbols) ≡ true },
-    ghost symbols_no_longer: { AreNoLonger symbols longest_symbol },
-    ghost labels_no_longer: { AreNoLonger labels longest_label },
 }
 
 /// Lets all fields go in one call, so that a proof has one step for it at each exit.
-impl<'a, A: Allocator> Drop for Names<'a, A> {
+impl<'a, A: Allocator> Drop for NameTable<'a, A> {
     fn drop(self) {
         let Self {
             symbols: _,
@@ -59,6 +57,17 @@ impl<'a, A: Allocator> Drop for Names<'a, A> {
             longest_label: _,
         } = self;
     }
+}
+
+impl<'a, A: Allocator> Model for NameTable<'a, A> {
+    ghost use Rattle.mm_database.specs.Names.{KnownNames, known_names, IsNameTable};
+
+    ghost Value = { KnownNames };
+
+    ghost view = { λ t. known_names t.symbols.entries t.labels.entries };
+
+    ghost invariant = { λ t. IsNameTable (known_names t.symbols.entries t.labels.entries)
+        t.longest_symbol t.longest_label };
 }
 
 /// Returns the index of the guess for a word.
@@ -80,14 +89,12 @@ fn note_guess<A: Allocator>(guesses: &mut Vec<usize, A>, word: &[u8], number: us
     }
 }
 
-/// Returns names without symbols and labels.
-pub fn no_names<'a, A: Allocator + Copy>(alloc: A) -> Result<Names<'a, A>, AllocError>
-    ensures symbols { IfOk result (λ n. (w : List ℕ) → find n.symbols w ≡ None) }
-    ensures labels { IfOk result (λ n. (w : List ℕ) → find n.labels w ≡ None) }
-    ensures names { IfOk result (λ n. names_of n.symbols ≡ []) }
+/// Returns a table without symbols and labels.
+pub fn no_names<'a, A: Allocator + Copy>(alloc: A) -> Result<NameTable<'a, A>, AllocError>
+    ensures { IfOk result (λ t. t ≡ known_names [] []) }
 {
     let guesses = vec![in alloc; NO_GUESS; GUESSES]?;
-    Ok(Names {
+    Ok(NameTable {
         symbols: IndexMap::new(alloc),
         labels: IndexMap::new(alloc),
         guesses,
@@ -96,7 +103,29 @@ pub fn no_names<'a, A: Allocator + Copy>(alloc: A) -> Result<Names<'a, A>, Alloc
     })
 }
 
-impl<'a, A: Allocator + Copy> Names<'a, A> {
+impl<'a, A: Allocator> NameTable<'a, A> {
+    /// Returns the name of the symbol with this number.
+    #[inline(always)]
+    pub(crate) fn name(&self, number: usize) -> &'a [u8]
+        requires { number < length (names_of self.now.symbols) }
+        ensures { slice_get (names_of self.now.symbols) number ≡ Some result.now }
+    {
+        match self.symbols.get_index(number) {
+            Some((name, _)) => name.bytes,
+            None => unreachable!("each symbol has a name"),
+        }
+    }
+
+    /// Returns the statement of a label, or `None` if the word isn't a label.
+    #[inline(always)]
+    pub(crate) fn labelled(&self, word: &[u8]) -> Option<u32>
+        ensures { result ≡ find self.now.labels word.now }
+    {
+        self.labels.get(Name { bytes: word }).copied()
+    }
+}
+
+impl<'a, A: Allocator + Copy> NameTable<'a, A> {
     /// Returns the number of the guessed symbol and the symbol, if the guess is right.
     #[inline(always)]
     fn guessed(&self, word: &[u8]) -> Option<(usize, &Symbol<'a>)>

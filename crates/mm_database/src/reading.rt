@@ -1,6 +1,6 @@
 //! What was read of a text: its statements and their names.
 
-use crate::names::Names;
+use crate::names::NameTable;
 use crate::statements::Statements;
 use mm_spec::Fault;
 use std::alloc::Allocator;
@@ -9,7 +9,7 @@ use std::alloc::Allocator;
 /// if any.
 pub struct Reading<'a, A: Allocator> {
     pub statements: Statements<'a, A>,
-    pub names: Names<'a, A>,
+    pub names: NameTable<'a, A>,
     pub fault: Option<Fault>,
 }
 

@@ -20,7 +20,7 @@ use Rattle.mm_spec.proofs.BoolLaw.{same_tests}
 use Rattle.mm_spec.proofs.MemberLaw.{any_witness, any_of, same_any, member_flat}
 use Rattle.mm_spec.proofs.ListLaw.{member_at}
 use Rattle.mm_outline.specs.Blocks.{never}
-use Rattle.mm_frame.specs.Latest.{is_on}
+use Rattle.mm_frame.specs.Latest.{is_staying}
 use Rattle.mm_database.specs.Parsed.{IsSound, typed_at}
 use Rattle.mm_frame.specs.Hypotheses.{AreTyped, is_float_of}
 use Rattle.mm_spec.proofs.RisingLaw.{Rising, filter_is}
@@ -94,7 +94,7 @@ module _ (db : List Statement) (k : ℕ) where
       let j = get_or xs i 0 in
       let e =
       sym (active_member is_essential db essential_local k j) ∙ sym (h j) ∙ member_at xs i 0 l in
-      ltb-true j k (and_parts (nat_lt j k) (is_on is_essential db j k) e).0
+      ltb-true j k (and_parts (nat_lt j k) (is_staying is_essential db j k) e).0
 
   variable_named : (x : ℕ) → is_variable_number db x ≡ true → x < length (symbol_names db)
   variable_named x e = by (cases_lt x (length (symbol_names db)))

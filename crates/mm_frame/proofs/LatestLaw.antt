@@ -17,7 +17,7 @@ use Rattle.mm_spec.specs.Frame.{active_of}
 use Rattle.mm_spec.proofs.BoolLaw.{same_tests}
 use Rattle.mm_spec.proofs.MemberLaw.{member_push, IsLocalTest, active_member}
 use Rattle.mm_outline.specs.Blocks.{never}
-use Rattle.mm_frame.specs.Latest.{is_on, IsCandidate, IsLatest, IsWalked}
+use Rattle.mm_frame.specs.Latest.{is_staying, IsCandidate, IsLatest, IsWalked}
 use Rattle.mm_frame.proofs.NestedLaw.{stays_earlier, stays_nested}
 
 -- how far the search still has to go
@@ -25,14 +25,15 @@ abbrev pub height : ℕ → ℕ
 height last = cond (nat_eq last never) 0 (last + 1)
 
 module _ (test : Statement → Bool) (db : List Statement) where
-  pub on_earlier : (i j k : ℕ) → i ≤ j → j ≤ k → is_on test db i k ≡ true → is_on test db i j ≡ true
+  pub on_earlier : (i j k : ℕ) → i ≤ j → j ≤ k → is_staying test db i k ≡ true
+      → is_staying test db i j ≡ true
   on_earlier i j k h l e =
       ap₂ (λ a b. a && b) (and_parts (list_any test (statement_at db i)) (stays db i k) e).0
       (stays_earlier db i j k h l
       (and_parts (list_any test (statement_at db i)) (stays db i k) e).1)
 
-  pub on_nested : (i j k : ℕ) → i < j → j ≤ k → is_on test db j k ≡ true
-      → is_on test db i k ≡ is_on test db i j
+  pub on_nested : (i j k : ℕ) → i < j → j ≤ k → is_staying test db j k ≡ true
+      → is_staying test db i k ≡ is_staying test db i j
   on_nested i j k h l e =
       ap (λ b. list_any test (statement_at db i) && b)
       (stays_nested db i j k h l (and_parts (list_any test (statement_at db j)) (stays db j k) e).1)
@@ -51,15 +52,15 @@ module _ (test : Statement → Bool) (db : List Statement) where
   }
     where
       by : (i : ℕ) → i < k → (next < i) ⊎ (next ≡ never) → (i ≡ last) ⊎ ((i < last) ⊎ (last < i))
-          → is_on test db i k ≡ false
+          → is_staying test db i k ≡ false
       by i h o (inr (inl l)) =
-          false_from_ne_true (is_on test db i k)
+          false_from_ne_true (is_staying test db i k)
           (λ t. true≢false
           (sym (on_earlier i last k (omega arith) (let g = (c.found ne).0 in omega (arith, g)) t)
           ∙ x.after i l o))
       by i h o (inl e) =
-          subst (λ i. is_on test db i k ≡ false) (sym e)
-          (false_from_ne_true (is_on test db last k)
+          subst (λ i. is_staying test db i k ≡ false) (sym e)
+          (false_from_ne_true (is_staying test db last k)
           (λ t. true≢false
           (sym (and_parts (list_any test (statement_at db last)) (stays db last k) t).1 ∙ out)))
       by i h o (inr (inr g)) = c.after i h (inl g)
@@ -96,9 +97,9 @@ module _ (test : Statement → Bool) (db : List Statement) where
   }
     where
       by : (i : ℕ) → i < k + 1 → (last < i) ⊎ (last ≡ never) → (i < k) ⊎ (k ≤ i)
-          → is_on test db i (k + 1) ≡ false
+          → is_staying test db i (k + 1) ≡ false
       by i h o (inl l) =
-          false_from_ne_true (is_on test db i (k + 1))
+          false_from_ne_true (is_staying test db i (k + 1))
           (λ t. true≢false
           (sym (on_earlier i k (k + 1) (omega arith) (omega arith) t) ∙ x.after i l o))
       by i h o (inr g) =
@@ -132,7 +133,7 @@ module _ (test : Statement → Bool) (db : List Statement) where
     all = λ i h e. inr (by i h e (cases_eq last never) (cases_lt last i));
   }
     where
-      by : (i : ℕ) → i < k → is_on test db i k ≡ true → (last ≡ never) ⊎ (last ≢ never)
+      by : (i : ℕ) → i < k → is_staying test db i k ≡ true → (last ≡ never) ⊎ (last ≢ never)
           → (last < i) ⊎ (i ≤ last) → (last ≢ never) × (i ≤ last)
       by i h e (inl n) b = absurd (true≢false (sym e ∙ x.after i h (inr n)))
       by i h e (inr n) (inl l) = absurd (true≢false (sym e ∙ x.after i h (inl l)))
@@ -152,20 +153,21 @@ module _ (test : Statement → Bool) (db : List Statement) where
     all = λ i h e. all i h e (w.all i h e);
   }
     where
-      here : (last < k) × (is_on test db last k ≡ true)
+      here : (last < k) × (is_staying test db last k ≡ true)
       here = w.found ne
 
-      only : (i : ℕ) → is_member (xs ++ last ∷ []) i ≡ true → (i < k) × (is_on test db i k ≡ true)
+      only : (i : ℕ) → is_member (xs ++ last ∷ []) i ≡ true
+          → (i < k) × (is_staying test db i k ≡ true)
       only i e = by (is_member xs i) (nat_eq i last) refl refl (sym (member_push xs last i) ∙ e)
         where
           by : (a b : Bool) → is_member xs i ≡ a → nat_eq i last ≡ b → (a || b) ≡ true
-              → (i < k) × (is_on test db i k ≡ true)
+              → (i < k) × (is_staying test db i k ≡ true)
           by true b p q t = w.only i p
           by false true p q t =
-              subst (λ i. (i < k) × (is_on test db i k ≡ true)) (sym (eqb-true i last q)) here
+              subst (λ i. (i < k) × (is_staying test db i k ≡ true)) (sym (eqb-true i last q)) here
           by false false p q t = absurd (true≢false (sym t))
 
-      all : (i : ℕ) → i < k → is_on test db i k ≡ true
+      all : (i : ℕ) → i < k → is_staying test db i k ≡ true
           → (is_member xs i ≡ true) ⊎ ((last ≢ never) × (i ≤ last))
           → (is_member (xs ++ last ∷ []) i ≡ true) ⊎ ((next ≢ never) × (i ≤ next))
       all i h e (inl m) = inl (member_push xs last i ∙ ap (λ b. b || nat_eq i last) m)
@@ -194,15 +196,16 @@ module _ (test : Statement → Bool) (db : List Statement) where
   pub walked_end : IsLocalTest test → (k : ℕ) (xs : List ℕ) (last : ℕ) → IsWalked test db k xs last
       → last ≡ never → (i : ℕ) → is_member xs i ≡ is_member (active_of test db k) i
   walked_end local k xs last w e i =
-      same_tests (is_member xs i) (nat_lt i k && is_on test db i k)
+      same_tests (is_member xs i) (nat_lt i k && is_staying test db i k)
       (λ m. let f = w.only i m in ap₂ (λ a b. a && b) (lt-ltb i k f.0) f.1)
       (λ t. by t (cases_lt i k))
       ∙ sym (active_member test db local k i)
     where
-      by : (nat_lt i k && is_on test db i k) ≡ true → (i < k) ⊎ (k ≤ i) → is_member xs i ≡ true
+      by : (nat_lt i k && is_staying test db i k) ≡ true → (i < k) ⊎ (k ≤ i) → is_member xs i ≡ true
       by t (inr l) =
-          absurd (true≢false (sym (and_parts (nat_lt i k) (is_on test db i k) t).0 ∙ le-ltb i k l))
-      by t (inl l) = go (w.all i l (and_parts (nat_lt i k) (is_on test db i k) t).1)
+          absurd (true≢false
+          (sym (and_parts (nat_lt i k) (is_staying test db i k) t).0 ∙ le-ltb i k l))
+      by t (inl l) = go (w.all i l (and_parts (nat_lt i k) (is_staying test db i k) t).1)
         where
           go : (is_member xs i ≡ true) ⊎ ((last ≢ never) × (i ≤ last)) → is_member xs i ≡ true
           go (inl m) = m

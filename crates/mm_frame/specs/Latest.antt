@@ -9,18 +9,18 @@ use Rattle.mm_outline.specs.Blocks.{never}
 
 module _ (test : Statement → Bool) (db : List Statement) where
   -- statement j is of the kind, and its block is open at k
-  abbrev pub is_on : ℕ → ℕ → Bool
-  is_on j k = list_any test (statement_at db j) && stays db j k
+  abbrev pub is_staying : ℕ → ℕ → Bool
+  is_staying j k = list_any test (statement_at db j) && stays db j k
 
   -- no statement of the kind after `last` is active at k; `last` may be `never`, for none
   pub record IsCandidate (k last : ℕ) : Type 0 where
     pub found : last ≢ never → (last < k) × (list_any test (statement_at db last) ≡ true)
-    pub after : (i : ℕ) → i < k → (last < i) ⊎ (last ≡ never) → is_on i k ≡ false
+    pub after : (i : ℕ) → i < k → (last < i) ⊎ (last ≡ never) → is_staying i k ≡ false
 
   -- the same, and `last` is active at k
   pub record IsLatest (k last : ℕ) : Type 0 where
-    pub found : last ≢ never → (last < k) × (is_on last k ≡ true)
-    pub after : (i : ℕ) → i < k → (last < i) ⊎ (last ≡ never) → is_on i k ≡ false
+    pub found : last ≢ never → (last < k) × (is_staying last k ≡ true)
+    pub after : (i : ℕ) → i < k → (last < i) ⊎ (last ≡ never) → is_staying i k ≡ false
 
   -- the last one that is active at each statement and at the end
   pub record AreLatest (lasts : List ℕ) : Type 0 where
@@ -29,7 +29,7 @@ module _ (test : Statement → Bool) (db : List Statement) where
 
   -- the list has only ones that are active at k, and all of these that are after `last`
   pub record IsWalked (k : ℕ) (xs : List ℕ) (last : ℕ) : Type 0 where
-    pub found : last ≢ never → (last < k) × (is_on last k ≡ true)
-    pub only : (i : ℕ) → is_member xs i ≡ true → (i < k) × (is_on i k ≡ true)
-    pub all : (i : ℕ) → i < k → is_on i k ≡ true
+    pub found : last ≢ never → (last < k) × (is_staying last k ≡ true)
+    pub only : (i : ℕ) → is_member xs i ≡ true → (i < k) × (is_staying i k ≡ true)
+    pub all : (i : ℕ) → i < k → is_staying i k ≡ true
         → (is_member xs i ≡ true) ⊎ ((last ≢ never) × (i ≤ last))

@@ -11,4 +11,4 @@ module _ {A : Type 0} where
     pub sound : IsSound s.statements.now.list
     pub essentials_are : AreLatest is_essential s.statements.now.list s.essentials.now
     pub index_is : IsDisjointIndex s.statements.now.list s.statements.now.blocks
-        s.disjoint_index.now.pairs.items s.disjoint_index.now.skips.items
+        s.disjoint_index.now

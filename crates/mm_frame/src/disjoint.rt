@@ -65,14 +65,13 @@ fn add_all_active<A: Allocator>(
     at: u32,
     into: &mut Vec<(u32, u32), A>,
 ) -> Result<(), AllocError>
-    requires ordered { IsOrdered blocks.now disjoint_index.now.pairs.items
-        disjoint_index.now.skips.items }
+    requires ordered { IsOrdered blocks.now disjoint_index.now }
     ensures { OnOk result
         ((j y : ℕ)
         → has_pair into.new.items j y
         ≡ (has_pair into.old.items j y
         || (is_member symbols.now y
-        && (has_pair disjoint_index.now.pairs.items y j && is_live blocks.now j at)))) }
+        && (has_pair disjoint_index.now.pairs y j && is_live blocks.now j at)))) }
 {
     for symbol in symbols {
         add_active(blocks, disjoint_index, *symbol, at, into)?;

@@ -79,8 +79,7 @@ pub(crate) fn disjoint_index_of<A: Allocator + Copy>(
     statements: &Statements<A>,
 ) -> Result<DisjointIndex<A>, AllocError>
     ensures { IfOk result
-        (λ m. IsDisjointIndex statements.now.list statements.now.blocks m.pairs.items
-        m.skips.items) }
+        (λ m. IsDisjointIndex statements.now.list statements.now.blocks m) }
 {
     let pairs = pairs_by_symbol(alloc, statements)?;
     let skips = skips_of(alloc, statements.blocks(), &pairs)?;

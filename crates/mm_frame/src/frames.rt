@@ -1,14 +1,13 @@
 //! The frames of the assertions.
 
-ghost use Rattle.std.specs.Prelude.{◌≡◌, ◌<◌, ◌+◌, ℕ, IfOk, OnOk, length, map, slice_index};
-ghost use Rattle.mm_spec.specs.Derivation.{pair};
+ghost use Rattle.std.specs.Prelude.{◌≡◌, ◌<◌, ◌+◌, ℕ, IfOk, OnOk, length, slice_index};
 ghost use Rattle.mm_spec.specs.Frame.{symbol_names};
-ghost use Rattle.mm_database.specs.Frames.{IsFrame};
+ghost use Rattle.mm_database.specs.Frames.{frames_before, mandatory_at, mandatory_in};
 ghost use Rattle.mm_database.specs.DisjointIndex.{IsDisjointIndex};
 ghost use Rattle.mm_frame.specs.Sources.{AreSources};
 ghost use Rattle.mm_database.specs.Parsed.{IsSound};
 ghost use Rattle.mm_frame.specs.Hypotheses.{AreReady, AreTyped, IsFresh};
-ghost use Rattle.mm_database.specs.Beside.{HasFrames, HasFramesUpTo, IsBeside};
+ghost use Rattle.mm_database.specs.Beside.{IsBeside};
 
 use crate::active::latest_essentials;
 use crate::disjoint::pairs_of;
@@ -90,8 +89,7 @@ fn frame_of<A: Allocator + Copy>(
         (IsFresh (length (symbol_names sources.now.statements.now.list)) (assertion + 1)
         scratch.new.seen.items) }
     ensures frame { IfOk result
-        (λ f. IsFrame sources.now.statements.now.list assertion f.hyps.items
-        (map (λ p. pair p.0 p.1) f.pairs.items)) }
+        (λ f. mandatory_in f ≡ mandatory_at sources.now.statements.now.list assertion) }
 {
     hypotheses(
         sources,
@@ -113,7 +111,7 @@ fn frame_of<A: Allocator + Copy>(
     Ok(Frame { hyps, pairs })
 }
 
-/// Appends the place of a statement's frame, and the frame if the statement is an assertion.
+/// Adds a statement, with its frame if it is an assertion.
 fn add_frame<A: Allocator + Copy>(
     alloc: A,
     sources: &Sources<A>,
@@ -126,19 +124,19 @@ fn add_frame<A: Allocator + Copy>(
     requires statement { statement < length sources.now.statements.now.list }
     requires ready { AreReady sources.now.statements.now.list statement typed.now
         scratch.old.seen.items }
-    requires frames { HasFramesUpTo sources.now.statements.now.list statement frames.old }
+    requires frames { frames.old ≡ frames_before sources.now.statements.now.list statement }
     ensures seen { OnOk result
         (IsFresh (length (symbol_names sources.now.statements.now.list)) (statement + 1)
         scratch.new.seen.items) }
     ensures frames { OnOk result
-        (HasFramesUpTo sources.now.statements.now.list (statement + 1) frames.new) }
+        (frames.new ≡ frames_before sources.now.statements.now.list (statement + 1)) }
 {
-    frames.places.push(frames.list.len() as u32)?;
     if sources.statements.is_assertion(statement) {
         let frame = frame_of(alloc, sources, typed, statement, scratch)?;
-        frames.list.push(frame)?;
+        frames.add(frame)
+    } else {
+        frames.add_none()
     }
-    Ok(())
 }
 
 /// Returns the frames of the assertions.
@@ -147,9 +145,9 @@ pub(crate) fn frames_of<A: Allocator + Copy>(
     statements: &Statements<A>,
     disjoint_index: &DisjointIndex<A>,
 ) -> Result<Frames<A>, AllocError>
-    requires { IsDisjointIndex statements.now.list statements.now.blocks
-        disjoint_index.now.pairs.items disjoint_index.now.skips.items }
-    ensures { IfOk result (λ v. HasFrames statements.now.list v) }
+    requires { IsDisjointIndex statements.now.list statements.now.blocks disjoint_index.now }
+    ensures { IfOk result
+        (λ v. v ≡ frames_before statements.now.list (length statements.now.list)) }
 {
     let count = statements.len();
     let essentials = latest_essentials(alloc, statements)?;
@@ -166,10 +164,7 @@ pub(crate) fn frames_of<A: Allocator + Copy>(
         had: Vec::new(alloc),
         together: Vec::new(alloc),
     };
-    let mut frames = Frames {
-        list: Vec::new(alloc),
-        places: Vec::new(alloc),
-    };
+    let mut frames = Frames::none(alloc);
     for k in 0..count {
         add_frame(alloc, &sources, &typed, k, &mut scratch, &mut frames)?;
         give_type(statements, k, &mut typed);

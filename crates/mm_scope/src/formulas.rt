@@ -7,7 +7,7 @@ ghost use Rattle.mm_scope.specs.Formulas.{numbers_in, unjudged};
 ghost use Rattle.mm_scope.specs.Scopes.{names_in};
 
 use crate::scope::Scope;
-use mm_database::names::Names;
+use mm_database::names::NameTable;
 use mm_outline::parts::{Kind, Outline};
 use mm_outline::symbol::Sym;
 use mm_spec::Word;
@@ -15,7 +15,7 @@ use std::alloc::{AllocError, Allocator};
 
 /// Appends the numbers of the symbols of the tokens from `from` up to `to`.
 fn number_all<'a, A: Allocator + Copy>(
-    names: &Names<'a, A>,
+    names: &NameTable<'a, A>,
     text: &[u8],
     tokens: &[Word],
     from: u32,

@@ -355,14 +355,14 @@ fn is_repeated<'a, A: Allocator + Copy>(
     requires order { from ≤ at }
     requires within { at < length tokens.now }
     requires seen { is_short ≡ false → (w : List ℕ)
-        → is_some (find seen.old w)
+        → is_some (find seen.old.entries w)
         ≡ is_in w (before_next [] (between text.now tokens.now from at)) }
     ensures repeated { IfOk result
         (λ b. b ≡ is_in (token_at text.now tokens.now at).word
         (before_next [] (between text.now tokens.now from at))) }
     ensures seen { OnOk result
         (is_short ≡ false → (w : List ℕ)
-        → is_some (find seen.new w)
+        → is_some (find seen.new.entries w)
         ≡ is_in w (before_next [] (between text.now tokens.now from (at + 1)))) }
 {
     if is_short {
@@ -378,10 +378,11 @@ fn see<'a, A: Allocator + Copy>(
     seen: &mut Map<'a, u32, A>,
     word: &'a [u8],
 ) -> Result<bool, AllocError>
-    ensures was { IfOk result (λ b. b ≡ is_some (find seen.old word.now)) }
+    ensures was { IfOk result (λ b. b ≡ is_some (find seen.old.entries word.now)) }
     ensures now { OnOk result
         ((w : List ℕ)
-        → find seen.new w ≡ (if bytes_eq word.now w then Some 0 else find seen.old w)) }
+        → find seen.new.entries w
+        ≡ (if bytes_eq word.now w then Some 0 else find seen.old.entries w)) }
 {
     let old = seen.insert(Name { bytes: word }, 0)?;
     Ok(old.is_some())

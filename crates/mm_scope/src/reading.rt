@@ -24,7 +24,7 @@ ghost use Rattle.mm_scope.specs.Keeps.{reading_of};
 
 use crate::scope::Scope;
 use mm_database::formulas::Formulas;
-use mm_database::names::{Names, Symbol, no_names};
+use mm_database::names::{NameTable, Symbol, no_names};
 use mm_database::reading::Reading;
 use mm_database::statements::Statements;
 use mm_outline::blocks::{NEVER, no_blocks};
@@ -234,7 +234,7 @@ pub fn outline<'a, A: Allocator + Copy>(
 
 /// Returns what is known of the symbol after its declaration by the statement `number`.
 fn declared<'a, A: Allocator + Copy>(
-    names: &Names<'a, A>,
+    names: &NameTable<'a, A>,
     is_variable: bool,
     number: u32,
     word: &'a [u8],

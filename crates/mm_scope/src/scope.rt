@@ -7,7 +7,7 @@ ghost use Rattle.mm_scope.specs.Judge.{label_code, typecode_code, floating_code,
 ghost use Rattle.mm_scope.specs.Judge.{typing_code};
 ghost use Rattle.mm_scope.specs.Scopes.{label_in, symbol_in};
 
-use mm_database::names::{Names, Symbol};
+use mm_database::names::{NameTable, Symbol};
 use mm_outline::blocks::{Blocks, NEVER};
 use mm_outline::parts::Kind;
 use mm_spec::Code;
@@ -16,7 +16,7 @@ use std::alloc::Allocator;
 /// The names and the blocks after the statements so far.
 #[derive(Drop)]
 pub struct Scope<'a, A: Allocator> {
-    pub names: Names<'a, A>,
+    pub names: NameTable<'a, A>,
     pub blocks: Blocks<A>,
 }
 

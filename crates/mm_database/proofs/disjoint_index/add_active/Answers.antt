@@ -1,6 +1,7 @@
 use Rattle.std.proofs.Common.{◌≡◌, ℕ, ◌-◌, ◌≤◌, ◌++◌, ◌∷◌, [], List, length, get_or, nat_le}
-use Rattle.std.proofs.Common.{true, false, sym, subst, ap₂, ◌∙◌, arith}
+use Rattle.std.proofs.Common.{true, false, sym, subst, ap, ap₂, ◌∙◌, arith}
 use Rattle.mm_outline.specs.Blocks.{end_of}
+use Rattle.mm_database.specs.DisjointIndex.{DisjointLists}
 use Rattle.mm_database.proofs.DisjointIndexLaw.{added_open, added_closed, added_end, parted_here}
 use Rattle.mm_database.proofs.DisjointIndexLaw.{symbol_here, no_symbol_here}
 use Rattle.mm_database.proofs.disjoint_index.add_active.Goals as goal
@@ -10,12 +11,13 @@ use Rattle.mm_database.proofs.disjoint_index.add_active.Goals.{else-is_open_at}
 pub loop-pairs-preserved : goal.loop-pairs-preserved
 loop-pairs-preserved g c =
     let b = c.args.blocks.now in
-    let ps = c.args.disjoint_index.now.pairs.items in
+    let ps = c.args.disjoint_index.now.pairs in
     let x = c.args.symbol in
     let at = c.args.at in
     let start = c.count_before-left.result in
     let left = c.loop-pairs.left in
-    let v = c.as_slice-pairs.ensures.value in
+    let v =
+    c.as_slice-pairs.ensures.value ∙ ap (λ (i : DisjointLists). i.pairs) c.disjoint_index.view_is in
     let of = c.count_before-left.ensures in
     let parted = parted_here _ ps _ x v c.number.ensures at start of.within of.before of.after in
     let here = c.ends_with.ensures.some c.loop-pairs-test.true in
@@ -55,12 +57,13 @@ loop-pairs-preserved g c =
 pub returns : goal.returns
 returns g c =
     let b = c.args.blocks.now in
-    let ps = c.args.disjoint_index.now.pairs.items in
+    let ps = c.args.disjoint_index.now.pairs in
     let x = c.args.symbol in
     let at = c.args.at in
     let start = c.count_before-left.result in
     let left = c.loop-pairs.left in
-    let v = c.as_slice-pairs.ensures.value in
+    let v =
+    c.as_slice-pairs.ensures.value ∙ ap (λ (i : DisjointLists). i.pairs) c.disjoint_index.view_is in
     let of = c.count_before-left.ensures in
     let parted = parted_here _ ps _ x v c.number.ensures at start of.within of.before of.after in
     let none = c.ends_with.ensures.none c.loop-pairs-test.false in

@@ -3,6 +3,7 @@ use Rattle.std.proofs.Common.{nat_le, sym, subst, ap, ap₂, ◌∙◌, arith, i
 use Rattle.std.proofs.lemmas.Bool.{cases_lt, lt-ltb}
 use Rattle.mm_outline.specs.Blocks.{end_of}
 use Rattle.mm_database.specs.Pairs.{has_pair}
+use Rattle.mm_database.specs.DisjointIndex.{DisjointLists}
 use Rattle.mm_database.proofs.DisjointIndexLaw.{none_on_left, none_on_right, none_at_end, none_left, sooner}
 use Rattle.mm_database.proofs.DisjointIndexLaw.{at_has, parted_here, symbol_here, no_symbol_here}
 use Rattle.mm_database.proofs.disjoint_index.are_together.Goals as goal
@@ -12,14 +13,15 @@ use Rattle.mm_database.proofs.disjoint_index.are_together.Goals.{else-one-other-
 pub returns-then-is_open_at-clause-found : goal.returns-then-is_open_at-clause-found
 returns-then-is_open_at-clause-found g c =
     let b = c.args.blocks.now in
-    let ps = c.args.disjoint_index.now.pairs.items in
+    let ps = c.args.disjoint_index.now.pairs in
     let x = c.args.x in
     let y = c.args.y in
     let at = c.args.at in
     let left = c.loop-pairs.left in
     let right = c.loop-pairs.right in
     let start = c.count_before-left.result in
-    let v = c.as_slice-pairs.ensures.value in
+    let v =
+    c.as_slice-pairs.ensures.value ∙ ap (λ (i : DisjointLists). i.pairs) c.disjoint_index.view_is in
     let of = c.count_before-left.ensures in
     let parted = parted_here _ ps _ x v c.number.ensures at start of.within of.before of.after in
     let one = c.ends_with.ensures.some c.loop-pairs-test.true in
@@ -54,10 +56,11 @@ returns-then-is_open_at-clause-found g c =
 pub loop-pairs-preserved-then-one-other-2 : goal.loop-pairs-preserved-then-one-other-2
 loop-pairs-preserved-then-one-other-2 g c =
     let b = c.args.blocks.now in
-    let ps = c.args.disjoint_index.now.pairs.items in
+    let ps = c.args.disjoint_index.now.pairs in
     let left = c.loop-pairs.left in
     let right = c.loop-pairs.right in
-    let v = c.as_slice-pairs.ensures.value in
+    let v =
+    c.as_slice-pairs.ensures.value ∙ ap (λ (i : DisjointLists). i.pairs) c.disjoint_index.view_is in
     let one = c.ends_with.ensures.some c.loop-pairs-test.true in
     let other = c.ends_with-in-loop-pairs.ensures.some c.if-ends_with.true in
     let has_x = symbol_here _ ps _ c.args.x v c.number-in-loop-pairs.ensures (left - 1) one.1 in
@@ -80,11 +83,12 @@ loop-pairs-preserved-then-one-other-2 g c =
 pub loop-pairs-preserved : goal.loop-pairs-preserved
 loop-pairs-preserved g c =
     let b = c.args.blocks.now in
-    let ps = c.args.disjoint_index.now.pairs.items in
+    let ps = c.args.disjoint_index.now.pairs in
     let at = c.args.at in
     let left = c.loop-pairs.left in
     let right = c.loop-pairs.right in
-    let v = c.as_slice-pairs.ensures.value in
+    let v =
+    c.as_slice-pairs.ensures.value ∙ ap (λ (i : DisjointLists). i.pairs) c.disjoint_index.view_is in
     let one = c.ends_with.ensures.some c.loop-pairs-test.true in
     let other = c.ends_with-in-loop-pairs.ensures.some c.if-ends_with.true in
     let has_y =
@@ -120,12 +124,13 @@ loop-pairs-preserved g c =
 pub returns-else-ends_with-clause-none : goal.returns-else-ends_with-clause-none
 returns-else-ends_with-clause-none g c =
     let b = c.args.blocks.now in
-    let ps = c.args.disjoint_index.now.pairs.items in
+    let ps = c.args.disjoint_index.now.pairs in
     let y = c.args.y in
     let at = c.args.at in
     let start = c.count_before-right.result in
     let right = c.loop-pairs.right in
-    let v = c.as_slice-pairs.ensures.value in
+    let v =
+    c.as_slice-pairs.ensures.value ∙ ap (λ (i : DisjointLists). i.pairs) c.disjoint_index.view_is in
     let of = c.count_before-right.ensures in
     let parted = parted_here _ ps _ y v c.number-2.ensures at start of.within of.before of.after in
     let none = c.ends_with-in-loop-pairs.ensures.none c.if-ends_with.false in
@@ -138,12 +143,13 @@ returns-else-ends_with-clause-none g c =
 pub returns-after-loop-pairs-clause-none : goal.returns-after-loop-pairs-clause-none
 returns-after-loop-pairs-clause-none g c =
     let b = c.args.blocks.now in
-    let ps = c.args.disjoint_index.now.pairs.items in
+    let ps = c.args.disjoint_index.now.pairs in
     let x = c.args.x in
     let at = c.args.at in
     let start = c.count_before-left.result in
     let left = c.loop-pairs.left in
-    let v = c.as_slice-pairs.ensures.value in
+    let v =
+    c.as_slice-pairs.ensures.value ∙ ap (λ (i : DisjointLists). i.pairs) c.disjoint_index.view_is in
     let of = c.count_before-left.ensures in
     let parted = parted_here _ ps _ x v c.number.ensures at start of.within of.before of.after in
     let none = c.ends_with.ensures.none c.loop-pairs-test.false in

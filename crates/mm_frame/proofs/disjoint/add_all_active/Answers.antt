@@ -21,7 +21,7 @@ add_active-requires g c = record { ordered = c.requires.ordered }
 
 pub loop-symbol-preserved : goal.loop-symbol-preserved
 loop-symbol-preserved g c = λ j y.
-    active_next c.args.symbols.now c.args.disjoint_index.now.pairs.items c.loop-symbol.symbol-index
+    active_next c.args.symbols.now c.args.disjoint_index.now.pairs c.loop-symbol.symbol-index
     c.symbol-item.result j y _ _ _ (is_live c.args.blocks.now j c.args.at) c.loop-symbol-test.true
     c.symbol-item.is (c.loop-symbol.invariant j y) (c.in_ok-add_active.ensures j y)
 
@@ -30,6 +30,6 @@ returns g c = λ j y.
     c.loop-symbol.invariant j y
     ∙ ap (λ (xs : List ℕ). has_pair c.args.into.now.items j y
     || (is_member xs y
-    && (has_pair c.args.disjoint_index.now.pairs.items y j
+    && (has_pair c.args.disjoint_index.now.pairs y j
     && is_live c.args.blocks.now j c.args.at)))
     (take_all c.loop-symbol.symbol-index c.args.symbols.now c.loop-symbol-test.false)

@@ -10,5 +10,5 @@ invariant-loop-symbol g l =
     → has_pair l.into.items j y
     ≡ (has_pair l.initial.into.items j y
     || (is_member (take l.symbol-index l.symbols) y
-    && (has_pair l.disjoint_index.pairs.items y j
+    && (has_pair l.disjoint_index.pairs y j
     && is_live l.blocks j l.fn.at)))

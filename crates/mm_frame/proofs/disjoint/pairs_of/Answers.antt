@@ -17,7 +17,7 @@ returns g c = ok_then c.symbols_of.result c.symbols_of.ensures (λ v e.
     let k = c.args.assertion in
     let m = c.requires.assertion in
     let h : k ≤ length db = omega (arith, m) in
-    let ps = c.args.sources.now.disjoint_index.now.pairs.items in
+    let ps = c.args.sources.now.disjoint_index.now.pairs in
     let found = c.args.found.now in
     e ∙ ap (map (λ p. pair p.0 p.1)) c.deref-2.ensures.value
     ∙ pairs_are db b c.blocks-2.ensures.theirs k h ps c.requires.sources.index_is.are found

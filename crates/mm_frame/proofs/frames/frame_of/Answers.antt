@@ -1,6 +1,7 @@
-use Rattle.std.proofs.Common.{ap, ◌∙◌}
+use Rattle.std.proofs.Common.{ap, ap₂, ◌∙◌}
 use Rattle.std.proofs.lemmas.Result.{IfOk-from_err}
 use Rattle.mm_spec.specs.Derivation.{is_member}
+use Rattle.mm_database.specs.Frames.{mandatory}
 use Rattle.mm_frame.proofs.frames.frame_of.Goals as goal
 
 pub hypotheses-requires-clause-sources : goal.hypotheses-requires-clause-sources
@@ -29,11 +30,9 @@ returns-clause-seen g c = record {
 }
 
 pub returns-clause-frame : goal.returns-clause-frame
-returns-clause-frame g c = record {
-  hypotheses =
-      λ a. c.in_ok-hyps.ensures ∙ c.deref.ensures.value ∙ c.in_ok-hypotheses.ensures.hyps;
-  disjoint = λ a. c.in_ok-pairs.ensures;
-}
+returns-clause-frame g c =
+    ap₂ mandatory (c.in_ok-hyps.ensures ∙ c.deref.ensures.value ∙ c.in_ok-hypotheses.ensures.hyps)
+    c.in_ok-pairs.ensures
 
 pub returns-in_err-hypotheses-clause-seen : goal.returns-in_err-hypotheses-clause-seen
 returns-in_err-hypotheses-clause-seen g c =

@@ -1,11 +1,10 @@
-use Rattle.std.proofs.Common.{◌≡◌, length, map, ap, sym, ◌∙◌, subst, arith}
+use Rattle.std.proofs.Common.{◌≡◌, length, ap, sym, ◌∙◌, subst, arith}
 use Rattle.std.proofs.lemmas.Result.{IfOk-from_err}
-use Rattle.mm_spec.specs.Derivation.{pair}
 use Rattle.mm_spec.specs.Frame.{is_essential}
 use Rattle.mm_frame.specs.Latest.{AreLatest}
 use Rattle.mm_frame.specs.Hypotheses.{AreTyped}
-use Rattle.mm_database.specs.Beside.{HasFramesUpTo}
-use Rattle.mm_frame.proofs.FramesLaw.{typed_start, frames_start}
+use Rattle.mm_database.specs.Frames.{frames_before}
+use Rattle.mm_frame.proofs.FramesLaw.{typed_start}
 use Rattle.mm_frame.proofs.frames.frames_of.Goals as goal
 
 pub returns : goal.returns
@@ -15,7 +14,7 @@ returns g c =
     let n = c.len-count.ensures.len in
     let m = c.loop-k-test.false in
     let all : c.loop-k.k ≡ length db = omega (arith, e, n, m) in
-    subst (λ k. HasFramesUpTo db k c.loop-k.frames) all c.loop-k.invariant.frames
+    c.loop-k.invariant.frames ∙ ap (frames_before db) all
 
 pub returns-in_err-essentials : goal.returns-in_err-essentials
 returns-in_err-essentials g c =
@@ -34,10 +33,7 @@ loop-k-init g c = record {
         let e = c.in_ok-filled.ensures.each x (omega (arith, h, n)) in
         omega (arith, e);
   };
-  frames =
-      frames_start c.args.statements.now.list _ _ _ c.new-6.ensures.items
-      (ap (map (λ f. f.hyps.items)) c.new-5.ensures.items)
-      (ap (map (λ f. map (λ p. pair p.0 p.1) f.pairs.items)) c.new-5.ensures.items);
+  frames = c.none-frames.ensures;
 }
 
 pub add_frame-requires-clause-sources : goal.add_frame-requires-clause-sources

@@ -1,4 +1,4 @@
-use Rattle.std.proofs.Common.{◌≡◌, ◌∙◌, subst}
+use Rattle.std.proofs.Common.{subst}
 use Rattle.mm_database.specs.Database.{Contents}
 use Rattle.mm_database.specs.Labels.{AreLabels}
 use Rattle.mm_database.specs.Names.{find}
@@ -9,15 +9,13 @@ use Rattle.mm_database.proofs.database.Database.find.Goals as goal
 pub returns : goal.returns
 returns g c =
     let w = c.args.label.now in
-    let look : c.copied.result ≡ find c.self.inside.read.names.labels w =
-    c.copied.ensures ∙ c.get.ensures.value in
     let are : AreLabels c.args.self.now.statements (find c.self.inside.read.names.labels) =
     subst (λ (n : Contents). AreLabels n.statements (find c.self.inside.read.names.labels))
     c.self.view_is
     (labels_held c.self.inside.with_open c.self.inside.read.statements.list _
     c.self.invariant.labels) in
     record {
-      some = label_some _ _ are w c.copied.result look;
-      only = label_only _ _ are w c.copied.result look;
-      none = label_none _ _ are w c.copied.result look;
+      some = label_some _ _ are w c.labelled.result c.labelled.ensures;
+      only = label_only _ _ are w c.labelled.result c.labelled.ensures;
+      none = label_none _ _ are w c.labelled.result c.labelled.ensures;
     }

@@ -11,7 +11,8 @@ use Rattle.mm_scope.proofs.scope.Scope.declared_fault.Given as goal
 abbrev pub invariant-loop-at : goal.invariant-loop-at
 invariant-loop-at g l = record {
   seen : l.is_short ≡ false → (w : List ℕ)
-      → is_some (find l.seen w) ≡ is_in w (before_next [] (between l.text l.tokens l.from l.at));
+      → is_some (find l.seen.entries w)
+      ≡ is_in w (before_next [] (between l.text l.tokens l.from l.at));
   least : (n : Names) → AreNamesOf l.self n
       → l.best ≡ least (at_each (declared_codes n l.kind) [] (between l.text l.tokens l.from l.at));
 }

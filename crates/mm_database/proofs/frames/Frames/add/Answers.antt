@@ -1,0 +1,24 @@
+use Rattle.std.proofs.Common.{◌≡◌, ◌∙◌, ◌++◌, ◌∷◌, [], Some, length, ap, ap₂, arith}
+use Rattle.std.proofs.Common.{rules}
+use Rattle.mm_database.specs.Frames.{mandatory_in, placed}
+use Rattle.mm_database.proofs.PlacesLaw.{placed_more, as_many_places}
+use Rattle.mm_database.proofs.frames.Frames.add.Goals as goal
+
+pub overflow_cast-place : goal.overflow_cast-place
+overflow_cast-place g c =
+    let few = c.self.invariant.few in let n = c.len-place.ensures in omega (arith, few, n)
+
+pub returns : goal.returns
+returns g c =
+    let fs = c.self.inside.list.items in
+    let ps = c.self.inside.places.items in
+    let f = c.args.frame in
+    let list : c.push-2.new.self.items ≡ fs ++ f ∷ [] = search rules in
+    let places : c.push.new.self.items ≡ ps ++ length fs ∷ [] = search rules in
+    let n = as_many_places fs ps in
+    let m = ap length c.self.view_is in
+    let small = c.requires in
+    let no_more = c.self.invariant.no_more in
+    ap₂ placed list places
+    ∙ placed_more fs f ps c.self.invariant (omega (arith, n, m, small, no_more))
+    ∙ ap (λ v. v ++ Some (mandatory_in f) ∷ []) c.self.view_is

@@ -1,0 +1,11 @@
+use Rattle.std.proofs.Common.{refl}
+use Rattle.mm_database.proofs.names.no_names.Goals as goal
+
+pub invariant_of-result : goal.invariant_of-result
+invariant_of-result g c =
+    rw (c.new.ensures.empty, c.new-2.ensures.empty)
+    (record {
+      distinct = refl;
+      symbols_no_longer = λ w h. refl;
+      labels_no_longer = λ w h. refl;
+    })
