@@ -40,21 +40,21 @@ pub record AreSkips (b : BlockLists) (ps : List (ℕ × ℕ)) (skips : List ℕ)
   pub covers : (q : ℕ) → q < length ps → Covers b ps (get_or skips q 0) q
 
 -- symbols, each with a `$d` that has it, and for each of these pairs an index to skip to
-pub record DisjointLists : Type 0 where
+pub record PairLists : Type 0 where
   pub pairs : List (ℕ × ℕ)
   pub skips : List ℕ
 
-abbrev pub disjoint_lists : List (ℕ × ℕ) → List ℕ → DisjointLists
-disjoint_lists pairs skips = record { pairs = pairs; skips = skips }
+abbrev pub pair_lists : List (ℕ × ℕ) → List ℕ → PairLists
+pair_lists pairs skips = record { pairs = pairs; skips = skips }
 
 -- the pairs are in order, their statements have a block, and the skips are theirs
-pub record IsOrdered (b : BlockLists) (index : DisjointLists) : Type 0 where
+pub record IsOrdered (b : BlockLists) (index : PairLists) : Type 0 where
   pub rising : AreRising index.pairs
   pub known : AreKnown b index.pairs
   pub skips_are : AreSkips b index.pairs index.skips
 
 -- each symbol with each `$d` that has it
-pub record IsDisjointIndex (db : List Statement) (b : BlockLists) (index : DisjointLists) : Type 0
+pub record IsDisjointIndex (db : List Statement) (b : BlockLists) (index : PairLists) : Type 0
   where
     pub are : (x j : ℕ) → has_pair index.pairs x j ≡ has_symbol db x j
     pub ordered : IsOrdered b index

@@ -4,7 +4,7 @@
 ghost use Rattle.std.specs.Prelude.{◌≡◌, ◌≢◌, ◌<◌, ◌≤◌, ◌+◌, ◌-◌, ◌&&◌, ◌||◌, ℕ, OnOk};
 ghost use Rattle.std.specs.Prelude.{length, get_or, nat_eq, nat_lt, nat_le, true, false};
 ghost use Rattle.mm_outline.specs.Blocks.{end_of};
-ghost use Rattle.mm_database.specs.DisjointIndex.{disjoint_lists, is_live, IsOrdered};
+ghost use Rattle.mm_database.specs.DisjointIndex.{pair_lists, is_live, IsOrdered};
 ghost use Rattle.mm_database.specs.Pairs.{has_pair, AreRising, is_before};
 ghost use Rattle.mm_database.specs.Starts.{IsStart, AreStarts};
 
@@ -37,12 +37,12 @@ impl<A: Allocator> Drop for DisjointIndex<A> {
 }
 
 impl<A: Allocator> Model for DisjointIndex<A> {
-    ghost use Rattle.mm_database.specs.DisjointIndex.{DisjointLists, disjoint_lists};
+    ghost use Rattle.mm_database.specs.DisjointIndex.{PairLists, pair_lists};
     ghost use Rattle.mm_database.specs.Starts.{AreStarts};
 
-    ghost Value = { DisjointLists };
+    ghost Value = { PairLists };
 
-    ghost view = { λ i. disjoint_lists i.pairs.items i.skips.items };
+    ghost view = { λ i. pair_lists i.pairs.items i.skips.items };
 
     ghost invariant = { λ i. AreStarts i.pairs.items i.starts.items };
 }
@@ -55,7 +55,7 @@ impl<A: Allocator> DisjointIndex<A> {
         starts: Vec<usize, A>,
     ) -> DisjointIndex<A>
         requires { AreStarts pairs.items starts.items }
-        ensures { result ≡ disjoint_lists pairs.items skips.items }
+        ensures { result ≡ pair_lists pairs.items skips.items }
     {
         DisjointIndex {
             pairs,

@@ -17,7 +17,7 @@ use Rattle.mm_spec.specs.Scope.{statement_at}
 use Rattle.mm_spec.specs.Derivation.{is_member}
 use Rattle.mm_spec.specs.Frame.{symbol_names, is_disjoint_statement, formula_at}
 use Rattle.mm_outline.proofs.StatementsLaw.{is_there}
-use Rattle.mm_frame.specs.Chains.{IsRisingFrom, IsChain, AreLinked, HasChain, AreChains}
+use Rattle.mm_frame.specs.Chains.{IsRisingFrom, IsLinkChain, AreLinked, HasChain, AreChains}
 use Rattle.mm_database.specs.DisjointIndex.{has_symbol}
 use Rattle.mm_database.specs.Pairs.{has_pair, IsBefore, AreRising}
 use Rattle.mm_database.specs.Parsed.{IsSound}
@@ -25,8 +25,8 @@ use Rattle.mm_database.specs.Parsed.{IsSound}
 -- ---- one chain
 
 -- a link more at the end of the list changes no chain
-chain_kept : (links : List (ℕ × ℕ)) (l : ℕ × ℕ) (n : ℕ) (js : List ℕ) → IsChain links n js
-    → IsChain (links ++ l ∷ []) n js
+chain_kept : (links : List (ℕ × ℕ)) (l : ℕ × ℕ) (n : ℕ) (js : List ℕ) → IsLinkChain links n js
+    → IsLinkChain (links ++ l ∷ []) n js
 chain_kept links l n [] h = h
 chain_kept links l n (j ∷ js) h =
     let some = h.0 in
@@ -37,13 +37,13 @@ chain_kept links l n (j ∷ js) h =
       some,
       omega (arith, within, long),
       ap (λ (q : ℕ × ℕ). q.0) same ∙ h.2,
-      subst (λ (q : ℕ × ℕ). IsChain (links ++ l ∷ []) q.1 js) (sym same)
+      subst (λ (q : ℕ × ℕ). IsLinkChain (links ++ l ∷ []) q.1 js) (sym same)
           (chain_kept links l (get_or links (n - 1) (0, 0)).1 js h.3),
     )
 
 -- the new link stands in front
-chain_more : (links : List (ℕ × ℕ)) (k n : ℕ) (js : List ℕ) → IsChain links n js
-    → IsChain (links ++ (k, n) ∷ []) (length links + 1) (k ∷ js)
+chain_more : (links : List (ℕ × ℕ)) (k n : ℕ) (js : List ℕ) → IsLinkChain links n js
+    → IsLinkChain (links ++ (k, n) ∷ []) (length links + 1) (k ∷ js)
 chain_more links k n js h =
     let long = length-append links ((k, n) ∷ []) in
     let last : get_or (links ++ (k, n) ∷ []) (length links + 1 - 1) (0, 0) ≡ (k, n) =
@@ -51,12 +51,12 @@ chain_more links k n js h =
       omega arith,
       omega (arith, long),
       ap (λ (q : ℕ × ℕ). q.0) last,
-      subst (λ (q : ℕ × ℕ). IsChain (links ++ (k, n) ∷ []) q.1 js) (sym last)
+      subst (λ (q : ℕ × ℕ). IsLinkChain (links ++ (k, n) ∷ []) q.1 js) (sym last)
           (chain_kept links (k, n) n js h),
     )
 
 -- a chain that doesn't begin with k, and has nothing before k, has only later statements
-raised : (links : List (ℕ × ℕ)) (n k : ℕ) (js : List ℕ) → IsChain links n js → IsRisingFrom k js
+raised : (links : List (ℕ × ℕ)) (n k : ℕ) (js : List ℕ) → IsLinkChain links n js → IsRisingFrom k js
     → (0 < n → (get_or links (n - 1) (0, 0)).0 ≡ k → ⊥) → IsRisingFrom (k + 1) js
 raised links n k [] c r other = tt
 raised links n k (j ∷ js) c r other = (by (cases_eq j k), r.1)
@@ -70,7 +70,7 @@ lowered a b [] l r = tt
 lowered a b (j ∷ js) l r = (let m = r.0 in omega (arith, l, m), r.1)
 
 -- a chain that begins with k has it
-begins : (links : List (ℕ × ℕ)) (n k : ℕ) (js : List ℕ) → IsChain links n js → 0 < n
+begins : (links : List (ℕ × ℕ)) (n k : ℕ) (js : List ℕ) → IsLinkChain links n js → 0 < n
     → (get_or links (n - 1) (0, 0)).0 ≡ k → is_member js k ≡ true
 begins links n k [] c some e = absurd (omega (arith, c, some))
 begins links n k (j ∷ js) c some e = ap (λ b. b || is_member js k) (eq-eqb k j (sym e ∙ c.2))
@@ -192,7 +192,7 @@ module _ (has : ℕ → ℕ → Bool) (heads : List ℕ) (links : List (ℕ × �
           statements = k ∷ old.statements;
           chain =
               subst
-              (λ n. IsChain (links ++ (k, get_or heads x 0) ∷ []) n (k ∷ old.statements))
+              (λ n. IsLinkChain (links ++ (k, get_or heads x 0) ∷ []) n (k ∷ old.statements))
               (sym (ap (λ z. get_or (set heads x (length links + 1)) z 0) e
               ∙ get_or-set_same heads x (length links + 1) 0 here))
               (chain_more links k (get_or heads x 0) old.statements old.chain);
@@ -210,7 +210,7 @@ module _ (has : ℕ → ℕ → Bool) (heads : List ℕ) (links : List (ℕ × �
               statements = other.statements;
               chain =
                   subst
-                  (λ n. IsChain (links ++ (k, get_or heads x 0) ∷ []) n other.statements)
+                  (λ n. IsLinkChain (links ++ (k, get_or heads x 0) ∷ []) n other.statements)
                   (sym (get_or-set_other heads x y (length links + 1) 0 n))
                   (chain_kept links (k, get_or heads x 0) (get_or heads y 0) other.statements
                   other.chain);
@@ -368,11 +368,11 @@ symbol_below db sound x j e =
 pub record IsRest (links : List (ℕ × ℕ)) (symbol number : ℕ) (old now : List (ℕ × ℕ))
     (all : List ℕ) : Type 0 where
   pub rest : List ℕ
-  pub chain : IsChain links number rest
+  pub chain : IsLinkChain links number rest
   pub pairs : old ++ map (λ j. (symbol, j)) all ≡ now ++ map (λ j. (symbol, j)) rest
 
 module _ (links : List (ℕ × ℕ)) (symbol : ℕ) (old now : List (ℕ × ℕ)) (all : List ℕ) where
-  pub rest_all : (number : ℕ) → IsChain links number all → old ≡ now
+  pub rest_all : (number : ℕ) → IsLinkChain links number all → old ≡ now
       → IsRest links symbol number old now all
   rest_all number c e =
       record { rest = all; chain = c; pairs = ap (λ ps. ps ++ map (λ j. (symbol, j)) all) e }
@@ -382,7 +382,7 @@ module _ (links : List (ℕ × ℕ)) (symbol : ℕ) (old now : List (ℕ × ℕ)
       (now ++ (symbol, (get_or links (number - 1) (0, 0)).0) ∷ []) all
   rest_less number some h = by h.rest h.chain h.pairs
     where
-      by : (rest : List ℕ) → IsChain links number rest
+      by : (rest : List ℕ) → IsLinkChain links number rest
           → old ++ map (λ j. (symbol, j)) all ≡ now ++ map (λ j. (symbol, j)) rest
           → IsRest links symbol (get_or links (number - 1) (0, 0)).1 old
           (now ++ (symbol, (get_or links (number - 1) (0, 0)).0) ∷ []) all
@@ -399,7 +399,7 @@ module _ (links : List (ℕ × ℕ)) (symbol : ℕ) (old now : List (ℕ × ℕ)
       → now ≡ old ++ map (λ j. (symbol, j)) all
   rest_none number none h = by h.rest h.chain h.pairs
     where
-      by : (rest : List ℕ) → IsChain links number rest
+      by : (rest : List ℕ) → IsLinkChain links number rest
           → old ++ map (λ j. (symbol, j)) all ≡ now ++ map (λ j. (symbol, j)) rest
           → now ≡ old ++ map (λ j. (symbol, j)) all
       by [] c e = sym (e ∙ append-nil now)

@@ -12,11 +12,11 @@ IsRisingFrom least [] = Unit {0}
 IsRisingFrom least (j ∷ js) = (least ≤ j) × IsRisingFrom (j + 1) js
 
 -- the links from link n on have these statements, in this order
-abbrev pub IsChain : List (ℕ × ℕ) → ℕ → List ℕ → Type 0
-IsChain links n [] = n ≡ 0
-IsChain links n (j ∷ js) =
+abbrev pub IsLinkChain : List (ℕ × ℕ) → ℕ → List ℕ → Type 0
+IsLinkChain links n [] = n ≡ 0
+IsLinkChain links n (j ∷ js) =
     (0 < n) × (n ≤ length links) × ((get_or links (n - 1) (0, 0)).0 ≡ j)
-    × IsChain links (get_or links (n - 1) (0, 0)).1 js
+    × IsLinkChain links (get_or links (n - 1) (0, 0)).1 js
 
 -- each chain begins at one of the links, and each link leads to one before it
 pub record AreLinked (heads : List ℕ) (links : List (ℕ × ℕ)) : Type 0 where
@@ -27,7 +27,7 @@ pub record AreLinked (heads : List ℕ) (links : List (ℕ × ℕ)) : Type 0 whe
 -- from `least` on
 pub record HasChain (has : ℕ → Bool) (least : ℕ) (links : List (ℕ × ℕ)) (n : ℕ) : Type 0 where
   pub statements : List ℕ
-  pub chain : IsChain links n statements
+  pub chain : IsLinkChain links n statements
   pub rising : IsRisingFrom least statements
   pub are : (j : ℕ) → is_member statements j ≡ has j
 
@@ -43,3 +43,7 @@ module _ {A : Type 0} where
   AddsInFront test k old new =
       (has : ℕ → ℕ → Bool) → AreChains has k old.heads.items old.links.items
       → AreChains (λ x j. has x j || (test x && nat_eq j k)) k new.heads.items new.links.items
+
+  -- the chain of a symbol has these statements, in this order
+  abbrev pub IsChainOf : Chains A → ℕ → List ℕ → Type 0
+  IsChainOf c x statements = IsLinkChain c.links.items (get_or c.heads.items x 0) statements

@@ -6,7 +6,7 @@ ghost use Rattle.std.specs.Prelude.{◌≡◌, ◌≢◌, ◌<◌, ◌≤◌, �
 ghost use Rattle.std.specs.Prelude.{All, List, length, map, get_or, nat_eq, true, false};
 ghost use Rattle.mm_spec.specs.Derivation.{is_member};
 ghost use Rattle.mm_spec.specs.Frame.{symbol_names};
-ghost use Rattle.mm_frame.specs.Chains.{AddsInFront, AreChains, AreLinked, IsChain};
+ghost use Rattle.mm_frame.specs.Chains.{AddsInFront, AreChains, AreLinked, IsChainOf};
 ghost use Rattle.mm_database.specs.DisjointIndex.{has_symbol};
 ghost use Rattle.mm_database.specs.Pairs.{has_pair, AreRising};
 
@@ -119,8 +119,7 @@ fn add_chain<A: Allocator>(
     requires symbol { symbol < length chains.now.heads.items }
     requires linked { AreLinked chains.now.heads.items chains.now.links.items }
     ensures { OnOk result
-        ((statements : List ℕ)
-        → IsChain chains.now.links.items (get_or chains.now.heads.items symbol 0) statements
+        ((statements : List ℕ) → IsChainOf chains.now symbol statements
         → pairs.new.items ≡ pairs.old.items ++ map (λ j. (symbol, j)) statements) }
 {
     let mut number = chains.heads[symbol as usize];

@@ -1,5 +1,6 @@
 -- What a scope says of words, of statements and of the names before the next statement.
-use Rattle.std.specs.Prelude.{◌≡◌, ◌<◌, ℕ, List, [], ◌++◌, length, Option, None, true}
+use Rattle.std.specs.Prelude.{◌≡◌, ◌<◌, ◌+◌, ℕ, List, [], ◌∷◌, ◌++◌, length, Option, None, true}
+use Rattle.mm_spec.specs.Text.{words}
 use Rattle.mm_spec.specs.Statement.{Statement, is_closing}
 use Rattle.mm_spec.specs.Scope.{Names, names_before, depth, constants_of, variables_of}
 use Rattle.mm_spec.specs.Lawful.{least, scope_faults}
@@ -7,7 +8,7 @@ use Rattle.mm_spec.specs.declared.Fault.{Fault}
 use Rattle.mm_spec.specs.declared.Word.{Word}
 use Rattle.mm_spec.specs.Frame.{first_occurrences}
 use Rattle.mm_outline.specs.Blocks.{is_open_in}
-use Rattle.mm_outline.specs.Parts.{AreWithin, IsOutline}
+use Rattle.mm_outline.specs.Parts.{AreWithin, IsOutline, between}
 use Rattle.mm_outline.specs.declared.parts.Outline.{Outline}
 use Rattle.mm_database.specs.Names.{find, names_of}
 use Rattle.mm_database.specs.declared.names.Symbol.{Symbol}
@@ -20,6 +21,10 @@ pub record IsAmong (text : List ℕ) (tokens : List Word) (o : Outline) : Type 0
   pub words : AreWithin text tokens
   pub outline : IsOutline o
   pub within : o.end < length tokens
+
+-- the words of a statement from its keyword to its end
+abbrev pub listed_words : List ℕ → List Word → Outline → List (List ℕ)
+listed_words text tokens o = words (between text tokens (o.keyword + 1) o.middle)
 
 -- the words that a statement declares
 abbrev pub declared_words : Statement → List (List ℕ)
@@ -48,6 +53,12 @@ module _ {A : Type 0} where
   -- the scope is that after these statements
   abbrev pub IsScopeAfter : List Statement → Scope A → Type 0
   IsScopeAfter db s = Keeps db (symbol_in s) (label_in s) s.blocks
+
+  -- the scope after one more statement, if that may follow
+  abbrev pub IsNextScope : Scope A → Scope A → Statement → Type 0
+  IsNextScope old new s =
+      (db : List Statement) → IsScopeAfter db old → MayFollow db s
+      → IsScopeAfter (db ++ s ∷ []) new
 
   -- the names before the next statement are those that the scope knows
   abbrev pub AreNamesOf : Scope A → Names → Type 0

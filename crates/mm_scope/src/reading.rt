@@ -1,7 +1,6 @@
 //! The reading of statements, one by one.
 
-ghost use Rattle.std.specs.Prelude.{◌≡◌, ◌<◌, ◌≤◌, ◌^◌, ◌++◌, ◌∷◌, [], List, None, All, length};
-ghost use Rattle.std.specs.Prelude.{OnOk, IfOk};
+ghost use Rattle.std.specs.Prelude.{◌≡◌, ◌<◌, ◌≤◌, ◌^◌, [], List, None, All, length, OnOk, IfOk};
 ghost use Rattle.mm_spec.specs.Statement.{Statement, label_of};
 ghost use Rattle.mm_spec.specs.Output.{IsRead};
 ghost use Rattle.mm_spec.specs.Lexed.{tokens_of};
@@ -9,15 +8,14 @@ ghost use Rattle.mm_database.specs.Cuts.{AreJoined};
 ghost use Rattle.mm_database.specs.Names.{find as find_in};
 ghost use Rattle.mm_database.specs.Parsed.{AreParts};
 ghost use Rattle.std.specs.Prelude.{◌+◌, ◌-◌, ℕ, Some, if◌then◌else◌, bytes_eq, true};
-ghost use Rattle.mm_spec.specs.Text.{words};
 ghost use Rattle.mm_scope.specs.Judge.{after_declaring, after_typing, declared_entry, entry_of};
-ghost use Rattle.mm_outline.specs.Parts.{AreWithin, between, token_at, IsOutline, depth_after};
+ghost use Rattle.mm_outline.specs.Parts.{AreWithin, token_at, IsOutline, depth_after};
 ghost use Rattle.mm_outline.specs.Parts.{statement_of};
 ghost use Rattle.mm_outline.specs.Tokens.{AreTokens};
 ghost use Rattle.mm_scope.specs.WordEntry.{entry_after, label_after};
 ghost use Rattle.mm_outline.specs.Statements.{end_fault_of, lexed, statements};
-ghost use Rattle.mm_scope.specs.Scopes.{Declares, IsAmong, IsScopeAfter, MayFollow};
-ghost use Rattle.mm_scope.specs.Scopes.{declared_words};
+ghost use Rattle.mm_scope.specs.Scopes.{Declares, IsAmong, IsScopeAfter, IsNextScope};
+ghost use Rattle.mm_scope.specs.Scopes.{declared_words, listed_words};
 ghost use Rattle.mm_scope.specs.Scopes.{entry_in, label_in, names_in};
 ghost use Rattle.mm_scope.specs.Keeps.{HasTaken, IsKeptOf, MayTake, formulas_of, kept_by};
 ghost use Rattle.mm_scope.specs.Keeps.{reading_of};
@@ -271,9 +269,7 @@ impl<'a, A: Allocator + Copy> Scope<'a, A> {
         requires few { length tokens.now < 2 ^ 31 }
         requires keeps { (db : List Statement) × IsScopeAfter db self.old × (length db < 2 ^ 31) }
         ensures keeps { OnOk result
-            ((db : List Statement) → IsScopeAfter db self.old
-            → MayFollow db (statement_of text.now tokens.now outline)
-            → IsScopeAfter (db ++ statement_of text.now tokens.now outline ∷ []) self.new) }
+            (IsNextScope self.old self.new (statement_of text.now tokens.now outline)) }
         ensures names { OnOk result
             (Declares self.old self.new
             (declared_words (statement_of text.now tokens.now outline))) }
@@ -404,13 +400,11 @@ impl<'a, A: Allocator + Copy> Scope<'a, A> {
         ensures symbols { OnOk result
             ((w : List ℕ)
             → entry_in self.new w
-            ≡ after_declaring is_variable number
-            (words (between text.now tokens.now (outline.keyword + 1) outline.middle)) w
+            ≡ after_declaring is_variable number (listed_words text.now tokens.now outline) w
             (entry_in self.old w)) }
         ensures blocks { self.new.blocks ≡ self.old.blocks }
         ensures names { OnOk result
-            (Declares self.old self.new
-            (words (between text.now tokens.now (outline.keyword + 1) outline.middle))) }
+            (Declares self.old self.new (listed_words text.now tokens.now outline)) }
     {
         for at in outline.keyword + 1..outline.middle {
             let token = tokens[at as usize];

@@ -1,7 +1,7 @@
 use Rattle.std.proofs.Common.{◌≡◌, ℕ, ◌-◌, ◌≤◌, ◌++◌, ◌∷◌, [], List, length, get_or, nat_le}
 use Rattle.std.proofs.Common.{true, false, sym, subst, ap, ap₂, ◌∙◌, arith}
 use Rattle.mm_outline.specs.Blocks.{end_of}
-use Rattle.mm_database.specs.DisjointIndex.{DisjointLists}
+use Rattle.mm_database.specs.DisjointIndex.{PairLists}
 use Rattle.mm_database.proofs.DisjointIndexLaw.{added_open, added_closed, added_end, parted_here}
 use Rattle.mm_database.proofs.DisjointIndexLaw.{symbol_here, no_symbol_here}
 use Rattle.mm_database.proofs.disjoint_index.add_active.Goals as goal
@@ -17,7 +17,7 @@ loop-pairs-preserved g c =
     let start = c.count_before-left.result in
     let left = c.loop-pairs.left in
     let v =
-    c.as_slice-pairs.ensures.value ∙ ap (λ (i : DisjointLists). i.pairs) c.disjoint_index.view_is in
+    c.as_slice-pairs.ensures.value ∙ ap (λ (i : PairLists). i.pairs) c.disjoint_index.view_is in
     let of = c.count_before-left.ensures in
     let parted = parted_here _ ps _ x v c.number.ensures at start of.within of.before of.after in
     let here = c.ends_with.ensures.some c.loop-pairs-test.true in
@@ -63,7 +63,7 @@ returns g c =
     let start = c.count_before-left.result in
     let left = c.loop-pairs.left in
     let v =
-    c.as_slice-pairs.ensures.value ∙ ap (λ (i : DisjointLists). i.pairs) c.disjoint_index.view_is in
+    c.as_slice-pairs.ensures.value ∙ ap (λ (i : PairLists). i.pairs) c.disjoint_index.view_is in
     let of = c.count_before-left.ensures in
     let parted = parted_here _ ps _ x v c.number.ensures at start of.within of.before of.after in
     let none = c.ends_with.ensures.none c.loop-pairs-test.false in

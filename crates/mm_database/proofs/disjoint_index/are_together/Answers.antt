@@ -3,7 +3,7 @@ use Rattle.std.proofs.Common.{nat_le, sym, subst, ap, ap₂, ◌∙◌, arith, i
 use Rattle.std.proofs.lemmas.Bool.{cases_lt, lt-ltb}
 use Rattle.mm_outline.specs.Blocks.{end_of}
 use Rattle.mm_database.specs.Pairs.{has_pair}
-use Rattle.mm_database.specs.DisjointIndex.{DisjointLists}
+use Rattle.mm_database.specs.DisjointIndex.{PairLists}
 use Rattle.mm_database.proofs.DisjointIndexLaw.{none_on_left, none_on_right, none_at_end, none_left, sooner}
 use Rattle.mm_database.proofs.DisjointIndexLaw.{at_has, parted_here, symbol_here, no_symbol_here}
 use Rattle.mm_database.proofs.disjoint_index.are_together.Goals as goal
@@ -21,7 +21,7 @@ returns-then-is_open_at-clause-found g c =
     let right = c.loop-pairs.right in
     let start = c.count_before-left.result in
     let v =
-    c.as_slice-pairs.ensures.value ∙ ap (λ (i : DisjointLists). i.pairs) c.disjoint_index.view_is in
+    c.as_slice-pairs.ensures.value ∙ ap (λ (i : PairLists). i.pairs) c.disjoint_index.view_is in
     let of = c.count_before-left.ensures in
     let parted = parted_here _ ps _ x v c.number.ensures at start of.within of.before of.after in
     let one = c.ends_with.ensures.some c.loop-pairs-test.true in
@@ -60,7 +60,7 @@ loop-pairs-preserved-then-one-other-2 g c =
     let left = c.loop-pairs.left in
     let right = c.loop-pairs.right in
     let v =
-    c.as_slice-pairs.ensures.value ∙ ap (λ (i : DisjointLists). i.pairs) c.disjoint_index.view_is in
+    c.as_slice-pairs.ensures.value ∙ ap (λ (i : PairLists). i.pairs) c.disjoint_index.view_is in
     let one = c.ends_with.ensures.some c.loop-pairs-test.true in
     let other = c.ends_with-in-loop-pairs.ensures.some c.if-ends_with.true in
     let has_x = symbol_here _ ps _ c.args.x v c.number-in-loop-pairs.ensures (left - 1) one.1 in
@@ -88,7 +88,7 @@ loop-pairs-preserved g c =
     let left = c.loop-pairs.left in
     let right = c.loop-pairs.right in
     let v =
-    c.as_slice-pairs.ensures.value ∙ ap (λ (i : DisjointLists). i.pairs) c.disjoint_index.view_is in
+    c.as_slice-pairs.ensures.value ∙ ap (λ (i : PairLists). i.pairs) c.disjoint_index.view_is in
     let one = c.ends_with.ensures.some c.loop-pairs-test.true in
     let other = c.ends_with-in-loop-pairs.ensures.some c.if-ends_with.true in
     let has_y =
@@ -130,7 +130,7 @@ returns-else-ends_with-clause-none g c =
     let start = c.count_before-right.result in
     let right = c.loop-pairs.right in
     let v =
-    c.as_slice-pairs.ensures.value ∙ ap (λ (i : DisjointLists). i.pairs) c.disjoint_index.view_is in
+    c.as_slice-pairs.ensures.value ∙ ap (λ (i : PairLists). i.pairs) c.disjoint_index.view_is in
     let of = c.count_before-right.ensures in
     let parted = parted_here _ ps _ y v c.number-2.ensures at start of.within of.before of.after in
     let none = c.ends_with-in-loop-pairs.ensures.none c.if-ends_with.false in
@@ -149,7 +149,7 @@ returns-after-loop-pairs-clause-none g c =
     let start = c.count_before-left.result in
     let left = c.loop-pairs.left in
     let v =
-    c.as_slice-pairs.ensures.value ∙ ap (λ (i : DisjointLists). i.pairs) c.disjoint_index.view_is in
+    c.as_slice-pairs.ensures.value ∙ ap (λ (i : PairLists). i.pairs) c.disjoint_index.view_is in
     let of = c.count_before-left.ensures in
     let parted = parted_here _ ps _ x v c.number.ensures at start of.within of.before of.after in
     let none = c.ends_with.ensures.none c.loop-pairs-test.false in

@@ -1,5 +1,5 @@
 use Rattle.std.proofs.Common.{ℕ, ◌≤◌, List, length, get_or}
-use Rattle.mm_frame.specs.Chains.{IsChain}
+use Rattle.mm_frame.specs.Chains.{IsLinkChain}
 use Rattle.mm_frame.proofs.ChainsLaw.{IsRest}
 use Rattle.mm_frame.proofs.chains.add_chain.Given as goal
 
@@ -7,7 +7,7 @@ abbrev pub invariant-loop-number : goal.invariant-loop-number
 invariant-loop-number g l = record {
   within : l.number ≤ length l.chains.links.items;
   rest : (statements : List ℕ)
-      → IsChain l.chains.links.items (get_or l.chains.heads.items l.symbol 0) statements
+      → IsLinkChain l.chains.links.items (get_or l.chains.heads.items l.symbol 0) statements
       → IsRest l.chains.links.items l.symbol l.number l.initial.pairs.items l.pairs.items
       statements;
 }

@@ -1,5 +1,5 @@
 use Rattle.std.proofs.Common.{subst, ℕ, List}
-use Rattle.mm_database.specs.DisjointIndex.{AreSkips, IsDisjointIndex, disjoint_lists}
+use Rattle.mm_database.specs.DisjointIndex.{AreSkips, IsDisjointIndex, pair_lists}
 use Rattle.mm_database.proofs.DisjointIndexLaw.{are_known}
 use Rattle.std.proofs.lemmas.Result.{IfOk-from_err}
 use Rattle.mm_frame.proofs.disjoint_index.disjoint_index_of.Goals as goal
@@ -18,7 +18,7 @@ returns g c =
     let b = c.args.statements.now.blocks in
     let ps = c.in_ok-pairs.pairs.items in
     let ss = c.in_ok-skips.skips.items in
-    let is : IsDisjointIndex c.args.statements.now.list b (disjoint_lists ps ss) =
+    let is : IsDisjointIndex c.args.statements.now.list b (pair_lists ps ss) =
     record {
       are = c.in_ok-pairs.ensures.are;
       ordered = record {
