@@ -15,15 +15,15 @@ use Rattle.mm_rule.specs.Assertions.{is_assertion_at}
 
 -- the place of the first `$f` of a variable among the hypotheses
 abbrev pub first : List Statement → List Formula → ℕ → ℕ
-first k [] x = 0
-first k (h ∷ hs) x = if binds (context_at k 0) x h then 0 else suc (first k hs x)
+first db [] x = 0
+first db (h ∷ hs) x = if binds (context_at db 0) x h then 0 else suc (first db hs x)
 
 -- a symbol as a part: a constant, or a variable given by the place of its `$f`
 abbrev pub part_of : List Statement → List Formula → ℕ → RuleSymbol
-part_of k hs s = if is_variable_number k s then Variable (first k hs s) else Constant s
+part_of db hs s = if is_variable_number db s then Variable (first db hs s) else Constant s
 
 abbrev pub parts_of : List Statement → List Formula → Formula → List RuleSymbol
-parts_of k hs f = map (part_of k hs) f
+parts_of db hs f = map (part_of db hs) f
 
 -- the parts of hypothesis `j`
 abbrev pub hypothesis_parts : List RuleSymbol → ℕ → Hypothesis → List RuleSymbol
@@ -70,22 +70,22 @@ compiled k hypotheses pairs parts formula =
     }
 
 -- the rule is the frame of its assertion, with each variable given by the place of its `$f`
-pub record IsCompiled (k : List Statement) (c : Compiled) : Type 0 where
-  pub is_assertion : is_assertion_at k c.assertion ≡ true
-  pub complete : IsComplete (context_at k 0) (frame_at k c.assertion)
+pub record IsCompiled (db : List Statement) (c : Compiled) : Type 0 where
+  pub is_assertion : is_assertion_at db c.assertion ≡ true
+  pub complete : IsComplete (context_at db 0) (frame_at db c.assertion)
   pub within : All (IsHypothesisIn (length c.parts)) c.hypotheses
   pub parts_in : All (IsBelow (length c.hypotheses)) c.parts
   pub pairs_in : All (λ (p : ℕ × ℕ). (p.0 < length c.hypotheses) × (p.1 < length c.hypotheses))
       c.pairs
   pub formula_in : All (IsBelow (length c.hypotheses)) c.formula
-  pub formula_known : All (IsKnown (length (symbol_names k))) c.formula
+  pub formula_known : All (IsKnown (length (symbol_names db))) c.formula
   pub hypotheses_are : all_parts c.parts 0 c.hypotheses
-      ≡ map (parts_of k (frame_at k c.assertion).hypotheses) (frame_at k c.assertion).hypotheses
+      ≡ map (parts_of db (frame_at db c.assertion).hypotheses) (frame_at db c.assertion).hypotheses
   pub pairs_are : c.pairs
       ≡ map (λ p. (
-        first k (frame_at k c.assertion).hypotheses p.low,
-        first k
-            (frame_at k c.assertion).hypotheses p.high,
-      )) (frame_at k c.assertion).pairs
+        first db (frame_at db c.assertion).hypotheses p.low,
+        first db
+            (frame_at db c.assertion).hypotheses p.high,
+      )) (frame_at db c.assertion).pairs
   pub formula_is : c.formula
-      ≡ parts_of k (frame_at k c.assertion).hypotheses (frame_at k c.assertion).formula
+      ≡ parts_of db (frame_at db c.assertion).hypotheses (frame_at db c.assertion).formula

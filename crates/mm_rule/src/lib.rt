@@ -3,7 +3,7 @@
 //! mandatory hypotheses, so that the premises of a step are the substitution and no table by
 //! symbols is needed. It also asks the database what a step asks most often: whether a statement is
 //! an assertion, and which hypotheses and pairs its frame has. `IsCompiled` in
-//! `Rattle.mm_rule.specs.Rule` says when a rule is that of an assertion. Rules are made in
+//! `Rattle.mm_rule.specs.Rule` says when a rule is that of an assertion. Rules are compiled in
 //! `mm_rules` and applied in `mm_machine`, which are proved side by side.
 #![tactic(auto)]
 

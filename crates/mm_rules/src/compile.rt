@@ -245,7 +245,7 @@ impl<A: Allocator> RuleCompiler<A> {
     }
 
     /// Compiles the rule of assertion `k`.
-    pub fn make(&mut self, db: &Database<A>, k: u32) -> Result<(), AllocError>
+    pub fn compile(&mut self, db: &Database<A>, k: u32) -> Result<(), AllocError>
         requires assertion { is_assertion_at db.now.statements k ≡ true }
         requires complete { IsComplete (context_at db.now.statements 0)
             (frame_at db.now.statements k) }

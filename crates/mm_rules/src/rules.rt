@@ -124,7 +124,7 @@ impl<A: Allocator> Rules<A> {
         if !self.has_room() {
             return Ok(());
         }
-        compiler.make(db, k)?;
+        compiler.compile(db, k)?;
         self.add(compiler.rule())
     }
 
@@ -136,8 +136,9 @@ impl<A: Allocator> Rules<A> {
 
     /// Adds a rule. If the rules are those of a database, and this is one of them, they still are.
     fn add(&mut self, rule: Rule) -> Result<(), AllocError>
-        ensures { OnOk result ((k : List Statement) → AreRules k self.old → IsCompiled k rule.entry
-            → AreRules k self.new) }
+        ensures { OnOk result
+            ((db : List Statement)
+            → AreRules db self.old → IsCompiled db rule.entry → AreRules db self.new) }
     {
         let number = self.stretches.len();
         let hypotheses = put(&mut self.hypotheses, rule.hypotheses)?;

@@ -17,9 +17,9 @@ use Rattle.mm_rules.proofs.compile.compile_hypotheses.Goals as goal
 
 pub loop-j-preserved : goal.loop-j-preserved
 loop-j-preserved g c =
-    let k = c.args.db.now.statements in
+    let db = c.args.db.now.statements in
     let hyps = c.args.hyps.now in
-    let hs = map (formula_at k) hyps in
+    let hs = map (formula_at db) hyps in
     let v = c.loop-j.invariant in
     let j = c.loop-j.j in
     let hypotheses = c.loop-j.hypotheses.items in
@@ -27,24 +27,24 @@ loop-j-preserved g c =
     let inside : j < length hyps = c.loop-j-test.true in
     let h = get_or hyps j 0 in
     let f = c.formula-formula.result.now in
-    let is : f ≡ formula_at k h = c.formula-formula.ensures.formula in
-    let us = map (parts_of k hs) (map (formula_at k) (take j hyps)) in
-    let next : map (parts_of k hs) (map (formula_at k) (take (j + 1) hyps))
-    ≡ us ++ parts_of k hs f ∷ [] =
-    ap (map (parts_of k hs)) (map_take_more (formula_at k) hyps j 0 inside)
-    ∙ map_push (parts_of k hs) (map (formula_at k) (take j hyps)) (formula_at k h)
-    ∙ ap (λ z. us ++ parts_of k hs z ∷ []) (sym is) in
-    let covered : AreCovered k hs f =
-    subst (AreCovered k hs) (sym is) (c.requires.bound j 0 inside) in
-    let same : numbered_parts k c.args.numbers.now f ≡ parts_of k hs f =
-    numbered_same k hs c.args.numbers.now c.requires.placed f covered in
+    let is : f ≡ formula_at db h = c.formula-formula.ensures.formula in
+    let us = map (parts_of db hs) (map (formula_at db) (take j hyps)) in
+    let next : map (parts_of db hs) (map (formula_at db) (take (j + 1) hyps))
+    ≡ us ++ parts_of db hs f ∷ [] =
+    ap (map (parts_of db hs)) (map_take_more (formula_at db) hyps j 0 inside)
+    ∙ map_push (parts_of db hs) (map (formula_at db) (take j hyps)) (formula_at db h)
+    ∙ ap (λ z. us ++ parts_of db hs z ∷ []) (sym is) in
+    let covered : AreCovered db hs f =
+    subst (AreCovered db hs) (sym is) (c.requires.bound j 0 inside) in
+    let same : numbered_parts db c.args.numbers.now f ≡ parts_of db hs f =
+    numbered_same db hs c.args.numbers.now c.requires.placed f covered in
     elim c.if-is_first.branch [
       | then-is_first+in_ok-push w ↦
           let t = w.index-formula-0.result in
           let first = c.is_first.ensures w.if-is_first.true in
           let typecode : get_or f 0 0 ≡ t =
           get_or_default f 0 0 t first.0 ∙ sym w.index-formula-0.is in
-          let one : parts_of k hs f ≡ Constant t ∷ Variable j ∷ [] =
+          let one : parts_of db hs f ≡ Constant t ∷ Variable j ∷ [] =
           sym same ∙ first.1 ∙ ap (λ z. Constant z ∷ Variable j ∷ []) typecode in
           rw (w.hypotheses-is, w.parts-is, w.in_ok-push.ensures.items) (record {
             made =
@@ -55,7 +55,7 @@ loop-j-preserved g c =
             below = v.below;
           })
       | else-is_first+in_ok-compile_formula+in_ok-push-2 w ↦
-          let more = parts_of k hs f in
+          let more = parts_of db hs f in
           let s : Stretch = record { start = w.len-start.result; end = w.len.result } in
           let start : w.len-start.result ≡ length parts = omega (arith, w.len-start.ensures) in
           let grown = w.in_ok-compile_formula.ensures ∙ ap (λ z. parts ++ z) same in
@@ -72,8 +72,8 @@ loop-j-preserved g c =
             within = essential_within parts more hypotheses s start to v.within;
             below =
                 All-append (IsBelow (length hyps)) parts more v.below
-                (subst (λ n. All (IsBelow n) more) (length-map hyps (formula_at k))
-                (parts_below k hs f covered));
+                (subst (λ n. All (IsBelow n) more) (length-map hyps (formula_at db))
+                (parts_below db hs f covered));
           })
     ]
 
@@ -99,12 +99,12 @@ pub compile_formula-requires-clause-known : goal.compile_formula-requires-clause
 compile_formula-requires-clause-known g c = c.formula-formula.ensures.known
 
 pub returns : goal.returns
-returns g c = let k = c.args.db.now.statements in
-    let hs = map (formula_at k) c.args.hyps.now in
+returns g c = let db = c.args.db.now.statements in
+    let hs = map (formula_at db) c.args.hyps.now in
     record {
       parts_are =
           c.loop-j.invariant.made
-          ∙ ap (λ z. map (parts_of k hs) (map (formula_at k) z))
+          ∙ ap (λ z. map (parts_of db hs) (map (formula_at db) z))
           (take_all c.loop-j.j c.args.hyps.now c.loop-j-test.false);
       count =
           let n = c.loop-j.invariant.count in let l = c.loop-j-test.false in
