@@ -3,6 +3,7 @@
 -- cutting the list takes away exactly the last ones.
 pub mod DisjointLaw
 pub mod FillLaw
+pub mod FitLaw
 pub mod FollowLaw
 pub mod GrowLaw
 pub mod KeepLaw

@@ -20,7 +20,7 @@ use Rattle.mm_spec.specs.Statement.{Statement}
 use Rattle.mm_spec.specs.Frame.{is_variable_number, frame_at}
 use Rattle.mm_spec.specs.Citation.{context_at}
 use Rattle.mm_machine.specs.Arena.{Arena, symbols_of, nothing, text_of, IsIn}
-use Rattle.mm_rule.specs.Rule.{first, parts_of, all_parts, Compiled, IsCompiled}
+use Rattle.mm_rule.specs.Rule.{first, parts_of, part_count, all_parts, Compiled, IsCompiled}
 use Rattle.mm_machine.specs.Replaced.{stands, replaced_part}
 use Rattle.mm_machine.specs.Replaced.{replaced}
 use Rattle.mm_machine.specs.State.{texts, applied}
@@ -83,7 +83,8 @@ module _ (db : List Statement) (t : ℕ) (hs : List Formula) (xs : Arena) (es : 
 pub length_all_parts : (parts : List RuleSymbol) (j : ℕ) (more : List Hypothesis)
     → length (all_parts parts j more) ≡ length more
 length_all_parts parts j [] = refl
-length_all_parts parts j (a ∷ more) = ap suc (length_all_parts parts (suc j) more)
+length_all_parts parts j (a ∷ more) =
+    ap suc (length_all_parts (drop (part_count a) parts) (suc j) more)
 
 map_drop : (xs : Arena) (n : ℕ) (es : List Span) → drop n (texts xs es) ≡ texts xs (drop n es)
 map_drop xs zero es = refl

@@ -1,9 +1,10 @@
 -- Rules as they are made.
-use Rattle.std.proofs.Common.{◌≡◌, ℕ, suc, ◌+◌, ◌-◌, ◌<◌, Bool, true, false, List, [], ◌∷◌, ◌++◌}
-use Rattle.std.proofs.Common.{length, drop, take, map, get_or, slice_range, refl, sym, ap, ap₂, ◌∙◌}
-use Rattle.std.proofs.Common.{subst, arith, All, cond, length-append, append_assoc}
+use Rattle.std.proofs.Common.{◌≡◌, ℕ, suc, ◌+◌, ◌<◌, ◌≤◌, Bool, true, false, List, [], ◌∷◌, ◌++◌}
+use Rattle.std.proofs.Common.{length, drop, take, map, get_or, refl, sym, ap, ap₂, ◌∙◌, subst, arith}
+use Rattle.std.proofs.Common.{All, cond, length-append, length-drop, append-nil, append_assoc}
 use Rattle.std.specs.List.{AllByRecursion}
-use Rattle.std.proofs.lemmas.List.{take_more, take_all, take_at, drop_at, length-map}
+use Rattle.std.proofs.lemmas.List.{take_more, take_all, take_at, take-append-le, drop-append-le}
+use Rattle.std.proofs.lemmas.List.{length-map}
 use Rattle.std.proofs.lemmas.List.Elements.{All-from_recursion, recursion_from_All}
 use Rattle.mm_spec.specs.Statement.{Statement}
 use Rattle.mm_spec.specs.Derivation.{Formula, Pair}
@@ -15,16 +16,14 @@ use Rattle.mm_rule.specs.declared.rule.RuleSymbol.{RuleSymbol}
 use Rattle.mm_rule.specs.declared.rule.RuleSymbol.TheVariants.{Constant, Variable}
 use Rattle.mm_rule.specs.declared.rule.Hypothesis.{Hypothesis}
 use Rattle.mm_rule.specs.declared.rule.Hypothesis.TheVariants.{Floating, Essential}
-use Rattle.mm_rule.specs.declared.rule.Stretch.{Stretch}
-use Rattle.mm_rule.specs.Rule.{first, parts_of, hypothesis_parts, all_parts, IsHypothesisIn}
-use Rattle.mm_rule.specs.Rule.{IsBelow, IsKnown}
+use Rattle.mm_rule.specs.Rule.{first, parts_of, part_count, hypothesis_parts, all_parts}
+use Rattle.mm_rule.specs.Rule.{count_parts, IsBelow, IsKnown}
 use Rattle.mm_rule.specs.Rule.{compiled, IsCompiled}
 use Rattle.mm_rules.specs.Rules.{AreCovered, AreFirstNumbers, AreCompiled, numbered_parts}
 use Rattle.mm_rules.specs.Rules.{numbered_pairs}
 use Rattle.mm_rule.specs.Assertions.{paired}
 use Rattle.mm_rule.specs.Assertions.{is_assertion_at}
 use Rattle.mm_rule.proofs.FirstLaw.{first_below}
-use Rattle.mm_rule.proofs.SliceLaw.{stretch_more}
 
 pub map_push : {X Y : Type 0} (f : X → Y) (xs : List X) (x : X)
     → map f (xs ++ x ∷ []) ≡ map f xs ++ f x ∷ []
@@ -45,88 +44,69 @@ map_more_after f xs i d start old new y inside was is here =
     ∙ append_assoc start (map f (take i xs)) (f (get_or xs i d) ∷ [])
     ∙ ap (λ z. start ++ z) (sym (map_take_more f xs i d inside))
 
-all_parts_push : (parts : List RuleSymbol) (n : ℕ) (xs : List Hypothesis) (a : Hypothesis)
-    → all_parts parts n (xs ++ a ∷ [])
-    ≡ all_parts parts n xs ++ hypothesis_parts parts (n + length xs) a ∷ []
-all_parts_push parts n [] a =
-    let e : n ≡ n + 0 = omega arith in ap (λ m. hypothesis_parts parts m a ∷ []) e
-all_parts_push parts n (x ∷ xs) a =
-    let e : suc n + length xs ≡ n + suc (length xs) = omega arith in
-    ap (λ z. hypothesis_parts parts n x ∷ z)
-    (all_parts_push parts (suc n) xs a
-    ∙ ap (λ m. all_parts parts (suc n) xs ++ hypothesis_parts parts m a ∷ []) e)
+no_parts : {X : Type 0} (xs : List X) → 0 ≡ length xs → xs ≡ []
+no_parts [] h = refl
+no_parts (x ∷ xs) h = absurd (omega (arith, h))
 
 -- more parts after
-one_grow : (parts more : List RuleSymbol) (n : ℕ) (a : Hypothesis) → IsHypothesisIn (length parts) a
+first_stays : (parts more : List RuleSymbol) (n : ℕ) (a : Hypothesis) → part_count a ≤ length parts
     → hypothesis_parts (parts ++ more) n a ≡ hypothesis_parts parts n a
-one_grow parts more n (Floating t) h = refl
-one_grow parts more n (Essential s) h = stretch_more parts more s.start s.end h.0 h.1
+first_stays parts more n (Floating t) h = refl
+first_stays parts more n (Essential k) h = take-append-le k parts more h
 
-all_parts_grow : (parts more : List RuleSymbol) (n : ℕ) (xs : List Hypothesis)
-    → AllByRecursion (IsHypothesisIn (length parts)) xs
-    → all_parts (parts ++ more) n xs ≡ all_parts parts n xs
-all_parts_grow parts more n [] h = refl
-all_parts_grow parts more n (a ∷ xs) h =
-    ap₂ (λ u us. u ∷ us) (one_grow parts more n a h.0) (all_parts_grow parts more (suc n) xs h.1)
+-- and one hypothesis more, for which they are kept
+all_parts_push : (parts more : List RuleSymbol) (n : ℕ) (xs : List Hypothesis) (a : Hypothesis)
+    → count_parts xs ≡ length parts
+    → all_parts (parts ++ more) n (xs ++ a ∷ [])
+    ≡ all_parts parts n xs ++ hypothesis_parts more (n + length xs) a ∷ []
+all_parts_push parts more n [] a h =
+    let e : n ≡ n + 0 = omega arith in
+    ap (λ z. hypothesis_parts (z ++ more) n a ∷ []) (no_parts parts h)
+    ∙ ap (λ m. hypothesis_parts more m a ∷ []) e
+all_parts_push parts more n (x ∷ xs) a h =
+    let e : suc n + length xs ≡ n + suc (length xs) = omega arith in
+    let within : part_count x ≤ length parts = omega (arith, h) in
+    let rest = drop (part_count x) parts in
+    let kept : count_parts xs ≡ length rest =
+    omega (arith, h, length-drop (part_count x) parts) in
+    ap₂ (λ u us. u ∷ us) (first_stays parts more n x within)
+    (ap (λ z. all_parts z (suc n) (xs ++ a ∷ [])) (drop-append-le (part_count x) parts more within)
+    ∙ all_parts_push rest more (suc n) xs a kept
+    ∙ ap (λ m. all_parts rest (suc n) xs ++ hypothesis_parts more m a ∷ []) e)
 
-is_asked_more : (m n : ℕ) (a : Hypothesis) → IsHypothesisIn m a → IsHypothesisIn (m + n) a
-is_asked_more m n (Floating t) h = tt
-is_asked_more m n (Essential s) h = (h.0, let l = h.1 in omega (arith, l))
-
-are_asked_more : (m n : ℕ) (xs : List Hypothesis) → AllByRecursion (IsHypothesisIn m) xs
-    → AllByRecursion (IsHypothesisIn (m + n)) xs
-are_asked_more m n [] h = tt
-are_asked_more m n (a ∷ xs) h = (is_asked_more m n a h.0, are_asked_more m n xs h.1)
-
-pushed : {X : Type 0} (P : X → Type 0) (xs : List X) (x : X) → AllByRecursion P xs → P x
-    → AllByRecursion P (xs ++ x ∷ [])
-pushed P [] x h p = (p, tt)
-pushed P (y ∷ xs) x h p = (h.0, pushed P xs x h.1 p)
+count_push : (xs : List Hypothesis) (a : Hypothesis)
+    → count_parts (xs ++ a ∷ []) ≡ count_parts xs + part_count a
+count_push [] a = omega arith
+count_push (x ∷ xs) a = let e = count_push xs a in omega (arith, e)
 
 -- what one hypothesis more asks: a typecode
-pub typed_more : (parts : List RuleSymbol) (xs : List Hypothesis) (j t : ℕ) (us : List (List RuleSymbol))
-    → length xs ≡ j → all_parts parts 0 xs ≡ us
+pub typed_more : (parts : List RuleSymbol) (xs : List Hypothesis) (j t : ℕ)
+    → (us : List (List RuleSymbol))
+    → length xs ≡ j → count_parts xs ≡ length parts → all_parts parts 0 xs ≡ us
     → all_parts parts 0 (xs ++ Floating t ∷ []) ≡ us ++ (Constant t ∷ Variable j ∷ []) ∷ []
-typed_more parts xs j t us n e =
+typed_more parts xs j t us n kept e =
     let at : 0 + length xs ≡ j = omega (arith, n) in
-    all_parts_push parts 0 xs (Floating t)
-    ∙ ap₂ (λ u m. u ++ hypothesis_parts parts m (Floating t) ∷ []) e at
+    ap (λ z. all_parts z 0 (xs ++ Floating t ∷ [])) (sym (append-nil parts))
+    ∙ all_parts_push parts [] 0 xs (Floating t) kept
+    ∙ ap₂ (λ u m. u ++ hypothesis_parts [] m (Floating t) ∷ []) e at
 
-pub typed_within : (n : ℕ) (xs : List Hypothesis) (t : ℕ) → All (IsHypothesisIn n) xs
-    → All (IsHypothesisIn n) (xs ++ Floating t ∷ [])
-typed_within n xs t h =
-    All-from_recursion (IsHypothesisIn n) _
-    (pushed (IsHypothesisIn n) xs (Floating t) (recursion_from_All (IsHypothesisIn n) xs h) tt)
+pub typed_kept : (parts : List RuleSymbol) (xs : List Hypothesis) (t : ℕ)
+    → count_parts xs ≡ length parts → count_parts (xs ++ Floating t ∷ []) ≡ length parts
+typed_kept parts xs t kept = let e = count_push xs (Floating t) in omega (arith, e, kept)
 
 -- or the parts of its formula
-module _ (parts more : List RuleSymbol) (xs : List Hypothesis) (s : Stretch)
-    (from : s.start ≡ length parts)
-    (to : s.end ≡ length (parts ++ more)) (h : All (IsHypothesisIn (length parts)) xs) where
-  stretch_is : slice_range (parts ++ more) s.start s.end ≡ more
-  stretch_is =
-      ap₂ (λ a b. slice_range (parts ++ more) a b) from to
-      ∙ ap (take (length (parts ++ more) - length parts)) (drop_at parts more (length parts) refl)
-      ∙ take_all (length (parts ++ more) - length parts) more
-      (omega (arith, length-append parts more))
-
+module _ (parts more : List RuleSymbol) (xs : List Hypothesis) (n : ℕ) (long : n ≡ length more)
+    (kept : count_parts xs ≡ length parts) where
   pub essential_more : (us : List (List RuleSymbol)) → all_parts parts 0 xs ≡ us
-      → all_parts (parts ++ more) 0 (xs ++ Essential s ∷ []) ≡ us ++ more ∷ []
+      → all_parts (parts ++ more) 0 (xs ++ Essential n ∷ []) ≡ us ++ more ∷ []
   essential_more us e =
-      all_parts_push (parts ++ more) 0 xs (Essential s)
-      ∙ ap₂ (λ u z. u ++ z ∷ [])
-      (all_parts_grow parts more 0 xs (recursion_from_All (IsHypothesisIn (length parts)) xs h) ∙ e)
-      stretch_is
+      all_parts_push parts more 0 xs (Essential n) kept
+      ∙ ap₂ (λ u z. u ++ z ∷ []) e (take_all n more (omega (arith, long)))
 
-  pub essential_within : All (IsHypothesisIn (length (parts ++ more))) (xs ++ Essential s ∷ [])
-  essential_within =
-      let n : length parts + length more ≡ length (parts ++ more) =
-      omega (arith, length-append parts more) in
-      All-from_recursion (IsHypothesisIn (length (parts ++ more))) _
-      (pushed (IsHypothesisIn (length (parts ++ more))) xs (Essential s)
-      (subst (λ m. AllByRecursion (IsHypothesisIn m) xs) n
-      (are_asked_more (length parts) (length more) xs
-      (recursion_from_All (IsHypothesisIn (length parts)) xs h)))
-      (omega (arith, from, to, length-append parts more), omega (arith, to)))
+  pub essential_kept : count_parts (xs ++ Essential n ∷ []) ≡ length (parts ++ more)
+  essential_kept =
+      let e = count_push xs (Essential n) in
+      omega (arith, e, kept, long, length-append parts more)
 
 module _ (db : List Statement) (hs : List Formula) where
   pub parts_below : (f : Formula) → AreCovered db hs f
@@ -260,7 +240,7 @@ module _ (db : List Statement) (a : ℕ) (is : is_assertion_at db a ≡ true)
       record {
         is_assertion = is;
         complete = complete;
-        within = made.within;
+        count = made.kept;
         parts_in = subst (λ n. All (IsBelow n) parts) (sym made.count) made.below;
         pairs_in =
             rw (pairs_are, same) (pairs_below db frame_hyps (mandatory_pairs db a) complete.pairs);

@@ -6,8 +6,8 @@ use Rattle.std.proofs.lemmas.List.Elements.{All-push}
 use Rattle.mm_spec.specs.Statement.{Statement}
 use Rattle.mm_rule.specs.declared.rule.RuleSymbol.{RuleSymbol}
 use Rattle.mm_rule.specs.declared.rule.Hypothesis.{Hypothesis}
-use Rattle.mm_rule.specs.declared.rule.Stretch.{Stretch}
 use Rattle.mm_rules.specs.declared.rules.RuleStretches.{RuleStretches}
+use Rattle.mm_rules.specs.declared.rules.Stretch.{Stretch}
 use Rattle.mm_rule.specs.Rule.{compiled, IsCompiled}
 use Rattle.mm_rules.specs.Rules.{lists, stretch_of, IsStretch, HasRule}
 use Rattle.mm_rules.specs.Rules.{AreRules}

@@ -1,6 +1,6 @@
 -- The rules of a database, and how they are made of its frames.
-use Rattle.std.specs.Prelude.{◌≡◌, ℕ, ◌<◌, ◌≤◌, true, List, map, length, get_or, slice_range, All}
-use Rattle.std.specs.Prelude.{if◌then◌else◌}
+use Rattle.std.specs.Prelude.{◌≡◌, ℕ, ◌+◌, ◌<◌, ◌≤◌, true, List, map, length, get_or, slice_range}
+use Rattle.std.specs.Prelude.{All, if◌then◌else◌}
 use Rattle.mm_spec.specs.Statement.{Statement}
 use Rattle.mm_spec.specs.Derivation.{Formula}
 use Rattle.mm_spec.specs.Laws.Complete.{IsBound}
@@ -9,10 +9,10 @@ use Rattle.mm_spec.specs.Frame.{is_variable_number, formula_at}
 use Rattle.mm_rule.specs.declared.rule.RuleSymbol.{RuleSymbol}
 use Rattle.mm_rule.specs.declared.rule.RuleSymbol.TheVariants.{Constant, Variable}
 use Rattle.mm_rule.specs.declared.rule.Hypothesis.{Hypothesis}
-use Rattle.mm_rule.specs.declared.rule.Stretch.{Stretch}
 use Rattle.mm_rules.specs.declared.rules.RuleStretches.{RuleStretches}
+use Rattle.mm_rules.specs.declared.rules.Stretch.{Stretch}
 use Rattle.mm_rule.specs.Rule.{Compiled, compiled, IsCompiled, first, parts_of, all_parts}
-use Rattle.mm_rule.specs.Rule.{IsHypothesisIn, IsBelow}
+use Rattle.mm_rule.specs.Rule.{count_parts, IsBelow}
 
 -- for each variable that has a `$f`, the list has the place of the first one
 abbrev pub AreFirstNumbers : List Statement → List Formula → List ℕ → Type 0
@@ -42,7 +42,7 @@ pub record AreCompiled (db : List Statement) (hyps : List ℕ) (hypotheses : Lis
   pub parts_are : all_parts parts 0 hypotheses
       ≡ map (parts_of db (map (formula_at db) hyps)) (map (formula_at db) hyps)
   pub count : length hypotheses ≡ length hyps
-  pub within : All (IsHypothesisIn (length parts)) hypotheses
+  pub kept : count_parts hypotheses ≡ length parts
   pub below : All (IsBelow (length hyps)) parts
 
 -- a compiler of rules: how many symbols it knows, and the rule that it compiled last
@@ -81,6 +81,14 @@ stretch start end = record { start = start; end = end }
 module _ {X : Type 0} where
   abbrev pub stretch_of : List X → Stretch → List X
   stretch_of xs s = slice_range xs s.start s.end
+
+-- how many hypotheses, pairs and symbols a rule has together
+abbrev pub rule_size : Compiled → ℕ
+rule_size c = length c.hypotheses + length c.pairs + length c.parts + length c.formula
+
+-- how many the rules have together
+abbrev pub lists_size : RuleLists → ℕ
+lists_size l = length l.hypotheses + length l.pairs + length l.parts
 
 -- the rule in these stretches
 abbrev pub rule_in : RuleLists → RuleStretches → Compiled

@@ -6,11 +6,10 @@ use Rattle.std.proofs.lemmas.List.Elements.{All-append}
 use Rattle.mm_spec.specs.Frame.{formula_at}
 use Rattle.mm_rule.specs.declared.rule.RuleSymbol.TheVariants.{Constant, Variable}
 use Rattle.mm_rule.specs.declared.rule.Hypothesis.TheVariants.{Floating, Essential}
-use Rattle.mm_rule.specs.declared.rule.Stretch.{Stretch}
-use Rattle.mm_rule.specs.Rule.{parts_of, IsBelow}
+use Rattle.mm_rule.specs.Rule.{part_of, parts_of, IsBelow}
 use Rattle.mm_rules.specs.Rules.{AreCovered, numbered_parts}
-use Rattle.mm_rules.proofs.RuleLaw.{map_take_more, map_push, typed_more, typed_within}
-use Rattle.mm_rules.proofs.RuleLaw.{essential_more, essential_within, parts_below, numbered_same}
+use Rattle.mm_rules.proofs.RuleLaw.{map_take_more, map_push, typed_more, typed_kept}
+use Rattle.mm_rules.proofs.RuleLaw.{essential_more, essential_kept, parts_below, numbered_same}
 use Rattle.mm_rules.proofs.compile.compile_hypotheses.Goals.{then-is_first+in_ok-push}
 use Rattle.mm_rules.proofs.compile.compile_hypotheses.Goals.{else-is_first+in_ok-compile_formula+in_ok-push-2}
 use Rattle.mm_rules.proofs.compile.compile_hypotheses.Goals as goal
@@ -48,28 +47,27 @@ loop-j-preserved g c =
           sym same ∙ first.1 ∙ ap (λ z. Constant z ∷ Variable j ∷ []) typecode in
           rw (w.hypotheses-is, w.parts-is, w.in_ok-push.ensures.items) (record {
             made =
-                typed_more parts hypotheses j t us v.count v.made ∙ ap (λ z. us ++ z ∷ []) (sym one)
-                ∙ sym next;
+                typed_more parts hypotheses j t us v.count v.kept v.made
+                ∙ ap (λ z. us ++ z ∷ []) (sym one) ∙ sym next;
             count = omega (arith, v.count, length-append hypotheses (Floating t ∷ []));
-            within = typed_within (length parts) hypotheses t v.within;
+            kept = typed_kept parts hypotheses t v.kept;
             below = v.below;
           })
       | else-is_first+in_ok-compile_formula+in_ok-push-2 w ↦
           let more = parts_of db hs f in
-          let s : Stretch = record { start = w.len-start.result; end = w.len.result } in
-          let start : w.len-start.result ≡ length parts = omega (arith, w.len-start.ensures) in
+          let n = length f in
           let grown = w.in_ok-compile_formula.ensures ∙ ap (λ z. parts ++ z) same in
-          let to : w.len.result ≡ length (parts ++ more) =
-          let n = ap length grown in omega (arith, w.len.ensures, n) in
+          let long : n ≡ length more =
+          sym (length-map f (part_of db hs)) in
           rw (
             w.hypotheses-is,
             w.parts-is,
             w.in_ok-push-2.ensures.items,
             grown,
           ) (record {
-            made = essential_more parts more hypotheses s start to v.within us v.made ∙ sym next;
-            count = omega (arith, v.count, length-append hypotheses (Essential s ∷ []));
-            within = essential_within parts more hypotheses s start to v.within;
+            made = essential_more parts more hypotheses n long v.kept us v.made ∙ sym next;
+            count = omega (arith, v.count, length-append hypotheses (Essential n ∷ []));
+            kept = essential_kept parts more hypotheses n long v.kept;
             below =
                 All-append (IsBelow (length hyps)) parts more v.below
                 (subst (λ n. All (IsBelow n) more) (length-map hyps (formula_at db))
@@ -109,7 +107,7 @@ returns g c = let db = c.args.db.now.statements in
       count =
           let n = c.loop-j.invariant.count in let l = c.loop-j-test.false in
           omega (arith, n, l);
-      within = c.loop-j.invariant.within;
+      kept = c.loop-j.invariant.kept;
       below = c.loop-j.invariant.below;
     }
 
