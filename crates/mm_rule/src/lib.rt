@@ -12,7 +12,7 @@ mod lists;
 mod numbers;
 mod rule;
 
-pub use frames::{hyps, is_assertion, is_essential_hypothesis, pairs};
+pub use frames::{formula, hyps, is_assertion, is_essential_hypothesis, pairs};
 pub use lists::empty;
 pub use numbers::{put_number, zeros};
-pub use rule::{Hypothesis, Rule, RuleSymbol, Stretch};
+pub use rule::{Hypothesis, Rule, RuleSymbol};

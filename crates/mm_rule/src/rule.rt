@@ -50,6 +50,13 @@ impl<'a> Model for Rule<'a> {
 }
 
 impl<'a> Rule<'a> {
+    /// The number of the assertion's statement.
+    pub fn assertion(&self) -> u32
+        ensures { result ≡ self.now.assertion }
+    {
+        self.assertion
+    }
+
     /// What the mandatory hypotheses require, in order.
     pub fn hypotheses(&self) -> &'a [Hypothesis]
         ensures { result.now ≡ self.now.hypotheses }

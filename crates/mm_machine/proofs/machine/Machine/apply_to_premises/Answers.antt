@@ -6,9 +6,9 @@ use Rattle.mm_machine.specs.Stops.{Stops}
 use Rattle.mm_machine.proofs.PlacedLaw.{judged_here, step_made, step_entry, step_stopped}
 use Rattle.mm_machine.proofs.PlacedLaw.{parts_below, parts_known, entries_here}
 use Rattle.mm_machine.proofs.PlacedLaw.{stack_here, next_machine}
-use Rattle.mm_machine.proofs.machine.Machine.apply.Given.{Over}
-use Rattle.mm_machine.proofs.machine.Machine.apply.Goals.{In-Ok}
-use Rattle.mm_machine.proofs.machine.Machine.apply.Goals as goal
+use Rattle.mm_machine.proofs.machine.Machine.apply_to_premises.Given.{Over}
+use Rattle.mm_machine.proofs.machine.Machine.apply_to_premises.Goals.{In-Ok}
+use Rattle.mm_machine.proofs.machine.Machine.apply_to_premises.Goals as goal
 
 -- the test of the rule, on the lists of the machine
 tested : (g : Over) (c : In-Ok g)
