@@ -27,74 +27,74 @@ use Rattle.mm_check.proofs.CitesLaw.{all_cited}
 use Rattle.mm_check.proofs.RanLaw.{none_ran}
 use Rattle.mm_check.proofs.ReachLaw.{derives, ends_with, end_is}
 
-module _ (k : List Statement) (t : ℕ) (steps : List PlacedStep) where
+module _ (db : List Statement) (t : ℕ) (steps : List PlacedStep) where
   -- no step is performed yet
   pub begins : (m : MachineState) (rules : RuleLists) (noted : List ℕ) (cache : List (ℕ × ℕ))
       → (width : ℕ)
-      → AreOf k width rules → AreStepsOf k t steps → m ≡ machine_state [] [] [] width → noted ≡ []
-      → AreDisjointAt k t cache → HasPerformed k t steps 0 (checker_state m rules noted cache)
+      → AreOf db width rules → AreStepsOf db t steps → m ≡ machine_state [] [] [] width → noted ≡ []
+      → AreDisjointAt db t cache → HasPerformed db t steps 0 (checker_state m rules noted cache)
   begins m rules noted cache width made are fresh none p = record {
     at = record {
       made_for = rw fresh made;
-      theorem = by (slice_get k t) refl are.theorem;
+      theorem = by (slice_get db t) refl are.theorem;
       disjoint_are = p;
     };
     are_steps = are;
-    ran = none_ran k t steps m noted width fresh none;
+    ran = none_ran db t steps m noted width fresh none;
   }
     where
-      by : (o : Option Statement) → slice_get k t ≡ o
-          → list_any is_theorem (elim o [ None ↦ [] | Some s ↦ s ∷ [] ]) ≡ true → t < length k
+      by : (o : Option Statement) → slice_get db t ≡ o
+          → list_any is_theorem (elim o [ None ↦ [] | Some s ↦ s ∷ [] ]) ≡ true → t < length db
       by None e h = absurd (true≢false (sym h))
-      by (Some s) e h = inside_of k t s e
+      by (Some s) e h = inside_of db t s e
 
   -- all steps are performed
-  module _ (c d : CheckerState) (view : c ≡ d) (p : HasPerformed k t steps (length steps) d) where
+  module _ (c d : CheckerState) (view : c ≡ d) (p : HasPerformed db t steps (length steps) d) where
     abbrev ends : List Formula
     ends = p.ran.ends
 
-    abbrev all : Reached k t (steps_of steps) c.machine.stack ends c.noted
+    abbrev all : Reached db t (steps_of steps) c.machine.stack ends c.noted
     all =
         rw view
-        (subst (λ z. Reached k t (steps_of z) d.machine.stack ends d.noted)
+        (subst (λ z. Reached db t (steps_of z) d.machine.stack ends d.noted)
         (take_all (length steps) steps (omega arith)) p.ran.reached)
 
-    module _ (one : c.machine.stack ≡ formula_at k t ∷ []) where
+    module _ (one : c.machine.stack ≡ formula_at db t ∷ []) where
       -- the forest after them is the theorem's proof
-      abbrev pub proof_is : (d : Trees) × IsProof k t d
+      abbrev pub proof_is : (d : Trees) × IsProof db t d
       proof_is = (
         all.forest,
-        subst (λ ps. Derives (context_at k t) (steps_of ps) (formula_at k t) all.forest)
+        subst (λ ps. Derives (context_at db t) (steps_of ps) (formula_at db t) all.forest)
             p.are_steps.are
-            (derives k t steps c.machine.stack ends c.noted all (formula_at k t) one),
+            (derives db t steps c.machine.stack ends c.noted all (formula_at db t) one),
       )
 
-      pub cites_are : (a : ℕ) → Decides (is_member c.noted a) (Cites k false t a)
+      pub cites_are : (a : ℕ) → Decides (is_member c.noted a) (Cites db false t a)
       cites_are =
-          all_cited k t all.forest c.noted p.are_steps.complete proof_is.1 all.noted_are
+          all_cited db t all.forest c.noted p.are_steps.complete proof_is.1 all.noted_are
 
       pub is_checked : (essential : Bool) (noted cites : List ℕ)
-          → ((a : ℕ) → Decides (is_member noted a) (Cites k essential t a))
+          → ((a : ℕ) → Decides (is_member noted a) (Cites db essential t a))
           → IsStrictlyIncreasing cites → ((a : ℕ) → is_member cites a ≡ is_member noted a)
-          → IsChecked k essential t cites
+          → IsChecked db essential t cites
       is_checked essential noted cites exact rising same = record {
         derivation = all.forest;
         proof = proof_is.1;
         rising = rising;
-        exact = λ a. subst (λ b. Decides b (Cites k essential t a)) (sym (same a)) (exact a);
+        exact = λ a. subst (λ b. Decides b (Cites db essential t a)) (sym (same a)) (exact a);
       }
 
-    pub ends_here : (at : ℕ) (code : Code) → option_map last_place (slice_get k t) ≡ Some at
-        → IsEndCode (context_at k t) c.machine.stack (formula_at k t) code
-        → ProofFault k t (end_of (slice_get k t)) (fault at code)
+    pub ends_here : (at : ℕ) (code : Code) → option_map last_place (slice_get db t) ≡ Some at
+        → IsEndCode (context_at db t) c.machine.stack (formula_at db t) code
+        → ProofFault db t (end_of (slice_get db t)) (fault at code)
     ends_here at code last h =
-        let f = formula_at k t in
+        let f = formula_at db t in
         inr (
           p.are_steps.sound,
           inr (subst
-              (λ ps. ProofEndFault (context_at k t) ps f (end_of (slice_get k t)) (fault at code))
+              (λ ps. ProofEndFault (context_at db t) ps f (end_of (slice_get db t)) (fault at code))
               p.are_steps.are
-              (subst (λ n. ProofEndFault (context_at k t) steps f n (fault at code))
-              (sym (end_is k t at p.are_steps.theorem last))
-              (ends_with k t steps c.machine.stack ends c.noted all at code f h))),
+              (subst (λ n. ProofEndFault (context_at db t) steps f n (fault at code))
+              (sym (end_is db t at p.are_steps.theorem last))
+              (ends_with db t steps c.machine.stack ends c.noted all at code f h))),
         )

@@ -66,41 +66,42 @@ takes_here steps i j h e =
     list_any_at (λ s. takes_up j s.step) steps i (placed 0 (label 0)) h
     (ap (takes_up j) e ∙ eq-eqb j j refl)
 
-module _ (k : List Statement) (t : ℕ) (steps : List PlacedStep) (i : ℕ) (c : CheckerState)
-    (p : HasPerformed k t steps i c) (inside : i < length steps) (a : Step)
+module _ (db : List Statement) (t : ℕ) (steps : List PlacedStep) (i : ℕ) (c : CheckerState)
+    (p : HasPerformed db t steps i c) (inside : i < length steps) (a : Step)
     (is : a ≡ (step_at steps i).step) where
-  good_step : IsGoodStep (context_at k t) (length p.ran.ends) a
+  good_step : IsGoodStep (context_at db t) (length p.ran.ends) a
   good_step =
-      good_here (context_at k t) steps i (length p.ran.ends) a inside p.are_steps.good p.ran.count is
+      good_here (context_at db t) steps i (length p.ran.ends) a inside p.are_steps.good p.ran.count
+      is
 
   -- the step can be made
-  pub ready : IsReady (context_at k t) c.machine.marks a
+  pub ready : IsReady (context_at db t) c.machine.marks a
   ready = by a is good_step
     where
       by : (a : Step) → a ≡ (step_at steps i).step
-          → IsGoodStep (context_at k t) (length p.ran.ends) a
-          → IsReady (context_at k t) c.machine.marks a
+          → IsGoodStep (context_at db t) (length p.ran.ends) a
+          → IsReady (context_at db t) c.machine.marks a
       by (label l) is g = g
       by (marked j) is g =
           p.ran.present j (let c = p.ran.count in omega (arith, g, c))
           (takes_here steps i j inside (sym is))
 
   -- the fault of a step that was stopped
-  pub stops_here : (at : ℕ) (e : Stopped) → at ≡ (step_at steps i).at → IsStopped k t a c e
-      → StepRefuses k t steps (refusal_at at e)
+  pub stops_here : (at : ℕ) (e : Stopped) → at ≡ (step_at steps i).at → IsStopped db t a c e
+      → StepRefuses db t steps (refusal_at at e)
   stops_here at Memory e stop = tt
   stops_here at (Fault reason) e stop =
       rw e
-      (fails k t steps i c.machine.stack p.ran.ends c.noted (reason_of reason) inside p.ran.reached
-      (subst (IsGoodStep (context_at k t) (length p.ran.ends)) is good_step)
-      (subst (λ z. step_entries (context_at k t) z p.ran.ends c.machine.stack
+      (fails db t steps i c.machine.stack p.ran.ends c.noted (reason_of reason) inside p.ran.reached
+      (subst (IsGoodStep (context_at db t) (length p.ran.ends)) is good_step)
+      (subst (λ z. step_entries (context_at db t) z p.ran.ends c.machine.stack
       ≡ Err (reason_of reason)) is (stop p.ran.ends p.ran.agree)))
 
   -- what is kept after the step
   next_ran : (d : CheckerState) (m : MachineState) (b : Bool) → is_marked steps i ≡ b
-      → Performs k t a c d → m ≡ with_mark b i d.machine → Ran k t steps (i + 1) m d.noted
+      → Performs db t a c d → m ≡ with_mark b i d.machine → Ran db t steps (i + 1) m d.noted
   next_ran d m b is_b made kept =
-      subst (λ o. Ran k t steps (i + 1) o d.noted) (sym kept) (by b is_b)
+      subst (λ o. Ran db t steps (i + 1) o d.noted) (sym kept) (by b is_b)
     where
       ends : List Formula
       ends = p.ran.ends ++ top d.machine.stack ∷ []
@@ -109,10 +110,10 @@ module _ (k : List Statement) (t : ℕ) (steps : List PlacedStep) (i : ℕ) (c :
       count =
           let c = p.ran.count in omega (arith, c, length-append p.ran.ends (top d.machine.stack ∷ []))
 
-      reached : Reached k t (steps_of (take (i + 1) steps)) d.machine.stack ends d.noted
+      reached : Reached db t (steps_of (take (i + 1) steps)) d.machine.stack ends d.noted
       reached =
           rw (take_step steps i inside, ← is)
-          (next k t (steps_of (take i steps)) c.machine.stack p.ran.ends c.noted a d.machine.stack
+          (next db t (steps_of (take i steps)) c.machine.stack p.ran.ends c.noted a d.machine.stack
           d.noted p.ran.reached good_step (made.made p.ran.ends p.ran.agree) made.noted)
 
       agree : Agree ends d.machine.marks d.machine.formulas
@@ -135,7 +136,8 @@ module _ (k : List Statement) (t : ℕ) (steps : List PlacedStep) (i : ℕ) (c :
       earlier : (j : ℕ) → j < i → is_marked steps j ≡ true → Contains d.machine.marks j
       earlier j l m = subst (λ z. Contains z j) (sym made.marks) (p.ran.present j l m)
 
-      by : (b : Bool) → is_marked steps i ≡ b → Ran k t steps (i + 1) (with_mark b i d.machine) d.noted
+      by : (b : Bool) → is_marked steps i ≡ b
+          → Ran db t steps (i + 1) (with_mark b i d.machine) d.noted
       by false e = record {
         ends = ends;
         count = count;
@@ -168,8 +170,8 @@ module _ (k : List Statement) (t : ℕ) (steps : List PlacedStep) (i : ℕ) (c :
               subst (Contains (d.machine.marks ++ i ∷ [])) q (Contains-push d.machine.marks i)
 
   pub performs_next : (d : CheckerState) (m : MachineState) (b : Bool) → is_marked steps i ≡ b
-      → Performs k t a c d → IsAt k t d → m ≡ with_mark b i d.machine → m.width ≡ d.machine.width
-      → HasPerformed k t steps (i + 1) (checker_state m d.rules d.noted d.cache)
+      → Performs db t a c d → IsAt db t d → m ≡ with_mark b i d.machine → m.width ≡ d.machine.width
+      → HasPerformed db t steps (i + 1) (checker_state m d.rules d.noted d.cache)
   performs_next d m b is_b made at kept width = record {
     at = rw width at;
     are_steps = p.are_steps;
@@ -177,14 +179,14 @@ module _ (k : List Statement) (t : ℕ) (steps : List PlacedStep) (i : ℕ) (c :
   }
 
 -- no step so far
-pub none_ran : (k : List Statement) (t : ℕ) (steps : List PlacedStep) (s : MachineState)
+pub none_ran : (db : List Statement) (t : ℕ) (steps : List PlacedStep) (s : MachineState)
     → (noted : List ℕ)
     → (w : ℕ)
-    → s ≡ machine_state [] [] [] w → noted ≡ [] → Ran k t steps 0 s noted
-none_ran k t steps s noted w e n = rw e (record {
+    → s ≡ machine_state [] [] [] w → noted ≡ [] → Ran db t steps 0 s noted
+none_ran db t steps s noted w e n = rw e (record {
   ends = [];
   count = refl;
-  reached = starts k t [] [] noted refl refl n;
+  reached = starts db t [] [] noted refl refl n;
   agree = tt;
   before = All-nil (λ j. j < 0);
   present = λ j l m. absurd (omega arith);

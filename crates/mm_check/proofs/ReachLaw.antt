@@ -76,15 +76,15 @@ module _ (c : Context) where
       (subst (λ z. is_member z a ≡ true) h.3.2 (last_member h.3.0 h.1 a h.3.3 m)))
 
 -- one step more
-pub next : (k : List Statement) (t : ℕ) (done : List Step) (stack ends : List Formula)
+pub next : (db : List Statement) (t : ℕ) (done : List Step) (stack ends : List Formula)
     → (noted : List ℕ) (s : Step) (out : List Formula) (then : List ℕ)
-    → Reached k t done stack ends noted → IsGoodStep (context_at k t) (length ends) s
-    → step_entries (context_at k t) s ends stack ≡ Ok out
+    → Reached db t done stack ends noted → IsGoodStep (context_at db t) (length ends) s
+    → step_entries (context_at db t) s ends stack ≡ Ok out
     → ((a : ℕ)
-    → is_member then a ≡ (is_member noted a || (is_labelled_step s a && is_assertion_at k a)))
-    → Reached k t (done ++ s ∷ []) out (ends ++ top out ∷ []) then
-next k t done stack ends noted s out then r good made notes =
-    let c = context_at k t in
+    → is_member then a ≡ (is_member noted a || (is_labelled_step s a && is_assertion_at db a)))
+    → Reached db t (done ++ s ∷ []) out (ends ++ top out ∷ []) then
+next db t done stack ends noted s out then r good made notes =
+    let c = context_at db t in
     let same : step_entries c s ends (formulas r.forest) ≡ Ok out =
     ap (step_entries c s ends) r.entries_are ∙ made in
     let g =
@@ -105,20 +105,20 @@ next k t done stack ends noted s out then r good made notes =
           (λ a m. members a ∙ or_left _ _ m);
       noted_are =
           λ a. notes a
-          ∙ ap (λ b. b || (is_labelled_step s a && is_assertion_at k a)) (r.noted_are a)
-          ∙ spread (is_member (postfix r.forest) a) (is_labelled_step s a) (is_assertion_at k a)
-          ∙ ap (λ b. b && is_assertion_at k a) (sym (members a));
+          ∙ ap (λ b. b || (is_labelled_step s a && is_assertion_at db a)) (r.noted_are a)
+          ∙ spread (is_member (postfix r.forest) a) (is_labelled_step s a) (is_assertion_at db a)
+          ∙ ap (λ b. b && is_assertion_at db a) (sym (members a));
     }
 
 -- a step that fails
-pub fails : (k : List Statement) (t : ℕ) (steps : List PlacedStep) (i : ℕ)
+pub fails : (db : List Statement) (t : ℕ) (steps : List PlacedStep) (i : ℕ)
     → (stack ends : List Formula) (noted : List ℕ) (reason : Reason)
-    → i < length steps → Reached k t (steps_of (take i steps)) stack ends noted
-    → IsGoodStep (context_at k t) (length ends) (step_at steps i).step
-    → step_entries (context_at k t) (step_at steps i).step ends stack ≡ Err reason
-    → StepFault (context_at k t) steps (fault (step_at steps i).at (code_of reason))
-fails k t steps i stack ends noted reason h r good made =
-    let c = context_at k t in
+    → i < length steps → Reached db t (steps_of (take i steps)) stack ends noted
+    → IsGoodStep (context_at db t) (length ends) (step_at steps i).step
+    → step_entries (context_at db t) (step_at steps i).step ends stack ≡ Err reason
+    → StepFault (context_at db t) steps (fault (step_at steps i).at (code_of reason))
+fails db t steps i stack ends noted reason h r good made =
+    let c = context_at db t in
     let s = step_at steps i in
     let same : step_entries c s.step ends (formulas r.forest) ≡ Err reason =
     ap (step_entries c s.step ends) r.entries_are ∙ made in
@@ -142,14 +142,15 @@ fails k t steps i stack ends noted reason h r good made =
       is = refl;
     }
 
-module _ (k : List Statement) (t : ℕ) (steps : List PlacedStep) (stack ends : List Formula)
-    (noted : List ℕ) (r : Reached k t (steps_of steps) stack ends noted) where
-  plain_all : Plain (context_at k t) [] [] (steps_of steps) (postfix r.forest)
+module _ (db : List Statement) (t : ℕ) (steps : List PlacedStep) (stack ends : List Formula)
+    (noted : List ℕ) (r : Reached db t (steps_of steps) stack ends noted) where
+  plain_all : Plain (context_at db t) [] [] (steps_of steps) (postfix r.forest)
   plain_all =
-      subst (λ z. Plain (context_at k t) [] [] z (postfix r.forest)) (append-nil (steps_of steps))
+      subst (λ z. Plain (context_at db t) [] [] z (postfix r.forest)) (append-nil (steps_of steps))
       (r.plain [] (postfix r.forest) refl)
 
-  pub derives : (f : Formula) → stack ≡ f ∷ [] → Derives (context_at k t) (steps_of steps) f r.forest
+  pub derives : (f : Formula) → stack ≡ f ∷ []
+      → Derives (context_at db t) (steps_of steps) f r.forest
   derives f e = one r.forest r.derivations (r.entries_are ∙ e) plain_all
     where
       two : (xs : List Formula) (h g : Formula) → ¬ ((xs ++ h ∷ []) ++ g ∷ [] ≡ f ∷ [])
@@ -157,22 +158,22 @@ module _ (k : List Statement) (t : ℕ) (steps : List PlacedStep) (stack ends : 
           let n = ap length e in
           omega (arith, n, length-append (xs ++ h ∷ []) (g ∷ []), length-append xs (h ∷ []))
 
-      one : (forest : Trees) → AreDerivations (context_at k t) forest → formulas forest ≡ f ∷ []
-          → Plain (context_at k t) [] [] (steps_of steps) (postfix forest)
-          → Derives (context_at k t) (steps_of steps) f forest
+      one : (forest : Trees) → AreDerivations (context_at db t) forest → formulas forest ≡ f ∷ []
+          → Plain (context_at db t) [] [] (steps_of steps) (postfix forest)
+          → Derives (context_at db t) (steps_of steps) f forest
       one none d e p = cc
       one (more none l g cs) d e p = (l, cs, ap (λ z. tree l z cs) (ap top e), d, p)
       one (more (more ts m h bs) l g cs) d e p = absurd (two (formulas ts) h g e)
 
   pub ends_with : (end : ℕ) (code : Code) (formula : Formula)
-      → IsEndCode (context_at k t) stack formula code
-      → ProofEndFault (context_at k t) steps formula end (fault end code)
+      → IsEndCode (context_at db t) stack formula code
+      → ProofEndFault (context_at db t) steps formula end (fault end code)
   ends_with end code formula h = record {
     forest = r.forest;
     derivations = r.derivations;
     plain = plain_all;
     code = code;
-    fails = subst (λ z. IsEndCode (context_at k t) z formula code) (sym r.entries_are) h;
+    fails = subst (λ z. IsEndCode (context_at db t) z formula code) (sym r.entries_are) h;
     is = refl;
   }
 
@@ -201,9 +202,9 @@ take_step steps i h =
     ∙ map-append (λ s. s.step) (take i steps) (step_at steps i ∷ [])
 
 -- no step so far
-pub starts : (k : List Statement) (t : ℕ) (stack ends : List Formula) (noted : List ℕ)
-    → stack ≡ [] → ends ≡ [] → noted ≡ [] → Reached k t [] stack ends noted
-starts k t stack ends noted e f n =
+pub starts : (db : List Statement) (t : ℕ) (stack ends : List Formula) (noted : List ℕ)
+    → stack ≡ [] → ends ≡ [] → noted ≡ [] → Reached db t [] stack ends noted
+starts db t stack ends noted e f n =
     rw (e, f, n)
     (record {
       forest = none;

@@ -19,7 +19,7 @@ use Rattle.mm_check.specs.Checker.{Performs, IsStopped}
 use Rattle.mm_check.proofs.CompilerStateLaw.{assertion_rule}
 use Rattle.mm_check.proofs.RanLaw.{agree_at}
 
-module _ (k : List Statement) (t : ℕ) where
+module _ (db : List Statement) (t : ℕ) where
   one_more : (es : List Formula) (f : Formula) → 0 < length (es ++ f ∷ [])
   one_more es f = omega (arith, length-append es (f ∷ []))
 
@@ -28,7 +28,7 @@ module _ (k : List Statement) (t : ℕ) where
       → m
       ≡ machine_state (c.machine.stack ++ get_or c.machine.formulas n [] ∷ []) c.machine.marks
       c.machine.formulas c.machine.width
-      → Performs k t (marked j) c (checker_state m c.rules c.noted c.cache)
+      → Performs db t (marked j) c (checker_state m c.rules c.noted c.cache)
   repeats c j n m inside is made =
       let out : Option Formula → Result (List Formula) Reason =
       λ o. elim o [ None ↦ Ok c.machine.stack | Some f ↦ Ok (c.machine.stack ++ f ∷ []) ] in
@@ -43,17 +43,17 @@ module _ (k : List Statement) (t : ℕ) where
         noted = λ x. sym (or-false (is_member c.noted x));
       }
 
-  module _ (c : CheckerState) (a : ℕ) (good : IsGood (context_at k t) ((context_at k t).rule a))
-      (is : is_assertion_at k a ≡ true) where
+  module _ (c : CheckerState) (a : ℕ) (good : IsGood (context_at db t) ((context_at db t).rule a))
+      (is : is_assertion_at db a ≡ true) where
     pub applies : (m : MachineState) (noted : List ℕ) (cache : List (ℕ × ℕ))
-        → applied k t a c.machine.stack ≡ Ok m.stack → m.marks ≡ c.machine.marks
+        → applied db t a c.machine.stack ≡ Ok m.stack → m.marks ≡ c.machine.marks
         → m.formulas ≡ c.machine.formulas → 0 < length m.stack
         → ((x : ℕ) → is_member noted x ≡ (is_member c.noted x || (x == a)))
-        → Performs k t (label a) c (checker_state m c.rules noted cache)
+        → Performs db t (label a) c (checker_state m c.rules noted cache)
     applies m noted cache made marks formulas entry notes = record {
       made =
-          λ ends agree. ap (λ r. step (context_at k t) r c.machine.stack)
-          (assertion_rule k t a is good)
+          λ ends agree. ap (λ r. step (context_at db t) r c.machine.stack)
+          (assertion_rule db t a is good)
           ∙ made;
       marks = marks;
       formulas = formulas;
@@ -61,13 +61,13 @@ module _ (k : List Statement) (t : ℕ) where
       noted = λ x. notes x ∙ ap (λ b. is_member c.noted x || b) (by x (x == a) refl);
     }
       where
-        by : (x : ℕ) (b : Bool) → (x == a) ≡ b → b ≡ (b && is_assertion_at k x)
+        by : (x : ℕ) (b : Bool) → (x == a) ≡ b → b ≡ (b && is_assertion_at db x)
         by x false e = refl
-        by x true e = sym (ap (is_assertion_at k) (eqb-true x a e) ∙ is)
+        by x true e = sym (ap (is_assertion_at db) (eqb-true x a e) ∙ is)
 
-    pub stops : (e : Stopped) → Stops e (applied k t a c.machine.stack)
-        → IsStopped k t (label a) c e
+    pub stops : (e : Stopped) → Stops e (applied db t a c.machine.stack)
+        → IsStopped db t (label a) c e
     stops e h =
         λ ends agree. subst (Stops e)
-        (sym (ap (λ r. step (context_at k t) r c.machine.stack) (assertion_rule k t a is good)))
+        (sym (ap (λ r. step (context_at db t) r c.machine.stack) (assertion_rule db t a is good)))
         h

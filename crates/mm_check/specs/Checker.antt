@@ -28,45 +28,46 @@ checker_state machine rules noted cache =
     record { machine = machine; rules = rules; noted = noted; cache = cache }
 
 -- the number of symbols and the rules are those of the database
-pub record AreOf (k : List Statement) (width : ℕ) (rules : RuleLists) : Type 0 where
-  pub width_is : width ≡ length (symbol_names k)
-  pub rules_are : AreRules k rules
+pub record AreOf (db : List Statement) (width : ℕ) (rules : RuleLists) : Type 0 where
+  pub width_is : width ≡ length (symbol_names db)
+  pub rules_are : AreRules db rules
 
 -- the checker is made for the theorems of the database
 abbrev pub IsMadeFor : List Statement → CheckerState → Type 0
-IsMadeFor k c = AreOf k c.machine.width c.rules
+IsMadeFor db c = AreOf db c.machine.width c.rules
 
 -- they are, and the pairs of symbols are disjoint at the theorem
-pub record AreAt (k : List Statement) (t width : ℕ) (rules : RuleLists) (cache : List (ℕ × ℕ)) :
+pub record AreAt (db : List Statement) (t width : ℕ) (rules : RuleLists) (cache : List (ℕ × ℕ)) :
     Type 0 where
-  pub made_for : AreOf k width rules
-  pub theorem : t < length k
-  pub disjoint_are : AreDisjointAt k t cache
+  pub made_for : AreOf db width rules
+  pub theorem : t < length db
+  pub disjoint_are : AreDisjointAt db t cache
 
 -- it checks the proof of the theorem
 abbrev pub IsAt : List Statement → ℕ → CheckerState → Type 0
-IsAt k t c = AreAt k t c.machine.width c.rules c.cache
+IsAt db t c = AreAt db t c.machine.width c.rules c.cache
 
 -- it has performed the first `i` of the steps
-pub record HasPerformed (k : List Statement) (t : ℕ) (steps : List PlacedStep) (i : ℕ)
+pub record HasPerformed (db : List Statement) (t : ℕ) (steps : List PlacedStep) (i : ℕ)
     (c : CheckerState) : Type 0 where
-  pub at : IsAt k t c
-  pub are_steps : AreStepsOf k t steps
-  pub ran : Ran k t steps i c.machine c.noted
+  pub at : IsAt db t c
+  pub are_steps : AreStepsOf db t steps
+  pub ran : Ran db t steps i c.machine c.noted
 
 -- one step leads from the checker to the next: its entries are those after the step, and its
 -- assertion is noted
-pub record Performs (k : List Statement) (t : ℕ) (a : Step) (c d : CheckerState) : Type 0 where
+pub record Performs (db : List Statement) (t : ℕ) (a : Step) (c d : CheckerState) : Type 0 where
   pub made : (ends : List Formula) → Agree ends c.machine.marks c.machine.formulas
-      → step_entries (context_at k t) a ends c.machine.stack ≡ Ok d.machine.stack
+      → step_entries (context_at db t) a ends c.machine.stack ≡ Ok d.machine.stack
   pub marks : d.machine.marks ≡ c.machine.marks
   pub formulas : d.machine.formulas ≡ c.machine.formulas
   pub entry : 0 < length d.machine.stack
   pub noted : (x : ℕ)
-      → is_member d.noted x ≡ (is_member c.noted x || (is_labelled_step a x && is_assertion_at k x))
+      → is_member d.noted x
+      ≡ (is_member c.noted x || (is_labelled_step a x && is_assertion_at db x))
 
 -- the step is stopped for a reason for which it fails
 abbrev pub IsStopped : List Statement → ℕ → Step → CheckerState → Stopped → Type 0
-IsStopped k t a c e =
+IsStopped db t a c e =
     (ends : List Formula) → Agree ends c.machine.marks c.machine.formulas
-    → Stops e (step_entries (context_at k t) a ends c.machine.stack)
+    → Stops e (step_entries (context_at db t) a ends c.machine.stack)

@@ -17,20 +17,20 @@ use Rattle.mm_rule.specs.Assertions.{is_assertion_at}
 
 -- After the steps there is a forest of derivations: its formulas are the entries, the ends are the
 -- last formulas of the earlier forests, and its assertions were noted.
-pub record Reached (k : List Statement) (t : ℕ) (done : List Step) (stack ends : List Formula)
+pub record Reached (db : List Statement) (t : ℕ) (done : List Step) (stack ends : List Formula)
     (noted : List ℕ) : Type 0 where
   pub forest : Trees
-  pub derivations : AreDerivations (context_at k t) forest
+  pub derivations : AreDerivations (context_at db t) forest
   pub entries_are : formulas forest ≡ stack
   pub lists : List (List ℕ)
-  pub after : AllZip (Leaves (context_at k t)) lists ends
+  pub after : AllZip (Leaves (context_at db t)) lists ends
   pub plain : (rest : List Step) (all : List ℕ)
-      → Plain (context_at k t) lists (postfix forest) rest all
-      → Plain (context_at k t) [] [] (done ++ rest) all
+      → Plain (context_at db t) lists (postfix forest) rest all
+      → Plain (context_at db t) [] [] (done ++ rest) all
   pub within : AllByRecursion
       (λ l. (a : ℕ) → is_member l a ≡ true → is_member (postfix forest) a ≡ true) lists
   pub noted_are : (a : ℕ)
-      → is_member noted a ≡ (is_member (postfix forest) a && is_assertion_at k a)
+      → is_member noted a ≡ (is_member (postfix forest) a && is_assertion_at db a)
 
 -- the steps without their places
 abbrev pub steps_of : List PlacedStep → List Step
@@ -42,19 +42,19 @@ Agree ends marks formulas = AllZip (λ j f. slice_get ends j ≡ Some f) marks f
 
 -- The state after the first `i` steps: the entries, and the marked ones among these steps with
 -- their formulas.
-pub record Ran (k : List Statement) (t : ℕ) (steps : List PlacedStep) (i : ℕ) (s : MachineState)
+pub record Ran (db : List Statement) (t : ℕ) (steps : List PlacedStep) (i : ℕ) (s : MachineState)
     (noted : List ℕ) : Type 0 where
   pub ends : List Formula
   pub count : length ends ≡ i
-  pub reached : Reached k t (steps_of (take i steps)) s.stack ends noted
+  pub reached : Reached db t (steps_of (take i steps)) s.stack ends noted
   pub agree : Agree ends s.marks s.formulas
   pub before : All (λ j. j < i) s.marks
   pub present : (j : ℕ) → j < i → is_marked steps j ≡ true → Contains s.marks j
 
 -- the steps are those of the theorem's proof, which was read without a fault
-pub record AreStepsOf (k : List Statement) (t : ℕ) (steps : List PlacedStep) : Type 0 where
-  pub complete : AreComplete k
-  pub theorem : IsTrue (is_theorem_at k t)
-  pub are : steps ≡ steps_at k t
-  pub sound : reading_faults_at k t ≡ []
-  pub good : AreGoodSteps (context_at k t) 0 (steps_of steps)
+pub record AreStepsOf (db : List Statement) (t : ℕ) (steps : List PlacedStep) : Type 0 where
+  pub complete : AreComplete db
+  pub theorem : IsTrue (is_theorem_at db t)
+  pub are : steps ≡ steps_at db t
+  pub sound : reading_faults_at db t ≡ []
+  pub good : AreGoodSteps (context_at db t) 0 (steps_of steps)

@@ -7,9 +7,9 @@ use Rattle.mm_spec.specs.Citation.{context_at}
 use Rattle.mm_rule.proofs.DisjointLaw.{either_order}
 use Rattle.mm_machine.specs.Arena.{AreDisjointAt, HasPair, KeepsPair}
 
-module _ (k : List Statement) (t : ℕ) (ps : List (ℕ × ℕ)) (h : AreDisjointAt k t ps) where
+module _ (db : List Statement) (t : ℕ) (ps : List (ℕ × ℕ)) (h : AreDisjointAt db t ps) where
   abbrev Disjoint : ℕ → ℕ → Type 0
-  Disjoint a b = are_disjoint (context_at k t) a b ≡ true
+  Disjoint a b = are_disjoint (context_at db t) a b ≡ true
 
   has_disjoint : (a b : ℕ) → HasPair ps a b → Disjoint a b
   has_disjoint a b p =
@@ -17,16 +17,16 @@ module _ (k : List Statement) (t : ℕ) (ps : List (ℕ × ℕ)) (h : AreDisjoin
 
   pub either_disjoint : (a b : ℕ) → HasPair ps a b ⊎ HasPair ps b a → Disjoint a b
   either_disjoint a b (inl p) = has_disjoint a b p
-  either_disjoint a b (inr p) = either_order k t b a (has_disjoint b a p)
+  either_disjoint a b (inr p) = either_order db t b a (has_disjoint b a p)
 
   pub kept_apart : (a b : ℕ) (qs : List (ℕ × ℕ)) → Disjoint a b → KeepsPair ps a b qs
-      → AreDisjointAt k t qs
-  kept_apart a b qs d (inl e) = subst (AreDisjointAt k t) (sym e) h
+      → AreDisjointAt db t qs
+  kept_apart a b qs d (inl e) = subst (AreDisjointAt db t) (sym e) h
   kept_apart a b qs d (inr e) =
-      subst (AreDisjointAt k t) (sym e)
-      (All-push (λ (p : ℕ × ℕ). are_disjoint (context_at k t) p.0 p.1 ≡ true) ps (a, b) h d)
+      subst (AreDisjointAt db t) (sym e)
+      (All-push (λ (p : ℕ × ℕ). are_disjoint (context_at db t) p.0 p.1 ≡ true) ps (a, b) h d)
 
   pub either_kept : (a b : ℕ) (qs : List (ℕ × ℕ)) → Disjoint a b
-      → KeepsPair ps a b qs ⊎ KeepsPair ps b a qs → AreDisjointAt k t qs
+      → KeepsPair ps a b qs ⊎ KeepsPair ps b a qs → AreDisjointAt db t qs
   either_kept a b qs d (inl e) = kept_apart a b qs d e
-  either_kept a b qs d (inr e) = kept_apart b a qs (either_order k t a b d) e
+  either_kept a b qs d (inr e) = kept_apart b a qs (either_order db t a b d) e

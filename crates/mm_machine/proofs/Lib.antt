@@ -1,8 +1,10 @@
 -- `judged_at` (`RuleTestLaw.antt`) says that the test of a rule is the step of the definitions. The
 -- entries follow one another in the list of their own symbols (`Follow`, `FollowLaw.antt`), so that
 -- cutting the list takes away exactly the last ones.
+pub mod AloneLaw
 pub mod DisjointLaw
 pub mod FillLaw
+pub mod FitLaw
 pub mod FollowLaw
 pub mod GrowLaw
 pub mod KeepLaw

@@ -85,19 +85,19 @@ some_entry a es below parts out h =
 -- ---- the step
 
 -- the test, by the lists that the code has
-pub judged_here : (k : List Statement) (t : ℕ) (c : Compiled) (own own' kept kept' : List ℕ)
+pub judged_here : (db : List Statement) (t : ℕ) (c : Compiled) (own own' kept kept' : List ℕ)
     → (stack stack' : List Span) (r : Result ℕ Reason) → own' ≡ own → kept' ≡ kept
-    → stack' ≡ stack → TestsRule k t c (arena own' kept') stack' r
-    → TestsRule k t c (arena own kept) stack r
-judged_here k t c own own' kept kept' stack stack' r e1 e2 e3 h =
-    subst (λ (z : List ℕ). TestsRule k t c (arena z kept) stack r) e1
-    (subst (λ (z : List ℕ). TestsRule k t c (arena own' z) stack r) e2
-    (subst (λ (z : List Span). TestsRule k t c (arena own' kept') z r) e3 h))
+    → stack' ≡ stack → TestsRule db t c (arena own' kept') stack' r
+    → TestsRule db t c (arena own kept) stack r
+judged_here db t c own own' kept kept' stack stack' r e1 e2 e3 h =
+    subst (λ (z : List ℕ). TestsRule db t c (arena z kept) stack r) e1
+    (subst (λ (z : List ℕ). TestsRule db t c (arena own' z) stack r) e2
+    (subst (λ (z : List Span). TestsRule db t c (arena own' kept') z r) e3 h))
 
-module _ (k : List Statement) (t : ℕ) (c : Compiled) (own kept kept' : List ℕ) (stack : List Span)
+module _ (db : List Statement) (t : ℕ) (c : Compiled) (own kept kept' : List ℕ) (stack : List Span)
     (below : ℕ) (parts : List RuleSymbol) (same : kept' ≡ kept) (parts_are : parts ≡ c.formula)
-    (tested : TestsRule k t c (arena own kept) stack (Ok below)) where
-  said : applied k t c.assertion (texts (arena own kept) stack)
+    (tested : TestsRule db t c (arena own kept) stack (Ok below)) where
+  said : applied db t c.assertion (texts (arena own kept) stack)
       ≡ entries_after (arena own kept') stack below parts
   said =
       tested.1 ∙ ap₂ (λ z f. entries_after (arena own z) stack below f) (sym same) (sym parts_are)
@@ -106,7 +106,7 @@ module _ (k : List Statement) (t : ℕ) (c : Compiled) (own kept kept' : List �
     -- it was made, by the lists that the code has
     pub step_made : OnOk r (entries_after (arena own kept') stack below parts
         ≡ Ok (texts (arena own' kept') stack'))
-        → OnOk r (applied k t c.assertion (texts (arena own kept) stack)
+        → OnOk r (applied db t c.assertion (texts (arena own kept) stack)
         ≡ Ok (texts (arena own' kept) stack'))
     step_made h =
         on_ok r
@@ -125,16 +125,16 @@ module _ (k : List Statement) (t : ℕ) (c : Compiled) (own kept kept' : List �
         (some_entry (arena own kept') stack below parts (texts (arena own' kept') stack') e)) h
 
     pub step_stopped : IfErr r (λ e. Stops e (entries_after (arena own kept') stack below parts))
-        → IfErr r (λ e. Stops e (applied k t c.assertion (texts (arena own kept) stack)))
+        → IfErr r (λ e. Stops e (applied db t c.assertion (texts (arena own kept) stack)))
     step_stopped h = on_err r (λ e s. subst (Stops e) (sym said) s) h
 
-  pub parts_below : IsCompiled k c → All (IsBelow (length (drop below stack))) parts
+  pub parts_below : IsCompiled db c → All (IsBelow (length (drop below stack))) parts
   parts_below rule =
       let count : length c.hypotheses ≡ length (drop below stack) =
       (let n = tested.0 in omega (arith, n, length-drop below stack)) in
       rw parts_are (subst (λ n. All (IsBelow n) c.formula) count rule.formula_in)
 
-  pub parts_known : IsCompiled k c → (width : ℕ) → width ≡ length (symbol_names k)
+  pub parts_known : IsCompiled db c → (width : ℕ) → width ≡ length (symbol_names db)
       → All (IsKnown width) parts
   parts_known rule width is = rw (parts_are, is) rule.formula_known
 

@@ -20,7 +20,7 @@ use Rattle.mm_spec.specs.Statement.{Statement}
 use Rattle.mm_spec.specs.Frame.{is_variable_number, frame_at}
 use Rattle.mm_spec.specs.Citation.{context_at}
 use Rattle.mm_machine.specs.Arena.{Arena, symbols_of, nothing, text_of, IsIn}
-use Rattle.mm_rule.specs.Rule.{first, parts_of, all_parts, Compiled, IsCompiled}
+use Rattle.mm_rule.specs.Rule.{first, parts_of, part_count, all_parts, Compiled, IsCompiled}
 use Rattle.mm_machine.specs.Replaced.{stands, replaced_part}
 use Rattle.mm_machine.specs.Replaced.{replaced}
 use Rattle.mm_machine.specs.State.{texts, applied}
@@ -33,57 +33,58 @@ text_at xs [] j h = absurd (omega arith)
 text_at xs (e ∷ es) zero h = refl
 text_at xs (e ∷ es) (suc j) h = text_at xs es j (omega arith)
 
-module _ (k : List Statement) (t : ℕ) (hs : List Formula) (xs : Arena) (es : List Span)
+module _ (db : List Statement) (t : ℕ) (hs : List Formula) (xs : Arena) (es : List Span)
     (inside : All (IsIn xs) es) (count : length es ≡ length hs) where
   abbrev pub σ : Substitution
-  σ = found (context_at k t) hs (texts xs es)
+  σ = found (context_at db t) hs (texts xs es)
 
-  pub stands_is : (x : ℕ) → IsBound (context_at k t) hs x → stands xs es (first k hs x) ≡ σ x
+  pub stands_is : (x : ℕ) → IsBound (context_at db t) hs x → stands xs es (first db hs x) ≡ σ x
   stands_is x b =
-      let j = first k hs x in
-      let below : j < length hs = first_below k hs x b in
+      let j = first db hs x in
+      let below : j < length hs = first_below db hs x b in
       let here : IsIn xs (get_or es j nothing) =
       All-get_or (IsIn xs) es j nothing (omega (arith, below, count)) inside in
       let many : length (texts xs es) ≡ length hs = length-map es (text_of xs) ∙ count in
       text_tail (symbols_of xs (get_or es j nothing).store) (get_or es j nothing).start
       (get_or es j nothing).end here.rising
       ∙ ap tail (text_at xs es j (omega (arith, below, count)))
-      ∙ sym (found_first k t hs (texts xs es) x many b)
+      ∙ sym (found_first db t hs (texts xs es) x many b)
 
-  pub one_same : (f : Formula) → AreBound (context_at k t) hs f
-      → replaced xs es (parts_of k hs f) ≡ substitute (context_at k t) σ f
+  pub one_same : (f : Formula) → AreBound (context_at db t) hs f
+      → replaced xs es (parts_of db hs f) ≡ substitute (context_at db t) σ f
   one_same [] b = refl
-  one_same (s ∷ f) b = ap₂ (λ u v. u ++ v) (go (is_variable_number k s) b.0) (one_same f b.1)
+  one_same (s ∷ f) b = ap₂ (λ u v. u ++ v) (go (is_variable_number db s) b.0) (one_same f b.1)
     where
-      go : (v : Bool) → (IsTrue v → IsBound (context_at k t) hs s)
-          → replaced_part xs es (cond v (Variable (first k hs s)) (Constant s))
+      go : (v : Bool) → (IsTrue v → IsBound (context_at db t) hs s)
+          → replaced_part xs es (cond v (Variable (first db hs s)) (Constant s))
           ≡ cond v (σ s) (s ∷ [])
       go true h = stands_is s (h refl)
       go false h = refl
 
-  pub all_same : (fs : List Formula) → AllByRecursion (AreBound (context_at k t) hs) fs
-      → map (replaced xs es) (map (parts_of k hs) fs) ≡ map (substitute (context_at k t) σ) fs
+  pub all_same : (fs : List Formula) → AllByRecursion (AreBound (context_at db t) hs) fs
+      → map (replaced xs es) (map (parts_of db hs) fs) ≡ map (substitute (context_at db t) σ) fs
   all_same [] b = refl
   all_same (f ∷ fs) b = ap₂ (λ u us. u ∷ us) (one_same f b.0) (all_same fs b.1)
 
   abbrev pub cache : ℕ × ℕ → Bool
-  cache p = are_all_disjoint (context_at k t) (stands xs es p.0) (stands xs es p.1)
+  cache p = are_all_disjoint (context_at db t) (stands xs es p.0) (stands xs es p.1)
 
   pub disjoint_same : (pairs : List Pair)
       → AllByRecursion
-      (λ p. IsBound (context_at k t) hs p.low × IsBound (context_at k t) hs p.high) pairs
-      → list_all cache (map (λ (p : Pair). (first k hs p.low, first k hs p.high)) pairs)
-      ≡ list_all (λ p. are_all_disjoint (context_at k t) (σ p.low) (σ p.high)) pairs
+      (λ p. IsBound (context_at db t) hs p.low × IsBound (context_at db t) hs p.high) pairs
+      → list_all cache (map (λ (p : Pair). (first db hs p.low, first db hs p.high)) pairs)
+      ≡ list_all (λ p. are_all_disjoint (context_at db t) (σ p.low) (σ p.high)) pairs
   disjoint_same [] b = refl
   disjoint_same (p ∷ pairs) b =
       ap₂ (λ u v. u && v)
-      (ap₂ (are_all_disjoint (context_at k t)) (stands_is p.low b.0.0) (stands_is p.high b.0.1))
+      (ap₂ (are_all_disjoint (context_at db t)) (stands_is p.low b.0.0) (stands_is p.high b.0.1))
       (disjoint_same pairs b.1)
 
 pub length_all_parts : (parts : List RuleSymbol) (j : ℕ) (more : List Hypothesis)
     → length (all_parts parts j more) ≡ length more
 length_all_parts parts j [] = refl
-length_all_parts parts j (a ∷ more) = ap suc (length_all_parts parts (suc j) more)
+length_all_parts parts j (a ∷ more) =
+    ap suc (length_all_parts (drop (part_count a) parts) (suc j) more)
 
 map_drop : (xs : Arena) (n : ℕ) (es : List Span) → drop n (texts xs es) ≡ texts xs (drop n es)
 map_drop xs zero es = refl
@@ -91,92 +92,94 @@ map_drop xs (suc n) [] = refl
 map_drop xs (suc n) (e ∷ es) = map_drop xs n es
 
 -- the step of an assertion, by the tests that the code makes
-pub judged : (k : List Statement) (t : ℕ) (c : Compiled) (xs : Arena) (stack premises : List Span)
-    → IsCompiled k c → length c.hypotheses ≤ length stack
+pub judged : (db : List Statement) (t : ℕ) (c : Compiled) (xs : Arena) (stack premises : List Span)
+    → IsCompiled db c → length c.hypotheses ≤ length stack
     → premises ≡ drop (length stack - length c.hypotheses) stack → All (IsIn xs) premises
     → length premises ≡ length c.hypotheses → (b1 b2 : Bool)
     → b1 ≡ same (texts xs premises) (map (replaced xs premises) (all_parts c.parts 0 c.hypotheses))
     → b2 ≡ list_all
-    (λ (p : ℕ × ℕ). are_all_disjoint (context_at k t) (stands xs premises p.0) (stands xs premises p.1))
+    (λ (p : ℕ × ℕ). are_all_disjoint (context_at db t) (stands xs premises p.0)
+    (stands xs premises p.1))
     c.pairs
-    → applied k t c.assertion (texts xs stack)
+    → applied db t c.assertion (texts xs stack)
     ≡ pick true b1 b2 (nat_le (length (replaced xs premises c.formula)) formula_limit)
     (take (length stack - length c.hypotheses) (texts xs stack) ++ replaced xs premises c.formula ∷
     [])
-judged k t c xs stack premises rule fits top inside many b1 b2 e1 e2 =
-    let a = frame_at k c.assertion in
+judged db t c xs stack premises rule fits top inside many b1 b2 e1 e2 =
+    let a = frame_at db c.assertion in
     let hs = a.hypotheses in
     let es = texts xs stack in
     let m = length stack - length c.hypotheses in
     let long : length es ≡ length stack = length-map stack (text_of xs) in
     let hypotheses : length c.hypotheses ≡ length hs =
     sym (length_all_parts c.parts 0 c.hypotheses) ∙ ap length rule.hypotheses_are
-    ∙ length-map hs (parts_of k hs) in
+    ∙ length-map hs (parts_of db hs) in
     let n : length es - length hs ≡ m = omega (arith, long, hypotheses) in
     let enough : nat_le (length hs) (length es) ≡ true =
     le-leb _ _ (omega (arith, long, hypotheses, fits)) in
     let count : length premises ≡ length hs = many ∙ hypotheses in
     let ps = texts xs premises in
-    let σ' : Substitution = σ k t hs xs premises inside count in
-    let h : map (substitute (context_at k t) σ') hs
+    let σ' : Substitution = σ db t hs xs premises inside count in
+    let h : map (substitute (context_at db t) σ') hs
     ≡ map (replaced xs premises) (all_parts c.parts 0 c.hypotheses) = sym
-    (all_same k t hs xs premises inside count hs rule.complete.hypotheses)
+    (all_same db t hs xs premises inside count hs rule.complete.hypotheses)
     ∙ ap (map (replaced xs premises)) (sym rule.hypotheses_are) in
-    let p : list_all (λ p. are_all_disjoint (context_at k t) (σ' p.low) (σ' p.high)) a.pairs ≡ b2 =
-    sym (disjoint_same k t hs xs premises inside count a.pairs rule.complete.pairs)
-    ∙ ap (list_all (cache k t hs xs premises inside count)) (sym rule.pairs_are) ∙ sym e2 in
-    let f : substitute (context_at k t) σ' a.formula ≡ replaced xs premises c.formula =
-    sym (one_same k t hs xs premises inside count a.formula rule.complete.formula)
+    let p : list_all (λ p. are_all_disjoint (context_at db t) (σ' p.low) (σ' p.high)) a.pairs ≡ b2 =
+    sym (disjoint_same db t hs xs premises inside count a.pairs rule.complete.pairs)
+    ∙ ap (list_all (cache db t hs xs premises inside count)) (sym rule.pairs_are) ∙ sym e2 in
+    let f : substitute (context_at db t) σ' a.formula ≡ replaced xs premises c.formula =
+    sym (one_same db t hs xs premises inside count a.formula rule.complete.formula)
     ∙ ap (replaced xs premises) (sym rule.formula_is) in
-    ap₂ (λ b i. apply (context_at k t) a b (take i es) (drop i es)) enough n
-    ∙ ap (λ z. apply (context_at k t) a true (take m es) z)
+    ap₂ (λ b i. apply (context_at db t) a b (take i es) (drop i es)) enough n
+    ∙ ap (λ z. apply (context_at db t) a true (take m es) z)
     (map_drop xs m stack ∙ ap (texts xs) (sym top))
     ∙ ap₂ (λ x y. pick true x y
-    (nat_le (length (substitute (context_at k t) σ' a.formula)) formula_limit)
-    (take m es ++ substitute (context_at k t) σ' a.formula ∷ [])) (ap (same ps) h
+    (nat_le (length (substitute (context_at db t) σ' a.formula)) formula_limit)
+    (take m es ++ substitute (context_at db t) σ' a.formula ∷ [])) (ap (same ps) h
     ∙ sym e1) p
     ∙ ap (λ z. pick true b1 b2 (nat_le (length z) formula_limit) (take m es ++ z ∷ [])) f
 
 -- the same by the values that the code has
-pub judged_at : (k : List Statement) (t : ℕ) (c : Compiled) (xs : Arena)
+pub judged_at : (db : List Statement) (t : ℕ) (c : Compiled) (xs : Arena)
     → (stack premises : List Span) (n below : ℕ)
-    → IsCompiled k c → n ≡ length c.hypotheses → n ≤ length stack → below ≡ length stack - n
+    → IsCompiled db c → n ≡ length c.hypotheses → n ≤ length stack → below ≡ length stack - n
     → premises ≡ drop below stack → All (IsIn xs) stack → (ps : List (ℕ × ℕ)) → ps ≡ c.pairs
     → (b1 b2 : Bool)
     → b1 ≡ same (texts xs premises) (map (replaced xs premises) (all_parts c.parts 0 c.hypotheses))
     → b2 ≡ list_all
-    (λ (p : ℕ × ℕ). are_all_disjoint (context_at k t) (stands xs premises p.0) (stands xs premises p.1)) ps
-    → applied k t c.assertion (texts xs stack)
+    (λ (p : ℕ × ℕ). are_all_disjoint (context_at db t) (stands xs premises p.0)
+    (stands xs premises p.1)) ps
+    → applied db t c.assertion (texts xs stack)
     ≡ pick true b1 b2 (nat_le (length (replaced xs (drop below stack) c.formula)) formula_limit)
     (take below (texts xs stack) ++ replaced xs (drop below stack) c.formula ∷ [])
-judged_at k t c xs stack premises n below rule count fits at top all ps ps_are b1 b2 e1 e2 =
+judged_at db t c xs stack premises n below rule count fits at top all ps ps_are b1 b2 e1 e2 =
     let here : below ≡ length stack - length c.hypotheses = omega (arith, at, count) in
     let many : length (drop below stack) ≡ length c.hypotheses =
     omega (arith, at, count, fits, length-drop below stack) in
-    judged k t c xs stack (drop below stack) rule (omega (arith, count, fits))
+    judged db t c xs stack (drop below stack) rule (omega (arith, count, fits))
     (ap (λ b. drop b stack) here) (All-drop (IsIn xs) below stack all) many b1 b2
     (e1 ∙ ap (λ z. same (texts xs z) (map (replaced xs z) (all_parts c.parts 0 c.hypotheses))) top)
     (e2 ∙ ap
     (λ z. list_all
-    (λ (p : ℕ × ℕ). are_all_disjoint (context_at k t) (stands xs z p.0) (stands xs z p.1)) ps) top
+    (λ (p : ℕ × ℕ). are_all_disjoint (context_at db t) (stands xs z p.0) (stands xs z p.1)) ps) top
     ∙ ap (λ z. list_all
-    (λ (p : ℕ × ℕ). are_all_disjoint (context_at k t) (stands xs (drop below stack) p.0)
+    (λ (p : ℕ × ℕ). are_all_disjoint (context_at db t) (stands xs (drop below stack) p.0)
     (stands xs (drop below stack) p.1)) z) ps_are)
     ∙ ap (λ b. pick true b1 b2
     (nat_le (length (replaced xs (drop below stack) c.formula)) formula_limit)
     (take b (texts xs stack) ++ replaced xs (drop below stack) c.formula ∷ [])) (sym here)
 
 -- too few entries
-pub few_at : (k : List Statement) (t : ℕ) (c : Compiled) (xs : Arena) (stack : List Span)
-    → IsCompiled k c → length stack < length c.hypotheses
-    → applied k t c.assertion (texts xs stack) ≡ Err too_few
-few_at k t c xs stack rule few =
-    let a = frame_at k c.assertion in
+pub few_at : (db : List Statement) (t : ℕ) (c : Compiled) (xs : Arena) (stack : List Span)
+    → IsCompiled db c → length stack < length c.hypotheses
+    → applied db t c.assertion (texts xs stack) ≡ Err too_few
+few_at db t c xs stack rule few =
+    let a = frame_at db c.assertion in
     let es = texts xs stack in
     let long : length es ≡ length stack = length-map stack (text_of xs) in
     let hypotheses : length c.hypotheses ≡ length a.hypotheses =
     sym (length_all_parts c.parts 0 c.hypotheses) ∙ ap length rule.hypotheses_are
-    ∙ length-map a.hypotheses (parts_of k a.hypotheses) in
+    ∙ length-map a.hypotheses (parts_of db a.hypotheses) in
     let n = length es - length a.hypotheses in
-    ap (λ b. apply (context_at k t) a b (take n es) (drop n es))
+    ap (λ b. apply (context_at db t) a b (take n es) (drop n es))
     (lt-leb (length a.hypotheses) (length es) (omega (arith, long, hypotheses, few)))

@@ -59,4 +59,4 @@ KeepsPair ps s t qs = (qs ≡ ps) ⊎ (qs ≡ ps ++ (s, t) ∷ [])
 
 -- each of the pairs of symbols is disjoint at the theorem
 abbrev pub AreDisjointAt : List Statement → ℕ → List (ℕ × ℕ) → Type 0
-AreDisjointAt k t ps = All (λ (p : ℕ × ℕ). are_disjoint (context_at k t) p.0 p.1 ≡ true) ps
+AreDisjointAt db t ps = All (λ (p : ℕ × ℕ). are_disjoint (context_at db t) p.0 p.1 ≡ true) ps

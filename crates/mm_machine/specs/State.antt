@@ -104,7 +104,7 @@ reason_of TooLong = too_long
 
 -- the entries after the step of an assertion
 abbrev pub applied : List Statement → ℕ → ℕ → List Formula → Result (List Formula) SpecReason
-applied k t a es = step (context_at k t) (Some (assertion (frame_at k a))) es
+applied db t a es = step (context_at db t) (Some (assertion (frame_at db a))) es
 
 -- The entries after a step that takes those from index `below` on as its premises, and pushes the
 -- parts with each variable replaced. It fails if that formula is too long.
@@ -117,8 +117,8 @@ entries_after a es below parts =
 -- what a test of a rule says: how many entries stay below the formula that the step pushes if it is
 -- short enough, or why the step fails
 abbrev pub TestsRule : List Statement → ℕ → Compiled → Arena → List Span → Result ℕ Reason → Type 0
-TestsRule k t c symbols stack (Ok below) =
+TestsRule db t c symbols stack (Ok below) =
     (length stack ≡ below + length c.hypotheses)
-    × (applied k t c.assertion (texts symbols stack) ≡ entries_after symbols stack below c.formula)
-TestsRule k t c symbols stack (Err reason) =
-    applied k t c.assertion (texts symbols stack) ≡ Err (reason_of reason)
+    × (applied db t c.assertion (texts symbols stack) ≡ entries_after symbols stack below c.formula)
+TestsRule db t c symbols stack (Err reason) =
+    applied db t c.assertion (texts symbols stack) ≡ Err (reason_of reason)

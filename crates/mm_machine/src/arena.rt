@@ -13,7 +13,7 @@ ghost use Rattle.mm_spec.specs.Citation.{context_at};
 ghost use Rattle.mm_spec.specs.Laws.Stack.{same};
 ghost use Rattle.mm_machine.specs.Arena.{nothing, rest, symbols_of, text_of, IsIn, AreEntries};
 ghost use Rattle.mm_machine.specs.Arena.{AreDisjointAt};
-ghost use Rattle.mm_rule.specs.Rule.{IsHypothesisIn, IsBelow, IsCompiled, all_parts};
+ghost use Rattle.mm_rule.specs.Rule.{IsBelow, IsCompiled, all_parts, count_parts};
 ghost use Rattle.mm_machine.specs.Replaced.{stands};
 ghost use Rattle.mm_machine.specs.Replaced.{replaced};
 ghost use Rattle.mm_machine.specs.State.{TestsRule};
@@ -170,21 +170,21 @@ fn is_typed(symbols: &Symbols, typecode: Sym, premise: Span) -> bool
 fn all_fit(symbols: &Symbols, rule: &Rule, premises: &[Span]) -> bool
     requires premises { All (IsIn symbols.now) premises.now }
     requires count { length premises.now ≡ length rule.now.hypotheses }
-    requires hypotheses { All (IsHypothesisIn (length rule.now.parts)) rule.now.hypotheses }
+    requires kept { count_parts rule.now.hypotheses ≡ length rule.now.parts }
     requires parts { All (IsBelow (length premises.now)) rule.now.parts }
     ensures { result
         ≡ same (map (text_of symbols.now) premises.now)
         (map (replaced symbols.now premises.now) (all_parts rule.now.parts 0 rule.now.hypotheses)) }
 {
+    let mut at = 0;
     for (j, hypothesis) in rule.hypotheses.iter().enumerate() {
         let is_one = match *hypothesis {
             Hypothesis::Floating(typecode) => is_typed(symbols, typecode, premises[j]),
-            Hypothesis::Essential(at) => fits(
-                symbols,
-                premises,
-                &rule.parts[at.start..at.end],
-                premises[j],
-            ),
+            Hypothesis::Essential(count) => {
+                let wanted = &rule.parts[at..at + count];
+                at += count;
+                fits(symbols, premises, wanted, premises[j])
+            }
         };
         if !is_one {
             return false;

@@ -18,7 +18,8 @@ use crate::disjoint_cache::DisjointCache;
 use crate::fill::fill;
 use crate::symbol_list::SymbolList;
 use mm_database::{Database, Sym};
-use mm_rule::{Rule, RuleSymbol, empty, put_number, zeros};
+use mm_rule::{Rule, RuleSymbol, empty, formula, put_number, zeros};
+use mm_spec::FORMULA_LIMIT;
 use std::alloc::{AllocError, Allocator};
 use std::marker::Model;
 
@@ -143,6 +144,7 @@ impl<A: Allocator> Machine<A> {
     }
 
     /// Pushes a formula.
+    #[inline(always)]
     pub fn push(&mut self, formula: &[Sym]) -> Result<(), AllocError>
         requires { All (λ s. s < self.old.width) formula.now }
         ensures ok { OnOk result
@@ -182,6 +184,65 @@ impl<A: Allocator> Machine<A> {
     /// Performs the step of an assertion.
     #[inline(always)]
     pub fn apply(
+        &mut self,
+        db: &Database<A>,
+        theorem: u32,
+        rule: &Rule,
+        cache: &mut DisjointCache<A>,
+    ) -> Result<(), Stopped>
+        requires theorem { theorem < length db.now.statements }
+        requires rule { IsCompiled db.now.statements rule.now }
+        requires width { self.old.width ≡ length (symbol_names db.now.statements) }
+        requires cache { AreDisjointAt db.now.statements theorem cache.old }
+        ensures cache { AreDisjointAt db.now.statements theorem cache.new }
+        ensures made { OnOk result
+            (applied db.now.statements theorem rule.now.assertion self.old.stack
+            ≡ Ok self.new.stack) }
+        ensures marks { OnOk result (self.new.marks ≡ self.old.marks) }
+        ensures formulas { OnOk result (self.new.formulas ≡ self.old.formulas) }
+        ensures entry { OnOk result (0 < length self.new.stack) }
+        ensures width { self.new.width ≡ self.old.width }
+        ensures stopped { IfErr result
+            (λ e. Stops e
+            (applied db.now.statements theorem rule.now.assertion self.old.stack)) }
+    {
+        if rule.hypotheses().is_empty() {
+            self.apply_alone(db, theorem, rule)
+        } else {
+            self.apply_to_premises(db, theorem, rule, cache)
+        }
+    }
+
+    /// Performs the step of an assertion without hypotheses: it only pushes the formula.
+    #[inline(always)]
+    fn apply_alone(&mut self, db: &Database<A>, _theorem: u32, rule: &Rule) -> Result<(), Stopped>
+        requires rule { IsCompiled db.now.statements rule.now }
+        requires alone { length rule.now.hypotheses ≡ 0 }
+        requires width { self.old.width ≡ length (symbol_names db.now.statements) }
+        ensures made { OnOk result
+            (applied db.now.statements _theorem rule.now.assertion self.old.stack
+            ≡ Ok self.new.stack) }
+        ensures marks { OnOk result (self.new.marks ≡ self.old.marks) }
+        ensures formulas { OnOk result (self.new.formulas ≡ self.old.formulas) }
+        ensures entry { OnOk result (0 < length self.new.stack) }
+        ensures width { self.new.width ≡ self.old.width }
+        ensures stopped { IfErr result
+            (λ e. Stops e
+            (applied db.now.statements _theorem rule.now.assertion self.old.stack)) }
+    {
+        let symbols = formula(db, rule.assertion());
+        if symbols.len() > FORMULA_LIMIT {
+            return Err(Stopped::Fault(Reason::TooLong));
+        }
+        match self.push(symbols) {
+            Ok(()) => Ok(()),
+            Err(_) => Err(Stopped::Memory),
+        }
+    }
+
+    /// Performs the step of an assertion on the entries that are its premises.
+    #[inline(always)]
+    fn apply_to_premises(
         &mut self,
         db: &Database<A>,
         theorem: u32,

@@ -1,6 +1,6 @@
 -- What an assertion requires and what it yields, in terms of the places of its hypotheses.
-use Rattle.std.specs.Prelude.{◌≡◌, ℕ, suc, ◌<◌, ◌≤◌, true, List, [], ◌∷◌, map, flat_map, length}
-use Rattle.std.specs.Prelude.{get_or, slice_range, All, if◌then◌else◌}
+use Rattle.std.specs.Prelude.{◌≡◌, ℕ, suc, ◌+◌, ◌<◌, true, List, [], ◌∷◌, map, take, drop, length}
+use Rattle.std.specs.Prelude.{All, if◌then◌else◌}
 use Rattle.mm_spec.specs.Statement.{Statement}
 use Rattle.mm_spec.specs.Derivation.{Formula}
 use Rattle.mm_spec.specs.Laws.Complete.{binds, IsBound, IsComplete}
@@ -9,36 +9,41 @@ use Rattle.mm_spec.specs.Frame.{is_variable_number, symbol_names, frame_at}
 use Rattle.mm_rule.specs.declared.rule.RuleSymbol.{RuleSymbol}
 use Rattle.mm_rule.specs.declared.rule.RuleSymbol.TheVariants.{Constant, Variable}
 use Rattle.mm_rule.specs.declared.rule.Hypothesis.{Hypothesis}
-use Rattle.mm_rule.specs.declared.rule.Stretch.{Stretch}
 use Rattle.mm_rule.specs.declared.rule.Hypothesis.TheVariants.{Floating, Essential}
 use Rattle.mm_rule.specs.Assertions.{is_assertion_at}
 
 -- the place of the first `$f` of a variable among the hypotheses
 abbrev pub first : List Statement → List Formula → ℕ → ℕ
-first k [] x = 0
-first k (h ∷ hs) x = if binds (context_at k 0) x h then 0 else suc (first k hs x)
+first db [] x = 0
+first db (h ∷ hs) x = if binds (context_at db 0) x h then 0 else suc (first db hs x)
 
 -- a symbol as a part: a constant, or a variable given by the place of its `$f`
 abbrev pub part_of : List Statement → List Formula → ℕ → RuleSymbol
-part_of k hs s = if is_variable_number k s then Variable (first k hs s) else Constant s
+part_of db hs s = if is_variable_number db s then Variable (first db hs s) else Constant s
 
 abbrev pub parts_of : List Statement → List Formula → Formula → List RuleSymbol
-parts_of k hs f = map (part_of k hs) f
+parts_of db hs f = map (part_of db hs) f
 
--- the parts of hypothesis `j`
+-- how many parts are kept for a hypothesis
+abbrev pub part_count : Hypothesis → ℕ
+part_count (Floating t) = 0
+part_count (Essential n) = n
+
+-- the parts of hypothesis `j`, where the list begins with those that are kept for it
 abbrev pub hypothesis_parts : List RuleSymbol → ℕ → Hypothesis → List RuleSymbol
 hypothesis_parts parts j (Floating t) = Constant t ∷ Variable j ∷ []
-hypothesis_parts parts j (Essential s) = slice_range parts s.start s.end
+hypothesis_parts parts j (Essential n) = take n parts
 
 -- the parts of hypotheses that are numbered from `j` on
 abbrev pub all_parts : List RuleSymbol → ℕ → List Hypothesis → List (List RuleSymbol)
 all_parts parts j [] = []
-all_parts parts j (a ∷ more) = hypothesis_parts parts j a ∷ all_parts parts (suc j) more
+all_parts parts j (a ∷ more) =
+    hypothesis_parts parts j a ∷ all_parts (drop (part_count a) parts) (suc j) more
 
--- what the hypothesis requires is in a list of `n` parts
-abbrev pub IsHypothesisIn : ℕ → Hypothesis → Type 0
-IsHypothesisIn n (Floating t) = Unit {0}
-IsHypothesisIn n (Essential s) = (s.start ≤ s.end) × (s.end ≤ n)
+-- how many parts are kept for all hypotheses
+abbrev pub count_parts : List Hypothesis → ℕ
+count_parts [] = 0
+count_parts (a ∷ more) = part_count a + count_parts more
 
 -- if the part is a variable, its place is one of `n` hypotheses
 abbrev pub IsBelow : ℕ → RuleSymbol → Type 0
@@ -70,22 +75,22 @@ compiled k hypotheses pairs parts formula =
     }
 
 -- the rule is the frame of its assertion, with each variable given by the place of its `$f`
-pub record IsCompiled (k : List Statement) (c : Compiled) : Type 0 where
-  pub is_assertion : is_assertion_at k c.assertion ≡ true
-  pub complete : IsComplete (context_at k 0) (frame_at k c.assertion)
-  pub within : All (IsHypothesisIn (length c.parts)) c.hypotheses
+pub record IsCompiled (db : List Statement) (c : Compiled) : Type 0 where
+  pub is_assertion : is_assertion_at db c.assertion ≡ true
+  pub complete : IsComplete (context_at db 0) (frame_at db c.assertion)
+  pub count : count_parts c.hypotheses ≡ length c.parts
   pub parts_in : All (IsBelow (length c.hypotheses)) c.parts
   pub pairs_in : All (λ (p : ℕ × ℕ). (p.0 < length c.hypotheses) × (p.1 < length c.hypotheses))
       c.pairs
   pub formula_in : All (IsBelow (length c.hypotheses)) c.formula
-  pub formula_known : All (IsKnown (length (symbol_names k))) c.formula
+  pub formula_known : All (IsKnown (length (symbol_names db))) c.formula
   pub hypotheses_are : all_parts c.parts 0 c.hypotheses
-      ≡ map (parts_of k (frame_at k c.assertion).hypotheses) (frame_at k c.assertion).hypotheses
+      ≡ map (parts_of db (frame_at db c.assertion).hypotheses) (frame_at db c.assertion).hypotheses
   pub pairs_are : c.pairs
       ≡ map (λ p. (
-        first k (frame_at k c.assertion).hypotheses p.low,
-        first k
-            (frame_at k c.assertion).hypotheses p.high,
-      )) (frame_at k c.assertion).pairs
+        first db (frame_at db c.assertion).hypotheses p.low,
+        first db
+            (frame_at db c.assertion).hypotheses p.high,
+      )) (frame_at db c.assertion).pairs
   pub formula_is : c.formula
-      ≡ parts_of k (frame_at k c.assertion).hypotheses (frame_at k c.assertion).formula
+      ≡ parts_of db (frame_at db c.assertion).hypotheses (frame_at db c.assertion).formula

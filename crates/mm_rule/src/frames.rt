@@ -4,7 +4,7 @@ ghost use Rattle.std.specs.Prelude.{◌≡◌, ◌<◌, ◌^◌, ℕ, All, lengt
 ghost use Rattle.std.specs.List.{list_any};
 ghost use Rattle.mm_spec.specs.Scope.{statement_at};
 ghost use Rattle.mm_spec.specs.Frame.{is_essential, symbol_names, mandatory_hypotheses};
-ghost use Rattle.mm_spec.specs.Frame.{mandatory_pairs};
+ghost use Rattle.mm_spec.specs.Frame.{mandatory_pairs, formula_at};
 ghost use Rattle.mm_spec.specs.Derivation.{are_disjoint};
 ghost use Rattle.mm_spec.specs.Citation.{context_at};
 ghost use Rattle.mm_rule.specs.Assertions.{paired};
@@ -45,6 +45,15 @@ pub fn hyps<'b, A: Allocator>(db: &'b Database<A>, k: u32) -> &'b [u32]
     // The proof needs the clauses of `len`.
     let _ = db.len();
     db.frame(k).hyps.as_slice()
+}
+
+/// The symbols of an assertion.
+pub fn formula<'b, A: Allocator>(db: &'b Database<A>, k: u32) -> &'b [Sym]
+    requires { is_assertion_at db.now.statements k ≡ true }
+    ensures are { result.now ≡ formula_at db.now.statements k }
+    ensures known { All (λ s. s < length (symbol_names db.now.statements)) result.now }
+{
+    db.formula(k)
 }
 
 /// The mandatory pairs of an assertion.

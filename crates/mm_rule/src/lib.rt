@@ -3,7 +3,7 @@
 //! mandatory hypotheses, so that the premises of a step are the substitution and no table by
 //! symbols is needed. It also asks the database what a step asks most often: whether a statement is
 //! an assertion, and which hypotheses and pairs its frame has. `IsCompiled` in
-//! `Rattle.mm_rule.specs.Rule` says when a rule is that of an assertion. Rules are made in
+//! `Rattle.mm_rule.specs.Rule` says when a rule is that of an assertion. Rules are compiled in
 //! `mm_rules` and applied in `mm_machine`, which are proved side by side.
 #![tactic(auto)]
 
@@ -12,7 +12,7 @@ mod lists;
 mod numbers;
 mod rule;
 
-pub use frames::{hyps, is_assertion, is_essential_hypothesis, pairs};
+pub use frames::{formula, hyps, is_assertion, is_essential_hypothesis, pairs};
 pub use lists::empty;
 pub use numbers::{put_number, zeros};
-pub use rule::{Hypothesis, Rule, RuleSymbol, Stretch};
+pub use rule::{Hypothesis, Rule, RuleSymbol};

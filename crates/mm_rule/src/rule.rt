@@ -14,20 +14,14 @@ pub enum RuleSymbol {
     Variable(u32),
 }
 
-/// A stretch of a list: from place `start` up to, but not including, place `end`.
-#[derive(Clone, Copy, Drop)]
-pub struct Stretch {
-    pub start: usize,
-    pub end: usize,
-}
-
 /// What a mandatory hypothesis requires of its premise.
 #[derive(Clone, Copy, Drop)]
 pub enum Hypothesis {
     /// The typecode, if the hypothesis is the first `$f` of its variable.
     Floating(Sym),
-    /// Otherwise the symbols, as a stretch of the rule's parts.
-    Essential(Stretch),
+    /// Otherwise the number of its symbols: those of the rule's parts that come after the ones of
+    /// the hypotheses before it.
+    Essential(usize),
 }
 
 /// What an assertion requires and yields: its frame, with each variable given by the place of its
@@ -56,6 +50,13 @@ impl<'a> Model for Rule<'a> {
 }
 
 impl<'a> Rule<'a> {
+    /// The number of the assertion's statement.
+    pub fn assertion(&self) -> u32
+        ensures { result ≡ self.now.assertion }
+    {
+        self.assertion
+    }
+
     /// What the mandatory hypotheses require, in order.
     pub fn hypotheses(&self) -> &'a [Hypothesis]
         ensures { result.now ≡ self.now.hypotheses }

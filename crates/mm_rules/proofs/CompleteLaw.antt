@@ -13,38 +13,38 @@ use Rattle.mm_spec.proofs.FindsLaw.{inside_of}
 use Rattle.mm_rule.specs.Assertions.{is_assertion_at}
 
 -- in a database whose frames are complete, so is that of each assertion
-module _ (k : List Statement) (complete : AreComplete k) (j : ℕ) where
-  at_end : (s : Statement) → slice_get k j ≡ Some s
-      → is_active_some (Some s) (stays k j (length k)) ≡ true
-      → rule_at k (length k) j ≡ rule_of k j s
+module _ (db : List Statement) (complete : AreComplete db) (j : ℕ) where
+  at_end : (s : Statement) → slice_get db j ≡ Some s
+      → is_active_some (Some s) (stays db j (length db)) ≡ true
+      → rule_at db (length db) j ≡ rule_of db j s
   at_end s e a =
-      let below : j < length k = inside_of k j s e in
-      let before : nat_lt j (length k) ≡ true = lt-ltb j (length k) below in
-      ap₂ (λ b o. elim (b && is_active_some o (stays k j (length k)))
-      [ false ↦ None | true ↦ elim o [ None ↦ None | Some s ↦ rule_of k j s ] ]) before e
-      ∙ ap (λ b. elim b [ false ↦ None | true ↦ rule_of k j s ]) a
+      let below : j < length db = inside_of db j s e in
+      let before : nat_lt j (length db) ≡ true = lt-ltb j (length db) below in
+      ap₂ (λ b o. elim (b && is_active_some o (stays db j (length db)))
+      [ false ↦ None | true ↦ elim o [ None ↦ None | Some s ↦ rule_of db j s ] ]) before e
+      ∙ ap (λ b. elim b [ false ↦ None | true ↦ rule_of db j s ]) a
 
-  frame_complete : IsComplete (context_at k (length k)) (frame_at k j)
-      → IsComplete (context_at k 0) (frame_at k j)
+  frame_complete : IsComplete (context_at db (length db)) (frame_at db j)
+      → IsComplete (context_at db 0) (frame_at db j)
   frame_complete h = record { hypotheses = h.hypotheses; formula = h.formula; pairs = h.pairs }
 
-  pub complete_at : is_assertion_at k j ≡ true → IsComplete (context_at k 0) (frame_at k j)
-  complete_at is = some (slice_get k j) refl is
+  pub complete_at : is_assertion_at db j ≡ true → IsComplete (context_at db 0) (frame_at db j)
+  complete_at is = some (slice_get db j) refl is
     where
-      by : (s : Statement) → slice_get k j ≡ Some s → list_any is_assertion (s ∷ []) ≡ true
-          → IsComplete (context_at k 0) (frame_at k j)
+      by : (s : Statement) → slice_get db j ≡ Some s → list_any is_assertion (s ∷ []) ≡ true
+          → IsComplete (context_at db 0) (frame_at db j)
       by (axiomatic l p xs d) e h =
           frame_complete
-          (subst (IsFine (context_at k (length k))) (at_end (axiomatic l p xs d) e refl)
-          (complete (length k) j))
+          (subst (IsFine (context_at db (length db))) (at_end (axiomatic l p xs d) e refl)
+          (complete (length db) j))
       by (provable l p xs w ps d) e h =
           frame_complete
-          (subst (IsFine (context_at k (length k))) (at_end (provable l p xs w ps d) e refl)
-          (complete (length k) j))
+          (subst (IsFine (context_at db (length db))) (at_end (provable l p xs w ps d) e refl)
+          (complete (length db) j))
       by _ e h = absurd (true≢false (sym h))
 
-      some : (o : Option Statement) → slice_get k j ≡ o
+      some : (o : Option Statement) → slice_get db j ≡ o
           → list_any is_assertion (elim o [ None ↦ [] | Some s ↦ s ∷ [] ]) ≡ true
-          → IsComplete (context_at k 0) (frame_at k j)
+          → IsComplete (context_at db 0) (frame_at db j)
       some None e h = absurd (true≢false (sym h))
       some (Some s) e h = by s e h

@@ -1,9 +1,10 @@
 -- Rules as they are made.
-use Rattle.std.proofs.Common.{◌≡◌, ℕ, suc, ◌+◌, ◌-◌, ◌<◌, Bool, true, false, List, [], ◌∷◌, ◌++◌}
-use Rattle.std.proofs.Common.{length, drop, take, map, get_or, slice_range, refl, sym, ap, ap₂, ◌∙◌}
-use Rattle.std.proofs.Common.{subst, arith, All, cond, length-append, append_assoc}
+use Rattle.std.proofs.Common.{◌≡◌, ℕ, suc, ◌+◌, ◌<◌, ◌≤◌, Bool, true, false, List, [], ◌∷◌, ◌++◌}
+use Rattle.std.proofs.Common.{length, drop, take, map, get_or, refl, sym, ap, ap₂, ◌∙◌, subst, arith}
+use Rattle.std.proofs.Common.{All, cond, length-append, length-drop, append-nil, append_assoc}
 use Rattle.std.specs.List.{AllByRecursion}
-use Rattle.std.proofs.lemmas.List.{take_more, take_all, take_at, drop_at, length-map}
+use Rattle.std.proofs.lemmas.List.{take_more, take_all, take_at, take-append-le, drop-append-le}
+use Rattle.std.proofs.lemmas.List.{length-map}
 use Rattle.std.proofs.lemmas.List.Elements.{All-from_recursion, recursion_from_All}
 use Rattle.mm_spec.specs.Statement.{Statement}
 use Rattle.mm_spec.specs.Derivation.{Formula, Pair}
@@ -15,16 +16,14 @@ use Rattle.mm_rule.specs.declared.rule.RuleSymbol.{RuleSymbol}
 use Rattle.mm_rule.specs.declared.rule.RuleSymbol.TheVariants.{Constant, Variable}
 use Rattle.mm_rule.specs.declared.rule.Hypothesis.{Hypothesis}
 use Rattle.mm_rule.specs.declared.rule.Hypothesis.TheVariants.{Floating, Essential}
-use Rattle.mm_rule.specs.declared.rule.Stretch.{Stretch}
-use Rattle.mm_rule.specs.Rule.{first, parts_of, hypothesis_parts, all_parts, IsHypothesisIn}
-use Rattle.mm_rule.specs.Rule.{IsBelow, IsKnown}
+use Rattle.mm_rule.specs.Rule.{first, parts_of, part_count, hypothesis_parts, all_parts}
+use Rattle.mm_rule.specs.Rule.{count_parts, IsBelow, IsKnown}
 use Rattle.mm_rule.specs.Rule.{compiled, IsCompiled}
 use Rattle.mm_rules.specs.Rules.{AreCovered, AreFirstNumbers, AreCompiled, numbered_parts}
 use Rattle.mm_rules.specs.Rules.{numbered_pairs}
 use Rattle.mm_rule.specs.Assertions.{paired}
 use Rattle.mm_rule.specs.Assertions.{is_assertion_at}
 use Rattle.mm_rule.proofs.FirstLaw.{first_below}
-use Rattle.mm_rule.proofs.SliceLaw.{stretch_more}
 
 pub map_push : {X Y : Type 0} (f : X → Y) (xs : List X) (x : X)
     → map f (xs ++ x ∷ []) ≡ map f xs ++ f x ∷ []
@@ -45,162 +44,145 @@ map_more_after f xs i d start old new y inside was is here =
     ∙ append_assoc start (map f (take i xs)) (f (get_or xs i d) ∷ [])
     ∙ ap (λ z. start ++ z) (sym (map_take_more f xs i d inside))
 
-all_parts_push : (parts : List RuleSymbol) (n : ℕ) (xs : List Hypothesis) (a : Hypothesis)
-    → all_parts parts n (xs ++ a ∷ [])
-    ≡ all_parts parts n xs ++ hypothesis_parts parts (n + length xs) a ∷ []
-all_parts_push parts n [] a =
-    let e : n ≡ n + 0 = omega arith in ap (λ m. hypothesis_parts parts m a ∷ []) e
-all_parts_push parts n (x ∷ xs) a =
-    let e : suc n + length xs ≡ n + suc (length xs) = omega arith in
-    ap (λ z. hypothesis_parts parts n x ∷ z)
-    (all_parts_push parts (suc n) xs a
-    ∙ ap (λ m. all_parts parts (suc n) xs ++ hypothesis_parts parts m a ∷ []) e)
+no_parts : {X : Type 0} (xs : List X) → 0 ≡ length xs → xs ≡ []
+no_parts [] h = refl
+no_parts (x ∷ xs) h = absurd (omega (arith, h))
 
 -- more parts after
-one_grow : (parts more : List RuleSymbol) (n : ℕ) (a : Hypothesis) → IsHypothesisIn (length parts) a
+first_stays : (parts more : List RuleSymbol) (n : ℕ) (a : Hypothesis) → part_count a ≤ length parts
     → hypothesis_parts (parts ++ more) n a ≡ hypothesis_parts parts n a
-one_grow parts more n (Floating t) h = refl
-one_grow parts more n (Essential s) h = stretch_more parts more s.start s.end h.0 h.1
+first_stays parts more n (Floating t) h = refl
+first_stays parts more n (Essential k) h = take-append-le k parts more h
 
-all_parts_grow : (parts more : List RuleSymbol) (n : ℕ) (xs : List Hypothesis)
-    → AllByRecursion (IsHypothesisIn (length parts)) xs
-    → all_parts (parts ++ more) n xs ≡ all_parts parts n xs
-all_parts_grow parts more n [] h = refl
-all_parts_grow parts more n (a ∷ xs) h =
-    ap₂ (λ u us. u ∷ us) (one_grow parts more n a h.0) (all_parts_grow parts more (suc n) xs h.1)
+-- and one hypothesis more, for which they are kept
+all_parts_push : (parts more : List RuleSymbol) (n : ℕ) (xs : List Hypothesis) (a : Hypothesis)
+    → count_parts xs ≡ length parts
+    → all_parts (parts ++ more) n (xs ++ a ∷ [])
+    ≡ all_parts parts n xs ++ hypothesis_parts more (n + length xs) a ∷ []
+all_parts_push parts more n [] a h =
+    let e : n ≡ n + 0 = omega arith in
+    ap (λ z. hypothesis_parts (z ++ more) n a ∷ []) (no_parts parts h)
+    ∙ ap (λ m. hypothesis_parts more m a ∷ []) e
+all_parts_push parts more n (x ∷ xs) a h =
+    let e : suc n + length xs ≡ n + suc (length xs) = omega arith in
+    let within : part_count x ≤ length parts = omega (arith, h) in
+    let rest = drop (part_count x) parts in
+    let kept : count_parts xs ≡ length rest =
+    omega (arith, h, length-drop (part_count x) parts) in
+    ap₂ (λ u us. u ∷ us) (first_stays parts more n x within)
+    (ap (λ z. all_parts z (suc n) (xs ++ a ∷ [])) (drop-append-le (part_count x) parts more within)
+    ∙ all_parts_push rest more (suc n) xs a kept
+    ∙ ap (λ m. all_parts rest (suc n) xs ++ hypothesis_parts more m a ∷ []) e)
 
-is_asked_more : (m n : ℕ) (a : Hypothesis) → IsHypothesisIn m a → IsHypothesisIn (m + n) a
-is_asked_more m n (Floating t) h = tt
-is_asked_more m n (Essential s) h = (h.0, let l = h.1 in omega (arith, l))
-
-are_asked_more : (m n : ℕ) (xs : List Hypothesis) → AllByRecursion (IsHypothesisIn m) xs
-    → AllByRecursion (IsHypothesisIn (m + n)) xs
-are_asked_more m n [] h = tt
-are_asked_more m n (a ∷ xs) h = (is_asked_more m n a h.0, are_asked_more m n xs h.1)
-
-pushed : {X : Type 0} (P : X → Type 0) (xs : List X) (x : X) → AllByRecursion P xs → P x
-    → AllByRecursion P (xs ++ x ∷ [])
-pushed P [] x h p = (p, tt)
-pushed P (y ∷ xs) x h p = (h.0, pushed P xs x h.1 p)
+count_push : (xs : List Hypothesis) (a : Hypothesis)
+    → count_parts (xs ++ a ∷ []) ≡ count_parts xs + part_count a
+count_push [] a = omega arith
+count_push (x ∷ xs) a = let e = count_push xs a in omega (arith, e)
 
 -- what one hypothesis more asks: a typecode
-pub typed_more : (parts : List RuleSymbol) (xs : List Hypothesis) (j t : ℕ) (us : List (List RuleSymbol))
-    → length xs ≡ j → all_parts parts 0 xs ≡ us
+pub typed_more : (parts : List RuleSymbol) (xs : List Hypothesis) (j t : ℕ)
+    → (us : List (List RuleSymbol))
+    → length xs ≡ j → count_parts xs ≡ length parts → all_parts parts 0 xs ≡ us
     → all_parts parts 0 (xs ++ Floating t ∷ []) ≡ us ++ (Constant t ∷ Variable j ∷ []) ∷ []
-typed_more parts xs j t us n e =
+typed_more parts xs j t us n kept e =
     let at : 0 + length xs ≡ j = omega (arith, n) in
-    all_parts_push parts 0 xs (Floating t)
-    ∙ ap₂ (λ u m. u ++ hypothesis_parts parts m (Floating t) ∷ []) e at
+    ap (λ z. all_parts z 0 (xs ++ Floating t ∷ [])) (sym (append-nil parts))
+    ∙ all_parts_push parts [] 0 xs (Floating t) kept
+    ∙ ap₂ (λ u m. u ++ hypothesis_parts [] m (Floating t) ∷ []) e at
 
-pub typed_within : (n : ℕ) (xs : List Hypothesis) (t : ℕ) → All (IsHypothesisIn n) xs
-    → All (IsHypothesisIn n) (xs ++ Floating t ∷ [])
-typed_within n xs t h =
-    All-from_recursion (IsHypothesisIn n) _
-    (pushed (IsHypothesisIn n) xs (Floating t) (recursion_from_All (IsHypothesisIn n) xs h) tt)
+pub typed_kept : (parts : List RuleSymbol) (xs : List Hypothesis) (t : ℕ)
+    → count_parts xs ≡ length parts → count_parts (xs ++ Floating t ∷ []) ≡ length parts
+typed_kept parts xs t kept = let e = count_push xs (Floating t) in omega (arith, e, kept)
 
 -- or the parts of its formula
-module _ (parts more : List RuleSymbol) (xs : List Hypothesis) (s : Stretch)
-    (from : s.start ≡ length parts)
-    (to : s.end ≡ length (parts ++ more)) (h : All (IsHypothesisIn (length parts)) xs) where
-  stretch_is : slice_range (parts ++ more) s.start s.end ≡ more
-  stretch_is =
-      ap₂ (λ a b. slice_range (parts ++ more) a b) from to
-      ∙ ap (take (length (parts ++ more) - length parts)) (drop_at parts more (length parts) refl)
-      ∙ take_all (length (parts ++ more) - length parts) more
-      (omega (arith, length-append parts more))
-
+module _ (parts more : List RuleSymbol) (xs : List Hypothesis) (n : ℕ) (long : n ≡ length more)
+    (kept : count_parts xs ≡ length parts) where
   pub essential_more : (us : List (List RuleSymbol)) → all_parts parts 0 xs ≡ us
-      → all_parts (parts ++ more) 0 (xs ++ Essential s ∷ []) ≡ us ++ more ∷ []
+      → all_parts (parts ++ more) 0 (xs ++ Essential n ∷ []) ≡ us ++ more ∷ []
   essential_more us e =
-      all_parts_push (parts ++ more) 0 xs (Essential s)
-      ∙ ap₂ (λ u z. u ++ z ∷ [])
-      (all_parts_grow parts more 0 xs (recursion_from_All (IsHypothesisIn (length parts)) xs h) ∙ e)
-      stretch_is
+      all_parts_push parts more 0 xs (Essential n) kept
+      ∙ ap₂ (λ u z. u ++ z ∷ []) e (take_all n more (omega (arith, long)))
 
-  pub essential_within : All (IsHypothesisIn (length (parts ++ more))) (xs ++ Essential s ∷ [])
-  essential_within =
-      let n : length parts + length more ≡ length (parts ++ more) =
-      omega (arith, length-append parts more) in
-      All-from_recursion (IsHypothesisIn (length (parts ++ more))) _
-      (pushed (IsHypothesisIn (length (parts ++ more))) xs (Essential s)
-      (subst (λ m. AllByRecursion (IsHypothesisIn m) xs) n
-      (are_asked_more (length parts) (length more) xs
-      (recursion_from_All (IsHypothesisIn (length parts)) xs h)))
-      (omega (arith, from, to, length-append parts more), omega (arith, to)))
+  pub essential_kept : count_parts (xs ++ Essential n ∷ []) ≡ length (parts ++ more)
+  essential_kept =
+      let e = count_push xs (Essential n) in
+      omega (arith, e, kept, long, length-append parts more)
 
-module _ (k : List Statement) (hs : List Formula) where
-  pub parts_below : (f : Formula) → AreCovered k hs f → All (IsBelow (length hs)) (parts_of k hs f)
+module _ (db : List Statement) (hs : List Formula) where
+  pub parts_below : (f : Formula) → AreCovered db hs f
+      → All (IsBelow (length hs)) (parts_of db hs f)
   parts_below f h =
-      All-from_recursion (IsBelow (length hs)) (parts_of k hs f)
+      All-from_recursion (IsBelow (length hs)) (parts_of db hs f)
       (go f (recursion_from_All
-      (λ x. is_variable_number k x ≡ true → IsBound (context_at k 0) hs x) f h))
+      (λ x. is_variable_number db x ≡ true → IsBound (context_at db 0) hs x) f h))
     where
-      one : (s : ℕ) (v : Bool) → (v ≡ true → IsBound (context_at k 0) hs s)
-          → IsBelow (length hs) (cond v (Variable (first k hs s)) (Constant s))
-      one s true b = first_below k hs s (b refl)
+      one : (s : ℕ) (v : Bool) → (v ≡ true → IsBound (context_at db 0) hs s)
+          → IsBelow (length hs) (cond v (Variable (first db hs s)) (Constant s))
+      one s true b = first_below db hs s (b refl)
       one s false b = tt
 
       go : (f : Formula)
-          → AllByRecursion (λ x. is_variable_number k x ≡ true → IsBound (context_at k 0) hs x) f
-          → AllByRecursion (IsBelow (length hs)) (parts_of k hs f)
+          → AllByRecursion (λ x. is_variable_number db x ≡ true → IsBound (context_at db 0) hs x) f
+          → AllByRecursion (IsBelow (length hs)) (parts_of db hs f)
       go [] h = tt
-      go (s ∷ f) h = (one s (is_variable_number k s) h.0, go f h.1)
+      go (s ∷ f) h = (one s (is_variable_number db s) h.0, go f h.1)
 
-  pub parts_known : (n : ℕ) (f : Formula) → All (λ s. s < n) f → All (IsKnown n) (parts_of k hs f)
+  pub parts_known : (n : ℕ) (f : Formula) → All (λ s. s < n) f → All (IsKnown n) (parts_of db hs f)
   parts_known n f h =
-      All-from_recursion (IsKnown n) (parts_of k hs f) (go f (recursion_from_All (λ s. s < n) f h))
+      All-from_recursion (IsKnown n) (parts_of db hs f) (go f (recursion_from_All (λ s. s < n) f h))
     where
-      one : (s : ℕ) (v : Bool) → s < n → IsKnown n (cond v (Variable (first k hs s)) (Constant s))
+      one : (s : ℕ) (v : Bool) → s < n → IsKnown n (cond v (Variable (first db hs s)) (Constant s))
       one s true l = tt
       one s false l = l
 
       go : (f : Formula) → AllByRecursion (λ s. s < n) f
-          → AllByRecursion (IsKnown n) (parts_of k hs f)
+          → AllByRecursion (IsKnown n) (parts_of db hs f)
       go [] h = tt
-      go (s ∷ f) h = (one s (is_variable_number k s) h.0, go f h.1)
+      go (s ∷ f) h = (one s (is_variable_number db s) h.0, go f h.1)
 
-  pub covered : (f : Formula) → AreBound (context_at k 0) hs f → AreCovered k hs f
+  pub covered : (f : Formula) → AreBound (context_at db 0) hs f → AreCovered db hs f
   covered f h =
-      All-from_recursion (λ x. is_variable_number k x ≡ true → IsBound (context_at k 0) hs x) f h
+      All-from_recursion (λ x. is_variable_number db x ≡ true → IsBound (context_at db 0) hs x) f h
 
   pub covered_all : (hyps : List ℕ)
-      → AllByRecursion (AreBound (context_at k 0) hs) (map (formula_at k) hyps)
-      → All (λ h. AreCovered k hs (formula_at k h)) hyps
-  covered_all hyps h = All-from_recursion (λ h. AreCovered k hs (formula_at k h)) hyps (go hyps h)
+      → AllByRecursion (AreBound (context_at db 0) hs) (map (formula_at db) hyps)
+      → All (λ h. AreCovered db hs (formula_at db h)) hyps
+  covered_all hyps h = All-from_recursion (λ h. AreCovered db hs (formula_at db h)) hyps (go hyps h)
     where
-      go : (hyps : List ℕ) → AllByRecursion (AreBound (context_at k 0) hs) (map (formula_at k) hyps)
-          → AllByRecursion (λ h. AreCovered k hs (formula_at k h)) hyps
+      go : (hyps : List ℕ)
+          → AllByRecursion (AreBound (context_at db 0) hs) (map (formula_at db) hyps)
+          → AllByRecursion (λ h. AreCovered db hs (formula_at db h)) hyps
       go [] h = tt
-      go (x ∷ xs) h = (covered (formula_at k x) h.0, go xs h.1)
+      go (x ∷ xs) h = (covered (formula_at db x) h.0, go xs h.1)
 
   abbrev Both : Pair → Type 0
-  Both p = IsBound (context_at k 0) hs p.low × IsBound (context_at k 0) hs p.high
+  Both p = IsBound (context_at db 0) hs p.low × IsBound (context_at db 0) hs p.high
 
   -- the numbers of the variables are the places of their `$f`
-  pub numbered_same : (numbers : List ℕ) → AreFirstNumbers k hs numbers → (f : Formula)
-      → AreCovered k hs f → numbered_parts k numbers f ≡ parts_of k hs f
+  pub numbered_same : (numbers : List ℕ) → AreFirstNumbers db hs numbers → (f : Formula)
+      → AreCovered db hs f → numbered_parts db numbers f ≡ parts_of db hs f
   numbered_same numbers placed f h =
       go f (recursion_from_All
-      (λ x. is_variable_number k x ≡ true → IsBound (context_at k 0) hs x) f h)
+      (λ x. is_variable_number db x ≡ true → IsBound (context_at db 0) hs x) f h)
     where
-      one : (s : ℕ) (v : Bool) → (v ≡ true → IsBound (context_at k 0) hs s)
+      one : (s : ℕ) (v : Bool) → (v ≡ true → IsBound (context_at db 0) hs s)
           → cond v (Variable (get_or numbers s 0)) (Constant s)
-          ≡ cond v (Variable (first k hs s)) (Constant s)
+          ≡ cond v (Variable (first db hs s)) (Constant s)
       one s true b = ap Variable (placed s (b refl))
       one s false b = refl
 
       go : (f : Formula)
-          → AllByRecursion (λ x. is_variable_number k x ≡ true → IsBound (context_at k 0) hs x) f
-          → numbered_parts k numbers f ≡ parts_of k hs f
+          → AllByRecursion (λ x. is_variable_number db x ≡ true → IsBound (context_at db 0) hs x) f
+          → numbered_parts db numbers f ≡ parts_of db hs f
       go [] h = refl
       go (s ∷ f) h =
-          ap₂ (λ (p : RuleSymbol) (ps : List RuleSymbol). p ∷ ps) (one s (is_variable_number k s) h.0)
-          (go f h.1)
+          ap₂ (λ (p : RuleSymbol) (ps : List RuleSymbol). p ∷ ps)
+          (one s (is_variable_number db s) h.0) (go f h.1)
 
-  numbered_first : (numbers : List ℕ) → AreFirstNumbers k hs numbers → (ps : List (ℕ × ℕ))
+  numbered_first : (numbers : List ℕ) → AreFirstNumbers db hs numbers → (ps : List (ℕ × ℕ))
       → AllByRecursion Both (paired ps)
       → numbered_pairs numbers ps
-      ≡ map {B = ℕ × ℕ} (λ (p : ℕ × ℕ). (first k hs p.0, first k hs p.1)) ps
+      ≡ map {B = ℕ × ℕ} (λ (p : ℕ × ℕ). (first db hs p.0, first db hs p.1)) ps
   numbered_first numbers placed [] h = refl
   numbered_first numbers placed (p ∷ ps) h =
       ap₂ (λ (u : ℕ × ℕ) (us : List (ℕ × ℕ)). u ∷ us)
@@ -209,64 +191,65 @@ module _ (k : List Statement) (hs : List Formula) where
 
   pairs_below : (ps : List Pair) → AllByRecursion Both ps
       → All (λ (p : ℕ × ℕ). (p.0 < length hs) × (p.1 < length hs))
-      (map {B = ℕ × ℕ} (λ (p : Pair). (first k hs p.low, first k hs p.high)) ps)
+      (map {B = ℕ × ℕ} (λ (p : Pair). (first db hs p.low, first db hs p.high)) ps)
   pairs_below ps h =
       All-from_recursion (λ (p : ℕ × ℕ). (p.0 < length hs) × (p.1 < length hs)) _ (go ps h)
     where
       go : (ps : List Pair) → AllByRecursion Both ps
           → AllByRecursion (λ (p : ℕ × ℕ). (p.0 < length hs) × (p.1 < length hs))
-          (map {B = ℕ × ℕ} (λ (p : Pair). (first k hs p.low, first k hs p.high)) ps)
+          (map {B = ℕ × ℕ} (λ (p : Pair). (first db hs p.low, first db hs p.high)) ps)
       go [] h = tt
-      go (p ∷ ps) h = ((first_below k hs p.low h.0.0, first_below k hs p.high h.0.1), go ps h.1)
+      go (p ∷ ps) h = ((first_below db hs p.low h.0.0, first_below db hs p.high h.0.1), go ps h.1)
 
   pairs_same : (ps : List (ℕ × ℕ))
-      → map {B = ℕ × ℕ} (λ (p : ℕ × ℕ). (first k hs p.0, first k hs p.1)) ps
-      ≡ map {B = ℕ × ℕ} (λ (p : Pair). (first k hs p.low, first k hs p.high)) (paired ps)
+      → map {B = ℕ × ℕ} (λ (p : ℕ × ℕ). (first db hs p.0, first db hs p.1)) ps
+      ≡ map {B = ℕ × ℕ} (λ (p : Pair). (first db hs p.low, first db hs p.high)) (paired ps)
   pairs_same [] = refl
-  pairs_same (p ∷ ps) = ap (λ z. (first k hs p.0, first k hs p.1) ∷ z) (pairs_same ps)
+  pairs_same (p ∷ ps) = ap (λ z. (first db hs p.0, first db hs p.1) ∷ z) (pairs_same ps)
 
 -- what was made is the rule of the assertion
-module _ (k : List Statement) (a : ℕ) (is : is_assertion_at k a ≡ true)
-    (complete : IsComplete (context_at k 0) (frame_at k a)) where
+module _ (db : List Statement) (a : ℕ) (is : is_assertion_at db a ≡ true)
+    (complete : IsComplete (context_at db 0) (frame_at db a)) where
   abbrev frame_hyps : List Formula
-  frame_hyps = map (formula_at k) (mandatory_hypotheses k a)
+  frame_hyps = map (formula_at db) (mandatory_hypotheses db a)
 
   rule_is : (from : List (ℕ × ℕ)) (f : Formula) (numbers : List ℕ) (hypotheses : List Hypothesis)
       (pairs : List (ℕ × ℕ))
       → (parts formula : List RuleSymbol)
-      → paired from ≡ mandatory_pairs k a → f ≡ formula_at k a
-      → All (λ s. s < length (symbol_names k)) f
-      → AreCompiled k (mandatory_hypotheses k a) hypotheses parts
-      → AreFirstNumbers k frame_hyps numbers → pairs ≡ numbered_pairs numbers from
-      → formula ≡ parts_of k frame_hyps f → IsCompiled k (compiled a hypotheses pairs parts formula)
+      → paired from ≡ mandatory_pairs db a → f ≡ formula_at db a
+      → All (λ s. s < length (symbol_names db)) f
+      → AreCompiled db (mandatory_hypotheses db a) hypotheses parts
+      → AreFirstNumbers db frame_hyps numbers → pairs ≡ numbered_pairs numbers from
+      → formula ≡ parts_of db frame_hyps f
+      → IsCompiled db (compiled a hypotheses pairs parts formula)
   rule_is from f numbers hypotheses pairs parts formula pairs_is f_is known made placed
       pairs_made formula_made =
       let same : length hypotheses ≡ length frame_hyps =
-      made.count ∙ sym (length-map (mandatory_hypotheses k a) (formula_at k)) in
-      let bound = subst (λ (ps : List Pair). AllByRecursion (Both k frame_hyps) ps) (sym pairs_is)
+      made.count ∙ sym (length-map (mandatory_hypotheses db a) (formula_at db)) in
+      let bound = subst (λ (ps : List Pair). AllByRecursion (Both db frame_hyps) ps) (sym pairs_is)
       complete.pairs in
       let pairs_are : pairs
-      ≡ map {B = ℕ × ℕ} (λ (p : Pair). (first k frame_hyps p.low, first k frame_hyps p.high))
-      (mandatory_pairs k a) = pairs_made
-      ∙ numbered_first k frame_hyps numbers placed from bound
-      ∙ pairs_same k frame_hyps from
+      ≡ map {B = ℕ × ℕ} (λ (p : Pair). (first db frame_hyps p.low, first db frame_hyps p.high))
+      (mandatory_pairs db a) = pairs_made
+      ∙ numbered_first db frame_hyps numbers placed from bound
+      ∙ pairs_same db frame_hyps from
       ∙ ap (map {B = ℕ × ℕ}
-      (λ (p : Pair). (first k frame_hyps p.low, first k frame_hyps p.high))) pairs_is in
-      let formula_are : formula ≡ parts_of k frame_hyps (formula_at k a) =
-      formula_made ∙ ap (parts_of k frame_hyps) f_is in
+      (λ (p : Pair). (first db frame_hyps p.low, first db frame_hyps p.high))) pairs_is in
+      let formula_are : formula ≡ parts_of db frame_hyps (formula_at db a) =
+      formula_made ∙ ap (parts_of db frame_hyps) f_is in
       record {
         is_assertion = is;
         complete = complete;
-        within = made.within;
+        count = made.kept;
         parts_in = subst (λ n. All (IsBelow n) parts) (sym made.count) made.below;
         pairs_in =
-            rw (pairs_are, same) (pairs_below k frame_hyps (mandatory_pairs k a) complete.pairs);
+            rw (pairs_are, same) (pairs_below db frame_hyps (mandatory_pairs db a) complete.pairs);
         formula_in =
             rw (formula_are, same)
-            (parts_below k frame_hyps (formula_at k a)
-            (covered k frame_hyps (formula_at k a) complete.formula));
+            (parts_below db frame_hyps (formula_at db a)
+            (covered db frame_hyps (formula_at db a) complete.formula));
         formula_known =
-            rw formula_made (parts_known k frame_hyps (length (symbol_names k)) f known);
+            rw formula_made (parts_known db frame_hyps (length (symbol_names db)) f known);
         hypotheses_are = made.parts_are;
         pairs_are = pairs_are;
         formula_is = formula_are;
@@ -274,23 +257,23 @@ module _ (k : List Statement) (a : ℕ) (is : is_assertion_at k a ≡ true)
 
   pub made_rule : (hyps : List ℕ) (from : List (ℕ × ℕ)) (f : Formula) (numbers : List ℕ)
       → (hypotheses : List Hypothesis) (pairs : List (ℕ × ℕ)) (parts formula : List RuleSymbol)
-      → hyps ≡ mandatory_hypotheses k a → paired from ≡ mandatory_pairs k a → f ≡ formula_at k a
-      → All (λ s. s < length (symbol_names k)) f
-      → AreCompiled k hyps hypotheses parts
-      → AreFirstNumbers k (map (formula_at k) hyps) numbers → pairs ≡ numbered_pairs numbers from
-      → formula ≡ parts_of k (map (formula_at k) hyps) f
-      → IsCompiled k (compiled a hypotheses pairs parts formula)
+      → hyps ≡ mandatory_hypotheses db a → paired from ≡ mandatory_pairs db a → f ≡ formula_at db a
+      → All (λ s. s < length (symbol_names db)) f
+      → AreCompiled db hyps hypotheses parts
+      → AreFirstNumbers db (map (formula_at db) hyps) numbers → pairs ≡ numbered_pairs numbers from
+      → formula ≡ parts_of db (map (formula_at db) hyps) f
+      → IsCompiled db (compiled a hypotheses pairs parts formula)
   made_rule hyps from f numbers hypotheses pairs parts formula hyps_is pairs_is f_is known made
       placed pairs_made formula_made =
       rule_is from f numbers hypotheses pairs parts formula pairs_is f_is known
-      (subst (λ (h : List ℕ). AreCompiled k h hypotheses parts) hyps_is made)
-      (subst (λ (h : List ℕ). AreFirstNumbers k (map (formula_at k) h) numbers) hyps_is placed)
+      (subst (λ (h : List ℕ). AreCompiled db h hypotheses parts) hyps_is made)
+      (subst (λ (h : List ℕ). AreFirstNumbers db (map (formula_at db) h) numbers) hyps_is placed)
       pairs_made
-      (subst (λ (h : List ℕ). formula ≡ parts_of k (map (formula_at k) h) f) hyps_is formula_made)
+      (subst (λ (h : List ℕ). formula ≡ parts_of db (map (formula_at db) h) f) hyps_is formula_made)
 
 -- the numbers in a list to which they were written back
-pub numbered : (k : List Statement) (hs : List Formula) (new old : List ℕ) (n : ℕ) (now : List ℕ)
-    → now ≡ take n (new ++ drop (length new) old) → length new ≡ n → AreFirstNumbers k hs new
-    → AreFirstNumbers k hs now
-numbered k hs new old n now is long placed =
-    subst (AreFirstNumbers k hs) (sym (is ∙ take_at new (drop (length new) old) n long)) placed
+pub numbered : (db : List Statement) (hs : List Formula) (new old : List ℕ) (n : ℕ) (now : List ℕ)
+    → now ≡ take n (new ++ drop (length new) old) → length new ≡ n → AreFirstNumbers db hs new
+    → AreFirstNumbers db hs now
+numbered db hs new old n now is long placed =
+    subst (AreFirstNumbers db hs) (sym (is ∙ take_at new (drop (length new) old) n long)) placed

@@ -6,8 +6,8 @@ use Rattle.std.proofs.lemmas.List.Elements.{All-push}
 use Rattle.mm_spec.specs.Statement.{Statement}
 use Rattle.mm_rule.specs.declared.rule.RuleSymbol.{RuleSymbol}
 use Rattle.mm_rule.specs.declared.rule.Hypothesis.{Hypothesis}
-use Rattle.mm_rule.specs.declared.rule.Stretch.{Stretch}
 use Rattle.mm_rules.specs.declared.rules.RuleStretches.{RuleStretches}
+use Rattle.mm_rules.specs.declared.rules.Stretch.{Stretch}
 use Rattle.mm_rule.specs.Rule.{compiled, IsCompiled}
 use Rattle.mm_rules.specs.Rules.{lists, stretch_of, IsStretch, HasRule}
 use Rattle.mm_rules.specs.Rules.{AreRules}
@@ -40,13 +40,13 @@ module _ {X : Type 0} (xs more : List X) (s : Stretch) where
         ∙ ap (take (length (xs ++ more) - length xs)) (drop_at xs more (length xs) refl)
         ∙ take_all (length (xs ++ more) - length xs) more (omega (arith, length-append xs more))
 
-module _ (k : List Statement) (stretches : List RuleStretches) (hypotheses a : List Hypothesis)
+module _ (db : List Statement) (stretches : List RuleStretches) (hypotheses a : List Hypothesis)
     (pairs p : List (ℕ × ℕ))
     (parts q f : List RuleSymbol) where
   -- the rules that were there
-  rule_stays : (new : List RuleStretches) (s : RuleStretches) → HasRule k
+  rule_stays : (new : List RuleStretches) (s : RuleStretches) → HasRule db
       (lists stretches hypotheses pairs parts) s
-      → HasRule k (lists new (hypotheses ++ a) (pairs ++ p) ((parts ++ q) ++ f)) s
+      → HasRule db (lists new (hypotheses ++ a) (pairs ++ p) ((parts ++ q) ++ f)) s
   rule_stays new s h =
       let parts1 = longer parts q s.parts h.parts in
       let formula1 = longer parts q s.formula h.formula in
@@ -67,8 +67,8 @@ module _ (k : List Statement) (stretches : List RuleStretches) (hypotheses a : L
       }
 
   all_stay : (new rest : List RuleStretches) → All
-      (HasRule k (lists stretches hypotheses pairs parts)) rest
-      → All (HasRule k (lists new (hypotheses ++ a) (pairs ++ p) ((parts ++ q) ++ f))) rest
+      (HasRule db (lists stretches hypotheses pairs parts)) rest
+      → All (HasRule db (lists new (hypotheses ++ a) (pairs ++ p) ((parts ++ q) ++ f))) rest
   all_stay new rest h = λ i d l. rule_stays new (get_or rest i d) (h i d l)
 
   -- and one more
@@ -79,9 +79,9 @@ module _ (k : List Statement) (stretches : List RuleStretches) (hypotheses a : L
       (parts_to : s.parts.end ≡ length (parts ++ q))
       (formula_from : s.formula.start ≡ length (parts ++ q))
       (formula_to : s.formula.end ≡ length ((parts ++ q) ++ f))
-      (is : IsCompiled k (compiled s.assertion a p q f)) where
+      (is : IsCompiled db (compiled s.assertion a p q f)) where
     rule_is_new : (new : List RuleStretches)
-        → HasRule k (lists new (hypotheses ++ a) (pairs ++ p) ((parts ++ q) ++ f)) s
+        → HasRule db (lists new (hypotheses ++ a) (pairs ++ p) ((parts ++ q) ++ f)) s
     rule_is_new new =
         let inside = last_in parts q s.parts parts_from parts_to in
         let e1 : stretch_of (hypotheses ++ a) s.hypotheses ≡ a =
@@ -100,16 +100,17 @@ module _ (k : List Statement) (stretches : List RuleStretches) (hypotheses a : L
           compiled = rw (e1, e2, e3, e4) is;
         }
 
-    pub added : AreRules k (lists stretches hypotheses pairs parts)
-        → AreRules k (lists (stretches ++ s ∷ []) (hypotheses ++ a) (pairs ++ p) ((parts ++ q) ++
+    pub added : AreRules db (lists stretches hypotheses pairs parts)
+        → AreRules db (lists (stretches ++ s ∷ []) (hypotheses ++ a) (pairs ++ p) ((parts ++ q) ++
         f))
     added h =
         All-push
-        (HasRule k (lists (stretches ++ s ∷ []) (hypotheses ++ a) (pairs ++ p) ((parts ++ q) ++ f)))
+        (HasRule db
+        (lists (stretches ++ s ∷ []) (hypotheses ++ a) (pairs ++ p) ((parts ++ q) ++ f)))
         stretches s (all_stay (stretches ++ s ∷ []) stretches h) (rule_is_new (stretches ++ s ∷ []))
 
 -- the same by the values that the code has
-pub added_at : (k : List Statement) (stretches stretches' : List RuleStretches)
+pub added_at : (db : List Statement) (stretches stretches' : List RuleStretches)
     (hypotheses a hypotheses' : List Hypothesis)
     → (pairs p pairs' : List (ℕ × ℕ)) (parts q f mid parts' : List RuleSymbol) (s : RuleStretches)
     → stretches' ≡ stretches ++ s ∷ [] → hypotheses' ≡ hypotheses ++ a → pairs' ≡ pairs ++ p → mid
@@ -118,13 +119,13 @@ pub added_at : (k : List Statement) (stretches stretches' : List RuleStretches)
     hypotheses'
     → s.pairs.start ≡ length pairs → s.pairs.end ≡ length pairs' → s.parts.start ≡ length parts
     → s.parts.end ≡ length mid → s.formula.start ≡ length mid → s.formula.end ≡ length parts'
-    → IsCompiled k (compiled s.assertion a p q f) → AreRules k
+    → IsCompiled db (compiled s.assertion a p q f) → AreRules db
     (lists stretches hypotheses pairs parts)
-    → AreRules k (lists stretches' hypotheses' pairs' parts')
-added_at k stretches stretches' hypotheses a hypotheses' pairs p pairs' parts q f mid parts' s e1
+    → AreRules db (lists stretches' hypotheses' pairs' parts')
+added_at db stretches stretches' hypotheses a hypotheses' pairs p pairs' parts q f mid parts' s e1
     e2 e3 e4 e5 f1
     t1 f2 t2 f3 t3 f4 t4 is h =
     let all : parts' ≡ (parts ++ q) ++ f = e5 ∙ ap (λ z. z ++ f) e4 in
     rw (e1, e2, e3, all)
-    (added k stretches hypotheses a pairs p parts q f s f1 (t1 ∙ ap length e2) f2
+    (added db stretches hypotheses a pairs p parts q f s f1 (t1 ∙ ap length e2) f2
     (t2 ∙ ap length e3) f3 (t3 ∙ ap length e4) (f4 ∙ ap length e4) (t4 ∙ ap length all) is h)

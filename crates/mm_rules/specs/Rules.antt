@@ -1,6 +1,6 @@
 -- The rules of a database, and how they are made of its frames.
-use Rattle.std.specs.Prelude.{◌≡◌, ℕ, ◌<◌, ◌≤◌, true, List, map, length, get_or, slice_range, All}
-use Rattle.std.specs.Prelude.{if◌then◌else◌}
+use Rattle.std.specs.Prelude.{◌≡◌, ℕ, ◌+◌, ◌<◌, ◌≤◌, true, List, map, length, get_or, slice_range}
+use Rattle.std.specs.Prelude.{All, if◌then◌else◌}
 use Rattle.mm_spec.specs.Statement.{Statement}
 use Rattle.mm_spec.specs.Derivation.{Formula}
 use Rattle.mm_spec.specs.Laws.Complete.{IsBound}
@@ -9,27 +9,27 @@ use Rattle.mm_spec.specs.Frame.{is_variable_number, formula_at}
 use Rattle.mm_rule.specs.declared.rule.RuleSymbol.{RuleSymbol}
 use Rattle.mm_rule.specs.declared.rule.RuleSymbol.TheVariants.{Constant, Variable}
 use Rattle.mm_rule.specs.declared.rule.Hypothesis.{Hypothesis}
-use Rattle.mm_rule.specs.declared.rule.Stretch.{Stretch}
 use Rattle.mm_rules.specs.declared.rules.RuleStretches.{RuleStretches}
+use Rattle.mm_rules.specs.declared.rules.Stretch.{Stretch}
 use Rattle.mm_rule.specs.Rule.{Compiled, compiled, IsCompiled, first, parts_of, all_parts}
-use Rattle.mm_rule.specs.Rule.{IsHypothesisIn, IsBelow}
+use Rattle.mm_rule.specs.Rule.{count_parts, IsBelow}
 
 -- for each variable that has a `$f`, the list has the place of the first one
 abbrev pub AreFirstNumbers : List Statement → List Formula → List ℕ → Type 0
-AreFirstNumbers k hs places =
-    (x : ℕ) → IsBound (context_at k 0) hs x → get_or places x 0 ≡ first k hs x
+AreFirstNumbers db hs places =
+    (x : ℕ) → IsBound (context_at db 0) hs x → get_or places x 0 ≡ first db hs x
 
 -- each variable of the formula has a `$f`
 abbrev pub AreCovered : List Statement → List Formula → Formula → Type 0
-AreCovered k hs f = All (λ x. is_variable_number k x ≡ true → IsBound (context_at k 0) hs x) f
+AreCovered db hs f = All (λ x. is_variable_number db x ≡ true → IsBound (context_at db 0) hs x) f
 
 -- a symbol as a part: a constant, or a variable given by its number
 abbrev pub numbered_part : List Statement → List ℕ → ℕ → RuleSymbol
-numbered_part k numbers s =
-    if is_variable_number k s then Variable (get_or numbers s 0) else Constant s
+numbered_part db numbers s =
+    if is_variable_number db s then Variable (get_or numbers s 0) else Constant s
 
 abbrev pub numbered_parts : List Statement → List ℕ → Formula → List RuleSymbol
-numbered_parts k numbers f = map (numbered_part k numbers) f
+numbered_parts db numbers f = map (numbered_part db numbers) f
 
 -- the pairs of symbols as pairs of their numbers
 abbrev pub numbered_pairs : List ℕ → List (ℕ × ℕ) → List (ℕ × ℕ)
@@ -37,12 +37,12 @@ numbered_pairs numbers ps = map (λ (p : ℕ × ℕ). (get_or numbers p.0 0, get
 
 -- The lists have what the hypotheses `hyps` require: for each of them the parts of its formula, in
 -- which a variable is given by the place of its `$f`.
-pub record AreCompiled (k : List Statement) (hyps : List ℕ) (hypotheses : List Hypothesis)
+pub record AreCompiled (db : List Statement) (hyps : List ℕ) (hypotheses : List Hypothesis)
     (parts : List RuleSymbol) : Type 0 where
   pub parts_are : all_parts parts 0 hypotheses
-      ≡ map (parts_of k (map (formula_at k) hyps)) (map (formula_at k) hyps)
+      ≡ map (parts_of db (map (formula_at db) hyps)) (map (formula_at db) hyps)
   pub count : length hypotheses ≡ length hyps
-  pub within : All (IsHypothesisIn (length parts)) hypotheses
+  pub kept : count_parts hypotheses ≡ length parts
   pub below : All (IsBelow (length hyps)) parts
 
 -- a compiler of rules: how many symbols it knows, and the rule that it compiled last
@@ -82,6 +82,14 @@ module _ {X : Type 0} where
   abbrev pub stretch_of : List X → Stretch → List X
   stretch_of xs s = slice_range xs s.start s.end
 
+-- how many hypotheses, pairs and symbols a rule has together
+abbrev pub rule_size : Compiled → ℕ
+rule_size c = length c.hypotheses + length c.pairs + length c.parts + length c.formula
+
+-- how many the rules have together
+abbrev pub lists_size : RuleLists → ℕ
+lists_size l = length l.hypotheses + length l.pairs + length l.parts
+
 -- the rule in these stretches
 abbrev pub rule_in : RuleLists → RuleStretches → Compiled
 rule_in l s =
@@ -94,15 +102,15 @@ pub record IsStretch (n : ℕ) (s : Stretch) : Type 0 where
   pub within : s.end ≤ n
 
 -- the rule of an assertion of the database is in the stretches
-pub record HasRule (k : List Statement) (l : RuleLists) (s : RuleStretches) : Type 0 where
+pub record HasRule (db : List Statement) (l : RuleLists) (s : RuleStretches) : Type 0 where
   pub hypotheses : IsStretch (length l.hypotheses) s.hypotheses
   pub pairs : IsStretch (length l.pairs) s.pairs
   pub parts : IsStretch (length l.parts) s.parts
   pub formula : IsStretch (length l.parts) s.formula
-  pub compiled : IsCompiled k (rule_in l s)
+  pub compiled : IsCompiled db (rule_in l s)
 
 abbrev pub AreRules : List Statement → RuleLists → Type 0
-AreRules k l = All (HasRule k l) l.stretches
+AreRules db l = All (HasRule db l) l.stretches
 
 abbrev pub no_stretches : RuleStretches
 no_stretches = rule_stretches 0 (stretch 0 0) (stretch 0 0) (stretch 0 0) (stretch 0 0)
@@ -113,6 +121,6 @@ pub record IsRuleNumber (l : RuleLists) (n a : ℕ) : Type 0 where
   pub is : (get_or l.stretches n no_stretches).assertion ≡ a
 
 -- the rule is that of assertion `a`
-pub record IsRuleOf (k : List Statement) (c : Compiled) (a : ℕ) : Type 0 where
-  pub compiled : IsCompiled k c
+pub record IsRuleOf (db : List Statement) (c : Compiled) (a : ℕ) : Type 0 where
+  pub compiled : IsCompiled db c
   pub is : c.assertion ≡ a

@@ -13,7 +13,7 @@ ghost use Rattle.mm_rules.specs.Rules.{AreCovered, AreFirstNumbers, AreCompiled,
 ghost use Rattle.mm_rules.specs.Rules.{numbered_parts, numbered_pairs};
 
 use mm_database::{Database, Sym};
-use mm_rule::{Hypothesis, Rule, RuleSymbol, Stretch, empty, hyps, pairs, zeros};
+use mm_rule::{Hypothesis, Rule, RuleSymbol, empty, hyps, pairs, zeros};
 use std::alloc::{AllocError, Allocator};
 use std::marker::Model;
 
@@ -146,12 +146,8 @@ fn compile_hypotheses<A: Allocator>(
         if is_first(db, numbers, j, formula) {
             hypotheses.push(Hypothesis::Floating(formula[0]))?;
         } else {
-            let start = parts.len();
             compile_formula(db, numbers, formula, parts)?;
-            hypotheses.push(Hypothesis::Essential(Stretch {
-                start,
-                end: parts.len(),
-            }))?;
+            hypotheses.push(Hypothesis::Essential(formula.len()))?;
         }
     }
     Ok(())
@@ -245,7 +241,7 @@ impl<A: Allocator> RuleCompiler<A> {
     }
 
     /// Compiles the rule of assertion `k`.
-    pub fn make(&mut self, db: &Database<A>, k: u32) -> Result<(), AllocError>
+    pub fn compile(&mut self, db: &Database<A>, k: u32) -> Result<(), AllocError>
         requires assertion { is_assertion_at db.now.statements k ≡ true }
         requires complete { IsComplete (context_at db.now.statements 0)
             (frame_at db.now.statements k) }

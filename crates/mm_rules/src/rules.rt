@@ -1,21 +1,37 @@
 //! The rules of the assertions of a database.
 
-ghost use Rattle.std.specs.Prelude.{◌≡◌, ◌<◌, ◌++◌, [], List, length, get_or, OnOk, IfOk, IfSome};
+ghost use Rattle.std.specs.Prelude.{◌≡◌, ◌<◌, ◌+◌, ◌^◌, ◌++◌, [], List, length, get_or, min, true};
+ghost use Rattle.std.specs.Prelude.{OnOk, IfOk, IfSome};
 ghost use Rattle.mm_spec.specs.Statement.{Statement};
 ghost use Rattle.mm_spec.specs.Frame.{symbol_names};
 ghost use Rattle.mm_spec.specs.Laws.Complete.{AreComplete};
 ghost use Rattle.mm_rule.specs.Rule.{IsCompiled};
-ghost use Rattle.mm_rules.specs.Rules.{AreRules, IsRuleNumber, lists, no_stretches};
+ghost use Rattle.mm_rule.specs.Assertions.{is_assertion_at};
+ghost use Rattle.mm_rules.specs.Rules.{AreRules, IsRuleNumber, IsStretch, lists, no_stretches};
+ghost use Rattle.mm_rules.specs.Rules.{stretch_of, rule_size, lists_size};
 
 use crate::compile::RuleCompiler;
 use mm_database::Database;
-use mm_rule::{Hypothesis, Rule, RuleSymbol, Stretch, is_assertion, put_number, zeros};
+use mm_rule::{
+    Hypothesis, Rule, RuleSymbol, hyps, is_assertion, is_essential_hypothesis, pairs, put_number,
+    zeros,
+};
 use std::alloc::{AllocError, Allocator};
 use std::marker::Model;
 
-/// Once the rules have this many hypotheses, pairs and symbols together, no more rules are made. So
+/// Once the rules have this many hypotheses, pairs and symbols together, no more rules are held. So
 /// frames that are much longer than the text aren't all held.
 const MAX_HELD: usize = 8_388_608;
+
+/// A rule that would make more of them together isn't held, so that a place has 32 bits.
+const MAX_PLACE: usize = 4_294_967_295;
+
+/// A stretch of a list: from place `start` up to, but not including, place `end`.
+#[derive(Clone, Copy, Drop)]
+pub struct Stretch {
+    pub start: u32,
+    pub end: u32,
+}
 
 /// The stretches of a rule in the lists of all rules.
 #[derive(Clone, Copy, Drop)]
@@ -59,8 +75,78 @@ impl<A: Allocator> Model for Rules<A> {
     ghost view = { λ r. lists r.stretches.items r.hypotheses.items r.pairs.items r.parts.items };
 }
 
+/// About how long the lists of all rules will be.
+#[derive(Drop)]
+struct Lengths {
+    rules: usize,
+    hypotheses: usize,
+    pairs: usize,
+    parts: usize,
+}
+
+impl Lengths {
+    /// The lengths of the lists of a database's rules, without those that come after the limit.
+    fn of<A: Allocator>(db: &Database<A>) -> Self {
+        let mut lengths = Lengths {
+            rules: 0,
+            hypotheses: 0,
+            pairs: 0,
+            parts: 0,
+        };
+        for k in 0..db.len() {
+            if is_assertion(db, k) && lengths.sum() < MAX_HELD {
+                lengths.add(db, k);
+            }
+        }
+        lengths
+    }
+
+    /// How many hypotheses, pairs and symbols there are together.
+    fn sum(&self) -> usize {
+        self.hypotheses
+            .saturating_add(self.pairs)
+            .saturating_add(self.parts)
+    }
+
+    /// Adds what the rule of assertion `k` has. Each `$f` counts as the first of its variable.
+    fn add<A: Allocator>(&mut self, db: &Database<A>, k: u32)
+        requires { is_assertion_at db.now.statements k ≡ true }
+    {
+        let hyps = hyps(db, k);
+        self.rules = self.rules.saturating_add(1);
+        self.hypotheses = self.hypotheses.saturating_add(hyps.len());
+        self.pairs = self.pairs.saturating_add(pairs(db, k).len());
+        self.parts = self.parts.saturating_add(db.formula(k).len());
+        for h in hyps {
+            if is_essential_hypothesis(db, *h) {
+                self.parts = self.parts.saturating_add(db.formula(*h).len());
+            }
+        }
+    }
+}
+
+/// How many hypotheses, pairs and symbols a rule has together.
+fn size_of(rule: &Rule) -> usize
+    ensures { result ≡ min (rule_size rule.now) 18446744073709551615 }
+{
+    let hypotheses = rule.hypotheses.len().saturating_add(rule.pairs.len());
+    hypotheses
+        .saturating_add(rule.parts.len())
+        .saturating_add(rule.formula.len())
+}
+
+/// The elements of a stretch.
+#[inline(always)]
+fn elements<T>(list: &[T], stretch: Stretch) -> &[T]
+    requires { IsStretch (length list.now) stretch }
+    ensures { result.now ≡ stretch_of list.now stretch }
+{
+    &list[stretch.start as usize..stretch.end as usize]
+}
+
 /// Appends elements to a list and returns the stretch that they occupy.
 fn put<T: Copy, A: Allocator>(list: &mut Vec<T, A>, more: &[T]) -> Result<Stretch, AllocError>
+    requires { length list.old.items + length more.now < 2 ^ 32 }
     ensures items { OnOk result (list.new.items ≡ list.old.items ++ more.now) }
     ensures start { IfOk result (λ s. s.start ≡ length list.old.items) }
     ensures end { IfOk result (λ s. s.end ≡ length list.new.items) }
@@ -68,8 +154,8 @@ fn put<T: Copy, A: Allocator>(list: &mut Vec<T, A>, more: &[T]) -> Result<Stretc
     let start = list.len();
     list.extend_from_slice(more)?;
     Ok(Stretch {
-        start,
-        end: list.len(),
+        start: start as u32,
+        end: list.len() as u32,
     })
 }
 
@@ -89,14 +175,29 @@ impl<A: Allocator> Rules<A> {
         }
     }
 
+    /// No rules, in lists with room for those of a database.
+    fn with_room(alloc: A, db: &Database<A>) -> Result<Self, AllocError>
+    where
+        A: Copy,
+        ensures { IfOk result (λ r. r ≡ lists [] [] [] []) }
+    {
+        let lengths = Lengths::of(db);
+        Ok(Rules {
+            stretches: Vec::with_capacity(alloc, lengths.rules)?,
+            hypotheses: Vec::with_capacity(alloc, lengths.hypotheses)?,
+            pairs: Vec::with_capacity(alloc, lengths.pairs)?,
+            parts: Vec::with_capacity(alloc, lengths.parts)?,
+            numbers: zeros(alloc, db.len() as usize)?,
+        })
+    }
+
     /// The rules of the assertions of a database. Fails only if out of memory.
     pub fn new(alloc: A, database: &Database<A>) -> Result<Self, AllocError>
     where
         A: Copy,
         ensures { IfOk result (λ r. AreRules database.now.statements r) }
     {
-        let mut rules = Self::none(alloc);
-        rules.numbers = zeros(alloc, database.len() as usize)?;
+        let mut rules = Self::with_room(alloc, database)?;
         let mut compiler = RuleCompiler::new(alloc, database)?;
         for k in 0..database.len() {
             rules.hold(database, k, &mut compiler)?;
@@ -121,23 +222,38 @@ impl<A: Allocator> Rules<A> {
         if !is_assertion(db, k) {
             return Ok(());
         }
-        if !self.has_room() {
+        if self.size() >= MAX_HELD {
             return Ok(());
         }
-        compiler.make(db, k)?;
-        self.add(compiler.rule())
+        compiler.compile(db, k)?;
+        let rule = compiler.rule();
+        if !self.fits(&rule) {
+            return Ok(());
+        }
+        self.add(rule)
     }
 
-    /// Whether there is room for one more rule.
-    fn has_room(&self) -> bool {
+    /// How many hypotheses, pairs and symbols the rules have together.
+    fn size(&self) -> usize
+        ensures { result ≡ min (lists_size self.now) 18446744073709551615 }
+    {
         let held = self.hypotheses.len().saturating_add(self.pairs.len());
-        held.saturating_add(self.parts.len()) < MAX_HELD
+        held.saturating_add(self.parts.len())
+    }
+
+    /// Whether places have 32 bits with one more rule.
+    fn fits(&self, rule: &Rule) -> bool
+        ensures { result ≡ true → lists_size self.now + rule_size rule.now < 2 ^ 32 }
+    {
+        self.size().saturating_add(size_of(rule)) <= MAX_PLACE
     }
 
     /// Adds a rule. If the rules are those of a database, and this is one of them, they still are.
     fn add(&mut self, rule: Rule) -> Result<(), AllocError>
-        ensures { OnOk result ((k : List Statement) → AreRules k self.old → IsCompiled k rule.entry
-            → AreRules k self.new) }
+        requires { lists_size self.old + rule_size rule < 2 ^ 32 }
+        ensures { OnOk result
+            ((db : List Statement)
+            → AreRules db self.old → IsCompiled db rule.entry → AreRules db self.new) }
     {
         let number = self.stretches.len();
         let hypotheses = put(&mut self.hypotheses, rule.hypotheses)?;
@@ -182,10 +298,10 @@ impl<A: Allocator> Rules<A> {
         let stretches = self.stretches[n];
         Rule {
             assertion: stretches.assertion,
-            hypotheses: &self.hypotheses[stretches.hypotheses.start..stretches.hypotheses.end],
-            pairs: &self.pairs[stretches.pairs.start..stretches.pairs.end],
-            parts: &self.parts[stretches.parts.start..stretches.parts.end],
-            formula: &self.parts[stretches.formula.start..stretches.formula.end],
+            hypotheses: elements(&self.hypotheses, stretches.hypotheses),
+            pairs: elements(&self.pairs, stretches.pairs),
+            parts: elements(&self.parts, stretches.parts),
+            formula: elements(&self.parts, stretches.formula),
         }
     }
 }

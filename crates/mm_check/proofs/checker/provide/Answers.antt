@@ -1,22 +1,22 @@
 use Rattle.std.proofs.lemmas.Result.{IfOk-from_err}
 use Rattle.mm_check.proofs.checker.provide.Goals as goal
 
-pub make-requires-clause-assertion : goal.make-requires-clause-assertion
-make-requires-clause-assertion g c = c.requires.assertion
+pub compile-requires-clause-assertion : goal.compile-requires-clause-assertion
+compile-requires-clause-assertion g c = c.requires.assertion
 
-pub make-requires-clause-complete : goal.make-requires-clause-complete
-make-requires-clause-complete g c = c.requires.complete
+pub compile-requires-clause-complete : goal.compile-requires-clause-complete
+compile-requires-clause-complete g c = c.requires.complete
 
-pub make-requires-clause-width : goal.make-requires-clause-width
-make-requires-clause-width g c = c.requires.compiler
+pub compile-requires-clause-width : goal.compile-requires-clause-width
+compile-requires-clause-width g c = c.requires.compiler
 
-pub returns-in_err-make-clause-compiler : goal.returns-in_err-make-clause-compiler
-returns-in_err-make-clause-compiler g c = c.make.ensures.width
+pub returns-in_err-compile-clause-compiler : goal.returns-in_err-compile-clause-compiler
+returns-in_err-compile-clause-compiler g c = c.compile.ensures.width
 
-pub returns-in_err-make-clause-held : goal.returns-in_err-make-clause-held
-returns-in_err-make-clause-held g c =
+pub returns-in_err-compile-clause-held : goal.returns-in_err-compile-clause-held
+returns-in_err-compile-clause-held g c =
     IfOk-from_err c.from_residual.result _ c.from_residual.ensures.0
 
-pub returns-in_err-make-clause-made : goal.returns-in_err-make-clause-made
-returns-in_err-make-clause-made g c =
+pub returns-in_err-compile-clause-made : goal.returns-in_err-compile-clause-made
+returns-in_err-compile-clause-made g c =
     IfOk-from_err c.from_residual.result _ c.from_residual.ensures.0

@@ -1,5 +1,12 @@
-use Rattle.std.proofs.Common.{arith}
+use Rattle.std.proofs.Common.{◌≡◌, ◌+◌, ◌-◌, ◌<◌, ◌≤◌, ◌&&◌, take, drop, get_or, length, bytes_eq, sym}
+use Rattle.std.proofs.Common.{ap, ◌∙◌, subst, arith}
 use Rattle.std.proofs.lemmas.Grind.{common_steps}
+use Rattle.mm_rule.specs.Rule.{Compiled}
+use Rattle.mm_machine.specs.Arena.{nothing, text_of}
+use Rattle.mm_machine.specs.Replaced.{replaced}
+use Rattle.mm_machine.proofs.FitLaw.{fit_from, fit_end, fit_next, kept_next, IsTested}
+use Rattle.mm_machine.proofs.FitLaw.{typed_tested, essential_tested}
+use Rattle.mm_machine.proofs.arena.all_fit.Goals.{in-Floating, in-Essential}
 use Rattle.mm_machine.proofs.arena.all_fit.Goals as goal
 
 pub offset_bounds-hypothesis-items-j : goal.offset_bounds-hypothesis-items-j
@@ -21,10 +28,81 @@ pub fits-is_one-requires-clause-wanted : goal.fits-is_one-requires-clause-wanted
 fits-is_one-requires-clause-wanted c = grind (arith, common_steps)
 
 pub returns-then-not-is_one : goal.returns-then-not-is_one
-returns-then-not-is_one c = grind (arith, common_steps)
+returns-then-not-is_one c =
+    let xs = c.args.symbols.now in
+    let es = c.args.premises.now in
+    let parts = c.args.rule.now.parts in
+    let hs = c.args.rule.now.hypotheses in
+    let j = c.loop-j.j in
+    let at = c.loop-j.at in
+    let h = c.hypothesis-item.result in
+    let one = c.match-hypothesis.is_one in
+    let next = c.match-hypothesis.at in
+    let hs_are : c.rule.inside.hypotheses.now ≡ hs =
+    ap (λ (r : Compiled). r.hypotheses) c.rule.view_is in
+    let parts_are : c.rule.inside.parts.now ≡ parts =
+    ap (λ (r : Compiled). r.parts) c.rule.view_is in
+    let inside : j < length hs = subst (λ z. j < length z) hs_are c.loop-j-test.true in
+    let many : j < length es = omega (arith, inside, c.requires.count) in
+    let h_is : h ≡ get_or hs j h =
+    c.hypothesis-item.is ∙ ap (λ z. get_or z j h) hs_are in
+    let tested : IsTested xs es parts hs j at h one next =
+    elim c.match-hypothesis.branch [
+      | in-Floating w ↦ typed_tested xs es parts hs j at h one next w.in-Floating.typecode
+          w.in-Floating.is (w.is_one-is ∙ w.is_typed-is_one.ensures) w.at-is
+      | in-Essential w ↦ let n = w.in-Essential.count in
+          essential_tested xs es parts hs j at h one next n w.in-Essential.is
+          (w.is_one-is ∙ w.fits-is_one.ensures
+          ∙ ap (λ z. bytes_eq (text_of xs (get_or es j nothing))
+          (replaced xs es (take ((at + n) - at) (drop at z)))) parts_are) w.at-is
+    ] in
+    sym (c.loop-j.invariant.left
+    ∙ fit_next xs es parts hs j at h one next tested inside many h_is
+    ∙ ap (λ b. b && fit_from xs es parts hs (j + 1) next) c.if-not-is_one.true)
 
 pub loop-j-preserved : goal.loop-j-preserved
-loop-j-preserved c = grind (arith, common_steps)
+loop-j-preserved c =
+    let xs = c.args.symbols.now in
+    let es = c.args.premises.now in
+    let parts = c.args.rule.now.parts in
+    let hs = c.args.rule.now.hypotheses in
+    let j = c.loop-j.j in
+    let at = c.loop-j.at in
+    let h = c.hypothesis-item.result in
+    let one = c.match-hypothesis.is_one in
+    let next = c.match-hypothesis.at in
+    let hs_are : c.rule.inside.hypotheses.now ≡ hs =
+    ap (λ (r : Compiled). r.hypotheses) c.rule.view_is in
+    let parts_are : c.rule.inside.parts.now ≡ parts =
+    ap (λ (r : Compiled). r.parts) c.rule.view_is in
+    let inside : j < length hs = subst (λ z. j < length z) hs_are c.loop-j-test.true in
+    let many : j < length es = omega (arith, inside, c.requires.count) in
+    let h_is : h ≡ get_or hs j h =
+    c.hypothesis-item.is ∙ ap (λ z. get_or z j h) hs_are in
+    let tested : IsTested xs es parts hs j at h one next =
+    elim c.match-hypothesis.branch [
+      | in-Floating w ↦ typed_tested xs es parts hs j at h one next w.in-Floating.typecode
+          w.in-Floating.is (w.is_one-is ∙ w.is_typed-is_one.ensures) w.at-is
+      | in-Essential w ↦ let n = w.in-Essential.count in
+          essential_tested xs es parts hs j at h one next n w.in-Essential.is
+          (w.is_one-is ∙ w.fits-is_one.ensures
+          ∙ ap (λ z. bytes_eq (text_of xs (get_or es j nothing))
+          (replaced xs es (take ((at + n) - at) (drop at z)))) parts_are) w.at-is
+    ] in
+    record {
+      kept = kept_next xs es parts hs j at h one next tested inside many h_is
+          c.loop-j.invariant.kept;
+      left = c.loop-j.invariant.left
+          ∙ fit_next xs es parts hs j at h one next tested inside many h_is
+          ∙ ap (λ b. b && fit_from xs es parts hs (j + 1) next) c.if-not-is_one.false;
+    }
 
 pub returns : goal.returns
-returns c = grind (arith, common_steps)
+returns c =
+    let hs = c.args.rule.now.hypotheses in
+    let j = c.loop-j.j in
+    let all = subst (λ z. length z ≤ j) (ap (λ (r : Compiled). r.hypotheses) c.rule.view_is)
+    c.loop-j-test.false in
+    sym (c.loop-j.invariant.left
+    ∙ fit_end c.args.symbols.now c.args.premises.now c.args.rule.now.parts hs j c.loop-j.at all
+    (omega (arith, all, c.requires.count)))

@@ -10,13 +10,13 @@ use Rattle.mm_spec.specs.Citation.{context_at}
 use Rattle.mm_machine.proofs.arena.is_disjoint_from.Goals as goal
 
 -- a constant is disjoint from all
-constant_apart : (k : List Statement) (t s : ℕ) → is_variable_number k s ≡ false → (v : List ℕ)
-    → is_disjoint_from (context_at k t) s v ≡ true
-constant_apart k t s e [] = refl
-constant_apart k t s e (x ∷ v) =
+constant_apart : (db : List Statement) (t s : ℕ) → is_variable_number db s ≡ false → (v : List ℕ)
+    → is_disjoint_from (context_at db t) s v ≡ true
+constant_apart db t s e [] = refl
+constant_apart db t s e (x ∷ v) =
     ap₂ (λ a b.
-    (not (a && is_variable_number k x) || (not (s == x) && (context_at k t).is_disjoint s x))
-    && b) e (constant_apart k t s e v)
+    (not (a && is_variable_number db x) || (not (s == x) && (context_at db t).is_disjoint s x))
+    && b) e (constant_apart db t s e v)
 
 pub returns-then-not-is_variable-clause-value : goal.returns-then-not-is_variable-clause-value
 returns-then-not-is_variable-clause-value g c =

@@ -22,16 +22,16 @@ fails_at test (q ∷ ps) (suc i) h e =
 
 pub returns-then-not-are_all_disjoint-clause-value : goal.returns-then-not-are_all_disjoint-clause-value
 returns-then-not-are_all_disjoint-clause-value g c =
-    let k = context_at c.args.db.now.statements c.args.theorem in
+    let context = context_at c.args.db.now.statements c.args.theorem in
     let xs = c.args.symbols.now in
     let es = c.args.premises.now in
     let p = get_or c.args.pairs.now c.loop-pair.pair-index (0, 0) in
-    let fails : are_all_disjoint k (stands xs es p.0) (stands xs es p.1) ≡ false =
-    ap₂ (are_all_disjoint k) (sym (c.text-first.ensures ∙ ap (text_of xs) c.span_of.ensures))
+    let fails : are_all_disjoint context (stands xs es p.0) (stands xs es p.1) ≡ false =
+    ap₂ (are_all_disjoint context) (sym (c.text-first.ensures ∙ ap (text_of xs) c.span_of.ensures))
     (sym (c.text-second.ensures ∙ ap (text_of xs) c.span_of-in-loop-pair.ensures))
     ∙ sym c.are_all_disjoint.ensures.value ∙ c.if-not-are_all_disjoint.true in
     sym (fails_at
-    (λ (q : ℕ × ℕ). are_all_disjoint k (stands xs es q.0) (stands xs es q.1)) c.args.pairs.now
+    (λ (q : ℕ × ℕ). are_all_disjoint context (stands xs es q.0) (stands xs es q.1)) c.args.pairs.now
     c.loop-pair.pair-index c.loop-pair-test.true fails)
 
 pub are_all_disjoint-requires-clause-second : goal.are_all_disjoint-requires-clause-second
@@ -76,10 +76,11 @@ pub loop-pair-preserved : goal.loop-pair-preserved
 loop-pair-preserved g c = grind (arith, common_steps)
 
 pub returns-clause-value : goal.returns-clause-value
-returns-clause-value g c = let k = context_at c.args.db.now.statements c.args.theorem in
+returns-clause-value g c = let context = context_at c.args.db.now.statements c.args.theorem in
     let xs = c.args.symbols.now in
     let es = c.args.premises.now in
-    sym (ap (list_all (λ (q : ℕ × ℕ). are_all_disjoint k (stands xs es q.0) (stands xs es q.1)))
+    sym (ap
+    (list_all (λ (q : ℕ × ℕ). are_all_disjoint context (stands xs es q.0) (stands xs es q.1)))
     (sym (take_all c.loop-pair.pair-index c.args.pairs.now c.loop-pair-test.false))
     ∙ c.loop-pair.invariant.so_far)
 

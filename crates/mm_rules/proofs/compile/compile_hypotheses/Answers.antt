@@ -6,20 +6,19 @@ use Rattle.std.proofs.lemmas.List.Elements.{All-append}
 use Rattle.mm_spec.specs.Frame.{formula_at}
 use Rattle.mm_rule.specs.declared.rule.RuleSymbol.TheVariants.{Constant, Variable}
 use Rattle.mm_rule.specs.declared.rule.Hypothesis.TheVariants.{Floating, Essential}
-use Rattle.mm_rule.specs.declared.rule.Stretch.{Stretch}
-use Rattle.mm_rule.specs.Rule.{parts_of, IsBelow}
+use Rattle.mm_rule.specs.Rule.{part_of, parts_of, IsBelow}
 use Rattle.mm_rules.specs.Rules.{AreCovered, numbered_parts}
-use Rattle.mm_rules.proofs.RuleLaw.{map_take_more, map_push, typed_more, typed_within}
-use Rattle.mm_rules.proofs.RuleLaw.{essential_more, essential_within, parts_below, numbered_same}
+use Rattle.mm_rules.proofs.RuleLaw.{map_take_more, map_push, typed_more, typed_kept}
+use Rattle.mm_rules.proofs.RuleLaw.{essential_more, essential_kept, parts_below, numbered_same}
 use Rattle.mm_rules.proofs.compile.compile_hypotheses.Goals.{then-is_first+in_ok-push}
 use Rattle.mm_rules.proofs.compile.compile_hypotheses.Goals.{else-is_first+in_ok-compile_formula+in_ok-push-2}
 use Rattle.mm_rules.proofs.compile.compile_hypotheses.Goals as goal
 
 pub loop-j-preserved : goal.loop-j-preserved
 loop-j-preserved g c =
-    let k = c.args.db.now.statements in
+    let db = c.args.db.now.statements in
     let hyps = c.args.hyps.now in
-    let hs = map (formula_at k) hyps in
+    let hs = map (formula_at db) hyps in
     let v = c.loop-j.invariant in
     let j = c.loop-j.j in
     let hypotheses = c.loop-j.hypotheses.items in
@@ -27,53 +26,52 @@ loop-j-preserved g c =
     let inside : j < length hyps = c.loop-j-test.true in
     let h = get_or hyps j 0 in
     let f = c.formula-formula.result.now in
-    let is : f ≡ formula_at k h = c.formula-formula.ensures.formula in
-    let us = map (parts_of k hs) (map (formula_at k) (take j hyps)) in
-    let next : map (parts_of k hs) (map (formula_at k) (take (j + 1) hyps))
-    ≡ us ++ parts_of k hs f ∷ [] =
-    ap (map (parts_of k hs)) (map_take_more (formula_at k) hyps j 0 inside)
-    ∙ map_push (parts_of k hs) (map (formula_at k) (take j hyps)) (formula_at k h)
-    ∙ ap (λ z. us ++ parts_of k hs z ∷ []) (sym is) in
-    let covered : AreCovered k hs f =
-    subst (AreCovered k hs) (sym is) (c.requires.bound j 0 inside) in
-    let same : numbered_parts k c.args.numbers.now f ≡ parts_of k hs f =
-    numbered_same k hs c.args.numbers.now c.requires.placed f covered in
+    let is : f ≡ formula_at db h = c.formula-formula.ensures.formula in
+    let us = map (parts_of db hs) (map (formula_at db) (take j hyps)) in
+    let next : map (parts_of db hs) (map (formula_at db) (take (j + 1) hyps))
+    ≡ us ++ parts_of db hs f ∷ [] =
+    ap (map (parts_of db hs)) (map_take_more (formula_at db) hyps j 0 inside)
+    ∙ map_push (parts_of db hs) (map (formula_at db) (take j hyps)) (formula_at db h)
+    ∙ ap (λ z. us ++ parts_of db hs z ∷ []) (sym is) in
+    let covered : AreCovered db hs f =
+    subst (AreCovered db hs) (sym is) (c.requires.bound j 0 inside) in
+    let same : numbered_parts db c.args.numbers.now f ≡ parts_of db hs f =
+    numbered_same db hs c.args.numbers.now c.requires.placed f covered in
     elim c.if-is_first.branch [
       | then-is_first+in_ok-push w ↦
           let t = w.index-formula-0.result in
           let first = c.is_first.ensures w.if-is_first.true in
           let typecode : get_or f 0 0 ≡ t =
           get_or_default f 0 0 t first.0 ∙ sym w.index-formula-0.is in
-          let one : parts_of k hs f ≡ Constant t ∷ Variable j ∷ [] =
+          let one : parts_of db hs f ≡ Constant t ∷ Variable j ∷ [] =
           sym same ∙ first.1 ∙ ap (λ z. Constant z ∷ Variable j ∷ []) typecode in
           rw (w.hypotheses-is, w.parts-is, w.in_ok-push.ensures.items) (record {
             made =
-                typed_more parts hypotheses j t us v.count v.made ∙ ap (λ z. us ++ z ∷ []) (sym one)
-                ∙ sym next;
+                typed_more parts hypotheses j t us v.count v.kept v.made
+                ∙ ap (λ z. us ++ z ∷ []) (sym one) ∙ sym next;
             count = omega (arith, v.count, length-append hypotheses (Floating t ∷ []));
-            within = typed_within (length parts) hypotheses t v.within;
+            kept = typed_kept parts hypotheses t v.kept;
             below = v.below;
           })
       | else-is_first+in_ok-compile_formula+in_ok-push-2 w ↦
-          let more = parts_of k hs f in
-          let s : Stretch = record { start = w.len-start.result; end = w.len.result } in
-          let start : w.len-start.result ≡ length parts = omega (arith, w.len-start.ensures) in
+          let more = parts_of db hs f in
+          let n = length f in
           let grown = w.in_ok-compile_formula.ensures ∙ ap (λ z. parts ++ z) same in
-          let to : w.len.result ≡ length (parts ++ more) =
-          let n = ap length grown in omega (arith, w.len.ensures, n) in
+          let long : n ≡ length more =
+          sym (length-map f (part_of db hs)) in
           rw (
             w.hypotheses-is,
             w.parts-is,
             w.in_ok-push-2.ensures.items,
             grown,
           ) (record {
-            made = essential_more parts more hypotheses s start to v.within us v.made ∙ sym next;
-            count = omega (arith, v.count, length-append hypotheses (Essential s ∷ []));
-            within = essential_within parts more hypotheses s start to v.within;
+            made = essential_more parts more hypotheses n long v.kept us v.made ∙ sym next;
+            count = omega (arith, v.count, length-append hypotheses (Essential n ∷ []));
+            kept = essential_kept parts more hypotheses n long v.kept;
             below =
                 All-append (IsBelow (length hyps)) parts more v.below
-                (subst (λ n. All (IsBelow n) more) (length-map hyps (formula_at k))
-                (parts_below k hs f covered));
+                (subst (λ n. All (IsBelow n) more) (length-map hyps (formula_at db))
+                (parts_below db hs f covered));
           })
     ]
 
@@ -99,17 +97,17 @@ pub compile_formula-requires-clause-known : goal.compile_formula-requires-clause
 compile_formula-requires-clause-known g c = c.formula-formula.ensures.known
 
 pub returns : goal.returns
-returns g c = let k = c.args.db.now.statements in
-    let hs = map (formula_at k) c.args.hyps.now in
+returns g c = let db = c.args.db.now.statements in
+    let hs = map (formula_at db) c.args.hyps.now in
     record {
       parts_are =
           c.loop-j.invariant.made
-          ∙ ap (λ z. map (parts_of k hs) (map (formula_at k) z))
+          ∙ ap (λ z. map (parts_of db hs) (map (formula_at db) z))
           (take_all c.loop-j.j c.args.hyps.now c.loop-j-test.false);
       count =
           let n = c.loop-j.invariant.count in let l = c.loop-j-test.false in
           omega (arith, n, l);
-      within = c.loop-j.invariant.within;
+      kept = c.loop-j.invariant.kept;
       below = c.loop-j.invariant.below;
     }
 

@@ -1,6 +1,6 @@
 use Rattle.std.proofs.Common.{◌≡◌, take, map, length, All}
 use Rattle.mm_spec.specs.Frame.{formula_at}
-use Rattle.mm_rule.specs.Rule.{parts_of, all_parts, IsHypothesisIn, IsBelow}
+use Rattle.mm_rule.specs.Rule.{parts_of, all_parts, count_parts, IsBelow}
 use Rattle.mm_rules.proofs.compile.compile_hypotheses.Given as goal
 
 abbrev pub invariant-loop-j : goal.invariant-loop-j
@@ -9,6 +9,6 @@ invariant-loop-j g l = record {
       ≡ map (parts_of l.db.statements (map (formula_at l.db.statements) l.hyps))
       (map (formula_at l.db.statements) (take l.j l.hyps));
   count : length l.hypotheses.items ≡ l.j;
-  within : All (IsHypothesisIn (length l.parts.items)) l.hypotheses.items;
+  kept : count_parts l.hypotheses.items ≡ length l.parts.items;
   below : All (IsBelow (length l.hyps)) l.parts.items;
 }

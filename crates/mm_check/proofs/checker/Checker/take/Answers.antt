@@ -5,8 +5,8 @@ use Rattle.mm_check.specs.Checker.{CheckerState, IsAt, Performs}
 use Rattle.mm_check.proofs.RanLaw.{ready, stops_here, performs_next}
 use Rattle.mm_check.proofs.checker.Checker.take.Goals as goal
 
-pub make-requires-clause-ready : goal.make-requires-clause-ready
-make-requires-clause-ready g c =
+pub perform-requires-clause-ready : goal.perform-requires-clause-ready
+perform-requires-clause-ready g c =
     ready c.args.db.now.statements c.args.theorem c.args.steps.now.steps c.args.i c.args.self.now
     c.requires.performed c.requires.step (as_step c.step.result) c.step.ensures
 
@@ -27,15 +27,15 @@ returns-in_ok-mark-clause-performed g c =
     (sym c.is_marked.ensures ∙ c.if-is_marked.true)
     (subst (λ (s : CheckerState). Performs db t a c.args.self.now s) (sym c.self.view_is)
     c.in_default.ensures.performs)
-    (subst (λ (s : CheckerState). IsAt db t s) (sym c.self.view_is) c.make.ensures.at)
+    (subst (λ (s : CheckerState). IsAt db t s) (sym c.self.view_is) c.perform.ensures.at)
     c.in_ok-mark.ensures.ok c.mark.ensures.width
 
 pub returns-else-is_marked-clause-performed : goal.returns-else-is_marked-clause-performed
 returns-else-is_marked-clause-performed g c =
     performs_next c.args.db.now.statements c.args.theorem c.args.steps.now.steps c.args.i
     c.args.self.now c.requires.performed c.requires.step (as_step c.step.result) c.step.ensures
-    c.make.new.self c.make.new.self.machine false (sym c.is_marked.ensures ∙ c.if-is_marked.false)
-    c.in_default.ensures.performs c.make.ensures.at refl refl
+    c.perform.new.self c.perform.new.self.machine false
+    (sym c.is_marked.ensures ∙ c.if-is_marked.false) c.in_default.ensures.performs c.perform.ensures.at refl refl
 
 pub returns-in-Err-clause-performed : goal.returns-in-Err-clause-performed
 returns-in-Err-clause-performed g c = tt

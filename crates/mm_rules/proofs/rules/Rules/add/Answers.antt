@@ -13,16 +13,16 @@ returns g c =
     let p = c.in_ok-pairs in
     let q = c.in_ok-parts in
     let f = c.in_ok-formula in
-    λ k rules rule. added_at k i.stretches.items c.push.new.self.items i.hypotheses.items r.hypotheses.now
-    c.put.new.list.items
+    λ db rules rule. added_at db i.stretches.items c.push.new.self.items i.hypotheses.items
+    r.hypotheses.now c.put.new.list.items
     i.pairs.items r.pairs.now c.put-2.new.list.items i.parts.items r.parts.now r.formula.now
     c.put-3.new.list.items c.put-4.new.list.items
     (rule_stretches r.assertion a.hypotheses p.pairs q.parts f.formula)
     c.in_ok-push.ensures.items a.ensures.items p.ensures.items q.ensures.items f.ensures.items
     a.ensures.start a.ensures.end p.ensures.start p.ensures.end q.ensures.start q.ensures.end
     f.ensures.start f.ensures.end
-    (subst (λ (z : Compiled). IsCompiled k z) (sym c.rule.view_is) rule)
-    (subst (λ (z : RuleLists). AreRules k z) (sym c.self.view_is) rules)
+    (subst (λ (z : Compiled). IsCompiled db z) (sym c.rule.view_is) rule)
+    (subst (λ (z : RuleLists). AreRules db z) (sym c.self.view_is) rules)
 
 pub overflow_cast-rule-inside : goal.overflow_cast-rule-inside
 overflow_cast-rule-inside g c = omega arith

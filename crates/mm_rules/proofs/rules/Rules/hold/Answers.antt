@@ -4,18 +4,18 @@ use Rattle.mm_rule.specs.Rule.{IsCompiled}
 use Rattle.mm_rules.proofs.CompleteLaw.{complete_at}
 use Rattle.mm_rules.proofs.rules.Rules.hold.Goals as goal
 
-pub make-requires-clause-complete : goal.make-requires-clause-complete
-make-requires-clause-complete g c =
+pub compile-requires-clause-complete : goal.compile-requires-clause-complete
+compile-requires-clause-complete g c =
     complete_at c.args.db.now.statements c.requires.complete c.args.k
     (sym c.is_assertion.ensures ∙ c.if-not-is_assertion.false)
 
-pub returns-in_err-make-clause-rules : goal.returns-in_err-make-clause-rules
-returns-in_err-make-clause-rules g c =
+pub returns-in_err-compile-clause-rules : goal.returns-in_err-compile-clause-rules
+returns-in_err-compile-clause-rules g c =
     IfOk-from_err c.from_residual.result _ c.from_residual.ensures.0
 
 pub returns-clause-rules : goal.returns-clause-rules
 returns-clause-rules g c =
     on_ok_weaker c.add.result
     (λ keeps. keeps c.args.db.now.statements c.requires.rules
-    (subst (IsCompiled c.args.db.now.statements) (sym c.rule.ensures) c.in_ok-make.ensures.made))
+    (subst (IsCompiled c.args.db.now.statements) (sym c.rule-rule.ensures) c.in_ok-compile.ensures.made))
     c.add.ensures

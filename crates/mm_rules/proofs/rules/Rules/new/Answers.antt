@@ -1,12 +1,8 @@
-use Rattle.std.proofs.Common.{arith}
 use Rattle.std.proofs.lemmas.Result.{IfOk-from_err}
 use Rattle.mm_rules.proofs.rules.Rules.new.Goals as goal
 
-pub overflow_cast-len : goal.overflow_cast-len
-overflow_cast-len g c = omega arith
-
-pub returns-in_err-rules-inside : goal.returns-in_err-rules-inside
-returns-in_err-rules-inside g c = IfOk-from_err c.from_residual.result _ c.from_residual.ensures.0
+pub returns-in_err-rules : goal.returns-in_err-rules
+returns-in_err-rules g c = IfOk-from_err c.from_residual.result _ c.from_residual.ensures.0
 
 pub returns-in_err-compiler : goal.returns-in_err-compiler
 returns-in_err-compiler g c =

@@ -7,48 +7,48 @@ use Rattle.mm_spec.specs.Laws.Complete.{AreBound}
 use Rattle.mm_outline.proofs.StatementsLaw.{is_there}
 use Rattle.mm_rules.specs.Rules.{AreFirstNumbers, numbered_parts}
 use Rattle.mm_rules.proofs.RuleLaw.{covered, covered_all, made_rule, numbered, numbered_same}
-use Rattle.mm_rules.proofs.compile.RuleCompiler.make.Goals as goal
+use Rattle.mm_rules.proofs.compile.RuleCompiler.compile.Goals as goal
 
 pub compile_hypotheses-requires-clause-bound : goal.compile_hypotheses-requires-clause-bound
 compile_hypotheses-requires-clause-bound g c =
-    let k = c.args.db.now.statements in
-    covered_all k (map (formula_at k) c.hyps-hyps.result.now) c.hyps-hyps.result.now
-    (subst (λ h. AllByRecursion (AreBound (context_at k 0) (map (formula_at k) h))
-    (map (formula_at k) h)) (sym c.hyps-hyps.ensures.are) c.requires.complete.hypotheses)
+    let db = c.args.db.now.statements in
+    covered_all db (map (formula_at db) c.hyps-hyps.result.now) c.hyps-hyps.result.now
+    (subst (λ h. AllByRecursion (AreBound (context_at db 0) (map (formula_at db) h))
+    (map (formula_at db) h)) (sym c.hyps-hyps.ensures.are) c.requires.complete.hypotheses)
 
 pub formula-requires : goal.formula-requires
 formula-requires g c = is_there is_assertion c.args.db.now.statements c.args.k c.requires.assertion
 
 pub returns-clause-made : goal.returns-clause-made
 returns-clause-made g c =
-    let k = c.args.db.now.statements in
+    let db = c.args.db.now.statements in
     let hyps = c.hyps-hyps.result.now in
     let f = c.formula.result.now in
     let numbers = c.deref-2.result.now in
-    let placed : AreFirstNumbers k (map (formula_at k) hyps) numbers =
-    numbered k (map (formula_at k) hyps) c.number_variables.new.numbers
+    let placed : AreFirstNumbers db (map (formula_at db) hyps) numbers =
+    numbered db (map (formula_at db) hyps) c.number_variables.new.numbers
     c.self.inside.numbers.items c.self.inside.numbers.len numbers
     c.deref-2.ensures.value (omega arith) c.number_variables.ensures in
-    let hs = map (formula_at k) hyps in
+    let hs = map (formula_at db) hyps in
     let bound =
-    covered k hs f
-    (subst (λ h. AreBound (context_at k 0) (map (formula_at k) h) f) (sym c.hyps-hyps.ensures.are)
-    (subst (AreBound (context_at k 0) (map (formula_at k) (mandatory_hypotheses k c.args.k)))
+    covered db hs f
+    (subst (λ h. AreBound (context_at db 0) (map (formula_at db) h) f) (sym c.hyps-hyps.ensures.are)
+    (subst (AreBound (context_at db 0) (map (formula_at db) (mandatory_hypotheses db c.args.k)))
     (sym c.formula.ensures.formula) c.requires.complete.formula)) in
     let last = c.deref-3.result.now in
     let same =
-    numbered_same k hs last
-    (numbered k hs c.number_variables.new.numbers
+    numbered_same db hs last
+    (numbered db hs c.number_variables.new.numbers
     c.self.inside.numbers.items c.self.inside.numbers.len last
     c.deref-3.ensures.value (omega arith) c.number_variables.ensures) f bound in
     on_ok_weaker c.compile_formula.result
-    (λ made. made_rule k c.args.k c.requires.assertion c.requires.complete hyps c.pairs.result.now f
-    numbers c.compile_hypotheses.new.hypotheses.items c.compile_pairs.new.pairs.items
+    (λ made. made_rule db c.args.k c.requires.assertion c.requires.complete hyps c.pairs.result.now
+    f numbers c.compile_hypotheses.new.hypotheses.items c.compile_pairs.new.pairs.items
     c.compile_hypotheses.new.parts.items c.compile_formula.new.parts.items
     c.hyps-hyps.ensures.are c.pairs.ensures.are c.formula.ensures.formula
     c.formula.ensures.known c.in_ok-compile_hypotheses.ensures placed
     c.in_ok-compile_pairs.ensures
-    (made ∙ ap (λ z. z ++ numbered_parts k last f) c.empty.ensures ∙ same))
+    (made ∙ ap (λ z. z ++ numbered_parts db last f) c.empty.ensures ∙ same))
     c.compile_formula.ensures
 
 pub returns-clause-assertion : goal.returns-clause-assertion
@@ -60,8 +60,8 @@ hyps-hyps-requires g c = c.requires.assertion
 
 pub compile_hypotheses-requires-clause-placed : goal.compile_hypotheses-requires-clause-placed
 compile_hypotheses-requires-clause-placed g c =
-    let k = c.args.db.now.statements in
-    numbered k (map (formula_at k) c.hyps-hyps.result.now) c.number_variables.new.numbers
+    let db = c.args.db.now.statements in
+    numbered db (map (formula_at db) c.hyps-hyps.result.now) c.number_variables.new.numbers
     c.self.inside.numbers.items c.self.inside.numbers.len c.deref.result.now c.deref.ensures.value
     (omega arith) c.number_variables.ensures
 

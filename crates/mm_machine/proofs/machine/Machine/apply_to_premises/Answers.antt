@@ -6,9 +6,9 @@ use Rattle.mm_machine.specs.Stops.{Stops}
 use Rattle.mm_machine.proofs.PlacedLaw.{judged_here, step_made, step_entry, step_stopped}
 use Rattle.mm_machine.proofs.PlacedLaw.{parts_below, parts_known, entries_here}
 use Rattle.mm_machine.proofs.PlacedLaw.{stack_here, next_machine}
-use Rattle.mm_machine.proofs.machine.Machine.apply.Given.{Over}
-use Rattle.mm_machine.proofs.machine.Machine.apply.Goals.{In-Ok}
-use Rattle.mm_machine.proofs.machine.Machine.apply.Goals as goal
+use Rattle.mm_machine.proofs.machine.Machine.apply_to_premises.Given.{Over}
+use Rattle.mm_machine.proofs.machine.Machine.apply_to_premises.Goals.{In-Ok}
+use Rattle.mm_machine.proofs.machine.Machine.apply_to_premises.Goals as goal
 
 -- the test of the rule, on the lists of the machine
 tested : (g : Over) (c : In-Ok g)
@@ -24,13 +24,13 @@ tested g c =
 pub invariant_of-self : goal.invariant_of-self
 invariant_of-self g c =
     let i = c.self.inside in
-    let k = c.args.db.now.statements in
-    let width : i.width ≡ length (symbol_names k) =
+    let db = c.args.db.now.statements in
+    let width : i.width ≡ length (symbol_names db) =
     ap (λ s. s.width) c.self.view_is ∙ c.requires.width in
     next_machine i.own i.kept i.stack.items i.marks.items i.marked.items i.width c.self.invariant
     c.formula.result.now c.put_formula.new.own c.as_slice-in-Ok.result.now
     c.put_formula.new.stack.items c.as_slice-in-Ok.ensures
-    (parts_known k c.args.theorem c.args.rule.now i.own i.kept c.as_slice-in-Ok.result.now
+    (parts_known db c.args.theorem c.args.rule.now i.own i.kept c.as_slice-in-Ok.result.now
     i.stack.items c.in-Ok.below c.formula.result.now c.as_slice-in-Ok.ensures c.formula.ensures
     (tested g (goal.at.invariant_of-self g c).In-Ok) c.requires.rule i.width width)
     c.put_formula.ensures.stack
@@ -38,24 +38,24 @@ invariant_of-self g c =
 pub returns-in-Err-clause-stopped : goal.returns-in-Err-clause-stopped
 returns-in-Err-clause-stopped g c =
     let i = c.self.inside in
-    let k = c.args.db.now.statements in
-    subst (λ (s : MachineState). applied k c.args.theorem c.args.rule.now.assertion s.stack
+    let db = c.args.db.now.statements in
+    subst (λ (s : MachineState). applied db c.args.theorem c.args.rule.now.assertion s.stack
     ≡ Err (reason_of c.in-Err.reason)) c.self.view_is
-    (judged_here k c.args.theorem c.args.rule.now i.own c.as_slice.result.now
+    (judged_here db c.args.theorem c.args.rule.now i.own c.as_slice.result.now
     i.kept c.as_slice-2.result.now i.stack.items c.deref.result.now (Err c.in-Err.reason)
     c.as_slice.ensures c.as_slice-2.ensures c.deref.ensures.value c.in-Err.ensures.judged)
 
 pub returns-in-Ok-clause-made : goal.returns-in-Ok-clause-made
 returns-in-Ok-clause-made g c =
     let i = c.self.inside in
-    let k = c.args.db.now.statements in
+    let db = c.args.db.now.statements in
     let a = c.args.rule.now.assertion in
     let done = c.put_formula in
     subst (λ (s : MachineState). OnOk done.result
-    (applied k c.args.theorem a s.stack
+    (applied db c.args.theorem a s.stack
     ≡ Ok (texts (arena done.new.own i.kept) done.new.stack.items)))
     c.self.view_is
-    (step_made k c.args.theorem c.args.rule.now i.own i.kept c.as_slice-in-Ok.result.now
+    (step_made db c.args.theorem c.args.rule.now i.own i.kept c.as_slice-in-Ok.result.now
     i.stack.items c.in-Ok.below c.formula.result.now c.as_slice-in-Ok.ensures c.formula.ensures
     (tested g (goal.at.returns-in-Ok-clause-made g c).In-Ok)
     done.result done.new.own done.new.stack.items done.ensures.made)
@@ -73,12 +73,12 @@ returns-in-Ok-clause-entry g c =
 pub returns-in-Ok-clause-stopped : goal.returns-in-Ok-clause-stopped
 returns-in-Ok-clause-stopped g c =
     let i = c.self.inside in
-    let k = c.args.db.now.statements in
+    let db = c.args.db.now.statements in
     let a = c.args.rule.now.assertion in
     let done = c.put_formula in
     subst (λ (s : MachineState). IfErr done.result
-    (λ e. Stops e (applied k c.args.theorem a s.stack))) c.self.view_is
-    (step_stopped k c.args.theorem c.args.rule.now i.own i.kept c.as_slice-in-Ok.result.now
+    (λ e. Stops e (applied db c.args.theorem a s.stack))) c.self.view_is
+    (step_stopped db c.args.theorem c.args.rule.now i.own i.kept c.as_slice-in-Ok.result.now
     i.stack.items c.in-Ok.below c.formula.result.now c.as_slice-in-Ok.ensures c.formula.ensures
     (tested g (goal.at.returns-in-Ok-clause-stopped g c).In-Ok)
     done.result done.new.own done.new.stack.items done.ensures.stopped)

@@ -1,6 +1,6 @@
 use Rattle.mm_check.proofs.StepLaw.{repeats}
-use Rattle.mm_check.proofs.checker.Checker.make.Goals.{in-Ok, in-Err}
-use Rattle.mm_check.proofs.checker.Checker.make.Goals as goal
+use Rattle.mm_check.proofs.checker.Checker.perform.Goals.{in-Ok, in-Err}
+use Rattle.mm_check.proofs.checker.Checker.perform.Goals as goal
 
 pub returns-after-repeat-clause-performs : goal.returns-after-repeat-clause-performs
 returns-after-repeat-clause-performs g c =

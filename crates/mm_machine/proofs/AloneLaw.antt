@@ -1,0 +1,110 @@
+-- The step of an assertion without hypotheses pushes its formula.
+use Rattle.std.proofs.Common.{◌≡◌, ℕ, ◌-◌, ◌<◌, ◌≤◌, Bool, true, false, List, [], ◌∷◌, ◌++◌, length}
+use Rattle.std.proofs.Common.{take, drop, map, nat_le, refl, ap, ap₂, ◌∙◌, subst, arith, All}
+use Rattle.std.proofs.Common.{cond, Some, Ok, Err, le-leb}
+use Rattle.std.specs.List.{list_all, AllByRecursion}
+use Rattle.std.proofs.lemmas.Bool.{lt-leb}
+use Rattle.std.proofs.lemmas.List.{take_all, drop_all, length-map}
+use Rattle.std.proofs.lemmas.List.Elements.{recursion_from_All}
+use Rattle.mm_spec.specs.Statement.{Statement}
+use Rattle.mm_spec.specs.Derivation.{Formula, Pair, Frame, Context, Substitution, assertion}
+use Rattle.mm_spec.specs.Derivation.{substitute, are_all_disjoint}
+use Rattle.mm_spec.specs.Limits.{formula_limit}
+use Rattle.mm_spec.specs.Valid.{too_long}
+use Rattle.mm_spec.specs.Frame.{is_variable_number, formula_at, frame_at}
+use Rattle.mm_spec.specs.Citation.{context_at}
+use Rattle.mm_spec.specs.Laws.Stack.{found, same, pick, apply, step}
+use Rattle.mm_rule.specs.declared.rule.RuleSymbol.TheVariants.{Constant, Variable}
+use Rattle.mm_rule.specs.Rule.{first, parts_of, IsBelow, Compiled, IsCompiled}
+use Rattle.mm_machine.specs.State.{applied}
+use Rattle.mm_machine.proofs.RuleTestLaw.{length_all_parts}
+
+nothing_in : {X : Type 0} (xs : List X) → length xs ≡ 0 → xs ≡ []
+nothing_in [] h = refl
+nothing_in (x ∷ xs) h = absurd (omega (arith, h))
+
+no_pairs : (ps : List (ℕ × ℕ)) → All (λ (p : ℕ × ℕ). (p.0 < 0) × (p.1 < 0)) ps → length ps ≡ 0
+no_pairs [] h = refl
+no_pairs (p ∷ ps) h =
+    absurd (let l = (recursion_from_All (λ (p : ℕ × ℕ). (p.0 < 0) × (p.1 < 0)) (p ∷ ps) h).0.0 in
+    omega (arith, l))
+
+-- a frame without hypotheses and pairs, whose formula has no variables
+module _ (c : Context) (a : Frame) (hypotheses : a.hypotheses ≡ []) (pairs : a.pairs ≡ [])
+    (stays : (σ : Substitution) → substitute c σ a.formula ≡ a.formula) where
+  step_alone : (es : List Formula) → step c (Some (assertion a)) es
+      ≡ pick true true true (nat_le (length a.formula) formula_limit) (es ++ a.formula ∷ [])
+  step_alone es =
+      let none : length a.hypotheses ≡ 0 = ap length hypotheses in
+      let n = length es - length a.hypotheses in
+      let all : length es ≤ n = omega (arith, none) in
+      let σ = found c a.hypotheses [] in
+      ap (λ b. apply c a b (take n es) (drop n es)) (le-leb _ _ (omega (arith, none)))
+      ∙ ap₂ (λ below premises. apply c a true below premises) (take_all n es all)
+      (drop_all n es all)
+      ∙ ap₂ (λ matched apart. pick true matched apart
+      (nat_le (length (substitute c σ a.formula)) formula_limit)
+      (es ++ substitute c σ a.formula ∷ []))
+      (ap (λ hs. same [] (map (substitute c σ) hs)) hypotheses)
+      (ap (list_all (λ (p : Pair). are_all_disjoint c (σ p.low) (σ p.high))) pairs)
+      ∙ ap (λ f. pick true true true (nat_le (length f) formula_limit) (es ++ f ∷ [])) (stays σ)
+
+module _ (db : List Statement) (t : ℕ) (hs : List Formula) (σ : Substitution) where
+  no_variables : (f : Formula) → AllByRecursion (IsBelow 0) (parts_of db hs f)
+      → substitute (context_at db t) σ f ≡ f
+  no_variables [] h = refl
+  no_variables (s ∷ f) h =
+      ap₂ (λ u v. u ++ v) (one (is_variable_number db s) h.0) (no_variables f h.1)
+    where
+      one : (v : Bool) → IsBelow 0 (cond v (Variable (first db hs s)) (Constant s))
+          → cond v (σ s) (s ∷ []) ≡ s ∷ []
+      one true l = absurd (omega (arith, l))
+      one false l = refl
+
+module _ (db : List Statement) (t : ℕ) (c : Compiled) (rule : IsCompiled db c)
+    (none : length c.hypotheses ≡ 0) where
+  abbrev frame : Frame
+  frame = frame_at db c.assertion
+
+  abbrev f : Formula
+  f = formula_at db c.assertion
+
+  hypotheses_are : frame.hypotheses ≡ []
+  hypotheses_are =
+      let parts = ap length rule.hypotheses_are in
+      let left = length_all_parts c.parts 0 c.hypotheses in
+      let right = length-map frame.hypotheses (parts_of db frame.hypotheses) in
+      nothing_in frame.hypotheses (omega (arith, none, parts, left, right))
+
+  pairs_are : frame.pairs ≡ []
+  pairs_are =
+      let few =
+      no_pairs c.pairs
+      (subst (λ n. All (λ (p : ℕ × ℕ). (p.0 < n) × (p.1 < n)) c.pairs) none rule.pairs_in) in
+      let same : length c.pairs ≡ length frame.pairs =
+      ap length rule.pairs_are
+      ∙ length-map {B = ℕ × ℕ} frame.pairs
+      (λ (p : Pair). (first db frame.hypotheses p.low, first db frame.hypotheses p.high)) in
+      nothing_in frame.pairs (omega (arith, few, same))
+
+  below : AllByRecursion (IsBelow 0) (parts_of db frame.hypotheses f)
+  below =
+      recursion_from_All (IsBelow 0) (parts_of db frame.hypotheses f)
+      (subst (All (IsBelow 0)) rule.formula_is
+      (subst (λ n. All (IsBelow n) c.formula) none rule.formula_in))
+
+  pushed : (es : List Formula) → applied db t c.assertion es
+      ≡ pick true true true (nat_le (length f) formula_limit) (es ++ f ∷ [])
+  pushed es =
+      step_alone (context_at db t) frame hypotheses_are pairs_are
+      (λ σ. no_variables db t frame.hypotheses σ f below) es
+
+  pub alone_made : (es : List Formula) → length f ≤ formula_limit
+      → applied db t c.assertion es ≡ Ok (es ++ f ∷ [])
+  alone_made es short =
+      pushed es ∙ ap (λ b. pick true true true b (es ++ f ∷ [])) (le-leb _ _ short)
+
+  pub alone_long : (es : List Formula) → formula_limit < length f
+      → applied db t c.assertion es ≡ Err too_long
+  alone_long es long =
+      pushed es ∙ ap (λ b. pick true true true b (es ++ f ∷ [])) (lt-leb _ _ long)

@@ -1,0 +1,87 @@
+-- Whether entries are what hypotheses require, one hypothesis after the other.
+use Rattle.std.proofs.Common.{◌≡◌, ℕ, suc, ◌+◌, ◌-◌, ◌<◌, ◌≤◌, Bool, true, ◌&&◌, List, ◌∷◌}
+use Rattle.std.proofs.Common.{take, drop, get_or, map, length, bytes_eq, sym, ap, ap₂, ◌∙◌}
+use Rattle.std.proofs.Common.{arith, append-nil}
+use Rattle.std.proofs.lemmas.List.{drop_more, drop_all, drop-drop}
+use Rattle.mm_spec.specs.Laws.Stack.{same}
+use Rattle.mm_rule.specs.declared.rule.Hypothesis.{Hypothesis}
+use Rattle.mm_rule.specs.declared.rule.Hypothesis.TheVariants.{Floating, Essential}
+use Rattle.mm_rule.specs.declared.rule.RuleSymbol.{RuleSymbol}
+use Rattle.mm_rule.specs.Rule.{part_count, hypothesis_parts, all_parts, count_parts}
+use Rattle.mm_machine.specs.declared.arena.Span.{Span}
+use Rattle.mm_machine.specs.Arena.{Arena, nothing, rest, text_of}
+use Rattle.mm_machine.specs.Replaced.{replaced}
+
+module _ (xs : Arena) (es : List Span) (parts : List RuleSymbol) (hs : List Hypothesis) where
+  -- whether the entries from index `j` on are what the hypotheses require; the parts that are kept
+  -- for these begin at place `at`
+  abbrev pub fit_from : ℕ → ℕ → Bool
+  fit_from j at =
+      same (map (text_of xs) (drop j es))
+      (map (replaced xs es) (all_parts (drop at parts) j (drop j hs)))
+
+  pub fit_end : (j at : ℕ) → length hs ≤ j → length es ≤ j → fit_from j at ≡ true
+  fit_end j at all none =
+      ap₂ (λ u v. same (map (text_of xs) u)
+      (map (replaced xs es) (all_parts (drop at parts) j v))) (drop_all j es none) (drop_all j hs all)
+
+  -- `one` says whether entry `j` is what hypothesis `h` requires; the next parts begin at `next`
+  pub record IsTested (j at : ℕ) (h : Hypothesis) (one : Bool) (next : ℕ) : Type 0 where
+    pub next_is : next ≡ at + part_count h
+    pub one_is : one
+        ≡ bytes_eq (text_of xs (get_or es j nothing))
+        (replaced xs es (hypothesis_parts (drop at parts) j h))
+
+  module _ (j at : ℕ) (h : Hypothesis) (one : Bool) (next : ℕ) where
+    pub typed_tested : (t : ℕ) → h ≡ Floating t
+        → one
+        ≡ bytes_eq (text_of xs (get_or es j nothing)) (t ∷ text_of xs (rest (get_or es j nothing)))
+        → next ≡ at → IsTested j at h one next
+    typed_tested t is e n =
+        rw is
+        (record {
+          next_is = omega (arith, n);
+          one_is = e
+              ∙ ap (λ z. bytes_eq (text_of xs (get_or es j nothing)) (t ∷ z))
+              (sym (append-nil (text_of xs (rest (get_or es j nothing)))));
+        })
+
+    pub essential_tested : (n : ℕ) → h ≡ Essential n
+        → one
+        ≡ bytes_eq (text_of xs (get_or es j nothing))
+        (replaced xs es (take ((at + n) - at) (drop at parts)))
+        → next ≡ at + n → IsTested j at h one next
+    essential_tested n is e m =
+        let long : (at + n) - at ≡ n = omega arith in
+        rw is
+        (record {
+          next_is = m;
+          one_is = e
+              ∙ ap (λ l. bytes_eq (text_of xs (get_or es j nothing))
+              (replaced xs es (take l (drop at parts)))) long;
+        })
+
+    module _ (tested : IsTested j at h one next) (inside : j < length hs) (many : j < length es)
+        (h_is : h ≡ get_or hs j h) where
+      hs_here : drop j hs ≡ h ∷ drop (j + 1) hs
+      hs_here = drop_more hs j h inside ∙ ap (λ z. z ∷ drop (j + 1) hs) (sym h_is)
+
+      pub fit_next : fit_from j at ≡ (one && fit_from (j + 1) next)
+      fit_next =
+          let more : suc j ≡ j + 1 = omega arith in
+          ap₂ (λ u v. same (map (text_of xs) u)
+          (map (replaced xs es) (all_parts (drop at parts) j v)))
+          (drop_more es j nothing many) hs_here
+          ∙ ap₂ (λ u n. bytes_eq (text_of xs (get_or es j nothing))
+          (replaced xs es (hypothesis_parts (drop at parts) j h))
+          && same (map (text_of xs) (drop (j + 1) es))
+          (map (replaced xs es) (all_parts u n (drop (j + 1) hs))))
+          (drop-drop (part_count h) at parts ∙ ap (λ n. drop n parts) (sym tested.next_is)) more
+          ∙ ap (λ b. b && fit_from (j + 1) next) (sym tested.one_is)
+
+      pub kept_next : at + count_parts (drop j hs) ≡ length parts
+          → next + count_parts (drop (j + 1) hs) ≡ length parts
+      kept_next kept =
+          let here : count_parts (drop j hs) ≡ part_count h + count_parts (drop (j + 1) hs) =
+          ap count_parts hs_here in
+          let n = tested.next_is in omega (arith, here, kept, n)
