@@ -43,7 +43,7 @@ impl<A: Allocator> Flags<A> {
 
     /// Leaves in `noted` the assertions that are cited: all, or with `essential` only the labels of
     /// essential nodes.
-    pub fn choose(
+    pub fn keep_cited(
         &mut self,
         db: &Database<A>,
         theorem: u32,

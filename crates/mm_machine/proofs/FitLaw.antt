@@ -23,7 +23,8 @@ module _ (xs : Arena) (es : List Span) (parts : List RuleSymbol) (hs : List Hypo
   pub fit_end : (j at : ℕ) → length hs ≤ j → length es ≤ j → fit_from j at ≡ true
   fit_end j at all none =
       ap₂ (λ u v. same (map (text_of xs) u)
-      (map (replaced xs es) (all_parts (drop at parts) j v))) (drop_all j es none) (drop_all j hs all)
+      (map (replaced xs es) (all_parts (drop at parts) j v))) (drop_all j es none)
+      (drop_all j hs all)
 
   -- `one` says whether entry `j` is what hypothesis `h` requires; the next parts begin at `next`
   pub record IsTested (j at : ℕ) (h : Hypothesis) (one : Bool) (next : ℕ) : Type 0 where

@@ -30,20 +30,20 @@ impl Read for Failing {
 /// A writer that takes one byte a call, up to a given number of bytes. After that its calls fail or
 /// take nothing.
 #[derive(Drop)]
-struct Closing {
+struct LimitedWriter {
     left: usize,
     fails: bool,
 }
 
 /// A writer that is closed from its first call on.
-fn closed() -> Closing {
-    Closing {
+fn closed() -> LimitedWriter {
+    LimitedWriter {
         left: 0,
         fails: true,
     }
 }
 
-impl Write for Closing {
+impl Write for LimitedWriter {
     fn write(&mut self, bytes: &[u8]) -> io::Result<usize> {
         if self.left > 0 && !bytes.is_empty() {
             self.left -= 1;
@@ -165,7 +165,7 @@ fn stops<R: Threads + Wait + Files + Sync + AllocGlobal>(
     fails: bool,
 ) -> bool {
     let mut text = FIRST;
-    let mut output = Closing { left, fails };
+    let mut output = LimitedWriter { left, fails };
     let mut told = Vec::new(rt.alloc());
     let found = status(rt, rt.alloc(), words, &mut text, &mut output, &mut told);
     found == 3 && output.left == 0 && told.as_slice() == b"mmdepend: writing failed\n".as_slice()

@@ -8,16 +8,16 @@ returns-in-Err-clause-refused g c =
     ends_here c.args.db.now.statements c.args.theorem c.args.steps.now.steps _ _ c.self.view_is
     c.requires c.end_at.result c.in-Err.code c.end_at.ensures c.in-Err.ensures.other
 
-pub choose-requires-clause-steps : goal.choose-requires-clause-steps
-choose-requires-clause-steps g c = c.requires.are_steps
+pub keep_cited-requires-clause-steps : goal.keep_cited-requires-clause-steps
+keep_cited-requires-clause-steps g c = c.requires.are_steps
 
-pub choose-requires-clause-valid : goal.choose-requires-clause-valid
-choose-requires-clause-valid g c =
+pub keep_cited-requires-clause-valid : goal.keep_cited-requires-clause-valid
+keep_cited-requires-clause-valid g c =
     proof_is c.args.db.now.statements c.args.theorem c.args.steps.now.steps _ _ c.self.view_is
     c.requires c.in_default.ensures.one
 
-pub choose-requires-clause-noted : goal.choose-requires-clause-noted
-choose-requires-clause-noted g c =
+pub keep_cited-requires-clause-noted : goal.keep_cited-requires-clause-noted
+keep_cited-requires-clause-noted g c =
     cites_are c.args.db.now.statements c.args.theorem c.args.steps.now.steps _ _ c.self.view_is
     c.requires c.in_default.ensures.one
 
@@ -26,15 +26,16 @@ returns-clause-valid g c =
     let ok = c.in_ok-cites.ensures in (
       refl,
       is_checked c.args.db.now.statements c.args.theorem c.args.steps.now.steps _ _ c.self.view_is
-          c.requires c.in_default.ensures.one c.args.essential _ _ c.in_ok-choose.ensures ok.rising
+          c.requires c.in_default.ensures.one c.args.essential _ _ c.in_ok-keep_cited.ensures
+          ok.rising
           ok.same,
     )
 
 pub returns-in-Err-clause-valid : goal.returns-in-Err-clause-valid
 returns-in-Err-clause-valid g c = tt
 
-pub returns-in_err-choose-clause-valid : goal.returns-in_err-choose-clause-valid
-returns-in_err-choose-clause-valid g c =
+pub returns-in_err-keep_cited-clause-valid : goal.returns-in_err-keep_cited-clause-valid
+returns-in_err-keep_cited-clause-valid g c =
     IfOk-from_err c.from_residual.result _ c.from_residual.ensures.0
 
 pub returns-in_err-cites-clause-valid : goal.returns-in_err-cites-clause-valid

@@ -35,7 +35,8 @@ returns-else-is_marked-clause-performed g c =
     performs_next c.args.db.now.statements c.args.theorem c.args.steps.now.steps c.args.i
     c.args.self.now c.requires.performed c.requires.step (as_step c.step.result) c.step.ensures
     c.perform.new.self c.perform.new.self.machine false
-    (sym c.is_marked.ensures ∙ c.if-is_marked.false) c.in_default.ensures.performs c.perform.ensures.at refl refl
+    (sym c.is_marked.ensures ∙ c.if-is_marked.false) c.in_default.ensures.performs
+    c.perform.ensures.at refl refl
 
 pub returns-in-Err-clause-performed : goal.returns-in-Err-clause-performed
 returns-in-Err-clause-performed g c = tt

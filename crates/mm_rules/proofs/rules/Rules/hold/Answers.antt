@@ -17,5 +17,6 @@ pub returns-clause-rules : goal.returns-clause-rules
 returns-clause-rules g c =
     on_ok_weaker c.add.result
     (λ keeps. keeps c.args.db.now.statements c.requires.rules
-    (subst (IsCompiled c.args.db.now.statements) (sym c.rule-rule.ensures) c.in_ok-compile.ensures.made))
+    (subst (IsCompiled c.args.db.now.statements) (sym c.rule-rule.ensures)
+    c.in_ok-compile.ensures.made))
     c.add.ensures

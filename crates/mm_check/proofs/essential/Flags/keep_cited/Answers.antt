@@ -2,7 +2,7 @@ use Rattle.std.proofs.Common.{ℕ, subst, sym}
 use Rattle.std.specs.Prelude.{Decides, OnOk}
 use Rattle.mm_spec.specs.Derivation.{is_member}
 use Rattle.mm_spec.specs.Citation.{Cites}
-use Rattle.mm_check.proofs.essential.Flags.choose.Goals as goal
+use Rattle.mm_check.proofs.essential.Flags.keep_cited.Goals as goal
 
 pub returns-then-essential : goal.returns-then-essential
 returns-then-essential g c =
