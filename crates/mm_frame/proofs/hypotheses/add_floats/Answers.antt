@@ -42,10 +42,20 @@ is_open-requires-clause-before g c =
     c.loop-symbol-test.true in
     let e = c.symbol-item.is in
     let m = c.number.ensures in
-    (c.requires.typed.some c.number.result (omega (arith, h, e, m)) c.if-floating.true).0
+    let f = c.requires.typed.some c.number.result (omega (arith, h, e, m)) c.if-floating.true in
+    let before = f.0 in
+    omega (arith, before)
 
 pub is_open-requires-clause-within : goal.is_open-requires-clause-within
-is_open-requires-clause-within g c = c.requires.at
+is_open-requires-clause-within g c =
+    let h = c.requires.found c.loop-symbol.symbol-index c.symbol-item.result
+    c.loop-symbol-test.true in
+    let e = c.symbol-item.is in
+    let m = c.number.ensures in
+    let f = c.requires.typed.some c.number.result (omega (arith, h, e, m)) c.if-floating.true in
+    let before = f.0 in
+    let at = c.requires.at in
+    omega (arith, before, at)
 
 pub loop-symbol-preserved : goal.loop-symbol-preserved
 loop-symbol-preserved g c = λ j.
