@@ -18,8 +18,8 @@ use Rattle.mm_rule.specs.Rule.{Compiled, IsCompiled, IsBelow, IsKnown}
 use Rattle.mm_machine.specs.Arena.{Arena, arena, AreEntries}
 use Rattle.mm_machine.specs.Replaced.{replaced}
 use Rattle.mm_machine.specs.State.{texts, applied, entries_after, TestsRule, IsStack, IsStackOf}
-use Rattle.mm_machine.specs.State.{IsMachine}
-use Rattle.mm_machine.specs.Stops.{Stops}
+use Rattle.mm_machine.specs.State.{MachineState, IsMachine}
+use Rattle.mm_machine.specs.Stops.{Stops, IsApplied}
 use Rattle.mm_machine.proofs.FollowLaw.{on_ok, on_err}
 use Rattle.mm_machine.proofs.GrowLaw.{replaced_known}
 
@@ -137,6 +137,20 @@ module _ (db : List Statement) (t : ℕ) (c : Compiled) (own kept kept' : List �
   pub parts_known : IsCompiled db c → (width : ℕ) → width ≡ length (symbol_names db)
       → All (IsKnown width) parts
   parts_known rule width is = rw (parts_are, is) rule.formula_known
+
+-- the answer of a step that changes the entries alone
+pub applied_of : {T : Type 0} (db : List Statement) (t a : ℕ) (s s' : MachineState)
+    → (r : Result T Stopped) → OnOk r (applied db t a s.stack ≡ Ok s'.stack)
+    → OnOk r (0 < length s'.stack) → IfErr r (λ e. Stops e (applied db t a s.stack))
+    → s'.marks ≡ s.marks → s'.formulas ≡ s.formulas → s'.width ≡ s.width
+    → IsApplied db t a s s' r
+applied_of db t a s s' (Ok x) made entry stopped marks formulas width = record {
+  applies = record { made = made; entry = entry; marks = marks; formulas = formulas };
+  stopped = stopped;
+  width = width;
+}
+applied_of db t a s s' (Err e) made entry stopped marks formulas width =
+    record { applies = made; stopped = stopped; width = width }
 
 -- ---- the machine
 

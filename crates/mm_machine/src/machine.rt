@@ -8,10 +8,10 @@ ghost use Rattle.mm_spec.specs.Frame.{symbol_names};
 ghost use Rattle.mm_spec.specs.Laws.Stack.{top};
 ghost use Rattle.mm_rule.specs.Rule.{IsBelow, IsKnown, IsCompiled};
 ghost use Rattle.mm_machine.specs.Arena.{arena, text_of, AreDisjointAt};
-ghost use Rattle.mm_machine.specs.State.{machine_state, with_mark, Repeats, applied, texts};
+ghost use Rattle.mm_machine.specs.State.{machine_state, with_mark, Repeats, texts};
 ghost use Rattle.mm_machine.specs.State.{first_own as first_own_of, made_of, entries_after};
 ghost use Rattle.mm_machine.specs.State.{IsStack, IsStackOf, IsRising, IsKept, Moves};
-ghost use Rattle.mm_machine.specs.Stops.{Stops};
+ghost use Rattle.mm_machine.specs.Stops.{Stops, IsApplied};
 
 use crate::arena::{Reason, Span, Store, Symbols, build, test_rule};
 use crate::disjoint_cache::DisjointCache;
@@ -195,16 +195,8 @@ impl<A: Allocator> Machine<A> {
         requires width { self.old.width ≡ length (symbol_names db.now.statements) }
         requires cache { AreDisjointAt db.now.statements theorem cache.old }
         ensures cache { AreDisjointAt db.now.statements theorem cache.new }
-        ensures made { OnOk result
-            (applied db.now.statements theorem rule.now.assertion self.old.stack
-            ≡ Ok self.new.stack) }
-        ensures marks { OnOk result (self.new.marks ≡ self.old.marks) }
-        ensures formulas { OnOk result (self.new.formulas ≡ self.old.formulas) }
-        ensures entry { OnOk result (0 < length self.new.stack) }
-        ensures width { self.new.width ≡ self.old.width }
-        ensures stopped { IfErr result
-            (λ e. Stops e
-            (applied db.now.statements theorem rule.now.assertion self.old.stack)) }
+        ensures step { IsApplied db.now.statements theorem rule.now.assertion self.old self.new
+            result }
     {
         if rule.hypotheses().is_empty() {
             self.apply_alone(db, theorem, rule)
@@ -219,16 +211,8 @@ impl<A: Allocator> Machine<A> {
         requires rule { IsCompiled db.now.statements rule.now }
         requires alone { length rule.now.hypotheses ≡ 0 }
         requires width { self.old.width ≡ length (symbol_names db.now.statements) }
-        ensures made { OnOk result
-            (applied db.now.statements _theorem rule.now.assertion self.old.stack
-            ≡ Ok self.new.stack) }
-        ensures marks { OnOk result (self.new.marks ≡ self.old.marks) }
-        ensures formulas { OnOk result (self.new.formulas ≡ self.old.formulas) }
-        ensures entry { OnOk result (0 < length self.new.stack) }
-        ensures width { self.new.width ≡ self.old.width }
-        ensures stopped { IfErr result
-            (λ e. Stops e
-            (applied db.now.statements _theorem rule.now.assertion self.old.stack)) }
+        ensures step { IsApplied db.now.statements _theorem rule.now.assertion self.old self.new
+            result }
     {
         let symbols = formula(db, rule.assertion());
         if symbols.len() > FORMULA_LIMIT {
@@ -254,16 +238,8 @@ impl<A: Allocator> Machine<A> {
         requires width { self.old.width ≡ length (symbol_names db.now.statements) }
         requires cache { AreDisjointAt db.now.statements theorem cache.old }
         ensures cache { AreDisjointAt db.now.statements theorem cache.new }
-        ensures made { OnOk result
-            (applied db.now.statements theorem rule.now.assertion self.old.stack
-            ≡ Ok self.new.stack) }
-        ensures marks { OnOk result (self.new.marks ≡ self.old.marks) }
-        ensures formulas { OnOk result (self.new.formulas ≡ self.old.formulas) }
-        ensures entry { OnOk result (0 < length self.new.stack) }
-        ensures width { self.new.width ≡ self.old.width }
-        ensures stopped { IfErr result
-            (λ e. Stops e
-            (applied db.now.statements theorem rule.now.assertion self.old.stack)) }
+        ensures step { IsApplied db.now.statements theorem rule.now.assertion self.old self.new
+            result }
     {
         let symbols = Symbols {
             own: self.own.as_slice(),

@@ -20,7 +20,7 @@ returns-in_err-apply-clause-at g c =
     subst (λ (s : CheckerState). IsAt c.args.db.now.statements c.args.theorem s)
     (sym c.self.view_is) c.requires.at in
     record {
-      made_for = rw c.apply.ensures.width at.made_for;
+      made_for = rw c.apply.ensures.step.width at.made_for;
       theorem = at.theorem;
       disjoint_are = c.apply.ensures.cache;
     }
@@ -36,7 +36,7 @@ returns-in_err-apply-clause-stopped g c =
     (stops db t (checker_state i.machine i.rules.now i.noted i.cache) c.args.k c.requires.good
     c.requires.assertion e
     (subst (λ a. Stops e (applied db t a i.machine.stack)) c.rule_of-rule.ensures.is
-    c.in_err-apply.ensures.stopped))
+    c.in_err-apply.ensures.step.stopped))
 
 pub returns-clause-at : goal.returns-clause-at
 returns-clause-at g c =
@@ -44,7 +44,7 @@ returns-clause-at g c =
     subst (λ (s : CheckerState). IsAt c.args.db.now.statements c.args.theorem s)
     (sym c.self.view_is) c.requires.at in
     record {
-      made_for = rw c.apply.ensures.width at.made_for;
+      made_for = rw c.apply.ensures.step.width at.made_for;
       theorem = at.theorem;
       disjoint_are = c.apply.ensures.cache;
     }
@@ -53,7 +53,7 @@ pub returns-clause-performs : goal.returns-clause-performs
 returns-clause-performs g c =
     let db = c.args.db.now.statements in
     let t = c.args.theorem in
-    let ok = c.in_ok-apply.ensures in
+    let ok = c.in_ok-apply.ensures.step.applies in
     elim c.match-note.branch [
       | in-Ok-note w ↦ rw (w.result-is, ← c.self.view_is)
           (applies db t _ c.args.k c.requires.good c.requires.assertion c.apply.new.self

@@ -1,9 +1,11 @@
-use Rattle.std.proofs.Common.{arith, ◌≡◌, length, OnOk, IfErr, Ok, Err, ap, ◌∙◌, subst}
+use Rattle.std.proofs.Common.{arith, ◌≡◌, [], length, Ok, Err, ap, ◌∙◌, subst, refl}
 use Rattle.mm_spec.specs.Frame.{symbol_names}
 use Rattle.mm_machine.specs.Arena.{arena}
-use Rattle.mm_machine.specs.State.{MachineState, TestsRule, texts, applied, reason_of}
-use Rattle.mm_machine.specs.Stops.{Stops}
+use Rattle.mm_machine.specs.State.{MachineState, machine_state, TestsRule, texts, applied}
+use Rattle.mm_machine.specs.State.{reason_of}
+use Rattle.mm_machine.specs.Stops.{IsApplied}
 use Rattle.mm_machine.proofs.PlacedLaw.{judged_here, step_made, step_entry, step_stopped}
+use Rattle.mm_machine.proofs.PlacedLaw.{applied_of}
 use Rattle.mm_machine.proofs.PlacedLaw.{parts_below, parts_known, entries_here}
 use Rattle.mm_machine.proofs.PlacedLaw.{stack_here, next_machine}
 use Rattle.mm_machine.proofs.machine.Machine.apply_to_premises.Given.{Over}
@@ -35,53 +37,46 @@ invariant_of-self g c =
     (tested g (goal.at.invariant_of-self g c).In-Ok) c.requires.rule i.width width)
     c.put_formula.ensures.stack
 
-pub returns-in-Err-clause-stopped : goal.returns-in-Err-clause-stopped
-returns-in-Err-clause-stopped g c =
+pub returns-in-Err-clause-step : goal.returns-in-Err-clause-step
+returns-in-Err-clause-step g c =
     let i = c.self.inside in
     let db = c.args.db.now.statements in
-    subst (λ (s : MachineState). applied db c.args.theorem c.args.rule.now.assertion s.stack
-    ≡ Err (reason_of c.in-Err.reason)) c.self.view_is
-    (judged_here db c.args.theorem c.args.rule.now i.own c.as_slice.result.now
-    i.kept c.as_slice-2.result.now i.stack.items c.deref.result.now (Err c.in-Err.reason)
-    c.as_slice.ensures c.as_slice-2.ensures c.deref.ensures.value c.in-Err.ensures.judged)
+    record {
+      applies = tt;
+      stopped =
+          subst (λ (s : MachineState). applied db c.args.theorem c.args.rule.now.assertion s.stack
+          ≡ Err (reason_of c.in-Err.reason)) c.self.view_is
+          (judged_here db c.args.theorem c.args.rule.now i.own c.as_slice.result.now
+          i.kept c.as_slice-2.result.now i.stack.items c.deref.result.now (Err c.in-Err.reason)
+          c.as_slice.ensures c.as_slice-2.ensures c.deref.ensures.value c.in-Err.ensures.judged);
+      width = refl;
+    }
 
-pub returns-in-Ok-clause-made : goal.returns-in-Ok-clause-made
-returns-in-Ok-clause-made g c =
+pub returns-in-Ok-clause-step : goal.returns-in-Ok-clause-step
+returns-in-Ok-clause-step g c =
     let i = c.self.inside in
     let db = c.args.db.now.statements in
+    let t = c.args.theorem in
     let a = c.args.rule.now.assertion in
     let done = c.put_formula in
-    subst (λ (s : MachineState). OnOk done.result
-    (applied db c.args.theorem a s.stack
-    ≡ Ok (texts (arena done.new.own i.kept) done.new.stack.items)))
-    c.self.view_is
-    (step_made db c.args.theorem c.args.rule.now i.own i.kept c.as_slice-in-Ok.result.now
+    let judged = tested g (goal.at.returns-in-Ok-clause-step g c).In-Ok in
+    let formulas = texts (arena [] i.kept) i.marked.items in
+    let entries = texts (arena i.own i.kept) i.stack.items in
+    let before = machine_state entries i.marks.items formulas i.width in
+    let left = texts (arena done.new.own i.kept) done.new.stack.items in
+    let after = machine_state left i.marks.items formulas i.width in
+    subst (λ (s : MachineState). IsApplied db t a s after done.result) c.self.view_is
+    (applied_of db t a before after done.result
+    (step_made db t c.args.rule.now i.own i.kept c.as_slice-in-Ok.result.now
     i.stack.items c.in-Ok.below c.formula.result.now c.as_slice-in-Ok.ensures c.formula.ensures
-    (tested g (goal.at.returns-in-Ok-clause-made g c).In-Ok)
-    done.result done.new.own done.new.stack.items done.ensures.made)
-
-pub returns-in-Ok-clause-entry : goal.returns-in-Ok-clause-entry
-returns-in-Ok-clause-entry g c =
-    let i = c.self.inside in
-    let done = c.put_formula in
-    step_entry c.args.db.now.statements c.args.theorem c.args.rule.now i.own i.kept
-    c.as_slice-in-Ok.result.now i.stack.items c.in-Ok.below c.formula.result.now
-    c.as_slice-in-Ok.ensures c.formula.ensures
-    (tested g (goal.at.returns-in-Ok-clause-entry g c).In-Ok)
-    done.result done.new.own done.new.stack.items done.ensures.made
-
-pub returns-in-Ok-clause-stopped : goal.returns-in-Ok-clause-stopped
-returns-in-Ok-clause-stopped g c =
-    let i = c.self.inside in
-    let db = c.args.db.now.statements in
-    let a = c.args.rule.now.assertion in
-    let done = c.put_formula in
-    subst (λ (s : MachineState). IfErr done.result
-    (λ e. Stops e (applied db c.args.theorem a s.stack))) c.self.view_is
-    (step_stopped db c.args.theorem c.args.rule.now i.own i.kept c.as_slice-in-Ok.result.now
+    judged done.result done.new.own done.new.stack.items done.ensures.made)
+    (step_entry db t c.args.rule.now i.own i.kept c.as_slice-in-Ok.result.now
     i.stack.items c.in-Ok.below c.formula.result.now c.as_slice-in-Ok.ensures c.formula.ensures
-    (tested g (goal.at.returns-in-Ok-clause-stopped g c).In-Ok)
-    done.result done.new.own done.new.stack.items done.ensures.stopped)
+    judged done.result done.new.own done.new.stack.items done.ensures.made)
+    (step_stopped db t c.args.rule.now i.own i.kept c.as_slice-in-Ok.result.now
+    i.stack.items c.in-Ok.below c.formula.result.now c.as_slice-in-Ok.ensures c.formula.ensures
+    judged done.result done.new.own done.new.stack.items done.ensures.stopped)
+    refl refl refl)
 
 pub test_rule-requires-clause-theorem : goal.test_rule-requires-clause-theorem
 test_rule-requires-clause-theorem g c = c.requires.theorem
