@@ -35,6 +35,7 @@ impl<A: Allocator> Noted<A> {
     pub fn new(alloc: A, count: usize) -> Result<Self, AllocError>
     where
         A: Copy,
+        ensures { IfOk result (λ n. n ≡ []) }
     {
         Ok(Noted {
             numbers: Vec::new(alloc),

@@ -173,6 +173,7 @@ impl<'a, A: Allocator> Database<'a, A> {
         requires { statement < length self.now.statements }
         ensures formula { result.now ≡ formula_at self.now.statements statement }
         ensures known { All (λ s. s < length (symbol_names self.now.statements)) result.now }
+        ensures few { length result.now < 2 ^ 32 }
     {
         self.read.statements.formula(statement)
     }

@@ -1,6 +1,6 @@
 //! The symbols of statements by their numbers.
 
-ghost use Rattle.std.specs.Prelude.{◌≡◌, ◌<◌, [], length, slice_index_or};
+ghost use Rattle.std.specs.Prelude.{◌≡◌, ◌<◌, ◌^◌, [], length, slice_index_or};
 ghost use Rattle.mm_database.specs.Cuts.{cut_at, AreJoined};
 
 use mm_outline::symbol::Sym;
@@ -40,7 +40,8 @@ impl<A: Allocator> Formulas<A> {
     #[inline(always)]
     pub fn of(&self, statement: u32) -> &[Sym]
         requires { statement < length self.now }
-        ensures { result.now ≡ slice_index_or self.now statement [] }
+        ensures are { result.now ≡ slice_index_or self.now statement [] }
+        ensures few { length result.now < 2 ^ 32 }
     {
         let from = self.places[statement as usize] as usize;
         let to = self.places[statement as usize + 1] as usize;

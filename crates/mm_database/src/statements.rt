@@ -170,6 +170,7 @@ impl<'a, A: Allocator> Statements<'a, A> {
         requires { statement < length self.now.list }
         ensures formula { result.now ≡ formula_at self.now.list statement }
         ensures known { All (λ s. s < length (symbol_names self.now.list)) result.now }
+        ensures few { length result.now < 2 ^ 32 }
     {
         self.formulas.of(statement)
     }

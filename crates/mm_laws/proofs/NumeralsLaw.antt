@@ -4,7 +4,7 @@ use Rattle.std.proofs.Common.{List, [], ◌∷◌, ◌++◌, length, codes, refl
 use Rattle.std.proofs.Common.{arith, length-append}
 use Rattle.std.proofs.Math.Nat.{pow-succ'}
 use Rattle.mm_spec.specs.CompressedProof.{letters_from}
-use Rattle.mm_laws.specs.Spelling.{IsEarlyDigit, AreEarlyDigits, IsNumber}
+use Rattle.mm_laws.specs.Spelling.{IsEarlyDigit, AreEarlyDigits, AreLettersOf}
 use Rattle.mm_laws.specs.Laws.Numerals.{NumbersHaveOneSpelling, BookNumbers}
 use Rattle.mm_laws.proofs.SpellingLaw.{group_number}
 
@@ -66,7 +66,7 @@ early_exists (suc fuel) (suc k) h =
           (early_snoc r.0 (84 + suc (k % 5)) (k / 5) (suc (k % 5)) r.1 (early_digit_of k)),
     )
 
-number_exists : (n : ℕ) → 1 ≤ n → (letters : List ℕ) × IsNumber letters n
+number_exists : (n : ℕ) → 1 ≤ n → (letters : List ℕ) × AreLettersOf letters n
 number_exists zero h = absurd (omega arith)
 number_exists (suc k) h =
     let r = early_exists (suc (k / 20)) (k / 20) (omega arith) in (
@@ -135,7 +135,7 @@ early_letters (suc fuel) n es fs l h k =
         (on r.0 e.0 f.0 (omega arith) r.2 (subst (AreEarlyDigits f.0) (sym rests) q.2)) bytes
         ∙ sym f.2
 
-number_letters : (n : ℕ) (xs ys : List ℕ) → IsNumber xs n → IsNumber ys n → xs ≡ ys
+number_letters : (n : ℕ) (xs ys : List ℕ) → AreLettersOf xs n → AreLettersOf ys n → xs ≡ ys
 number_letters n xs ys g h =
     let g_least = g.ends.least in
     let g_most = g.ends.most in

@@ -19,7 +19,7 @@ use Rattle.mm_spec.specs.CompressedProof.{letters_of, Group, is_early, is_last, 
 use Rattle.mm_spec.specs.CompressedProof.{starts_at, group_faults, letter_faults, compressed_faults}
 use Rattle.mm_spec.specs.Proof.{reading_faults}
 use Rattle.mm_laws.specs.Spelling.{Item, number, mark, IsEarlyDigit, IsLastDigit, AreEarlyDigits}
-use Rattle.mm_laws.specs.Spelling.{IsNumber, IsSpelled, Spells, letters_in}
+use Rattle.mm_laws.specs.Spelling.{AreLettersOf, IsSpelled, Spells, letters_in}
 use Rattle.mm_laws.specs.Laws.Letters.{PartsAreUnique, SpellingIsUnique, ProofsAreSpelled}
 use Rattle.mm_spec.specs.declared.Code.TheVariants.{OpenBrackets, OpenNumber, MarkBeforeStep}
 use Rattle.mm_spec.specs.declared.Code.TheVariants.{NumberTooLarge, IncompleteProof, BadLetter}
@@ -361,7 +361,7 @@ early_value (x ∷ xs) n h =
     )
 
 pub group_number : (g : Group) → AreEarly g.early → is_last g.last.byte ≡ true
-    → IsNumber (bytes_of g.early ++ g.last.byte ∷ []) (value g)
+    → AreLettersOf (bytes_of g.early ++ g.last.byte ∷ []) (value g)
 group_number g h e =
     let r = early_value g.early 0 h in
     let same : 0 * 5 ^ length (bytes_of g.early) + r.0 ≡ r.0 = omega arith in

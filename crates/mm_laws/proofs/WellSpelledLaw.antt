@@ -20,7 +20,7 @@ use Rattle.mm_spec.specs.CompressedProof.{groups, value, starts_at, group_faults
 use Rattle.mm_spec.specs.CompressedProof.{compressed_faults}
 use Rattle.mm_spec.specs.Proof.{reading_faults}
 use Rattle.mm_laws.specs.Spelling.{Item, number, mark, is_number, is_mark, IsEarlyDigit}
-use Rattle.mm_laws.specs.Spelling.{IsLastDigit, AreEarlyDigits, IsNumber, Spells, letters_in}
+use Rattle.mm_laws.specs.Spelling.{IsLastDigit, AreEarlyDigits, AreLettersOf, Spells, letters_in}
 use Rattle.mm_laws.specs.Spelling.{IsUsable, IsWellSpelled}
 use Rattle.mm_laws.specs.Laws.Read.{WhereRead}
 use Rattle.mm_laws.specs.Laws.WellFormed.{CompressedIsExact, NormalIsExact}
@@ -243,7 +243,7 @@ fine_of_right : (items : List Item) (xs : List Letter) (many marks count : ℕ)
 fine_of_right [] xs many marks count s r =
     subst (λ ys. IsRead many marks count (groups [] ys)) (sym (no_bytes xs s)) (tt, refl)
 fine_of_right (number n ∷ items) xs many marks count s r =
-    let w : IsNumber s.0 n = s.3 in
+    let w : AreLettersOf s.0 n = s.3 in
     let p =
     split_bytes xs w.early w.last s.1
     (s.2 ∙ ap (λ bs. bs ++ s.1) w.are ∙ append_assoc w.early (w.last ∷ []) s.1) in
@@ -256,8 +256,9 @@ fine_of_right (number n ∷ items) xs many marks count s r =
     let not_early : is_early p.x.byte ≡ false = ends_not_early p.x.byte (inl (omega arith)) in
     let last : is_last p.x.byte ≡ true = last_is p.x.byte w.low ends in
     let g : Group = record { early = p.front; last = p.x } in
-    let spelled : IsNumber s.0 (value g) =
-    subst (λ bs. IsNumber bs (value g)) (ap₂ (λ bs b. bs ++ b ∷ []) p.fronts p.middle ∙ sym w.are)
+    let spelled : AreLettersOf s.0 (value g) =
+    subst (λ bs. AreLettersOf bs (value g))
+    (ap₂ (λ bs b. bs ++ b ∷ []) p.fronts p.middle ∙ sym w.are)
     (group_number g early last) in
     let same : value g ≡ n =
     number_is (value g) n (item_unique (number (value g)) (number n) s.0 spelled w) in

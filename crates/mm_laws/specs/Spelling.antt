@@ -39,7 +39,7 @@ AreEarlyDigits (letter ∷ letters) n =
 
 -- the letters of a number: any number of earlier digits, then a last one; the value is that of the
 -- earlier digits times 20, plus the last digit
-pub record IsNumber (letters : List ℕ) (n : ℕ) : Type 0 where
+pub record AreLettersOf (letters : List ℕ) (n : ℕ) : Type 0 where
   pub early : List ℕ
   pub last : ℕ
   pub are : letters ≡ early ++ last ∷ []
@@ -51,7 +51,7 @@ pub record IsNumber (letters : List ℕ) (n : ℕ) : Type 0 where
 
 -- the letters of an item; `Z` is 90
 abbrev pub IsSpelled : List ℕ → Item → Type 0
-IsSpelled letters (number n) = IsNumber letters n
+IsSpelled letters (number n) = AreLettersOf letters n
 IsSpelled letters mark = letters ≡ 90 ∷ []
 
 -- the letters are those of the items, concatenated

@@ -14,7 +14,8 @@ use Rattle.mm_machine.specs.declared.arena.Span.{Span}
 use Rattle.mm_machine.specs.declared.arena.Store.{Store}
 use Rattle.mm_machine.specs.declared.arena.Store.TheVariants.{Own, Kept}
 use Rattle.mm_machine.specs.Arena.{arena, symbols_of, span, nothing, text_of, IsIn}
-use Rattle.mm_machine.specs.State.{texts, made_of, Follow, first_own, IsStack, IsStackOf, IsKept}
+use Rattle.mm_machine.specs.State.{texts, made_of, Follow, first_own, IsStack, IsStackOf}
+use Rattle.mm_machine.specs.State.{IsMarkedEntry}
 use Rattle.mm_machine.specs.State.{Moves}
 use Rattle.mm_machine.proofs.GrowLaw.{Stays, all_stay, stay_inside, stay_texts, own_more, kept_more}
 use Rattle.mm_machine.proofs.GrowLaw.{kept_in, kept_text, text_new, new_in, texts_push, texts_take}
@@ -226,13 +227,13 @@ module _ (own kept : List ℕ) (es : List Span) (h : IsStack own kept es) where
       (text_new own kept f)
 
   -- the formula of a marked step again
-  pub repeat_stack : (e : Span) → IsKept kept e → IsStack own kept (es ++ e ∷ [])
+  pub repeat_stack : (e : Span) → IsMarkedEntry kept e → IsStack own kept (es ++ e ∷ [])
   repeat_stack e k = record {
     inside = All-push (IsIn (arena own kept)) es e h.inside (kept_in own kept e k);
     follow = kept_follows 0 es (length own) e k.store h.follow;
   }
 
-  pub repeat_texts : (e : Span) → IsKept kept e
+  pub repeat_texts : (e : Span) → IsMarkedEntry kept e
       → texts (arena own kept) (es ++ e ∷ [])
       ≡ texts (arena own kept) es ++ text_of (arena [] kept) e ∷ []
   repeat_texts e k =
@@ -262,7 +263,7 @@ pub record IsMoved (own kept : List ℕ) (es : List Span) (own' kept' : List ℕ
   pub is_stack : IsStack own' kept' es'
   pub says : texts (arena own' kept') es' ≡ texts (arena own kept) es
   pub moves : Moves own kept own' kept'
-  pub is_kept : IsKept kept' m
+  pub is_kept : IsMarkedEntry kept' m
   pub on_top : text_of (arena [] kept') m ≡ top (texts (arena own kept) es)
 
 module _ (own kept : List ℕ) (es : List Span) (last : ℕ) (e : Span)
@@ -292,7 +293,7 @@ module _ (own kept : List ℕ) (es : List Span) (last : ℕ) (e : Span)
       (All-get_or (IsIn (arena own kept)) es last nothing (omega (arith, is_last)) h.inside)
 
   -- it is a kept one
-  pub kept_top : e.store ≡ Kept → IsKept kept e
+  pub kept_top : e.store ≡ Kept → IsMarkedEntry kept e
   kept_top q =
       record {
         store = q;
@@ -320,7 +321,7 @@ module _ (own kept : List ℕ) (es : List Span) (last : ℕ) (e : Span)
     pub moved_is : moved ≡ text_of (arena own kept) e
     moved_is = ap (λ p. slice_range (symbols_of (arena own kept) p) e.start e.end) (sym own_top)
 
-    pub new_kept : IsKept (kept ++ moved) entry'
+    pub new_kept : IsMarkedEntry (kept ++ moved) entry'
     new_kept =
         record {
           store = refl;

@@ -15,7 +15,7 @@ use Rattle.mm_machine.specs.Arena.{Arena, arena, symbols_of, span, nothing, rest
 use Rattle.mm_rule.specs.Rule.{IsKnown, IsBelow}
 use Rattle.mm_rule.proofs.SliceLaw.{stretch_more}
 use Rattle.mm_machine.specs.Replaced.{replaced_part, replaced}
-use Rattle.mm_machine.specs.State.{texts, made_of, IsKept}
+use Rattle.mm_machine.specs.State.{texts, made_of, IsMarkedEntry}
 
 -- an entry of the one arena that is one of the other, of the same formula
 pub record Stays (a b : Arena) (e : Span) : Type 0 where
@@ -71,14 +71,14 @@ kept_more own kept more e h = by e.store e.start e.end h.rising h.within
         }
 
 -- a kept entry whatever the own symbols are
-pub kept_in : (own kept : List ℕ) (e : Span) → IsKept kept e → IsIn (arena own kept) e
+pub kept_in : (own kept : List ℕ) (e : Span) → IsMarkedEntry kept e → IsIn (arena own kept) e
 kept_in own kept e h = by e.store h.store
   where
     by : (p : Store) → p ≡ Kept → IsIn (arena own kept) (span p e.start e.end)
     by Own q = absurd (cc)
     by Kept q = record { rising = h.rising; within = h.within }
 
-pub kept_text : (own other kept : List ℕ) (e : Span) → IsKept kept e
+pub kept_text : (own other kept : List ℕ) (e : Span) → IsMarkedEntry kept e
     → text_of (arena own kept) e ≡ text_of (arena other kept) e
 kept_text own other kept e h = by e.store h.store
   where
@@ -88,14 +88,15 @@ kept_text own other kept e h = by e.store h.store
     by Own q = absurd (cc)
     by Kept q = refl
 
-pub kept_all_in : (own kept : List ℕ) (es : List Span) → All (IsKept kept) es
+pub kept_all_in : (own kept : List ℕ) (es : List Span) → All (IsMarkedEntry kept) es
     → All (IsIn (arena own kept)) es
-kept_all_in own kept es h = All-weaker (IsKept kept) (IsIn (arena own kept)) (kept_in own kept) es h
+kept_all_in own kept es h =
+    All-weaker (IsMarkedEntry kept) (IsIn (arena own kept)) (kept_in own kept) es h
 
-pub kept_all_more : (kept more : List ℕ) (es : List Span) → All (IsKept kept) es
-    → All (IsKept (kept ++ more)) es
+pub kept_all_more : (kept more : List ℕ) (es : List Span) → All (IsMarkedEntry kept) es
+    → All (IsMarkedEntry (kept ++ more)) es
 kept_all_more kept more es h =
-    All-weaker (IsKept kept) (IsKept (kept ++ more))
+    All-weaker (IsMarkedEntry kept) (IsMarkedEntry (kept ++ more))
     (λ e i. record {
       store = i.store;
       rising = i.rising;

@@ -4,7 +4,7 @@ use Rattle.std.proofs.lemmas.List.Elements.{All-push, All-append}
 use Rattle.mm_spec.specs.Derivation.{Formula}
 use Rattle.mm_machine.specs.declared.arena.Span.{Span}
 use Rattle.mm_machine.specs.Arena.{arena, text_of}
-use Rattle.mm_machine.specs.State.{texts, IsStack, IsKept, IsMachine, Moves}
+use Rattle.mm_machine.specs.State.{texts, IsStack, IsMarkedEntry, IsMachine, Moves}
 use Rattle.mm_machine.proofs.GrowLaw.{all_stay, stay_texts, kept_more, kept_all_in, kept_all_more}
 use Rattle.mm_machine.proofs.GrowLaw.{texts_push}
 use Rattle.mm_machine.proofs.MarksLaw.{rising_more}
@@ -34,29 +34,29 @@ moved_machine own kept es marks marked width own' kept' es' m v s =
 
 pub marked_more : (own kept : List ℕ) (es : List Span) (marks : List ℕ) (marked : List Span)
     → (width : ℕ) (e : Span)
-    → IsMachine own kept es marks marked width → IsKept kept e
+    → IsMachine own kept es marks marked width → IsMarkedEntry kept e
     → IsMachine own kept es marks (marked ++ e ∷ []) width
 marked_more own kept es marks marked width e m k = record {
   stack = m.stack;
-  marked_in = All-push (IsKept kept) marked e m.marked_in k;
+  marked_in = All-push (IsMarkedEntry kept) marked e m.marked_in k;
   rising = m.rising;
   count = omega (arith, m.count, length-append marked (e ∷ []));
 }
 
 pub both_more : (own kept : List ℕ) (es : List Span) (marks : List ℕ) (marked : List Span)
     → (width : ℕ) (e : Span) (step : ℕ)
-    → IsMachine own kept es marks marked width → IsKept kept e → All (λ j. j < step) marks
+    → IsMachine own kept es marks marked width → IsMarkedEntry kept e → All (λ j. j < step) marks
     → IsMachine own kept es (marks ++ step ∷ []) (marked ++ e ∷ []) width
 both_more own kept es marks marked width e step m k later = record {
   stack = m.stack;
-  marked_in = All-push (IsKept kept) marked e m.marked_in k;
+  marked_in = All-push (IsMarkedEntry kept) marked e m.marked_in k;
   rising = rising_more marks step m.rising later;
   count = omega (arith, m.count, length-append marked (e ∷ []), length-append marks (step ∷ []));
 }
 
 -- the formulas of the marked steps, and one more
 pub marked_texts : (own kept own' kept' : List ℕ) (marked : List Span) (e : Span) (f : Formula)
-    → Moves own kept own' kept' → All (IsKept kept) marked → text_of (arena [] kept') e ≡ f
+    → Moves own kept own' kept' → All (IsMarkedEntry kept) marked → text_of (arena [] kept') e ≡ f
     → texts (arena [] kept') (marked ++ e ∷ []) ≡ texts (arena [] kept) marked ++ f ∷ []
 marked_texts own kept own' kept' marked e f v h t =
     let old : texts (arena [] kept') marked ≡ texts (arena [] kept) marked =

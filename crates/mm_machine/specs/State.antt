@@ -80,7 +80,7 @@ pub record Moves (own kept own' kept' : List ℕ) : Type 0 where
   pub known : (w : ℕ) → All (λ s. s < w) own → All (λ s. s < w) more × All (λ s. s < w) own'
 
 -- the entry is a stretch of the marked formulas
-pub record IsKept (kept : List ℕ) (e : Span) : Type 0 where
+pub record IsMarkedEntry (kept : List ℕ) (e : Span) : Type 0 where
   pub store : e.store ≡ Kept
   pub rising : e.start ≤ e.end
   pub within : e.end ≤ length kept
@@ -92,7 +92,7 @@ IsRising ns = (a b : ℕ) → a ≤ b → b < length ns → get_or ns a 0 ≤ ge
 pub record IsMachine (own kept : List ℕ) (es : List Span) (marks : List ℕ) (marked : List Span)
     (width : ℕ) : Type 0 where
   pub stack : IsStackOf width own kept es
-  pub marked_in : All (IsKept kept) marked
+  pub marked_in : All (IsMarkedEntry kept) marked
   pub rising : IsRising marks
   pub count : length marks ≤ length marked
 

@@ -181,8 +181,9 @@ fn all_fit(symbols: &Symbols, rule: &Rule, premises: &[Span]) -> bool
         let is_one = match *hypothesis {
             Hypothesis::Floating(typecode) => is_typed(symbols, typecode, premises[j]),
             Hypothesis::Essential(count) => {
-                let wanted = &rule.parts[at..at + count];
-                at += count;
+                let end = at + count as usize;
+                let wanted = &rule.parts[at..end];
+                at = end;
                 fits(symbols, premises, wanted, premises[j])
             }
         };

@@ -10,7 +10,7 @@ ghost use Rattle.mm_rule.specs.Rule.{IsBelow, IsKnown, IsCompiled};
 ghost use Rattle.mm_machine.specs.Arena.{arena, text_of, AreDisjointAt};
 ghost use Rattle.mm_machine.specs.State.{machine_state, with_mark, Repeats, texts};
 ghost use Rattle.mm_machine.specs.State.{first_own as first_own_of, made_of, entries_after};
-ghost use Rattle.mm_machine.specs.State.{IsStack, IsStackOf, IsRising, IsKept, Moves};
+ghost use Rattle.mm_machine.specs.State.{IsStack, IsStackOf, IsRising, IsMarkedEntry, Moves};
 ghost use Rattle.mm_machine.specs.Stops.{Stops, IsApplied};
 
 use crate::arena::{Reason, Span, Store, Symbols, build, test_rule};
@@ -343,7 +343,7 @@ fn keep<A: Allocator>(
         ≡ texts (arena own.old kept.old) stack.old.items }
     ensures moved { Moves own.old kept.old own.new kept.new }
     ensures made { IfOk result
-        (λ e. IsKept kept.new e
+        (λ e. IsMarkedEntry kept.new e
         × (text_of (arena [] kept.new) e
         ≡ top (texts (arena own.old kept.old) stack.old.items))) }
 {

@@ -156,9 +156,9 @@ count_map {X} p xs =
     twice [] = refl
     twice (y ∷ ys) = ap (λ z. one_if (p y) ∷ z) (twice ys)
 
-pub counted : (m : Marks) (i : ℕ)
+pub marks_counted : (m : Marks) (i : ℕ)
     → count_by (λ j. mark m i j) (range_with_len 0 m.columns) ≡ count_by (λ b. b) (marks_of m i)
-counted m i = count_map (λ j. mark m i j) (range_with_len 0 m.columns)
+marks_counted m i = count_map (λ j. mark m i j) (range_with_len 0 m.columns)
 
 -- numbers from b on, and those after them
 pub range_append : (b a n : ℕ)

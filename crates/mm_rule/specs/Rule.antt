@@ -3,7 +3,7 @@ use Rattle.std.specs.Prelude.{◌≡◌, ℕ, suc, ◌+◌, ◌<◌, true, List,
 use Rattle.std.specs.Prelude.{All, if◌then◌else◌}
 use Rattle.mm_spec.specs.Statement.{Statement}
 use Rattle.mm_spec.specs.Derivation.{Formula}
-use Rattle.mm_spec.specs.Laws.Complete.{binds, IsBound, IsComplete}
+use Rattle.mm_spec.specs.Laws.Complete.{binds, IsComplete}
 use Rattle.mm_spec.specs.Citation.{context_at}
 use Rattle.mm_spec.specs.Frame.{is_variable_number, symbol_names, frame_at}
 use Rattle.mm_rule.specs.declared.rule.RuleSymbol.{RuleSymbol}

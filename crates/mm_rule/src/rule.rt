@@ -21,7 +21,7 @@ pub enum Hypothesis {
     Floating(Sym),
     /// Otherwise the number of its symbols: those of the rule's parts that come after the ones of
     /// the hypotheses before it.
-    Essential(usize),
+    Essential(u32),
 }
 
 /// What an assertion requires and yields: its frame, with each variable given by the place of its

@@ -147,7 +147,7 @@ fn compile_hypotheses<A: Allocator>(
             hypotheses.push(Hypothesis::Floating(formula[0]))?;
         } else {
             compile_formula(db, numbers, formula, parts)?;
-            hypotheses.push(Hypothesis::Essential(formula.len()))?;
+            hypotheses.push(Hypothesis::Essential(formula.len() as u32))?;
         }
     }
     Ok(())

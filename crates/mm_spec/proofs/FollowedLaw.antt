@@ -146,18 +146,18 @@ statement_followed (closing k) zero e h = absurd (let x = h refl in omega arith)
 statement_followed (closing k) (suc d) e h = refl
 
 -- how the count of blocks goes on
-pub counted : (s : Statement) (d : ℕ) → (is_closing s ≡ true → 0 < d)
+pub blocks_counted : (s : Statement) (d : ℕ) → (is_closing s ≡ true → 0 < d)
     → depth_following s d + cond (is_closing s) 1 0 ≡ d + cond (is_opening s) 1 0
-counted (constants k xs t) d h = refl
-counted (variables k xs t) d h = refl
-counted (disjoint k xs t) d h = refl
-counted (floating l k xs t) d h = refl
-counted (essential l k xs t) d h = refl
-counted (axiomatic l k xs t) d h = refl
-counted (provable l k xs q ps t) d h = refl
-counted (opening k) d h = omega arith
-counted (closing k) zero h = absurd (let x = h refl in omega arith)
-counted (closing k) (suc d) h = omega arith
+blocks_counted (constants k xs t) d h = refl
+blocks_counted (variables k xs t) d h = refl
+blocks_counted (disjoint k xs t) d h = refl
+blocks_counted (floating l k xs t) d h = refl
+blocks_counted (essential l k xs t) d h = refl
+blocks_counted (axiomatic l k xs t) d h = refl
+blocks_counted (provable l k xs q ps t) d h = refl
+blocks_counted (opening k) d h = omega arith
+blocks_counted (closing k) zero h = absurd (let x = h refl in omega arith)
+blocks_counted (closing k) (suc d) h = omega arith
 
 pub count_one : (p : Statement → Bool) (s : Statement) (list : List Statement)
     → count_by p (s ∷ list) ≡ cond (p s) 1 0 + count_by p list
@@ -172,7 +172,7 @@ pub statements_followed : (list : List Statement) (d : ℕ) → list_all is_comp
 statements_followed [] d w n = (d, refl, refl)
 statements_followed (s ∷ list) d w n =
     let first : is_closing s ≡ true → 0 < d = closes_one s d (n 1) in
-    let step = counted s d first in
+    let step = blocks_counted s d first in
     let rest =
     statements_followed list (depth_following s d) (and_parts (is_complete s) (list_all is_complete list) w).1
     (λ k. fewer (depth_following s d) (take k list) (n (suc k)) step) in (

@@ -16,7 +16,7 @@ use Rattle.mm_spec.specs.Laws.Table.{axiom_of, theorem_of, equals, dot, open_blo
 use Rattle.mm_spec.specs.Laws.Table.{plain, class, Progress, start, labelled, words, formula, Transition}
 use Rattle.mm_spec.specs.Laws.Table.{stop, go, done, transition, after, label_turn, statements_from}
 use Rattle.mm_spec.specs.Laws.Table.{statements_of}
-use Rattle.mm_spec.proofs.FollowedLaw.{counted, depth_following, plain_word, count_one}
+use Rattle.mm_spec.proofs.FollowedLaw.{blocks_counted, depth_following, plain_word, count_one}
 use Rattle.mm_spec.proofs.FollowedLaw.{label_plain}
 use Rattle.mm_spec.proofs.ShapeLaw.{Meaning, meaning, Balanced, one_more, plain_more, and_true}
 use Rattle.mm_spec.proofs.ShapeLaw.{labelled_whole, none_yet}
@@ -339,7 +339,7 @@ statements_read : (list : List Statement) (d : ℕ) (ts : List Token) → list_a
 statements_read [] d ts w n = (d, refl, refl)
 statements_read (s ∷ list) d ts w n =
     let first : is_closing s ≡ true → 0 < d = closes_one s d (n 1) in
-    let step = counted s d first in
+    let step = blocks_counted s d first in
     let x =
     statements_read list (depth_following s d) ts (and_parts (is_complete s) (list_all is_complete list) w).1
     (λ k. fewer s d (depth_following s d) (take k list) (n (suc k)) step) in (

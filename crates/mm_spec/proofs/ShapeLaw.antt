@@ -13,12 +13,12 @@ use Rattle.std.specs.List.{AllByRecursion}
 use Rattle.mm_spec.specs.Text.{Bytes, Token, token, has_dollar, is_label}
 use Rattle.mm_spec.specs.Laws.Table.{Class, constant, variable, disjoint_of, type_of, logical}
 use Rattle.mm_spec.specs.Laws.Table.{axiom_of, theorem_of, equals, dot, open_block, close_block}
-use Rattle.mm_spec.specs.Laws.Table.{plain, other, Entry, table, lookup, keyword, class}
+use Rattle.mm_spec.specs.Laws.Table.{plain, other, ClassedWord, table, lookup, keyword, class}
 use Rattle.mm_spec.specs.Statement.{Statement, constants, variables, disjoint, floating, essential}
 use Rattle.mm_spec.specs.Statement.{axiomatic, provable, opening, closing, spelled, is_plain}
 use Rattle.mm_spec.specs.Statement.{is_complete, is_opening, is_closing, AreStatements, BeginStatements}
 use Rattle.mm_spec.proofs.FollowedLaw.{State, at_label, at_start, begins_followed, depth_following}
-use Rattle.mm_spec.proofs.FollowedLaw.{counted}
+use Rattle.mm_spec.proofs.FollowedLaw.{blocks_counted}
 use Rattle.mm_spec.proofs.FollowedLaw.{follow, in_formula, in_proof, in_symbols, label_at_start}
 use Rattle.mm_spec.proofs.FollowedLaw.{next}
 
@@ -39,7 +39,7 @@ Meaning close_block w = w ≡ codes "$}"
 Meaning plain w = has_dollar w ≡ false
 Meaning other w = Unit {0}
 
-lookup_meaning : (es : List Entry) (w : Bytes)
+lookup_meaning : (es : List ClassedWord) (w : Bytes)
     → AllByRecursion (λ e. w ≡ e.word → Meaning e.class w) es → Meaning (lookup es w) w
 lookup_meaning [] w h = tt
 lookup_meaning (e ∷ es) w h = go (bytes_eq w e.word) refl (lookup_meaning es w h.1)
@@ -100,7 +100,13 @@ one_more d list s b w h = record {
         nested = nested;
       };
   count =
-      omega (arith, b.count, counted s d h, count_end is_closing list s, count_end is_opening list s);
+      omega (
+        arith,
+        b.count,
+        blocks_counted s d h,
+        count_end is_closing list s,
+        count_end is_opening list s,
+      );
 }
   where
     nested : (n : ℕ)
@@ -120,7 +126,7 @@ one_more d list s b w h = record {
             (omega (
               arith,
               b.count,
-              counted s d h,
+              blocks_counted s d h,
               count_end is_closing list s,
               count_end
                   is_opening list s,
@@ -154,18 +160,18 @@ depth_of (in_symbols d) = d
 depth_of (in_formula d) = d
 depth_of (in_proof d) = d
 
-abbrev pub Part : State → List Token → Type 0
-Part (at_start d) part = part ≡ []
-Part (at_label d) part = (l : Token) × (is_label l.word ≡ true) × (part ≡ l ∷ [])
-Part (in_symbols d) part = Words part
-Part (in_formula d) part = FormulaPart part
-Part (in_proof d) part = Words part
+abbrev pub IsPartAt : State → List Token → Type 0
+IsPartAt (at_start d) part = part ≡ []
+IsPartAt (at_label d) part = (l : Token) × (is_label l.word ≡ true) × (part ≡ l ∷ [])
+IsPartAt (in_symbols d) part = Words part
+IsPartAt (in_formula d) part = FormulaPart part
+IsPartAt (in_proof d) part = Words part
 
 pub record Reads (q : State) (ts : List Token) : Type 0 where
   pub statements : List Statement
   pub balanced : Balanced (depth_of q) statements
   pub part : List Token
-  pub is_part : Part q part
+  pub is_part : IsPartAt q part
   pub is : ts ≡ flat_map spelled statements ++ part
 
 pub plain_more : (ws : List Token) (t : Token) → is_plain ws ≡ true → has_dollar t.word ≡ false
@@ -193,7 +199,7 @@ closes d ts list part s b is w h t sp e at = record {
 
 -- a token more in a statement
 goes_on : (q r : State) (ts : List Token) (x : Reads q ts) (t : Token) → depth_of q ≡ depth_of r
-    → Part r (x.part ++ t ∷ []) → Reads r (ts ++ t ∷ [])
+    → IsPartAt r (x.part ++ t ∷ []) → Reads r (ts ++ t ∷ [])
 goes_on q r ts x t e p = record {
   statements = x.statements;
   balanced = subst (λ k. Balanced k x.statements) e x.balanced;

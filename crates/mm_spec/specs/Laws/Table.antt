@@ -12,21 +12,21 @@ pub data Class : Type 0 where
   constant variable disjoint_of type_of logical axiom_of theorem_of equals dot open_block
       close_block plain other : Class
 
-pub record Entry : Type 0 where
+pub record ClassedWord : Type 0 where
   pub word : Bytes
   pub class : Class
 
-abbrev pub entry : Bytes → Class → Entry
-entry w k = record { word = w; class = k }
+abbrev pub classed : Bytes → Class → ClassedWord
+classed w k = record { word = w; class = k }
 
-abbrev pub table : List Entry
+abbrev pub table : List ClassedWord
 table =
-    entry (codes "$c") constant ∷ entry (codes "$v") variable ∷ entry (codes "$d") disjoint_of
-    ∷ entry (codes "$f") type_of ∷ entry (codes "$e") logical ∷ entry (codes "$a") axiom_of
-    ∷ entry (codes "$p") theorem_of ∷ entry (codes "$=") equals ∷ entry (codes "$.") dot
-    ∷ entry (codes "${") open_block ∷ entry (codes "$}") close_block ∷ []
+    classed (codes "$c") constant ∷ classed (codes "$v") variable ∷ classed (codes "$d") disjoint_of
+    ∷ classed (codes "$f") type_of ∷ classed (codes "$e") logical ∷ classed (codes "$a") axiom_of
+    ∷ classed (codes "$p") theorem_of ∷ classed (codes "$=") equals ∷ classed (codes "$.") dot
+    ∷ classed (codes "${") open_block ∷ classed (codes "$}") close_block ∷ []
 
-abbrev pub lookup : List Entry → Bytes → Class
+abbrev pub lookup : List ClassedWord → Bytes → Class
 lookup [] w = other
 lookup (e ∷ es) w = elim (bytes_eq w e.word) [ true ↦ e.class | false ↦ lookup es w ]
 

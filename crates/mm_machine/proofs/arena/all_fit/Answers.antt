@@ -17,10 +17,16 @@ pub bounds-hypothesis-items-j : goal.bounds-hypothesis-items-j
 bounds-hypothesis-items-j c = omega arith
 
 pub offset_bounds-premises-j : goal.offset_bounds-premises-j
-offset_bounds-premises-j c = omega arith
+offset_bounds-premises-j c =
+    let inside = subst (λ z. c.loop-j.j < length z)
+    (ap (λ (r : Compiled). r.hypotheses) c.rule.view_is) c.loop-j-test.true in
+    omega (arith, inside, c.requires.count)
 
 pub offset_bounds-premises-j-in-Essential : goal.offset_bounds-premises-j-in-Essential
-offset_bounds-premises-j-in-Essential c = omega arith
+offset_bounds-premises-j-in-Essential c =
+    let inside = subst (λ z. c.loop-j.j < length z)
+    (ap (λ (r : Compiled). r.hypotheses) c.rule.view_is) c.loop-j-test.true in
+    omega (arith, inside, c.requires.count)
 
 pub fits-is_one-requires-clause-premises : goal.fits-is_one-requires-clause-premises
 fits-is_one-requires-clause-premises c = c.requires.premises

@@ -16,8 +16,8 @@ slice_bounds-result-end g c =
     (part_one _ _ _ c.self.invariant c.self.view_is _ _ _ c.requires c.index.ensures
     c.index-2.ensures).within
 
-pub returns : goal.returns
-returns g c =
+pub returns-clause-are : goal.returns-clause-are
+returns-clause-are g c =
     ap (λ l. take (c.index-2.result.now - c.index.result.now) (drop c.index.result.now l))
     c.deref.ensures.value
     ∙ (part_one _ _ _ c.self.invariant c.self.view_is _ _ _ c.requires c.index.ensures

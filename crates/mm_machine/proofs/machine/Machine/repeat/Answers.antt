@@ -2,7 +2,7 @@ use Rattle.std.proofs.Common.{◌<◌, length, ap, sym, subst, arith}
 use Rattle.std.proofs.lemmas.Result.{IfOk-from_err}
 use Rattle.std.proofs.lemmas.Grind.{common_steps}
 use Rattle.std.proofs.lemmas.List.Elements.{All-get_or}
-use Rattle.mm_machine.specs.State.{IsKept}
+use Rattle.mm_machine.specs.State.{IsMarkedEntry}
 use Rattle.mm_machine.proofs.FollowLaw.{repeat_stack}
 use Rattle.mm_machine.proofs.machine.Machine.repeat.Goals as goal
 
@@ -12,10 +12,10 @@ invariant_of-self-2 g c =
     let e = c.index.result.now in
     let inside : c.find-n.result < length c.self.inside.marked.items =
     let n = ap length c.deref.ensures.value in omega (arith, c.find-n.ensures.below, i.count, n) in
-    let kept : IsKept c.self.inside.kept e =
-    subst (IsKept c.self.inside.kept) (sym c.index.ensures)
+    let kept : IsMarkedEntry c.self.inside.kept e =
+    subst (IsMarkedEntry c.self.inside.kept) (sym c.index.ensures)
     (All-get_or
-    (IsKept c.self.inside.kept) c.self.inside.marked.items c.find-n.result e inside
+    (IsMarkedEntry c.self.inside.kept) c.self.inside.marked.items c.find-n.result e inside
     i.marked_in) in
     record {
       stack =
