@@ -1,8 +1,9 @@
 -- Lists one after the other.
 use Rattle.std.proofs.Common.{◌≡◌, ℕ, zero, suc, ◌+◌, ◌-◌, ◌<◌, ◌≤◌, List, [], ◌∷◌, ◌++◌, length}
 use Rattle.std.proofs.Common.{take, drop, get_or, refl, sym, ap, ap₂, ◌∙◌, subst, arith}
-use Rattle.std.specs.List.{slice_range}
-use Rattle.std.proofs.lemmas.List.{take-append-le}
+use Rattle.std.specs.List.{slice_range, sum_by}
+use Rattle.std.proofs.lemmas.List.{take-append-le, length-drop, length-take-le}
+use Rattle.std.proofs.lemmas.List.Sums.{sum_by-cons}
 use Rattle.mm_cites.specs.Lists.{cut_at, AreEnds, start_of}
 
 pub length_cut_at : (from : ℕ) (ends numbers : List ℕ)
@@ -107,3 +108,21 @@ pub index_within : (ends numbers : List ℕ) (lists : List (List ℕ)) (i : ℕ)
     → cut_at 0 ends numbers ≡ lists → i < length lists → i < length ends
 index_within ends numbers lists i e l =
     let n = length_cut_at 0 ends numbers in let m = ap length e in omega (arith, n, m, l)
+
+-- the lists have as many numbers together as the one list, after the place where the first begins
+all_numbers : (from : ℕ) (ends numbers : List ℕ) → AreEnds from ends (length numbers)
+    → from + sum_by length (cut_at from ends numbers) ≡ length numbers
+all_numbers from [] numbers h = omega (arith, h)
+all_numbers from (e ∷ ends) numbers h =
+    let rest = all_numbers e ends numbers h.1 in
+    let within = first_within e ends (length numbers) h.1 in
+    let long = length-drop from numbers in
+    let first : length (slice_range numbers from e) ≡ e - from =
+    length-take-le (e - from) (drop from numbers) (omega (arith, long, within)) in
+    let both = sum_by-cons length (slice_range numbers from e) (cut_at e ends numbers) in
+    let order = h.0 in
+    omega (arith, rest, first, both, order)
+
+pub count_is : (ends numbers : List ℕ) → AreEnds 0 ends (length numbers)
+    → length numbers ≡ sum_by length (cut_at 0 ends numbers)
+count_is ends numbers h = let all = all_numbers 0 ends numbers h in omega (arith, all)

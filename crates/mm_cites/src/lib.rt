@@ -6,7 +6,8 @@
 //!
 //! A caller that reads citations uses [`Citations::rows`], [`Citations::theorem`],
 //! [`Citations::of`] and [`Citations::theorems`]. The layer that checks proofs calls
-//! [`Lists::new`], [`Lists::push`] and [`Lists::get`], and then [`Citations::new`].
+//! [`Lists::new`] or [`Lists::with_room`], [`Lists::push`], [`Lists::get`] and
+//! [`Lists::number_count`], and then [`Citations::new`].
 #![tactic(auto)]
 
 mod citations;

@@ -1,7 +1,7 @@
 //! Lists of numbers, concatenated.
 
 ghost use Rattle.std.specs.Prelude.{◌≡◌, ◌<◌, ◌++◌, ◌∷◌, [], OnOk, OnErr, length, slice_index_or};
-ghost use Rattle.std.specs.Prelude.{slice_range, ◌≤◌};
+ghost use Rattle.std.specs.Prelude.{slice_range, ◌≤◌, sum_by};
 ghost use Rattle.mm_cites.specs.Lists.{start_of};
 
 use std::alloc::{AllocError, Allocator};
@@ -67,6 +67,27 @@ impl<A: Allocator> Lists<A> {
             numbers: Vec::new(alloc),
             ends: Vec::new(alloc),
         }
+    }
+
+    /// No lists, with room for this many of them, which have this many numbers together, so that
+    /// they needn't be moved as they grow. Memory that is never written isn't resident. If there
+    /// isn't that much, the lists have no such room.
+    pub fn with_room(alloc: A, lists: usize, numbers: usize) -> Lists<A>
+    where
+        A: Copy,
+        ensures { result ≡ [] }
+    {
+        let mut room = Lists::new(alloc);
+        let _ = room.numbers.reserve(numbers);
+        let _ = room.ends.reserve(lists);
+        room
+    }
+
+    /// How many numbers the lists have together.
+    pub fn number_count(&self) -> usize
+        ensures { result ≡ sum_by length self.now }
+    {
+        self.numbers.len()
     }
 
     /// Appends a list. Fails only if out of memory, and then changes nothing.

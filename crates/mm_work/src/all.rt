@@ -9,6 +9,7 @@ use crate::in_order::{check_in_order, valid};
 use crate::job::Job;
 use crate::judged::Judged;
 use crate::merge::{fault_of, merge};
+use crate::room::citations_room;
 use mm_board::Board;
 use mm_database::Database;
 use mm_rules::Rules;
@@ -49,6 +50,7 @@ pub fn check_all<'d, R: Threads + Wait + Sync, A: Allocator + Copy + Send + Sync
         rules: &rules,
         board: &board,
         essential,
+        room: citations_room(database),
     };
     let gathered = work_all(rt, alloc, &job, gate, seat, workers)?;
     if gathered.seat.share() < WHOLE {

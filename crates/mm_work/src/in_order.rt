@@ -7,6 +7,7 @@ ghost use Rattle.mm_spec.specs.Output.{theorems};
 
 use crate::judged::Judged;
 use crate::proof::{VerifyRefused, verify};
+use crate::room::citations_room;
 use mm_check::Checker;
 use mm_cites::{Citations, Lists};
 use mm_database::Database;
@@ -45,7 +46,7 @@ pub(crate) fn check_in_order<'a, A: Allocator + Copy>(
     // The proof needs the clauses of `len`.
     let _ = database.len();
     let mut checker = Checker::new(alloc, database, rules)?;
-    let mut lists = Lists::new(alloc);
+    let mut lists = Lists::with_room(alloc, database.theorems().len(), citations_room(database));
     let theorems = database.theorems();
     for theorem in theorems {
         match verify(alloc, database, &mut checker, *theorem, essential) {

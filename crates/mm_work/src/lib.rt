@@ -18,6 +18,7 @@ mod job;
 mod judged;
 mod merge;
 mod proof;
+mod room;
 mod worker;
 
 pub use all::check_all;

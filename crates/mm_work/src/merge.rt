@@ -59,6 +59,15 @@ fn places<A: Allocator + Copy>(
     Ok(places)
 }
 
+/// How many citations the workers found together.
+fn citation_count<A: Allocator>(found: &[Findings<A>]) -> usize {
+    let mut count = 0usize;
+    for one in found {
+        count = count.saturating_add(one.cites.number_count());
+    }
+    count
+}
+
 /// What each theorem cites, in file order.
 pub(crate) fn merge<'d, A: Allocator + Copy>(
     alloc: A,
@@ -76,7 +85,7 @@ pub(crate) fn merge<'d, A: Allocator + Copy>(
     // Only the contract uses it.
     let _ = essential;
     let places = places(alloc, found, database.theorems().len())?;
-    let mut lists = Lists::new(alloc);
+    let mut lists = Lists::with_room(alloc, places.len(), citation_count(found));
     for place in &places {
         lists.push(found[place.worker].cites.get(place.place))?;
     }

@@ -49,8 +49,8 @@ impl<A: Allocator> Drop for Findings<A> {
 }
 
 impl<A: Allocator> Findings<A> {
-    /// Nothing found yet.
-    fn new(alloc: A) -> Findings<A>
+    /// Nothing found yet, with room for the citations of `theorems` theorems, `room` in all.
+    fn new(alloc: A, theorems: usize, room: usize) -> Findings<A>
     where
         A: Copy,
         ensures valid { result.valid.items ≡ [] }
@@ -59,7 +59,7 @@ impl<A: Allocator> Findings<A> {
     {
         Findings {
             valid: Vec::new(alloc),
-            cites: Lists::new(alloc),
+            cites: Lists::with_room(alloc, theorems, room),
             faulty: None,
             short_of_memory: false,
         }
@@ -161,7 +161,7 @@ pub(crate) fn work<A: Allocator + Copy, G: Gate>(
 {
     let mut worked = Worked {
         seat,
-        found: Findings::new(alloc),
+        found: Findings::new(alloc, job.database.theorems().len(), job.room),
     };
     let Ok(mut checker) = Checker::new(alloc, job.database, job.rules) else {
         worked.found.short_of_memory = true;

@@ -92,6 +92,6 @@ places-requires g c = λ k d l.
 
 pub loop-place-init : goal.loop-place-init
 loop-place-init g c = record {
-  count = ap length c.new-lists.ensures;
+  count = ap length c.with_room-lists.ensures;
   each = λ i l. absurd (omega arith);
 }
