@@ -32,6 +32,13 @@ const GUESSES: usize = 2048;
 /// Stands for a guess that hasn't been made.
 const NO_GUESS: usize = 18_446_744_073_709_551_615;
 
+/// The number of guesses for labels, one for each result of `label_guess_of`. Each takes 4 bytes,
+/// so that together they fit into a processor's own cache.
+const LABEL_GUESSES: usize = 65_536;
+
+/// Stands for a guess for a label that hasn't been made.
+const NO_LABEL_GUESS: u32 = 4_294_967_295;
+
 /// The symbols and the labels.
 pub struct NameTable<'a, A: Allocator> {
     symbols: Map<'a, Symbol<'a>, A>,
@@ -39,6 +46,10 @@ pub struct NameTable<'a, A: Allocator> {
     /// The numbers of symbols, by the first byte, the last byte and the length of their names. A
     /// guess is verified before use, so the usual symbol is found by comparing it with one name.
     guesses: Vec<usize, A>,
+    /// The places of labels in `labels`, by the first four bytes, the last four bytes and the
+    /// length of their names. A guess is verified before use, so most labels of a proof are found
+    /// without a hash.
+    label_guesses: Vec<u32, A>,
     /// The length of the longest symbol in bytes. A longer word is no symbol, and isn't hashed to
     /// find that out; so a very long symbol is hashed once, when it is declared.
     longest_symbol: usize,
@@ -53,6 +64,7 @@ impl<'a, A: Allocator> Drop for NameTable<'a, A> {
             symbols: _,
             labels: _,
             guesses: _,
+            label_guesses: _,
             longest_symbol: _,
             longest_label: _,
         } = self;
@@ -89,15 +101,55 @@ fn note_guess<A: Allocator>(guesses: &mut Vec<usize, A>, word: &[u8], number: us
     }
 }
 
+/// Returns the first four and the last four bytes of a word, each as a number, or of a shorter
+/// word the first and the last byte.
+#[inline(always)]
+fn ends_of(word: &[u8]) -> (u32, u32) {
+    match (word.first_chunk::<4>(), word.last_chunk::<4>()) {
+        (Some(first), Some(last)) => (u32::from_le_bytes(*first), u32::from_le_bytes(*last)),
+        _ => match (word.first(), word.last()) {
+            (Some(first), Some(last)) => (*first as u32, *last as u32),
+            _ => (0, 0),
+        },
+    }
+}
+
+/// Returns the index of the guess for a label: the upper half of a sum of products, since a
+/// product's upper bits depend on more bits of its factors than its lower bits do.
+#[inline(always)]
+fn label_guess_of(word: &[u8]) -> usize {
+    let (first, last) = ends_of(word);
+    let len = (word.len() % 0x1_0000_0000) as u32;
+    let mixed = first
+        .wrapping_mul(0x9E37_79B1)
+        .wrapping_add(last.wrapping_mul(0x85EB_CA6B))
+        .wrapping_add(len.wrapping_mul(0x27D4_EB2F));
+    (mixed >> 16) as usize
+}
+
+/// Sets the guess for labels such as `word` to `place`, unless a guess for them has been made or
+/// the place is too large for a guess.
+fn note_label_guess<A: Allocator>(guesses: &mut Vec<u32, A>, word: &[u8], place: usize) {
+    if let Ok(place) = u32::try_from(place) {
+        if let Some(guess) = guesses.get_mut(label_guess_of(word)) {
+            if *guess == NO_LABEL_GUESS {
+                *guess = place;
+            }
+        }
+    }
+}
+
 /// Returns a table without symbols and labels.
 pub fn no_names<'a, A: Allocator + Copy>(alloc: A) -> Result<NameTable<'a, A>, AllocError>
     ensures { IfOk result (λ t. t ≡ known_names [] []) }
 {
     let guesses = vec![in alloc; NO_GUESS; GUESSES]?;
+    let label_guesses = vec![in alloc; NO_LABEL_GUESS; LABEL_GUESSES]?;
     Ok(NameTable {
         symbols: IndexMap::new(alloc),
         labels: IndexMap::new(alloc),
         guesses,
+        label_guesses,
         longest_symbol: 0,
         longest_label: 0,
     })
@@ -119,6 +171,32 @@ impl<'a, A: Allocator> NameTable<'a, A> {
     /// Returns the statement of a label, or `None` if the word isn't a label.
     #[inline(always)]
     pub(crate) fn labelled(&self, word: &[u8]) -> Option<u32>
+        ensures { result ≡ find self.now.labels word.now }
+    {
+        match self.guessed_label(word) {
+            Some(statement) => Some(statement),
+            None => self.looked_up_label(word),
+        }
+    }
+
+    /// Returns the statement of the guessed label, if the guess is right.
+    #[inline(always)]
+    fn guessed_label(&self, word: &[u8]) -> Option<u32>
+        ensures { IfSome result (λ s. Some s ≡ find self.now.labels word.now) }
+    {
+        let guess = *self.label_guesses.get(label_guess_of(word))?;
+        let (label, statement) = self.labels.get_index(guess as usize)?;
+        if label.bytes == word {
+            Some(*statement)
+        } else {
+            None
+        }
+    }
+
+    /// Returns the same as `labelled`. Finds the label by the word's hash. It isn't compiled into
+    /// the callers of `labelled`, so that they needn't free registers for it.
+    #[inline(never)]
+    fn looked_up_label(&self, word: &[u8]) -> Option<u32>
         ensures { result ≡ find self.now.labels word.now }
     {
         self.labels.get(Name { bytes: word }).copied()
@@ -212,7 +290,8 @@ impl<'a, A: Allocator + Copy> NameTable<'a, A> {
             ≡ (if bytes_eq word.now w then Some statement else find self.old.labels w)) }
         ensures symbols { OnOk result (self.new.symbols ≡ self.old.symbols) }
     {
-        self.labels.insert(Name { bytes: word }, statement)?;
+        let (place, _) = self.labels.insert_full(Name { bytes: word }, statement)?;
+        note_label_guess(&mut self.label_guesses, word, place);
         self.longest_label = self.longest_label.max(word.len());
         Ok(())
     }

@@ -1,6 +1,6 @@
 use Rattle.std.proofs.Common.{◌∙◌, ap}
 use Rattle.mm_database.specs.Names.{find, KnownNames}
-use Rattle.mm_database.proofs.names.NameTable.labelled.Goals as goal
+use Rattle.mm_database.proofs.names.NameTable.looked_up_label.Goals as goal
 
 pub returns : goal.returns
 returns g c =
