@@ -47,14 +47,18 @@ impl<A: Allocator> Model for Frames<A> {
 }
 
 impl<A: Allocator + Copy> Frames<A> {
-    /// Returns the frames before the first statement: none.
-    pub fn none(alloc: A) -> Frames<A>
+    /// Returns the frames before the first statement: none. There is room for those of `statements`
+    /// statements if there is that much memory, so that the lists needn't be moved as they grow.
+    pub fn none(alloc: A, statements: usize) -> Frames<A>
         ensures { result ≡ [] }
     {
-        Frames {
+        let mut frames = Frames {
             list: Vec::new(alloc),
             places: Vec::new(alloc),
-        }
+        };
+        let _ = frames.list.reserve(statements);
+        let _ = frames.places.reserve(statements);
+        frames
     }
 }
 

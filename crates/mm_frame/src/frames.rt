@@ -164,7 +164,7 @@ pub(crate) fn frames_of<A: Allocator + Copy>(
         had: Vec::new(alloc),
         together: Vec::new(alloc),
     };
-    let mut frames = Frames::none(alloc);
+    let mut frames = Frames::none(alloc, count as usize);
     for k in 0..count {
         add_frame(alloc, &sources, &typed, k, &mut scratch, &mut frames)?;
         give_type(statements, k, &mut typed);
