@@ -18,7 +18,7 @@ use Rattle.mm_scope.specs.Judge.{is_variable_symbol, has_other_typecode, is_type
 use Rattle.mm_scope.specs.WordEntry.{IsEntryOf, typed_by, typecode_by, is_other, is_constant_entry}
 use Rattle.mm_scope.specs.WordEntry.{is_variable_entry}
 use Rattle.mm_outline.specs.Typed.{has, typed_words}
-use Rattle.mm_scope.specs.Keeps.{Keeps}
+use Rattle.mm_scope.specs.Keeps.{KnowsStatements}
 use Rattle.mm_database.specs.declared.names.Symbol.{Symbol}
 use Rattle.mm_scope.proofs.LatestLaw.{latest_is}
 use Rattle.mm_outline.proofs.AmongLaw.{among_active, any_false, typed_in}
@@ -101,7 +101,7 @@ other_is c (Some s) = refl
 -- the names before the next statement are those that are known
 pub knows_is : (db : List Statement) (look : List ℕ → Option Symbol) (labels : List ℕ → Option ℕ)
     → (b : BlockLists)
-    → Keeps db look labels b → length db < never
+    → KnowsStatements db look labels b → length db < never
     → Knows (names_before db (length db)) look labels (is_open_in b)
 knows_is db look labels b k few =
     let all = take_all (length db) db (le_refl (length db)) in
