@@ -25,7 +25,8 @@ use Rattle.mm_spec.specs.declared.Choice.TheVariants.{All, Matrix, Counts, Usage
 use Rattle.mm_laws.proofs.RisingListsLaw.{same_list}
 use Rattle.mm_spec.specs.Request.{Request}
 use Rattle.mm_spec.specs.declared.Code.{Code}
-use Rattle.mm_spec.specs.Output.{LexedText, lexed_of, TextFault, StopsReading, IsRead, ProofFault, end_of}
+use Rattle.mm_spec.specs.Lexed.{LexedText, lexed_of}
+use Rattle.mm_spec.specs.Output.{TextFault, StopsReading, IsRead, ProofFault, end_of}
 use Rattle.mm_spec.specs.Output.{is_theorem_at, AllAreValid, FirstProofFault, FirstFault}
 use Rattle.mm_spec.specs.Output.{HasNoFault, theorems, columns, open_columns, label_at, IsRowOf}
 use Rattle.mm_spec.specs.Output.{AreCited, IsCitingRowOf, IsReportOf, IsOutput}

@@ -8,7 +8,8 @@ use Rattle.mm_spec.specs.declared.Fault.{Fault}
 use Rattle.mm_spec.specs.Statement.{Statement}
 use Rattle.mm_spec.specs.Citation.{IsValid}
 use Rattle.mm_spec.specs.Laws.Complete.{AreComplete}
-use Rattle.mm_spec.specs.Output.{LexedText, IsRead, ProofFault, end_of, is_theorem_at, AreValid}
+use Rattle.mm_spec.specs.Lexed.{LexedText}
+use Rattle.mm_spec.specs.Output.{IsRead, ProofFault, end_of, is_theorem_at, AreValid}
 use Rattle.mm_spec.specs.Output.{AllAreValid, FirstProofFault}
 use Rattle.mm_laws.specs.Laws.FirstFaults.{IsSoundOrFaulty}
 use Rattle.mm_spec.specs.Opened.{counted}

@@ -25,7 +25,8 @@ use Rattle.mm_spec.specs.CompressedProof.{bracketed, letters_of, Group, is_last,
 use Rattle.mm_spec.specs.CompressedProof.{starts_at, step_of, group_steps, letter_faults}
 use Rattle.mm_spec.specs.CompressedProof.{compressed_faults, compressed_steps}
 use Rattle.mm_spec.specs.Proof.{steps, reading_faults}
-use Rattle.mm_spec.specs.Output.{LexedText, IsRead}
+use Rattle.mm_spec.specs.Lexed.{LexedText}
+use Rattle.mm_spec.specs.Output.{IsRead}
 use Rattle.mm_laws.specs.Spelling.{Item, number, mark, is_number, is_mark, Spells, letters_in}
 use Rattle.mm_laws.specs.Spelling.{IsCompressed, IsMark, NamesStep, AreSteps, IsUsable}
 use Rattle.mm_laws.specs.Laws.Read.{WhereRead}

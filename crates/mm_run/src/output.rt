@@ -3,9 +3,9 @@
 ghost use Rattle.std.specs.Prelude.{◌≡◌, ◌<◌, ◌≤◌, ◌^◌, ℕ, List, IfOk, length};
 ghost use Rattle.mm_spec.specs.declared.Choice.TheVariants as choices;
 ghost use Rattle.mm_spec.specs.Report.{has};
-ghost use Rattle.mm_spec.specs.Lexed.{lexical_fault, tokens_of};
+ghost use Rattle.mm_spec.specs.Lexed.{lexical_fault, tokens_of, lexed_of};
 ghost use Rattle.mm_spec.specs.Statement.{Statement};
-ghost use Rattle.mm_spec.specs.Output.{lexed_of, FirstFault, HasNoFault, IsRead};
+ghost use Rattle.mm_spec.specs.Output.{FirstFault, HasNoFault, IsRead};
 ghost use Rattle.mm_spec.specs.Ends.{Answers, reading_limit};
 ghost use Rattle.mm_run.specs.Counted.{IsCounted};
 ghost use Rattle.mm_work.specs.Judged.{AllCited, IsFirstFault};

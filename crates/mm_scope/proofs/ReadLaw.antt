@@ -9,7 +9,8 @@ use Rattle.mm_spec.specs.Statement.{disjoint, floating, essential, axiomatic, pr
 use Rattle.mm_spec.specs.Statement.{closing}
 use Rattle.mm_spec.specs.Scope.{depth, names_before}
 use Rattle.mm_spec.specs.Lawful.{scope_fault, scope_faults, least}
-use Rattle.mm_spec.specs.Output.{IsRead, LexedText, StopsReading}
+use Rattle.mm_spec.specs.Lexed.{LexedText}
+use Rattle.mm_spec.specs.Output.{IsRead, StopsReading}
 use Rattle.mm_spec.specs.Laws.Table.{start, statements_from, statements_of, stop_from, rest_from}
 use Rattle.mm_spec.specs.Laws.Table.{fault_at_end}
 use Rattle.mm_spec.specs.declared.Word.{Word}

@@ -3,9 +3,8 @@ use Rattle.std.specs.Prelude.{◌≢◌, ◌++◌, ◌≡◌, ℕ, ◌<◌, Bool
 use Rattle.std.specs.Prelude.{Option, Some, None, slice_get, flat_map, ◌⊎◌, IsTrue, Decides}
 use Rattle.std.specs.Prelude.{bytes_eq, count_by, if◌then◌else◌}
 use Rattle.std.specs.List.{list_any, range_with_len, AllZip, filter}
-use Rattle.mm_spec.specs.Text.{Bytes, Token, token, Fault}
-use Rattle.mm_spec.specs.Readings.{bytes_of}
-use Rattle.mm_spec.specs.Lexed.{tokens_of, lexical_fault}
+use Rattle.mm_spec.specs.Text.{Bytes, Token, Fault}
+use Rattle.mm_spec.specs.Lexed.{LexedText, lexed_of}
 use Rattle.mm_spec.specs.Statement.{Statement, axiomatic, provable, AreLongestStatements, ShapeFault}
 use Rattle.mm_spec.specs.Statement.{FileEndFault, symbols_of}
 use Rattle.mm_spec.specs.Opened.{is_open_theorem, counted}
@@ -21,11 +20,6 @@ use Rattle.mm_spec.specs.Derivation.{is_member}
 use Rattle.std.specs.List.Sorted.{IsStrictlyIncreasing}
 use Rattle.mm_spec.specs.declared.Choice.{Choice}
 use Rattle.mm_spec.specs.declared.Choice.TheVariants.{Citations}
-
--- the tokens of a text up to its lexical fault, and that fault
-pub record LexedText : Type 0 where
-  pub tokens : List Token
-  pub fault : Option Fault
 
 -- the lexical fault, or if there is none, the fault at the end of the text
 abbrev pub WordOrEnd : ℕ → List Token → Option Fault → Fault → Type 0
@@ -160,14 +154,6 @@ IsReportOf choice db open_theorems request bytes =
     (rows : List Row) × AllZip (IsRowOf db request) (theorems db) rows
     × (bytes
     ≡ report request.form open_theorems (map (label_at db) (columns db request.only)) rows choice)
-
--- the tokens of a text with their places, up to its lexical fault, and that fault
-abbrev pub lexed_of : List ℕ → LexedText
-lexed_of text =
-    record {
-      tokens = map (λ w. token w.start (bytes_of text w)) (tokens_of text);
-      fault = lexical_fault text;
-    }
 
 -- the output of a text: the refusal for its first fault, or if it has none, the report requested
 abbrev pub IsOutput : List ℕ → Request → List ℕ → Type 0

@@ -1,9 +1,9 @@
 //! The statements of a text up to its first fault.
 
 ghost use Rattle.std.specs.Prelude.{◌≡◌, IfOk, length};
-ghost use Rattle.mm_spec.specs.Lexed.{tokens_of, lexical_fault};
+ghost use Rattle.mm_spec.specs.Lexed.{tokens_of, lexical_fault, lexed_of};
 ghost use Rattle.mm_spec.specs.Opened.{counted};
-ghost use Rattle.mm_spec.specs.Output.{IsRead, lexed_of};
+ghost use Rattle.mm_spec.specs.Output.{IsRead};
 
 use crate::kept::keep_all;
 use crate::listed::list_all;
