@@ -5,7 +5,7 @@ use Rattle.std.proofs.Common.{true≢false}
 use Rattle.std.proofs.lemmas.Option.{slice_get-get_or}
 use Rattle.mm_spec.specs.Text.{is_in}
 use Rattle.mm_spec.specs.Scope.{variables_of}
-use Rattle.mm_outline.specs.Numbered.{AreSymbols}
+use Rattle.mm_database.specs.Numbered.{AreSymbols}
 use Rattle.mm_database.specs.Names.{is_variable_in}
 use Rattle.mm_spec.specs.Statement.{Statement, opening}
 use Rattle.mm_spec.specs.Lawful.{scope_fault}
