@@ -60,9 +60,9 @@ ProofFault db k end f = (least (reading_faults_at db k) ≡ Some f)
     × (proof.StepFault (context_at db k) (steps_at db k) f
     ⊎ proof.ProofEndFault (context_at db k) (steps_at db k) (formula_at db k) end f))
 
-abbrev pub end_of : Option Statement → ℕ
-end_of (Some (provable l p xs e ps d)) = d
-end_of _ = 0
+abbrev pub proof_end : Option Statement → ℕ
+proof_end (Some (provable l p xs e ps d)) = d
+proof_end _ = 0
 
 abbrev pub is_theorem_at : List Statement → ℕ → Bool
 is_theorem_at db k = list_any is_theorem (statement_at db k)
@@ -78,7 +78,7 @@ AllAreValid db = AreValid db (length db)
 -- k is the first theorem whose proof has a fault, and f is that fault
 abbrev pub FirstProofFault : List Statement → ℕ → Fault → Type 0
 FirstProofFault db k f =
-    IsTrue (is_theorem_at db k) × AreValid db k × ProofFault db k (end_of (slice_get db k)) f
+    IsTrue (is_theorem_at db k) × AreValid db k × ProofFault db k (proof_end (slice_get db k)) f
 
 -- The first faulty statement decides: the first theorem read whose proof has a fault, or if there
 -- is none, the fault that stopped the reading. With the flag open theorems count as axioms, so they
