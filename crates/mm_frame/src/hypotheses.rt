@@ -6,7 +6,8 @@ ghost use Rattle.std.specs.List.{list_any};
 ghost use Rattle.std.specs.List.Sorted.{IsStrictlyIncreasing};
 ghost use Rattle.mm_spec.specs.Derivation.{is_member};
 ghost use Rattle.mm_spec.specs.Frame.{symbol_names, is_variable_number, is_essential, active_of};
-ghost use Rattle.mm_spec.specs.Frame.{mandatory_variables, mandatory_hypotheses};
+ghost use Rattle.mm_spec.specs.Frame.{mandatory_variables as spec_mandatory_variables};
+ghost use Rattle.mm_spec.specs.Frame.{mandatory_hypotheses};
 ghost use Rattle.mm_frame.specs.Sources.{AreSources};
 ghost use Rattle.mm_frame.specs.Hypotheses.{AreMarks, AreReady, AreTyped, IsFresh, is_float_of};
 
@@ -18,7 +19,7 @@ use mm_outline::symbol::Sym;
 use std::alloc::{AllocError, Allocator};
 
 /// Marks and lists a symbol if it is a variable and isn't marked yet.
-fn mark<A: Allocator>(
+fn add_variable<A: Allocator>(
     statements: &Statements<A>,
     symbol: Sym,
     stamp: u32,
@@ -48,7 +49,7 @@ fn mark<A: Allocator>(
 }
 
 /// Marks and lists the variables of a formula.
-fn note<A: Allocator>(
+fn add_variables<A: Allocator>(
     statements: &Statements<A>,
     symbols: &[Sym],
     stamp: u32,
@@ -68,14 +69,14 @@ fn note<A: Allocator>(
         || (is_variable_number statements.now.list x && is_member symbols.now x))) }
 {
     for symbol in symbols {
-        mark(statements, *symbol, stamp, seen, found)?;
+        add_variable(statements, *symbol, stamp, seen, found)?;
     }
     Ok(())
 }
 
 /// Marks the mandatory variables of an assertion, and lists them in `found`. Replaces what `found`
 /// has.
-fn mandatory<A: Allocator>(
+fn mandatory_variables<A: Allocator>(
     statements: &Statements<A>,
     essentials: &[u32],
     assertion: u32,
@@ -94,10 +95,10 @@ fn mandatory<A: Allocator>(
     ensures found { OnOk result
         ((x : ℕ)
         → is_member found.new.items x
-        ≡ is_member (mandatory_variables statements.now.list assertion) x) }
+        ≡ is_member (spec_mandatory_variables statements.now.list assertion) x) }
 {
     found.clear();
-    note(
+    add_variables(
         statements,
         statements.formula(assertion),
         assertion + 1,
@@ -105,7 +106,7 @@ fn mandatory<A: Allocator>(
         found,
     )?;
     for essential in essentials {
-        note(
+        add_variables(
             statements,
             statements.formula(*essential),
             assertion + 1,
@@ -172,13 +173,13 @@ pub(crate) fn hypotheses<A: Allocator>(
     ensures found { OnOk result
         ((x : ℕ)
         → is_member found.new.items x
-        ≡ is_member (mandatory_variables sources.now.statements.now.list assertion) x) }
+        ≡ is_member (spec_mandatory_variables sources.now.statements.now.list assertion) x) }
     ensures hyps { OnOk result
         (hyps.new.items ≡ mandatory_hypotheses sources.now.statements.now.list assertion) }
 {
     let statements = sources.statements;
     active_essentials(statements, sources.essentials, assertion, hyps)?;
-    mandatory(statements, hyps, assertion, seen, found)?;
+    mandatory_variables(statements, hyps, assertion, seen, found)?;
     add_floats(statements, typed, assertion, found, hyps)?;
     sort_and_dedup(hyps);
     Ok(())

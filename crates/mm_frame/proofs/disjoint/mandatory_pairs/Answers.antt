@@ -8,10 +8,10 @@ use Rattle.mm_frame.specs.Together.{has_later}
 use Rattle.mm_outline.proofs.ResultsLaw.{ok_then}
 use Rattle.mm_frame.proofs.DisjointLaw.{pairs_are}
 use Rattle.std.proofs.lemmas.Result.{IfOk-from_err}
-use Rattle.mm_frame.proofs.disjoint.pairs_of.Goals as goal
+use Rattle.mm_frame.proofs.disjoint.mandatory_pairs.Goals as goal
 
 pub returns : goal.returns
-returns g c = ok_then c.symbols_of.result c.symbols_of.ensures (λ v e.
+returns g c = ok_then c.symbol_pairs.result c.symbol_pairs.ensures (λ v e.
     let db = c.args.sources.now.statements.now.list in
     let b = c.args.sources.now.statements.now.blocks in
     let k = c.args.assertion in
