@@ -15,7 +15,7 @@ use Rattle.mm_spec.specs.Derivation.{is_member}
 use Rattle.mm_spec.specs.Frame.{is_disjoint_statement, formula_at}
 use Rattle.mm_spec.proofs.BoolLaw.{same_tests}
 use Rattle.mm_outline.specs.Blocks.{BlockLists, IsBlocks, end_of}
-use Rattle.mm_database.specs.Pairs.{has_pair, IsBefore, is_before, AreRising}
+use Rattle.mm_database.specs.Pairs.{has_pair, IsBefore, is_pair_before, AreRising}
 use Rattle.mm_database.specs.DisjointIndex.{has_symbol, is_live, AreKnown, Covers}
 use Rattle.mm_outline.proofs.StatementsLaw.{is_there}
 
@@ -63,7 +63,7 @@ rising_at (p ∷ ps) h (suc i) (suc j) d l m = rising_at ps h.1 i j d (omega ari
 
 -- ---- before
 
-pub before_is : (p : ℕ × ℕ) (x y : ℕ) → is_before p x y ≡ true → IsBefore p.0 p.1 x y
+pub before_is : (p : ℕ × ℕ) (x y : ℕ) → is_pair_before p x y ≡ true → IsBefore p.0 p.1 x y
 before_is p x y h = by (nat_lt p.0 x) refl h
   where
     by : (b : Bool) → nat_lt p.0 x ≡ b → (b || (nat_eq p.0 x && nat_lt p.1 y)) ≡ true
@@ -76,9 +76,9 @@ before_is p x y h = by (nat_lt p.0 x) refl h
               (and_parts (nat_eq p.0 x) (nat_lt p.1 y) h).1,
         )
 
-pub is_before_if : (p : ℕ × ℕ) (x y : ℕ) → IsBefore p.0 p.1 x y → is_before p x y ≡ true
-is_before_if p x y (inl l) = ap (λ b. b || (nat_eq p.0 x && nat_lt p.1 y)) (lt-ltb p.0 x l)
-is_before_if p x y (inr (e, l)) =
+pub is_pair_before_if : (p : ℕ × ℕ) (x y : ℕ) → IsBefore p.0 p.1 x y → is_pair_before p x y ≡ true
+is_pair_before_if p x y (inl l) = ap (λ b. b || (nat_eq p.0 x && nat_lt p.1 y)) (lt-ltb p.0 x l)
+is_pair_before_if p x y (inr (e, l)) =
     ap (λ b. nat_lt p.0 x || b) (ap₂ (λ a b. a && b) (eq-eqb p.0 x e) (lt-ltb p.1 y l))
     ∙ or-true (nat_lt p.0 x)
 
@@ -89,13 +89,13 @@ before_through a b c d e f (inr (s, l)) (inl m) = inl (omega arith)
 before_through a b c d e f (inr (s, l)) (inr (t, m)) = inr (omega arith, omega arith)
 
 pub partitioned : (ps : List (ℕ × ℕ)) → AreRising ps → (x y : ℕ)
-    → IsPartitionedBy (λ p. is_before p x y) ps
+    → IsPartitionedBy (λ p. is_pair_before p x y) ps
 partitioned ps h x y i j d l m e = by (cases_eq i j)
   where
-    by : (i ≡ j) ⊎ (i ≢ j) → is_before (get_or ps i d) x y ≡ true
-    by (inl s) = ap (λ k. is_before (get_or ps k d) x y) s ∙ e
+    by : (i ≡ j) ⊎ (i ≢ j) → is_pair_before (get_or ps i d) x y ≡ true
+    by (inl s) = ap (λ k. is_pair_before (get_or ps k d) x y) s ∙ e
     by (inr n) =
-        is_before_if (get_or ps i d) x y
+        is_pair_before_if (get_or ps i d) x y
         (before_through (get_or ps i d).0 (get_or ps i d).1 (get_or ps j d).0 (get_or ps j d).1 x y
         (rising_at ps h i j d (omega arith) m) (before_is (get_or ps j d) x y e))
 
@@ -148,14 +148,14 @@ covers_more b ps first middle q some c d s l p m n = by (cases_lt p first)
 -- so many pairs stand before that of the symbol and the place
 pub record Parted (ps : List (ℕ × ℕ)) (x at start : ℕ) : Type 0 where
   pub within : start ≤ length ps
-  pub before : (p : ℕ) → p < start → is_before (get_or ps p (0, 0)) x at ≡ true
-  pub after : (p : ℕ) → start ≤ p → p < length ps → is_before (get_or ps p (0, 0)) x at ≡ false
+  pub before : (p : ℕ) → p < start → is_pair_before (get_or ps p (0, 0)) x at ≡ true
+  pub after : (p : ℕ) → start ≤ p → p < length ps → is_pair_before (get_or ps p (0, 0)) x at ≡ false
 
 -- the same by the values that the code has
 module _ (qs ps : List (ℕ × ℕ)) (y x : ℕ) (same : qs ≡ ps) (is : y ≡ x) where
   pub parted_here : (at start : ℕ) → start ≤ length qs
-      → ((p : ℕ) → p < start → is_before (get_or qs p (0, 0)) y at ≡ true)
-      → ((p : ℕ) → start ≤ p → p < length qs → is_before (get_or qs p (0, 0)) y at ≡ false)
+      → ((p : ℕ) → p < start → is_pair_before (get_or qs p (0, 0)) y at ≡ true)
+      → ((p : ℕ) → start ≤ p → p < length qs → is_pair_before (get_or qs p (0, 0)) y at ≡ false)
       → Parted ps x at start
   parted_here at start w b a = rw (← same, ← is) (record { within = w; before = b; after = a })
 
@@ -328,7 +328,7 @@ module _ (b : BlockLists) (ps : List (ℕ × ℕ)) (rising : AreRising ps) (x at
         by (inl h) = h
         by (inr h) =
             absurd (true≢false
-            (sym (is_before_if (get_or ps p (0, 0)) x at (inr (e, m))) ∙ parted.after p h l))
+            (sym (is_pair_before_if (get_or ps p (0, 0)) x at (inr (e, m))) ∙ parted.after p h l))
 
     pub added_end : (left : ℕ) (old now : List (ℕ × ℕ)) → Added b ps x at start left old now
         → (0 < left → (get_or ps (left - 1) (0, 0)).0 ≢ x)
@@ -386,10 +386,10 @@ pub record NoneInCommon (b : BlockLists) (ps : List (ℕ × ℕ)) (x y at left r
 
 module _ (b : BlockLists) (ps : List (ℕ × ℕ)) (rising : AreRising ps) (x y at : ℕ) where
   pub none_at_start : (left right : ℕ) → left ≤ length ps → right ≤ length ps
-      → ((p : ℕ) → p < left → is_before (get_or ps p (0, 0)) x at ≡ true)
-      → ((p : ℕ) → left ≤ p → p < length ps → is_before (get_or ps p (0, 0)) x at ≡ false)
-      → ((p : ℕ) → p < right → is_before (get_or ps p (0, 0)) y at ≡ true)
-      → ((p : ℕ) → right ≤ p → p < length ps → is_before (get_or ps p (0, 0)) y at ≡ false)
+      → ((p : ℕ) → p < left → is_pair_before (get_or ps p (0, 0)) x at ≡ true)
+      → ((p : ℕ) → left ≤ p → p < length ps → is_pair_before (get_or ps p (0, 0)) x at ≡ false)
+      → ((p : ℕ) → p < right → is_pair_before (get_or ps p (0, 0)) y at ≡ true)
+      → ((p : ℕ) → right ≤ p → p < length ps → is_pair_before (get_or ps p (0, 0)) y at ≡ false)
       → NoneInCommon b ps x y at left right
   none_at_start left right l r bl al br ar = record {
     met = λ p q h i e f s o.

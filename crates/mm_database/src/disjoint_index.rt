@@ -5,7 +5,7 @@ ghost use Rattle.std.specs.Prelude.{◌≡◌, ◌≢◌, ◌<◌, ◌≤◌, �
 ghost use Rattle.std.specs.Prelude.{length, get_or, nat_eq, nat_lt, nat_le, true, false};
 ghost use Rattle.mm_outline.specs.Blocks.{end_of};
 ghost use Rattle.mm_database.specs.DisjointIndex.{pair_lists, is_live, IsOrdered};
-ghost use Rattle.mm_database.specs.Pairs.{has_pair, AreRising, is_before};
+ghost use Rattle.mm_database.specs.Pairs.{has_pair, AreRising, is_pair_before};
 ghost use Rattle.mm_database.specs.Starts.{IsStart, AreStarts};
 
 use mm_outline::blocks::Blocks;
@@ -81,9 +81,10 @@ fn count_before(pairs: &[(u32, u32)], starts: &[usize], symbol: u32, at: u32) ->
     requires rising { AreRising pairs.now }
     requires starts { AreStarts pairs.now starts.now }
     ensures within { result ≤ length pairs.now }
-    ensures before { (p : ℕ) → p < result → is_before (get_or pairs.now p (0, 0)) symbol at ≡ true }
+    ensures before { (p : ℕ)
+        → p < result → is_pair_before (get_or pairs.now p (0, 0)) symbol at ≡ true }
     ensures after { (p : ℕ) → result ≤ p → p < length pairs.now
-        → is_before (get_or pairs.now p (0, 0)) symbol at ≡ false }
+        → is_pair_before (get_or pairs.now p (0, 0)) symbol at ≡ false }
 {
     let from = start_of(pairs, starts, symbol as usize);
     let to = start_of(pairs, starts, symbol as usize + 1);
