@@ -16,7 +16,7 @@ use Rattle.mm_scope.specs.Judge as judge
 use Rattle.mm_scope.specs.Judge.{Knows, has_other_typecode, is_typed_here, entry_of}
 use Rattle.mm_scope.specs.WordEntry.{IsEntryOf, typed_by, typecode_by, is_other, is_constant_entry}
 use Rattle.mm_scope.specs.WordEntry.{is_variable_entry}
-use Rattle.mm_outline.specs.Typed.{has, typed_words}
+use Rattle.mm_outline.specs.Typed.{has_word, typed_words}
 use Rattle.mm_scope.specs.Keeps.{KnowsStatements}
 use Rattle.mm_database.specs.Names.{is_constant_in, is_variable_in}
 use Rattle.mm_database.specs.declared.names.Symbol.{Symbol}
@@ -26,7 +26,7 @@ use Rattle.mm_scope.proofs.OpenLaw.{latest_open, declares_local, types_local}
 
 -- a word that no statement has
 has_none : (db : List Statement) (f : Statement → List Bytes) (w : Bytes)
-    → is_in w (flat_map f db) ≡ false → (j : ℕ) → has db f w j ≡ false
+    → is_in w (flat_map f db) ≡ false → (j : ℕ) → has_word db f w j ≡ false
 has_none [] f w e j = refl
 has_none (s ∷ db) f w e zero =
     let h = sym (list_any-append (bytes_eq w) (f s) (flat_map f db)) ∙ e in
@@ -42,7 +42,7 @@ pub none_active : (db : List Statement) (f : Statement → List Bytes) (w : Byte
     → is_in w (flat_map f (active_statements db (length db))) ≡ false
 none_active db f w e =
     among_active db f w (λ j. is_active db j (length db)) (length db) 0
-    ∙ any_false (λ j. is_active db j (length db) && has db f w j) (length db) 0
+    ∙ any_false (λ j. is_active db j (length db) && has_word db f w j) (length db) 0
     (λ j l. ap (λ b. is_active db j (length db) && b) (has_none db f w e j)
     ∙ and-false (is_active db j (length db)))
 
