@@ -4,9 +4,8 @@ ghost use Rattle.std.specs.Prelude.{◌≡◌, ◌<◌, ◌&&◌, ◌||◌, ℕ,
 ghost use Rattle.std.specs.Prelude.{map};
 ghost use Rattle.std.specs.List.{list_any};
 ghost use Rattle.mm_spec.specs.Derivation.{is_member, pair};
-ghost use Rattle.mm_spec.specs.Frame.{mandatory_variables};
-ghost use Rattle.mm_spec.specs.Frame.{mandatory_pairs as spec_mandatory_pairs};
-ghost use Rattle.mm_database.specs.DisjointIndex.{is_live, IsOrdered};
+ghost use Rattle.mm_spec.specs.Frame.{mandatory_variables, mandatory_pairs};
+ghost use Rattle.mm_database.specs.DisjointIndex.{is_active_local, IsOrdered};
 ghost use Rattle.mm_frame.specs.Sources.{AreSources};
 ghost use Rattle.mm_frame.specs.Together.{has_later};
 ghost use Rattle.mm_database.specs.Pairs.{has_pair, AreRising};
@@ -73,7 +72,7 @@ fn add_all_active<A: Allocator>(
         → has_pair into.new.items j y
         ≡ (has_pair into.old.items j y
         || (is_member symbols.now y
-        && (has_pair disjoint_index.now.pairs y j && is_live blocks.now j at)))) }
+        && (has_pair disjoint_index.now.pairs y j && is_active_local blocks.now j at)))) }
 {
     for symbol in symbols {
         add_active(blocks, disjoint_index, *symbol, at, into)?;
@@ -115,7 +114,7 @@ pub(crate) fn mandatory_pairs<A: Allocator + Copy>(
         ≡ is_member (mandatory_variables sources.now.statements.now.list assertion) x }
     ensures { IfOk result
         (λ v. map (λ p. pair p.0 p.1) v.items
-        ≡ spec_mandatory_pairs sources.now.statements.now.list assertion) }
+        ≡ mandatory_pairs sources.now.statements.now.list assertion) }
 {
     variables_by_statement.clear();
     add_all_active(

@@ -6,8 +6,7 @@ ghost use Rattle.std.specs.List.{list_any};
 ghost use Rattle.std.specs.List.Sorted.{IsStrictlyIncreasing};
 ghost use Rattle.mm_spec.specs.Derivation.{is_member};
 ghost use Rattle.mm_spec.specs.Frame.{symbol_names, is_variable_number, is_essential, active_of};
-ghost use Rattle.mm_spec.specs.Frame.{mandatory_variables as spec_mandatory_variables};
-ghost use Rattle.mm_spec.specs.Frame.{mandatory_hypotheses};
+ghost use Rattle.mm_spec.specs.Frame.{mandatory_variables, mandatory_hypotheses};
 ghost use Rattle.mm_frame.specs.Sources.{AreSources};
 ghost use Rattle.mm_frame.specs.Hypotheses.{AreMarks, AreReady, AreTyped, IsFresh, is_float_of};
 
@@ -95,7 +94,7 @@ fn mandatory_variables<A: Allocator>(
     ensures found { OnOk result
         ((x : ℕ)
         → is_member found.new.items x
-        ≡ is_member (spec_mandatory_variables statements.now.list assertion) x) }
+        ≡ is_member (mandatory_variables statements.now.list assertion) x) }
 {
     found.clear();
     add_variables(
@@ -137,7 +136,7 @@ fn add_floats<A: Allocator>(
     for symbol in found {
         let floating = typed[symbol.number() as usize];
         if floating != NEVER {
-            if statements.is_open(floating, at) {
+            if statements.is_open_at(floating, at) {
                 hyps.push(floating)?;
             }
         }
@@ -173,7 +172,7 @@ pub(crate) fn hypotheses<A: Allocator>(
     ensures found { OnOk result
         ((x : ℕ)
         → is_member found.new.items x
-        ≡ is_member (spec_mandatory_variables sources.now.statements.now.list assertion) x) }
+        ≡ is_member (mandatory_variables sources.now.statements.now.list assertion) x) }
     ensures hyps { OnOk result
         (hyps.new.items ≡ mandatory_hypotheses sources.now.statements.now.list assertion) }
 {

@@ -344,10 +344,10 @@ module _ (db : List Statement) (s : Statement) (b : BlockLists) (x : IsBlocks db
       c
       ∙ (let e = depth_end db s in let n = x.nested in omega (arith, e, n))
 
-  counted : (p q : Bool) → is_opening s ≡ p → is_closing s ≡ q
+  brackets_counted : (p q : Bool) → is_opening s ≡ p → is_closing s ≡ q
       → (count_by is_opening (more db s) ≡ count_by is_opening db + cond p 1 0)
       × (count_by is_closing (more db s) ≡ count_by is_closing db + cond q 1 0)
-  counted p q o c = (
+  brackets_counted p q o c = (
     count_end is_opening db s
         ∙ ap (λ r. count_by is_opening db + cond r 1 0) o,
     count_end is_closing db s
@@ -358,7 +358,7 @@ module _ (db : List Statement) (s : Statement) (b : BlockLists) (x : IsBlocks db
       → IsBlocks (db ++ s ∷ []) (block_lists (b.of ++ top b.open_blocks ∷ []) b.ends b.open_blocks)
   blocks_plain o c =
       let d = depth_plain o c in
-      let m = counted false false o c in
+      let m = brackets_counted false false o c in
       grown b.ends b.open_blocks (record {
         nested = let n = x.nested in omega (arith, m.0, m.1, n);
         stack = x.stack ∙ ap (λ n. n + 1) (sym d);
@@ -384,7 +384,7 @@ module _ (db : List Statement) (s : Statement) (b : BlockLists) (x : IsBlocks db
       (b.open_blocks ++ length b.ends ∷ []))
   blocks_opening o c =
       let d = depth_opening o c in
-      let m = counted true false o c in
+      let m = brackets_counted true false o c in
       grown ends opens (record {
         nested = let n = x.nested in omega (arith, m.0, m.1, n);
         stack =
@@ -477,7 +477,7 @@ module _ (db : List Statement) (s : Statement) (b : BlockLists) (x : IsBlocks db
       (take (length b.open_blocks - 1) b.open_blocks))
   blocks_closing o c deep =
       let d = depth_closing o c in
-      let m = counted false true o c in
+      let m = brackets_counted false true o c in
       let k = x.stack in
       grown ends opens (record {
         nested = let e = depth_end db s in omega (arith, m.0, m.1, e, deep);

@@ -2,7 +2,7 @@ use Rattle.std.proofs.Common.{◌∙◌, ℕ, ◌≤◌, ◌&&◌, ◌||◌, Lis
 use Rattle.std.proofs.Common.{subst, sym}
 use Rattle.std.specs.List.{list_any}
 use Rattle.mm_spec.specs.Derivation.{pair, is_member}
-use Rattle.mm_database.specs.DisjointIndex.{is_live}
+use Rattle.mm_database.specs.DisjointIndex.{is_active_local}
 use Rattle.mm_database.specs.Pairs.{has_pair, AreRising}
 use Rattle.mm_frame.specs.Together.{has_later}
 use Rattle.mm_outline.proofs.ResultsLaw.{ok_then}
@@ -26,7 +26,7 @@ returns g c = ok_then c.symbol_pairs.result c.symbol_pairs.ensures (λ v e.
     (λ j y. c.sort_and_dedup.ensures.same j y
     ∙ rw (← c.blocks-2.ensures.blocks) (c.in_ok-add_all_active.ensures j y)
     ∙ ap (λ (xs : List (ℕ × ℕ)). has_pair xs j y
-    || (is_member found y && (has_pair ps y j && is_live b j k))) c.clear.ensures.items)
+    || (is_member found y && (has_pair ps y j && is_active_local b j k))) c.clear.ensures.items)
     c.sort_and_dedup-2.new.pairs.items c.sort_and_dedup-2.ensures.rising
     (λ x y. c.sort_and_dedup-2.ensures.same x y ∙ c.in_ok-add_together.ensures x y
     ∙ ap (λ (xs : List (ℕ × ℕ)). has_pair xs x y
