@@ -10,7 +10,7 @@ use Rattle.mm_spec.specs.Text.{fault}
 use Rattle.mm_spec.specs.Statement.{Statement}
 use Rattle.mm_spec.specs.Steps.{PlacedStep}
 use Rattle.mm_spec.specs.Derivation.{Formula, Trees, is_member}
-use Rattle.mm_spec.specs.Output.{ProofFault, end_of}
+use Rattle.mm_spec.specs.Output.{ProofFault, proof_end}
 use Rattle.mm_spec.specs.declared.Code.{Code}
 use Rattle.mm_spec.specs.Valid.{Derives, ProofEndFault, IsEndCode}
 use Rattle.mm_spec.specs.Frame.{formula_at}
@@ -86,13 +86,14 @@ module _ (db : List Statement) (t : ℕ) (steps : List PlacedStep) where
 
     pub ends_here : (at : ℕ) (code : Code) → option_map last_place (slice_get db t) ≡ Some at
         → IsEndCode (context_at db t) c.machine.stack (formula_at db t) code
-        → ProofFault db t (end_of (slice_get db t)) (fault at code)
+        → ProofFault db t (proof_end (slice_get db t)) (fault at code)
     ends_here at code last h =
         let f = formula_at db t in
         inr (
           p.are_steps.sound,
           inr (subst
-              (λ ps. ProofEndFault (context_at db t) ps f (end_of (slice_get db t)) (fault at code))
+              (λ ps.
+              ProofEndFault (context_at db t) ps f (proof_end (slice_get db t)) (fault at code))
               p.are_steps.are
               (subst (λ n. ProofEndFault (context_at db t) steps f n (fault at code))
               (sym (end_is db t at p.are_steps.theorem last))

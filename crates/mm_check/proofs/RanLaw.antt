@@ -20,7 +20,7 @@ use Rattle.mm_machine.specs.declared.machine.Stopped.TheVariants.{Fault, Memory}
 use Rattle.mm_check.specs.Contract.{IsReady, StepRefuses, refusal_at}
 use Rattle.mm_check.specs.Checker.{CheckerState, checker_state, IsAt, HasPerformed, Performs}
 use Rattle.mm_check.specs.Checker.{IsStopped}
-use Rattle.mm_check.specs.Reached.{Reached, Ran, Agree, steps_of}
+use Rattle.mm_check.specs.Reached.{Reached, Ran, AreEndFormulas, steps_of}
 use Rattle.mm_check.proofs.ReachLaw.{starts, next, take_step, good_here, fails}
 
 get_front : (ends more : List Formula) (j : ℕ) (f : Formula) → slice_get ends j ≡ Some f
@@ -35,7 +35,7 @@ get_last (x ∷ ends) f = get_last ends f
 
 -- the formula of a marked step is what it ended with
 pub agree_at : (ends : List Formula) (marks : List ℕ) (formulas : List Formula) (n : ℕ)
-    → Agree ends marks formulas → n < length marks
+    → AreEndFormulas ends marks formulas → n < length marks
     → slice_get ends (get_or marks n 0) ≡ Some (get_or formulas n [])
 agree_at ends [] formulas n h l = absurd (omega arith)
 agree_at ends (j ∷ marks) [] n h l = absurd h
@@ -44,7 +44,7 @@ agree_at ends (j ∷ marks) (f ∷ formulas) (suc n) h l =
     agree_at ends marks formulas n h.1 (omega arith)
 
 agree_more : (ends more : List Formula) (marks : List ℕ) (formulas : List Formula)
-    → Agree ends marks formulas → Agree (ends ++ more) marks formulas
+    → AreEndFormulas ends marks formulas → AreEndFormulas (ends ++ more) marks formulas
 agree_more ends more [] [] h = tt
 agree_more ends more [] (f ∷ formulas) h = absurd h
 agree_more ends more (j ∷ marks) [] h = absurd h
@@ -52,8 +52,8 @@ agree_more ends more (j ∷ marks) (f ∷ formulas) h =
     (get_front ends more j f h.0, agree_more ends more marks formulas h.1)
 
 agree_push : (ends : List Formula) (marks : List ℕ) (formulas : List Formula) (i : ℕ) (f : Formula)
-    → Agree ends marks formulas → slice_get ends i ≡ Some f
-    → Agree ends (marks ++ i ∷ []) (formulas ++ f ∷ [])
+    → AreEndFormulas ends marks formulas → slice_get ends i ≡ Some f
+    → AreEndFormulas ends (marks ++ i ∷ []) (formulas ++ f ∷ [])
 agree_push ends [] [] i f h e = (e, tt)
 agree_push ends [] (g ∷ formulas) i f h e = absurd h
 agree_push ends (j ∷ marks) [] i f h e = absurd h
@@ -116,7 +116,7 @@ module _ (db : List Statement) (t : ℕ) (steps : List PlacedStep) (i : ℕ) (c 
           (next db t (steps_of (take i steps)) c.machine.stack p.ran.ends c.noted a d.machine.stack
           d.noted p.ran.reached good_step (made.made p.ran.ends p.ran.agree) made.noted)
 
-      agree : Agree ends d.machine.marks d.machine.formulas
+      agree : AreEndFormulas ends d.machine.marks d.machine.formulas
       agree =
           rw (made.marks, made.formulas)
           (agree_more p.ran.ends (top d.machine.stack ∷ []) c.machine.marks c.machine.formulas

@@ -22,7 +22,7 @@ use Rattle.mm_steps.specs.Read.{step_at}
 use Rattle.std.specs.Option.{option_map}
 use Rattle.std.proofs.Math.Bool.{or-false}
 use Rattle.std.proofs.lemmas.Bool.{or_left, or_right}
-use Rattle.mm_spec.specs.Output.{is_theorem_at, end_of}
+use Rattle.mm_spec.specs.Output.{is_theorem_at, proof_end}
 use Rattle.mm_database.specs.Database.{last_place}
 use Rattle.mm_rule.specs.Assertions.{is_assertion_at}
 use Rattle.mm_check.specs.Contract.{is_labelled_step}
@@ -219,12 +219,12 @@ starts db t stack ends noted e f n =
 
 -- the place of the end of a theorem's proof
 pub end_is : (db : List Statement) (t at : ℕ) → is_theorem_at db t ≡ true
-    → option_map last_place (slice_get db t) ≡ Some at → end_of (slice_get db t) ≡ at
+    → option_map last_place (slice_get db t) ≡ Some at → proof_end (slice_get db t) ≡ at
 end_is db t at h e = by (slice_get db t) h e
   where
     by : (o : Option Statement)
         → list_any is_theorem (elim o [ None ↦ [] | Some s ↦ s ∷ [] ]) ≡ true
-        → option_map last_place o ≡ Some at → end_of o ≡ at
+        → option_map last_place o ≡ Some at → proof_end o ≡ at
     by None h e = absurd (true≢false (sym h))
     by (Some (provable l p xs q ps d)) h e = cc
     by (Some s) h e = absurd (true≢false (sym h))

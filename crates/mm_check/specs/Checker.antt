@@ -13,7 +13,7 @@ use Rattle.mm_machine.specs.State.{MachineState}
 use Rattle.mm_machine.specs.Stops.{Stops}
 use Rattle.mm_machine.specs.declared.machine.Stopped.{Stopped}
 use Rattle.mm_check.specs.Contract.{is_labelled_step}
-use Rattle.mm_check.specs.Reached.{Ran, Agree, AreStepsOf}
+use Rattle.mm_check.specs.Reached.{Ran, AreEndFormulas, AreStepsOf}
 
 -- a checker: the entries of its proof in progress, the rules that it borrows, the assertions that
 -- it noted, and the pairs of symbols that it knows to be disjoint
@@ -57,7 +57,7 @@ pub record HasPerformed (db : List Statement) (t : ℕ) (steps : List PlacedStep
 -- one step leads from the checker to the next: its entries are those after the step, and its
 -- assertion is noted
 pub record Performs (db : List Statement) (t : ℕ) (a : Step) (c d : CheckerState) : Type 0 where
-  pub made : (ends : List Formula) → Agree ends c.machine.marks c.machine.formulas
+  pub made : (ends : List Formula) → AreEndFormulas ends c.machine.marks c.machine.formulas
       → step_entries (context_at db t) a ends c.machine.stack ≡ Ok d.machine.stack
   pub marks : d.machine.marks ≡ c.machine.marks
   pub formulas : d.machine.formulas ≡ c.machine.formulas
@@ -69,5 +69,5 @@ pub record Performs (db : List Statement) (t : ℕ) (a : Step) (c d : CheckerSta
 -- the step is stopped for a reason for which it fails
 abbrev pub IsStopped : List Statement → ℕ → Step → CheckerState → Stopped → Type 0
 IsStopped db t a c e =
-    (ends : List Formula) → Agree ends c.machine.marks c.machine.formulas
+    (ends : List Formula) → AreEndFormulas ends c.machine.marks c.machine.formulas
     → Stops e (step_entries (context_at db t) a ends c.machine.stack)

@@ -8,7 +8,7 @@ use Rattle.mm_spec.specs.Steps.{Step, label, marked, PlacedStep}
 use Rattle.mm_spec.specs.Text.{fault}
 use Rattle.mm_spec.specs.Valid.{StepFault, code_of}
 use Rattle.mm_spec.specs.Citation.{IsProof, Cites, context_at}
-use Rattle.mm_spec.specs.Output.{ProofFault, end_of}
+use Rattle.mm_spec.specs.Output.{ProofFault, proof_end}
 use Rattle.mm_spec.specs.Laws.Stack.{IsGood}
 use Rattle.mm_machine.specs.State.{reason_of}
 use Rattle.mm_machine.specs.declared.machine.Stopped.{Stopped}
@@ -35,7 +35,7 @@ pub record IsChecked (db : List Statement) (by_essential : Bool) (t : ℕ)
 
 -- if the refusal is a fault, it is the fault of the theorem's proof
 abbrev pub IsCheckRefusal : List Statement → ℕ → CheckRefused → Type 0
-IsCheckRefusal db t (Faulty f) = ProofFault db t (end_of (slice_get db t)) f
+IsCheckRefusal db t (Faulty f) = ProofFault db t (proof_end (slice_get db t)) f
 IsCheckRefusal db t Memory = Unit {0}
 
 -- if the refusal is a fault, it is the fault of one of these steps

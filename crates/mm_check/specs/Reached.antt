@@ -37,8 +37,8 @@ abbrev pub steps_of : List PlacedStep → List Step
 steps_of steps = map (λ s. s.step) steps
 
 -- the marked formulas are those with which their steps ended
-abbrev pub Agree : List Formula → List ℕ → List Formula → Type 0
-Agree ends marks formulas = AllZip (λ j f. slice_get ends j ≡ Some f) marks formulas
+abbrev pub AreEndFormulas : List Formula → List ℕ → List Formula → Type 0
+AreEndFormulas ends marks formulas = AllZip (λ j f. slice_get ends j ≡ Some f) marks formulas
 
 -- The state after the first `i` steps: the entries, and the marked ones among these steps with
 -- their formulas.
@@ -47,7 +47,7 @@ pub record Ran (db : List Statement) (t : ℕ) (steps : List PlacedStep) (i : �
   pub ends : List Formula
   pub count : length ends ≡ i
   pub reached : Reached db t (steps_of (take i steps)) s.stack ends noted
-  pub agree : Agree ends s.marks s.formulas
+  pub agree : AreEndFormulas ends s.marks s.formulas
   pub before : All (λ j. j < i) s.marks
   pub present : (j : ℕ) → j < i → is_marked steps j ≡ true → Contains s.marks j
 

@@ -37,7 +37,7 @@ impl<A: Allocator> Model for Lists<A> {
 }
 
 /// Where the list with this index begins.
-fn start(ends: &[usize], index: usize) -> usize
+fn start_of(ends: &[usize], index: usize) -> usize
     requires { index < length ends.now }
     ensures { result ≡ start_of ends.now index }
 {
@@ -111,6 +111,6 @@ impl<A: Allocator> Lists<A> {
         requires { index < length self.now }
         ensures { result.now ≡ slice_index_or self.now index [] }
     {
-        part(&self.numbers, start(&self.ends, index), self.ends[index])
+        part(&self.numbers, start_of(&self.ends, index), self.ends[index])
     }
 }

@@ -15,8 +15,8 @@ use Rattle.mm_spec.specs.Derivation.{is_member}
 use Rattle.mm_spec.specs.Frame.{is_disjoint_statement, formula_at}
 use Rattle.mm_spec.proofs.BoolLaw.{same_tests}
 use Rattle.mm_outline.specs.Blocks.{BlockLists, IsBlocks, end_of}
-use Rattle.mm_database.specs.Pairs.{has_pair, IsBefore, is_before, AreRising}
-use Rattle.mm_database.specs.DisjointIndex.{has_symbol, is_live, AreKnown, Covers}
+use Rattle.mm_database.specs.Pairs.{has_pair, IsBefore, is_pair_before, AreRising}
+use Rattle.mm_database.specs.DisjointIndex.{has_symbol, is_active_local, AreKnown, Covers}
 use Rattle.mm_outline.proofs.StatementsLaw.{is_there}
 
 -- ---- pairs by their places
@@ -63,7 +63,7 @@ rising_at (p ∷ ps) h (suc i) (suc j) d l m = rising_at ps h.1 i j d (omega ari
 
 -- ---- before
 
-pub before_is : (p : ℕ × ℕ) (x y : ℕ) → is_before p x y ≡ true → IsBefore p.0 p.1 x y
+pub before_is : (p : ℕ × ℕ) (x y : ℕ) → is_pair_before p x y ≡ true → IsBefore p.0 p.1 x y
 before_is p x y h = by (nat_lt p.0 x) refl h
   where
     by : (b : Bool) → nat_lt p.0 x ≡ b → (b || (nat_eq p.0 x && nat_lt p.1 y)) ≡ true
@@ -76,9 +76,9 @@ before_is p x y h = by (nat_lt p.0 x) refl h
               (and_parts (nat_eq p.0 x) (nat_lt p.1 y) h).1,
         )
 
-pub is_before_if : (p : ℕ × ℕ) (x y : ℕ) → IsBefore p.0 p.1 x y → is_before p x y ≡ true
-is_before_if p x y (inl l) = ap (λ b. b || (nat_eq p.0 x && nat_lt p.1 y)) (lt-ltb p.0 x l)
-is_before_if p x y (inr (e, l)) =
+pub is_pair_before_if : (p : ℕ × ℕ) (x y : ℕ) → IsBefore p.0 p.1 x y → is_pair_before p x y ≡ true
+is_pair_before_if p x y (inl l) = ap (λ b. b || (nat_eq p.0 x && nat_lt p.1 y)) (lt-ltb p.0 x l)
+is_pair_before_if p x y (inr (e, l)) =
     ap (λ b. nat_lt p.0 x || b) (ap₂ (λ a b. a && b) (eq-eqb p.0 x e) (lt-ltb p.1 y l))
     ∙ or-true (nat_lt p.0 x)
 
@@ -89,13 +89,13 @@ before_through a b c d e f (inr (s, l)) (inl m) = inl (omega arith)
 before_through a b c d e f (inr (s, l)) (inr (t, m)) = inr (omega arith, omega arith)
 
 pub partitioned : (ps : List (ℕ × ℕ)) → AreRising ps → (x y : ℕ)
-    → IsPartitionedBy (λ p. is_before p x y) ps
+    → IsPartitionedBy (λ p. is_pair_before p x y) ps
 partitioned ps h x y i j d l m e = by (cases_eq i j)
   where
-    by : (i ≡ j) ⊎ (i ≢ j) → is_before (get_or ps i d) x y ≡ true
-    by (inl s) = ap (λ k. is_before (get_or ps k d) x y) s ∙ e
+    by : (i ≡ j) ⊎ (i ≢ j) → is_pair_before (get_or ps i d) x y ≡ true
+    by (inl s) = ap (λ k. is_pair_before (get_or ps k d) x y) s ∙ e
     by (inr n) =
-        is_before_if (get_or ps i d) x y
+        is_pair_before_if (get_or ps i d) x y
         (before_through (get_or ps i d).0 (get_or ps i d).1 (get_or ps j d).0 (get_or ps j d).1 x y
         (rising_at ps h i j d (omega arith) m) (before_is (get_or ps j d) x y e))
 
@@ -148,14 +148,14 @@ covers_more b ps first middle q some c d s l p m n = by (cases_lt p first)
 -- so many pairs stand before that of the symbol and the place
 pub record Parted (ps : List (ℕ × ℕ)) (x at start : ℕ) : Type 0 where
   pub within : start ≤ length ps
-  pub before : (p : ℕ) → p < start → is_before (get_or ps p (0, 0)) x at ≡ true
-  pub after : (p : ℕ) → start ≤ p → p < length ps → is_before (get_or ps p (0, 0)) x at ≡ false
+  pub before : (p : ℕ) → p < start → is_pair_before (get_or ps p (0, 0)) x at ≡ true
+  pub after : (p : ℕ) → start ≤ p → p < length ps → is_pair_before (get_or ps p (0, 0)) x at ≡ false
 
 -- the same by the values that the code has
 module _ (qs ps : List (ℕ × ℕ)) (y x : ℕ) (same : qs ≡ ps) (is : y ≡ x) where
   pub parted_here : (at start : ℕ) → start ≤ length qs
-      → ((p : ℕ) → p < start → is_before (get_or qs p (0, 0)) y at ≡ true)
-      → ((p : ℕ) → start ≤ p → p < length qs → is_before (get_or qs p (0, 0)) y at ≡ false)
+      → ((p : ℕ) → p < start → is_pair_before (get_or qs p (0, 0)) y at ≡ true)
+      → ((p : ℕ) → start ≤ p → p < length qs → is_pair_before (get_or qs p (0, 0)) y at ≡ false)
       → Parted ps x at start
   parted_here at start w b a = rw (← same, ← is) (record { within = w; before = b; after = a })
 
@@ -173,7 +173,8 @@ pub record Added (b : BlockLists) (ps : List (ℕ × ℕ)) (x at start left : �
   pub inside : left ≤ start
   pub kept : (j y : ℕ) → has_pair old j y ≡ true → has_pair now j y ≡ true
   pub only : (j y : ℕ) → has_pair now j y ≡ true
-      → (has_pair old j y ≡ true) ⊎ ((y ≡ x) × (has_pair ps x j ≡ true) × (is_live b j at ≡ true))
+      → (has_pair old j y ≡ true)
+      ⊎ ((y ≡ x) × (has_pair ps x j ≡ true) × (is_active_local b j at ≡ true))
   pub all : (p : ℕ) → left ≤ p → p < start → (get_or ps p (0, 0)).0 ≡ x
       → nat_le at (end_of b (get_or ps p (0, 0)).1) ≡ true
       → has_pair now (get_or ps p (0, 0)).1 x ≡ true
@@ -231,7 +232,7 @@ module _ (b : BlockLists) (ps : List (ℕ × ℕ)) (rising : AreRising ps) (x at
         only : (j y : ℕ) (c : Bool) → has_pair now j y ≡ c
             → (c || ((nat_eq j m && nat_eq y x) || false)) ≡ true
             → (has_pair old j y ≡ true)
-            ⊎ ((y ≡ x) × (has_pair ps x j ≡ true) × (is_live b j at ≡ true))
+            ⊎ ((y ≡ x) × (has_pair ps x j ≡ true) × (is_active_local b j at ≡ true))
         only j y true e h = a.only j y e
         only j y false e h =
             let t = sym (or-false (nat_eq j m && nat_eq y x)) ∙ h in
@@ -328,28 +329,29 @@ module _ (b : BlockLists) (ps : List (ℕ × ℕ)) (rising : AreRising ps) (x at
         by (inl h) = h
         by (inr h) =
             absurd (true≢false
-            (sym (is_before_if (get_or ps p (0, 0)) x at (inr (e, m))) ∙ parted.after p h l))
+            (sym (is_pair_before_if (get_or ps p (0, 0)) x at (inr (e, m))) ∙ parted.after p h l))
 
     pub added_end : (left : ℕ) (old now : List (ℕ × ℕ)) → Added b ps x at start left old now
         → (0 < left → (get_or ps (left - 1) (0, 0)).0 ≢ x)
         → (j y : ℕ)
         → has_pair now j y
-        ≡ (has_pair old j y || (nat_eq y x && (has_pair ps x j && is_live b j at)))
+        ≡ (has_pair old j y || (nat_eq y x && (has_pair ps x j && is_active_local b j at)))
     added_end left old now a n j y =
         same_tests (has_pair now j y)
-        (has_pair old j y || (nat_eq y x && (has_pair ps x j && is_live b j at)))
+        (has_pair old j y || (nat_eq y x && (has_pair ps x j && is_active_local b j at)))
         (λ e. forth (a.only j y e)) (λ e. back (has_pair old j y) refl e)
       where
         forth : (has_pair old j y ≡ true)
-            ⊎ ((y ≡ x) × (has_pair ps x j ≡ true) × (is_live b j at ≡ true))
-            → (has_pair old j y || (nat_eq y x && (has_pair ps x j && is_live b j at))) ≡ true
-        forth (inl e) = ap (λ c. c || (nat_eq y x && (has_pair ps x j && is_live b j at))) e
+            ⊎ ((y ≡ x) × (has_pair ps x j ≡ true) × (is_active_local b j at ≡ true))
+            → (has_pair old j y || (nat_eq y x && (has_pair ps x j && is_active_local b j at)))
+            ≡ true
+        forth (inl e) = ap (λ c. c || (nat_eq y x && (has_pair ps x j && is_active_local b j at))) e
         forth (inr (s, h, o)) =
             ap (λ c. has_pair old j y || c)
             (ap₂ (λ u v. u && v) (eq-eqb y x s) (ap₂ (λ u v. u && v) h o))
             ∙ or-true (has_pair old j y)
 
-        found : has_pair ps x j ≡ true → is_live b j at ≡ true → has_pair now j x ≡ true
+        found : has_pair ps x j ≡ true → is_active_local b j at ≡ true → has_pair now j x ≡ true
         found h o =
             let w = has_at ps x j h in
             let p = w.0 in
@@ -366,15 +368,16 @@ module _ (b : BlockLists) (ps : List (ℕ × ℕ)) (rising : AreRising ps) (x at
                 ∙ a.all p q l e (ap (λ i. nat_le at (end_of b i)) f ∙ r)
 
         back : (c : Bool) → has_pair old j y ≡ c
-            → (c || (nat_eq y x && (has_pair ps x j && is_live b j at))) ≡ true
+            → (c || (nat_eq y x && (has_pair ps x j && is_active_local b j at))) ≡ true
             → has_pair now j y ≡ true
         back true e h = a.kept j y e
         back false e h =
-            let s = eqb-true y x (and_parts (nat_eq y x) (has_pair ps x j && is_live b j at) h).0 in
-            let r = (and_parts (nat_eq y x) (has_pair ps x j && is_live b j at) h).1 in
+            let s =
+            eqb-true y x (and_parts (nat_eq y x) (has_pair ps x j && is_active_local b j at) h).0 in
+            let r = (and_parts (nat_eq y x) (has_pair ps x j && is_active_local b j at) h).1 in
             ap (has_pair now j) s
-            ∙ found (and_parts (has_pair ps x j) (is_live b j at) r).0
-            (and_parts (has_pair ps x j) (is_live b j at) r).1
+            ∙ found (and_parts (has_pair ps x j) (is_active_local b j at) r).0
+            (and_parts (has_pair ps x j) (is_active_local b j at) r).1
 
 -- ---- whether two symbols have one together
 
@@ -382,14 +385,14 @@ module _ (b : BlockLists) (ps : List (ℕ × ℕ)) (rising : AreRising ps) (x at
 pub record NoneInCommon (b : BlockLists) (ps : List (ℕ × ℕ)) (x y at left right : ℕ) : Type 0 where
   pub met : (p q : ℕ) → p < length ps → q < length ps → (get_or ps p (0, 0)).0 ≡ x
       → (get_or ps q (0, 0)).0 ≡ y → (get_or ps p (0, 0)).1 ≡ (get_or ps q (0, 0)).1
-      → is_live b (get_or ps p (0, 0)).1 at ≡ true → (p < left) × (q < right)
+      → is_active_local b (get_or ps p (0, 0)).1 at ≡ true → (p < left) × (q < right)
 
 module _ (b : BlockLists) (ps : List (ℕ × ℕ)) (rising : AreRising ps) (x y at : ℕ) where
   pub none_at_start : (left right : ℕ) → left ≤ length ps → right ≤ length ps
-      → ((p : ℕ) → p < left → is_before (get_or ps p (0, 0)) x at ≡ true)
-      → ((p : ℕ) → left ≤ p → p < length ps → is_before (get_or ps p (0, 0)) x at ≡ false)
-      → ((p : ℕ) → p < right → is_before (get_or ps p (0, 0)) y at ≡ true)
-      → ((p : ℕ) → right ≤ p → p < length ps → is_before (get_or ps p (0, 0)) y at ≡ false)
+      → ((p : ℕ) → p < left → is_pair_before (get_or ps p (0, 0)) x at ≡ true)
+      → ((p : ℕ) → left ≤ p → p < length ps → is_pair_before (get_or ps p (0, 0)) x at ≡ false)
+      → ((p : ℕ) → p < right → is_pair_before (get_or ps p (0, 0)) y at ≡ true)
+      → ((p : ℕ) → right ≤ p → p < length ps → is_pair_before (get_or ps p (0, 0)) y at ≡ false)
       → NoneInCommon b ps x y at left right
   none_at_start left right l r bl al br ar = record {
     met = λ p q h i e f s o.
@@ -419,7 +422,7 @@ module _ (b : BlockLists) (ps : List (ℕ × ℕ)) (rising : AreRising ps) (x y 
           less (inr (s, m)) = omega (arith, m)
 
   closed : (p : ℕ) → nat_le at (end_of b (get_or ps p (0, 0)).1) ≡ false
-      → is_live b (get_or ps p (0, 0)).1 at ≡ true → ⊥
+      → is_active_local b (get_or ps p (0, 0)).1 at ≡ true → ⊥
   closed p c o =
       true≢false
       (sym (and_parts (nat_lt (get_or ps p (0, 0)).1 at)
@@ -442,7 +445,7 @@ module _ (b : BlockLists) (ps : List (ℕ × ℕ)) (rising : AreRising ps) (x y 
     where
       by : (p q : ℕ) → p < left → q < right → (get_or ps q (0, 0)).0 ≡ y
           → (get_or ps p (0, 0)).1 ≡ (get_or ps q (0, 0)).1
-          → is_live b (get_or ps p (0, 0)).1 at ≡ true → (p < next) ⊎ (next ≤ p)
+          → is_active_local b (get_or ps p (0, 0)).1 at ≡ true → (p < next) ⊎ (next ≤ p)
           → ((get_or ps (right - 1) (0, 0)).1 < (get_or ps (left - 1) (0, 0)).1)
           ⊎ (nat_le at (end_of b (get_or ps (left - 1) (0, 0)).1) ≡ false) → p < next
       by p q l r f s o (inl m) w = m
@@ -475,12 +478,12 @@ module _ (b : BlockLists) (ps : List (ℕ × ℕ)) (rising : AreRising ps) (x y 
     where
       by : (p q : ℕ) → p < left → q < right → (get_or ps p (0, 0)).0 ≡ x
           → (get_or ps p (0, 0)).1 ≡ (get_or ps q (0, 0)).1
-          → is_live b (get_or ps p (0, 0)).1 at ≡ true → (q < next) ⊎ (next ≤ q) → q < next
+          → is_active_local b (get_or ps p (0, 0)).1 at ≡ true → (q < next) ⊎ (next ≤ q) → q < next
       by p q l r e s o (inl m) = m
       by p q l r e s o (inr m) = absurd (last (cases_lt (q + 1) right))
         where
           last : (q + 1 < right) ⊎ (right ≤ q + 1) → ⊥
-          last (inl n) = closed q (passed q m n) (ap (λ j. is_live b j at) (sym s) ∙ o)
+          last (inl n) = closed q (passed q m n) (ap (λ j. is_active_local b j at) (sym s) ∙ o)
           last (inr n) =
               let t : q ≡ right - 1 = omega (arith, r, n) in
               let u = ap (λ i. (get_or ps i (0, 0)).1) t in
@@ -492,11 +495,12 @@ module _ (b : BlockLists) (ps : List (ℕ × ℕ)) (rising : AreRising ps) (x y 
   pub none_at_end : (left right : ℕ) → NoneInCommon b ps x y at left right
       → ((p : ℕ) → p < left → (get_or ps p (0, 0)).0 ≡ x → ⊥)
       ⊎ ((p : ℕ) → p < right → (get_or ps p (0, 0)).0 ≡ y → ⊥)
-      → (j : ℕ) → has_pair ps x j ≡ true → has_pair ps y j ≡ true → is_live b j at ≡ false
-  none_at_end left right a none j hx hy = false_from_ne_true (is_live b j at) (λ o.
+      → (j : ℕ) → has_pair ps x j ≡ true → has_pair ps y j ≡ true → is_active_local b j at ≡ false
+  none_at_end left right a none j hx hy = false_from_ne_true (is_active_local b j at) (λ o.
       let w = has_at ps x j hx in
       let v = has_at ps y j hy in
-      let m = a.met w.0 v.0 w.1 v.1 w.2 v.2 (w.3 ∙ sym v.3) (ap (λ i. is_live b i at) w.3 ∙ o) in
+      let m =
+      a.met w.0 v.0 w.1 v.1 w.2 v.2 (w.3 ∙ sym v.3) (ap (λ i. is_active_local b i at) w.3 ∙ o) in
       by w.0 v.0 m.0 m.1 w.2 v.2 none)
     where
       by : (p q : ℕ) → p < left → q < right → (get_or ps p (0, 0)).0 ≡ x

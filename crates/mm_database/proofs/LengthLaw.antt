@@ -3,10 +3,10 @@ use Rattle.std.proofs.Common.{ℕ, ◌≤◌, List, [], ◌∷◌, flat_map, len
 use Rattle.std.proofs.Common.{length-append}
 use Rattle.std.proofs.lemmas.List.{length-map}
 use Rattle.mm_spec.specs.declared.Fault.{Fault}
-use Rattle.mm_spec.specs.Lexed.{tokens_of}
+use Rattle.mm_spec.specs.Lexed.{tokens_of, lexed_of}
 use Rattle.mm_spec.specs.Statement.{Statement, constants, variables, disjoint, floating, essential}
 use Rattle.mm_spec.specs.Statement.{axiomatic, provable, opening, closing, spelled}
-use Rattle.mm_spec.specs.Output.{IsRead, lexed_of}
+use Rattle.mm_spec.specs.Output.{IsRead}
 use Rattle.mm_outline.specs.Parts.{token_of}
 use Rattle.mm_outline.proofs.TokensLaw.{tokens_few}
 

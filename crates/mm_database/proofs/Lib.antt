@@ -6,7 +6,7 @@
 -- were joined (`more_joined`, `part_between`, `CutsLaw.antt`): labels and proofs (`label_kept` and
 -- `proof_kept`, `KeptLaw.antt`), and the labels of theorems (`spaced_slice`, `SpacedLaw.antt`).
 -- A frame is found by its place, which stays its own as frames are added (`frame_at_place` and
--- `placed_more`, `PlacesLaw.antt`).
+-- `frames_at_more`, `PlacesLaw.antt`).
 -- `are_together` finds a `$d` of two variables by `none_left` and `none_right`
 -- (`DisjointIndexLaw.antt`), among pairs that begin where `StartsLaw.antt` says, and `together_is`
 -- (`TogetherLaw.antt`) says what that answers; `near_is` (`NearLaw.antt`) says it of a `$d` found

@@ -16,7 +16,7 @@ use Rattle.mm_spec.specs.Citation.{is_assertion}
 use Rattle.mm_outline.specs.Blocks.{never}
 use Rattle.mm_outline.proofs.StatementsLaw.{is_there}
 use Rattle.mm_database.specs.Frames.{Mandatory, mandatory_at, mandatory_in, frame_or_none}
-use Rattle.mm_database.specs.Frames.{frames_before, placed, ArePlaces}
+use Rattle.mm_database.specs.Frames.{frames_before, frames_at, AreFramePlaces}
 use Rattle.mm_database.specs.declared.frames.Frame.{Frame}
 
 -- the frame of an assertion among all frames
@@ -44,16 +44,18 @@ module _ {A : Type 0} (fs : List (Frame A)) where
 
   kept : (f : Frame A) (ps : List ℕ) → length fs < never
       → ((i : ℕ) → i < length ps → (slice_index ps i < length fs) ⊎ (slice_index ps i ≡ never))
-      → placed (fs ++ f ∷ []) ps ≡ placed fs ps
+      → frames_at (fs ++ f ∷ []) ps ≡ frames_at fs ps
   kept f [] few each = refl
   kept f (p ∷ ps) few each =
       ap₂ (λ o l. o ∷ l) (kept_at f p few (each 0 (omega arith)))
       (kept f ps few (λ i l. each (suc i) (omega (arith, l))))
 
   -- a frame more
-  pub placed_more : (f : Frame A) (ps : List ℕ) → ArePlaces (length fs) ps → length fs < never
-      → placed (fs ++ f ∷ []) (ps ++ length fs ∷ []) ≡ placed fs ps ++ Some (mandatory_in f) ∷ []
-  placed_more f ps are few =
+  pub frames_at_more : (f : Frame A) (ps : List ℕ) → AreFramePlaces (length fs) ps
+      → length fs < never
+      → frames_at (fs ++ f ∷ []) (ps ++ length fs ∷ [])
+      ≡ frames_at fs ps ++ Some (mandatory_in f) ∷ []
+  frames_at_more f ps are few =
       let longer = length_push fs f in
       map_push (λ p. option_map mandatory_in (slice_get (fs ++ f ∷ []) p)) ps (length fs)
       ∙ ap₂ (λ l o. l ++ o ∷ []) (kept f ps few are.each)
@@ -61,42 +63,42 @@ module _ {A : Type 0} (fs : List (Frame A)) where
       (slice_get-get_or (fs ++ f ∷ []) (length fs) f (omega (arith, longer))
       ∙ ap Some (get_or_push fs f f (length fs) refl)))
 
-  pub as_many_places : (ps : List ℕ) → length (placed fs ps) ≡ length ps
+  pub as_many_places : (ps : List ℕ) → length (frames_at fs ps) ≡ length ps
   as_many_places ps = length-map ps (λ p. option_map mandatory_in (slice_get fs p))
 
   -- a statement without a frame more
-  pub placed_none : (ps : List ℕ) → length fs ≤ never
-      → placed fs (ps ++ never ∷ []) ≡ placed fs ps ++ None ∷ []
-  placed_none ps few =
+  pub frames_at_none : (ps : List ℕ) → length fs ≤ never
+      → frames_at fs (ps ++ never ∷ []) ≡ frames_at fs ps ++ None ∷ []
+  frames_at_none ps few =
       map_push (λ p. option_map mandatory_in (slice_get fs p)) ps never
-      ∙ ap (λ o. placed fs ps ++ option_map mandatory_in o ∷ []) (slice_get_past fs never few)
+      ∙ ap (λ o. frames_at fs ps ++ option_map mandatory_in o ∷ []) (slice_get_past fs never few)
 
   -- where a frame is, there is its place
-  pub place_there : (ps : List ℕ) (k : ℕ) → IsSome (get_or (placed fs ps) k None) → k < length ps
+  pub place_there : (ps : List ℕ) (k : ℕ) → IsSome (get_or (frames_at fs ps) k None) → k < length ps
   place_there ps k is = by (cases_lt k (length ps))
     where
       by : (k < length ps) ⊎ (length ps ≤ k) → k < length ps
       by (inl l) = l
       by (inr l) =
           let n = as_many_places ps in
-          let none = get_or_past (placed fs ps) k None (omega (arith, l, n)) in
+          let none = get_or_past (frames_at fs ps) k None (omega (arith, l, n)) in
           absurd (true≢false (sym is ∙ ap is_some none))
 
   -- and its place is that of one of the frames
-  pub frame_at_place : (ps : List ℕ) (k p : ℕ) → IsSome (get_or (placed fs ps) k None)
+  pub frame_at_place : (ps : List ℕ) (k p : ℕ) → IsSome (get_or (frames_at fs ps) k None)
       → p ≡ slice_index ps k → (p < length fs) × ((d : Frame A)
-      → get_or (placed fs ps) k None ≡ Some (mandatory_in (get_or fs p d)))
+      → get_or (frames_at fs ps) k None ≡ Some (mandatory_in (get_or fs p d)))
   frame_at_place ps k p is e = by (cases_lt p (length fs))
     where
       at : ℕ → Option Mandatory
       at q = option_map mandatory_in (slice_get fs q)
 
-      here : get_or (placed fs ps) k None ≡ at p
+      here : get_or (frames_at fs ps) k None ≡ at p
       here = get_or-map at ps k 0 None (place_there ps k is) ∙ ap at (sym e)
 
       by : (p < length fs) ⊎ (length fs ≤ p)
           → (p < length fs) × ((d : Frame A)
-          → get_or (placed fs ps) k None ≡ Some (mandatory_in (get_or fs p d)))
+          → get_or (frames_at fs ps) k None ≡ Some (mandatory_in (get_or fs p d)))
       by (inl l) = (l, λ d. here ∙ ap (option_map mandatory_in) (slice_get-get_or fs p d l))
       by (inr l) =
           absurd (true≢false

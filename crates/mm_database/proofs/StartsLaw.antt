@@ -6,9 +6,9 @@ use Rattle.std.proofs.lemmas.Bool.{cases_lt, cases_eq, lt-ltb, ltb-true, false_f
 use Rattle.std.specs.List.Sorted.{IsPartitionedBy, IsPartitionPoint}
 use Rattle.std.proofs.lemmas.List.{get_or_push, get_or_append_left, get_or_past, get_or_default}
 use Rattle.std.proofs.lemmas.List.{get_or-take, get_or-drop, length-take-le, length-drop}
-use Rattle.mm_database.specs.Pairs.{IsBefore, is_before, AreRising}
+use Rattle.mm_database.specs.Pairs.{IsBefore, is_pair_before, AreRising}
 use Rattle.mm_database.specs.Starts.{IsStart, AreStarts}
-use Rattle.mm_database.proofs.DisjointIndexLaw.{rising_at, is_before_if, before_is}
+use Rattle.mm_database.proofs.DisjointIndexLaw.{rising_at, is_pair_before_if, before_is}
 
 -- the starts that the first n pairs tell
 pub record StartsTo (ps : List (ℕ × ℕ)) (n : ℕ) (starts : List ℕ) : Type 0 where
@@ -143,11 +143,11 @@ module _ (ps : List (ℕ × ℕ)) (rising : AreRising ps) (x at from to : ℕ) (
   module _ (n : ℕ) (bound : n ≤ length (slice_range ps from to))
       (point : IsPartitionPoint (λ y. nat_lt y.1 at ≡ true) (λ y. nat_lt y.1 at ≡ false)
       (slice_range ps from to) n) where
-    pub before_point : (p : ℕ) → p < from + n → is_before (get_or ps p (0, 0)) x at ≡ true
+    pub before_point : (p : ℕ) → p < from + n → is_pair_before (get_or ps p (0, 0)) x at ≡ true
     before_point p l = by (cases_lt p from)
       where
-        by : (p < from) ⊎ (from ≤ p) → is_before (get_or ps p (0, 0)) x at ≡ true
-        by (inl k) = is_before_if (get_or ps p (0, 0)) x at (inl (first.before p k))
+        by : (p < from) ⊎ (from ≤ p) → is_pair_before (get_or ps p (0, 0)) x at ≡ true
+        by (inl k) = is_pair_before_if (get_or ps p (0, 0)) x at (inl (first.before p k))
         by (inr k) =
             let long = part_long in
             let short : p - from < to - from = omega (arith, k, l, bound, long) in
@@ -157,13 +157,13 @@ module _ (ps : List (ℕ × ℕ)) (rising : AreRising ps) (x at from to : ℕ) (
             (ap (λ (q : ℕ × ℕ). nat_lt q.1 at)
             (sym (part_at (p - from) (0, 0) short ∙ ap (λ i. get_or ps i (0, 0)) same))
             ∙ point.0 (p - from) (0, 0) (omega arith) (omega (arith, k, l))) in
-            is_before_if (get_or ps p (0, 0)) x at
+            is_pair_before_if (get_or ps p (0, 0)) x at
             (inr (here p (0, 0) k (omega (arith, short, k)), less))
 
     pub after_point : (p : ℕ) → from + n ≤ p → p < length ps
-        → is_before (get_or ps p (0, 0)) x at ≡ false
+        → is_pair_before (get_or ps p (0, 0)) x at ≡ false
     after_point p l m =
-        false_from_ne_true (is_before (get_or ps p (0, 0)) x at)
+        false_from_ne_true (is_pair_before (get_or ps p (0, 0)) x at)
         (λ e. never (before_is (get_or ps p (0, 0)) x at e) (cases_lt p to))
       where
         never : IsBefore (get_or ps p (0, 0)).0 (get_or ps p (0, 0)).1 x at → (p < to) ⊎ (to ≤ p)

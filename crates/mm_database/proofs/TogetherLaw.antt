@@ -10,18 +10,19 @@ use Rattle.mm_spec.specs.Frame.{is_disjoint_statement, active_of, formula_at}
 use Rattle.mm_spec.proofs.BoolLaw.{same_tests}
 use Rattle.mm_spec.proofs.MemberLaw.{active_member, disjoint_local, any_witness, any_of}
 use Rattle.mm_outline.specs.Blocks.{BlockLists, IsBlocks, end_of}
-use Rattle.mm_database.specs.DisjointIndex.{has_symbol, is_live}
+use Rattle.mm_database.specs.DisjointIndex.{has_symbol, is_active_local}
 use Rattle.mm_database.specs.Pairs.{has_pair}
 use Rattle.mm_database.specs.Together.{are_together_at}
 
 module _ (db : List Statement) (b : BlockLists) (blocks : IsBlocks db b) (k : ℕ)
     (h : k ≤ length db) where
-  pub live_is : (j : ℕ) → list_any is_disjoint_statement (statement_at db j) ≡ true
-      → is_live b j k ≡ is_member (active_of is_disjoint_statement db k) j
-  live_is j t = by (cases_lt j k) ∙ sym (active_member is_disjoint_statement db disjoint_local k j)
+  pub active_local_is : (j : ℕ) → list_any is_disjoint_statement (statement_at db j) ≡ true
+      → is_active_local b j k ≡ is_member (active_of is_disjoint_statement db k) j
+  active_local_is j t =
+      by (cases_lt j k) ∙ sym (active_member is_disjoint_statement db disjoint_local k j)
     where
       by : (j < k) ⊎ (k ≤ j)
-          → is_live b j k
+          → is_active_local b j k
           ≡ (nat_lt j k && (list_any is_disjoint_statement (statement_at db j) && stays db j k))
       by (inl l) = ap (λ c. nat_lt j k && c) (sym (ap₂ (λ p q. p && q) t (blocks.ended j k l h)))
       by (inr g) =
@@ -40,9 +41,10 @@ module _ (db : List Statement) (b : BlockLists) (blocks : IsBlocks db b) (k : �
     -- the answer to whether an active `$d` has both
     pub together_is : (r : Bool) (x y : ℕ)
         → (r ≡ true
-        → (j : ℕ) × (has_pair ps x j ≡ true) × (has_pair ps y j ≡ true) × (is_live b j k ≡ true))
+        → (j : ℕ) × (has_pair ps x j ≡ true) × (has_pair ps y j ≡ true)
+        × (is_active_local b j k ≡ true))
         → (r ≡ false → (j : ℕ) → has_pair ps x j ≡ true → has_pair ps y j ≡ true
-        → is_live b j k ≡ false)
+        → is_active_local b j k ≡ false)
         → r ≡ are_together_at db k x y
     together_is r x y found none =
         same_tests r (are_together_at db k x y) forth (λ e. back r refl e)
@@ -57,7 +59,7 @@ module _ (db : List Statement) (b : BlockLists) (blocks : IsBlocks db b) (k : �
             (and_parts (list_any is_disjoint_statement (statement_at db j))
             (is_member (formula_at db j) x) ex).0 in
             any_of (λ i. is_member (formula_at db i) x && is_member (formula_at db i) y)
-            (active_of is_disjoint_statement db k) j (sym (live_is j t) ∙ w.3)
+            (active_of is_disjoint_statement db k) j (sym (active_local_is j t) ∙ w.3)
             (ap₂ (λ p q. p && q)
             (and_parts (list_any is_disjoint_statement (statement_at db j))
             (is_member (formula_at db j) x) ex).1
@@ -78,4 +80,4 @@ module _ (db : List Statement) (b : BlockLists) (blocks : IsBlocks db b) (k : �
             let ey =
             are y j ∙ ap₂ (λ p q. p && q) d
             (and_parts (is_member (formula_at db j) x) (is_member (formula_at db j) y) w.2).1 in
-            absurd (true≢false (sym (live_is j d ∙ w.1) ∙ none e j ex ey))
+            absurd (true≢false (sym (active_local_is j d ∙ w.1) ∙ none e j ex ey))

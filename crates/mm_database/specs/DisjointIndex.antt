@@ -14,8 +14,8 @@ has_symbol db x j =
     list_any is_disjoint_statement (statement_at db j) && is_member (formula_at db j) x
 
 -- statement j is before k, and its block is open there
-abbrev pub is_live : BlockLists → ℕ → ℕ → Bool
-is_live b j k = nat_lt j k && nat_le k (end_of b j)
+abbrev pub is_active_local : BlockLists → ℕ → ℕ → Bool
+is_active_local b j k = nat_lt j k && nat_le k (end_of b j)
 
 -- the statements of the pairs have a block
 abbrev pub AreKnown : BlockLists → List (ℕ × ℕ) → Type 0

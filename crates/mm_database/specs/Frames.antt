@@ -37,11 +37,11 @@ module _ {A : Type 0} where
   mandatory_in f = mandatory f.hyps.items (map (λ p. pair p.0 p.1) f.pairs.items)
 
   -- the frame of each statement by its place, none if the place is past the end of the frames
-  abbrev pub placed : List (Frame A) → List ℕ → List (Option Mandatory)
-  placed frames places = map (λ p. option_map mandatory_in (slice_get frames p)) places
+  abbrev pub frames_at : List (Frame A) → List ℕ → List (Option Mandatory)
+  frames_at frames places = map (λ p. option_map mandatory_in (slice_get frames p)) places
 
 -- each place is that of one of the frames, or `never`, which is past their end
-pub record ArePlaces (count : ℕ) (places : List ℕ) : Type 0 where
+pub record AreFramePlaces (count : ℕ) (places : List ℕ) : Type 0 where
   pub no_more : count ≤ length places
   pub few : count ≤ never
   pub each : (i : ℕ) → i < length places

@@ -1,7 +1,6 @@
 pub use Rattle.mm_outline.specs.Blocks
 pub use Rattle.mm_outline.specs.Parts
 pub use Rattle.mm_outline.specs.Statements
-pub use Rattle.mm_outline.specs.Numbered
 pub mod Names
 pub mod Labels
 pub mod Pairs
@@ -10,6 +9,7 @@ pub mod Together
 pub mod DisjointIndex
 pub mod Frames
 pub mod Beside
+pub mod Numbered
 pub mod Parsed
 pub mod Cuts
 pub mod Kinds

@@ -12,8 +12,8 @@ abbrev pub IsBefore : ℕ → ℕ → ℕ → ℕ → Type 0
 IsBefore a b x y = (a < x) ⊎ ((a ≡ x) × (b < y))
 
 -- whether a pair is before another
-abbrev pub is_before : ℕ × ℕ → ℕ → ℕ → Bool
-is_before p x y = nat_lt p.0 x || (nat_eq p.0 x && nat_lt p.1 y)
+abbrev pub is_pair_before : ℕ × ℕ → ℕ → ℕ → Bool
+is_pair_before p x y = nat_lt p.0 x || (nat_eq p.0 x && nat_lt p.1 y)
 
 -- each is before those after it
 abbrev pub AreRising : List (ℕ × ℕ) → Type 0

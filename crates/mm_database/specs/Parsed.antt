@@ -8,7 +8,7 @@ use Rattle.mm_spec.specs.Scope.{statement_at, constants_of, variables_of}
 use Rattle.mm_spec.specs.Lawful.{scope_fault}
 use Rattle.mm_spec.specs.Frame.{symbol_names, is_variable_number, is_floating, formula_at}
 use Rattle.mm_outline.specs.Blocks.{BlockLists, IsBlocks}
-use Rattle.mm_outline.specs.Numbered.{AreNumbered}
+use Rattle.mm_database.specs.Numbered.{AreNumbered}
 
 -- a text, its statements as they were read, and the blocks in which these are
 pub record Parsed : Type 0 where

@@ -15,7 +15,8 @@ ghost use Rattle.mm_spec.specs.Frame.{mandatory_hypotheses, mandatory_pairs, dis
 ghost use Rattle.mm_spec.specs.NormalProof.{is_labelled};
 ghost use Rattle.mm_spec.specs.Citation.{is_assertion};
 ghost use Rattle.mm_spec.specs.Laws.Complete.{AreComplete};
-ghost use Rattle.mm_spec.specs.Output.{IsRead, lexed_of, theorems, columns, label_at};
+ghost use Rattle.mm_spec.specs.Lexed.{lexed_of};
+ghost use Rattle.mm_spec.specs.Output.{IsRead, theorems, columns, label_at};
 ghost use Rattle.mm_outline.specs.Parts.{as_tokens, AreWithin};
 ghost use Rattle.mm_database.specs.Database.{kind_of, last_place, typecode_of, contents_of};
 ghost use Rattle.mm_database.specs.Database.{IsDatabase};

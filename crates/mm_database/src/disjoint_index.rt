@@ -4,8 +4,8 @@
 ghost use Rattle.std.specs.Prelude.{◌≡◌, ◌≢◌, ◌<◌, ◌≤◌, ◌+◌, ◌-◌, ◌&&◌, ◌||◌, ℕ, OnOk};
 ghost use Rattle.std.specs.Prelude.{length, get_or, nat_eq, nat_lt, nat_le, true, false};
 ghost use Rattle.mm_outline.specs.Blocks.{end_of};
-ghost use Rattle.mm_database.specs.DisjointIndex.{pair_lists, is_live, IsOrdered};
-ghost use Rattle.mm_database.specs.Pairs.{has_pair, AreRising, is_before};
+ghost use Rattle.mm_database.specs.DisjointIndex.{pair_lists, is_active_local, IsOrdered};
+ghost use Rattle.mm_database.specs.Pairs.{has_pair, AreRising, is_pair_before};
 ghost use Rattle.mm_database.specs.Starts.{IsStart, AreStarts};
 
 use mm_outline::blocks::Blocks;
@@ -81,9 +81,10 @@ fn count_before(pairs: &[(u32, u32)], starts: &[usize], symbol: u32, at: u32) ->
     requires rising { AreRising pairs.now }
     requires starts { AreStarts pairs.now starts.now }
     ensures within { result ≤ length pairs.now }
-    ensures before { (p : ℕ) → p < result → is_before (get_or pairs.now p (0, 0)) symbol at ≡ true }
+    ensures before { (p : ℕ)
+        → p < result → is_pair_before (get_or pairs.now p (0, 0)) symbol at ≡ true }
     ensures after { (p : ℕ) → result ≤ p → p < length pairs.now
-        → is_before (get_or pairs.now p (0, 0)) symbol at ≡ false }
+        → is_pair_before (get_or pairs.now p (0, 0)) symbol at ≡ false }
 {
     let from = start_of(pairs, starts, symbol as usize);
     let to = start_of(pairs, starts, symbol as usize + 1);
@@ -140,7 +141,7 @@ pub fn add_active<A: Allocator>(
         → has_pair into.new.items j y
         ≡ (has_pair into.old.items j y
         || (nat_eq y symbol
-        && (has_pair disjoint_index.now.pairs symbol j && is_live blocks.now j at)))) }
+        && (has_pair disjoint_index.now.pairs symbol j && is_active_local blocks.now j at)))) }
 {
     let pairs = disjoint_index.pairs.as_slice();
     let starts = disjoint_index.starts.as_slice();
@@ -167,9 +168,10 @@ pub(crate) fn are_together<A: Allocator>(
     requires ordered { IsOrdered blocks.now disjoint_index.now }
     ensures found { result ≡ true
         → (j : ℕ) × (has_pair disjoint_index.now.pairs x j ≡ true)
-        × (has_pair disjoint_index.now.pairs y j ≡ true) × (is_live blocks.now j at ≡ true) }
+        × (has_pair disjoint_index.now.pairs y j ≡ true)
+        × (is_active_local blocks.now j at ≡ true) }
     ensures none { result ≡ false → (j : ℕ) → has_pair disjoint_index.now.pairs x j ≡ true
-        → has_pair disjoint_index.now.pairs y j ≡ true → is_live blocks.now j at ≡ false }
+        → has_pair disjoint_index.now.pairs y j ≡ true → is_active_local blocks.now j at ≡ false }
 {
     let pairs = disjoint_index.pairs.as_slice();
     let starts = disjoint_index.starts.as_slice();

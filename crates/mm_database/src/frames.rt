@@ -37,13 +37,13 @@ impl<A: Allocator> Drop for Frames<A> {
 
 impl<A: Allocator> Model for Frames<A> {
     ghost use Rattle.std.specs.Prelude.{List, Option, length};
-    ghost use Rattle.mm_database.specs.Frames.{Mandatory, placed, ArePlaces};
+    ghost use Rattle.mm_database.specs.Frames.{Mandatory, frames_at, AreFramePlaces};
 
     ghost Value = { List (Option Mandatory) };
 
-    ghost view = { λ f. placed f.list.items f.places.items };
+    ghost view = { λ f. frames_at f.list.items f.places.items };
 
-    ghost invariant = { λ f. ArePlaces (length f.list.items) f.places.items };
+    ghost invariant = { λ f. AreFramePlaces (length f.list.items) f.places.items };
 }
 
 impl<A: Allocator + Copy> Frames<A> {

@@ -198,7 +198,7 @@ impl<'a, A: Allocator> Statements<'a, A> {
 
     /// Whether the block of a statement is still open before a later one.
     #[inline(always)]
-    pub fn is_open(&self, statement: u32, at: u32) -> bool
+    pub fn is_open_at(&self, statement: u32, at: u32) -> bool
         requires before { statement < at }
         requires within { at ≤ length self.now.list }
         ensures { result ≡ stays self.now.list statement at }

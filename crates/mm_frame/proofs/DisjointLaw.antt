@@ -16,9 +16,9 @@ use Rattle.mm_spec.specs.Frame.{mandatory_variables, mandatory_pairs, disjoint_a
 use Rattle.mm_spec.proofs.BoolLaw.{same_tests}
 use Rattle.mm_spec.proofs.MemberLaw.{any_witness, any_of, member_range}
 use Rattle.mm_outline.specs.Blocks.{BlockLists, IsBlocks}
-use Rattle.mm_database.specs.DisjointIndex.{has_symbol, is_live}
+use Rattle.mm_database.specs.DisjointIndex.{has_symbol, is_active_local}
 use Rattle.mm_database.specs.Pairs.{has_pair, IsBefore, AreRising}
-use Rattle.mm_database.proofs.TogetherLaw.{live_is, kind_of_active}
+use Rattle.mm_database.proofs.TogetherLaw.{active_local_is, kind_of_active}
 use Rattle.mm_database.proofs.DisjointIndexLaw.{has_at, at_has, rising_at}
 use Rattle.mm_frame.specs.Together.{has_later}
 use Rattle.mm_frame.proofs.HypothesesLaw.{mandatory_named}
@@ -239,7 +239,7 @@ module _ (db : List Statement) (b : BlockLists) (blocks : IsBlocks db b) (k : �
     (are : (x j : ℕ) → has_pair ps x j ≡ has_symbol db x j) (found : List ℕ) (had : List (ℕ × ℕ))
     (found_is : (x : ℕ) → is_member found x ≡ is_member (mandatory_variables db k) x)
     (had_is : (j y : ℕ)
-    → has_pair had j y ≡ (is_member found y && (has_pair ps y j && is_live b j k))) where
+    → has_pair had j y ≡ (is_member found y && (has_pair ps y j && is_active_local b j k))) where
   abbrev vs : List ℕ
   vs = mandatory_variables db k
 
@@ -265,16 +265,17 @@ module _ (db : List Statement) (b : BlockLists) (blocks : IsBlocks db b) (k : �
       × (is_member (active_of is_disjoint_statement db k) j ≡ true)
   had_then j y e =
       let f = sym (had_is j y) ∙ e in
-      let r = (and_parts (is_member found y) (has_pair ps y j && is_live b j k) f).1 in
-      let s = sym (are y j) ∙ (and_parts (has_pair ps y j) (is_live b j k) r).0 in
+      let r = (and_parts (is_member found y) (has_pair ps y j && is_active_local b j k) f).1 in
+      let s = sym (are y j) ∙ (and_parts (has_pair ps y j) (is_active_local b j k) r).0 in
       let d =
       (and_parts (list_any is_disjoint_statement (statement_at db j))
       (is_member (formula_at db j) y) s).0 in (
         sym (found_is y)
-            ∙ (and_parts (is_member found y) (has_pair ps y j && is_live b j k) f).0,
+            ∙ (and_parts (is_member found y) (has_pair ps y j && is_active_local b j k) f).0,
         (and_parts (list_any is_disjoint_statement (statement_at db j))
             (is_member (formula_at db j) y) s).1,
-        sym (live_is db b blocks k h j d) ∙ (and_parts (has_pair ps y j) (is_live b j k) r).1,
+        sym (active_local_is db b blocks k h j d)
+            ∙ (and_parts (has_pair ps y j) (is_active_local b j k) r).1,
       )
 
   had_if : (j y : ℕ) → is_member vs y ≡ true → is_member (formula_at db j) y ≡ true
@@ -283,7 +284,8 @@ module _ (db : List Statement) (b : BlockLists) (blocks : IsBlocks db b) (k : �
       let d = kind_of_active db b blocks k h j a in
       had_is j y
       ∙ ap₂ (λ p q. p && q) (found_is y ∙ m)
-      (ap₂ (λ p q. p && q) (are y j ∙ ap₂ (λ p q. p && q) d f) (live_is db b blocks k h j d ∙ a))
+      (ap₂ (λ p q. p && q) (are y j ∙ ap₂ (λ p q. p && q) d f)
+      (active_local_is db b blocks k h j d ∙ a))
 
   forth : (x y : ℕ) → together x y ≡ true
       → (wanted (pair x y)

@@ -23,7 +23,7 @@ use Rattle.mm_spec.specs.Frame.{symbol_names, place_of, is_variable_number, is_f
 use Rattle.mm_spec.specs.Frame.{formula_of}
 use Rattle.mm_spec.proofs.FindsLaw.{range_any}
 use Rattle.mm_spec.proofs.FaultlessLaw.{append_none, least_none}
-use Rattle.mm_outline.specs.Typed.{has, typed_words}
+use Rattle.mm_outline.specs.Typed.{has_word, typed_words}
 use Rattle.mm_database.specs.Parsed.{IsSound, typed_at}
 use Rattle.mm_outline.proofs.FaultlessLaw.{floating_new}
 use Rattle.mm_outline.proofs.AmongLaw.{typed_in, among_active}
@@ -225,7 +225,7 @@ module _ (db : List Statement) (sound : IsSound db) where
       ap (λ o. is_in w (flat_map typed_words (list_at o))) f.is
       ∙ ap (λ b. b || false) ((bytes_eq-Decides w f.variable.word).1 (sym same)) in
       true≢false
-      (sym (range_any (λ i. is_active db i k && has db typed_words w i) k 0 j (omega arith)
+      (sym (range_any (λ i. is_active db i k && has_word db typed_words w i) k 0 j (omega arith)
       (omega arith) (ap₂ (λ a b. a && b) (float_active j v i f k l ∙ e) there))
       ∙ sym (among_active db typed_words w (λ i. is_active db i k) k 0)
       ∙ sym (typed_in w (active_statements db k)) ∙ g.untyped)

@@ -83,7 +83,7 @@ mandatory_next x f es i d xs n b v k h e a m =
     row true k t e = or_assoc k t e
     row false k t e = refl
 
--- the floating statement of the next variable, if it is is_open
+-- the floating statement of the next variable, if it is open
 pub float_pushed : (hs more : List ℕ) (f j : ℕ) (never is_open : Bool) → never ≡ false
     → is_open ≡ true
     → more ≡ hs ++ f ∷ []

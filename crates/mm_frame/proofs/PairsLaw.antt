@@ -1,4 +1,4 @@
--- A list of pairs in order is known by its disjoint_index.
+-- A list of pairs in order is known by its members.
 use Rattle.std.proofs.Common.{◌≡◌, ℕ, zero, suc, ◌+◌, ◌<◌, ◌≤◌, Bool, true, false, ◌&&◌, ◌||◌, cond}
 use Rattle.std.proofs.Common.{List, [], ◌∷◌, ◌++◌, get_or, map, flat_map, nat_eq, refl, sym, ap}
 use Rattle.std.proofs.Common.{ap₂, ◌∙◌, subst, arith, eqb-true, eq-eqb, true≢false, ◌⊎◌, inl, inr}
@@ -177,7 +177,7 @@ after p ps x y e =
     ap (λ b. (nat_eq x p.low && nat_eq y p.high) || b) e
     ∙ or-true (nat_eq x p.low && nat_eq y p.high)
 
--- two lists in order with the same disjoint_index are one
+-- two lists in order with the same members are one
 pub unique : (ps qs : List Pair) → Sorted ps → Sorted qs → ((x y : ℕ) → has ps x y ≡ has qs x y)
     → ps ≡ qs
 unique [] [] s t h = refl

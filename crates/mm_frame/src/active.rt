@@ -19,7 +19,7 @@ fn last_open<A: Allocator>(statements: &Statements<A>, latest: &[u32], first: u3
     ensures { IsLatest is_essential statements.now.list at result }
 {
     let mut last = first;
-    while last != NEVER && !statements.is_open(last, at) {
+    while last != NEVER && !statements.is_open_at(last, at) {
         last = latest[last as usize];
     }
     last

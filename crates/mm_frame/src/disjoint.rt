@@ -5,7 +5,7 @@ ghost use Rattle.std.specs.Prelude.{map};
 ghost use Rattle.std.specs.List.{list_any};
 ghost use Rattle.mm_spec.specs.Derivation.{is_member, pair};
 ghost use Rattle.mm_spec.specs.Frame.{mandatory_variables, mandatory_pairs};
-ghost use Rattle.mm_database.specs.DisjointIndex.{is_live, IsOrdered};
+ghost use Rattle.mm_database.specs.DisjointIndex.{is_active_local, IsOrdered};
 ghost use Rattle.mm_frame.specs.Sources.{AreSources};
 ghost use Rattle.mm_frame.specs.Together.{has_later};
 ghost use Rattle.mm_database.specs.Pairs.{has_pair, AreRising};
@@ -19,40 +19,41 @@ use std::alloc::{AllocError, Allocator};
 
 /// Appends the pairs of the variable at `place` and those after it that are in the same statement.
 fn add_later_pairs<A: Allocator>(
-    had: &[(u32, u32)],
+    by_statement: &[(u32, u32)],
     place: usize,
     pairs: &mut Vec<(u32, u32), A>,
 ) -> Result<(), AllocError>
-    requires rising { AreRising had.now }
-    requires place { place < length had.now }
+    requires rising { AreRising by_statement.now }
+    requires place { place < length by_statement.now }
     ensures { OnOk result
         ((x y : ℕ)
         → has_pair pairs.new.items x y
         ≡ (has_pair pairs.old.items x y
-        || has_later had.now (get_or had.now place (0, 0)) x y)) }
+        || has_later by_statement.now (get_or by_statement.now place (0, 0)) x y)) }
 {
     let mut at = place + 1;
-    while at < had.len() && had[at].0 == had[place].0 {
-        pairs.push((had[place].1, had[at].1))?;
+    while at < by_statement.len() && by_statement[at].0 == by_statement[place].0 {
+        pairs.push((by_statement[place].1, by_statement[at].1))?;
         at += 1;
     }
     Ok(())
 }
 
-/// Appends all pairs of variables that are in the same statement, the lower variable first. `had`
-/// has statements, each paired with variables that it has.
+/// Appends all pairs of variables that are in the same statement, the lower variable first.
+/// `by_statement` has statements, each paired with variables that it has.
 fn add_together<A: Allocator>(
-    had: &[(u32, u32)],
+    by_statement: &[(u32, u32)],
     pairs: &mut Vec<(u32, u32), A>,
 ) -> Result<(), AllocError>
-    requires rising { AreRising had.now }
+    requires rising { AreRising by_statement.now }
     ensures { OnOk result
         ((x y : ℕ)
         → has_pair pairs.new.items x y
-        ≡ (has_pair pairs.old.items x y || list_any (λ p. has_later had.now p x y) had.now)) }
+        ≡ (has_pair pairs.old.items x y
+        || list_any (λ p. has_later by_statement.now p x y) by_statement.now)) }
 {
-    for place in 0..had.len() {
-        add_later_pairs(had, place, pairs)?;
+    for place in 0..by_statement.len() {
+        add_later_pairs(by_statement, place, pairs)?;
     }
     Ok(())
 }
@@ -71,7 +72,7 @@ fn add_all_active<A: Allocator>(
         → has_pair into.new.items j y
         ≡ (has_pair into.old.items j y
         || (is_member symbols.now y
-        && (has_pair disjoint_index.now.pairs y j && is_live blocks.now j at)))) }
+        && (has_pair disjoint_index.now.pairs y j && is_active_local blocks.now j at)))) }
 {
     for symbol in symbols {
         add_active(blocks, disjoint_index, *symbol, at, into)?;
@@ -80,7 +81,7 @@ fn add_all_active<A: Allocator>(
 }
 
 /// Returns the pairs of numbers as pairs of symbols.
-fn symbols_of<A: Allocator + Copy>(
+fn symbol_pairs<A: Allocator + Copy>(
     alloc: A,
     pairs: &[(u32, u32)],
 ) -> Result<Vec<(Sym, Sym), A>, AllocError>
@@ -96,14 +97,15 @@ fn symbols_of<A: Allocator + Copy>(
 
 /// Returns the mandatory pairs of an assertion, by its mandatory variables `found`. The cost is one
 /// step for each active `$d` of each of these variables, and one for each pair in each of these
-/// `$d`. `had` and `together` are filled with these; what they had before is removed.
-pub(crate) fn pairs_of<A: Allocator + Copy>(
+/// `$d`. `variables_by_statement` and `pairs_by_statement` are filled with these; what they had
+/// before is removed.
+pub(crate) fn mandatory_pairs<A: Allocator + Copy>(
     alloc: A,
     sources: &Sources<A>,
     found: &[Sym],
     assertion: u32,
-    had: &mut Vec<(u32, u32), A>,
-    together: &mut Vec<(u32, u32), A>,
+    variables_by_statement: &mut Vec<(u32, u32), A>,
+    pairs_by_statement: &mut Vec<(u32, u32), A>,
 ) -> Result<Vec<(Sym, Sym), A>, AllocError>
     requires sources { AreSources sources.now }
     requires assertion { assertion < length sources.now.statements.now.list }
@@ -114,17 +116,17 @@ pub(crate) fn pairs_of<A: Allocator + Copy>(
         (λ v. map (λ p. pair p.0 p.1) v.items
         ≡ mandatory_pairs sources.now.statements.now.list assertion) }
 {
-    had.clear();
+    variables_by_statement.clear();
     add_all_active(
         sources.statements.blocks(),
         sources.disjoint_index,
         found,
         assertion,
-        had,
+        variables_by_statement,
     )?;
-    sort_and_dedup(had);
-    together.clear();
-    add_together(had, together)?;
-    sort_and_dedup(together);
-    symbols_of(alloc, together)
+    sort_and_dedup(variables_by_statement);
+    pairs_by_statement.clear();
+    add_together(variables_by_statement, pairs_by_statement)?;
+    sort_and_dedup(pairs_by_statement);
+    symbol_pairs(alloc, pairs_by_statement)
 }

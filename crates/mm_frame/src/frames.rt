@@ -10,7 +10,7 @@ ghost use Rattle.mm_frame.specs.Hypotheses.{AreReady, AreTyped, IsFresh};
 ghost use Rattle.mm_database.specs.Beside.{IsBeside};
 
 use crate::active::latest_essentials;
-use crate::disjoint::pairs_of;
+use crate::disjoint::mandatory_pairs;
 use crate::disjoint_index::disjoint_index_of;
 use crate::hypotheses::hypotheses;
 use crate::sources::Sources;
@@ -47,8 +47,8 @@ struct Scratch<A: Allocator> {
     seen: Vec<u32, A>,
     found: Vec<Sym, A>,
     hyps: Vec<u32, A>,
-    had: Vec<(u32, u32), A>,
-    together: Vec<(u32, u32), A>,
+    variables_by_statement: Vec<(u32, u32), A>,
+    pairs_by_statement: Vec<(u32, u32), A>,
 }
 
 /// Lets all fields go in one call, so that a proof has one step for it at each exit.
@@ -58,8 +58,8 @@ impl<A: Allocator> Drop for Scratch<A> {
             seen: _,
             found: _,
             hyps: _,
-            had: _,
-            together: _,
+            variables_by_statement: _,
+            pairs_by_statement: _,
         } = self;
     }
 }
@@ -100,13 +100,13 @@ fn frame_of<A: Allocator + Copy>(
         &mut scratch.hyps,
     )?;
     let hyps = copied(alloc, &scratch.hyps)?;
-    let pairs = pairs_of(
+    let pairs = mandatory_pairs(
         alloc,
         sources,
         &scratch.found,
         assertion,
-        &mut scratch.had,
-        &mut scratch.together,
+        &mut scratch.variables_by_statement,
+        &mut scratch.pairs_by_statement,
     )?;
     Ok(Frame { hyps, pairs })
 }
@@ -161,8 +161,8 @@ pub(crate) fn frames_of<A: Allocator + Copy>(
         seen: filled(alloc, 0, statements.symbol_count())?,
         found: Vec::new(alloc),
         hyps: Vec::new(alloc),
-        had: Vec::new(alloc),
-        together: Vec::new(alloc),
+        variables_by_statement: Vec::new(alloc),
+        pairs_by_statement: Vec::new(alloc),
     };
     let mut frames = Frames::none(alloc, count as usize);
     for k in 0..count {

@@ -18,7 +18,7 @@ use mm_outline::symbol::Sym;
 use std::alloc::{AllocError, Allocator};
 
 /// Marks and lists a symbol if it is a variable and isn't marked yet.
-fn mark<A: Allocator>(
+fn add_variable<A: Allocator>(
     statements: &Statements<A>,
     symbol: Sym,
     stamp: u32,
@@ -48,7 +48,7 @@ fn mark<A: Allocator>(
 }
 
 /// Marks and lists the variables of a formula.
-fn note<A: Allocator>(
+fn add_variables<A: Allocator>(
     statements: &Statements<A>,
     symbols: &[Sym],
     stamp: u32,
@@ -68,14 +68,14 @@ fn note<A: Allocator>(
         || (is_variable_number statements.now.list x && is_member symbols.now x))) }
 {
     for symbol in symbols {
-        mark(statements, *symbol, stamp, seen, found)?;
+        add_variable(statements, *symbol, stamp, seen, found)?;
     }
     Ok(())
 }
 
 /// Marks the mandatory variables of an assertion, and lists them in `found`. Replaces what `found`
 /// has.
-fn mandatory<A: Allocator>(
+fn mandatory_variables<A: Allocator>(
     statements: &Statements<A>,
     essentials: &[u32],
     assertion: u32,
@@ -97,7 +97,7 @@ fn mandatory<A: Allocator>(
         ≡ is_member (mandatory_variables statements.now.list assertion) x) }
 {
     found.clear();
-    note(
+    add_variables(
         statements,
         statements.formula(assertion),
         assertion + 1,
@@ -105,7 +105,7 @@ fn mandatory<A: Allocator>(
         found,
     )?;
     for essential in essentials {
-        note(
+        add_variables(
             statements,
             statements.formula(*essential),
             assertion + 1,
@@ -136,7 +136,7 @@ fn add_floats<A: Allocator>(
     for symbol in found {
         let floating = typed[symbol.number() as usize];
         if floating != NEVER {
-            if statements.is_open(floating, at) {
+            if statements.is_open_at(floating, at) {
                 hyps.push(floating)?;
             }
         }
@@ -178,7 +178,7 @@ pub(crate) fn hypotheses<A: Allocator>(
 {
     let statements = sources.statements;
     active_essentials(statements, sources.essentials, assertion, hyps)?;
-    mandatory(statements, hyps, assertion, seen, found)?;
+    mandatory_variables(statements, hyps, assertion, seen, found)?;
     add_floats(statements, typed, assertion, found, hyps)?;
     sort_and_dedup(hyps);
     Ok(())

@@ -15,7 +15,8 @@ use Rattle.mm_spec.specs.Roles.{has_mark, is_token, opens_comment, closes_commen
 use Rattle.mm_spec.specs.Readings.{Reading, reading, with_tokens, bytes_of}
 use Rattle.mm_spec.specs.Laws.Readings.{go_on}
 use Rattle.mm_laws.specs.Grammar.{Lexeme, Single, Comment, Rest, IsLexeme, IsRest, AreCommentWords}
-use Rattle.mm_laws.specs.Grammar.{words_in, words_open, tokens_in, IsWellBegun, IsFaulty, IsReading}
+use Rattle.mm_laws.specs.Grammar.{words_in, words_in_rest, tokens_in, IsWellBegun, IsFaulty}
+use Rattle.mm_laws.specs.Grammar.{IsReading}
 use Rattle.mm_spec.proofs.ReadingsLaw.{reading_opening, reading_closing, reading_comment}
 use Rattle.mm_spec.proofs.ReadingsLaw.{reading_faulty, reading_end, reading_one, reading_append}
 
@@ -123,7 +124,7 @@ reading_items text (Comment o ws c ∷ items) (h, all) =
     ∙ reading_items text items all
 
 reading_rest : (text : List ℕ) (rest : Rest) → IsRest text rest
-    → reading text None (words_open rest)
+    → reading text None (words_in_rest rest)
     ≡ record { tokens = []; fault = None; comment = option_map (λ p. p.0.start) rest }
 reading_rest text None all = reading_end text None
 reading_rest text (Some (o, ws)) all =
@@ -137,8 +138,8 @@ pub IsWellBegun_reading : (text : List ℕ) (ws ts : List Word) (c : Option ℕ)
     → reading text None ws ≡ record { tokens = ts; fault = None; comment = c }
 IsWellBegun_reading text ws ts c begun =
     ap (reading text None) begun.words
-    ∙ reading_append text None (flat_map words_in begun.items) (words_open begun.rest)
-    ∙ ap (λ (r : Reading). go_on text r (words_open begun.rest))
+    ∙ reading_append text None (flat_map words_in begun.items) (words_in_rest begun.rest)
+    ∙ ap (λ (r : Reading). go_on text r (words_in_rest begun.rest))
     (reading_items text begun.items begun.are_items)
     ∙ ap (with_tokens (flat_map tokens_in begun.items)) (reading_rest text begun.rest begun.is_rest)
     ∙ rw (append-nil, begun.same_tokens, begun.same_comment) refl
@@ -160,7 +161,8 @@ IsWellBegun_cons text item ws ts c is begun = record {
   is_rest = begun.is_rest;
   words =
       ap (λ (us : List Word). words_in item ++ us) begun.words
-      ∙ sym (append_assoc (words_in item) (flat_map words_in begun.items) (words_open begun.rest));
+      ∙ sym (append_assoc (words_in item) (flat_map words_in begun.items)
+      (words_in_rest begun.rest));
   same_tokens = ap (λ (us : List Word). tokens_in item ++ us) begun.same_tokens;
   same_comment = begun.same_comment;
 }

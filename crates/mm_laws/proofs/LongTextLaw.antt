@@ -13,7 +13,8 @@ use Rattle.mm_spec.specs.Readings.{bytes_of}
 use Rattle.mm_spec.specs.Opened.{counted}
 use Rattle.mm_spec.specs.Report.{line, refusal}
 use Rattle.mm_spec.specs.Request.{Request}
-use Rattle.mm_spec.specs.Output.{LexedText, lexed_of, IsRead, AllAreValid, FirstFault, IsOutput}
+use Rattle.mm_spec.specs.Lexed.{LexedText, lexed_of}
+use Rattle.mm_spec.specs.Output.{IsRead, AllAreValid, FirstFault, IsOutput}
 use Rattle.mm_laws.specs.Laws.LongTexts.{LongTextsAreRefused, FrontsDecide}
 use Rattle.mm_spec.proofs.LexedLaw.{tokens_of_long, lexical_fault_long}
 use Rattle.mm_spec.proofs.LongestLaw.{is_longest}

@@ -25,7 +25,8 @@ use Rattle.mm_spec.specs.declared.Choice.TheVariants.{All, Matrix, Counts, Usage
 use Rattle.mm_laws.proofs.RisingListsLaw.{same_list}
 use Rattle.mm_spec.specs.Request.{Request}
 use Rattle.mm_spec.specs.declared.Code.{Code}
-use Rattle.mm_spec.specs.Output.{LexedText, lexed_of, TextFault, StopsReading, IsRead, ProofFault, end_of}
+use Rattle.mm_spec.specs.Lexed.{LexedText, lexed_of}
+use Rattle.mm_spec.specs.Output.{TextFault, StopsReading, IsRead, ProofFault, proof_end}
 use Rattle.mm_spec.specs.Output.{is_theorem_at, AllAreValid, FirstProofFault, FirstFault}
 use Rattle.mm_spec.specs.Output.{HasNoFault, theorems, columns, open_columns, label_at, IsRowOf}
 use Rattle.mm_spec.specs.Output.{AreCited, IsCitingRowOf, IsReportOf, IsOutput}
@@ -190,7 +191,7 @@ module _ (db : List Statement) (fine : AreComplete db) where
           no_end_fault (context_at db k) (fine k) (steps_at db k) (formula_at db k) end v.1 v.2 f t
 
   earlier : (j k : ℕ) (f g : Fault) → j < k → FirstProofFault db j f → FirstProofFault db k g → ⊥
-  earlier j k f g lt h i = valid_no_fault j (end_of (slice_get db j)) f (i.1 j lt h.0) h.2
+  earlier j k f g lt h i = valid_no_fault j (proof_end (slice_get db j)) f (i.1 j lt h.0) h.2
 
   first_proof_unique : (j k : ℕ) (f g : Fault) → FirstProofFault db j f → FirstProofFault db k g
       → f ≡ g
@@ -198,8 +199,8 @@ module _ (db : List Statement) (fine : AreComplete db) where
     where
       go : (j ≡ k) ⊎ ((j < k) ⊎ (k < j)) → f ≡ g
       go (inl e) =
-          proof_fault_unique k (end_of (slice_get db k)) f g
-          (subst (λ n. ProofFault db n (end_of (slice_get db n)) f) e h.2) i.2
+          proof_fault_unique k (proof_end (slice_get db k)) f g
+          (subst (λ n. ProofFault db n (proof_end (slice_get db n)) f) e h.2) i.2
       go (inr (inl l)) = absurd (earlier j k f g l h i)
       go (inr (inr l)) = absurd (earlier k j g f l i h)
 
@@ -387,7 +388,7 @@ module _ (len : ℕ) (x : LexedText) (with_open : Bool) where
       → FirstProofFault (counted with_open db) k f → AllAreValid (counted with_open db) → ⊥
   not_both db o r k f a v =
       let counts = counted with_open db in
-      valid_no_fault counts (complete db o r) k (end_of (slice_get counts k)) f
+      valid_no_fault counts (complete db o r) k (proof_end (slice_get counts k)) f
       (v k (inside counts k a.0) a.0) a.2
 
   first_fault_unique : (f g : Fault) → FirstFault len x with_open f → FirstFault len x with_open g

@@ -9,7 +9,8 @@ use Rattle.mm_spec.specs.Report.{line}
 use Rattle.mm_spec.specs.declared.Choice.TheVariants.{All}
 use Rattle.mm_spec.specs.declared.Form.TheVariants.{One}
 use Rattle.mm_spec.specs.Request.{Request}
-use Rattle.mm_spec.specs.Output.{lexed_of, IsRead, AreValid, IsOutput}
+use Rattle.mm_spec.specs.Lexed.{lexed_of}
+use Rattle.mm_spec.specs.Output.{IsRead, AreValid, IsOutput}
 use Rattle.mm_spec.specs.declared.Code.TheVariants.{ConstantInBlock}
 use Rattle.mm_laws.proofs.ReaderLaw.{statements}
 use Rattle.mm_spec.proofs.LongestLaw.{is_longest}

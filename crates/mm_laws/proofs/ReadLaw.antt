@@ -3,7 +3,8 @@ use Rattle.std.proofs.Common.{ℕ, ◌<◌, false, List, length, Option, sym, ap
 use Rattle.mm_spec.specs.declared.Fault.{Fault}
 use Rattle.mm_spec.specs.Statement.{Statement}
 use Rattle.mm_spec.specs.Lawful.{scope_fault, IsLawful}
-use Rattle.mm_spec.specs.Output.{LexedText, IsRead}
+use Rattle.mm_spec.specs.Lexed.{LexedText}
+use Rattle.mm_spec.specs.Output.{IsRead}
 use Rattle.mm_laws.specs.Laws.Read.{WhereRead}
 use Rattle.mm_laws.specs.Laws.Frames.{FramesAreComplete}
 use Rattle.mm_spec.proofs.CompleteLaw.{reads_complete}

@@ -8,7 +8,8 @@ use Rattle.mm_spec.specs.declared.Fault.{Fault}
 use Rattle.mm_spec.specs.Statement.{Statement}
 use Rattle.mm_spec.specs.Citation.{IsValid}
 use Rattle.mm_spec.specs.Laws.Complete.{AreComplete}
-use Rattle.mm_spec.specs.Output.{LexedText, IsRead, ProofFault, end_of, is_theorem_at, AreValid}
+use Rattle.mm_spec.specs.Lexed.{LexedText}
+use Rattle.mm_spec.specs.Output.{IsRead, ProofFault, proof_end, is_theorem_at, AreValid}
 use Rattle.mm_spec.specs.Output.{AllAreValid, FirstProofFault}
 use Rattle.mm_laws.specs.Laws.FirstFaults.{IsSoundOrFaulty}
 use Rattle.mm_spec.specs.Opened.{counted}
@@ -32,14 +33,14 @@ module _ (db : List Statement) (fine : AreComplete db) where
   valid_or_first (suc n) = go (valid_or_first n)
     where
       judged : AreValid db n → IsTrue (is_theorem_at db n)
-          → IsValid db n ⊎ ((f : Fault) × ProofFault db n (end_of (slice_get db n)) f)
+          → IsValid db n ⊎ ((f : Fault) × ProofFault db n (proof_end (slice_get db n)) f)
           → AreValid db (suc n) ⊎ ((k : ℕ) × (f : Fault) × FirstProofFault db k f)
       judged h t (inl v) = inl (one_more n h (λ u. v))
       judged h t (inr f) = inr (n, f.0, (t, h, f.1))
 
       by : AreValid db n → (b : Bool) → is_theorem_at db n ≡ b
           → AreValid db (suc n) ⊎ ((k : ℕ) × (f : Fault) × FirstProofFault db k f)
-      by h true e = judged h e (valid_or_faulty db fine n (end_of (slice_get db n)))
+      by h true e = judged h e (valid_or_faulty db fine n (proof_end (slice_get db n)))
       by h false e = inl (one_more n h (λ t. absurd (true≢false (sym t ∙ e))))
 
       go : AreValid db n ⊎ ((k : ℕ) × (f : Fault) × FirstProofFault db k f)

@@ -6,7 +6,8 @@ use Rattle.mm_spec.specs.Laws.Complete.{AreComplete}
 use Rattle.mm_spec.specs.Request.{Request}
 use Rattle.mm_spec.specs.declared.Choice.{Choice}
 use Rattle.mm_spec.specs.declared.Choice.TheVariants.{All, Matrix, Counts, Usage, Citations}
-use Rattle.mm_spec.specs.Output.{LexedText, lexed_of, theorems, AllAreValid, open_columns}
+use Rattle.mm_spec.specs.Lexed.{LexedText, lexed_of}
+use Rattle.mm_spec.specs.Output.{theorems, AllAreValid, open_columns}
 use Rattle.mm_spec.specs.Output.{IsReportOf, IsOutput}
 use Rattle.mm_laws.specs.Laws.FirstFaults.{IsSoundOrFaulty}
 use Rattle.mm_laws.specs.Laws.Cells.{AreDecided}

@@ -7,7 +7,7 @@ use Rattle.mm_spec.specs.declared.Fault.{Fault}
 use Rattle.mm_spec.specs.Statement.{Statement}
 use Rattle.mm_spec.specs.Laws.Table.{statements_of}
 use Rattle.mm_spec.specs.Lawful.{scope_fault}
-use Rattle.mm_spec.specs.Output.{LexedText}
+use Rattle.mm_spec.specs.Lexed.{LexedText}
 use Rattle.mm_laws.specs.Laws.SomeReading.{IsReadable}
 use Rattle.mm_spec.proofs.LongestLaw.{is_longest}
 use Rattle.mm_spec.proofs.StopsLaw.{text_fault, text_fault_is, no_text_fault}

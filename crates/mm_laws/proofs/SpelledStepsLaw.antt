@@ -25,8 +25,9 @@ use Rattle.mm_spec.specs.CompressedProof.{bracketed, letters_of, Group, is_last,
 use Rattle.mm_spec.specs.CompressedProof.{starts_at, step_of, group_steps, letter_faults}
 use Rattle.mm_spec.specs.CompressedProof.{compressed_faults, compressed_steps}
 use Rattle.mm_spec.specs.Proof.{steps, reading_faults}
-use Rattle.mm_spec.specs.Output.{LexedText, IsRead}
-use Rattle.mm_laws.specs.Spelling.{Item, number, mark, is_number, is_mark, Spells, letters_in}
+use Rattle.mm_spec.specs.Lexed.{LexedText}
+use Rattle.mm_spec.specs.Output.{IsRead}
+use Rattle.mm_laws.specs.Spelling.{Item, number, mark, is_number, is_mark_item, Spells, letters_in}
 use Rattle.mm_laws.specs.Spelling.{IsCompressed, IsMark, NamesStep, AreSteps, IsUsable}
 use Rattle.mm_laws.specs.Laws.Read.{WhereRead}
 use Rattle.mm_laws.specs.Laws.BareSteps.{bare_steps}
@@ -82,7 +83,7 @@ AreMarks before marks = (k i : ℕ) → slice_get marks k ≡ Some i → IsMark 
 
 -- one mark more
 marks_more : (before : List Item) (marks : List ℕ) (count : ℕ) → 0 < count
-    → count ≡ count_by is_number before → length marks ≡ count_by is_mark before
+    → count ≡ count_by is_number before → length marks ≡ count_by is_mark_item before
     → AreMarks before marks → AreMarks (before ++ mark ∷ []) (marks ++ (count - 1) ∷ [])
 marks_more before marks count h c m are k i e = by (get_append marks ((count - 1) ∷ []) k i e)
   where
@@ -227,7 +228,7 @@ module _ (hypotheses labels : List ℕ) where
 
   -- the steps of groups are what their items name
   said : (gs : List Group) (before : List Item) (marks : List ℕ) (count : ℕ)
-      → count ≡ count_by is_number before → length marks ≡ count_by is_mark before
+      → count ≡ count_by is_number before → length marks ≡ count_by is_mark_item before
       → AreMarks before marks → AreFine (length hypotheses + length labels) (length marks) count gs
       → IsSaid before (map item_of gs) (bare (group_steps (hypotheses ++ labels) marks count gs))
   said [] before marks count c m are f = said_nothing before
@@ -235,13 +236,13 @@ module _ (hypotheses labels : List ℕ) where
       by f
       (λ n k. said gs (before ++ number n ∷ []) marks (count + 1)
       (omega (arith, count_append is_number before (number n ∷ [])))
-      (omega (arith, count_append is_mark before (number n ∷ [])))
+      (omega (arith, count_append is_mark_item before (number n ∷ [])))
       (λ j i e. mark_more before (number n ∷ []) j i (are j i e)) k)
       (λ h k. said gs (before ++ mark ∷ []) (marks ++ (count - 1) ∷ []) count
       (omega (arith, count_append is_number before (mark ∷ [])))
       (omega (
         arith,
-        count_append is_mark before (mark ∷ []),
+        count_append is_mark_item before (mark ∷ []),
         length-append marks
             ((count - 1) ∷ []),
       )) (marks_more before marks count h c m are)
@@ -618,22 +619,24 @@ count_one : (p : Item → Bool) (x : Item) (b c : List Item) → count_by p (x �
 count_one p x b c e = omega (arith, e, count_append p (x ∷ []) b, count_append p (x ∷ []) c)
 
 same_split : (b c d e : List Item) → b ++ mark ∷ d ≡ c ++ mark ∷ e
-    → count_by is_mark b ≡ count_by is_mark c → b ≡ c
+    → count_by is_mark_item b ≡ count_by is_mark_item c → b ≡ c
 same_split [] [] d e h m = refl
 same_split [] (x ∷ c) d e h m =
     let head : x ≡ mark = cc in
-    let n : 0 ≡ count_by is_mark (mark ∷ c) = m ∙ ap (λ y. count_by is_mark (y ∷ c)) head in
-    absurd (omega (arith, n, count_append is_mark (mark ∷ []) c))
+    let n : 0 ≡ count_by is_mark_item (mark ∷ c) =
+    m ∙ ap (λ y. count_by is_mark_item (y ∷ c)) head in
+    absurd (omega (arith, n, count_append is_mark_item (mark ∷ []) c))
 same_split (x ∷ b) [] d e h m =
     let head : x ≡ mark = cc in
-    let n : 0 ≡ count_by is_mark (mark ∷ b) = sym m ∙ ap (λ y. count_by is_mark (y ∷ b)) head in
-    absurd (omega (arith, n, count_append is_mark (mark ∷ []) b))
+    let n : 0 ≡ count_by is_mark_item (mark ∷ b) =
+    sym m ∙ ap (λ y. count_by is_mark_item (y ∷ b)) head in
+    absurd (omega (arith, n, count_append is_mark_item (mark ∷ []) b))
 same_split (x ∷ b) (y ∷ c) d e h m =
     let head : x ≡ y = cc in
     let tail : b ++ mark ∷ d ≡ c ++ mark ∷ e = cc in
     ap₂ (λ z zs. z ∷ zs) head
     (same_split b c d e tail
-    (count_one is_mark y b c (ap (λ z. count_by is_mark (z ∷ b)) (sym head) ∙ m)))
+    (count_one is_mark_item y b c (ap (λ z. count_by is_mark_item (z ∷ b)) (sym head) ∙ m)))
 
 -- mark k stands after one step
 mark_unique : (items : List Item) (k i j : ℕ) → IsMark items k i → IsMark items k j → i ≡ j

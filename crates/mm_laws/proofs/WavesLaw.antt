@@ -10,7 +10,8 @@ use Rattle.mm_spec.specs.Laws.Chains.{TheoremChain}
 use Rattle.mm_spec.specs.Citation.{is_theorem, Cites}
 use Rattle.mm_spec.specs.Laws.Waves.{IsWave, IsTheorem}
 use Rattle.mm_spec.specs.Laws.Complete.{AreComplete}
-use Rattle.mm_spec.specs.Output.{LexedText, AreValid}
+use Rattle.mm_spec.specs.Lexed.{LexedText}
+use Rattle.mm_spec.specs.Output.{AreValid}
 use Rattle.mm_laws.specs.Laws.Cells.{IsDecided}
 use Rattle.mm_laws.specs.Laws.OneWave.{HaveWaves}
 use Rattle.mm_spec.proofs.ChainsLaw.{wave_unique}

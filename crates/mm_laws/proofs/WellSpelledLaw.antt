@@ -19,7 +19,7 @@ use Rattle.mm_spec.specs.CompressedProof.{bracketed, Letter, letters_of, Group, 
 use Rattle.mm_spec.specs.CompressedProof.{groups, value, starts_at, group_faults, letter_faults}
 use Rattle.mm_spec.specs.CompressedProof.{compressed_faults}
 use Rattle.mm_spec.specs.Proof.{reading_faults}
-use Rattle.mm_laws.specs.Spelling.{Item, number, mark, is_number, is_mark, IsEarlyDigit}
+use Rattle.mm_laws.specs.Spelling.{Item, number, mark, is_number, is_mark_item, IsEarlyDigit}
 use Rattle.mm_laws.specs.Spelling.{IsLastDigit, AreEarlyDigits, AreLettersOf, Spells, letters_in}
 use Rattle.mm_laws.specs.Spelling.{IsUsable, IsWellSpelled}
 use Rattle.mm_laws.specs.Laws.Read.{WhereRead}
@@ -65,7 +65,7 @@ right_of_fine (g ∷ gs) many marks count f =
 
 numbers_right : (items : List Item) (many marks count : ℕ) → AreRight many marks count items
     → (before after : List Item) (n : ℕ) → items ≡ before ++ number n ∷ after
-    → n ≤ many + (marks + count_by is_mark before)
+    → n ≤ many + (marks + count_by is_mark_item before)
 numbers_right [] many marks count r [] after n e = absurd (cc)
 numbers_right [] many marks count r (x ∷ b) after n e = absurd (cc)
 numbers_right (number m ∷ items) many marks count r [] after n e =
@@ -75,16 +75,16 @@ numbers_right (number m ∷ items) many marks count r (x ∷ b) after n e =
     let head : x ≡ number m = cc in
     let tail : items ≡ b ++ number n ∷ after = cc in
     let h = numbers_right items many marks (count + 1) r.1 b after n tail in
-    let c : count_by is_mark (x ∷ b) ≡ count_by is_mark (number m ∷ b) =
-    ap (λ y. count_by is_mark (y ∷ b)) head in
-    omega (arith, count_append is_mark (number m ∷ []) b)
+    let c : count_by is_mark_item (x ∷ b) ≡ count_by is_mark_item (number m ∷ b) =
+    ap (λ y. count_by is_mark_item (y ∷ b)) head in
+    omega (arith, count_append is_mark_item (number m ∷ []) b)
 numbers_right (mark ∷ items) many marks count r (x ∷ b) after n e =
     let head : x ≡ mark = cc in
     let tail : items ≡ b ++ number n ∷ after = cc in
     let h = numbers_right items many (marks + 1) count r.1 b after n tail in
-    let c : count_by is_mark (x ∷ b) ≡ count_by is_mark (mark ∷ b) =
-    ap (λ y. count_by is_mark (y ∷ b)) head in
-    omega (arith, count_append is_mark (mark ∷ []) b)
+    let c : count_by is_mark_item (x ∷ b) ≡ count_by is_mark_item (mark ∷ b) =
+    ap (λ y. count_by is_mark_item (y ∷ b)) head in
+    omega (arith, count_append is_mark_item (mark ∷ []) b)
 
 marks_right : (items : List Item) (many marks count : ℕ) → AreRight many marks count items
     → (before after : List Item) → items ≡ before ++ mark ∷ after
@@ -110,7 +110,7 @@ marks_right (mark ∷ items) many marks count r (x ∷ b) after e =
 
 right_from : (items : List Item) (many marks count : ℕ)
     → ((before after : List Item) (n : ℕ) → items ≡ before ++ number n ∷ after
-    → n ≤ many + (marks + count_by is_mark before))
+    → n ≤ many + (marks + count_by is_mark_item before))
     → ((before after : List Item) → items ≡ before ++ mark ∷ after
     → 0 < count + count_by is_number before)
     → AreRight many marks count items
@@ -119,7 +119,7 @@ right_from (number n ∷ items) many marks count h k = (
   (let first = h [] items n refl in omega arith),
   right_from items many marks (count + 1)
       (λ b a m e. let x = h (number n ∷ b) a m (ap (λ xs. number n ∷ xs) e) in
-      omega (arith, x, count_append is_mark (number n ∷ []) b))
+      omega (arith, x, count_append is_mark_item (number n ∷ []) b))
       (λ b a e. let x = k (number n ∷ b) a (ap (λ xs. number n ∷ xs) e) in
       omega (arith, x, count_append is_number (number n ∷ []) b)),
 )
@@ -127,7 +127,7 @@ right_from (mark ∷ items) many marks count h k = (
   (let first = k [] items refl in omega arith),
   right_from items many (marks + 1) count
       (λ b a m e. let x = h (mark ∷ b) a m (ap (λ xs. mark ∷ xs) e) in
-      omega (arith, x, count_append is_mark (mark ∷ []) b))
+      omega (arith, x, count_append is_mark_item (mark ∷ []) b))
       (λ b a e. let x = k (mark ∷ b) a (ap (λ xs. mark ∷ xs) e) in
       omega (arith, x, count_append is_number (mark ∷ []) b)),
 )
@@ -447,7 +447,8 @@ module _ (db : List Statement) (differ : LabelsDiffer db) (k end : ℕ) where
             (letters_bytes p.letters ∙ subst (Spells (letters_in p.letters)) n read));
         numbers =
             λ b a n e. let h = numbers_right items many 0 0 right b a n e in
-            subst (λ ls. n ≤ length (mandatory_hypotheses db k) + length ls + count_by is_mark b)
+            subst
+            (λ ls. n ≤ length (mandatory_hypotheses db k) + length ls + count_by is_mark_item b)
             same (omega arith);
         marks = λ b a e. let h = marks_right items many 0 0 right b a e in omega arith;
       }

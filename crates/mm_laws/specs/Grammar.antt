@@ -34,9 +34,9 @@ abbrev pub words_in : Lexeme → List Word
 words_in (Single w) = w ∷ []
 words_in (Comment o ws c) = o ∷ (ws ++ c ∷ [])
 
-abbrev pub words_open : Rest → List Word
-words_open None = []
-words_open (Some p) = p.0 ∷ p.1
+abbrev pub words_in_rest : Rest → List Word
+words_in_rest None = []
+words_in_rest (Some p) = p.0 ∷ p.1
 
 abbrev pub tokens_in : Lexeme → List Word
 tokens_in (Single w) = w ∷ []
@@ -50,7 +50,7 @@ pub record IsWellBegun (text : List ℕ) (ws : List Word) (tokens : List Word)
   pub rest : Rest
   pub are_items : AllByRecursion (IsLexeme text) items
   pub is_rest : IsRest text rest
-  pub words : ws ≡ flat_map words_in items ++ words_open rest
+  pub words : ws ≡ flat_map words_in items ++ words_in_rest rest
   pub same_tokens : tokens ≡ flat_map tokens_in items
   pub same_comment : comment ≡ option_map (λ p. p.0.start) rest
 

@@ -80,16 +80,16 @@ abbrev pub is_number : Item → Bool
 is_number (number n) = true
 is_number mark = false
 
-abbrev pub is_mark : Item → Bool
-is_mark (number n) = false
-is_mark mark = true
+abbrev pub is_mark_item : Item → Bool
+is_mark_item (number n) = false
+is_mark_item mark = true
 
 -- Mark k marks step i, both counted from 0: before it are k marks and the steps 0 to i.
 pub record IsMark (items : List Item) (k i : ℕ) : Type 0 where
   pub before : List Item
   pub after : List Item
   pub are : items ≡ before ++ mark ∷ after
-  pub marks : count_by is_mark before ≡ k
+  pub marks : count_by is_mark_item before ≡ k
   pub steps : count_by is_number before ≡ i + 1
 
 -- What a number names, by the items before it: 1 to m the m mandatory hypotheses, m + 1 to m + n
@@ -123,7 +123,7 @@ pub record IsUsable (db : List Statement) (k : ℕ) (w : Bytes) (j : ℕ) : Type
 abbrev pub NumbersName : ℕ → List Item → Type 0
 NumbersName many items =
     (before after : List Item) (n : ℕ) → items ≡ before ++ number n ∷ after
-    → n ≤ many + count_by is_mark before
+    → n ≤ many + count_by is_mark_item before
 
 -- before each mark there is a number
 abbrev pub MarksFollow : List Item → Type 0

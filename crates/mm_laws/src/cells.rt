@@ -1,7 +1,7 @@
 //! Cells of the matrix, and waves.
 
 ghost use Rattle.std.specs.Prelude.{ℕ, Bool};
-ghost use Rattle.mm_spec.specs.Output.{LexedText};
+ghost use Rattle.mm_spec.specs.Lexed.{LexedText};
 ghost use Rattle.mm_laws.specs.Laws.Cells.{AreDecided};
 ghost use Rattle.mm_laws.specs.Laws.OneWave.{HaveWaves};
 

@@ -1,7 +1,7 @@
 //! The reading of a text, and its first fault.
 
 ghost use Rattle.std.specs.Prelude.{ℕ, Bool};
-ghost use Rattle.mm_spec.specs.Output.{LexedText};
+ghost use Rattle.mm_spec.specs.Lexed.{LexedText};
 ghost use Rattle.mm_laws.specs.Laws.SomeReading.{IsReadable};
 ghost use Rattle.mm_laws.specs.Laws.FirstFaults.{IsSoundOrFaulty};
 

@@ -20,7 +20,7 @@ use Rattle.mm_spec.specs.declared.Choice.{Choice}
 use Rattle.mm_spec.specs.declared.Choice.TheVariants.{All, Matrix, Counts, Usage, Citations}
 use Rattle.mm_spec.specs.declared.Form.{Form}
 use Rattle.mm_spec.specs.declared.Form.TheVariants.{One, Two}
-use Rattle.mm_plan.specs.Plans.{IsLawful, only_of}
+use Rattle.mm_plan.specs.Plans.{IsLawfulPlan, only_of}
 use Rattle.mm_plan.specs.declared.Cutting.TheVariants.{Count}
 use Rattle.mm_line.specs.declared.command_line.Line.{Line}
 use Rattle.mm_line.specs.declared.command_line.LineRefused.{LineRefused}
@@ -144,7 +144,7 @@ pub record IsLine (rows : List Row) (line : Line) : Type 0 where
   pub essential : IsFlag (one_of (codes "essential") rows) line.plan.essential
   pub with_open : IsFlag (one_of (codes "open") rows) line.plan.with_open
   pub file : first_of (codes "FILE") rows ≡ option_map string_bytes line.file
-  pub lawful : IsLawful line.plan
+  pub lawful : IsLawfulPlan line.plan
 
 -- the command finds no fault in the words, and the line is what they say
 abbrev pub AreReadAs : List Text → Line → Type 0

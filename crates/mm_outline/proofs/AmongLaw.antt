@@ -8,7 +8,7 @@ use Rattle.std.specs.List.{list_any, range_with_len, filter}
 use Rattle.mm_spec.specs.Text.{Bytes, is_in}
 use Rattle.mm_spec.specs.Statement.{Statement}
 use Rattle.mm_spec.specs.Scope.{Typing, statement_at, typings_of}
-use Rattle.mm_outline.specs.Typed.{has, typed_words}
+use Rattle.mm_outline.specs.Typed.{has_word, typed_words}
 
 pub any_false : (q : ℕ → Bool) (n a : ℕ) → ((j : ℕ) → j < a + n → q j ≡ false)
     → list_any q (range_with_len a n) ≡ false
@@ -19,25 +19,26 @@ any_false q (suc n) a h =
 module _ (db : List Statement) (f : Statement → List Bytes) (w : Bytes) where
   pub among_active : (p : ℕ → Bool) (n a : ℕ)
       → is_in w (flat_map f (flat_map (statement_at db) (filter p (range_with_len a n))))
-      ≡ list_any (λ j. p j && has db f w j) (range_with_len a n)
+      ≡ list_any (λ j. p j && has_word db f w j) (range_with_len a n)
   among_active p zero a = refl
   among_active p (suc n) a = by (p a) (among_active p n (a + 1))
     where
       by : (b : Bool)
           → is_in w (flat_map f (flat_map (statement_at db) (filter p (range_with_len (a + 1) n))))
-          ≡ list_any (λ j. p j && has db f w j) (range_with_len (a + 1) n)
+          ≡ list_any (λ j. p j && has_word db f w j) (range_with_len (a + 1) n)
           → is_in w
           (flat_map f
           (flat_map (statement_at db)
           (cond b (a ∷ filter p (range_with_len (a + 1) n)) (filter p (range_with_len (a + 1) n)))))
-          ≡ ((b && has db f w a) || list_any (λ j. p j && has db f w j) (range_with_len (a + 1) n))
+          ≡ ((b && has_word db f w a)
+          || list_any (λ j. p j && has_word db f w j) (range_with_len (a + 1) n))
       by true r =
           ap (is_in w)
           (flat_map-append f (statement_at db a)
           (flat_map (statement_at db) (filter p (range_with_len (a + 1) n))))
           ∙ list_any-append _ (flat_map f (statement_at db a))
           (flat_map f (flat_map (statement_at db) (filter p (range_with_len (a + 1) n))))
-          ∙ ap (λ b. has db f w a || b) r
+          ∙ ap (λ b. has_word db f w a || b) r
       by false r = r
 
 any_map : (w : Bytes) (ts : List Typing)

@@ -12,7 +12,8 @@ use Rattle.mm_spec.specs.Statement.{Statement, is_opening, is_closing}
 use Rattle.mm_spec.specs.Scope.{depth, stays}
 use Rattle.mm_spec.proofs.ActivityLaw.{stays_more}
 use Rattle.mm_spec.proofs.ShapeLaw.{count_end}
-use Rattle.mm_outline.specs.Blocks.{BlockLists, lists, never, top, no_blocks, end_of, IsBlocks}
+use Rattle.mm_outline.specs.Blocks.{BlockLists, block_lists, never, top, no_blocks, end_of}
+use Rattle.mm_outline.specs.Blocks.{IsBlocks}
 
 -- ---- what stays the same after one statement more
 
@@ -167,7 +168,7 @@ module _ (db : List Statement) (s : Statement) (b : BlockLists) (x : IsBlocks db
       new : IsOpen (top b.open_blocks) (depth db (length db))
           ⊎ IsClosed (top b.open_blocks) (depth db (length db))
 
-    grown : Grows → IsBlocks (more db s) (lists of_more ends opens)
+    grown : Grows → IsBlocks (more db s) (block_lists of_more ends opens)
     grown g = record {
       count =
           let c = x.count in
@@ -244,7 +245,7 @@ module _ (db : List Statement) (s : Statement) (b : BlockLists) (x : IsBlocks db
             by (inr p) = inr (rw (of_front j h) (omega (arith, p.0, p.1, length_more db s)))
 
         ended : (j k : ℕ) → j < k → k ≤ length (more db s)
-            → stays (more db s) j k ≡ nat_le k (end_of (lists of_more ends opens) j)
+            → stays (more db s) j k ≡ nat_le k (end_of (block_lists of_more ends opens) j)
         ended j k h l = by (cases_lt (length db) k)
           where
             old : j < length db → k ≤ length db → Becomes j
@@ -295,22 +296,23 @@ module _ (db : List Statement) (s : Statement) (b : BlockLists) (x : IsBlocks db
 
             at-last : (j < length db) ⊎ (length db ≤ j) → k ≡ length db + 1
                 → stays (more db s) j (length db + 1)
-                ≡ nat_le (length db + 1) (end_of (lists of_more ends opens) j)
+                ≡ nat_le (length db + 1) (end_of (block_lists of_more ends opens) j)
             at-last (inl i) e =
                 stays_last db s j i ∙ last i (g.becomes j i)
                 ∙ ap (λ q. nat_le (length db + 1) (get_or ends q 0)) (sym (of_front j i))
             at-last (inr i) e =
                 let same : length db ≡ j = omega (arith, h, e, i) in
                 subst (λ j. stays (more db s) j (length db + 1)
-                ≡ nat_le (length db + 1) (end_of (lists of_more ends opens) j)) same
+                ≡ nat_le (length db + 1) (end_of (block_lists of_more ends opens) j)) same
                 (stays_new db s ∙ fresh g.new
                 ∙ ap (λ q. nat_le (length db + 1) (get_or ends q 0)) (sym of_last))
 
             by : (length db < k) ⊎ (k ≤ length db)
-                → stays (more db s) j k ≡ nat_le k (end_of (lists of_more ends opens) j)
+                → stays (more db s) j k ≡ nat_le k (end_of (block_lists of_more ends opens) j)
             by (inl m) =
                 let e : k ≡ length db + 1 = omega (arith, l, m, length_more db s) in
-                subst (λ k. stays (more db s) j k ≡ nat_le k (end_of (lists of_more ends opens) j))
+                subst
+                (λ k. stays (more db s) j k ≡ nat_le k (end_of (block_lists of_more ends opens) j))
                 (sym e) (at-last (cases_lt j (length db)) e)
             by (inr m) =
                 let i : j < length db = omega arith in
@@ -342,10 +344,10 @@ module _ (db : List Statement) (s : Statement) (b : BlockLists) (x : IsBlocks db
       c
       ∙ (let e = depth_end db s in let n = x.nested in omega (arith, e, n))
 
-  counted : (p q : Bool) → is_opening s ≡ p → is_closing s ≡ q
+  brackets_counted : (p q : Bool) → is_opening s ≡ p → is_closing s ≡ q
       → (count_by is_opening (more db s) ≡ count_by is_opening db + cond p 1 0)
       × (count_by is_closing (more db s) ≡ count_by is_closing db + cond q 1 0)
-  counted p q o c = (
+  brackets_counted p q o c = (
     count_end is_opening db s
         ∙ ap (λ r. count_by is_opening db + cond r 1 0) o,
     count_end is_closing db s
@@ -353,10 +355,10 @@ module _ (db : List Statement) (s : Statement) (b : BlockLists) (x : IsBlocks db
   )
 
   pub blocks_plain : is_opening s ≡ false → is_closing s ≡ false
-      → IsBlocks (db ++ s ∷ []) (lists (b.of ++ top b.open_blocks ∷ []) b.ends b.open_blocks)
+      → IsBlocks (db ++ s ∷ []) (block_lists (b.of ++ top b.open_blocks ∷ []) b.ends b.open_blocks)
   blocks_plain o c =
       let d = depth_plain o c in
-      let m = counted false false o c in
+      let m = brackets_counted false false o c in
       grown b.ends b.open_blocks (record {
         nested = let n = x.nested in omega (arith, m.0, m.1, n);
         stack = x.stack ∙ ap (λ n. n + 1) (sym d);
@@ -378,11 +380,11 @@ module _ (db : List Statement) (s : Statement) (b : BlockLists) (x : IsBlocks db
 
   pub blocks_opening : is_opening s ≡ true → is_closing s ≡ false
       → IsBlocks (db ++ s ∷ [])
-      (lists (b.of ++ top b.open_blocks ∷ []) (b.ends ++ never ∷ [])
+      (block_lists (b.of ++ top b.open_blocks ∷ []) (b.ends ++ never ∷ [])
       (b.open_blocks ++ length b.ends ∷ []))
   blocks_opening o c =
       let d = depth_opening o c in
-      let m = counted true false o c in
+      let m = brackets_counted true false o c in
       grown ends opens (record {
         nested = let n = x.nested in omega (arith, m.0, m.1, n);
         stack =
@@ -471,11 +473,11 @@ module _ (db : List Statement) (s : Statement) (b : BlockLists) (x : IsBlocks db
 
   pub blocks_closing : is_opening s ≡ false → is_closing s ≡ true → 0 < depth db (length db)
       → IsBlocks (db ++ s ∷ [])
-      (lists (b.of ++ top b.open_blocks ∷ []) (set b.ends (top b.open_blocks) (length b.of))
+      (block_lists (b.of ++ top b.open_blocks ∷ []) (set b.ends (top b.open_blocks) (length b.of))
       (take (length b.open_blocks - 1) b.open_blocks))
   blocks_closing o c deep =
       let d = depth_closing o c in
-      let m = counted false true o c in
+      let m = brackets_counted false true o c in
       let k = x.stack in
       grown ends opens (record {
         nested = let e = depth_end db s in omega (arith, m.0, m.1, e, deep);

@@ -8,7 +8,7 @@ use Rattle.mm_spec.specs.Laws.Table as table
 use Rattle.mm_spec.specs.Laws.Table.{Progress, start, statements_from, stop_from, rest_from, begins}
 use Rattle.mm_spec.specs.Laws.Table.{class, Transition, after, stop_after, rest_after}
 use Rattle.mm_spec.specs.declared.Word.{Word}
-use Rattle.mm_outline.specs.Parts.{as_tokens, token_at, nth_word, reading}
+use Rattle.mm_outline.specs.Parts.{as_tokens, token_at, nth_word, progress}
 use Rattle.mm_outline.specs.NextStatement.{Leads, tokens_from, is_start}
 use Rattle.mm_outline.specs.declared.parts.Part.{Part}
 use Rattle.mm_outline.specs.declared.parts.Part.TheVariants.{Start, Labelled, Words, Formula, Proof}
@@ -62,7 +62,7 @@ leads_stop r t us e = (
 )
 
 pub is_start_begins : (text : List ℕ) (ws : List Word) (d i : ℕ) (part : Part)
-    → is_start part ≡ begins (reading text ws d part i)
+    → is_start part ≡ begins (progress text ws d part i)
 is_start_begins text ws d i Start = refl
 is_start_begins text ws d i (Labelled l) = refl
 is_start_begins text ws d i (Words k w) = refl
@@ -72,19 +72,20 @@ is_start_begins text ws d i (Proof w e) = refl
 -- what has been read of a statement from a token on
 abbrev pub Goes : List ℕ → List Word → ℕ → ℕ → Part → ℕ → Type 0
 Goes text ws d from part i =
-    Leads (start d) (tokens_from text ws from) [] (reading text ws d part i) (tokens_from text ws i)
+    Leads (start d) (tokens_from text ws from) [] (progress text ws d part i)
+    (tokens_from text ws i)
 
 module _ (text : List ℕ) (ws : List Word) (d from i : ℕ) (part : Part) where
   abbrev pub Turned : Transition → Type 0
   Turned o =
-      o ≡ table.transition (reading text ws d part i) (class (token_at text ws i).word)
+      o ≡ table.transition (progress text ws d part i) (class (token_at text ws i).word)
       (token_at text ws i)
 
   pub goes_go : Goes text ws d from part i → i < length ws → (q : Progress) → Turned (table.go q)
       → Leads (start d) (tokens_from text ws from) [] q (tokens_from text ws (i + 1))
   goes_go g h q e =
       leads_then g
-      (subst (λ us. Leads (reading text ws d part i) us [] q (tokens_from text ws (i + 1)))
+      (subst (λ us. Leads (progress text ws d part i) us [] q (tokens_from text ws (i + 1)))
       (sym (tokens_from_one text ws i h)) (leads_go e))
 
   pub goes_done : Goes text ws d from part i → i < length ws → (s : Statement) (n : ℕ)
@@ -92,7 +93,7 @@ module _ (text : List ℕ) (ws : List Word) (d from i : ℕ) (part : Part) where
       → Leads (start d) (tokens_from text ws from) (s ∷ []) (start n) (tokens_from text ws (i + 1))
   goes_done g h s n e =
       leads_then g
-      (subst (λ us. Leads (reading text ws d part i) us (s ∷ []) (start n)
+      (subst (λ us. Leads (progress text ws d part i) us (s ∷ []) (start n)
       (tokens_from text ws (i + 1)))
       (sym (tokens_from_one text ws i h)) (leads_done e))
 
@@ -102,10 +103,12 @@ module _ (text : List ℕ) (ws : List Word) (d from i : ℕ) (part : Part) where
       × (stop_from (start d) (tokens_from text ws from) ≡ Some f)
   goes_stop g h e f is =
       let x =
-      leads_stop (reading text ws d part i) (token_at text ws i) (tokens_from text ws (i + 1)) e in (
-        g.statements ∙ ap (statements_from (reading text ws d part i)) (tokens_from_one text ws i h)
+      leads_stop (progress text ws d part i) (token_at text ws i)
+      (tokens_from text ws (i + 1)) e in (
+        g.statements
+            ∙ ap (statements_from (progress text ws d part i)) (tokens_from_one text ws i h)
             ∙ x.0,
-        g.stop ∙ ap (stop_from (reading text ws d part i)) (tokens_from_one text ws i h) ∙ x.1
+        g.stop ∙ ap (stop_from (progress text ws d part i)) (tokens_from_one text ws i h) ∙ x.1
             ∙ ap (λ b. Some
             (fault (token_at text ws i).at (shape_code b (token_at text ws i).word)))
             (sym (is_start_begins text ws d i part))
@@ -115,13 +118,13 @@ module _ (text : List ℕ) (ws : List Word) (d from i : ℕ) (part : Part) where
   pub goes_end : Goes text ws d from part i → i ≡ length ws
       → (statements_from (start d) (tokens_from text ws from) ≡ [])
       × (stop_from (start d) (tokens_from text ws from) ≡ None)
-      × (rest_from (start d) (tokens_from text ws from) ≡ reading text ws d part (length ws))
+      × (rest_from (start d) (tokens_from text ws from) ≡ progress text ws d part (length ws))
   goes_end g e =
       let none : tokens_from text ws i ≡ [] =
       ap (as_tokens text) (ap (λ k. drop k ws) e ∙ drop-all ws) in (
-        g.statements ∙ ap (statements_from (reading text ws d part i)) none,
-        g.stop ∙ ap (stop_from (reading text ws d part i)) none,
-        g.rest ∙ ap (rest_from (reading text ws d part i)) none ∙ ap (reading text ws d part) e,
+        g.statements ∙ ap (statements_from (progress text ws d part i)) none,
+        g.stop ∙ ap (stop_from (progress text ws d part i)) none,
+        g.rest ∙ ap (rest_from (progress text ws d part i)) none ∙ ap (progress text ws d part) e,
       )
     where
       drop-all : (xs : List Word) → drop (length xs) xs ≡ []

@@ -4,12 +4,12 @@ use Rattle.std.proofs.Common.{length, refl, sym, ap, ◌∙◌, subst, arith, na
 use Rattle.mm_spec.specs.Text.{has_dollar}
 use Rattle.mm_spec.specs.Laws.Table as table
 use Rattle.mm_spec.specs.declared.Word.{Word}
-use Rattle.mm_outline.specs.Parts.{reading, token_at, IsPart}
+use Rattle.mm_outline.specs.Parts.{progress, token_at, IsPart}
 use Rattle.mm_outline.specs.NextStatement.{Leads, tokens_from}
 use Rattle.mm_outline.specs.declared.words.Class.TheVariants.{Plain}
 use Rattle.mm_outline.specs.declared.parts.Part.{Part}
 use Rattle.mm_outline.specs.declared.parts.Part.TheVariants.{Start, Labelled, Words, Formula, Proof}
-use Rattle.mm_outline.proofs.TurnsLaw.{step_same}
+use Rattle.mm_outline.proofs.TurnsLaw.{turn_for_same}
 use Rattle.mm_outline.proofs.LeadsLaw.{leads_none, leads_then, leads_go, tokens_from_one}
 
 -- a part after a keyword
@@ -30,61 +30,62 @@ module _ (text : List ℕ) (ws : List Word) (d : ℕ) where
   -- one plain word
   one : (part : Part) (i : ℕ) → TakesWords part → IsPart part i → i < length ws
       → has_dollar (token_at text ws i).word ≡ false
-      → table.go (reading text ws d part (i + 1))
-      ≡ table.transition (reading text ws d part i) (table.class (token_at text ws i).word)
+      → table.go (progress text ws d part (i + 1))
+      ≡ table.transition (progress text ws d part i) (table.class (token_at text ws i).word)
       (token_at text ws i)
   one Start i t p h e = absurd t
   one (Labelled l) i t p h e = absurd t
   one (Words k w) i t p h e =
-      step_same text ws d i h (Words k w) Plain true (nat_lt 0 d) p tt refl
-      ∙ ap (λ b. table.transition (reading text ws d (Words k w) i)
+      turn_for_same text ws d i h (Words k w) Plain true (nat_lt 0 d) p tt refl
+      ∙ ap (λ b. table.transition (progress text ws d (Words k w) i)
       (elim b [ true ↦ table.keyword (token_at text ws i).word | false ↦ table.plain ])
       (token_at text ws i)) (sym e)
   one (Formula w) i t p h e =
-      step_same text ws d i h (Formula w) Plain true (nat_lt 0 d) p tt refl
-      ∙ ap (λ b. table.transition (reading text ws d (Formula w) i)
+      turn_for_same text ws d i h (Formula w) Plain true (nat_lt 0 d) p tt refl
+      ∙ ap (λ b. table.transition (progress text ws d (Formula w) i)
       (elim b [ true ↦ table.keyword (token_at text ws i).word | false ↦ table.plain ])
       (token_at text ws i)) (sym e)
   one (Proof w q) i t p h e =
-      step_same text ws d i h (Proof w q) Plain true (nat_lt 0 d) p tt refl
-      ∙ ap (λ b. table.transition (reading text ws d (Proof w q) i)
+      turn_for_same text ws d i h (Proof w q) Plain true (nat_lt 0 d) p tt refl
+      ∙ ap (λ b. table.transition (progress text ws d (Proof w q) i)
       (elim b [ true ↦ table.keyword (token_at text ws i).word | false ↦ table.plain ])
       (token_at text ws i)) (sym e)
 
   -- n plain words
   pub passed : (part : Part) (n i : ℕ) → TakesWords part → IsPart part i → i + n ≤ length ws
       → ((k : ℕ) → i ≤ k → k < i + n → has_dollar (token_at text ws k).word ≡ false)
-      → Leads (reading text ws d part i) (tokens_from text ws i) [] (reading text ws d part (i + n))
+      → Leads (progress text ws d part i) (tokens_from text ws i) []
+      (progress text ws d part (i + n))
       (tokens_from text ws (i + n))
   passed part zero i t p h e =
       let z : i ≡ i + zero = omega arith in
-      subst (λ k. Leads (reading text ws d part i) (tokens_from text ws i) []
-      (reading text ws d part k)
+      subst (λ k. Leads (progress text ws d part i) (tokens_from text ws i) []
+      (progress text ws d part k)
       (tokens_from text ws k)) z (leads_none _ _)
   passed part (suc n) i t p h e =
       let there : i < length ws = omega (arith, h) in
-      let first : Leads (reading text ws d part i)
+      let first : Leads (progress text ws d part i)
       (token_at text ws i ∷ tokens_from text ws (i + 1)) []
-      (reading text ws d part (i + 1)) (tokens_from text ws (i + 1)) = leads_go
+      (progress text ws d part (i + 1)) (tokens_from text ws (i + 1)) = leads_go
       (one part i t p there (e i (omega arith) (omega arith))) in
       let rest =
       passed part n (i + 1) t (part_later part i (i + 1) t (omega arith) p) (omega (arith, h))
       (λ k a b. e k (omega (arith, a)) (omega (arith, b))) in
       let z : (i + 1) + n ≡ i + suc n = omega arith in
-      subst (λ k. Leads (reading text ws d part i) (tokens_from text ws i) []
-      (reading text ws d part k)
+      subst (λ k. Leads (progress text ws d part i) (tokens_from text ws i) []
+      (progress text ws d part k)
       (tokens_from text ws k)) z
       (leads_then
-      (subst (λ us. Leads (reading text ws d part i) us [] (reading text ws d part (i + 1))
+      (subst (λ us. Leads (progress text ws d part i) us [] (progress text ws d part (i + 1))
       (tokens_from text ws (i + 1))) (sym (tokens_from_one text ws i there)) first) rest)
 
   pub passed_upto : (part : Part) (i j : ℕ) → TakesWords part → IsPart part i → i ≤ j
       → j ≤ length ws → ((k : ℕ) → i ≤ k → k < j → has_dollar (token_at text ws k).word ≡ false)
-      → Leads (reading text ws d part i) (tokens_from text ws i) [] (reading text ws d part j)
+      → Leads (progress text ws d part i) (tokens_from text ws i) [] (progress text ws d part j)
       (tokens_from text ws j)
   passed_upto part i j t p h l e =
       let z : i + (j - i) ≡ j = omega arith in
-      subst (λ k. Leads (reading text ws d part i) (tokens_from text ws i) []
-      (reading text ws d part k)
+      subst (λ k. Leads (progress text ws d part i) (tokens_from text ws i) []
+      (progress text ws d part k)
       (tokens_from text ws k)) z
       (passed part (j - i) i t p (omega (arith, l, h)) (λ k a b. e k a (omega (arith, b, h))))

@@ -2,7 +2,7 @@
 -- lexical fault.
 use Rattle.std.proofs.Common.{◌≡◌, ℕ, ◌-◌, ◌^◌, ◌<◌, ◌≤◌, ◌==◌, ◌||◌, ◌&&◌, Bool, true, false}
 use Rattle.std.proofs.Common.{not, List, [], ◌∷◌, length, map, drop, get_or, slice_index, codes}
-use Rattle.std.proofs.Common.{Option, None, Some, is_some, if◌then◌else◌, ◌⊎◌, inl, inr, refl, sym}
+use Rattle.std.proofs.Common.{Option, None, Some, is_some, ◌⊎◌, inl, inr, refl, sym}
 use Rattle.std.proofs.Common.{ap, ◌∙◌, subst, arith}
 use Rattle.std.proofs.lemmas.Bool.{cases_lt}
 use Rattle.std.proofs.lemmas.List.{length-map, length-drop, length-take-le}
@@ -18,16 +18,14 @@ use Rattle.mm_spec.specs.declared.Role.TheVariants.{Token, Opening, Closing, Com
 use Rattle.mm_spec.specs.declared.Code.TheVariants.{TextTooLong}
 use Rattle.mm_spec.specs.Limits.{text_limit}
 use Rattle.mm_spec.specs.Roles.{role_of, is_clean, is_token, is_keyword, is_dollar_and}
-use Rattle.mm_spec.specs.Roles.{opens_comment, closes_comment, is_comment_word}
 use Rattle.mm_spec.specs.Text.{has_dollar}
 use Rattle.mm_spec.specs.Words.{begins_word, word_at, words_between, words_of}
 use Rattle.mm_spec.specs.Laws.Words.{IsWord}
 use Rattle.mm_spec.specs.Readings.{reading, bytes_of}
-use Rattle.mm_spec.specs.Lexed.{tokens_of, lexical_fault}
-use Rattle.mm_spec.specs.Output.{lexed_of}
+use Rattle.mm_spec.specs.Lexed.{tokens_of, lexical_fault, lexed_of}
 use Rattle.mm_spec.proofs.WordsLaw.{words_of_AreWords}
 use Rattle.mm_spec.proofs.ReadingsLaw.{reading_opening, reading_closing, reading_comment}
-use Rattle.mm_spec.proofs.ReadingsLaw.{reading_faulty, reading_end, reading_one}
+use Rattle.mm_spec.proofs.ReadingsLaw.{reading_faulty, reading_end, reading_one, read_as_token}
 use Rattle.mm_spec.proofs.LexedLaw.{tokens_of_long, lexical_fault_long, tokens_of_read}
 use Rattle.mm_spec.proofs.ListLaw.{pairs_head, pairs_tail}
 use Rattle.mm_outline.specs.Parts.{AreWithin}
@@ -141,22 +139,6 @@ tokens_stand text =
 
 -- ---- a token with a `$` begins with it
 
--- a word that is read as a token is one
-token_role : (b : Bool) (w : List ℕ) → role_of b w ≡ Token → is_token w ≡ true
-unfolding role_of
-token_role false w e = by (is_token w) (opens_comment w) e
-  where
-    by : (t o : Bool) → (if t then Token else (if o then Opening else Faulty)) ≡ Token → t ≡ true
-    by true o e = refl
-    by false true e = absurd (cc)
-    by false false e = absurd (cc)
-token_role true w e = absurd (by (closes_comment w) (is_comment_word w) e)
-  where
-    by : (c o : Bool) → (if c then Closing else (if o then Comment else Faulty)) ≡ Token → ⊥
-    by true o e = cc
-    by false true e = cc
-    by false false e = cc
-
 and_first : (a b c : Bool) → (a && b && c) ≡ true → b ≡ true
 and_first true true c e = refl
 and_first true false c e = absurd (cc)
@@ -218,7 +200,7 @@ tokens_tokens text c (w ∷ ws) =
         → All P (reading text c (w ∷ ws)).tokens
     by Token e rest =
         subst (λ r. All P r.tokens) (sym (reading_one text c w ws e))
-        (All-cons P w (reading text c ws).tokens (token_role (is_some c) (bytes_of text w) e)
+        (All-cons P w (reading text c ws).tokens (read_as_token (is_some c) (bytes_of text w) e)
         (rest c))
     by Opening e rest =
         subst (λ r. All P r.tokens) (sym (reading_opening text c w ws e)) (rest (Some w.start))

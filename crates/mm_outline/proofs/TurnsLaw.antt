@@ -10,7 +10,7 @@ use Rattle.mm_spec.specs.Statement.{Statement}
 use Rattle.mm_spec.specs.Laws.Table as table
 use Rattle.mm_spec.specs.declared.Word.{Word}
 use Rattle.mm_outline.specs.Parts.{HasEnd, class_of, as_tokens, token_of, token_at, between}
-use Rattle.mm_outline.specs.Parts.{turn_for, single_of, make, make_proved, statement_of, reading}
+use Rattle.mm_outline.specs.Parts.{turn_for, single_of, make, make_proved, statement_of, progress}
 use Rattle.mm_outline.specs.Parts.{turn_of, IsPart, Holds, HasWords, outline, place, label_before}
 use Rattle.mm_outline.specs.Parts.{depth_after, stop_unless, AtStart, IsKeywordBefore}
 use Rattle.mm_outline.specs.declared.words.Class.{Class}
@@ -65,15 +65,16 @@ module _ (text : List ℕ) (ws : List Word) (d i : ℕ) where
       → f (label_before text ws i) ≡ f (token_at text ws m)
   labelled m p f = let n : i - 1 ≡ m = omega arith in ap (λ k. f (token_at text ws k)) n
 
-  pub step_same : i < length ws → (part : Part) (k : Class) (label inside : Bool) → IsPart part i
+  pub turn_for_same : i < length ws → (part : Part) (k : Class) (label inside : Bool)
+      → IsPart part i
       → AtStart part (label ≡ is_label (token_at text ws i).word) → inside ≡ nat_lt 0 d
       → turn_of text ws d i (turn_for part k label inside i)
-      ≡ table.transition (reading text ws d part i) (class_of k) (token_at text ws i)
-  step_same l Start Constant label inside p a e = opened (make text ws kind.Constants i)
-  step_same l Start Variable label inside p a e = opened (make text ws kind.Variables i)
-  step_same l Start Disjoint label inside p a e = opened (make text ws kind.Disjoint i)
-  step_same l Start Open label inside p a e = refl
-  step_same l Start Close label inside p a e = by d inside e
+      ≡ table.transition (progress text ws d part i) (class_of k) (token_at text ws i)
+  turn_for_same l Start Constant label inside p a e = opened (make text ws kind.Constants i)
+  turn_for_same l Start Variable label inside p a e = opened (make text ws kind.Variables i)
+  turn_for_same l Start Disjoint label inside p a e = opened (make text ws kind.Disjoint i)
+  turn_for_same l Start Open label inside p a e = refl
+  turn_for_same l Start Close label inside p a e = by d inside e
     where
       by : (deep : ℕ) (inside : Bool) → inside ≡ nat_lt 0 deep
           → turn_of text ws deep i (stop_unless inside (single_of kind.Close i))
@@ -83,7 +84,7 @@ module _ (text : List ℕ) (ws : List Word) (d i : ℕ) where
           let above : 0 < suc n = omega arith in
           ap (λ b. turn_of text ws (suc n) i (stop_unless b (single_of kind.Close i)))
           (e ∙ lt-ltb 0 (suc n) above)
-  step_same l Start Plain label inside p a e =
+  turn_for_same l Start Plain label inside p a e =
       by label ∙ ap (λ b. table.label_turn b d (token_at text ws i)) a
     where
       by : (b : Bool)
@@ -91,37 +92,37 @@ module _ (text : List ℕ) (ws : List Word) (d i : ℕ) where
           ≡ table.label_turn b d (token_at text ws i)
       by true = refl
       by false = refl
-  step_same l (Labelled m) Floating label inside p a e =
+  turn_for_same l (Labelled m) Floating label inside p a e =
       opened (make text ws kind.Floating i)
       ∙ labelled m p (λ t. table.go (table.words d (statement.floating t (place text ws i)) []))
-  step_same l (Labelled m) Essential label inside p a e =
+  turn_for_same l (Labelled m) Essential label inside p a e =
       opened (make text ws kind.Essential i)
       ∙ labelled m p (λ t. table.go (table.words d (statement.essential t (place text ws i)) []))
-  step_same l (Labelled m) Axiom label inside p a e =
+  turn_for_same l (Labelled m) Axiom label inside p a e =
       opened (make text ws kind.Axiom i)
       ∙ labelled m p (λ t. table.go (table.words d (statement.axiomatic t (place text ws i)) []))
-  step_same l (Labelled m) Theorem label inside p a e =
+  turn_for_same l (Labelled m) Theorem label inside p a e =
       ap (λ xs. table.go (table.formula d (label_before text ws i) (place text ws i) xs))
       (sym (between_none text ws (i + 1)))
       ∙ labelled m p (λ t. table.go (table.formula d t (place text ws i) []))
-  step_same l (Words kind w) Plain label inside p a e =
+  turn_for_same l (Words kind w) Plain label inside p a e =
       ap (λ xs. table.go (table.words d (make text ws kind w) xs))
       (between_more text ws (w + 1) i (omega arith) l)
-  step_same l (Words kind w) Dot label inside p a e =
+  turn_for_same l (Words kind w) Dot label inside p a e =
       ap₂ table.done (depth_stays kind p.0) (labelled_made kind p.0 w)
-  step_same l (Formula w) Plain label inside p a e =
+  turn_for_same l (Formula w) Plain label inside p a e =
       ap (λ xs. table.go (table.formula d (label_before text ws w) (place text ws w) xs))
       (between_more text ws (w + 1) i (omega arith) l)
-  step_same l (Formula w) Equals label inside p a e = opened (make_proved text ws w i)
-  step_same l (Proof w q) Plain label inside p a e =
+  turn_for_same l (Formula w) Equals label inside p a e = opened (make_proved text ws w i)
+  turn_for_same l (Proof w q) Plain label inside p a e =
       ap (λ xs. table.go (table.words d (make_proved text ws w q) xs))
       (between_more text ws (q + 1) i (omega arith) l)
-  step_same l (Proof w q) Dot label inside p a e = refl
-  step_same l Start _ label inside p a e = refl
-  step_same l (Labelled m) _ label inside p a e = refl
-  step_same l (Words kind w) _ label inside p a e = refl
-  step_same l (Formula w) _ label inside p a e = refl
-  step_same l (Proof w q) _ label inside p a e = refl
+  turn_for_same l (Proof w q) Dot label inside p a e = refl
+  turn_for_same l Start _ label inside p a e = refl
+  turn_for_same l (Labelled m) _ label inside p a e = refl
+  turn_for_same l (Words kind w) _ label inside p a e = refl
+  turn_for_same l (Formula w) _ label inside p a e = refl
+  turn_for_same l (Proof w q) _ label inside p a e = refl
 
   rising : (k : Kind) (w : ℕ) → HasWords k → w < i → IsKeywordBefore k w i
   rising kind.Theorem w h l = absurd h
@@ -135,30 +136,31 @@ module _ (text : List ℕ) (ws : List Word) (d i : ℕ) where
   ended kind.Close w h = absurd h
   ended _ w h = refl
 
-  pub step_holds : (part : Part) (k : Class) (label inside : Bool) → IsPart part i
+  pub turn_for_holds : (part : Part) (k : Class) (label inside : Bool) → IsPart part i
       → Holds i (turn_for part k label inside i)
-  step_holds Start Constant label inside p = (tt, tt, omega arith)
-  step_holds Start Variable label inside p = (tt, tt, omega arith)
-  step_holds Start Disjoint label inside p = (tt, tt, omega arith)
-  step_holds Start Open label inside p = ((tt, tt, omega arith, omega arith, (refl, refl)), refl)
-  step_holds Start Close label true p = ((tt, tt, omega arith, omega arith, (refl, refl)), refl)
-  step_holds Start Close label false p = tt
-  step_holds Start Plain true inside p = refl
-  step_holds Start Plain false inside p = tt
-  step_holds (Labelled m) Floating label inside p = (tt, omega arith, omega arith)
-  step_holds (Labelled m) Essential label inside p = (tt, omega arith, omega arith)
-  step_holds (Labelled m) Axiom label inside p = (tt, omega arith, omega arith)
-  step_holds (Labelled m) Theorem label inside p = (omega arith, omega arith)
-  step_holds (Words kind w) Plain label inside p = (p.0, p.1, omega arith)
-  step_holds (Words kind w) Dot label inside p =
+  turn_for_holds Start Constant label inside p = (tt, tt, omega arith)
+  turn_for_holds Start Variable label inside p = (tt, tt, omega arith)
+  turn_for_holds Start Disjoint label inside p = (tt, tt, omega arith)
+  turn_for_holds Start Open label inside p =
+      ((tt, tt, omega arith, omega arith, (refl, refl)), refl)
+  turn_for_holds Start Close label true p = ((tt, tt, omega arith, omega arith, (refl, refl)), refl)
+  turn_for_holds Start Close label false p = tt
+  turn_for_holds Start Plain true inside p = refl
+  turn_for_holds Start Plain false inside p = tt
+  turn_for_holds (Labelled m) Floating label inside p = (tt, omega arith, omega arith)
+  turn_for_holds (Labelled m) Essential label inside p = (tt, omega arith, omega arith)
+  turn_for_holds (Labelled m) Axiom label inside p = (tt, omega arith, omega arith)
+  turn_for_holds (Labelled m) Theorem label inside p = (omega arith, omega arith)
+  turn_for_holds (Words kind w) Plain label inside p = (p.0, p.1, omega arith)
+  turn_for_holds (Words kind w) Dot label inside p =
       ((p.1, rising kind w p.0 p.2, omega arith, omega arith, ended kind w p.0), refl)
-  step_holds (Formula w) Plain label inside p = (omega arith, omega arith)
-  step_holds (Formula w) Equals label inside p = (omega arith, omega arith, omega arith)
-  step_holds (Proof w q) Plain label inside p = (omega arith, omega arith, omega arith)
-  step_holds (Proof w q) Dot label inside p =
+  turn_for_holds (Formula w) Plain label inside p = (omega arith, omega arith)
+  turn_for_holds (Formula w) Equals label inside p = (omega arith, omega arith, omega arith)
+  turn_for_holds (Proof w q) Plain label inside p = (omega arith, omega arith, omega arith)
+  turn_for_holds (Proof w q) Dot label inside p =
       ((omega arith, omega arith, omega arith, omega arith, omega arith), refl)
-  step_holds Start _ label inside p = tt
-  step_holds (Labelled m) _ label inside p = tt
-  step_holds (Words kind w) _ label inside p = tt
-  step_holds (Formula w) _ label inside p = tt
-  step_holds (Proof w q) _ label inside p = tt
+  turn_for_holds Start _ label inside p = tt
+  turn_for_holds (Labelled m) _ label inside p = tt
+  turn_for_holds (Words kind w) _ label inside p = tt
+  turn_for_holds (Formula w) _ label inside p = tt
+  turn_for_holds (Proof w q) _ label inside p = tt

@@ -1,6 +1,5 @@
 pub mod Blocks
 pub mod NextStatement
-pub mod Numbered
 pub mod Parts
 pub mod Passed
 pub mod Statements

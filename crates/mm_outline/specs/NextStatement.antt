@@ -5,7 +5,7 @@ use Rattle.mm_spec.specs.Text.{Token}
 use Rattle.mm_spec.specs.Statement.{Statement}
 use Rattle.mm_spec.specs.Laws.Table.{Progress, start, statements_from, stop_from, rest_from}
 use Rattle.mm_spec.specs.declared.Word.{Word}
-use Rattle.mm_outline.specs.Parts.{as_tokens, statement_of, reading, depth_after, IsOutline}
+use Rattle.mm_outline.specs.Parts.{as_tokens, statement_of, progress, depth_after, IsOutline}
 use Rattle.mm_outline.specs.declared.parts.Part.{Part}
 use Rattle.mm_outline.specs.declared.parts.Part.TheVariants.{Start}
 use Rattle.mm_outline.specs.declared.parts.NextStatement.{NextStatement}
@@ -38,7 +38,7 @@ IsNextStatement text ws d from (Stopped f) =
 IsNextStatement text ws d from (Ended part) =
     (statements_from (start d) (tokens_from text ws from) ≡ [])
     × (stop_from (start d) (tokens_from text ws from) ≡ None)
-    × (rest_from (start d) (tokens_from text ws from) ≡ reading text ws d part (length ws))
+    × (rest_from (start d) (tokens_from text ws from) ≡ progress text ws d part (length ws))
 
 -- whether nothing has been read
 abbrev pub is_start : Part → Bool

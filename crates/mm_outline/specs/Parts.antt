@@ -129,16 +129,16 @@ module _ (text : List ℕ) (ws : List Word) where
   statement_of o = made o.kind o.keyword o.middle o.end
 
   -- what has been read before token i
-  abbrev pub reading : ℕ → Part → ℕ → table.Progress
-  reading d Start i = table.start d
-  reading d (Labelled l) i = table.labelled d (token_at text ws l)
-  reading d (Words kind k) i = table.words d (make kind k) (between text ws (k + 1) i)
-  reading d (Formula k) i = table.formula d (label_before k) (place k) (between text ws (k + 1) i)
-  reading d (Proof k e) i = table.words d (make_proved k e) (between text ws (e + 1) i)
+  abbrev pub progress : ℕ → Part → ℕ → table.Progress
+  progress d Start i = table.start d
+  progress d (Labelled l) i = table.labelled d (token_at text ws l)
+  progress d (Words kind k) i = table.words d (make kind k) (between text ws (k + 1) i)
+  progress d (Formula k) i = table.formula d (label_before k) (place k) (between text ws (k + 1) i)
+  progress d (Proof k e) i = table.words d (make_proved k e) (between text ws (e + 1) i)
 
   abbrev pub turn_of : ℕ → ℕ → Turn → table.Transition
   turn_of d i Stop = table.stop
-  turn_of d i (Go part) = table.go (reading d part (i + 1))
+  turn_of d i (Go part) = table.go (progress d part (i + 1))
   turn_of d i (Done o) = table.done (depth_after o.kind d) (statement_of o)
 
 -- P holds if nothing has been read

@@ -1,7 +1,7 @@
 -- Words of a statement that are passed over at once.
 use Rattle.std.specs.Prelude.{ℕ, ◌≤◌, List, [], length}
 use Rattle.mm_spec.specs.declared.Word.{Word}
-use Rattle.mm_outline.specs.Parts.{IsPart, reading}
+use Rattle.mm_outline.specs.Parts.{IsPart, progress}
 use Rattle.mm_outline.specs.NextStatement.{Leads, tokens_from}
 use Rattle.mm_outline.specs.declared.parts.Part.{Part}
 
@@ -13,5 +13,5 @@ pub record ArePassed (text : List ℕ) (ws : List Word) (part : Part) (from to :
   pub within : to ≤ length ws
   pub is_part : IsPart part to
   pub leads : (d : ℕ)
-      → Leads (reading text ws d part from) (tokens_from text ws from) []
-      (reading text ws d part to) (tokens_from text ws to)
+      → Leads (progress text ws d part from) (tokens_from text ws from) []
+      (progress text ws d part to) (tokens_from text ws to)

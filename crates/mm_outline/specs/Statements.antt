@@ -1,7 +1,7 @@
 -- The statements of a text by their outlines, and the fault at its end.
 use Rattle.std.specs.Prelude.{ℕ, zero, suc, Bool, true, false, List, map, Option, None, Some}
 use Rattle.mm_spec.specs.Statement.{Statement}
-use Rattle.mm_spec.specs.Output.{LexedText}
+use Rattle.mm_spec.specs.Lexed.{LexedText}
 use Rattle.mm_spec.specs.declared.Word.{Word}
 use Rattle.mm_spec.specs.declared.Fault.{Fault}
 use Rattle.mm_outline.specs.Parts.{as_tokens, statement_of}

@@ -10,5 +10,5 @@ typed_words s = map (λ t. t.variable) (typings_of s)
 
 module _ (db : List Statement) (f : Statement → List Bytes) (w : Bytes) where
   -- whether statement j has the word
-  abbrev pub has : ℕ → Bool
-  has j = is_in w (flat_map f (statement_at db j))
+  abbrev pub has_word : ℕ → Bool
+  has_word j = is_in w (flat_map f (statement_at db j))

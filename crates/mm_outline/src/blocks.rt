@@ -2,7 +2,8 @@
 
 ghost use Rattle.std.specs.Prelude.{◌≡◌, ◌<◌, ◌^◌, ◌-◌, length, OnOk, IfOk};
 ghost use Rattle.std.specs.Prelude.{All, nat_le, slice_index};
-ghost use Rattle.mm_outline.specs.Blocks.{BlockLists, lists, pushed, no_blocks, end_of, is_open_in};
+ghost use Rattle.mm_outline.specs.Blocks.{BlockLists, block_lists, pushed, no_blocks, end_of};
+ghost use Rattle.mm_outline.specs.Blocks.{is_open_in};
 
 use crate::parts::Kind;
 use std::alloc::{AllocError, Allocator};
@@ -31,11 +32,11 @@ impl<A: Allocator> Drop for Blocks<A> {
 }
 
 impl<A: Allocator> Model for Blocks<A> {
-    ghost use Rattle.mm_outline.specs.Blocks.{BlockLists, lists};
+    ghost use Rattle.mm_outline.specs.Blocks.{BlockLists, block_lists};
 
     ghost Value = { BlockLists };
 
-    ghost view = { λ b. lists b.of.items b.ends.items b.open_blocks.items };
+    ghost view = { λ b. block_lists b.of.items b.ends.items b.open_blocks.items };
 }
 
 /// The blocks before the first statement: the outermost one alone, which is open.

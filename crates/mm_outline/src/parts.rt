@@ -6,8 +6,8 @@ ghost use Rattle.mm_spec.specs.Statement.{shape_code};
 ghost use Rattle.mm_outline.specs.NextStatement.{IsNextStatement};
 ghost use Rattle.mm_outline.specs.NextStatement.{is_start as spec_is_start};
 ghost use Rattle.mm_spec.specs.Laws.Table.{class, transition};
-ghost use Rattle.mm_outline.specs.Parts.{IsPart, Holds, reading, token_at, turn_of};
-ghost use Rattle.mm_outline.specs.Parts.{turn_for, single_of, AtStart};
+ghost use Rattle.mm_outline.specs.Parts.{IsPart, Holds, progress, token_at, turn_of};
+ghost use Rattle.mm_outline.specs.Parts.{turn_for as spec_turn_for, single_of, AtStart};
 ghost use Rattle.mm_outline.specs.Passed.{ArePassed};
 ghost use Rattle.mm_outline.specs.Tokens.{AreTokens};
 
@@ -58,8 +58,8 @@ pub enum Turn {
 }
 
 /// What a token of the class `class` does at `at`.
-fn step(part: Part, class: Class, is_label: bool, is_inside: bool, at: u32) -> Turn
-    ensures { result ≡ turn_for part class is_label is_inside at }
+fn turn_for(part: Part, class: Class, is_label: bool, is_inside: bool, at: u32) -> Turn
+    ensures { result ≡ spec_turn_for part class is_label is_inside at }
 {
     match part {
         Part::Start => match class {
@@ -146,14 +146,14 @@ fn take_turn(text: &[u8], tokens: &[Word], deep: u32, part: Part, at: u32) -> Tu
     requires inside { at < length tokens.now }
     requires part { IsPart part at }
     ensures same { turn_of text.now tokens.now deep at result
-        ≡ transition (reading text.now tokens.now deep part at)
+        ≡ transition (progress text.now tokens.now deep part at)
         (class (token_at text.now tokens.now at).word) (token_at text.now tokens.now at) }
     ensures holds { Holds at result }
 {
     let token = tokens[at as usize];
     let word = token.bytes(text);
     let class = classify(word);
-    step(part, class, is_label_at(part, word), deep > 0, at)
+    turn_for(part, class, is_label_at(part, word), deep > 0, at)
 }
 
 /// What is found where a statement should begin: a complete statement, a token that is not

@@ -17,8 +17,8 @@ module _ {A : Type 0} where
   IsLawfulCutting (Count n) = (1 ≤ n) × (n ≤ 64)
   IsLawfulCutting (Places v) = RisesTo v.items (length v.items)
 
-  abbrev pub IsLawful : Plan A → Type 0
-  IsLawful p = IsLawfulCutting p.cuts × (1 ≤ p.workers) × (p.workers ≤ 64)
+  abbrev pub IsLawfulPlan : Plan A → Type 0
+  IsLawfulPlan p = IsLawfulCutting p.cuts × (1 ≤ p.workers) × (p.workers ≤ 64)
 
   -- the typecode of the columns, if one is chosen
   abbrev pub only_of : Plan A → Option Bytes

@@ -6,7 +6,7 @@
 
 ghost use Rattle.std.specs.Prelude.{◌≡◌, ◌↔◌, IsTrue, length};
 ghost use Rattle.std.specs.Option.{option_map};
-ghost use Rattle.mm_plan.specs.Plans.{IsLawful, IsLawfulCutting, RisesTo, only_of};
+ghost use Rattle.mm_plan.specs.Plans.{IsLawfulPlan, IsLawfulCutting, RisesTo, only_of};
 
 use mm_spec::{Choice, Form};
 use std::alloc::Allocator;
@@ -75,7 +75,7 @@ impl<A: Allocator> Plan<A> {
     /// Whether a run accepts the plan: it has 1 to 64 pieces, or places none of which is less than
     /// the one before it, and 1 to 64 workers.
     pub fn is_lawful(&self) -> bool
-        ensures { IsTrue result ↔ IsLawful self.now }
+        ensures { IsTrue result ↔ IsLawfulPlan self.now }
     {
         self.cuts.is_lawful() && 1 <= self.workers && self.workers <= 64
     }

@@ -14,7 +14,8 @@ use Rattle.mm_spec.specs.Readings.{bytes_of}
 use Rattle.mm_spec.specs.Lexed as lexed
 use Rattle.mm_spec.specs.Statement.{Statement, provable, spelled}
 use Rattle.mm_spec.specs.Opened.{counted}
-use Rattle.mm_spec.specs.Output.{IsRead, lexed_of}
+use Rattle.mm_spec.specs.Lexed.{lexed_of}
+use Rattle.mm_spec.specs.Output.{IsRead}
 use Rattle.mm_spec.proofs.OpenedLaw.{theorem_read}
 use Rattle.mm_spec.proofs.ListLaw.{pairs_head, pairs_tail}
 use Rattle.mm_outline.proofs.TokensLaw.{tokens_rising, tokens_are_words}

@@ -21,9 +21,9 @@ StartsWith faults (Faulty f) = (more : List Fault) × (faults ≡ f ∷ more)
 StartsWith faults Memory = Unit {0}
 
 -- the number that was found, if any, as a list
-abbrev pub found : Option ℕ → List ℕ
-found None = []
-found (Some j) = j ∷ []
+abbrev pub as_list : Option ℕ → List ℕ
+as_list None = []
+as_list (Some j) = j ∷ []
 
 -- the fault of a word of a normal proof, if it has one
 abbrev pub word_faults : List Statement → ℕ → Token → List Fault

@@ -10,24 +10,25 @@ use Rattle.mm_spec.specs.Statement.{Statement}
 use Rattle.mm_spec.specs.Scope.{statement_at}
 use Rattle.mm_spec.specs.Citation.{is_assertion}
 use Rattle.mm_spec.specs.Output.{has_typecode, label_at}
-use Rattle.mm_spec.specs.Report.{joined}
+use Rattle.mm_spec.specs.Report.{separated}
 use Rattle.mm_spec.proofs.FindsLaw.{found_at, inside_of}
 use Rattle.mm_rows.proofs.ColumnLaw.{filter_snoc}
 use Rattle.mm_report.specs.Rows.{listed, next_label}
 
 -- one label more
-pub joined_next : (xs : List Bytes) (x : Bytes) (is_first : Bool) → (is_first ≡ true → xs ≡ [])
+pub separated_next : (xs : List Bytes) (x : Bytes) (is_first : Bool) → (is_first ≡ true → xs ≡ [])
     → (is_first ≡ false → 0 < length xs)
-    → joined (xs ++ x ∷ []) ≡ joined xs ++ next_label is_first x
-joined_next xs x true none some =
+    → separated (xs ++ x ∷ []) ≡ separated xs ++ next_label is_first x
+separated_next xs x true none some =
     let e = none refl in
-    ap (λ (z : List Bytes). joined (z ++ x ∷ [])) e ∙ sym (ap (λ (z : List Bytes). joined z ++ x) e)
-joined_next [] x false none some = absurd (let l = some refl in omega (arith, l))
-joined_next (y ∷ []) x false none some = refl
-joined_next (y ∷ z ∷ ys) x false none some =
+    ap (λ (z : List Bytes). separated (z ++ x ∷ [])) e
+    ∙ sym (ap (λ (z : List Bytes). separated z ++ x) e)
+separated_next [] x false none some = absurd (let l = some refl in omega (arith, l))
+separated_next (y ∷ []) x false none some = refl
+separated_next (y ∷ z ∷ ys) x false none some =
     ap (λ u. y ++ 32 ∷ u)
-    (joined_next (z ∷ ys) x false (λ e. absurd (true≢false (sym e))) (λ e. omega arith))
-    ∙ sym (append_assoc y (32 ∷ joined (z ∷ ys)) (32 ∷ x))
+    (separated_next (z ∷ ys) x false (λ e. absurd (true≢false (sym e))) (λ e. omega arith))
+    ∙ sym (append_assoc y (32 ∷ separated (z ∷ ys)) (32 ∷ x))
 
 -- an assertion is one of the statements
 pub assertion_below : (db : List Statement) (a : ℕ)

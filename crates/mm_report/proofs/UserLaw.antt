@@ -13,8 +13,8 @@ use Rattle.std.specs.List.{range_with_len, filter}
 use Rattle.std.proofs.lemmas.List.Elements.{filter-append}
 use Rattle.std.proofs.lemmas.List.FromFn.{sum_by-map-range_with_len_more}
 use Rattle.mm_spec.specs.Text.{Bytes}
-use Rattle.mm_spec.specs.Report.{Row, joined, mark_at, users, usage_line, usage_lines}
-use Rattle.mm_rows.specs.Marks.{Marks, mark, IsAbove, start_of}
+use Rattle.mm_spec.specs.Report.{Row, separated, mark_at, users, usage_line, usage_lines}
+use Rattle.mm_rows.specs.Marks.{Marks, mark, IsAbove, first_after}
 use Rattle.mm_report.specs.Rows.{row_of, after_label}
 use Rattle.mm_report.proofs.SentLaw.{range_append}
 
@@ -56,22 +56,22 @@ abbrev pub spaced : List Row → List ℕ
 spaced rows = flat_map (λ r. 32 ∷ r.label) rows
 
 -- the labels of rows, with spaces between them
-abbrev pub joined_rows : List Row → List ℕ
-joined_rows rs = joined (map (λ r. r.label) rs)
+abbrev pub separated_rows : List Row → List ℕ
+separated_rows rs = separated (map (λ r. r.label) rs)
 
--- joined labels are those without the first space
-joined_spaced : (rs : List Row) → joined_rows rs ≡ drop 1 (spaced rs)
-joined_spaced [] = refl
-joined_spaced (r ∷ []) = sym (append-nil r.label)
-joined_spaced (r ∷ s ∷ rs) = ap (λ z. r.label ++ 32 ∷ z) (joined_spaced (s ∷ rs))
+-- separated labels are those without the first space
+separated_spaced : (rs : List Row) → separated_rows rs ≡ drop 1 (spaced rs)
+separated_spaced [] = refl
+separated_spaced (r ∷ []) = sym (append-nil r.label)
+separated_spaced (r ∷ s ∷ rs) = ap (λ z. r.label ++ 32 ∷ z) (separated_spaced (s ∷ rs))
 
-joined_append : (rs ss : List Row) → 0 < length rs
-    → joined_rows (rs ++ ss) ≡ joined_rows rs ++ spaced ss
-joined_append [] ss some = absurd (omega arith)
-joined_append (r ∷ rs) ss some =
-    joined_spaced (r ∷ (rs ++ ss))
+separated_append : (rs ss : List Row) → 0 < length rs
+    → separated_rows (rs ++ ss) ≡ separated_rows rs ++ spaced ss
+separated_append [] ss some = absurd (omega arith)
+separated_append (r ∷ rs) ss some =
+    separated_spaced (r ∷ (rs ++ ss))
     ∙ ap (drop 1) (flat_map-append (λ (q : Row). 32 ∷ q.label) (r ∷ rs) ss)
-    ∙ ap (λ z. z ++ spaced ss) (sym (joined_spaced (r ∷ rs)))
+    ∙ ap (λ z. z ++ spaced ss) (sym (separated_spaced (r ∷ rs)))
 
 -- the spaced labels of neighbours are those of their rows
 pub run_spaced : (m : Marks) (names : List Bytes) (from to : ℕ) → from ≤ to → to ≤ length names
@@ -90,8 +90,8 @@ module _ (m : Marks) (labels : ℕ → Bytes) (j : ℕ) where
   row i = row_of m (labels i) i
 
   -- the theorems below n that are marked in the column
-  abbrev pub gather : ℕ → List Row
-  gather n = users j (map row (range_with_len 0 n))
+  abbrev pub users_before : ℕ → List Row
+  users_before n = users j (map row (range_with_len 0 n))
 
   -- the theorems from one number up to another
   abbrev pub run : ℕ → ℕ → List Row
@@ -102,10 +102,10 @@ module _ (m : Marks) (labels : ℕ → Bytes) (j : ℕ) (inside : j < m.columns)
   is_marked i = mark_at_range (mark m i) 0 m.columns j inside ∙ ap (mark m i) (zero-add j)
 
   -- the theorems below n, and those of the next d
-  gather_next : (n d : ℕ)
-      → gather m labels j (n + d)
-      ≡ gather m labels j n ++ users j (map (row m labels j) (range_with_len n d))
-  gather_next n d =
+  users_before_next : (n d : ℕ)
+      → users_before m labels j (n + d)
+      ≡ users_before m labels j n ++ users j (map (row m labels j) (range_with_len n d))
+  users_before_next n d =
       ap (λ ns. users j (map (row m labels j) ns))
       (range_append 0 n d ∙ ap (λ k. range_with_len 0 n ++ range_with_len k d) (zero-add n))
       ∙ ap (users j) (map-append (row m labels j) (range_with_len 0 n) (range_with_len n d))
@@ -113,49 +113,51 @@ module _ (m : Marks) (labels : ℕ → Bytes) (j : ℕ) (inside : j < m.columns)
       (map (row m labels j) (range_with_len n d))
 
   -- all of the next are marked
-  gather_run : (n d : ℕ) → ((k : ℕ) → n ≤ k → k < n + d → mark m k j ≡ true)
-      → gather m labels j (n + d) ≡ gather m labels j n ++ map (row m labels j) (range_with_len n d)
-  gather_run n d all =
-      gather_next n d
-      ∙ ap (λ z. gather m labels j n ++ z)
+  users_before_run : (n d : ℕ) → ((k : ℕ) → n ≤ k → k < n + d → mark m k j ≡ true)
+      → users_before m labels j (n + d)
+      ≡ users_before m labels j n ++ map (row m labels j) (range_with_len n d)
+  users_before_run n d all =
+      users_before_next n d
+      ∙ ap (λ z. users_before m labels j n ++ z)
       (filter_all (λ r. mark_at j r.marks) (row m labels j) n d
       (λ k lo hi. is_marked k ∙ all k lo hi))
 
   -- none of the next is marked
-  gather_gap : (n d : ℕ) → ((k : ℕ) → n ≤ k → k < n + d → mark m k j ≡ false)
-      → gather m labels j (n + d) ≡ gather m labels j n
-  gather_gap n d none =
-      gather_next n d
-      ∙ ap (λ z. gather m labels j n ++ z)
+  users_before_gap : (n d : ℕ) → ((k : ℕ) → n ≤ k → k < n + d → mark m k j ≡ false)
+      → users_before m labels j (n + d) ≡ users_before m labels j n
+  users_before_gap n d none =
+      users_before_next n d
+      ∙ ap (λ z. users_before m labels j n ++ z)
       (filter_none (λ r. mark_at j r.marks) (row m labels j) n d
       (λ k lo hi. is_marked k ∙ none k lo hi))
-      ∙ append-nil (gather m labels j n)
+      ∙ append-nil (users_before m labels j n)
 
-  above : (last : Option ℕ) (k : ℕ) → start_of last ≤ k → IsAbove last k
+  above : (last : Option ℕ) (k : ℕ) → first_after last ≤ k → IsAbove last k
   above None k h = tt
   above (Some i) k h = omega arith
 
-  reach : (last : Option ℕ) (i : ℕ) → IsAbove last i → start_of last ≤ i
+  reach : (last : Option ℕ) (i : ℕ) → IsAbove last i → first_after last ≤ i
   reach None i h = omega arith
   reach (Some l) i h = omega arith
 
   -- up to the next marked theorem nothing is added
-  gather_to : (last : Option ℕ) (n : ℕ) → start_of last ≤ n
+  users_before_to : (last : Option ℕ) (n : ℕ) → first_after last ≤ n
       → ((k : ℕ) → IsAbove last k → k < n → mark m k j ≡ false)
-      → gather m labels j n ≡ gather m labels j (start_of last)
-  gather_to last n le none =
-      let e : start_of last + (n - start_of last) ≡ n = omega arith in
-      ap (gather m labels j) (sym e)
-      ∙ gather_gap (start_of last) (n - start_of last)
+      → users_before m labels j n ≡ users_before m labels j (first_after last)
+  users_before_to last n le none =
+      let e : first_after last + (n - first_after last) ≡ n = omega arith in
+      ap (users_before m labels j) (sym e)
+      ∙ users_before_gap (first_after last) (n - first_after last)
       (λ k lo hi. none k (above last k lo) (omega arith))
 
   -- after a marked theorem there is one
-  some_gathered : (i : ℕ) → mark m i j ≡ true → 0 < length (gather m labels j (i + 1))
+  some_gathered : (i : ℕ) → mark m i j ≡ true → 0 < length (users_before m labels j (i + 1))
   some_gathered i e =
       let one =
       ap length
-      (gather_run i 1 (λ k lo hi. let same : k ≡ i = omega arith in ap (λ n. mark m n j) same ∙ e))
-      ∙ length-append (gather m labels j i) (row m labels j i ∷ []) in
+      (users_before_run i 1
+      (λ k lo hi. let same : k ≡ i = omega arith in ap (λ n. mark m n j) same ∙ e))
+      ∙ length-append (users_before m labels j i) (row m labels j i ∷ []) in
       omega (arith, one)
 
   -- the labels of a run
@@ -163,35 +165,37 @@ module _ (m : Marks) (labels : ℕ → Bytes) (j : ℕ) (inside : j < m.columns)
       → IsAbove last first → first ≤ end
       → ((k : ℕ) → IsAbove last k → k < first → mark m k j ≡ false)
       → ((k : ℕ) → first ≤ k → k < end → mark m k j ≡ true)
-      → joined_rows (gather m labels j (start_of last))
+      → separated_rows (users_before m labels j (first_after last))
       ++ after_label last (spaced (run m labels j first end))
-      ≡ joined_rows (gather m labels j end)
+      ≡ separated_rows (users_before m labels j end)
   users_more last first end marked up order none all =
-      text last marked (gather_to last first (reach last first up) none)
+      text last marked (users_before_to last first (reach last first up) none)
     where
-      whole : gather m labels j end ≡ gather m labels j first ++ run m labels j first end
+      whole : users_before m labels j end
+          ≡ users_before m labels j first ++ run m labels j first end
       whole =
           let e : first + (end - first) ≡ end = omega arith in
-          ap (gather m labels j) (sym e)
-          ∙ gather_run first (end - first) (λ k lo hi. all k lo (omega arith))
+          ap (users_before m labels j) (sym e)
+          ∙ users_before_run first (end - first) (λ k lo hi. all k lo (omega arith))
 
       text : (o : Option ℕ) → IfSome o (λ i. mark m i j ≡ true)
-          → gather m labels j first ≡ gather m labels j (start_of o)
-          → joined_rows (gather m labels j (start_of o))
+          → users_before m labels j first ≡ users_before m labels j (first_after o)
+          → separated_rows (users_before m labels j (first_after o))
           ++ after_label o (spaced (run m labels j first end))
-          ≡ joined_rows (gather m labels j end)
+          ≡ separated_rows (users_before m labels j end)
       text None marked e =
-          sym (ap joined_rows (whole ∙ ap (λ z. z ++ run m labels j first end) e)
-          ∙ joined_spaced (run m labels j first end))
+          sym (ap separated_rows (whole ∙ ap (λ z. z ++ run m labels j first end) e)
+          ∙ separated_spaced (run m labels j first end))
       text (Some i) marked e =
-          sym (ap joined_rows (whole ∙ ap (λ z. z ++ run m labels j first end) e)
-          ∙ joined_append (gather m labels j (i + 1)) (run m labels j first end)
+          sym (ap separated_rows (whole ∙ ap (λ z. z ++ run m labels j first end) e)
+          ∙ separated_append (users_before m labels j (i + 1)) (run m labels j first end)
           (some_gathered i marked))
 
-  pub users_all : (last : Option ℕ) (n : ℕ) → start_of last ≤ n
+  pub users_all : (last : Option ℕ) (n : ℕ) → first_after last ≤ n
       → ((k : ℕ) → IsAbove last k → k < n → mark m k j ≡ false)
-      → joined_rows (gather m labels j (start_of last)) ≡ joined_rows (gather m labels j n)
-  users_all last n le none = ap joined_rows (sym (gather_to last n le none))
+      → separated_rows (users_before m labels j (first_after last))
+      ≡ separated_rows (users_before m labels j n)
+  users_all last n le none = ap separated_rows (sym (users_before_to last n le none))
 
   one_more : (r : Row) (b : Bool) → length {A = Row} (cond b (r ∷ []) []) ≡ cond b 1 0
   one_more r true = refl
@@ -199,21 +203,21 @@ module _ (m : Marks) (labels : ℕ → Bytes) (j : ℕ) (inside : j < m.columns)
 
   -- the count of a column
   pub users_counted : (n : ℕ)
-      → count_by (λ i. mark m i j) (range_with_len 0 n) ≡ length (gather m labels j n)
+      → count_by (λ i. mark m i j) (range_with_len 0 n) ≡ length (users_before m labels j n)
   users_counted zero = refl
   users_counted (suc n) =
       let e : suc n ≡ n + 1 = omega arith in
       let t = count_more (λ i. mark m i j) n in
       let i = users_counted n in
       let g =
-      ap length (gather_next n 1)
-      ∙ length-append (gather m labels j n)
+      ap length (users_before_next n 1)
+      ∙ length-append (users_before m labels j n)
       (filter (λ r. mark_at j r.marks) (row m labels j n ∷ [])) in
       let o =
       one_more (row m labels j n) (mark_at j (row m labels j n).marks)
       ∙ ap (λ b. cond b 1 0) (is_marked n) in
       ap (λ k. count_by (λ i. mark m i j) (range_with_len 0 k)) e ∙ t
-      ∙ sym (g ∙ omega (arith, i, o)) ∙ ap (λ k. length (gather m labels j k)) (sym e)
+      ∙ sym (g ∙ omega (arith, i, o)) ∙ ap (λ k. length (users_before m labels j k)) (sym e)
 
 usage_push : (rows : List Row) (a : ℕ) (ls : List Bytes) (l : Bytes)
     → usage_lines rows a (ls ++ l ∷ []) ≡ usage_lines rows a ls ++ usage_line rows (a + length ls) l

@@ -3,7 +3,7 @@
 ghost use Rattle.std.specs.Prelude.{◌≡◌, ℕ, length, take, flat_map, OnOk, OnErr};
 ghost use Rattle.std.specs.Option.{option_copied};
 ghost use Rattle.std.specs.Io.KnownBytes.{Appends};
-ghost use Rattle.mm_spec.specs.Report.{citation_line, joined, list_line};
+ghost use Rattle.mm_spec.specs.Report.{citation_line, separated, list_line};
 ghost use Rattle.mm_report.specs.Rows.{AreAssertions, AreCitationsOf, citation_report_of};
 ghost use Rattle.mm_report.specs.Rows.{citing_rows, listed, listed_labels, next_label};
 ghost use Rattle.mm_report.specs.Sent.{Sent};
@@ -57,7 +57,7 @@ fn send_cited<W: Write, D: Allocator>(
 )
     requires { AreAssertions database.now.statements cited.now }
     ensures { Sent (W.contents to.old) (W.contents to.new) sink.old sink.new
-        (joined (listed_labels database.now.statements (option_copied only.entry) cited.now)) }
+        (separated (listed_labels database.now.statements (option_copied only.entry) cited.now)) }
 {
     let mut is_first = true;
     for statement in cited {

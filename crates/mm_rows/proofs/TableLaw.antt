@@ -8,7 +8,7 @@ use Rattle.std.specs.List.{range_with_len}
 use Rattle.mm_rows.specs.Bits.{is_bit, words_for, spot, AreTransposed, IsTable}
 use Rattle.mm_cites.specs.Citing.{Citing, IsStatementList}
 use Rattle.mm_rows.specs.BitRows.{cells_of, marks, row_at, AreBitRows}
-use Rattle.mm_rows.specs.Marks.{Marks, mark, IsAbove, start_of, IsMatrix}
+use Rattle.mm_rows.specs.Marks.{Marks, mark, IsAbove, first_after, IsMatrix}
 use Rattle.mm_rows.specs.Users.{IsColumn}
 use Rattle.mm_rows.proofs.TransposeLaw.{row_bit, row_length, row_past, row_end, spot_within}
 use Rattle.mm_rows.proofs.CountLaw.{tally, tally_agree, tally_more, tally_short}
@@ -93,16 +93,16 @@ module _ (m : Marks) (rows columns : ℕ) (words : List ℕ) (usage : Bool)
         past i le (inl l) = row_bit transposed (words_for rows) j i l ∙ a.past i j le l lt'
         past i le (inr g) = row_past transposed (words_for rows) j columns i lt' a.size g
 
-above : (after : Option ℕ) (k : ℕ) → IsAbove after k → start_of after ≤ k
+above : (after : Option ℕ) (k : ℕ) → IsAbove after k → first_after after ≤ k
 above None k h = omega arith
 above (Some i) k h = omega arith
 
-upward : (after : Option ℕ) (k : ℕ) → start_of after ≤ k → IsAbove after k
+upward : (after : Option ℕ) (k : ℕ) → first_after after ≤ k → IsAbove after k
 upward None k h = tt
 upward (Some i) k h = omega arith
 
 -- the next user of a column: no row between is marked
-user_found : (m : Marks) (j : ℕ) (after : Option ℕ) (i from : ℕ) → from ≡ start_of after
+user_found : (m : Marks) (j : ℕ) (after : Option ℕ) (i from : ℕ) → from ≡ first_after after
     → i < m.rows → from ≤ i → mark m i j ≡ true
     → ((k : ℕ) → from ≤ k → k < i → mark m k j ≡ false)
     → (i < m.rows) × IsAbove after i × (mark m i j ≡ true)
@@ -143,7 +143,7 @@ module _ (m : Marks) (j : ℕ) (users : List ℕ) (h : IsColumn m j users) where
       ∙ tally_short (is_bit users) m.rows (64 * length users) (omega (arith, long)) h.past
       ∙ tally_agree (is_bit users) (λ i. mark m i j) m.rows h.same
 
-  pub user_some : (after : Option ℕ) (i from : ℕ) → from ≡ start_of after → from ≤ i
+  pub user_some : (after : Option ℕ) (i from : ℕ) → from ≡ first_after after → from ≤ i
       → is_bit users i ≡ true → ((k : ℕ) → from ≤ k → k < i → is_bit users k ≡ false)
       → (i < m.rows) × IsAbove after i × (mark m i j ≡ true)
       × ((k : ℕ) → IsAbove after k → k < i → mark m k j ≡ false)
@@ -158,7 +158,7 @@ module _ (m : Marks) (j : ℕ) (users : List ℕ) (h : IsColumn m j users) where
           go (inl l) = l
           go (inr g) = absurd (let no : true ≡ false = sym one ∙ h.past i g in cc)
 
-  pub user_none : (after : Option ℕ) (from : ℕ) → from ≡ start_of after
+  pub user_none : (after : Option ℕ) (from : ℕ) → from ≡ first_after after
       → ((k : ℕ) → from ≤ k → is_bit users k ≡ false)
       → (k : ℕ) → IsAbove after k → k < m.rows → mark m k j ≡ false
   user_none after from s none k up l =

@@ -27,9 +27,9 @@ IsAbove None k = Unit {0}
 IsAbove (Some i) k = i < k
 
 -- the first number above the given one, or of all numbers if none is given
-abbrev pub start_of : Option ℕ → ℕ
-start_of None = 0
-start_of (Some i) = i + 1
+abbrev pub first_after : Option ℕ → ℕ
+first_after None = 0
+first_after (Some i) = i + 1
 
 -- a table of the theorems and the columns, in which a cell is marked exactly if a chain of
 -- citations leads from the theorem to the column

@@ -6,15 +6,15 @@ use Rattle.std.proofs.lemmas.List.Elements.{All-push}
 use Rattle.mm_spec.specs.Statement.{Statement}
 use Rattle.mm_rule.specs.declared.rule.RuleSymbol.{RuleSymbol}
 use Rattle.mm_rule.specs.declared.rule.Hypothesis.{Hypothesis}
-use Rattle.mm_rules.specs.declared.rules.RuleStretches.{RuleStretches}
-use Rattle.mm_rules.specs.declared.rules.Stretch.{Stretch}
+use Rattle.mm_rules.specs.declared.rules.RuleRanges.{RuleRanges}
+use Rattle.mm_rules.specs.declared.rules.IndexRange.{IndexRange}
 use Rattle.mm_rule.specs.Rule.{compiled, IsCompiled}
-use Rattle.mm_rules.specs.Rules.{lists, stretch_of, IsStretch, HasRule}
+use Rattle.mm_rules.specs.Rules.{rule_lists, elements_in, IsIndexRange, HasRule}
 use Rattle.mm_rules.specs.Rules.{AreRules}
 use Rattle.mm_rule.proofs.SliceLaw.{stretch_more}
 
-module _ {X : Type 0} (xs more : List X) (s : Stretch) where
-  longer : IsStretch (length xs) s → IsStretch (length (xs ++ more)) s
+module _ {X : Type 0} (xs more : List X) (s : IndexRange) where
+  longer : IsIndexRange (length xs) s → IsIndexRange (length (xs ++ more)) s
   longer h =
       record {
         rising = h.rising;
@@ -22,11 +22,11 @@ module _ {X : Type 0} (xs more : List X) (s : Stretch) where
             omega (arith, w, length-append xs more);
       }
 
-  stays : IsStretch (length xs) s → stretch_of (xs ++ more) s ≡ stretch_of xs s
+  stays : IsIndexRange (length xs) s → elements_in (xs ++ more) s ≡ elements_in xs s
   stays h = stretch_more xs more s.start s.end h.rising h.within
 
   module _ (from : s.start ≡ length xs) (to : s.end ≡ length (xs ++ more)) where
-    last_in : IsStretch (length (xs ++ more)) s
+    last_in : IsIndexRange (length (xs ++ more)) s
     last_in =
         record {
           rising = omega (arith, from, to, length-append xs more);
@@ -34,29 +34,29 @@ module _ {X : Type 0} (xs more : List X) (s : Stretch) where
               (arith, to);
         }
 
-    last_is : stretch_of (xs ++ more) s ≡ more
+    last_is : elements_in (xs ++ more) s ≡ more
     last_is =
         ap₂ (λ a b. slice_range (xs ++ more) a b) from to
         ∙ ap (take (length (xs ++ more) - length xs)) (drop_at xs more (length xs) refl)
         ∙ take_all (length (xs ++ more) - length xs) more (omega (arith, length-append xs more))
 
-module _ (db : List Statement) (stretches : List RuleStretches) (hypotheses a : List Hypothesis)
+module _ (db : List Statement) (ranges : List RuleRanges) (hypotheses a : List Hypothesis)
     (pairs p : List (ℕ × ℕ))
     (parts q f : List RuleSymbol) where
   -- the rules that were there
-  rule_stays : (new : List RuleStretches) (s : RuleStretches) → HasRule db
-      (lists stretches hypotheses pairs parts) s
-      → HasRule db (lists new (hypotheses ++ a) (pairs ++ p) ((parts ++ q) ++ f)) s
+  rule_stays : (new : List RuleRanges) (s : RuleRanges) → HasRule db
+      (rule_lists ranges hypotheses pairs parts) s
+      → HasRule db (rule_lists new (hypotheses ++ a) (pairs ++ p) ((parts ++ q) ++ f)) s
   rule_stays new s h =
       let parts1 = longer parts q s.parts h.parts in
       let formula1 = longer parts q s.formula h.formula in
-      let e1 : stretch_of (hypotheses ++ a) s.hypotheses ≡ stretch_of hypotheses s.hypotheses =
+      let e1 : elements_in (hypotheses ++ a) s.hypotheses ≡ elements_in hypotheses s.hypotheses =
       stays hypotheses a s.hypotheses h.hypotheses in
-      let e2 : stretch_of (pairs ++ p) s.pairs ≡ stretch_of pairs s.pairs =
+      let e2 : elements_in (pairs ++ p) s.pairs ≡ elements_in pairs s.pairs =
       stays pairs p s.pairs h.pairs in
-      let e3 : stretch_of ((parts ++ q) ++ f) s.parts ≡ stretch_of parts s.parts =
+      let e3 : elements_in ((parts ++ q) ++ f) s.parts ≡ elements_in parts s.parts =
       stays (parts ++ q) f s.parts parts1 ∙ stays parts q s.parts h.parts in
-      let e4 : stretch_of ((parts ++ q) ++ f) s.formula ≡ stretch_of parts s.formula =
+      let e4 : elements_in ((parts ++ q) ++ f) s.formula ≡ elements_in parts s.formula =
       stays (parts ++ q) f s.formula formula1 ∙ stays parts q s.formula h.formula in
       record {
         hypotheses = longer hypotheses a s.hypotheses h.hypotheses;
@@ -66,13 +66,13 @@ module _ (db : List Statement) (stretches : List RuleStretches) (hypotheses a : 
         compiled = rw (e1, e2, e3, e4) h.compiled;
       }
 
-  all_stay : (new rest : List RuleStretches) → All
-      (HasRule db (lists stretches hypotheses pairs parts)) rest
-      → All (HasRule db (lists new (hypotheses ++ a) (pairs ++ p) ((parts ++ q) ++ f))) rest
+  all_stay : (new rest : List RuleRanges) → All
+      (HasRule db (rule_lists ranges hypotheses pairs parts)) rest
+      → All (HasRule db (rule_lists new (hypotheses ++ a) (pairs ++ p) ((parts ++ q) ++ f))) rest
   all_stay new rest h = λ i d l. rule_stays new (get_or rest i d) (h i d l)
 
   -- and one more
-  module _ (s : RuleStretches) (hypotheses_from : s.hypotheses.start ≡ length hypotheses)
+  module _ (s : RuleRanges) (hypotheses_from : s.hypotheses.start ≡ length hypotheses)
       (hypotheses_to : s.hypotheses.end ≡ length (hypotheses ++ a))
       (pairs_from : s.pairs.start ≡ length pairs)
       (pairs_to : s.pairs.end ≡ length (pairs ++ p)) (parts_from : s.parts.start ≡ length parts)
@@ -80,17 +80,17 @@ module _ (db : List Statement) (stretches : List RuleStretches) (hypotheses a : 
       (formula_from : s.formula.start ≡ length (parts ++ q))
       (formula_to : s.formula.end ≡ length ((parts ++ q) ++ f))
       (is : IsCompiled db (compiled s.assertion a p q f)) where
-    rule_is_new : (new : List RuleStretches)
-        → HasRule db (lists new (hypotheses ++ a) (pairs ++ p) ((parts ++ q) ++ f)) s
+    rule_is_new : (new : List RuleRanges)
+        → HasRule db (rule_lists new (hypotheses ++ a) (pairs ++ p) ((parts ++ q) ++ f)) s
     rule_is_new new =
         let inside = last_in parts q s.parts parts_from parts_to in
-        let e1 : stretch_of (hypotheses ++ a) s.hypotheses ≡ a =
+        let e1 : elements_in (hypotheses ++ a) s.hypotheses ≡ a =
         last_is hypotheses a s.hypotheses hypotheses_from hypotheses_to in
-        let e2 : stretch_of (pairs ++ p) s.pairs ≡ p =
+        let e2 : elements_in (pairs ++ p) s.pairs ≡ p =
         last_is pairs p s.pairs pairs_from pairs_to in
-        let e3 : stretch_of ((parts ++ q) ++ f) s.parts ≡ q =
+        let e3 : elements_in ((parts ++ q) ++ f) s.parts ≡ q =
         stays (parts ++ q) f s.parts inside ∙ last_is parts q s.parts parts_from parts_to in
-        let e4 : stretch_of ((parts ++ q) ++ f) s.formula ≡ f =
+        let e4 : elements_in ((parts ++ q) ++ f) s.formula ≡ f =
         last_is (parts ++ q) f s.formula formula_from formula_to in
         record {
           hypotheses = last_in hypotheses a s.hypotheses hypotheses_from hypotheses_to;
@@ -100,32 +100,32 @@ module _ (db : List Statement) (stretches : List RuleStretches) (hypotheses a : 
           compiled = rw (e1, e2, e3, e4) is;
         }
 
-    pub added : AreRules db (lists stretches hypotheses pairs parts)
-        → AreRules db (lists (stretches ++ s ∷ []) (hypotheses ++ a) (pairs ++ p) ((parts ++ q) ++
+    pub added : AreRules db (rule_lists ranges hypotheses pairs parts)
+        → AreRules db (rule_lists (ranges ++ s ∷ []) (hypotheses ++ a) (pairs ++ p) ((parts ++ q) ++
         f))
     added h =
         All-push
         (HasRule db
-        (lists (stretches ++ s ∷ []) (hypotheses ++ a) (pairs ++ p) ((parts ++ q) ++ f)))
-        stretches s (all_stay (stretches ++ s ∷ []) stretches h) (rule_is_new (stretches ++ s ∷ []))
+        (rule_lists (ranges ++ s ∷ []) (hypotheses ++ a) (pairs ++ p) ((parts ++ q) ++ f)))
+        ranges s (all_stay (ranges ++ s ∷ []) ranges h) (rule_is_new (ranges ++ s ∷ []))
 
 -- the same by the values that the code has
-pub added_at : (db : List Statement) (stretches stretches' : List RuleStretches)
+pub added_at : (db : List Statement) (ranges ranges' : List RuleRanges)
     (hypotheses a hypotheses' : List Hypothesis)
-    → (pairs p pairs' : List (ℕ × ℕ)) (parts q f mid parts' : List RuleSymbol) (s : RuleStretches)
-    → stretches' ≡ stretches ++ s ∷ [] → hypotheses' ≡ hypotheses ++ a → pairs' ≡ pairs ++ p → mid
+    → (pairs p pairs' : List (ℕ × ℕ)) (parts q f mid parts' : List RuleSymbol) (s : RuleRanges)
+    → ranges' ≡ ranges ++ s ∷ [] → hypotheses' ≡ hypotheses ++ a → pairs' ≡ pairs ++ p → mid
     ≡ parts ++ q
     → parts' ≡ mid ++ f → s.hypotheses.start ≡ length hypotheses → s.hypotheses.end ≡ length
     hypotheses'
     → s.pairs.start ≡ length pairs → s.pairs.end ≡ length pairs' → s.parts.start ≡ length parts
     → s.parts.end ≡ length mid → s.formula.start ≡ length mid → s.formula.end ≡ length parts'
     → IsCompiled db (compiled s.assertion a p q f) → AreRules db
-    (lists stretches hypotheses pairs parts)
-    → AreRules db (lists stretches' hypotheses' pairs' parts')
-added_at db stretches stretches' hypotheses a hypotheses' pairs p pairs' parts q f mid parts' s e1
+    (rule_lists ranges hypotheses pairs parts)
+    → AreRules db (rule_lists ranges' hypotheses' pairs' parts')
+added_at db ranges ranges' hypotheses a hypotheses' pairs p pairs' parts q f mid parts' s e1
     e2 e3 e4 e5 f1
     t1 f2 t2 f3 t3 f4 t4 is h =
     let all : parts' ≡ (parts ++ q) ++ f = e5 ∙ ap (λ z. z ++ f) e4 in
     rw (e1, e2, e3, all)
-    (added db stretches hypotheses a pairs p parts q f s f1 (t1 ∙ ap length e2) f2
+    (added db ranges hypotheses a pairs p parts q f s f1 (t1 ∙ ap length e2) f2
     (t2 ∙ ap length e3) f3 (t3 ∙ ap length e4) (f4 ∙ ap length e4) (t4 ∙ ap length all) is h)

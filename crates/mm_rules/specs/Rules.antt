@@ -9,8 +9,8 @@ use Rattle.mm_spec.specs.Frame.{is_variable_number, formula_at}
 use Rattle.mm_rule.specs.declared.rule.RuleSymbol.{RuleSymbol}
 use Rattle.mm_rule.specs.declared.rule.RuleSymbol.TheVariants.{Constant, Variable}
 use Rattle.mm_rule.specs.declared.rule.Hypothesis.{Hypothesis}
-use Rattle.mm_rules.specs.declared.rules.RuleStretches.{RuleStretches}
-use Rattle.mm_rules.specs.declared.rules.Stretch.{Stretch}
+use Rattle.mm_rules.specs.declared.rules.RuleRanges.{RuleRanges}
+use Rattle.mm_rules.specs.declared.rules.IndexRange.{IndexRange}
 use Rattle.mm_rule.specs.Rule.{Compiled, compiled, IsCompiled, first, parts_of, all_parts}
 use Rattle.mm_rule.specs.Rule.{count_parts, IsBelow}
 
@@ -53,19 +53,20 @@ pub record CompilerState : Type 0 where
 abbrev pub compiler_state : ℕ → Compiled → CompilerState
 compiler_state width rule = record { width = width; rule = rule }
 
--- the rules of a database: a list of their stretches, and the lists that all rules share
+-- the rules of a database: a list of their ranges, and the lists that all rules share
 pub record RuleLists : Type 0 where
-  pub stretches : List RuleStretches
+  pub ranges : List RuleRanges
   pub hypotheses : List Hypothesis
   pub pairs : List (ℕ × ℕ)
   pub parts : List RuleSymbol
 
-abbrev pub lists : List RuleStretches → List Hypothesis → List (ℕ × ℕ) → List RuleSymbol → RuleLists
-lists stretches hypotheses pairs parts =
-    record { stretches = stretches; hypotheses = hypotheses; pairs = pairs; parts = parts }
+abbrev pub rule_lists : List RuleRanges → List Hypothesis → List (ℕ × ℕ) → List RuleSymbol
+    → RuleLists
+rule_lists ranges hypotheses pairs parts =
+    record { ranges = ranges; hypotheses = hypotheses; pairs = pairs; parts = parts }
 
-abbrev pub rule_stretches : ℕ → Stretch → Stretch → Stretch → Stretch → RuleStretches
-rule_stretches k hypotheses pairs parts formula =
+abbrev pub rule_ranges : ℕ → IndexRange → IndexRange → IndexRange → IndexRange → RuleRanges
+rule_ranges k hypotheses pairs parts formula =
     record {
       assertion = k;
       hypotheses = hypotheses;
@@ -75,12 +76,12 @@ rule_stretches k hypotheses pairs parts formula =
           formula;
     }
 
-abbrev pub stretch : ℕ → ℕ → Stretch
-stretch start end = record { start = start; end = end }
+abbrev pub index_range : ℕ → ℕ → IndexRange
+index_range start end = record { start = start; end = end }
 
 module _ {X : Type 0} where
-  abbrev pub stretch_of : List X → Stretch → List X
-  stretch_of xs s = slice_range xs s.start s.end
+  abbrev pub elements_in : List X → IndexRange → List X
+  elements_in xs s = slice_range xs s.start s.end
 
 -- how many hypotheses, pairs and symbols a rule has together
 abbrev pub rule_size : Compiled → ℕ
@@ -90,35 +91,36 @@ rule_size c = length c.hypotheses + length c.pairs + length c.parts + length c.f
 abbrev pub lists_size : RuleLists → ℕ
 lists_size l = length l.hypotheses + length l.pairs + length l.parts
 
--- the rule in these stretches
-abbrev pub rule_in : RuleLists → RuleStretches → Compiled
+-- the rule in these ranges
+abbrev pub rule_in : RuleLists → RuleRanges → Compiled
 rule_in l s =
-    compiled s.assertion (stretch_of l.hypotheses s.hypotheses) (stretch_of l.pairs s.pairs)
-    (stretch_of l.parts s.parts) (stretch_of l.parts s.formula)
+    compiled s.assertion (elements_in l.hypotheses s.hypotheses) (elements_in l.pairs s.pairs)
+    (elements_in l.parts s.parts) (elements_in l.parts s.formula)
 
--- a stretch of `n` elements
-pub record IsStretch (n : ℕ) (s : Stretch) : Type 0 where
+-- a range of a list of `n` elements
+pub record IsIndexRange (n : ℕ) (s : IndexRange) : Type 0 where
   pub rising : s.start ≤ s.end
   pub within : s.end ≤ n
 
--- the rule of an assertion of the database is in the stretches
-pub record HasRule (db : List Statement) (l : RuleLists) (s : RuleStretches) : Type 0 where
-  pub hypotheses : IsStretch (length l.hypotheses) s.hypotheses
-  pub pairs : IsStretch (length l.pairs) s.pairs
-  pub parts : IsStretch (length l.parts) s.parts
-  pub formula : IsStretch (length l.parts) s.formula
+-- the rule of an assertion of the database is in the ranges
+pub record HasRule (db : List Statement) (l : RuleLists) (s : RuleRanges) : Type 0 where
+  pub hypotheses : IsIndexRange (length l.hypotheses) s.hypotheses
+  pub pairs : IsIndexRange (length l.pairs) s.pairs
+  pub parts : IsIndexRange (length l.parts) s.parts
+  pub formula : IsIndexRange (length l.parts) s.formula
   pub compiled : IsCompiled db (rule_in l s)
 
 abbrev pub AreRules : List Statement → RuleLists → Type 0
-AreRules db l = All (HasRule db l) l.stretches
+AreRules db l = All (HasRule db l) l.ranges
 
-abbrev pub no_stretches : RuleStretches
-no_stretches = rule_stretches 0 (stretch 0 0) (stretch 0 0) (stretch 0 0) (stretch 0 0)
+abbrev pub no_ranges : RuleRanges
+no_ranges =
+    rule_ranges 0 (index_range 0 0) (index_range 0 0) (index_range 0 0) (index_range 0 0)
 
 -- `n` is the number of the rule of assertion `a`
 pub record IsRuleNumber (l : RuleLists) (n a : ℕ) : Type 0 where
-  pub inside : n < length l.stretches
-  pub is : (get_or l.stretches n no_stretches).assertion ≡ a
+  pub inside : n < length l.ranges
+  pub is : (get_or l.ranges n no_ranges).assertion ≡ a
 
 -- the rule is that of assertion `a`
 pub record IsRuleOf (db : List Statement) (c : Compiled) (a : ℕ) : Type 0 where

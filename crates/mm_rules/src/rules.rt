@@ -7,8 +7,8 @@ ghost use Rattle.mm_spec.specs.Frame.{symbol_names};
 ghost use Rattle.mm_spec.specs.Laws.Complete.{AreComplete};
 ghost use Rattle.mm_rule.specs.Rule.{IsCompiled};
 ghost use Rattle.mm_rule.specs.Assertions.{is_assertion_at};
-ghost use Rattle.mm_rules.specs.Rules.{AreRules, IsRuleNumber, IsStretch, lists, no_stretches};
-ghost use Rattle.mm_rules.specs.Rules.{stretch_of, rule_size, lists_size};
+ghost use Rattle.mm_rules.specs.Rules.{AreRules, IsRuleNumber, IsIndexRange, rule_lists, no_ranges};
+ghost use Rattle.mm_rules.specs.Rules.{elements_in, rule_size, lists_size};
 
 use crate::compile::RuleCompiler;
 use mm_database::Database;
@@ -26,26 +26,26 @@ const MAX_HELD: usize = 8_388_608;
 /// A rule that would make more of them together isn't held, so that a place has 32 bits.
 const MAX_PLACE: usize = 4_294_967_295;
 
-/// A stretch of a list: from place `start` up to, but not including, place `end`.
+/// A range of a list: from place `start` up to, but not including, place `end`.
 #[derive(Clone, Copy, Drop)]
-pub struct Stretch {
+pub struct IndexRange {
     pub start: u32,
     pub end: u32,
 }
 
-/// The stretches of a rule in the lists of all rules.
+/// The ranges of a rule in the lists of all rules.
 #[derive(Clone, Copy, Drop)]
-pub struct RuleStretches {
+pub struct RuleRanges {
     pub assertion: u32,
-    pub hypotheses: Stretch,
-    pub pairs: Stretch,
-    pub parts: Stretch,
-    pub formula: Stretch,
+    pub hypotheses: IndexRange,
+    pub pairs: IndexRange,
+    pub parts: IndexRange,
+    pub formula: IndexRange,
 }
 
 /// The rules of the assertions of a database, as far as they are held. The workers share them.
 pub struct Rules<A: Allocator> {
-    stretches: Vec<RuleStretches, A>,
+    ranges: Vec<RuleRanges, A>,
     hypotheses: Vec<Hypothesis, A>,
     pairs: Vec<(u32, u32), A>,
     /// The symbols of hypotheses and of formulas.
@@ -58,7 +58,7 @@ pub struct Rules<A: Allocator> {
 impl<A: Allocator> Drop for Rules<A> {
     fn drop(self) {
         let Self {
-            stretches: _,
+            ranges: _,
             hypotheses: _,
             pairs: _,
             parts: _,
@@ -68,11 +68,11 @@ impl<A: Allocator> Drop for Rules<A> {
 }
 
 impl<A: Allocator> Model for Rules<A> {
-    ghost use Rattle.mm_rules.specs.Rules.{RuleLists, lists};
+    ghost use Rattle.mm_rules.specs.Rules.{RuleLists, rule_lists};
 
     ghost Value = { RuleLists };
 
-    ghost view = { λ r. lists r.stretches.items r.hypotheses.items r.pairs.items r.parts.items };
+    ghost view = { λ r. rule_lists r.ranges.items r.hypotheses.items r.pairs.items r.parts.items };
 }
 
 /// About how long the lists of all rules will be.
@@ -135,17 +135,17 @@ fn size_of(rule: &Rule) -> usize
         .saturating_add(rule.formula.len())
 }
 
-/// The elements of a stretch.
+/// The elements of a range.
 #[inline(always)]
-fn elements<T>(list: &[T], stretch: Stretch) -> &[T]
-    requires { IsStretch (length list.now) stretch }
-    ensures { result.now ≡ stretch_of list.now stretch }
+fn elements<T>(list: &[T], range: IndexRange) -> &[T]
+    requires { IsIndexRange (length list.now) range }
+    ensures { result.now ≡ elements_in list.now range }
 {
-    &list[stretch.start as usize..stretch.end as usize]
+    &list[range.start as usize..range.end as usize]
 }
 
-/// Appends elements to a list and returns the stretch that they occupy.
-fn put<T: Copy, A: Allocator>(list: &mut Vec<T, A>, more: &[T]) -> Result<Stretch, AllocError>
+/// Appends elements to a list and returns the range that they occupy.
+fn put<T: Copy, A: Allocator>(list: &mut Vec<T, A>, more: &[T]) -> Result<IndexRange, AllocError>
     requires { length list.old.items + length more.now < 2 ^ 32 }
     ensures items { OnOk result (list.new.items ≡ list.old.items ++ more.now) }
     ensures start { IfOk result (λ s. s.start ≡ length list.old.items) }
@@ -153,7 +153,7 @@ fn put<T: Copy, A: Allocator>(list: &mut Vec<T, A>, more: &[T]) -> Result<Stretc
 {
     let start = list.len();
     list.extend_from_slice(more)?;
-    Ok(Stretch {
+    Ok(IndexRange {
         start: start as u32,
         end: list.len() as u32,
     })
@@ -164,10 +164,10 @@ impl<A: Allocator> Rules<A> {
     pub fn none(alloc: A) -> Self
     where
         A: Copy,
-        ensures { result ≡ lists [] [] [] [] }
+        ensures { result ≡ rule_lists [] [] [] [] }
     {
         Rules {
-            stretches: Vec::new(alloc),
+            ranges: Vec::new(alloc),
             hypotheses: Vec::new(alloc),
             pairs: Vec::new(alloc),
             parts: Vec::new(alloc),
@@ -179,11 +179,11 @@ impl<A: Allocator> Rules<A> {
     fn with_room(alloc: A, db: &Database<A>) -> Result<Self, AllocError>
     where
         A: Copy,
-        ensures { IfOk result (λ r. r ≡ lists [] [] [] []) }
+        ensures { IfOk result (λ r. r ≡ rule_lists [] [] [] []) }
     {
         let lengths = Lengths::of(db);
         Ok(Rules {
-            stretches: Vec::with_capacity(alloc, lengths.rules)?,
+            ranges: Vec::with_capacity(alloc, lengths.rules)?,
             hypotheses: Vec::with_capacity(alloc, lengths.hypotheses)?,
             pairs: Vec::with_capacity(alloc, lengths.pairs)?,
             parts: Vec::with_capacity(alloc, lengths.parts)?,
@@ -255,12 +255,12 @@ impl<A: Allocator> Rules<A> {
             ((db : List Statement)
             → AreRules db self.old → IsCompiled db rule.entry → AreRules db self.new) }
     {
-        let number = self.stretches.len();
+        let number = self.ranges.len();
         let hypotheses = put(&mut self.hypotheses, rule.hypotheses)?;
         let pairs = put(&mut self.pairs, rule.pairs)?;
         let parts = put(&mut self.parts, rule.parts)?;
         let formula = put(&mut self.parts, rule.formula)?;
-        self.stretches.push(RuleStretches {
+        self.ranges.push(RuleRanges {
             assertion: rule.assertion,
             hypotheses,
             pairs,
@@ -280,7 +280,7 @@ impl<A: Allocator> Rules<A> {
             return None;
         }
         let n = self.numbers[i] as usize;
-        if n < self.stretches.len() && self.stretches[n].assertion == k {
+        if n < self.ranges.len() && self.ranges[n].assertion == k {
             Some(n)
         } else {
             None
@@ -290,18 +290,18 @@ impl<A: Allocator> Rules<A> {
     /// The rule with number `n`.
     pub fn rule(&self, _db: &Database<A>, n: usize) -> Rule<'_>
         requires rules { AreRules _db.now.statements self.now }
-        requires stretches { n < length self.now.stretches }
+        requires ranges { n < length self.now.ranges }
         ensures assertion { result.assertion
-            ≡ (get_or self.now.stretches n no_stretches).assertion }
+            ≡ (get_or self.now.ranges n no_ranges).assertion }
         ensures rule { IsCompiled _db.now.statements result }
     {
-        let stretches = self.stretches[n];
+        let ranges = self.ranges[n];
         Rule {
-            assertion: stretches.assertion,
-            hypotheses: elements(&self.hypotheses, stretches.hypotheses),
-            pairs: elements(&self.pairs, stretches.pairs),
-            parts: elements(&self.parts, stretches.parts),
-            formula: elements(&self.parts, stretches.formula),
+            assertion: ranges.assertion,
+            hypotheses: elements(&self.hypotheses, ranges.hypotheses),
+            pairs: elements(&self.pairs, ranges.pairs),
+            parts: elements(&self.parts, ranges.parts),
+            formula: elements(&self.parts, ranges.formula),
         }
     }
 }

@@ -7,7 +7,8 @@ use Rattle.mm_spec.specs.Text.{Bytes}
 use Rattle.mm_spec.specs.Opened.{is_open_theorem, counted}
 use Rattle.mm_spec.specs.Scope.{statement_at}
 use Rattle.mm_spec.specs.Request.{Request}
-use Rattle.mm_spec.specs.Output.{columns, lexed_of, HasNoFault, IsReportOf, IsOutput}
+use Rattle.mm_spec.specs.Lexed.{lexed_of}
+use Rattle.mm_spec.specs.Output.{columns, HasNoFault, IsReportOf, IsOutput}
 use Rattle.mm_database.specs.Database.{Contents}
 use Rattle.mm_report.specs.Rows.{open_theorems}
 use Rattle.mm_run.specs.Counted.{IsCounted}

@@ -9,7 +9,7 @@ mod cuts;
 mod input;
 mod output;
 
-ghost use Rattle.mm_plan.specs.Plans.{IsLawful, request_of};
+ghost use Rattle.mm_plan.specs.Plans.{IsLawfulPlan, request_of};
 ghost use Rattle.mm_spec.specs.Ends.{Ends};
 
 use crate::input::{ReadRefused, read_all};
@@ -31,7 +31,7 @@ pub fn run<R: Threads + Wait + Sync, A: Allocator + Copy + Send + Sync, I: Read,
     from: &mut I,
     to: &mut O,
 ) -> RunEnd
-    requires { IsLawful plan.now }
+    requires { IsLawfulPlan plan.now }
     ensures { Ends result (request_of plan.now) (I.remaining from.old) (I.remaining from.new)
         (O.contents to.old) (O.contents to.new) }
 {

@@ -3,14 +3,14 @@
 ghost use Rattle.std.specs.Prelude.{◌≡◌, ◌<◌, ◌≤◌, ◌^◌, ℕ, List, IfOk, length};
 ghost use Rattle.mm_spec.specs.declared.Choice.TheVariants as choices;
 ghost use Rattle.mm_spec.specs.Report.{has};
-ghost use Rattle.mm_spec.specs.Lexed.{lexical_fault, tokens_of};
+ghost use Rattle.mm_spec.specs.Lexed.{lexical_fault, tokens_of, lexed_of};
 ghost use Rattle.mm_spec.specs.Statement.{Statement};
-ghost use Rattle.mm_spec.specs.Output.{lexed_of, FirstFault, HasNoFault, IsRead};
+ghost use Rattle.mm_spec.specs.Output.{FirstFault, HasNoFault, IsRead};
 ghost use Rattle.mm_spec.specs.Ends.{Answers, reading_limit};
 ghost use Rattle.mm_run.specs.Counted.{IsCounted};
 ghost use Rattle.mm_work.specs.Judged.{AllCited, IsFirstFault};
 ghost use Rattle.mm_rows.specs.Marks.{IsMatrix};
-ghost use Rattle.mm_plan.specs.Plans.{IsLawful, request_of};
+ghost use Rattle.mm_plan.specs.Plans.{IsLawfulPlan, request_of};
 
 use crate::RunEnd;
 use crate::cuts::cuts_of;
@@ -160,7 +160,7 @@ fn database_of<'a, R: Threads + Sync, A: Allocator + Copy + Send + Sync>(
     plan: &Plan<A>,
 ) -> Result<Database<'a, A>, AllocError>
     requires few { length text.now ≤ reading_limit }
-    requires lawful { IsLawful plan.now }
+    requires lawful { IsLawfulPlan plan.now }
     ensures text { IfOk result (λ database. database.text ≡ text.now) }
     ensures counted { IfOk result (IsCounted plan.now.with_open) }
     ensures read { IfOk result
@@ -181,7 +181,7 @@ pub fn answer<R: Threads + Wait + Sync, A: Allocator + Copy + Send + Sync, W: Wr
     to: &mut W,
 ) -> RunEnd
     requires few { length text.now ≤ reading_limit }
-    requires lawful { IsLawful plan.now }
+    requires lawful { IsLawfulPlan plan.now }
     ensures { Answers result text.now (request_of plan.now) (W.contents to.old)
         (W.contents to.new) }
 {

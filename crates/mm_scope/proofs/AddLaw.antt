@@ -22,7 +22,7 @@ use Rattle.mm_scope.specs.Judge.{Entry, entry_of, declared_entry, typed_entry}
 use Rattle.mm_scope.specs.WordEntry.{IsEntryOf, is_other, is_constant_entry, is_variable_entry}
 use Rattle.mm_scope.specs.WordEntry.{entry_after, label_after}
 use Rattle.mm_outline.specs.Parts.{made}
-use Rattle.mm_scope.specs.Keeps.{Keeps}
+use Rattle.mm_scope.specs.Keeps.{KnowsStatements}
 use Rattle.mm_database.specs.declared.names.Symbol.{Symbol}
 use Rattle.mm_outline.specs.declared.parts.Kind.{Kind}
 use Rattle.mm_outline.specs.declared.parts.Kind.TheVariants as kind
@@ -199,7 +199,7 @@ module _ (text : List ℕ) (ws : List place.Word) (db : List Statement) (b : Blo
 -- what is kept after one lawful statement more
 pub keeps_after : (text : List ℕ) (ws : List place.Word) (db : List Statement)
     → (look : List ℕ → Option Symbol) (labels : List ℕ → Option ℕ) (b : BlockLists)
-    → Keeps db look labels b → length db < never → (k : Kind) (p m e : ℕ)
+    → KnowsStatements db look labels b → length db < never → (k : Kind) (p m e : ℕ)
     → least (scope_faults (names_before db (length db)) (depth db (length db))
     (made text ws k p m e))
     ≡ None
@@ -211,7 +211,7 @@ pub keeps_after : (text : List ℕ) (ws : List place.Word) (db : List Statement)
     → (names : List ℕ → Option ℕ)
     → ((w : List ℕ)
     → names w ≡ label_after number (label_of (made text ws k p m e)) w (labels w))
-    → Keeps (db ++ made text ws k p m e ∷ []) new names c
+    → KnowsStatements (db ++ made text ws k p m e ∷ []) new names c
 keeps_after text ws db look labels b x few k p m e law deep c same number is new after names known =
     let s = made text ws k p m e in
     let n : number ≡ length db = is ∙ x.blocks.count in

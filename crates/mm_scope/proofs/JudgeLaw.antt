@@ -15,11 +15,12 @@ use Rattle.mm_spec.specs.Lawful.{least, lesser, is_before, at, at_each, when, sy
 use Rattle.mm_spec.specs.Lawful.{is_typed, is_typed_otherwise, formula_faults, floating_faults}
 use Rattle.mm_spec.specs.Lawful.{constant_codes, variable_codes, is_empty}
 use Rattle.mm_spec.specs.declared.Word as place
+use Rattle.mm_database.specs.Names.{is_constant_in, is_variable_in}
 use Rattle.mm_database.specs.declared.names.Symbol.{Symbol}
 use Rattle.mm_outline.proofs.FaultlessLaw.{pick, lesser_is}
 use Rattle.mm_outline.specs.Parts.{between, token_at, token_of, nth_word}
-use Rattle.mm_scope.specs.Judge.{merge, fault_at, is_active, is_typed_here, is_constant}
-use Rattle.mm_scope.specs.Judge.{is_variable_symbol, symbol_code, code_of_variable, first_code}
+use Rattle.mm_scope.specs.Judge.{lesser_fault, fault_at, is_active_variable, is_typed_here}
+use Rattle.mm_scope.specs.Judge.{symbol_code, code_of_variable, code_or}
 use Rattle.mm_scope.specs.Judge.{declared_code, declared_codes, typecode_code, floating_code}
 use Rattle.mm_scope.specs.Judge.{typing_code, typing_fault, list_fault, before_next, Knows}
 use Rattle.mm_outline.specs.declared.parts.Kind.{Kind}
@@ -40,11 +41,11 @@ trans_false : (f g h : Fault) → is_before f g ≡ false → is_before g h ≡ 
     → is_before f h ≡ false
 trans_false f g h a b = grind (arith, nat_tests)
 
-three : (f g h : Fault) → merge (lesser f (Some g)) (Some h) ≡ lesser f (lesser g (Some h))
+three : (f g h : Fault) → lesser_fault (lesser f (Some g)) (Some h) ≡ lesser f (lesser g (Some h))
 three f g h = by (is_before f g) refl (is_before g h) refl
   where
     by : (a : Bool) → is_before f g ≡ a → (b : Bool) → is_before g h ≡ b
-        → merge (elim a [ true ↦ Some f | false ↦ Some g ]) (Some h)
+        → lesser_fault (elim a [ true ↦ Some f | false ↦ Some g ]) (Some h)
         ≡ lesser f (elim b [ true ↦ Some g | false ↦ Some h ])
     by true a true b =
         lesser_is f h ∙ ap (λ c. Some (pick c f h)) (trans_true f g h a b)
@@ -57,20 +58,21 @@ three f g h = by (is_before f g) refl (is_before g h) refl
         lesser_is g h ∙ ap (λ c. Some (pick c g h)) b
         ∙ sym (lesser_is f h ∙ ap (λ c. Some (pick c f h)) (trans_false f g h a b))
 
-merge_none : (a : Option Fault) → merge a None ≡ a
-merge_none None = refl
-merge_none (Some f) = refl
+lesser_fault_none : (a : Option Fault) → lesser_fault a None ≡ a
+lesser_fault_none None = refl
+lesser_fault_none (Some f) = refl
 
-pub merge_assoc : (a b c : Option Fault) → merge (merge a b) c ≡ merge a (merge b c)
-merge_assoc None b c = refl
-merge_assoc (Some f) None c = refl
-merge_assoc (Some f) (Some g) None = merge_none (lesser f (Some g))
-merge_assoc (Some f) (Some g) (Some h) = three f g h
+pub lesser_fault_assoc : (a b c : Option Fault)
+    → lesser_fault (lesser_fault a b) c ≡ lesser_fault a (lesser_fault b c)
+lesser_fault_assoc None b c = refl
+lesser_fault_assoc (Some f) None c = refl
+lesser_fault_assoc (Some f) (Some g) None = lesser_fault_none (lesser f (Some g))
+lesser_fault_assoc (Some f) (Some g) (Some h) = three f g h
 
-pub least_append : (xs ys : List Fault) → least (xs ++ ys) ≡ merge (least xs) (least ys)
+pub least_append : (xs ys : List Fault) → least (xs ++ ys) ≡ lesser_fault (least xs) (least ys)
 least_append [] ys = refl
 least_append (f ∷ xs) ys =
-    ap (lesser f) (least_append xs ys) ∙ sym (merge_assoc (Some f) (least xs) (least ys))
+    ap (lesser f) (least_append xs ys) ∙ sym (lesser_fault_assoc (Some f) (least xs) (least ys))
 
 pub at_each_snoc : (codes : List Bytes → Bytes → List Code) (e : List Bytes) (xs : List Token)
     → (t : Token)
@@ -106,10 +108,11 @@ symbol_code_is n look labels is_open k e w p =
         last true = refl
         last false = refl
 
-    by : (o : Option Symbol) (x : Bool) → (is_active is_open o ≡ true → x ≡ is_typed_here is_open o)
+    by : (o : Option Symbol) (x : Bool)
+        → (is_active_variable is_open o ≡ true → x ≡ is_typed_here is_open o)
         → least (at p
-        (when (not (is_constant o || is_active is_open o)) UndeclaredSymbol
-        ++ when (is_active is_open o && not x) UntypedVariable))
+        (when (not (is_constant_in o || is_active_variable is_open o)) UndeclaredSymbol
+        ++ when (is_active_variable is_open o && not x) UntypedVariable))
         ≡ fault_at p (symbol_code is_open o)
     by None x h = refl
     by (Some s) x h = bits s.is_variable (is_open s.declared) (is_open s.typed) x h
@@ -120,13 +123,14 @@ pub symbols_more : (n : Names) (look : List ℕ → Option Symbol) (labels : Lis
     → Knows n look labels is_open → (text : List ℕ) (ws : List place.Word) (from i : ℕ) → from ≤ i
     → i < length ws → (best : Option Fault)
     → best ≡ least (at_each (symbol_codes n) [] (between text ws from i))
-    → merge best
+    → lesser_fault best
     (fault_at (token_at text ws i).at (symbol_code is_open (look (token_at text ws i).word)))
     ≡ least (at_each (symbol_codes n) [] (between text ws from (i + 1)))
 symbols_more n look labels is_open k text ws from i h l best e =
     let t = token_at text ws i in
     let xs = between text ws from i in
-    ap₂ merge e (sym (symbol_code_is n look labels is_open k (before_next [] xs) t.word t.at))
+    ap₂ lesser_fault e
+    (sym (symbol_code_is n look labels is_open k (before_next [] xs) t.word t.at))
     ∙ sym (least_append (at_each (symbol_codes n) [] xs)
     (at t.at (symbol_codes n (before_next [] xs) t.word)))
     ∙ ap least (sym (at_each_snoc (symbol_codes n) [] xs t))
@@ -140,7 +144,7 @@ same : (p : ℕ) (x y : Code) → nat_le (code_number x) (code_number y) ≡ tru
 same p x y h = same_place p (code_number x) (code_number y) h
 
 two_codes : (p : ℕ) (a b : Bool) (x y : Code) → nat_le (code_number x) (code_number y) ≡ true
-    → least (at p (when a x ++ when b y)) ≡ fault_at p (first_code a x (first_code b y None))
+    → least (at p (when a x ++ when b y)) ≡ fault_at p (code_or a x (code_or b y None))
 two_codes p true true x y h =
     let b : is_before (fault p x) (fault p y) ≡ true = same p x y h in
     lesser_is (fault p x) (fault p y) ∙ ap (λ c. Some (pick c (fault p x) (fault p y))) b
@@ -165,24 +169,26 @@ declared_code_is n look labels is_open k kind e w p = by kind
         (k.constants w) (k.all_variables w)
         ∙ ap (λ b. least
         (at p (when
-        (is_constant (look w) || is_variable_symbol (look w) || is_in w e) DeclaredBefore
+        (is_constant_in (look w) || is_variable_in (look w) || is_in w e) DeclaredBefore
         ++ when b LabelIsSymbol))) (k.labels_known w)
-        ∙ two_codes p (is_constant (look w) || is_variable_symbol (look w) || is_in w e)
+        ∙ two_codes p (is_constant_in (look w) || is_variable_in (look w) || is_in w e)
         (is_some (labels w)) DeclaredBefore LabelIsSymbol refl
     by Variables =
         ap₂ (λ c v. least
         (at p (when (c || v || is_in w e) DeclaredBefore ++ when (is_in w n.labels) LabelIsSymbol)))
         (k.constants w) (k.active_variables w)
         ∙ ap (λ b. least
-        (at p (when (is_constant (look w) || is_active is_open (look w) || is_in w e) DeclaredBefore
+        (at p
+        (when (is_constant_in (look w) || is_active_variable is_open (look w) || is_in w e)
+        DeclaredBefore
         ++ when b LabelIsSymbol))) (k.labels_known w)
-        ∙ two_codes p (is_constant (look w) || is_active is_open (look w) || is_in w e)
+        ∙ two_codes p (is_constant_in (look w) || is_active_variable is_open (look w) || is_in w e)
         (is_some (labels w)) DeclaredBefore LabelIsSymbol refl
     by _ =
         ap (λ a. least
         (at p (when (not a) UndeclaredVariable ++ when (is_in w e) RepeatedVariable)))
         (k.active_variables w)
-        ∙ two_codes p (not (is_active is_open (look w)))
+        ∙ two_codes p (not (is_active_variable is_open (look w)))
         (is_in w e) UndeclaredVariable RepeatedVariable refl
 
 before_next_snoc : (e : List Bytes) (xs : List Token) (t : Token)
@@ -207,7 +213,7 @@ pub declared_more : (n : Names) (look : List ℕ → Option Symbol) (labels : Li
     → repeated ≡ is_in (token_at text ws i).word (before_next [] (between text ws from i))
     → (best : Option Fault)
     → best ≡ least (at_each (declared_codes n kind) [] (between text ws from i))
-    → merge best
+    → lesser_fault best
     (fault_at (token_at text ws i).at
     (declared_code is_open kind (look (token_at text ws i).word) repeated
     (is_some (labels (token_at text ws i).word))))
@@ -215,7 +221,7 @@ pub declared_more : (n : Names) (look : List ℕ → Option Symbol) (labels : Li
 declared_more n look labels is_open k kind text ws from i h l repeated q best e =
     let t = token_at text ws i in
     let xs = between text ws from i in
-    ap₂ merge e
+    ap₂ lesser_fault e
     (ap (λ r. fault_at t.at
     (declared_code is_open kind (look t.word) r (is_some (labels t.word)))) q
     ∙ sym (declared_code_is n look labels is_open k kind (before_next [] xs) t.word t.at))
@@ -269,20 +275,21 @@ pub formula_is : (n : Names) (look : List ℕ → Option Symbol) (labels : List 
     → Knows n look labels is_open → (text : List ℕ) (ws : List place.Word) (i j end : ℕ) → i < j
     → j ≤ length ws
     → (rest : Option Fault) → rest ≡ least (at_each (symbol_codes n) [] (between text ws (i + 1) j))
-    → merge (fault_at (token_at text ws i).at (typecode_code (look (token_at text ws i).word)))
+    → lesser_fault
+    (fault_at (token_at text ws i).at (typecode_code (look (token_at text ws i).word)))
     rest
     ≡ least (formula_faults n (between text ws i j) end)
 formula_is n look labels is_open k text ws i j end h l rest e =
     let t = token_at text ws i in
-    ap₂ merge
-    (by (is_constant (look t.word))
+    ap₂ lesser_fault
+    (by (is_constant_in (look t.word))
     ∙ ap (λ b. least (at t.at (when (not b) BadTypecode))) (sym (k.constants t.word))) e
     ∙ sym (least_append (at t.at (when (not (is_in t.word n.constants)) BadTypecode))
     (at_each (symbol_codes n) [] (between text ws (i + 1) j)))
     ∙ ap (λ xs. least (formula_faults n xs end)) (sym (between_first text ws i j h l))
   where
     by : (b : Bool)
-        → fault_at (token_at text ws i).at (first_code (not b) BadTypecode None)
+        → fault_at (token_at text ws i).at (code_or (not b) BadTypecode None)
         ≡ least (at (token_at text ws i).at (when (not b) BadTypecode))
     by true = refl
     by false = refl
@@ -293,7 +300,7 @@ pub typing_is : (n : Names) (look : List ℕ → Option Symbol) (labels : List �
     → typing_fault keyword v.at (typing_code is_open c.word (look c.word) (look v.word))
     ≡ least (floating_faults n keyword (c ∷ v ∷ []))
 typing_is n look labels is_open k keyword c v =
-    by (is_constant (look c.word)) (is_active is_open (look v.word)) refl
+    by (is_constant_in (look c.word)) (is_active_variable is_open (look v.word)) refl
     ∙ ap₂ (λ a b. least
     (elim (a && b) [
       | true ↦ at v.at
@@ -303,7 +310,7 @@ typing_is n look labels is_open k keyword c v =
     ])) (sym (k.constants c.word))
     (sym (k.active_variables v.word))
   where
-    by : (a b : Bool) → is_active is_open (look v.word) ≡ b
+    by : (a b : Bool) → is_active_variable is_open (look v.word) ≡ b
         → typing_fault keyword v.at
         (if a && b then Some (floating_code is_open c.word (look v.word)) else None)
         ≡ least (elim (a && b) [
@@ -315,7 +322,7 @@ typing_is n look labels is_open k keyword c v =
     by false b h = refl
     by true false h = refl
     by true true h =
-        ap₂ (λ a b. fault_at v.at (first_code a TypedBefore (first_code b OtherTypecode None)))
+        ap₂ (λ a b. fault_at v.at (code_or a TypedBefore (code_or b OtherTypecode None)))
         (sym (k.typed v.word h)) (sym (k.otherwise c.word v.word h))
         ∙ sym (two_codes v.at (is_typed n v.word)
         (is_typed_otherwise n c.word v.word) TypedBefore OtherTypecode refl)
@@ -355,7 +362,7 @@ two_between text ws k j l e =
     (sym (between_none text ws j))
 
 when_first : (p : ℕ) (b : Bool) (x : Code)
-    → fault_at p (first_code b x None) ≡ least (at p (when b x))
+    → fault_at p (code_or b x None) ≡ least (at p (when b x))
 when_first p true x = refl
 when_first p false x = refl
 
@@ -365,7 +372,7 @@ empty_count n (x ∷ xs) = ne_eqb (suc (length xs)) 0 (omega arith)
 
 pub constants_is : (n : Names) (deep kw end : ℕ) (text : List ℕ) (ws : List place.Word) (k j : ℕ)
     → k < j → j ≤ length ws
-    → merge (list_fault Constants deep kw end (j - k - 1))
+    → lesser_fault (list_fault Constants deep kw end (j - k - 1))
     (least (at_each (constant_codes n) [] (between text ws (k + 1) j)))
     ≡ least (at kw (when (nat_lt 0 deep) ConstantInBlock)
     ++ at end (when (is_empty n (between text ws (k + 1) j)) EmptyDeclaration)
@@ -376,19 +383,20 @@ constants_is n deep kw end text ws k j h l =
     (let m = length_between text ws (k + 1) j (omega arith) l in omega (arith, m)) in
     let first = at kw (when (nat_lt 0 deep) ConstantInBlock) in
     let second = at end (when (is_empty n xs) EmptyDeclaration) in
-    ap₂ (λ a b. merge (merge a (fault_at end (first_code b EmptyDeclaration None)))
+    ap₂ (λ a b. lesser_fault (lesser_fault a (fault_at end (code_or b EmptyDeclaration None)))
     (least (at_each (constant_codes n) [] xs))) (when_first kw (nat_lt 0 deep) ConstantInBlock)
     (ap (λ m. nat_eq m 0) c
     ∙ empty_count n xs)
-    ∙ ap (λ b. merge (merge (least first) b) (least (at_each (constant_codes n) [] xs)))
+    ∙ ap (λ b. lesser_fault (lesser_fault (least first) b)
+    (least (at_each (constant_codes n) [] xs)))
     (when_first end (is_empty n xs) EmptyDeclaration)
-    ∙ ap (λ a. merge a (least (at_each (constant_codes n) [] xs)))
+    ∙ ap (λ a. lesser_fault a (least (at_each (constant_codes n) [] xs)))
     (sym (least_append first second))
     ∙ sym (least_append (first ++ second) (at_each (constant_codes n) [] xs))
 
 pub variables_is : (n : Names) (deep kw end : ℕ) (text : List ℕ) (ws : List place.Word) (k j : ℕ)
     → k < j → j ≤ length ws
-    → merge (list_fault Variables deep kw end (j - k - 1))
+    → lesser_fault (list_fault Variables deep kw end (j - k - 1))
     (least (at_each (variable_codes n) [] (between text ws (k + 1) j)))
     ≡ least (at end (when (is_empty n (between text ws (k + 1) j)) EmptyDeclaration)
     ++ at_each (variable_codes n) [] (between text ws (k + 1) j))
@@ -396,10 +404,10 @@ variables_is n deep kw end text ws k j h l =
     let xs = between text ws (k + 1) j in
     let c : j - k - 1 ≡ length xs =
     (let m = length_between text ws (k + 1) j (omega arith) l in omega (arith, m)) in
-    ap (λ b. merge (fault_at end (first_code b EmptyDeclaration None))
+    ap (λ b. lesser_fault (fault_at end (code_or b EmptyDeclaration None))
     (least (at_each (variable_codes n) [] xs))) (ap (λ m. nat_eq m 0) c
     ∙ empty_count n xs)
-    ∙ ap (λ b. merge b (least (at_each (variable_codes n) [] xs)))
+    ∙ ap (λ b. lesser_fault b (least (at_each (variable_codes n) [] xs)))
     (when_first end (is_empty n xs) EmptyDeclaration)
     ∙ sym (least_append (at end (when (is_empty n xs) EmptyDeclaration))
     (at_each (variable_codes n) [] xs))

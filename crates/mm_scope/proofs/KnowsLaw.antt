@@ -13,12 +13,12 @@ use Rattle.mm_spec.specs.Scope.{names_before, active_statements, is_active, vari
 use Rattle.mm_spec.specs.Scope.{constants_of, label_words, typings_of}
 use Rattle.mm_outline.specs.Blocks.{BlockLists, IsBlocks, never, end_in, is_never, is_open_in}
 use Rattle.mm_scope.specs.Judge as judge
-use Rattle.mm_scope.specs.Judge.{Knows, is_constant}
-use Rattle.mm_scope.specs.Judge.{is_variable_symbol, has_other_typecode, is_typed_here, entry_of}
+use Rattle.mm_scope.specs.Judge.{Knows, has_other_typecode, is_typed_here, entry_of}
 use Rattle.mm_scope.specs.WordEntry.{IsEntryOf, typed_by, typecode_by, is_other, is_constant_entry}
 use Rattle.mm_scope.specs.WordEntry.{is_variable_entry}
-use Rattle.mm_outline.specs.Typed.{has, typed_words}
-use Rattle.mm_scope.specs.Keeps.{Keeps}
+use Rattle.mm_outline.specs.Typed.{has_word, typed_words}
+use Rattle.mm_scope.specs.Keeps.{KnowsStatements}
+use Rattle.mm_database.specs.Names.{is_constant_in, is_variable_in}
 use Rattle.mm_database.specs.declared.names.Symbol.{Symbol}
 use Rattle.mm_scope.proofs.LatestLaw.{latest_is}
 use Rattle.mm_outline.proofs.AmongLaw.{among_active, any_false, typed_in}
@@ -26,7 +26,7 @@ use Rattle.mm_scope.proofs.OpenLaw.{latest_open, declares_local, types_local}
 
 -- a word that no statement has
 has_none : (db : List Statement) (f : Statement → List Bytes) (w : Bytes)
-    → is_in w (flat_map f db) ≡ false → (j : ℕ) → has db f w j ≡ false
+    → is_in w (flat_map f db) ≡ false → (j : ℕ) → has_word db f w j ≡ false
 has_none [] f w e j = refl
 has_none (s ∷ db) f w e zero =
     let h = sym (list_any-append (bytes_eq w) (f s) (flat_map f db)) ∙ e in
@@ -42,7 +42,7 @@ pub none_active : (db : List Statement) (f : Statement → List Bytes) (w : Byte
     → is_in w (flat_map f (active_statements db (length db))) ≡ false
 none_active db f w e =
     among_active db f w (λ j. is_active db j (length db)) (length db) 0
-    ∙ any_false (λ j. is_active db j (length db) && has db f w j) (length db) 0
+    ∙ any_false (λ j. is_active db j (length db) && has_word db f w j) (length db) 0
     (λ j l. ap (λ b. is_active db j (length db) && b) (has_none db f w e j)
     ∙ and-false (is_active db j (length db)))
 
@@ -53,7 +53,7 @@ module _ (db : List Statement) (b : BlockLists) (x : IsBlocks db b) (few : lengt
     (w : Bytes) where
   variable_active : (o : Option Symbol) → IsEntryOf db w (entry_of o)
       → is_in w (flat_map variables_of (active_statements db (length db)))
-      ≡ judge.is_active (is_open_in b) o
+      ≡ judge.is_active_variable (is_open_in b) o
   variable_active None k = none_active db variables_of w k.variable
   variable_active (Some s) k = by s.is_variable refl
     where
@@ -84,11 +84,11 @@ module _ (db : List Statement) (b : BlockLists) (x : IsBlocks db b) (few : lengt
           latest_is db typed_words w s.typed l
           ∙ latest_open db b x few typed_words w (types_local w) s.typed l
 
-constant_is : (o : Option Symbol) → is_constant_entry (entry_of o) ≡ is_constant o
+constant_is : (o : Option Symbol) → is_constant_entry (entry_of o) ≡ is_constant_in o
 constant_is None = refl
 constant_is (Some s) = refl
 
-variable_is : (o : Option Symbol) → is_variable_entry (entry_of o) ≡ is_variable_symbol o
+variable_is : (o : Option Symbol) → is_variable_entry (entry_of o) ≡ is_variable_in o
 variable_is None = refl
 variable_is (Some s) = refl
 
@@ -101,7 +101,7 @@ other_is c (Some s) = refl
 -- the names before the next statement are those that are known
 pub knows_is : (db : List Statement) (look : List ℕ → Option Symbol) (labels : List ℕ → Option ℕ)
     → (b : BlockLists)
-    → Keeps db look labels b → length db < never
+    → KnowsStatements db look labels b → length db < never
     → Knows (names_before db (length db)) look labels (is_open_in b)
 knows_is db look labels b k few =
     let all = take_all (length db) db (le_refl (length db)) in

@@ -14,7 +14,7 @@ use Rattle.mm_spec.proofs.FindsLaw.{range_any}
 use Rattle.mm_outline.proofs.AmongLaw.{any_false, among_active}
 use Rattle.mm_outline.proofs.BlocksLaw.{stays_last}
 use Rattle.mm_scope.specs.WordEntry.{Latest}
-use Rattle.mm_outline.specs.Typed.{has}
+use Rattle.mm_outline.specs.Typed.{has_word}
 
 module _ (db : List Statement) (f : Statement → List Bytes) (w : Bytes) where
   pub latest_is : (last : ℕ) → Latest db f w last
@@ -24,26 +24,26 @@ module _ (db : List Statement) (f : Statement → List Bytes) (w : Bytes) where
       ∙ by (is_active db last (length db)) refl
     where
       q : ℕ → Bool
-      q = λ j. is_active db j (length db) && has db f w j
+      q = λ j. is_active db j (length db) && has_word db f w j
 
       none : is_active db last (length db) ≡ false → (j : ℕ) → j < length db → (a b : Bool)
-          → is_active db j (length db) ≡ a → has db f w j ≡ b → (a && b) ≡ false
+          → is_active db j (length db) ≡ a → has_word db f w j ≡ b → (a && b) ≡ false
       none e j l true true h k =
           absurd (true≢false (sym h ∙ ap (λ i. is_active db i (length db)) (x.alone j l k h) ∙ e))
       none e j l true false h k = refl
       none e j l false b h k = refl
 
       by : (b : Bool) → is_active db last (length db) ≡ b
-          → list_any (λ j. is_active db j (length db) && has db f w j)
+          → list_any (λ j. is_active db j (length db) && has_word db f w j)
           (range_with_len 0 (length db))
           ≡ b
       by true e =
-          range_any (λ j. is_active db j (length db) && has db f w j) (length db) 0 last
+          range_any (λ j. is_active db j (length db) && has_word db f w j) (length db) 0 last
           (omega arith) (let l = x.before in omega (arith, l)) (ap₂ (λ a b. a && b) e x.there)
       by false e =
-          any_false (λ j. is_active db j (length db) && has db f w j) (length db) 0
+          any_false (λ j. is_active db j (length db) && has_word db f w j) (length db) 0
           (λ j l. let m : j < length db = omega arith in
-          none e j m (is_active db j (length db)) (has db f w j) refl refl)
+          none e j m (is_active db j (length db)) (has_word db f w j) refl refl)
 
 -- ---- one statement more
 
@@ -74,12 +74,12 @@ module _ (db : List Statement) (s : Statement) where
       by (Some t) a b e = kind_mono (is_global t) (is_local t) a b e
 
   module _ (f : Statement → List Bytes) (w : Bytes) where
-    has-front : (j : ℕ) → j < length db → has (db ++ s ∷ []) f w j ≡ has db f w j
+    has-front : (j : ℕ) → j < length db → has_word (db ++ s ∷ []) f w j ≡ has_word db f w j
     has-front j h =
         ap (λ o. is_in w (flat_map f (elim o [ None ↦ [] | Some t ↦ t ∷ [] ])))
         (get_front db (s ∷ []) j h)
 
-    has-new : has (db ++ s ∷ []) f w (length db) ≡ is_in w (f s ++ [])
+    has-new : has_word (db ++ s ∷ []) f w (length db) ≡ is_in w (f s ++ [])
     has-new =
         ap (λ o. is_in w (flat_map f (elim o [ None ↦ [] | Some t ↦ t ∷ [] ]))) (get_seam db s [])
 
@@ -95,13 +95,13 @@ module _ (db : List Statement) (s : Statement) where
           (cases_lt j (length db));
     }
       where
-        by : (j : ℕ) → j < length (db ++ s ∷ []) → has (db ++ s ∷ []) f w j ≡ true
+        by : (j : ℕ) → j < length (db ++ s ∷ []) → has_word (db ++ s ∷ []) f w j ≡ true
             → is_active (db ++ s ∷ []) j (length db + 1) ≡ true → (j < length db) ⊎ (length db ≤ j)
             → j ≡ last
         by j h k e (inl l) = x.alone j l (sym (has-front j l) ∙ k) (active_mono j l e)
         by j h k e (inr l) =
             absurd (let same : j ≡ length db = omega (arith, h, l, length-append db (s ∷ [])) in
-            true≢false (sym k ∙ ap (has (db ++ s ∷ []) f w) same ∙ has-new ∙ n))
+            true≢false (sym k ∙ ap (has_word (db ++ s ∷ []) f w) same ∙ has-new ∙ n))
 
     -- the statement has the word, which no active one had
     pub latest_new : is_in w (f s ++ []) ≡ true
@@ -116,12 +116,12 @@ module _ (db : List Statement) (s : Statement) where
           (cases_lt j (length db));
     }
       where
-        by : (j : ℕ) → j < length (db ++ s ∷ []) → has (db ++ s ∷ []) f w j ≡ true
+        by : (j : ℕ) → j < length (db ++ s ∷ []) → has_word (db ++ s ∷ []) f w j ≡ true
             → is_active (db ++ s ∷ []) j (length db + 1) ≡ true → (j < length db) ⊎ (length db ≤ j)
             → j ≡ length db
         by j h k e (inl l) =
             absurd (true≢false
-            (sym (range_any (λ i. is_active db i (length db) && has db f w i) (length db) 0 j
+            (sym (range_any (λ i. is_active db i (length db) && has_word db f w i) (length db) 0 j
             (omega arith) (omega arith)
             (ap₂ (λ a b. a && b) (active_mono j l e) (sym (has-front j l) ∙ k)))
             ∙ sym (among_active db f w (λ i. is_active db i (length db)) (length db) 0) ∙ n))

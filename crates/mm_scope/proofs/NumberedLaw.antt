@@ -15,7 +15,7 @@ use Rattle.mm_spec.specs.Scope.{constants_of, variables_of}
 use Rattle.mm_spec.specs.Lawful.{scope_fault}
 use Rattle.mm_spec.specs.Frame.{first_occurrences, symbol_names, place_of, formula_of}
 use Rattle.mm_spec.specs.declared.Word as place
-use Rattle.mm_outline.specs.Numbered.{AreNumbered}
+use Rattle.mm_database.specs.Numbered.{AreNumbered}
 use Rattle.mm_outline.specs.Parts.{between, token_at}
 use Rattle.mm_outline.proofs.TurnsLaw.{between_more, between_none}
 use Rattle.mm_database.specs.Cuts.{AreJoined, joined}

@@ -9,7 +9,8 @@ use Rattle.mm_spec.specs.Statement.{disjoint, floating, essential, axiomatic, pr
 use Rattle.mm_spec.specs.Statement.{closing}
 use Rattle.mm_spec.specs.Scope.{depth, names_before}
 use Rattle.mm_spec.specs.Lawful.{scope_fault, scope_faults, least}
-use Rattle.mm_spec.specs.Output.{IsRead, LexedText, StopsReading}
+use Rattle.mm_spec.specs.Lexed.{LexedText}
+use Rattle.mm_spec.specs.Output.{IsRead, StopsReading}
 use Rattle.mm_spec.specs.Laws.Table.{start, statements_from, statements_of, stop_from, rest_from}
 use Rattle.mm_spec.specs.Laws.Table.{fault_at_end}
 use Rattle.mm_spec.specs.declared.Word.{Word}
@@ -17,7 +18,7 @@ use Rattle.mm_spec.specs.declared.Fault.{Fault}
 use Rattle.mm_spec.proofs.LocalLaw.{scope_fault_front, scope_fault_next}
 use Rattle.mm_spec.proofs.LongestLaw.{is_longest}
 use Rattle.mm_spec.proofs.StopsLaw.{text_fault, text_fault_is, no_text_fault, first_of}
-use Rattle.mm_outline.specs.Parts.{as_tokens, reading, made, depth_after, less_one}
+use Rattle.mm_outline.specs.Parts.{as_tokens, progress, made, depth_after, less_one}
 use Rattle.mm_outline.specs.Blocks.{BlockLists, IsBlocks, never}
 use Rattle.mm_outline.proofs.BlocksLaw.{depth_end, depth_plain, depth_opening, depth_closing}
 use Rattle.mm_outline.specs.declared.parts.Kind.{Kind}
@@ -99,7 +100,7 @@ module _ (text : List ℕ) (ws : List Word) (len : ℕ) (lexical : Option Fault)
       ∙ e))
 
   end_is : (part : Part) (i : ℕ) (o : Option Fault)
-      → first_of o (fault_at_end len (reading text ws deep part i)) ≡ end_fault_of o len part deep
+      → first_of o (fault_at_end len (progress text ws deep part i)) ≡ end_fault_of o len part deep
   end_is part i (Some f) = refl
   end_is Start i None = by deep
     where
@@ -113,7 +114,7 @@ module _ (text : List ℕ) (ws : List Word) (len : ℕ) (lexical : Option Fault)
 
   pub read_ended : (part : Part) → statements_from (start deep) (tokens_from text ws at) ≡ []
       → stop_from (start deep) (tokens_from text ws at) ≡ None
-      → rest_from (start deep) (tokens_from text ws at) ≡ reading text ws deep part (length ws)
+      → rest_from (start deep) (tokens_from text ws at) ≡ progress text ws deep part (length ws)
       → (f : Option Fault) → f ≡ end_fault_of lexical len part deep
       → IsRead len (lexed text ws lexical) db f
   read_ended part n s e f is =

@@ -15,6 +15,7 @@ use Rattle.mm_outline.specs.declared.parts.Outline.{Outline}
 use Rattle.mm_outline.specs.Blocks.{never}
 use Rattle.mm_outline.specs.declared.parts.Kind.{Kind}
 use Rattle.mm_outline.specs.declared.parts.Kind.TheVariants.{Constants, Variables}
+use Rattle.mm_database.specs.Names.{is_constant_in, is_variable_in}
 use Rattle.mm_database.specs.declared.names.Symbol.{Symbol}
 use Rattle.mm_spec.specs.declared.Code.{Code}
 use Rattle.mm_spec.specs.declared.Code.TheVariants.{ConstantInBlock, EmptyDeclaration}
@@ -25,9 +26,9 @@ use Rattle.mm_spec.specs.declared.Code.TheVariants.{TooFewVariables, UndeclaredV
 use Rattle.mm_spec.specs.declared.Code.TheVariants.{RepeatedVariable}
 
 -- the lesser of two faults, if any
-abbrev pub merge : Option Fault → Option Fault → Option Fault
-merge None g = g
-merge (Some f) g = lesser f g
+abbrev pub lesser_fault : Option Fault → Option Fault → Option Fault
+lesser_fault None g = g
+lesser_fault (Some f) g = lesser f g
 
 abbrev pub fault_at : ℕ → Option Code → Option Fault
 fault_at place None = None
@@ -45,9 +46,9 @@ module _ (is_open : ℕ → Bool) where
   abbrev pub is_typed_symbol : Symbol → Bool
   is_typed_symbol s = is_open s.typed
 
-  abbrev pub is_active : Option Symbol → Bool
-  is_active None = false
-  is_active (Some s) = is_active_symbol s
+  abbrev pub is_active_variable : Option Symbol → Bool
+  is_active_variable None = false
+  is_active_variable (Some s) = is_active_symbol s
 
   abbrev pub is_typed_here : Option Symbol → Bool
   is_typed_here None = false
@@ -58,14 +59,6 @@ module _ (is_open : ℕ → Bool) where
   symbol_code (Some s) =
       if s.is_variable then code_of_variable (is_active_symbol s) (is_typed_symbol s) else None
 
-abbrev pub is_constant : Option Symbol → Bool
-is_constant None = false
-is_constant (Some s) = not s.is_variable
-
-abbrev pub is_variable_symbol : Option Symbol → Bool
-is_variable_symbol None = false
-is_variable_symbol (Some s) = s.is_variable
-
 abbrev pub has_other_typecode : List ℕ → Option Symbol → Bool
 has_other_typecode c None = false
 has_other_typecode c (Some s) = not (nat_eq s.typed never) && not (bytes_eq c s.typecode.now)
@@ -73,43 +66,44 @@ has_other_typecode c (Some s) = not (nat_eq s.typed never) && not (bytes_eq c s.
 -- the code knows these names
 pub record Knows (n : Names) (look : List ℕ → Option Symbol) (labels : List ℕ → Option ℕ)
     (is_open : ℕ → Bool) : Type 0 where
-  pub constants : (w : List ℕ) → is_in w n.constants ≡ is_constant (look w)
-  pub all_variables : (w : List ℕ) → is_in w n.all_variables ≡ is_variable_symbol (look w)
-  pub active_variables : (w : List ℕ) → is_in w n.active_variables ≡ is_active is_open (look w)
+  pub constants : (w : List ℕ) → is_in w n.constants ≡ is_constant_in (look w)
+  pub all_variables : (w : List ℕ) → is_in w n.all_variables ≡ is_variable_in (look w)
+  pub active_variables : (w : List ℕ)
+      → is_in w n.active_variables ≡ is_active_variable is_open (look w)
   pub labels_known : (w : List ℕ) → is_in w n.labels ≡ is_some (labels w)
-  pub typed : (w : List ℕ) → is_active is_open (look w) ≡ true
+  pub typed : (w : List ℕ) → is_active_variable is_open (look w) ≡ true
       → is_typed n w ≡ is_typed_here is_open (look w)
-  pub otherwise : (c w : List ℕ) → is_active is_open (look w) ≡ true
+  pub otherwise : (c w : List ℕ) → is_active_variable is_open (look w) ≡ true
       → is_typed_otherwise n c w ≡ has_other_typecode c (look w)
 
-abbrev pub first_code : Bool → Code → Option Code → Option Code
-first_code true code more = Some code
-first_code false code more = more
+abbrev pub code_or : Bool → Code → Option Code → Option Code
+code_or true code more = Some code
+code_or false code more = more
 
 abbrev pub label_code : Option Symbol → Bool → Option Code
 label_code o used =
-    first_code (is_constant o || is_variable_symbol o) LabelIsSymbol
-    (first_code used LabelUsedBefore None)
+    code_or (is_constant_in o || is_variable_in o) LabelIsSymbol
+    (code_or used LabelUsedBefore None)
 
 abbrev pub typecode_code : Option Symbol → Option Code
-typecode_code o = first_code (not (is_constant o)) BadTypecode None
+typecode_code o = code_or (not (is_constant_in o)) BadTypecode None
 
 abbrev pub floating_code : (ℕ → Bool) → List ℕ → Option Symbol → Option Code
 floating_code is_open c o =
-    first_code (is_typed_here is_open o) TypedBefore
-    (first_code (has_other_typecode c o) OtherTypecode None)
+    code_or (is_typed_here is_open o) TypedBefore
+    (code_or (has_other_typecode c o) OtherTypecode None)
 
 -- a symbol of `$c`, of `$v` and of `$d`
 abbrev pub declared_code : (ℕ → Bool) → Kind → Option Symbol → Bool → Bool → Option Code
 declared_code is_open Constants o repeated label =
-    first_code (is_constant o || is_variable_symbol o || repeated) DeclaredBefore
-    (first_code label LabelIsSymbol None)
+    code_or (is_constant_in o || is_variable_in o || repeated) DeclaredBefore
+    (code_or label LabelIsSymbol None)
 declared_code is_open Variables o repeated label =
-    first_code (is_constant o || is_active is_open o || repeated) DeclaredBefore
-    (first_code label LabelIsSymbol None)
+    code_or (is_constant_in o || is_active_variable is_open o || repeated) DeclaredBefore
+    (code_or label LabelIsSymbol None)
 declared_code is_open _ o repeated label =
-    first_code (not (is_active is_open o)) UndeclaredVariable
-    (first_code repeated RepeatedVariable None)
+    code_or (not (is_active_variable is_open o)) UndeclaredVariable
+    (code_or repeated RepeatedVariable None)
 
 abbrev pub declared_codes : Names → Kind → List (List ℕ) → List ℕ → List Code
 declared_codes n Constants = constant_codes n
@@ -125,17 +119,18 @@ before_next e (t ∷ ts) = before_next (t.word ∷ e) ts
 -- end, and the number of its symbols
 abbrev pub list_fault : Kind → ℕ → ℕ → ℕ → ℕ → Option Fault
 list_fault Constants deep keyword end count =
-    merge (fault_at keyword (first_code (nat_lt 0 deep) ConstantInBlock None))
-    (fault_at end (first_code (nat_eq count 0) EmptyDeclaration None))
+    lesser_fault (fault_at keyword (code_or (nat_lt 0 deep) ConstantInBlock None))
+    (fault_at end (code_or (nat_eq count 0) EmptyDeclaration None))
 list_fault Variables deep keyword end count =
-    fault_at end (first_code (nat_eq count 0) EmptyDeclaration None)
+    fault_at end (code_or (nat_eq count 0) EmptyDeclaration None)
 list_fault _ deep keyword end count =
-    fault_at end (first_code (nat_lt count 2) TooFewVariables None)
+    fault_at end (code_or (nat_lt count 2) TooFewVariables None)
 
 -- the fault of a `$c`, `$v` or `$d`: of the whole, or of one of its symbols
 abbrev pub declared_fault : Names → ℕ → List ℕ → List Word → Outline → Option Fault
 declared_fault n deep text tokens o =
-    merge (list_fault o.kind deep (nth_word tokens o.keyword).start (nth_word tokens o.middle).start
+    lesser_fault
+    (list_fault o.kind deep (nth_word tokens o.keyword).start (nth_word tokens o.middle).start
     (o.middle - o.keyword - 1))
     (least (at_each (declared_codes n o.kind) [] (between text tokens (o.keyword + 1) o.middle)))
 
@@ -148,8 +143,8 @@ labelled_faults n text tokens o =
 
 abbrev pub typing_code : (ℕ → Bool) → List ℕ → Option Symbol → Option Symbol → Option (Option Code)
 typing_code is_open c typecode variable =
-    if is_constant typecode
-    && is_active is_open variable then Some (floating_code is_open c variable) else None
+    if is_constant_in typecode
+    && is_active_variable is_open variable then Some (floating_code is_open c variable) else None
 
 abbrev pub typing_fault : ℕ → ℕ → Option (Option Code) → Option Fault
 typing_fault keyword place None = Some (fault keyword BadFloating)

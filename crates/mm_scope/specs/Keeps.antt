@@ -24,15 +24,15 @@ use Rattle.mm_database.specs.Labels.{AreLabels}
 use Rattle.mm_database.specs.declared.names.Symbol.{Symbol}
 
 -- the code knows what is before the next statement
-pub record Keeps (db : List Statement) (look : List ℕ → Option Symbol) (labels : List ℕ → Option ℕ)
-    (b : BlockLists) : Type 0 where
+pub record KnowsStatements (db : List Statement) (look : List ℕ → Option Symbol)
+    (labels : List ℕ → Option ℕ) (b : BlockLists) : Type 0 where
   pub blocks : IsBlocks db b
   pub symbols : (w : List ℕ) → IsEntryOf db w (entry_of (look w))
   pub labels_known : (w : List ℕ) → is_in w (flat_map label_words db) ≡ is_some (labels w)
   pub labels_are : AreLabels db labels
 
 -- all that is kept after some statements: names, blocks, and the symbols by their numbers
-pub record Kept : Type 0 where
+pub record ReadSoFar : Type 0 where
   pub look : List ℕ → Option Symbol
   pub labels : List ℕ → Option ℕ
   pub blocks : BlockLists
@@ -40,13 +40,13 @@ pub record Kept : Type 0 where
   pub numbers : List ℕ
   pub places : List ℕ
 
-pub record IsKeptOf (db : List Statement) (k : Kept) : Type 0 where
-  pub keeps : Keeps db k.look k.labels k.blocks
+pub record IsKeptOf (db : List Statement) (k : ReadSoFar) : Type 0 where
+  pub keeps : KnowsStatements db k.look k.labels k.blocks
   pub names_are : k.names ≡ symbol_names db
   pub formulas : AreFormulas db k.numbers k.places
 
 module _ {A : Type 0} where
-  abbrev pub kept_by : Outlined A → Kept
+  abbrev pub kept_by : Outlined A → ReadSoFar
   kept_by r = record {
     look = find r.scope.names.symbols;
     labels = find r.scope.names.labels;

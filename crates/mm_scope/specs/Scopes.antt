@@ -14,7 +14,7 @@ use Rattle.mm_database.specs.Names.{find, names_of}
 use Rattle.mm_database.specs.declared.names.Symbol.{Symbol}
 use Rattle.mm_scope.specs.declared.scope.Scope.{Scope}
 use Rattle.mm_scope.specs.Judge.{Entry, Knows, entry_of}
-use Rattle.mm_scope.specs.Keeps.{Keeps}
+use Rattle.mm_scope.specs.Keeps.{KnowsStatements}
 
 -- the outline is that of a whole statement among these tokens of a text
 pub record IsAmong (text : List ℕ) (tokens : List Word) (o : Outline) : Type 0 where
@@ -52,7 +52,7 @@ module _ {A : Type 0} where
 
   -- the scope is that after these statements
   abbrev pub IsScopeAfter : List Statement → Scope A → Type 0
-  IsScopeAfter db s = Keeps db (symbol_in s) (label_in s) s.blocks
+  IsScopeAfter db s = KnowsStatements db (symbol_in s) (label_in s) s.blocks
 
   -- the scope after one more statement, if that may follow
   abbrev pub IsNextScope : Scope A → Scope A → Statement → Type 0

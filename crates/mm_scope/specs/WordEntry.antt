@@ -7,7 +7,7 @@ use Rattle.mm_spec.specs.Statement.{Statement, constants, variables, floating}
 use Rattle.mm_spec.specs.Scope.{Typing, is_active, constants_of, variables_of, typings_of}
 use Rattle.mm_outline.specs.Blocks.{never}
 use Rattle.mm_scope.specs.Judge.{Entry, after_declaring, typed_entry}
-use Rattle.mm_outline.specs.Typed.{has, typed_words}
+use Rattle.mm_outline.specs.Typed.{has_word, typed_words}
 
 -- whether the typing gives the word another typecode
 abbrev pub is_other : Bytes → Bytes → Typing → Bool
@@ -17,8 +17,9 @@ module _ (db : List Statement) (f : Statement → List Bytes) (w : Bytes) where
   -- the last statement that has the word, the only one that may be active
   pub record Latest (last : ℕ) : Type 0 where
     pub before : last < length db
-    pub there : has db f w last ≡ true
-    pub alone : (j : ℕ) → j < length db → has db f w j ≡ true → is_active db j (length db) ≡ true
+    pub there : has_word db f w last ≡ true
+    pub alone : (j : ℕ) → j < length db → has_word db f w j ≡ true
+        → is_active db j (length db) ≡ true
         → j ≡ last
 
 abbrev pub is_constant_entry : Option Entry → Bool

@@ -11,7 +11,7 @@ ghost use Rattle.mm_spec.specs.Lawful.{floating_faults, label_faults, scope_faul
 ghost use Rattle.mm_spec.specs.Scope.{Names as DeclaredNames};
 ghost use Rattle.mm_outline.specs.Parts.{AreWithin, between, nth_word, token_at};
 ghost use Rattle.mm_outline.specs.Parts.{statement_of};
-ghost use Rattle.mm_scope.specs.Judge.{merge as spec_merge, fault_at, declared_codes};
+ghost use Rattle.mm_scope.specs.Judge.{lesser_fault as spec_lesser_fault, fault_at, declared_codes};
 ghost use Rattle.mm_scope.specs.Judge.{declared_fault, labelled_faults, list_fault, before_next};
 ghost use Rattle.mm_scope.specs.Scopes.{AreNamesOf, IsAmong, IsLeastFault, names_in};
 
@@ -117,7 +117,7 @@ impl<'a, A: Allocator + Copy> Scope<'a, A> {
         numbers.push(Sym::new(number as u32))?;
         let typecode = note(None, token.start, Self::typecode_code(known));
         let rest = self.symbols_fault(text, tokens, from + 1, to, numbers)?;
-        Ok(merge(typecode, rest))
+        Ok(lesser_fault(typecode, rest))
     }
 
     /// Returns the fault of the label at the token `at`.
@@ -250,7 +250,7 @@ impl<'a, A: Allocator + Copy> Scope<'a, A> {
             Kind::Disjoint => self.declared(alloc, text, tokens, deep, outline),
             Kind::Floating => {
                 let label = self.label_fault(text, tokens, keyword - 1);
-                Ok(merge(label, self.floating_fault(text, tokens, keyword, middle)))
+                Ok(lesser_fault(label, self.floating_fault(text, tokens, keyword, middle)))
             }
             Kind::Essential => self.labelled(text, tokens, outline, numbers),
             Kind::Axiom => self.labelled(text, tokens, outline, numbers),
@@ -282,7 +282,7 @@ impl<'a, A: Allocator + Copy> Scope<'a, A> {
         let label = self.label_fault(text, tokens, outline.keyword - 1);
         let from = outline.keyword + 1;
         let formula = self.formula_fault(text, tokens, from, outline.middle, numbers)?;
-        Ok(merge(label, formula))
+        Ok(lesser_fault(label, formula))
     }
 
     /// Returns the least fault of a `$c`, `$v` or `$d`.
@@ -304,13 +304,13 @@ impl<'a, A: Allocator + Copy> Scope<'a, A> {
         let from = outline.keyword + 1;
         let rest = self.declared_fault(alloc, text, tokens, outline.kind, from, outline.middle)?;
         let whole = self.list_fault(tokens, outline.kind, deep, outline.keyword, outline.middle);
-        Ok(merge(whole, rest))
+        Ok(lesser_fault(whole, rest))
     }
 }
 
 /// Returns the lesser of two faults, if any.
-fn merge(best: Option<Fault>, fault: Option<Fault>) -> Option<Fault>
-    ensures { result ≡ spec_merge best fault }
+fn lesser_fault(best: Option<Fault>, fault: Option<Fault>) -> Option<Fault>
+    ensures { result ≡ spec_lesser_fault best fault }
 {
     match fault {
         Some(fault) => note(best, fault.at, Some(fault.code)),
@@ -392,7 +392,7 @@ fn see<'a, A: Allocator + Copy>(
 /// decides, and at the same place the number of the code.
 #[inline(always)]
 fn note(best: Option<Fault>, at: u32, code: Option<Code>) -> Option<Fault>
-    ensures { result ≡ spec_merge best (fault_at at code) }
+    ensures { result ≡ spec_lesser_fault best (fault_at at code) }
 {
     match code {
         Some(code) => {

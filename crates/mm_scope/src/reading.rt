@@ -1,31 +1,23 @@
 //! The reading of statements, one by one.
 
-ghost use Rattle.std.specs.Prelude.{◌≡◌, ◌<◌, ◌≤◌, ◌^◌, [], List, None, All, length, OnOk, IfOk};
-ghost use Rattle.mm_spec.specs.Statement.{Statement, label_of};
+ghost use Rattle.std.specs.Prelude.{◌≡◌, ◌<◌, ◌^◌, [], None, All, length, OnOk, IfOk};
 ghost use Rattle.mm_spec.specs.Output.{IsRead};
 ghost use Rattle.mm_spec.specs.Lexed.{tokens_of};
 ghost use Rattle.mm_database.specs.Cuts.{AreJoined};
-ghost use Rattle.mm_database.specs.Names.{find as find_in};
 ghost use Rattle.mm_database.specs.Parsed.{AreParts};
-ghost use Rattle.std.specs.Prelude.{◌+◌, ◌-◌, ℕ, Some, if◌then◌else◌, bytes_eq, true};
-ghost use Rattle.mm_scope.specs.Judge.{after_declaring, after_typing, declared_entry, entry_of};
-ghost use Rattle.mm_outline.specs.Parts.{AreWithin, token_at, IsOutline, depth_after};
-ghost use Rattle.mm_outline.specs.Parts.{statement_of};
+ghost use Rattle.mm_outline.specs.Parts.{AreWithin, IsOutline, depth_after, statement_of};
 ghost use Rattle.mm_outline.specs.Tokens.{AreTokens};
-ghost use Rattle.mm_scope.specs.WordEntry.{entry_after, label_after};
 ghost use Rattle.mm_outline.specs.Statements.{end_fault_of, lexed, statements};
-ghost use Rattle.mm_scope.specs.Scopes.{Declares, IsAmong, IsScopeAfter, IsNextScope};
-ghost use Rattle.mm_scope.specs.Scopes.{declared_words, listed_words};
-ghost use Rattle.mm_scope.specs.Scopes.{entry_in, label_in, names_in};
+ghost use Rattle.mm_scope.specs.Scopes.{IsAmong, IsScopeAfter, names_in};
 ghost use Rattle.mm_scope.specs.Keeps.{HasTaken, IsKeptOf, MayTake, formulas_of, kept_by};
 ghost use Rattle.mm_scope.specs.Keeps.{reading_of};
 
 use crate::scope::Scope;
 use mm_database::formulas::Formulas;
-use mm_database::names::{NameTable, Symbol, no_names};
+use mm_database::names::no_names;
 use mm_database::reading::Reading;
 use mm_database::statements::Statements;
-use mm_outline::blocks::{NEVER, no_blocks};
+use mm_outline::blocks::no_blocks;
 use mm_outline::parts::{Kind, NextStatement, Outline, Part, next_statement};
 use mm_outline::symbol::Sym;
 use mm_spec::{Code, Fault, Word};
@@ -132,7 +124,7 @@ fn end_fault(lexical: Option<Fault>, text: &[u8], part: Part, deep: u32) -> Opti
 }
 
 /// Returns what there is before the first statement is read.
-fn nothing<'a, A: Allocator + Copy>(alloc: A) -> Result<Outlined<'a, A>, AllocError>
+fn nothing_read<'a, A: Allocator + Copy>(alloc: A) -> Result<Outlined<'a, A>, AllocError>
     ensures { IfOk result
         (λ r. (r.outlines.items ≡ []) × (r.fault ≡ None) × IsKeptOf [] (kept_by r)) }
 {
@@ -205,7 +197,7 @@ pub fn outline<'a, A: Allocator + Copy>(
         (λ d. IsRead (length text.now) (lexed text.now tokens.now lexical)
         (statements text.now tokens.now d.outlines.items) d.fault) }
 {
-    let mut read = nothing(alloc)?;
+    let mut read = nothing_read(alloc)?;
     let mut deep = 0;
     let mut at = 0;
     'statements: loop {
@@ -227,191 +219,5 @@ pub fn outline<'a, A: Allocator + Copy>(
                 return Ok(read);
             }
         }
-    }
-}
-
-/// Returns what is known of the symbol after its declaration by the statement `number`.
-fn declared<'a, A: Allocator + Copy>(
-    names: &NameTable<'a, A>,
-    is_variable: bool,
-    number: u32,
-    word: &'a [u8],
-) -> Symbol<'a>
-    ensures { entry_of (Some result)
-        ≡ declared_entry is_variable number word.entry.now
-        (entry_of (find_in names.now.symbols word.entry.now)) }
-{
-    match names.symbol(word) {
-        Some(old) => Symbol {
-            is_variable,
-            declared: number,
-            typed: old.typed,
-            typecode: old.typecode,
-        },
-        None => Symbol {
-            is_variable,
-            declared: number,
-            typed: NEVER,
-            typecode: word,
-        },
-    }
-}
-
-impl<'a, A: Allocator + Copy> Scope<'a, A> {
-    /// Adds the block and the names of the next lawful statement.
-    pub(crate) fn add(
-        &mut self,
-        text: &'a [u8],
-        tokens: &[Word],
-        outline: Outline,
-    ) -> Result<(), AllocError>
-        requires among { IsAmong text.now tokens.now outline }
-        requires few { length tokens.now < 2 ^ 31 }
-        requires keeps { (db : List Statement) × IsScopeAfter db self.old × (length db < 2 ^ 31) }
-        ensures keeps { OnOk result
-            (IsNextScope self.old self.new (statement_of text.now tokens.now outline)) }
-        ensures names { OnOk result
-            (Declares self.old self.new
-            (declared_words (statement_of text.now tokens.now outline))) }
-    {
-        let number = self.blocks.len();
-        self.blocks.push(outline.kind)?;
-        self.add_names(text, tokens, outline, number)
-    }
-
-    /// Adds the names of the statement `number`.
-    fn add_names(
-        &mut self,
-        text: &'a [u8],
-        tokens: &[Word],
-        outline: Outline,
-        number: u32,
-    ) -> Result<(), AllocError>
-        requires among { IsAmong text.now tokens.now outline }
-        requires few { length tokens.now < 2 ^ 31 }
-        ensures symbols { OnOk result
-            ((w : List ℕ)
-            → entry_in self.new w
-            ≡ entry_after number (statement_of text.now tokens.now outline) w
-            (entry_in self.old w)) }
-        ensures labels { OnOk result
-            ((w : List ℕ)
-            → label_in self.new w
-            ≡ label_after number (label_of (statement_of text.now tokens.now outline)) w
-            (label_in self.old w)) }
-        ensures blocks { self.new.blocks ≡ self.old.blocks }
-        ensures names { OnOk result
-            (Declares self.old self.new
-            (declared_words (statement_of text.now tokens.now outline))) }
-    {
-        let from = outline.keyword + 1;
-        match outline.kind {
-            Kind::Constants => self.declare(text, tokens, outline, false, number),
-            Kind::Variables => self.declare(text, tokens, outline, true, number),
-            Kind::Floating => {
-                self.give_label(text, tokens, outline.keyword, number)?;
-                if outline.middle - outline.keyword == 3 {
-                    self.give_type(text, tokens, from, number)?;
-                }
-                Ok(())
-            }
-            Kind::Essential | Kind::Axiom | Kind::Theorem => {
-                self.give_label(text, tokens, outline.keyword, number)
-            }
-            _ => Ok(()),
-        }
-    }
-
-    /// Makes the label before the keyword that of the statement `number`.
-    fn give_label(
-        &mut self,
-        text: &'a [u8],
-        tokens: &[Word],
-        keyword: u32,
-        number: u32,
-    ) -> Result<(), AllocError>
-        requires words { AreWithin text.now tokens.now }
-        requires label { 0 < keyword }
-        requires within { keyword < length tokens.now }
-        ensures labels { OnOk result
-            ((w : List ℕ)
-            → label_in self.new w
-            ≡ label_after number (Some (token_at text.now tokens.now (keyword - 1))) w
-            (label_in self.old w)) }
-        ensures symbols { OnOk result (self.new.names.symbols ≡ self.old.names.symbols) }
-        ensures blocks { self.new.blocks ≡ self.old.blocks }
-    {
-        let token = tokens[keyword as usize - 1];
-        self.names.set_label(token.bytes(text), number)
-    }
-
-    /// Gives the variable after the typecode at `from` that type, by the `$f` `number`.
-    fn give_type(
-        &mut self,
-        text: &'a [u8],
-        tokens: &[Word],
-        from: u32,
-        number: u32,
-    ) -> Result<(), AllocError>
-        requires words { AreWithin text.now tokens.now }
-        requires within { from + 1 < length tokens.now }
-        ensures labels { OnOk result
-            ((w : List ℕ) → label_in self.new w ≡ label_in self.old w) }
-        ensures symbols { OnOk result
-            ((w : List ℕ)
-            → entry_in self.new w
-            ≡ after_typing number (token_at text.now tokens.now from).word
-            (token_at text.now tokens.now (from + 1)).word (entry_in self.old) w) }
-        ensures blocks { self.new.blocks ≡ self.old.blocks }
-        ensures names { OnOk result
-            (names_in self.new ≡ names_in self.old) }
-    {
-        let first = tokens[from as usize];
-        let second = tokens[from as usize + 1];
-        let typecode = first.bytes(text);
-        let word = second.bytes(text);
-        match self.names.symbol(word) {
-            Some(old) => {
-                let symbol = Symbol {
-                    is_variable: old.is_variable,
-                    declared: old.declared,
-                    typed: number,
-                    typecode,
-                };
-                self.names.set_symbol(word, symbol)
-            }
-            None => Ok(()),
-        }
-    }
-
-    /// Declares the words of the statement `number`, a `$c` or `$v`.
-    fn declare(
-        &mut self,
-        text: &'a [u8],
-        tokens: &[Word],
-        outline: Outline,
-        is_variable: bool,
-        number: u32,
-    ) -> Result<(), AllocError>
-        requires among { IsAmong text.now tokens.now outline }
-        requires order { outline.keyword < outline.middle }
-        ensures labels { OnOk result
-            ((w : List ℕ) → label_in self.new w ≡ label_in self.old w) }
-        ensures symbols { OnOk result
-            ((w : List ℕ)
-            → entry_in self.new w
-            ≡ after_declaring is_variable number (listed_words text.now tokens.now outline) w
-            (entry_in self.old w)) }
-        ensures blocks { self.new.blocks ≡ self.old.blocks }
-        ensures names { OnOk result
-            (Declares self.old self.new (listed_words text.now tokens.now outline)) }
-    {
-        for at in outline.keyword + 1..outline.middle {
-            let token = tokens[at as usize];
-            let word = token.bytes(text);
-            let symbol = declared(&self.names, is_variable, number, word);
-            self.names.set_symbol(word, symbol)?;
-        }
-        Ok(())
     }
 }

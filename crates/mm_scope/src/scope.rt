@@ -1,17 +1,24 @@
-//! The names and the blocks before a statement, and what they say of a word.
+//! The names and the blocks before a statement, what they say of a word, and those after it.
 
-ghost use Rattle.std.specs.Prelude.{◌≡◌, Some, is_some};
+ghost use Rattle.std.specs.Prelude.{◌≡◌, ◌<◌, ◌+◌, ◌-◌, ◌^◌, ℕ, List, Some, is_some, length, OnOk};
+ghost use Rattle.mm_spec.specs.Statement.{Statement, label_of};
 ghost use Rattle.mm_outline.specs.Blocks.{is_open_in};
+ghost use Rattle.mm_outline.specs.Parts.{AreWithin, token_at, statement_of};
+ghost use Rattle.mm_database.specs.Names.{find as find_in};
 ghost use Rattle.mm_scope.specs.Judge.{is_active_symbol, is_typed_symbol, symbol_code};
 ghost use Rattle.mm_scope.specs.Judge.{label_code, typecode_code, floating_code, declared_code};
 ghost use Rattle.mm_scope.specs.Judge.{typing_code};
-ghost use Rattle.mm_scope.specs.Scopes.{label_in, symbol_in};
+ghost use Rattle.mm_scope.specs.Judge.{after_declaring, after_typing, declared_entry, entry_of};
+ghost use Rattle.mm_scope.specs.WordEntry.{entry_after, label_after};
+ghost use Rattle.mm_scope.specs.Scopes.{Declares, IsAmong, IsScopeAfter, IsNextScope};
+ghost use Rattle.mm_scope.specs.Scopes.{declared_words, listed_words, symbol_in};
+ghost use Rattle.mm_scope.specs.Scopes.{entry_in, label_in, names_in};
 
 use mm_database::names::{NameTable, Symbol};
 use mm_outline::blocks::{Blocks, NEVER};
-use mm_outline::parts::Kind;
-use mm_spec::Code;
-use std::alloc::Allocator;
+use mm_outline::parts::{Kind, Outline};
+use mm_spec::{Code, Word};
+use std::alloc::{AllocError, Allocator};
 
 /// The names and the blocks after the statements so far.
 #[derive(Drop)]
@@ -166,5 +173,191 @@ impl<'a, A: Allocator + Copy> Scope<'a, A> {
             }
             None => None,
         }
+    }
+}
+
+/// Returns what is known of the symbol after its declaration by the statement `number`.
+fn declared<'a, A: Allocator + Copy>(
+    names: &NameTable<'a, A>,
+    is_variable: bool,
+    number: u32,
+    word: &'a [u8],
+) -> Symbol<'a>
+    ensures { entry_of (Some result)
+        ≡ declared_entry is_variable number word.entry.now
+        (entry_of (find_in names.now.symbols word.entry.now)) }
+{
+    match names.symbol(word) {
+        Some(old) => Symbol {
+            is_variable,
+            declared: number,
+            typed: old.typed,
+            typecode: old.typecode,
+        },
+        None => Symbol {
+            is_variable,
+            declared: number,
+            typed: NEVER,
+            typecode: word,
+        },
+    }
+}
+
+impl<'a, A: Allocator + Copy> Scope<'a, A> {
+    /// Adds the block and the names of the next lawful statement.
+    pub(crate) fn add(
+        &mut self,
+        text: &'a [u8],
+        tokens: &[Word],
+        outline: Outline,
+    ) -> Result<(), AllocError>
+        requires among { IsAmong text.now tokens.now outline }
+        requires few { length tokens.now < 2 ^ 31 }
+        requires keeps { (db : List Statement) × IsScopeAfter db self.old × (length db < 2 ^ 31) }
+        ensures keeps { OnOk result
+            (IsNextScope self.old self.new (statement_of text.now tokens.now outline)) }
+        ensures names { OnOk result
+            (Declares self.old self.new
+            (declared_words (statement_of text.now tokens.now outline))) }
+    {
+        let number = self.blocks.len();
+        self.blocks.push(outline.kind)?;
+        self.add_names(text, tokens, outline, number)
+    }
+
+    /// Adds the names of the statement `number`.
+    fn add_names(
+        &mut self,
+        text: &'a [u8],
+        tokens: &[Word],
+        outline: Outline,
+        number: u32,
+    ) -> Result<(), AllocError>
+        requires among { IsAmong text.now tokens.now outline }
+        requires few { length tokens.now < 2 ^ 31 }
+        ensures symbols { OnOk result
+            ((w : List ℕ)
+            → entry_in self.new w
+            ≡ entry_after number (statement_of text.now tokens.now outline) w
+            (entry_in self.old w)) }
+        ensures labels { OnOk result
+            ((w : List ℕ)
+            → label_in self.new w
+            ≡ label_after number (label_of (statement_of text.now tokens.now outline)) w
+            (label_in self.old w)) }
+        ensures blocks { self.new.blocks ≡ self.old.blocks }
+        ensures names { OnOk result
+            (Declares self.old self.new
+            (declared_words (statement_of text.now tokens.now outline))) }
+    {
+        let from = outline.keyword + 1;
+        match outline.kind {
+            Kind::Constants => self.declare(text, tokens, outline, false, number),
+            Kind::Variables => self.declare(text, tokens, outline, true, number),
+            Kind::Floating => {
+                self.give_label(text, tokens, outline.keyword, number)?;
+                if outline.middle - outline.keyword == 3 {
+                    self.give_type(text, tokens, from, number)?;
+                }
+                Ok(())
+            }
+            Kind::Essential | Kind::Axiom | Kind::Theorem => {
+                self.give_label(text, tokens, outline.keyword, number)
+            }
+            _ => Ok(()),
+        }
+    }
+
+    /// Makes the label before the keyword that of the statement `number`.
+    fn give_label(
+        &mut self,
+        text: &'a [u8],
+        tokens: &[Word],
+        keyword: u32,
+        number: u32,
+    ) -> Result<(), AllocError>
+        requires words { AreWithin text.now tokens.now }
+        requires label { 0 < keyword }
+        requires within { keyword < length tokens.now }
+        ensures labels { OnOk result
+            ((w : List ℕ)
+            → label_in self.new w
+            ≡ label_after number (Some (token_at text.now tokens.now (keyword - 1))) w
+            (label_in self.old w)) }
+        ensures symbols { OnOk result (self.new.names.symbols ≡ self.old.names.symbols) }
+        ensures blocks { self.new.blocks ≡ self.old.blocks }
+    {
+        let token = tokens[keyword as usize - 1];
+        self.names.set_label(token.bytes(text), number)
+    }
+
+    /// Gives the variable after the typecode at `from` that type, by the `$f` `number`.
+    fn give_type(
+        &mut self,
+        text: &'a [u8],
+        tokens: &[Word],
+        from: u32,
+        number: u32,
+    ) -> Result<(), AllocError>
+        requires words { AreWithin text.now tokens.now }
+        requires within { from + 1 < length tokens.now }
+        ensures labels { OnOk result
+            ((w : List ℕ) → label_in self.new w ≡ label_in self.old w) }
+        ensures symbols { OnOk result
+            ((w : List ℕ)
+            → entry_in self.new w
+            ≡ after_typing number (token_at text.now tokens.now from).word
+            (token_at text.now tokens.now (from + 1)).word (entry_in self.old) w) }
+        ensures blocks { self.new.blocks ≡ self.old.blocks }
+        ensures names { OnOk result
+            (names_in self.new ≡ names_in self.old) }
+    {
+        let first = tokens[from as usize];
+        let second = tokens[from as usize + 1];
+        let typecode = first.bytes(text);
+        let word = second.bytes(text);
+        match self.names.symbol(word) {
+            Some(old) => {
+                let symbol = Symbol {
+                    is_variable: old.is_variable,
+                    declared: old.declared,
+                    typed: number,
+                    typecode,
+                };
+                self.names.set_symbol(word, symbol)
+            }
+            None => Ok(()),
+        }
+    }
+
+    /// Declares the words of the statement `number`, a `$c` or `$v`.
+    fn declare(
+        &mut self,
+        text: &'a [u8],
+        tokens: &[Word],
+        outline: Outline,
+        is_variable: bool,
+        number: u32,
+    ) -> Result<(), AllocError>
+        requires among { IsAmong text.now tokens.now outline }
+        requires order { outline.keyword < outline.middle }
+        ensures labels { OnOk result
+            ((w : List ℕ) → label_in self.new w ≡ label_in self.old w) }
+        ensures symbols { OnOk result
+            ((w : List ℕ)
+            → entry_in self.new w
+            ≡ after_declaring is_variable number (listed_words text.now tokens.now outline) w
+            (entry_in self.old w)) }
+        ensures blocks { self.new.blocks ≡ self.old.blocks }
+        ensures names { OnOk result
+            (Declares self.old self.new (listed_words text.now tokens.now outline)) }
+    {
+        for at in outline.keyword + 1..outline.middle {
+            let token = tokens[at as usize];
+            let word = token.bytes(text);
+            let symbol = declared(&self.names, is_variable, number, word);
+            self.names.set_symbol(word, symbol)?;
+        }
+        Ok(())
     }
 }

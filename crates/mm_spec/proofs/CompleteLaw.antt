@@ -19,7 +19,7 @@ use Rattle.mm_spec.specs.Derivation.{Formula, Pair, is_member}
 use Rattle.mm_spec.specs.Citation.{context_at, rule_of}
 use Rattle.mm_spec.specs.Laws.Complete.{binds, IsBound, AreBound, IsComplete, IsFine, AreComplete}
 use Rattle.mm_spec.specs.Laws.Complete.{ReadsComplete}
-use Rattle.mm_spec.specs.Output.{LexedText}
+use Rattle.mm_spec.specs.Lexed.{LexedText}
 use Rattle.mm_spec.proofs.LocalLaw.{scope_fault_front}
 use Rattle.mm_spec.proofs.FindsLaw.{any_flat_map, any_map, any_filter, member_filter}
 use Rattle.mm_spec.proofs.FindsLaw.{filter_member, each_member, each_map, each_any, each_filter}

@@ -1,7 +1,9 @@
 -- Rows of words read, one word after another.
-use Rattle.std.proofs.Common.{◌≡◌, ℕ, Bool, List, [], ◌∷◌, ◌++◌, Option, Some, None, is_some, refl}
-use Rattle.std.proofs.Common.{sym, ap, ◌∙◌, append_assoc, append-nil, length}
-use Rattle.mm_spec.specs.Roles.{role_of, fault_of}
+use Rattle.std.proofs.Common.{◌≡◌, ℕ, Bool, true, false, if◌then◌else◌, List, [], ◌∷◌, ◌++◌}
+use Rattle.std.proofs.Common.{Option, Some, None, is_some, refl, sym, ap, ◌∙◌, append_assoc}
+use Rattle.std.proofs.Common.{append-nil, length}
+use Rattle.mm_spec.specs.Roles.{role_of, fault_of, is_token, opens_comment, closes_comment}
+use Rattle.mm_spec.specs.Roles.{is_comment_word}
 use Rattle.mm_spec.specs.Words.{words_of, words_between}
 use Rattle.mm_spec.proofs.WordRunsLaw.{IsNextWord}
 use Rattle.mm_spec.specs.Readings.{Reading, reading, with_tokens, bytes_of}
@@ -10,6 +12,22 @@ use Rattle.mm_spec.specs.declared.Word.{Word}
 use Rattle.mm_spec.specs.declared.Fault.{Fault}
 use Rattle.mm_spec.specs.declared.Role.{Role}
 use Rattle.mm_spec.specs.declared.Role.TheVariants.{Token, Opening, Closing, Comment, Faulty}
+
+-- a word that is read as a token is one
+pub read_as_token : (b : Bool) (w : List ℕ) → role_of b w ≡ Token → is_token w ≡ true
+unfolding role_of
+read_as_token false w e = by (is_token w) (opens_comment w) e
+  where
+    by : (t o : Bool) → (if t then Token else (if o then Opening else Faulty)) ≡ Token → t ≡ true
+    by true o e = refl
+    by false true e = absurd (cc)
+    by false false e = absurd (cc)
+read_as_token true w e = absurd (by (closes_comment w) (is_comment_word w) e)
+  where
+    by : (c o : Bool) → (if c then Closing else (if o then Comment else Faulty)) ≡ Token → ⊥
+    by true o e = cc
+    by false true e = cc
+    by false false e = cc
 
 with_tokens_push : (ts : List Word) (w : Word) (r : Reading)
     → with_tokens ts (with_tokens (w ∷ []) r) ≡ with_tokens (ts ++ w ∷ []) r

@@ -7,7 +7,8 @@ use Rattle.std.proofs.lemmas.Option.{same_Some}
 use Rattle.mm_spec.specs.Text.{Token, Fault, fault, is_label}
 use Rattle.mm_spec.specs.Statement.{Statement, spelled, is_opening, is_closing, AreStatements, AreLongestStatements}
 use Rattle.mm_spec.specs.Statement.{ShapeFault, FileEndFault, BeginStatements, IsBetween, shape_code}
-use Rattle.mm_spec.specs.Output.{LexedText, TextFault, WordOrEnd}
+use Rattle.mm_spec.specs.Lexed.{LexedText}
+use Rattle.mm_spec.specs.Output.{TextFault, WordOrEnd}
 use Rattle.mm_spec.specs.Laws.Table.{Class, type_of, equals, close_block, plain, class, Progress}
 use Rattle.mm_spec.specs.Laws.Table.{start, labelled, words, formula, Transition, stop, go, done, transition}
 use Rattle.mm_spec.specs.Laws.Table.{label_turn, statements_of, stop_from, stop_after, rest_from}

@@ -5,7 +5,8 @@ use Rattle.mm_spec.specs.Limits.{text_limit}
 use Rattle.mm_spec.specs.Report.{refusal}
 use Rattle.mm_spec.specs.Request.{Request}
 use Rattle.mm_spec.specs.Statement.{Statement}
-use Rattle.mm_spec.specs.Output.{lexed_of, IsOutput, FirstFault, HasNoFault}
+use Rattle.mm_spec.specs.Lexed.{lexed_of}
+use Rattle.mm_spec.specs.Output.{IsOutput, FirstFault, HasNoFault}
 use Rattle.mm_spec.specs.declared.RunEnd.{RunEnd}
 use Rattle.mm_spec.specs.declared.RunEnd.TheVariants.{Accepted, Refused, ReadFailed, WriteFailed}
 use Rattle.mm_spec.specs.declared.RunEnd.TheVariants.{NoMemory}

@@ -1,8 +1,9 @@
 -- The tokens of a text (Metamath book, "Preliminaries" and "Preprocessing"), and its lexical fault
 -- (this project's own).
-use Rattle.std.specs.Prelude.{ℕ, List, [], length, nat_lt, if◌then◌else◌, Option, Some, None}
+use Rattle.std.specs.Prelude.{ℕ, List, [], length, nat_lt, map, if◌then◌else◌, Option, Some, None}
 use Rattle.mm_spec.specs.Words.{words_of}
-use Rattle.mm_spec.specs.Readings.{reading}
+use Rattle.mm_spec.specs.Readings.{bytes_of, reading}
+use Rattle.mm_spec.specs.Text.{Token, token}
 use Rattle.mm_spec.specs.declared.Word.{Word}
 use Rattle.mm_spec.specs.declared.Fault.{Fault}
 use Rattle.mm_spec.specs.declared.Code.TheVariants.{TextTooLong, OpenComment}
@@ -24,3 +25,16 @@ lexical_fault text =
     if nat_lt text_limit (length text) then Some (record { at = 0; code = TextTooLong })
     else fault_in (reading text None (words_of text)).fault
     (reading text None (words_of text)).comment
+
+-- the tokens of a text up to its lexical fault, and that fault
+pub record LexedText : Type 0 where
+  pub tokens : List Token
+  pub fault : Option Fault
+
+-- the tokens of a text with their places, up to its lexical fault, and that fault
+abbrev pub lexed_of : List ℕ → LexedText
+lexed_of text =
+    record {
+      tokens = map (λ w. token w.start (bytes_of text w)) (tokens_of text);
+      fault = lexical_fault text;
+    }

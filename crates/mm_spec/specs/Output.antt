@@ -3,9 +3,8 @@ use Rattle.std.specs.Prelude.{◌≢◌, ◌++◌, ◌≡◌, ℕ, ◌<◌, Bool
 use Rattle.std.specs.Prelude.{Option, Some, None, slice_get, flat_map, ◌⊎◌, IsTrue, Decides}
 use Rattle.std.specs.Prelude.{bytes_eq, count_by, if◌then◌else◌}
 use Rattle.std.specs.List.{list_any, range_with_len, AllZip, filter}
-use Rattle.mm_spec.specs.Text.{Bytes, Token, token, Fault}
-use Rattle.mm_spec.specs.Readings.{bytes_of}
-use Rattle.mm_spec.specs.Lexed.{tokens_of, lexical_fault}
+use Rattle.mm_spec.specs.Text.{Bytes, Token, Fault}
+use Rattle.mm_spec.specs.Lexed.{LexedText, lexed_of}
 use Rattle.mm_spec.specs.Statement.{Statement, axiomatic, provable, AreLongestStatements, ShapeFault}
 use Rattle.mm_spec.specs.Statement.{FileEndFault, symbols_of}
 use Rattle.mm_spec.specs.Opened.{is_open_theorem, counted}
@@ -21,11 +20,6 @@ use Rattle.mm_spec.specs.Derivation.{is_member}
 use Rattle.std.specs.List.Sorted.{IsStrictlyIncreasing}
 use Rattle.mm_spec.specs.declared.Choice.{Choice}
 use Rattle.mm_spec.specs.declared.Choice.TheVariants.{Citations}
-
--- the tokens of a text up to its lexical fault, and that fault
-pub record LexedText : Type 0 where
-  pub tokens : List Token
-  pub fault : Option Fault
 
 -- the lexical fault, or if there is none, the fault at the end of the text
 abbrev pub WordOrEnd : ℕ → List Token → Option Fault → Fault → Type 0
@@ -66,9 +60,9 @@ ProofFault db k end f = (least (reading_faults_at db k) ≡ Some f)
     × (proof.StepFault (context_at db k) (steps_at db k) f
     ⊎ proof.ProofEndFault (context_at db k) (steps_at db k) (formula_at db k) end f))
 
-abbrev pub end_of : Option Statement → ℕ
-end_of (Some (provable l p xs e ps d)) = d
-end_of _ = 0
+abbrev pub proof_end : Option Statement → ℕ
+proof_end (Some (provable l p xs e ps d)) = d
+proof_end _ = 0
 
 abbrev pub is_theorem_at : List Statement → ℕ → Bool
 is_theorem_at db k = list_any is_theorem (statement_at db k)
@@ -84,7 +78,7 @@ AllAreValid db = AreValid db (length db)
 -- k is the first theorem whose proof has a fault, and f is that fault
 abbrev pub FirstProofFault : List Statement → ℕ → Fault → Type 0
 FirstProofFault db k f =
-    IsTrue (is_theorem_at db k) × AreValid db k × ProofFault db k (end_of (slice_get db k)) f
+    IsTrue (is_theorem_at db k) × AreValid db k × ProofFault db k (proof_end (slice_get db k)) f
 
 -- The first faulty statement decides: the first theorem read whose proof has a fault, or if there
 -- is none, the fault that stopped the reading. With the flag open theorems count as axioms, so they
@@ -160,14 +154,6 @@ IsReportOf choice db open_theorems request bytes =
     (rows : List Row) × AllZip (IsRowOf db request) (theorems db) rows
     × (bytes
     ≡ report request.form open_theorems (map (label_at db) (columns db request.only)) rows choice)
-
--- the tokens of a text with their places, up to its lexical fault, and that fault
-abbrev pub lexed_of : List ℕ → LexedText
-lexed_of text =
-    record {
-      tokens = map (λ w. token w.start (bytes_of text w)) (tokens_of text);
-      fault = lexical_fault text;
-    }
 
 -- the output of a text: the refusal for its first fault, or if it has none, the report requested
 abbrev pub IsOutput : List ℕ → Request → List ℕ → Type 0

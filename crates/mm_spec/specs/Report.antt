@@ -67,14 +67,14 @@ abbrev pub users : ℕ → List Row → List Row
 users column rows = filter (λ r. mark_at column r.marks) rows
 
 -- the labels, separated by spaces
-abbrev pub joined : List Bytes → List ℕ
-joined [] = []
-joined (l ∷ []) = l
-joined (l ∷ m ∷ ls) = l ++ 32 ∷ joined (m ∷ ls)
+abbrev pub separated : List Bytes → List ℕ
+separated [] = []
+separated (l ∷ []) = l
+separated (l ∷ m ∷ ls) = l ++ 32 ∷ separated (m ∷ ls)
 
 -- a label, the number of the labels that follow, and these labels
 abbrev pub list_line : Bytes → List Bytes → List ℕ
-list_line label labels = line (label ++ 58 ∷ (decimal (length labels) ++ 58 ∷ joined labels))
+list_line label labels = line (label ++ 58 ∷ (decimal (length labels) ++ 58 ∷ separated labels))
 
 abbrev pub usage_line : List Row → ℕ → Bytes → List ℕ
 usage_line rows column label = list_line label (map (λ r. r.label) (users column rows))

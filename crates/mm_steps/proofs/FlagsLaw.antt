@@ -9,11 +9,11 @@ use Rattle.mm_spec.specs.Steps.{marked}
 use Rattle.mm_spec.proofs.BoolLaw.{or_none}
 use Rattle.mm_steps.specs.declared.placed.Placed.{Placed}
 use Rattle.mm_steps.specs.Read.{is_marked, takes_up}
-use Rattle.mm_steps.specs.Flags.{step_by, placed_of, placed_steps, nothing, AreFlags}
+use Rattle.mm_steps.specs.Flags.{step_by, placed_of, placed_steps, no_step, AreFlags}
 
--- a step that is placed_steps as before changes no other
+-- a step that is stored as before changes no other
 pub placed_steps_set : (ps : List Placed) (j : ℕ) (q : Placed)
-    → placed_of q ≡ placed_of (get_or ps j nothing)
+    → placed_of q ≡ placed_of (get_or ps j no_step)
     → placed_steps (slice_set ps j q) ≡ placed_steps ps
 placed_steps_set [] j q e = refl
 placed_steps_set (p ∷ ps) zero q e = ap (λ z. z ∷ placed_steps ps) e
@@ -24,7 +24,7 @@ pub placed_steps_more : (ps : List Placed) (p : Placed)
 placed_steps_more ps p = map-append placed_of ps (p ∷ [])
 
 unflagged : (ps : List Placed) (p : Placed) (i : ℕ) → p.is_marked ≡ false
-    → (get_or (ps ++ p ∷ []) i nothing).is_marked ≡ (get_or ps i nothing).is_marked
+    → (get_or (ps ++ p ∷ []) i no_step).is_marked ≡ (get_or ps i no_step).is_marked
 unflagged [] p zero e = e
 unflagged [] p (suc i) e = refl
 unflagged (q ∷ ps) p zero e = refl
@@ -46,7 +46,8 @@ one_more ps p i =
 -- a marked step more, and the flag of the one that it takes up
 pub flag_more : (ps qs : List Placed) (p q : Placed) (j : ℕ) → AreFlags ps → qs ≡ ps ++ p ∷ []
     → p.is_marked ≡ false → step_by p.kind p.number ≡ marked j → j < length ps
-    → placed_of q ≡ placed_of (get_or qs j nothing) → q.is_marked ≡ true → AreFlags (slice_set qs j q)
+    → placed_of q ≡ placed_of (get_or qs j no_step) → q.is_marked ≡ true
+    → AreFlags (slice_set qs j q)
 flag_more ps qs p q j old more plain takes inside same flag i = by (i == j) refl
   where
     now : is_marked (placed_steps (slice_set qs j q)) i ≡ (is_marked (placed_steps ps) i || (i == j))
@@ -55,15 +56,16 @@ flag_more ps qs p q j old more plain takes inside same flag i = by (i == j) refl
         ∙ one_more ps p i ∙ ap (λ s. is_marked (placed_steps ps) i || takes_up i s) takes
 
     by : (b : Bool) → (i == j) ≡ b
-        → (get_or (slice_set qs j q) i nothing).is_marked ≡ is_marked (placed_steps (slice_set qs j q)) i
+        → (get_or (slice_set qs j q) i no_step).is_marked
+        ≡ is_marked (placed_steps (slice_set qs j q)) i
     by true e =
-        ap (λ z. (get_or (slice_set qs j q) z nothing).is_marked) (eqb-true i j e)
+        ap (λ z. (get_or (slice_set qs j q) z no_step).is_marked) (eqb-true i j e)
         ∙ ap (λ z. z.is_marked)
-        (get_or-set_same qs j q nothing
+        (get_or-set_same qs j q no_step
         (let n = ap length more in omega (arith, n, length-append ps (p ∷ []))))
         ∙ flag ∙ sym (now ∙ or_right (is_marked (placed_steps ps) i) (i == j) e)
     by false e =
         ap (λ z. z.is_marked)
-        (get_or-set_other qs j i q nothing (λ h. true≢false (sym (eq-eqb i j h) ∙ e)))
-        ∙ ap (λ z. (get_or z i nothing).is_marked) more
+        (get_or-set_other qs j i q no_step (λ h. true≢false (sym (eq-eqb i j h) ∙ e)))
+        ∙ ap (λ z. (get_or z i no_step).is_marked) more
         ∙ unflagged ps p i plain ∙ old i ∙ sym (now ∙ or_none (is_marked (placed_steps ps) i) (i == j) e)

@@ -3,11 +3,11 @@ use Rattle.std.specs.Prelude.{ℕ, ◌≡◌, false, List, get_or, map}
 use Rattle.mm_spec.specs.Steps as spec
 use Rattle.mm_spec.specs.Steps.{PlacedStep, placed, label, marked}
 use Rattle.mm_steps.specs.declared.placed.Placed.{Placed}
-use Rattle.mm_steps.specs.declared.placed.Kind.{Kind}
-use Rattle.mm_steps.specs.declared.placed.Kind.TheVariants.{Label, Marked}
+use Rattle.mm_steps.specs.declared.placed.StepKind.{StepKind}
+use Rattle.mm_steps.specs.declared.placed.StepKind.TheVariants.{Label, Marked}
 use Rattle.mm_steps.specs.Read.{is_marked}
 
-abbrev pub step_by : Kind → ℕ → spec.Step
+abbrev pub step_by : StepKind → ℕ → spec.Step
 step_by Label n = label n
 step_by Marked n = marked n
 
@@ -19,9 +19,9 @@ abbrev pub placed_steps : List Placed → List PlacedStep
 placed_steps ps = map placed_of ps
 
 -- no step
-abbrev pub nothing : Placed
-nothing = record { at = 0; number = 0; kind = Label; is_marked = false }
+abbrev pub no_step : Placed
+no_step = record { at = 0; number = 0; kind = Label; is_marked = false }
 
 -- each step's flag says whether the step is marked, and past the last step none is
 abbrev pub AreFlags : List Placed → Type 0
-AreFlags ps = (i : ℕ) → (get_or ps i nothing).is_marked ≡ is_marked (placed_steps ps) i
+AreFlags ps = (i : ℕ) → (get_or ps i no_step).is_marked ≡ is_marked (placed_steps ps) i

@@ -19,7 +19,7 @@ pub enum Step {
 
 /// What the number of a step refers to.
 #[derive(Clone, Copy, Drop)]
-enum Kind {
+enum StepKind {
     Label,
     Marked,
 }
@@ -30,7 +30,7 @@ enum Kind {
 struct Placed {
     at: u32,
     number: u32,
-    kind: Kind,
+    kind: StepKind,
     is_marked: bool,
 }
 
@@ -79,14 +79,14 @@ impl<A: Allocator> Steps<A> {
             Step::Label(number) => self.steps.push(Placed {
                 at,
                 number,
-                kind: Kind::Label,
+                kind: StepKind::Label,
                 is_marked: false,
             })?,
             Step::Marked(number) => {
                 self.steps.push(Placed {
                     at,
                     number,
-                    kind: Kind::Marked,
+                    kind: StepKind::Marked,
                     is_marked: false,
                 })?;
                 self.steps[number as usize].is_marked = true;
@@ -116,8 +116,8 @@ impl<A: Allocator> Steps<A> {
     {
         let placed = self.steps[i];
         match placed.kind {
-            Kind::Label => Step::Label(placed.number),
-            Kind::Marked => Step::Marked(placed.number),
+            StepKind::Label => Step::Label(placed.number),
+            StepKind::Marked => Step::Marked(placed.number),
         }
     }
 

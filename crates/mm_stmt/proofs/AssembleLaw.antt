@@ -5,11 +5,12 @@ use Rattle.mm_spec.specs.declared.Word.{Word}
 use Rattle.mm_spec.specs.declared.Fault.{Fault}
 use Rattle.mm_spec.specs.Frame.{symbol_names}
 use Rattle.mm_spec.specs.Lexed as spec
-use Rattle.mm_spec.specs.Output.{IsRead, lexed_of}
+use Rattle.mm_spec.specs.Lexed.{lexed_of}
+use Rattle.mm_spec.specs.Output.{IsRead}
 use Rattle.mm_outline.specs.Blocks.{BlockLists}
 use Rattle.mm_outline.specs.Parts.{statement_of, token_of}
 use Rattle.mm_outline.specs.Statements.{lexed, statements}
-use Rattle.mm_scope.specs.Keeps.{Keeps}
+use Rattle.mm_scope.specs.Keeps.{KnowsStatements}
 use Rattle.mm_database.specs.Parsed.{IsSound}
 use Rattle.mm_database.specs.declared.names.Symbol.{Symbol}
 use Rattle.mm_outline.specs.declared.parts.Outline.{Outline}
@@ -42,7 +43,7 @@ module _ (text : List ℕ) (ws : List Word) (os : List Outline) (lexical fault :
 
   -- they are sound
   pub sound : (look : List ℕ → Option Symbol) (labels : List ℕ → Option ℕ) (b : BlockLists)
-      → Keeps (statements text ws os) look labels b → length os < 2 ^ 31
+      → KnowsStatements (statements text ws os) look labels b → length os < 2 ^ 31
       → IsSound (statements text ws os)
   sound look labels b keeps few =
       let m = length-map os (statement_of text ws) in

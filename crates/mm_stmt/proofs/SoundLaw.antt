@@ -5,18 +5,19 @@ use Rattle.std.proofs.Common.{true≢false}
 use Rattle.std.proofs.lemmas.Option.{slice_get-get_or}
 use Rattle.mm_spec.specs.Text.{is_in}
 use Rattle.mm_spec.specs.Scope.{variables_of}
-use Rattle.mm_outline.specs.Numbered.{AreSymbols}
+use Rattle.mm_database.specs.Numbered.{AreSymbols}
 use Rattle.mm_database.specs.Names.{is_variable_in}
 use Rattle.mm_spec.specs.Statement.{Statement, opening}
 use Rattle.mm_spec.specs.Lawful.{scope_fault}
 use Rattle.mm_spec.specs.Frame.{symbol_names, formula_at}
 use Rattle.mm_spec.specs.declared.Fault.{Fault}
-use Rattle.mm_spec.specs.Output.{LexedText, IsRead}
+use Rattle.mm_spec.specs.Lexed.{LexedText}
+use Rattle.mm_spec.specs.Output.{IsRead}
 use Rattle.mm_spec.proofs.LocalLaw.{scope_fault_front}
 use Rattle.mm_outline.specs.Blocks.{BlockLists}
 use Rattle.mm_scope.specs.Judge.{Entry, entry_of}
 use Rattle.mm_scope.specs.WordEntry.{is_constant_entry, is_variable_entry}
-use Rattle.mm_scope.specs.Keeps.{Keeps}
+use Rattle.mm_scope.specs.Keeps.{KnowsStatements}
 use Rattle.mm_database.specs.Parsed.{IsSound}
 use Rattle.mm_database.specs.declared.names.Symbol.{Symbol}
 use Rattle.mm_scope.proofs.BoundsLaw.{symbols_known}
@@ -31,7 +32,7 @@ one_kind (Some e) h = by e.is_variable h
 
 pub sound_is : (db : List Statement) (look : List ℕ → Option Symbol) (labels : List ℕ → Option ℕ)
     → (b : BlockLists)
-    → Keeps db look labels b → length db < 2 ^ 31
+    → KnowsStatements db look labels b → length db < 2 ^ 31
     → ((k : ℕ) → k < length db → scope_fault db k ≡ None)
     → ((k : ℕ) → k < length db → All (λ s. s < length (symbol_names db)) (formula_at db k))
     → IsSound db
@@ -53,7 +54,7 @@ lawful_is len x db fault r k h =
 pub sound_read : (len : ℕ) (x : LexedText) (db : List Statement) (fault : Option Fault)
     → IsRead len x db fault
     → (look : List ℕ → Option Symbol) (labels : List ℕ → Option ℕ) (b : BlockLists)
-    → Keeps db look labels b → length db < 2 ^ 31 → IsSound db
+    → KnowsStatements db look labels b → length db < 2 ^ 31 → IsSound db
 sound_read len x db fault r look labels b keeps few =
     let lawful = lawful_is len x db fault r in
     sound_is db look labels b keeps few lawful
@@ -67,7 +68,8 @@ known_as (Some s) = refl
 
 pub are_symbols : (db : List Statement) (look : List ℕ → Option Symbol) (labels : List ℕ → Option ℕ)
     → (b : BlockLists)
-    → Keeps db look labels b → (names : List (List ℕ)) (kinds : List Bool) → names ≡ symbol_names db
+    → KnowsStatements db look labels b → (names : List (List ℕ)) (kinds : List Bool)
+    → names ≡ symbol_names db
     → length kinds ≡ length names
     → ((s : ℕ) (w : List ℕ) → slice_get names s ≡ Some w
     → get_or kinds s false ≡ is_variable_in (look w))

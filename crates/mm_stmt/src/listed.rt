@@ -15,7 +15,7 @@ use std::alloc::{AllocError, Allocator};
 
 /// Returns the lists of the statements of all outlines. If `with_open` is set, open theorems count
 /// as axioms.
-pub(crate) fn list_all<A: Allocator + Copy>(
+pub(crate) fn list_statements<A: Allocator + Copy>(
     alloc: A,
     text: &[u8],
     tokens: &[Word],

@@ -1,12 +1,12 @@
 //! The statements of a text up to its first fault.
 
 ghost use Rattle.std.specs.Prelude.{◌≡◌, IfOk, length};
-ghost use Rattle.mm_spec.specs.Lexed.{tokens_of, lexical_fault};
+ghost use Rattle.mm_spec.specs.Lexed.{tokens_of, lexical_fault, lexed_of};
 ghost use Rattle.mm_spec.specs.Opened.{counted};
-ghost use Rattle.mm_spec.specs.Output.{IsRead, lexed_of};
+ghost use Rattle.mm_spec.specs.Output.{IsRead};
 
 use crate::kept::keep_all;
-use crate::listed::list_all;
+use crate::listed::list_statements;
 use crate::reading::reading_of;
 use mm_database::Database;
 use mm_database::found::Found;
@@ -38,7 +38,7 @@ pub fn read<'a, A: Allocator + Copy>(
     let Lexed { tokens, fault } = lexed;
     let words = tokens.as_slice();
     let outlined = outline(alloc, text, words, fault)?;
-    let listed = list_all(alloc, text, words, &outlined.outlines, with_open)?;
+    let listed = list_statements(alloc, text, words, &outlined.outlines, with_open)?;
     let kept = keep_all(alloc, words, &outlined.outlines)?;
     // Frames and the index of the `$d` need no tokens, and their memory.
     drop(tokens);

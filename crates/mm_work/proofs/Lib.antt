@@ -1,6 +1,6 @@
 -- Between two theorems a worker keeps `IsBetweenTheorems`: its seat settled what it found valid,
 -- and reported its fault. It begins by `begun`; `claimed`, and then `skipped`, `settled` or
--- `reported`, lead over one theorem, and `fresh_drawn` ends the loop (`WorkersLaw.antt`).
+-- `reported`, lead over one theorem, and `unrecorded_drawn` ends the loop (`WorkersLaw.antt`).
 -- `join_all` keeps `AreGathered` by `gathered_first` and `gathered_more`. After the board's
 -- `close`, `faulty_at` and `valid_below` (`AllLaw.antt`) lead to `first_fault`. If there is no
 -- fault, `merge` finds each list by `found_there` and `list_cited` (`PlacesLaw.antt`) and adds it

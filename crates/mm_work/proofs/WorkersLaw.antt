@@ -294,38 +294,39 @@ module _ {A : Type 0} (job : Job A) where
               omega (arith, one, h))
 
 -- how many of the numbers below n stand in no part of the record
-abbrev pub fresh : ℕ → View → ℕ
-fresh zero v = 0
-fresh (suc n) v = cond (times_recorded n v == 0) 1 0 + fresh n v
+abbrev pub unrecorded : ℕ → View → ℕ
+unrecorded zero v = 0
+unrecorded (suc n) v = cond (times_recorded n v == 0) 1 0 + unrecorded n v
 
 -- a number more in the record
-fresh_fewer : (a b : ℕ) → a ≤ b → cond (b == 0) 1 0 ≤ cond (a == 0) 1 0
-fresh_fewer a b = grind (arith, nat_tests)
+unrecorded_fewer : (a b : ℕ) → a ≤ b → cond (b == 0) 1 0 ≤ cond (a == 0) 1 0
+unrecorded_fewer a b = grind (arith, nat_tests)
 
-fresh_le : (n : ℕ) (v w : View) → ((x : ℕ) → times_recorded x v ≤ times_recorded x w)
-    → fresh n w ≤ fresh n v
-fresh_le zero v w h = omega arith
-fresh_le (suc n) v w h =
-    let r = fresh_le n v w h in
-    let o = fresh_fewer (times_recorded n v) (times_recorded n w) (h n) in omega (arith, r, o)
+unrecorded_le : (n : ℕ) (v w : View) → ((x : ℕ) → times_recorded x v ≤ times_recorded x w)
+    → unrecorded n w ≤ unrecorded n v
+unrecorded_le zero v w h = omega arith
+unrecorded_le (suc n) v w h =
+    let r = unrecorded_le n v w h in
+    let o = unrecorded_fewer (times_recorded n v) (times_recorded n w) (h n) in omega (arith, r, o)
 
-fresh_one : (a b : ℕ) → a ≡ 0 → 0 < b → cond (b == 0) 1 0 < cond (a == 0) 1 0
-fresh_one a b = grind (arith, nat_tests)
+unrecorded_one : (a b : ℕ) → a ≡ 0 → 0 < b → cond (b == 0) 1 0 < cond (a == 0) 1 0
+unrecorded_one a b = grind (arith, nat_tests)
 
-pub fresh_less : (n i : ℕ) (v w : View) → ((x : ℕ) → times_recorded x v ≤ times_recorded x w)
-    → i < n → times_recorded i v ≡ 0 → 0 < times_recorded i w → fresh n w < fresh n v
-fresh_less zero i v w h l z p = absurd (omega arith)
-fresh_less (suc n) i v w h l z p = go (cases_lt i n) (λ b. fresh_less n i v w h b z p)
+pub unrecorded_less : (n i : ℕ) (v w : View) → ((x : ℕ) → times_recorded x v ≤ times_recorded x w)
+    → i < n → times_recorded i v ≡ 0 → 0 < times_recorded i w → unrecorded n w < unrecorded n v
+unrecorded_less zero i v w h l z p = absurd (omega arith)
+unrecorded_less (suc n) i v w h l z p = go (cases_lt i n) (λ b. unrecorded_less n i v w h b z p)
   where
-    go : (i < n) ⊎ (n ≤ i) → (i < n → fresh n w < fresh n v) → fresh (suc n) w < fresh (suc n) v
+    go : (i < n) ⊎ (n ≤ i) → (i < n → unrecorded n w < unrecorded n v)
+        → unrecorded (suc n) w < unrecorded (suc n) v
     go (inl b) f =
-        let r = f b in let o = fresh_fewer (times_recorded n v) (times_recorded n w) (h n) in
+        let r = f b in let o = unrecorded_fewer (times_recorded n v) (times_recorded n w) (h n) in
         omega (arith, r, o)
     go (inr b) f =
         let e : i ≡ n = omega (arith, l, b) in
-        let r = fresh_le n v w h in
+        let r = unrecorded_le n v w h in
         let o =
-        fresh_one (times_recorded n v) (times_recorded n w)
+        unrecorded_one (times_recorded n v) (times_recorded n w)
         (subst (λ k. times_recorded k v ≡ 0) e z) (subst (λ k. 0 < times_recorded k w) e p) in
         omega (arith, r, o)
 
@@ -397,10 +398,10 @@ module _ {A : Type 0} (job : Job A) where
           let t = d.between.tells short in (w.found, Contains-push fs w.found, t.reported i p)
 
 -- a number drawn and judged
-pub fresh_drawn : (n i : ℕ) (v w u : View) → v.open_number ≡ None
+pub unrecorded_drawn : (n i : ℕ) (v w u : View) → v.open_number ≡ None
     → w ≡ record v { open_number = Some i } → i < n → ((x : ℕ) → 0 < times_recorded x v → x < i)
-    → ((x : ℕ) → times_recorded x u ≡ times_recorded x w) → fresh n u < fresh n v
-fresh_drawn n i v w u closed is l above kept = fresh_less n i v u more l unseen seen
+    → ((x : ℕ) → times_recorded x u ≡ times_recorded x w) → unrecorded n u < unrecorded n v
+unrecorded_drawn n i v w u closed is l above kept = unrecorded_less n i v u more l unseen seen
   where
     at-open : (x : ℕ)
         → times_recorded x w

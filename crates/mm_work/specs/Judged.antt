@@ -6,7 +6,7 @@ use Rattle.std.specs.List.Sorted.{IsStrictlyIncreasing}
 use Rattle.mm_spec.specs.Statement.{Statement}
 use Rattle.mm_spec.specs.Citation.{reading_faults_at}
 use Rattle.mm_spec.specs.Citation as proof
-use Rattle.mm_spec.specs.Output.{AreValid, FirstProofFault, ProofFault, end_of, theorems}
+use Rattle.mm_spec.specs.Output.{AreValid, FirstProofFault, ProofFault, proof_end, theorems}
 use Rattle.mm_spec.specs.declared.Fault.{Fault}
 use Rattle.mm_check.specs.Contract.{IsChecked}
 use Rattle.mm_cites.specs.Citing.{Citing, HasCitation, theorem_at, list_at}
@@ -48,7 +48,7 @@ IsFirstFault db f = (k : ℕ) × FirstProofFault db k f
 
 -- the proof of the theorem has this fault
 abbrev pub HasFault : List Statement → ℕ → Fault → Type 0
-HasFault db t f = ProofFault db t (end_of (slice_get db t)) f
+HasFault db t f = ProofFault db t (proof_end (slice_get db t)) f
 
 -- if the refusal is a fault, it is that of the theorem's proof
 abbrev pub Faults : List Statement → ℕ → VerifyRefused → Type 0

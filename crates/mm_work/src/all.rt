@@ -8,7 +8,7 @@ use crate::gathered::work_all;
 use crate::in_order::{check_in_order, valid};
 use crate::job::Job;
 use crate::judged::Judged;
-use crate::merge::{fault_of, merge};
+use crate::merge::{found_fault, merge};
 use crate::room::citations_room;
 use mm_board::Board;
 use mm_database::Database;
@@ -60,7 +60,7 @@ pub fn check_all<'d, R: Threads + Wait + Sync, A: Allocator + Copy + Send + Sync
     drop(rules);
     let (first, _) = board.close(gathered.seat);
     if (first as usize) < count {
-        return Ok(Judged::Faulty(fault_of(database, essential, &gathered.found, first)));
+        return Ok(Judged::Faulty(found_fault(database, essential, &gathered.found, first)));
     }
     let lists = merge(alloc, database, essential, &gathered.found)?;
     valid(alloc, database, essential, lists)

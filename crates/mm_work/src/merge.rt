@@ -93,7 +93,7 @@ pub(crate) fn merge<'d, A: Allocator + Copy>(
 }
 
 /// The fault of the theorem with this index.
-pub(crate) fn fault_of<'d, A: Allocator>(
+pub(crate) fn found_fault<'d, A: Allocator>(
     database: &Database<'d, A>,
     essential: bool,
     found: &[Findings<A>],

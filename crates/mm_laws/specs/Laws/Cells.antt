@@ -3,7 +3,8 @@ use Rattle.std.specs.Prelude.{ℕ, Bool, List, Decides}
 use Rattle.mm_spec.specs.Statement.{Statement}
 use Rattle.mm_spec.specs.Opened.{counted}
 use Rattle.mm_spec.specs.Citation.{RestsOn}
-use Rattle.mm_spec.specs.Output.{LexedText, HasNoFault}
+use Rattle.mm_spec.specs.Lexed.{LexedText}
+use Rattle.mm_spec.specs.Output.{HasNoFault}
 
 -- one of the two truth values says whether P holds
 abbrev pub IsDecided : Type 0 → Type 0

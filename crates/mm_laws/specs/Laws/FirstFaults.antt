@@ -2,7 +2,8 @@
 use Rattle.std.specs.Prelude.{ℕ, Bool, List, ◌⊎◌}
 use Rattle.mm_spec.specs.declared.Fault.{Fault}
 use Rattle.mm_spec.specs.Statement.{Statement}
-use Rattle.mm_spec.specs.Output.{LexedText, FirstFault, HasNoFault}
+use Rattle.mm_spec.specs.Lexed.{LexedText}
+use Rattle.mm_spec.specs.Output.{FirstFault, HasNoFault}
 
 -- the text has a first fault, or none at all
 abbrev pub IsSoundOrFaulty : ℕ → LexedText → (with_open : Bool) → Type 0

@@ -3,7 +3,8 @@ use Rattle.std.specs.Prelude.{◌≡◌, ℕ, Bool, List}
 use Rattle.mm_spec.specs.Statement.{Statement}
 use Rattle.mm_spec.specs.Opened.{counted}
 use Rattle.mm_spec.specs.Laws.Waves.{IsWave}
-use Rattle.mm_spec.specs.Output.{LexedText, HasNoFault}
+use Rattle.mm_spec.specs.Lexed.{LexedText}
+use Rattle.mm_spec.specs.Output.{HasNoFault}
 
 -- if there is no fault, each theorem has exactly one wave
 abbrev pub HaveWaves : ℕ → LexedText → (with_open : Bool) → Type 0

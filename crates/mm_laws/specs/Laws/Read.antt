@@ -3,7 +3,8 @@ use Rattle.std.specs.Prelude.{ℕ, Bool, List, Option}
 use Rattle.mm_spec.specs.declared.Fault.{Fault}
 use Rattle.mm_spec.specs.Statement.{Statement}
 use Rattle.mm_spec.specs.Opened.{counted}
-use Rattle.mm_spec.specs.Output.{LexedText, IsRead}
+use Rattle.mm_spec.specs.Lexed.{LexedText}
+use Rattle.mm_spec.specs.Output.{IsRead}
 
 -- P holds at each place k of the statements that are read from any text, as they count: with open
 -- theorems as axioms, and without the flag as they were read

@@ -8,7 +8,8 @@ use Rattle.mm_spec.specs.Text.{Fault}
 use Rattle.mm_spec.specs.Statement.{Statement}
 use Rattle.mm_spec.specs.Derivation.{Formula, Frame, Context, Rule, hypothesis, assertion}
 use Rattle.mm_spec.specs.Citation.{context_at}
-use Rattle.mm_spec.specs.Output.{LexedText, IsRead}
+use Rattle.mm_spec.specs.Lexed.{LexedText}
+use Rattle.mm_spec.specs.Output.{IsRead}
 
 module _ (c : Context) where
   -- whether a hypothesis has the form of the variable's `$f`: a constant, and the variable

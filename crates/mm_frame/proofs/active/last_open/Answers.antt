@@ -9,11 +9,11 @@ returns-after-loop-last g c =
     c.loop-last.invariant
     (λ n. absurd (n c.loop-last-test.false))
 
-pub returns-else-not-is_open : goal.returns-else-not-is_open
-returns-else-not-is_open g c =
+pub returns-else-not-is_open_at : goal.returns-else-not-is_open_at
+returns-else-not-is_open_at g c =
     candidate_open is_essential c.args.statements.now.list c.args.at c.loop-last.last
     c.loop-last.invariant
-    (λ n. sym c.is_open.ensures ∙ c.if-not-is_open.false)
+    (λ n. sym c.is_open_at.ensures ∙ c.if-not-is_open_at.false)
 
 pub loop-last-preserved : goal.loop-last-preserved
 loop-last-preserved g c =
@@ -21,7 +21,7 @@ loop-last-preserved g c =
     let f = (c.loop-last.invariant.found c.loop-last-test.true).0 in
     candidate_next is_essential c.args.statements.now.list c.args.at last
     (get_or c.args.latest.now last 0) c.loop-last.invariant c.loop-last-test.true
-    (sym c.is_open.ensures ∙ c.if-not-is_open.true) (c.requires.latest last f)
+    (sym c.is_open_at.ensures ∙ c.if-not-is_open_at.true) (c.requires.latest last f)
 
 pub loop-last-smaller : goal.loop-last-smaller
 loop-last-smaller g c =

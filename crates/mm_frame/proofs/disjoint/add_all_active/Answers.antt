@@ -1,7 +1,7 @@
 use Rattle.std.proofs.Common.{arith, ℕ, List, ap, ◌∙◌, ◌&&◌, ◌||◌, take_all}
 use Rattle.std.proofs.lemmas.Result.{IfOk-from_err}
 use Rattle.mm_spec.specs.Derivation.{is_member}
-use Rattle.mm_database.specs.DisjointIndex.{is_live}
+use Rattle.mm_database.specs.DisjointIndex.{is_active_local}
 use Rattle.mm_database.specs.Pairs.{has_pair}
 use Rattle.mm_frame.proofs.LoopsLaw.{none_so_far, active_next}
 use Rattle.mm_frame.proofs.disjoint.add_all_active.Goals as goal
@@ -22,7 +22,8 @@ add_active-requires g c = record { ordered = c.requires.ordered }
 pub loop-symbol-preserved : goal.loop-symbol-preserved
 loop-symbol-preserved g c = λ j y.
     active_next c.args.symbols.now c.args.disjoint_index.now.pairs c.loop-symbol.symbol-index
-    c.symbol-item.result j y _ _ _ (is_live c.args.blocks.now j c.args.at) c.loop-symbol-test.true
+    c.symbol-item.result j y _ _ _ (is_active_local c.args.blocks.now j c.args.at)
+    c.loop-symbol-test.true
     c.symbol-item.is (c.loop-symbol.invariant j y) (c.in_ok-add_active.ensures j y)
 
 pub returns : goal.returns
@@ -31,5 +32,5 @@ returns g c = λ j y.
     ∙ ap (λ (xs : List ℕ). has_pair c.args.into.now.items j y
     || (is_member xs y
     && (has_pair c.args.disjoint_index.now.pairs y j
-    && is_live c.args.blocks.now j c.args.at)))
+    && is_active_local c.args.blocks.now j c.args.at)))
     (take_all c.loop-symbol.symbol-index c.args.symbols.now c.loop-symbol-test.false)

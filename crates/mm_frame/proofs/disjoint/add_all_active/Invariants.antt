@@ -1,6 +1,6 @@
 use Rattle.std.proofs.Common.{◌≡◌, ℕ, ◌&&◌, ◌||◌, take}
 use Rattle.mm_spec.specs.Derivation.{is_member}
-use Rattle.mm_database.specs.DisjointIndex.{is_live}
+use Rattle.mm_database.specs.DisjointIndex.{is_active_local}
 use Rattle.mm_database.specs.Pairs.{has_pair}
 use Rattle.mm_frame.proofs.disjoint.add_all_active.Given as goal
 
@@ -11,4 +11,4 @@ invariant-loop-symbol g l =
     ≡ (has_pair l.initial.into.items j y
     || (is_member (take l.symbol-index l.symbols) y
     && (has_pair l.disjoint_index.pairs y j
-    && is_live l.blocks j l.fn.at)))
+    && is_active_local l.blocks j l.fn.at)))

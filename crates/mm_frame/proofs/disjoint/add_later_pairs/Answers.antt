@@ -4,15 +4,16 @@ use Rattle.std.proofs.lemmas.Result.{IfOk-from_err}
 use Rattle.mm_frame.proofs.DisjointLaw.{after_start, after_next, AddsLater}
 use Rattle.mm_frame.proofs.disjoint.add_later_pairs.Goals as goal
 
-pub returns-else-had-at : goal.returns-else-had-at
-returns-else-had-at g c =
-    after_end c.args.had.now c.requires.rising c.args.place c.requires.place c.loop-at.at
-    c.args.pairs.now.items c.loop-at.pairs.items c.loop-at.invariant (λ l. c.if-had-at.false)
+pub returns-else-by_statement-at : goal.returns-else-by_statement-at
+returns-else-by_statement-at g c =
+    after_end c.args.by_statement.now c.requires.rising c.args.place c.requires.place c.loop-at.at
+    c.args.pairs.now.items c.loop-at.pairs.items c.loop-at.invariant
+    (λ l. c.if-by_statement-at.false)
 
 pub returns-after-loop-at : goal.returns-after-loop-at
 returns-after-loop-at g c =
     let t = c.loop-at-test.false in
-    after_end c.args.had.now c.requires.rising c.args.place c.requires.place c.loop-at.at
+    after_end c.args.by_statement.now c.requires.rising c.args.place c.requires.place c.loop-at.at
     c.args.pairs.now.items c.loop-at.pairs.items c.loop-at.invariant
     (λ l. absurd (omega (arith, l, t)))
 
@@ -22,43 +23,45 @@ returns-in_err-push g c =
 
 pub loop-at-init : goal.loop-at-init
 loop-at-init g c =
-    after_start c.args.had.now c.requires.rising c.args.place c.requires.place
+    after_start c.args.by_statement.now c.requires.rising c.args.place c.requires.place
     c.args.pairs.now.items
 
 pub loop-at-preserved : goal.loop-at-preserved
 loop-at-preserved g c =
-    subst (λ ps. AddsLater c.args.had.now c.args.place (c.loop-at.at + 1) c.args.pairs.now.items ps)
+    subst
+    (λ ps.
+    AddsLater c.args.by_statement.now c.args.place (c.loop-at.at + 1) c.args.pairs.now.items ps)
     (sym c.in_ok-push.ensures.items)
-    (after_next c.args.had.now c.requires.rising c.args.place c.requires.place c.loop-at.at
+    (after_next c.args.by_statement.now c.requires.rising c.args.place c.requires.place c.loop-at.at
     c.args.pairs.now.items c.loop-at.pairs.items c.loop-at.invariant c.loop-at-test.true
-    c.if-had-at.true)
+    c.if-by_statement-at.true)
 
 pub overflow_add-at : goal.overflow_add-at
 overflow_add-at g c = omega arith
 
-pub offset_bounds-had-at : goal.offset_bounds-had-at
-offset_bounds-had-at g c = omega arith
+pub offset_bounds-by_statement-at : goal.offset_bounds-by_statement-at
+offset_bounds-by_statement-at g c = omega arith
 
-pub bounds-had-at : goal.bounds-had-at
-bounds-had-at g c = omega arith
+pub bounds-by_statement-at : goal.bounds-by_statement-at
+bounds-by_statement-at g c = omega arith
 
-pub offset_bounds-had-place : goal.offset_bounds-had-place
-offset_bounds-had-place g c = omega arith
+pub offset_bounds-by_statement-place : goal.offset_bounds-by_statement-place
+offset_bounds-by_statement-place g c = omega arith
 
-pub bounds-had-place : goal.bounds-had-place
-bounds-had-place g c = omega arith
+pub bounds-by_statement-place : goal.bounds-by_statement-place
+bounds-by_statement-place g c = omega arith
 
-pub offset_bounds-had-place-in-loop-at : goal.offset_bounds-had-place-in-loop-at
-offset_bounds-had-place-in-loop-at g c = omega arith
+pub offset_bounds-by_statement-place-in-loop-at : goal.offset_bounds-by_statement-place-in-loop-at
+offset_bounds-by_statement-place-in-loop-at g c = omega arith
 
-pub bounds-had-place-in-loop-at : goal.bounds-had-place-in-loop-at
-bounds-had-place-in-loop-at g c = omega arith
+pub bounds-by_statement-place-in-loop-at : goal.bounds-by_statement-place-in-loop-at
+bounds-by_statement-place-in-loop-at g c = omega arith
 
-pub offset_bounds-had-at-in-loop-at : goal.offset_bounds-had-at-in-loop-at
-offset_bounds-had-at-in-loop-at g c = omega arith
+pub offset_bounds-by_statement-at-in-loop-at : goal.offset_bounds-by_statement-at-in-loop-at
+offset_bounds-by_statement-at-in-loop-at g c = omega arith
 
-pub bounds-had-at-in-loop-at : goal.bounds-had-at-in-loop-at
-bounds-had-at-in-loop-at g c = omega arith
+pub bounds-by_statement-at-in-loop-at : goal.bounds-by_statement-at-in-loop-at
+bounds-by_statement-at-in-loop-at g c = omega arith
 
 pub overflow_add-at-in-loop-at : goal.overflow_add-at-in-loop-at
 overflow_add-at-in-loop-at g c = omega arith

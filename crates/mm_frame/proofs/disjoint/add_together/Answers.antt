@@ -21,12 +21,13 @@ add_later_pairs-requires-clause-place g c = c.loop-place-test.true
 
 pub loop-place-preserved : goal.loop-place-preserved
 loop-place-preserved g c = λ x y.
-    any_next (λ p. has_later c.args.had.now p x y) c.args.had.now c.loop-place.place (0, 0) _ _ _
+    any_next (λ p. has_later c.args.by_statement.now p x y) c.args.by_statement.now
+    c.loop-place.place (0, 0) _ _ _
     c.loop-place-test.true (c.loop-place.invariant x y) (c.in_ok-add_later_pairs.ensures x y)
 
 pub returns : goal.returns
 returns g c = λ x y.
     c.loop-place.invariant x y
     ∙ ap (λ (ps : List (ℕ × ℕ)). has_pair c.args.pairs.now.items x y
-    || list_any (λ p. has_later c.args.had.now p x y) ps)
-    (take_all c.loop-place.place c.args.had.now c.loop-place-test.false)
+    || list_any (λ p. has_later c.args.by_statement.now p x y) ps)
+    (take_all c.loop-place.place c.args.by_statement.now c.loop-place-test.false)

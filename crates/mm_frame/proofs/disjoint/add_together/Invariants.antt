@@ -9,4 +9,4 @@ invariant-loop-place g l =
     (x y : ℕ)
     → has_pair l.pairs.items x y
     ≡ (has_pair l.initial.pairs.items x y
-    || list_any (λ p. has_later l.had p x y) (take l.place l.had))
+    || list_any (λ p. has_later l.by_statement p x y) (take l.place l.by_statement))

@@ -13,14 +13,14 @@ hypotheses-requires-clause-assertion g c = c.requires.assertion
 pub hypotheses-requires-clause-ready : goal.hypotheses-requires-clause-ready
 hypotheses-requires-clause-ready g c = c.requires.ready
 
-pub pairs_of-requires-clause-sources : goal.pairs_of-requires-clause-sources
-pairs_of-requires-clause-sources g c = c.requires.sources
+pub mandatory_pairs-requires-clause-sources : goal.mandatory_pairs-requires-clause-sources
+mandatory_pairs-requires-clause-sources g c = c.requires.sources
 
-pub pairs_of-requires-clause-assertion : goal.pairs_of-requires-clause-assertion
-pairs_of-requires-clause-assertion g c = c.requires.assertion
+pub mandatory_pairs-requires-clause-assertion : goal.mandatory_pairs-requires-clause-assertion
+mandatory_pairs-requires-clause-assertion g c = c.requires.assertion
 
-pub pairs_of-requires-clause-found : goal.pairs_of-requires-clause-found
-pairs_of-requires-clause-found g c = λ x.
+pub mandatory_pairs-requires-clause-found : goal.mandatory_pairs-requires-clause-found
+mandatory_pairs-requires-clause-found g c = λ x.
     ap (λ xs. is_member xs x) c.deref-2.ensures.value ∙ c.in_ok-hypotheses.ensures.found x
 
 pub returns-clause-seen : goal.returns-clause-seen

@@ -7,8 +7,9 @@ use Rattle.mm_frame.proofs.LoopsLaw.{none_so_far, any_next, float_pushed, float_
 use Rattle.mm_spec.specs.Scope.{stays}
 use Rattle.mm_outline.specs.Blocks.{never}
 use Rattle.std.proofs.lemmas.Bool.{ne_eqb, eq-eqb}
-use Rattle.mm_frame.proofs.hypotheses.add_floats.Goals.{then-floating+then-is_open+in_ok-push}
-use Rattle.mm_frame.proofs.hypotheses.add_floats.Goals.{then-floating+else-is_open, else-floating}
+use Rattle.mm_frame.proofs.hypotheses.add_floats.Goals.{then-floating+then-is_open_at+in_ok-push}
+use Rattle.mm_frame.proofs.hypotheses.add_floats.Goals.{then-floating+else-is_open_at}
+use Rattle.mm_frame.proofs.hypotheses.add_floats.Goals.{else-floating}
 use Rattle.mm_frame.proofs.hypotheses.add_floats.Goals as goal
 
 pub returns-in_err-push : goal.returns-in_err-push
@@ -36,8 +37,8 @@ bounds-typed-number g c =
     let n = c.requires.typed.count in
     omega (arith, h, e, m, n)
 
-pub is_open-requires-clause-before : goal.is_open-requires-clause-before
-is_open-requires-clause-before g c =
+pub is_open_at-requires-clause-before : goal.is_open_at-requires-clause-before
+is_open_at-requires-clause-before g c =
     let h = c.requires.found c.loop-symbol.symbol-index c.symbol-item.result
     c.loop-symbol-test.true in
     let e = c.symbol-item.is in
@@ -46,8 +47,8 @@ is_open-requires-clause-before g c =
     let before = f.0 in
     omega (arith, before)
 
-pub is_open-requires-clause-within : goal.is_open-requires-clause-within
-is_open-requires-clause-within g c =
+pub is_open_at-requires-clause-within : goal.is_open_at-requires-clause-within
+is_open_at-requires-clause-within g c =
     let h = c.requires.found c.loop-symbol.symbol-index c.symbol-item.result
     c.loop-symbol-test.true in
     let e = c.symbol-item.is in
@@ -69,13 +70,13 @@ loop-symbol-preserved g c = λ j.
     let is_open = stays db f at in
     let n : is_member more j ≡ (is_member hs j || is_float_of db at typed j v) =
     elim c.if-floating.branch [
-      | then-floating+then-is_open+in_ok-push w ↦
+      | then-floating+then-is_open_at+in_ok-push w ↦
           float_pushed hs more f j (nat_eq f never) is_open (ne_eqb f never w.if-floating.true)
-          (sym w.is_open.ensures ∙ w.if-is_open.true)
+          (sym w.is_open_at.ensures ∙ w.if-is_open_at.true)
           (ap (λ x. x.items) w.hyps-is ∙ w.in_ok-push.ensures.items)
-      | then-floating+else-is_open w ↦
+      | then-floating+else-is_open_at w ↦
           float_closed hs more f j (nat_eq f never) is_open
-          (sym w.is_open.ensures ∙ w.if-is_open.false) (ap (λ x. x.items) w.hyps-is)
+          (sym w.is_open_at.ensures ∙ w.if-is_open_at.false) (ap (λ x. x.items) w.hyps-is)
       | else-floating w ↦
           float_none hs more f j (nat_eq f never) is_open (eq-eqb f never w.if-floating.false)
           (ap (λ x. x.items) w.hyps-is)

@@ -12,8 +12,8 @@ add_floats-requires-clause-found g c =
     let db = c.args.sources.now.statements.now.list in
     subst (λ (xs : List ℕ). All (λ s. s < length (symbol_names db)) xs)
     (sym c.deref-2.ensures.value)
-    (found_below db c.args.assertion c.mandatory.new.found.items
-    c.in_ok-mandatory.ensures.found)
+    (found_below db c.args.assertion c.mandatory_variables.new.found.items
+    c.in_ok-mandatory_variables.ensures.found)
 
 pub returns-clause-hyps : goal.returns-clause-hyps
 returns-clause-hyps g c =
@@ -23,7 +23,8 @@ returns-clause-hyps g c =
     let h = c.requires.assertion in
     let l : k ≤ length db = omega (arith, h) in
     hypotheses_are db k c.requires.sources.sound l ts c.requires.ready.typed_are
-    c.mandatory.new.found.items c.in_ok-mandatory.ensures.found c.active_essentials.new.into.items
+    c.mandatory_variables.new.found.items c.in_ok-mandatory_variables.ensures.found
+    c.active_essentials.new.into.items
     c.sort_and_dedup.new.numbers.items
     c.in_ok-active_essentials.ensures c.sort_and_dedup.ensures.rising
     (λ j. c.sort_and_dedup.ensures.same j ∙ c.in_ok-add_floats.ensures j
@@ -36,18 +37,20 @@ active_essentials-requires-clause-at g c = omega arith
 pub active_essentials-requires-clause-latest : goal.active_essentials-requires-clause-latest
 active_essentials-requires-clause-latest g c = c.requires.sources.essentials_are
 
-pub mandatory-requires-clause-few : goal.mandatory-requires-clause-few
-mandatory-requires-clause-few g c = c.requires.sources.sound.few
+pub mandatory_variables-requires-clause-few : goal.mandatory_variables-requires-clause-few
+mandatory_variables-requires-clause-few g c = c.requires.sources.sound.few
 
-pub mandatory-requires-clause-assertion : goal.mandatory-requires-clause-assertion
-mandatory-requires-clause-assertion g c = c.requires.assertion
+pub mandatory_variables-requires-clause-assertion :
+    goal.mandatory_variables-requires-clause-assertion
+mandatory_variables-requires-clause-assertion g c = c.requires.assertion
 
-pub mandatory-requires-clause-essentials : goal.mandatory-requires-clause-essentials
-mandatory-requires-clause-essentials g c = λ i.
+pub mandatory_variables-requires-clause-essentials :
+    goal.mandatory_variables-requires-clause-essentials
+mandatory_variables-requires-clause-essentials g c = λ i.
     ap (λ xs. is_member xs i) c.deref.ensures.value ∙ c.in_ok-active_essentials.ensures i
 
-pub mandatory-requires-clause-fresh : goal.mandatory-requires-clause-fresh
-mandatory-requires-clause-fresh g c = c.requires.ready.fresh
+pub mandatory_variables-requires-clause-fresh : goal.mandatory_variables-requires-clause-fresh
+mandatory_variables-requires-clause-fresh g c = c.requires.ready.fresh
 
 pub add_floats-requires-clause-at : goal.add_floats-requires-clause-at
 add_floats-requires-clause-at g c = omega arith
@@ -56,10 +59,10 @@ pub add_floats-requires-clause-typed : goal.add_floats-requires-clause-typed
 add_floats-requires-clause-typed g c = c.requires.ready.typed_are
 
 pub returns-clause-marks : goal.returns-clause-marks
-returns-clause-marks g c = c.in_ok-mandatory.ensures.marks
+returns-clause-marks g c = c.in_ok-mandatory_variables.ensures.marks
 
 pub returns-clause-found : goal.returns-clause-found
-returns-clause-found g c = c.in_ok-mandatory.ensures.found
+returns-clause-found g c = c.in_ok-mandatory_variables.ensures.found
 
 pub returns-in_err-active_essentials-clause-marks :
     goal.returns-in_err-active_essentials-clause-marks
@@ -75,20 +78,23 @@ pub returns-in_err-active_essentials-clause-hyps : goal.returns-in_err-active_es
 returns-in_err-active_essentials-clause-hyps g c =
     IfOk-from_err c.from_residual.result _ c.from_residual.ensures.0
 
-pub returns-in_err-mandatory-clause-marks : goal.returns-in_err-mandatory-clause-marks
-returns-in_err-mandatory-clause-marks g c =
-    IfOk-from_err c.from_residual-in_err-mandatory.result _
-    c.from_residual-in_err-mandatory.ensures.0
+pub returns-in_err-mandatory_variables-clause-marks :
+    goal.returns-in_err-mandatory_variables-clause-marks
+returns-in_err-mandatory_variables-clause-marks g c =
+    IfOk-from_err c.from_residual-in_err-mandatory_variables.result _
+    c.from_residual-in_err-mandatory_variables.ensures.0
 
-pub returns-in_err-mandatory-clause-found : goal.returns-in_err-mandatory-clause-found
-returns-in_err-mandatory-clause-found g c =
-    IfOk-from_err c.from_residual-in_err-mandatory.result _
-    c.from_residual-in_err-mandatory.ensures.0
+pub returns-in_err-mandatory_variables-clause-found :
+    goal.returns-in_err-mandatory_variables-clause-found
+returns-in_err-mandatory_variables-clause-found g c =
+    IfOk-from_err c.from_residual-in_err-mandatory_variables.result _
+    c.from_residual-in_err-mandatory_variables.ensures.0
 
-pub returns-in_err-mandatory-clause-hyps : goal.returns-in_err-mandatory-clause-hyps
-returns-in_err-mandatory-clause-hyps g c =
-    IfOk-from_err c.from_residual-in_err-mandatory.result _
-    c.from_residual-in_err-mandatory.ensures.0
+pub returns-in_err-mandatory_variables-clause-hyps :
+    goal.returns-in_err-mandatory_variables-clause-hyps
+returns-in_err-mandatory_variables-clause-hyps g c =
+    IfOk-from_err c.from_residual-in_err-mandatory_variables.result _
+    c.from_residual-in_err-mandatory_variables.ensures.0
 
 pub returns-in_err-add_floats-clause-marks : goal.returns-in_err-add_floats-clause-marks
 returns-in_err-add_floats-clause-marks g c =

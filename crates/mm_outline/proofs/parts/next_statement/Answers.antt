@@ -1,6 +1,6 @@
 use Rattle.std.proofs.Common.{◌≡◌, sym, subst, arith, length, ◌+◌, ◌∷◌, []}
 use Rattle.mm_spec.specs.Laws.Table.{start}
-use Rattle.mm_outline.specs.Parts.{reading, statement_of, depth_after}
+use Rattle.mm_outline.specs.Parts.{progress, statement_of, depth_after}
 use Rattle.mm_outline.specs.NextStatement.{tokens_from, Leads}
 use Rattle.mm_outline.proofs.LeadsLaw.{leads_none, leads_then, goes_go, goes_done, goes_stop}
 use Rattle.mm_outline.proofs.LeadsLaw.{goes_end}
@@ -31,7 +31,7 @@ loop-at-preserved c =
           leads_then
           (goes_go text ws c.args.deep c.args.from c.loop-at.at c.loop-at.part
           c.loop-at.invariant.leads c.loop-at-test.true
-          (reading text ws c.args.deep next (c.loop-at.at + 1)) e.same) (passed.leads c.args.deep);
+          (progress text ws c.args.deep next (c.loop-at.at + 1)) e.same) (passed.leads c.args.deep);
     }
 
 pub loop-at-smaller : goal.loop-at-smaller

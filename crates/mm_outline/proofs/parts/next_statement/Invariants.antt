@@ -1,6 +1,6 @@
 use Rattle.std.proofs.Common.{◌≤◌, ◌-◌, [], length}
 use Rattle.mm_spec.specs.Laws.Table.{start}
-use Rattle.mm_outline.specs.Parts.{IsPart, reading}
+use Rattle.mm_outline.specs.Parts.{IsPart, progress}
 use Rattle.mm_outline.specs.NextStatement.{Leads, tokens_from}
 use Rattle.mm_outline.proofs.parts.next_statement.Given as goal
 
@@ -10,7 +10,7 @@ invariant-loop-at l = record {
   later : l.from ≤ l.at;
   within : l.at ≤ length l.tokens;
   leads : Leads (start l.deep) (tokens_from l.text l.tokens l.from) []
-      (reading l.text l.tokens l.deep l.part l.at) (tokens_from l.text l.tokens l.at);
+      (progress l.text l.tokens l.deep l.part l.at) (tokens_from l.text l.tokens l.at);
 }
 
 abbrev pub decreases-loop-at : goal.decreases-loop-at

@@ -3,7 +3,7 @@ use Rattle.std.proofs.Common.{decimal}
 use Rattle.std.specs.Option.{option_map}
 use Rattle.std.proofs.lemmas.List.{length-map}
 use Rattle.mm_spec.specs.Output.{label_at}
-use Rattle.mm_spec.specs.Report.{joined}
+use Rattle.mm_spec.specs.Report.{separated}
 use Rattle.mm_report.specs.Rows.{listed}
 use Rattle.mm_report.proofs.SentLaw.{sent_more, sent_as, list_shape}
 use Rattle.mm_report.proofs.citations.send_citation_line.Goals as goal
@@ -14,7 +14,7 @@ returns g c =
     let xs = listed db (option_map (λ w. w.now) c.args.only) c.args.cited.now in
     let n =
     ap (λ (k : ℕ). decimal k) (c.listed_count.ensures ∙ sym (length-map xs (label_at db))) in
-    sent_as _ (list_shape c.args.label.now _ (joined (map (label_at db) xs)))
+    sent_as _ (list_shape c.args.label.now _ (separated (map (label_at db) xs)))
     (sent_more
     (sent_more
     (sent_more

@@ -3,11 +3,11 @@ use Rattle.std.proofs.Common.{◌∙◌, ap, subst, arith, ◌∷◌, []}
 use Rattle.std.specs.Option.{option_map}
 use Rattle.std.proofs.lemmas.List.{take_all}
 use Rattle.mm_spec.specs.Text.{Bytes}
-use Rattle.mm_spec.specs.Report.{joined}
+use Rattle.mm_spec.specs.Report.{separated}
 use Rattle.mm_spec.specs.Output.{label_at}
 use Rattle.mm_report.specs.Rows.{listed, next_label}
 use Rattle.mm_report.proofs.SentLaw.{sent_more, sent_as}
-use Rattle.mm_report.proofs.CitationLaw.{labels, first_same, labels_more, joined_next}
+use Rattle.mm_report.proofs.CitationLaw.{labels, first_same, labels_more, separated_next}
 use Rattle.mm_report.proofs.citations.send_cited.Goals as goal
 use Rattle.mm_report.proofs.citations.send_cited.Goals.{then-is_chosen, else-is_chosen}
 
@@ -31,8 +31,8 @@ loop-statement-preserved g c =
             some = λ e. omega (arith, n);
             sent =
                 sent_as _
-                (sym (ap joined more
-                ∙ joined_next (labels db only cited i)
+                (sym (ap separated more
+                ∙ separated_next (labels db only cited i)
                 (label_at db (get_or cited i 0)) c.loop-statement.is_first inv.none inv.some))
                 (sent_more inv.sent
                 (sent_as _
@@ -46,7 +46,7 @@ loop-statement-preserved g c =
           rw (w.is_first-is, w.sink-is, w.to-is) (record {
             none = λ e. same ∙ inv.none e;
             some = λ e. subst (λ (xs : List Bytes). 0 < length xs) (sym same) (inv.some e);
-            sent = sent_as _ (sym (ap joined same)) inv.sent;
+            sent = sent_as _ (sym (ap separated same)) inv.sent;
           })
     ]
 
@@ -55,6 +55,6 @@ returns g c =
     let db = c.args.database.now.statements in
     let only = option_map (λ w. w.now) c.args.only in
     sent_as _
-    (ap (λ (xs : List ℕ). joined (map (label_at db) (listed db only xs)))
+    (ap (λ (xs : List ℕ). separated (map (label_at db) (listed db only xs)))
     (take_all c.loop-statement.statement-index c.args.cited.now c.loop-statement-test.false))
     c.loop-statement.invariant.sent

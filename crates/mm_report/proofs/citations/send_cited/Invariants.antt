@@ -1,6 +1,6 @@
 use Rattle.std.proofs.Common.{◌≡◌, ◌<◌, true, false, [], length}
 use Rattle.std.specs.Option.{option_map}
-use Rattle.mm_spec.specs.Report.{joined}
+use Rattle.mm_spec.specs.Report.{separated}
 use Rattle.mm_report.specs.Sent.{Sent}
 use Rattle.mm_report.proofs.CitationLaw.{labels}
 use Rattle.mm_report.proofs.citations.send_cited.Given as goal
@@ -14,6 +14,6 @@ invariant-loop-statement g l = record {
       → 0 < length
       (labels l.database.statements (option_map (λ w. w.now) l.only) l.cited l.statement-index);
   sent : Sent (g.W.Write.contents l.fn.to) (g.W.Write.contents l.to) l.fn.sink l.sink
-      (joined (labels l.database.statements
+      (separated (labels l.database.statements
       (option_map (λ w. w.now) l.only) l.cited l.statement-index));
 }

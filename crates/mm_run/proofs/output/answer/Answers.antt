@@ -1,5 +1,6 @@
 use Rattle.std.proofs.Common.{◌∙◌, ℕ, List, length, None, sym, subst, inl, inr}
-use Rattle.mm_spec.specs.Output.{AllAreValid, IsRead, lexed_of}
+use Rattle.mm_spec.specs.Lexed.{lexed_of}
+use Rattle.mm_spec.specs.Output.{AllAreValid, IsRead}
 use Rattle.mm_work.specs.Judged.{Judges, AllCited, IsFirstFault}
 use Rattle.mm_work.specs.declared.judged.Judged.{Judged}
 use Rattle.mm_run.proofs.output.answer.Goals as goal

@@ -1,9 +1,9 @@
 use Rattle.std.proofs.Common.{◌≡◌, ◌∙◌, ◌^◌, ◌<◌, List, sym, ap, subst, length, refl, arith}
 use Rattle.std.proofs.lemmas.Result.{IfOk-from_err}
 use Rattle.std.proofs.lemmas.List.{length-map}
-use Rattle.mm_spec.specs.Lexed.{tokens_of as words_of}
+use Rattle.mm_spec.specs.Lexed.{tokens_of as words_of, lexed_of}
 use Rattle.mm_spec.specs.declared.Word.{Word}
-use Rattle.mm_spec.specs.Output.{IsRead, lexed_of}
+use Rattle.mm_spec.specs.Output.{IsRead}
 use Rattle.mm_outline.specs.Parts.{AreWithin, statement_of}
 use Rattle.mm_outline.specs.Statements.{statements}
 use Rattle.mm_outline.specs.Tokens.{AreTokens}
@@ -38,16 +38,17 @@ pub outline-requires-clause-short : goal.outline-requires-clause-short
 outline-requires-clause-short g c e =
     let s = short_text c.args.text.now (sym c.requires.fault ∙ e) in omega (arith, s)
 
-pub list_all-requires-clause-words : goal.list_all-requires-clause-words
-list_all-requires-clause-words g c =
+pub list_statements-requires-clause-words : goal.list_statements-requires-clause-words
+list_statements-requires-clause-words g c =
     subst (AreWithin c.args.text.now)
     (sym (c.as_slice-words.ensures.value ∙ c.requires.tokens)) (tokens_stand c.args.text.now)
 
-pub list_all-requires-clause-outlines : goal.list_all-requires-clause-outlines
-list_all-requires-clause-outlines g c = rw c.deref.ensures.value c.in_ok-outlined.ensures.outlines
+pub list_statements-requires-clause-outlines : goal.list_statements-requires-clause-outlines
+list_statements-requires-clause-outlines g c =
+    rw c.deref.ensures.value c.in_ok-outlined.ensures.outlines
 
-pub list_all-requires-clause-few : goal.list_all-requires-clause-few
-list_all-requires-clause-few g c = rw c.deref.ensures.value c.in_ok-outlined.ensures.few
+pub list_statements-requires-clause-few : goal.list_statements-requires-clause-few
+list_statements-requires-clause-few g c = rw c.deref.ensures.value c.in_ok-outlined.ensures.few
 
 pub keep_all-requires : goal.keep_all-requires
 keep_all-requires g c = rw c.deref-2.ensures.value c.in_ok-outlined.ensures.outlines

@@ -20,14 +20,14 @@ overflow_cast-count g c =
     let same = ap (λ (ts : List ℕ). length ts) c.theorems-count.ensures.theorems in
     omega (arith, few, same)
 
-pub fault_of-requires-clause-found : goal.fault_of-requires-clause-found
-fault_of-requires-clause-found g c =
+pub found_fault-requires-clause-found : goal.found_fault-requires-clause-found
+found_fault-requires-clause-found g c =
     subst (λ (fs : List (Findings _)). All
     (AreFindings c.args.database.now.statements c.args.essential) fs)
     (sym c.deref.ensures.value) c.in_ok-gathered.ensures.found
 
-pub fault_of-requires-clause-faulty : goal.fault_of-requires-clause-faulty
-fault_of-requires-clause-faulty g c =
+pub found_fault-requires-clause-faulty : goal.found_fault-requires-clause-faulty
+found_fault-requires-clause-faulty g c =
     let all : c.in_ok-gathered.gathered.seat.view.share ≡ 64 =
     let s = c.share.ensures.share in let r = c.share.ensures.range.1 in
     let f = c.if-share-lt-WHOLE.false in omega (arith, s, r, f) in
@@ -49,10 +49,10 @@ returns-then-first-count g c =
     let same = ap (λ (ts : List ℕ). length ts) c.theorems-count.ensures.theorems in
     let l = c.if-first-count.true in
     first_fault db c.theorems-count.ensures.few c.len.ensures.complete c.close-first.result.0
-    c.fault_of.result
+    c.found_fault.result
     (valid_below _ c.in_ok-gathered.gathered.seat c.in_ok-gathered.gathered.found.items h
     c.close-first.result.0 (c.close-first.ensures.finished all h.over h.closed))
-    (omega (arith, same, l)) c.fault_of.ensures
+    (omega (arith, same, l)) c.found_fault.ensures
 
 pub merge-requires-clause-found : goal.merge-requires-clause-found
 merge-requires-clause-found g c =

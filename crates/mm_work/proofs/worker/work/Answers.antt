@@ -1,6 +1,6 @@
 use Rattle.std.proofs.Common.{◌∙◌, Bool, ap, refl}
 use Rattle.mm_board.specs.declared.views.View.{View}
-use Rattle.mm_work.proofs.WorkersLaw.{begun, not_begun, claimed, fresh_drawn}
+use Rattle.mm_work.proofs.WorkersLaw.{begun, not_begun, claimed, unrecorded_drawn}
 use Rattle.mm_work.proofs.worker.work.Goals as goal
 
 pub returns-in_default : goal.returns-in_default
@@ -27,7 +27,7 @@ claim-requires-clause-closed g c = c.loop-index.invariant.between.closed
 
 pub loop-index-smaller : goal.loop-index-smaller
 loop-index-smaller g c =
-    fresh_drawn c.args.job.now.board.now.count c.in-Some.index c.loop-index.worked.seat.view
+    unrecorded_drawn c.args.job.now.board.now.count c.in-Some.index c.loop-index.worked.seat.view
     c.claim.new.seat.view c.settle_drawn.new.worked.seat.view
     c.loop-index.invariant.between.closed c.in-Some.ensures.some c.in-Some.ensures.below
     c.in-Some.ensures.above c.settle_drawn.ensures.kept

@@ -1,7 +1,7 @@
 use Rattle.std.proofs.Common.{◌≡◌, false}
 use Rattle.mm_check.specs.Checker.{IsMadeFor}
 use Rattle.mm_work.specs.Workers.{IsBetweenTheorems}
-use Rattle.mm_work.proofs.WorkersLaw.{fresh}
+use Rattle.mm_work.proofs.WorkersLaw.{unrecorded}
 use Rattle.mm_work.proofs.worker.work.Given as goal
 
 abbrev pub invariant-loop-index : goal.invariant-loop-index
@@ -12,4 +12,4 @@ invariant-loop-index g l = record {
 }
 
 abbrev pub decreases-loop-index : goal.decreases-loop-index
-decreases-loop-index g l = fresh l.job.board.now.count l.worked.seat.view
+decreases-loop-index g l = unrecorded l.job.board.now.count l.worked.seat.view

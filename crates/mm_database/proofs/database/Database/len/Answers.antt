@@ -1,6 +1,6 @@
 use Rattle.std.proofs.Common.{◌∙◌, length, subst, sym, ap, arith}
 use Rattle.mm_spec.specs.Laws.Complete.{AreComplete}
-use Rattle.mm_spec.specs.Output.{lexed_of}
+use Rattle.mm_spec.specs.Lexed.{lexed_of}
 use Rattle.mm_spec.proofs.CompleteLaw.{reads_complete}
 use Rattle.mm_spec.proofs.OpenedLaw.{counted_complete}
 use Rattle.mm_database.specs.Database.{Contents}

@@ -1,7 +1,7 @@
 use Rattle.std.proofs.Common.{◌≡◌, ◌∙◌, ◌++◌, ◌∷◌, [], Some, length, ap, ap₂, arith}
 use Rattle.std.proofs.Common.{rules}
-use Rattle.mm_database.specs.Frames.{mandatory_in, placed}
-use Rattle.mm_database.proofs.PlacesLaw.{placed_more, as_many_places}
+use Rattle.mm_database.specs.Frames.{mandatory_in, frames_at}
+use Rattle.mm_database.proofs.PlacesLaw.{frames_at_more, as_many_places}
 use Rattle.mm_database.proofs.frames.Frames.add.Goals as goal
 
 pub overflow_cast-place : goal.overflow_cast-place
@@ -19,6 +19,6 @@ returns g c =
     let m = ap length c.self.view_is in
     let small = c.requires in
     let no_more = c.self.invariant.no_more in
-    ap₂ placed list places
-    ∙ placed_more fs f ps c.self.invariant (omega (arith, n, m, small, no_more))
+    ap₂ frames_at list places
+    ∙ frames_at_more fs f ps c.self.invariant (omega (arith, n, m, small, no_more))
     ∙ ap (λ v. v ++ Some (mandatory_in f) ∷ []) c.self.view_is

@@ -1,7 +1,7 @@
 use Rattle.std.proofs.Common.{arith, sym, subst}
 use Rattle.std.proofs.lemmas.Result.{IfOk-from_err}
 use Rattle.mm_rule.specs.Rule.{Compiled, IsCompiled}
-use Rattle.mm_rules.specs.Rules.{RuleLists, AreRules, rule_stretches}
+use Rattle.mm_rules.specs.Rules.{RuleLists, AreRules, rule_ranges}
 use Rattle.mm_rules.proofs.RulesLaw.{added_at}
 use Rattle.mm_rules.proofs.rules.Rules.add.Goals as goal
 
@@ -13,11 +13,11 @@ returns g c =
     let p = c.in_ok-pairs in
     let q = c.in_ok-parts in
     let f = c.in_ok-formula in
-    λ db rules rule. added_at db i.stretches.items c.push.new.self.items i.hypotheses.items
+    λ db rules rule. added_at db i.ranges.items c.push.new.self.items i.hypotheses.items
     r.hypotheses.now c.put.new.list.items
     i.pairs.items r.pairs.now c.put-2.new.list.items i.parts.items r.parts.now r.formula.now
     c.put-3.new.list.items c.put-4.new.list.items
-    (rule_stretches r.assertion a.hypotheses p.pairs q.parts f.formula)
+    (rule_ranges r.assertion a.hypotheses p.pairs q.parts f.formula)
     c.in_ok-push.ensures.items a.ensures.items p.ensures.items q.ensures.items f.ensures.items
     a.ensures.start a.ensures.end p.ensures.start p.ensures.end q.ensures.start q.ensures.end
     f.ensures.start f.ensures.end

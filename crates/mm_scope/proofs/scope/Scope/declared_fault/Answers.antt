@@ -2,7 +2,7 @@ use Rattle.std.proofs.Common.{◌<◌, ◌≤◌, ◌∙◌, ap, arith, is_some,
 use Rattle.mm_database.specs.Names.{find}
 use Rattle.mm_outline.specs.Parts.{token_at}
 use Rattle.mm_outline.specs.Blocks.{is_open_in}
-use Rattle.mm_scope.specs.Judge.{merge, fault_at, declared_code}
+use Rattle.mm_scope.specs.Judge.{lesser_fault, fault_at, declared_code}
 use Rattle.mm_scope.proofs.JudgeLaw.{declared_more}
 use Rattle.mm_scope.proofs.scope.Scope.declared_fault.Goals as goal
 
@@ -17,7 +17,7 @@ loop-at-preserved g c =
       seen = c.in_ok-repeated.ensures.seen;
       least = λ n k.
           c.note-best.ensures
-          ∙ ap (λ o. merge c.loop-at.best
+          ∙ ap (λ o. lesser_fault c.loop-at.best
           (fault_at (token_at c.args.text.now c.args.tokens.now c.loop-at.at).at o))
           (c.declared_code.ensures
           ∙ ap (λ w. declared_code (is_open_in s.blocks) c.args.kind

@@ -1,7 +1,7 @@
 use Rattle.std.proofs.Common.{◌∙◌, sym, ap, ap₂, ◌-◌, ◌+◌, arith, subst, []}
 use Rattle.mm_spec.specs.Lawful.{least, at_each, scope_faults, floating_faults, label_faults}
 use Rattle.mm_outline.specs.Parts.{token_at, nth_word, between, made, IsKeywordBefore}
-use Rattle.mm_scope.specs.Judge.{merge, list_fault, declared_codes}
+use Rattle.mm_scope.specs.Judge.{lesser_fault, list_fault, declared_codes}
 use Rattle.mm_scope.proofs.JudgeLaw.{least_append, constants_is, variables_is}
 use Rattle.mm_outline.proofs.ResultsLaw.{ok_then}
 use Rattle.mm_scope.proofs.scope.Scope.fault.Goals as goal
@@ -18,7 +18,7 @@ returns-in-Constants-clause-fault g c =
     c.requires.among.outline.1 in
     ok_then c.declared.result c.declared.ensures (λ r h. λ n k.
     h n k ∙ ap
-    (λ kd. merge
+    (λ kd. lesser_fault
     (list_fault kd c.args.deep (nth_word ws o.keyword).start (nth_word ws o.middle).start
     (o.middle - o.keyword - 1))
     (least (at_each (declared_codes n kd) [] (between text ws (o.keyword + 1) o.middle))))
@@ -40,7 +40,7 @@ returns-in-Variables-clause-fault g c =
     c.requires.among.outline.1 in
     ok_then c.declared-in-Variables.result c.declared-in-Variables.ensures (λ r h. λ n k.
     h n k ∙ ap
-    (λ kd. merge
+    (λ kd. lesser_fault
     (list_fault kd c.args.deep (nth_word ws o.keyword).start (nth_word ws o.middle).start
     (o.middle - o.keyword - 1))
     (least (at_each (declared_codes n kd) [] (between text ws (o.keyword + 1) o.middle))))
@@ -55,7 +55,8 @@ returns-in-Floating-clause-fault g c = λ n k.
     let text = c.args.text.now in
     let ws = c.args.tokens.now in
     let o = c.args.outline in
-    c.merge.ensures ∙ ap₂ merge (c.label_fault-label.ensures n k) (c.floating_fault.ensures n k)
+    c.lesser_fault.ensures
+    ∙ ap₂ lesser_fault (c.label_fault-label.ensures n k) (c.floating_fault.ensures n k)
     ∙ sym (least_append (label_faults n (token_at text ws (o.keyword - 1)))
     (floating_faults n (nth_word ws o.keyword).start
     (between text ws (o.keyword + 1) o.middle)))

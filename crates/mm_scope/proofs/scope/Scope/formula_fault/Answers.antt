@@ -4,7 +4,7 @@ use Rattle.mm_spec.specs.Frame.{place_of}
 use Rattle.mm_outline.specs.Parts.{token_at, nth_word, between}
 use Rattle.mm_outline.specs.Blocks.{is_open_in}
 use Rattle.mm_scope.specs.Formulas.{numbers_in}
-use Rattle.mm_scope.specs.Judge.{merge, fault_at, typecode_code}
+use Rattle.mm_scope.specs.Judge.{lesser_fault, fault_at, typecode_code}
 use Rattle.mm_database.specs.Names.{find, names_of}
 use Rattle.mm_scope.proofs.JudgeLaw.{between_first, formula_is}
 use Rattle.mm_scope.proofs.scope.Scope.formula_fault.Goals as goal
@@ -26,8 +26,8 @@ returns-clause-fault g c = λ n k.
     let order = c.requires.order in
     let below : c.args.from < c.args.to = omega (arith, not_same, order) in
     let inside : c.args.to ≤ length c.args.tokens.now = omega (arith, within) in
-    c.merge.ensures
-    ∙ ap (λ o. merge o c.in_ok-rest.rest)
+    c.lesser_fault.ensures
+    ∙ ap (λ o. lesser_fault o c.in_ok-rest.rest)
     (c.note-typecode.ensures
     ∙ ap (fault_at (token_at c.args.text.now c.args.tokens.now c.args.from).at)
     (c.typecode_code.ensures

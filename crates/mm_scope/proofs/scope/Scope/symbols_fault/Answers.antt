@@ -4,7 +4,7 @@ use Rattle.mm_spec.specs.Frame.{place_of}
 use Rattle.mm_outline.specs.Blocks.{is_open_in}
 use Rattle.mm_scope.specs.Formulas.{numbers_in}
 use Rattle.mm_outline.specs.Parts.{token_at, between}
-use Rattle.mm_scope.specs.Judge.{merge, fault_at, symbol_code}
+use Rattle.mm_scope.specs.Judge.{lesser_fault, fault_at, symbol_code}
 use Rattle.mm_database.specs.Names.{find, names_of}
 use Rattle.mm_scope.proofs.JudgeLaw.{symbols_more}
 use Rattle.mm_scope.proofs.NumberedLaw.{numbers_more}
@@ -31,7 +31,7 @@ loop-at-preserved g c =
     record {
       least = λ n k.
           c.note-best.ensures
-          ∙ ap (λ o. merge c.loop-at.best (fault_at (token_at text ws c.loop-at.at).at o))
+          ∙ ap (λ o. lesser_fault c.loop-at.best (fault_at (token_at text ws c.loop-at.at).at o))
           (c.symbol_code.ensures
           ∙ ap (symbol_code (is_open_in s.blocks))
           (c.numbered-number.ensures.symbol ∙ ap (find s.names.symbols) c.bytes.ensures))

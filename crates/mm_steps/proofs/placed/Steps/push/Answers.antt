@@ -3,9 +3,9 @@ use Rattle.std.proofs.Common.{get_or, subst, length-append}
 use Rattle.std.proofs.lemmas.List.{get_or_default, length-map}
 use Rattle.mm_spec.specs.Steps.{placed}
 use Rattle.mm_steps.specs.declared.placed.Placed.{Placed}
-use Rattle.mm_steps.specs.declared.placed.Kind.TheVariants.{Marked}
+use Rattle.mm_steps.specs.declared.placed.StepKind.TheVariants.{Marked}
 use Rattle.mm_steps.specs.Read.{read, as_step, IsEarlier}
-use Rattle.mm_steps.specs.Flags.{placed_steps, placed_of, nothing}
+use Rattle.mm_steps.specs.Flags.{placed_steps, placed_of, no_step}
 use Rattle.mm_steps.proofs.FlagsLaw.{flag_more, placed_steps_set, placed_steps_more}
 use Rattle.mm_steps.proofs.placed.Steps.push.Goals as goal
 
@@ -23,8 +23,8 @@ invariant_of-self-in-Marked g c =
     ap (λ r. length r.steps) (sym c.self.view_is) ∙ length-map ps placed_of in
     let inside : j < length qs =
     let n = ap length more in omega (arith, early, long, n, length-append ps (p ∷ [])) in
-    let there : now ≡ get_or qs j nothing =
-    c.index_mut.ensures.value ∙ sym (get_or_default qs j nothing now inside) in
+    let there : now ≡ get_or qs j no_step =
+    c.index_mut.ensures.value ∙ sym (get_or_default qs j no_step now inside) in
     flag_more ps qs p _ j c.self.invariant more refl refl (omega (arith, early, long))
     (ap placed_of there) refl
 
@@ -42,8 +42,8 @@ returns-in_ok-push-in-Marked-clause-ok g c =
     ap (λ r. length r.steps) (sym c.self.view_is) ∙ length-map ps placed_of in
     let inside : j < length qs =
     let n = ap length more in omega (arith, early, long, n, length-append ps (p ∷ [])) in
-    let there : now ≡ get_or qs j nothing =
-    c.index_mut.ensures.value ∙ sym (get_or_default qs j nothing now inside) in
+    let there : now ≡ get_or qs j no_step =
+    c.index_mut.ensures.value ∙ sym (get_or_default qs j no_step now inside) in
     ap (read c.self.inside.theorem)
     (placed_steps_set qs j _ (ap placed_of there) ∙ ap placed_steps more ∙ placed_steps_more ps p
     ∙ ap (λ s. placed_steps ps ++ placed c.args.at (as_step s) ∷ []) (sym c.in-Marked.is))

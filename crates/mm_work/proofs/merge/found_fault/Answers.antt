@@ -6,9 +6,9 @@ use Rattle.mm_work.specs.Judged.{HasFault}
 use Rattle.mm_work.specs.Workers.{AreFindings, IsFaultFound, faulty_index, theorem_of}
 use Rattle.mm_work.specs.declared.worker.Findings.{Findings}
 use Rattle.mm_work.specs.declared.worker.IndexedFault.{IndexedFault}
-use Rattle.mm_work.proofs.merge.fault_of.Goals.{in_default-via-in-None-1}
-use Rattle.mm_work.proofs.merge.fault_of.Goals.{in_default-via-in-Some+else-faulty-index}
-use Rattle.mm_work.proofs.merge.fault_of.Goals as goal
+use Rattle.mm_work.proofs.merge.found_fault.Goals.{in_default-via-in-None-1}
+use Rattle.mm_work.proofs.merge.found_fault.Goals.{in_default-via-in-Some+else-faulty-index}
+use Rattle.mm_work.proofs.merge.found_fault.Goals as goal
 
 pub returns-in-loop-one : goal.returns-in-loop-one
 returns-in-loop-one g c =

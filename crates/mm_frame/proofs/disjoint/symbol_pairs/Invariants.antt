@@ -1,6 +1,6 @@
 use Rattle.std.proofs.Common.{◌≡◌, map, take}
 use Rattle.mm_spec.specs.Derivation.{pair}
-use Rattle.mm_frame.proofs.disjoint.symbols_of.Given as goal
+use Rattle.mm_frame.proofs.disjoint.symbol_pairs.Given as goal
 
 abbrev pub invariant-loop-low : goal.invariant-loop-low
 invariant-loop-low g l =

@@ -6,7 +6,7 @@ use Rattle.mm_frame.proofs.HypothesesLaw.{mandatory_is, essential_before}
 use Rattle.std.proofs.lemmas.Result.{IfOk-from_err}
 use Rattle.mm_frame.proofs.MarksLaw.{marks_fresh}
 use Rattle.mm_frame.proofs.LoopsLaw.{mandatory_first, mandatory_next}
-use Rattle.mm_frame.proofs.hypotheses.mandatory.Goals as goal
+use Rattle.mm_frame.proofs.hypotheses.mandatory_variables.Goals as goal
 
 pub formula-requires-in-loop-essential : goal.formula-requires-in-loop-essential
 formula-requires-in-loop-essential g c =
@@ -29,21 +29,23 @@ returns-clause-found g c = λ x.
     (take_all c.loop-essential.essential-index xs c.loop-essential-test.false)
     ∙ mandatory_is db c.args.assertion xs c.requires.essentials x
 
-pub returns-in_err-note-clause-marks : goal.returns-in_err-note-clause-marks
-returns-in_err-note-clause-marks g c =
+pub returns-in_err-add_variables-clause-marks : goal.returns-in_err-add_variables-clause-marks
+returns-in_err-add_variables-clause-marks g c =
     IfOk-from_err c.from_residual.result _ c.from_residual.ensures.0
 
-pub returns-in_err-note-clause-found : goal.returns-in_err-note-clause-found
-returns-in_err-note-clause-found g c =
+pub returns-in_err-add_variables-clause-found : goal.returns-in_err-add_variables-clause-found
+returns-in_err-add_variables-clause-found g c =
     IfOk-from_err c.from_residual.result _ c.from_residual.ensures.0
 
-pub returns-in_err-note-2-clause-marks : goal.returns-in_err-note-2-clause-marks
-returns-in_err-note-2-clause-marks g c =
-    IfOk-from_err c.from_residual-in_err-note-2.result _ c.from_residual-in_err-note-2.ensures.0
+pub returns-in_err-add_variables-2-clause-marks : goal.returns-in_err-add_variables-2-clause-marks
+returns-in_err-add_variables-2-clause-marks g c =
+    IfOk-from_err c.from_residual-in_err-add_variables-2.result _
+    c.from_residual-in_err-add_variables-2.ensures.0
 
-pub returns-in_err-note-2-clause-found : goal.returns-in_err-note-2-clause-found
-returns-in_err-note-2-clause-found g c =
-    IfOk-from_err c.from_residual-in_err-note-2.result _ c.from_residual-in_err-note-2.ensures.0
+pub returns-in_err-add_variables-2-clause-found : goal.returns-in_err-add_variables-2-clause-found
+returns-in_err-add_variables-2-clause-found g c =
+    IfOk-from_err c.from_residual-in_err-add_variables-2.result _
+    c.from_residual-in_err-add_variables-2.ensures.0
 
 pub formula-requires : goal.formula-requires
 formula-requires g c = c.requires.assertion
@@ -51,24 +53,25 @@ formula-requires g c = c.requires.assertion
 pub overflow_add-assertion : goal.overflow_add-assertion
 overflow_add-assertion g c = omega arith
 
-pub note-requires-clause-symbols : goal.note-requires-clause-symbols
-note-requires-clause-symbols g c = c.formula.ensures.known
+pub add_variables-requires-clause-symbols : goal.add_variables-requires-clause-symbols
+add_variables-requires-clause-symbols g c = c.formula.ensures.known
 
-pub note-requires-clause-marks : goal.note-requires-clause-marks
-note-requires-clause-marks g c =
+pub add_variables-requires-clause-marks : goal.add_variables-requires-clause-marks
+add_variables-requires-clause-marks g c =
     marks_fresh (length (symbol_names c.args.statements.now.list)) c.args.assertion
     c.args.seen.now.items
     c.clear.new.self.items c.requires.fresh.count c.requires.fresh.within c.clear.ensures.items
 
 pub loop-essential-init : goal.loop-essential-init
 loop-essential-init g c = record {
-  marks = c.in_ok-note.ensures.marks;
+  marks = c.in_ok-add_variables.ensures.marks;
   found =
       λ x.
       mandatory_first x c.clear.new.self.items c.formula.result.now
       (formula_at c.args.statements.now.list c.args.assertion) _
       (is_variable_number c.args.statements.now.list x)
-      (ap length c.clear.ensures.items) c.formula.ensures.formula (c.in_ok-note.ensures.found x);
+      (ap length c.clear.ensures.items) c.formula.ensures.formula
+      (c.in_ok-add_variables.ensures.found x);
 }
 
 pub offset_bounds-essentials-essential-index : goal.offset_bounds-essentials-essential-index
@@ -77,16 +80,18 @@ offset_bounds-essentials-essential-index g c = omega arith
 pub overflow_add-assertion-in-loop-essential : goal.overflow_add-assertion-in-loop-essential
 overflow_add-assertion-in-loop-essential g c = omega arith
 
-pub note-requires-in-loop-essential-clause-symbols :
-    goal.note-requires-in-loop-essential-clause-symbols
-note-requires-in-loop-essential-clause-symbols g c = c.formula-in-loop-essential.ensures.known
+pub add_variables-requires-in-loop-essential-clause-symbols :
+    goal.add_variables-requires-in-loop-essential-clause-symbols
+add_variables-requires-in-loop-essential-clause-symbols g c =
+    c.formula-in-loop-essential.ensures.known
 
-pub note-requires-in-loop-essential-clause-marks : goal.note-requires-in-loop-essential-clause-marks
-note-requires-in-loop-essential-clause-marks g c = c.loop-essential.invariant.marks
+pub add_variables-requires-in-loop-essential-clause-marks :
+    goal.add_variables-requires-in-loop-essential-clause-marks
+add_variables-requires-in-loop-essential-clause-marks g c = c.loop-essential.invariant.marks
 
 pub loop-essential-preserved : goal.loop-essential-preserved
 loop-essential-preserved g c = record {
-  marks = c.in_ok-note-2.ensures.marks;
+  marks = c.in_ok-add_variables-2.ensures.marks;
   found =
       λ x.
       mandatory_next x (formula_at c.args.statements.now.list) c.args.essentials.now
@@ -95,7 +100,7 @@ loop-essential-preserved g c = record {
       (is_member (formula_at c.args.statements.now.list c.args.assertion) x)
       c.loop-essential-test.true
       c.formula-in-loop-essential.ensures.formula (c.loop-essential.invariant.found x)
-      (c.in_ok-note-2.ensures.found x);
+      (c.in_ok-add_variables-2.ensures.found x);
 }
 
 pub returns-clause-marks : goal.returns-clause-marks

@@ -6,7 +6,7 @@ use Rattle.mm_spec.proofs.OpenedLaw.{counted_label, theorem_still}
 use Rattle.mm_outline.specs.Statements.{statements}
 use Rattle.mm_database.proofs.KindsLaw.{theorems_by_kind, axioms_by_kind, kinds_few}
 use Rattle.mm_database.proofs.SpacedLaw.{theorems_are}
-use Rattle.mm_stmt.proofs.listed.list_all.Goals as goal
+use Rattle.mm_stmt.proofs.listed.list_statements.Goals as goal
 
 pub theorems_of-requires : goal.theorems_of-requires
 theorems_of-requires g c =

@@ -5,7 +5,7 @@ use Rattle.mm_spec.specs.Frame.{symbol_names, is_variable_number}
 use Rattle.mm_spec.proofs.MemberLaw.{member_push}
 use Rattle.mm_frame.specs.Hypotheses.{AreMarks}
 use Rattle.mm_frame.proofs.MarksLaw.{mark_more, found_again, noted_new, noted_again, noted_not}
-use Rattle.mm_frame.proofs.hypotheses.mark.Goals as goal
+use Rattle.mm_frame.proofs.hypotheses.add_variable.Goals as goal
 
 pub returns-in_err-push-clause-marks : goal.returns-in_err-push-clause-marks
 returns-in_err-push-clause-marks g c =

@@ -2,16 +2,16 @@ use Rattle.std.proofs.Common.{◌∙◌, ℕ, ◌≤◌, ◌&&◌, ◌||◌, Lis
 use Rattle.std.proofs.Common.{subst, sym}
 use Rattle.std.specs.List.{list_any}
 use Rattle.mm_spec.specs.Derivation.{pair, is_member}
-use Rattle.mm_database.specs.DisjointIndex.{is_live}
+use Rattle.mm_database.specs.DisjointIndex.{is_active_local}
 use Rattle.mm_database.specs.Pairs.{has_pair, AreRising}
 use Rattle.mm_frame.specs.Together.{has_later}
 use Rattle.mm_outline.proofs.ResultsLaw.{ok_then}
 use Rattle.mm_frame.proofs.DisjointLaw.{pairs_are}
 use Rattle.std.proofs.lemmas.Result.{IfOk-from_err}
-use Rattle.mm_frame.proofs.disjoint.pairs_of.Goals as goal
+use Rattle.mm_frame.proofs.disjoint.mandatory_pairs.Goals as goal
 
 pub returns : goal.returns
-returns g c = ok_then c.symbols_of.result c.symbols_of.ensures (λ v e.
+returns g c = ok_then c.symbol_pairs.result c.symbol_pairs.ensures (λ v e.
     let db = c.args.sources.now.statements.now.list in
     let b = c.args.sources.now.statements.now.blocks in
     let k = c.args.assertion in
@@ -26,7 +26,7 @@ returns g c = ok_then c.symbols_of.result c.symbols_of.ensures (λ v e.
     (λ j y. c.sort_and_dedup.ensures.same j y
     ∙ rw (← c.blocks-2.ensures.blocks) (c.in_ok-add_all_active.ensures j y)
     ∙ ap (λ (xs : List (ℕ × ℕ)). has_pair xs j y
-    || (is_member found y && (has_pair ps y j && is_live b j k))) c.clear.ensures.items)
+    || (is_member found y && (has_pair ps y j && is_active_local b j k))) c.clear.ensures.items)
     c.sort_and_dedup-2.new.pairs.items c.sort_and_dedup-2.ensures.rising
     (λ x y. c.sort_and_dedup-2.ensures.same x y ∙ c.in_ok-add_together.ensures x y
     ∙ ap (λ (xs : List (ℕ × ℕ)). has_pair xs x y

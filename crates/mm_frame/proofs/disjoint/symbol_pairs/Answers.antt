@@ -1,7 +1,7 @@
 use Rattle.std.proofs.Common.{arith, map, take_all, ap, ◌∙◌}
 use Rattle.std.proofs.lemmas.Result.{IfOk-from_err}
 use Rattle.mm_spec.specs.Derivation.{pair}
-use Rattle.mm_frame.proofs.disjoint.symbols_of.Goals as goal
+use Rattle.mm_frame.proofs.disjoint.symbol_pairs.Goals as goal
 
 pub loop-low-init : goal.loop-low-init
 loop-low-init g c = ap (map (λ p. pair p.0 p.1)) c.in_ok-symbols.ensures.items

@@ -1,7 +1,7 @@
 use Rattle.std.proofs.Common.{◌≡◌, Some}
 use Rattle.std.specs.List.{AllWithin}
 use Rattle.mm_work.specs.Workers.{faulty_index}
-use Rattle.mm_work.proofs.merge.fault_of.Given as goal
+use Rattle.mm_work.proofs.merge.found_fault.Given as goal
 
 abbrev pub invariant-loop-one : goal.invariant-loop-one
 invariant-loop-one g l =

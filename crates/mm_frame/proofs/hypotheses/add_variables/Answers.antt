@@ -3,14 +3,14 @@ use Rattle.std.proofs.lemmas.Result.{IfOk-from_err}
 use Rattle.mm_spec.specs.Derivation.{is_member}
 use Rattle.mm_spec.specs.Frame.{is_variable_number}
 use Rattle.mm_frame.proofs.LoopsLaw.{noted_none, noted_next}
-use Rattle.mm_frame.proofs.hypotheses.note.Goals as goal
+use Rattle.mm_frame.proofs.hypotheses.add_variables.Goals as goal
 
-pub returns-in_err-mark-clause-marks : goal.returns-in_err-mark-clause-marks
-returns-in_err-mark-clause-marks g c =
+pub returns-in_err-add_variable-clause-marks : goal.returns-in_err-add_variable-clause-marks
+returns-in_err-add_variable-clause-marks g c =
     IfOk-from_err c.from_residual.result _ c.from_residual.ensures.0
 
-pub returns-in_err-mark-clause-found : goal.returns-in_err-mark-clause-found
-returns-in_err-mark-clause-found g c =
+pub returns-in_err-add_variable-clause-found : goal.returns-in_err-add_variable-clause-found
+returns-in_err-add_variable-clause-found g c =
     IfOk-from_err c.from_residual.result _ c.from_residual.ensures.0
 
 pub loop-symbol-init : goal.loop-symbol-init
@@ -24,24 +24,24 @@ loop-symbol-init g c = record {
 pub offset_bounds-symbols-symbol-index : goal.offset_bounds-symbols-symbol-index
 offset_bounds-symbols-symbol-index g c = omega arith
 
-pub mark-requires-clause-symbol : goal.mark-requires-clause-symbol
-mark-requires-clause-symbol g c =
+pub add_variable-requires-clause-symbol : goal.add_variable-requires-clause-symbol
+add_variable-requires-clause-symbol g c =
     let h = c.requires.symbols c.loop-symbol.symbol-index c.symbol-item.result
     c.loop-symbol-test.true in
     let e = c.symbol-item.is in
     omega (arith, h, e)
 
-pub mark-requires-clause-marks : goal.mark-requires-clause-marks
-mark-requires-clause-marks g c = c.loop-symbol.invariant.marks
+pub add_variable-requires-clause-marks : goal.add_variable-requires-clause-marks
+add_variable-requires-clause-marks g c = c.loop-symbol.invariant.marks
 
 pub loop-symbol-preserved : goal.loop-symbol-preserved
 loop-symbol-preserved g c = record {
-  marks = c.in_ok-mark.ensures.marks;
+  marks = c.in_ok-add_variable.ensures.marks;
   found =
       λ x.
       noted_next c.args.symbols.now c.loop-symbol.symbol-index c.symbol-item.result x _ _ _
       (is_variable_number c.args.statements.now.list x) c.loop-symbol-test.true c.symbol-item.is
-      (c.loop-symbol.invariant.found x) (c.in_ok-mark.ensures.found x);
+      (c.loop-symbol.invariant.found x) (c.in_ok-add_variable.ensures.found x);
 }
 
 pub returns-clause-marks : goal.returns-clause-marks

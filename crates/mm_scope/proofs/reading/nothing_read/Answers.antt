@@ -1,6 +1,6 @@
 use Rattle.std.proofs.Common.{◌∙◌, ◌++◌, ◌∷◌, [], List, ℕ, ap, refl}
 use Rattle.mm_database.proofs.CutsLaw.{none_joined}
-use Rattle.mm_scope.proofs.reading.nothing.Goals as goal
+use Rattle.mm_scope.proofs.reading.nothing_read.Goals as goal
 
 pub returns : goal.returns
 returns g c = (
