@@ -47,8 +47,18 @@ pub(crate) fn with_digit(number: u64, base: u64, digit: u64) -> u64
     if number < 0x4000_0000 {
         base * number + digit
     } else {
-        number.saturating_mul(base).saturating_add(digit)
+        with_digit_of_large(number, base, digit)
     }
+}
+
+/// The same for a large number, which proofs hardly ever have: a call, so that the usual path has no
+/// jump.
+#[cold]
+#[inline(never)]
+fn with_digit_of_large(number: u64, base: u64, digit: u64) -> u64
+    ensures { result ≡ saturated (base * number + digit) }
+{
+    number.saturating_mul(base).saturating_add(digit)
 }
 
 /// The value of a number in letters: any number of letters `U` to `Y`, followed by one of `A` to
