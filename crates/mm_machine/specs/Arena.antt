@@ -23,11 +23,11 @@ symbols_of a Kept = a.kept
 abbrev pub span : Store → ℕ → ℕ → Span
 span p s e = record { store = p; start = s; end = e }
 
-abbrev pub nothing : Span
-nothing = span Own 0 0
+abbrev pub no_symbols : Span
+no_symbols = span Own 0 0
 
-abbrev pub text_of : Arena → Span → Formula
-text_of a e = slice_range (symbols_of a e.store) e.start e.end
+abbrev pub span_formula : Arena → Span → Formula
+span_formula a e = slice_range (symbols_of a e.store) e.start e.end
 
 -- the entry is a stretch of its list
 pub record IsIn (a : Arena) (e : Span) : Type 0 where
