@@ -37,10 +37,10 @@ stay_inside a b es h = All-from_recursion (IsIn b) es (go es h)
     go [] h = tt
     go (e ∷ es) h = (h.0.inside, go es h.1)
 
-pub stay_texts : (a b : Arena) (es : List Span) → AllByRecursion (Stays a b) es
+pub stay_formulas : (a b : Arena) (es : List Span) → AllByRecursion (Stays a b) es
     → span_formulas b es ≡ span_formulas a es
-stay_texts a b [] h = refl
-stay_texts a b (e ∷ es) h = ap₂ (λ u us. u ∷ us) h.0.same (stay_texts a b es h.1)
+stay_formulas a b [] h = refl
+stay_formulas a b (e ∷ es) h = ap₂ (λ u us. u ∷ us) h.0.same (stay_formulas a b es h.1)
 
 -- more own symbols
 pub own_more : (own kept more : List ℕ) (e : Span) → IsIn (arena own kept) e
@@ -78,9 +78,9 @@ kept_in own kept e h = by e.store h.store
     by Own q = absurd (cc)
     by Kept q = record { rising = h.rising; within = h.within }
 
-pub kept_text : (own other kept : List ℕ) (e : Span) → IsMarkedEntry kept e
+pub kept_formula : (own other kept : List ℕ) (e : Span) → IsMarkedEntry kept e
     → span_formula (arena own kept) e ≡ span_formula (arena other kept) e
-kept_text own other kept e h = by e.store h.store
+kept_formula own other kept e h = by e.store h.store
   where
     by : (p : Store) → p ≡ Kept
         → span_formula (arena own kept) (span p e.start e.end)
@@ -103,29 +103,29 @@ kept_all_more kept more es h =
       within = omega (arith, i.within, length-append kept more);
     }) es h
 
-pub text_new : (own kept f : List ℕ) → span_formula (arena (own ++ f) kept) (made_of own f) ≡ f
-text_new own kept f =
+pub formula_new : (own kept f : List ℕ) → span_formula (arena (own ++ f) kept) (made_of own f) ≡ f
+formula_new own kept f =
     ap (take (length (own ++ f) - length own)) (drop_at own f (length own) refl)
     ∙ take_all (length (own ++ f) - length own) f (omega (arith, length-append own f))
 
 pub new_in : (own kept f : List ℕ) → IsIn (arena (own ++ f) kept) (made_of own f)
 new_in own kept f = record { rising = omega (arith, length-append own f); within = omega arith }
 
-pub texts_push : (a : Arena) (es : List Span) (e : Span)
+pub formulas_push : (a : Arena) (es : List Span) (e : Span)
     → span_formulas a (es ++ e ∷ []) ≡ span_formulas a es ++ span_formula a e ∷ []
-texts_push a [] e = refl
-texts_push a (x ∷ es) e = ap (λ z. span_formula a x ∷ z) (texts_push a es e)
+formulas_push a [] e = refl
+formulas_push a (x ∷ es) e = ap (λ z. span_formula a x ∷ z) (formulas_push a es e)
 
-pub texts_take : (a : Arena) (n : ℕ) (es : List Span)
+pub formulas_take : (a : Arena) (n : ℕ) (es : List Span)
     → span_formulas a (take n es) ≡ take n (span_formulas a es)
-texts_take a zero es = refl
-texts_take a (suc n) [] = refl
-texts_take a (suc n) (e ∷ es) = ap (λ z. span_formula a e ∷ z) (texts_take a n es)
+formulas_take a zero es = refl
+formulas_take a (suc n) [] = refl
+formulas_take a (suc n) (e ∷ es) = ap (λ z. span_formula a e ∷ z) (formulas_take a n es)
 
 -- an entry's formula is of symbols of the database
-pub text_known : (n : ℕ) (a : Arena) (e : Span) → All (λ s. s < n) a.own → All (λ s. s < n) a.kept
-    → All (λ s. s < n) (span_formula a e)
-text_known n a e ho hk =
+pub symbols_known : (n : ℕ) (a : Arena) (e : Span) → All (λ s. s < n) a.own
+    → All (λ s. s < n) a.kept → All (λ s. s < n) (span_formula a e)
+symbols_known n a e ho hk =
     All-take (λ s. s < n) (e.end - e.start) (drop e.start (symbols_of a e.store))
     (All-drop (λ s. s < n) e.start (symbols_of a e.store) (list e.store))
   where
@@ -139,7 +139,7 @@ pub replaced_known : (n : ℕ) (a : Arena) (es : List Span) (f : List RuleSymbol
 replaced_known n a es f ho hk hf = go f (recursion_from_All (IsKnown n) f hf)
   where
     span : (p : RuleSymbol) → IsKnown n p → All (λ s. s < n) (replaced_part a es p)
-    span (Variable j) h = text_known n a (rest (get_or es j no_symbols)) ho hk
+    span (Variable j) h = symbols_known n a (rest (get_or es j no_symbols)) ho hk
     span (Constant s) h = All-from_recursion (λ s. s < n) (s ∷ []) (h, tt)
 
     go : (f : List RuleSymbol) → AllByRecursion (IsKnown n) f → All (λ s. s < n) (replaced a es f)

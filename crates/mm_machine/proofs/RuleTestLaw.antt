@@ -25,13 +25,13 @@ use Rattle.mm_machine.specs.Replaced.{stands, replaced_part}
 use Rattle.mm_machine.specs.Replaced.{replaced}
 use Rattle.mm_machine.specs.State.{span_formulas, applied}
 use Rattle.mm_rule.proofs.FirstLaw.{first_below, found_first}
-use Rattle.mm_machine.proofs.StretchLaw.{text_tail}
+use Rattle.mm_machine.proofs.StretchLaw.{formula_tail}
 
-text_at : (xs : Arena) (es : List Span) (j : ℕ) → j < length es
+span_formula_at : (xs : Arena) (es : List Span) (j : ℕ) → j < length es
     → span_formula xs (get_or es j no_symbols) ≡ get_or (span_formulas xs es) j []
-text_at xs [] j h = absurd (omega arith)
-text_at xs (e ∷ es) zero h = refl
-text_at xs (e ∷ es) (suc j) h = text_at xs es j (omega arith)
+span_formula_at xs [] j h = absurd (omega arith)
+span_formula_at xs (e ∷ es) zero h = refl
+span_formula_at xs (e ∷ es) (suc j) h = span_formula_at xs es j (omega arith)
 
 module _ (db : List Statement) (t : ℕ) (hs : List Formula) (xs : Arena) (es : List Span)
     (inside : All (IsIn xs) es) (count : length es ≡ length hs) where
@@ -46,9 +46,9 @@ module _ (db : List Statement) (t : ℕ) (hs : List Formula) (xs : Arena) (es : 
       All-get_or (IsIn xs) es j no_symbols (omega (arith, below, count)) inside in
       let many : length (span_formulas xs es) ≡ length hs =
       length-map es (span_formula xs) ∙ count in
-      text_tail (symbols_of xs (get_or es j no_symbols).store) (get_or es j no_symbols).start
+      formula_tail (symbols_of xs (get_or es j no_symbols).store) (get_or es j no_symbols).start
       (get_or es j no_symbols).end here.rising
-      ∙ ap tail (text_at xs es j (omega (arith, below, count)))
+      ∙ ap tail (span_formula_at xs es j (omega (arith, below, count)))
       ∙ sym (found_first db t hs (span_formulas xs es) x many b)
 
   pub one_same : (f : Formula) → AreBound (context_at db t) hs f

@@ -6,7 +6,7 @@ use Rattle.std.proofs.lemmas.List.{get_or_default}
 use Rattle.std.proofs.lemmas.Bool.{not-false}
 use Rattle.mm_machine.specs.Arena.{symbols_of, span_formula}
 use Rattle.mm_machine.specs.Replaced.{replaced_part}
-use Rattle.mm_machine.proofs.StretchLaw.{one_more, rest_fits, first_is, fits_in, length_text}
+use Rattle.mm_machine.proofs.StretchLaw.{one_more, rest_fits, first_is, fits_in, length_formula}
 use Rattle.mm_machine.proofs.arena.fits.Goals.{in-Variable+else-not-begins}
 use Rattle.mm_machine.proofs.arena.fits.Goals.{in-Constant+else-at-premise+else-ne}
 use Rattle.mm_machine.proofs.GrowLaw.{variable_in}
@@ -54,7 +54,7 @@ loop-part-preserved c =
           let upto : a + length (span_formula arena p) ≤ e =
           fits_in xs a e (span_formula arena p) c.loop-part.invariant.upto yes in
           let long : length (span_formula arena p) ≡ p.end - p.start =
-          length_text arena p
+          length_formula arena p
           (variable_in arena es w i c.part-item.result b.in-Variable.j p c.requires.premises
           c.requires.wanted inside c.part-item.is b.in-Variable.is b.span_of-span.ensures) in
           rw b.at-is (record {

@@ -9,7 +9,7 @@ use Rattle.mm_spec.specs.Citation.{context_at}
 use Rattle.mm_spec.specs.Frame.{symbol_names}
 use Rattle.mm_machine.specs.Arena.{span_formula}
 use Rattle.mm_machine.specs.Replaced.{stands}
-use Rattle.mm_machine.proofs.GrowLaw.{text_known, premise_in}
+use Rattle.mm_machine.proofs.GrowLaw.{symbols_known, premise_in}
 use Rattle.mm_machine.proofs.arena.pairs_are_disjoint.Goals as goal
 
 -- a pair that fails
@@ -39,7 +39,7 @@ pub are_all_disjoint-requires-clause-second : goal.are_all_disjoint-requires-cla
 are_all_disjoint-requires-clause-second g c =
     let n = length (symbol_names c.args.db.now.statements) in
     subst (All (λ s. s < n)) (sym c.formula-second.ensures)
-    (text_known n c.args.symbols.now c.span_of-in-loop-pair.result c.requires.premises.known.own
+    (symbols_known n c.args.symbols.now c.span_of-in-loop-pair.result c.requires.premises.known.own
     c.requires.premises.known.kept)
 
 pub offset_bounds-pairs-pair-index : goal.offset_bounds-pairs-pair-index
@@ -64,7 +64,7 @@ are_all_disjoint-requires-clause-theorem g c = c.requires.theorem
 pub are_all_disjoint-requires-clause-first : goal.are_all_disjoint-requires-clause-first
 are_all_disjoint-requires-clause-first g c = let n = length (symbol_names c.args.db.now.statements) in
     subst (All (λ s. s < n)) (sym c.formula-first.ensures)
-    (text_known n c.args.symbols.now c.span_of.result c.requires.premises.known.own
+    (symbols_known n c.args.symbols.now c.span_of.result c.requires.premises.known.own
     c.requires.premises.known.kept)
 
 pub are_all_disjoint-requires-clause-cache : goal.are_all_disjoint-requires-clause-cache

@@ -4,7 +4,7 @@ use Rattle.std.proofs.lemmas.Grind.{common_steps}
 use Rattle.mm_spec.specs.Laws.Stack.{top}
 use Rattle.mm_machine.specs.Arena.{arena}
 use Rattle.mm_machine.specs.State.{machine_state, span_formulas}
-use Rattle.mm_machine.proofs.KeepLaw.{moved_machine, marked_more, both_more, marked_texts}
+use Rattle.mm_machine.proofs.KeepLaw.{moved_machine, marked_more, both_more, marked_formulas}
 use Rattle.mm_machine.proofs.machine.Machine.mark.Goals as goal
 
 pub invariant_of-self : goal.invariant_of-self
@@ -56,7 +56,7 @@ returns-clause-ok g c =
     let kept : span_formulas (arena [] new.kept) c.push.new.self.items
     ≡ span_formulas (arena [] i.kept) i.marked.items ++ top old ∷ [] =
     ap (span_formulas (arena [] new.kept)) c.in_ok-push.ensures.items
-    ∙ marked_texts i.own i.kept new.own new.kept i.marked.items
+    ∙ marked_formulas i.own i.kept new.own new.kept i.marked.items
     c.in_ok-made.made
     (top old) c.keep.ensures.moved c.self.invariant.marked_in c.in_ok-made.ensures.made.1 in
     ap (λ z. machine_state z c.push-2.new.self.items
