@@ -18,7 +18,7 @@ use Rattle.mm_spec.specs.Citation.{context_at, is_theorem, IsProof, Cites}
 use Rattle.mm_spec.proofs.FindsLaw.{inside_of}
 use Rattle.mm_database.specs.Database.{last_place}
 use Rattle.mm_rules.specs.Rules.{RuleLists}
-use Rattle.mm_machine.specs.Arena.{AreDisjointAt}
+use Rattle.mm_machine.specs.DisjointCache.{AreDisjointAt}
 use Rattle.mm_machine.specs.State.{MachineState, machine_state}
 use Rattle.mm_check.specs.Contract.{IsChecked}
 use Rattle.mm_check.specs.Reached.{Reached, AreStepsOf, steps_of}

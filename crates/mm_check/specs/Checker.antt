@@ -8,7 +8,7 @@ use Rattle.mm_spec.specs.Citation.{context_at}
 use Rattle.mm_spec.specs.Laws.Stack.{step_entries}
 use Rattle.mm_rule.specs.Assertions.{is_assertion_at}
 use Rattle.mm_rules.specs.Rules.{RuleLists, AreRules}
-use Rattle.mm_machine.specs.Arena.{AreDisjointAt}
+use Rattle.mm_machine.specs.DisjointCache.{AreDisjointAt}
 use Rattle.mm_machine.specs.State.{MachineState}
 use Rattle.mm_machine.specs.Stops.{Stops}
 use Rattle.mm_machine.specs.declared.machine.Stopped.{Stopped}

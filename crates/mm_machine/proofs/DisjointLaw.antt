@@ -5,7 +5,7 @@ use Rattle.mm_spec.specs.Statement.{Statement}
 use Rattle.mm_spec.specs.Derivation.{are_disjoint}
 use Rattle.mm_spec.specs.Citation.{context_at}
 use Rattle.mm_rule.proofs.DisjointLaw.{either_order}
-use Rattle.mm_machine.specs.Arena.{AreDisjointAt, HasPair, KeepsPair}
+use Rattle.mm_machine.specs.DisjointCache.{AreDisjointAt, HasPair, KeepsPair}
 
 module _ (db : List Statement) (t : ℕ) (ps : List (ℕ × ℕ)) (h : AreDisjointAt db t ps) where
   abbrev Disjoint : ℕ → ℕ → Type 0

@@ -9,7 +9,7 @@ use Rattle.mm_rule.specs.declared.rule.Hypothesis.TheVariants.{Floating, Essenti
 use Rattle.mm_rule.specs.declared.rule.RuleSymbol.{RuleSymbol}
 use Rattle.mm_rule.specs.Rule.{part_count, hypothesis_parts, all_parts, count_parts}
 use Rattle.mm_machine.specs.declared.arena.Span.{Span}
-use Rattle.mm_machine.specs.Arena.{Arena, nothing, rest, text_of}
+use Rattle.mm_machine.specs.Arena.{Arena, no_symbols, rest, span_formula}
 use Rattle.mm_machine.specs.Replaced.{replaced}
 
 module _ (xs : Arena) (es : List Span) (parts : List RuleSymbol) (hs : List Hypothesis) where
@@ -17,12 +17,12 @@ module _ (xs : Arena) (es : List Span) (parts : List RuleSymbol) (hs : List Hypo
   -- for these begin at place `at`
   abbrev pub fit_from : ℕ → ℕ → Bool
   fit_from j at =
-      same (map (text_of xs) (drop j es))
+      same (map (span_formula xs) (drop j es))
       (map (replaced xs es) (all_parts (drop at parts) j (drop j hs)))
 
   pub fit_end : (j at : ℕ) → length hs ≤ j → length es ≤ j → fit_from j at ≡ true
   fit_end j at all none =
-      ap₂ (λ u v. same (map (text_of xs) u)
+      ap₂ (λ u v. same (map (span_formula xs) u)
       (map (replaced xs es) (all_parts (drop at parts) j v))) (drop_all j es none)
       (drop_all j hs all)
 
@@ -30,26 +30,27 @@ module _ (xs : Arena) (es : List Span) (parts : List RuleSymbol) (hs : List Hypo
   pub record IsTested (j at : ℕ) (h : Hypothesis) (one : Bool) (next : ℕ) : Type 0 where
     pub next_is : next ≡ at + part_count h
     pub one_is : one
-        ≡ bytes_eq (text_of xs (get_or es j nothing))
+        ≡ bytes_eq (span_formula xs (get_or es j no_symbols))
         (replaced xs es (hypothesis_parts (drop at parts) j h))
 
   module _ (j at : ℕ) (h : Hypothesis) (one : Bool) (next : ℕ) where
     pub typed_tested : (t : ℕ) → h ≡ Floating t
         → one
-        ≡ bytes_eq (text_of xs (get_or es j nothing)) (t ∷ text_of xs (rest (get_or es j nothing)))
+        ≡ bytes_eq (span_formula xs (get_or es j no_symbols))
+        (t ∷ span_formula xs (rest (get_or es j no_symbols)))
         → next ≡ at → IsTested j at h one next
     typed_tested t is e n =
         rw is
         (record {
           next_is = omega (arith, n);
           one_is = e
-              ∙ ap (λ z. bytes_eq (text_of xs (get_or es j nothing)) (t ∷ z))
-              (sym (append-nil (text_of xs (rest (get_or es j nothing)))));
+              ∙ ap (λ z. bytes_eq (span_formula xs (get_or es j no_symbols)) (t ∷ z))
+              (sym (append-nil (span_formula xs (rest (get_or es j no_symbols)))));
         })
 
     pub essential_tested : (n : ℕ) → h ≡ Essential n
         → one
-        ≡ bytes_eq (text_of xs (get_or es j nothing))
+        ≡ bytes_eq (span_formula xs (get_or es j no_symbols))
         (replaced xs es (take ((at + n) - at) (drop at parts)))
         → next ≡ at + n → IsTested j at h one next
     essential_tested n is e m =
@@ -58,7 +59,7 @@ module _ (xs : Arena) (es : List Span) (parts : List RuleSymbol) (hs : List Hypo
         (record {
           next_is = m;
           one_is = e
-              ∙ ap (λ l. bytes_eq (text_of xs (get_or es j nothing))
+              ∙ ap (λ l. bytes_eq (span_formula xs (get_or es j no_symbols))
               (replaced xs es (take l (drop at parts)))) long;
         })
 
@@ -70,12 +71,12 @@ module _ (xs : Arena) (es : List Span) (parts : List RuleSymbol) (hs : List Hypo
       pub fit_next : fit_from j at ≡ (one && fit_from (j + 1) next)
       fit_next =
           let more : suc j ≡ j + 1 = omega arith in
-          ap₂ (λ u v. same (map (text_of xs) u)
+          ap₂ (λ u v. same (map (span_formula xs) u)
           (map (replaced xs es) (all_parts (drop at parts) j v)))
-          (drop_more es j nothing many) hs_here
-          ∙ ap₂ (λ u n. bytes_eq (text_of xs (get_or es j nothing))
+          (drop_more es j no_symbols many) hs_here
+          ∙ ap₂ (λ u n. bytes_eq (span_formula xs (get_or es j no_symbols))
           (replaced xs es (hypothesis_parts (drop at parts) j h))
-          && same (map (text_of xs) (drop (j + 1) es))
+          && same (map (span_formula xs) (drop (j + 1) es))
           (map (replaced xs es) (all_parts u n (drop (j + 1) hs))))
           (drop-drop (part_count h) at parts ∙ ap (λ n. drop n parts) (sym tested.next_is)) more
           ∙ ap (λ b. b && fit_from (j + 1) next) (sym tested.one_is)

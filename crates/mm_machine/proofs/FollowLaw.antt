@@ -13,12 +13,12 @@ use Rattle.mm_spec.specs.Laws.Stack.{top}
 use Rattle.mm_machine.specs.declared.arena.Span.{Span}
 use Rattle.mm_machine.specs.declared.arena.Store.{Store}
 use Rattle.mm_machine.specs.declared.arena.Store.TheVariants.{Own, Kept}
-use Rattle.mm_machine.specs.Arena.{arena, symbols_of, span, nothing, text_of, IsIn}
-use Rattle.mm_machine.specs.State.{texts, made_of, Follow, first_own, IsStack, IsStackOf}
+use Rattle.mm_machine.specs.Arena.{arena, symbols_of, span, no_symbols, span_formula, IsIn}
+use Rattle.mm_machine.specs.State.{span_formulas, made_of, Follow, first_own, IsStack, IsStackOf}
 use Rattle.mm_machine.specs.State.{IsMarkedEntry}
 use Rattle.mm_machine.specs.State.{Moves}
-use Rattle.mm_machine.proofs.GrowLaw.{Stays, all_stay, stay_inside, stay_texts, own_more, kept_more}
-use Rattle.mm_machine.proofs.GrowLaw.{kept_in, kept_text, text_new, new_in, texts_push, texts_take}
+use Rattle.mm_machine.proofs.GrowLaw.{Stays, all_stay, stay_inside, stay_formulas, own_more, kept_more}
+use Rattle.mm_machine.proofs.GrowLaw.{kept_in, kept_formula, formula_new, new_in, formulas_push, formulas_take}
 
 abbrev One : Store → Span → ℕ → List Span → ℕ → Type 0
 One p e from es to =
@@ -110,7 +110,7 @@ stay_cut own kept from (e ∷ es) n l h i =
         record {
           inside = record { rising = r; within = w };
           same = sym m.same
-              ∙ ap (λ z. text_of (arena z kept) (span p s t)) (take-append-drop n own);
+              ∙ ap (λ z. span_formula (arena z kept) (span p s t)) (take-append-drop n own);
         }
 
     by : (p : Store) (s t : ℕ) → s ≤ t → t ≤ length (symbols_of (arena own kept) p)
@@ -170,8 +170,9 @@ module _ (own kept : List ℕ) (front back : List Span) (h : IsStack own kept (f
         (front_follows 0 front back (length own) h.follow);
   }
 
-  pub cut_texts : texts (arena (take reach own) kept) front ≡ texts (arena own kept) front
-  cut_texts = stay_texts (arena own kept) (arena (take reach own) kept) front front_stays
+  pub cut_formulas : span_formulas (arena (take reach own) kept) front
+      ≡ span_formulas (arena own kept) front
+  cut_formulas = stay_formulas (arena own kept) (arena (take reach own) kept) front front_stays
 
 -- the same by the values that the code has
 module _ (own kept : List ℕ) (es : List Span) (n : ℕ) (own' : List ℕ) (es' : List Span)
@@ -185,11 +186,11 @@ module _ (own kept : List ℕ) (es : List Span) (n : ℕ) (own' : List ℕ) (es'
       (cut_stack own kept (take n es) (drop n es) (subst (IsStack own kept) halves h))
 
   pub cut_says : IsStack own kept es
-      → texts (arena own' kept) es' ≡ take n (texts (arena own kept) es)
+      → span_formulas (arena own' kept) es' ≡ take n (span_formulas (arena own kept) es)
   cut_says h =
       rw (cut, less)
-      (cut_texts own kept (take n es) (drop n es) (subst (IsStack own kept) halves h))
-      ∙ texts_take (arena own kept) n es
+      (cut_formulas own kept (take n es) (drop n es) (subst (IsStack own kept) halves h))
+      ∙ formulas_take (arena own kept) n es
 
   pub cut_stack_of : (w : ℕ) → IsStackOf w own kept es → IsStackOf w own' kept es'
   cut_stack_of w h = record {
@@ -216,15 +217,15 @@ module _ (own kept : List ℕ) (es : List Span) (h : IsStack own kept es) where
         (omega (arith, length-append own f)) h.follow;
   }
 
-  pub add_texts : (f : Formula)
-      → texts (arena (own ++ f) kept) (es ++ made_of own f ∷ [])
-      ≡ texts (arena own kept) es ++ f ∷ []
-  add_texts f =
-      texts_push (arena (own ++ f) kept) es (made_of own f)
+  pub add_formulas : (f : Formula)
+      → span_formulas (arena (own ++ f) kept) (es ++ made_of own f ∷ [])
+      ≡ span_formulas (arena own kept) es ++ f ∷ []
+  add_formulas f =
+      formulas_push (arena (own ++ f) kept) es (made_of own f)
       ∙ ap₂ (λ us u. us ++ u ∷ [])
-      (stay_texts _ _ es
+      (stay_formulas _ _ es
       (all_stay (arena own kept) (arena (own ++ f) kept) es (own_more own kept f) h.inside))
-      (text_new own kept f)
+      (formula_new own kept f)
 
   -- the formula of a marked step again
   pub repeat_stack : (e : Span) → IsMarkedEntry kept e → IsStack own kept (es ++ e ∷ [])
@@ -233,12 +234,12 @@ module _ (own kept : List ℕ) (es : List Span) (h : IsStack own kept es) where
     follow = kept_follows 0 es (length own) e k.store h.follow;
   }
 
-  pub repeat_texts : (e : Span) → IsMarkedEntry kept e
-      → texts (arena own kept) (es ++ e ∷ [])
-      ≡ texts (arena own kept) es ++ text_of (arena [] kept) e ∷ []
-  repeat_texts e k =
-      texts_push (arena own kept) es e
-      ∙ ap (λ u. texts (arena own kept) es ++ u ∷ []) (kept_text own [] kept e k)
+  pub repeat_formulas : (e : Span) → IsMarkedEntry kept e
+      → span_formulas (arena own kept) (es ++ e ∷ [])
+      ≡ span_formulas (arena own kept) es ++ span_formula (arena [] kept) e ∷ []
+  repeat_formulas e k =
+      formulas_push (arena own kept) es e
+      ∙ ap (λ u. span_formulas (arena own kept) es ++ u ∷ []) (kept_formula own [] kept e k)
 
   -- more kept symbols
   pub kept_stack : (more : List ℕ) → IsStack own (kept ++ more) es
@@ -250,9 +251,10 @@ module _ (own kept : List ℕ) (es : List Span) (h : IsStack own kept es) where
     follow = h.follow;
   }
 
-  pub kept_texts : (more : List ℕ) → texts (arena own (kept ++ more)) es ≡ texts (arena own kept) es
-  kept_texts more =
-      stay_texts _ _ es
+  pub kept_formulas : (more : List ℕ)
+      → span_formulas (arena own (kept ++ more)) es ≡ span_formulas (arena own kept) es
+  kept_formulas more =
+      stay_formulas _ _ es
       (all_stay (arena own kept) (arena own (kept ++ more)) es (kept_more own kept more) h.inside)
 
 -- ---- the formula on top becomes a kept one
@@ -261,13 +263,13 @@ module _ (own kept : List ℕ) (es : List Span) (h : IsStack own kept es) where
 pub record IsMoved (own kept : List ℕ) (es : List Span) (own' kept' : List ℕ) (es' : List Span)
     (m : Span) : Type 0 where
   pub is_stack : IsStack own' kept' es'
-  pub says : texts (arena own' kept') es' ≡ texts (arena own kept) es
+  pub says : span_formulas (arena own' kept') es' ≡ span_formulas (arena own kept) es
   pub moves : Moves own kept own' kept'
   pub is_kept : IsMarkedEntry kept' m
-  pub on_top : text_of (arena [] kept') m ≡ top (texts (arena own kept) es)
+  pub on_top : span_formula (arena [] kept') m ≡ top (span_formulas (arena own kept) es)
 
 module _ (own kept : List ℕ) (es : List Span) (last : ℕ) (e : Span)
-    (is_last : last + 1 ≡ length es) (is : e ≡ get_or es last nothing)
+    (is_last : last + 1 ≡ length es) (is : e ≡ get_or es last no_symbols)
     (h : IsStack own kept es) where
   abbrev pub front : List Span
   front = take last es
@@ -275,14 +277,16 @@ module _ (own kept : List ℕ) (es : List Span) (last : ℕ) (e : Span)
   pub splits : es ≡ front ++ e ∷ []
   splits =
       sym (take_all (last + 1) es (omega (arith, is_last)))
-      ∙ take_more es last nothing (omega (arith, is_last)) ∙ ap (λ z. front ++ z ∷ []) (sym is)
+      ∙ take_more es last no_symbols (omega (arith, is_last)) ∙ ap (λ z. front ++ z ∷ []) (sym is)
 
-  last_top : texts (arena own kept) es
-      ≡ texts (arena own kept) front ++ text_of (arena own kept) e ∷ []
-  last_top = ap (texts (arena own kept)) splits ∙ texts_push (arena own kept) front e
+  last_top : span_formulas (arena own kept) es
+      ≡ span_formulas (arena own kept) front ++ span_formula (arena own kept) e ∷ []
+  last_top = ap (span_formulas (arena own kept)) splits ∙ formulas_push (arena own kept) front e
 
-  pub top_is : top (texts (arena own kept) es) ≡ text_of (arena own kept) e
-  top_is = ap top last_top ∙ top_append (texts (arena own kept) front) (text_of (arena own kept) e)
+  pub top_is : top (span_formulas (arena own kept) es) ≡ span_formula (arena own kept) e
+  top_is =
+      ap top last_top
+      ∙ top_append (span_formulas (arena own kept) front) (span_formula (arena own kept) e)
 
   split_stack : IsStack own kept (front ++ e ∷ [])
   split_stack = subst (IsStack own kept) splits h
@@ -290,7 +294,7 @@ module _ (own kept : List ℕ) (es : List Span) (last : ℕ) (e : Span)
   pub last_in : IsIn (arena own kept) e
   last_in =
       subst (IsIn (arena own kept)) (sym is)
-      (All-get_or (IsIn (arena own kept)) es last nothing (omega (arith, is_last)) h.inside)
+      (All-get_or (IsIn (arena own kept)) es last no_symbols (omega (arith, is_last)) h.inside)
 
   -- it is a kept one
   pub kept_top : e.store ≡ Kept → IsMarkedEntry kept e
@@ -301,8 +305,9 @@ module _ (own kept : List ℕ) (es : List Span) (last : ℕ) (e : Span)
         within = subst (λ p. e.end ≤ length (symbols_of (arena own kept) p)) q last_in.within;
       }
 
-  pub kept_top_is : e.store ≡ Kept → text_of (arena [] kept) e ≡ top (texts (arena own kept) es)
-  kept_top_is q = kept_text [] own kept e (kept_top q) ∙ sym top_is
+  pub kept_top_is : e.store ≡ Kept
+      → span_formula (arena [] kept) e ≡ top (span_formulas (arena own kept) es)
+  kept_top_is q = kept_formula [] own kept e (kept_top q) ∙ sym top_is
 
   -- it is the last own one
   module _ (own_top : e.store ≡ Own) where
@@ -318,7 +323,7 @@ module _ (own kept : List ℕ) (es : List Span) (last : ℕ) (e : Span)
     abbrev pub entry' : Span
     entry' = span Kept (length kept) (length (kept ++ moved))
 
-    pub moved_is : moved ≡ text_of (arena own kept) e
+    pub moved_is : moved ≡ span_formula (arena own kept) e
     moved_is = ap (λ p. slice_range (symbols_of (arena own kept) p) e.start e.end) (sym own_top)
 
     pub new_kept : IsMarkedEntry (kept ++ moved) entry'
@@ -329,14 +334,15 @@ module _ (own kept : List ℕ) (es : List Span) (last : ℕ) (e : Span)
           within = omega arith;
         }
 
-    new_text : text_of (arena [] (kept ++ moved)) entry' ≡ moved
-    new_text =
+    new_formula : span_formula (arena [] (kept ++ moved)) entry' ≡ moved
+    new_formula =
         ap (take (length (kept ++ moved) - length kept)) (drop_at kept moved (length kept) refl)
         ∙ take_all (length (kept ++ moved) - length kept) moved
         (omega (arith, length-append kept moved))
 
-    pub new_text_is : text_of (arena [] (kept ++ moved)) entry' ≡ top (texts (arena own kept) es)
-    new_text_is = new_text ∙ moved_is ∙ sym top_is
+    pub new_formula_is : span_formula (arena [] (kept ++ moved)) entry'
+        ≡ top (span_formulas (arena own kept) es)
+    new_formula_is = new_formula ∙ moved_is ∙ sym top_is
 
     pub set_is : (m : Span) → slice_set es last m ≡ front ++ m ∷ []
     set_is m =
@@ -348,10 +354,11 @@ module _ (own kept : List ℕ) (es : List Span) (last : ℕ) (e : Span)
         subst (λ n. IsStack (take n own) kept front) reach_is
         (cut_stack own kept front (e ∷ []) split_stack)
 
-    front_texts : texts (arena cut_own kept) front ≡ texts (arena own kept) front
-    front_texts =
-        subst (λ n. texts (arena (take n own) kept) front ≡ texts (arena own kept) front) reach_is
-        (cut_texts own kept front (e ∷ []) split_stack)
+    front_formulas : span_formulas (arena cut_own kept) front ≡ span_formulas (arena own kept) front
+    front_formulas =
+        subst (λ n. span_formulas (arena (take n own) kept) front
+        ≡ span_formulas (arena own kept) front) reach_is
+        (cut_formulas own kept front (e ∷ []) split_stack)
 
     grown_stack : IsStack cut_own (kept ++ moved) front
     grown_stack = kept_stack cut_own kept front front_stack moved
@@ -361,13 +368,14 @@ module _ (own kept : List ℕ) (es : List Span) (last : ℕ) (e : Span)
         subst (IsStack cut_own (kept ++ moved)) (sym (set_is entry'))
         (repeat_stack cut_own (kept ++ moved) front grown_stack entry' new_kept)
 
-    pub moved_texts : texts (arena cut_own (kept ++ moved)) (slice_set es last entry')
-        ≡ texts (arena own kept) es
-    moved_texts =
-        ap (texts (arena cut_own (kept ++ moved))) (set_is entry')
-        ∙ repeat_texts cut_own (kept ++ moved) front grown_stack entry' new_kept
-        ∙ ap₂ (λ us u. us ++ u ∷ []) (kept_texts cut_own kept front front_stack moved ∙ front_texts)
-        (new_text ∙ moved_is)
+    pub moved_formulas : span_formulas (arena cut_own (kept ++ moved)) (slice_set es last entry')
+        ≡ span_formulas (arena own kept) es
+    moved_formulas =
+        ap (span_formulas (arena cut_own (kept ++ moved))) (set_is entry')
+        ∙ repeat_formulas cut_own (kept ++ moved) front grown_stack entry' new_kept
+        ∙ ap₂ (λ us u. us ++ u ∷ [])
+        (kept_formulas cut_own kept front front_stack moved ∙ front_formulas)
+        (new_formula ∙ moved_is)
         ∙ sym last_top
 
     moves_all : Moves own kept cut_own (kept ++ moved)
@@ -389,10 +397,10 @@ module _ (own kept : List ℕ) (es : List Span) (last : ℕ) (e : Span)
         rw (cut, grown, made)
         (record {
           is_stack = moved_stack;
-          says = moved_texts;
+          says = moved_formulas;
           moves = moves_all;
           is_kept = new_kept;
-          on_top = new_text_is;
+          on_top = new_formula_is;
         })
 
 -- nothing moves
@@ -433,21 +441,22 @@ module _ {T E : Type 0} where
 
   pub add_says : (r : Result T E) (own kept f own' : List ℕ) (es es' : List Span)
       → IsStack own kept es → OnOk r (own' ≡ own ++ f) → OnOk r (es' ≡ es ++ made_of own f ∷ [])
-      → OnOk r (texts (arena own' kept) es' ≡ texts (arena own kept) es ++ f ∷ [])
+      → OnOk r (span_formulas (arena own' kept) es' ≡ span_formulas (arena own kept) es ++ f ∷ [])
   add_says r own kept f own' es es' h a b =
       on_ok₂ r
       (λ (x : own' ≡ own ++ f) (y : es' ≡ es ++ made_of own f ∷ []). rw (x, y)
-      (add_texts own kept es h f)) a b
+      (add_formulas own kept es h f)) a b
 
   -- entries are cut off before, whatever the kept symbols are
   pub put_says : (r : Result T E) (own own' own'' f : List ℕ) (es es' es'' : List Span) (n : ℕ)
       → es' ≡ take n es → own' ≡ take (first_own (drop n es) (length own)) own
       → OnOk r (own'' ≡ own' ++ f) → OnOk r (es'' ≡ es' ++ made_of own' f ∷ [])
       → OnOk r ((kept : List ℕ) → IsStack own kept es
-      → texts (arena own'' kept) es'' ≡ take n (texts (arena own kept) es) ++ f ∷ [])
+      → span_formulas (arena own'' kept) es''
+      ≡ take n (span_formulas (arena own kept) es) ++ f ∷ [])
   put_says r own own' own'' f es es' es'' n cut less a b =
       on_ok₂ r
       (λ (x : own'' ≡ own' ++ f) (y : es'' ≡ es' ++ made_of own' f ∷ []).
       λ (kept : List ℕ) (h : IsStack own kept es). rw (x, y)
-      (add_texts own' kept es' (cut_here own kept es n own' es' cut less h) f
+      (add_formulas own' kept es' (cut_here own kept es n own' es' cut less h) f
       ∙ ap (λ u. u ++ f ∷ []) (cut_says own kept es n own' es' cut less h))) a b

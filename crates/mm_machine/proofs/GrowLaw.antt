@@ -11,16 +11,16 @@ use Rattle.mm_machine.specs.declared.arena.Store.{Store}
 use Rattle.mm_machine.specs.declared.arena.Store.TheVariants.{Own, Kept}
 use Rattle.mm_rule.specs.declared.rule.RuleSymbol.{RuleSymbol}
 use Rattle.mm_rule.specs.declared.rule.RuleSymbol.TheVariants.{Constant, Variable}
-use Rattle.mm_machine.specs.Arena.{Arena, arena, symbols_of, span, nothing, rest, text_of, IsIn}
+use Rattle.mm_machine.specs.Arena.{Arena, arena, symbols_of, span, no_symbols, rest, span_formula, IsIn}
 use Rattle.mm_rule.specs.Rule.{IsKnown, IsBelow}
 use Rattle.mm_rule.proofs.SliceLaw.{stretch_more}
 use Rattle.mm_machine.specs.Replaced.{replaced_part, replaced}
-use Rattle.mm_machine.specs.State.{texts, made_of, IsMarkedEntry}
+use Rattle.mm_machine.specs.State.{span_formulas, made_of, IsMarkedEntry}
 
 -- an entry of the one arena that is one of the other, of the same formula
 pub record Stays (a b : Arena) (e : Span) : Type 0 where
   pub inside : IsIn b e
-  pub same : text_of b e ≡ text_of a e
+  pub same : span_formula b e ≡ span_formula a e
 
 pub all_stay : (a b : Arena) (es : List Span) → ((e : Span) → IsIn a e → Stays a b e)
     → All (IsIn a) es → AllByRecursion (Stays a b) es
@@ -37,10 +37,10 @@ stay_inside a b es h = All-from_recursion (IsIn b) es (go es h)
     go [] h = tt
     go (e ∷ es) h = (h.0.inside, go es h.1)
 
-pub stay_texts : (a b : Arena) (es : List Span) → AllByRecursion (Stays a b) es
-    → texts b es ≡ texts a es
-stay_texts a b [] h = refl
-stay_texts a b (e ∷ es) h = ap₂ (λ u us. u ∷ us) h.0.same (stay_texts a b es h.1)
+pub stay_formulas : (a b : Arena) (es : List Span) → AllByRecursion (Stays a b) es
+    → span_formulas b es ≡ span_formulas a es
+stay_formulas a b [] h = refl
+stay_formulas a b (e ∷ es) h = ap₂ (λ u us. u ∷ us) h.0.same (stay_formulas a b es h.1)
 
 -- more own symbols
 pub own_more : (own kept more : List ℕ) (e : Span) → IsIn (arena own kept) e
@@ -78,13 +78,13 @@ kept_in own kept e h = by e.store h.store
     by Own q = absurd (cc)
     by Kept q = record { rising = h.rising; within = h.within }
 
-pub kept_text : (own other kept : List ℕ) (e : Span) → IsMarkedEntry kept e
-    → text_of (arena own kept) e ≡ text_of (arena other kept) e
-kept_text own other kept e h = by e.store h.store
+pub kept_formula : (own other kept : List ℕ) (e : Span) → IsMarkedEntry kept e
+    → span_formula (arena own kept) e ≡ span_formula (arena other kept) e
+kept_formula own other kept e h = by e.store h.store
   where
     by : (p : Store) → p ≡ Kept
-        → text_of (arena own kept) (span p e.start e.end)
-        ≡ text_of (arena other kept) (span p e.start e.end)
+        → span_formula (arena own kept) (span p e.start e.end)
+        ≡ span_formula (arena other kept) (span p e.start e.end)
     by Own q = absurd (cc)
     by Kept q = refl
 
@@ -103,28 +103,29 @@ kept_all_more kept more es h =
       within = omega (arith, i.within, length-append kept more);
     }) es h
 
-pub text_new : (own kept f : List ℕ) → text_of (arena (own ++ f) kept) (made_of own f) ≡ f
-text_new own kept f =
+pub formula_new : (own kept f : List ℕ) → span_formula (arena (own ++ f) kept) (made_of own f) ≡ f
+formula_new own kept f =
     ap (take (length (own ++ f) - length own)) (drop_at own f (length own) refl)
     ∙ take_all (length (own ++ f) - length own) f (omega (arith, length-append own f))
 
 pub new_in : (own kept f : List ℕ) → IsIn (arena (own ++ f) kept) (made_of own f)
 new_in own kept f = record { rising = omega (arith, length-append own f); within = omega arith }
 
-pub texts_push : (a : Arena) (es : List Span) (e : Span)
-    → texts a (es ++ e ∷ []) ≡ texts a es ++ text_of a e ∷ []
-texts_push a [] e = refl
-texts_push a (x ∷ es) e = ap (λ z. text_of a x ∷ z) (texts_push a es e)
+pub formulas_push : (a : Arena) (es : List Span) (e : Span)
+    → span_formulas a (es ++ e ∷ []) ≡ span_formulas a es ++ span_formula a e ∷ []
+formulas_push a [] e = refl
+formulas_push a (x ∷ es) e = ap (λ z. span_formula a x ∷ z) (formulas_push a es e)
 
-pub texts_take : (a : Arena) (n : ℕ) (es : List Span) → texts a (take n es) ≡ take n (texts a es)
-texts_take a zero es = refl
-texts_take a (suc n) [] = refl
-texts_take a (suc n) (e ∷ es) = ap (λ z. text_of a e ∷ z) (texts_take a n es)
+pub formulas_take : (a : Arena) (n : ℕ) (es : List Span)
+    → span_formulas a (take n es) ≡ take n (span_formulas a es)
+formulas_take a zero es = refl
+formulas_take a (suc n) [] = refl
+formulas_take a (suc n) (e ∷ es) = ap (λ z. span_formula a e ∷ z) (formulas_take a n es)
 
 -- an entry's formula is of symbols of the database
-pub text_known : (n : ℕ) (a : Arena) (e : Span) → All (λ s. s < n) a.own → All (λ s. s < n) a.kept
-    → All (λ s. s < n) (text_of a e)
-text_known n a e ho hk =
+pub symbols_known : (n : ℕ) (a : Arena) (e : Span) → All (λ s. s < n) a.own
+    → All (λ s. s < n) a.kept → All (λ s. s < n) (span_formula a e)
+symbols_known n a e ho hk =
     All-take (λ s. s < n) (e.end - e.start) (drop e.start (symbols_of a e.store))
     (All-drop (λ s. s < n) e.start (symbols_of a e.store) (list e.store))
   where
@@ -138,7 +139,7 @@ pub replaced_known : (n : ℕ) (a : Arena) (es : List Span) (f : List RuleSymbol
 replaced_known n a es f ho hk hf = go f (recursion_from_All (IsKnown n) f hf)
   where
     span : (p : RuleSymbol) → IsKnown n p → All (λ s. s < n) (replaced_part a es p)
-    span (Variable j) h = text_known n a (rest (get_or es j nothing)) ho hk
+    span (Variable j) h = symbols_known n a (rest (get_or es j no_symbols)) ho hk
     span (Constant s) h = All-from_recursion (λ s. s < n) (s ∷ []) (h, tt)
 
     go : (f : List RuleSymbol) → AllByRecursion (IsKnown n) f → All (λ s. s < n) (replaced a es f)
@@ -158,13 +159,13 @@ stretch_in a es from to h =
 
 -- what replaces a variable is in the arena
 pub premise_in : (a : Arena) (es : List Span) (j : ℕ) (e : Span) → All (IsIn a) es → j < length es
-    → e ≡ rest (get_or es j nothing) → IsIn a e
+    → e ≡ rest (get_or es j no_symbols) → IsIn a e
 premise_in a es j e h l is =
-    let p : IsIn a (get_or es j nothing) = All-get_or (IsIn a) es j nothing l h in
+    let p : IsIn a (get_or es j no_symbols) = All-get_or (IsIn a) es j no_symbols l h in
     subst (IsIn a) (sym is) (record { rising = omega arith; within = p.within })
 
 pub variable_in : (a : Arena) (es : List Span) (parts : List RuleSymbol) (i : ℕ) (p : RuleSymbol) (j : ℕ)
     → (e : Span) → All (IsIn a) es → All (IsBelow (length es)) parts → i < length parts
-    → p ≡ get_or parts i p → p ≡ Variable j → e ≡ rest (get_or es j nothing) → IsIn a e
+    → p ≡ get_or parts i p → p ≡ Variable j → e ≡ rest (get_or es j no_symbols) → IsIn a e
 variable_in a es parts i p j e h below l here is made =
     premise_in a es j e h (subst (IsBelow (length es)) (sym here ∙ is) (below i p l)) made

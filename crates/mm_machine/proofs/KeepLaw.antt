@@ -3,10 +3,10 @@ use Rattle.std.proofs.Common.{◌≡◌, ℕ, ◌<◌, List, [], ◌∷◌, ◌+
 use Rattle.std.proofs.lemmas.List.Elements.{All-push, All-append}
 use Rattle.mm_spec.specs.Derivation.{Formula}
 use Rattle.mm_machine.specs.declared.arena.Span.{Span}
-use Rattle.mm_machine.specs.Arena.{arena, text_of}
-use Rattle.mm_machine.specs.State.{texts, IsStack, IsMarkedEntry, IsMachine, Moves}
-use Rattle.mm_machine.proofs.GrowLaw.{all_stay, stay_texts, kept_more, kept_all_in, kept_all_more}
-use Rattle.mm_machine.proofs.GrowLaw.{texts_push}
+use Rattle.mm_machine.specs.Arena.{arena, span_formula}
+use Rattle.mm_machine.specs.State.{span_formulas, IsStack, IsMarkedEntry, IsMachine, Moves}
+use Rattle.mm_machine.proofs.GrowLaw.{all_stay, stay_formulas, kept_more, kept_all_in, kept_all_more}
+use Rattle.mm_machine.proofs.GrowLaw.{formulas_push}
 use Rattle.mm_machine.proofs.MarksLaw.{rising_more}
 
 pub moved_machine : (own kept : List ℕ) (es : List Span) (marks : List ℕ) (marked : List Span)
@@ -55,13 +55,15 @@ both_more own kept es marks marked width e step m k later = record {
 }
 
 -- the formulas of the marked steps, and one more
-pub marked_texts : (own kept own' kept' : List ℕ) (marked : List Span) (e : Span) (f : Formula)
-    → Moves own kept own' kept' → All (IsMarkedEntry kept) marked → text_of (arena [] kept') e ≡ f
-    → texts (arena [] kept') (marked ++ e ∷ []) ≡ texts (arena [] kept) marked ++ f ∷ []
-marked_texts own kept own' kept' marked e f v h t =
-    let old : texts (arena [] kept') marked ≡ texts (arena [] kept) marked =
+pub marked_formulas : (own kept own' kept' : List ℕ) (marked : List Span) (e : Span) (f : Formula)
+    → Moves own kept own' kept' → All (IsMarkedEntry kept) marked
+    → span_formula (arena [] kept') e ≡ f
+    → span_formulas (arena [] kept') (marked ++ e ∷ [])
+    ≡ span_formulas (arena [] kept) marked ++ f ∷ []
+marked_formulas own kept own' kept' marked e f v h t =
+    let old : span_formulas (arena [] kept') marked ≡ span_formulas (arena [] kept) marked =
     rw v.kept_is
-    (stay_texts (arena [] kept) (arena [] (kept ++ v.more)) marked
+    (stay_formulas (arena [] kept) (arena [] (kept ++ v.more)) marked
     (all_stay (arena [] kept) (arena [] (kept ++ v.more)) marked (kept_more [] kept v.more)
     (kept_all_in [] kept marked h))) in
-    texts_push (arena [] kept') marked e ∙ ap₂ (λ us u. us ++ u ∷ []) old t
+    formulas_push (arena [] kept') marked e ∙ ap₂ (λ us u. us ++ u ∷ []) old t

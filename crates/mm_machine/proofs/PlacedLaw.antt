@@ -17,7 +17,7 @@ use Rattle.mm_rule.specs.declared.rule.RuleSymbol.{RuleSymbol}
 use Rattle.mm_rule.specs.Rule.{Compiled, IsCompiled, IsBelow, IsKnown}
 use Rattle.mm_machine.specs.Arena.{Arena, arena, AreEntries}
 use Rattle.mm_machine.specs.Replaced.{replaced}
-use Rattle.mm_machine.specs.State.{texts, applied, entries_after, TestsRule, IsStack, IsStackOf}
+use Rattle.mm_machine.specs.State.{span_formulas, applied, entries_after, TestsRule, IsStack, IsStackOf}
 use Rattle.mm_machine.specs.State.{MachineState, IsMachine}
 use Rattle.mm_machine.specs.Stops.{Stops, IsApplied}
 use Rattle.mm_machine.proofs.FollowLaw.{on_ok, on_err}
@@ -29,9 +29,10 @@ module _ (own kept : List ℕ) (stack : List Span) (below : ℕ) (parts : List R
   module _ (made : Formula) (is : made ≡ replaced (arena own kept) (drop below stack) parts) where
     pub placed : nat_le (length made) formula_limit ≡ true
         → entries_after (arena own kept) stack below parts
-        ≡ Ok (take below (texts (arena own kept) stack) ++ made ∷ [])
+        ≡ Ok (take below (span_formulas (arena own kept) stack) ++ made ∷ [])
     placed l =
-        ap₂ (λ b z. pick true true true b (take below (texts (arena own kept) stack) ++ z ∷ []))
+        ap₂ (λ b z. pick true true true b
+        (take below (span_formulas (arena own kept) stack) ++ z ∷ []))
         (ap (λ z. nat_le (length z) formula_limit) (sym is) ∙ l) (sym is)
 
     pub made_known : (w : ℕ) → IsStackOf w own kept stack → All (IsKnown w) parts
@@ -44,7 +45,7 @@ module _ (own kept : List ℕ) (stack : List Span) (below : ℕ) (parts : List R
       formula_limit ≡ false → entries_after (arena own kept) stack below parts ≡ Err too_long
   too_long_here l =
       ap (λ b. pick true true true b
-      (take below (texts (arena own kept) stack)
+      (take below (span_formulas (arena own kept) stack)
       ++ replaced (arena own kept) (drop below stack) parts ∷ [])) l
 
   -- by the lists that the code has
@@ -71,7 +72,7 @@ some_entry a es below parts out h =
     by (nat_le (length (replaced a (drop below es) parts)) formula_limit) h
   where
     first : List Formula
-    first = take below (texts a es)
+    first = take below (span_formulas a es)
 
     made : Formula
     made = replaced a (drop below es) parts
@@ -97,7 +98,7 @@ judged_here db t c own own' kept kept' stack stack' r e1 e2 e3 h =
 module _ (db : List Statement) (t : ℕ) (c : Compiled) (own kept kept' : List ℕ) (stack : List Span)
     (below : ℕ) (parts : List RuleSymbol) (same : kept' ≡ kept) (parts_are : parts ≡ c.formula)
     (tested : TestsRule db t c (arena own kept) stack (Ok below)) where
-  said : applied db t c.assertion (texts (arena own kept) stack)
+  said : applied db t c.assertion (span_formulas (arena own kept) stack)
       ≡ entries_after (arena own kept') stack below parts
   said =
       tested.1 ∙ ap₂ (λ z f. entries_after (arena own z) stack below f) (sym same) (sym parts_are)
@@ -105,27 +106,28 @@ module _ (db : List Statement) (t : ℕ) (c : Compiled) (own kept kept' : List �
   module _ {T : Type 0} (r : Result T Stopped) (own' : List ℕ) (stack' : List Span) where
     -- it was made, by the lists that the code has
     pub step_made : OnOk r (entries_after (arena own kept') stack below parts
-        ≡ Ok (texts (arena own' kept') stack'))
-        → OnOk r (applied db t c.assertion (texts (arena own kept) stack)
-        ≡ Ok (texts (arena own' kept) stack'))
+        ≡ Ok (span_formulas (arena own' kept') stack'))
+        → OnOk r (applied db t c.assertion (span_formulas (arena own kept) stack)
+        ≡ Ok (span_formulas (arena own' kept) stack'))
     step_made h =
         on_ok r
         (λ (e : entries_after (arena own kept') stack below parts
-        ≡ Ok (texts (arena own' kept') stack')).
-        said ∙ e ∙ ap (λ z. Ok (texts (arena own' z) stack')) same) h
+        ≡ Ok (span_formulas (arena own' kept') stack')).
+        said ∙ e ∙ ap (λ z. Ok (span_formulas (arena own' z) stack')) same) h
 
     pub step_entry : OnOk r (entries_after (arena own kept') stack below parts
-        ≡ Ok (texts (arena own' kept') stack'))
-        → OnOk r (0 < length (texts (arena own' kept) stack'))
+        ≡ Ok (span_formulas (arena own' kept') stack'))
+        → OnOk r (0 < length (span_formulas (arena own' kept) stack'))
     step_entry h =
         on_ok r
         (λ (e : entries_after (arena own kept') stack below parts
-        ≡ Ok (texts (arena own' kept') stack')).
-        subst (λ z. 0 < length (texts (arena own' z) stack')) same
-        (some_entry (arena own kept') stack below parts (texts (arena own' kept') stack') e)) h
+        ≡ Ok (span_formulas (arena own' kept') stack')).
+        subst (λ z. 0 < length (span_formulas (arena own' z) stack')) same
+        (some_entry (arena own kept') stack below parts (span_formulas (arena own' kept') stack')
+        e)) h
 
     pub step_stopped : IfErr r (λ e. Stops e (entries_after (arena own kept') stack below parts))
-        → IfErr r (λ e. Stops e (applied db t c.assertion (texts (arena own kept) stack)))
+        → IfErr r (λ e. Stops e (applied db t c.assertion (span_formulas (arena own kept) stack)))
     step_stopped h = on_err r (λ e s. subst (Stops e) (sym said) s) h
 
   pub parts_below : IsCompiled db c → All (IsBelow (length (drop below stack))) parts

@@ -19,36 +19,37 @@ use Rattle.mm_rule.specs.declared.rule.RuleSymbol.TheVariants.{Constant, Variabl
 use Rattle.mm_spec.specs.Statement.{Statement}
 use Rattle.mm_spec.specs.Frame.{is_variable_number, frame_at}
 use Rattle.mm_spec.specs.Citation.{context_at}
-use Rattle.mm_machine.specs.Arena.{Arena, symbols_of, nothing, text_of, IsIn}
+use Rattle.mm_machine.specs.Arena.{Arena, symbols_of, no_symbols, span_formula, IsIn}
 use Rattle.mm_rule.specs.Rule.{first, parts_of, part_count, all_parts, Compiled, IsCompiled}
 use Rattle.mm_machine.specs.Replaced.{stands, replaced_part}
 use Rattle.mm_machine.specs.Replaced.{replaced}
-use Rattle.mm_machine.specs.State.{texts, applied}
+use Rattle.mm_machine.specs.State.{span_formulas, applied}
 use Rattle.mm_rule.proofs.FirstLaw.{first_below, found_first}
-use Rattle.mm_machine.proofs.StretchLaw.{text_tail}
+use Rattle.mm_machine.proofs.StretchLaw.{formula_tail}
 
-text_at : (xs : Arena) (es : List Span) (j : ℕ) → j < length es
-    → text_of xs (get_or es j nothing) ≡ get_or (texts xs es) j []
-text_at xs [] j h = absurd (omega arith)
-text_at xs (e ∷ es) zero h = refl
-text_at xs (e ∷ es) (suc j) h = text_at xs es j (omega arith)
+span_formula_at : (xs : Arena) (es : List Span) (j : ℕ) → j < length es
+    → span_formula xs (get_or es j no_symbols) ≡ get_or (span_formulas xs es) j []
+span_formula_at xs [] j h = absurd (omega arith)
+span_formula_at xs (e ∷ es) zero h = refl
+span_formula_at xs (e ∷ es) (suc j) h = span_formula_at xs es j (omega arith)
 
 module _ (db : List Statement) (t : ℕ) (hs : List Formula) (xs : Arena) (es : List Span)
     (inside : All (IsIn xs) es) (count : length es ≡ length hs) where
   abbrev pub σ : Substitution
-  σ = found (context_at db t) hs (texts xs es)
+  σ = found (context_at db t) hs (span_formulas xs es)
 
   pub stands_is : (x : ℕ) → IsBound (context_at db t) hs x → stands xs es (first db hs x) ≡ σ x
   stands_is x b =
       let j = first db hs x in
       let below : j < length hs = first_below db hs x b in
-      let here : IsIn xs (get_or es j nothing) =
-      All-get_or (IsIn xs) es j nothing (omega (arith, below, count)) inside in
-      let many : length (texts xs es) ≡ length hs = length-map es (text_of xs) ∙ count in
-      text_tail (symbols_of xs (get_or es j nothing).store) (get_or es j nothing).start
-      (get_or es j nothing).end here.rising
-      ∙ ap tail (text_at xs es j (omega (arith, below, count)))
-      ∙ sym (found_first db t hs (texts xs es) x many b)
+      let here : IsIn xs (get_or es j no_symbols) =
+      All-get_or (IsIn xs) es j no_symbols (omega (arith, below, count)) inside in
+      let many : length (span_formulas xs es) ≡ length hs =
+      length-map es (span_formula xs) ∙ count in
+      formula_tail (symbols_of xs (get_or es j no_symbols).store) (get_or es j no_symbols).start
+      (get_or es j no_symbols).end here.rising
+      ∙ ap tail (span_formula_at xs es j (omega (arith, below, count)))
+      ∙ sym (found_first db t hs (span_formulas xs es) x many b)
 
   pub one_same : (f : Formula) → AreBound (context_at db t) hs f
       → replaced xs es (parts_of db hs f) ≡ substitute (context_at db t) σ f
@@ -86,7 +87,8 @@ length_all_parts parts j [] = refl
 length_all_parts parts j (a ∷ more) =
     ap suc (length_all_parts (drop (part_count a) parts) (suc j) more)
 
-map_drop : (xs : Arena) (n : ℕ) (es : List Span) → drop n (texts xs es) ≡ texts xs (drop n es)
+map_drop : (xs : Arena) (n : ℕ) (es : List Span)
+    → drop n (span_formulas xs es) ≡ span_formulas xs (drop n es)
 map_drop xs zero es = refl
 map_drop xs (suc n) [] = refl
 map_drop xs (suc n) (e ∷ es) = map_drop xs n es
@@ -96,21 +98,24 @@ pub judged : (db : List Statement) (t : ℕ) (c : Compiled) (xs : Arena) (stack 
     → IsCompiled db c → length c.hypotheses ≤ length stack
     → premises ≡ drop (length stack - length c.hypotheses) stack → All (IsIn xs) premises
     → length premises ≡ length c.hypotheses → (b1 b2 : Bool)
-    → b1 ≡ same (texts xs premises) (map (replaced xs premises) (all_parts c.parts 0 c.hypotheses))
+    → b1
+    ≡ same (span_formulas xs premises)
+    (map (replaced xs premises) (all_parts c.parts 0 c.hypotheses))
     → b2 ≡ list_all
     (λ (p : ℕ × ℕ). are_all_disjoint (context_at db t) (stands xs premises p.0)
     (stands xs premises p.1))
     c.pairs
-    → applied db t c.assertion (texts xs stack)
+    → applied db t c.assertion (span_formulas xs stack)
     ≡ pick true b1 b2 (nat_le (length (replaced xs premises c.formula)) formula_limit)
-    (take (length stack - length c.hypotheses) (texts xs stack) ++ replaced xs premises c.formula ∷
+    (take (length stack - length c.hypotheses) (span_formulas xs stack)
+    ++ replaced xs premises c.formula ∷
     [])
 judged db t c xs stack premises rule fits top inside many b1 b2 e1 e2 =
     let a = frame_at db c.assertion in
     let hs = a.hypotheses in
-    let es = texts xs stack in
+    let es = span_formulas xs stack in
     let m = length stack - length c.hypotheses in
-    let long : length es ≡ length stack = length-map stack (text_of xs) in
+    let long : length es ≡ length stack = length-map stack (span_formula xs) in
     let hypotheses : length c.hypotheses ≡ length hs =
     sym (length_all_parts c.parts 0 c.hypotheses) ∙ ap length rule.hypotheses_are
     ∙ length-map hs (parts_of db hs) in
@@ -118,7 +123,7 @@ judged db t c xs stack premises rule fits top inside many b1 b2 e1 e2 =
     let enough : nat_le (length hs) (length es) ≡ true =
     le-leb _ _ (omega (arith, long, hypotheses, fits)) in
     let count : length premises ≡ length hs = many ∙ hypotheses in
-    let ps = texts xs premises in
+    let ps = span_formulas xs premises in
     let σ' : Substitution = σ db t hs xs premises inside count in
     let h : map (substitute (context_at db t) σ') hs
     ≡ map (replaced xs premises) (all_parts c.parts 0 c.hypotheses) = sym
@@ -132,7 +137,7 @@ judged db t c xs stack premises rule fits top inside many b1 b2 e1 e2 =
     ∙ ap (replaced xs premises) (sym rule.formula_is) in
     ap₂ (λ b i. apply (context_at db t) a b (take i es) (drop i es)) enough n
     ∙ ap (λ z. apply (context_at db t) a true (take m es) z)
-    (map_drop xs m stack ∙ ap (texts xs) (sym top))
+    (map_drop xs m stack ∙ ap (span_formulas xs) (sym top))
     ∙ ap₂ (λ x y. pick true x y
     (nat_le (length (substitute (context_at db t) σ' a.formula)) formula_limit)
     (take m es ++ substitute (context_at db t) σ' a.formula ∷ [])) (ap (same ps) h
@@ -145,20 +150,24 @@ pub judged_at : (db : List Statement) (t : ℕ) (c : Compiled) (xs : Arena)
     → IsCompiled db c → n ≡ length c.hypotheses → n ≤ length stack → below ≡ length stack - n
     → premises ≡ drop below stack → All (IsIn xs) stack → (ps : List (ℕ × ℕ)) → ps ≡ c.pairs
     → (b1 b2 : Bool)
-    → b1 ≡ same (texts xs premises) (map (replaced xs premises) (all_parts c.parts 0 c.hypotheses))
+    → b1
+    ≡ same (span_formulas xs premises)
+    (map (replaced xs premises) (all_parts c.parts 0 c.hypotheses))
     → b2 ≡ list_all
     (λ (p : ℕ × ℕ). are_all_disjoint (context_at db t) (stands xs premises p.0)
     (stands xs premises p.1)) ps
-    → applied db t c.assertion (texts xs stack)
+    → applied db t c.assertion (span_formulas xs stack)
     ≡ pick true b1 b2 (nat_le (length (replaced xs (drop below stack) c.formula)) formula_limit)
-    (take below (texts xs stack) ++ replaced xs (drop below stack) c.formula ∷ [])
+    (take below (span_formulas xs stack) ++ replaced xs (drop below stack) c.formula ∷ [])
 judged_at db t c xs stack premises n below rule count fits at top all ps ps_are b1 b2 e1 e2 =
     let here : below ≡ length stack - length c.hypotheses = omega (arith, at, count) in
     let many : length (drop below stack) ≡ length c.hypotheses =
     omega (arith, at, count, fits, length-drop below stack) in
     judged db t c xs stack (drop below stack) rule (omega (arith, count, fits))
     (ap (λ b. drop b stack) here) (All-drop (IsIn xs) below stack all) many b1 b2
-    (e1 ∙ ap (λ z. same (texts xs z) (map (replaced xs z) (all_parts c.parts 0 c.hypotheses))) top)
+    (e1
+    ∙ ap (λ z. same (span_formulas xs z)
+    (map (replaced xs z) (all_parts c.parts 0 c.hypotheses))) top)
     (e2 ∙ ap
     (λ z. list_all
     (λ (p : ℕ × ℕ). are_all_disjoint (context_at db t) (stands xs z p.0) (stands xs z p.1)) ps) top
@@ -167,16 +176,16 @@ judged_at db t c xs stack premises n below rule count fits at top all ps ps_are 
     (stands xs (drop below stack) p.1)) z) ps_are)
     ∙ ap (λ b. pick true b1 b2
     (nat_le (length (replaced xs (drop below stack) c.formula)) formula_limit)
-    (take b (texts xs stack) ++ replaced xs (drop below stack) c.formula ∷ [])) (sym here)
+    (take b (span_formulas xs stack) ++ replaced xs (drop below stack) c.formula ∷ [])) (sym here)
 
 -- too few entries
 pub few_at : (db : List Statement) (t : ℕ) (c : Compiled) (xs : Arena) (stack : List Span)
     → IsCompiled db c → length stack < length c.hypotheses
-    → applied db t c.assertion (texts xs stack) ≡ Err too_few
+    → applied db t c.assertion (span_formulas xs stack) ≡ Err too_few
 few_at db t c xs stack rule few =
     let a = frame_at db c.assertion in
-    let es = texts xs stack in
-    let long : length es ≡ length stack = length-map stack (text_of xs) in
+    let es = span_formulas xs stack in
+    let long : length es ≡ length stack = length-map stack (span_formula xs) in
     let hypotheses : length c.hypotheses ≡ length a.hypotheses =
     sym (length_all_parts c.parts 0 c.hypotheses) ∙ ap length rule.hypotheses_are
     ∙ length-map a.hypotheses (parts_of db a.hypotheses) in

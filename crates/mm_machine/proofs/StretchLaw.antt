@@ -7,7 +7,7 @@ use Rattle.std.specs.List.{starts_with}
 use Rattle.std.proofs.lemmas.List.{drop-drop, drop_more, length-take-le}
 use Rattle.mm_machine.specs.declared.arena.Span.{Span}
 use Rattle.mm_rule.specs.declared.rule.RuleSymbol.{RuleSymbol}
-use Rattle.mm_machine.specs.Arena.{Arena, symbols_of, text_of, IsIn}
+use Rattle.mm_machine.specs.Arena.{Arena, symbols_of, span_formula, IsIn}
 use Rattle.mm_machine.specs.Replaced.{replaced_part, replaced}
 use Rattle.mm_spec.specs.Laws.Stack.{tail}
 use Rattle.std.proofs.lemmas.Bool.{cases_lt, and_parts}
@@ -55,8 +55,8 @@ rest_of xs a e k =
     let n : (e - a) - k ≡ e - (a + k) = omega arith in
     drop_take k (e - a) (drop a xs) ∙ ap₂ (λ m ys. take m ys) n (drop-drop k a xs)
 
-pub length_text : (a : Arena) (p : Span) → IsIn a p → length (text_of a p) ≡ p.end - p.start
-length_text a p h =
+pub length_formula : (a : Arena) (p : Span) → IsIn a p → length (span_formula a p) ≡ p.end - p.start
+length_formula a p h =
     length-take-le (p.end - p.start) (drop p.start (symbols_of a p.store))
     (omega (arith, h.rising, h.within, length-drop p.start (symbols_of a p.store)))
 
@@ -106,9 +106,9 @@ fits_in xs a e u h s =
     short (x ∷ u) (y ∷ ys) s = let r = short u ys (and_parts (nat_eq x y) _ s).1 in omega arith
 
 -- the entry without its first symbol
-pub text_tail : (xs : List ℕ) (a e : ℕ) → a ≤ e
+pub formula_tail : (xs : List ℕ) (a e : ℕ) → a ≤ e
     → slice_range xs (min (a + 1) e) e ≡ tail (slice_range xs a e)
-text_tail xs a e h = go (cases_lt a e)
+formula_tail xs a e h = go (cases_lt a e)
   where
     tail_is : (zs : List ℕ) → tail zs ≡ drop 1 zs
     tail_is [] = refl

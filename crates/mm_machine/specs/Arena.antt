@@ -1,9 +1,6 @@
 -- Formulas as stretches of two lists of symbols.
-use Rattle.std.specs.Prelude.{◌≡◌, ℕ, ◌+◌, ◌≤◌, ◌<◌, true, All, List, [], ◌∷◌, ◌++◌, length, get_or}
-use Rattle.std.specs.Prelude.{◌⊎◌, slice_range, min}
-use Rattle.mm_spec.specs.Statement.{Statement}
-use Rattle.mm_spec.specs.Derivation.{Formula, are_disjoint}
-use Rattle.mm_spec.specs.Citation.{context_at}
+use Rattle.std.specs.Prelude.{ℕ, ◌+◌, ◌≤◌, ◌<◌, All, List, length, slice_range, min}
+use Rattle.mm_spec.specs.Derivation.{Formula}
 use Rattle.mm_machine.specs.declared.arena.Span.{Span}
 use Rattle.mm_machine.specs.declared.arena.Store.{Store}
 use Rattle.mm_machine.specs.declared.arena.Store.TheVariants.{Own, Kept}
@@ -23,11 +20,11 @@ symbols_of a Kept = a.kept
 abbrev pub span : Store → ℕ → ℕ → Span
 span p s e = record { store = p; start = s; end = e }
 
-abbrev pub nothing : Span
-nothing = span Own 0 0
+abbrev pub no_symbols : Span
+no_symbols = span Own 0 0
 
-abbrev pub text_of : Arena → Span → Formula
-text_of a e = slice_range (symbols_of a e.store) e.start e.end
+abbrev pub span_formula : Arena → Span → Formula
+span_formula a e = slice_range (symbols_of a e.store) e.start e.end
 
 -- the entry is a stretch of its list
 pub record IsIn (a : Arena) (e : Span) : Type 0 where
@@ -47,16 +44,3 @@ pub record AreEntries (width : ℕ) (a : Arena) (es : List Span) : Type 0 where
 -- the entry without its first symbol
 abbrev pub rest : Span → Span
 rest e = span e.store (min (e.start + 1) e.end) e.end
-
--- the pair of symbols is in the list, in this order
-abbrev pub HasPair : List (ℕ × ℕ) → ℕ → ℕ → Type 0
-HasPair ps s t =
-    (n : ℕ) × (n < length ps) × ((get_or ps n (s, t)).0 ≡ s) × ((get_or ps n (s, t)).1 ≡ t)
-
--- the list stays, or the pair of symbols is appended, in this order
-abbrev pub KeepsPair : List (ℕ × ℕ) → ℕ → ℕ → List (ℕ × ℕ) → Type 0
-KeepsPair ps s t qs = (qs ≡ ps) ⊎ (qs ≡ ps ++ (s, t) ∷ [])
-
--- each of the pairs of symbols is disjoint at the theorem
-abbrev pub AreDisjointAt : List Statement → ℕ → List (ℕ × ℕ) → Type 0
-AreDisjointAt db t ps = All (λ (p : ℕ × ℕ). are_disjoint (context_at db t) p.0 p.1 ≡ true) ps

@@ -1,4 +1,5 @@
 pub mod Arena
+pub mod DisjointCache
 pub mod Replaced
 pub mod State
 pub mod Stops

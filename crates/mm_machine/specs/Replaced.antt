@@ -4,11 +4,11 @@ use Rattle.mm_spec.specs.Derivation.{Formula}
 use Rattle.mm_rule.specs.declared.rule.RuleSymbol.{RuleSymbol}
 use Rattle.mm_rule.specs.declared.rule.RuleSymbol.TheVariants.{Constant, Variable}
 use Rattle.mm_machine.specs.declared.arena.Span.{Span}
-use Rattle.mm_machine.specs.Arena.{Arena, nothing, rest, text_of}
+use Rattle.mm_machine.specs.Arena.{Arena, no_symbols, rest, span_formula}
 
 -- what replaces the variable of hypothesis `j`; `es` are the entries of the hypotheses
 abbrev pub stands : Arena → List Span → ℕ → List ℕ
-stands a es j = text_of a (rest (get_or es j nothing))
+stands a es j = span_formula a (rest (get_or es j no_symbols))
 
 abbrev pub replaced_part : Arena → List Span → RuleSymbol → List ℕ
 replaced_part a es (Constant s) = s ∷ []

@@ -12,7 +12,7 @@ use Rattle.mm_machine.specs.declared.arena.Span.{Span}
 use Rattle.mm_machine.specs.declared.arena.Reason.{Reason}
 use Rattle.mm_machine.specs.declared.arena.Reason.TheVariants.{TooFew, Unmatched, NotDisjoint, TooLong}
 use Rattle.mm_machine.specs.declared.arena.Store.TheVariants.{Own, Kept}
-use Rattle.mm_machine.specs.Arena.{Arena, arena, span, text_of, IsIn, IsArena}
+use Rattle.mm_machine.specs.Arena.{Arena, arena, span, span_formula, IsIn, IsArena}
 use Rattle.mm_rule.specs.declared.rule.RuleSymbol.{RuleSymbol}
 use Rattle.mm_rule.specs.Rule.{Compiled}
 use Rattle.mm_machine.specs.Replaced.{replaced}
@@ -42,8 +42,8 @@ Repeats j s t =
     (n : ℕ) × (n < length s.formulas) × (n < length s.marks) × (get_or s.marks n 0 ≡ j)
     × (t ≡ machine_state (s.stack ++ get_or s.formulas n [] ∷ []) s.marks s.formulas s.width)
 
-abbrev pub texts : Arena → List Span → List Formula
-texts a es = map (text_of a) es
+abbrev pub span_formulas : Arena → List Span → List Formula
+span_formulas a es = map (span_formula a) es
 
 -- The entries' own formulas follow one another without gaps, from place `from` to place `to`. So no
 -- other symbols are held for them.
@@ -112,13 +112,14 @@ abbrev pub entries_after : Arena → List Span → ℕ → List RuleSymbol
     → Result (List Formula) SpecReason
 entries_after a es below parts =
     pick true true true (nat_le (length (replaced a (drop below es) parts)) formula_limit)
-    (take below (texts a es) ++ replaced a (drop below es) parts ∷ [])
+    (take below (span_formulas a es) ++ replaced a (drop below es) parts ∷ [])
 
 -- what a test of a rule says: how many entries stay below the formula that the step pushes if it is
 -- short enough, or why the step fails
 abbrev pub TestsRule : List Statement → ℕ → Compiled → Arena → List Span → Result ℕ Reason → Type 0
 TestsRule db t c symbols stack (Ok below) =
     (length stack ≡ below + length c.hypotheses)
-    × (applied db t c.assertion (texts symbols stack) ≡ entries_after symbols stack below c.formula)
+    × (applied db t c.assertion (span_formulas symbols stack)
+    ≡ entries_after symbols stack below c.formula)
 TestsRule db t c symbols stack (Err reason) =
-    applied db t c.assertion (texts symbols stack) ≡ Err (reason_of reason)
+    applied db t c.assertion (span_formulas symbols stack) ≡ Err (reason_of reason)

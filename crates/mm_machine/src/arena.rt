@@ -11,8 +11,8 @@ ghost use Rattle.mm_spec.specs.Limits.{formula_limit};
 ghost use Rattle.mm_spec.specs.Frame.{symbol_names};
 ghost use Rattle.mm_spec.specs.Citation.{context_at};
 ghost use Rattle.mm_spec.specs.Laws.Stack.{same};
-ghost use Rattle.mm_machine.specs.Arena.{nothing, rest, symbols_of, text_of, IsIn, AreEntries};
-ghost use Rattle.mm_machine.specs.Arena.{AreDisjointAt};
+ghost use Rattle.mm_machine.specs.Arena.{no_symbols, rest, symbols_of, span_formula, IsIn, AreEntries};
+ghost use Rattle.mm_machine.specs.DisjointCache.{AreDisjointAt};
 ghost use Rattle.mm_rule.specs.Rule.{IsBelow, IsCompiled, all_parts, count_parts};
 ghost use Rattle.mm_machine.specs.Replaced.{stands};
 ghost use Rattle.mm_machine.specs.Replaced.{replaced};
@@ -69,9 +69,9 @@ impl<'a> Symbols<'a> {
     }
 
     /// The formula of an entry.
-    pub fn text(&self, span: Span) -> &'a [Sym]
+    pub fn formula(&self, span: Span) -> &'a [Sym]
         requires { IsIn self.now span }
-        ensures { result.now ≡ text_of self.now span }
+        ensures { result.now ≡ span_formula self.now span }
     {
         &self.list(span.store)[span.start..span.end]
     }
@@ -94,9 +94,9 @@ fn begins(symbols: &Symbols, store: Store, from: usize, to: usize, span: Span) -
     requires span { IsIn symbols.now span }
     ensures value { result
         ≡ starts_with nat_eq (slice_range (symbols_of symbols.now store) from to)
-        (text_of symbols.now span) }
+        (span_formula symbols.now span) }
 {
-    symbols.list(store)[from..to].starts_with(symbols.text(span))
+    symbols.list(store)[from..to].starts_with(symbols.formula(span))
 }
 
 /// An entry without its first symbol.
@@ -118,7 +118,7 @@ fn rest_of(span: Span) -> Span
 /// What replaces the variable of hypothesis `j`.
 pub fn span_of(premises: &[Span], j: u32) -> Span
     requires { j < length premises.now }
-    ensures { result ≡ rest (get_or premises.now j nothing) }
+    ensures { result ≡ rest (get_or premises.now j no_symbols) }
 {
     rest_of(premises[j as usize])
 }
@@ -130,7 +130,7 @@ fn fits(symbols: &Symbols, premises: &[Span], wanted: &[RuleSymbol], premise: Sp
     requires wanted { All (IsBelow (length premises.now)) wanted.now }
     requires premise { IsIn symbols.now premise }
     ensures { result
-        ≡ bytes_eq (text_of symbols.now premise)
+        ≡ bytes_eq (span_formula symbols.now premise)
         (replaced symbols.now premises.now wanted.now) }
 {
     let list = symbols.list(premise.store);
@@ -159,8 +159,8 @@ fn fits(symbols: &Symbols, premises: &[Span], wanted: &[RuleSymbol], premise: Sp
 fn is_typed(symbols: &Symbols, typecode: Sym, premise: Span) -> bool
     requires premise { IsIn symbols.now premise }
     ensures { result
-        ≡ bytes_eq (text_of symbols.now premise)
-        (typecode ∷ text_of symbols.now (rest premise)) }
+        ≡ bytes_eq (span_formula symbols.now premise)
+        (typecode ∷ span_formula symbols.now (rest premise)) }
 {
     premise.start < premise.end && symbols.list(premise.store)[premise.start] == typecode
 }
@@ -173,7 +173,7 @@ fn all_fit(symbols: &Symbols, rule: &Rule, premises: &[Span]) -> bool
     requires kept { count_parts rule.now.hypotheses ≡ length rule.now.parts }
     requires parts { All (IsBelow (length premises.now)) rule.now.parts }
     ensures { result
-        ≡ same (map (text_of symbols.now) premises.now)
+        ≡ same (map (span_formula symbols.now) premises.now)
         (map (replaced symbols.now premises.now) (all_parts rule.now.parts 0 rule.now.hypotheses)) }
 {
     let mut at = 0;
@@ -303,8 +303,8 @@ fn pairs_are_disjoint<A: Allocator>(
     ensures cache { AreDisjointAt db.now.statements theorem cache.new }
 {
     for pair in pairs {
-        let first = symbols.text(span_of(premises, pair.0));
-        let second = symbols.text(span_of(premises, pair.1));
+        let first = symbols.formula(span_of(premises, pair.0));
+        let second = symbols.formula(span_of(premises, pair.1));
         if !are_all_disjoint(db, theorem, first, second, cache) {
             return false;
         }
@@ -313,14 +313,14 @@ fn pairs_are_disjoint<A: Allocator>(
 }
 
 /// Appends what replaces a variable to a list. A single symbol is pushed without a copy.
-fn append_text<A: Allocator>(text: &[Sym], list: &mut Vec<Sym, A>) -> Result<(), AllocError>
-    ensures { OnOk result (list.new.items ≡ list.old.items ++ text.now) }
+fn append_symbols<A: Allocator>(symbols: &[Sym], list: &mut Vec<Sym, A>) -> Result<(), AllocError>
+    ensures { OnOk result (list.new.items ≡ list.old.items ++ symbols.now) }
 {
-    if text.len() == 1 {
-        list.push(text[0])?;
+    if symbols.len() == 1 {
+        list.push(symbols[0])?;
         Ok(())
     } else {
-        list.extend_from_slice(text)
+        list.extend_from_slice(symbols)
     }
 }
 
@@ -343,7 +343,7 @@ pub fn build<A: Allocator>(
     for part in formula {
         match *part {
             RuleSymbol::Variable(j) => {
-                append_text(symbols.text(span_of(premises, j)), made)?;
+                append_symbols(symbols.formula(span_of(premises, j)), made)?;
                 if made.len() > FORMULA_LIMIT {
                     return Ok(false);
                 }

@@ -1,7 +1,7 @@
 //! Pairs of symbols that are known to be disjoint at a theorem.
 
 ghost use Rattle.std.specs.Prelude.{◌≡◌, ◌⊎◌, [], true, IfOk};
-ghost use Rattle.mm_machine.specs.Arena.{AreDisjointAt, HasPair, KeepsPair};
+ghost use Rattle.mm_machine.specs.DisjointCache.{AreDisjointAt, HasPair, KeepsPair};
 ghost use Rattle.mm_rule.specs.Assertions.{is_assertion_at};
 
 use mm_database::{Database, Sym};

@@ -24,26 +24,26 @@ fn put_symbol(s: Sym, list: &mut [Sym], at: usize)
 
 /// Writes two symbols from place `at` on.
 #[inline(always)]
-fn put_two(text: &[Sym], list: &mut [Sym], at: usize)
-    requires two { length text.now ≡ 2 }
+fn put_two(symbols: &[Sym], list: &mut [Sym], at: usize)
+    requires two { length symbols.now ≡ 2 }
     requires room { at + 2 ≤ length list.old }
     ensures same { length list.new ≡ length list.old }
-    ensures is { take (at + 2) list.new ≡ take at list.old ++ text.now }
+    ensures is { take (at + 2) list.new ≡ take at list.old ++ symbols.now }
 {
-    put_symbol(text[0], list, at);
-    put_symbol(text[1], list, at + 1);
+    put_symbol(symbols[0], list, at);
+    put_symbol(symbols[1], list, at + 1);
 }
 
 /// Writes four symbols from place `at` on. All are read before the first is written, so that a
 /// compiler needs no test whether the lists overlap, and copies them at once.
 #[inline(always)]
-fn put_four(text: &[Sym], list: &mut [Sym], at: usize)
-    requires four { length text.now ≡ 4 }
+fn put_four(symbols: &[Sym], list: &mut [Sym], at: usize)
+    requires four { length symbols.now ≡ 4 }
     requires room { at + 4 ≤ length list.old }
     ensures same { length list.new ≡ length list.old }
-    ensures is { take (at + 4) list.new ≡ take at list.old ++ text.now }
+    ensures is { take (at + 4) list.new ≡ take at list.old ++ symbols.now }
 {
-    let (first, second, third, last) = (text[0], text[1], text[2], text[3]);
+    let (first, second, third, last) = (symbols[0], symbols[1], symbols[2], symbols[3]);
     put_symbol(first, list, at);
     put_symbol(second, list, at + 1);
     put_symbol(third, list, at + 2);
@@ -52,69 +52,69 @@ fn put_four(text: &[Sym], list: &mut [Sym], at: usize)
 
 /// Writes symbols from place `at` on.
 #[inline(always)]
-fn put_all(text: &[Sym], list: &mut [Sym], at: usize)
-    requires { at + length text.now ≤ length list.old }
+fn put_all(symbols: &[Sym], list: &mut [Sym], at: usize)
+    requires { at + length symbols.now ≤ length list.old }
     ensures same { length list.new ≡ length list.old }
-    ensures is { take (at + length text.now) list.new ≡ take at list.old ++ text.now }
+    ensures is { take (at + length symbols.now) list.new ≡ take at list.old ++ symbols.now }
 {
-    let end = at + text.len();
-    list[at..end].copy_from_slice(text);
+    let end = at + symbols.len();
+    list[at..end].copy_from_slice(symbols);
 }
 
 /// The same for a number of symbols that is known when the program is compiled.
 #[inline(always)]
-fn put_width(text: &[Sym], list: &mut [Sym], at: usize)
-    requires { at + length text.now ≤ length list.old }
+fn put_width(symbols: &[Sym], list: &mut [Sym], at: usize)
+    requires { at + length symbols.now ≤ length list.old }
     ensures same { length list.new ≡ length list.old }
-    ensures is { take (at + length text.now) list.new ≡ take at list.old ++ text.now }
+    ensures is { take (at + length symbols.now) list.new ≡ take at list.old ++ symbols.now }
 {
-    if text.len() == 2 {
-        put_two(text, list, at);
-    } else if text.len() == 4 {
-        put_four(text, list, at);
-    } else if text.len() == 8 {
-        put_four(&text[..4], list, at);
-        put_four(&text[4..], list, at + 4);
+    if symbols.len() == 2 {
+        put_two(symbols, list, at);
+    } else if symbols.len() == 4 {
+        put_four(symbols, list, at);
+    } else if symbols.len() == 8 {
+        put_four(&symbols[..4], list, at);
+        put_four(&symbols[4..], list, at + 4);
     } else {
-        put_all(text, list, at);
+        put_all(symbols, list, at);
     }
 }
 
 /// The same, by a copy of the first `width` symbols and one of the last. These overlap if there are
 /// fewer than twice as many. With a constant `width`, a copy is a few instructions and no call.
 #[inline(always)]
-fn put_ends(text: &[Sym], list: &mut [Sym], at: usize, width: usize)
-    requires many { width ≤ length text.now }
-    requires few { length text.now ≤ 2 * width }
-    requires room { at + length text.now ≤ length list.old }
+fn put_ends(symbols: &[Sym], list: &mut [Sym], at: usize, width: usize)
+    requires many { width ≤ length symbols.now }
+    requires few { length symbols.now ≤ 2 * width }
+    requires room { at + length symbols.now ≤ length list.old }
     ensures same { length list.new ≡ length list.old }
-    ensures is { take (at + length text.now) list.new ≡ take at list.old ++ text.now }
+    ensures is { take (at + length symbols.now) list.new ≡ take at list.old ++ symbols.now }
 {
-    let left = text.len() - width;
-    put_width(&text[..width], list, at);
-    put_width(&text[left..], list, at + left);
+    let left = symbols.len() - width;
+    put_width(&symbols[..width], list, at);
+    put_width(&symbols[left..], list, at + left);
 }
 
 /// Writes what replaces a variable from place `at` on. It mostly is short.
 #[inline(always)]
-pub fn put_text(text: &[Sym], list: &mut [Sym], at: usize)
-    requires { at + length text.now ≤ length list.old }
+pub fn put_symbols(symbols: &[Sym], list: &mut [Sym], at: usize)
+    requires { at + length symbols.now ≤ length list.old }
     ensures same { length list.new ≡ length list.old }
-    ensures is { take (at + length text.now) list.new ≡ take at list.old ++ text.now }
+    ensures is { take (at + length symbols.now) list.new ≡ take at list.old ++ symbols.now }
 {
-    let count = text.len();
+    let count = symbols.len();
     if count <= 1 {
         if count == 1 {
-            put_symbol(text[0], list, at);
+            put_symbol(symbols[0], list, at);
         }
     } else if count <= 4 {
-        put_ends(text, list, at, 2);
+        put_ends(symbols, list, at, 2);
     } else if count <= 8 {
-        put_ends(text, list, at, 4);
+        put_ends(symbols, list, at, 4);
     } else if count <= 16 {
-        put_ends(text, list, at, 8);
+        put_ends(symbols, list, at, 8);
     } else {
-        put_all(text, list, at);
+        put_all(symbols, list, at);
     }
 }
 
@@ -140,13 +140,13 @@ pub fn fill(
     for part in formula {
         match *part {
             RuleSymbol::Variable(j) => {
-                let text = symbols.text(span_of(premises, j));
-                if text.len() > room + 1 {
+                let replacement = symbols.formula(span_of(premises, j));
+                if replacement.len() > room + 1 {
                     return None;
                 }
-                put_text(text, list, at);
-                room = room + 1 - text.len();
-                at += text.len();
+                put_symbols(replacement, list, at);
+                room = room + 1 - replacement.len();
+                at += replacement.len();
             }
             RuleSymbol::Constant(s) => {
                 put_symbol(s, list, at);

@@ -7,8 +7,9 @@ ghost use Rattle.std.specs.List.{Contains};
 ghost use Rattle.mm_spec.specs.Frame.{symbol_names};
 ghost use Rattle.mm_spec.specs.Laws.Stack.{top};
 ghost use Rattle.mm_rule.specs.Rule.{IsBelow, IsKnown, IsCompiled};
-ghost use Rattle.mm_machine.specs.Arena.{arena, text_of, AreDisjointAt};
-ghost use Rattle.mm_machine.specs.State.{machine_state, with_mark, Repeats, texts};
+ghost use Rattle.mm_machine.specs.Arena.{arena, span_formula};
+ghost use Rattle.mm_machine.specs.DisjointCache.{AreDisjointAt};
+ghost use Rattle.mm_machine.specs.State.{machine_state, with_mark, Repeats, span_formulas};
 ghost use Rattle.mm_machine.specs.State.{first_own as first_own_of, made_of, entries_after};
 ghost use Rattle.mm_machine.specs.State.{IsStack, IsStackOf, IsRising, IsMarkedEntry, Moves};
 ghost use Rattle.mm_machine.specs.Stops.{Stops, IsApplied};
@@ -75,13 +76,13 @@ impl<A: Allocator> Drop for Machine<A> {
 impl<A: Allocator> Model for Machine<A> {
     ghost use Rattle.std.specs.Prelude.{length, []};
     ghost use Rattle.mm_machine.specs.Arena.{arena};
-    ghost use Rattle.mm_machine.specs.State.{MachineState, machine_state, texts, IsMachine};
+    ghost use Rattle.mm_machine.specs.State.{MachineState, machine_state, span_formulas, IsMachine};
 
     ghost Value = { MachineState };
 
     ghost view = { λ m. machine_state
-        (texts (arena m.own m.kept) m.stack.items) m.marks.items
-        (texts (arena [] m.kept) m.marked.items) m.width };
+        (span_formulas (arena m.own m.kept) m.stack.items) m.marks.items
+        (span_formulas (arena [] m.kept) m.marked.items) m.width };
 
     ghost invariant = { λ m. IsMachine m.own m.kept m.stack.items m.marks.items
         m.marked.items m.width };
@@ -269,7 +270,7 @@ impl<A: Allocator> Machine<A> {
                 own: self.own.as_slice(),
                 kept: self.kept.as_slice(),
             };
-            Some(symbols.text(self.stack[0]))
+            Some(symbols.formula(self.stack[0]))
         } else {
             None
         }
@@ -339,13 +340,13 @@ fn keep<A: Allocator>(
     requires entry { 0 < length stack.old.items }
     requires stack { IsStack own.old kept.old stack.old.items }
     ensures stack { IsStack own.new kept.new stack.new.items }
-    ensures texts { texts (arena own.new kept.new) stack.new.items
-        ≡ texts (arena own.old kept.old) stack.old.items }
+    ensures formulas { span_formulas (arena own.new kept.new) stack.new.items
+        ≡ span_formulas (arena own.old kept.old) stack.old.items }
     ensures moved { Moves own.old kept.old own.new kept.new }
     ensures made { IfOk result
         (λ e. IsMarkedEntry kept.new e
-        × (text_of (arena [] kept.new) e
-        ≡ top (texts (arena own.old kept.old) stack.old.items))) }
+        × (span_formula (arena [] kept.new) e
+        ≡ top (span_formulas (arena own.old kept.old) stack.old.items))) }
 {
     let last = stack.len() - 1;
     let entry = stack[last];
@@ -386,7 +387,7 @@ fn put_formula<A: Allocator>(
         → IsStackOf w own.new kept.now stack.new.items }
     ensures made { OnOk result
         (entries_after (arena own.old kept.now) stack.old.items below formula.now
-        ≡ Ok (texts (arena own.new kept.now) stack.new.items)) }
+        ≡ Ok (span_formulas (arena own.new kept.now) stack.new.items)) }
     ensures stopped { IfErr result
         (λ e. Stops e
         (entries_after (arena own.old kept.now) stack.old.items below formula.now)) }
@@ -422,7 +423,7 @@ fn put_long<A: Allocator>(
         → IsStackOf w own.new kept.now stack.new.items }
     ensures made { OnOk result
         (entries_after (arena own.old kept.now) stack.old.items below formula.now
-        ≡ Ok (texts (arena own.new kept.now) stack.new.items)) }
+        ≡ Ok (span_formulas (arena own.new kept.now) stack.new.items)) }
     ensures stopped { IfErr result
         (λ e. Stops e
         (entries_after (arena own.old kept.now) stack.old.items below formula.now)) }
@@ -454,9 +455,9 @@ fn put<A: Allocator>(
     ensures stack { (w : ℕ) (kept : List ℕ) → All (λ s. s < w) made.now
         → IsStackOf w own.old kept stack.old.items
         → IsStackOf w own.new kept stack.new.items }
-    ensures texts { OnOk result ((kept : List ℕ) → IsStack own.old kept stack.old.items
-        → texts (arena own.new kept) stack.new.items
-        ≡ take below (texts (arena own.old kept) stack.old.items) ++ made.now ∷ []) }
+    ensures formulas { OnOk result ((kept : List ℕ) → IsStack own.old kept stack.old.items
+        → span_formulas (arena own.new kept) stack.new.items
+        ≡ take below (span_formulas (arena own.old kept) stack.old.items) ++ made.now ∷ []) }
 {
     cut(below, own, stack);
     add(made, own, stack)

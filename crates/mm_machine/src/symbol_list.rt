@@ -2,7 +2,7 @@
 
 ghost use Rattle.std.specs.Prelude.{◌≡◌, ◌≤◌, ◌+◌, ◌++◌, [], length, take, vec_len, OnOk, OnErr};
 
-use crate::fill::put_text;
+use crate::fill::put_symbols;
 use mm_database::Sym;
 use mm_rule::empty;
 use std::alloc::{AllocError, Allocator};
@@ -91,7 +91,7 @@ impl<A: Allocator> SymbolList<A> {
         if formula.len() > self.places.len() - self.count {
             make_room(&mut self.places, self.count, formula.len())?;
         }
-        put_text(formula, &mut self.places, self.count);
+        put_symbols(formula, &mut self.places, self.count);
         self.count += formula.len();
         Ok(())
     }

@@ -18,7 +18,7 @@ use Rattle.mm_spec.specs.CompressedProof.{group_steps}
 use Rattle.mm_outline.specs.Parts.{as_tokens, token_of}
 use Rattle.mm_spec.specs.Steps.{PlacedStep}
 use Rattle.mm_steps.specs.Read.{read}
-use Rattle.mm_proof.specs.Letters.{InOrder, closed}
+use Rattle.mm_proof.specs.Letters.{InOrder, closed_brackets}
 
 -- a compressed proof with further labels before it
 abbrev pub after : List Token → Compressed → Compressed
@@ -26,14 +26,14 @@ after ts p = record { labels = ts ++ p.labels; letters = p.letters }
 
 -- the brackets close at a `)`
 pub brackets_close : (done : List Token) (t : Token) (ts : List Token)
-    → bytes_eq t.word (codes ")") ≡ true → after done (bracketed (t ∷ ts)) ≡ closed done ts
+    → bytes_eq t.word (codes ")") ≡ true → after done (bracketed (t ∷ ts)) ≡ closed_brackets done ts
 brackets_close done t ts e =
     ap (λ b. after done
     (elim b [
       | true ↦ record { labels = []; letters = Some ts }
       | false ↦ with_label t (bracketed ts)
     ])) e
-    ∙ ap (λ ls. closed ls ts) (append-nil done)
+    ∙ ap (λ ls. closed_brackets ls ts) (append-nil done)
 
 module _ (db : List Statement) (k end : ℕ) where
   -- after labels without faults stands a word that is no label that is usable
@@ -85,7 +85,7 @@ module _ (db : List Statement) (k end : ℕ) where
   pub closed_faults : (labels ls : List Token) (n : ℕ)
       → flat_map (proof_label_faults db k) labels ≡ []
       → n ≡ length (mandatory_hypotheses db k) + length labels
-      → compressed_faults db k end (closed labels ls) ≡ letter_faults n end (letters_of ls)
+      → compressed_faults db k end (closed_brackets labels ls) ≡ letter_faults n end (letters_of ls)
   closed_faults labels ls n sound many =
       ap (λ fs. fs
       ++ letter_faults (length (mandatory_hypotheses db k) + length labels) end (letters_of ls))
@@ -96,7 +96,7 @@ module _ (db : List Statement) (k end : ℕ) where
   pub faults_closed : (text : List ℕ) (words : List Word) (n : ℕ) (xs labels : List ℕ)
       → n < length words → xs ≡ mandatory_hypotheses db k → length labels ≡ length xs + n
       → bracketed (as_tokens text words)
-      ≡ closed (as_tokens text (take n words)) (as_tokens text (drop (n + 1) words))
+      ≡ closed_brackets (as_tokens text (take n words)) (as_tokens text (drop (n + 1) words))
       → flat_map (proof_label_faults db k) (as_tokens text (take n words)) ≡ []
       → compressed_faults db k end (bracketed (as_tokens text words))
       ≡ letter_faults (length labels) end (letters_of (as_tokens text (drop (n + 1) words)))
@@ -111,7 +111,7 @@ module _ (db : List Statement) (k end : ℕ) where
 -- the steps that were read, by the labels and the letters
 pub read_steps : (db : List Statement) (k : ℕ) (p : Compressed) (labels ls : List Token)
     → (xs : List ℕ) (t : ℕ) (steps : List PlacedStep)
-    → p ≡ closed labels ls
+    → p ≡ closed_brackets labels ls
     → xs ≡ mandatory_hypotheses db k ++ flat_map (λ t. usable db k t.word) labels → t ≡ k
     → steps ≡ group_steps xs [] 0 (groups [] (letters_of ls)).0
     → read t steps ≡ read k (compressed_steps db k p)

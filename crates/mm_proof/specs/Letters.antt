@@ -39,8 +39,8 @@ abbrev pub letter : ℕ → ℕ → Letter
 letter at byte = record { at = at; byte = byte }
 
 -- the letters of a word of a text
-abbrev pub letters_in : List ℕ → Word → List Letter
-letters_in text word = letters_from word.start (slice_range text word.start word.end)
+abbrev pub word_letters : List ℕ → Word → List Letter
+word_letters text word = letters_from word.start (slice_range text word.start word.end)
 
 -- the value of early letters
 abbrev pub early_value : List Letter → ℕ
@@ -110,9 +110,9 @@ begun_at None at = record { at = at; value = 0 }
 begun_at (Some b) at = b
 
 -- the step that a number names, if it names one
-abbrev pub named : Option Step → List spec.Step
-named None = []
-named (Some s) = as_step s ∷ []
+abbrev pub named_steps : Option Step → List spec.Step
+named_steps None = []
+named_steps (Some s) = as_step s ∷ []
 
 -- from place `from` on, each token is a word that isn't empty and doesn't begin before the end of
 -- the one before it, and none goes past `end`
@@ -122,8 +122,8 @@ InOrder from (t ∷ ts) end =
     (from ≤ t.at) × (1 ≤ length t.word) × InOrder (t.at + length t.word) ts end
 
 -- brackets that are closed, and the letters after them
-abbrev pub closed : List Token → List Token → Compressed
-closed labels letters = record { labels = labels; letters = Some letters }
+abbrev pub closed_brackets : List Token → List Token → Compressed
+closed_brackets labels letters = record { labels = labels; letters = Some letters }
 
 -- What was read of the labels in brackets: they are the first `n` words, before a `)`. They have no
 -- fault, and the statements that they name were appended to the list `old`.
@@ -131,7 +131,7 @@ pub record ReadsLabels (db : List Statement) (k : ℕ) (text : List ℕ) (words 
     (old new : List ℕ) : Type 0 where
   pub some : n < length words
   pub brackets : bracketed (as_tokens text words)
-      ≡ closed (as_tokens text (take n words)) (as_tokens text (drop (n + 1) words))
+      ≡ closed_brackets (as_tokens text (take n words)) (as_tokens text (drop (n + 1) words))
   pub labels : new
       ≡ old ++ flat_map (λ t. usable db k t.word) (as_tokens text (take n words))
   pub many : length new ≡ length old + n

@@ -9,7 +9,7 @@ ghost use Rattle.mm_proof.specs.Letters.{InOrder, ReadsLabels};
 ghost use Rattle.mm_proof.specs.Refused.{StartsWith};
 
 use crate::labels::usable_label;
-use crate::letters::Progress;
+use crate::letters::LettersRead;
 use crate::refused::{ProofRefused, refused};
 use crate::room::with_room;
 use mm_database::{Code, Database, Word};
@@ -89,7 +89,7 @@ pub(crate) fn read_compressed<A: Allocator + Copy>(
     labels.extend_from_slice(database.frame(theorem).hyps.as_slice())?;
     let count = read_labels(database, theorem, words, end, &mut labels)?;
     let rest = &words[count + 1..];
-    let mut progress = Progress::none(alloc, theorem, labels, letters_room(rest, end));
-    progress.read_all(database.text(), rest, end)?;
-    Ok(progress.into_steps())
+    let mut letters = LettersRead::none(alloc, theorem, labels, letters_room(rest, end));
+    letters.read_all(database.text(), rest, end)?;
+    Ok(letters.into_steps())
 }

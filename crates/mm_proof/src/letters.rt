@@ -8,9 +8,9 @@ ghost use Rattle.mm_outline.specs.Parts.{as_tokens, AreWithin};
 ghost use Rattle.mm_steps.specs.Read.{read, as_step, IsEarlier};
 ghost use Rattle.mm_proof.specs.Number.{IsLetter, saturated};
 ghost use Rattle.mm_proof.specs.declared.digits.LetterKind.TheVariants.{Last};
-ghost use Rattle.mm_proof.specs.Letters.{letters_state, letter, with_number, named, if_begun};
+ghost use Rattle.mm_proof.specs.Letters.{letters_state, letter, with_number, named_steps, if_begun};
 ghost use Rattle.mm_proof.specs.Letters.{InOrder, StandsAt, StandsWith, BeginsAt};
-ghost use Rattle.mm_proof.specs.Letters.{letters_in, ReadsLetters, ReadsAllLetters};
+ghost use Rattle.mm_proof.specs.Letters.{word_letters, ReadsLetters, ReadsAllLetters};
 ghost use Rattle.mm_proof.specs.Letters.{RefusesLetters};
 ghost use Rattle.mm_proof.specs.Refused.{StartsWith};
 
@@ -61,7 +61,7 @@ fn begin_at(number: &mut Begun, at: u32)
 /// What the letters so far stand for, except for a number whose last letter hasn't been read yet.
 /// That number is passed as an argument of its own, so that it stays in registers.
 #[derive(Drop)]
-pub(crate) struct Progress<A: Allocator> {
+pub(crate) struct LettersRead<A: Allocator> {
     /// The statements whose labels have numbers: the theorem's mandatory hypotheses, and those in
     /// brackets.
     labels: Vec<u32, A>,
@@ -70,7 +70,7 @@ pub(crate) struct Progress<A: Allocator> {
     steps: Steps<A>,
 }
 
-impl<A: Allocator> Model for Progress<A> {
+impl<A: Allocator> Model for LettersRead<A> {
     ghost use Rattle.std.specs.Prelude.{None};
     ghost use Rattle.mm_proof.specs.Letters.{LettersState, letters_state};
 
@@ -80,7 +80,7 @@ impl<A: Allocator> Model for Progress<A> {
         p.steps.steps };
 }
 
-impl<A: Allocator> Progress<A> {
+impl<A: Allocator> LettersRead<A> {
     /// No letters read yet, of at most `most` letters. `labels` has the statements whose labels
     /// have numbers.
     pub(crate) fn none(alloc: A, theorem: u32, labels: Vec<u32, A>, most: usize) -> Self
@@ -88,7 +88,7 @@ impl<A: Allocator> Progress<A> {
         A: Copy,
         ensures { result ≡ letters_state theorem labels.items [] None [] }
     {
-        Progress {
+        LettersRead {
             labels,
             marks: with_room(alloc, ROOM),
             steps: Steps::none(alloc, theorem, most),
@@ -107,7 +107,7 @@ impl<A: Allocator> Progress<A> {
     fn named(&self, value: u64) -> Option<Step>
         requires { 0 < value }
         ensures step { (n : ℕ) → value ≡ saturated n
-            → step_of self.now.labels self.now.marks n ≡ named result }
+            → step_of self.now.labels self.now.marks n ≡ named_steps result }
         ensures large { IfNone result
             ((n : ℕ) → value ≡ saturated n → length self.now.labels + length self.now.marks < n) }
         ensures earlier { IfSome result
@@ -221,11 +221,11 @@ impl<A: Allocator> Progress<A> {
         requires stands { StandsAt self.old word.start }
         ensures stands { OnOk result (StandsAt self.new word.end) }
         ensures reads { OnOk result
-            (ReadsLetters (with_number self.old (if_begun number.old)) (letters_in text.now word)
+            (ReadsLetters (with_number self.old (if_begun number.old)) (word_letters text.now word)
             (with_number self.new (if_begun number.new))) }
         ensures refuses { IfErr result
             (λ e. RefusesLetters (with_number self.old (if_begun number.old))
-            (letters_in text.now word) e) }
+            (word_letters text.now word) e) }
     {
         begin_at(number, word.start);
         for i in word.start as usize..word.end as usize {

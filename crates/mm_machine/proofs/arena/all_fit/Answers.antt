@@ -3,7 +3,7 @@ use Rattle.std.proofs.Common.{bytes_eq, sym}
 use Rattle.std.proofs.Common.{ap, ◌∙◌, subst, arith}
 use Rattle.std.proofs.lemmas.Grind.{common_steps}
 use Rattle.mm_rule.specs.Rule.{Compiled}
-use Rattle.mm_machine.specs.Arena.{nothing, text_of}
+use Rattle.mm_machine.specs.Arena.{no_symbols, span_formula}
 use Rattle.mm_machine.specs.Replaced.{replaced}
 use Rattle.mm_machine.proofs.FitLaw.{fit_from, fit_end, fit_next, kept_next, IsTested}
 use Rattle.mm_machine.proofs.FitLaw.{typed_tested, essential_tested}
@@ -60,7 +60,7 @@ returns-then-not-is_one c =
       | in-Essential w ↦ let n = w.in-Essential.count in
           essential_tested xs es parts hs j at h one next n w.in-Essential.is
           (w.is_one-is ∙ w.fits-is_one.ensures
-          ∙ ap (λ z. bytes_eq (text_of xs (get_or es j nothing))
+          ∙ ap (λ z. bytes_eq (span_formula xs (get_or es j no_symbols))
           (replaced xs es (take ((at + n) - at) (drop at z)))) parts_are) w.at-is
     ] in
     sym (c.loop-j.invariant.left
@@ -93,7 +93,7 @@ loop-j-preserved c =
       | in-Essential w ↦ let n = w.in-Essential.count in
           essential_tested xs es parts hs j at h one next n w.in-Essential.is
           (w.is_one-is ∙ w.fits-is_one.ensures
-          ∙ ap (λ z. bytes_eq (text_of xs (get_or es j nothing))
+          ∙ ap (λ z. bytes_eq (span_formula xs (get_or es j no_symbols))
           (replaced xs es (take ((at + n) - at) (drop at z)))) parts_are) w.at-is
     ] in
     record {

@@ -4,11 +4,11 @@ use Rattle.std.proofs.lemmas.Result.{IfOk-from_err}
 use Rattle.std.proofs.lemmas.Bool.{lt-leb}
 use Rattle.std.proofs.lemmas.List.{take_all}
 use Rattle.mm_spec.specs.Limits.{formula_limit}
-use Rattle.mm_machine.specs.Arena.{text_of}
+use Rattle.mm_machine.specs.Arena.{span_formula}
 use Rattle.mm_machine.specs.Replaced.{replaced_part, replaced}
 use Rattle.mm_machine.proofs.GrowLaw.{variable_in}
 use Rattle.mm_machine.proofs.LongerLaw.{longer, replaced_more}
-use Rattle.mm_machine.proofs.arena.build.Goals.{in-Variable+in_ok-append_text-in-Variable+else-len-gt-FORMULA_LIMIT}
+use Rattle.mm_machine.proofs.arena.build.Goals.{in-Variable+in_ok-append_symbols-in-Variable+else-len-gt-FORMULA_LIMIT}
 use Rattle.mm_machine.proofs.arena.build.Goals.{in-Constant+in_ok-push-in-Constant}
 use Rattle.mm_machine.proofs.arena.build.Goals as goal
 
@@ -19,15 +19,15 @@ returns-then-len-gt-FORMULA_LIMIT-clause-short g c =
     let es = c.args.premises.now in
     let f = c.args.formula.now in
     let i = c.loop-part.part-index in
-    let u = c.text.result.now in
+    let u = c.formula.result.now in
     let inside : i < length f = c.loop-part-test.true in
     let is : replaced_part xs es c.part-item.result ≡ u =
     ap (replaced_part xs es) c.in-Variable.is
-    ∙ sym (c.text.ensures ∙ ap (text_of xs) c.span_of.ensures) in
+    ∙ sym (c.formula.ensures ∙ ap (span_formula xs) c.span_of.ensures) in
     let l : length (replaced xs es (take i f)) + length u ≤ length (replaced xs es f) =
     longer xs es f i c.part-item.result u inside (sym c.part-item.is) is in
-    let m : length c.append_text.new.list.items ≡ length (replaced xs es (take i f)) + length u =
-    ap length c.in_ok-append_text-in-Variable.ensures ∙ length-append c.loop-part.made.items u
+    let m : length c.append_symbols.new.list.items ≡ length (replaced xs es (take i f)) + length u =
+    ap length c.in_ok-append_symbols-in-Variable.ensures ∙ length-append c.loop-part.made.items u
     ∙ ap (λ z. length z + length u) c.loop-part.invariant in
     sym (lt-leb (length (replaced xs es f)) formula_limit
     (omega (arith, l, m, c.len.ensures, c.if-len-gt-FORMULA_LIMIT.true)))
@@ -35,8 +35,8 @@ returns-then-len-gt-FORMULA_LIMIT-clause-short g c =
 pub offset_bounds-formula-part-index : goal.offset_bounds-formula-part-index
 offset_bounds-formula-part-index g c = omega arith
 
-pub text-requires : goal.text-requires
-text-requires g c =
+pub formula-requires : goal.formula-requires
+formula-requires g c =
     variable_in c.args.symbols.now c.args.premises.now c.args.formula.now c.loop-part.part-index
     c.part-item.result c.in-Variable.j c.span_of.result c.requires.premises c.requires.formula
     c.loop-part-test.true c.part-item.is c.in-Variable.is c.span_of.ensures
@@ -57,11 +57,11 @@ loop-part-preserved g c =
     replaced_more xs es f i p c.loop-part-test.true
     ∙ ap (λ z. replaced xs es (take i f) ++ replaced_part xs es z) (sym c.part-item.is) in
     elim c.match-part.branch [
-      | in-Variable+in_ok-append_text-in-Variable+else-len-gt-FORMULA_LIMIT w ↦
-          let is : w.text.result.now ≡ replaced_part xs es p =
-          w.text.ensures ∙ ap (text_of xs) w.span_of.ensures
+      | in-Variable+in_ok-append_symbols-in-Variable+else-len-gt-FORMULA_LIMIT w ↦
+          let is : w.formula.result.now ≡ replaced_part xs es p =
+          w.formula.ensures ∙ ap (span_formula xs) w.span_of.ensures
           ∙ sym (ap (replaced_part xs es) w.in-Variable.is) in
-          rw (w.made-is, w.in_ok-append_text-in-Variable.ensures)
+          rw (w.made-is, w.in_ok-append_symbols-in-Variable.ensures)
           (ap₂ (λ u v. u ++ v) c.loop-part.invariant is ∙ sym next)
       | in-Constant+in_ok-push-in-Constant w ↦
           rw (w.made-is, w.in_ok-push-in-Constant.ensures.items)
@@ -83,14 +83,14 @@ returns-clause-made g c = λ short.
     c.loop-part.invariant ∙ ap (replaced c.args.symbols.now c.args.premises.now)
     (take_all c.loop-part.part-index c.args.formula.now c.loop-part-test.false)
 
-pub returns-in_err-append_text-in-Variable-clause-short :
-    goal.returns-in_err-append_text-in-Variable-clause-short
-returns-in_err-append_text-in-Variable-clause-short g c =
+pub returns-in_err-append_symbols-in-Variable-clause-short :
+    goal.returns-in_err-append_symbols-in-Variable-clause-short
+returns-in_err-append_symbols-in-Variable-clause-short g c =
     IfOk-from_err c.from_residual.result _ c.from_residual.ensures.0
 
-pub returns-in_err-append_text-in-Variable-clause-made :
-    goal.returns-in_err-append_text-in-Variable-clause-made
-returns-in_err-append_text-in-Variable-clause-made g c =
+pub returns-in_err-append_symbols-in-Variable-clause-made :
+    goal.returns-in_err-append_symbols-in-Variable-clause-made
+returns-in_err-append_symbols-in-Variable-clause-made g c =
     IfOk-from_err c.from_residual.result _ c.from_residual.ensures.0
 
 pub returns-in_err-push-in-Constant-clause-short : goal.returns-in_err-push-in-Constant-clause-short

@@ -4,9 +4,9 @@ use Rattle.std.specs.List.{starts_with}
 use Rattle.std.proofs.lemmas.Grind.{common_steps}
 use Rattle.std.proofs.lemmas.List.{get_or_default}
 use Rattle.std.proofs.lemmas.Bool.{not-false}
-use Rattle.mm_machine.specs.Arena.{symbols_of, text_of}
+use Rattle.mm_machine.specs.Arena.{symbols_of, span_formula}
 use Rattle.mm_machine.specs.Replaced.{replaced_part}
-use Rattle.mm_machine.proofs.StretchLaw.{one_more, rest_fits, first_is, fits_in, length_text}
+use Rattle.mm_machine.proofs.StretchLaw.{one_more, rest_fits, first_is, fits_in, length_formula}
 use Rattle.mm_machine.proofs.arena.fits.Goals.{in-Variable+else-not-begins}
 use Rattle.mm_machine.proofs.arena.fits.Goals.{in-Constant+else-at-premise+else-ne}
 use Rattle.mm_machine.proofs.GrowLaw.{variable_in}
@@ -23,15 +23,15 @@ returns-then-not-begins c =
     let e = c.args.premise.end in
     let p = c.span_of-span.result in
     let inside : i < length w = c.loop-part-test.true in
-    let is : replaced_part arena es c.part-item.result ≡ text_of arena p =
+    let is : replaced_part arena es c.part-item.result ≡ span_formula arena p =
     ap (replaced_part arena es) c.in-Variable.is
-    ∙ sym (ap (text_of arena) c.span_of-span.ensures) in
-    let no : starts_with nat_eq (slice_range xs a e) (text_of arena p) ≡ false =
+    ∙ sym (ap (span_formula arena) c.span_of-span.ensures) in
+    let no : starts_with nat_eq (slice_range xs a e) (span_formula arena p) ≡ false =
     sym c.begins.ensures.value ∙ c.if-not-begins.true in
     sym (c.loop-part.invariant.left
-    ∙ one_more arena es xs w i a e inside c.part-item.result (text_of arena p)
+    ∙ one_more arena es xs w i a e inside c.part-item.result (span_formula arena p)
     (sym c.part-item.is) is
-    ∙ ap (λ b. b && rest_fits arena es xs w i a e inside (length (text_of arena p))) no)
+    ∙ ap (λ b. b && rest_fits arena es xs w i a e inside (length (span_formula arena p))) no)
 
 pub loop-part-preserved : goal.loop-part-preserved
 loop-part-preserved c =
@@ -46,15 +46,15 @@ loop-part-preserved c =
     elim c.match-part.branch [
       | in-Variable+else-not-begins b ↦
           let p = b.span_of-span.result in
-          let is : replaced_part arena es c.part-item.result ≡ text_of arena p =
+          let is : replaced_part arena es c.part-item.result ≡ span_formula arena p =
           ap (replaced_part arena es) b.in-Variable.is
-          ∙ sym (ap (text_of arena) b.span_of-span.ensures) in
-          let yes : starts_with nat_eq (slice_range xs a e) (text_of arena p) ≡ true =
+          ∙ sym (ap (span_formula arena) b.span_of-span.ensures) in
+          let yes : starts_with nat_eq (slice_range xs a e) (span_formula arena p) ≡ true =
           sym b.begins.ensures.value ∙ b.if-not-begins.false in
-          let upto : a + length (text_of arena p) ≤ e =
-          fits_in xs a e (text_of arena p) c.loop-part.invariant.upto yes in
-          let long : length (text_of arena p) ≡ p.end - p.start =
-          length_text arena p
+          let upto : a + length (span_formula arena p) ≤ e =
+          fits_in xs a e (span_formula arena p) c.loop-part.invariant.upto yes in
+          let long : length (span_formula arena p) ≡ p.end - p.start =
+          length_formula arena p
           (variable_in arena es w i c.part-item.result b.in-Variable.j p c.requires.premises
           c.requires.wanted inside c.part-item.is b.in-Variable.is b.span_of-span.ensures) in
           rw b.at-is (record {
@@ -62,9 +62,10 @@ loop-part-preserved c =
             upto = omega (arith, upto, long);
             left =
                 c.loop-part.invariant.left
-                ∙ one_more arena es xs w i a e inside c.part-item.result (text_of arena p)
+                ∙ one_more arena es xs w i a e inside c.part-item.result (span_formula arena p)
                 (sym c.part-item.is) is
-                ∙ ap (λ z. z && rest_fits arena es xs w i a e inside (length (text_of arena p))) yes
+                ∙ ap (λ z. z
+                && rest_fits arena es xs w i a e inside (length (span_formula arena p))) yes
                 ∙ ap (rest_fits arena es xs w i a e inside) long;
           })
       | in-Constant+else-at-premise+else-ne b ↦

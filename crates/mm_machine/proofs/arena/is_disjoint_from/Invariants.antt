@@ -1,7 +1,7 @@
 use Rattle.std.proofs.Common.{◌≡◌, take, true}
 use Rattle.mm_spec.specs.Derivation.{is_disjoint_from}
 use Rattle.mm_spec.specs.Citation.{context_at}
-use Rattle.mm_machine.specs.Arena.{AreDisjointAt}
+use Rattle.mm_machine.specs.DisjointCache.{AreDisjointAt}
 use Rattle.mm_machine.proofs.arena.is_disjoint_from.Given as goal
 
 abbrev pub invariant-loop-t : goal.invariant-loop-t

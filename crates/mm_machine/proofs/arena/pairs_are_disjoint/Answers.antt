@@ -7,9 +7,9 @@ use Rattle.std.proofs.Math.Bool.{and-false}
 use Rattle.mm_spec.specs.Derivation.{are_all_disjoint}
 use Rattle.mm_spec.specs.Citation.{context_at}
 use Rattle.mm_spec.specs.Frame.{symbol_names}
-use Rattle.mm_machine.specs.Arena.{text_of}
+use Rattle.mm_machine.specs.Arena.{span_formula}
 use Rattle.mm_machine.specs.Replaced.{stands}
-use Rattle.mm_machine.proofs.GrowLaw.{text_known, premise_in}
+use Rattle.mm_machine.proofs.GrowLaw.{symbols_known, premise_in}
 use Rattle.mm_machine.proofs.arena.pairs_are_disjoint.Goals as goal
 
 -- a pair that fails
@@ -27,8 +27,9 @@ returns-then-not-are_all_disjoint-clause-value g c =
     let es = c.args.premises.now in
     let p = get_or c.args.pairs.now c.loop-pair.pair-index (0, 0) in
     let fails : are_all_disjoint context (stands xs es p.0) (stands xs es p.1) ≡ false =
-    ap₂ (are_all_disjoint context) (sym (c.text-first.ensures ∙ ap (text_of xs) c.span_of.ensures))
-    (sym (c.text-second.ensures ∙ ap (text_of xs) c.span_of-in-loop-pair.ensures))
+    ap₂ (are_all_disjoint context)
+    (sym (c.formula-first.ensures ∙ ap (span_formula xs) c.span_of.ensures))
+    (sym (c.formula-second.ensures ∙ ap (span_formula xs) c.span_of-in-loop-pair.ensures))
     ∙ sym c.are_all_disjoint.ensures.value ∙ c.if-not-are_all_disjoint.true in
     sym (fails_at
     (λ (q : ℕ × ℕ). are_all_disjoint context (stands xs es q.0) (stands xs es q.1)) c.args.pairs.now
@@ -37,21 +38,21 @@ returns-then-not-are_all_disjoint-clause-value g c =
 pub are_all_disjoint-requires-clause-second : goal.are_all_disjoint-requires-clause-second
 are_all_disjoint-requires-clause-second g c =
     let n = length (symbol_names c.args.db.now.statements) in
-    subst (All (λ s. s < n)) (sym c.text-second.ensures)
-    (text_known n c.args.symbols.now c.span_of-in-loop-pair.result c.requires.premises.known.own
+    subst (All (λ s. s < n)) (sym c.formula-second.ensures)
+    (symbols_known n c.args.symbols.now c.span_of-in-loop-pair.result c.requires.premises.known.own
     c.requires.premises.known.kept)
 
 pub offset_bounds-pairs-pair-index : goal.offset_bounds-pairs-pair-index
 offset_bounds-pairs-pair-index g c = omega arith
 
-pub text-first-requires : goal.text-first-requires
-text-first-requires g c =
+pub formula-first-requires : goal.formula-first-requires
+formula-first-requires g c =
     premise_in c.args.symbols.now c.args.premises.now _ c.span_of.result
     c.requires.premises.inside
     (c.requires.pairs c.loop-pair.pair-index (0, 0) c.loop-pair-test.true).0 c.span_of.ensures
 
-pub text-second-requires : goal.text-second-requires
-text-second-requires g c =
+pub formula-second-requires : goal.formula-second-requires
+formula-second-requires g c =
     premise_in c.args.symbols.now c.args.premises.now _ c.span_of-in-loop-pair.result
     c.requires.premises.inside
     (c.requires.pairs c.loop-pair.pair-index (0, 0) c.loop-pair-test.true).1
@@ -62,8 +63,8 @@ are_all_disjoint-requires-clause-theorem g c = c.requires.theorem
 
 pub are_all_disjoint-requires-clause-first : goal.are_all_disjoint-requires-clause-first
 are_all_disjoint-requires-clause-first g c = let n = length (symbol_names c.args.db.now.statements) in
-    subst (All (λ s. s < n)) (sym c.text-first.ensures)
-    (text_known n c.args.symbols.now c.span_of.result c.requires.premises.known.own
+    subst (All (λ s. s < n)) (sym c.formula-first.ensures)
+    (symbols_known n c.args.symbols.now c.span_of.result c.requires.premises.known.own
     c.requires.premises.known.kept)
 
 pub are_all_disjoint-requires-clause-cache : goal.are_all_disjoint-requires-clause-cache

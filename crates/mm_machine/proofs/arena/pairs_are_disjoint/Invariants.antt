@@ -2,7 +2,7 @@ use Rattle.std.proofs.Common.{◌≡◌, ℕ, take, true}
 use Rattle.std.specs.List.{list_all}
 use Rattle.mm_spec.specs.Derivation.{are_all_disjoint}
 use Rattle.mm_spec.specs.Citation.{context_at}
-use Rattle.mm_machine.specs.Arena.{AreDisjointAt}
+use Rattle.mm_machine.specs.DisjointCache.{AreDisjointAt}
 use Rattle.mm_machine.specs.Replaced.{stands}
 use Rattle.mm_machine.proofs.arena.pairs_are_disjoint.Given as goal
 

@@ -6,8 +6,8 @@ use Rattle.mm_machine.proofs.fill.fill.Goals as goal
 pub offset_bounds-formula-part-index : goal.offset_bounds-formula-part-index
 offset_bounds-formula-part-index c = omega arith
 
-pub text-text-requires : goal.text-text-requires
-text-text-requires c =
+pub formula-replacement-requires : goal.formula-replacement-requires
+formula-replacement-requires c =
     variable_in c.args.symbols.now c.args.premises.now c.args.formula.now c.loop-part.part-index
     c.part-item.result c.in-Variable.j c.span_of.result c.requires.premises c.requires.formula
     c.loop-part-test.true c.part-item.is c.in-Variable.is c.span_of.ensures
@@ -15,17 +15,17 @@ text-text-requires c =
 pub overflow_add-room : goal.overflow_add-room
 overflow_add-room c = omega arith
 
-pub returns-then-text-room-clause-within : goal.returns-then-text-room-clause-within
-returns-then-text-room-clause-within c = tt
+pub returns-then-replacement-room-clause-within : goal.returns-then-replacement-room-clause-within
+returns-then-replacement-room-clause-within c = tt
 
-pub returns-then-text-room-clause-short : goal.returns-then-text-room-clause-short
-returns-then-text-room-clause-short c = tt
+pub returns-then-replacement-room-clause-short : goal.returns-then-replacement-room-clause-short
+returns-then-replacement-room-clause-short c = tt
 
-pub returns-then-text-room-clause-is : goal.returns-then-text-room-clause-is
-returns-then-text-room-clause-is c = tt
+pub returns-then-replacement-room-clause-is : goal.returns-then-replacement-room-clause-is
+returns-then-replacement-room-clause-is c = tt
 
-pub put_text-requires : goal.put_text-requires
-put_text-requires c = omega arith
+pub put_symbols-requires : goal.put_symbols-requires
+put_symbols-requires c = omega arith
 
 pub overflow_add-room-in-Variable : goal.overflow_add-room-in-Variable
 overflow_add-room-in-Variable c = omega arith

@@ -5,24 +5,24 @@ use Rattle.mm_machine.proofs.fill.put_ends.Goals as goal
 
 pub returns-clause-is : goal.returns-clause-is
 returns-clause-is c =
-    let text = c.args.text.now in
+    let symbols = c.args.symbols.now in
     let w = c.args.width in
     let many = c.requires.many in
     let few = c.requires.few in
     let room = c.requires.room in
-    let end = take_rest text (length text - w) in
+    let end = take_rest symbols (length symbols - w) in
     let long = ap length end in
-    let dropped = length-drop (length text - w) text in
-    put_twice c.args.list.now c.put_width.new.list c.put_width-2.new.list text _ _ c.args.at w _
+    let dropped = length-drop (length symbols - w) symbols in
+    put_twice c.args.list.now c.put_width.new.list c.put_width-2.new.list symbols _ _ c.args.at w _
     (omega (arith, many)) (omega (arith, few)) (omega (arith, room)) refl end
-    (length-take-le w text many) (omega (arith, long, dropped, many)) c.put_width.ensures.is
+    (length-take-le w symbols many) (omega (arith, long, dropped, many)) c.put_width.ensures.is
     c.put_width-2.ensures.is
 
 pub overflow_sub-left : goal.overflow_sub-left
 overflow_sub-left c = omega arith
 
-pub offset_bounds-text-left : goal.offset_bounds-text-left
-offset_bounds-text-left c = omega arith
+pub offset_bounds-symbols-left : goal.offset_bounds-symbols-left
+offset_bounds-symbols-left c = omega arith
 
 pub slice_bounds-put_width-count : goal.slice_bounds-put_width-count
 slice_bounds-put_width-count c = omega arith

@@ -2,11 +2,11 @@ use Rattle.std.proofs.Common.{arith}
 use Rattle.std.proofs.lemmas.Grind.{common_steps}
 use Rattle.mm_machine.proofs.fill.put_two.Goals as goal
 
-pub bounds-text-0 : goal.bounds-text-0
-bounds-text-0 c = omega arith
+pub bounds-symbols-0 : goal.bounds-symbols-0
+bounds-symbols-0 c = omega arith
 
-pub bounds-text-1 : goal.bounds-text-1
-bounds-text-1 c = omega arith
+pub bounds-symbols-1 : goal.bounds-symbols-1
+bounds-symbols-1 c = omega arith
 
 pub overflow_add-at : goal.overflow_add-at
 overflow_add-at c = omega arith

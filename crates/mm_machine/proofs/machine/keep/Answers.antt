@@ -3,7 +3,7 @@ use Rattle.std.proofs.Common.{sym, ap, ap₂, ◌∙◌, arith, rules}
 use Rattle.std.proofs.lemmas.Result.{IfOk-from_err}
 use Rattle.std.proofs.lemmas.List.{get_or_default}
 use Rattle.mm_machine.specs.declared.arena.Store.TheVariants.{Kept}
-use Rattle.mm_machine.specs.Arena.{span, nothing}
+use Rattle.mm_machine.specs.Arena.{span, no_symbols}
 use Rattle.mm_machine.proofs.FollowLaw.{kept_top, kept_top_is, IsMoved, moved_here, no_move}
 use Rattle.mm_machine.proofs.machine.keep.Given.{Over}
 use Rattle.mm_machine.proofs.machine.keep.Goals as goal
@@ -26,8 +26,8 @@ returns-in-Kept-clause-made g c =
     let e = c.index-entry.result.now in
     let long : c.len-last.result ≡ length es = search rules in
     let is_last : last + 1 ≡ length es = omega (arith, long, c.requires.entry) in
-    let is : e ≡ get_or es last nothing =
-    c.index-entry.ensures ∙ sym (get_or_default es last nothing e (omega (arith, is_last))) in (
+    let is : e ≡ get_or es last no_symbols =
+    c.index-entry.ensures ∙ sym (get_or_default es last no_symbols e (omega (arith, is_last))) in (
       kept_top own kept es last e is_last is c.requires.stack c.in-Kept.is,
       kept_top_is own kept es
           last e is_last is c.requires.stack c.in-Kept.is,
@@ -48,8 +48,8 @@ moved g c =
     let e = c.index-entry.result.now in
     let long : c.len-last.result ≡ length es = search rules in
     let is_last : last + 1 ≡ length es = omega (arith, long, c.requires.entry) in
-    let is : e ≡ get_or es last nothing =
-    c.index-entry.ensures ∙ sym (get_or_default es last nothing e (omega (arith, is_last))) in
+    let is : e ≡ get_or es last no_symbols =
+    c.index-entry.ensures ∙ sym (get_or_default es last no_symbols e (omega (arith, is_last))) in
     let more = slice_range own e.start e.end in
     let grown : c.append.new.self ≡ kept ++ more =
     c.in_ok-append-in-Own.ensures.all
@@ -67,9 +67,9 @@ pub returns-in_ok-append-in-Own-clause-stack :
     goal.returns-in_ok-append-in-Own-clause-stack
 returns-in_ok-append-in-Own-clause-stack g c = (moved g c).is_stack
 
-pub returns-in_ok-append-in-Own-clause-texts :
-    goal.returns-in_ok-append-in-Own-clause-texts
-returns-in_ok-append-in-Own-clause-texts g c = (moved g c).says
+pub returns-in_ok-append-in-Own-clause-formulas :
+    goal.returns-in_ok-append-in-Own-clause-formulas
+returns-in_ok-append-in-Own-clause-formulas g c = (moved g c).says
 
 pub returns-in_ok-append-in-Own-clause-moved :
     goal.returns-in_ok-append-in-Own-clause-moved
@@ -86,8 +86,8 @@ overflow_sub-last g c = omega arith
 pub returns-in-Kept-clause-stack : goal.returns-in-Kept-clause-stack
 returns-in-Kept-clause-stack g c = c.requires.stack
 
-pub returns-in-Kept-clause-texts : goal.returns-in-Kept-clause-texts
-returns-in-Kept-clause-texts g c = refl
+pub returns-in-Kept-clause-formulas : goal.returns-in-Kept-clause-formulas
+returns-in-Kept-clause-formulas g c = refl
 
 pub returns-in_err-append-in-Own-clause-made : goal.returns-in_err-append-in-Own-clause-made
 returns-in_err-append-in-Own-clause-made g c =

@@ -9,8 +9,8 @@ returns-clause-stack g c = λ w kept known is.
     c.cut.new.stack.items c.cut.ensures.stack c.cut.ensures.own w is)
     known c.add.ensures.own c.add.ensures.stack c.add.ensures.same_own c.add.ensures.same_stack
 
-pub returns-clause-texts : goal.returns-clause-texts
-returns-clause-texts g c =
+pub returns-clause-formulas : goal.returns-clause-formulas
+returns-clause-formulas g c =
     put_says c.add.result c.args.own.now c.cut.new.own c.add.new.own c.args.made.now
     c.args.stack.now.items c.cut.new.stack.items c.add.new.stack.items c.args.below
     c.cut.ensures.stack c.cut.ensures.own c.add.ensures.own c.add.ensures.stack

@@ -38,7 +38,7 @@ returns-in-Ok-clause-made g c =
     (take c.in-Some.n c.fill.new.list)
     (made_here g (goal.at.returns-in-Ok-clause-made g c).In-Some)
     (short_enough c.in-Some.n c.fill.new.list c.in-Some.ensures.short)
-    ∙ ap Ok (sym (c.in-Ok.ensures.texts c.args.kept.now c.requires.stack))
+    ∙ ap Ok (sym (c.in-Ok.ensures.formulas c.args.kept.now c.requires.stack))
 
 pub fill-requires-clause-premises : goal.fill-requires-clause-premises
 fill-requires-clause-premises g c =

@@ -42,7 +42,7 @@ returns-in-Ok-clause-made g c =
     (made_here g (goal.at.returns-in-Ok-clause-made g c).After-put)
     (ap (λ z. nat_le (length z) formula_limit) first ∙ sym c.in-Ok-true.ensures.short
     ∙ c.in-Ok-true.field-0-test)
-    ∙ ap Ok (sym (c.in-Ok.ensures.texts c.args.kept.now c.requires.stack))
+    ∙ ap Ok (sym (c.in-Ok.ensures.formulas c.args.kept.now c.requires.stack))
 
 pub returns-in-Ok-false-clause-stopped : goal.returns-in-Ok-false-clause-stopped
 returns-in-Ok-false-clause-stopped g c =

@@ -27,7 +27,7 @@ returns-clause-steps g c =
     let words = c.args.words.now in
     let n = c.in_ok-count.count in
     let steps =
-    rw (c.none-progress.ensures, c.text.ensures, take_rest) at
+    rw (c.none-letters.ensures, c.text.ensures, take_rest) at
     c.in_ok-read_all.ensures.reads.steps in
     let hypotheses =
     c.in_ok-extend_from_slice.ensures.items
@@ -39,7 +39,7 @@ returns-clause-steps g c =
     ++ flat_map (λ t. usable db c.args.theorem t.word) (as_tokens text (take n words)))
     hypotheses in
     let theorem =
-    c.in_ok-read_all.ensures.reads.theorem ∙ ap (λ s. s.theorem) c.none-progress.ensures in
+    c.in_ok-read_all.ensures.reads.theorem ∙ ap (λ s. s.theorem) c.none-letters.ensures in
     c.into_steps.ensures
     ∙ read_steps db c.args.theorem (bracketed (as_tokens text words))
     (as_tokens text (take n words))
@@ -91,8 +91,8 @@ read_labels-requires-clause-within g c = c.requires.within
 
 pub read_all-requires-clause-none : goal.read_all-requires-clause-none
 read_all-requires-clause-none g c =
-    c.none-progress.ensures
-    ∙ sym (ap (λ s. letters_state s.theorem s.labels [] None []) c.none-progress.ensures)
+    c.none-letters.ensures
+    ∙ sym (ap (λ s. letters_state s.theorem s.labels [] None []) c.none-letters.ensures)
 
 pub offset_bounds-words-count : goal.offset_bounds-words-count
 offset_bounds-words-count g c =
@@ -125,7 +125,7 @@ returns-clause-sound g c =
     c.read_labels.new.labels.items c.in_ok-count.ensures.labels.some hypotheses
     c.in_ok-count.ensures.labels.many c.in_ok-count.ensures.labels.brackets
     c.in_ok-count.ensures.labels.sound
-    ∙ rw (c.none-progress.ensures, c.text.ensures, take_rest) at c.in_ok-read_all.ensures.reads.sound
+    ∙ rw (c.none-letters.ensures, c.text.ensures, take_rest) at c.in_ok-read_all.ensures.reads.sound
 
 pub returns-in_err-read_all-clause-fault : goal.returns-in_err-read_all-clause-fault
 returns-in_err-read_all-clause-fault g c =
@@ -140,7 +140,7 @@ returns-in_err-read_all-clause-fault g c =
     c.in_ok-count.ensures.labels.many c.in_ok-count.ensures.labels.brackets
     c.in_ok-count.ensures.labels.sound in
     let fault =
-    rw (c.none-progress.ensures, c.text.ensures, take_rest) at c.in_err-read_all.ensures.fault in
+    rw (c.none-letters.ensures, c.text.ensures, take_rest) at c.in_err-read_all.ensures.fault in
     err_same c.from_residual-in_err-read_all.result c.in_err-read_all.field-0.0 _
     c.from_residual-in_err-read_all.ensures.1
     (subst (λ fs. StartsWith fs c.in_err-read_all.field-0.0) (sym faults) fault)

@@ -1,4 +1,4 @@
-use Rattle.mm_machine.specs.Arena.{AreDisjointAt}
+use Rattle.mm_machine.specs.DisjointCache.{AreDisjointAt}
 use Rattle.mm_machine.proofs.disjoint_cache.DisjointCache.restart.Given as goal
 
 abbrev pub invariant-loop-pair : goal.invariant-loop-pair

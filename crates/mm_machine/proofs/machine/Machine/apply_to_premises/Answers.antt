@@ -1,7 +1,7 @@
 use Rattle.std.proofs.Common.{arith, ◌≡◌, [], length, Ok, Err, ap, ◌∙◌, subst, refl}
 use Rattle.mm_spec.specs.Frame.{symbol_names}
 use Rattle.mm_machine.specs.Arena.{arena}
-use Rattle.mm_machine.specs.State.{MachineState, machine_state, TestsRule, texts, applied}
+use Rattle.mm_machine.specs.State.{MachineState, machine_state, TestsRule, span_formulas, applied}
 use Rattle.mm_machine.specs.State.{reason_of}
 use Rattle.mm_machine.specs.Stops.{IsApplied}
 use Rattle.mm_machine.proofs.PlacedLaw.{judged_here, step_made, step_entry, step_stopped}
@@ -60,10 +60,10 @@ returns-in-Ok-clause-step g c =
     let a = c.args.rule.now.assertion in
     let done = c.put_formula in
     let judged = tested g (goal.at.returns-in-Ok-clause-step g c).In-Ok in
-    let formulas = texts (arena [] i.kept) i.marked.items in
-    let entries = texts (arena i.own i.kept) i.stack.items in
+    let formulas = span_formulas (arena [] i.kept) i.marked.items in
+    let entries = span_formulas (arena i.own i.kept) i.stack.items in
     let before = machine_state entries i.marks.items formulas i.width in
-    let left = texts (arena done.new.own i.kept) done.new.stack.items in
+    let left = span_formulas (arena done.new.own i.kept) done.new.stack.items in
     let after = machine_state left i.marks.items formulas i.width in
     subst (λ (s : MachineState). IsApplied db t a s after done.result) c.self.view_is
     (applied_of db t a before after done.result

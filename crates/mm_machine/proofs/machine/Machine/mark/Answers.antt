@@ -3,8 +3,8 @@ use Rattle.std.proofs.lemmas.Result.{IfOk-from_err}
 use Rattle.std.proofs.lemmas.Grind.{common_steps}
 use Rattle.mm_spec.specs.Laws.Stack.{top}
 use Rattle.mm_machine.specs.Arena.{arena}
-use Rattle.mm_machine.specs.State.{machine_state, texts}
-use Rattle.mm_machine.proofs.KeepLaw.{moved_machine, marked_more, both_more, marked_texts}
+use Rattle.mm_machine.specs.State.{machine_state, span_formulas}
+use Rattle.mm_machine.proofs.KeepLaw.{moved_machine, marked_more, both_more, marked_formulas}
 use Rattle.mm_machine.proofs.machine.Machine.mark.Goals as goal
 
 pub invariant_of-self : goal.invariant_of-self
@@ -52,15 +52,15 @@ pub returns-clause-ok : goal.returns-clause-ok
 returns-clause-ok g c =
     let i = c.self.inside in
     let new = c.keep.new in
-    let old = texts (arena i.own i.kept) i.stack.items in
-    let kept : texts (arena [] new.kept) c.push.new.self.items
-    ≡ texts (arena [] i.kept) i.marked.items ++ top old ∷ [] =
-    ap (texts (arena [] new.kept)) c.in_ok-push.ensures.items
-    ∙ marked_texts i.own i.kept new.own new.kept i.marked.items
+    let old = span_formulas (arena i.own i.kept) i.stack.items in
+    let kept : span_formulas (arena [] new.kept) c.push.new.self.items
+    ≡ span_formulas (arena [] i.kept) i.marked.items ++ top old ∷ [] =
+    ap (span_formulas (arena [] new.kept)) c.in_ok-push.ensures.items
+    ∙ marked_formulas i.own i.kept new.own new.kept i.marked.items
     c.in_ok-made.made
     (top old) c.keep.ensures.moved c.self.invariant.marked_in c.in_ok-made.ensures.made.1 in
     ap (λ z. machine_state z c.push-2.new.self.items
-    (texts (arena [] new.kept) c.push.new.self.items) i.width) c.keep.ensures.texts
+    (span_formulas (arena [] new.kept) c.push.new.self.items) i.width) c.keep.ensures.formulas
     ∙ ap₂ (λ m f. machine_state old m f i.width) c.in_ok-push-2.ensures.items kept
     ∙ ap (λ s. machine_state s.stack (s.marks ++ c.args.step ∷ [])
     (s.formulas ++ top s.stack ∷ []) s.width) c.self.view_is

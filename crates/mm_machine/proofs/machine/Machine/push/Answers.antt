@@ -1,6 +1,6 @@
 use Rattle.std.proofs.Common.{◌++◌, ◌∷◌, [], ap, ◌∙◌, sym, subst, All, ◌<◌}
 use Rattle.mm_machine.specs.Arena.{arena}
-use Rattle.mm_machine.specs.State.{machine_state, texts}
+use Rattle.mm_machine.specs.State.{machine_state, span_formulas}
 use Rattle.mm_machine.proofs.FollowLaw.{on_ok, add_stack_of, add_says}
 use Rattle.mm_machine.proofs.machine.Machine.push.Goals as goal
 
@@ -29,7 +29,7 @@ returns-clause-ok g c =
     on_ok c.add.result
     (λ h. ap
     (λ z. machine_state z c.self.inside.marks.items
-    (texts (arena [] kept) c.self.inside.marked.items) c.self.inside.width) h
+    (span_formulas (arena [] kept) c.self.inside.marked.items) c.self.inside.width) h
     ∙ ap (λ s. machine_state (s.stack ++ f ∷ []) s.marks s.formulas s.width) c.self.view_is)
     (add_says c.add.result c.self.inside.own kept f c.add.new.own
     c.self.inside.stack.items c.add.new.stack.items i.stack.is_stack c.add.ensures.own

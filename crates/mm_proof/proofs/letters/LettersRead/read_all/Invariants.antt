@@ -3,7 +3,7 @@ use Rattle.mm_spec.specs.CompressedProof.{Letter, letters_of}
 use Rattle.mm_outline.specs.Parts.{as_tokens}
 use Rattle.mm_proof.specs.Letters.{Continues, with_number, if_begun}
 use Rattle.mm_proof.proofs.LettersLaw.{StandsBefore}
-use Rattle.mm_proof.proofs.letters.Progress.read_all.Given as goal
+use Rattle.mm_proof.proofs.letters.LettersRead.read_all.Given as goal
 
 abbrev pub invariant-loop-word : goal.invariant-loop-word
 invariant-loop-word g l = record {

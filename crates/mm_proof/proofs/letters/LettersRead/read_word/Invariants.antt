@@ -1,7 +1,7 @@
 use Rattle.std.proofs.Common.{◌≡◌, ◌++◌, List, slice_range}
 use Rattle.mm_spec.specs.CompressedProof.{Letter, letters_from}
 use Rattle.mm_proof.specs.Letters.{StandsWith, Continues, with_number, if_begun}
-use Rattle.mm_proof.proofs.letters.Progress.read_word.Given as goal
+use Rattle.mm_proof.proofs.letters.LettersRead.read_word.Given as goal
 
 abbrev pub invariant-loop-i : goal.invariant-loop-i
 invariant-loop-i g l = record {

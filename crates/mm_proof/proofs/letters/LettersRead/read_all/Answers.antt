@@ -14,7 +14,7 @@ use Rattle.mm_proof.proofs.LettersLaw.{err_same, whole, fault_first, open_fault,
 use Rattle.mm_proof.proofs.LettersLaw.{all_steps, some_letters, StandsBefore, stands_after}
 use Rattle.mm_proof.proofs.LettersLaw.{some_begun, none_begun}
 use Rattle.std.proofs.lemmas.Result.{IfOk-from_err}
-use Rattle.mm_proof.proofs.letters.Progress.read_all.Goals as goal
+use Rattle.mm_proof.proofs.letters.LettersRead.read_all.Goals as goal
 
 pub returns-in_err-read_word-clause-fault : goal.returns-in_err-read_word-clause-fault
 returns-in_err-read_word-clause-fault g c =

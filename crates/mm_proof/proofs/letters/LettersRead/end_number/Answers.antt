@@ -3,7 +3,7 @@ use Rattle.mm_proof.specs.Number.{saturated}
 use Rattle.mm_proof.proofs.LettersLaw.{last_here, err_same, stands_step}
 use Rattle.std.proofs.lemmas.Result.{IfOk-from_err}
 use Rattle.mm_proof.specs.declared.refused.ProofRefused.TheVariants.{Memory}
-use Rattle.mm_proof.proofs.letters.Progress.end_number.Goals as goal
+use Rattle.mm_proof.proofs.letters.LettersRead.end_number.Goals as goal
 
 pub returns-clause-reads : goal.returns-clause-reads
 returns-clause-reads g c = λ byte k.

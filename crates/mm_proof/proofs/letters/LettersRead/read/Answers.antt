@@ -5,7 +5,7 @@ use Rattle.mm_proof.specs.Letters.{RefusesLetters, letter, with_number, ReadsLet
 use Rattle.mm_proof.proofs.LettersLaw.{err_same, stands_later, last_digit, early_digit}
 use Rattle.mm_proof.proofs.LettersLaw.{early_here, none_begun}
 use Rattle.std.proofs.lemmas.Result.{IfOk-from_err}
-use Rattle.mm_proof.proofs.letters.Progress.read.Goals as goal
+use Rattle.mm_proof.proofs.letters.LettersRead.read.Goals as goal
 
 pub returns-in_err-end_number-in-Last-clause-refuses :
     goal.returns-in_err-end_number-in-Last-clause-refuses

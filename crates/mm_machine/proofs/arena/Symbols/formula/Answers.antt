@@ -1,5 +1,5 @@
 use Rattle.std.proofs.Common.{arith}
-use Rattle.mm_machine.proofs.arena.Symbols.text.Goals as goal
+use Rattle.mm_machine.proofs.arena.Symbols.formula.Goals as goal
 
 pub slice_bounds-result-count : goal.slice_bounds-result-count
 slice_bounds-result-count c = omega arith

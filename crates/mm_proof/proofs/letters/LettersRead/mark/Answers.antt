@@ -3,7 +3,7 @@ use Rattle.std.proofs.lemmas.Bool.{ne_eqb}
 use Rattle.std.proofs.lemmas.Result.{IfOk-from_err}
 use Rattle.mm_proof.proofs.LettersLaw.{err_same, mark_reads}
 use Rattle.mm_proof.specs.declared.refused.ProofRefused.TheVariants.{Memory}
-use Rattle.mm_proof.proofs.letters.Progress.mark.Goals as goal
+use Rattle.mm_proof.proofs.letters.LettersRead.mark.Goals as goal
 
 pub returns-then-len-eq0-clause-stands : goal.returns-then-len-eq0-clause-stands
 returns-then-len-eq0-clause-stands g c = tt

@@ -3,7 +3,7 @@ use Rattle.mm_proof.specs.Refused.{StartsWith}
 use Rattle.mm_proof.specs.Letters.{RefusesLetters, Continues, with_number, if_begun}
 use Rattle.mm_spec.specs.CompressedProof.{letters_from, groups, group_faults}
 use Rattle.mm_proof.proofs.LettersLaw.{err_same, letters_more, letters_end}
-use Rattle.mm_proof.proofs.letters.Progress.read_word.Goals as goal
+use Rattle.mm_proof.proofs.letters.LettersRead.read_word.Goals as goal
 
 pub loop-i-init : goal.loop-i-init
 loop-i-init g c =
