@@ -57,6 +57,7 @@ fn read_words<A: Allocator + Copy>(
 
 /// Reads the proof of `theorem`, the number of a `$p` statement. Fails with the first reading fault
 /// (E31 to E33, E41 to E45), whose place is a byte offset from 0, or if it runs out of memory.
+#[inline(never)]
 pub fn read_proof<A: Allocator + Copy>(
     alloc: A,
     database: &Database<A>,
