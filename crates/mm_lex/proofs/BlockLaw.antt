@@ -7,27 +7,26 @@ use Rattle.std.specs.Int.{bit_at, bit_not}
 use Rattle.std.specs.List.{list_all}
 use Rattle.std.proofs.lemmas.Nat.Bits.{bit_at-zero, bit_at_above, bit_at_not, bit_at_and, bit_at_or}
 use Rattle.std.proofs.lemmas.Nat.Bits.{bit_at_lowest, bit_at_cat_low, bit_at_cat_high}
-use Rattle.std.proofs.lemmas.Nat.Bits.{bit_at_clear_same, bit_at_clear_other}
-use Rattle.std.proofs.lemmas.Nat.{div-add-mod'}
+use Rattle.std.proofs.lemmas.Nat.Bits.{bit_at_clear_same, bit_at_clear_other, bit_at-lt}
 use Rattle.std.proofs.lemmas.Simd.{bit_mask_l}
 use Rattle.std.proofs.lemmas.List.{get_or-drop, length-drop, take_all}
 use Rattle.std.proofs.lemmas.Bool.{and_parts, cases_lt, ne_eqb, not-true}
 use Rattle.mm_bytes.specs.Masks.{mask, is_bad}
 use Rattle.mm_spec.specs.Bytes.{is_white, is_printable}
-use Rattle.mm_spec.specs.Words.{white_at, begins_word, words_between}
+use Rattle.mm_spec.specs.Words.{white_at, begins_word, word_at, words_between}
 use Rattle.mm_spec.specs.Laws.Words.{IsWord}
 use Rattle.mm_spec.specs.Readings.{bytes_of}
 use Rattle.mm_spec.specs.Roles.{is_clean}
 use Rattle.mm_spec.specs.Text.{has_dollar}
 use Rattle.mm_spec.specs.declared.Word.{Word}
 use Rattle.mm_spec.proofs.WordRunsLaw.{begins_word_inside, words_between_none, words_between_skips}
-use Rattle.mm_spec.proofs.WordRunsLaw.{words_between_take}
+use Rattle.mm_spec.proofs.WordRunsLaw.{words_between_take, word_at_ink, word_at_nonempty}
 use Rattle.mm_spec.proofs.WordsLaw.{begins_word_boundary, begins_word_ink, IsWord_is}
 use Rattle.mm_spec.proofs.BitLaw.{shifted}
 use Rattle.mm_lex.specs.Plain.{plain_at, IsPlainWord}
-use Rattle.mm_lex.specs.Beginnings.{IsFirst, IsPassed}
-use Rattle.mm_lex.proofs.MaskLaw.{all_from, bit_one, none_in, bit_zero, inside, one_of}
-use Rattle.mm_lex.proofs.MaskLaw.{zero_of}
+use Rattle.mm_lex.specs.Beginnings.{ArePlain, IsFirst, IsPassed}
+use Rattle.mm_lex.proofs.MaskLaw.{all_from, bit_one, none_in, bit_zero, inside, low_bits}
+use Rattle.mm_lex.proofs.MaskLaw.{one_of, zero_of}
 
 -- ---- bytes at which nothing stops
 
@@ -98,11 +97,6 @@ pub dropped_long : (text : List ℕ) (base i : ℕ) → base + i < length text
 dropped_long text base i lt = omega (arith, length-drop {A = ℕ})
 
 -- ---- zeros after ones
-
-low_bits : (n k i : ℕ) → i < k → bit_at (n % 2 ^ k) i ≡ bit_at n i
-low_bits n k i lt =
-    sym (ap (λ (m : ℕ). bit_at m i) (sym (div-add-mod' n (2 ^ k)))
-    ∙ bit_at_cat_low (n / 2 ^ k) k (n % 2 ^ k) i lt)
 
 module _ (white first : ℕ) (fits : white < 2 ^ 64) (small : first ≤ 1) where
   pub starts_first : bit_at (bit_and (bit_not w64 white) (bit_or (white * 2 % 2 ^ 64) first)) 0
@@ -381,6 +375,70 @@ plain_word text start end order short each = record {
       (all_from (λ x. not (x == 36)) text start (end - start) (omega arith)
       (λ i a b. (and_parts _ _ (each i a (omega arith))).1));
 }
+
+-- ---- words that are plain
+
+-- From `from` on up to a white byte at `upto` each byte is white or plain.
+module _ (text : List ℕ) (from upto : ℕ) (within : upto < length text)
+    (white : white_at text upto ≡ true)
+    (each : (i : ℕ) → from ≤ i → i < upto → white_at text i ≡ false → plain_at text i ≡ true) where
+  ends_there : (i : ℕ) → i ≤ upto → (word_at text i).end ≤ upto
+  ends_there i le =
+      ⊎_elim {C = (word_at text i).end ≤ upto}
+      (λ over. absurd (true≢false (sym white ∙ word_at_ink text i upto le over)))
+      (λ h. h)
+      (cases_lt upto (word_at text i).end)
+
+  pub plain_words : ArePlain text from upto
+  unfolding word_at
+  plain_words i low high begins =
+      let ink = begins_word_ink text i begins in
+      let end = ends_there i (omega arith) in
+      let some = word_at_nonempty text i (omega arith) ink in
+      plain_word text i (word_at text i).end (omega (arith, some)) (omega (arith, end))
+      (λ k a b. each k (omega arith) (omega (arith, end)) (word_at_ink text i k a b))
+
+-- what a block's masks tell of the bytes between two of its places
+module _ (text : List ℕ) (base white stops place special : ℕ) (fits : white < 2 ^ 64)
+    (is : white ≡ mask is_white (take 64 (drop base text)))
+    (plain : (i : ℕ) → i < 64 → base + i < length text → bit_at stops i ≡ 0
+    → plain_at text (base + i) ≡ true)
+    (zeros : (i : ℕ) → place ≤ i → i < special
+    → bit_at (bit_and stops (bit_not w64 white)) i ≡ 0) where
+  plain_bit : (i : ℕ) → place ≤ i → i < special → i < 64 → base + i < length text
+      → white_at text (base + i) ≡ false → plain_at text (base + i) ≡ true
+  plain_bit i low high lt within ink =
+      let turned : bit_at (bit_not w64 white) i ≡ 1 - bit_at white i =
+      bit_at_not w64 white i fits lt in
+      let none : min (bit_at stops i) (1 - bit_at white i) ≡ 0 =
+      ap (min (bit_at stops i)) (sym turned)
+      ∙ sym (bit_at_and stops (bit_not w64 white) i) ∙ zeros i low high in
+      ⊎_elim {C = plain_at text (base + i) ≡ true}
+      (λ some. absurd (true≢false
+      (sym (white_one text base white is i lt (omega (arith, bit_at-lt white i))).1 ∙ ink)))
+      (λ zero. plain i lt within (omega (arith, none)))
+      (cases_lt 0 (bit_at white i))
+
+  pub skipped_plain : (end : ℕ) → end ≤ special → end < 64 → bit_at white end ≡ 1
+      → ArePlain text (base + place) (base + end)
+  skipped_plain end le lt one =
+      let there = white_one text base white is end lt one in
+      plain_words text (base + place) (base + end) there.0 there.1
+      (λ k low high ink.
+      let same : base + (k - base) ≡ k = omega arith in
+      subst (λ (i : ℕ). plain_at text i ≡ true) same
+      (plain_bit (k - base) (omega arith) (omega arith) (omega arith) (omega (arith, there.0))
+      (subst (λ (i : ℕ). white_at text i ≡ false) (sym same) ink)))
+
+-- before them no word begins
+pub plain_after : (text : List ℕ) (from mid upto : ℕ)
+    → ((i : ℕ) → from ≤ i → i < mid → begins_word text i ≡ false) → ArePlain text mid upto
+    → ArePlain text from upto
+plain_after text from mid upto none plain i low high begins =
+    ⊎_elim {C = IsPlainWord (bytes_of text (word_at text i))}
+    (λ lt. absurd (true≢false (sym begins ∙ none i low lt)))
+    (λ le. plain i le high begins)
+    (cases_lt i mid)
 
 -- ---- blocks without a white byte
 

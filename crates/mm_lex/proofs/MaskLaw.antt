@@ -1,10 +1,13 @@
 -- Bits of masks, and the bytes for which they stand.
-use Rattle.std.proofs.Common.{◌≡◌, ℕ, zero, suc, ◌+◌, ◌-◌, ◌/◌, ◌^◌, ◌<◌, ◌≤◌, Bool, true}
-use Rattle.std.proofs.Common.{false, cond, List, map, length, take, drop, get_or, refl, sym, ap}
-use Rattle.std.proofs.Common.{subst, ◌∙◌, ⊎_elim, w64, true≢false, arith}
-use Rattle.std.specs.Int.{bit_at, trailing_zeros}
+use Rattle.std.proofs.Common.{◌≡◌, ℕ, zero, suc, ◌+◌, ◌-◌, ◌*◌, ◌/◌, ◌%◌, ◌^◌, ◌<◌, ◌≤◌, Bool}
+use Rattle.std.proofs.Common.{true, false, cond, List, map, length, take, drop, get_or, refl, sym}
+use Rattle.std.proofs.Common.{ap, subst, ◌∙◌, ⊎_elim, w64, true≢false, arith, pow_pos}
+use Rattle.std.specs.Int.{bit_at, leading_zeros, trailing_zeros}
 use Rattle.std.specs.List.{list_all}
+use Rattle.std.proofs.Math.Nat.{pow-suc}
+use Rattle.std.proofs.lemmas.Nat.{div-add-mod', leading_top}
 use Rattle.std.proofs.lemmas.Nat.Bits.{bit_at-trailing_zeros, bit_at-zero, bit_at_above}
+use Rattle.std.proofs.lemmas.Nat.Bits.{bit_at_cat_low, bit_at_cat_high}
 use Rattle.std.proofs.lemmas.Simd.{bit_mask_l}
 use Rattle.std.proofs.lemmas.List.{get_or-map, get_or-take, get_or-drop, get_or_past, length-map}
 use Rattle.std.proofs.lemmas.List.{length-take, length-drop}
@@ -42,6 +45,53 @@ module _ (n k : ℕ) (fits : n < 2 ^ 64) (rest : n / 2 ^ k < 2 ^ 64) (some : 0 <
       ≡ 1 = sym (bit_at_above n 64 (k + trailing_zeros w64 (n / 2 ^ k)) fits h) ∙ next_one in
       omega (arith, clash)))
       (cases_lt (k + trailing_zeros w64 (n / 2 ^ k)) 64)
+
+-- ---- the last bit that is 1
+
+pub low_bits : (n k i : ℕ) → i < k → bit_at (n % 2 ^ k) i ≡ bit_at n i
+low_bits n k i lt =
+    sym (ap (λ (m : ℕ). bit_at m i) (sym (div-add-mod' n (2 ^ k)))
+    ∙ bit_at_cat_low (n / 2 ^ k) k (n % 2 ^ k) i lt)
+
+top_bit : (m j : ℕ) → 2 ^ j ≤ m → m < 2 ^ suc j → bit_at m j ≡ 1
+top_bit m j low high =
+    let same : 1 * 2 ^ j + (m - 2 ^ j) ≡ m = omega arith in
+    let none : j - j ≡ 0 = omega arith in
+    ap (λ (n : ℕ). bit_at n j) (sym same)
+    ∙ bit_at_cat_high 1 j (m - 2 ^ j) j (omega (arith, pow-suc 2 j)) (omega arith)
+    ∙ ap (bit_at 1) none
+
+-- the bits up to k, moved to the left end, and what lies left of the first of them that is 1
+module _ (n k : ℕ) (within : k < 64) (some : 0 < n * 2 ^ (63 - k) % 2 ^ 64) where
+  top : (j : ℕ)
+      × (leading_zeros w64 (n * 2 ^ (63 - k) % 2 ^ 64) + suc j ≡ 64)
+      × (63 - k ≤ j) × (bit_at n (j - (63 - k)) ≡ 1)
+  top =
+      let moved = n * 2 ^ (63 - k) in
+      let t = leading_top 64 (moved % 2 ^ 64) some (omega arith) in
+      let one : bit_at moved t.0 ≡ 1 =
+      sym (low_bits moved 64 t.0 (omega (arith, t.1))) ∙ top_bit (moved % 2 ^ 64) t.0 t.2 t.3 in
+      let same : moved + 0 ≡ moved = omega arith in
+      let whole : bit_at (moved + 0) t.0 ≡ 1 = ap (λ (m : ℕ). bit_at m t.0) same ∙ one in
+      let order : 63 - k ≤ t.0 = ⊎_elim {C = 63 - k ≤ t.0}
+      (λ lt. let clash : 0 ≡ 1 = sym (bit_at_cat_low n (63 - k) 0 t.0 lt ∙ bit_at-zero t.0)
+      ∙ whole in absurd (omega (arith, clash)))
+      (λ le. le)
+      (cases_lt t.0 (63 - k)) in (
+        t.0,
+        t.1,
+        order,
+        sym (bit_at_cat_high n (63 - k) 0 t.0 (pow_pos (63 - k)) order) ∙ whole,
+      )
+
+  pub last_within : leading_zeros w64 (n * 2 ^ (63 - k) % 2 ^ 64) ≤ k
+  last_within = omega (arith, top.1, top.2)
+
+  pub last_bit : bit_at n (k - leading_zeros w64 (n * 2 ^ (63 - k) % 2 ^ 64)) ≡ 1
+  last_bit =
+      let same : top.0 - (63 - k) ≡ k - leading_zeros w64 (n * 2 ^ (63 - k) % 2 ^ 64) =
+      omega (arith, top.1, top.2) in
+      ap (bit_at n) (sym same) ∙ top.3
 
 -- ---- bits of a block
 

@@ -1,7 +1,9 @@
 -- A list of words goes on: by one word, and by words whose readings are known.
-use Rattle.std.proofs.Common.{◌≡◌, ℕ, Bool, true, false, List, [], ◌∷◌, ◌++◌, length, Option, Some}
-use Rattle.std.proofs.Common.{None, MatchOption, is_some, refl, sym, ap, subst, ◌∙◌, append-nil}
-use Rattle.std.proofs.Common.{arith}
+use Rattle.std.proofs.Common.{◌≡◌, ℕ, zero, suc, ◌+◌, ◌-◌, ◌≤◌, ◌||◌, Bool, true, false, List}
+use Rattle.std.proofs.Common.{[], ◌∷◌, ◌++◌, length, Option, Some, None, MatchOption, is_some, refl}
+use Rattle.std.proofs.Common.{sym, ap, subst, ◌∙◌, ⊎_elim, append-nil, arith}
+use Rattle.std.proofs.lemmas.Bool.{cases_lt}
+use Rattle.std.proofs.Math.Bool.{or-true}
 use Rattle.std.proofs.lemmas.Option.{same_Some}
 use Rattle.mm_spec.specs.declared.Word.{Word}
 use Rattle.mm_spec.specs.declared.Fault.{Fault}
@@ -15,13 +17,18 @@ use Rattle.mm_spec.specs.Laws.Readings.{go_on, start}
 use Rattle.mm_lex.specs.Pieces.{resolved, seen, Side, Between, Stretch, AreReadings, IsReadBetween}
 use Rattle.mm_lex.specs.Pieces.{IsSummary}
 use Rattle.mm_lex.specs.Inners.{carried}
-use Rattle.mm_spec.specs.Words.{words_of}
+use Rattle.mm_spec.specs.Words.{word_at, words_between, words_of}
+use Rattle.mm_lex.specs.Plain.{IsPlainWord}
+use Rattle.mm_lex.specs.Beginnings.{ArePlain}
 use Rattle.mm_lex.specs.Stretches.{IsUnbroken, IsBroken, joined_word}
 use Rattle.mm_lex.proofs.StretchesLaw.{join_words, join_broken, join_unbroken_broken}
 use Rattle.mm_lex.proofs.StretchesLaw.{join_broken_unbroken, join_unbroken, whole_broken}
 use Rattle.mm_spec.proofs.ReadingsLaw.{reading_opening, reading_closing, reading_comment}
 use Rattle.mm_spec.proofs.ReadingsLaw.{reading_faulty, reading_end, reading_append, reading_one}
 use Rattle.mm_spec.proofs.ReadingsLaw.{go_on_with_tokens}
+use Rattle.mm_spec.proofs.WordRunsLaw.{words_between_none}
+use Rattle.mm_spec.proofs.WordsLaw.{words_between_cases}
+use Rattle.mm_lex.proofs.RolesLaw.{plain_comment, plain_token}
 
 pub none_from : {X : Type 0} (o : Option X) → is_some o ≡ false → o ≡ None
 none_from None h = refl
@@ -173,6 +180,13 @@ go_on_nil text r = by r.tokens r.fault r.comment
     by ts (Some f) c = refl
 
 -- one more word of those that are left
+
+pub same_next : (t text : List ℕ) (from here to : ℕ) (w : Word) → t ≡ text
+    → words_between t from to ≡ w ∷ words_between t here to
+    → words_between text from to ≡ w ∷ words_between text here to
+same_next t text from here to w same next =
+    subst (λ (s : List ℕ). words_between s from to ≡ w ∷ words_between s here to) same next
+
 pub go_on_next : (text : List ℕ) (all r s : Reading) (w : Word) (vs ws : List Word)
     → all ≡ go_on text r vs → vs ≡ w ∷ ws → s ≡ go_on text r (w ∷ []) → all ≡ go_on text s ws
 go_on_next text all r s w vs ws e next step =
@@ -182,6 +196,72 @@ go_on_next text all r s w vs ws e next step =
 pub go_on_done : (text : List ℕ) (all r : Reading) (vs : List Word) → all ≡ go_on text r vs
     → vs ≡ [] → all ≡ r
 go_on_done text all r vs e next = e ∙ ap (go_on text r) next ∙ go_on_nil text r
+
+-- Plain words change nothing in a comment.
+pub reading_skips : (text : List ℕ) (p n from to : ℕ) → ArePlain text from (from + n)
+    → reading text (Some p) (words_between text from to)
+    ≡ reading text (Some p) (words_between text (from + n) to)
+reading_skips text p zero from to plain =
+    let same : from ≡ from + 0 = omega arith in
+    ap (λ (i : ℕ). reading text (Some p) (words_between text i to)) same
+reading_skips text p (suc n) from to plain =
+    let place : from + 1 + n ≡ from + suc n = omega arith in
+    let rest : reading text (Some p) (words_between text (from + 1) to)
+    ≡ reading text (Some p) (words_between text (from + suc n) to) =
+    reading_skips text p n (from + 1) to (λ i low high. plain i (omega arith) (omega arith))
+    ∙ ap (λ (i : ℕ). reading text (Some p) (words_between text i to)) place in
+    ⊎_elim
+    {C = reading text (Some p) (words_between text from to)
+    ≡ reading text (Some p) (words_between text (from + suc n) to)}
+    (λ some. ⊎_elim
+    {C = reading text (Some p) (words_between text from to)
+    ≡ reading text (Some p) (words_between text (from + suc n) to)}
+    (λ taken. ap (reading text (Some p)) taken.1
+    ∙ reading_comment text (Some p) (word_at text from) (words_between text (from + 1) to)
+    (plain_comment (bytes_of text (word_at text from))
+    (plain from (omega arith) (omega arith) taken.0))
+    ∙ rest)
+    (λ skipped. ap (reading text (Some p)) skipped.1 ∙ rest)
+    (words_between_cases text from to some))
+    (λ past. ap (reading text (Some p))
+    (words_between_none text from to past
+    ∙ sym (words_between_none text (from + suc n) to (omega arith))))
+    (cases_lt from to)
+
+-- Outside a comment a plain word is a token.
+pub go_on_plain : (text : List ℕ) (r : Reading) (w : Word) (items : List Word) → r.fault ≡ None
+    → is_some r.comment ≡ false → IsPlainWord (bytes_of text w) → items ≡ r.tokens ++ w ∷ []
+    → record { tokens = items; fault = r.fault; comment = r.comment } ≡ go_on text r (w ∷ [])
+go_on_plain text r w items none closed plain e =
+    rw e
+    (sym (go_on_token text r w false none (sym closed) (sym (plain_token (bytes_of text w) plain))))
+
+-- Inside a comment, and after a fault, it changes nothing.
+pub ignored_inside : (faulty inside : Bool) → inside ≡ true → (faulty || inside) ≡ true
+ignored_inside faulty inside e = ap (λ (b : Bool). faulty || b) e ∙ or-true faulty
+
+-- So it is left out, as are those that follow it.
+pub go_on_skips : (text : List ℕ) (all r : Reading) (w : Word) (vs : List Word) (from upto to : ℕ)
+    → (is_some r.fault || is_some r.comment) ≡ true → IsPlainWord (bytes_of text w) → from ≤ upto
+    → ArePlain text from upto → all ≡ go_on text r vs → vs ≡ w ∷ words_between text from to
+    → all ≡ go_on text r (words_between text upto to)
+go_on_skips text all r w vs from upto to ignored plain le others e next =
+    e ∙ ap (go_on text r) next ∙ by r.tokens r.fault r.comment ignored
+  where
+    by : (ts : List Word) (f : Option Fault) (c : Option ℕ) → (is_some f || is_some c) ≡ true →
+        go_on text
+        (record { tokens = ts; fault = f; comment = c })
+        (w ∷ words_between text from to)
+        ≡ go_on text (record { tokens = ts; fault = f; comment = c }) (words_between text upto to)
+    by ts None None h = cc
+    by ts None (Some p) h =
+        let same : from + (upto - from) ≡ upto = omega arith in
+        ap (with_tokens ts)
+        (reading_comment text (Some p) w (words_between text from to)
+        (plain_comment (bytes_of text w) plain)
+        ∙ reading_skips text p (upto - from) from to (λ i low high. others i low (omega arith))
+        ∙ ap (λ (i : ℕ). reading text (Some p) (words_between text i to)) same)
+    by ts (Some f) c h = refl
 
 -- three lists of words, one after another
 pub go_on_three : (text : List ℕ) (c : Option ℕ) (first mid last : Reading) (ws vs us : List Word)

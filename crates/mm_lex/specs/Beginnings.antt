@@ -1,6 +1,6 @@
 -- The words of a text, one after another: where the next one begins, and what it is.
 use Rattle.std.specs.Prelude.{◌≡◌, ℕ, ◌+◌, ◌<◌, ◌≤◌, Bool, true, false, List, length}
-use Rattle.mm_spec.specs.Words.{begins_word}
+use Rattle.mm_spec.specs.Words.{begins_word, word_at}
 use Rattle.mm_spec.specs.Laws.Words.{IsWord}
 use Rattle.mm_spec.specs.Readings.{bytes_of}
 use Rattle.mm_spec.specs.declared.Word.{Word}
@@ -32,3 +32,9 @@ module _ (text : List ℕ) where
     pub start_is : word.start ≡ start
     pub is_word : IsWord text word
     pub is_plain : plain ≡ true → IsPlainWord (bytes_of text word)
+
+  -- the words that begin from `from` on and before `upto` are plain
+  abbrev pub ArePlain : ℕ → ℕ → Type 0
+  ArePlain from upto =
+      (i : ℕ) → from ≤ i → i < upto → begins_word text i ≡ true
+      → IsPlainWord (bytes_of text (word_at text i))

@@ -1,4 +1,4 @@
-//! The next bit of a mask.
+//! The next and the last bit of a mask.
 
 ghost use Rattle.std.specs.Prelude.{◌≡◌, ◌<◌, ◌≤◌, ℕ};
 ghost use Rattle.std.specs.Int.{bit_at};
@@ -17,5 +17,20 @@ pub fn first_one(mask: u64, from: usize) -> usize
         64
     } else {
         from + rest.trailing_zeros() as usize
+    }
+}
+
+/// The last place up to `upto` whose bit is 1; 0 if there is none.
+#[inline(always)]
+pub fn last_one(mask: u64, upto: usize) -> usize
+    requires { upto < 64 }
+    ensures up_to { result ≤ upto }
+    ensures one { 0 < result → bit_at mask result ≡ 1 }
+{
+    let rest = mask << (63 - upto);
+    if rest == 0 {
+        0
+    } else {
+        upto - rest.leading_zeros() as usize
     }
 }

@@ -1,14 +1,16 @@
 //! Lists of words, each read in one comment mode.
 
 ghost use Rattle.std.specs.Prelude.{◌≡◌, ◌<◌, ◌≤◌, ◌+◌, ℕ, List, [], ◌∷◌, ◌++◌, length, OnOk};
-ghost use Rattle.std.specs.Prelude.{is_some, true};
+ghost use Rattle.std.specs.Prelude.{is_some, true, ◌||◌};
 ghost use Rattle.mm_spec.specs.Readings.{bytes_of};
+ghost use Rattle.mm_spec.specs.Words.{words_between};
 ghost use Rattle.mm_spec.specs.Laws.Readings.{go_on, start};
 ghost use Rattle.mm_lex.specs.Pieces.{resolved, seen, AreReadings};
 ghost use Rattle.mm_lex.specs.Inners.{carried, side};
 ghost use Rattle.mm_lex.specs.Plain.{IsPlainWord};
 
 use crate::roles::{role, word_fault};
+use crate::scanner::WordScanner;
 use crate::{Fault, TEXT_LIMIT, Word};
 use mm_spec::Role;
 use std::alloc::{AllocError, Allocator};
@@ -71,6 +73,15 @@ impl<A: Allocator + Copy> ModeReading<A> {
         reading
     }
 
+    /// Whether further plain words change nothing: inside a comment, and after a fault.
+    #[inline(always)]
+    pub fn ignores_plain(&self) -> bool
+        ensures { (p : ℕ)
+            → result ≡ (is_some self.now.fault || is_some (resolved p self.now.comment)) }
+    {
+        self.fault.is_some() || self.comment.is_open()
+    }
+
     /// Reads one further word. If `plain` is true, the word is known to be plain.
     #[inline(always)]
     pub fn read_word(&mut self, text: &[u8], word: Word, plain: bool) -> Result<(), AllocError>
@@ -93,6 +104,42 @@ impl<A: Allocator + Copy> ModeReading<A> {
             Role::Closing => self.comment = CommentState::Nowhere,
             Role::Comment => {}
             Role::Faulty => self.fault = Some(word_fault(in_comment, word.start, bytes)),
+        }
+        Ok(())
+    }
+
+    /// Reads the words that begin from the scanner's place on and before `to`. A plain word is a
+    /// token outside a comment; inside it changes nothing, and those that follow it are left out.
+    pub fn read_rest(
+        &mut self,
+        text: &[u8],
+        scanner: WordScanner<'_>,
+        to: usize,
+    ) -> Result<(), AllocError>
+        requires same { scanner.text.now ≡ text.now }
+        requires within { to ≤ length text.now }
+        requires short { length text.now ≤ TEXT_LIMIT }
+        ensures { OnOk result
+            ((p : ℕ)
+            → seen p (side self.new)
+            ≡ go_on text.now (seen p (side self.old))
+            (words_between text.now scanner.entry.from to)) }
+    {
+        if self.fault.is_some() {
+            return Ok(());
+        }
+        let mut blocks = scanner;
+        while let Some(found) = blocks.next_word(to) {
+            if !found.plain {
+                self.read_word(text, found.word, false)?;
+                if self.fault.is_some() {
+                    return Ok(());
+                }
+            } else if self.comment.is_open() {
+                blocks.skip_plain();
+            } else {
+                self.tokens.push(found.word)?;
+            }
         }
         Ok(())
     }

@@ -160,13 +160,16 @@ fn lex_inner<A: Allocator + Copy>(
     while inside.fault.is_none()
         && let Some(found) = blocks.next_word(tail)
     {
-        outside.read_word(text, found.word, found.plain)?;
-        inside.read_word(text, found.word, found.plain)?;
+        // A plain word that changes neither reading is left out, as are those that follow it.
+        if found.plain && outside.ignores_plain() && inside.ignores_plain() {
+            blocks.skip_plain();
+        } else {
+            outside.read_word(text, found.word, found.plain)?;
+            inside.read_word(text, found.word, found.plain)?;
+        }
     }
     // After its fault the reading inside a comment stays as it is.
-    while let Some(found) = blocks.next_word(tail) {
-        outside.read_word(text, found.word, found.plain)?;
-    }
+    outside.read_rest(text, blocks, tail)?;
     Ok(Inner {
         head: head as u32,
         tail: tail as u32,

@@ -10,10 +10,10 @@ ghost use Rattle.mm_spec.specs.Readings.{bytes_of};
 ghost use Rattle.mm_spec.specs.Words.{begins_word, white_at, words_between};
 ghost use Rattle.mm_spec.specs.Laws.Words.{IsWord};
 ghost use Rattle.mm_lex.specs.Plain.{plain_at, IsPlainWord};
-ghost use Rattle.mm_lex.specs.Beginnings.{IsFirst, IsTaken, IsPassed, IsWordFrom};
+ghost use Rattle.mm_lex.specs.Beginnings.{ArePlain, IsFirst, IsTaken, IsPassed, IsWordFrom};
 
 use crate::bytes::is_white;
-use crate::masks::first_one;
+use crate::masks::{first_one, last_one};
 use crate::{TEXT_LIMIT, Word};
 use mm_bytes::{Classes, class_block, class_tail, dollars_block, dollars_tail};
 
@@ -247,5 +247,24 @@ impl<'a> WordScanner<'a> {
         let (blocks, found) = self.word_from(start);
         *self = blocks;
         Some(found)
+    }
+
+    /// Leaves out further words that are plain, all at once, as most words of a comment are. They
+    /// are those that begin and end in the current block before its next `$` or bad byte.
+    #[inline(always)]
+    pub fn skip_plain(&mut self)
+        ensures text { self.new.text.now ≡ self.old.text.now }
+        ensures onward { self.old.from ≤ self.new.from }
+        ensures plain { ArePlain self.old.text.now self.old.from self.new.from }
+    {
+        if self.starts != 0 {
+            let place = self.starts.trailing_zeros() as usize;
+            let special = first_one(self.stops & !self.white, place);
+            let end = last_one(self.white, special.min(63));
+            if place < end {
+                self.from = self.base + end;
+                self.starts = self.starts >> end << end;
+            }
+        }
     }
 }

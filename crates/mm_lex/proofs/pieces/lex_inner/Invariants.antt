@@ -20,17 +20,3 @@ invariant-loop-blocks g l = record {
 
 abbrev pub decreases-loop-blocks : goal.decreases-loop-blocks
 decreases-loop-blocks g l = length l.text + 64 - l.blocks.from
-
--- The reading inside a comment has read what all words give.
-abbrev pub invariant-loop-found : goal.invariant-loop-found
-invariant-loop-found g l = record {
-  same : l.blocks.text.now ≡ l.text;
-  out : (p : ℕ)
-      → reading l.text None (words_between l.text l.head l.tail)
-      ≡ go_on l.text (seen p (side l.outside)) (words_between l.text l.blocks.from l.tail);
-  inn : (p : ℕ)
-      → reading l.text (Some p) (words_between l.text l.head l.tail) ≡ seen p (side l.inside);
-}
-
-abbrev pub decreases-loop-found : goal.decreases-loop-found
-decreases-loop-found g l = length l.text + 64 - l.blocks.from

@@ -1,0 +1,97 @@
+use Rattle.std.proofs.Common.{◌≡◌, ◌∙◌, ℕ, List, [], sym, subst}
+use Rattle.std.proofs.lemmas.Bool.{not-false}
+use Rattle.mm_spec.specs.Readings.{bytes_of}
+use Rattle.mm_spec.specs.Words.{words_between}
+use Rattle.mm_lex.specs.Pieces.{seen}
+use Rattle.mm_lex.specs.Inners.{side}
+use Rattle.mm_lex.specs.Plain.{IsPlainWord}
+use Rattle.mm_lex.specs.Beginnings.{ArePlain}
+use Rattle.mm_lex.proofs.PiecesLaw.{go_on_done, go_on_next, go_on_plain, go_on_skips, go_on_some}
+use Rattle.mm_lex.proofs.PiecesLaw.{ignored_inside, none_from, same_next}
+use Rattle.mm_lex.proofs.modes.ModeReading.read_rest.Goals as goal
+
+pub returns-then-is_some-2 : goal.returns-then-is_some-2
+returns-then-is_some-2 g c p =
+    let before = c.loop-found.invariant in
+    let text = c.args.text.now in
+    let word = c.in-Some.found.word in
+    let next =
+    same_next _ text c.loop-found.blocks.from c.next_word.new.self.from c.args.to word before.same
+    c.in-Some.ensures.words in
+    let all =
+    go_on_next text _ (seen p (side c.loop-found.self)) _ word _ _ (before.all p) next
+    (c.in_ok-read_word.ensures p) in
+    sym (all
+    ∙ go_on_some text (seen p (side c.read_word.new.self))
+    (words_between text c.next_word.new.self.from c.args.to)
+    (sym c.is_some-then-not-found.ensures ∙ c.if-is_some-2.true))
+
+pub loop-found-preserved-else-is_some-2 : goal.loop-found-preserved-else-is_some-2
+loop-found-preserved-else-is_some-2 g c =
+    let before = c.loop-found.invariant in
+    let text = c.args.text.now in
+    let word = c.in-Some.found.word in
+    let next =
+    same_next _ text c.loop-found.blocks.from c.next_word.new.self.from c.args.to word before.same
+    c.in-Some.ensures.words in
+    record {
+      same = c.in-Some.ensures.text ∙ before.same;
+      none = none_from _ (sym c.is_some-then-not-found.ensures ∙ c.if-is_some-2.false);
+      all =
+          λ p. go_on_next text _ (seen p (side c.loop-found.self)) _ word _ _ (before.all p) next
+          (c.in_ok-read_word.ensures p);
+    }
+
+pub loop-found-preserved-then-is_open : goal.loop-found-preserved-then-is_open
+loop-found-preserved-then-is_open g c =
+    let before = c.loop-found.invariant in
+    let text = c.args.text.now in
+    let word = c.in-Some.found.word in
+    let same = c.in-Some.ensures.text ∙ before.same in
+    let here = c.next_word.new.self.from in
+    let upto = c.skip_plain.new.self.from in
+    let next =
+    same_next _ text c.loop-found.blocks.from here c.args.to word before.same
+    c.in-Some.ensures.words in
+    let plain =
+    subst (λ (t : List ℕ). IsPlainWord (bytes_of t word)) before.same
+    (c.in-Some.ensures.plain (not-false _ c.if-not-found.false)) in
+    let others =
+    subst (λ (t : List ℕ). ArePlain t here upto) same c.skip_plain.ensures.plain in
+    record {
+      same = c.skip_plain.ensures.text ∙ same;
+      none = before.none;
+      all =
+          λ p. go_on_skips text _ (seen p (side c.loop-found.self)) word _ here upto c.args.to
+          (ignored_inside _ _ (sym (c.is_open.ensures p) ∙ c.if-is_open.true)) plain
+          c.skip_plain.ensures.onward others (before.all p) next;
+    }
+
+pub loop-found-preserved : goal.loop-found-preserved
+loop-found-preserved g c =
+    let before = c.loop-found.invariant in
+    let text = c.args.text.now in
+    let word = c.in-Some.found.word in
+    let next =
+    same_next _ text c.loop-found.blocks.from c.next_word.new.self.from c.args.to word before.same
+    c.in-Some.ensures.words in
+    let plain =
+    subst (λ (t : List ℕ). IsPlainWord (bytes_of t word)) before.same
+    (c.in-Some.ensures.plain (not-false _ c.if-not-found.false)) in
+    record {
+      same = c.in-Some.ensures.text ∙ before.same;
+      none = before.none;
+      all =
+          λ p. go_on_next text _ (seen p (side c.loop-found.self)) _ word _ _ (before.all p) next
+          (go_on_plain text (seen p (side c.loop-found.self)) word _ before.none
+          (sym (c.is_open.ensures p) ∙ c.if-is_open.false) plain c.in_ok-push.ensures.items);
+    }
+
+pub returns : goal.returns
+returns g c p =
+    let before = c.loop-found.invariant in
+    let text = c.args.text.now in
+    let none =
+    subst (λ (t : List ℕ). words_between t c.loop-found.blocks.from c.args.to ≡ []) before.same
+    c.in_default.ensures.words in
+    sym (go_on_done text _ _ _ (before.all p) none)
