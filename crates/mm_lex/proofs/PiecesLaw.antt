@@ -14,8 +14,8 @@ use Rattle.mm_lex.specs.declared.modes.CommentState.TheVariants.{Nowhere, Before
 use Rattle.mm_spec.specs.Roles.{role_of, fault_of}
 use Rattle.mm_spec.specs.Readings.{Reading, reading, with_tokens, bytes_of}
 use Rattle.mm_spec.specs.Laws.Readings.{go_on, start}
-use Rattle.mm_lex.specs.Pieces.{resolved, seen, Side, Between, Stretch, AreReadings, IsReadBetween}
-use Rattle.mm_lex.specs.Pieces.{IsSummary}
+use Rattle.mm_lex.specs.Pieces.{resolved, side_reading, Side, Between, Stretch, AreReadings}
+use Rattle.mm_lex.specs.Pieces.{IsReadBetween, IsSummary}
 use Rattle.mm_lex.specs.Inners.{carried}
 use Rattle.mm_spec.specs.Words.{word_at, words_between, words_of}
 use Rattle.mm_lex.specs.Plain.{IsPlainWord}
@@ -123,19 +123,19 @@ resolved_carried p x c (At q) h = refl
 
 -- The words go on inside a comment.
 pub go_on_inside : (text : List ℕ) (ws : List Word) (p : ℕ) (r next : Side) (items : List Word)
-    → ((q : ℕ) → reading text (Some q) ws ≡ seen q next) →
+    → ((q : ℕ) → reading text (Some q) ws ≡ side_reading q next) →
     r.fault ≡ None → is_some (resolved p r.comment) ≡ true → items ≡ r.tokens ++ next.tokens →
     record {
       tokens = items;
       fault = next.fault;
       comment = resolved p (carried r.comment next.comment);
     }
-    ≡ go_on text (seen p r) ws
+    ≡ go_on text (side_reading p r) ws
 go_on_inside text ws p r next items readings none is_open e =
     let opened = some_from (resolved p r.comment) is_open in
-    let all : go_on text (seen p r) ws
+    let all : go_on text (side_reading p r) ws
     ≡ with_tokens r.tokens (reading text (resolved p r.comment) ws) = go_on_none text
-    (seen p r) ws none in
+    (side_reading p r) ws none in
     rw (e, resolved_carried p opened.0 r.comment next.comment opened.1)
     (sym (all ∙ ap (λ (c : Option ℕ). with_tokens r.tokens (reading text c ws)) opened.1
     ∙ ap (with_tokens r.tokens) (readings opened.0)))
@@ -149,19 +149,19 @@ not_before x Before h c = absurd (omega (arith, same_Some 0 1 (sym (h 0) ∙ h 1
 not_before x (At q) h c = refl
 
 pub go_on_outside : (text : List ℕ) (ws : List Word) (p : ℕ) (r next : Side) (items : List Word)
-    → ((q : ℕ) → reading text None ws ≡ seen q next) →
+    → ((q : ℕ) → reading text None ws ≡ side_reading q next) →
     r.fault ≡ None → is_some (resolved p r.comment) ≡ false → items ≡ r.tokens ++ next.tokens →
     record {
       tokens = items;
       fault = next.fault;
       comment = resolved p (carried r.comment next.comment);
     }
-    ≡ go_on text (seen p r) ws
+    ≡ go_on text (side_reading p r) ws
 go_on_outside text ws p r next items readings none is_open e =
     let closed : resolved p r.comment ≡ None = none_from (resolved p r.comment) is_open in
-    let all : go_on text (seen p r) ws
+    let all : go_on text (side_reading p r) ws
     ≡ with_tokens r.tokens (reading text (resolved p r.comment) ws) = go_on_none text
-    (seen p r) ws none in
+    (side_reading p r) ws none in
     rw (
       e,
       not_before (reading text None ws).comment next.comment
@@ -333,7 +333,7 @@ module _ (text : List ℕ) (a b c : ℕ) where
 -- what lies between head and tail of the piece of the whole text is the whole text
 pub whole_reading : (text : List ℕ) (piece : Stretch) (inner : Between) → IsSummary text piece
     → piece.from ≡ 0 → piece.to ≡ length text → piece.between ≡ Some inner →
-    reading text None (words_of text) ≡ seen 0 inner.outside
+    reading text None (words_of text) ≡ side_reading 0 inner.outside
 whole_reading text piece inner s from to e =
     let x : IsReadBetween text piece.from piece.to inner =
     subst (λ (o : Option Between). MatchOption o (IsUnbroken text piece.from piece.to)

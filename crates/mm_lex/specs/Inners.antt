@@ -11,8 +11,8 @@ use Rattle.mm_lex.specs.declared.pieces.Inner.{Inner}
 abbrev pub side : {A : Type 0} → ModeReading A → Side
 side mode = record { tokens = mode.tokens.items; fault = mode.fault; comment = mode.comment }
 
-abbrev pub between : {A : Type 0} → Inner A → Between
-between inner =
+abbrev pub between_of : {A : Type 0} → Inner A → Between
+between_of inner =
     record {
       head = inner.head;
       tail = inner.tail;

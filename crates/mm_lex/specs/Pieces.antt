@@ -43,14 +43,14 @@ resolved p Before = Some p
 resolved p (At q) = Some q
 
 -- what a side has read, if the comment from before the words began at the place p
-abbrev pub seen : ℕ → Side → Reading
-seen p s = record { tokens = s.tokens; fault = s.fault; comment = resolved p s.comment }
+abbrev pub side_reading : ℕ → Side → Reading
+side_reading p s = record { tokens = s.tokens; fault = s.fault; comment = resolved p s.comment }
 
 -- The two sides are the readings of the words, outside a comment, and inside one that began
 -- anywhere before.
 pub record AreReadings (text : List ℕ) (ws : List Word) (outside inside : Side) : Type 0 where
-  pub out : (p : ℕ) → reading text None ws ≡ seen p outside
-  pub within : (p : ℕ) → reading text (Some p) ws ≡ seen p inside
+  pub out : (p : ℕ) → reading text None ws ≡ side_reading p outside
+  pub within : (p : ℕ) → reading text (Some p) ws ≡ side_reading p inside
 
 -- head and tail of a stretch are known by its white space, and the words between them are read
 pub record IsReadBetween (text : List ℕ) (from to : ℕ) (b : Between) : Type 0 where

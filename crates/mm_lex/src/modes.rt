@@ -5,7 +5,7 @@ ghost use Rattle.std.specs.Prelude.{is_some, true, ◌||◌};
 ghost use Rattle.mm_spec.specs.Readings.{bytes_of};
 ghost use Rattle.mm_spec.specs.Words.{words_between};
 ghost use Rattle.mm_spec.specs.Laws.Readings.{go_on, start};
-ghost use Rattle.mm_lex.specs.Pieces.{resolved, seen, AreReadings};
+ghost use Rattle.mm_lex.specs.Pieces.{resolved, side_reading, AreReadings};
 ghost use Rattle.mm_lex.specs.Inners.{carried, side};
 ghost use Rattle.mm_lex.specs.Plain.{IsPlainWord};
 
@@ -51,7 +51,7 @@ pub struct ModeReading<A: Allocator> {
 
 impl<A: Allocator + Copy> ModeReading<A> {
     pub fn new(alloc: A, comment: CommentState) -> ModeReading<A>
-        ensures { (p : ℕ) → seen p (side result) ≡ start (resolved p comment) }
+        ensures { (p : ℕ) → side_reading p (side result) ≡ start (resolved p comment) }
     {
         ModeReading {
             tokens: Vec::new(alloc),
@@ -63,7 +63,7 @@ impl<A: Allocator + Copy> ModeReading<A> {
     /// A reading of no words yet. Its list has room for `room` tokens if there is that much memory,
     /// so that it needn't be moved as it grows.
     pub fn with_room(alloc: A, comment: CommentState, room: usize) -> ModeReading<A>
-        ensures { (p : ℕ) → seen p (side result) ≡ start (resolved p comment) }
+        ensures { (p : ℕ) → side_reading p (side result) ≡ start (resolved p comment) }
     {
         let mut reading = ModeReading::new(alloc, comment);
         match reading.tokens.reserve(room) {
@@ -91,7 +91,8 @@ impl<A: Allocator + Copy> ModeReading<A> {
         requires plain { plain ≡ true → IsPlainWord (bytes_of text.now word) }
         ensures { OnOk result
             ((p : ℕ)
-            → seen p (side self.new) ≡ go_on text.now (seen p (side self.old)) (word ∷ [])) }
+            → side_reading p (side self.new)
+            ≡ go_on text.now (side_reading p (side self.old)) (word ∷ [])) }
     {
         if self.fault.is_some() {
             return Ok(());
@@ -113,7 +114,7 @@ impl<A: Allocator + Copy> ModeReading<A> {
     pub fn read_rest(
         &mut self,
         text: &[u8],
-        scanner: WordScanner<'_>,
+        mut scanner: WordScanner<'_>,
         to: usize,
     ) -> Result<(), AllocError>
         requires same { scanner.text.now ≡ text.now }
@@ -121,22 +122,21 @@ impl<A: Allocator + Copy> ModeReading<A> {
         requires short { length text.now ≤ TEXT_LIMIT }
         ensures { OnOk result
             ((p : ℕ)
-            → seen p (side self.new)
-            ≡ go_on text.now (seen p (side self.old))
+            → side_reading p (side self.new)
+            ≡ go_on text.now (side_reading p (side self.old))
             (words_between text.now scanner.entry.from to)) }
     {
         if self.fault.is_some() {
             return Ok(());
         }
-        let mut blocks = scanner;
-        while let Some(found) = blocks.next_word(to) {
+        while let Some(found) = scanner.next_word(to) {
             if !found.plain {
                 self.read_word(text, found.word, false)?;
                 if self.fault.is_some() {
                     return Ok(());
                 }
             } else if self.comment.is_open() {
-                blocks.skip_plain();
+                scanner.skip_plain();
             } else {
                 self.tokens.push(found.word)?;
             }
@@ -153,7 +153,8 @@ impl<A: Allocator + Copy> ModeReading<A> {
         ensures { OnOk result
             ((text : List ℕ) (ws : List Word)
             → AreReadings text ws (side outside.now) (side inside.now) →
-            (p : ℕ) → seen p (side self.new) ≡ go_on text (seen p (side self.old)) ws) }
+            (p : ℕ)
+            → side_reading p (side self.new) ≡ go_on text (side_reading p (side self.old)) ws) }
     {
         if self.fault.is_some() {
             return Ok(());

@@ -5,7 +5,7 @@ ghost use Rattle.std.specs.Prelude.{if◌then◌else◌};
 ghost use Rattle.std.specs.Option.{option_map};
 ghost use Rattle.mm_lex.specs.Pieces.{fault_in_mode, head_of, resolved, stretch, tail_of};
 ghost use Rattle.mm_lex.specs.Pieces.{tokens_in_mode, AreReadings, IsSummary, IsWholeText, Stretch};
-ghost use Rattle.mm_lex.specs.Inners.{between, IsJoined, side};
+ghost use Rattle.mm_lex.specs.Inners.{between_of, IsJoined, side};
 ghost use Rattle.mm_lex.specs.Stretches.{joined_word};
 ghost use Rattle.mm_spec.specs.Lexed.{fault_in, lexical_fault, tokens_of};
 ghost use Rattle.mm_spec.specs.Words.{words_between};
@@ -41,7 +41,7 @@ pub struct Piece<A: Allocator> {
 impl<A: Allocator> Model for Piece<A> {
     ghost Value = { Stretch };
 
-    ghost view = { λ p. stretch p.from p.to (option_map between p.inner) };
+    ghost view = { λ p. stretch p.from p.to (option_map between_of p.inner) };
 }
 
 impl<A: Allocator> Piece<A> {
@@ -156,20 +156,20 @@ fn lex_inner<A: Allocator + Copy>(
     // There is at least a byte between two words.
     let mut outside = ModeReading::with_room(alloc, CommentState::Nowhere, (tail - head) / 2 + 1);
     let mut inside = ModeReading::new(alloc, CommentState::Before);
-    let mut blocks = WordScanner::new(text, head);
+    let mut scanner = WordScanner::new(text, head);
     while inside.fault.is_none()
-        && let Some(found) = blocks.next_word(tail)
+        && let Some(found) = scanner.next_word(tail)
     {
         // A plain word that changes neither reading is left out, as are those that follow it.
         if found.plain && outside.ignores_plain() && inside.ignores_plain() {
-            blocks.skip_plain();
+            scanner.skip_plain();
         } else {
             outside.read_word(text, found.word, found.plain)?;
             inside.read_word(text, found.word, found.plain)?;
         }
     }
     // After its fault the reading inside a comment stays as it is.
-    outside.read_rest(text, blocks, tail)?;
+    outside.read_rest(text, scanner, tail)?;
     Ok(Inner {
         head: head as u32,
         tail: tail as u32,
@@ -215,7 +215,7 @@ fn join_inner<A: Allocator + Copy>(
     ensures head { IfOk result (λ inner. inner.head ≡ before.head) }
     ensures tail { IfOk result (λ inner. inner.tail ≡ after.tail) }
     ensures readings { IfOk result
-        (λ inner. IsJoined text.now (between before) (between after) (between inner)) }
+        (λ inner. IsJoined text.now (between_of before) (between_of after) (between_of inner)) }
 {
     let mut outside = before.outside;
     let mut inside = before.inside;

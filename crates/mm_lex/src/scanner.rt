@@ -165,7 +165,7 @@ impl<'a> WordScanner<'a> {
         *self = WordScanner::at(self.text, self.base + 64);
     }
 
-    /// The word that begins at `start`, and the blocks from its end on. `start` is in the current
+    /// The word that begins at `start`, and the scanner from its end on. `start` is in the current
     /// block, and is the beginning that was taken last.
     fn word_from(self, start: usize) -> (WordScanner<'a>, FoundWord)
         requires taken { IsTaken self.text.now self.base self.from start }
@@ -175,20 +175,20 @@ impl<'a> WordScanner<'a> {
         ensures word { IsWordFrom self.entry.text.now start result.1.word result.1.plain }
     {
         let len = self.text.len();
-        let mut blocks = self;
-        let mut white = first_one(blocks.white, start - blocks.base);
-        let mut plain = first_one(blocks.stops, start - blocks.base) == white;
-        while white == 64 && 64 < len - blocks.base {
-            blocks = WordScanner::at(self.text, blocks.base + 64);
-            white = first_one(blocks.white, 0);
-            plain = plain && first_one(blocks.stops, 0) == white;
+        let mut scanner = self;
+        let mut stop = first_one(scanner.white, start - scanner.base);
+        let mut plain = first_one(scanner.stops, start - scanner.base) == stop;
+        while stop == 64 && 64 < len - scanner.base {
+            scanner = WordScanner::at(self.text, scanner.base + 64);
+            stop = first_one(scanner.white, 0);
+            plain = plain && first_one(scanner.stops, 0) == stop;
         }
-        let end = (blocks.base + white).min(len);
+        let end = (scanner.base + stop).min(len);
         let word = Word {
             start: start as u32,
             end: end as u32,
         };
-        (blocks, FoundWord { word, plain })
+        (scanner, FoundWord { word, plain })
     }
 
     /// Takes the first further place before `to` at which a word begins.
@@ -244,8 +244,8 @@ impl<'a> WordScanner<'a> {
             };
             return Some(FoundWord { word, plain: true });
         }
-        let (blocks, found) = self.word_from(start);
-        *self = blocks;
+        let (scanner, found) = self.word_from(start);
+        *self = scanner;
         Some(found)
     }
 

@@ -1,6 +1,6 @@
 use Rattle.std.proofs.Common.{◌≡◌, ℕ, sym, lt-ltb, le-ltb}
 use Rattle.mm_spec.specs.Laws.Readings.{go_on}
-use Rattle.mm_lex.specs.Pieces.{seen}
+use Rattle.mm_lex.specs.Pieces.{side_reading}
 use Rattle.mm_lex.specs.Inners.{side}
 use Rattle.mm_lex.specs.Stretches.{joined_word}
 use Rattle.mm_lex.proofs.PiecesLaw.{go_on_three, go_on_nil}
@@ -11,8 +11,8 @@ use Rattle.mm_lex.proofs.pieces.join_inner.Goals.{else-before-after}
 pub returns-clause-readings : goal.returns-clause-readings
 returns-clause-readings g c ws us before after =
     let out : (p : ℕ)
-    → seen p (side c.if-before-after.outside)
-    ≡ go_on c.args.text.now (seen p (side c.args.before.outside))
+    → side_reading p (side c.if-before-after.outside)
+    ≡ go_on c.args.text.now (side_reading p (side c.args.before.outside))
     (joined_word c.args.before.tail c.args.after.head) =
     λ p. elim c.if-before-after.branch [
       | then-before-after+in_ok-read_word+in_ok-read_word-2 w ↦ rw
@@ -21,8 +21,8 @@ returns-clause-readings g c ws us before after =
           (sym (go_on_nil _ _))
     ] in
     let inn : (p : ℕ)
-    → seen p (side c.if-before-after.inside)
-    ≡ go_on c.args.text.now (seen p (side c.args.before.inside))
+    → side_reading p (side c.if-before-after.inside)
+    ≡ go_on c.args.text.now (side_reading p (side c.args.before.inside))
     (joined_word c.args.before.tail c.args.after.head) =
     λ p. elim c.if-before-after.branch [
       | then-before-after+in_ok-read_word+in_ok-read_word-2 w ↦ rw

@@ -2,7 +2,7 @@ use Rattle.std.proofs.Common.{◌≡◌, ◌∙◌, ℕ, List, [], sym, subst}
 use Rattle.std.proofs.lemmas.Bool.{not-false}
 use Rattle.mm_spec.specs.Readings.{bytes_of}
 use Rattle.mm_spec.specs.Words.{words_between}
-use Rattle.mm_lex.specs.Pieces.{seen}
+use Rattle.mm_lex.specs.Pieces.{side_reading}
 use Rattle.mm_lex.specs.Inners.{side}
 use Rattle.mm_lex.specs.Plain.{IsPlainWord}
 use Rattle.mm_lex.specs.Beginnings.{ArePlain}
@@ -16,13 +16,13 @@ returns-then-is_some-2 g c p =
     let text = c.args.text.now in
     let word = c.in-Some.found.word in
     let next =
-    same_next _ text c.loop-found.blocks.from c.next_word.new.self.from c.args.to word before.same
+    same_next _ text c.loop-found.scanner.from c.next_word.new.self.from c.args.to word before.same
     c.in-Some.ensures.words in
     let all =
-    go_on_next text _ (seen p (side c.loop-found.self)) _ word _ _ (before.all p) next
+    go_on_next text _ (side_reading p (side c.loop-found.self)) _ word _ _ (before.all p) next
     (c.in_ok-read_word.ensures p) in
     sym (all
-    ∙ go_on_some text (seen p (side c.read_word.new.self))
+    ∙ go_on_some text (side_reading p (side c.read_word.new.self))
     (words_between text c.next_word.new.self.from c.args.to)
     (sym c.is_some-then-not-found.ensures ∙ c.if-is_some-2.true))
 
@@ -32,14 +32,14 @@ loop-found-preserved-else-is_some-2 g c =
     let text = c.args.text.now in
     let word = c.in-Some.found.word in
     let next =
-    same_next _ text c.loop-found.blocks.from c.next_word.new.self.from c.args.to word before.same
+    same_next _ text c.loop-found.scanner.from c.next_word.new.self.from c.args.to word before.same
     c.in-Some.ensures.words in
     record {
       same = c.in-Some.ensures.text ∙ before.same;
       none = none_from _ (sym c.is_some-then-not-found.ensures ∙ c.if-is_some-2.false);
       all =
-          λ p. go_on_next text _ (seen p (side c.loop-found.self)) _ word _ _ (before.all p) next
-          (c.in_ok-read_word.ensures p);
+          λ p. go_on_next text _ (side_reading p (side c.loop-found.self)) _ word _ _ (before.all p)
+          next (c.in_ok-read_word.ensures p);
     }
 
 pub loop-found-preserved-then-is_open : goal.loop-found-preserved-then-is_open
@@ -51,7 +51,7 @@ loop-found-preserved-then-is_open g c =
     let here = c.next_word.new.self.from in
     let upto = c.skip_plain.new.self.from in
     let next =
-    same_next _ text c.loop-found.blocks.from here c.args.to word before.same
+    same_next _ text c.loop-found.scanner.from here c.args.to word before.same
     c.in-Some.ensures.words in
     let plain =
     subst (λ (t : List ℕ). IsPlainWord (bytes_of t word)) before.same
@@ -62,8 +62,8 @@ loop-found-preserved-then-is_open g c =
       same = c.skip_plain.ensures.text ∙ same;
       none = before.none;
       all =
-          λ p. go_on_skips text _ (seen p (side c.loop-found.self)) word _ here upto c.args.to
-          (ignored_inside _ _ (sym (c.is_open.ensures p) ∙ c.if-is_open.true)) plain
+          λ p. go_on_skips text _ (side_reading p (side c.loop-found.self)) word _ here upto
+          c.args.to (ignored_inside _ _ (sym (c.is_open.ensures p) ∙ c.if-is_open.true)) plain
           c.skip_plain.ensures.onward others (before.all p) next;
     }
 
@@ -73,7 +73,7 @@ loop-found-preserved g c =
     let text = c.args.text.now in
     let word = c.in-Some.found.word in
     let next =
-    same_next _ text c.loop-found.blocks.from c.next_word.new.self.from c.args.to word before.same
+    same_next _ text c.loop-found.scanner.from c.next_word.new.self.from c.args.to word before.same
     c.in-Some.ensures.words in
     let plain =
     subst (λ (t : List ℕ). IsPlainWord (bytes_of t word)) before.same
@@ -82,8 +82,8 @@ loop-found-preserved g c =
       same = c.in-Some.ensures.text ∙ before.same;
       none = before.none;
       all =
-          λ p. go_on_next text _ (seen p (side c.loop-found.self)) _ word _ _ (before.all p) next
-          (go_on_plain text (seen p (side c.loop-found.self)) word _ before.none
+          λ p. go_on_next text _ (side_reading p (side c.loop-found.self)) _ word _ _ (before.all p)
+          next (go_on_plain text (side_reading p (side c.loop-found.self)) word _ before.none
           (sym (c.is_open.ensures p) ∙ c.if-is_open.false) plain c.in_ok-push.ensures.items);
     }
 
@@ -92,6 +92,6 @@ returns g c p =
     let before = c.loop-found.invariant in
     let text = c.args.text.now in
     let none =
-    subst (λ (t : List ℕ). words_between t c.loop-found.blocks.from c.args.to ≡ []) before.same
+    subst (λ (t : List ℕ). words_between t c.loop-found.scanner.from c.args.to ≡ []) before.same
     c.in_default.ensures.words in
     sym (go_on_done text _ _ _ (before.all p) none)

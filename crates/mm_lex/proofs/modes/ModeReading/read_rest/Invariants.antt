@@ -1,7 +1,7 @@
 use Rattle.std.proofs.Common.{◌≡◌, ◌+◌, ◌-◌, ℕ, None, length}
 use Rattle.mm_spec.specs.Words.{words_between}
 use Rattle.mm_spec.specs.Laws.Readings.{go_on}
-use Rattle.mm_lex.specs.Pieces.{seen}
+use Rattle.mm_lex.specs.Pieces.{side_reading}
 use Rattle.mm_lex.specs.Inners.{side}
 use Rattle.mm_lex.proofs.modes.ModeReading.read_rest.Given as goal
 
@@ -9,12 +9,12 @@ use Rattle.mm_lex.proofs.modes.ModeReading.read_rest.Given as goal
 -- here on.
 abbrev pub invariant-loop-found : goal.invariant-loop-found
 invariant-loop-found g l = record {
-  same : l.blocks.text.now ≡ l.text;
+  same : l.scanner.text.now ≡ l.text;
   none : l.self.fault ≡ None;
   all : (p : ℕ)
-      → go_on l.text (seen p (side l.fn.self)) (words_between l.text l.scanner.from l.to)
-      ≡ go_on l.text (seen p (side l.self)) (words_between l.text l.blocks.from l.to);
+      → go_on l.text (side_reading p (side l.fn.self)) (words_between l.text l.fn.scanner.from l.to)
+      ≡ go_on l.text (side_reading p (side l.self)) (words_between l.text l.scanner.from l.to);
 }
 
 abbrev pub decreases-loop-found : goal.decreases-loop-found
-decreases-loop-found g l = length l.text + 64 - l.blocks.from
+decreases-loop-found g l = length l.text + 64 - l.scanner.from

@@ -6,14 +6,14 @@ use Rattle.mm_lex.specs.Plain.{plain_at}
 use Rattle.mm_lex.proofs.BlockLaw.{found_word, none_inside, plain_word, run_on, white_one}
 use Rattle.mm_lex.proofs.BlockLaw.{white_zero}
 use Rattle.mm_lex.proofs.scanner.WordScanner.word_from.Goals as goal
-use Rattle.mm_lex.proofs.scanner.WordScanner.word_from.Goals.{then-loop-white-test+else-len-blocks-gt64}
-use Rattle.mm_lex.proofs.scanner.WordScanner.word_from.Goals.{else-loop-white-test}
+use Rattle.mm_lex.proofs.scanner.WordScanner.word_from.Goals.{then-loop-stop-test+else-len-scanner-gt64}
+use Rattle.mm_lex.proofs.scanner.WordScanner.word_from.Goals.{else-loop-stop-test}
 
-pub loop-white-init : goal.loop-white-init
-loop-white-init c =
+pub loop-stop-init : goal.loop-stop-init
+loop-stop-init c =
     let b = c.args.self in
     let text = b.text.now in
-    let found = c.first_one-white in
+    let found = c.first_one-stop in
     record {
       same = refl;
       after = omega (arith, c.requires.taken.next);
@@ -34,88 +34,88 @@ loop-white-init c =
           (λ i lt inside _. b.plain i lt inside);
     }
 
-pub loop-white-preserved-then-plain : goal.loop-white-preserved-then-plain
-loop-white-preserved-then-plain c =
-    let b = c.at-blocks.result in
+pub loop-stop-preserved-then-plain : goal.loop-stop-preserved-then-plain
+loop-stop-preserved-then-plain c =
+    let b = c.at-scanner.result in
     let text = c.args.self.text.now in
-    let found = c.first_one-white-in-loop-white in
-    let before = c.loop-white.invariant in
-    let base : b.base ≡ c.loop-white.blocks.base + c.loop-white.white =
-    omega (arith, c.at-blocks.ensures.base, c.loop-white-test.true) in
+    let found = c.first_one-stop-in-loop-stop in
+    let before = c.loop-stop.invariant in
+    let base : b.base ≡ c.loop-stop.scanner.base + c.loop-stop.stop =
+    omega (arith, c.at-scanner.ensures.base, c.loop-stop-test.true) in
     record {
-      same = c.at-blocks.ensures.text;
+      same = c.at-scanner.ensures.text;
       after =
           omega (
             arith,
-            c.at-blocks.ensures.from,
-            c.at-blocks.ensures.base,
+            c.at-scanner.ensures.from,
+            c.at-scanner.ensures.base,
             before.after,
-            c.loop-white.blocks.high,
+            c.loop-stop.scanner.high,
             before.order,
             base,
           );
       none =
           none_inside text c.args.start b.from
-          (λ i low high. before.solid i low (omega (arith, base, c.at-blocks.ensures.from))
+          (λ i low high. before.solid i low (omega (arith, base, c.at-scanner.ensures.from))
           (omega (
             arith,
-            c.at-blocks.ensures.from,
+            c.at-scanner.ensures.from,
             b.within,
-            c.at-blocks.ensures.base,
-            c.if-len-blocks-gt64.true,
+            c.at-scanner.ensures.base,
+            c.if-len-scanner-gt64.true,
           )));
       order = omega (arith, base, before.order);
       few = found.ensures.up_to;
       solid =
           run_on (λ t i. white_at t i ≡ false) b.text.now text b.white c.args.start b.base b.base
-          found.result c.at-blocks.ensures.text (omega arith) found.ensures.up_to
+          found.result c.at-scanner.ensures.text (omega arith) found.ensures.up_to
           (λ i low high within. before.solid i low (omega (arith, base)) within)
           (λ i low high. found.ensures.zeros i (omega arith) high)
           (λ i lt inside _. white_zero b.text.now b.base b.white b.white_is i lt inside);
       ends = found.ensures.one;
       plain = λ quiet. let same = eqb-true c.first_one-then-plain.result found.result quiet in
           run_on (λ t i. plain_at t i ≡ true) b.text.now text b.stops c.args.start b.base b.base
-          found.result c.at-blocks.ensures.text (omega arith) found.ensures.up_to
+          found.result c.at-scanner.ensures.text (omega arith) found.ensures.up_to
           (λ i low high within. before.plain c.if-plain.true i low (omega (arith, base)) within)
           (λ i low high. c.first_one-then-plain.ensures.zeros i (omega arith)
           (omega (arith, same))) (λ i lt inside _. b.plain i lt inside);
     }
 
-pub loop-white-preserved : goal.loop-white-preserved
-loop-white-preserved c =
-    let b = c.at-blocks.result in
+pub loop-stop-preserved : goal.loop-stop-preserved
+loop-stop-preserved c =
+    let b = c.at-scanner.result in
     let text = c.args.self.text.now in
-    let found = c.first_one-white-in-loop-white in
-    let before = c.loop-white.invariant in
-    let base : b.base ≡ c.loop-white.blocks.base + c.loop-white.white =
-    omega (arith, c.at-blocks.ensures.base, c.loop-white-test.true) in
+    let found = c.first_one-stop-in-loop-stop in
+    let before = c.loop-stop.invariant in
+    let base : b.base ≡ c.loop-stop.scanner.base + c.loop-stop.stop =
+    omega (arith, c.at-scanner.ensures.base, c.loop-stop-test.true) in
     record {
-      same = c.at-blocks.ensures.text;
+      same = c.at-scanner.ensures.text;
       after =
           omega (
             arith,
-            c.at-blocks.ensures.from,
-            c.at-blocks.ensures.base,
+            c.at-scanner.ensures.from,
+            c.at-scanner.ensures.base,
             before.after,
-            c.loop-white.blocks.high,
+            c.loop-stop.scanner.high,
             before.order,
             base,
           );
       none =
           none_inside text c.args.start b.from
-          (λ i low high. before.solid i low (omega (arith, base, c.at-blocks.ensures.from))
+          (λ i low high. before.solid i low (omega (arith, base, c.at-scanner.ensures.from))
           (omega (
             arith,
-            c.at-blocks.ensures.from,
+            c.at-scanner.ensures.from,
             b.within,
-            c.at-blocks.ensures.base,
-            c.if-len-blocks-gt64.true,
+            c.at-scanner.ensures.base,
+            c.if-len-scanner-gt64.true,
           )));
       order = omega (arith, base, before.order);
       few = found.ensures.up_to;
       solid =
           run_on (λ t i. white_at t i ≡ false) b.text.now text b.white c.args.start b.base b.base
-          found.result c.at-blocks.ensures.text (omega arith) found.ensures.up_to
+          found.result c.at-scanner.ensures.text (omega arith) found.ensures.up_to
           (λ i low high within. before.solid i low (omega (arith, base)) within)
           (λ i low high. found.ensures.zeros i (omega arith) high)
           (λ i lt inside _. white_zero b.text.now b.base b.white b.white_is i lt inside);
@@ -125,8 +125,8 @@ loop-white-preserved c =
 
 pub returns-clause-onward : goal.returns-clause-onward
 returns-clause-onward c = record {
-  later = c.loop-white.invariant.after;
-  none = c.loop-white.invariant.none;
+  later = c.loop-stop.invariant.after;
+  none = c.loop-stop.invariant.none;
 }
 
 pub returns-clause-word : goal.returns-clause-word
@@ -134,30 +134,30 @@ returns-clause-word c =
     let text = c.args.self.text.now in
     let start = c.args.start in
     let end = c.min-end.result in
-    let b = c.loop-white.blocks in
-    let known = c.loop-white.invariant in
+    let b = c.loop-stop.scanner in
+    let known = c.loop-stop.invariant in
     let begun = c.requires.taken in
     let order : start ≤ end =
     omega (arith, known.order, begun.within, c.min-end.ensures) in
     let within : end ≤ length text = omega (arith, c.min-end.ensures) in
     let after : end < length text → white_at text end ≡ true = λ inside.
-    let small : c.loop-white.white < 64 = elim c.loop-white-test.branch [
-      | then-loop-white-test+else-len-blocks-gt64 w ↦ absurd
+    let small : c.loop-stop.stop < 64 = elim c.loop-stop-test.branch [
+      | then-loop-stop-test+else-len-scanner-gt64 w ↦ absurd
           (omega (
             arith,
             inside,
             c.min-end.ensures,
-            w.loop-white-test.true,
-            w.if-len-blocks-gt64.false,
+            w.loop-stop-test.true,
+            w.if-len-scanner-gt64.false,
           ))
-      | else-loop-white-test w ↦ omega (arith, c.loop-white.invariant.few, w.loop-white-test.false)
+      | else-loop-stop-test w ↦ omega (arith, c.loop-stop.invariant.few, w.loop-stop-test.false)
     ] in
-    let here : b.base + c.loop-white.white ≡ end = omega (arith, inside, c.min-end.ensures) in
+    let here : b.base + c.loop-stop.stop ≡ end = omega (arith, inside, c.min-end.ensures) in
     let one =
-    (white_one b.text.now b.base b.white b.white_is c.loop-white.white small
+    (white_one b.text.now b.base b.white b.white_is c.loop-stop.stop small
     (known.ends small)).1 in
     subst (λ (i : ℕ). white_at text i ≡ true) here
-    (subst (λ (t : List ℕ). white_at t (b.base + c.loop-white.white) ≡ true) known.same one) in
+    (subst (λ (t : List ℕ). white_at t (b.base + c.loop-stop.stop) ≡ true) known.same one) in
     record {
       start_is = refl;
       is_word =

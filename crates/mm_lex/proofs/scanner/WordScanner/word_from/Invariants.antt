@@ -5,19 +5,19 @@ use Rattle.mm_lex.specs.Plain.{plain_at}
 use Rattle.mm_lex.proofs.scanner.WordScanner.word_from.Given as goal
 
 -- The word goes on up to the white byte of the block at hand, or to its end. In it no word begins.
-abbrev pub invariant-loop-white : goal.invariant-loop-white
-invariant-loop-white l = record {
-  same : l.blocks.text.now ≡ l.self.text.now;
-  after : l.start < l.blocks.from;
-  none : (i : ℕ) → l.start < i → i < l.blocks.from → begins_word l.self.text.now i ≡ false;
-  order : l.start ≤ l.blocks.base + l.white;
-  few : l.white ≤ 64;
-  solid : (i : ℕ) → l.start ≤ i → i < l.blocks.base + l.white → i < length l.self.text.now
+abbrev pub invariant-loop-stop : goal.invariant-loop-stop
+invariant-loop-stop l = record {
+  same : l.scanner.text.now ≡ l.self.text.now;
+  after : l.start < l.scanner.from;
+  none : (i : ℕ) → l.start < i → i < l.scanner.from → begins_word l.self.text.now i ≡ false;
+  order : l.start ≤ l.scanner.base + l.stop;
+  few : l.stop ≤ 64;
+  solid : (i : ℕ) → l.start ≤ i → i < l.scanner.base + l.stop → i < length l.self.text.now
       → white_at l.self.text.now i ≡ false;
-  ends : l.white < 64 → bit_at l.blocks.white l.white ≡ 1;
-  plain : l.plain ≡ true → (i : ℕ) → l.start ≤ i → i < l.blocks.base + l.white
+  ends : l.stop < 64 → bit_at l.scanner.white l.stop ≡ 1;
+  plain : l.plain ≡ true → (i : ℕ) → l.start ≤ i → i < l.scanner.base + l.stop
       → i < length l.self.text.now → plain_at l.self.text.now i ≡ true;
 }
 
-abbrev pub decreases-loop-white : goal.decreases-loop-white
-decreases-loop-white l = l.len - l.blocks.base
+abbrev pub decreases-loop-stop : goal.decreases-loop-stop
+decreases-loop-stop l = l.len - l.scanner.base
