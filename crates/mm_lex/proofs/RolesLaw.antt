@@ -1,10 +1,13 @@
 -- What a word is.
 use Rattle.std.proofs.Common.{◌≡◌, ℕ, zero, suc, ◌+◌, ◌-◌, ◌<◌, ◌≤◌, ◌||◌, ◌&&◌, ◌==◌, Bool, true}
-use Rattle.std.proofs.Common.{false, List, [], ◌∷◌, length, drop, get_or, refl, ◌∙◌}
+use Rattle.std.proofs.Common.{false, List, [], ◌∷◌, length, drop, get_or, refl, ◌∙◌, not, subst, sym}
+use Rattle.std.proofs.Common.{inl, inr, ◌⊎◌, codes}
+use Rattle.std.specs.List.{list_any, list_all}
 use Rattle.std.proofs.Common.{arith}
-use Rattle.std.proofs.lemmas.Bool.{or_parts}
+use Rattle.std.proofs.lemmas.Bool.{or_parts, and_parts, eqb-true}
 use Rattle.mm_spec.specs.Roles.{has_mark, is_mark, is_dollar_and, is_token, is_comment_word}
-use Rattle.mm_spec.specs.Roles.{role_of}
+use Rattle.mm_spec.specs.Roles.{role_of, is_clean, is_keyword}
+use Rattle.mm_spec.specs.Bytes.{is_printable}
 use Rattle.mm_spec.specs.Text.{has_dollar}
 use Rattle.mm_spec.specs.declared.Role.TheVariants.{Token, Comment}
 use Rattle.mm_lex.specs.Plain.{IsPlainWord}
@@ -74,3 +77,79 @@ pub plain_comment : (word : List ℕ) → IsPlainWord word → role_of true word
 unfolding role_of is_comment_word
 plain_comment word plain =
     rw (not_closing 0x29 word plain.no_dollar, plain.clean, no_mark word plain.no_dollar) refl
+
+two_bytes : (word : List ℕ) → length word ≡ 2 → word ≡ get_or word 0 0 ∷ get_or word 1 0 ∷ []
+two_bytes [] h = absurd (omega (arith, h))
+two_bytes (x ∷ []) h = absurd (omega (arith, h))
+two_bytes (x ∷ y ∷ []) h = refl
+two_bytes (x ∷ y ∷ z ∷ word) h = absurd (omega (arith, h))
+
+dollar_clean : (b : ℕ) (word : List ℕ) → is_clean (36 ∷ b ∷ []) ≡ true → is_dollar_and b word ≡ true
+    → is_clean word ≡ true
+unfolding is_dollar_and
+dollar_clean b word clean h =
+    let parts = and_parts (length word == 2 && get_or word 0 0 == 36) (get_or word 1 0 == b) h in
+    let bytes = and_parts (length word == 2) (get_or word 0 0 == 36) parts.0 in
+    let word_is = two_bytes word (eqb-true (length word) 2 bytes.0) in
+    subst (λ w. is_clean w ≡ true) (sym word_is)
+    (subst (λ x. is_clean (x ∷ get_or word 1 0 ∷ []) ≡ true)
+    (sym (eqb-true (get_or word 0 0) 36 bytes.1))
+    (subst (λ y. is_clean (36 ∷ y ∷ []) ≡ true) (sym (eqb-true (get_or word 1 0) b parts.1)) clean))
+
+clean_keywords : list_all (λ b. is_clean (36 ∷ b ∷ [])) (codes "cvfedap=.{}[]") ≡ true
+unfolding is_clean is_printable
+clean_keywords = refl
+
+either : (x y : Bool) → (x || y) ≡ true → (x ≡ true) ⊎ (y ≡ true)
+either true y h = inl refl
+either false y h = inr h
+
+keyword_clean : (word : List ℕ) → is_keyword word ≡ true → is_clean word ≡ true
+unfolding is_keyword
+keyword_clean word h = go (codes "cvfedap=.{}[]") every h
+  where
+    every : list_all (λ b. is_clean (36 ∷ b ∷ [])) (codes "cvfedap=.{}[]") ≡ true
+    every = clean_keywords
+
+    go : (bs : List ℕ) → list_all (λ b. is_clean (36 ∷ b ∷ [])) bs ≡ true
+        → list_any (λ b. is_dollar_and b word) bs ≡ true → is_clean word ≡ true
+    go [] each any = absurd (cc)
+    go (b ∷ bs) each any =
+        let all = and_parts (is_clean (36 ∷ b ∷ []))
+        (list_all (λ b. is_clean (36 ∷ b ∷ [])) bs) each in
+        elim (either (is_dollar_and b word) (list_any (λ b. is_dollar_and b word) bs) any) [
+          | inl here ↦ dollar_clean b word all.0 here
+          | inr later ↦ go bs all.1 later
+        ]
+
+-- a keyword needs no further test
+token_is : (word : List ℕ)
+    → (is_keyword word || (is_clean word && not (has_dollar word))) ≡ is_token word
+unfolding is_token
+token_is word = by (is_keyword word) (is_clean word) (has_dollar word) (keyword_clean word)
+  where
+    by : (k a d : Bool) → (k ≡ true → a ≡ true) → (k || (a && not d)) ≡ (a && (not d || k))
+    by true true true h = refl
+    by true true false h = refl
+    by true false d h = let e = h refl in absurd (cc)
+    by false true true h = refl
+    by false true false h = refl
+    by false false d h = refl
+
+pub keyword_token : (word : List ℕ) → is_keyword word ≡ true → true ≡ is_token word
+keyword_token word k =
+    subst (λ b. (b || (is_clean word && not (has_dollar word))) ≡ is_token word) k (token_is word)
+
+pub clean_token : (word : List ℕ) → is_keyword word ≡ false → is_clean word ≡ true
+    → not (has_dollar word) ≡ is_token word
+clean_token word k a =
+    subst (λ b. (b && not (has_dollar word)) ≡ is_token word) a
+    (subst (λ b. (b || (is_clean word && not (has_dollar word))) ≡ is_token word) k
+    (token_is word))
+
+pub other_token : (word : List ℕ) → is_keyword word ≡ false → is_clean word ≡ false
+    → false ≡ is_token word
+other_token word k a =
+    subst (λ b. (b && not (has_dollar word)) ≡ is_token word) a
+    (subst (λ b. (b || (is_clean word && not (has_dollar word))) ≡ is_token word) k
+    (token_is word))

@@ -69,11 +69,11 @@ fn has_mark(word: &[u8]) -> bool
     false
 }
 
-#[tactic(auto, unfolding(mm_spec::specs::Roles::is_token))]
+/// Whether a word is a token. Most words that are asked of are keywords.
 fn is_token(word: &[u8]) -> bool
     ensures { result ≡ is_token word.now }
 {
-    is_clean(word) && (!has_dollar(word) || is_keyword(word))
+    is_keyword(word) || (is_clean(word) && !has_dollar(word))
 }
 
 #[tactic(auto, unfolding(mm_spec::specs::Roles::is_comment_word))]
