@@ -111,7 +111,6 @@ impl<A: Allocator + Copy> ModeReading<A> {
 
     /// Reads the words that begin from the scanner's place on and before `to`. A plain word is a
     /// token outside a comment; inside it changes nothing, and those that follow it are left out.
-    #[inline(never)]
     pub fn read_rest(
         &mut self,
         text: &[u8],

@@ -281,10 +281,8 @@ fn are_all_disjoint<A: Allocator>(
 }
 
 /// Whether for each pair of variables, each variable in what replaces the first is disjoint from
-/// each variable in what replaces the second. It is a call, so that steps without pairs, as most
-/// are, keep their values in registers.
-#[inline(never)]
-fn every_pair_is_disjoint<A: Allocator>(
+/// each variable in what replaces the second.
+fn pairs_are_disjoint<A: Allocator>(
     db: &Database<A>,
     theorem: u32,
     symbols: &Symbols,
@@ -312,31 +310,6 @@ fn every_pair_is_disjoint<A: Allocator>(
         }
     }
     true
-}
-
-/// The same, without a call if there are no pairs.
-#[inline(always)]
-fn pairs_are_disjoint<A: Allocator>(
-    db: &Database<A>,
-    theorem: u32,
-    symbols: &Symbols,
-    premises: &[Span],
-    pairs: &[(u32, u32)],
-    cache: &mut DisjointCache<A>,
-) -> bool
-    requires theorem { theorem < length db.now.statements }
-    requires premises { AreEntries (length (symbol_names db.now.statements)) symbols.now
-        premises.now }
-    requires pairs { All
-        (λ (p : ℕ × ℕ). (p.0 < length premises.now) × (p.1 < length premises.now)) pairs.now }
-    requires cache { AreDisjointAt db.now.statements theorem cache.old }
-    ensures value { result
-        ≡ list_all
-        (λ (p : ℕ × ℕ). disjoint_lists (context_at db.now.statements theorem)
-        (stands symbols.now premises.now p.0) (stands symbols.now premises.now p.1)) pairs.now }
-    ensures cache { AreDisjointAt db.now.statements theorem cache.new }
-{
-    pairs.is_empty() || every_pair_is_disjoint(db, theorem, symbols, premises, pairs, cache)
 }
 
 /// Appends what replaces a variable to a list. A single symbol is pushed without a copy.

@@ -18,7 +18,6 @@ use std::alloc::Allocator;
 
 /// Reads the labels in brackets, up to the `)`, and returns how many there are. Their statements
 /// are appended to `labels`.
-#[inline(never)]
 fn read_labels<A: Allocator>(
     database: &Database<A>,
     theorem: u32,

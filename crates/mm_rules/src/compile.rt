@@ -241,7 +241,6 @@ impl<A: Allocator> RuleCompiler<A> {
     }
 
     /// Compiles the rule of assertion `k`.
-    #[inline(never)]
     pub fn compile(&mut self, db: &Database<A>, k: u32) -> Result<(), AllocError>
         requires assertion { is_assertion_at db.now.statements k ≡ true }
         requires complete { IsComplete (context_at db.now.statements 0)

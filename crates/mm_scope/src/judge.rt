@@ -27,7 +27,6 @@ use std::alloc::{AllocError, Allocator};
 impl<'a, A: Allocator + Copy> Scope<'a, A> {
     /// Returns the first fault of the symbols of a formula after its typecode, and appends their
     /// numbers.
-    #[inline(never)]
     fn symbols_fault(
         &self,
         text: &[u8],

@@ -10,7 +10,7 @@ use Rattle.mm_spec.specs.Frame.{symbol_names}
 use Rattle.mm_machine.specs.Arena.{span_formula}
 use Rattle.mm_machine.specs.Replaced.{stands}
 use Rattle.mm_machine.proofs.GrowLaw.{symbols_known, premise_in}
-use Rattle.mm_machine.proofs.arena.every_pair_is_disjoint.Goals as goal
+use Rattle.mm_machine.proofs.arena.pairs_are_disjoint.Goals as goal
 
 -- a pair that fails
 fails_at : (test : ℕ × ℕ → Bool) (ps : List (ℕ × ℕ)) (i : ℕ) → i < length ps
