@@ -88,8 +88,8 @@ module _ (db : List Statement) (few : length db < never) (w : Bytes) where
           known_variable db (variables k xs e) w x kn (no_constant x kn new.0) new.1 refl
           (in_nil (words xs) true h) refl
 
-  floating_after : (l : Token) (k : ℕ) (c v : Token) (e : ℕ) (x : Option WordEntry) → IsEntryOf db w x
-      → floating_faults n k (c ∷ v ∷ []) ≡ []
+  floating_after : (l : Token) (k : ℕ) (c v : Token) (e : ℕ) (x : Option WordEntry)
+      → IsEntryOf db w x → floating_faults n k (c ∷ v ∷ []) ≡ []
       → IsEntryOf (db ++ floating l k (c ∷ v ∷ []) e ∷ []) w
       (entry_after (length db) (floating l k (c ∷ v ∷ []) e) w x)
   floating_after l k c v e x kn law = by (bytes_eq v.word w) refl

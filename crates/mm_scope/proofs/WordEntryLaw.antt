@@ -67,9 +67,9 @@ module _ (db : List Statement) (s : Statement) (w : Bytes) where
       ∙ or-false (list_any (is_other c w) (flat_map typings_of db))
 
   -- the statement says nothing of the word
-  pub known_same : (x : Option WordEntry) → IsEntryOf db w x → is_in w (constants_of s ++ []) ≡ false
-      → is_in w (variables_of s ++ []) ≡ false → is_in w (typed_words s ++ []) ≡ false
-      → IsEntryOf (db ++ s ∷ []) w x
+  pub known_same : (x : Option WordEntry) → IsEntryOf db w x
+      → is_in w (constants_of s ++ []) ≡ false → is_in w (variables_of s ++ []) ≡ false
+      → is_in w (typed_words s ++ []) ≡ false → IsEntryOf (db ++ s ∷ []) w x
   known_same x k nc nv nt = record {
     constant = in_same constants_of nc ∙ k.constant;
     variable = in_same variables_of nv ∙ k.variable;

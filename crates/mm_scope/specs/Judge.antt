@@ -179,6 +179,7 @@ typed_entry number c None = None
 typed_entry number c (Some e) = Some (entry e.is_variable e.declared number c)
 
 -- the entry of a word after the `$f` of a variable, by the entries before it
-abbrev pub after_typing : ℕ → List ℕ → List ℕ → (List ℕ → Option WordEntry) → List ℕ → Option WordEntry
+abbrev pub after_typing : ℕ → List ℕ → List ℕ → (List ℕ → Option WordEntry) → List ℕ
+    → Option WordEntry
 after_typing number typecode variable entries w =
     if bytes_eq variable w then typed_entry number typecode (entries variable) else entries w

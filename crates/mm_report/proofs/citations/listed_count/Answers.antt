@@ -15,9 +15,11 @@ loop-statement-preserved g c =
     let few = c.loop-statement.invariant.few in
     elim c.if-has_chosen_typecode.branch [
       | then-has_chosen_typecode w ↦ let more =
-          count_more db only cited i l (sym c.has_chosen_typecode.ensures ∙ w.if-has_chosen_typecode.true) in
+          count_more db only cited i l
+          (sym c.has_chosen_typecode.ensures ∙ w.if-has_chosen_typecode.true) in
           rw w.count-is (record { few = omega (arith, few); counted = omega (arith, n, more) })
       | else-has_chosen_typecode w ↦ let same =
-          count_same db only cited i l (sym c.has_chosen_typecode.ensures ∙ w.if-has_chosen_typecode.false) in
+          count_same db only cited i l
+          (sym c.has_chosen_typecode.ensures ∙ w.if-has_chosen_typecode.false) in
           rw w.count-is (record { few = omega (arith, few); counted = omega (arith, n, same) })
     ]

@@ -22,7 +22,8 @@ loop-statement-preserved g c =
     elim c.if-has_chosen_typecode.branch [
       | then-has_chosen_typecode w ↦
           let more =
-          labels_more db only cited i l (sym c.has_chosen_typecode.ensures ∙ w.if-has_chosen_typecode.true) in
+          labels_more db only cited i l
+          (sym c.has_chosen_typecode.ensures ∙ w.if-has_chosen_typecode.true) in
           let n =
           ap (λ (xs : List Bytes). length xs) more
           ∙ length-append (labels db only cited i) (label_at db (get_or cited i 0) ∷ []) in
@@ -42,7 +43,8 @@ loop-statement-preserved g c =
       | else-has_chosen_typecode w ↦
           let same =
           ap (λ (xs : List ℕ). map (label_at db) xs)
-          (first_same db only cited i l (sym c.has_chosen_typecode.ensures ∙ w.if-has_chosen_typecode.false)) in
+          (first_same db only cited i l
+          (sym c.has_chosen_typecode.ensures ∙ w.if-has_chosen_typecode.false)) in
           rw (w.is_first-is, w.sink-is, w.to-is) (record {
             none = λ e. same ∙ inv.none e;
             some = λ e. subst (λ (xs : List Bytes). 0 < length xs) (sym same) (inv.some e);

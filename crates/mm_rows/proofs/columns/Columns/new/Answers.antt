@@ -36,12 +36,14 @@ loop-statement-preserved g c =
     ap (filter q) (take_more xs i 0 (omega arith)) ∙ filter_snoc q (take i xs) x in
     elim c.if-has_chosen_typecode.branch [
       | then-has_chosen_typecode+in_ok-push w ↦
-          let yes : q x ≡ true = sym c.has_chosen_typecode.ensures ∙ w.if-has_chosen_typecode.true in
+          let yes : q x ≡ true =
+          sym c.has_chosen_typecode.ensures ∙ w.if-has_chosen_typecode.true in
           ap (λ v. v.items) w.statements-is ∙ w.in_ok-push.ensures.items
           ∙ ap (λ l. l ++ x ∷ []) c.loop-statement.invariant
           ∙ sym (more ∙ ap (λ (b : Bool). filter q (take i xs) ++ cond b (x ∷ []) []) yes)
       | else-has_chosen_typecode w ↦
-          let no : q x ≡ false = sym c.has_chosen_typecode.ensures ∙ w.if-has_chosen_typecode.false in
+          let no : q x ≡ false =
+          sym c.has_chosen_typecode.ensures ∙ w.if-has_chosen_typecode.false in
           ap (λ v. v.items) w.statements-is ∙ c.loop-statement.invariant
           ∙ sym (more ∙ ap (λ (b : Bool). filter q (take i xs) ++ cond b (x ∷ []) []) no
           ∙ append-nil (filter q (take i xs)))
