@@ -8,7 +8,7 @@ ghost use Rattle.mm_spec.specs.Derivation.{is_member};
 ghost use Rattle.mm_spec.specs.Frame.{symbol_names, is_variable_number, is_essential, active_of};
 ghost use Rattle.mm_spec.specs.Frame.{mandatory_variables, mandatory_hypotheses};
 ghost use Rattle.mm_frame.specs.Sources.{AreSources};
-ghost use Rattle.mm_frame.specs.Hypotheses.{AreStamps, AreReady, AreTyped, IsFresh, is_float_of};
+ghost use Rattle.mm_frame.specs.Hypotheses.{AreReady, AreStamps, AreTyped, IsFresh, is_float_of};
 
 use crate::active::active_essentials;
 use crate::sources::Sources;
