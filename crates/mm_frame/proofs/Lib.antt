@@ -13,7 +13,7 @@ pub mod FloatLaw
 pub mod FramesLaw
 pub mod LatestLaw
 pub mod LoopsLaw
-pub mod MarksLaw
+pub mod StampsLaw
 pub mod NestedLaw
 pub mod PairsLaw
 pub mod SkipsLaw

@@ -8,7 +8,7 @@ use Rattle.std.specs.List.{list_any}
 use Rattle.mm_spec.specs.Derivation.{is_member}
 use Rattle.mm_database.specs.Pairs.{has_pair}
 use Rattle.mm_frame.proofs.DisjointLaw.{one_more}
-use Rattle.mm_frame.proofs.MarksLaw.{noted_row}
+use Rattle.mm_frame.proofs.StampsLaw.{noted_row}
 
 or_assoc : (a b c : Bool) → ((a || b) || c) ≡ (a || (b || c))
 or_assoc true b c = refl

@@ -9,7 +9,7 @@ use Rattle.mm_outline.specs.Blocks.{never}
 use Rattle.mm_database.specs.Parsed.{typed_at}
 
 -- the symbols with this stamp are those that have been found
-pub record AreMarks (n stamp : ℕ) (seen found : List ℕ) : Type 0 where
+pub record AreStamps (n stamp : ℕ) (seen found : List ℕ) : Type 0 where
   pub count : length seen ≡ n
   pub within : (x : ℕ) → x < n → slice_index seen x ≤ stamp
   pub marked : (x : ℕ) → x < n → nat_eq (slice_index seen x) stamp ≡ is_member found x

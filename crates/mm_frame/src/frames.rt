@@ -41,7 +41,7 @@ fn give_type<A: Allocator>(statements: &Statements<A>, statement: u32, typed: &m
     }
 }
 
-/// Lists that are reused for each assertion: the marks of the symbols, the variables, the
+/// Lists that are reused for each assertion: the stamps of the symbols, the variables, the
 /// hypotheses, the active `$d` of the variables, and the pairs of variables in these `$d`.
 struct Scratch<A: Allocator> {
     seen: Vec<u32, A>,

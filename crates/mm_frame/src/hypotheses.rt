@@ -8,7 +8,7 @@ ghost use Rattle.mm_spec.specs.Derivation.{is_member};
 ghost use Rattle.mm_spec.specs.Frame.{symbol_names, is_variable_number, is_essential, active_of};
 ghost use Rattle.mm_spec.specs.Frame.{mandatory_variables, mandatory_hypotheses};
 ghost use Rattle.mm_frame.specs.Sources.{AreSources};
-ghost use Rattle.mm_frame.specs.Hypotheses.{AreMarks, AreReady, AreTyped, IsFresh, is_float_of};
+ghost use Rattle.mm_frame.specs.Hypotheses.{AreReady, AreStamps, AreTyped, IsFresh, is_float_of};
 
 use crate::active::active_essentials;
 use crate::sources::Sources;
@@ -26,10 +26,10 @@ fn add_variable<A: Allocator>(
     found: &mut Vec<Sym, A>,
 ) -> Result<(), AllocError>
     requires symbol { symbol < length (symbol_names statements.now.list) }
-    requires marks { AreMarks
+    requires stamps { AreStamps
         (length (symbol_names statements.now.list)) stamp seen.old.items found.old.items }
-    ensures marks { OnOk result
-        (AreMarks (length (symbol_names statements.now.list)) stamp seen.new.items
+    ensures stamps { OnOk result
+        (AreStamps (length (symbol_names statements.now.list)) stamp seen.new.items
         found.new.items) }
     ensures found { OnOk result
         ((x : ℕ)
@@ -56,10 +56,10 @@ fn add_variables<A: Allocator>(
     found: &mut Vec<Sym, A>,
 ) -> Result<(), AllocError>
     requires symbols { All (λ s. s < length (symbol_names statements.now.list)) symbols.now }
-    requires marks { AreMarks
+    requires stamps { AreStamps
         (length (symbol_names statements.now.list)) stamp seen.old.items found.old.items }
-    ensures marks { OnOk result
-        (AreMarks (length (symbol_names statements.now.list)) stamp seen.new.items
+    ensures stamps { OnOk result
+        (AreStamps (length (symbol_names statements.now.list)) stamp seen.new.items
         found.new.items) }
     ensures found { OnOk result
         ((x : ℕ)
@@ -88,8 +88,8 @@ fn mandatory_variables<A: Allocator>(
         → is_member essentials.now i
         ≡ is_member (active_of is_essential statements.now.list assertion) i }
     requires fresh { IsFresh (length (symbol_names statements.now.list)) assertion seen.old.items }
-    ensures marks { OnOk result
-        (AreMarks (length (symbol_names statements.now.list))
+    ensures stamps { OnOk result
+        (AreStamps (length (symbol_names statements.now.list))
         (assertion + 1) seen.new.items found.new.items) }
     ensures found { OnOk result
         ((x : ℕ)
@@ -166,8 +166,8 @@ pub(crate) fn hypotheses<A: Allocator>(
     requires sources { AreSources sources.now }
     requires assertion { assertion < length sources.now.statements.now.list }
     requires ready { AreReady sources.now.statements.now.list assertion typed.now seen.old.items }
-    ensures marks { OnOk result
-        (AreMarks (length (symbol_names sources.now.statements.now.list))
+    ensures stamps { OnOk result
+        (AreStamps (length (symbol_names sources.now.statements.now.list))
         (assertion + 1) seen.new.items found.new.items) }
     ensures found { OnOk result
         ((x : ℕ)

@@ -145,7 +145,7 @@ impl<A: Allocator + Copy> ModeReading<A> {
     }
 
     /// Reads further words, given their readings in both modes.
-    pub fn read_all(
+    pub fn go_on(
         &mut self,
         outside: &ModeReading<A>,
         inside: &ModeReading<A>,

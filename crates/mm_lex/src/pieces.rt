@@ -227,8 +227,8 @@ fn join_inner<A: Allocator + Copy>(
         outside.read_word(text, word, false)?;
         inside.read_word(text, word, false)?;
     }
-    outside.read_all(&after.outside, &after.inside)?;
-    inside.read_all(&after.outside, &after.inside)?;
+    outside.go_on(&after.outside, &after.inside)?;
+    inside.go_on(&after.outside, &after.inside)?;
     Ok(Inner {
         head: before.head,
         tail: after.tail,

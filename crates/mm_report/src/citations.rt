@@ -14,7 +14,7 @@ use crate::sink::{Sink, WriteFailed};
 use crate::text::{send_head, send_line};
 use mm_cites::Citations;
 use mm_database::Database;
-use mm_rows::{Columns, is_chosen};
+use mm_rows::{Columns, has_chosen_typecode};
 use mm_spec::Form;
 use std::alloc::Allocator;
 use std::io::Write;
@@ -27,7 +27,7 @@ fn listed_count<D: Allocator>(database: &Database<'_, D>, only: Option<&[u8]>, c
 {
     let mut count = 0u64;
     for statement in cited {
-        if is_chosen(database, only, *statement) {
+        if has_chosen_typecode(database, only, *statement) {
             count += 1;
         }
     }
@@ -61,7 +61,7 @@ fn send_cited<W: Write, D: Allocator>(
 {
     let mut is_first = true;
     for statement in cited {
-        if is_chosen(database, only, *statement) {
+        if has_chosen_typecode(database, only, *statement) {
             send_next(sink, to, label_of(database, *statement), is_first);
             is_first = false;
         }

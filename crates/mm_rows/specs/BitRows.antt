@@ -50,5 +50,5 @@ marks rows columns bits usage =
       rows = rows;
       columns = columns;
       cells = map (cells_of columns bits) (range_with_len 0 rows);
-      has_usage = usage;
+      has_columns = usage;
     }

@@ -11,7 +11,7 @@ pub record Marks : Type 0 where
   pub rows : ℕ
   pub columns : ℕ
   pub cells : List (List Bool)
-  pub has_usage : Bool
+  pub has_columns : Bool
 
 -- whether a row is marked in a column
 abbrev pub mark : Marks → ℕ → ℕ → Bool

@@ -28,7 +28,7 @@ impl<A: Allocator> Model for Columns<A> {
 }
 
 /// Whether an assertion has the chosen typecode. True if `only` is `None`.
-pub fn is_chosen<'a, D: Allocator>(
+pub fn has_chosen_typecode<'a, D: Allocator>(
     database: &Database<'a, D>,
     only: Option<&[u8]>,
     statement: u32,
@@ -61,7 +61,7 @@ impl<A: Allocator + Copy> Columns<A> {
         let mut statements = Vec::new(alloc);
         let axioms = database.axioms();
         for statement in axioms {
-            if is_chosen(database, only, *statement) {
+            if has_chosen_typecode(database, only, *statement) {
                 statements.push(*statement)?;
             }
         }

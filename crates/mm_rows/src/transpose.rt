@@ -1,4 +1,4 @@
-//! Rows of bits as columns, a block of 64 rows at a time: block w has the rows from `64 * w` on,
+//! Rows of bits as columns, a band of 64 rows at a time: band w has the rows from `64 * w` on,
 //! and makes word w of each column. So a word of a column is written once. Writing one mark at a
 //! time would fetch the word again for each of its bits.
 
@@ -6,18 +6,18 @@ ghost use Rattle.std.specs.Prelude.{◌≡◌, ◌<◌, ◌≤◌, ◌+◌, ◌*
 ghost use Rattle.std.specs.Prelude.{false};
 ghost use Rattle.std.specs.Int.{bit_at};
 ghost use Rattle.mm_rows.specs.Bits.{is_bit, words_for, AreTransposed, IsTable};
-ghost use Rattle.mm_rows.specs.Blocks.{in_row, AreRowBytes, Written};
+ghost use Rattle.mm_rows.specs.Bands.{in_row, AreRowBytes, Written};
 
 use crate::bits::{next_set, or_row};
 use std::alloc::{AllocError, Allocator};
 use std::simd::prelude::*;
 
-/// Marks the columns in which any row of block w has a mark.
+/// Marks the columns in which any row of band w has a mark.
 fn mark_columns(any: &mut [u64], bits: &[u64], rows: usize, w: usize)
     requires size { length bits.now ≡ rows * length any.old }
     requires few_rows { rows < 2147483648 }
     requires narrow { length any.old ≤ 67108864 }
-    requires block { 64 * w < rows }
+    requires band { 64 * w < rows }
     ensures { (k j : ℕ) → k < 64 → j < 64 * length any.old
         → in_row rows (length any.old) bits.now (64 * w + k) j ≡ true
         → is_bit any.new j ≡ true }
@@ -29,12 +29,12 @@ fn mark_columns(any: &mut [u64], bits: &[u64], rows: usize, w: usize)
     }
 }
 
-/// Returns byte `at` of each row of block w, and zeros past the last row.
+/// Returns byte `at` of each row of band w, and zeros past the last row.
 fn row_bytes(bits: &[u64], across: usize, rows: usize, w: usize, at: usize) -> [u8; 64]
     requires size { length bits.now ≡ rows * across }
     requires few_rows { rows < 2147483648 }
     requires narrow { across ≤ 67108864 }
-    requires block { 64 * w < rows }
+    requires band { 64 * w < rows }
     requires within { at < 8 * across }
     ensures { AreRowBytes rows across bits.now w at result }
 {
@@ -56,7 +56,7 @@ fn lane_bits(bytes: u8x64, b: usize) -> u64
     (bytes & bit).simd_eq(bit).to_bitmask()
 }
 
-/// Writes the words that block w makes of the columns of byte `at`.
+/// Writes the words that band w makes of the columns of byte `at`.
 fn write_columns(
     transposed: &mut [u64],
     bits: &[u64],
@@ -66,7 +66,7 @@ fn write_columns(
     at: usize,
 )
     requires table { IsTable rows columns bits.now }
-    requires block { 64 * w < rows }
+    requires band { 64 * w < rows }
     requires within { at < 8 * words_for columns }
     requires written { Written rows columns bits.now transposed.old w (8 * at) }
     ensures { Written rows columns bits.now transposed.new w (8 * at + 8) }
@@ -75,15 +75,15 @@ fn write_columns(
     let bytes = u8x64::from_array(row_bytes(bits, columns.div_ceil(64), rows, w, at));
     for j in 8 * at..(8 * at + 8).min(columns) {
         let word = lane_bits(bytes, j % 8);
-        // If the block has no mark in a column, the word is zero already and isn't fetched.
+        // If the band has no mark in a column, the word is zero already and isn't fetched.
         if word != 0 {
             transposed[j * down + w] = word;
         }
     }
 }
 
-/// Writes the word that block w makes of each column. `any` is a row for its own use.
-fn transpose_block(
+/// Writes the word that band w makes of each column. `any` is a row for its own use.
+fn transpose_band(
     transposed: &mut [u64],
     bits: &[u64],
     any: &mut [u64],
@@ -92,7 +92,7 @@ fn transpose_block(
     w: usize,
 )
     requires table { IsTable rows columns bits.now }
-    requires block { 64 * w < rows }
+    requires band { 64 * w < rows }
     requires width { length any.old ≡ words_for columns }
     requires written { Written rows columns bits.now transposed.old w 0 }
     ensures { Written rows columns bits.now transposed.new (w + 1) 0 }
@@ -105,8 +105,8 @@ fn transpose_block(
     }
 }
 
-/// Writes the words that all blocks make of each column.
-fn transpose_blocks(
+/// Writes the words that all bands make of each column.
+fn transpose_bands(
     transposed: &mut [u64],
     bits: &[u64],
     any: &mut [u64],
@@ -120,7 +120,7 @@ fn transpose_blocks(
     ensures { AreTransposed rows columns bits.now transposed.new }
 {
     for w in 0..rows.div_ceil(64) {
-        transpose_block(transposed, bits, any, rows, columns, w);
+        transpose_band(transposed, bits, any, rows, columns, w);
     }
 }
 
@@ -140,6 +140,6 @@ pub fn transpose<A: Allocator + Copy>(
     any.resize(columns.div_ceil(64), 0u64)?;
     let mut transposed = Vec::new(alloc);
     transposed.resize(columns * rows.div_ceil(64), 0u64)?;
-    transpose_blocks(&mut transposed, bits, &mut any, rows, columns);
+    transpose_bands(&mut transposed, bits, &mut any, rows, columns);
     Ok(transposed)
 }

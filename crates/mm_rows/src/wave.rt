@@ -306,7 +306,7 @@ pub fn matrix<R: Threads + Sync, A: Allocator + Copy + Send + Sync>(
     columns: &Columns<A>,
 ) -> Result<Matrix<A>, AllocError>
     ensures table { IfOk result (λ m. IsMatrix citations.now columns.now m) }
-    ensures usage { IfOk result (λ m. m.has_usage ≡ true) }
+    ensures has_columns { IfOk result (λ m. m.has_columns ≡ true) }
 {
     let bits = all_rows(rt, alloc, citations, columns.statements())?;
     finish(alloc, citations, columns, bits)
@@ -321,7 +321,7 @@ pub fn matrix_by_rows<R: Threads + Sync, A: Allocator + Copy + Send + Sync>(
     columns: &Columns<A>,
 ) -> Result<Matrix<A>, AllocError>
     ensures table { IfOk result (λ m. IsMatrix citations.now columns.now m) }
-    ensures usage { IfOk result (λ m. m.has_usage ≡ false) }
+    ensures has_columns { IfOk result (λ m. m.has_columns ≡ false) }
 {
     let bits = all_rows(rt, alloc, citations, columns.statements())?;
     Ok(finish_by_rows(citations, columns, bits))

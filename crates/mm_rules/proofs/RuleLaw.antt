@@ -273,8 +273,8 @@ module _ (db : List Statement) (a : ℕ) (is : is_assertion_at db a ≡ true)
       (subst (λ (h : List ℕ). formula ≡ parts_of db (map (formula_at db) h) f) hyps_is formula_made)
 
 -- the numbers in a list to which they were written back
-pub numbered : (db : List Statement) (hs : List Formula) (new old : List ℕ) (n : ℕ) (now : List ℕ)
-    → now ≡ take n (new ++ drop (length new) old) → length new ≡ n → AreFirstNumbers db hs new
-    → AreFirstNumbers db hs now
-numbered db hs new old n now is long placed =
+pub written_back : (db : List Statement) (hs : List Formula) (new old : List ℕ) (n : ℕ)
+    (now : List ℕ) → now ≡ take n (new ++ drop (length new) old) → length new ≡ n
+    → AreFirstNumbers db hs new → AreFirstNumbers db hs now
+written_back db hs new old n now is long placed =
     subst (AreFirstNumbers db hs) (sym (is ∙ take_at new (drop (length new) old) n long)) placed

@@ -83,7 +83,7 @@ fn table_of<R: Threads + Sync, A: Allocator + Copy + Send + Sync>(
     choice: Choice,
 ) -> Result<Matrix<A>, AllocError>
     ensures table { IfOk result (λ m. IsMatrix citations.now columns.now m) }
-    ensures usage { IfOk result (λ m. m.has_usage ≡ has choice choices.Usage) }
+    ensures has_columns { IfOk result (λ m. m.has_columns ≡ has choice choices.Usage) }
 {
     if has_usage(choice) {
         matrix(rt, alloc, citations, columns)

@@ -18,7 +18,7 @@ use Rattle.std.specs.Prelude.{nat_lt}
 use Rattle.std.proofs.Math.Bool.{or-false, or-true}
 use Rattle.mm_spec.proofs.FaultlessLaw.{append_none, least_none}
 use Rattle.mm_outline.specs.Blocks.{BlockLists, IsBlocks, never, pushed}
-use Rattle.mm_scope.specs.Judge.{Entry, entry_of, declared_entry, typed_entry}
+use Rattle.mm_scope.specs.Judge.{WordEntry, entry_of, declared_entry, typed_entry}
 use Rattle.mm_scope.specs.WordEntry.{IsEntryOf, is_other, is_constant_entry, is_variable_entry}
 use Rattle.mm_scope.specs.WordEntry.{entry_after, label_after}
 use Rattle.mm_outline.specs.Parts.{made}
@@ -43,23 +43,23 @@ module _ (db : List Statement) (few : length db < never) (w : Bytes) where
   all = take_all (length db) db (le_refl (length db))
 
   -- with no entry, or that of a variable
-  no_constant : (x : Option Entry) → IsEntryOf db w x → is_in w n.constants ≡ false
+  no_constant : (x : Option WordEntry) → IsEntryOf db w x → is_in w n.constants ≡ false
       → is_constant_entry x ≡ false
   no_constant x k e = sym k.constant ∙ sym (ap (λ xs. is_in w (flat_map constants_of xs)) all) ∙ e
 
-  no_variable : (x : Option Entry) → IsEntryOf db w x → is_in w n.all_variables ≡ false
+  no_variable : (x : Option WordEntry) → IsEntryOf db w x → is_in w n.all_variables ≡ false
       → is_variable_entry x ≡ false
   no_variable x k e = sym k.variable ∙ sym (ap (λ xs. is_in w (flat_map variables_of xs)) all) ∙ e
 
   in_nil : (xs : List Bytes) (b : Bool) → is_in w xs ≡ b → is_in w (xs ++ []) ≡ b
   in_nil xs b e = ap (is_in w) (append-nil xs) ∙ e
 
-  constant_after : (k : ℕ) (xs : List Token) (e : ℕ) (x : Option Entry) → IsEntryOf db w x
+  constant_after : (k : ℕ) (xs : List Token) (e : ℕ) (x : Option WordEntry) → IsEntryOf db w x
       → at_each (constant_codes n) [] xs ≡ []
       → IsEntryOf (db ++ constants k xs e ∷ []) w (entry_after (length db) (constants k xs e) w x)
   constant_after k xs e x kn law = by (is_in w (words xs)) refl
     where
-      fresh : (x : Option Entry) → IsEntryOf db w x → is_constant_entry x ≡ false
+      fresh : (x : Option WordEntry) → IsEntryOf db w x → is_constant_entry x ≡ false
           → is_variable_entry x ≡ false → is_in w (words xs) ≡ true
           → IsEntryOf (db ++ constants k xs e ∷ []) w (declared_entry false (length db) w x)
       fresh None kn c v h =
@@ -74,7 +74,7 @@ module _ (db : List Statement) (few : length db < never) (w : Bytes) where
           let new = constant_new n xs law w h in
           fresh x kn (no_constant x kn new.0) (no_variable x kn new.1) h
 
-  variable_after : (k : ℕ) (xs : List Token) (e : ℕ) (x : Option Entry) → IsEntryOf db w x
+  variable_after : (k : ℕ) (xs : List Token) (e : ℕ) (x : Option WordEntry) → IsEntryOf db w x
       → at_each (variable_codes n) [] xs ≡ []
       → IsEntryOf (db ++ variables k xs e ∷ []) w (entry_after (length db) (variables k xs e) w x)
   variable_after k xs e x kn law = by (is_in w (words xs)) refl
@@ -88,13 +88,13 @@ module _ (db : List Statement) (few : length db < never) (w : Bytes) where
           known_variable db (variables k xs e) w x kn (no_constant x kn new.0) new.1 refl
           (in_nil (words xs) true h) refl
 
-  floating_after : (l : Token) (k : ℕ) (c v : Token) (e : ℕ) (x : Option Entry) → IsEntryOf db w x
-      → floating_faults n k (c ∷ v ∷ []) ≡ []
+  floating_after : (l : Token) (k : ℕ) (c v : Token) (e : ℕ) (x : Option WordEntry)
+      → IsEntryOf db w x → floating_faults n k (c ∷ v ∷ []) ≡ []
       → IsEntryOf (db ++ floating l k (c ∷ v ∷ []) e ∷ []) w
       (entry_after (length db) (floating l k (c ∷ v ∷ []) e) w x)
   floating_after l k c v e x kn law = by (bytes_eq v.word w) refl
     where
-      typed : (x : Option Entry) → IsEntryOf db w x → v.word ≡ w
+      typed : (x : Option WordEntry) → IsEntryOf db w x → v.word ≡ w
           → IsEntryOf (db ++ floating l k (c ∷ v ∷ []) e ∷ []) w (typed_entry (length db) c.word x)
       typed None kn same =
           let new = floating_new n k c v law in
@@ -119,7 +119,7 @@ module _ (db : List Statement) (few : length db < never) (w : Bytes) where
       by true h = typed x kn ((bytes_eq-Decides v.word w).0 h)
 
   -- what is known of the word after a lawful statement
-  pub known_after : (s : Statement) (d : ℕ) (x : Option Entry) → IsEntryOf db w x
+  pub known_after : (s : Statement) (d : ℕ) (x : Option WordEntry) → IsEntryOf db w x
       → scope_faults n d s ≡ [] → IsEntryOf (db ++ s ∷ []) w (entry_after (length db) s w x)
   known_after (constants k xs e) d x kn law =
       constant_after k xs e x kn

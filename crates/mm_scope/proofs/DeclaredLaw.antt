@@ -9,11 +9,11 @@ use Rattle.mm_spec.specs.Text.{is_in, words}
 use Rattle.mm_spec.specs.declared.Word.{Word}
 use Rattle.mm_database.specs.declared.names.Symbol.{Symbol}
 use Rattle.mm_outline.specs.Parts.{between, token_at}
-use Rattle.mm_scope.specs.Judge.{Entry, entry_of, declared_entry}
+use Rattle.mm_scope.specs.Judge.{WordEntry, entry_of, declared_entry}
 use Rattle.mm_outline.proofs.TurnsLaw.{between_more}
 use Rattle.mm_scope.proofs.JudgeLaw.{bytes_eq_sym}
 
-twice : (v : Bool) (n : ℕ) (w : List ℕ) (e : Option Entry)
+twice : (v : Bool) (n : ℕ) (w : List ℕ) (e : Option WordEntry)
     → declared_entry v n w (declared_entry v n w e) ≡ declared_entry v n w e
 twice v n w None = refl
 twice v n w (Some e) = refl
@@ -52,7 +52,7 @@ module _ (text : List ℕ) (ws : List Word) (from i : ℕ) (later : from ≤ i)
       ∙ ap (λ b. if b then declared_entry v n w (entry_of (old w)) else entry_of (old w))
       (sym (is_in-more w))
     where
-      again : (b : Bool) (o : Option Entry)
+      again : (b : Bool) (o : Option WordEntry)
           → declared_entry v n w (if b then declared_entry v n w o else o) ≡ declared_entry v n w o
       again true o = twice v n w o
       again false o = refl

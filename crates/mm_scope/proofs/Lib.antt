@@ -1,4 +1,4 @@
--- The loop of `outline` keeps two things: `IsReading` (the lawful statements lead to `at`) and
+-- The loop of `outline` keeps two things: `IsReadTo` (the lawful statements lead to `at`) and
 -- `IsKeptOf` (names, blocks and numbers are theirs). `knows_is` (`KnowsLaw.antt`) says that what is
 -- kept is what the judge needs. `formula_is`, `constants_is` and `variables_is` (`JudgeLaw.antt`)
 -- show that the code's fault is the least one. `keeps_after` (`AddLaw.antt`) adds a lawful

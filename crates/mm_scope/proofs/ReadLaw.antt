@@ -30,7 +30,7 @@ use Rattle.mm_outline.specs.declared.parts.Part.TheVariants.{Start, Labelled, Wo
 use Rattle.mm_outline.proofs.LeadsLaw.{leads_then}
 use Rattle.mm_spec.proofs.ShapeLaw.{count_end}
 
-pub record IsReading (text : List ℕ) (ws : List Word) (db : List Statement)
+pub record IsReadTo (text : List ℕ) (ws : List Word) (db : List Statement)
     (deep at : ℕ) : Type 0 where
   pub leads : Leads (start 0) (as_tokens text ws) db (start deep) (tokens_from text ws at)
   pub within : at ≤ length ws
@@ -40,7 +40,7 @@ pub record IsReading (text : List ℕ) (ws : List Word) (db : List Statement)
   pub lawful : (k : ℕ) → k < length db → scope_fault db k ≡ None
 
 module _ (text : List ℕ) (ws : List Word) (len : ℕ) (lexical : Option Fault) (db : List Statement)
-    (deep at : ℕ) (r : IsReading text ws db deep at) where
+    (deep at : ℕ) (r : IsReadTo text ws db deep at) where
   abbrev x : LexedText
   x = lexed text ws lexical
 
@@ -125,7 +125,7 @@ module _ (text : List ℕ) (ws : List Word) (len : ℕ) (lexical : Option Fault)
 
 -- a statement that closes a block stands in one
 pub inside_block : (text : List ℕ) (ws : List Word) (db : List Statement) (deep at : ℕ)
-    → IsReading text ws db deep at → (s : Statement) (d : ℕ) (us : List _)
+    → IsReadTo text ws db deep at → (s : Statement) (d : ℕ) (us : List _)
     → Leads (start deep) (tokens_from text ws at) (s ∷ []) (start d) us → is_closing s ≡ true
     → 0 < depth db (length db)
 inside_block text ws db deep at r s d us l e =
@@ -197,12 +197,12 @@ depth_is text ws db b x few kind.Theorem w m e =
     sym (depth_plain db (made text ws kind.Theorem w m e) b x few refl refl)
 
 pub reading_more : (text : List ℕ) (ws : List Word) (db : List Statement) (deep at : ℕ)
-    → IsReading text ws db deep at → length ws < 2 ^ 31 → (b : BlockLists) → IsBlocks db b
+    → IsReadTo text ws db deep at → length ws < 2 ^ 31 → (b : BlockLists) → IsBlocks db b
     → (k : Kind) (w m e : ℕ) → at ≤ e → e < length ws
     → Leads (start deep) (tokens_from text ws at) (made text ws k w m e ∷ [])
     (start (depth_after k deep)) (tokens_from text ws (e + 1))
     → None ≡ least (scope_faults (names_before db (length db)) deep (made text ws k w m e))
-    → IsReading text ws (db ++ made text ws k w m e ∷ []) (depth_after k deep) (e + 1)
+    → IsReadTo text ws (db ++ made text ws k w m e ∷ []) (depth_after k deep) (e + 1)
 reading_more text ws db deep at r small b x k w m e later within l f = record {
   leads = leads_then r.leads l;
   within = omega (arith, within);

@@ -6,11 +6,11 @@ use Rattle.mm_spec.specs.Text.{Token}
 use Rattle.mm_spec.specs.declared.Word.{Word}
 use Rattle.mm_database.specs.declared.names.Symbol.{Symbol}
 use Rattle.mm_outline.specs.Parts.{between, token_at}
-use Rattle.mm_scope.specs.Judge.{Entry, entry_of, typed_entry}
+use Rattle.mm_scope.specs.Judge.{WordEntry, entry_of, typed_entry}
 use Rattle.mm_scope.specs.WordEntry.{typed_after}
 use Rattle.mm_scope.proofs.JudgeLaw.{two_between, length_between}
 
-other_length : (n : ℕ) (xs : List Token) (w : List ℕ) (x : Option Entry) → length xs ≢ 2
+other_length : (n : ℕ) (xs : List Token) (w : List ℕ) (x : Option WordEntry) → length xs ≢ 2
     → typed_after n xs w x ≡ x
 other_length n [] w x h = refl
 other_length n (a ∷ []) w x h = refl
@@ -19,7 +19,7 @@ other_length n (a ∷ b ∷ c ∷ xs) w x h = refl
 
 module _ (text : List ℕ) (ws : List Word) (k j : ℕ) (l : j ≤ length ws) where
   -- no two symbols
-  pub typed_not : (n : ℕ) (w : List ℕ) (x : Option Entry) → k < j → j - k ≢ 3
+  pub typed_not : (n : ℕ) (w : List ℕ) (x : Option WordEntry) → k < j → j - k ≢ 3
       → typed_after n (between text ws (k + 1) j) w x ≡ x
   typed_not n w x h ne =
       other_length n (between text ws (k + 1) j) w x

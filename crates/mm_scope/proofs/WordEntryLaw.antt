@@ -12,7 +12,7 @@ use Rattle.mm_spec.specs.Text.{Bytes, is_in}
 use Rattle.mm_spec.specs.Statement.{Statement}
 use Rattle.mm_spec.specs.Scope.{Typing, active_statements, variables_of, constants_of, typings_of}
 use Rattle.mm_outline.specs.Blocks.{never}
-use Rattle.mm_scope.specs.Judge.{Entry, entry, declared_entry, typed_entry}
+use Rattle.mm_scope.specs.Judge.{WordEntry, entry, declared_entry, typed_entry}
 use Rattle.mm_scope.specs.WordEntry.{IsEntryOf, Latest, typed_by, typecode_by, declared_by}
 use Rattle.mm_scope.specs.WordEntry.{is_other}
 use Rattle.mm_scope.specs.WordEntry.{is_constant_entry, is_variable_entry}
@@ -67,9 +67,9 @@ module _ (db : List Statement) (s : Statement) (w : Bytes) where
       ∙ or-false (list_any (is_other c w) (flat_map typings_of db))
 
   -- the statement says nothing of the word
-  pub known_same : (x : Option Entry) → IsEntryOf db w x → is_in w (constants_of s ++ []) ≡ false
-      → is_in w (variables_of s ++ []) ≡ false → is_in w (typed_words s ++ []) ≡ false
-      → IsEntryOf (db ++ s ∷ []) w x
+  pub known_same : (x : Option WordEntry) → IsEntryOf db w x
+      → is_in w (constants_of s ++ []) ≡ false → is_in w (variables_of s ++ []) ≡ false
+      → is_in w (typed_words s ++ []) ≡ false → IsEntryOf (db ++ s ∷ []) w x
   known_same x k nc nv nt = record {
     constant = in_same constants_of nc ∙ k.constant;
     variable = in_same variables_of nv ∙ k.variable;
@@ -92,18 +92,18 @@ module _ (db : List Statement) (s : Statement) (w : Bytes) where
     otherwise = λ c. other_same c nt ∙ k.otherwise c;
   }
 
-  typed_same : (x : Option Entry) → typed_by (declared_entry true (length db) w x) ≡ typed_by x
+  typed_same : (x : Option WordEntry) → typed_by (declared_entry true (length db) w x) ≡ typed_by x
   typed_same None = refl
   typed_same (Some e) = refl
 
-  other_declared : (c : Bytes) (x : Option Entry)
+  other_declared : (c : Bytes) (x : Option WordEntry)
       → (not (nat_eq (typed_by x) never) && not (bytes_eq c (typecode_by x)))
       ≡ (not (nat_eq (typed_by (declared_entry true (length db) w x)) never)
       && not (bytes_eq c (typecode_by (declared_entry true (length db) w x))))
   other_declared c None = refl
   other_declared c (Some e) = refl
 
-  is_declared : (x : Option Entry)
+  is_declared : (x : Option WordEntry)
       → (is_constant_entry (declared_entry true (length db) w x) ≡ false)
       × (is_variable_entry (declared_entry true (length db) w x) ≡ true)
       × (declared_by (declared_entry true (length db) w x) ≡ length db)
@@ -111,7 +111,7 @@ module _ (db : List Statement) (s : Statement) (w : Bytes) where
   is_declared (Some e) = (refl, refl, refl)
 
   -- it declares it as a variable
-  pub known_variable : (x : Option Entry) → IsEntryOf db w x → is_constant_entry x ≡ false
+  pub known_variable : (x : Option WordEntry) → IsEntryOf db w x → is_constant_entry x ≡ false
       → is_in w (flat_map variables_of (active_statements db (length db))) ≡ false
       → is_in w (constants_of s ++ []) ≡ false → is_in w (variables_of s ++ []) ≡ true
       → is_in w (typed_words s ++ []) ≡ false
@@ -132,7 +132,7 @@ module _ (db : List Statement) (s : Statement) (w : Bytes) where
       }
 
   -- it types it
-  pub known_typed : (e : Entry) → IsEntryOf db w (Some e) → length db < never → (c : Bytes)
+  pub known_typed : (e : WordEntry) → IsEntryOf db w (Some e) → length db < never → (c : Bytes)
       → is_in w (flat_map typed_words (active_statements db (length db))) ≡ false
       → list_any (is_other c w) (flat_map typings_of db) ≡ false
       → is_in w (constants_of s ++ []) ≡ false → is_in w (variables_of s ++ []) ≡ false

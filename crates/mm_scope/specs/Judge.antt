@@ -151,34 +151,35 @@ typing_fault keyword place None = Some (fault keyword BadFloating)
 typing_fault keyword place (Some code) = fault_at place code
 
 -- what is known of a symbol, with its typecode as bytes
-pub record Entry : Type 0 where
+pub record WordEntry : Type 0 where
   pub is_variable : Bool
   pub declared : ℕ
   pub typed : ℕ
   pub typecode : List ℕ
 
-abbrev pub entry : Bool → ℕ → ℕ → List ℕ → Entry
+abbrev pub entry : Bool → ℕ → ℕ → List ℕ → WordEntry
 entry v j t c = record { is_variable = v; declared = j; typed = t; typecode = c }
 
-abbrev pub entry_of : Option Symbol → Option Entry
+abbrev pub entry_of : Option Symbol → Option WordEntry
 entry_of None = None
 entry_of (Some s) = Some (entry s.is_variable s.declared s.typed s.typecode.now)
 
 -- the entry after the symbol's declaration by a statement
-abbrev pub declared_entry : Bool → ℕ → List ℕ → Option Entry → Option Entry
+abbrev pub declared_entry : Bool → ℕ → List ℕ → Option WordEntry → Option WordEntry
 declared_entry v number w None = Some (entry v number never w)
 declared_entry v number w (Some e) = Some (entry v number e.typed e.typecode)
 
 -- the entry of a word after the declaration of words by a statement
-abbrev pub after_declaring : Bool → ℕ → List (List ℕ) → List ℕ → Option Entry → Option Entry
+abbrev pub after_declaring : Bool → ℕ → List (List ℕ) → List ℕ → Option WordEntry → Option WordEntry
 after_declaring v number ws w x = if is_in w ws then declared_entry v number w x else x
 
 -- the entry after a `$f`
-abbrev pub typed_entry : ℕ → List ℕ → Option Entry → Option Entry
+abbrev pub typed_entry : ℕ → List ℕ → Option WordEntry → Option WordEntry
 typed_entry number c None = None
 typed_entry number c (Some e) = Some (entry e.is_variable e.declared number c)
 
 -- the entry of a word after the `$f` of a variable, by the entries before it
-abbrev pub after_typing : ℕ → List ℕ → List ℕ → (List ℕ → Option Entry) → List ℕ → Option Entry
+abbrev pub after_typing : ℕ → List ℕ → List ℕ → (List ℕ → Option WordEntry) → List ℕ
+    → Option WordEntry
 after_typing number typecode variable entries w =
     if bytes_eq variable w then typed_entry number typecode (entries variable) else entries w

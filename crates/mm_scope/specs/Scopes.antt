@@ -13,7 +13,7 @@ use Rattle.mm_outline.specs.declared.parts.Outline.{Outline}
 use Rattle.mm_database.specs.Names.{find, names_of}
 use Rattle.mm_database.specs.declared.names.Symbol.{Symbol}
 use Rattle.mm_scope.specs.declared.scope.Scope.{Scope}
-use Rattle.mm_scope.specs.Judge.{Entry, Knows, entry_of}
+use Rattle.mm_scope.specs.Judge.{WordEntry, Knows, entry_of}
 use Rattle.mm_scope.specs.Keeps.{KnowsStatements}
 
 -- the outline is that of a whole statement among these tokens of a text
@@ -41,7 +41,7 @@ module _ {A : Type 0} where
   abbrev pub symbol_in : Scope A → List ℕ → Option Symbol
   symbol_in s = find s.names.symbols
 
-  abbrev pub entry_in : Scope A → List ℕ → Option Entry
+  abbrev pub entry_in : Scope A → List ℕ → Option WordEntry
   entry_in s w = entry_of (symbol_in s w)
 
   abbrev pub label_in : Scope A → List ℕ → Option ℕ

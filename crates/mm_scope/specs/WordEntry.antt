@@ -6,7 +6,7 @@ use Rattle.mm_spec.specs.Text.{Bytes, Token, is_in, words}
 use Rattle.mm_spec.specs.Statement.{Statement, constants, variables, floating}
 use Rattle.mm_spec.specs.Scope.{Typing, is_active, constants_of, variables_of, typings_of}
 use Rattle.mm_outline.specs.Blocks.{never}
-use Rattle.mm_scope.specs.Judge.{Entry, after_declaring, typed_entry}
+use Rattle.mm_scope.specs.Judge.{WordEntry, after_declaring, typed_entry}
 use Rattle.mm_outline.specs.Typed.{has_word, typed_words}
 
 -- whether the typing gives the word another typecode
@@ -22,29 +22,29 @@ module _ (db : List Statement) (f : Statement → List Bytes) (w : Bytes) where
         → is_active db j (length db) ≡ true
         → j ≡ last
 
-abbrev pub is_constant_entry : Option Entry → Bool
+abbrev pub is_constant_entry : Option WordEntry → Bool
 is_constant_entry None = false
 is_constant_entry (Some e) = not e.is_variable
 
-abbrev pub is_variable_entry : Option Entry → Bool
+abbrev pub is_variable_entry : Option WordEntry → Bool
 is_variable_entry None = false
 is_variable_entry (Some e) = e.is_variable
 
 -- the last declaration, the last `$f`, and its typecode
-abbrev pub declared_by : Option Entry → ℕ
+abbrev pub declared_by : Option WordEntry → ℕ
 declared_by None = never
 declared_by (Some e) = e.declared
 
-abbrev pub typed_by : Option Entry → ℕ
+abbrev pub typed_by : Option WordEntry → ℕ
 typed_by None = never
 typed_by (Some e) = e.typed
 
-abbrev pub typecode_by : Option Entry → List ℕ
+abbrev pub typecode_by : Option WordEntry → List ℕ
 typecode_by None = []
 typecode_by (Some e) = e.typecode
 
 -- the entry is what the statements say of the word
-pub record IsEntryOf (db : List Statement) (w : Bytes) (x : Option Entry) : Type 0 where
+pub record IsEntryOf (db : List Statement) (w : Bytes) (x : Option WordEntry) : Type 0 where
   pub constant : is_in w (flat_map constants_of db) ≡ is_constant_entry x
   pub variable : is_in w (flat_map variables_of db) ≡ is_variable_entry x
   pub declared : is_variable_entry x ≡ true → Latest db variables_of w (declared_by x)
@@ -55,11 +55,11 @@ pub record IsEntryOf (db : List Statement) (w : Bytes) (x : Option Entry) : Type
       ≡ (not (nat_eq (typed_by x) never) && not (bytes_eq c (typecode_by x)))
 
 -- the entry of a word after statement n, and the statement of a label after it
-abbrev pub typed_after : ℕ → List Token → Bytes → Option Entry → Option Entry
+abbrev pub typed_after : ℕ → List Token → Bytes → Option WordEntry → Option WordEntry
 typed_after n (c ∷ v ∷ []) w x = if bytes_eq v.word w then typed_entry n c.word x else x
 typed_after n _ w x = x
 
-abbrev pub entry_after : ℕ → Statement → Bytes → Option Entry → Option Entry
+abbrev pub entry_after : ℕ → Statement → Bytes → Option WordEntry → Option WordEntry
 entry_after n (constants k xs d) w x = after_declaring false n (words xs) w x
 entry_after n (variables k xs d) w x = after_declaring true n (words xs) w x
 entry_after n (floating l k xs d) w x = typed_after n xs w x

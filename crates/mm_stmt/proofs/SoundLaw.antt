@@ -15,14 +15,14 @@ use Rattle.mm_spec.specs.Lexed.{LexedText}
 use Rattle.mm_spec.specs.Output.{IsRead}
 use Rattle.mm_spec.proofs.LocalLaw.{scope_fault_front}
 use Rattle.mm_outline.specs.Blocks.{BlockLists}
-use Rattle.mm_scope.specs.Judge.{Entry, entry_of}
+use Rattle.mm_scope.specs.Judge.{WordEntry, entry_of}
 use Rattle.mm_scope.specs.WordEntry.{is_constant_entry, is_variable_entry}
 use Rattle.mm_scope.specs.Keeps.{KnowsStatements}
 use Rattle.mm_database.specs.Parsed.{IsSound}
 use Rattle.mm_database.specs.declared.names.Symbol.{Symbol}
 use Rattle.mm_scope.proofs.BoundsLaw.{symbols_known}
 
-one_kind : (x : Option Entry) → is_constant_entry x ≡ true → is_variable_entry x ≡ false
+one_kind : (x : Option WordEntry) → is_constant_entry x ≡ true → is_variable_entry x ≡ false
 one_kind None e = refl
 one_kind (Some e) h = by e.is_variable h
   where

@@ -25,8 +25,8 @@ mandatory_pairs-requires-clause-found g c = λ x.
 
 pub returns-clause-seen : goal.returns-clause-seen
 returns-clause-seen g c = record {
-  count = c.in_ok-hypotheses.ensures.marks.count;
-  within = c.in_ok-hypotheses.ensures.marks.within;
+  count = c.in_ok-hypotheses.ensures.stamps.count;
+  within = c.in_ok-hypotheses.ensures.stamps.within;
 }
 
 pub returns-clause-frame : goal.returns-clause-frame

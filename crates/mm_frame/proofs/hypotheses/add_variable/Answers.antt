@@ -3,12 +3,12 @@ use Rattle.std.proofs.lemmas.Result.{IfOk-from_err}
 use Rattle.mm_spec.specs.Derivation.{is_member}
 use Rattle.mm_spec.specs.Frame.{symbol_names, is_variable_number}
 use Rattle.mm_spec.proofs.MemberLaw.{member_push}
-use Rattle.mm_frame.specs.Hypotheses.{AreMarks}
-use Rattle.mm_frame.proofs.MarksLaw.{mark_more, found_again, noted_new, noted_again, noted_not}
+use Rattle.mm_frame.specs.Hypotheses.{AreStamps}
+use Rattle.mm_frame.proofs.StampsLaw.{stamp_more, found_again, noted_new, noted_again, noted_not}
 use Rattle.mm_frame.proofs.hypotheses.add_variable.Goals as goal
 
-pub returns-in_err-push-clause-marks : goal.returns-in_err-push-clause-marks
-returns-in_err-push-clause-marks g c =
+pub returns-in_err-push-clause-stamps : goal.returns-in_err-push-clause-stamps
+returns-in_err-push-clause-stamps g c =
     IfOk-from_err c.from_residual.result _ c.from_residual.ensures.0
 
 pub returns-in_err-push-clause-found : goal.returns-in_err-push-clause-found
@@ -27,17 +27,17 @@ index-requires g c = omega arith
 pub index_mut-requires : goal.index_mut-requires
 index_mut-requires g c = omega arith
 
-pub returns-in_ok-push-clause-marks : goal.returns-in_ok-push-clause-marks
-returns-in_ok-push-clause-marks g c =
+pub returns-in_ok-push-clause-stamps : goal.returns-in_ok-push-clause-stamps
+returns-in_ok-push-clause-stamps g c =
     let n = length (symbol_names c.args.statements.now.list) in
     let seen = c.args.seen.now.items in
     let found = c.args.found.now.items in
     let s = c.args.symbol in
-    subst (λ fs. AreMarks n c.args.stamp (set seen c.number-place.result c.args.stamp) fs)
+    subst (λ fs. AreStamps n c.args.stamp (set seen c.number-place.result c.args.stamp) fs)
     (sym c.in_ok-push.ensures.items)
-    (subst (λ p. AreMarks n c.args.stamp (set seen p c.args.stamp) (found ++ s ∷ []))
+    (subst (λ p. AreStamps n c.args.stamp (set seen p c.args.stamp) (found ++ s ∷ []))
     (sym c.number-place.ensures)
-    (mark_more n c.args.stamp seen found s c.requires.marks c.requires.symbol))
+    (stamp_more n c.args.stamp seen found s c.requires.stamps c.requires.symbol))
 
 pub returns-in_ok-push-clause-found : goal.returns-in_ok-push-clause-found
 returns-in_ok-push-clause-found g c = λ x.
@@ -46,8 +46,8 @@ returns-in_ok-push-clause-found g c = λ x.
     ∙ noted_new (is_variable_number c.args.statements.now.list) c.args.symbol x (is_member found x)
     (sym c.is_variable.ensures ∙ c.if-is_variable.true)
 
-pub returns-else-index-stamp-clause-marks : goal.returns-else-index-stamp-clause-marks
-returns-else-index-stamp-clause-marks g c = c.requires.marks
+pub returns-else-index-stamp-clause-stamps : goal.returns-else-index-stamp-clause-stamps
+returns-else-index-stamp-clause-stamps g c = c.requires.stamps
 
 pub returns-else-index-stamp-clause-found : goal.returns-else-index-stamp-clause-found
 returns-else-index-stamp-clause-found g c = λ x.
@@ -55,11 +55,11 @@ returns-else-index-stamp-clause-found g c = λ x.
     noted_again (is_variable_number c.args.statements.now.list) (is_member found) c.args.symbol x
     (found_again (length (symbol_names c.args.statements.now.list)) c.args.stamp
     c.args.seen.now.items found
-    c.args.symbol c.number-place.result c.index.result.now c.requires.marks c.requires.symbol
+    c.args.symbol c.number-place.result c.index.result.now c.requires.stamps c.requires.symbol
     c.number-place.ensures c.index.ensures c.if-index-stamp.false)
 
-pub returns-else-is_variable-clause-marks : goal.returns-else-is_variable-clause-marks
-returns-else-is_variable-clause-marks g c = c.requires.marks
+pub returns-else-is_variable-clause-stamps : goal.returns-else-is_variable-clause-stamps
+returns-else-is_variable-clause-stamps g c = c.requires.stamps
 
 pub returns-else-is_variable-clause-found : goal.returns-else-is_variable-clause-found
 returns-else-is_variable-clause-found g c = λ x.

@@ -5,8 +5,8 @@ use Rattle.mm_spec.specs.Frame.{is_variable_number}
 use Rattle.mm_frame.proofs.LoopsLaw.{noted_none, noted_next}
 use Rattle.mm_frame.proofs.hypotheses.add_variables.Goals as goal
 
-pub returns-in_err-add_variable-clause-marks : goal.returns-in_err-add_variable-clause-marks
-returns-in_err-add_variable-clause-marks g c =
+pub returns-in_err-add_variable-clause-stamps : goal.returns-in_err-add_variable-clause-stamps
+returns-in_err-add_variable-clause-stamps g c =
     IfOk-from_err c.from_residual.result _ c.from_residual.ensures.0
 
 pub returns-in_err-add_variable-clause-found : goal.returns-in_err-add_variable-clause-found
@@ -15,7 +15,7 @@ returns-in_err-add_variable-clause-found g c =
 
 pub loop-symbol-init : goal.loop-symbol-init
 loop-symbol-init g c = record {
-  marks = c.requires.marks;
+  stamps = c.requires.stamps;
   found =
       λ x. noted_none (is_member c.args.found.now.items x)
       (is_variable_number c.args.statements.now.list x);
@@ -31,12 +31,12 @@ add_variable-requires-clause-symbol g c =
     let e = c.symbol-item.is in
     omega (arith, h, e)
 
-pub add_variable-requires-clause-marks : goal.add_variable-requires-clause-marks
-add_variable-requires-clause-marks g c = c.loop-symbol.invariant.marks
+pub add_variable-requires-clause-stamps : goal.add_variable-requires-clause-stamps
+add_variable-requires-clause-stamps g c = c.loop-symbol.invariant.stamps
 
 pub loop-symbol-preserved : goal.loop-symbol-preserved
 loop-symbol-preserved g c = record {
-  marks = c.in_ok-add_variable.ensures.marks;
+  stamps = c.in_ok-add_variable.ensures.stamps;
   found =
       λ x.
       noted_next c.args.symbols.now c.loop-symbol.symbol-index c.symbol-item.result x _ _ _
@@ -44,8 +44,8 @@ loop-symbol-preserved g c = record {
       (c.loop-symbol.invariant.found x) (c.in_ok-add_variable.ensures.found x);
 }
 
-pub returns-clause-marks : goal.returns-clause-marks
-returns-clause-marks g c = c.loop-symbol.invariant.marks
+pub returns-clause-stamps : goal.returns-clause-stamps
+returns-clause-stamps g c = c.loop-symbol.invariant.stamps
 
 pub returns-clause-found : goal.returns-clause-found
 returns-clause-found g c = λ x.

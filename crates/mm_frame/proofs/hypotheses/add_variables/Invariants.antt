@@ -1,12 +1,12 @@
 use Rattle.std.proofs.Common.{◌≡◌, ℕ, ◌&&◌, ◌||◌, length, take}
 use Rattle.mm_spec.specs.Derivation.{is_member}
 use Rattle.mm_spec.specs.Frame.{symbol_names, is_variable_number}
-use Rattle.mm_frame.specs.Hypotheses.{AreMarks}
+use Rattle.mm_frame.specs.Hypotheses.{AreStamps}
 use Rattle.mm_frame.proofs.hypotheses.add_variables.Given as goal
 
 abbrev pub invariant-loop-symbol : goal.invariant-loop-symbol
 invariant-loop-symbol g l = record {
-  marks : AreMarks (length (symbol_names l.statements.list)) l.stamp l.seen.items l.found.items;
+  stamps : AreStamps (length (symbol_names l.statements.list)) l.stamp l.seen.items l.found.items;
   found : (x : ℕ)
       → is_member l.found.items x
       ≡ (is_member l.initial.found.items x

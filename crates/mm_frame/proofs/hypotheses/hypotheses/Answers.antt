@@ -58,15 +58,15 @@ add_floats-requires-clause-at g c = omega arith
 pub add_floats-requires-clause-typed : goal.add_floats-requires-clause-typed
 add_floats-requires-clause-typed g c = c.requires.ready.typed_are
 
-pub returns-clause-marks : goal.returns-clause-marks
-returns-clause-marks g c = c.in_ok-mandatory_variables.ensures.marks
+pub returns-clause-stamps : goal.returns-clause-stamps
+returns-clause-stamps g c = c.in_ok-mandatory_variables.ensures.stamps
 
 pub returns-clause-found : goal.returns-clause-found
 returns-clause-found g c = c.in_ok-mandatory_variables.ensures.found
 
-pub returns-in_err-active_essentials-clause-marks :
-    goal.returns-in_err-active_essentials-clause-marks
-returns-in_err-active_essentials-clause-marks g c =
+pub returns-in_err-active_essentials-clause-stamps :
+    goal.returns-in_err-active_essentials-clause-stamps
+returns-in_err-active_essentials-clause-stamps g c =
     IfOk-from_err c.from_residual.result _ c.from_residual.ensures.0
 
 pub returns-in_err-active_essentials-clause-found :
@@ -78,9 +78,9 @@ pub returns-in_err-active_essentials-clause-hyps : goal.returns-in_err-active_es
 returns-in_err-active_essentials-clause-hyps g c =
     IfOk-from_err c.from_residual.result _ c.from_residual.ensures.0
 
-pub returns-in_err-mandatory_variables-clause-marks :
-    goal.returns-in_err-mandatory_variables-clause-marks
-returns-in_err-mandatory_variables-clause-marks g c =
+pub returns-in_err-mandatory_variables-clause-stamps :
+    goal.returns-in_err-mandatory_variables-clause-stamps
+returns-in_err-mandatory_variables-clause-stamps g c =
     IfOk-from_err c.from_residual-in_err-mandatory_variables.result _
     c.from_residual-in_err-mandatory_variables.ensures.0
 
@@ -96,8 +96,8 @@ returns-in_err-mandatory_variables-clause-hyps g c =
     IfOk-from_err c.from_residual-in_err-mandatory_variables.result _
     c.from_residual-in_err-mandatory_variables.ensures.0
 
-pub returns-in_err-add_floats-clause-marks : goal.returns-in_err-add_floats-clause-marks
-returns-in_err-add_floats-clause-marks g c =
+pub returns-in_err-add_floats-clause-stamps : goal.returns-in_err-add_floats-clause-stamps
+returns-in_err-add_floats-clause-stamps g c =
     IfOk-from_err c.from_residual-in_err-add_floats.result _
     c.from_residual-in_err-add_floats.ensures.0
 

@@ -4,7 +4,7 @@ use Rattle.mm_spec.specs.Derivation.{is_member}
 use Rattle.mm_spec.specs.Frame.{symbol_names, is_variable_number, formula_at}
 use Rattle.mm_frame.proofs.HypothesesLaw.{mandatory_is, essential_before}
 use Rattle.std.proofs.lemmas.Result.{IfOk-from_err}
-use Rattle.mm_frame.proofs.MarksLaw.{marks_fresh}
+use Rattle.mm_frame.proofs.StampsLaw.{stamps_fresh}
 use Rattle.mm_frame.proofs.LoopsLaw.{mandatory_first, mandatory_next}
 use Rattle.mm_frame.proofs.hypotheses.mandatory_variables.Goals as goal
 
@@ -29,16 +29,16 @@ returns-clause-found g c = λ x.
     (take_all c.loop-essential.essential-index xs c.loop-essential-test.false)
     ∙ mandatory_is db c.args.assertion xs c.requires.essentials x
 
-pub returns-in_err-add_variables-clause-marks : goal.returns-in_err-add_variables-clause-marks
-returns-in_err-add_variables-clause-marks g c =
+pub returns-in_err-add_variables-clause-stamps : goal.returns-in_err-add_variables-clause-stamps
+returns-in_err-add_variables-clause-stamps g c =
     IfOk-from_err c.from_residual.result _ c.from_residual.ensures.0
 
 pub returns-in_err-add_variables-clause-found : goal.returns-in_err-add_variables-clause-found
 returns-in_err-add_variables-clause-found g c =
     IfOk-from_err c.from_residual.result _ c.from_residual.ensures.0
 
-pub returns-in_err-add_variables-2-clause-marks : goal.returns-in_err-add_variables-2-clause-marks
-returns-in_err-add_variables-2-clause-marks g c =
+pub returns-in_err-add_variables-2-clause-stamps : goal.returns-in_err-add_variables-2-clause-stamps
+returns-in_err-add_variables-2-clause-stamps g c =
     IfOk-from_err c.from_residual-in_err-add_variables-2.result _
     c.from_residual-in_err-add_variables-2.ensures.0
 
@@ -56,15 +56,15 @@ overflow_add-assertion g c = omega arith
 pub add_variables-requires-clause-symbols : goal.add_variables-requires-clause-symbols
 add_variables-requires-clause-symbols g c = c.formula.ensures.known
 
-pub add_variables-requires-clause-marks : goal.add_variables-requires-clause-marks
-add_variables-requires-clause-marks g c =
-    marks_fresh (length (symbol_names c.args.statements.now.list)) c.args.assertion
+pub add_variables-requires-clause-stamps : goal.add_variables-requires-clause-stamps
+add_variables-requires-clause-stamps g c =
+    stamps_fresh (length (symbol_names c.args.statements.now.list)) c.args.assertion
     c.args.seen.now.items
     c.clear.new.self.items c.requires.fresh.count c.requires.fresh.within c.clear.ensures.items
 
 pub loop-essential-init : goal.loop-essential-init
 loop-essential-init g c = record {
-  marks = c.in_ok-add_variables.ensures.marks;
+  stamps = c.in_ok-add_variables.ensures.stamps;
   found =
       λ x.
       mandatory_first x c.clear.new.self.items c.formula.result.now
@@ -85,13 +85,13 @@ pub add_variables-requires-in-loop-essential-clause-symbols :
 add_variables-requires-in-loop-essential-clause-symbols g c =
     c.formula-in-loop-essential.ensures.known
 
-pub add_variables-requires-in-loop-essential-clause-marks :
-    goal.add_variables-requires-in-loop-essential-clause-marks
-add_variables-requires-in-loop-essential-clause-marks g c = c.loop-essential.invariant.marks
+pub add_variables-requires-in-loop-essential-clause-stamps :
+    goal.add_variables-requires-in-loop-essential-clause-stamps
+add_variables-requires-in-loop-essential-clause-stamps g c = c.loop-essential.invariant.stamps
 
 pub loop-essential-preserved : goal.loop-essential-preserved
 loop-essential-preserved g c = record {
-  marks = c.in_ok-add_variables-2.ensures.marks;
+  stamps = c.in_ok-add_variables-2.ensures.stamps;
   found =
       λ x.
       mandatory_next x (formula_at c.args.statements.now.list) c.args.essentials.now
@@ -103,5 +103,5 @@ loop-essential-preserved g c = record {
       (c.in_ok-add_variables-2.ensures.found x);
 }
 
-pub returns-clause-marks : goal.returns-clause-marks
-returns-clause-marks g c = c.loop-essential.invariant.marks
+pub returns-clause-stamps : goal.returns-clause-stamps
+returns-clause-stamps g c = c.loop-essential.invariant.stamps

@@ -2,12 +2,12 @@ use Rattle.std.proofs.Common.{◌≡◌, ℕ, ◌+◌, ◌&&◌, ◌||◌, lengt
 use Rattle.std.specs.List.{list_any}
 use Rattle.mm_spec.specs.Derivation.{is_member}
 use Rattle.mm_spec.specs.Frame.{symbol_names, is_variable_number, formula_at}
-use Rattle.mm_frame.specs.Hypotheses.{AreMarks}
+use Rattle.mm_frame.specs.Hypotheses.{AreStamps}
 use Rattle.mm_frame.proofs.hypotheses.mandatory_variables.Given as goal
 
 abbrev pub invariant-loop-essential : goal.invariant-loop-essential
 invariant-loop-essential g l = record {
-  marks : AreMarks (length (symbol_names l.statements.list)) (l.assertion + 1) l.seen.items
+  stamps : AreStamps (length (symbol_names l.statements.list)) (l.assertion + 1) l.seen.items
       l.found.items;
   found : (x : ℕ)
       → is_member l.found.items x

@@ -33,8 +33,8 @@ returns-clause-readings g c ws us before after =
     record {
       out =
           λ p. go_on_three c.args.text.now _ _ _ _ ws _ us (before.out p) (out p)
-          (c.in_ok-read_all.ensures c.args.text.now us after p);
+          (c.in_ok-go_on.ensures c.args.text.now us after p);
       within =
           λ p. go_on_three c.args.text.now _ _ _ _ ws _ us (before.within p) (inn p)
-          (c.in_ok-read_all-2.ensures c.args.text.now us after p);
+          (c.in_ok-go_on-2.ensures c.args.text.now us after p);
     }

@@ -2,7 +2,7 @@ use Rattle.std.proofs.Common.{◌<◌, length, sym, ◌∙◌, arith}
 use Rattle.std.specs.Option.{option_map}
 use Rattle.mm_report.proofs.CitationLaw.{count_more, count_same}
 use Rattle.mm_report.proofs.citations.listed_count.Goals as goal
-use Rattle.mm_report.proofs.citations.listed_count.Goals.{then-is_chosen, else-is_chosen}
+use Rattle.mm_report.proofs.citations.listed_count.Goals.{then-has_chosen_typecode, else-has_chosen_typecode}
 
 pub loop-statement-preserved : goal.loop-statement-preserved
 loop-statement-preserved g c =
@@ -13,11 +13,13 @@ loop-statement-preserved g c =
     let l : i < length cited = c.loop-statement-test.true in
     let n = c.loop-statement.invariant.counted in
     let few = c.loop-statement.invariant.few in
-    elim c.if-is_chosen.branch [
-      | then-is_chosen w ↦ let more =
-          count_more db only cited i l (sym c.is_chosen.ensures ∙ w.if-is_chosen.true) in
+    elim c.if-has_chosen_typecode.branch [
+      | then-has_chosen_typecode w ↦ let more =
+          count_more db only cited i l
+          (sym c.has_chosen_typecode.ensures ∙ w.if-has_chosen_typecode.true) in
           rw w.count-is (record { few = omega (arith, few); counted = omega (arith, n, more) })
-      | else-is_chosen w ↦ let same =
-          count_same db only cited i l (sym c.is_chosen.ensures ∙ w.if-is_chosen.false) in
+      | else-has_chosen_typecode w ↦ let same =
+          count_same db only cited i l
+          (sym c.has_chosen_typecode.ensures ∙ w.if-has_chosen_typecode.false) in
           rw w.count-is (record { few = omega (arith, few); counted = omega (arith, n, same) })
     ]

@@ -9,7 +9,7 @@ use Rattle.mm_report.specs.Rows.{listed, next_label}
 use Rattle.mm_report.proofs.SentLaw.{sent_more, sent_as}
 use Rattle.mm_report.proofs.CitationLaw.{labels, first_same, labels_more, separated_next}
 use Rattle.mm_report.proofs.citations.send_cited.Goals as goal
-use Rattle.mm_report.proofs.citations.send_cited.Goals.{then-is_chosen, else-is_chosen}
+use Rattle.mm_report.proofs.citations.send_cited.Goals.{then-has_chosen_typecode, else-has_chosen_typecode}
 
 pub loop-statement-preserved : goal.loop-statement-preserved
 loop-statement-preserved g c =
@@ -19,10 +19,11 @@ loop-statement-preserved g c =
     let i = c.loop-statement.statement-index in
     let l : i < length cited = c.loop-statement-test.true in
     let inv = c.loop-statement.invariant in
-    elim c.if-is_chosen.branch [
-      | then-is_chosen w ↦
+    elim c.if-has_chosen_typecode.branch [
+      | then-has_chosen_typecode w ↦
           let more =
-          labels_more db only cited i l (sym c.is_chosen.ensures ∙ w.if-is_chosen.true) in
+          labels_more db only cited i l
+          (sym c.has_chosen_typecode.ensures ∙ w.if-has_chosen_typecode.true) in
           let n =
           ap (λ (xs : List Bytes). length xs) more
           ∙ length-append (labels db only cited i) (label_at db (get_or cited i 0) ∷ []) in
@@ -39,10 +40,11 @@ loop-statement-preserved g c =
                 (ap (next_label c.loop-statement.is_first) w.label_of.ensures)
                 w.send_next.ensures));
           })
-      | else-is_chosen w ↦
+      | else-has_chosen_typecode w ↦
           let same =
           ap (λ (xs : List ℕ). map (label_at db) xs)
-          (first_same db only cited i l (sym c.is_chosen.ensures ∙ w.if-is_chosen.false)) in
+          (first_same db only cited i l
+          (sym c.has_chosen_typecode.ensures ∙ w.if-has_chosen_typecode.false)) in
           rw (w.is_first-is, w.sink-is, w.to-is) (record {
             none = λ e. same ∙ inv.none e;
             some = λ e. subst (λ (xs : List Bytes). 0 < length xs) (sym same) (inv.some e);

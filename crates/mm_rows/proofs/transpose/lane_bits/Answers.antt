@@ -2,7 +2,7 @@ use Rattle.std.proofs.Common.{◌≡◌, ◌<◌, ◌*◌, ◌^◌, ◌%◌, ◌
 use Rattle.std.proofs.lemmas.Simd.{bitmask_splat, length-zip2, length-replicate}
 use Rattle.std.proofs.Math.Pow.{pow-lt}
 use Rattle.std.specs.Int.{bit_at}
-use Rattle.mm_rows.proofs.BlockLaw.{lane_bit}
+use Rattle.mm_rows.proofs.BandLaw.{lane_bit}
 use Rattle.mm_rows.proofs.transpose.lane_bits.Goals as goal
 use lib.Lanes.{zip2}
 

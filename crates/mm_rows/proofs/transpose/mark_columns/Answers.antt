@@ -1,5 +1,5 @@
 use Rattle.std.proofs.Common.{◌*◌, length, arith}
-use Rattle.mm_rows.proofs.BlockLaw.{marked_more, all_marked}
+use Rattle.mm_rows.proofs.BandLaw.{marked_more, all_marked}
 use Rattle.mm_rows.proofs.transpose.mark_columns.Goals as goal
 
 pub loop-i-preserved : goal.loop-i-preserved

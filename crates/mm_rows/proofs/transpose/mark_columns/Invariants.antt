@@ -1,5 +1,5 @@
 use Rattle.std.proofs.Common.{◌≤◌, ◌*◌}
-use Rattle.mm_rows.proofs.BlockLaw.{AreMarked}
+use Rattle.mm_rows.proofs.BandLaw.{AreMarked}
 use Rattle.mm_rows.proofs.transpose.mark_columns.Given as goal
 
 abbrev pub invariant-loop-i : goal.invariant-loop-i

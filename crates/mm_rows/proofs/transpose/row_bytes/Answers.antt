@@ -1,5 +1,5 @@
 use Rattle.std.proofs.Common.{◌*◌, arith, ◌<◌, ◌+◌, ◌/◌, length}
-use Rattle.mm_rows.proofs.BlockLaw.{bytes_none, bytes_more, all_bytes, word_in_row}
+use Rattle.mm_rows.proofs.BandLaw.{bytes_none, bytes_more, all_bytes, word_in_row}
 use Rattle.mm_rows.proofs.transpose.row_bytes.Goals as goal
 
 pub loop-k-init : goal.loop-k-init

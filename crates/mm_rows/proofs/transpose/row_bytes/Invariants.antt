@@ -1,5 +1,5 @@
 use Rattle.std.proofs.Common.{◌≤◌, ◌+◌, ◌*◌}
-use Rattle.mm_rows.proofs.BlockLaw.{BytesTo}
+use Rattle.mm_rows.proofs.BandLaw.{BytesTo}
 use Rattle.mm_rows.proofs.transpose.row_bytes.Given as goal
 
 abbrev pub invariant-loop-k : goal.invariant-loop-k

@@ -1,8 +1,8 @@
 use Rattle.std.proofs.lemmas.Result.{IfOk-from_err}
 use Rattle.mm_rows.proofs.transpose.transpose.Goals as goal
 
-pub transpose_blocks-requires-clause-table : goal.transpose_blocks-requires-clause-table
-transpose_blocks-requires-clause-table g c = c.requires
+pub transpose_bands-requires-clause-table : goal.transpose_bands-requires-clause-table
+transpose_bands-requires-clause-table g c = c.requires
 
 pub returns-in_err-resize : goal.returns-in_err-resize
 returns-in_err-resize g c =

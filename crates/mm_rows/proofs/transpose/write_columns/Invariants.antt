@@ -1,5 +1,5 @@
 use Rattle.std.proofs.Common.{◌≤◌, ◌+◌, ◌*◌}
-use Rattle.mm_rows.specs.Blocks.{Written}
+use Rattle.mm_rows.specs.Bands.{Written}
 use Rattle.mm_rows.proofs.transpose.write_columns.Given as goal
 
 abbrev pub invariant-loop-j : goal.invariant-loop-j

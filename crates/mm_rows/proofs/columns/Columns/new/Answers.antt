@@ -10,10 +10,10 @@ use Rattle.mm_cites.proofs.RisingLaw.{filter_at, filter_rising}
 use Rattle.mm_rows.proofs.ColumnLaw.{filter_snoc, columns_are, axiom_asserts}
 use Rattle.std.proofs.lemmas.Result.{IfOk-from_err}
 use Rattle.mm_rows.proofs.columns.Columns.new.Goals as goal
-use Rattle.mm_rows.proofs.columns.Columns.new.Goals.{then-is_chosen+in_ok-push, else-is_chosen}
+use Rattle.mm_rows.proofs.columns.Columns.new.Goals.{then-has_chosen_typecode+in_ok-push, else-has_chosen_typecode}
 
-pub is_chosen-requires : goal.is_chosen-requires
-is_chosen-requires g c =
+pub has_chosen_typecode-requires : goal.has_chosen_typecode-requires
+has_chosen_typecode-requires g c =
     let db = c.args.database.now.statements in
     let p = λ (j : ℕ). list_any (is_column None) (statement_at db j) in
     let i = c.loop-statement.statement-index in
@@ -34,14 +34,16 @@ loop-statement-preserved g c =
     let x = get_or xs i 0 in
     let more : filter q (take (i + 1) xs) ≡ filter q (take i xs) ++ cond (q x) (x ∷ []) [] =
     ap (filter q) (take_more xs i 0 (omega arith)) ∙ filter_snoc q (take i xs) x in
-    elim c.if-is_chosen.branch [
-      | then-is_chosen+in_ok-push w ↦
-          let yes : q x ≡ true = sym c.is_chosen.ensures ∙ w.if-is_chosen.true in
+    elim c.if-has_chosen_typecode.branch [
+      | then-has_chosen_typecode+in_ok-push w ↦
+          let yes : q x ≡ true =
+          sym c.has_chosen_typecode.ensures ∙ w.if-has_chosen_typecode.true in
           ap (λ v. v.items) w.statements-is ∙ w.in_ok-push.ensures.items
           ∙ ap (λ l. l ++ x ∷ []) c.loop-statement.invariant
           ∙ sym (more ∙ ap (λ (b : Bool). filter q (take i xs) ++ cond b (x ∷ []) []) yes)
-      | else-is_chosen w ↦
-          let no : q x ≡ false = sym c.is_chosen.ensures ∙ w.if-is_chosen.false in
+      | else-has_chosen_typecode w ↦
+          let no : q x ≡ false =
+          sym c.has_chosen_typecode.ensures ∙ w.if-has_chosen_typecode.false in
           ap (λ v. v.items) w.statements-is ∙ c.loop-statement.invariant
           ∙ sym (more ∙ ap (λ (b : Bool). filter q (take i xs) ++ cond b (x ∷ []) []) no
           ∙ append-nil (filter q (take i xs)))

@@ -6,7 +6,7 @@ use Rattle.mm_spec.specs.Citation.{context_at, is_assertion}
 use Rattle.mm_spec.specs.Laws.Complete.{AreBound}
 use Rattle.mm_outline.proofs.StatementsLaw.{is_there}
 use Rattle.mm_rules.specs.Rules.{AreFirstNumbers, numbered_parts}
-use Rattle.mm_rules.proofs.RuleLaw.{covered, covered_all, made_rule, numbered, numbered_same}
+use Rattle.mm_rules.proofs.RuleLaw.{covered, covered_all, made_rule, written_back, numbered_same}
 use Rattle.mm_rules.proofs.compile.RuleCompiler.compile.Goals as goal
 
 pub compile_hypotheses-requires-clause-bound : goal.compile_hypotheses-requires-clause-bound
@@ -26,7 +26,7 @@ returns-clause-made g c =
     let f = c.formula.result.now in
     let numbers = c.deref-2.result.now in
     let placed : AreFirstNumbers db (map (formula_at db) hyps) numbers =
-    numbered db (map (formula_at db) hyps) c.number_variables.new.numbers
+    written_back db (map (formula_at db) hyps) c.number_variables.new.numbers
     c.self.inside.numbers.items c.self.inside.numbers.len numbers
     c.deref-2.ensures.value (omega arith) c.number_variables.ensures in
     let hs = map (formula_at db) hyps in
@@ -38,7 +38,7 @@ returns-clause-made g c =
     let last = c.deref-3.result.now in
     let same =
     numbered_same db hs last
-    (numbered db hs c.number_variables.new.numbers
+    (written_back db hs c.number_variables.new.numbers
     c.self.inside.numbers.items c.self.inside.numbers.len last
     c.deref-3.ensures.value (omega arith) c.number_variables.ensures) f bound in
     on_ok_weaker c.compile_formula.result
@@ -61,7 +61,7 @@ hyps-hyps-requires g c = c.requires.assertion
 pub compile_hypotheses-requires-clause-placed : goal.compile_hypotheses-requires-clause-placed
 compile_hypotheses-requires-clause-placed g c =
     let db = c.args.db.now.statements in
-    numbered db (map (formula_at db) c.hyps-hyps.result.now) c.number_variables.new.numbers
+    written_back db (map (formula_at db) c.hyps-hyps.result.now) c.number_variables.new.numbers
     c.self.inside.numbers.items c.self.inside.numbers.len c.deref.result.now c.deref.ensures.value
     (omega arith) c.number_variables.ensures
 

@@ -1,4 +1,4 @@
--- A table of bits as blocks of 64 rows; block w has the rows from 64 * w on.
+-- A table of bits as bands of 64 rows; band w has the rows from 64 * w on.
 use Rattle.std.specs.Prelude.{ℕ, ◌+◌, ◌*◌, ◌<◌, ◌≤◌, ◌≡◌, ◌==◌, ◌&&◌, Bool, List, length}
 use Rattle.std.specs.Prelude.{slice_index, nat_lt}
 use Rattle.std.specs.Int.{bit_at}
@@ -8,19 +8,19 @@ use Rattle.mm_rows.specs.Bits.{is_bit, spot, words_for}
 abbrev pub in_row : ℕ → ℕ → List ℕ → ℕ → ℕ → Bool
 in_row rows across bits i j = nat_lt i rows && is_bit bits (spot across i j)
 
--- the word of column j that block w makes: bit k is that of row k of the block
+-- the word of column j that band w makes: bit k is that of row k of the band
 abbrev pub IsColumnWord : ℕ → ℕ → List ℕ → ℕ → ℕ → ℕ → Type 0
 IsColumnWord rows across bits w j word =
     (k : ℕ) → k < 64 → (bit_at word k == 1) ≡ in_row rows across bits (64 * w + k) j
 
--- a byte of each row of block w: the one with the bits of the 8 columns from 8 * at on
+-- a byte of each row of band w: the one with the bits of the 8 columns from 8 * at on
 abbrev pub AreRowBytes : ℕ → ℕ → List ℕ → ℕ → ℕ → List ℕ → Type 0
 AreRowBytes rows across bits w at bytes =
     (k b : ℕ) → k < 64 → b < 8
     → (bit_at (slice_index bytes k) b == 1) ≡ in_row rows across bits (64 * w + k) (8 * at + b)
 
--- columns that are being written: the blocks below w are written, and block w is written in the
--- columns below `from`
+-- columns that are being written: the bands below w are written, and band w is written in the
+-- columns below `from`; all else is zero
 pub record Written (rows columns : ℕ) (bits transposed : List ℕ) (w from : ℕ) : Type 0 where
   pub size : length transposed ≡ columns * words_for rows
   pub before : (j v : ℕ) → j < columns → v < w → v < words_for rows

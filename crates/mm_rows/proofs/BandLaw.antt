@@ -1,4 +1,4 @@
--- Blocks of 64 rows written as columns.
+-- Bands of 64 rows written as columns.
 use Rattle.std.proofs.Common.{◌≡◌, ℕ, Bool, true, false, cond, ◌||◌, ◌&&◌, List, ◌⊎◌, inl, inr, ◌<◌}
 use Rattle.std.proofs.Common.{◌≤◌, ◌+◌, ◌*◌, ◌/◌, ◌%◌, ◌-◌, ◌^◌, min, length, map, subst, sym, ap}
 use Rattle.std.proofs.Common.{ap₂, refl, arith, get_or, set, eqb, replicate, bit_and, bit_or, ◌∙◌}
@@ -14,7 +14,7 @@ use Rattle.std.specs.Int.{bit_at}
 use Rattle.std.proofs.lemmas.Bool.{false_from_ne_true}
 use Rattle.mm_rows.specs.Bits.{is_bit, words_for, spot, AreTransposed}
 use Rattle.mm_rows.specs.BitRows.{row_at}
-use Rattle.mm_rows.specs.Blocks.{in_row, IsColumnWord, AreRowBytes, Written}
+use Rattle.mm_rows.specs.Bands.{in_row, IsColumnWord, AreRowBytes, Written}
 use Rattle.mm_rows.proofs.BitLaw.{or_bits}
 use Rattle.mm_rows.proofs.TransposeLaw.{spot_word, spot_bit, row_bit, row_length}
 use lib.Lanes.{zip2, mask_l}
@@ -199,7 +199,7 @@ lane_is_word rows across bits w at bytes j word are lo hi same k lt =
     ap (λ x. eqb x 1) (same k lt) ∙ are k (j % 8) lt (omega arith)
     ∙ ap (in_row rows across bits (64 * w + k)) is
 
--- a column without a mark in a block
+-- a column without a mark in a band
 pub no_mark : (rows across : ℕ) (bits : List ℕ) (w j : ℕ)
     → ((k : ℕ) → k < 64 → in_row rows across bits (64 * w + k) j ≡ true → ⊥)
     → IsColumnWord rows across bits w j 0
@@ -209,8 +209,8 @@ no_mark rows across bits w j none k lt =
 -- a word of a column lies within the words
 pub word_within : (columns down j w len : ℕ) → j < columns → w < down → len ≡ columns * down
     → j * down + w < len
-word_within columns down j w len small block size =
-    let m = mul-add-lt j down w columns small block in
+word_within columns down j w len small band size =
+    let m = mul-add-lt j down w columns small band in
     let t = mul_comm down columns in
     omega (arith, m, t, size)
 
@@ -219,7 +219,7 @@ pub written_word : (rows columns : ℕ) (bits transposed : List ℕ) (w j word :
     → j < columns → IsColumnWord rows (words_for columns) bits w j word
     → Written rows columns bits transposed w j
     → Written rows columns bits (set transposed (j * words_for rows + w) word) w (j + 1)
-written_word rows columns bits transposed w j word block small is h = record {
+written_word rows columns bits transposed w j word band small is h = record {
   size = length-set transposed place word ∙ h.size;
   before =
       λ l v a b d. subst (IsColumnWord rows (words_for columns) bits v l)
@@ -237,7 +237,7 @@ written_word rows columns bits transposed w j word block small is h = record {
         ≡ get_or transposed (l * words_for rows + v) 0
     other l v d ne =
         get_or-set_other transposed place (l * words_for rows + v) word 0
-        (λ e. let s = same_from_place l v j w (words_for rows) d block e in ne s.0 s.1)
+        (λ e. let s = same_from_place l v j w (words_for rows) d band e in ne s.0 s.1)
 
     go : (l : ℕ) → l < columns → l < j + 1 → (l ≡ j) ⊎ (l ≡ j → ⊥)
         → IsColumnWord rows (words_for columns) bits w l
@@ -247,9 +247,9 @@ written_word rows columns bits transposed w j word block small is h = record {
         (get_or (set transposed place word) (x * words_for rows + w) 0)) (sym e)
         (subst (IsColumnWord rows (words_for columns) bits w j)
         (sym (get_or-set_same transposed place word 0
-        (word_within columns (words_for rows) j w (length transposed) small block h.size))) is)
+        (word_within columns (words_for rows) j w (length transposed) small band h.size))) is)
     go l a b (inr ne) =
-        subst (IsColumnWord rows (words_for columns) bits w l) (sym (other l w block (λ e f. ne e)))
+        subst (IsColumnWord rows (words_for columns) bits w l) (sym (other l w band (λ e f. ne e)))
         (h.done l a (omega arith))
 
 -- columns without a mark need no word
@@ -258,7 +258,7 @@ pub written_zeros : (rows columns : ℕ) (bits transposed : List ℕ) (w from to
     → ((j : ℕ) → from ≤ j → j < to → j < columns → IsColumnWord rows (words_for columns) bits w j 0)
     → from ≤ to → Written rows columns bits transposed w from → Written rows columns bits
     transposed w to
-written_zeros rows columns bits transposed w from to block none le h = record {
+written_zeros rows columns bits transposed w from to band none le h = record {
   size = h.size;
   before = h.before;
   done = λ j a b. go j a b (cases_lt j from);
@@ -271,14 +271,14 @@ written_zeros rows columns bits transposed w from to block none le h = record {
         (get_or transposed (j * words_for rows + w) 0)
     go j a b (inl l) = h.done j a l
     go j a b (inr g) =
-        subst (IsColumnWord rows (words_for columns) bits w j) (sym (h.left j a g block))
+        subst (IsColumnWord rows (words_for columns) bits w j) (sym (h.left j a g band))
         (none j g b a)
 
 pub written_zero : (rows columns : ℕ) (bits transposed : List ℕ) (w j word : ℕ) → w < words_for rows
     → IsColumnWord rows (words_for columns) bits w j word → word ≡ 0
     → Written rows columns bits transposed w j → Written rows columns bits transposed w (j + 1)
-written_zero rows columns bits transposed w j word block is e =
-    written_zeros rows columns bits transposed w j (j + 1) block
+written_zero rows columns bits transposed w j word band is e =
+    written_zeros rows columns bits transposed w j (j + 1) band
     (λ i a b s. let here : j ≡ i = omega arith in
     subst (λ x. IsColumnWord rows (words_for columns) bits w x 0) here
     (subst (IsColumnWord rows (words_for columns) bits w j) e is)) (omega arith)
@@ -289,8 +289,8 @@ pub written_skip : (rows columns : ℕ) (bits any transposed : List ℕ) (across
     → is_bit any j ≡ true)
     → from ≤ to → ((j : ℕ) → from ≤ j → j < to → is_bit any j ≡ false)
     → Written rows columns bits transposed w from → Written rows columns bits transposed w to
-written_skip rows columns bits any transposed across w from to width block marked le none =
-    written_zeros rows columns bits transposed w from to block
+written_skip rows columns bits any transposed across w from to width band marked le none =
+    written_zeros rows columns bits transposed w from to band
     (λ j a b c. no_mark rows (words_for columns) bits w j (unmarked j a b c)) le
   where
     unmarked : (j : ℕ) → from ≤ j → j < to → j < columns → (k : ℕ) → k < 64
@@ -303,10 +303,10 @@ written_skip rows columns bits any transposed across w from to width block marke
         let e : true ≡ false = sym yes ∙ no in
         absurd (cc)
 
--- the next block
-pub written_block : (rows columns : ℕ) (bits transposed : List ℕ) (w from : ℕ) → columns ≤ from
+-- the next band
+pub written_band : (rows columns : ℕ) (bits transposed : List ℕ) (w from : ℕ) → columns ≤ from
     → Written rows columns bits transposed w from → Written rows columns bits transposed (w + 1) 0
-written_block rows columns bits transposed w from le h = record {
+written_band rows columns bits transposed w from le h = record {
   size = h.size;
   before = λ j v a b d. go j v a b d (cases_eq v w);
   done = λ j a b. absurd (omega arith);
@@ -322,7 +322,7 @@ written_block rows columns bits transposed w from le h = record {
         (get_or transposed (j * words_for rows + x) 0)) (sym e) (h.done j a (omega arith))
     go j v a b d (inr ne) = h.before j v a (omega arith) d
 
--- all blocks are written
+-- all bands are written
 pub written_all : (rows columns : ℕ) (bits transposed : List ℕ) (w : ℕ) → words_for rows ≤ w
     → Written rows columns bits transposed w 0 → AreTransposed rows columns bits transposed
 written_all rows columns bits transposed w le h = record {

@@ -1,6 +1,6 @@
 use Rattle.std.proofs.Common.{arith}
-use Rattle.mm_rows.proofs.BlockLaw.{written_all}
-use Rattle.mm_rows.proofs.transpose.transpose_blocks.Goals as goal
+use Rattle.mm_rows.proofs.BandLaw.{written_all}
+use Rattle.mm_rows.proofs.transpose.transpose_bands.Goals as goal
 
 pub returns : goal.returns
 returns c =

@@ -7,13 +7,13 @@ use Rattle.std.proofs.lemmas.List.{get_or-set_same, get_or-set_other, length-set
 use Rattle.std.proofs.lemmas.Grind.{get_or_default_zero}
 use Rattle.std.proofs.Math.Bool.{and-false, or-false, or-true}
 use Rattle.mm_spec.specs.Derivation.{is_member}
-use Rattle.mm_frame.specs.Hypotheses.{AreMarks}
+use Rattle.mm_frame.specs.Hypotheses.{AreStamps}
 use Rattle.mm_spec.proofs.MemberLaw.{member_push}
 
 -- one symbol more
-pub mark_more : (n stamp : ℕ) (seen found : List ℕ) (s : ℕ) → AreMarks n stamp seen found → s < n
-    → AreMarks n stamp (set seen s stamp) (found ++ s ∷ [])
-mark_more n stamp seen found s m h = record {
+pub stamp_more : (n stamp : ℕ) (seen found : List ℕ) (s : ℕ) → AreStamps n stamp seen found → s < n
+    → AreStamps n stamp (set seen s stamp) (found ++ s ∷ [])
+stamp_more n stamp seen found s m h = record {
   count = length-set seen s stamp ∙ m.count;
   within = λ x l. within x l (cases_eq x s);
   marked = λ x l. marked x l (cases_eq x s) ∙ sym (member_push found s x);
@@ -40,9 +40,9 @@ mark_more n stamp seen found s m h = record {
         ∙ sym (ap (λ b. is_member found x || b) (ne_eqb x s e) ∙ or-false (is_member found x))
 
 -- with a new stamp none is marked
-pub marks_fresh : (n k : ℕ) (seen found : List ℕ) → length seen ≡ n
-    → ((x : ℕ) → x < n → get_or seen x 0 ≤ k) → found ≡ [] → AreMarks n (k + 1) seen found
-marks_fresh n k seen found c w e = record {
+pub stamps_fresh : (n k : ℕ) (seen found : List ℕ) → length seen ≡ n
+    → ((x : ℕ) → x < n → get_or seen x 0 ≤ k) → found ≡ [] → AreStamps n (k + 1) seen found
+stamps_fresh n k seen found c w e = record {
   count = c;
   within = λ x l. let h = w x l in omega (arith, h);
   marked =
@@ -93,7 +93,7 @@ noted_row false false t e = refl
 noted_row false true t e = refl
 
 -- a symbol with this stamp has been found
-pub found_again : (n stamp : ℕ) (seen found : List ℕ) (s place r : ℕ) → AreMarks n stamp seen found
+pub found_again : (n stamp : ℕ) (seen found : List ℕ) (s place r : ℕ) → AreStamps n stamp seen found
     → s < n → place ≡ s → r ≡ get_or seen place r → r ≡ stamp → is_member found s ≡ true
 found_again n stamp seen found s place r m l p e f =
     sym (m.marked s l)

@@ -2,8 +2,8 @@ use Rattle.std.proofs.Common.{List, sym, ap, ◌∙◌, ◌++◌}
 use Rattle.mm_spec.specs.declared.Word.{Word}
 use Rattle.mm_lex.specs.Inners.{side}
 use Rattle.mm_lex.proofs.PiecesLaw.{none_from, go_on_inside, go_on_outside}
-use Rattle.mm_lex.proofs.modes.ModeReading.read_all.Goals as goal
-use Rattle.mm_lex.proofs.modes.ModeReading.read_all.Goals.{then-is_open, else-is_open}
+use Rattle.mm_lex.proofs.modes.ModeReading.go_on.Goals as goal
+use Rattle.mm_lex.proofs.modes.ModeReading.go_on.Goals.{then-is_open, else-is_open}
 
 pub returns : goal.returns
 returns g c text ws readings p =

@@ -1,33 +1,33 @@
 use Rattle.std.proofs.Common.{◌<◌, ◌+◌, ◌*◌, ◌/◌, length, arith, subst, ap, sym, ◌∙◌}
 use Rattle.mm_rows.specs.Bits.{words_for}
-use Rattle.mm_rows.proofs.BlockLaw.{written_skip, written_block}
-use Rattle.mm_rows.specs.Blocks.{Written}
-use Rattle.mm_rows.proofs.transpose.transpose_block.Goals as goal
+use Rattle.mm_rows.proofs.BandLaw.{written_skip, written_band}
+use Rattle.mm_rows.specs.Bands.{Written}
+use Rattle.mm_rows.proofs.transpose.transpose_band.Goals as goal
 
 pub write_columns-requires-clause-written : goal.write_columns-requires-clause-written
 write_columns-requires-clause-written c =
-    let b = c.requires.block in
-    let block : c.args.w < words_for c.args.rows = omega (arith, b) in
+    let b = c.requires.band in
+    let band : c.args.w < words_for c.args.rows = omega (arith, b) in
     let first = c.in-Some.ensures.some.0 in
     let less = c.in-Some.ensures.some.3 in
     written_skip c.args.rows c.args.columns c.args.bits.now c.mark_columns.new.any
     c.loop-j.transposed
     (length c.args.any.now) c.args.w (8 * c.loop-j.at)
-    (8 * (c.in-Some.j / 8)) c.requires.width block c.mark_columns.ensures (omega (arith, first))
+    (8 * (c.in-Some.j / 8)) c.requires.width band c.mark_columns.ensures (omega (arith, first))
     (λ j le lt. less j le (omega arith)) c.loop-j.invariant.written
 
 pub returns : goal.returns
 returns c =
-    let b = c.requires.block in
-    let block : c.args.w < words_for c.args.rows = omega (arith, b) in
+    let b = c.requires.band in
+    let band : c.args.w < words_for c.args.rows = omega (arith, b) in
     let end = c.args.columns + 8 * c.loop-j.at in
     let all =
     written_skip c.args.rows c.args.columns c.args.bits.now c.mark_columns.new.any
     c.loop-j.transposed
     (length c.args.any.now) c.args.w
-    (8 * c.loop-j.at) end c.requires.width block c.mark_columns.ensures (omega arith)
+    (8 * c.loop-j.at) end c.requires.width band c.mark_columns.ensures (omega arith)
     (λ j le lt. c.in_default.ensures.none j le) c.loop-j.invariant.written in
-    written_block c.args.rows c.args.columns c.args.bits.now c.loop-j.transposed c.args.w end
+    written_band c.args.rows c.args.columns c.args.bits.now c.loop-j.transposed c.args.w end
     (omega arith) all
 
 pub loop-j-smaller : goal.loop-j-smaller
@@ -42,8 +42,8 @@ overflow_add-at c = omega arith
 pub overflow_mul-at : goal.overflow_mul-at
 overflow_mul-at c = omega arith
 
-pub mark_columns-requires-clause-block : goal.mark_columns-requires-clause-block
-mark_columns-requires-clause-block c = c.requires.block
+pub mark_columns-requires-clause-band : goal.mark_columns-requires-clause-band
+mark_columns-requires-clause-band c = c.requires.band
 
 pub loop-j-init : goal.loop-j-init
 loop-j-init c = record { within = omega arith; written = c.requires.written }
@@ -67,8 +67,8 @@ pub mark_columns-requires-clause-size : goal.mark_columns-requires-clause-size
 mark_columns-requires-clause-size c =
     c.requires.table.size ∙ ap (λ n. c.args.rows * n) (sym c.requires.width)
 
-pub write_columns-requires-clause-block : goal.write_columns-requires-clause-block
-write_columns-requires-clause-block c = c.requires.block
+pub write_columns-requires-clause-band : goal.write_columns-requires-clause-band
+write_columns-requires-clause-band c = c.requires.band
 
 pub write_columns-requires-clause-table : goal.write_columns-requires-clause-table
 write_columns-requires-clause-table c = c.requires.table

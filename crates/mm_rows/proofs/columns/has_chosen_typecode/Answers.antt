@@ -4,7 +4,7 @@ use Rattle.std.specs.List.{list_any}
 use Rattle.mm_spec.specs.Scope.{statement_at}
 use Rattle.mm_spec.specs.Output.{has_typecode}
 use Rattle.mm_rows.proofs.ColumnLaw.{typecode_test}
-use Rattle.mm_rows.proofs.columns.is_chosen.Goals as goal
+use Rattle.mm_rows.proofs.columns.has_chosen_typecode.Goals as goal
 
 pub returns-in-Some-typecode : goal.returns-in-Some-typecode
 returns-in-Some-typecode g c =

@@ -1,6 +1,6 @@
 use Rattle.std.proofs.Common.{◌≤◌, ◌*◌, ◌-◌, length}
-use Rattle.mm_rows.specs.Blocks.{Written}
-use Rattle.mm_rows.proofs.transpose.transpose_block.Given as goal
+use Rattle.mm_rows.specs.Bands.{Written}
+use Rattle.mm_rows.proofs.transpose.transpose_band.Given as goal
 
 abbrev pub invariant-loop-j : goal.invariant-loop-j
 invariant-loop-j l =
