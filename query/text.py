@@ -1,0 +1,436 @@
+"""The one reader of a database's text: what stands in it beside marks and citations.
+
+Nothing is judged here. The program has accepted the text, so every statement is whole and each byte
+is white space or printable ASCII; of another text anything may come out, or `UnreadableText`.
+Places are byte offsets from 0, lines and columns are counted from 1. The interface, by an example:
+
+    text = read_text(data)                 # bytes -> Text; a second for the 41 MB of set.mm
+    for assertion in text.assertions:      # each `$a` and `$p`, in file order
+        assertion.label, assertion.kind    # "ax-mp"; "a" or "p"
+        assertion.place                    # of its label; text.line(place), text.column(place)
+        text.typecode(assertion)           # "|-"
+        text.formula(assertion)            # "|- ( ph -> ps )": symbols apart by one space
+        text.symbols(assertion)            # the same as a list
+        for number in assertion.essential:         # its active `$e`, in order of appearance
+            hypothesis = text.hypotheses[number]   # .label, .kind "e" or "f", .place
+            text.formula(hypothesis)
+        for number in assertion.disjoint:          # its active `$d`
+            text.group(number)             # the variables, as written
+        text.conditions(assertion)         # Conditions: pairs, mandatory and of the proof's dummies
+        text.comment(assertion)            # the whole comment before it, or ""
+        text.proof(assertion)              # the words between `$=` and `$.`; [] for a `$a`
+        assertion.proof                    # (start, end) of that stretch, or None
+        text.is_open(assertion)            # whether its proof is `?` or `( ) ?`
+        text.chapter(assertion)            # the Header under which it stands, or None
+        text.mathbox(assertion)            # the name of the mathbox in which it stands, or None
+    text.find("zorn")                      # the Assertion of a label, or None
+    text.headers                           # each Header: .level 0 to 3, .number "2.6.1", .title,
+                                           # .place, and its assertions: from .first to before .end
+    text.below(header)                     # the text of its comment below the title
+    text.typesetting                       # the body of the `$t` comment, or None
+    text.marked                            # each `$j` comment: Comment(place, body)
+    text.variables                         # the typecode of each variable that has a `$f`
+"""
+
+from __future__ import annotations
+
+import gc
+import re
+from bisect import bisect_right
+from dataclasses import dataclass, field
+from functools import cached_property
+from typing import Iterator
+
+# The lines that enclose the title of a part, a chapter, a section and a subsection.
+DECORATIONS = ("####", "#*#*", "=-=-", "-.-.")
+
+# What stands between `$(` and `$)`, and words with comments among them.
+INNER = rb"[^$]*(?:\$(?!\))[^$]*)*"
+WORDS = rb"[^$]*(?:\$\(" + INNER + rb"\$\)[^$]*)*"
+# A comment, a statement or an end of a block, with the white space before it.
+PIECE = re.compile(
+    rb"\s*(?:\$\((?P<comment>" + INNER + rb")\$\)"
+    rb"|(?P<label>[^\s$]+)\s+(?:\$\(" + INNER + rb"\$\)\s+)*"
+    rb"\$(?P<kind>[aefp])\s(?P<formula>" + WORDS + rb")(?:\$=(?P<proof>" + WORDS + rb"))?\$\."
+    rb"|\$(?P<plain>[cdv])\s(?P<symbols>" + WORDS + rb")\$\."
+    rb"|\$(?P<brace>[{}]))"
+)
+COMMENT = re.compile(rb"\$\(" + INNER + rb"\$\)")
+HEADING = re.compile(
+    r"\s*(?P<line>####|#\*#\*|=-=-|-\.-\.)[#*=.\-]*[ \t\r]*\n"
+    r"(?P<title>(?:.*\n){1,4}?)"
+    r"[ \t]*(?P=line)[#*=.\-]*[ \t\r]*(?:\n|$)"
+)
+HEADING_START = re.compile(rb"\s*(?:####|#\*#\*|=-=-|-\.-\.)")
+SPECIAL = re.compile(rb"\s*\$([jt])(?=\s)")
+OPEN_PROOF = re.compile(rb"\s*(?:\(\s+\)\s+)?\?\s*\Z")
+MATHBOX = re.compile(r"Mathbox for (.*)")
+
+Place = int
+Stretch = tuple[int, int]
+Pair = tuple[str, str]
+
+
+class UnreadableText(Exception):
+    """The text isn't a database that the program accepts; `place` is where reading ended."""
+
+    def __init__(self, place: Place) -> None:
+        super().__init__(f"not readable from byte {place}")
+        self.place = place
+
+
+@dataclass(slots=True)
+class Hypothesis:
+    """A `$f` or `$e` statement: `formula` is the stretch of its symbols."""
+
+    label: str
+    kind: str
+    place: Place
+    formula: Stretch
+
+
+@dataclass(slots=True)
+class Assertion:
+    """A `$a` or `$p` statement: where its parts stand, and what is active at it."""
+
+    label: str
+    kind: str
+    place: Place
+    formula: Stretch
+    proof: Stretch | None
+    essential: tuple[int, ...]
+    disjoint: tuple[int, ...]
+    comment: Stretch | None
+    header: int
+    number: int = 0
+
+
+@dataclass(slots=True)
+class Header:
+    """A heading: `first` is the number of the first assertion after it, `body` its comment."""
+
+    level: int
+    number: str
+    title: str
+    place: Place
+    body: Stretch
+    first: int
+    end: int = 0
+    """The number of the first assertion after the chapter, its subchapters included."""
+    text: int = 0
+    """Where, in the body, the text below the title begins."""
+
+
+@dataclass(slots=True)
+class Comment:
+    """A comment: the place of its `$(`, and what stands between `$(` and `$)`."""
+
+    place: Place
+    body: str
+
+
+@dataclass(slots=True)
+class Conditions:
+    """The pairs of variables that must be distinct, in order of the `$d` statements.
+
+    `mandatory` binds who cites the assertion; `proof` are those with a dummy variable of the proof.
+    """
+
+    mandatory: list[Pair] = field(default_factory=list)
+    proof: list[Pair] = field(default_factory=list)
+    dummies: list[str] = field(default_factory=list)
+
+
+class Text:
+    """What a database says: statements, comments and headers in file order."""
+
+    def __init__(self, data: bytes) -> None:
+        self.data = data
+        self.assertions: list[Assertion] = []
+        self.hypotheses: list[Hypothesis] = []
+        self.disjoint: list[Stretch] = []
+        self.headers: list[Header] = []
+        self.marked: list[Comment] = []
+        self.typesetting: str | None = None
+        self.declared: list[Stretch] = []  # the symbols of each `$v`
+
+    def words(self, stretch: Stretch) -> str:
+        """The words of a stretch without comments in it, separated by single spaces."""
+        return " ".join(self._bare(stretch).decode("latin-1").split())
+
+    def _bare(self, stretch: Stretch) -> bytes:
+        part = self.data[stretch[0] : stretch[1]]
+        return COMMENT.sub(b" ", part) if b"$(" in part else part
+
+    def formula(self, statement: Assertion | Hypothesis) -> str:
+        """The symbols of a statement, the typecode first, separated by single spaces."""
+        return self.words(statement.formula)
+
+    def symbols(self, statement: Assertion | Hypothesis) -> list[str]:
+        """The symbols of a statement, the typecode first."""
+        return self._bare(statement.formula).decode("latin-1").split()
+
+    def typecode(self, statement: Assertion | Hypothesis) -> str:
+        """The first symbol of a statement."""
+        return self._bare(statement.formula).split(None, 1)[0].decode("latin-1")
+
+    def comment(self, assertion: Assertion) -> str:
+        """The whole comment before an assertion, as it stands there; "" if there is none."""
+        return self.raw(assertion.comment) if assertion.comment else ""
+
+    def raw(self, stretch: Stretch) -> str:
+        """A stretch of the text, a character for each byte."""
+        return self.data[stretch[0] : stretch[1]].decode("latin-1")
+
+    def proof(self, assertion: Assertion) -> list[str]:
+        """The words of the proof; none for a `$a`."""
+        return self._bare(assertion.proof).decode("latin-1").split() if assertion.proof else []
+
+    def is_open(self, assertion: Assertion) -> bool:
+        """Whether it is a theorem whose proof is left open: `?` alone, or `( ) ?`."""
+        return assertion.proof is not None and bool(OPEN_PROOF.match(self._bare(assertion.proof)))
+
+    def chapter(self, assertion: Assertion) -> Header | None:
+        """The header under which an assertion stands."""
+        return self.headers[assertion.header] if assertion.header >= 0 else None
+
+    def below(self, header: Header) -> str:
+        """The text of a header's comment below its title."""
+        return self.raw(header.body)[header.text :].strip()
+
+    def find(self, label: str) -> Assertion | None:
+        """The assertion of a label."""
+        return self.by_label.get(label)
+
+    @cached_property
+    def by_label(self) -> dict[str, Assertion]:
+        """The assertions by their labels."""
+        return {assertion.label: assertion for assertion in self.assertions}
+
+    @cached_property
+    def _line_ends(self) -> list[int]:
+        return [match.start() for match in re.finditer(rb"\n", self.data)]
+
+    def line(self, place: Place) -> int:
+        """The line of a place, from 1."""
+        return bisect_right(self._line_ends, place - 1) + 1
+
+    def column(self, place: Place) -> int:
+        """The column of a place in its line, in bytes from 1."""
+        line = self.line(place)
+        return place + 1 if line == 1 else place - self._line_ends[line - 2]
+
+    @cached_property
+    def variables(self) -> dict[str, str]:
+        """The typecode of each variable that has a `$f`."""
+        known = {}
+        for hypothesis in self.hypotheses:
+            if hypothesis.kind == "f":
+                code, variable = self.symbols(hypothesis)
+                known[variable] = code
+        return known
+
+    @cached_property
+    def floating(self) -> dict[str, str]:
+        """The variable of each `$f` statement, by its label."""
+        return {one.label: self.symbols(one)[1] for one in self.hypotheses if one.kind == "f"}
+
+    def mandatory(self, assertion: Assertion) -> list[str]:
+        """The variables of an assertion's hypotheses and formula, each once, as they appear."""
+        found: dict[str, None] = {}
+        for number in assertion.essential:
+            found.update(dict.fromkeys(self.symbols(self.hypotheses[number])[1:]))
+        found.update(dict.fromkeys(self.symbols(assertion)[1:]))
+        return [symbol for symbol in found if symbol in self.variables]
+
+    def dummies(self, assertion: Assertion) -> list[str]:
+        """The variables that the proof names and the assertion doesn't have, as they appear."""
+        return self._dummies(assertion, set(self.mandatory(assertion)))
+
+    def _dummies(self, assertion: Assertion, mandatory: set[str]) -> list[str]:
+        words = self._named_by_proof(assertion)
+        floating = self.floating
+        found = dict.fromkeys(floating[word] for word in words if word in floating)
+        return [variable for variable in found if variable not in mandatory]
+
+    def _named_by_proof(self, assertion: Assertion) -> list[str]:
+        """The labels in a proof: of a compressed one those in brackets."""
+        if assertion.proof is None:
+            return []
+        start, end = assertion.proof
+        if self.data.find(b"$(", start, end) >= 0:
+            words = self.proof(assertion)
+            return words[: words.index(")")] if ")" in words else words
+        bracket = self.data.find(b")", start, end)
+        return self.words((start, end if bracket < 0 else bracket)).split()
+
+    def conditions(self, assertion: Assertion) -> Conditions:
+        """The pairs of an assertion's active `$d` that bind its user, and those of its proof."""
+        mandatory = set(self.mandatory(assertion))
+        conditions = Conditions(dummies=self._dummies(assertion, mandatory))
+        used = mandatory.union(conditions.dummies)
+        seen: set[Pair] = set()
+        for number in assertion.disjoint:
+            for pair in pairs([variable for variable in self.group(number) if variable in used]):
+                if pair in seen:
+                    continue
+                seen.update((pair, (pair[1], pair[0])))
+                is_mandatory = pair[0] in mandatory and pair[1] in mandatory
+                (conditions.mandatory if is_mandatory else conditions.proof).append(pair)
+        return conditions
+
+    def group(self, number: int) -> list[str]:
+        """The variables of a `$d` statement, as written."""
+        return self.words(self.disjoint[number]).split()
+
+    @cached_property
+    def _mathboxes(self) -> list[tuple[int, int, str]]:
+        """For each mathbox its first assertion, the one after its last, and the name."""
+        starts = [(header, MATHBOX.match(header.title)) for header in self.headers]
+        return [(header.first, header.end, match[1]) for header, match in starts if match]
+
+    def mathbox(self, assertion: Assertion) -> str | None:
+        """The name of the mathbox in which an assertion stands."""
+        place = bisect_right(self._mathboxes, (assertion.number, len(self.assertions) + 1, "")) - 1
+        if place < 0:
+            return None
+        first, end, name = self._mathboxes[place]
+        return name if first <= assertion.number < end else None
+
+
+def pairs(group: list[str]) -> Iterator[Pair]:
+    """Each pair of a group, in order."""
+    for place, first in enumerate(group):
+        for second in group[place + 1 :]:
+            yield first, second
+
+
+class Reading:
+    """What is known while a text is read from its beginning."""
+
+    def __init__(self, data: bytes) -> None:
+        self.text = Text(data)
+        self.essential: list[int] = []
+        self.disjoint: list[int] = []
+        self.blocks: list[tuple[int, int]] = []
+        self.active: tuple[tuple[int, ...], tuple[int, ...]] | None = ((), ())
+        self.comment: Stretch | None = None
+        self.counters = [0, 0, 0, 0]
+
+    def read(self) -> None:
+        """Reads the whole text."""
+        place = 0
+        for match in PIECE.finditer(self.text.data):
+            start, end = match.span()
+            if start != place:
+                raise UnreadableText(place)
+            place = end
+            comment, label, kind, _, _, plain, _, brace = match.groups()
+            if kind is not None:
+                self.add_statement(match, label.decode("latin-1"), kind)
+            elif comment is not None:
+                self.add_comment(match, comment)
+                continue
+            elif plain is not None:
+                self.add_plain(match, plain)
+            else:
+                self.add_brace(brace)
+            self.comment = None
+        if self.text.data[place:].strip():
+            raise UnreadableText(place)
+        close_chapters(self.text)
+
+    def add_statement(self, match: re.Match[bytes], label: str, kind: bytes) -> None:
+        text = self.text
+        place = match.start("label")
+        formula = match.span("formula")
+        if kind == b"a" or kind == b"p":
+            if self.active is None:
+                self.active = (tuple(self.essential), tuple(self.disjoint))
+            proof = match.span("proof") if kind == b"p" else None
+            number = len(text.assertions)
+            text.assertions.append(
+                Assertion(
+                    label,
+                    "p" if proof else "a",
+                    place,
+                    formula,
+                    proof,
+                    *self.active,
+                    self.comment,
+                    len(text.headers) - 1,
+                    number,
+                )
+            )
+            return
+        if kind == b"e":
+            self.essential.append(len(text.hypotheses))
+            self.active = None
+        text.hypotheses.append(Hypothesis(label, kind.decode(), place, formula))
+
+    def add_plain(self, match: re.Match[bytes], kind: bytes) -> None:
+        """Adds a `$c`, `$d` or `$v`."""
+        if kind == b"d":
+            self.disjoint.append(len(self.text.disjoint))
+            self.text.disjoint.append(match.span("symbols"))
+            self.active = None
+        elif kind == b"v":
+            self.text.declared.append(match.span("symbols"))
+
+    def add_brace(self, brace: bytes) -> None:
+        if brace == b"{":
+            self.blocks.append((len(self.essential), len(self.disjoint)))
+            return
+        if not self.blocks:
+            raise UnreadableText(0)
+        essential, disjoint = self.blocks.pop()
+        if essential < len(self.essential) or disjoint < len(self.disjoint):
+            del self.essential[essential:], self.disjoint[disjoint:]
+            self.active = None
+
+    def add_comment(self, match: re.Match[bytes], body: bytes) -> None:
+        text = self.text
+        start, end = match.span("comment")
+        special = SPECIAL.match(body)
+        if special:
+            said = body[special.end() :].decode("latin-1")
+            if special[1] == b"j":
+                text.marked.append(Comment(start - 2, said))
+            elif text.typesetting is None:
+                text.typesetting = said
+            return
+        heading = HEADING.match(body.decode("latin-1")) if HEADING_START.match(body) else None
+        if heading is None:
+            self.comment = (start, end)
+            return
+        self.comment = None
+        level = DECORATIONS.index(heading["line"])
+        self.counters[level] += 1
+        self.counters[level + 1 :] = [0] * (3 - level)
+        number = ".".join(map(str, self.counters[: level + 1]))
+        title = " ".join(heading["title"].split())
+        first = len(text.assertions)
+        text.headers.append(
+            Header(level, number, title, start - 2, (start, end), first, first, heading.end())
+        )
+
+
+def close_chapters(text: Text) -> None:
+    """Says of each header where its chapter ends."""
+    ends = [len(text.assertions)] * 4
+    for header in reversed(text.headers):
+        header.end = ends[header.level]
+        ends[header.level :] = [header.first] * (4 - header.level)
+
+
+def read_text(data: bytes) -> Text:
+    """Reads the bytes of a database that the program accepts; UnreadableText where it's none."""
+    reading = Reading(data)
+    was_enabled = gc.isenabled()
+    gc.disable()  # nothing that is made here goes again
+    try:
+        reading.read()
+    finally:
+        if was_enabled:
+            gc.enable()
+    return reading.text
