@@ -1,0 +1,1 @@
+"""`mmquery`: questions on a Metamath database that the program `mmdepend` has verified."""

@@ -1,0 +1,195 @@
+"""The command line: finds the command, reads its words and options, runs it, and ends with its status.
+
+0: answered. 1: the answer to a check is no. 2: no answer, with one line why. 130, 143: ended by a
+signal. An option may stand before or after the words, `--` ends the options, and an option that a
+command doesn't have is named with the nearest one that it has.
+"""
+
+import argparse
+import os
+from typing import Any, NoReturn
+
+from query import signals
+from query.commands import MODULES, Command, command, names
+from query.context import Context
+from query.errors import NoAnswer, shown
+from query.output import Output, reason, write_all
+
+# Before a word that begins with `-`, so that argparse takes it as a word. No argument has this sign.
+MARK = "\0"
+VERSION = "mmquery 0.1.0\n"
+
+
+class Parser(argparse.ArgumentParser):
+    """Reads the words of one command. It never ends the process."""
+
+    def __init__(self, name: str) -> None:
+        super().__init__(
+            prog=f"mmquery {name}",
+            add_help=False,
+            allow_abbrev=False,
+            formatter_class=argparse.RawDescriptionHelpFormatter,
+        )
+
+    def error(self, message: str) -> NoReturn:
+        """Raises NoAnswer with the usage."""
+        usage = " ".join(self.format_usage().split())
+        raise NoAnswer(f"{shown(message.replace(MARK, ''))}; {usage}")
+
+    def read(self, words: list[str]) -> argparse.Namespace:
+        """The arguments that the words give: options from anywhere before a `--`, then the others."""
+        options: list[str] = []
+        plain: list[str] = []
+        left = list(words)
+        while left:
+            word = left.pop(0)
+            if word == "--":
+                plain += left
+                break
+            if word.startswith("-") and word != "-":
+                options.append(self.option(word, left))
+            else:
+                plain.append(word)
+        marked = [MARK + word if word.startswith("-") else word for word in plain]
+        found = self.parse_args([*options, "--", *marked])
+        for name, value in vars(found).items():
+            setattr(found, name, unmarked(value))
+        return found
+
+    def option(self, word: str, left: list[str]) -> str:
+        """An option as one word with its value, which is taken from what is left where it follows."""
+        name, sign, value = word.partition("=")
+        action = self._option_string_actions.get(name)
+        if action is None:
+            self.error(
+                f"there is no option {name}{nearest(name, list(self._option_string_actions))}"
+            )
+        if action.nargs == 0:
+            return word
+        if not sign:
+            if not left:
+                self.error(f"the option {name} lacks its value")
+            value = left.pop(0)
+        return f"{name}={value}"
+
+
+def unmarked(value: Any) -> Any:
+    """A value of an argument without the marks of words."""
+    if isinstance(value, list):
+        return [unmarked(each) for each in value]
+    return value.removeprefix(MARK) if isinstance(value, str) else value
+
+
+def nearest(word: str, known: list[str]) -> str:
+    """Which of the known words is meant, as the end of a sentence; empty where none is near."""
+    import difflib
+
+    near = difflib.get_close_matches(word, known, n=1, cutoff=0.5)
+    return f"; did you mean {near[0]}?" if near else ""
+
+
+def parser_of(chosen: Command) -> Parser:
+    """The parser of a command, with the options that all have."""
+    parser = Parser(chosen.name)
+    chosen.configure(parser)
+    if chosen.formats:
+        parser.add_argument(
+            "--format",
+            choices=chosen.formats,
+            default=chosen.formats[0],
+            help=f"the form of the answer (else: {chosen.formats[0]})",
+        )
+    parser.add_argument(
+        "--no-cache", action="store_true", help="keep no result, and use none that was kept"
+    )
+    parser.add_argument("-h", "--help", action="store_true", help="show this page")
+    return parser
+
+
+def page_of(chosen: Command) -> str:
+    """The page of a command."""
+    parser = parser_of(chosen)
+    parser.description = f"{chosen.summary[0].upper()}{chosen.summary[1:]}.\n\n{chosen.page.strip()}"
+    return parser.format_help()
+
+
+def help_page() -> str:
+    """The page of `mmquery --help`."""
+    lines = ["usage: mmquery COMMAND [OPTIONS] DATABASE [LABEL..]", ""]
+    lines += ["Answers questions on a Metamath database, which is verified first.", ""]
+    for commands in MODULES.values():
+        for name in commands:
+            lines.append(f"  {name:12} {command(name).summary}")
+    lines += [
+        "",
+        "DATABASE is a file, also one compressed by gzip, bzip2 or xz; - for standard input;",
+        "REV:PATH, a file of a revision in git; or a report of mmdepend.",
+        "`mmquery COMMAND --help` tells what a command answers, with its options and an example.",
+        "",
+        "status 0: answered. 1: the answer to a check is no. 2: no answer, standard error says why.",
+    ]
+    return "\n".join(lines) + "\n"
+
+
+def run(words: list[str]) -> int:
+    """Runs the command that the words name. Returns its status; NoAnswer where it has no answer."""
+    name = words[0] if words else "--help"
+    if name in ("--help", "-h", "help") and len(words) < 2:
+        write_all(1, help_page().encode())
+        return 0
+    if name in ("--version", "-V"):
+        write_all(1, VERSION.encode())
+        return 0
+    if name == "help":
+        name, words = words[1], [words[1], "--help"]
+    if name not in names():
+        raise NoAnswer(f"there is no command {shown(name)}{nearest(name, names())}")
+    chosen = command(name)
+    before = words[1 : words.index("--")] if "--" in words else words[1:]
+    if "--help" in before or "-h" in before:
+        write_all(1, page_of(chosen).encode())
+        return 0
+    arguments = parser_of(chosen).read(words[1:])
+    out = Output(getattr(arguments, "format", "text"))
+    status = chosen.run(Context(out, not arguments.no_cache), arguments)
+    out.flush()
+    return status
+
+
+def hold_descriptors() -> None:
+    """Opens standard input, output and error where they are closed, so that no other file gets their
+    numbers. What is written to them then fails."""
+    for number in range(3):
+        try:
+            os.fstat(number)
+        except OSError:
+            os.open("/dev/null", os.O_WRONLY if number == 0 else os.O_RDONLY)
+
+
+def main(words: list[str]) -> NoReturn:
+    """Runs `mmquery` and ends the process."""
+    signals.listen()
+    hold_descriptors()
+    import gc
+
+    gc.disable()  # a command ends before anything would have to be collected
+    try:
+        status = run(words)
+    except NoAnswer as why:
+        status = tell(words, str(why))
+    except MemoryError:
+        status = tell(words, "out of memory")
+    except OSError as error:
+        place = f"{shown(os.fsdecode(error.filename))}: " if error.filename else ""
+        status = tell(words, place + reason(error))
+    os._exit(status)
+
+
+def tell(words: list[str], why: str) -> int:
+    """Says on standard error in one line why there is no answer. Returns status 2."""
+    line = shown(why).encode("utf-8", "backslashreplace")
+    try:
+        os.write(2, b"mmquery: " + line + b"\n")
+    except OSError:
+        pass
+    return 2

@@ -1,0 +1,139 @@
+"""The answer: tables as text, TSV, CSV or JSON, or lines and bytes as they are.
+
+It is kept until the command has its whole answer, and written then. So nothing is on standard output
+where there is no answer.
+"""
+
+import errno
+import json
+import os
+from collections.abc import Iterable, Sequence
+
+from query.errors import NoAnswer
+
+Value = str | int | float | bool | None | list[str]
+
+
+def _word(value: Value) -> str:
+    """A value in a field of text, TSV and CSV."""
+    if value is None:
+        return "-"
+    if isinstance(value, bool):
+        return "yes" if value else "no"
+    if isinstance(value, list):
+        return " ".join(value)
+    return str(value)
+
+
+def _aligned(columns: Sequence[str], rows: Sequence[Sequence[Value]]) -> str:
+    """The table for a person: one column as lines, several aligned under a line of their names."""
+    lines = [[_word(value) for value in row] for row in rows]
+    if len(columns) == 1:
+        return "".join(line[0] + "\n" for line in lines)
+    if not rows:
+        return ""
+    lines.insert(0, list(columns))
+    width = [max(len(line[i]) for line in lines) for i in range(len(columns))]
+    right = [all(isinstance(row[i], (int, float)) or row[i] is None for row in rows) for i in range(len(columns))]
+    parts = []
+    for line in lines:
+        fields = [
+            word.rjust(width[i]) if right[i] else word.ljust(width[i])
+            for i, word in enumerate(line)
+        ]
+        parts.append("  ".join(fields).rstrip() + "\n")
+    return "".join(parts)
+
+
+def _tabs(columns: Sequence[str], rows: Iterable[Sequence[Value]]) -> str:
+    """The table as TSV: a tab or a line's end in a field becomes a space."""
+    lines = [list(columns), *([_word(value) for value in row] for row in rows)]
+    return "".join("\t".join(" ".join(word.splitlines()).replace("\t", " ") for word in line) + "\n" for line in lines)
+
+
+def _commas(columns: Sequence[str], rows: Iterable[Sequence[Value]]) -> str:
+    """The table as CSV, lines ended by a line feed."""
+    import csv
+    import io
+
+    text = io.StringIO()
+    writer = csv.writer(text, lineterminator="\n")
+    writer.writerow(columns)
+    writer.writerows([_word(value) for value in row] for row in rows)
+    return text.getvalue()
+
+
+def _objects(columns: Sequence[str], rows: Iterable[Sequence[Value]]) -> str:
+    """The table as a JSON array, an object with its fields by name on each line."""
+    lines = [json.dumps(dict(zip(columns, row, strict=True))) for row in rows]
+    return "[\n" + ",\n".join(lines) + "\n]\n" if lines else "[]\n"
+
+
+class Output:
+    """What a command answers. `format` is the word after `--format`."""
+
+    def __init__(self, format: str = "text") -> None:
+        self.format = format
+        self._parts: list[bytes] = []
+
+    def table(self, columns: Sequence[str], rows: Iterable[Sequence[Value]]) -> None:
+        """Adds a table in the format chosen; one in another format than tsv, csv and json as text.
+
+        In text a table without rows is empty and one of a single column has no line of names, so
+        that an answer of labels is just these. None is `-` there and null in JSON; a list of labels
+        is joined by spaces.
+        """
+        if self.format == "json":
+            self.text(_objects(columns, rows))
+        elif self.format == "csv":
+            self.text(_commas(columns, rows))
+        elif self.format == "tsv":
+            self.text(_tabs(columns, rows))
+        else:
+            self.text(_aligned(columns, list(rows)))
+
+    def line(self, text: str) -> None:
+        """Adds a line as it is, whatever the format."""
+        self.text(text + "\n")
+
+    def text(self, text: str) -> None:
+        """Adds a text as it is, in UTF-8, whatever the format."""
+        self._parts.append(text.encode("utf-8", "surrogateescape"))
+
+    def value(self, value: object) -> None:
+        """Adds a value as JSON, whatever the format."""
+        self.line(json.dumps(value, indent=1))
+
+    def write(self, data: bytes) -> None:
+        """Adds bytes as they are, whatever the format."""
+        self._parts.append(data)
+
+    def flush(self) -> None:
+        """Writes all of it to standard output. NoAnswer where that can't be done."""
+        write_all(1, b"".join(self._parts))
+        self._parts = []
+
+
+def write_all(descriptor: int, data: bytes) -> None:
+    """Writes bytes to an open file. NoAnswer, with the reason, where not all of it is written."""
+    view = memoryview(data)
+    try:
+        while view:
+            view = view[os.write(descriptor, view) :]
+    except OSError as error:
+        raise NoAnswer(f"the answer can't be written: {reason(error)}") from error
+
+
+def reason(error: OSError) -> str:
+    """Why a call of the operating system failed, in words."""
+    if error.errno == errno.ENOSPC:
+        return "the disk is full"
+    if error.errno == errno.EDQUOT:
+        return "the disk quota is used up"
+    if error.errno == errno.EFBIG:
+        return "files may not become so large here"
+    if error.errno == errno.EPIPE:
+        return "nobody reads it"
+    if error.errno == errno.EBADF:
+        return "standard output is closed"
+    return (error.strerror or str(error)).lower()

@@ -1,0 +1,52 @@
+"""Interrupts. A signal ends the command at once, with status 128 and its number and one line.
+
+What is to be done before, such as removing an unfinished file or ending the program, is registered
+by `at_stop`. Nothing of an answer was written then, or not all of it.
+"""
+
+import os
+import signal
+from collections.abc import Callable
+from types import FrameType
+
+STOPPING = (signal.SIGINT, signal.SIGTERM, signal.SIGHUP)
+
+_to_do: dict[int, Callable[[], None]] = {}
+_count = 0
+
+
+def at_stop(action: Callable[[], None]) -> int:
+    """Registers what is to be done when a signal ends the command. Returns its number."""
+    global _count
+    _count += 1
+    _to_do[_count] = action
+    return _count
+
+
+def forget(number: int) -> None:
+    """Takes back what `at_stop` registered under this number."""
+    _to_do.pop(number, None)
+
+
+def _stop(number: int, _: FrameType | None) -> None:
+    for other in STOPPING:
+        signal.signal(other, signal.SIG_IGN)
+    for action in list(_to_do.values()):
+        try:
+            action()
+        except OSError:
+            pass
+    if number == signal.SIGINT:
+        try:
+            os.write(2, b"mmquery: interrupted\n")
+        except OSError:
+            pass
+    os._exit(128 + number)
+
+
+def listen() -> None:
+    """Lets signals end the command, but those that were ignored when it began."""
+    for number in STOPPING:
+        if signal.getsignal(number) is not signal.SIG_IGN:
+            signal.signal(number, _stop)
+    signal.pthread_sigmask(signal.SIG_UNBLOCK, STOPPING)
