@@ -1,0 +1,255 @@
+"""The file `mmdepend.toml` of a repository: what its maintainers ask of a database.
+
+Each key is read once, by `SHAPE`. An unknown key is named with the nearest known one, a value of
+another type with its key, and the line where each stands. Without a file the defaults hold.
+"""
+
+from __future__ import annotations
+
+import difflib
+import re
+import tomllib
+from collections.abc import Mapping
+from dataclasses import dataclass, field
+from pathlib import Path
+
+from query.errors import NoAnswer, shown
+
+FILE_NAME = "mmdepend.toml"
+
+RULES = (
+    "axioms",
+    "watched",
+    "newly",
+    "claims",
+    "avoids",
+    "open",
+    "mathboxes",
+    "discouraged",
+)
+"""The rules of the gate, in the order in which it tells what breaks them."""
+
+TEXT, LABELS, SWITCH, LISTS = (
+    "a text",
+    "a list of labels",
+    "true or false",
+    "a table of lists of labels",
+)
+
+# The type of each key. A table is one more of these.
+Shape = Mapping[str, "str | Shape"]
+SHAPE: Shape = {
+    "base": TEXT,
+    "typecode": TEXT,
+    "watch": LABELS,
+    "rules": {rule: SWITCH for rule in RULES},
+    "allow": {
+        "axioms": LABELS,
+        "newly": LISTS,
+        "open": LABELS,
+        "mathboxes": LABELS,
+        "discouraged": LABELS,
+    },
+    "claims": LISTS,
+}
+LABEL = re.compile(r"[A-Za-z0-9._-]+\Z")
+PATTERN = re.compile(r"[A-Za-z0-9._-]*\*?\Z")
+
+
+@dataclass(frozen=True)
+class Claim:
+    """A theorem that is said to avoid axioms; `line` is where the file says so, or 0."""
+
+    theorem: str
+    axioms: tuple[str, ...]
+    line: int
+
+
+@dataclass(frozen=True)
+class Labels:
+    """Labels, some of them given by their beginning and a `*`."""
+
+    words: tuple[str, ...] = ()
+
+    def __contains__(self, label: str) -> bool:
+        return any(is_meant(word, label) for word in self.words)
+
+
+@dataclass(frozen=True)
+class Config:
+    """What the file says. `name` is how messages call the file, "" if there is none."""
+
+    name: str = ""
+    base: str = "origin/main"
+    typecode: str = "|-"
+    watch: tuple[str, ...] = ()
+    rules: frozenset[str] = frozenset(RULES)
+    allowed: Mapping[str, Labels] = field(default_factory=dict)
+    """Of the rules `axioms`, `open`, `mathboxes` and `discouraged`: what may break them."""
+    newly: Mapping[str, Labels] = field(default_factory=dict)
+    """For watched axioms the theorems that may rest on them."""
+    claims: tuple[Claim, ...] = ()
+
+    def allows(self, rule: str, label: str) -> bool:
+        """Whether a rule lets this label be."""
+        return label in self.allowed.get(rule, Labels())
+
+    def may_rest(self, theorem: str, axiom: str) -> bool:
+        """Whether a theorem may newly rest on a watched axiom."""
+        return any(
+            is_meant(word, axiom) and theorem in labels for word, labels in self.newly.items()
+        )
+
+
+def is_meant(word: str, label: str) -> bool:
+    """Whether a word of the file means a label: it is that, or its beginning with `*` after it."""
+    return label.startswith(word[:-1]) if word.endswith("*") else label == word
+
+
+def find_config(folder: Path) -> Path | None:
+    """The file that holds for a folder: there or above it, up to the top of its repository."""
+    folder = folder.resolve()
+    for each in (folder, *folder.parents):
+        if (each / FILE_NAME).is_file():
+            return each / FILE_NAME
+        if (each / ".git").exists():
+            return None
+    return None
+
+
+def load_config(path: Path | None) -> Config:
+    """Reads the file; the defaults where there is none. NoAnswer where it isn't right."""
+    if path is None:
+        return Config()
+    try:
+        data = path.read_bytes()
+    except OSError as error:
+        raise NoAnswer(f"{path}: {error.strerror}") from None
+    return read_config(data, str(path))
+
+
+def read_config(data: bytes, name: str) -> Config:
+    """Reads the content of the file. NoAnswer where it isn't right."""
+    try:
+        text = data.decode("utf-8")
+        table = tomllib.loads(text)
+    except UnicodeDecodeError:
+        raise NoAnswer(f"{name}: not UTF-8") from None
+    except tomllib.TOMLDecodeError as error:
+        raise NoAnswer(f"{name}: {shown(str(error))}") from None
+    Checker(text, name).check(table, SHAPE, ())
+    rules = table.get("rules", {})
+    allow = table.get("allow", {})
+    claims = table.get("claims", {})
+    return Config(
+        name=name,
+        base=table.get("base", Config.base),
+        typecode=table.get("typecode", Config.typecode),
+        watch=tuple(dict.fromkeys(table.get("watch", ()))),
+        rules=frozenset(rule for rule in RULES if rules.get(rule, True)),
+        allowed={rule: Labels(tuple(words)) for rule, words in allow.items() if rule != "newly"},
+        newly={axiom: Labels(tuple(words)) for axiom, words in allow.get("newly", {}).items()},
+        claims=tuple(
+            Claim(theorem, tuple(axioms), line_of(text, ("claims", theorem)))
+            for theorem, axioms in claims.items()
+        ),
+    )
+
+
+class Checker:
+    """Compares a table with its shape."""
+
+    def __init__(self, text: str, name: str) -> None:
+        self.text = text
+        self.name = name
+
+    def fail(self, path: tuple[str, ...], message: str) -> NoAnswer:
+        line = line_of(self.text, path)
+        place = f"{self.name}:{line}" if line else self.name
+        return NoAnswer(f"{place}: {message}")
+
+    def check(self, table: Mapping[str, object], shape: Shape, path: tuple[str, ...]) -> None:
+        """Raises NoAnswer where a key is unknown, or a value has another type than it should."""
+        for key, value in table.items():
+            here = (*path, key)
+            wanted = shape.get(key)
+            if wanted is None:
+                raise self.fail(
+                    here, f"there is no key '{shown('.'.join(here))}'{nearest(key, shape)}"
+                )
+            if isinstance(wanted, str):
+                self.check_value(value, wanted, here)
+            elif isinstance(value, dict):
+                self.check(value, wanted, here)
+            else:
+                raise self.fail(here, f"'{'.'.join(here)}' isn't a table, but {kind_of(value)}")
+
+    def check_value(self, value: object, wanted: str, path: tuple[str, ...]) -> None:
+        if wanted == LISTS and isinstance(value, dict):
+            for key, words in value.items():
+                here = (*path, key)
+                self.check_word(key, here, patterns=path == ("allow", "newly"))
+                self.check_value(words, LABELS, here)
+            return
+        types = {TEXT: str, LABELS: list, SWITCH: bool, LISTS: dict}
+        key = shown(".".join(path))
+        if not isinstance(value, types[wanted]):
+            raise self.fail(path, f"'{key}' isn't {wanted}, but {kind_of(value)}")
+        if isinstance(value, list):
+            self.check_labels(value, path)
+        elif value == "":
+            raise self.fail(path, f"'{key}' is empty")
+
+    def check_labels(self, words: list[object], path: tuple[str, ...]) -> None:
+        key = shown(".".join(path))
+        for word in words:
+            if not isinstance(word, str):
+                raise self.fail(path, f"'{key}' isn't {LABELS}: it has {kind_of(word)}")
+            self.check_word(word, path, patterns=path[0] != "claims")
+        if path[0] == "claims" and not words:
+            raise self.fail(path, f"'{key}' is empty, so nothing is claimed")
+
+    def check_word(self, word: str, path: tuple[str, ...], *, patterns: bool) -> None:
+        if LABEL.match(word) or (patterns and word and PATTERN.match(word)):
+            return
+        kind = "no label, and no beginning of one with '*' after it" if patterns else "no label"
+        raise self.fail(path, f"'{shown(word)}' is {kind}")
+
+
+def nearest(key: str, shape: Shape) -> str:
+    """What a message about an unknown key says besides."""
+    close = difflib.get_close_matches(key, shape, 1)
+    return f"; did you mean '{close[0]}'?" if close else f"; there are {', '.join(shape)}"
+
+
+def kind_of(value: object) -> str:
+    """What a value of the file is, in words."""
+    kinds: tuple[tuple[type, str], ...] = (
+        (bool, "true or false"),
+        (int, "a number"),
+        (float, "a number"),
+        (str, "a text"),
+        (list, "a list"),
+        (dict, "a table"),
+    )
+    return next((words for kind, words in kinds if isinstance(value, kind)), "a time")
+
+
+def line_of(text: str, path: tuple[str, ...]) -> int:
+    """The line, from 1, where a key stands, however it is quoted; 0 if it isn't found."""
+    table: tuple[str, ...] = ()
+    for number, line in enumerate(text.splitlines(), 1):
+        if heading := re.match(r"\s*\[([^\[\]]+)\]\s*(?:#.*)?\Z", line):
+            table = keys_of(heading[1])
+            if table == path:
+                return number
+        elif found := re.match(r"\s*((?:[\w.\s-]|\"[^\"]*\"|'[^']*')+?)\s*=", line):
+            if (*table, *keys_of(found[1])) == path:
+                return number
+    return 0
+
+
+def keys_of(dotted: str) -> tuple[str, ...]:
+    """The keys that a dotted key names."""
+    found = re.findall(r"\"([^\"]*)\"|'([^']*)'|([\w-]+)", dotted)
+    return tuple("".join(parts) for parts in found)
