@@ -1,11 +1,11 @@
 """The graph of citations: which assertion cites which, and the walks over it.
 
-Nodes are numbers from 0: first the axioms, then the theorems in file order. What a theorem cites is
-before it.
+Nodes are numbers from 0: first the theorems, in file order, so that the node of a theorem is its row;
+then the axioms. A theorem cites only theorems before it.
 """
 
 from array import array
-from collections.abc import Iterable, Sequence
+from collections.abc import Iterable
 from functools import cached_property
 
 from query.errors import NoAnswer
@@ -21,23 +21,33 @@ class Lists:
     def __len__(self) -> int:
         return len(self.places) - 1
 
-    def __getitem__(self, node: int) -> "array[int]":
-        return self.targets[self.places[node] : self.places[node + 1]]
+    def __getitem__(self, number: int) -> "array[int]":
+        return self.targets[self.places[number] : self.places[number + 1]]
+
+
+def put_together(lists: Iterable[Iterable[int]]) -> Lists:
+    """The lists in two arrays."""
+    places = array("I", [0])
+    targets = array("I")
+    for each in lists:
+        targets.extend(each)
+        places.append(len(targets))
+    return Lists(places, targets)
 
 
 class Graph:
     """The citations of a database.
 
-    `labels` has the label of each node and `first_theorem` is the number of the first theorem; the
-    nodes before it are axioms (with `--open` also open theorems). Axioms of the chosen typecode are
-    there even where nothing cites them, others only where something does. `cites[i]` is what node
-    `i` cites, in file order; for an axiom nothing. `cited_by[i]` is which theorems cite it.
+    `labels` has the label of each node: those of `theorems` theorems, in file order, and then those
+    of axioms (with `--open` also of open theorems). Axioms of the chosen typecode are there even
+    where nothing cites them, others only where something does. `cites[i]` is what node `i` cites, in
+    file order; for an axiom nothing. `name` is how messages call the database.
     """
 
-    def __init__(self, name: str, labels: list[str], first_theorem: int, cites: Lists) -> None:
+    def __init__(self, name: str, labels: list[str], theorems: int, cites: Lists) -> None:
         self.name = name
         self.labels = labels
-        self.first_theorem = first_theorem
+        self.theorems = theorems
         self.cites = cites
 
     @cached_property
@@ -49,14 +59,14 @@ class Graph:
     def cited_by(self) -> list[list[int]]:
         """For each node the theorems that cite it, in file order."""
         users: list[list[int]] = [[] for _ in self.labels]
-        for theorem in range(self.first_theorem, len(self.labels)):
+        for theorem in range(self.theorems):
             for cited in self.cites[theorem]:
                 users[cited].append(theorem)
         return users
 
     def is_theorem(self, node: int) -> bool:
         """Whether the node is a theorem."""
-        return node >= self.first_theorem
+        return node < self.theorems
 
     def node(self, label: str) -> int:
         """The node of a label. NoAnswer where there is neither an axiom nor a theorem of it."""
@@ -86,32 +96,36 @@ class Graph:
                     left.append(user)
         return found
 
-    def towards(self, node: int) -> dict[int, int | None]:
-        """For each node that rests on this one, what is next on a shortest chain to it: of several
-        the one that is cited first. None for the node itself.
+    def distances(self, end: int) -> dict[int, int]:
+        """For each node that rests on this one, how many citations a shortest chain to it has; 0 for
+        the node itself.
         """
-        towards: dict[int, int | None] = {node: None}
-        edge = [node]
+        far = {end: 0}
+        edge = [end]
         while edge:
             further = []
             for cited in edge:
                 for user in self.cited_by[cited]:
-                    if user not in towards:
-                        towards[user] = cited
+                    if user not in far:
+                        far[user] = far[cited] + 1
                         further.append(user)
-            edge = sorted(further)
-        return towards
+            edge = further
+        return far
 
-    def chain(self, node: int, end: int) -> Sequence[int]:
-        """A shortest chain of citations from one node to another, both included. Empty where there
-        is none.
+    def following(self, node: int, far: dict[int, int]) -> int:
+        """What is next on a shortest chain from a node, by the distances to its end: of several the
+        one that is first in the file.
         """
-        towards = self.towards(end)
-        if node not in towards:
+        return next(cited for cited in self.cites[node] if far.get(cited) == far[node] - 1)
+
+    def chain(self, node: int, end: int) -> list[int]:
+        """A shortest chain of citations from one node to another, both included, by `following`.
+        Empty where there is none.
+        """
+        far = self.distances(end)
+        if node not in far:
             return []
         chain = [node]
-        following = towards[node]
-        while following is not None:
-            chain.append(following)
-            following = towards[following]
+        while chain[-1] != end:
+            chain.append(self.following(chain[-1], far))
         return chain
