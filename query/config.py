@@ -52,6 +52,9 @@ SHAPE: Shape = {
     },
     "claims": LISTS,
 }
+HEADING = re.compile(r"\s*\[([^\[\]]+)\]\s*(?:#.*)?\Z")
+PART = r"""(?:[\w-]+|"[^"]*"|'[^']*')"""
+KEY = re.compile(rf"\s*({PART}(?:\s*\.\s*{PART})*)\s*=")
 LABEL = re.compile(r"[A-Za-z0-9._-]+\Z")
 PATTERN = re.compile(r"[A-Za-z0-9._-]*\*?\Z")
 
@@ -89,6 +92,8 @@ class Config:
     newly: Mapping[str, Labels] = field(default_factory=dict)
     """For watched axioms the theorems that may rest on them."""
     claims: tuple[Claim, ...] = ()
+    lines: Mapping[tuple[str, ...], int] = field(default_factory=dict)
+    """For each key and table the line where it stands."""
 
     def allows(self, rule: str, label: str) -> bool:
         """Whether a rule lets this label be."""
@@ -137,7 +142,8 @@ def read_config(data: bytes, name: str) -> Config:
         raise NoAnswer(f"{name}: not UTF-8") from None
     except tomllib.TOMLDecodeError as error:
         raise NoAnswer(f"{name}: {shown(str(error))}") from None
-    Checker(text, name).check(table, SHAPE, ())
+    lines = lines_of(text)
+    Checker(lines, name).check(table, SHAPE, ())
     rules = table.get("rules", {})
     allow = table.get("allow", {})
     claims = table.get("claims", {})
@@ -150,21 +156,23 @@ def read_config(data: bytes, name: str) -> Config:
         allowed={rule: Labels(tuple(words)) for rule, words in allow.items() if rule != "newly"},
         newly={axiom: Labels(tuple(words)) for axiom, words in allow.get("newly", {}).items()},
         claims=tuple(
-            Claim(theorem, tuple(axioms), line_of(text, ("claims", theorem)))
+            Claim(theorem, tuple(axioms), lines.get(("claims", theorem), 0))
             for theorem, axioms in claims.items()
         ),
+        lines=lines,
     )
 
 
 class Checker:
     """Compares a table with its shape."""
 
-    def __init__(self, text: str, name: str) -> None:
-        self.text = text
+    def __init__(self, lines: Mapping[tuple[str, ...], int], name: str) -> None:
+        self.lines = lines
         self.name = name
 
     def fail(self, path: tuple[str, ...], message: str) -> NoAnswer:
-        line = line_of(self.text, path)
+        """What is wrong with a key, for `raise`."""
+        line = self.lines.get(path)
         place = f"{self.name}:{line}" if line else self.name
         return NoAnswer(f"{place}: {message}")
 
@@ -235,18 +243,18 @@ def kind_of(value: object) -> str:
     return next((words for kind, words in kinds if isinstance(value, kind)), "a time")
 
 
-def line_of(text: str, path: tuple[str, ...]) -> int:
-    """The line, from 1, where a key stands, however it is quoted; 0 if it isn't found."""
+def lines_of(text: str) -> dict[tuple[str, ...], int]:
+    """For each key and table the line, from 1, where it stands, however it is quoted. Keys may be
+    found in a text of several lines too."""
+    found: dict[tuple[str, ...], int] = {}
     table: tuple[str, ...] = ()
-    for number, line in enumerate(text.splitlines(), 1):
-        if heading := re.match(r"\s*\[([^\[\]]+)\]\s*(?:#.*)?\Z", line):
+    for number, line in enumerate(text.split("\n"), 1):
+        if heading := HEADING.match(line):
             table = keys_of(heading[1])
-            if table == path:
-                return number
-        elif found := re.match(r"\s*((?:[\w.\s-]|\"[^\"]*\"|'[^']*')+?)\s*=", line):
-            if (*table, *keys_of(found[1])) == path:
-                return number
-    return 0
+            found.setdefault(table, number)
+        elif key := KEY.match(line):
+            found.setdefault((*table, *keys_of(key[1])), number)
+    return found
 
 
 def keys_of(dotted: str) -> tuple[str, ...]:

@@ -109,6 +109,13 @@ class Repository:
         except ValueError:
             raise NoAnswer(f"{file}: not in the repository {self.top}") from None
 
+    def path_within(self, file: Path) -> str | None:
+        """The same; None where the file lies outside."""
+        try:
+            return self.path_of(file)
+        except NoAnswer:
+            return None
+
     def blob(self, word: str, folder: Path) -> Blob:
         """The file that `REV:PATH` names; a path with `./` or `../` first is from a folder."""
         revision, _, path = word.partition(":")

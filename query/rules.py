@@ -1,0 +1,355 @@
+"""The rules of the gate: what in a database breaks what its maintainers ask for.
+
+Each rule is a function of a `Case`, the two databases side by side and the file `mmdepend.toml`. It
+gives a `Finding` for each thing that breaks it, in file order.
+"""
+
+from __future__ import annotations
+
+import re
+from collections.abc import Callable, Iterable, Iterator
+from dataclasses import dataclass
+from functools import cached_property
+
+from query.changes import Comparison, Side, text_of_side
+from query.config import RULES, Claim, Config, Labels, is_meant
+from query.statements import difference, statement_of
+from query.text import Assertion, Text
+
+DISCOURAGED = re.compile(r"\(New\s+usage\s+is\s+discouraged\.\)")
+TOKEN = re.compile(r"/\*.*?\*/|'([^']*)'|\"([^\"]*)\"|(;)|([^\s;'\"]+)", re.DOTALL)
+LONGEST = 200
+"""How many characters of a formula are shown."""
+
+
+@dataclass(frozen=True)
+class Finding:
+    """What breaks a rule. `line` counts from 1, 0 where there is no line; `axiom` may be ""."""
+
+    rule: str
+    file: str
+    line: int
+    label: str
+    axiom: str
+    reason: str
+
+
+@dataclass
+class Case:
+    """What the rules judge."""
+
+    comparison: Comparison
+    config: Config
+
+    @property
+    def old(self) -> Side:
+        """The database that is compared with."""
+        return self.comparison.old
+
+    @property
+    def new(self) -> Side:
+        """The database that is judged."""
+        return self.comparison.new
+
+    @cached_property
+    def old_text(self) -> Text:
+        """The text of OLD."""
+        return text_of_side(self.old)
+
+    @cached_property
+    def text(self) -> Text:
+        """The text of NEW."""
+        return text_of_side(self.new)
+
+    def finding(self, rule: str, label: str, reason: str, axiom: str = "") -> Finding:
+        """A finding at an assertion of NEW; without a line where NEW has none of this label."""
+        assertion = self.text.find(label)
+        line = self.text.line(assertion.place) if assertion else 0
+        return Finding(rule, self.new.name, line, label, axiom, reason)
+
+    def was(self, label: str) -> str:
+        """What a label of NEW was in OLD: the same assertion's label, or "" if there was none."""
+        moved = self.comparison.theorems.moved
+        return self.comparison.to_old.get(label, moved.get(label, ""))
+
+
+def shown_formula(text: Text, assertion: Assertion) -> str:
+    """A formula, cut where it is long."""
+    formula = text.formula(assertion)
+    return formula if len(formula) <= LONGEST else formula[:LONGEST] + " .."
+
+
+def axioms(case: Case) -> Iterator[Finding]:
+    """An axiom of the typecode is new, changed or gone, and isn't allowed."""
+    pairing, code = case.comparison.axioms, case.config.typecode
+    new = {*pairing.new, *pairing.renamed}
+    changed = set(pairing.changed)
+    for one in case.text.assertions:
+        if one.label in new and case.text.typecode(one) == code:
+            reason = reason_of_new(case, one)
+        elif one.label in changed:
+            reason = reason_of_changed(case, one)
+        else:
+            continue
+        if reason and not case.config.allows("axioms", one.label):
+            yield case.finding("axioms", one.label, reason, one.label)
+    kept = set(pairing.origin) - set(pairing.renamed)
+    for one in case.old_text.assertions:
+        if one.kind != "a" or one.label in kept or case.old_text.typecode(one) != code:
+            continue
+        if one.label not in new and not case.config.allows("axioms", one.label):
+            yield case.finding("axioms", one.label, reason_of_gone(case, one.label), one.label)
+
+
+def reason_of_new(case: Case, axiom: Assertion) -> str:
+    """Why an axiom is a new one."""
+    formula = shown_formula(case.text, axiom)
+    was = case.comparison.axioms.renamed.get(axiom.label)
+    if was:
+        return f"a new label of the axiom {was}: {formula}"
+    if was_theorem(case, axiom.label):
+        return f"an axiom now, and a theorem before: {formula}"
+    return f"a new axiom: {formula}"
+
+
+def was_theorem(case: Case, label: str) -> bool:
+    """Whether OLD has a theorem of this label."""
+    before = case.old_text.find(label)
+    return before is not None and before.kind == "p"
+
+
+def reason_of_changed(case: Case, axiom: Assertion) -> str:
+    """How an axiom was changed; "" where it isn't of the typecode, in neither database."""
+    before = case.old_text.by_label[axiom.label]
+    codes = {case.text.typecode(axiom), case.old_text.typecode(before)}
+    if case.config.typecode not in codes:
+        return ""
+    parts = difference(statement_of(case.old_text, before), statement_of(case.text, axiom))
+    if "formula" not in parts:
+        return f"a changed axiom: {parts} changed"
+    return (
+        f"a changed axiom: {parts} changed, from {shown_formula(case.old_text, before)}"
+        f" to {shown_formula(case.text, axiom)}"
+    )
+
+
+def reason_of_gone(case: Case, label: str) -> str:
+    """Where an axiom of OLD is."""
+    now = case.comparison.axioms.now.get(label)
+    if now:
+        return f"an axiom that is gone; its statement has the label {now}"
+    after = case.text.find(label)
+    return "an axiom before, and a theorem now" if after else "an axiom that is gone"
+
+
+def watched(case: Case) -> Iterator[Finding]:
+    """A watched axiom is missing from NEW."""
+    found = [one.label for one in case.text.assertions if one.kind == "a"]
+    known = set(found)
+    for word in case.config.watch:
+        if word in known or word.endswith("*") and any(is_meant(word, each) for each in found):
+            continue
+        reason = "a watched axiom that is missing"
+        now = case.comparison.axioms.now.get(word)
+        if now:
+            reason += f"; its statement has the label {now}"
+        elif case.text.find(word):
+            reason = "a watched axiom that is a theorem now"
+        line = case.config.lines.get(("watch",), 0)
+        yield Finding("watched", case.config.name, line, word, word, reason)
+
+
+def watched_axioms(case: Case) -> list[str]:
+    """The watched axioms that NEW has, in file order."""
+    watch = Labels(case.config.watch)
+    return [label for label in case.new.dependence.axioms if label in watch]
+
+
+def newly(case: Case) -> Iterator[Finding]:
+    """A theorem newly rests on a watched axiom, and isn't allowed."""
+    comparison = case.comparison
+    for axiom in watched_axioms(case):
+        rested = set(case.old.users(comparison.to_old.get(axiom, "")))
+        reasons = None
+        for theorem in case.new.users(axiom):
+            if case.was(theorem) in rested or case.config.may_rest(theorem, axiom):
+                continue
+            reasons = reasons or comparison.why_gained(axiom)
+            citing, cited = reasons.why(theorem)
+            way = "it cites" if citing == theorem else f"{citing}, on which it rests, cites"
+            yield case.finding("newly", theorem, f"newly rests on {axiom}: {way} {cited}", axiom)
+
+
+def claims(case: Case) -> Iterator[Finding]:
+    """A claim of `mmdepend.toml` is broken, or names what isn't there."""
+    judge = Judge(case)
+    for claim in case.config.claims:
+        yield from judge.judge("claims", claim, case.config.name)
+
+
+def avoids(case: Case) -> Iterator[Finding]:
+    """A comment `$j usage 'T' avoids 'A' ..;` is broken, or names what isn't there."""
+    judge = Judge(case)
+    for usage in usages(case.text):
+        if usage.claim is not None:
+            yield from judge.judge("avoids", usage.claim, case.new.name)
+        else:
+            reason = "a comment `$j usage` that isn't understood"
+            yield Finding("avoids", case.new.name, usage.line, usage.theorem, "", reason)
+
+
+@dataclass(frozen=True)
+class Usage:
+    """A statement `usage` of a `$j` comment; `claim` is None where it isn't understood."""
+
+    line: int
+    theorem: str
+    claim: Claim | None
+
+
+def usages(text: Text) -> Iterator[Usage]:
+    """Each statement `usage` of the `$j` comments."""
+    for comment in text.marked:
+        if "usage" not in comment.body:
+            continue
+        start = text.data.index(b"$j", comment.place) + 2
+        words: list[tuple[int, str, bool]] = []
+        for token in TOKEN.finditer(comment.body):
+            if token[3]:
+                yield from usage_of(text, words, is_ended=True)
+                words = []
+            elif token.lastindex:
+                is_quoted = token.lastindex < 3
+                words.append((start + token.start(), token[token.lastindex], is_quoted))
+        yield from usage_of(text, words, is_ended=False)
+
+
+def usage_of(text: Text, words: list[tuple[int, str, bool]], *, is_ended: bool) -> Iterator[Usage]:
+    """The statement that these words are, where it is a `usage`: place, word, whether quoted."""
+    if not words or words[0][1] != "usage" or words[0][2]:
+        return
+    line = text.line(words[0][0])
+    labels = [word.strip() for _, word, is_quoted in words if is_quoted]
+    theorem = labels[0] if labels else ""
+    shape = [word if not is_quoted else "'" for _, word, is_quoted in words]
+    is_right = shape[1:4] == ["'", "avoids", "'"] and set(shape[3:]) == {"'"} and is_ended
+    yield Usage(line, theorem, Claim(theorem, tuple(labels[1:]), line) if is_right else None)
+
+
+class Judge:
+    """Judges claims on what theorems avoid."""
+
+    def __init__(self, case: Case) -> None:
+        self.case = case
+        self.rows = {label: row for row, label in enumerate(case.new.dependence.theorems)}
+        self.columns = case.new.columns
+        self.known: dict[int, frozenset[int]] = {}
+
+    def rests(self, row: int) -> frozenset[int]:
+        """The columns on which a theorem rests."""
+        if row not in self.known:
+            self.known[row] = frozenset(self.case.new.dependence.rests(row))
+        return self.known[row]
+
+    def judge(self, rule: str, claim: Claim, file: str) -> Iterator[Finding]:
+        """What is wrong with a claim: all of it."""
+        theorem, line = claim.theorem, claim.line
+        row = self.rows.get(theorem)
+        if row is None and theorem not in self.columns:
+            yield Finding(rule, file, line, theorem, "", f"there is no theorem '{theorem}'")
+        elif row is None and self.case.text.by_label[theorem].kind == "a":
+            reason = f"'{theorem}' is an axiom, where a theorem is wanted"
+            yield Finding(rule, file, line, theorem, "", reason)
+        for axiom in claim.axioms:
+            column = self.columns.get(axiom)
+            if column is None:
+                reason = f"there is no axiom '{axiom}'"
+                if axiom in self.rows:
+                    reason = f"'{axiom}' is a theorem, where an axiom is wanted"
+                yield Finding(rule, file, line, theorem, axiom, reason)
+            elif row is not None and column in self.rests(row):
+                yield Finding(rule, file, line, theorem, axiom, self.reason(row, axiom))
+
+    def reason(self, row: int, axiom: str) -> str:
+        """Why a theorem rests on an axiom: its first citation that does."""
+        graph = self.case.new.graph
+        column = self.columns[axiom]
+        theorem = self.case.new.dependence.theorems[row]
+        for cited in graph.cites[graph.index[theorem]]:
+            label = graph.labels[cited]
+            if label == axiom:
+                return f"rests on {axiom}: it cites it"
+            if label in self.rows and column in self.rests(self.rows[label]):
+                return f"rests on {axiom}: it cites {label}, which does"
+        return f"rests on {axiom}"
+
+
+def open_theorems(case: Case) -> Iterator[Finding]:
+    """A theorem is left open, and isn't allowed."""
+    for label in case.new.dependence.axioms:
+        if case.text.by_label[label].kind == "p" and not case.config.allows("open", label):
+            yield case.finding("open", label, "a theorem whose proof is left open")
+
+
+def citations(side: Side, labels: Iterable[str]) -> Iterator[tuple[str, str]]:
+    """Each citation of these assertions, as what cites and what it cites, in file order of both."""
+    graph = side.graph
+    for label in labels:
+        node = graph.index.get(label)
+        for user in graph.cited_by[node] if node is not None else ():
+            yield graph.labels[user], label
+
+
+def across_mathboxes(side: Side, text: Text) -> Iterator[tuple[str, str, str | None, str]]:
+    """Each citation of an assertion in a mathbox from outside it: what cites, what it cites, and
+    the mathboxes of both."""
+    boxes = {one.label: box for one in text.assertions if (box := text.mathbox(one)) is not None}
+    for user, cited in citations(side, boxes):
+        if boxes.get(user) != boxes[cited]:
+            yield user, cited, boxes.get(user), boxes[cited]
+
+
+def mathboxes(case: Case) -> Iterator[Finding]:
+    """A mathbox is cited from outside it, and that isn't allowed."""
+    for user, cited, box, other in across_mathboxes(case.new, case.text):
+        if not case.config.allows("mathboxes", user):
+            where = f"in the mathbox for {box}, " if box else ""
+            reason = f"{where}cites {cited} of the mathbox for {other}"
+            yield case.finding("mathboxes", user, reason)
+
+
+def discouraged_labels(text: Text) -> list[str]:
+    """The assertions whose comment says that new usage is discouraged."""
+    return [one.label for one in text.assertions if is_discouraged(text, one)]
+
+
+def is_discouraged(text: Text, assertion: Assertion) -> bool:
+    """Whether the comment before an assertion says `(New usage is discouraged.)`."""
+    return bool(DISCOURAGED.search(text.comment(assertion)))
+
+
+def discouraged(case: Case) -> Iterator[Finding]:
+    """A theorem newly cites one whose new usage is discouraged, and that isn't allowed."""
+    for user, cited in citations(case.new, discouraged_labels(case.text)):
+        was, used = case.was(user), case.was(cited)
+        if used and used in case.old.cites(was) or case.config.allows("discouraged", user):
+            continue
+        yield case.finding("discouraged", user, f"cites {cited}, whose new usage is discouraged")
+
+
+JUDGES: dict[str, Callable[[Case], Iterator[Finding]]] = {
+    "axioms": axioms,
+    "watched": watched,
+    "newly": newly,
+    "claims": claims,
+    "avoids": avoids,
+    "open": open_theorems,
+    "mathboxes": mathboxes,
+    "discouraged": discouraged,
+}
+assert tuple(JUDGES) == RULES
+
+
+def judge(case: Case) -> list[Finding]:
+    """What breaks the rules that the file doesn't switch off, rule by rule."""
+    return [one for rule in RULES if rule in case.config.rules for one in JUDGES[rule](case)]
