@@ -1,4 +1,5 @@
-"""The command line: finds the command, reads its words and options, runs it, and ends with its status.
+"""The command line: finds the command, reads its words and options, runs it, and ends with its
+status.
 
 0: answered. 1: the answer to a check is no. 2: no answer, with one line why. 130, 143: ended by a
 signal. An option may stand before or after the words, `--` ends the options, and an option that a
@@ -9,13 +10,14 @@ import argparse
 import os
 from typing import Any, NoReturn
 
-from query import signals
+from query import progress, signals
 from query.commands import MODULES, Command, command, names
 from query.context import Context
 from query.errors import NoAnswer, shown
 from query.output import Output, reason, write_all
 
-# Before a word that begins with `-`, so that argparse takes it as a word. No argument has this sign.
+# Before a word that begins with `-`, so that argparse takes it as a word. No argument has this
+# sign.
 MARK = "\0"
 VERSION = "mmquery 0.1.0\n"
 
@@ -37,7 +39,8 @@ class Parser(argparse.ArgumentParser):
         raise NoAnswer(f"{shown(message.replace(MARK, ''))}; {usage}")
 
     def read(self, words: list[str]) -> argparse.Namespace:
-        """The arguments that the words give: options from anywhere before a `--`, then the others."""
+        """The arguments that the words give: options from anywhere before a `--`, then the
+        others."""
         options: list[str] = []
         plain: list[str] = []
         left = list(words)
@@ -57,7 +60,8 @@ class Parser(argparse.ArgumentParser):
         return found
 
     def option(self, word: str, left: list[str]) -> str:
-        """An option as one word with its value, which is taken from what is left where it follows."""
+        """An option as one word with its value, which is taken from what is left where it
+        follows."""
         name, sign, value = word.partition("=")
         action = self._option_string_actions.get(name)
         if action is None:
@@ -109,7 +113,9 @@ def parser_of(chosen: Command) -> Parser:
 def page_of(chosen: Command) -> str:
     """The page of a command."""
     parser = parser_of(chosen)
-    parser.description = f"{chosen.summary[0].upper()}{chosen.summary[1:]}.\n\n{chosen.page.strip()}"
+    parser.description = (
+        f"{chosen.summary[0].upper()}{chosen.summary[1:]}.\n\n{chosen.page.strip()}"
+    )
     return parser.format_help()
 
 
@@ -126,7 +132,7 @@ def help_page() -> str:
         "REV:PATH, a file of a revision in git; or a report of mmdepend.",
         "`mmquery COMMAND --help` tells what a command answers, with its options and an example.",
         "",
-        "status 0: answered. 1: the answer to a check is no. 2: no answer, standard error says why.",
+        "Status 0: answered. 1: the answer to a check is no. 2: no answer; standard error says why.",
     ]
     return "\n".join(lines) + "\n"
 
@@ -151,14 +157,18 @@ def run(words: list[str]) -> int:
         return 0
     arguments = parser_of(chosen).read(words[1:])
     out = Output(getattr(arguments, "format", "text"))
-    status = chosen.run(Context(out, not arguments.no_cache), arguments)
+    progress.begin()
+    try:
+        status = chosen.run(Context(out, not arguments.no_cache), arguments)
+    finally:
+        progress.end()
     out.flush()
     return status
 
 
 def hold_descriptors() -> None:
-    """Opens standard input, output and error where they are closed, so that no other file gets their
-    numbers. What is written to them then fails."""
+    """Opens standard input, output and error where they are closed, so that no other file gets
+    their numbers. What is written to them then fails."""
     for number in range(3):
         try:
             os.fstat(number)
@@ -176,16 +186,16 @@ def main(words: list[str]) -> NoReturn:
     try:
         status = run(words)
     except NoAnswer as why:
-        status = tell(words, str(why))
+        status = tell(str(why))
     except MemoryError:
-        status = tell(words, "out of memory")
+        status = tell("out of memory")
     except OSError as error:
         place = f"{shown(os.fsdecode(error.filename))}: " if error.filename else ""
-        status = tell(words, place + reason(error))
+        status = tell(place + reason(error))
     os._exit(status)
 
 
-def tell(words: list[str], why: str) -> int:
+def tell(why: str) -> int:
     """Says on standard error in one line why there is no answer. Returns status 2."""
     line = shown(why).encode("utf-8", "backslashreplace")
     try:

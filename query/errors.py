@@ -1,8 +1,10 @@
-"""Why there is no answer. A command raises `NoAnswer`, the command line makes it one line and status 2."""
+"""Why there is no answer. A command raises `NoAnswer`, the command line makes it one line and
+status 2."""
 
 
 class NoAnswer(Exception):
-    """There is no answer, status 2. Its text is the one line on standard error, without a prefix."""
+    """There is no answer, status 2. Its text is the one line on standard error, without a
+    prefix."""
 
 
 def shown(text: str) -> str:

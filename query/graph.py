@@ -1,18 +1,22 @@
 """The graph of citations: which assertion cites which, and the walks over it.
 
-Nodes are numbers from 0: first the theorems, in file order, so that the node of a theorem is its row;
-then the axioms. A theorem cites only theorems before it.
+Nodes are numbers from 0: first the theorems, in file order, so that the node of a theorem is its
+row; then the axioms. A theorem cites only theorems before it.
 """
 
 from array import array
-from collections.abc import Iterable
+from collections.abc import Callable, Iterable
 from functools import cached_property
 
-from query.errors import NoAnswer
+from query.errors import NoAnswer, shown
+
+
+NOTHING: "array[int]" = array("I")
 
 
 class Lists:
-    """Many lists of numbers in two arrays: list `i` is `targets[places[i]:places[i + 1]]`."""
+    """Many lists of numbers in two arrays: list `i` is `targets[places[i]:places[i + 1]]`. A list
+    beyond the last one is empty."""
 
     def __init__(self, places: "array[int]", targets: "array[int]") -> None:
         self.places = places
@@ -22,6 +26,8 @@ class Lists:
         return len(self.places) - 1
 
     def __getitem__(self, number: int) -> "array[int]":
+        if number + 1 >= len(self.places):
+            return NOTHING
         return self.targets[self.places[number] : self.places[number + 1]]
 
 
@@ -38,17 +44,27 @@ def put_together(lists: Iterable[Iterable[int]]) -> Lists:
 class Graph:
     """The citations of a database.
 
-    `labels` has the label of each node: those of `theorems` theorems, in file order, and then those
-    of axioms (with `--open` also of open theorems). Axioms of the chosen typecode are there even
-    where nothing cites them, others only where something does. `cites[i]` is what node `i` cites, in
-    file order; for an axiom nothing. `name` is how messages call the database.
+    `labels` has the label of each node: those of `theorems` theorems, in file order, and then
+    those of axioms (with `--open` also of open theorems). Axioms of the chosen typecode are there
+    even where nothing cites them, others only where something does or `node` has asked for one.
+    `cites[i]` is what node `i` cites, in file order; for an axiom nothing. `name` is how messages
+    call the database. `other_axioms` gives the labels of all axioms; it is called where a label is
+    unknown.
     """
 
-    def __init__(self, name: str, labels: list[str], theorems: int, cites: Lists) -> None:
+    def __init__(
+        self,
+        name: str,
+        labels: list[str],
+        theorems: int,
+        cites: Lists,
+        other_axioms: Callable[[], Iterable[str]] = lambda: (),
+    ) -> None:
         self.name = name
         self.labels = labels
         self.theorems = theorems
         self.cites = cites
+        self.other_axioms = other_axioms
 
     @cached_property
     def index(self) -> dict[str, int]:
@@ -70,9 +86,27 @@ class Graph:
 
     def node(self, label: str) -> int:
         """The node of a label. NoAnswer where there is neither an axiom nor a theorem of it."""
+        if label not in self.index and label in self.other_axioms():
+            self.cited_by.append([])
+            self.index[label] = len(self.labels)
+            self.labels.append(label)
         if label not in self.index:
-            raise NoAnswer(f"{self.name}: has neither a theorem nor an axiom '{label}'")
+            raise NoAnswer(f"{self.name}: has neither a theorem nor an axiom '{shown(label)}'")
         return self.index[label]
+
+    def theorem(self, label: str) -> int:
+        """The node of a theorem. NoAnswer where there is none of this label."""
+        node = self.node(label)
+        if not self.is_theorem(node):
+            raise NoAnswer(f"{self.name}: '{label}' is an axiom, where a theorem is wanted")
+        return node
+
+    def axiom(self, label: str) -> int:
+        """The node of an axiom. NoAnswer where there is none of this label."""
+        node = self.node(label)
+        if self.is_theorem(node):
+            raise NoAnswer(f"{self.name}: '{label}' is a theorem, where an axiom is wanted")
+        return node
 
     def below(self, nodes: Iterable[int]) -> set[int]:
         """The nodes, and all that they rest on through citations."""
@@ -97,8 +131,8 @@ class Graph:
         return found
 
     def distances(self, end: int) -> dict[int, int]:
-        """For each node that rests on this one, how many citations a shortest chain to it has; 0 for
-        the node itself.
+        """For each node that rests on this one, how many citations a shortest chain to it has; 0
+        for the node itself.
         """
         far = {end: 0}
         edge = [end]

@@ -9,8 +9,9 @@ class Options:
     """What of a database is asked for.
 
     `only` is the typecode of the axioms, None for all of them. `axioms` are beginnings of labels:
-    where there are any, only axioms whose label begins with one of them. `ignore_definitions` leaves
-    out the axioms whose label begins with `df-`. `essential` and `open` are the program's options.
+    where there are any, only axioms whose label begins with one of them. `ignore_definitions`
+    leaves out the axioms whose label begins with `df-`. `essential` and `open` are the program's
+    options.
     """
 
     only: str | None = "|-"
@@ -25,6 +26,13 @@ class Options:
         if self.ignore_definitions and label.startswith("df-"):
             return False
         return not self.axioms or label.startswith(self.axioms)
+
+
+def count(word: str) -> int:
+    """A whole number from 1 to 999999. ArgumentTypeError where the word is none."""
+    if not word.isascii() or not word.isdecimal() or not 1 <= len(word) <= 6 or int(word) < 1:
+        raise argparse.ArgumentTypeError(f"'{word}' is no number from 1 to 999999")
+    return int(word)
 
 
 def add_database(parser: argparse.ArgumentParser, name: str = "DATABASE") -> None:
@@ -44,7 +52,7 @@ def add_choice_of_axioms(parser: argparse.ArgumentParser) -> None:
         metavar="WORD",
         action="append",
         default=[],
-        help="only axioms whose label begins with WORD; several by commas or by more of this option",
+        help="only axioms whose label begins with WORD; several: by commas, or more options",
     )
     parser.add_argument(
         "--ignore-definitions", action="store_true", help="no axioms whose label begins with df-"
@@ -68,7 +76,9 @@ def options_of(arguments: argparse.Namespace) -> Options:
     every = bool(getattr(arguments, "all", False))
     essential = bool(getattr(arguments, "essential", False))
     is_open = bool(getattr(arguments, "open", False))
-    words = [word for words in getattr(arguments, "axioms", []) for word in words.split(",") if word]
+    words = [
+        word for words in getattr(arguments, "axioms", []) for word in words.split(",") if word
+    ]
     chosen = None
     for name, given in (
         ("--only", only is not None),
@@ -78,7 +88,7 @@ def options_of(arguments: argparse.Namespace) -> Options:
     ):
         chosen = name if given else chosen
     return Options(
-        only=None if every else "|-" if only is None else only,
+        only=only if only is not None else None if every else "|-",
         essential=essential,
         open=is_open,
         axioms=tuple(words),

@@ -1,7 +1,7 @@
 """The answer: tables as text, TSV, CSV or JSON, or lines and bytes as they are.
 
-It is kept until the command has its whole answer, and written then. So nothing is on standard output
-where there is no answer.
+It is kept until the command has its whole answer, and written then. So nothing is on standard
+output where there is no answer.
 """
 
 import errno
@@ -34,7 +34,10 @@ def _aligned(columns: Sequence[str], rows: Sequence[Sequence[Value]]) -> str:
         return ""
     lines.insert(0, list(columns))
     width = [max(len(line[i]) for line in lines) for i in range(len(columns))]
-    right = [all(isinstance(row[i], (int, float)) or row[i] is None for row in rows) for i in range(len(columns))]
+    right = [
+        all(isinstance(row[i], (int, float)) or row[i] is None for row in rows)
+        for i in range(len(columns))
+    ]
     parts = []
     for line in lines:
         fields = [
@@ -48,7 +51,10 @@ def _aligned(columns: Sequence[str], rows: Sequence[Sequence[Value]]) -> str:
 def _tabs(columns: Sequence[str], rows: Iterable[Sequence[Value]]) -> str:
     """The table as TSV: a tab or a line's end in a field becomes a space."""
     lines = [list(columns), *([_word(value) for value in row] for row in rows)]
-    return "".join("\t".join(" ".join(word.splitlines()).replace("\t", " ") for word in line) + "\n" for line in lines)
+    return "".join(
+        "\t".join(" ".join(word.splitlines()).replace("\t", " ") for word in line) + "\n"
+        for line in lines
+    )
 
 
 def _commas(columns: Sequence[str], rows: Iterable[Sequence[Value]]) -> str:

@@ -59,6 +59,6 @@ def command(name: str) -> Command:
     """The command of this name. KeyError where there is none."""
     for module, commands in MODULES.items():
         if name in commands:
-            found = importlib.import_module(f"query.commands.{module}")
-            return {each.name: each for each in found.COMMANDS}[name]
+            found: list[Command] = importlib.import_module(f"query.commands.{module}").COMMANDS
+            return {each.name: each for each in found}[name]
     raise KeyError(name)

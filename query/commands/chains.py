@@ -1,0 +1,180 @@
+"""`why`, `way-out` and `frees`: chains of citations, and what would cut them."""
+
+import argparse
+
+from query import cuts
+from query.commands import Command
+from query.context import Context
+from query.errors import NoAnswer
+from query.graph import Graph
+from query.options import add_choice_of_citations, add_database, count, options_of
+
+WHY_PAGE = """
+Shows a shortest chain of citations by which LABEL rests on ON, from the one to the other: each
+line is cited by the proof of the line before. Of several shortest chains it is the one whose
+labels come first in the file. Where LABEL doesn't rest on ON, the answer is empty and standard
+error says so.
+
+label    what is on the chain
+
+With --all, the part of the graph between: all citations that are on a chain, in file order.
+
+theorem  who cites
+cited    what is cited
+
+  $ mmquery why set.mm zorn ax-ac2
+  $ mmquery why set.mm zorn ax-ac2 --all
+"""
+
+WAY_OUT_PAGE = """
+Shows the smallest change that frees THEOREM of ON, an axiom or a theorem, as far as citations tell.
+
+what     applies: on the way to ON, the proof of `theorem` applies it
+         first: one of the fewest citations that have to go, of all such sets that next to THEOREM
+         last: the same, of the set next to ON
+theorem  who cites
+cited    what is cited
+
+Without THEOREM each theorem is listed for which one citation is enough:
+
+theorem            the theorem
+first, first_cited the first such citation: who cites, and what
+last, last_cited   the last such citation
+
+  $ mmquery way-out set.mm numth2 ax-ac2
+  $ mmquery way-out set.mm ax-ac2
+"""
+
+FREES_PAGE = """
+Lists in file order which theorems no longer rest on ON, an axiom or a theorem, if the THEOREMs get
+proofs without it and all other proofs stay; the THEOREMs are among them.
+
+theorem  the label of the theorem
+
+Without a THEOREM, the theorems that free most so, each by itself:
+
+freed    how many theorems it frees, itself included
+theorem  the label of the theorem
+
+  $ mmquery frees set.mm ax-ac2 axac3
+  $ mmquery frees set.mm ax-ac2 --most 4
+"""
+
+
+def configure_why(parser: argparse.ArgumentParser) -> None:
+    """The words and options of `why`."""
+    add_database(parser)
+    parser.add_argument("label", metavar="LABEL")
+    parser.add_argument("on", metavar="ON")
+    parser.add_argument("--all", action="store_true", help="all citations on chains between")
+    add_choice_of_citations(parser)
+
+
+def run_why(context: Context, arguments: argparse.Namespace) -> int:
+    """Answers `why`."""
+    options = options_of(argparse.Namespace(**{**vars(arguments), "all": False}))
+    graph = context.database(arguments.database, options).graph()
+    node, end = graph.node(arguments.label), graph.node(arguments.on)
+    chain = graph.chain(node, end) if node != end else []
+    if not chain:
+        context.tell(
+            f"{graph.labels[node]} doesn't rest on {graph.labels[end]}{reverse(graph, node, end)}"
+        )
+    if arguments.all:
+        between = graph.below([node]) & graph.above([end]) if chain else set()
+        rows = [
+            [graph.labels[user], graph.labels[cited]]
+            for user in sorted(between)
+            for cited in graph.cites[user]
+            if cited in between and user != end
+        ]
+        context.out.table(["theorem", "cited"], rows)
+    else:
+        context.out.table(["label"], [[graph.labels[each]] for each in chain])
+    return 0
+
+
+def reverse(graph: Graph, node: int, end: int) -> str:
+    """What the remark that there is no chain says besides where there is one the other way."""
+    if node != end and graph.chain(end, node):
+        return f", but {graph.labels[end]} on {graph.labels[node]}"
+    return ""
+
+
+def configure_way_out(parser: argparse.ArgumentParser) -> None:
+    """The words and options of `way-out`."""
+    add_database(parser)
+    parser.add_argument("labels", metavar="[THEOREM] ON", nargs="+")
+    add_choice_of_citations(parser)
+
+
+def run_way_out(context: Context, arguments: argparse.Namespace) -> int:
+    """Answers `way-out`."""
+    if len(arguments.labels) > 2:
+        raise NoAnswer("way-out takes DATABASE, THEOREM and ON, or DATABASE and ON alone")
+    graph = context.database(arguments.database, options_of(arguments)).graph()
+    end = graph.node(arguments.labels[-1])
+    labels = graph.labels
+    if len(arguments.labels) == 2:
+        start = graph.theorem(arguments.labels[0])
+        found = cuts.way_out(graph, start, end)
+        rows = [["applies", labels[node], labels[end]] for node in found.applies]
+        for word, edges in (("first", found.first), ("last", found.last)):
+            rows += [[word, labels[node], labels[cited]] for node, cited in edges]
+        context.out.table(["what", "theorem", "cited"], rows)
+        return 0
+    ends = cuts.Bottlenecks(graph, end, citations=True).ends
+    rows = []
+    for node, pair in ends.items():
+        if pair:
+            rows.append([labels[node], *(labels[each] for edge in pair for each in edge)])
+    context.out.table(["theorem", "first", "first_cited", "last", "last_cited"], rows)
+    return 0
+
+
+def configure_frees(parser: argparse.ArgumentParser) -> None:
+    """The words and options of `frees`."""
+    add_database(parser)
+    parser.add_argument("on", metavar="ON")
+    parser.add_argument("theorems", metavar="THEOREM", nargs="*")
+    parser.add_argument(
+        "--most",
+        metavar="N",
+        type=count,
+        default=10,
+        help="without THEOREM: how many are listed (else: 10)",
+    )
+    add_choice_of_citations(parser)
+
+
+def run_frees(context: Context, arguments: argparse.Namespace) -> int:
+    """Answers `frees`."""
+    graph = context.database(arguments.database, options_of(arguments)).graph()
+    end = graph.node(arguments.on)
+    if arguments.theorems:
+        again = {graph.theorem(label) for label in arguments.theorems}
+        rows = [[graph.labels[node]] for node in cuts.freed(graph, end, again)]
+        context.out.table(["theorem"], rows)
+        return 0
+    most = sorted(cuts.freeing(graph, end), key=lambda pair: -pair[0])[: arguments.most]
+    context.out.table(["freed", "theorem"], [[freed, graph.labels[node]] for freed, node in most])
+    return 0
+
+
+COMMANDS = [
+    Command("why", "a shortest chain by which LABEL rests on ON", WHY_PAGE, configure_why, run_why),
+    Command(
+        "way-out",
+        "the smallest change that frees THEOREM of ON",
+        WAY_OUT_PAGE,
+        configure_way_out,
+        run_way_out,
+    ),
+    Command(
+        "frees",
+        "what new proofs of THEOREMs free of ON, or which would free most",
+        FREES_PAGE,
+        configure_frees,
+        run_frees,
+    ),
+]

@@ -1,0 +1,113 @@
+"""`cites`, `cited-by` and `uncited`: direct citations."""
+
+import argparse
+
+from query.commands import Command
+from query.context import Context
+from query.options import add_choice_of_citations, add_database, options_of
+
+CITES_PAGE = """
+Lists in file order what the proof of LABEL itself applies, axioms and theorems of every typecode.
+An axiom cites nothing. With --on, only what is that assertion or rests on it: the citations that
+bring it in.
+
+cited    what is cited
+theorem  who cites it, where several LABELs are given
+
+  $ mmquery cites set.mm zorn --essential
+  $ mmquery cites set.mm zorn --on ax-ac2
+"""
+
+CITED_BY_PAGE = """
+Lists in file order the theorems whose proof itself applies LABEL.
+
+theorem  who cites it
+cited    what is cited, where several LABELs are given
+
+  $ mmquery cited-by set.mm ax-ac2
+"""
+
+UNCITED_PAGE = """
+Lists in file order the theorems that no other one cites.
+
+theorem  the label of the theorem
+
+  $ mmquery uncited set.mm
+"""
+
+
+def configure_cites(parser: argparse.ArgumentParser) -> None:
+    """The words and options of `cites`."""
+    add_database(parser)
+    parser.add_argument("labels", metavar="LABEL", nargs="+")
+    parser.add_argument(
+        "--on", metavar="LABEL", help="only what is the axiom or theorem LABEL, or rests on it"
+    )
+    add_choice_of_citations(parser)
+
+
+def run_cites(context: Context, arguments: argparse.Namespace) -> int:
+    """Answers `cites`."""
+    graph = context.database(arguments.database, options_of(arguments)).graph()
+    nodes = [graph.node(label) for label in arguments.labels]
+    above = None if arguments.on is None else graph.above([graph.node(arguments.on)])
+    rows = [
+        [graph.labels[node], graph.labels[cited]]
+        for node in nodes
+        for cited in graph.cites[node]
+        if above is None or cited in above
+    ]
+    put_pairs(context, ["theorem", "cited"], rows, 1, len(nodes))
+    return 0
+
+
+def put_pairs(
+    context: Context, columns: list[str], rows: list[list[str]], wanted: int, labels: int
+) -> None:
+    """Answers with pairs, or where one LABEL was given with their wanted half."""
+    if labels == 1:
+        context.out.table([columns[wanted]], [[row[wanted]] for row in rows])
+    else:
+        context.out.table(columns, rows)
+
+
+def configure_cited_by(parser: argparse.ArgumentParser) -> None:
+    """The words and options of `cited-by`."""
+    add_database(parser)
+    parser.add_argument("labels", metavar="LABEL", nargs="+")
+    add_choice_of_citations(parser)
+
+
+def run_cited_by(context: Context, arguments: argparse.Namespace) -> int:
+    """Answers `cited-by`."""
+    graph = context.database(arguments.database, options_of(arguments)).graph()
+    nodes = [graph.node(label) for label in arguments.labels]
+    rows = [
+        [graph.labels[user], graph.labels[node]] for node in nodes for user in graph.cited_by[node]
+    ]
+    put_pairs(context, ["theorem", "cited"], rows, 0, len(nodes))
+    return 0
+
+
+def configure_uncited(parser: argparse.ArgumentParser) -> None:
+    """The words and options of `uncited`."""
+    add_database(parser)
+    add_choice_of_citations(parser)
+
+
+def run_uncited(context: Context, arguments: argparse.Namespace) -> int:
+    """Answers `uncited`."""
+    graph = context.database(arguments.database, options_of(arguments)).graph()
+    cited = set(graph.cites.targets)
+    rows = [[graph.labels[node]] for node in range(graph.theorems) if node not in cited]
+    context.out.table(["theorem"], rows)
+    return 0
+
+
+COMMANDS = [
+    Command("cites", "what LABELs cite themselves", CITES_PAGE, configure_cites, run_cites),
+    Command(
+        "cited-by", "which theorems cite LABELs", CITED_BY_PAGE, configure_cited_by, run_cited_by
+    ),
+    Command("uncited", "which theorems nobody cites", UNCITED_PAGE, configure_uncited, run_uncited),
+]

@@ -1,0 +1,127 @@
+"""`rests` and `falls`: on what assertions rest, and what rests on them."""
+
+import argparse
+from collections.abc import Sequence
+
+from query.commands import Command
+from query.context import Context
+from query.database import Database, Dependence
+from query.graph import Graph
+from query.options import add_choice_of_axioms, add_database, options_of
+
+RESTS_PAGE = """
+Lists in file order the axioms on which the proofs of the LABELs rest: those that a proof applies,
+and those of the theorems that it applies. An axiom rests on itself. With --theorems, the theorems
+on which they rest instead.
+
+axiom    the label of the axiom, or theorem
+
+  $ mmquery rests set.mm 2p2e4 --axioms ax-
+  $ mmquery rests --all set.mm 2p2e4
+"""
+
+FALLS_PAGE = """
+Lists in file order the theorems that rest on the LABELs, axioms or theorems: those whose proofs
+have to be found anew where a LABEL is dropped. A theorem doesn't rest on itself.
+
+theorem  the label of the theorem
+
+With several LABELs, what rests on any one of them (--any-of, the default), or on each of them
+(--all-of). --without LABEL leaves out what rests on that one too; it may be given several times.
+
+  $ mmquery falls set.mm ax-ac2
+  $ mmquery falls set.mm ax-reg ax-inf2 --all-of
+  $ mmquery falls set.mm ax-reg --without ax-ac2
+"""
+
+
+def configure_rests(parser: argparse.ArgumentParser) -> None:
+    """The words and options of `rests`."""
+    add_database(parser)
+    parser.add_argument("labels", metavar="LABEL", nargs="+")
+    parser.add_argument(
+        "--theorems", action="store_true", help="list theorems, not axioms, that are rested on"
+    )
+    add_choice_of_axioms(parser)
+
+
+def run_rests(context: Context, arguments: argparse.Namespace) -> int:
+    """Answers `rests`."""
+    database = context.database(arguments.database, options_of(arguments))
+    if arguments.theorems:
+        graph = database.graph()
+        nodes = [graph.node(label) for label in arguments.labels]
+        below = graph.below(cited for node in nodes for cited in graph.cites[node])
+        found = [graph.labels[node] for node in sorted(below) if graph.is_theorem(node)]
+        context.out.table(["theorem"], [[label] for label in found])
+        return 0
+    dependence = database.dependence()
+    columns: set[int] = set()
+    for label in arguments.labels:
+        columns.update(rested_on(database, dependence, label))
+    context.out.table(["axiom"], [[dependence.axioms[column]] for column in sorted(columns)])
+    return 0
+
+
+def rested_on(database: Database, dependence: Dependence, label: str) -> Sequence[int]:
+    """The columns on which an assertion rests. NoAnswer where there is none of this label."""
+    if label in dependence.rows:
+        return dependence.rests(dependence.rows[label])
+    if label in dependence.columns:
+        return [dependence.columns[label]]
+    if label not in database.prepared(database.options.only).columns:
+        database.graph().node(label)  # NoAnswer where it isn't an axiom that isn't chosen
+    return []
+
+
+def configure_falls(parser: argparse.ArgumentParser) -> None:
+    """The words and options of `falls`."""
+    add_database(parser)
+    parser.add_argument("labels", metavar="LABEL", nargs="+")
+    group = parser.add_mutually_exclusive_group()
+    group.add_argument(
+        "--any-of", action="store_true", help="what rests on one of the LABELs (the default)"
+    )
+    group.add_argument("--all-of", action="store_true", help="what rests on each of the LABELs")
+    parser.add_argument(
+        "--without",
+        metavar="LABEL",
+        action="append",
+        default=[],
+        help="leave out what rests on LABEL; may be given several times",
+    )
+    parser.add_argument(
+        "--essential", action="store_true", help="only the logical part of proofs cites"
+    )
+    parser.add_argument(
+        "--open", action="store_true", help="a theorem whose proof is ? counts as an axiom"
+    )
+
+
+def run_falls(context: Context, arguments: argparse.Namespace) -> int:
+    """Answers `falls`."""
+    database = context.database(arguments.database, options_of(arguments))
+    sets = [users_of(database, label) for label in arguments.labels]
+    found = set.intersection(*sets) if arguments.all_of else set.union(*sets)
+    for label in arguments.without:
+        found -= users_of(database, label)
+    theorems = database.prepared(database.options.only).theorems
+    context.out.table(["theorem"], [[theorems[row]] for row in sorted(found)])
+    return 0
+
+
+def users_of(database: Database, label: str) -> set[int]:
+    """The rows of the theorems that rest on an axiom or a theorem. NoAnswer where there is neither
+    of this label."""
+    found = database.prepared(database.options.only)
+    if found.marks is not None and label in found.columns:
+        return set(found.marks.users(found.columns.index(label)))
+    graph: Graph = database.graph()
+    node = graph.node(label)
+    return graph.above([node]) - {node}
+
+
+COMMANDS = [
+    Command("rests", "on which axioms LABELs rest", RESTS_PAGE, configure_rests, run_rests),
+    Command("falls", "which theorems rest on LABELs", FALLS_PAGE, configure_falls, run_falls),
+]

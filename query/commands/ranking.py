@@ -1,0 +1,131 @@
+"""`top`, `within` and `same`: axioms and theorems by what rests on them and on what they rest."""
+
+import argparse
+
+from query.commands import Command
+from query.context import Context
+from query.errors import NoAnswer
+from query.lists import add_list, labels_of
+from query.options import add_choice_of_axioms, add_database, count, options_of
+from query.output import Value
+
+TOP_PAGE = """
+Lists the axioms on which most theorems rest. With --theorems, the theorems that rest on most
+axioms. Equal ones are in file order.
+
+theorems  how many theorems rest on it (with --theorems, axioms: on how many it rests)
+axiom     the label of the axiom (with --theorems, theorem)
+
+With --below N, in file order the axioms on which fewer than N theorems rest: with --below 1 those
+on which nothing rests.
+
+  $ mmquery top set.mm 3
+  $ mmquery top set.mm --theorems 3
+  $ mmquery top set.mm --below 1
+"""
+
+WITHIN_PAGE = """
+Lists in file order the theorems that rest on no more axioms than the LABELs: on these, on some of
+these, or on none. Only axioms of typecode |- count, unless --all or --only T is given.
+
+theorem  the label of the theorem
+
+  $ mmquery within set.mm ax-mp ax-1 ax-2
+"""
+
+SAME_PAGE = """
+Lists in file order the other theorems that rest on just the axioms on which THEOREM rests.
+
+theorem  the label of the theorem
+
+  $ mmquery same set.mm id
+"""
+
+
+def configure_top(parser: argparse.ArgumentParser) -> None:
+    """The words and options of `top`."""
+    add_database(parser)
+    parser.add_argument(
+        "number", metavar="N", nargs="?", type=count, default=10, help="how many (else: 10)"
+    )
+    group = parser.add_mutually_exclusive_group()
+    group.add_argument("--theorems", action="store_true", help="rank theorems, not axioms")
+    group.add_argument(
+        "--below", metavar="B", type=count, help="all axioms on which fewer than B theorems rest"
+    )
+    add_choice_of_axioms(parser)
+
+
+def run_top(context: Context, arguments: argparse.Namespace) -> int:
+    """Answers `top`."""
+    dependence = context.database(arguments.database, options_of(arguments)).dependence()
+    if arguments.theorems:
+        sizes = [dependence.bits(row).bit_count() for row in range(len(dependence.theorems))]
+        labels, columns = dependence.theorems, ["axioms", "theorem"]
+    else:
+        sizes, labels, columns = dependence.sizes(), dependence.axioms, ["theorems", "axiom"]
+    rows: list[list[Value]] = [[size, label] for size, label in zip(sizes, labels)]
+    if arguments.below is None:
+        rows = sorted(rows, key=lambda row: -int(str(row[0])))[: arguments.number]
+    else:
+        rows = [row for row in rows if int(str(row[0])) < arguments.below]
+    context.out.table(columns, rows)
+    return 0
+
+
+def configure_within(parser: argparse.ArgumentParser) -> None:
+    """The words and options of `within`."""
+    add_database(parser)
+    parser.add_argument("labels", metavar="LABEL", nargs="*")
+    add_list(parser)
+    add_choice_of_axioms(parser)
+
+
+def run_within(context: Context, arguments: argparse.Namespace) -> int:
+    """Answers `within`."""
+    labels = labels_of(arguments)
+    if not labels:
+        raise NoAnswer("within wants at least one LABEL, or a list that isn't empty")
+    dependence = context.database(arguments.database, options_of(arguments)).dependence()
+    allowed = dependence.mask_of([dependence.column(label) for label in labels])
+    rows = [
+        [label]
+        for row, label in enumerate(dependence.theorems)
+        if not dependence.bits(row) & ~allowed
+    ]
+    context.out.table(["theorem"], rows)
+    return 0
+
+
+def configure_same(parser: argparse.ArgumentParser) -> None:
+    """The words and options of `same`."""
+    add_database(parser)
+    parser.add_argument("theorem", metavar="THEOREM")
+    add_choice_of_axioms(parser)
+
+
+def run_same(context: Context, arguments: argparse.Namespace) -> int:
+    """Answers `same`."""
+    dependence = context.database(arguments.database, options_of(arguments)).dependence()
+    wanted = dependence.row(arguments.theorem)
+    bits = dependence.bits(wanted)
+    rows = [
+        [label]
+        for row, label in enumerate(dependence.theorems)
+        if row != wanted and dependence.bits(row) == bits
+    ]
+    context.out.table(["theorem"], rows)
+    return 0
+
+
+COMMANDS = [
+    Command("top", "which axioms are used most, or least", TOP_PAGE, configure_top, run_top),
+    Command(
+        "within",
+        "which theorems rest on no more than the LABELs",
+        WITHIN_PAGE,
+        configure_within,
+        run_within,
+    ),
+    Command("same", "which theorems rest on the same axioms", SAME_PAGE, configure_same, run_same),
+]

@@ -1,0 +1,220 @@
+"""Which citations, and which theorems, hold others to an assertion: least cuts and bottlenecks.
+
+Everything here is about chains of citations that end at one node, `end`, an axiom or a theorem.
+"""
+
+from collections.abc import Iterator
+from dataclasses import dataclass, field
+
+from query.graph import Graph
+
+Citation = tuple[int, int]  # a theorem and what it cites
+
+
+@dataclass
+class Flow:
+    """Chains from one node to another that share no citation, as many as there can be.
+
+    `ahead` has for each theorem on the way what it cites on the way. Each citation carries one
+    chain at most: `used` are those that carry one, and `back` has for each node from where they
+    come.
+    """
+
+    start: int
+    end: int
+    ahead: dict[int, list[int]]
+    used: set[Citation] = field(default_factory=set)
+    back: dict[int, dict[int, bool]] = field(default_factory=dict)
+
+    def steps(self, node: int) -> list[int]:
+        """Where a further chain can go: by a citation without a chain, or back along one with
+        one."""
+        forward = [to for to in self.ahead.get(node, []) if (node, to) not in self.used]
+        return forward + list(self.back.get(node, {}))
+
+    def levels(self) -> dict[int, int]:
+        """How many steps the nodes are from the start, up to the end."""
+        level = {self.start: 0}
+        edge = [self.start]
+        while edge and self.end not in level:
+            further = []
+            for node in edge:
+                for to in self.steps(node):
+                    if to not in level:
+                        level[to] = level[node] + 1
+                        further.append(to)
+            edge = further
+        return level
+
+    def carry(self, chain: list[int]) -> None:
+        """Adds a chain."""
+        for one, to in zip(chain, chain[1:]):
+            if to in self.back.get(one, {}):
+                del self.back[one][to]
+                self.used.remove((to, one))
+            else:
+                self.used.add((one, to))
+                self.back.setdefault(to, {})[one] = True
+
+    def augment(self, level: dict[int, int]) -> None:
+        """Adds chains that rise from level to level until there is none: Dinic's algorithm."""
+        choices: dict[int, Iterator[int]] = {}
+        chain = [self.start]
+        while chain:
+            node = chain[-1]
+            if node == self.end:
+                self.carry(chain)
+                choices = {}
+                chain = [self.start]
+                continue
+            if node not in choices:
+                choices[node] = iter(self.steps(node))
+            rising = (to for to in choices[node] if level.get(to) == level[node] + 1)
+            to = next(rising, None)
+            if to is None:
+                level[node] = -1
+                chain.pop()
+            else:
+                chain.append(to)
+
+    def fill(self) -> None:
+        """Adds chains until no further one can be added."""
+        while True:
+            level = self.levels()
+            if self.end not in level:
+                return
+            self.augment(level)
+
+    def reaching(self) -> set[int]:
+        """The nodes from which steps lead to the end."""
+        before: dict[int, list[int]] = {}
+        for node in [*self.ahead, self.end]:
+            for to in self.steps(node):
+                before.setdefault(to, []).append(node)
+        found = {self.end}
+        left = [self.end]
+        while left:
+            for node in before.get(left.pop(), []):
+                if node not in found:
+                    found.add(node)
+                    left.append(node)
+        return found
+
+    def cut(self, inside: set[int]) -> list[Citation]:
+        """The citations that lead out of a set of nodes, in file order."""
+        return [
+            (node, to)
+            for node in sorted(self.ahead)
+            for to in self.ahead[node]
+            if node in inside and to not in inside
+        ]
+
+
+@dataclass(frozen=True)
+class WayOut:
+    """What would free a theorem of `end`: `applies` are the theorems on the way that cite it;
+    `first` and `last` are least sets of citations that have to go, next to the theorem and next to
+    the end.
+    """
+
+    applies: list[int]
+    first: list[Citation]
+    last: list[Citation]
+
+
+def way_out(graph: Graph, start: int, end: int) -> WayOut:
+    """The least changes that free a theorem of another assertion. Empty where it doesn't rest on
+    it."""
+    far = graph.above([end])
+    if start not in far or start == end:
+        return WayOut([], [], [])
+    ahead: dict[int, list[int]] = {}
+    left = [start]
+    while left:
+        node = left.pop()
+        if node not in ahead and node != end:
+            ahead[node] = [cited for cited in graph.cites[node] if cited in far]
+            left += ahead[node]
+    flow = Flow(start, end, ahead)
+    flow.fill()
+    applies = [node for node in sorted(ahead) if end in ahead[node]]
+    return WayOut(applies, flow.cut(set(flow.levels())), flow.cut(set(ahead) - flow.reaching()))
+
+
+class Bottlenecks:
+    """For each node that rests on `end`, what is on all its chains to it.
+
+    `over[x]` is the last common part of the chains of what `x` cites, nearer to the end; `deep[x]`
+    is how many such parts follow. A part is a node, or with `citations` also a citation.
+    """
+
+    def __init__(self, graph: Graph, end: int, citations: bool = False) -> None:
+        self.end = end
+        self.deep: dict[int | Citation, int] = {end: 0}
+        self.over: dict[int | Citation, int | Citation] = {}
+        self.theorems: list[int] = []
+        # For each theorem the first and the last citation on all its chains; None where there is
+        # none.
+        self.ends: dict[int, tuple[Citation, Citation] | None] = {end: None}
+        for node in sorted(node for node in graph.above([end]) if node != end):
+            cited = [other for other in graph.cites[node] if other in self.deep]
+            self.theorems.append(node)
+            if citations and len(cited) == 1:
+                self.add_citation(node, cited[0])
+            else:
+                self.add(node, cited)
+
+    def add(self, node: int, cited: list[int]) -> None:
+        """Adds a theorem that cites these."""
+        last: int | Citation = cited[0]
+        for other in cited[1:]:
+            last = self.common(last, other)
+        self.over[node] = last
+        self.deep[node] = self.deep[last] + 1
+        self.ends[node] = self.ends[last[0] if isinstance(last, tuple) else last]
+
+    def add_citation(self, node: int, cited: int) -> None:
+        """Adds a theorem that cites one alone, so that this citation is on all its chains."""
+        edge = node, cited
+        self.over[edge] = cited
+        self.deep[edge] = self.deep[cited] + 1
+        self.over[node] = edge
+        self.deep[node] = self.deep[edge] + 1
+        before = self.ends[cited]
+        self.ends[node] = edge, before[1] if before else edge
+
+    def common(self, one: int | Citation, other: int | Citation) -> int | Citation:
+        """The last part that is on all chains from both."""
+        while one != other:
+            if self.deep[one] >= self.deep[other]:
+                one = self.over[one]
+            else:
+                other = self.over[other]
+        return one
+
+
+def freeing(graph: Graph, end: int) -> list[tuple[int, int]]:
+    """For each theorem that rests on `end`, in file order: how many theorems no longer do if it is
+    proved without, itself included, and the theorem."""
+    found = Bottlenecks(graph, end)
+    freed = dict.fromkeys(found.theorems, 0)
+    freed[end] = 0
+    for node in reversed(found.theorems):
+        freed[node] += 1
+        over = found.over[node]
+        assert isinstance(over, int)
+        freed[over] += freed[node]
+    return [(freed[node], node) for node in found.theorems]
+
+
+def freed(graph: Graph, end: int, again: set[int]) -> list[int]:
+    """The theorems, in file order, that no longer rest on `end` if those of `again` are proved
+    without it."""
+    still = {end}
+    found = []
+    for node in sorted(graph.above([end]) - {end}):
+        if node not in again and not still.isdisjoint(graph.cites[node]):
+            still.add(node)
+        else:
+            found.append(node)
+    return found

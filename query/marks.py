@@ -1,0 +1,74 @@
+"""Marks: which theorem rests on which axiom, a bit for each pair."""
+
+from collections.abc import Sequence
+from itertools import compress
+
+# For each bit of a byte the table that makes 1 of the bytes that have it, and 0 of the others.
+HAS = [bytes(1 if byte & (0x80 >> bit) else 0 for byte in range(256)) for bit in range(8)]
+
+
+class Marks:
+    """The marks of `rows` theorems and `columns` axioms, both counted from 0.
+
+    A row is `width` bytes, its first column the highest bit of the first byte.
+    """
+
+    def __init__(self, rows: int, columns: int, data: bytes) -> None:
+        self.rows = rows
+        self.columns = columns
+        self.width = width_of(columns)
+        self.data = data
+
+    def row(self, number: int) -> int:
+        """The bits of a row; `bit(columns, c)` is that of column `c`."""
+        return int.from_bytes(self.data[number * self.width : (number + 1) * self.width], "big")
+
+    def is_marked(self, row: int, column: int) -> bool:
+        """Whether the theorem rests on the axiom."""
+        return bool(self.data[row * self.width + (column >> 3)] & (0x80 >> (column & 7)))
+
+    def column(self, number: int) -> bytes:
+        """For each row a byte, 1 where it is marked in the column, otherwise 0."""
+        return self.data[number >> 3 :: self.width].translate(HAS[number & 7])
+
+    def users(self, column: int) -> list[int]:
+        """The rows that are marked in a column, rising."""
+        return list(compress(range(self.rows), self.column(column)))
+
+    def rests(self, row: int) -> list[int]:
+        """The columns in which a row is marked, rising."""
+        return columns_of(self.row(row), self.columns)
+
+    def sizes(self) -> list[int]:
+        """For each column how many rows are marked."""
+        return [self.column(number).count(1) for number in range(self.columns)]
+
+
+def width_of(columns: int) -> int:
+    """How many bytes a row has."""
+    return max(1, (columns + 7) // 8)
+
+
+def bit(columns: int, number: int) -> int:
+    """The bit of a column in a row."""
+    return 1 << (8 * width_of(columns) - 1 - number)
+
+
+def mask(columns: int, numbers: Sequence[int]) -> int:
+    """The bits of several columns in a row."""
+    total = 0
+    for number in numbers:
+        total |= bit(columns, number)
+    return total
+
+
+def columns_of(row: int, columns: int) -> list[int]:
+    """The columns whose bits a row has, rising."""
+    signs = f"{row:0{8 * width_of(columns)}b}"
+    return [number for number, sign in enumerate(signs) if sign == "1"]
+
+
+def packed(rows: Sequence[int], columns: int) -> Marks:
+    """The marks of rows given as bits."""
+    width = width_of(columns)
+    return Marks(len(rows), columns, b"".join(row.to_bytes(width, "big") for row in rows))

@@ -1,0 +1,154 @@
+"""The program `mmdepend`: where it is, and how it is run."""
+
+import hashlib
+import os
+import re
+import shutil
+from dataclasses import dataclass
+from functools import cached_property
+
+from query import signals
+from query.errors import NoAnswer, shown
+from query.output import reason
+from query.source import Source
+
+REFUSAL = re.compile(rb"refused ([1-9][0-9]{0,9}):([1-9][0-9]{0,9}) (E[0-9]{2})\n")
+HOME = os.path.dirname(os.path.dirname(os.path.realpath(__file__)))
+
+
+class Refused(NoAnswer):
+    """The program refused the database. Line and column count from 1, in bytes; the code is `E00`
+    to `E45`."""
+
+    def __init__(self, source: Source, line: int, column: int, code: str) -> None:
+        super().__init__(f"{source.name}:{line}:{column}: refused {code}")
+        self.source = source
+        self.line = line
+        self.column = column
+        self.code = code
+
+    def __str__(self) -> str:
+        from query.faults import explained
+
+        return explained(self.source, self.line, self.column, self.code)
+
+
+class Running:
+    """The program while it runs. A signal that ends the command ends it too."""
+
+    def __init__(self, path: str, words: list[str], given: int, errors: int | None) -> None:
+        import subprocess
+
+        try:
+            self.process = subprocess.Popen(
+                [path, *words], stdin=given, stdout=subprocess.PIPE, stderr=errors
+            )
+        except OSError as error:
+            raise NoAnswer(f"{shown(path)} can't be run: {reason(error)}") from None
+        self.number = signals.at_stop(self.process.kill)
+
+    def ended(self) -> tuple[bytes, bytes, int]:
+        """What it wrote to standard output and to standard error, and its status, once it has
+        ended."""
+        out, errors = self.process.communicate()
+        signals.forget(self.number)
+        return out, errors or b"", self.process.returncode
+
+    def stop(self) -> None:
+        """Ends it where it still runs."""
+        if self.process.returncode is None:
+            self.process.kill()
+            self.ended()
+
+
+@dataclass(frozen=True)
+class Program:
+    """The program at a path."""
+
+    path: str
+
+    @cached_property
+    def _file(self) -> bytes:
+        with open(self.path, "rb") as file:
+            return file.read()
+
+    def prepare(self) -> None:
+        """Has the program built where it is a script that does so, as in a clone. What that says
+        goes to standard error. NoAnswer where it can't be run."""
+        if self._file.startswith(b"\x7fELF"):
+            return
+        running = Running(self.path, ["--version"], devnull(), None)
+        if running.ended()[2] != 0:
+            raise NoAnswer(f"{shown(self.path)} can't be run")
+
+    @cached_property
+    def sum(self) -> str:
+        """What tells this program from others, in hexadecimal: the sum of its file, and where that
+        is a script that of the program which it builds."""
+        total = hashlib.blake2b(self._file, digest_size=16)
+        built = os.path.join(os.path.dirname(self.path), "crates/mmdepend/out/mmdepend")
+        if not self._file.startswith(b"\x7fELF") and os.path.exists(built):
+            with open(built, "rb") as file:
+                total.update(file.read())
+        return total.hexdigest()
+
+
+def devnull() -> int:
+    """What stands for an empty standard input."""
+    import subprocess
+
+    return subprocess.DEVNULL
+
+
+def found() -> Program:
+    """The program of the variable MMDEPEND, or the one beside the folder `query`. NoAnswer where
+    there is none."""
+    word = os.environ.get("MMDEPEND") or os.path.join(HOME, "mmdepend")
+    path = shutil.which(word)
+    if path is None:
+        raise NoAnswer(f"there is no program {shown(word)}; the variable MMDEPEND may name it")
+    return Program(os.path.abspath(path))
+
+
+def reports(program: Program, source: Source, requests: list[list[str]]) -> list[bytes]:
+    """The reports that the program writes over a source for each of these options, all at the same
+    time. Refused where it refuses the source, NoAnswer where it has no answer."""
+    program.prepare()
+    running: list[Running] = []
+    try:
+        for words in requests:
+            running.append(over(program, source, words))
+        answers = [judged(source, each) for each in running]
+    finally:
+        for each in running:
+            each.stop()
+    source.see_unchanged()
+    return answers
+
+
+def over(program: Program, source: Source, words: list[str]) -> Running:
+    """The program running over a source."""
+    import subprocess
+
+    descriptor = source.opened()
+    try:
+        return Running(program.path, words, descriptor, subprocess.PIPE)
+    finally:
+        os.close(descriptor)
+
+
+def judged(source: Source, running: Running) -> bytes:
+    """The report of a running program."""
+    out, errors, status = running.ended()
+    if status == 0:
+        return out
+    refusal = REFUSAL.fullmatch(out)
+    if status == 1 and refusal:
+        raise Refused(source, int(refusal[1]), int(refusal[2]), refusal[3].decode())
+    if status < 0:
+        raise NoAnswer(f"{source.name}: the program was ended by signal {-status}")
+    said = errors.decode("utf-8", "replace").strip().splitlines()
+    last = (
+        said[-1].removeprefix("mmdepend: ") if said else f"the program ended with status {status}"
+    )
+    raise NoAnswer(f"{source.name}: {last}")

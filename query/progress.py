@@ -1,0 +1,46 @@
+"""A line on standard error, on a terminal alone, while a command takes longer than a second."""
+
+import os
+import signal
+from types import FrameType
+
+_doing = "working"
+_is_shown = False
+
+
+def now(doing: str) -> None:
+    """Says what is being done, such as `verifying set.mm`."""
+    global _doing
+    _doing = doing
+    if _is_shown:
+        _show()
+
+
+def _show(*_: int | FrameType | None) -> None:
+    global _is_shown
+    _is_shown = True
+    _put(f"\r\x1b[Kmmquery: {_doing} ..")
+
+
+def _put(text: str) -> None:
+    try:
+        os.write(2, text.encode("utf-8", "backslashreplace"))
+    except OSError:
+        pass
+
+
+def begin() -> None:
+    """From now on the line is shown after a second, where standard error is a terminal."""
+    if os.isatty(2):
+        signal.signal(signal.SIGALRM, _show)
+        signal.setitimer(signal.ITIMER_REAL, 1)
+
+
+def end() -> None:
+    """Takes the line away."""
+    global _is_shown
+    if os.isatty(2):
+        signal.setitimer(signal.ITIMER_REAL, 0)
+    if _is_shown:
+        _put("\r\x1b[K")
+    _is_shown = False

@@ -1,0 +1,365 @@
+"""Reports of the program, read and checked.
+
+A text may hold several reports, one after the other, such as one with the marks and one with the
+citations. Nothing of it is believed alone: counts are checked against lists, sections against one
+another, and marks against citations, which say the same in another way: a theorem is marked exactly
+where what it cites is the axiom or is marked. What doesn't fit is NoAnswer with the line.
+"""
+
+import re
+from array import array
+from dataclasses import dataclass, field
+from typing import NoReturn
+
+from query.errors import NoAnswer, shown
+from query.graph import Lists
+from query.marks import Marks, bit, packed, width_of
+
+SECTIONS = ("matrix", "counts", "usage", "citations")
+LABELS = re.compile(r"[A-Za-z0-9._-]+(?:\n[A-Za-z0-9._-]+)*")
+NUMBER = re.compile(r"0|[1-9][0-9]{0,9}")
+
+
+@dataclass(frozen=True)
+class Section:
+    """A section: the number of its first line, counted from 0, and what its report's head says."""
+
+    name: str
+    first: int
+    form: int
+    axioms: int
+    theorems: int
+
+
+@dataclass
+class Prepared:
+    """What reports say, checked.
+
+    `theorems` are the labels of rows and `columns` those of axioms with marks, in file order.
+    Where there are no marks or no citations, `marks` or `cites` is None. `others` are the labels
+    of axioms that aren't columns and are cited. In `cites` a node is the number of a theorem, or
+    of an axiom of `columns` and `others`, in this order, after the theorems.
+    """
+
+    theorems: list[str] = field(default_factory=list)
+    columns: list[str] = field(default_factory=list)
+    others: list[str] = field(default_factory=list)
+    marks: Marks | None = None
+    cites: Lists | None = None
+
+
+class Report:
+    """The lines of reports, and where their sections are."""
+
+    def __init__(self, name: str, data: bytes) -> None:
+        self.name = name
+        try:
+            self.lines = data.decode("ascii").split("\n")
+        except UnicodeDecodeError as error:
+            self.damaged(data.count(b"\n", 0, error.start), "a byte that no report has")
+        if not data.endswith(b"\nend\n"):
+            raise NoAnswer(f"{name}:{len(self.lines)}: the report is cut off")
+        self.lines.pop()
+        self.sections: dict[str, Section] = {}
+        place = 0
+        while place < len(self.lines):
+            place = self.read_one(place)
+
+    def damaged(self, line: int, why: str) -> NoReturn:
+        """Raises NoAnswer about a line, counted from 0."""
+        raise NoAnswer(f"{self.name}:{line + 1}: the report is damaged: {shown(why)}")
+
+    def number(self, line: int, word: str) -> int | None:
+        """The number after a word and a space on a line; None where it isn't this word."""
+        if line >= len(self.lines):
+            raise NoAnswer(f"{self.name}:{line + 1}: the report is cut off")
+        head, _, rest = self.lines[line].partition(" ")
+        if head != word:
+            return None
+        if not NUMBER.fullmatch(rest):
+            self.damaged(line, f"no number after '{word}'")
+        return int(rest)
+
+    def wanted(self, line: int, word: str) -> int:
+        """The same of a line that has to have this word."""
+        number = self.number(line, word)
+        if number is None:
+            self.damaged(line, f"'{word}' and a number have to stand here")
+        return number
+
+    def read_one(self, place: int) -> int:
+        """Reads the head of a report and finds its sections. Returns the line after it."""
+        form = self.wanted(place, "mmdepend")
+        if form not in (1, 2):
+            raise NoAnswer(f"{self.name}:{place + 1}: a report of a form that mmquery doesn't know")
+        axioms = self.wanted(place + 1, "axioms")
+        place += 2 if self.number(place + 2, "open") is None else 3
+        theorems = self.wanted(place, "theorems")
+        place += 1
+        while True:
+            if place >= len(self.lines):
+                raise NoAnswer(f"{self.name}:{place + 1}: the report is cut off")
+            word = self.lines[place]
+            if word == "end":
+                return place + 1
+            if word not in SECTIONS:
+                self.damaged(place, "a section or 'end' has to begin here")
+            if word in self.sections:
+                self.damaged(place, f"the section '{word}' is there twice")
+            self.sections[word] = Section(word, place + 1, form, axioms, theorems)
+            place += 1 + (axioms if word == "usage" else theorems)
+
+
+class Checker:
+    """Reads the sections of a report, each checked against those read before."""
+
+    def __init__(self, report: Report) -> None:
+        self.report = report
+        self.sections = report.sections
+        self.found = Prepared()
+        self.rows: dict[str, int] = {}
+        self.has_theorems = False
+
+    def check(self) -> Prepared:
+        """All of it."""
+        if len({each.theorems for each in self.sections.values()}) > 1:
+            self.differ("theorems")
+        if len({each.axioms for name, each in self.sections.items() if name != "citations"}) > 1:
+            self.differ("axioms")
+        self.read_theorems()
+        self.read_columns()
+        if "citations" in self.sections:
+            CitationReader(self).read()
+        self.read_marks()
+        return self.found
+
+    def differ(self, what: str) -> NoReturn:
+        """Raises NoAnswer: the sections are of different databases."""
+        last = max(self.sections.values(), key=lambda section: section.first)
+        self.report.damaged(last.first - 1, f"another number of {what} than in a section before")
+
+    def lines(self, name: str) -> list[str]:
+        """The lines of a section."""
+        section = self.sections[name]
+        number = section.axioms if name == "usage" else section.theorems
+        return self.report.lines[section.first : section.first + number]
+
+    def damaged(self, name: str, number: int, why: str) -> NoReturn:
+        """Raises NoAnswer about a line of a section, counted from 0 in it."""
+        self.report.damaged(self.sections[name].first + number, why)
+
+    def labels_of(self, name: str) -> list[str]:
+        """The labels before the first `:` of a section's lines."""
+        labels = [line.partition(":")[0] for line in self.lines(name)]
+        if labels and not LABELS.fullmatch("\n".join(labels)):
+            number = next(i for i, label in enumerate(labels) if not LABELS.fullmatch(label))
+            self.damaged(name, number, "no label stands at its beginning")
+        return labels
+
+    def read_theorems(self) -> None:
+        """The labels of theorems, which have to be the same in each section."""
+        for name in ("matrix", "counts", "citations"):
+            if name not in self.sections:
+                continue
+            labels = self.labels_of(name)
+            if not self.has_theorems:
+                self.found.theorems = labels
+                self.has_theorems = True
+                self.rows = {label: row for row, label in enumerate(labels)}
+                if len(self.rows) < len(labels):
+                    self.damaged(name, first_repeated(labels), "this theorem has a line before")
+            elif labels != self.found.theorems:
+                pairs = zip(labels, self.found.theorems)
+                number = next(i for i, (one, other) in enumerate(pairs) if one != other)
+                self.damaged(
+                    name, number, f"another section has '{self.found.theorems[number]}' here"
+                )
+
+    def read_columns(self) -> None:
+        """The labels of axioms with marks, from the section `usage`."""
+        if "usage" not in self.sections:
+            return
+        labels = self.labels_of("usage")
+        if len(set(labels)) < len(labels):
+            self.damaged("usage", first_repeated(labels), "this axiom has a line before")
+        for number, label in enumerate(labels):
+            if label in self.rows:
+                self.damaged("usage", number, f"'{label}' is a theorem in another section")
+        self.found.columns = labels
+
+    def read_marks(self) -> None:
+        """The marks, from each section that has them. Without `usage` the columns have no names, so
+        the sections are only checked."""
+        heads = [each.axioms for name, each in self.sections.items() if name != "citations"]
+        if not heads or not self.has_theorems:
+            return
+        columns = heads[0]
+        marks = None
+        if "usage" in self.sections and self.found.cites is not None:
+            marks = marks_by_citations(self.found)
+        if "matrix" in self.sections:
+            marks = self.check_matrix(columns, marks)
+        if "usage" in self.sections:
+            marks = marks or self.marks_by_usage(columns)
+            self.check_usage(marks)
+            self.found.marks = marks
+        if "counts" in self.sections and marks is not None:
+            self.check_counts(marks)
+
+    def check_matrix(self, columns: int, known: Marks | None) -> Marks:
+        """The marks of the matrix, which have to be those of the citations where they are known."""
+        section = self.sections["matrix"]
+        digits = columns if section.form == 1 else -(-columns // 4)
+        signs, base = ("01", 2) if section.form == 1 else ("0123456789abcdef", 16)
+        up = 8 * width_of(columns) - digits * (1 if base == 2 else 4)
+        beyond = (1 << (8 * width_of(columns) - columns)) - 1
+        rows = []
+        for number, line in enumerate(self.lines("matrix")):
+            row = line.partition(":")[2]
+            if len(row) != digits or row.strip(signs):
+                self.damaged("matrix", number, f"a row of {columns} axioms has to stand here")
+            bits = int(row, base) << up if row else 0
+            if bits & beyond:
+                self.damaged("matrix", number, "a mark beyond the last axiom")
+            rows.append(bits)
+        marks = packed(rows, columns)
+        if known is not None and marks.data != known.data:
+            number = next(i for i in range(marks.rows) if marks.row(i) != known.row(i))
+            self.damaged("matrix", number, "these aren't the marks that the citations give")
+        return marks
+
+    def marks_by_usage(self, columns: int) -> Marks:
+        """The marks that the section `usage` has."""
+        rows = [0] * len(self.found.theorems)
+        for number, line in enumerate(self.lines("usage")):
+            for label in line.rpartition(":")[2].split():
+                if label in self.rows:
+                    rows[self.rows[label]] |= bit(columns, number)
+        return packed(rows, columns)
+
+    def check_usage(self, marks: Marks) -> None:
+        """Compares the section `usage` with the marks."""
+        rows = self.rows
+        for number, line in enumerate(self.lines("usage")):
+            words = fields(line)
+            if words is None:
+                self.damaged("usage", number, "the number isn't that of the labels after it")
+            users = [rows.get(word, -1) for word in words]
+            if -1 in users:
+                self.damaged("usage", number, f"'{words[users.index(-1)]}' is no theorem")
+            if users != marks.users(number):
+                self.damaged("usage", number, self.odd_user(users, marks, number))
+
+    def odd_user(self, users: list[int], marks: Marks, column: int) -> str:
+        """Why the users of an axiom aren't those that the marks give."""
+        if any(one >= other for one, other in zip(users, users[1:])):
+            return "the labels aren't in file order, each once"
+        odd = min(set(users) ^ set(marks.users(column)))
+        source = "citations" if self.found.cites is not None else "matrix"
+        kind = "has" if odd in users else "lacks"
+        return f"it {kind} '{self.found.theorems[odd]}', other than the {source} say"
+
+    def check_counts(self, marks: Marks) -> None:
+        """Compares the section `counts` with the marks."""
+        for number, line in enumerate(self.lines("counts")):
+            if line.partition(":")[2] != str(marks.row(number).bit_count()):
+                self.damaged("counts", number, "another number than that of the marks")
+
+
+class CitationReader:
+    """Reads the section `citations`."""
+
+    def __init__(self, checker: Checker) -> None:
+        self.checker = checker
+        self.found = checker.found
+        self.nodes: dict[str, int] = {}
+        first = len(self.found.theorems)
+        for number, label in enumerate(self.found.columns):
+            self.nodes[label] = first + number
+
+    def read(self) -> None:
+        """All lines of it."""
+        places = array("I", [0])
+        targets = array("I")
+        nodes = self.nodes
+        for number, line in enumerate(self.checker.lines("citations")):
+            words = fields(line)
+            if words is None:
+                self.damaged(number, "the number isn't that of the labels after it")
+            cited = list(map(nodes.get, words))
+            if None in cited:
+                cited = [self.known(number, word) for word in words]
+            targets.extend(cited)  # type: ignore[arg-type]
+            places.append(len(targets))
+            if len(set(cited)) < len(cited):
+                self.damaged(number, "a label is there twice")
+            nodes[self.found.theorems[number]] = number
+        self.found.cites = Lists(places, targets)
+        self.check_axioms()
+
+    def damaged(self, number: int, why: str) -> NoReturn:
+        """Raises NoAnswer about a line."""
+        self.checker.damaged("citations", number, why)
+
+    def known(self, number: int, word: str) -> int:
+        """The node of a label, a new one where it is an axiom that comes for the first time."""
+        node = self.nodes.get(word)
+        if node is None:
+            if word in self.checker.rows:
+                self.damaged(number, f"'{word}' stands not before this theorem")
+            if not LABELS.fullmatch(word):
+                self.damaged(number, "a word that is no label")
+            self.found.others.append(word)
+            count = len(self.found.columns) + len(self.found.others)
+            node = self.nodes[word] = len(self.found.theorems) + count - 1
+        return node
+
+    def check_axioms(self) -> None:
+        """There may not be more axioms than a head says."""
+        sections = self.checker.sections
+        most = max(section.axioms for section in sections.values())
+        if len(self.found.columns) + len(self.found.others) > most:
+            self.damaged(-1, "together with other sections it has more axioms than its head says")
+
+
+def fields(line: str) -> list[str] | None:
+    """The labels of a line of `usage` or `citations`; None where their number isn't what it
+    says."""
+    parts = line.split(":")
+    if len(parts) != 3:
+        return None
+    words = parts[2].split(" ") if parts[2] else []
+    return words if parts[1] == str(len(words)) else None
+
+
+def first_repeated(labels: list[str]) -> int:
+    """Where a label stands for the second time."""
+    seen: set[str] = set()
+    for number, label in enumerate(labels):
+        if label in seen:
+            return number
+        seen.add(label)
+    return -1
+
+
+def marks_by_citations(found: Prepared) -> Marks:
+    """The marks that citations give: of each theorem those of what it cites, and the axioms it
+    cites."""
+    assert found.cites is not None
+    columns = len(found.columns)
+    theorems = len(found.theorems)
+    whole = [0] * theorems
+    whole += [bit(columns, number) for number in range(columns)]
+    whole += [0] * len(found.others)
+    cites = found.cites
+    for theorem in range(theorems):
+        row = 0
+        for cited in cites[theorem]:
+            row |= whole[cited]
+        whole[theorem] = row
+    return packed(whole[:theorems], columns)
+
+
+def checked(name: str, data: bytes) -> Prepared:
+    """What a text of reports says. NoAnswer where it is damaged or its parts don't fit together."""
+    return Checker(Report(name, data)).check()

@@ -1,0 +1,152 @@
+"""What DATABASE names: a file, `-`, a revision in git, compressed or not; a database or a
+report."""
+
+import os
+import stat
+import zlib
+from dataclasses import dataclass
+
+from query.errors import NoAnswer, shown
+from query.output import reason
+
+# The program refuses longer texts, so no more than one byte more is unpacked.
+LONGEST = 2_147_483_647
+GZIP, BZIP2, XZ = b"\x1f\x8b", b"BZh", b"\xfd7zXZ\0"
+
+
+@dataclass(frozen=True)
+class Source:
+    """The bytes that DATABASE names, not compressed.
+
+    `name` is how messages call it. `path` is the file that has these bytes, None where none has;
+    `stamp` tells whether it is still the same.
+    """
+
+    name: str
+    data: bytes
+    path: str | None = None
+    stamp: tuple[int, ...] = ()
+
+    def opened(self) -> int:
+        """A descriptor from which the bytes can be read, for the program. OSError where none can be
+        made, NoAnswer where the file was changed."""
+        if self.path is not None:
+            descriptor = os.open(self.path, os.O_RDONLY | os.O_CLOEXEC)
+            if stamp_of(descriptor) != self.stamp:
+                os.close(descriptor)
+                self.changed()
+            return descriptor
+        descriptor = os.memfd_create("mmquery", os.MFD_CLOEXEC)
+        view = memoryview(self.data)
+        while view:
+            view = view[os.write(descriptor, view) :]
+        os.lseek(descriptor, 0, os.SEEK_SET)
+        return descriptor
+
+    def see_unchanged(self) -> None:
+        """NoAnswer where the file was changed since it was read."""
+        if self.path is not None:
+            descriptor = os.open(self.path, os.O_RDONLY | os.O_CLOEXEC)
+            stamp = stamp_of(descriptor)
+            os.close(descriptor)
+            if stamp != self.stamp:
+                self.changed()
+
+    def changed(self) -> None:
+        """Raises NoAnswer."""
+        raise NoAnswer(f"{self.name}: was changed while it was read")
+
+    def is_report(self) -> bool:
+        """Whether it is a report or a refusal. Neither is ever the beginning of a database that is
+        accepted."""
+        words = self.data[:100].split(b"\n", 1)[0].split(b" ")
+        if words[0] == b"mmdepend" and len(words) == 2:
+            return words[1].isdigit()
+        return words[0] == b"refused" and len(words) == 3 and words[2].startswith(b"E")
+
+
+def stamp_of(descriptor: int) -> tuple[int, ...]:
+    """What changes where a file is changed."""
+    state = os.fstat(descriptor)
+    return state.st_dev, state.st_ino, state.st_size, state.st_mtime_ns, state.st_ctime_ns
+
+
+def opened(word: str) -> Source:
+    """The bytes that a word DATABASE names. NoAnswer where they can't be read."""
+    name = shown(word)
+    if word == "-":
+        return Source("standard input", unpacked("standard input", read_all(0, "standard input")))
+    if not os.path.lexists(word) and ":" in word:
+        return Source(name, unpacked(name, of_git(word)))
+    try:
+        descriptor = os.open(word, os.O_RDONLY | os.O_CLOEXEC)
+    except FileNotFoundError:
+        raise NoAnswer(f"{name}: there is no such file") from None
+    except OSError as error:
+        raise NoAnswer(f"{name}: {reason(error)}") from None
+    try:
+        return of_file(word, name, descriptor)
+    finally:
+        os.close(descriptor)
+
+
+def of_file(word: str, name: str, descriptor: int) -> Source:
+    """The bytes of an open file."""
+    mode = os.fstat(descriptor).st_mode
+    if stat.S_ISDIR(mode):
+        raise NoAnswer(f"{name}: is a folder")
+    stamp = stamp_of(descriptor)
+    data = read_all(descriptor, name)
+    plain = unpacked(name, data)
+    if plain is not data or not stat.S_ISREG(mode):
+        return Source(name, plain)
+    return Source(name, data, os.path.abspath(word), stamp)
+
+
+def read_all(descriptor: int, name: str) -> bytes:
+    """All that can be read."""
+    try:
+        with open(descriptor, "rb", buffering=0, closefd=False) as file:
+            return file.readall()
+    except OSError as error:
+        raise NoAnswer(f"{name}: {reason(error)}") from None
+
+
+def of_git(word: str) -> bytes:
+    """The bytes of a file in a revision."""
+    from pathlib import Path
+
+    from query.git import repository_of
+
+    return repository_of(Path.cwd()).blob(word, Path.cwd()).content()
+
+
+def unpacked(name: str, data: bytes) -> bytes:
+    """The bytes, or those that they were compressed from. No more than the program reads."""
+    import io
+
+    try:
+        if data.startswith(GZIP):
+            import gzip
+
+            return gzip.GzipFile(fileobj=io.BytesIO(data)).read(LONGEST + 1)
+        if data.startswith(BZIP2):
+            import bz2
+
+            return bz2.BZ2File(io.BytesIO(data)).read(LONGEST + 1)
+        if data.startswith(XZ):
+            return of_xz(data)
+    except (OSError, EOFError, zlib.error):
+        raise NoAnswer(f"{name}: the compressed file is damaged") from None
+    return data
+
+
+def of_xz(data: bytes) -> bytes:
+    """The bytes that were compressed by xz. EOFError where the data are damaged."""
+    import io
+    import lzma
+
+    try:
+        return lzma.LZMAFile(io.BytesIO(data)).read(LONGEST + 1)
+    except lzma.LZMAError:
+        raise EOFError from None
