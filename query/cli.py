@@ -132,7 +132,7 @@ def help_page() -> str:
         "REV:PATH, a file of a revision in git; or a report of mmdepend.",
         "`mmquery COMMAND --help` tells what a command answers, with its options and an example.",
         "",
-        "Status 0: answered. 1: the answer to a check is no. 2: no answer; standard error says why.",
+        "Status 0: answered. 1: the answer to a check is no. 2: no answer, with the reason.",
     ]
     return "\n".join(lines) + "\n"
 

@@ -254,6 +254,7 @@ def to_parts(found: Prepared) -> dict[str, bytes]:
         "columns": "\n".join(found.columns).encode(),
         "others": "\n".join(found.others).encode(),
         "marks": found.marks.data,
+        "axioms": str(found.axioms).encode(),
         "places": found.cites.places.tobytes(),
         "targets": found.cites.targets.tobytes(),
     }
@@ -270,4 +271,5 @@ def from_parts(parts: dict[str, bytes]) -> Prepared:
     targets = array("I")
     targets.frombytes(parts["targets"])
     marks = Marks(len(theorems), len(columns), parts["marks"])
-    return Prepared(theorems, columns, others, marks, Lists(places, targets))
+    axioms = int(parts["axioms"])
+    return Prepared(theorems, columns, others, marks, Lists(places, targets), axioms)

@@ -169,6 +169,7 @@ FAULTS = {
         "the letters or the labels in brackets were changed; save the proof once more",
     ),
 }
+UNKNOWN = ("a fault that mmquery doesn't know", "ask the program's own pages")
 
 COMMENT = re.compile(rb"\$\([^$]*(?:\$(?!\))[^$]*)*\$\)")
 LABEL = re.compile(rb"[A-Za-z0-9._-]+")
@@ -179,7 +180,7 @@ ENDS = (b"$.", b"${", b"$}")
 def explained(source: Source, line: int, column: int, code: str) -> str:
     """A refusal in one line: the place as compilers write it, the statement where it is known, what
     the code means and what to do."""
-    meaning, advice = FAULTS.get(code, ("a fault that mmquery doesn't know", "see docs/FAULTS.md"))
+    meaning, advice = FAULTS.get(code, UNKNOWN)
     statement = "" if source.is_report() else statement_at(source.data, line, column, code)
     place = f" {statement}" if statement else ""
     return f"{source.name}:{line}:{column}: refused {code}{place}: {meaning}; {advice}"

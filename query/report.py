@@ -46,6 +46,7 @@ class Prepared:
     others: list[str] = field(default_factory=list)
     marks: Marks | None = None
     cites: Lists | None = None
+    axioms: int = 0  # how many the heads say, the most of them
 
 
 class Report:
@@ -126,6 +127,7 @@ class Checker:
             self.differ("theorems")
         if len({each.axioms for name, each in self.sections.items() if name != "citations"}) > 1:
             self.differ("axioms")
+        self.found.axioms = max((each.axioms for each in self.sections.values()), default=0)
         self.read_theorems()
         self.read_columns()
         if "citations" in self.sections:
@@ -316,9 +318,7 @@ class CitationReader:
 
     def check_axioms(self) -> None:
         """There may not be more axioms than a head says."""
-        sections = self.checker.sections
-        most = max(section.axioms for section in sections.values())
-        if len(self.found.columns) + len(self.found.others) > most:
+        if len(self.found.columns) + len(self.found.others) > self.found.axioms:
             self.damaged(-1, "together with other sections it has more axioms than its head says")
 
 

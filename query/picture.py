@@ -1,0 +1,177 @@
+"""The marks as a picture: a PBM file of dots alone, or a PNG file with axes and a legend."""
+
+import struct
+import zlib
+from dataclasses import dataclass, field
+
+from query.database import Dependence
+
+# Five columns of eight dots for each character from the space to ~, the lowest bit at the top.
+FONT = bytes.fromhex(
+    "000000000000005F00000007000700147F147F14242A7F2A1223130864623649552250000503000000"
+    "1C2241000041221C00082A1C2A0808083E080800503000000808080808006060000020100804023E51"
+    "49453E00427F400042615149462141454B311814127F1027454545393C4A4949300171090503364949"
+    "4936064949291E003636000000563600000814224100141414141400412214080201510906324979413E"
+    "7E1111117E7F494949363E414141227F4141221C7F494949417F090909013E4149497A7F0808087F00"
+    "417F41002040413F017F081422417F404040407F020C027F7F0408107F3E4141413E7F090909063E41"
+    "51215E7F09192946464949493101017F01013F4040403F1F2040201F3F4038403F6314081463070870"
+    "08076151494543007F41410002040810200041417F0004020102044040404040000102040020545454"
+    "787F484444383844444420384444487F3854545418087E09010218A4A4A47C7F0804047800447D4000"
+    "0080847D007F1028440000417F40007C041804787C080404783844444438FC2424241818242424FC7C"
+    "080404084854545420043F4440203C4040207C1C2040201C3C4030403C44281028441CA0A0A07C4464"
+    "544C44000836410000007F000000413608000804081008"
+)
+WHITE, GREY, BLACK = 255, 160, 0
+STEP = 6  # dots across, from one character to the next
+
+
+class Dots:
+    """The dots: `lines` has for each line of the picture a 0 or 1 for each dot across.
+
+    A dot is for `wide` axioms and `high` theorems.
+    """
+
+    def __init__(self, dependence: Dependence, across: int, down: int) -> None:
+        self.dependence = dependence
+        self.columns = len(dependence.axioms)
+        self.rows = len(dependence.theorems)
+        self.wide = -(-self.columns // across)
+        self.high = -(-self.rows // down)
+        self.width = -(-self.columns // self.wide)
+        self.height = -(-self.rows // self.high)
+        masks = [
+            dependence.mask_of(range(first, min(first + self.wide, self.columns)))
+            for first in range(0, self.columns, self.wide)
+        ]
+        self.lines = [self.line(first, masks) for first in range(0, self.rows, self.high)]
+
+    def line(self, first: int, masks: list[int]) -> str:
+        """The line that begins at a row."""
+        union = 0
+        for row in range(first, min(first + self.high, self.rows)):
+            union |= self.dependence.bits(row)
+        return "".join("1" if union & mask else "0" for mask in masks)
+
+    def pbm(self) -> bytes:
+        """The picture as a PBM file."""
+        size = -(-self.width // 8)
+        lines = [int(line.ljust(8 * size, "0"), 2).to_bytes(size, "big") for line in self.lines]
+        return f"P4\n{self.width} {self.height}\n".encode() + b"".join(lines)
+
+
+class Canvas:
+    """A picture by bytes from black to white."""
+
+    def __init__(self, width: int, height: int) -> None:
+        self.width = width
+        self.lines = [bytearray([WHITE]) * width for _ in range(height)]
+
+    def box(self, left: int, top: int, width: int, height: int, shade: int) -> None:
+        """Fills a box."""
+        for line in self.lines[top : top + height]:
+            line[left : left + width] = bytes([shade]) * len(line[left : left + width])
+
+    def write(self, left: int, top: int, text: str, upwards: bool = False) -> None:
+        """Writes a text from its left end, or from its lower end."""
+        for number, sign in enumerate(text):
+            place = 5 * (ord(sign if " " <= sign <= "~" else "?") - 32)
+            for x, bits in enumerate(FONT[place : place + 5]):
+                for y in range(8):
+                    if not bits >> y & 1:
+                        continue
+                    if upwards:
+                        self.box(left + y, top - STEP * number - x, 1, 1, BLACK)
+                    else:
+                        self.box(left + STEP * number + x, top + y, 1, 1, BLACK)
+
+    def png(self) -> bytes:
+        """The picture as a PNG file."""
+        size = struct.pack(">IIBBBBB", self.width, len(self.lines), 8, 0, 0, 0, 0)
+        data = zlib.compress(b"".join(b"\0" + line for line in self.lines), 9)
+        parts = [chunk(b"IHDR", size), chunk(b"IDAT", data), chunk(b"IEND", b"")]
+        return b"\x89PNG\r\n\x1a\n" + b"".join(parts)
+
+
+def chunk(name: bytes, data: bytes) -> bytes:
+    """A chunk of a PNG file."""
+    return struct.pack(">I", len(data)) + name + data + struct.pack(">I", zlib.crc32(name + data))
+
+
+@dataclass
+class Axes:
+    """The names along the picture: places in dots from its corner, and what stands there."""
+
+    size: int  # of a dot
+    down: list[tuple[int, str]] = field(default_factory=list)
+    across: list[tuple[int, str]] = field(default_factory=list)
+
+    @property
+    def left(self) -> int:
+        """How wide the names beside the picture are."""
+        return max((len(name) for _, name in self.down), default=0) * STEP + 12
+
+    @property
+    def top(self) -> int:
+        """How high the names above the picture are."""
+        return max((len(name) for _, name in self.across), default=0) * STEP + 12
+
+
+def axes_of(dots: Dots, names: list[tuple[int, str]], size: int) -> Axes:
+    """The names that have room, the first ones of `names` before later ones."""
+    axes = Axes(size)
+    for row, name in names:
+        y = row // dots.high * size
+        if all(abs(y - other) >= 10 for other, _ in axes.down):
+            axes.down.append((y, name[:44]))
+    for column in range(0, dots.width, -(-10 // size)):
+        axes.across.append((column * size, dots.dependence.axioms[column * dots.wide][:24]))
+    return axes
+
+
+def legend(dots: Dots) -> list[str]:
+    """What the picture shows."""
+    return [
+        f"down: {dots.rows} theorems, {dots.high} to a dot; across: {dots.columns} axioms,"
+        f" {dots.wide} to a dot; both in file order",
+        "black: a theorem of the dot rests on an axiom of it",
+        "white: none does",
+    ]
+
+
+def drawing(dots: Dots, names: list[tuple[int, str]], across: int, down: int) -> bytes:
+    """The picture with its axes and its legend, as a PNG file. `names` are rows of theorems with
+    what is said of them, the most important first. The dots take at most `across` times `down`
+    points.
+    """
+    size = max(1, min(across // dots.width, down // dots.height, 16))
+    axes = axes_of(dots, names, size)
+    told = legend(dots)
+    wide, high = dots.width * size, dots.height * size
+    left, top = axes.left, axes.top
+    width = max(left + wide + 12, max(map(len, told)) * STEP + 32)
+    canvas = Canvas(width, top + high + 16 + 12 * len(told))
+    canvas.box(left - 1, top - 1, wide + 2, high + 2, GREY)
+    canvas.box(left, top, wide, high, WHITE)
+    for y, line in enumerate(dots.lines):
+        for x, dot in enumerate(line):
+            if dot == "1":
+                canvas.box(left + x * size, top + y * size, size, size, BLACK)
+    put_names(canvas, axes)
+    for number, text in enumerate(told):
+        y = top + high + 12 + 12 * number
+        canvas.write(24, y, text)
+        if number:
+            canvas.box(11, y - 1, 9, 9, BLACK)
+            canvas.box(12, y, 7, 7, BLACK if number == 1 else WHITE)
+    return canvas.png()
+
+
+def put_names(canvas: Canvas, axes: Axes) -> None:
+    """Writes the names along the picture."""
+    middle = min(axes.size, 10) // 2 - 3
+    for y, name in axes.down:
+        canvas.write(axes.left - 6 - STEP * len(name), axes.top + y + middle, name)
+        canvas.box(axes.left - 5, axes.top + y, 4, 1, BLACK)
+    for x, name in axes.across:
+        canvas.write(axes.left + x + middle, axes.top - 8, name, upwards=True)
+        canvas.box(axes.left + x, axes.top - 5, 1, 4, BLACK)
