@@ -115,7 +115,7 @@ impl<'a, A: Allocator> Database<'a, A> {
     }
 
     /// Whether there is such a statement and it is an open theorem that counts as an axiom.
-    pub fn is_open_theorem(&self, statement: u32) -> bool
+    pub fn is_open(&self, statement: u32) -> bool
         ensures { result
             ≡ (self.now.with_open
             && list_any is_open_theorem (statement_at self.now.read statement)) }

@@ -29,7 +29,8 @@ const VERSION: &str = "0.1.0, proved with rattle logic dac8208d650f15bf";
 const AFTER: &str = "\
 The standard output gets the report, or one line with the first fault and its place.
 Status: 0 accepted, 1 refused, 2 invalid command line, 3 reading or writing failed,
-4 out of memory. For 2 to 4 the standard error says why.";
+4 out of memory. For 2 to 4 the standard error says why.
+The codes of faults (E00 to E45) are explained in docs/FAULTS.md.";
 
 /// An option with a whole number from 1 to 64, 4 by default.
 fn number<'a>(alloc: Global, name: &'a str, help: &'a str) -> Arg<'a>

@@ -33,7 +33,7 @@ fn open_count<A: Allocator, D: Allocator>(database: &Database<'_, D>, chosen: &C
 {
     let mut count = 0u64;
     for statement in chosen.statements() {
-        if database.is_open_theorem(*statement) {
+        if database.is_open(*statement) {
             count += 1;
         }
     }

@@ -20,7 +20,7 @@ use mm_plan::Plan;
 use mm_report::{Choice, has_usage, write_citations, write_refusal, write_report};
 use mm_rows::{Columns, Matrix, matrix, matrix_by_rows};
 use mm_spec::Fault;
-use mm_stmt::read;
+use mm_stmt::read_owned;
 use mm_work::{Citations, Judged, Open, check_all};
 use std::alloc::{AllocError, Allocator};
 use std::io::Write;
@@ -168,7 +168,7 @@ fn database_of<'a, R: Threads + Sync, A: Allocator + Copy + Send + Sync>(
 {
     let cuts = cuts_of(&plan.cuts, alloc, text.len())?;
     let lexed = lex(rt, alloc, text, &cuts)?;
-    read(alloc, text, lexed, plan.with_open)
+    read_owned(alloc, text, lexed, plan.with_open)
 }
 
 /// Writes the output of a text: the refusal for its first fault, or the report that the plan

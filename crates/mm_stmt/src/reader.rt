@@ -18,9 +18,34 @@ use std::alloc::{AllocError, Allocator};
 /// Reads the statements of a text before its first fault of words, shape, symbols, labels or scope,
 /// and that fault (Metamath book, "Specification of the Metamath Language"). `lexed` has the tokens
 /// and the lexical fault of `text`. If `with_open` is set, open theorems, whose proof is `?` or
-/// `( ) ?`, count as axioms. Fails only if out of memory. `lexed` is used up in either case, and
-/// its memory is given back; the text is only read.
+/// `( ) ?`, count as axioms. Fails only if out of memory; `text` and `lexed` are only read, so the
+/// call can be made again.
 pub fn read<'a, A: Allocator + Copy>(
+    alloc: A,
+    text: &'a [u8],
+    lexed: &Lexed<A>,
+    with_open: bool,
+) -> Result<Database<'a, A>, AllocError>
+    requires tokens { lexed.now.tokens.items ≡ tokens_of text.now }
+    requires fault { lexed.now.fault ≡ lexical_fault text.now }
+    ensures text { IfOk result (λ database. database.text ≡ text.now) }
+    ensures flag { IfOk result (λ database. database.with_open ≡ with_open) }
+    ensures read { IfOk result
+        (λ database. IsRead (length text.now) (lexed_of text.now) database.read database.fault) }
+    ensures counted { IfOk result
+        (λ database. database.statements ≡ counted with_open database.read) }
+{
+    let tokens = lexed.tokens.to_vec(alloc)?;
+    let copy = Lexed {
+        tokens,
+        fault: lexed.fault,
+    };
+    read_owned(alloc, text, copy, with_open)
+}
+
+/// The same as [`read`], but `lexed` is used up in either case: its memory is given back before the
+/// frames are made.
+pub fn read_owned<'a, A: Allocator + Copy>(
     alloc: A,
     text: &'a [u8],
     lexed: Lexed<A>,

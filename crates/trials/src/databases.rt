@@ -19,5 +19,5 @@ pub(crate) fn database_of<'t, R: Threads + Sync>(
     }
     let cuts = Cuts::equal(alloc, text.len(), 1)?;
     let lexed = lex(rt, alloc, text, &cuts)?;
-    read(alloc, text, lexed, with_open)
+    read(alloc, text, &lexed, with_open)
 }

@@ -24,6 +24,8 @@ mod runs;
 #[cfg(test)]
 mod statements;
 #[cfg(test)]
+mod surface;
+#[cfg(test)]
 mod texts;
 #[cfg(test)]
 mod workers;

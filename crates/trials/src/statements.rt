@@ -86,7 +86,7 @@ fn counts_as<R: Abort>(rt: &R, database: &Database<Global>, with_open: bool) {
         database.kind(OPEN),
         by_flag(with_open, Kind::Axiom, Kind::Theorem)
     );
-    assert_eq!(rt; database.is_open_theorem(OPEN), with_open);
+    assert_eq!(rt; database.is_open(OPEN), with_open);
     let mark: &[Word] = &[Word {
         start: 105,
         end: 106,

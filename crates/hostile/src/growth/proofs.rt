@@ -27,7 +27,7 @@ pub(crate) fn database_of<R: Threads + Sync, A: Allocator + Copy + Send + Sync>(
 ) -> Result<Database<'static, A>, AllocError> {
     let cuts = Cuts::equal(alloc, THROUGH.len(), 1)?;
     let lexed = lex(rt, alloc, THROUGH, &cuts)?;
-    read_statements(alloc, THROUGH, lexed, false)
+    read_statements(alloc, THROUGH, &lexed, false)
 }
 
 /// The first theorem, if there is one.

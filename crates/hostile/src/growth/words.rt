@@ -6,7 +6,6 @@ use crate::texts::{FIRST_TEXT, THROUGH};
 use mm_lex::{Cuts, Lexed, Piece, Word, join, lex, lex_piece};
 use mm_stmt::{Database, read};
 use std::alloc::{AllocError, Allocator, Global};
-use std::thread::Threads;
 
 /// How many tokens the first text has.
 const TOKENS: usize = 62;
@@ -161,27 +160,18 @@ fn is_read<A: Allocator>(answer: Result<Database<'_, A>, AllocError>) -> Option<
     }
 }
 
-/// Reads the tokens of that text with memory, and its statements with a growth refused. If that
-/// fails, the tokens are dropped.
-fn statements<'h, R: Threads + Sync>(
-    rt: &R,
-    heap: &'h Refusing<Global>,
-    number: Option<u64>,
-) -> Result<Result<Database<'static, &'h Refusing<Global>>, AllocError>, AllocError> {
-    let cuts = Cuts::equal(heap, THROUGH.len(), 1)?;
-    let lexed = lex(rt, heap, THROUGH, &cuts)?;
-    if let Some(number) = number {
-        heap.refuse(number);
-    }
-    Ok(read(heap, THROUGH, lexed, false))
-}
-
 #[test]
 fn statements_without_memory(rt: HostRuntime) -> Result<(), AllocError> {
     let heap = Refusing::new(rt.alloc());
+    let cuts = Cuts::equal(&heap, THROUGH.len(), 1)?;
+    let lexed = lex(&rt, &heap, THROUGH, &cuts)?;
+    let tokens = lexed.tokens.to_vec(&heap)?;
     for number in 1..MOST {
-        let refused = met(&rt, &heap, is_read(statements(&rt, &heap, Some(number))?));
-        assert!(&rt; is_read(statements(&rt, &heap, None)?) == Some(true));
+        heap.refuse(number);
+        let refused = met(&rt, &heap, is_read(read(&heap, THROUGH, &lexed, false)));
+        assert!(&rt; lexed.tokens.as_slice() == tokens.as_slice());
+        assert!(&rt; lexed.fault.is_none());
+        assert!(&rt; is_read(read(&heap, THROUGH, &lexed, false)) == Some(true));
         if !refused {
             assert!(&rt; number > 10);
             return Ok(());

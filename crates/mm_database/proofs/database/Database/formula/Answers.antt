@@ -25,6 +25,3 @@ returns-clause-known g c =
     ∙ ap (λ (n : Contents). symbol_names n.statements) c.self.view_is in
     subst (λ (ns : List Bytes). All (λ s. s < length ns) c.formula.result.now) names
     c.formula.ensures.known
-
-pub returns-clause-few : goal.returns-clause-few
-returns-clause-few g c = c.formula.ensures.few

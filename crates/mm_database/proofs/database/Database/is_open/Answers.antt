@@ -8,7 +8,7 @@ use Rattle.mm_spec.specs.Scope.{statement_at}
 use Rattle.mm_database.specs.Database.{Contents, kind_of}
 use Rattle.mm_database.proofs.DatabaseLaw.{as_many, none_there}
 use Rattle.mm_database.proofs.KindsLaw.{open_is}
-use Rattle.mm_database.proofs.database.Database.is_open_theorem.Goals as goal
+use Rattle.mm_database.proofs.database.Database.is_open.Goals as goal
 
 pub returns-then-statement-len : goal.returns-then-statement-len
 returns-then-statement-len g c =

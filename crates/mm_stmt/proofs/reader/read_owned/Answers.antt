@@ -17,7 +17,7 @@ use Rattle.mm_scope.specs.Keeps.{IsKeptOf, kept_by}
 use Rattle.mm_database.specs.Parsed.{IsSound}
 use Rattle.mm_spec.specs.Opened.{counted}
 use Rattle.mm_stmt.proofs.AssembleLaw.{is_read, names_few, sound}
-use Rattle.mm_stmt.proofs.reader.read.Goals as goal
+use Rattle.mm_stmt.proofs.reader.read_owned.Goals as goal
 
 pub outline-requires-clause-words : goal.outline-requires-clause-words
 outline-requires-clause-words g c =
@@ -129,54 +129,4 @@ returns g c =
           (subst (λ (r : Reading _). IsRead (length text) (lexed_of text)
           r.statements.list r.fault) (sym same) is);
       counted = rw made refl;
-    }
-
-pub returns-in_err-outlined : goal.returns-in_err-outlined
-returns-in_err-outlined g c =
-    let err = c.from_residual.ensures.0 in
-    record {
-      text = IfOk-from_err c.from_residual.result _ err;
-      flag = IfOk-from_err c.from_residual.result _ err;
-      read = IfOk-from_err c.from_residual.result _ err;
-      counted = IfOk-from_err c.from_residual.result _ err;
-    }
-
-pub returns-in_err-listed : goal.returns-in_err-listed
-returns-in_err-listed g c =
-    let err = c.from_residual-in_err-listed.ensures.0 in
-    record {
-      text = IfOk-from_err c.from_residual-in_err-listed.result _ err;
-      flag = IfOk-from_err c.from_residual-in_err-listed.result _ err;
-      read = IfOk-from_err c.from_residual-in_err-listed.result _ err;
-      counted = IfOk-from_err c.from_residual-in_err-listed.result _ err;
-    }
-
-pub returns-in_err-kept : goal.returns-in_err-kept
-returns-in_err-kept g c =
-    let err = c.from_residual-in_err-kept.ensures.0 in
-    record {
-      text = IfOk-from_err c.from_residual-in_err-kept.result _ err;
-      flag = IfOk-from_err c.from_residual-in_err-kept.result _ err;
-      read = IfOk-from_err c.from_residual-in_err-kept.result _ err;
-      counted = IfOk-from_err c.from_residual-in_err-kept.result _ err;
-    }
-
-pub returns-in_err-read : goal.returns-in_err-read
-returns-in_err-read g c =
-    let err = c.from_residual-in_err-read.ensures.0 in
-    record {
-      text = IfOk-from_err c.from_residual-in_err-read.result _ err;
-      flag = IfOk-from_err c.from_residual-in_err-read.result _ err;
-      read = IfOk-from_err c.from_residual-in_err-read.result _ err;
-      counted = IfOk-from_err c.from_residual-in_err-read.result _ err;
-    }
-
-pub returns-in_err-beside : goal.returns-in_err-beside
-returns-in_err-beside g c =
-    let err = c.from_residual-in_err-beside.ensures.0 in
-    record {
-      text = IfOk-from_err c.from_residual-in_err-beside.result _ err;
-      flag = IfOk-from_err c.from_residual-in_err-beside.result _ err;
-      read = IfOk-from_err c.from_residual-in_err-beside.result _ err;
-      counted = IfOk-from_err c.from_residual-in_err-beside.result _ err;
     }

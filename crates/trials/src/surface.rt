@@ -1,0 +1,254 @@
+//! A caller of the layers who knows only their public calls: each is made once, by its name and with
+//! its arguments in their order, on the text with the first theorem. `status` is called in the tests
+//! of the program.
+
+ghost use Rattle.std.specs.Prelude.{IfOk, false};
+ghost use Rattle.mm_work.specs.Judged.{AllCited};
+
+use crate::texts::{FIRST_REPORT, FIRST_TEXT};
+use mm_board::Board;
+use mm_bytes::{class_block, class_tail, count_lf, first_bad};
+use mm_check::check;
+use mm_lex::{Cuts, Piece, join, lex, lex_piece};
+use mm_line::line;
+use mm_plan::{Cutting, Plan};
+use mm_proof::{Step, number, read_proof};
+use mm_report::{write_citations, write_refusal, write_report};
+use mm_rows::{Columns, matrix, ones, or_row, waves};
+use mm_rule::is_assertion;
+use mm_run::{RunEnd, run};
+use mm_spec::{Choice, Code, Fault, Form};
+use mm_stmt::{Database, Kind, Sym, read};
+use mm_work::{Citations, Gate, Judged, Open, check_all};
+use std::alloc::{AllocError, Global};
+use std::process::Abort;
+use std::sync::Wait;
+use std::thread::Threads;
+
+#[test]
+fn bytes(rt: HostRuntime) {
+    let block = class_block(&[b' '; 64]);
+    assert!(&rt; block.white == u64::MAX && block.bad == 0);
+    let tail = class_tail(b"a \x80");
+    assert!(&rt; tail.white == 2 && tail.bad == 4);
+    assert!(&rt; first_bad(b"a \x80") == Some(2));
+    assert!(&rt; count_lf(b"\na\n") == 2);
+}
+
+/// Asserts what a piece of the whole text says.
+fn is_whole<R: Abort>(rt: &R, piece: &Piece<Global>) {
+    assert!(rt; piece.from() == 0 && piece.to() == 170 && !piece.unbroken());
+    let head = piece.head();
+    let tail = piece.tail();
+    assert!(rt; head.start == 0 && head.end == 0 && tail.start == 170 && tail.end == 170);
+    assert!(rt; piece.tokens(false).len() == 62 && piece.fault(false) == None);
+    assert!(rt; piece.tokens(true).is_empty());
+}
+
+#[test]
+fn pieces(rt: HostRuntime) -> Result<(), AllocError> {
+    let first = lex_piece(rt.alloc(), FIRST_TEXT, 0, 60)?;
+    let second = lex_piece(rt.alloc(), FIRST_TEXT, 60, 170)?;
+    let whole = join(rt.alloc(), FIRST_TEXT, first, second)?;
+    is_whole(&rt, &whole);
+    Ok(())
+}
+
+#[test]
+fn cuts(rt: HostRuntime) -> Result<(), AllocError> {
+    let equal = Cuts::equal(rt.alloc(), FIRST_TEXT.len(), 2)?;
+    let lexed = lex(&rt, rt.alloc(), FIRST_TEXT, &equal)?;
+    assert!(&rt; lexed.tokens.len() == 62 && lexed.fault == None);
+    let places = [85u32].as_slice().to_vec(rt.alloc())?;
+    match Cuts::from_places(places, FIRST_TEXT.len()) {
+        Ok(given) => assert!(&rt; given.places() == equal.places()),
+        Err(_) => assert!(&rt; false),
+    }
+    Ok(())
+}
+
+/// The database of the text.
+fn database_of<R: Threads + Sync>(
+    rt: &R,
+    alloc: Global,
+) -> Result<Database<'static, Global>, AllocError> {
+    let cuts = Cuts::equal(alloc, FIRST_TEXT.len(), 1)?;
+    let lexed = lex(rt, alloc, FIRST_TEXT, &cuts)?;
+    read(alloc, FIRST_TEXT, &lexed, false)
+}
+
+/// Asserts what is said of the statement with the first axiom.
+fn is_axiom<R: Abort>(rt: &R, database: &Database<Global>) {
+    assert!(rt; database.len() == 7 && database.kind(4) == Kind::Axiom && !database.is_open(4));
+    assert!(rt; database.end_at(4) == 81 && database.find(b"wi") == Some(4));
+    assert!(rt; database.label(4) == Some(b"wi".as_slice()));
+    assert!(rt; database.formula(4).len() == 6 && database.typecode(4) == Some(Sym::new(0)));
+    assert!(rt; database.active_at(4, 5) && !database.active_at(4, 4));
+    assert!(rt; is_assertion(database, 4));
+    let frame = database.frame(4);
+    assert!(rt; frame.hyps.as_slice() == [2u32, 3].as_slice() && frame.pairs.is_empty());
+}
+
+#[test]
+fn statements(rt: HostRuntime) -> Result<(), AllocError> {
+    let database = database_of(&rt, rt.alloc())?;
+    assert!(&rt; database.text() == FIRST_TEXT && database.fault() == None);
+    is_axiom(&rt, &database);
+    assert!(&rt; database.symbol_count() == 7);
+    assert!(&rt; database.name(Sym::new(3)) == b"->".as_slice() && !database.is_variable(Sym::new(3)));
+    assert!(&rt; !database.disjoint_at(6, Sym::new(5), Sym::new(6)));
+    assert!(&rt; database.proof_words(6).len() == 5);
+    assert!(&rt; database.theorems() == [6u32].as_slice());
+    assert!(&rt; database.axioms() == [4u32, 5].as_slice());
+    Ok(())
+}
+
+#[test]
+fn proofs(rt: HostRuntime) -> Result<(), AllocError> {
+    let database = database_of(&rt, rt.alloc())?;
+    let theorems = database.theorems();
+    assert!(&rt; theorems.len() == 1);
+    let theorem = theorems[0];
+    let Ok(steps) = read_proof(rt.alloc(), &database, theorem) else {
+        return Err(AllocError);
+    };
+    assert!(&rt; steps.theorem() == 6 && steps.len() == 5);
+    assert!(&rt; steps.step(0) == Step::Label(2) && steps.place(0) == 152);
+    match check(rt.alloc(), &database, theorem, &steps, false) {
+        Ok(checked) => {
+            assert!(&rt; checked.theorem() == 6 && checked.cites() == [4u32].as_slice());
+        }
+        Err(_) => assert!(&rt; false),
+    }
+    assert!(&rt; number(b"UA") == Some(21));
+    Ok(())
+}
+
+#[test]
+fn board(rt: HostRuntime) -> Result<(), AllocError> {
+    let Ok((board, mut first)) = Board::new(rt.alloc(), 2) else {
+        return Err(AllocError);
+    };
+    let Ok(mut second) = board.split(&mut first) else {
+        return Err(AllocError);
+    };
+    assert!(&rt; first.share() == 63 && second.share() == 1);
+    assert!(&rt; first.held() == None && !first.is_over());
+    assert!(&rt; board.claim(&mut first) == Some(0));
+    assert!(&rt; first.held() == Some(0));
+    board.settle(&mut first, 0);
+    assert!(&rt; second.held() == None && !second.is_over());
+    assert!(&rt; board.claim(&mut second) == Some(1));
+    assert!(&rt; board.look(&mut second) == 2);
+    assert!(&rt; second.held() == Some(1));
+    board.report(&mut second, 1);
+    assert!(&rt; second.seen() == 1 && second.held() == None);
+    board.join(&mut first, second);
+    let closed = board.close(first);
+    assert!(&rt; closed == (1, 1));
+    Ok(())
+}
+
+/// Enters a gate.
+fn enters<G: Gate>(gate: &G) {
+    gate.enter(0, 0);
+}
+
+/// What the theorems of the text cite.
+fn citations_of<R: Threads + Wait + Sync>(
+    rt: &R,
+    alloc: Global,
+    database: &Database<Global>,
+) -> Result<Citations<Global>, AllocError>
+    ensures { IfOk result (λ citations. AllCited database.now.statements false citations) }
+{
+    match check_all(rt, alloc, database, 2, false, &Open)? {
+        Judged::Valid(citations) => Ok(citations),
+        Judged::Faulty(_) => Err(AllocError),
+    }
+}
+
+#[test]
+fn citations(rt: HostRuntime) -> Result<(), AllocError> {
+    enters(&Open);
+    let database = database_of(&rt, rt.alloc())?;
+    let citations = citations_of(&rt, rt.alloc(), &database)?;
+    assert!(&rt; citations.rows() == 1 && citations.theorem(0) == 6);
+    assert!(&rt; citations.of(0) == [4u32].as_slice());
+    let waves = waves(rt.alloc(), &citations)?;
+    assert!(&rt; waves.as_slice() == [0u32].as_slice());
+    Ok(())
+}
+
+#[test]
+fn rows(rt: HostRuntime) -> Result<(), AllocError> {
+    let mut row = [1u64];
+    or_row(&mut row, &[6]);
+    assert!(&rt; ones(&row) == 3);
+    let database = database_of(&rt, rt.alloc())?;
+    let citations = citations_of(&rt, rt.alloc(), &database)?;
+    let columns = Columns::new(rt.alloc(), &database, Some(b"wff"))?;
+    assert!(&rt; columns.len() == 1 && columns.statement(0) == 4);
+    let matrix = matrix(&rt, rt.alloc(), &citations, &columns)?;
+    assert!(&rt; matrix.rows() == 1 && matrix.columns() == 1 && matrix.cell(0, 0));
+    assert!(&rt; matrix.row_count(0) == 1 && matrix.column_count(0) == 1);
+    assert!(&rt; matrix.next_user(0, None) == Some(0) && matrix.digit(0, 0) == 8);
+    Ok(())
+}
+
+#[test]
+fn reports(rt: HostRuntime) -> Result<(), AllocError> {
+    let database = database_of(&rt, rt.alloc())?;
+    let citations = citations_of(&rt, rt.alloc(), &database)?;
+    let columns = Columns::new(rt.alloc(), &database, None)?;
+    let matrix = matrix(&rt, rt.alloc(), &citations, &columns)?;
+    let mut report = Vec::new(rt.alloc());
+    let written =
+        write_report(&mut report, &database, &columns, &matrix, false, Form::One, Choice::All);
+    assert!(&rt; written.is_ok() && report.as_slice() == FIRST_REPORT);
+    let mut cited = Vec::new(rt.alloc());
+    let written =
+        write_citations(&mut cited, &database, &columns, &citations, None, false, Form::Two);
+    assert!(&rt; written.is_ok());
+    assert!(&rt;
+        cited.as_slice()
+            == b"mmdepend 2\naxioms 2\ntheorems 1\ncitations\nwi2:1:wi\nend\n".as_slice());
+    Ok(())
+}
+
+#[test]
+fn refusals(rt: HostRuntime) {
+    let mut refusal = Vec::new(rt.alloc());
+    let fault = Fault {
+        at: 0,
+        code: Code::BadByte,
+    };
+    assert!(&rt; write_refusal(&mut refusal, b"\x80", &fault).is_ok());
+    assert!(&rt; refusal.as_slice() == b"refused 1:1 E01\n".as_slice());
+}
+
+#[test]
+fn runs(rt: HostRuntime) {
+    let plan = Plan {
+        cuts: Cutting::Places(Vec::new(rt.alloc())),
+        workers: 1,
+        only: None,
+        choice: Choice::All,
+        form: Form::One,
+        essential: false,
+        with_open: false,
+    };
+    assert!(&rt; plan.is_lawful());
+    let mut from = FIRST_TEXT;
+    let mut to = Vec::new(rt.alloc());
+    assert!(&rt; run(&rt, rt.alloc(), &plan, &mut from, &mut to) == RunEnd::Accepted);
+    assert!(&rt; to.as_slice() == FIRST_REPORT);
+}
+
+#[test]
+fn lines(rt: HostRuntime) {
+    match line(rt.alloc(), &["mmdepend", "--workers", "2", "b.mm"]) {
+        Ok(line) => assert!(&rt; line.plan.workers == 2 && line.file.as_deref() == Some("b.mm")),
+        Err(_) => assert!(&rt; false),
+    }
+}
