@@ -115,34 +115,6 @@ are_known db b blocks ps are p l =
 
 -- ---- the way back
 
-pub not_open : (at e f : ℕ) → nat_le at e ≡ false → f ≤ e → nat_le at f ≡ false
-not_open at e f h l = false_from_ne_true (nat_le at f) (λ t. true≢false (sym (open_too t) ∙ h))
-  where
-    open_too : nat_le at f ≡ true → nat_le at e ≡ true
-    open_too t = let m = leb-true at f t in le-leb at e (omega (arith, m, l))
-
-pub covers_self : (b : BlockLists) (ps : List (ℕ × ℕ)) (q : ℕ) → Covers b ps q q
-covers_self b ps q p l m =
-    let s : p ≡ q = omega (arith, l, m) in
-    (ap (λ i. (get_or ps i (0, 0)).0) s, by (ap (λ i. end_of b (get_or ps i (0, 0)).1) s))
-  where
-    by : {a b : ℕ} → a ≡ b → a ≤ b
-    by e = omega (arith, e)
-
--- where the pair before is covered, what it covers is too
-pub covers_more : (b : BlockLists) (ps : List (ℕ × ℕ)) (first middle q : ℕ) → 0 < first
-    → Covers b ps first q → Covers b ps middle (first - 1)
-    → ((get_or ps (first - 1) (0, 0)).0 ≡ (get_or ps q (0, 0)).0)
-    → end_of b (get_or ps (first - 1) (0, 0)).1 ≤ end_of b (get_or ps q (0, 0)).1
-    → Covers b ps middle q
-covers_more b ps first middle q some c d s l p m n = by (cases_lt p first)
-  where
-    by : (p < first) ⊎ (first ≤ p)
-        → ((get_or ps p (0, 0)).0 ≡ (get_or ps q (0, 0)).0)
-        × (end_of b (get_or ps p (0, 0)).1 ≤ end_of b (get_or ps q (0, 0)).1)
-    by (inl h) = let r = d p m (omega (arith, h)) in let e = r.1 in (r.0 ∙ s, omega (arith, e, l))
-    by (inr h) = c p h n
-
 -- ---- what stands before a place
 
 -- so many pairs stand before that of the symbol and the place
@@ -178,16 +150,6 @@ pub record Added (b : BlockLists) (ps : List (ℕ × ℕ)) (x at start left : �
   pub all : (p : ℕ) → left ≤ p → p < start → (get_or ps p (0, 0)).0 ≡ x
       → nat_le at (end_of b (get_or ps p (0, 0)).1) ≡ true
       → has_pair now (get_or ps p (0, 0)).1 x ≡ true
-
-pub added_start : (b : BlockLists) (ps : List (ℕ × ℕ)) (x at start : ℕ) (old : List (ℕ × ℕ))
-    → Added b ps x at start start old old
-added_start b ps x at start old =
-    record {
-      inside = omega arith;
-      kept = λ j y e. e;
-      only = λ j y e. inl e;
-      all = λ p l m. absurd (omega (arith, l, m));
-    }
 
 module _ (b : BlockLists) (ps : List (ℕ × ℕ)) (rising : AreRising ps) (x at start : ℕ)
     (parted : Parted ps x at start)

@@ -412,12 +412,6 @@ pub record ArePairsTo (db : List Statement) (x : ℕ) (ps : List (ℕ × ℕ)) :
   pub rising : AreRising ps
   pub are : (y j : ℕ) → has_pair ps y j ≡ (nat_lt y x && has_symbol db y j)
 
-pub pairs_none : (db : List Statement) → ArePairsTo db 0 []
-pairs_none db = record {
-  rising = tt;
-  are = λ y j. sym (ap (λ b. b && has_symbol db y j) (le-ltb y 0 (omega arith)));
-}
-
 rising_append : (ps qs : List (ℕ × ℕ)) → AreRising ps → AreRising qs
     → ((a b x y : ℕ) → has_pair ps a b ≡ true → has_pair qs x y ≡ true → IsBefore a b x y)
     → AreRising (ps ++ qs)

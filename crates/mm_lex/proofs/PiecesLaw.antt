@@ -46,10 +46,6 @@ pub go_on_some : (text : List ℕ) (r : Reading) (ws : List Word) → is_some r.
     → go_on text r ws ≡ r
 go_on_some text r ws h = let e = some_from r.fault h in rw e.1 refl
 
-pub go_on_start : (text : List ℕ) (c : Option ℕ) (ws : List Word)
-    → go_on text (start c) ws ≡ reading text c ws
-go_on_start text c ws = refl
-
 module _ (text : List ℕ) (r : Reading) (w : Word) (b : Bool) (none : r.fault ≡ None)
     (is : b ≡ is_some r.comment) where
   step : {f : Role} → f ≡ role_of b (bytes_of text w)

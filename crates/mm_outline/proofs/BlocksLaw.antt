@@ -83,24 +83,6 @@ module _ (db : List Statement) (s : Statement) where
       ∙ ap₂ (λ a b. a && nat_le b (depth more (length db + 1))) (stays_here (length db))
       (depth_front (length db) (le_refl (length db)))
 
-pub blocks_none : IsBlocks [] no_blocks
-blocks_none = record {
-  count = refl;
-  few = omega arith;
-  nested = omega arith;
-  stack = refl;
-  known = λ j h. absurd (omega arith);
-  opened =
-      λ l h. let e : 0 ≡ l = omega arith in subst (λ l. get_or (0 ∷ []) l 0 < 1) e (omega arith);
-  still =
-      λ l h. let e : 0 ≡ l = omega arith in
-      subst (λ l. get_or (never ∷ []) (get_or (0 ∷ []) l 0) 0 ≡ never) e refl;
-  rising = λ l m h k. absurd (omega arith);
-  at = λ j h. absurd (omega arith);
-  ended = λ j k h l. absurd (omega arith);
-  bounds = λ j h. absurd (omega arith);
-}
-
 module _ (db : List Statement) (s : Statement) (b : BlockLists) (x : IsBlocks db b)
     (few : length db < never) where
   t : ℕ

@@ -80,10 +80,3 @@ module _ (n : Names) where
 abbrev pub pick : Bool → Fault → Fault → Fault
 pick true f g = f
 pick false f g = g
-
-pub lesser_is : (f g : Fault) → lesser f (Some g) ≡ Some (pick (is_before f g) f g)
-lesser_is f g = by (is_before f g)
-  where
-    by : (b : Bool) → elim b [ true ↦ Some f | false ↦ Some g ] ≡ Some (pick b f g)
-    by true = refl
-    by false = refl

@@ -254,19 +254,3 @@ short_text text e = by (cases_lt text_limit (length text))
         absurd (let f : Some (record { at = 0; code = TextTooLong })
         ≡ None = sym (lexical_fault_long text h) ∙ e in cc)
     by (inr h) = h
-
--- the fault at the end needs the length of a short text alone
-pub end_fault_short : (text : List ℕ) (len : ℕ) → (length text ≤ text_limit → len ≡ length text)
-    → (part : Part) (deep : ℕ)
-    → end_fault_of (lexical_fault text) len part deep
-    ≡ end_fault_of (lexical_fault text) (length text) part deep
-end_fault_short text len same part deep = by (lexical_fault text) refl
-  where
-    by : (o : Option Fault) → lexical_fault text ≡ o
-        → end_fault_of o len part deep ≡ end_fault_of o (length text) part deep
-    by None e = ap (λ n. end_fault_of None n part deep) (same (short_text text e))
-    by (Some f) e = refl
-
--- what the reading takes is what the text's bytes give
-pub lexed_is : (text : List ℕ) → lexed text (tokens_of text) (lexical_fault text) ≡ lexed_of text
-lexed_is text = refl

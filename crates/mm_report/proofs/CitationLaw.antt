@@ -30,11 +30,6 @@ separated_next (y ∷ z ∷ ys) x false none some =
     (separated_next (z ∷ ys) x false (λ e. absurd (true≢false (sym e))) (λ e. omega arith))
     ∙ sym (append_assoc y (32 ∷ separated (z ∷ ys)) (32 ∷ x))
 
--- an assertion is one of the statements
-pub assertion_below : (db : List Statement) (a : ℕ)
-    → list_any is_assertion (statement_at db a) ≡ true → a < length db
-assertion_below db a h = let f = found_at db is_assertion a h in inside_of db a f.0 f.1
-
 module _ (db : List Statement) (only : Option Bytes) (cited : List ℕ) where
   abbrev pub first : ℕ → List ℕ
   first i = listed db only (take i cited)

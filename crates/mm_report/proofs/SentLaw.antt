@@ -102,17 +102,6 @@ sent_flushed a b s t w f e =
       stuck = λ g. absurd (let no : true ≡ false = sym g ∙ f in cc);
     }
 
-pub sent_failed : (a b : Option (List ℕ)) (s t : Pending) (k : ℕ) → Appends a b (take k s.held)
-    → s.failed ≡ false → t.failed ≡ true → Sent a b s t []
-sent_failed a b s t k w f e =
-    record {
-      out = take k s.held;
-      wrote = w;
-      fine = λ g. absurd (let no : true ≡ false = sym e ∙ g in cc);
-      part = (k, ap (take k) (sym (append-nil s.held)));
-      stuck = λ g. absurd (let no : true ≡ false = sym g ∙ f in cc);
-    }
-
 -- a piece that is written past an empty buffer
 pub sent_past : (a b : Option (List ℕ)) (s t : Pending) (x : List ℕ) → Appends a b x
     → s.failed ≡ false → s.held ≡ [] → t.held ≡ [] → Sent a b s t x
@@ -130,17 +119,6 @@ sent_past a b s t x w f e g =
           absurd (let no : true
           ≡ false = sym h ∙ f in
           cc);
-    }
-
-pub sent_past_failed : (a b : Option (List ℕ)) (s t : Pending) (x : List ℕ) (k : ℕ)
-    → Appends a b (take k x) → s.failed ≡ false → s.held ≡ [] → t.failed ≡ true → Sent a b s t x
-sent_past_failed a b s t x k w f e g =
-    record {
-      out = take k x;
-      wrote = w;
-      fine = λ h. absurd (let no : true ≡ false = sym g ∙ h in cc);
-      part = (k, ap (take k) (ap (λ z. z ++ x) (sym e)));
-      stuck = λ h. absurd (let no : true ≡ false = sym h ∙ f in cc);
     }
 
 -- a count over places, as a count of tests

@@ -179,32 +179,6 @@ ready_at c columns bits i k cited row is lt words ready r within e =
     (subst (λ t. IsBitRow c columns t (row_at bits (words_for (length columns)) r)) e
     (ready r k within lt' e'))
 
--- no citation at all: nothing is set
-pub no_bits : (n j : ℕ) → is_bit (replicate n 0) j ≡ false
-no_bits n j = go (cases_lt (j / 64) n)
-  where
-    go : (j / 64 < n) ⊎ (n ≤ j / 64) → is_bit (replicate n 0) j ≡ false
-    go (inl l) =
-        ap (λ w. eqb (bit_at w (j % 64)) 1) (get_or-replicate n (j / 64) 0 0 l)
-        ∙ ap (λ x. eqb x 1) (bit_at-zero (j % 64))
-    go (inr g) = past_words (replicate n 0) j (omega (arith, length-replicate {A = ℕ}))
-
--- in file order the rows before i are those that it needs
-pub rows_ready : (c : Citing) (columns bits : List ℕ) (i : ℕ) → IsFileOrder c
-    → i < length c.theorems → AreBitRows c columns i bits → HasCitedRows c columns bits i
-rows_ready c columns bits i o within h =
-    λ r k lt listed e. let m = o.earlier i k within listed in
-    h.each r (below r lt (omega arith) (cases_order r i))
-  where
-    below : (r : ℕ) → r < length c.theorems → theorem_at c r < theorem_at c i
-        → (r ≡ i) ⊎ ((r < i) ⊎ (i < r)) → r < i
-    below r lt m (inl e) = let s = ap (theorem_at c) e in absurd (omega (arith, m, s))
-    below r lt m (inr (inl l)) = l
-    below r lt m (inr (inr g)) = let n = o.rising.rises i r g lt in absurd (omega (arith, m, n))
-
-pub rows_none : (c : Citing) (columns : List ℕ) → AreBitRows c columns 0 []
-rows_none c columns = record { size = omega arith; each = λ r lt. absurd (omega arith) }
-
 -- a row as a part of longer words
 pub row_kept : (bits more : List ℕ) (width r : ℕ) → r * width + width ≤ length bits
     → row_at (bits ++ more) width r ≡ row_at bits width r
@@ -215,18 +189,6 @@ row_kept bits more width r le =
     ∙ take-append-le width (drop (r * width) bits) more
     (omega (arith, length-drop (r * width) bits))
     ∙ ap (λ n. take n (drop (r * width) bits)) (sym w)
-
-pub rows_more : (c : Citing) (columns bits row : List ℕ) (i : ℕ) → AreBitRows c columns i bits
-    → IsBitRow c columns (theorem_at c i) row → AreBitRows c columns (i + 1) (bits ++ row)
-rows_more c columns bits row i h new = record {
-  size =
-      let l = length-append bits row in let s = h.size in let n = new.words in
-      let m = add-mul i 1 (words_for (length columns)) in omega (arith, l, s, n, m);
-  each = λ r lt. go r (cases_eq r i) lt;
-}
-  where
-    width : ℕ
-    width = words_for (length columns)
 
     go : (r : ℕ) → (r ≡ i) ⊎ (r ≡ i → ⊥) → r < i + 1
         → IsBitRow c columns (theorem_at c r) (row_at (bits ++ row) (words_for (length columns)) r)

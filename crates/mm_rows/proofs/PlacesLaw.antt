@@ -57,11 +57,3 @@ places_more list places n r within room h = record {
     all i lt (inr ne) =
         let below : i < n = omega arith in
         other (get_or list i 0) (λ e. ne (once list i n r (omega arith) within e)) ∙ h.all i below
-
--- a statement that has no place isn't in the list
-pub no_place : (list places : List ℕ) (s : ℕ) → IsStatementList list → ArePlaces list places
-    → get_or places s 4294967295 ≡ 4294967295 → (i : ℕ) → i < length list → get_or list i 0 ≡ s → ⊥
-no_place list places s r h none i lt e =
-    let few = r.few in
-    let at : i ≡ 4294967295 = sym (h.all i lt) ∙ ap (λ x. get_or places x 4294967295) e ∙ none in
-    absurd (omega (arith, few, at, lt))

@@ -54,16 +54,6 @@ row_past words width i n j lt size le =
     past_words (row_at words width i) j
     (let l = row_length words width i n lt size in omega (arith, l))
 
--- a row of a table has nothing past its columns
-pub table_past : (rows columns : ℕ) (bits : List ℕ) (i : ℕ) → IsTable rows columns bits → i < rows
-    → (j : ℕ) → columns ≤ j → is_bit (row_at bits (words_for columns) i) j ≡ false
-table_past rows columns bits i t lt j le = go (cases_lt j (64 * words_for columns))
-  where
-    go : (j < 64 * words_for columns) ⊎ (64 * words_for columns ≤ j)
-        → is_bit (row_at bits (words_for columns) i) j ≡ false
-    go (inl l) = row_bit bits (words_for columns) i j l ∙ t.past i j lt le l
-    go (inr g) = row_past bits (words_for columns) i rows j lt t.size g
-
 -- where a row ends
 pub row_end : (width i n len : ℕ) → i < n → len ≡ n * width → i * width + width ≤ len
 row_end width i n len lt size =

@@ -39,11 +39,6 @@ earlier_row c i r k o within listed lt e = go (cases_order r i)
     go (inr (inl l)) = l
     go (inr (inr g)) = let n = o.rising.rises i r g lt in let b = m in absurd (omega (arith, b, n))
 
-pub wave_none : (c : Citing) (waves : List ℕ) (i : ℕ) (cited : List ℕ) → cited ≡ list_at c i
-    → WaveTo c waves i cited 0 0
-wave_none c waves i cited is =
-    record { same = is; chain = tt; above = λ m r lt. absurd (omega arith); small = omega arith }
-
 -- one theorem more
 pub wave_more : (c : Citing) (waves : List ℕ) (i : ℕ) (cited : List ℕ) (n wave r : ℕ)
     → IsFileOrder c → i < length c.theorems → AreWaves c i waves → n < length cited
@@ -305,11 +300,6 @@ pub record MadeTo (c : Citing) (columns rows : List ℕ) (from : ℕ) (bits : Li
   pub size : length bits ≡ length c.theorems * words_for (length columns)
   pub within : from ≤ length rows
   pub made : (p : ℕ) → p < from → HasRow c columns bits (get_or rows p 0)
-
-pub made_start : (c : Citing) (columns rows bits : List ℕ)
-    → length bits ≡ length c.theorems * words_for (length columns) → MadeTo c columns rows 0 bits
-made_start c columns rows bits size =
-    record { size = size; within = omega arith; made = λ p l. absurd (omega arith) }
 
 -- the rows of a wave need those before them
 pub wave_ready : (c : Citing) (columns waves rows : List ℕ) (from to : ℕ) (bits : List ℕ)

@@ -1,9 +1,10 @@
 -- The report of citations that is written is that of the definitions.
-use Rattle.std.proofs.Common.{◌≡◌, ℕ, zero, suc, ◌<◌, Bool, List, [], ◌∷◌}
+use Rattle.std.proofs.Common.{◌≡◌, ℕ, ◌<◌, Bool, List, []}
 use Rattle.std.proofs.Common.{length, map, get_or, refl, sym, ap, subst, arith}
 use Rattle.std.specs.Prelude.{Option}
 use Rattle.std.specs.List.{AllZip, list_any}
 use Rattle.std.proofs.lemmas.List.Kept.{IsStrictlyIncreasing-filter}
+use Rattle.std.proofs.lemmas.List.{get_or-map}
 use Rattle.std.proofs.lemmas.List.FromFn.{get_or-map-range_with_len, length-map-range_with_len}
 use Rattle.mm_spec.specs.Statement.{Statement}
 use Rattle.mm_spec.specs.Scope.{statement_at}
@@ -58,7 +59,7 @@ module _ (db : List Statement) (request : Request) (c : Citing)
       let inside : i < length c.theorems = omega (arith, s, l) in
       subst (λ (x : CitingRow). IsCitingRowOf db request (get_or (theorems db) i 0) x)
       (sym (get_or-map-range_with_len f 0 (length c.theorems) i i (f 0) inside (omega arith))) (
-        mapped (theorems db) i l,
+        get_or-map (label_at db) (theorems db) i 0 [] l,
         (
           listed db request.only (list_at c i),
           subst
@@ -67,12 +68,6 @@ module _ (db : List Statement) (request : Request) (c : Citing)
           refl,
         ),
       ))
-    where
-      mapped : (ts : List ℕ) (i : ℕ) → i < length ts
-          → get_or (map (label_at db) ts) i [] ≡ label_at db (get_or ts i 0)
-      mapped [] i l = absurd (omega arith)
-      mapped (t ∷ ts) zero l = refl
-      mapped (t ∷ ts) (suc i) l = mapped ts i (omega arith)
 
   -- what is written of a database without a fault
   pub is_citation_report : (opened : Option ℕ) (axioms : List ℕ) → axioms ≡ columns db request.only

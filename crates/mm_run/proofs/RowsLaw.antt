@@ -1,8 +1,9 @@
 -- The report that is written is that of the definitions: a mark stands for a chain of citations.
-use Rattle.std.proofs.Common.{◌≡◌, ℕ, zero, suc, ◌<◌, Bool, false, List, [], ◌∷◌, length, map}
+use Rattle.std.proofs.Common.{◌≡◌, ℕ, suc, ◌<◌, Bool, false, List, [], ◌∷◌, length, map}
 use Rattle.std.proofs.Common.{get_or, Option, refl, sym, ap, subst, arith, ◌↔◌}
 use Rattle.std.specs.Prelude.{Decides}
 use Rattle.std.specs.List.{AllZip}
+use Rattle.std.proofs.lemmas.List.{get_or-map}
 use Rattle.std.proofs.lemmas.List.FromFn.{get_or-map-range_with_len, length-map-range_with_len}
 use Rattle.mm_spec.specs.Statement.{Statement}
 use Rattle.mm_spec.specs.Citation as proof
@@ -69,13 +70,7 @@ module _ (db : List Statement) (request : Request) (c : Citing) (m : Marks)
       subst (λ (x : Row). IsRowOf db request (get_or (theorems db) i 0) x)
       (sym (get_or-map-range_with_len f 0 m.rows i i (f 0) (omega (arith, r, s, l))
       (omega arith)))
-      (mapped (theorems db) i l, marks_zip i l))
-    where
-      mapped : (ts : List ℕ) (i : ℕ) → i < length ts
-          → get_or (map (label_at db) ts) i [] ≡ label_at db (get_or ts i 0)
-      mapped [] i l = absurd (omega arith)
-      mapped (t ∷ ts) zero l = refl
-      mapped (t ∷ ts) (suc i) l = mapped ts i (omega arith)
+      (get_or-map (label_at db) (theorems db) i 0 [] l, marks_zip i l))
 
 -- the report of rows is that of a choice other than the citations
 reports : (db : List Statement) (opened : Option ℕ) (request : Request) (choice : Choice)

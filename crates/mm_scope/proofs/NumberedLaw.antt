@@ -182,13 +182,6 @@ words_more text ws from i l h =
     sym (ap words (between_more text ws from i l h)
     ∙ map-append (λ (t : Token). t.word) (between text ws from i) (token_at text ws i ∷ []))
 
--- the names after words that are declared one by one
-pub names_none : (text : List ℕ) (ws : List place.Word) (from : ℕ) (d : List Bytes)
-    → first_occurrences [] d ≡ first_occurrences [] (d ++ words (between text ws from from))
-names_none text ws from d =
-    ap (first_occurrences [])
-    (sym (append-nil d) ∙ ap (λ l. d ++ words l) (between_none text ws from))
-
 pub names_more : (text : List ℕ) (ws : List place.Word) (from i : ℕ) → from ≤ i → i < length ws
     → (d : List Bytes)
     → with_name (token_at text ws i).word

@@ -1,4 +1,6 @@
 -- Tests joined by `||` and `&&`, beyond what the standard library says of them.
+use Rattle.std.proofs.Common.{arith}
+use Rattle.std.proofs.lemmas.Grind.{common_steps}
 use Rattle.std.proofs.Common.{◌≡◌, Bool, true, false, ◌||◌, ◌&&◌, refl, sym}
 use Rattle.std.proofs.lemmas.Bool.{and_parts}
 
@@ -19,6 +21,4 @@ lone false e = e
 
 -- the two inner ones of four tests that all pass
 pub middle_parts : (a b c d : Bool) → (a && b && c && d) ≡ true → (b ≡ true) × (c ≡ true)
-middle_parts a b c d e =
-    let three = (and_parts (a && b && c) d e).0 in
-    ((and_parts a b (and_parts (a && b) c three).0).1, (and_parts (a && b) c three).1)
+middle_parts a b c d e = grind (arith, common_steps, and_parts)

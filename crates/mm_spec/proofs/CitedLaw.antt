@@ -1,19 +1,14 @@
 -- What a proof cites is earlier than its theorem, and a theorem has one proof at most.
+use Rattle.std.proofs.lemmas.Grind.{common_steps}
 use Rattle.std.proofs.Common.{◌≡◌, ℕ, ◌==◌, ◌<◌, Bool, true, false, ◌||◌, ◌⊎◌, inl, inr, List, []}
-use Rattle.std.proofs.Common.{◌∷◌, ◌++◌, map, length, slice_get, Option, Some, None, refl, sym, ap}
+use Rattle.std.proofs.Common.{◌∷◌, ◌++◌, Option, None, sym, ap}
 use Rattle.std.proofs.Common.{◌∙◌, subst, arith, true≢false, eqb-true, length-append}
-use Rattle.std.specs.List.{list_any}
 use Rattle.std.proofs.lemmas.Bool.{or_cases}
 use Rattle.std.proofs.lemmas.List.Folds.{list_any-append}
-use Rattle.mm_spec.specs.Statement.{Statement, constants, variables, disjoint, floating, essential}
-use Rattle.mm_spec.specs.Statement.{axiomatic, provable, opening, closing}
-use Rattle.mm_spec.specs.Scope.{is_active}
+use Rattle.mm_spec.specs.Statement.{Statement}
 use Rattle.mm_spec.specs.Derivation.{Context, Rule, Trees, none, more, postfix, formulas}
 use Rattle.mm_spec.specs.Derivation.{AreDerivations, Follows, is_member}
-use Rattle.mm_spec.specs.Valid.{IsPlain}
-use Rattle.mm_spec.specs.Steps.{PlacedStep}
-use Rattle.mm_spec.specs.Proof.{steps}
-use Rattle.mm_spec.specs.Citation.{context_at, rule_of, steps_at, is_theorem, IsProof, Cites}
+use Rattle.mm_spec.specs.Citation.{steps_at, IsProof, Cites}
 use Rattle.mm_spec.specs.Laws.Complete.{AreComplete}
 use Rattle.mm_spec.specs.Output.{is_theorem_at}
 use Rattle.mm_spec.proofs.CheckedLaw.{same_forest, plain_unique}
@@ -58,15 +53,7 @@ module _ (db : List Statement) where
   -- a label of a theorem's proof is that of an earlier statement
   pub cited_earlier : (t a : ℕ) (d : Trees) → IsProof db t d → is_member (postfix d) a ≡ true
       → a < t
-  cited_earlier t a d p m = by (is_active db a t) refl
-    where
-      by : (b : Bool) → is_active db a t ≡ b → a < t
-      by true e = is_before db a t e
-      by false e =
-          absurd (label_stands (context_at db t) a d p.3 m
-          (ap (λ b. elim b
-          [ false ↦ None | true ↦ elim (slice_get db a) [ None ↦ None | Some s ↦ rule_of db a s ] ])
-          e))
+  cited_earlier t a d p m = grind (arith, common_steps, is_before, label_stands)
 
   -- what a theorem cites is earlier
   pub cites_earlier : (by_essential : Bool) (t a : ℕ) → Cites db by_essential t a → a < t
@@ -74,44 +61,13 @@ module _ (db : List Statement) where
       cited_earlier t a c.1 c.2 (label_member db by_essential c.1 a c.3)
 
   no_steps : (t : ℕ) (d : Trees) → steps_at db t ≡ [] → IsProof db t d → ⊥
-  no_steps t d e p =
-      let plain : postfix d ≡ [] =
-      subst (λ (ss : List PlacedStep). IsPlain (context_at db t) (map (λ s. s.step) ss) (postfix d))
-      e p.4 in
-      let whole = ap length (sym (ap postfix p.2) ∙ plain) in
-      omega (arith, whole, length-append (postfix p.1) (p.0 ∷ []))
+  no_steps t d e p = grind (arith, common_steps, length-append)
 
   -- what has a proof is a theorem
   pub proof_theorem : (t : ℕ) (d : Trees) → IsProof db t d → is_theorem_at db t ≡ true
-  proof_theorem t d p = by (slice_get db t) refl
-    where
-      none_of : (o : Option Statement) → slice_get db t ≡ o
-          → ◌≡◌ {A = List PlacedStep}
-          (elim o [ Some (provable l k xs q ps f) ↦ steps db t ps | _ ↦ [] ]) []
-          → is_theorem_at db t ≡ true
-      none_of o e n =
-          absurd (no_steps t d
-          (ap (λ (o : Option Statement). elim o
-          [ Some (provable l k xs q ps f) ↦ steps db t ps | _ ↦ [] ]) e
-          ∙ n) p)
-
-      by : (o : Option Statement) → slice_get db t ≡ o → is_theorem_at db t ≡ true
-      by None e = none_of None e refl
-      by (Some (provable l k xs q ps f)) e =
-          ap (λ o. list_any is_theorem (elim o [ None ↦ [] | Some s ↦ s ∷ [] ])) e
-      by (Some (constants k xs f)) e = none_of (Some (constants k xs f)) e refl
-      by (Some (variables k xs f)) e = none_of (Some (variables k xs f)) e refl
-      by (Some (disjoint k xs f)) e = none_of (Some (disjoint k xs f)) e refl
-      by (Some (floating l k xs f)) e = none_of (Some (floating l k xs f)) e refl
-      by (Some (essential l k xs f)) e = none_of (Some (essential l k xs f)) e refl
-      by (Some (axiomatic l k xs f)) e = none_of (Some (axiomatic l k xs f)) e refl
-      by (Some (opening k)) e = none_of (Some (opening k)) e refl
-      by (Some (closing k)) e = none_of (Some (closing k)) e refl
+  proof_theorem t d p = grind (arith, common_steps, no_steps)
 
 -- a theorem has one proof at most
 pub proof_unique : (db : List Statement) → AreComplete db → (t : ℕ) (d e : Trees) → IsProof db t d
     → IsProof db t e → d ≡ e
-proof_unique db fine t d e p q =
-    same_forest (context_at db t) (fine t) d e p.3 q.3
-    (plain_unique (context_at db t) (fine t) (map (λ s. s.step) (steps_at db t)) [] []
-    (postfix d) (postfix e) p.4 q.4)
+proof_unique db fine t d e p q = grind (arith, common_steps, plain_unique, same_forest)

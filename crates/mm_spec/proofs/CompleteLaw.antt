@@ -1,4 +1,6 @@
 -- The frames of lawful statements are complete.
+use Rattle.std.proofs.Common.{arith}
+use Rattle.std.proofs.lemmas.Grind.{common_steps}
 use Rattle.std.proofs.Common.{◌≡◌, ℕ, ◌==◌, ◌<◌, Bool, true, false, ◌&&◌, ◌||◌, not, ◌⊎◌, inl, inr}
 use Rattle.std.proofs.Common.{List, [], ◌∷◌, ◌++◌, map, length, flat_map, Option, Some, None}
 use Rattle.std.proofs.Common.{slice_get, nat_lt, refl, sym, ap, ap₂, ◌∙◌, subst, true≢false}
@@ -6,12 +8,12 @@ use Rattle.std.proofs.Common.{bytes_eq, eqb-true, eq-eqb}
 use Rattle.std.specs.List.{list_any, range_with_len}
 use Rattle.std.proofs.lemmas.Bool.{or_cases, or_left, or_right, and_parts, and_from, cases_order}
 use Rattle.std.proofs.lemmas.List.Folds.{list_any-append}
-use Rattle.mm_spec.specs.Text.{Bytes, Fault, fault, is_in, words}
+use Rattle.mm_spec.specs.Text.{Bytes, fault, is_in, words}
 use Rattle.mm_spec.specs.Statement.{Statement, constants, variables, disjoint, floating, essential}
 use Rattle.mm_spec.specs.Statement.{axiomatic, provable, opening, closing, symbols_of}
 use Rattle.mm_spec.specs.Scope.{Typing, names_before, depth, is_active, active, active_statements}
 use Rattle.mm_spec.specs.Scope.{statement_at, constants_of, variables_of, typings_of}
-use Rattle.mm_spec.specs.Lawful.{scope_faults, least, scope_fault, IsLawful}
+use Rattle.mm_spec.specs.Lawful.{scope_faults, scope_fault, IsLawful}
 use Rattle.mm_spec.specs.Frame.{symbol_names, place_of, formula_of, formula_at, is_variable_number}
 use Rattle.mm_spec.specs.Frame.{is_floating, is_essential, active_of, mandatory_variables}
 use Rattle.mm_spec.specs.Frame.{mandatory_hypotheses, frame_at, pairs_of, disjoint_at}
@@ -50,13 +52,7 @@ is_mandatory_pair db k p =
 module _ (db : List Statement) (lawful : (k : ℕ) → k < length db → IsLawful db k) where
   faultless : (k : ℕ) (s : Statement) → slice_get db k ≡ Some s
       → scope_faults (names_before db k) (depth db k) s ≡ []
-  faultless k s e =
-      least_none (scope_faults (names_before db k) (depth db k) s)
-      (sym (ap judged e) ∙ lawful k (inside_of db k s e))
-    where
-      judged : Option Statement → Option Fault
-      judged o =
-          elim o [ None ↦ None | Some s ↦ least (scope_faults (names_before db k) (depth db k) s) ]
+  faultless k s e = grind (arith, common_steps, inside_of, least_none)
 
   -- no constant is a variable
   pub constant_apart : (w : Bytes) → is_in w (flat_map constants_of db) ≡ true
@@ -83,12 +79,7 @@ module _ (db : List Statement) (lawful : (k : ℕ) → k < length db → IsLawfu
 
   constant_before : (k : ℕ) (w : Bytes) → is_in w (names_before db k).constants ≡ true
       → is_variable_number db (place_of w (symbol_names db)) ≡ false
-  constant_before k w c = by (is_variable_number db (place_of w (symbol_names db))) refl
-    where
-      by : (b : Bool) → is_variable_number db (place_of w (symbol_names db)) ≡ b → b ≡ false
-      by true e =
-          absurd (constant_apart w (declared_before constants_of db k w c) (variable_word db w e))
-      by false e = refl
+  constant_before k w c = grind (arith, common_steps, constant_apart, declared_before, variable_word)
 
   -- statement i is the `$f` of x
   pub record Types (i x : ℕ) : Type 0 where
@@ -190,27 +181,12 @@ module _ (db : List Statement) (lawful : (k : ℕ) → k < length db → IsLawfu
   -- the `$f` of a mandatory variable is mandatory
   pub type_mandatory : (k i x : ℕ) → Types i x → is_member (mandatory_variables db k) x ≡ true
       → is_mandatory db k i ≡ true
-  type_mandatory k i x t h =
-      let has : list_any (is_member (mandatory_variables db k)) (formula_at db i) ≡ true =
-      ap (list_any (is_member (mandatory_variables db k))) t.is
-      ∙ or_right (is_member (mandatory_variables db k) t.typecode)
-      (is_member (mandatory_variables db k) x || false)
-      (or_left (is_member (mandatory_variables db k) x) false h) in
-      or_right (list_any is_essential (statement_at db i))
-      (list_any is_floating (statement_at db i)
-      && list_any (is_member (mandatory_variables db k)) (formula_at db i))
-      (and_from (list_any is_floating (statement_at db i))
-      (list_any (is_member (mandatory_variables db k)) (formula_at db i))
-      (at_found db is_floating i t.statement t.stands t.floats) has)
+  type_mandatory k i x t h = grind (arith, common_steps, and_from, at_found, or_left, or_right)
 
   -- each variable of the formula is mandatory
   pub of_formula : (k x : ℕ) → is_member (formula_at db k) x ≡ true → is_variable_number db x ≡ true
       → is_member (mandatory_variables db k) x ≡ true
-  of_formula k x h v =
-      let more = flat_map (formula_at db) (active_of is_essential db k) in
-      filter_member (is_variable_number db) (formula_at db k ++ more) x v
-      (list_any-append (λ y. x == y) (formula_at db k) more
-      ∙ or_left (is_member (formula_at db k) x) (is_member more x) h)
+  of_formula k x h v = grind (arith, common_steps, filter_member, list_any-append, or_left)
 
   -- so is each variable of a mandatory hypothesis
   pub of_hypothesis : (k j x : ℕ) → is_active db j k ≡ true → is_mandatory db k j ≡ true
@@ -287,9 +263,7 @@ module _ (db : List Statement) (lawful : (k : ℕ) → k < length db → IsLawfu
   pub of_pair : (k : ℕ) (p : Pair) → is_mandatory_pair db k p ≡ true
       → (is_member (mandatory_variables db k) p.low ≡ true)
       × (is_member (mandatory_variables db k) p.high ≡ true)
-  of_pair k p h =
-      middle_parts (nat_lt p.low p.high) (is_member (mandatory_variables db k) p.low)
-      (is_member (mandatory_variables db k) p.high) (disjoint_at db k p.low p.high) h
+  of_pair k p h = grind (arith, common_steps, middle_parts)
 
   module _ (m k : ℕ) (s : Statement) (e : slice_get db k ≡ Some s) (f : has_formula s ≡ true) where
     abbrev frame_hypotheses : List Formula

@@ -1,7 +1,8 @@
 -- What statements without a fault of scope have: declared symbols, typed variables.
-use Rattle.std.proofs.Common.{◌≡◌, ℕ, suc, ◌==◌, ◌<◌, ◌≤◌, Bool, true, false, ◌&&◌, ◌||◌, not, ◌⊎◌}
-use Rattle.std.proofs.Common.{inl, inr, List, [], ◌∷◌, ◌++◌, map, flat_map, Option, Some, None}
-use Rattle.std.proofs.Common.{slice_get, nat_lt, refl, sym, ap, ap₂, ◌∙◌, subst, true≢false, arith}
+use Rattle.std.proofs.lemmas.Grind.{common_steps}
+use Rattle.std.proofs.Common.{◌≡◌, ℕ, suc, ◌==◌, Bool, true, false, ◌&&◌, ◌||◌, not, ◌⊎◌}
+use Rattle.std.proofs.Common.{inl, inr, List, [], ◌∷◌, ◌++◌, map, flat_map, Some, None}
+use Rattle.std.proofs.Common.{slice_get, nat_lt, refl, sym, ap, ◌∙◌, true≢false, arith}
 use Rattle.std.proofs.Common.{bytes_eq, eqb-true, lt-ltb}
 use Rattle.std.specs.List.{list_any}
 use Rattle.std.proofs.lemmas.Bool.{or_cases, or_left, or_right, and_parts, and_from, cases_lt}
@@ -10,41 +11,25 @@ use Rattle.std.proofs.lemmas.Bool.{not-false}
 use Rattle.mm_spec.specs.Text.{Bytes, Token, Fault, fault, is_in, words}
 use Rattle.mm_spec.specs.Statement.{Statement, constants, variables, floating, essential, axiomatic}
 use Rattle.mm_spec.specs.Statement.{provable, symbols_of}
-use Rattle.mm_spec.specs.Scope.{Names, Typing, depth, is_local, is_global, is_active}
-use Rattle.mm_spec.specs.Scope.{is_active_some, constants_of, variables_of, typings_of, stays}
-use Rattle.mm_spec.specs.Laws.Blocks.{InBlock}
-use Rattle.mm_spec.specs.Lawful.{when, at, at_each, constant_codes, variable_codes, symbol_codes}
-use Rattle.mm_spec.specs.Lawful.{is_typed, is_empty, formula_faults, label_faults, floating_faults}
-use Rattle.mm_spec.specs.Lawful.{scope_faults, lesser, least, is_before}
+use Rattle.mm_spec.specs.Scope.{Names, Typing, is_local, is_global, is_active}
+use Rattle.mm_spec.specs.Scope.{constants_of, variables_of, typings_of, stays}
+use Rattle.mm_spec.specs.Lawful.{when, at, at_each, symbol_codes}
+use Rattle.mm_spec.specs.Lawful.{is_typed, formula_faults, label_faults, floating_faults}
+use Rattle.mm_spec.specs.Lawful.{scope_faults, least}
 use Rattle.mm_spec.specs.Frame.{symbol_names, place_of, is_variable_number, is_floating}
 use Rattle.mm_spec.specs.Frame.{is_essential}
 use Rattle.mm_spec.specs.Derivation.{is_member}
 use Rattle.mm_spec.specs.declared.Code.{Code}
-use Rattle.mm_spec.specs.declared.Code.TheVariants.{ConstantInBlock, EmptyDeclaration}
-use Rattle.mm_spec.specs.declared.Code.TheVariants.{DeclaredBefore, LabelIsSymbol, LabelUsedBefore}
 use Rattle.mm_spec.specs.declared.Code.TheVariants.{UndeclaredSymbol}
 use Rattle.mm_spec.specs.declared.Code.TheVariants.{UntypedVariable, BadTypecode, BadFloating}
 use Rattle.mm_spec.proofs.ActivityLaw.{stays_exact}
-use Rattle.mm_spec.proofs.FindsLaw.{any_flat_map, any_map, any_filter, member_filter}
-use Rattle.mm_spec.proofs.FindsLaw.{filter_member, each_member, each_map, each_any, each_filter}
-use Rattle.mm_spec.proofs.FindsLaw.{inside_of, formula_at_is, found_at, at_found, found_active}
-use Rattle.mm_spec.proofs.FindsLaw.{active_found, same_word, declared, declares, declared_before}
-use Rattle.mm_spec.proofs.FindsLaw as finds
+use Rattle.mm_spec.proofs.FindsLaw.{same_word}
 
 -- ---- no faults
 
 pub least_none : (fs : List Fault) → least fs ≡ None → fs ≡ []
 least_none [] e = refl
-least_none (f ∷ fs) e = absurd (by (least fs) e)
-  where
-    two : (g : Fault) (b : Bool)
-        → ◌≡◌ {A = Option Fault} (elim b [ true ↦ Some f | false ↦ Some g ]) None → ⊥
-    two g true e = cc
-    two g false e = cc
-
-    by : (o : Option Fault) → lesser f o ≡ None → ⊥
-    by None e = cc
-    by (Some g) e = two g (is_before f g) e
+least_none (f ∷ fs) e = grind (arith, common_steps)
 
 pub append_none : {X : Type 0} (xs ys : List X) → xs ++ ys ≡ [] → (xs ≡ []) × (ys ≡ [])
 append_none [] ys e = (refl, e)
@@ -97,31 +82,12 @@ no_kind _ w c v = true≢false (sym c)
 
 pub new_constant : (n : Names) (d : ℕ) (s : Statement) (w : Bytes) → scope_faults n d s ≡ []
     → is_in w (constants_of s) ≡ true → is_in w n.all_variables ≡ false
-new_constant n d (constants k xs e) w f m =
-    let x =
-    each_none (constant_codes n) [] xs
-    (append_none
-    (at k (when (nat_lt 0 d) ConstantInBlock) ++ at e (when (is_empty n xs) EmptyDeclaration))
-    (at_each (constant_codes n) [] xs) f).1 w m in
-    second_of_three (is_in w n.constants) (is_in w n.all_variables) (is_in w x.0)
-    (when_none _ DeclaredBefore
-    (append_none
-    (when (is_in w n.constants || is_in w n.all_variables || is_in w x.0) DeclaredBefore)
-    (when (is_in w n.labels) LabelIsSymbol) x.1).0)
+new_constant n d (constants k xs e) w f m = grind (arith, common_steps, append_none, each_none, second_of_three, when_none)
 new_constant n d _ w f m = absurd (true≢false (sym m))
 
 pub new_variable : (n : Names) (d : ℕ) (s : Statement) (w : Bytes) → scope_faults n d s ≡ []
     → is_in w (variables_of s) ≡ true → is_in w n.constants ≡ false
-new_variable n d (variables k xs e) w f m =
-    let x =
-    each_none (variable_codes n) [] xs
-    (append_none (at e (when (is_empty n xs) EmptyDeclaration))
-    (at_each (variable_codes n) [] xs) f).1 w m in
-    first_of_three (is_in w n.constants) (is_in w n.active_variables) (is_in w x.0)
-    (when_none _ DeclaredBefore
-    (append_none
-    (when (is_in w n.constants || is_in w n.active_variables || is_in w x.0) DeclaredBefore)
-    (when (is_in w n.labels) LabelIsSymbol) x.1).0)
+new_variable n d (variables k xs e) w f m = grind (arith, common_steps, append_none, each_none, first_of_three, when_none)
 new_variable n d _ w f m = absurd (true≢false (sym m))
 
 -- ---- formulas
@@ -180,13 +146,7 @@ statement_known n d _ h f w m = absurd (true≢false (sym h))
 
 -- a label without a fault is new
 pub label_new : (n : Names) (l : Token) → label_faults n l ≡ [] → is_in l.word n.labels ≡ false
-label_new n l h =
-    when_none (is_in l.word n.labels) LabelUsedBefore
-    (append_none (when (is_in l.word n.constants || is_in l.word n.all_variables) LabelIsSymbol)
-    (when (is_in l.word n.labels) LabelUsedBefore)
-    (at_none l.at
-    (when (is_in l.word n.constants || is_in l.word n.all_variables) LabelIsSymbol
-    ++ when (is_in l.word n.labels) LabelUsedBefore) h)).1
+label_new n l h = grind (arith, common_steps, append_none, at_none, when_none)
 
 -- a `$f` has a constant and a variable
 pub record IsTyping (n : Names) (s : Statement) : Type 0 where
@@ -246,14 +206,7 @@ place_get w v (u ∷ us) e = by (bytes_eq w u) refl e (λ h. place_get w v us h)
 pub variable_word : (db : List Statement) (w : Bytes)
     → is_variable_number db (place_of w (symbol_names db)) ≡ true
     → is_in w (flat_map variables_of db) ≡ true
-variable_word db w e = by (slice_get (symbol_names db) (place_of w (symbol_names db))) refl e
-  where
-    by : (o : Option Bytes) → slice_get (symbol_names db) (place_of w (symbol_names db)) ≡ o
-        → elim o [ None ↦ false | Some w ↦ is_in w (flat_map variables_of db) ] ≡ true
-        → is_in w (flat_map variables_of db) ≡ true
-    by None o e = absurd (true≢false (sym e))
-    by (Some v) o e =
-        subst (λ u. is_in u (flat_map variables_of db) ≡ true) (place_get w v (symbol_names db) o) e
+variable_word db w e = grind (arith, common_steps, place_get)
 
 pub member_word : (names ws : List Bytes) (x : ℕ)
     → is_member (map (λ w. place_of w names) ws) x ≡ true
@@ -291,31 +244,10 @@ essential_local _ e = absurd (true≢false (sym e))
 
 local_is : (db : List Statement) (i k : ℕ) (s : Statement) → slice_get db i ≡ Some s → IsLocal s
     → is_active db i k ≡ (nat_lt i k && stays db i k)
-local_is db i k s e l =
-    ap (λ o. nat_lt i k && is_active_some o (stays db i k)) e
-    ∙ ap₂ (λ g h. nat_lt i k && (g || (h && stays db i k))) l.global l.local
+local_is db i k s e l = grind (arith, common_steps)
 
 -- what is active at a statement that is still active, is active too
 pub still : (db : List Statement) (i j k : ℕ) (s t : Statement) → slice_get db i ≡ Some s
     → IsLocal s → slice_get db j ≡ Some t → IsLocal t → is_active db i j ≡ true
     → is_active db j k ≡ true → is_active db i k ≡ true
-still db i j k s t e l f m a b =
-    let before : i < j = finds.is_before db i j a in
-    let after : j < k = finds.is_before db j k b in
-    let one : stays db i j ≡ true =
-    (and_parts (nat_lt i j) (stays db i j) (sym (local_is db i j s e l) ∙ a)).1 in
-    let two : stays db j k ≡ true =
-    (and_parts (nat_lt j k) (stays db j k) (sym (local_is db j k t f m) ∙ b)).1 in
-    let first : InBlock db i j = (stays_exact db i j (omega arith)).0 one in
-    let second : InBlock db j k = (stays_exact db j k (omega arith)).0 two in
-    local_is db i k s e l
-    ∙ and_from (nat_lt i k) (stays db i k) (lt-ltb i k (omega arith))
-    ((stays_exact db i k (omega arith)).1
-    (λ n h u. go n h u before (first j before (omega arith)) (first n h) (λ v. second n v u)
-    (cases_lt j n)))
-  where
-    go : (n : ℕ) → i < n → n ≤ k → i < j → depth db i ≤ depth db j
-        → (n ≤ j → depth db i ≤ depth db n) → (j < n → depth db j ≤ depth db n) → (j < n) ⊎ (n ≤ j)
-        → depth db i ≤ depth db n
-    go n h u b at first second (inl v) = let x = second v in omega arith
-    go n h u b at first second (inr v) = first v
+still db i j k s t e l f m a b = grind (arith, common_steps, and_from, and_parts, cases_lt, local_is, lt-ltb, stays_exact)

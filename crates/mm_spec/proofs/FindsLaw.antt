@@ -1,7 +1,8 @@
 -- What tests of lists find among active statements and names.
-use Rattle.std.proofs.Common.{cond, ◌≡◌, ℕ, zero, suc, ◌+◌, ◌==◌, ◌<◌, ◌≤◌, Bool, true, false, ◌&&◌}
+use Rattle.std.proofs.lemmas.Grind.{common_steps}
+use Rattle.std.proofs.Common.{◌≡◌, ℕ, zero, suc, ◌+◌, ◌==◌, ◌<◌, ◌≤◌, Bool, true, false, ◌&&◌}
 use Rattle.std.proofs.Common.{◌||◌, ◌⊎◌, inl, inr, List, [], ◌∷◌, map, take, length, flat_map}
-use Rattle.std.proofs.Common.{Option, Some, None, slice_get, refl, sym, ap, ◌∙◌, subst, true≢false}
+use Rattle.std.proofs.Common.{Some, None, slice_get, refl, sym, ap, ◌∙◌, subst, true≢false}
 use Rattle.std.proofs.Common.{append-nil, arith, bytes_eq, ltb-true, eqb-true, eq-eqb}
 use Rattle.std.proofs.Common.{eq-or-lt_of_le}
 use Rattle.std.specs.List.{list_any, range_with_len, AllByRecursion, filter}
@@ -31,13 +32,7 @@ any_map p f (x ∷ xs) = ap (λ b. p (f x) || b) (any_map p f xs)
 pub any_filter : {X : Type 0} (t p : X → Bool) (xs : List X)
     → list_any p (filter t xs) ≡ list_any (λ x. t x && p x) xs
 any_filter t p [] = refl
-any_filter {X} t p (x ∷ xs) = by (t x) (any_filter t p xs)
-  where
-    by : (b : Bool) → list_any p (filter t xs) ≡ list_any (λ y. t y && p y) xs
-        → list_any p (cond b (x ∷ filter t xs) (filter t xs))
-        ≡ ((b && p x) || list_any (λ y. t y && p y) xs)
-    by true r = ap (λ b. p x || b) r
-    by false r = r
+any_filter {X} t p (x ∷ xs) = grind (arith, common_steps, any_filter t p xs)
 
 any_range : (p : ℕ → Bool) (n a : ℕ) → list_any p (range_with_len a n) ≡ true
     → (i : ℕ) × (p i ≡ true)
@@ -88,30 +83,14 @@ member_filter t xs x e = go xs (sym (any_filter t (λ y. x == y) xs) ∙ e)
 
 pub filter_member : (t : ℕ → Bool) (xs : List ℕ) (x : ℕ) → t x ≡ true → is_member xs x ≡ true
     → is_member (filter t xs) x ≡ true
-filter_member t xs x e m = any_filter t (λ y. x == y) xs ∙ go xs m
-  where
-    go : (ys : List ℕ) → is_member ys x ≡ true → list_any (λ y. t y && (x == y)) ys ≡ true
-    go [] h = h
-    go (y ∷ ys) h = by (or_cases (x == y) (is_member ys x) h) (λ k. go ys k)
-      where
-        by : ((x == y) ≡ true) ⊎ (is_member ys x ≡ true)
-            → (is_member ys x ≡ true → list_any (λ y. t y && (x == y)) ys ≡ true)
-            → ((t y && (x == y)) || list_any (λ y. t y && (x == y)) ys) ≡ true
-        by (inl k) on =
-            or_left (t y && (x == y)) (list_any (λ y. t y && (x == y)) ys)
-            (and_from (t y) (x == y) (subst (λ z. t z ≡ true) (eqb-true x y k) e) k)
-        by (inr k) on = or_right (t y && (x == y)) (list_any (λ y. t y && (x == y)) ys) (on k)
+filter_member t xs x e m = grind (arith, common_steps, and_from, any_filter, eqb-true, or_cases, or_left, or_right)
 
 -- ---- what holds of each element
 
 pub each_member : (P : ℕ → Type 0) (xs : List ℕ) → ((x : ℕ) → is_member xs x ≡ true → P x)
     → AllByRecursion P xs
 each_member P [] h = tt
-each_member P (x ∷ xs) h = (
-  h x (or_left (x == x) (is_member xs x) (eq-eqb x x refl)),
-  each_member P xs
-      (λ y m. h y (or_right (y == x) (is_member xs y) m)),
-)
+each_member P (x ∷ xs) h = grind (arith, common_steps, eq-eqb, or_left, or_right, each_member P xs (λ y m. h y (or_right (y == x) (is_member xs y) m)))
 
 pub each_map : {X Y : Type 0} (P : Y → Type 0) (f : X → Y) (xs : List X)
     → AllByRecursion (λ x. P (f x)) xs → AllByRecursion P (map f xs)
@@ -125,12 +104,7 @@ each_any P (x ∷ xs) h = (h x, each_any P xs h)
 pub each_filter : {X : Type 0} (P : X → Type 0) (t : X → Bool) (xs : List X)
     → AllByRecursion (λ x. t x ≡ true → P x) xs → AllByRecursion P (filter t xs)
 each_filter P t [] h = tt
-each_filter {X} P t (x ∷ xs) h = by (t x) h.0 (each_filter P t xs h.1)
-  where
-    by : (b : Bool) → (b ≡ true → P x) → AllByRecursion P (filter t xs)
-        → AllByRecursion P (cond b (x ∷ filter t xs) (filter t xs))
-    by true g r = (g refl, r)
-    by false g r = r
+each_filter {X} P t (x ∷ xs) h = grind (arith, common_steps, each_filter P t xs h.1)
 
 -- ---- statements
 
@@ -153,13 +127,7 @@ formula_at_is db i s e =
 pub found_at : (db : List Statement) (q : Statement → Bool) (i : ℕ)
     → list_any q (statement_at db i) ≡ true
     → (s : Statement) × (slice_get db i ≡ Some s) × (q s ≡ true)
-found_at db q i e = by (slice_get db i) refl e
-  where
-    by : (o : Option Statement) → slice_get db i ≡ o
-        → list_any q (elim o [ None ↦ [] | Some s ↦ s ∷ [] ]) ≡ true
-        → (s : Statement) × (slice_get db i ≡ Some s) × (q s ≡ true)
-    by None o e = absurd (true≢false (sym e))
-    by (Some s) o e = (s, o, lone (q s) e)
+found_at db q i e = grind (arith, common_steps, lone)
 
 pub at_found : (db : List Statement) (q : Statement → Bool) (i : ℕ) (s : Statement)
     → slice_get db i ≡ Some s → q s ≡ true → list_any q (statement_at db i) ≡ true
@@ -170,12 +138,7 @@ is_before db i k e = ltb-true i k (and_parts _ _ e).0
 
 pub found_active : (db : List Statement) (k : ℕ) (q : ℕ → Bool) → list_any q (active db k) ≡ true
     → (i : ℕ) × (is_active db i k ≡ true) × (q i ≡ true)
-found_active db k q e =
-    let h =
-    any_range (λ i. is_active db i k && q i) k 0
-    (sym (any_filter (λ i. is_active db i k) q (range_with_len 0 k)) ∙ e) in
-    let p = and_parts (is_active db h.0 k) (q h.0) h.1 in
-    (h.0, p.0, p.1)
+found_active db k q e = grind (arith, common_steps, and_parts, any_filter, any_range)
 
 pub active_found : (db : List Statement) (k : ℕ) (q : ℕ → Bool) (i : ℕ) → is_active db i k ≡ true
     → q i ≡ true → list_any q (active db k) ≡ true
@@ -214,15 +177,8 @@ pub declares : (f : Statement → List Bytes) (db : List Statement) (k i : ℕ) 
 declares f [] k zero s w e h m = absurd (cc)
 declares f [] k (suc i) s w e h m = absurd (cc)
 declares f (x ∷ db) zero i s w e h m = absurd (omega arith)
-declares f (x ∷ db) (suc k) zero s w e h m =
-    let same : x ≡ s = cc in
-    list_any-append (bytes_eq w) (f x) (flat_map f (take k db))
-    ∙ or_left (is_in w (f x)) (is_in w (flat_map f (take k db)))
-    (subst (λ y. is_in w (f y) ≡ true) (sym same) m)
-declares f (x ∷ db) (suc k) (suc i) s w e h m =
-    list_any-append (bytes_eq w) (f x) (flat_map f (take k db))
-    ∙ or_right (is_in w (f x)) (is_in w (flat_map f (take k db)))
-    (declares f db k i s w e (omega arith) m)
+declares f (x ∷ db) (suc k) zero s w e h m = grind (arith, common_steps, list_any-append, or_left)
+declares f (x ∷ db) (suc k) (suc i) s w e h m = grind (arith, common_steps, list_any-append, or_right, declares f db k i s w e (omega arith) m)
 
 pub declared_before : (f : Statement → List Bytes) (db : List Statement) (k : ℕ) (w : Bytes)
     → is_in w (flat_map f (take k db)) ≡ true → is_in w (flat_map f db) ≡ true

@@ -1,7 +1,8 @@
 -- The table of what is expected, token by token, goes through the tokens of each list.
+use Rattle.std.proofs.lemmas.Grind.{common_steps}
 use Rattle.std.proofs.Common.{◌≡◌, ℕ, zero, suc, ◌+◌, ◌≤◌, ◌<◌, Bool, true, false, ◌&&◌, not, cond}
 use Rattle.std.proofs.Common.{List, [], ◌∷◌, ◌++◌, take, Option, Some, None, codes, count_by}
-use Rattle.std.proofs.Common.{flat_map, refl, sym, ap, ap₂, ◌∙◌, true≢false, arith, ◌||◌, ◌==◌}
+use Rattle.std.proofs.Common.{flat_map, refl, sym, ap, ◌∙◌, true≢false, arith, ◌==◌}
 use Rattle.std.proofs.Common.{eqb-true, pred, zero-add}
 use Rattle.std.proofs.lemmas.List.Sums.{sum_by-append}
 use Rattle.std.specs.List.{list_all}
@@ -9,7 +10,7 @@ use Rattle.std.proofs.lemmas.Bool.{and_parts}
 use Rattle.mm_spec.specs.Text.{Bytes, Token, token, has_dollar, is_label, is_label_byte}
 use Rattle.mm_spec.specs.Laws.Table.{Class, constant, variable, disjoint_of, type_of, logical}
 use Rattle.mm_spec.specs.Laws.Table.{axiom_of, theorem_of, equals, dot, open_block, close_block}
-use Rattle.mm_spec.specs.Laws.Table.{plain, keyword, class}
+use Rattle.mm_spec.specs.Laws.Table.{plain, class}
 use Rattle.mm_spec.specs.Statement.{Statement, constants, variables, disjoint, floating, essential}
 use Rattle.mm_spec.specs.Statement.{axiomatic, provable, opening, closing, spelled, is_plain}
 use Rattle.mm_spec.specs.Statement.{is_complete, is_opening, is_closing, BeginStatements}
@@ -60,11 +61,7 @@ follow_append (t ∷ ts) us (Some q) = follow_append ts us (next q (class t.word
 -- ---- whole statements are followed
 
 pub plain_word : (w : Bytes) → not (has_dollar w) ≡ true → class w ≡ plain
-plain_word w e = go (has_dollar w) e
-  where
-    go : (b : Bool) → not b ≡ true → elim b [ true ↦ keyword w | false ↦ plain ] ≡ plain
-    go true e = absurd (true≢false (sym e))
-    go false e = refl
+plain_word w e = grind (arith, common_steps)
 
 -- a state in which plain words stay
 abbrev Stays : State → Type 0
@@ -73,31 +70,18 @@ Stays q = (w : Bytes) → next q plain w ≡ Some q
 follow_plain : (q : State) → Stays q → (xs : List Token) → is_plain xs ≡ true → (ts : List Token)
     → follow (Some q) (xs ++ ts) ≡ follow (Some q) ts
 follow_plain q stays [] e ts = refl
-follow_plain q stays (x ∷ xs) e ts =
-    ap (λ k. follow (next q k x.word) (xs ++ ts))
-    (plain_word x.word (and_parts (not (has_dollar x.word)) (is_plain xs) e).0)
-    ∙ ap (λ o. follow o (xs ++ ts)) (stays x.word)
-    ∙ follow_plain q stays xs (and_parts (not (has_dollar x.word)) (is_plain xs) e).1 ts
+follow_plain q stays (x ∷ xs) e ts = grind (arith, common_steps, and_parts, plain_word, follow_plain q stays xs (and_parts (not (has_dollar x.word)) (is_plain xs) e).1 ts)
 
 no_dollar : (b : ℕ) → is_label_byte b ≡ true → (b == 36) ≡ false
-no_dollar b e = go (b == 36) refl
-  where
-    go : (t : Bool) → (b == 36) ≡ t → t ≡ false
-    go true h = absurd (true≢false (sym e ∙ ap is_label_byte (eqb-true b 36 h)))
-    go false h = refl
+no_dollar b e = grind (arith, common_steps, eqb-true)
 
 pub label_plain : (w : Bytes) → is_label w ≡ true → has_dollar w ≡ false
 label_plain [] e = refl
-label_plain (b ∷ w) e =
-    ap₂ (λ x y. x || y) (no_dollar b (and_parts (is_label_byte b) (is_label w) e).0)
-    (label_plain w (and_parts (is_label_byte b) (is_label w) e).1)
+label_plain (b ∷ w) e = grind (arith, common_steps, and_parts, no_dollar, label_plain w (and_parts (is_label_byte b) (is_label w) e).1)
 
 follow_label : (d : ℕ) (l : Token) → is_label l.word ≡ true → (ts : List Token)
     → follow (Some (at_start d)) (l ∷ ts) ≡ follow (Some (at_label d)) ts
-follow_label d l e ts =
-    ap (λ k. follow (next (at_start d) k l.word) ts)
-    (plain_word l.word (ap not (label_plain l.word e)))
-    ∙ ap (λ b. follow (label_at_start b d) ts) e
+follow_label d l e ts = grind (arith, common_steps, label_plain, plain_word)
 
 -- the end of a statement without a proof
 body : (d : ℕ) (xs : List Token) (k : ℕ) → is_plain xs ≡ true
@@ -161,9 +145,7 @@ blocks_counted (closing k) (suc d) h = omega arith
 
 pub count_one : (p : Statement → Bool) (s : Statement) (list : List Statement)
     → count_by p (s ∷ list) ≡ cond (p s) 1 0 + count_by p list
-count_one p s list =
-    sum_by-append (λ x. cond (p x) 1 0) (s ∷ []) list
-    ∙ ap (λ n. n + count_by p list) (zero-add (cond (p s) 1 0))
+count_one p s list = grind (arith, common_steps, sum_by-append, zero-add)
 
 pub statements_followed : (list : List Statement) (d : ℕ) → list_all is_complete list ≡ true
     → ((n : ℕ) → count_by is_closing (take n list) ≤ d + count_by is_opening (take n list))

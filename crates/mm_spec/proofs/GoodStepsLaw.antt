@@ -1,9 +1,10 @@
 -- Each step of a proof without reading faults is a label that stands for something, or a mark of an
 -- earlier step.
+use Rattle.std.proofs.lemmas.Grind.{common_steps}
 use Rattle.std.proofs.Common.{◌≡◌, ℕ, zero, suc, ◌+◌, ◌-◌, ◌*◌, ◌==◌, ◌<◌, ◌≤◌, Bool, true, false}
 use Rattle.std.proofs.Common.{◌&&◌, ◌||◌, ◌⊎◌, inl, inr, List, [], ◌∷◌, ◌++◌, map, length, flat_map}
 use Rattle.std.proofs.Common.{Option, Some, None, slice_get, nat_le, nat_lt, bytes_eq, codes, refl}
-use Rattle.std.proofs.Common.{sym, ap, ◌∙◌, subst, true≢false, arith, leb-true, ltb-false, eqb-true}
+use Rattle.std.proofs.Common.{sym, subst, true≢false, arith, leb-true, ltb-false, eqb-true}
 use Rattle.std.proofs.Common.{length-append}
 use Rattle.std.specs.List.{list_any, range_with_len, AllByRecursion}
 use Rattle.std.proofs.lemmas.Bool.{or_cases, and_parts, eqb-false}
@@ -13,7 +14,7 @@ use Rattle.mm_spec.specs.Scope.{is_active, active, statement_at}
 use Rattle.mm_spec.specs.Lawful.{when, at}
 use Rattle.mm_spec.specs.Frame.{formula_at, is_floating, is_essential, mandatory_variables}
 use Rattle.mm_spec.specs.Frame.{mandatory_hypotheses}
-use Rattle.mm_spec.specs.Derivation.{Rule, is_member}
+use Rattle.mm_spec.specs.Derivation.{is_member}
 use Rattle.mm_spec.specs.Steps.{Step, PlacedStep, placed, label, marked}
 use Rattle.mm_spec.specs.NormalProof.{is_labelled, usable, normal_steps, normal_faults}
 use Rattle.mm_spec.specs.NormalProof.{proof_label_faults}
@@ -22,10 +23,10 @@ use Rattle.mm_spec.specs.CompressedProof.{groups, value, starts_at, step_of, gro
 use Rattle.mm_spec.specs.CompressedProof.{group_faults, letter_faults, compressed_faults}
 use Rattle.mm_spec.specs.CompressedProof.{compressed_steps}
 use Rattle.mm_spec.specs.Proof.{steps, reading_faults}
-use Rattle.mm_spec.specs.Citation.{rule_of, rule_at, context_at, steps_at, reading_faults_at}
+use Rattle.mm_spec.specs.Citation.{rule_at, context_at, steps_at, reading_faults_at}
 use Rattle.mm_spec.specs.Laws.Complete.{IsFine}
 use Rattle.mm_spec.specs.declared.Code.TheVariants.{OpenBrackets, OpenNumber, MarkBeforeStep}
-use Rattle.mm_spec.specs.declared.Code.TheVariants.{NumberTooLarge, UnusableLabel, IncompleteProof}
+use Rattle.mm_spec.specs.declared.Code.TheVariants.{NumberTooLarge, IncompleteProof}
 use Rattle.mm_spec.specs.declared.Code.TheVariants.{BadLetter}
 use Rattle.mm_spec.specs.Laws.Stack.{IsGood, AreGoodSteps, IsGoodStep}
 use Rattle.mm_spec.proofs.FindsLaw.{each_any, each_filter, found_at}
@@ -86,20 +87,7 @@ each_usable : (db : List Statement) (k : ℕ) (ts : List Token)
     → flat_map (proof_label_faults db k) ts ≡ []
     → length ts ≤ length (flat_map (λ t. usable db k t.word) ts)
 each_usable db k [] e = omega arith
-each_usable db k (t ∷ ts) e =
-    by (usable db k t.word)
-    (append_none (proof_label_faults db k t) (flat_map (proof_label_faults db k) ts) e).0
-    (each_usable db k ts
-    (append_none (proof_label_faults db k t) (flat_map (proof_label_faults db k) ts) e).1)
-  where
-    more : List ℕ
-    more = flat_map (λ t. usable db k t.word) ts
-
-    by : (js : List ℕ)
-        → ◌≡◌ {A = List Fault} (elim js [ [] ↦ fault t.at UnusableLabel ∷ [] | j ∷ js ↦ [] ]) []
-        → length ts ≤ length more → suc (length ts) ≤ length (js ++ more)
-    by [] h l = absurd (cc)
-    by (j ∷ js) h l = omega (arith, length-append js more)
+each_usable db k (t ∷ ts) e = grind (arith, common_steps, append_none, length-append, each_usable db k ts (append_none (proof_label_faults db k t) (flat_map (proof_label_faults db k) ts) e).1)
 
 module _ (db : List Statement) (k : ℕ)
     (fine : (l : ℕ) → IsFine (context_at db k) (rule_at db k l)) where
@@ -108,44 +96,10 @@ module _ (db : List Statement) (k : ℕ)
 
   good_label : (j : ℕ) (s : Statement) → is_active db j k ≡ true → slice_get db j ≡ Some s
       → has_rule s ≡ true → IsGoodLabel j
-  good_label j s a e h =
-      subst (IsGood (context_at db k)) (sym rule)
-      (by s h (subst (IsFine (context_at db k)) rule (fine j)))
-    where
-      stated : Option Statement → Option Rule
-      stated o = elim o [ None ↦ None | Some s ↦ rule_of db j s ]
-
-      if_active : Bool → Option Rule
-      if_active b =
-          elim b [
-            | false ↦ None
-            | true ↦ elim (slice_get db j) [ None ↦ None | Some s ↦ rule_of db j s ]
-          ]
-
-      rule : rule_at db k j ≡ rule_of db j s
-      rule = ap if_active a ∙ ap stated e
-
-      by : (s : Statement) → has_rule s ≡ true → IsFine (context_at db k) (rule_of db j s)
-          → IsGood (context_at db k) (rule_of db j s)
-      by (floating l p xs d) h f = tt
-      by (essential l p xs d) h f = tt
-      by (axiomatic l p xs d) h f = f
-      by (provable l p xs q ps d) h f = f
-      by _ h f = absurd (true≢false (sym h))
+  good_label j s a e h = grind (arith, common_steps)
 
   usable_good : (w : Bytes) → AllByRecursion IsGoodLabel (usable db k w)
-  usable_good w =
-      each_filter IsGoodLabel test (range_with_len 0 k)
-      (each_any (λ j. test j ≡ true → IsGoodLabel j) (range_with_len 0 k) good)
-    where
-      test : ℕ → Bool
-      test j = is_active db j k && list_any (is_labelled w) (statement_at db j)
-
-      good : (j : ℕ) → test j ≡ true → IsGoodLabel j
-      good j e =
-          let p = and_parts (is_active db j k) (list_any (is_labelled w) (statement_at db j)) e in
-          let s = found_at db (is_labelled w) j p.1 in
-          good_label j s.0 p.0 s.1 (labelled_rule w s.0 s.2)
+  usable_good w = grind (arith, common_steps, and_parts, each_any, each_filter, found_at, good_label, labelled_rule)
 
   mandatory_good : AllByRecursion IsGoodLabel (mandatory_hypotheses db k)
   mandatory_good =
@@ -397,14 +351,4 @@ module _ (db : List Statement) (k : ℕ)
 
   pub good_steps : reading_faults_at db k ≡ []
       → AreGoodSteps (context_at db k) 0 (bare (steps_at db k))
-  good_steps e = by (slice_get db k) e
-    where
-      faults : Option Statement → List Fault
-      faults o = elim o [ Some (provable l p xs q ps d) ↦ reading_faults db k d ps | _ ↦ [] ]
-
-      out : Option Statement → List PlacedStep
-      out o = elim o [ Some (provable l p xs q ps d) ↦ steps db k ps | _ ↦ [] ]
-
-      by : (o : Option Statement) → faults o ≡ [] → AreGoodSteps (context_at db k) 0 (bare (out o))
-      by (Some (provable l p xs q ps d)) e = proof_good d ps e
-      by _ e = tt
+  good_steps e = grind (arith, common_steps, proof_good)

@@ -1,13 +1,13 @@
 -- What is before a statement does not depend on what comes after it.
-use Rattle.std.proofs.Common.{cond, ◌≡◌, ℕ, zero, suc, ◌+◌, ◌-◌, ◌≤◌, ◌<◌, Bool, true, false, ◌&&◌}
-use Rattle.std.proofs.Common.{List, [], ◌∷◌, ◌++◌, length, Option, None, Some, count_by, flat_map}
-use Rattle.std.proofs.Common.{slice_get, nat_le, nat_lt, refl, ap, ap₂, ◌∙◌, arith, le_refl}
+use Rattle.std.proofs.lemmas.Grind.{common_steps}
+use Rattle.std.proofs.Common.{◌≡◌, ℕ, zero, suc, ◌+◌, ◌-◌, ◌≤◌, ◌<◌, Bool, ◌&&◌}
+use Rattle.std.proofs.Common.{List, [], ◌∷◌, ◌++◌, length, Option, None, Some, flat_map}
+use Rattle.std.proofs.Common.{slice_get, nat_le, nat_lt, refl, ap₂, arith}
 use Rattle.std.proofs.lemmas.List.{take-append-le}
 use Rattle.std.specs.List.{list_all, range_with_len, filter}
-use Rattle.mm_spec.specs.Statement.{Statement, is_opening, is_closing}
+use Rattle.mm_spec.specs.Statement.{Statement}
 use Rattle.mm_spec.specs.Scope.{Names, names_before, depth, is_active, is_active_some}
-use Rattle.mm_spec.specs.Scope.{active_statements, statement_at, constants_of, variables_of}
-use Rattle.mm_spec.specs.Scope.{label_words, typings_of}
+use Rattle.mm_spec.specs.Scope.{active_statements}
 use Rattle.mm_spec.specs.declared.Fault.{Fault}
 use Rattle.mm_spec.specs.Lawful.{scope_fault, scope_faults, least}
 
@@ -26,35 +26,17 @@ same_all : (d e : ℕ) (f g : ℕ → ℕ) (n a : ℕ) → d ≡ e → ((i : ℕ
     → list_all (λ i. nat_le d (f i)) (range_with_len a n)
     ≡ list_all (λ i. nat_le e (g i)) (range_with_len a n)
 same_all d e f g zero a h k = refl
-same_all d e f g (suc n) a h k =
-    ap₂ (λ x y. x && y) (ap₂ nat_le h (k a (omega arith)))
-    (same_all d e f g n (a + 1) h (λ i l. k i (omega arith)))
+same_all d e f g (suc n) a h k = grind (arith, common_steps, same_all d e f g n (a + 1) h (λ i l. k i (omega arith)))
 
 same_filter : {X : Type 0} (p q : ℕ → Bool) (f g : ℕ → List X) (n a : ℕ)
     → ((i : ℕ) → i < a + n → p i ≡ q i) → ((i : ℕ) → i < a + n → f i ≡ g i)
     → flat_map f (filter p (range_with_len a n)) ≡ flat_map g (filter q (range_with_len a n))
 same_filter p q f g zero a h k = refl
-same_filter p q f g (suc n) a h k =
-    by (p a) (q a) (h a (omega arith))
-    (same_filter p q f g n (a + 1) (λ i l. h i (omega arith)) (λ i l. k i (omega arith)))
-  where
-    by : (x y : Bool) → x ≡ y
-        → flat_map f (filter p (range_with_len (a + 1) n))
-        ≡ flat_map g (filter q (range_with_len (a + 1) n))
-        → flat_map f
-        (cond x (a ∷ filter p (range_with_len (a + 1) n)) (filter p (range_with_len (a + 1) n)))
-        ≡ flat_map g
-        (cond y (a ∷ filter q (range_with_len (a + 1) n)) (filter q (range_with_len (a + 1) n)))
-    by true true e r = ap₂ (λ u v. u ++ v) (k a (omega arith)) r
-    by false false e r = r
-    by true false e r = absurd (cc)
-    by false true e r = absurd (cc)
+same_filter p q f g (suc n) a h k = grind (arith, common_steps, same_filter p q f g n (a + 1) (λ i l. h i (omega arith)) (λ i l. k i (omega arith)))
 
 module _ (db more : List Statement) where
   pub depth_front : (i : ℕ) → i ≤ length db → depth (db ++ more) i ≡ depth db i
-  depth_front i h =
-      ap₂ (λ a b. a - b) (ap (count_by is_opening) (take-append-le i db more h))
-      (ap (count_by is_closing) (take-append-le i db more h))
+  depth_front i h = grind (arith, common_steps, take-append-le)
 
   pub is_active_front : (j k : ℕ) → j < k → k ≤ length db
       → is_active (db ++ more) j k ≡ is_active db j k
@@ -64,46 +46,20 @@ module _ (db more : List Statement) where
       (depth_front j (omega arith)) (λ i m. depth_front i (omega arith)))
 
   active_front : (k : ℕ) → k ≤ length db → active_statements (db ++ more) k ≡ active_statements db k
-  active_front k l =
-      same_filter (λ j. is_active (db ++ more) j k) (λ j. is_active db j k)
-      (statement_at (db ++ more)) (statement_at db) k 0
-      (λ i h. is_active_front i k (omega arith) l)
-      (λ i h. ap (λ o. elim o [ None ↦ [] | Some s ↦ s ∷ [] ]) (get_front db more i (omega arith)))
+  active_front k l = grind (arith, common_steps, get_front, is_active_front, same_filter)
 
   pub names_front : (k : ℕ) → k ≤ length db → names_before (db ++ more) k ≡ names_before db k
-  names_front k l =
-      let t = take-append-le k db more l in
-      let a = active_front k l in
-      ap₂ (λ xs ys. names xs ys) t a
-    where
-      names : List Statement → List Statement → Names
-      names xs ys = record {
-        constants = flat_map constants_of xs;
-        active_variables = flat_map variables_of ys;
-        all_variables = flat_map variables_of xs;
-        labels = flat_map label_words xs;
-        active_typings = flat_map typings_of ys;
-        all_typings = flat_map typings_of xs;
-      }
+  names_front k l = grind (arith, common_steps, active_front, take-append-le)
 
   abbrev judged : Option Statement → ℕ → Names → Option Fault
   judged o d n = elim o [ None ↦ None | Some s ↦ least (scope_faults n d s) ]
 
   -- the fault of an earlier statement
   pub scope_fault_front : (k : ℕ) → k < length db → scope_fault (db ++ more) k ≡ scope_fault db k
-  scope_fault_front k h =
-      let l : k ≤ length db = omega arith in
-      ap (λ o. judged o (depth (db ++ more) k) (names_before (db ++ more) k))
-      (get_front db more k h)
-      ∙ ap₂ (judged (slice_get db k)) (depth_front k l) (names_front k l)
+  scope_fault_front k h = grind (arith, common_steps, depth_front, get_front, names_front)
 
 -- the fault of the next statement
 pub scope_fault_next : (db : List Statement) (s : Statement) (more : List Statement)
     → scope_fault (db ++ s ∷ more) (length db)
     ≡ least (scope_faults (names_before db (length db)) (depth db (length db)) s)
-scope_fault_next db s more =
-    let l = le_refl (length db) in
-    ap (λ o. judged db (s ∷ more) o (depth (db ++ s ∷ more) (length db))
-    (names_before (db ++ s ∷ more) (length db))) (get_seam db s more)
-    ∙ ap₂ (λ d n. least (scope_faults n d s)) (depth_front db (s ∷ more) (length db) l)
-    (names_front db (s ∷ more) (length db) l)
+scope_fault_next db s more = grind (arith, common_steps, depth_front, get_seam, names_front)

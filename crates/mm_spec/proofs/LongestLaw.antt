@@ -1,4 +1,5 @@
 -- The statements read by the table are the longest list.
+use Rattle.std.proofs.lemmas.Grind.{common_steps}
 use Rattle.std.proofs.Common.{◌≡◌, ℕ, zero, suc, ◌+◌, ◌≤◌, ◌<◌, Bool, true, false, ◌&&◌, not, cond}
 use Rattle.std.proofs.Common.{List, [], ◌∷◌, ◌++◌, length, take, codes, count_by, flat_map, refl}
 use Rattle.std.proofs.Common.{sym, ap, ap₂, ◌∙◌, subst, true≢false, append-nil, append_assoc, arith}
@@ -30,13 +31,7 @@ read_words : (d : ℕ) (make : List Token → ℕ → Statement) (xs ws : List T
     ≡ make (ws ++ xs) k ∷ statements_from (start d) ts
 read_words d make [] ws k ts e =
     ap (λ x. make x k ∷ statements_from (start d) ts) (sym (append-nil ws))
-read_words d make (x ∷ xs) ws k ts e =
-    ap (λ c. after (transition (words d make ws) c x)
-    (λ q. statements_from q (xs ++ token k (codes "$.") ∷ ts)))
-    (plain_word x.word (and_parts (not (has_dollar x.word)) (is_plain xs) e).0)
-    ∙ read_words d make xs (ws ++ x ∷ []) k ts
-    (and_parts (not (has_dollar x.word)) (is_plain xs) e).1
-    ∙ ap (λ y. make y k ∷ statements_from (start d) ts) (append_assoc ws (x ∷ []) xs)
+read_words d make (x ∷ xs) ws k ts e = grind (arith, common_steps, and_parts, append_assoc, plain_word, read_words d make xs (ws ++ x ∷ []) k ts (and_parts (not (has_dollar x.word)) (is_plain xs) e).1)
 
 read_formula : (d : ℕ) (l : Token) (k : ℕ) (xs ws : List Token) (q : ℕ) (ts : List Token)
     → is_plain xs ≡ true
@@ -44,28 +39,17 @@ read_formula : (d : ℕ) (l : Token) (k : ℕ) (xs ws : List Token) (q : ℕ) (t
     ≡ statements_from (words d (provable l k (ws ++ xs) q) []) ts
 read_formula d l k [] ws q ts e =
     ap (λ x. statements_from (words d (provable l k x q) []) ts) (sym (append-nil ws))
-read_formula d l k (x ∷ xs) ws q ts e =
-    ap (λ c. after (transition (formula d l k ws) c x)
-    (λ r. statements_from r (xs ++ token q (codes "$=") ∷ ts)))
-    (plain_word x.word (and_parts (not (has_dollar x.word)) (is_plain xs) e).0)
-    ∙ read_formula d l k xs (ws ++ x ∷ []) q ts
-    (and_parts (not (has_dollar x.word)) (is_plain xs) e).1
-    ∙ ap (λ y. statements_from (words d (provable l k y q) []) ts) (append_assoc ws (x ∷ []) xs)
+read_formula d l k (x ∷ xs) ws q ts e = grind (arith, common_steps, and_parts, append_assoc, plain_word, read_formula d l k xs (ws ++ x ∷ []) q ts (and_parts (not (has_dollar x.word)) (is_plain xs) e).1)
 
 read_label : (d : ℕ) (l : Token) (ts : List Token) → is_label l.word ≡ true
     → statements_from (start d) (l ∷ ts) ≡ statements_from (labelled d l) ts
-read_label d l ts e =
-    ap (λ c. after (transition (start d) c l) (λ r. statements_from r ts))
-    (plain_word l.word (ap not (label_plain l.word e)))
-    ∙ ap (λ b. after (label_turn b d l) (λ r. statements_from r ts)) e
+read_label d l ts e = grind (arith, common_steps, label_plain, plain_word)
 
 read_body : (d : ℕ) (make : List Token → ℕ → Statement) (xs : List Token) (k : ℕ) (ts : List Token)
     → is_plain xs ≡ true
     → statements_from (words d make []) ((xs ++ token k (codes "$.") ∷ []) ++ ts)
     ≡ make xs k ∷ statements_from (start d) ts
-read_body d make xs k ts e =
-    ap (statements_from (words d make [])) (append_assoc xs (token k (codes "$.") ∷ []) ts)
-    ∙ read_words d make xs [] k ts e
+read_body d make xs k ts e = grind (arith, common_steps, append_assoc, read_words)
 
 statement_read : (s : Statement) (d : ℕ) (ts : List Token) → is_complete s ≡ true
     → (is_closing s ≡ true → 0 < d)

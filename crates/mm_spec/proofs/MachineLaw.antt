@@ -1,14 +1,15 @@
 -- A stack of formulas tells whether labels are the postfix list of a forest of derivations, and if
 -- not, at which label and why.
+use Rattle.std.proofs.lemmas.Grind.{common_steps}
 use Rattle.std.proofs.Common.{◌≡◌, ℕ, zero, suc, ◌+◌, ◌-◌, ◌≤◌, Bool, true, false, List, [], ◌∷◌}
 use Rattle.std.proofs.Common.{◌++◌, map, length, take, drop, Option, Some, None, Result, Ok, Err}
-use Rattle.std.proofs.Common.{nat_le, refl, sym, ap, ap₂, ◌∙◌, subst, true≢false, append-nil}
+use Rattle.std.proofs.Common.{nat_le, refl, sym, ap, ap₂, ◌∙◌, subst, append-nil}
 use Rattle.std.proofs.Common.{append_assoc, length-append, take_at, drop_at, drop_of_length-le}
 use Rattle.std.proofs.Common.{take_all, arith, le-leb, leb-true, leb-false}
 use Rattle.std.proofs.lemmas.List.{length-map}
-use Rattle.std.specs.List.{list_all, AllByRecursion}
+use Rattle.std.specs.List.{AllByRecursion}
 use Rattle.mm_spec.specs.Derivation.{Formula, Frame, Rule, hypothesis, assertion, Context}
-use Rattle.mm_spec.specs.Derivation.{Substitution, substitute, are_all_disjoint, Matches, KeepsDisjoint}
+use Rattle.mm_spec.specs.Derivation.{Substitution, substitute, Matches, KeepsDisjoint}
 use Rattle.mm_spec.specs.Derivation.{Follows, Trees, none, more, formulas, postfix, AreDerivations}
 use Rattle.mm_spec.specs.Limits.{formula_limit}
 use Rattle.mm_spec.specs.Valid.{Reason, Fails}
@@ -66,14 +67,8 @@ module _ (c : Context) where
   pub takes : (r : Option Rule) (es ps : List Formula) (f : Formula) → IsGood c r → Follows c r ps f
       → step c r (es ++ ps) ≡ Ok (es ++ f ∷ [])
   takes None es ps f good h = absurd h
-  takes (Some (hypothesis g)) es ps f good h =
-      ap (λ b. pick true true true b ((es ++ ps) ++ g ∷ []))
-      (le-leb (length g) formula_limit (subst (λ x. length x ≤ formula_limit) h.1 h.2))
-      ∙ ap₂ (λ x y. Ok (x ++ y ∷ [])) (ap (λ x. es ++ x) h.0 ∙ append-nil es) (sym h.1)
-  takes (Some (assertion a)) es ps f good h =
-      ap (λ x. step c (Some (assertion a)) (es ++ x)) h.1
-      ∙ takes_assertion a es h.0 good h.2 (subst (λ x. length x ≤ formula_limit) h.3 h.4)
-      ∙ ap (λ x. Ok (es ++ x ∷ [])) (sym h.3)
+  takes (Some (hypothesis g)) es ps f good h = grind (arith, common_steps, append-nil, le-leb)
+  takes (Some (assertion a)) es ps f good h = grind (arith, common_steps, takes_assertion)
 
   -- each label is good
   abbrev pub AreGood : List ℕ → Type 0
@@ -158,81 +153,18 @@ module _ (c : Context) where
   makes_hypothesis : (g : Formula) (es : List Formula) (b : Bool)
       → nat_le (length g) formula_limit ≡ b
       → Made (Some (hypothesis g)) es (pick true true true b (es ++ g ∷ []))
-  makes_hypothesis g es true e =
-      let all : length es ≤ length es - 0 = omega arith in (
-        0,
-        g,
-        omega arith,
-        (drop_of_length-le es all, refl, leb-true (length g) formula_limit e),
-        ap
-            (λ x. x ++ g ∷ []) (sym (take_all (length es - 0) es all)),
-      )
+  makes_hypothesis g es true e = grind (arith, common_steps, drop_of_length-le, leb-true, take_all)
   makes_hypothesis g es false e = leb-false (length g) formula_limit e
 
   -- premises that some substitution gives are given by the one that is found
   pub no_other : (a : Frame) (ps : List Formula) (τ : Substitution) → IsComplete c a
       → Matches c a ps τ
       → same ps (map (substitute c (found c a.hypotheses ps)) a.hypotheses) ≡ true
-  no_other a ps τ good e =
-      subst (λ x. same x (map (substitute c (found c a.hypotheses x)) a.hypotheses) ≡ true) (sym e)
-      (equal_same _ _ (found_all c a.hypotheses τ a.hypotheses good.hypotheses))
+  no_other a ps τ good e = grind (arith, common_steps, equal_same, found_all)
 
   makes_assertion : (a : Frame) (es : List Formula) → IsComplete c a
       → Made (Some (assertion a)) es (step c (Some (assertion a)) es)
-  makes_assertion a es good =
-      let n = length es - length a.hypotheses in
-      let ps = drop n es in
-      let σ = found c a.hypotheses ps in
-      go _ _ _ _ refl refl refl refl
-    where
-      n : ℕ
-      n = length es - length a.hypotheses
-
-      σ : Substitution
-      σ = found c a.hypotheses (drop n es)
-
-      go : (enough matched disjoint short : Bool) → nat_le (length a.hypotheses) (length es) ≡ enough
-          → same (drop n es) (map (substitute c σ) a.hypotheses) ≡ matched
-          → list_all (λ p. are_all_disjoint c (σ p.low) (σ p.high)) a.pairs ≡ disjoint
-          → nat_le (length (substitute c σ a.formula)) formula_limit ≡ short
-          → Made (Some (assertion a)) es
-          (pick enough matched disjoint short (take n es ++ substitute c σ a.formula ∷ []))
-      go false m k s e1 e2 e3 e4 = leb-false (length a.hypotheses) (length es) e1
-      go true false k s e1 e2 e3 e4 = (
-        leb-true (length a.hypotheses) (length es) e1,
-        λ τ e. true≢false
-            (sym (no_other a (drop n es) τ good e) ∙ e2),
-      )
-      go true true false s e1 e2 e3 e4 = (
-        σ,
-        leb-true (length a.hypotheses) (length es) e1,
-        same_equal _ _ e2,
-        λ k. true≢false
-            (sym k ∙ e3),
-      )
-      go true true true false e1 e2 e3 e4 = (
-        σ,
-        leb-true (length a.hypotheses) (length es) e1,
-        same_equal _ _ e2,
-        e3,
-        leb-false
-            (length (substitute c σ a.formula)) formula_limit e4,
-      )
-      go true true true true e1 e2 e3 e4 = (
-        length a.hypotheses,
-        substitute c σ a.formula,
-        leb-true (length a.hypotheses)
-            (length es) e1,
-        (
-          σ,
-          same_equal _ _ e2,
-          e3,
-          refl,
-          leb-true
-              (length (substitute c σ a.formula)) formula_limit e4,
-        ),
-        refl,
-      )
+  makes_assertion a es good = grind (arith, common_steps, leb-false, leb-true, no_other, same_equal)
 
   pub makes : (r : Option Rule) (es : List Formula) → IsGood c r → Made r es (step c r es)
   makes None es good = absurd good

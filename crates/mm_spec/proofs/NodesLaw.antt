@@ -1,4 +1,6 @@
 -- Nodes that count, as members of lists of labels.
+use Rattle.std.proofs.Common.{arith}
+use Rattle.std.proofs.lemmas.Grind.{common_steps}
 use Rattle.std.proofs.Common.{◌≡◌, ℕ, ◌==◌, Bool, true, false, ◌⊎◌, inl, inr, ◌↔◌, List, [], ◌∷◌}
 use Rattle.std.proofs.Common.{◌++◌, refl, sym, ◌∙◌, subst, true≢false, eqb-true, eq-eqb}
 use Rattle.std.proofs.lemmas.Bool.{or_cases, or_left, or_right}
@@ -14,22 +16,9 @@ use Rattle.mm_spec.proofs.BoolLaw.{lone}
 pub node_member : (counts : ℕ → ℕ → Bool) (place : ℕ → Bool) (ts : Trees) (a : ℕ)
     → HasNode counts place ts a → is_member (postfix ts) a ≡ true
 node_member counts place none a h = absurd h
-node_member counts place (more ts l f cs) a (inl h) =
-    list_any-append (λ y. a == y) (postfix ts) (postfix cs ++ l ∷ [])
-    ∙ or_left (is_member (postfix ts) a) (is_member (postfix cs ++ l ∷ []) a)
-    (node_member counts place ts a h)
-node_member counts place (more ts l f cs) a (inr (t, inl e)) =
-    list_any-append (λ y. a == y) (postfix ts) (postfix cs ++ l ∷ [])
-    ∙ or_right (is_member (postfix ts) a) (is_member (postfix cs ++ l ∷ []) a)
-    (list_any-append (λ y. a == y) (postfix cs) (l ∷ [])
-    ∙ or_right (is_member (postfix cs) a) (is_member (l ∷ []) a)
-    (or_left (a == l) false (eq-eqb a l e)))
-node_member counts place (more ts l f cs) a (inr (t, inr h)) =
-    list_any-append (λ y. a == y) (postfix ts) (postfix cs ++ l ∷ [])
-    ∙ or_right (is_member (postfix ts) a) (is_member (postfix cs ++ l ∷ []) a)
-    (list_any-append (λ y. a == y) (postfix cs) (l ∷ [])
-    ∙ or_left (is_member (postfix cs) a) (is_member (l ∷ []) a)
-    (node_member counts (counts l) cs a h))
+node_member counts place (more ts l f cs) a (inl h) = grind (arith, common_steps, list_any-append, or_left, node_member counts place ts a h)
+node_member counts place (more ts l f cs) a (inr (t, inl e)) = grind (arith, common_steps, eq-eqb, list_any-append, or_left, or_right)
+node_member counts place (more ts l f cs) a (inr (t, inr h)) = grind (arith, common_steps, list_any-append, or_left, or_right, node_member counts (counts l) cs a h)
 
 member_node : (ts : Trees) (a : ℕ) → is_member (postfix ts) a ≡ true
     → HasNode (λ l. each_place) each_place ts a

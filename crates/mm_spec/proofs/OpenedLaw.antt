@@ -1,25 +1,26 @@
 -- What counts as an axiom has the label, the symbols, the scope and the frame that it has as a
 -- theorem.
+use Rattle.std.proofs.Common.{arith}
+use Rattle.std.proofs.lemmas.Grind.{common_steps}
 use Rattle.std.proofs.Common.{◌≡◌, ℕ, zero, suc, ◌+◌, ◌-◌, Bool, true, false, ◌&&◌, ◌||◌, not}
-use Rattle.std.proofs.Common.{◌==◌, List, [], ◌∷◌, ◌++◌, map, take, length, flat_map, count_by}
+use Rattle.std.proofs.Common.{◌==◌, List, [], ◌∷◌, ◌++◌, map, length, flat_map, count_by}
 use Rattle.std.proofs.Common.{Option, Some, None, slice_get, nat_le, nat_lt, refl, sym, ap, ap₂}
-use Rattle.std.proofs.Common.{◌∙◌, subst, cond, true≢false}
+use Rattle.std.proofs.Common.{◌∙◌, subst}
 use Rattle.std.specs.Option.{option_map, option_and_then}
 use Rattle.std.specs.List.{list_any, list_all, range_with_len, filter}
 use Rattle.std.proofs.Math.Path.{fun_ext}
 use Rattle.std.proofs.lemmas.List.{length-map, take-map}
 use Rattle.std.proofs.lemmas.List.Folds.{flat_map-map}
 use Rattle.std.proofs.lemmas.List.Sums.{sum_by-cons}
-use Rattle.mm_spec.specs.Text.{Bytes, Token, is_in, words}
+use Rattle.mm_spec.specs.Text.{Bytes, Token}
 use Rattle.mm_spec.specs.Statement.{Statement, constants, variables, disjoint, floating, essential}
-use Rattle.mm_spec.specs.Statement.{axiomatic, provable, opening, closing, symbols_of}
-use Rattle.mm_spec.specs.Statement.{is_opening, is_closing}
-use Rattle.mm_spec.specs.Opened.{is_open_proof, as_axiom, counted}
+use Rattle.mm_spec.specs.Statement.{axiomatic, provable, opening, closing}
+use Rattle.mm_spec.specs.Opened.{as_axiom, counted}
 use Rattle.mm_spec.specs.Scope.{depth, is_active, is_active_kind, is_active_some, active}
-use Rattle.mm_spec.specs.Scope.{statement_at, label_words, constants_of, variables_of, stays}
+use Rattle.mm_spec.specs.Scope.{statement_at, label_words, stays}
 use Rattle.mm_spec.specs.Derivation.{Formula, Pair, Frame, Context, Rule, hypothesis, assertion}
 use Rattle.mm_spec.specs.Derivation.{is_member}
-use Rattle.mm_spec.specs.Frame.{symbol_names, first_occurrences, place_of, formula_of, formula_at}
+use Rattle.mm_spec.specs.Frame.{symbol_names, formula_at}
 use Rattle.mm_spec.specs.Frame.{is_variable_number, is_floating, is_essential}
 use Rattle.mm_spec.specs.Frame.{is_disjoint_statement, active_of, mandatory_variables}
 use Rattle.mm_spec.specs.Frame.{mandatory_hypotheses, mandatory_pairs, disjoint_at, pairs_of}
@@ -44,13 +45,7 @@ kept f h (disjoint k xs d) = refl
 kept f h (floating l k xs d) = refl
 kept f h (essential l k xs d) = refl
 kept f h (axiomatic l k xs d) = refl
-kept f h (provable l k xs e ps d) = by (is_open_proof ps)
-  where
-    by : (b : Bool)
-        → f (elim b [ true ↦ axiomatic l k xs d | false ↦ provable l k xs e ps d ])
-        ≡ f (provable l k xs e ps d)
-    by true = h l k xs e ps d
-    by false = refl
+kept f h (provable l k xs e ps d) = grind (arith, common_steps)
 kept f h (opening k) = refl
 kept f h (closing k) = refl
 
@@ -68,22 +63,12 @@ got_axiom (s ∷ db) (suc j) = got_axiom db j
 
 at_mapped : (db : List Statement) (j : ℕ)
     → statement_at (axioms_of db) j ≡ map as_axiom (statement_at db j)
-at_mapped db j =
-    ap (λ o. elim o [ None ↦ [] | Some s ↦ s ∷ [] ]) (got_axiom db j) ∙ by (slice_get db j)
-  where
-    by : (o : Option Statement)
-        → elim (option_map as_axiom o) [ None ↦ [] | Some s ↦ s ∷ [] ]
-        ≡ map as_axiom (elim o [ None ↦ [] | Some s ↦ s ∷ [] ])
-    by None = refl
-    by (Some s) = refl
+at_mapped db j = grind (arith, common_steps, got_axiom)
 
 count_kept : (p : Statement → Bool) → IsAlike p → (db : List Statement)
     → count_by p (axioms_of db) ≡ count_by p db
 count_kept p h [] = refl
-count_kept p h (s ∷ db) =
-    sum_by-cons (λ s. cond (p s) 1 0) (as_axiom s) (axioms_of db)
-    ∙ ap₂ (λ b n. cond b 1 0 + n) (kept p h s) (count_kept p h db)
-    ∙ sym (sum_by-cons (λ s. cond (p s) 1 0) s db)
+count_kept p h (s ∷ db) = grind (arith, common_steps, kept, sum_by-cons, count_kept p h db)
 
 flat_kept : {X : Type 0} (f : Statement → List X) → IsAlike f → (db : List Statement)
     → flat_map f (axioms_of db) ≡ flat_map f db
@@ -95,17 +80,11 @@ flat_at f h db j = ap (flat_map f) (at_mapped db j) ∙ flat_kept f h (statement
 
 any_at : (p : Statement → Bool) → IsAlike p → (db : List Statement) (j : ℕ)
     → list_any p (statement_at (axioms_of db) j) ≡ list_any p (statement_at db j)
-any_at p h db j =
-    ap (list_any p) (at_mapped db j) ∙ any_map p as_axiom (statement_at db j)
-    ∙ ap (λ q. list_any q (statement_at db j)) (fun_ext (kept p h))
+any_at p h db j = grind (arith, common_steps, any_map, at_mapped, fun_ext, kept)
 
 got : {X : Type 0} (f : Statement → X) → IsAlike f → (db : List Statement) (j : ℕ)
     → option_map f (slice_get (axioms_of db) j) ≡ option_map f (slice_get db j)
-got f h db j = ap (option_map f) (got_axiom db j) ∙ by (slice_get db j)
-  where
-    by : (o : Option Statement) → option_map f (option_map as_axiom o) ≡ option_map f o
-    by None = refl
-    by (Some s) = ap Some (kept f h s)
+got f h db j = grind (arith, common_steps, got_axiom, kept)
 
 -- ---- scope
 
@@ -114,12 +93,7 @@ module _ (db : List Statement) where
   as_axioms = axioms_of db
 
   depth_kept : depth as_axioms ≡ depth db
-  depth_kept =
-      fun_ext (λ k. ap₂ (λ a b. a - b)
-      (ap (count_by is_opening) (take-map as_axiom k db)
-      ∙ count_kept is_opening (λ l k xs e ps d. refl) (take k db))
-      (ap (count_by is_closing) (take-map as_axiom k db)
-      ∙ count_kept is_closing (λ l k xs e ps d. refl) (take k db)))
+  depth_kept = grind (arith, common_steps, count_kept, fun_ext, take-map)
 
   stays_kept : stays as_axioms ≡ stays db
   stays_kept =
@@ -148,21 +122,13 @@ module _ (db : List Statement) where
   -- ---- symbols and frames
 
   names_kept : symbol_names as_axioms ≡ symbol_names db
-  names_kept =
-      ap (first_occurrences [])
-      (flat_kept (λ s. constants_of s ++ variables_of s) (λ l k xs e ps d. refl) db)
+  names_kept = grind (arith, common_steps, flat_kept)
 
   formula_kept : formula_at as_axioms ≡ formula_at db
-  formula_kept =
-      fun_ext (λ k. flat_at (formula_of as_axioms) (λ l k xs e ps d. refl) db k
-      ∙ ap (λ (ns : List Bytes). flat_map (λ s. map (λ w. place_of w ns) (words (symbols_of s)))
-      (statement_at db k)) names_kept)
+  formula_kept = grind (arith, common_steps, flat_at, fun_ext, names_kept)
 
   variable_kept : is_variable_number as_axioms ≡ is_variable_number db
-  variable_kept =
-      fun_ext (λ x. ap₂
-      (λ (ns vs : List Bytes). elim (slice_get ns x) [ None ↦ false | Some w ↦ is_in w vs ])
-      names_kept (flat_kept variables_of (λ l k xs e ps d. refl) db))
+  variable_kept = grind (arith, common_steps, flat_kept, fun_ext, names_kept)
 
   active_of_kept : (kind : Statement → Bool) → IsAlike kind
       → active_of kind as_axioms ≡ active_of kind db
@@ -351,44 +317,9 @@ pub theorem_read : (w : Bool) (db : List Statement) (j : ℕ) (l : Token) (k : �
     → slice_get (counted w db) j ≡ Some (provable l k xs e ps d)
     → slice_get db j ≡ Some (provable l k xs e ps d)
 theorem_read false db j l k xs e ps d h = h
-theorem_read true db j l k xs e ps d h = go (slice_get db j) (sym (got_axiom db j) ∙ h)
-  where
-    same : (s : Statement) → as_axiom s ≡ provable l k xs e ps d → s ≡ provable l k xs e ps d
-    same (constants k' xs' d') h = h
-    same (variables k' xs' d') h = h
-    same (disjoint k' xs' d') h = h
-    same (floating l' k' xs' d') h = h
-    same (essential l' k' xs' d') h = h
-    same (axiomatic l' k' xs' d') h = h
-    same (provable l' k' xs' e' ps' d') h = by (is_open_proof ps') h
-      where
-        by : (b : Bool)
-            → elim b [ true ↦ axiomatic l' k' xs' d' | false ↦ provable l' k' xs' e' ps' d' ]
-            ≡ provable l k xs e ps d → provable l' k' xs' e' ps' d' ≡ provable l k xs e ps d
-        by true h = absurd (cc)
-        by false h = h
-    same (opening k') h = h
-    same (closing k') h = h
-
-    go : (o : Option Statement) → option_map as_axiom o ≡ Some (provable l k xs e ps d)
-        → o ≡ Some (provable l k xs e ps d)
-    go None h = absurd (cc)
-    go (Some s) h = let e : as_axiom s ≡ provable l k xs e ps d = cc in ap Some (same s e)
+theorem_read true db j l k xs e ps d h = grind (arith, common_steps, got_axiom)
 
 pub theorem_still : (w : Bool) (db : List Statement) (j : ℕ)
     → list_any is_theorem (statement_at (counted w db) j) ≡ true
     → list_any is_theorem (statement_at db j) ≡ true
-theorem_still w db j h = let f = found_at (counted w db) is_theorem j h in go f.0 f.1 f.2
-  where
-    go : (s : Statement) → slice_get (counted w db) j ≡ Some s → is_theorem s ≡ true
-        → list_any is_theorem (statement_at db j) ≡ true
-    go (constants k xs d) e t = absurd (true≢false (sym t))
-    go (variables k xs d) e t = absurd (true≢false (sym t))
-    go (disjoint k xs d) e t = absurd (true≢false (sym t))
-    go (floating l k xs d) e t = absurd (true≢false (sym t))
-    go (essential l k xs d) e t = absurd (true≢false (sym t))
-    go (axiomatic l k xs d) e t = absurd (true≢false (sym t))
-    go (provable l k xs q ps d) e t =
-        at_found db is_theorem j (provable l k xs q ps d) (theorem_read w db j l k xs q ps d e) refl
-    go (opening k) e t = absurd (true≢false (sym t))
-    go (closing k) e t = absurd (true≢false (sym t))
+theorem_still w db j h = grind (arith, common_steps, at_found, found_at, theorem_read)

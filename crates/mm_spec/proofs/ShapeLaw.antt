@@ -1,8 +1,9 @@
 -- The tokens that the table of what is expected goes through are those with which some list begins.
-use Rattle.std.proofs.Common.{◌≡◌, ℕ, zero, suc, ◌+◌, ◌≤◌, ◌<◌, Bool, true, false, ◌&&◌, not, cond}
+use Rattle.std.proofs.lemmas.Grind.{common_steps}
+use Rattle.std.proofs.Common.{◌≡◌, ℕ, zero, suc, ◌+◌, ◌≤◌, ◌<◌, Bool, true, false, ◌&&◌, cond}
 use Rattle.std.proofs.Common.{List, [], ◌∷◌, ◌++◌, length, take, Option, Some, None, codes}
 use Rattle.std.proofs.Common.{count_by, flat_map, refl, sym, ap, ap₂, ◌∙◌, subst, true≢false}
-use Rattle.std.proofs.Common.{append-nil, append_assoc, arith, bytes_eq, take_all, length-append}
+use Rattle.std.proofs.Common.{append-nil, append_assoc, arith, take_all, length-append}
 use Rattle.std.proofs.Common.{zero-add, leb, leb-true, leb-false, ◌↔◌}
 use Rattle.std.proofs.lemmas.Slice.Eq.{bytes_eq-Decides}
 use Rattle.std.proofs.lemmas.Grind.{flat_map-append}
@@ -42,12 +43,7 @@ Meaning other w = Unit {0}
 lookup_meaning : (es : List ClassedWord) (w : Bytes)
     → AllByRecursion (λ e. w ≡ e.word → Meaning e.class w) es → Meaning (lookup es w) w
 lookup_meaning [] w h = tt
-lookup_meaning (e ∷ es) w h = go (bytes_eq w e.word) refl (lookup_meaning es w h.1)
-  where
-    go : (b : Bool) → bytes_eq w e.word ≡ b → Meaning (lookup es w) w
-        → Meaning (elim b [ true ↦ e.class | false ↦ lookup es w ]) w
-    go true x rest = h.0 ((bytes_eq-Decides w e.word).0 x)
-    go false x rest = rest
+lookup_meaning (e ∷ es) w h = grind (arith, common_steps, bytes_eq-Decides, lookup_meaning es w h.1)
 
 pub meaning : (w : Bytes) → Meaning (class w) w
 meaning w = go (has_dollar w) refl
@@ -86,9 +82,7 @@ none_yet = record { are_statements = record { whole = refl; nested = none_closed
 
 pub count_end : (p : Statement → Bool) (list : List Statement) (s : Statement)
     → count_by p (list ++ s ∷ []) ≡ count_by p list + cond (p s) 1 0
-count_end p list s =
-    sum_by-append (λ x. cond (p x) 1 0) list (s ∷ [])
-    ∙ ap (λ n. count_by p list + n) (zero-add (cond (p s) 1 0))
+count_end p list s = grind (arith, common_steps, sum_by-append, zero-add)
 
 pub one_more : (d : ℕ) (list : List Statement) (s : Statement) → Balanced d list → is_complete s ≡ true
     → (is_closing s ≡ true → 0 < d) → Balanced (depth_following s d) (list ++ s ∷ [])
@@ -176,9 +170,7 @@ pub record Reads (q : State) (ts : List Token) : Type 0 where
 
 pub plain_more : (ws : List Token) (t : Token) → is_plain ws ≡ true → has_dollar t.word ≡ false
     → is_plain (ws ++ t ∷ []) ≡ true
-plain_more ws t e h =
-    list_all-append (λ u. not (has_dollar u.word)) ws (t ∷ [])
-    ∙ ap₂ (λ x y. x && (not y && true)) e h
+plain_more ws t e h = grind (arith, common_steps, list_all-append)
 
 -- a whole statement more
 closes : (d : ℕ) (ts : List Token) (list : List Statement) (part : List Token) (s : Statement)

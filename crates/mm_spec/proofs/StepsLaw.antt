@@ -1,6 +1,7 @@
 -- Steps with marks: a stack of formulas, and the formula after each step, are exact too.
+use Rattle.std.proofs.lemmas.Grind.{common_steps}
 use Rattle.std.proofs.Common.{◌≡◌, ℕ, zero, suc, ◌<◌, List, [], ◌∷◌, ◌++◌, length, Option, Some}
-use Rattle.std.proofs.Common.{None, Result, Ok, Err, refl, sym, ap, ◌∙◌, subst, arith}
+use Rattle.std.proofs.Common.{None, Result, Ok, Err, refl, sym, ap, subst, arith}
 use Rattle.std.proofs.Common.{length-append, slice_get}
 use Rattle.std.specs.List.{AllZip}
 use Rattle.mm_spec.specs.Derivation.{Formula, Rule, hypothesis, assertion, Context, Follows, Trees}
@@ -9,7 +10,7 @@ use Rattle.mm_spec.specs.Steps.{Step, label, marked}
 use Rattle.mm_spec.specs.Valid.{Reason, StepFails, Adds, Plain}
 use Rattle.mm_spec.specs.Laws.Complete.{IsFine}
 use Rattle.mm_spec.proofs.MachineLaw.{Failed, proceed, AreGood, Made, makes, grown}
-use Rattle.mm_spec.specs.Laws.Stack.{IsGood, step, top, HasLast, Leaves, step_entries, IsGoodStep}
+use Rattle.mm_spec.specs.Laws.Stack.{IsGood, top, HasLast, Leaves, step_entries, IsGoodStep}
 use Rattle.mm_spec.specs.Laws.Stack.{AreGoodSteps}
 
 pub top_append : (fs : List Formula) (f : Formula) → top (fs ++ f ∷ []) ≡ f
@@ -32,10 +33,7 @@ module _ (c : Context) where
   pub forest_good : ((l : ℕ) → IsFine c (c.rule l)) → (forest : Trees) → AreDerivations c forest
       → AreGood c (postfix forest)
   forest_good fine none d = tt
-  forest_good fine (more ts l f cs) d =
-      good_append (postfix ts) _ (forest_good fine ts d.0)
-      (good_append (postfix cs) _ (forest_good fine cs d.1)
-      (follows_good (c.rule l) (formulas cs) f (fine l) d.2, tt))
+  forest_good fine (more ts l f cs) d = grind (arith, common_steps, follows_good, good_append, forest_good fine ts d.0, forest_good fine cs d.1)
 
   after_at : (lists : List (List ℕ)) (ends : List Formula) (j : ℕ) → AllZip (Leaves c) lists ends
       → j < length ends
@@ -98,10 +96,7 @@ module _ (c : Context) where
   grows_label : (lists : List (List ℕ)) (forest : Trees) (l : ℕ) (r : Result (List Formula) Reason)
       → AreDerivations c forest → Made c (c.rule l) (formulas forest) r → Grown lists forest (label l) r
   grows_label lists forest l (Err reason) d made = made
-  grows_label lists forest l (Ok out) d made =
-      let g = grown c forest l made.0 made.1 d made.2 made.3 in
-      let is : formulas g.0 ≡ out = g.3 ∙ sym made.4 in
-      (g.0, g.1, g.2, is, subst (λ x. HasLast g.0 (top x)) is (last_top g.0 _ made.1 g.3))
+  grows_label lists forest l (Ok out) d made = grind (arith, common_steps, grown, last_top)
 
   -- a marked step adds a copy of the last tree of an earlier forest
   grows_marked : (lists : List (List ℕ)) (ends : List Formula) (forest : Trees) (j : ℕ)
@@ -131,9 +126,7 @@ module _ (c : Context) where
   pub grows : (lists : List (List ℕ)) (ends : List Formula) (forest : Trees) (s : Step)
       → AreDerivations c forest → AllZip (Leaves c) lists ends → IsGoodStep c (length ends) s
       → Grown lists forest s (step_entries c s ends (formulas forest))
-  grows lists ends forest (label l) d b good =
-      grows_label lists forest l (step c (c.rule l) (formulas forest)) d
-      (makes c (c.rule l) (formulas forest) good)
+  grows lists ends forest (label l) d b good = grind (arith, common_steps, grows_label, makes)
   grows lists ends forest (marked j) d b good = grows_marked lists ends forest j d b good
 
   -- what a run over steps means

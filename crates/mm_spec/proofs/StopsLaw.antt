@@ -1,17 +1,18 @@
 -- The table's first stop is the fault of the shape, and where it ends is the fault of the end.
+use Rattle.std.proofs.lemmas.Grind.{common_steps}
 use Rattle.std.proofs.Common.{◌≡◌, ◌≢◌, ℕ, zero, suc, ◌+◌, ◌<◌, Bool, true, false, List, [], ◌∷◌}
 use Rattle.std.proofs.Common.{◌++◌, Option, Some, None, count_by, flat_map, ◌⊎◌, inl, inr, refl}
 use Rattle.std.proofs.Common.{sym, ap, ◌∙◌, subst, append-nil, append_assoc, arith}
 use Rattle.std.proofs.lemmas.List.{append_cancel_left}
 use Rattle.std.proofs.lemmas.Option.{same_Some}
-use Rattle.mm_spec.specs.Text.{Token, Fault, fault, is_label}
+use Rattle.mm_spec.specs.Text.{Token, Fault, fault}
 use Rattle.mm_spec.specs.Statement.{Statement, spelled, is_opening, is_closing, AreStatements, AreLongestStatements}
 use Rattle.mm_spec.specs.Statement.{ShapeFault, FileEndFault, BeginStatements, IsBetween, shape_code}
 use Rattle.mm_spec.specs.Lexed.{LexedText}
-use Rattle.mm_spec.specs.Output.{TextFault, WordOrEnd}
+use Rattle.mm_spec.specs.Output.{TextFault}
 use Rattle.mm_spec.specs.Laws.Table.{Class, type_of, equals, close_block, plain, class, Progress}
 use Rattle.mm_spec.specs.Laws.Table.{start, labelled, words, formula, Transition, stop, go, done, transition}
-use Rattle.mm_spec.specs.Laws.Table.{label_turn, statements_of, stop_from, stop_after, rest_from}
+use Rattle.mm_spec.specs.Laws.Table.{statements_of, stop_from, stop_after, rest_from}
 use Rattle.mm_spec.specs.Laws.Table.{rest_after, begins, fault_at_end}
 use Rattle.mm_spec.proofs.FollowedLaw.{State, at_start, at_label, in_symbols, in_formula, in_proof}
 use Rattle.mm_spec.proofs.FollowedLaw.{next, label_at_start, follow, follow_append, no_way_back}
@@ -45,11 +46,7 @@ same_turn : (p : Bool) (r : Progress) (k : Class) (t : Token)
     → next (state_of p r) k t.word ≡ state_after (proves p r k) (transition r k t)
 same_turn p (start zero) close_block t = refl
 same_turn p (start (suc d)) close_block t = refl
-same_turn p (start d) plain t = by (is_label t.word)
-  where
-    by : (b : Bool) → label_at_start b d ≡ state_after false (label_turn b d t)
-    by true = refl
-    by false = refl
+same_turn p (start d) plain t = grind (arith, common_steps, label_at_start)
 same_turn p (start d) _ t = refl
 same_turn p (labelled d l) type_of t = refl
 same_turn p (labelled d l) _ t = refl
@@ -268,14 +265,7 @@ ends ts d b e =
 goes_on : (ts : List Token) (r : Progress) (b : Bool)
     → follow (Some (at_start 0)) ts ≡ Some (state_of b r) → begins r ≡ false
     → (are_statements : AreLongestStatements ts (statements_of ts)) → are_statements.rest ≢ []
-goes_on ts r b e h x n =
-    not_between ts r b e h (
-      statements_of ts,
-      x.are_statements,
-      sym
-          (x.splits ∙ ap (λ y. flat_map spelled (statements_of ts) ++ y) n
-          ∙ append-nil (flat_map spelled (statements_of ts))),
-    )
+goes_on ts r b e h x n = grind (arith, common_steps, append-nil, not_between)
 
 pub end_fault : (len : ℕ) (ts : List Token) (f : Fault) → stop_from (start 0) ts ≡ None
     → fault_at_end len (rest_from (start 0) ts) ≡ Some f → FileEndFault len ts f
@@ -349,38 +339,8 @@ text_fault len x =
 
 pub text_fault_is : (len : ℕ) (x : LexedText) (f : Fault) → text_fault len x ≡ Some f
     → TextFault len x f
-text_fault_is len x f e =
-    by (stop_from (start 0) x.tokens) refl x.fault refl
-    (fault_at_end len (rest_from (start 0) x.tokens)) refl e
-  where
-    by : (a : Option Fault) → stop_from (start 0) x.tokens ≡ a → (b : Option Fault) → x.fault ≡ b
-        → (c : Option Fault) → fault_at_end len (rest_from (start 0) x.tokens) ≡ c
-        → first_of a (first_of b c) ≡ Some f → TextFault len x f
-    by (Some a) p b q c r e = inl (shape_fault x.tokens f (p ∙ e))
-    by None p (Some b) q c r e =
-        inr (
-          no_shape_fault x.tokens p,
-          subst (λ o. WordOrEnd len x.tokens o f) (sym q)
-              (sym (same_Some b f e)),
-        )
-    by None p None q c r e =
-        inr (
-          no_shape_fault x.tokens p,
-          subst (λ o. WordOrEnd len x.tokens o f) (sym q)
-              (end_fault len x.tokens f p (r ∙ e)),
-        )
+text_fault_is len x f e = grind (arith, common_steps, end_fault, no_shape_fault, same_Some, shape_fault)
 
 pub no_text_fault : (len : ℕ) (x : LexedText) → text_fault len x ≡ None → (f : Fault)
     → ¬ TextFault len x f
-no_text_fault len x e f t =
-    by (stop_from (start 0) x.tokens) refl x.fault refl
-    (fault_at_end len (rest_from (start 0) x.tokens)) refl e t
-  where
-    by : (a : Option Fault) → stop_from (start 0) x.tokens ≡ a → (b : Option Fault) → x.fault ≡ b
-        → (c : Option Fault) → fault_at_end len (rest_from (start 0) x.tokens) ≡ c
-        → first_of a (first_of b c) ≡ None → ¬ TextFault len x f
-    by (Some a) p b q c r e t = cc
-    by None p (Some b) q c r e t = cc
-    by None p None q c r e (inl s) = no_shape_fault x.tokens p (f, s)
-    by None p None q c r e (inr s) =
-        no_end_fault len x.tokens p (r ∙ e) f (subst (λ o. WordOrEnd len x.tokens o f) q s.1)
+no_text_fault len x e f t = grind (arith, common_steps, no_end_fault, no_shape_fault)

@@ -1,9 +1,11 @@
 -- A substitution is found from the `$f` hypotheses, if there is one.
-use Rattle.std.proofs.Common.{◌≡◌, ℕ, Bool, true, false, ◌&&◌, ◌||◌, not, List, [], ◌∷◌, ◌++◌, map}
-use Rattle.std.proofs.Common.{◌==◌, IsTrue, cond, refl, sym, ap, ap₂, ◌∙◌, subst, true≢false}
+use Rattle.std.proofs.Common.{arith}
+use Rattle.std.proofs.lemmas.Grind.{common_steps}
+use Rattle.std.proofs.Common.{◌≡◌, ℕ, true, ◌&&◌, List, [], ◌∷◌, map}
+use Rattle.std.proofs.Common.{IsTrue, refl, sym, ap₂, subst, true≢false}
 use Rattle.std.proofs.Common.{append-nil, bytes_eq, eqb-true}
 use Rattle.std.proofs.lemmas.Slice.Eq.{bytes_eq-Decides}
-use Rattle.std.specs.List.{list_all, list_any, AllByRecursion}
+use Rattle.std.specs.List.{list_all, AllByRecursion}
 use Rattle.std.proofs.lemmas.Bool.{and_from, and_parts, not-true}
 use Rattle.mm_spec.specs.Laws.Complete.{binds, IsBound, AreBound}
 use Rattle.mm_spec.specs.Derivation.{Formula, Pair, Context, Substitution, substitute, are_all_disjoint}
@@ -13,9 +15,7 @@ pub same_equal : (ps qs : List Formula) → same ps qs ≡ true → ps ≡ qs
 same_equal [] [] e = refl
 same_equal [] (q ∷ qs) e = absurd (true≢false (sym e))
 same_equal (p ∷ ps) [] e = absurd (true≢false (sym e))
-same_equal (p ∷ ps) (q ∷ qs) e =
-    ap₂ (λ x xs. x ∷ xs) ((bytes_eq-Decides p q).0 (and_parts (bytes_eq p q) (same ps qs) e).0)
-    (same_equal ps qs (and_parts (bytes_eq p q) (same ps qs) e).1)
+same_equal (p ∷ ps) (q ∷ qs) e = grind (arith, common_steps, and_parts, bytes_eq-Decides, same_equal ps qs (and_parts (bytes_eq p q) (same ps qs) e).1)
 
 pub equal_same : (ps qs : List Formula) → ps ≡ qs → same ps qs ≡ true
 equal_same ps qs e = subst (λ z. same ps z ≡ true) e (self ps)
@@ -30,38 +30,18 @@ module _ (c : Context) where
   binder_value σ x [] e = absurd (true≢false (sym e))
   binder_value σ x (t ∷ []) e = absurd (true≢false (sym e))
   binder_value σ x (t ∷ y ∷ z ∷ zs) e = absurd (true≢false (sym e))
-  binder_value σ x (t ∷ y ∷ []) e =
-      let rest = (and_parts (not (c.is_variable t)) (c.is_variable y && (x == y)) e).1 in
-      let variable : c.is_variable y ≡ true = (and_parts (c.is_variable y) (x == y) rest).0 in
-      let at : x ≡ y = eqb-true x y (and_parts (c.is_variable y) (x == y) rest).1 in
-      let constant : c.is_variable t ≡ false =
-      not-true (c.is_variable t)
-      (and_parts (not (c.is_variable t)) (c.is_variable y && (x == y)) e).0 in
-      ap₂ (λ a b. tail (cond a (σ t) (t ∷ []) ++ (cond b (σ y) (y ∷ []) ++ []))) constant variable
-      ∙ append-nil (σ y) ∙ ap σ (sym at)
+  binder_value σ x (t ∷ y ∷ []) e = grind (arith, common_steps, and_parts, append-nil, eqb-true, not-true)
 
   pub found_is : (hs : List Formula) (σ : Substitution) (x : ℕ) → IsBound c hs x
       → found c hs (map (substitute c σ) hs) x ≡ σ x
   found_is [] σ x e = absurd (true≢false (sym e))
-  found_is (h ∷ hs) σ x e = go (binds c x h) refl e (found_is hs σ x)
-    where
-      go : (b : Bool) → binds c x h ≡ b → (b || list_any (binds c x) hs) ≡ true
-          → (IsBound c hs x → found c hs (map (substitute c σ) hs) x ≡ σ x)
-          → elim b
-          [ true ↦ tail (substitute c σ h) | false ↦ found c hs (map (substitute c σ) hs) x ]
-          ≡ σ x
-      go true is e rest = binder_value σ x h is
-      go false is e rest = rest e
+  found_is (h ∷ hs) σ x e = grind (arith, common_steps, binder_value, found_is hs σ x)
 
   pub agree : (σ τ : Substitution) (f : Formula)
       → AllByRecursion (λ x. IsTrue (c.is_variable x) → σ x ≡ τ x) f
       → substitute c σ f ≡ substitute c τ f
   agree σ τ [] e = refl
-  agree σ τ (x ∷ f) e = ap₂ (λ u v. u ++ v) (go (c.is_variable x) e.0) (agree σ τ f e.1)
-    where
-      go : (b : Bool) → (IsTrue b → σ x ≡ τ x) → cond b (σ x) (x ∷ []) ≡ cond b (τ x) (x ∷ [])
-      go true e = e refl
-      go false e = refl
+  agree σ τ (x ∷ f) e = grind (arith, common_steps, agree σ τ f e.1)
 
   -- the found substitution does to bound formulas what any that matches does
   module _ (hs : List Formula) (τ : Substitution) where

@@ -1,4 +1,5 @@
 -- The words of a text from a place on, one after another.
+use Rattle.std.proofs.lemmas.Grind.{common_steps}
 use Rattle.std.proofs.Common.{◌≡◌, ℕ, zero, suc, ◌+◌, ◌-◌, ◌<◌, ◌≤◌, ◌==◌, Bool, true}
 use Rattle.std.proofs.Common.{false, not, List, [], ◌∷◌, length, drop, get_or, refl, sym, ap, subst}
 use Rattle.std.proofs.Common.{◌∙◌, arith, length-drop, get_or-drop, ne_eqb, ⊎_elim, true≢false}
@@ -51,9 +52,7 @@ pub words_between_skips : (text : List ℕ) (n from e to : ℕ) → from + n ≡
     → words_between text from to ≡ words_between text e to
 words_between_skips text zero from e to h le none =
     let same : from ≡ e = omega arith in ap (λ x. words_between text x to) same
-words_between_skips text (suc n) from e to h le none =
-    words_between_skip text from to (omega arith) (none from (omega arith) (omega arith))
-    ∙ words_between_skips text n (from + 1) e to (omega arith) le (λ j a b. none j (omega arith) b)
+words_between_skips text (suc n) from e to h le none = grind (arith, common_steps, words_between_skip, words_between_skips text n (from + 1) e to (omega arith) le (λ j a b. none j (omega arith) b))
 
 -- a place with a white byte before it, or at the beginning
 pub begins_word_first : (text : List ℕ) (i : ℕ) → i < length text → white_at text i ≡ false
@@ -64,11 +63,6 @@ begins_word_first text (suc i) h ink boundary =
     let before : white_at text i ≡ true = boundary i (omega arith) h ink in
     let e : suc i - 1 ≡ i = omega arith in
     rw (ink, e, before) (or-true (suc i == 0))
-
-pub begins_word_white : (text : List ℕ) (i : ℕ) → white_at text i ≡ true
-    → begins_word text i ≡ false
-unfolding begins_word
-begins_word_white text i white = rw white refl
 
 pub begins_word_inside : (text : List ℕ) (i : ℕ) → white_at text i ≡ false
     → begins_word text (i + 1) ≡ false

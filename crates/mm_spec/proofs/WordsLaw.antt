@@ -1,4 +1,5 @@
 -- The words of a text, as a set: each longest run of bytes that aren't white, once, in order.
+use Rattle.std.proofs.lemmas.Grind.{common_steps}
 use Rattle.std.proofs.Common.{◌≡◌, ℕ, zero, suc, ◌+◌, ◌-◌, ◌<◌, ◌≤◌, ◌==◌, ◌⊎◌, Bool, true, false}
 use Rattle.std.proofs.Common.{not, List, [], ◌∷◌, length, drop, get_or, refl, sym, ap, subst, ◌∙◌}
 use Rattle.std.proofs.Common.{arith, inl, inr, ⊎_elim, length-drop, get_or-drop, true≢false}
@@ -90,14 +91,7 @@ pub words_between_cases : (text : List ℕ) (i to : ℕ) → i < to →
     ((begins_word text i ≡ true)
     × (words_between text i to ≡ word_at text i ∷ words_between text (i + 1) to))
     ⊎ ((begins_word text i ≡ false) × (words_between text i to ≡ words_between text (i + 1) to))
-words_between_cases text i to h = by (begins_word text i) refl
-  where
-    by : (b : Bool) → begins_word text i ≡ b →
-        ((begins_word text i ≡ true)
-        × (words_between text i to ≡ word_at text i ∷ words_between text (i + 1) to))
-        ⊎ ((begins_word text i ≡ false) × (words_between text i to ≡ words_between text (i + 1) to))
-    by true e = inl (e, words_between_take text i to h e)
-    by false e = inr (e, words_between_skip text i to h e)
+words_between_cases text i to h = grind (arith, common_steps, words_between_skip, words_between_take)
 
 IsWord_here : (text : List ℕ) (i : ℕ) → i < length text → begins_word text i ≡ true
     → IsWord text (word_at text i)

@@ -18,12 +18,3 @@ returns-else-eq-clause-other g c =
           ∙ c.if-eq.false)),
       refl,
     )
-
-pub returns-in-None-clause-one : goal.returns-in-None-clause-one
-returns-in-None-clause-one g c = tt
-
-pub returns-then-eq-clause-other : goal.returns-then-eq-clause-other
-returns-then-eq-clause-other g c = tt
-
-pub returns-else-eq-clause-one : goal.returns-else-eq-clause-one
-returns-else-eq-clause-one g c = tt

@@ -16,9 +16,3 @@ returns g c =
     && list_any is_essential (statement_at c.args.db.now.statements h)) ks)
     (take_all c.loop-h.h-index hs all
     ∙ c.hyps-h-items.ensures.are)
-
-pub returns-in_err-push : goal.returns-in_err-push
-returns-in_err-push g c = IfOk-from_err c.from_residual.result _ c.from_residual.ensures.0
-
-pub offset_bounds-h-items-h-index : goal.offset_bounds-h-items-h-index
-offset_bounds-h-items-h-index g c = omega arith

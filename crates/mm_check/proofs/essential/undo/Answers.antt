@@ -1,18 +1,6 @@
 use Rattle.std.proofs.lemmas.Result.{IfOk-from_err}
 use Rattle.mm_check.proofs.essential.undo.Goals as goal
 
-pub returns-in_err-cite-clause-noted : goal.returns-in_err-cite-clause-noted
-returns-in_err-cite-clause-noted g c =
-    IfOk-from_err c.from_residual.result _ c.from_residual.ensures.0
-
-pub returns-in_err-cite-clause-waiting : goal.returns-in_err-cite-clause-waiting
-returns-in_err-cite-clause-waiting g c =
-    IfOk-from_err c.from_residual.result _ c.from_residual.ensures.0
-
-pub returns-in_err-cite-clause-wanted : goal.returns-in_err-cite-clause-wanted
-returns-in_err-cite-clause-wanted g c =
-    IfOk-from_err c.from_residual.result _ c.from_residual.ensures.0
-
 pub returns-in_err-push_flags-in-Label-clause-noted :
     goal.returns-in_err-push_flags-in-Label-clause-noted
 returns-in_err-push_flags-in-Label-clause-noted g c =

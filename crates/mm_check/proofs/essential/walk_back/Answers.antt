@@ -101,10 +101,3 @@ returns g c =
     c.loop-i.waiting.items c.loop-i.wanted.items c.loop-i.noted
     (subst (λ n. Walked c.args.db.now.statements c.args.theorem c.args.steps.now.steps n
     c.loop-i.waiting.items c.loop-i.wanted.items c.loop-i.noted) none c.loop-i.invariant)
-
-pub returns-in_err-restart : goal.returns-in_err-restart
-returns-in_err-restart g c = IfOk-from_err c.from_residual.result _ c.from_residual.ensures.0
-
-pub returns-in_err-undo : goal.returns-in_err-undo
-returns-in_err-undo g c =
-    IfOk-from_err c.from_residual-in_err-undo.result _ c.from_residual-in_err-undo.ensures.0

@@ -39,15 +39,3 @@ loop-k-preserved g c =
     c.push-in-loop-k.new.self.items
     c.last_open-last.result c.loop-k.k m c.in_ok-push-2.ensures.items c.loop-k.invariant.each
     c.last_open-last.ensures
-
-pub is_essential-requires : goal.is_essential-requires
-is_essential-requires g c =
-    let t = c.loop-k-test.true in let n = c.len-k-end.ensures.len in omega (arith, t, n)
-
-pub returns-in_err-push : goal.returns-in_err-push
-returns-in_err-push g c =
-    IfOk-from_err c.from_residual.result _ c.from_residual.ensures.0
-
-pub returns-in_err-push-2 : goal.returns-in_err-push-2
-returns-in_err-push-2 g c =
-    IfOk-from_err c.from_residual-in_err-push-2.result _ c.from_residual-in_err-push-2.ensures.0

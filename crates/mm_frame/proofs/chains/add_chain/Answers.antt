@@ -25,7 +25,3 @@ returns g c = λ statements h.
     c.loop-number.pairs.items statements c.loop-number.number
     (let e = c.loop-number-test.false in omega (arith, e))
     (c.loop-number.invariant.rest statements h)
-
-pub returns-in_err-push : goal.returns-in_err-push
-returns-in_err-push g c =
-    IfOk-from_err c.from_residual.result _ c.from_residual.ensures.0

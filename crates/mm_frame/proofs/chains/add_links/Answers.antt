@@ -22,15 +22,3 @@ returns-clause-chains g c =
     c.loop-symbol.chains)
     (take_all c.loop-symbol.symbol-index c.args.symbols.now c.loop-symbol-test.false)
     c.loop-symbol.invariant.chains
-
-pub returns-in_err-add_link-clause-count : goal.returns-in_err-add_link-clause-count
-returns-in_err-add_link-clause-count g c =
-    IfOk-from_err c.from_residual.result _ c.from_residual.ensures.0
-
-pub returns-in_err-add_link-clause-linked : goal.returns-in_err-add_link-clause-linked
-returns-in_err-add_link-clause-linked g c =
-    IfOk-from_err c.from_residual.result _ c.from_residual.ensures.0
-
-pub returns-in_err-add_link-clause-chains : goal.returns-in_err-add_link-clause-chains
-returns-in_err-add_link-clause-chains g c =
-    IfOk-from_err c.from_residual.result _ c.from_residual.ensures.0

@@ -6,18 +6,8 @@ use Rattle.mm_database.specs.Pairs.{has_pair}
 use Rattle.mm_frame.proofs.LoopsLaw.{none_so_far, active_next}
 use Rattle.mm_frame.proofs.disjoint.add_all_active.Goals as goal
 
-pub returns-in_err-add_active : goal.returns-in_err-add_active
-returns-in_err-add_active g c =
-    IfOk-from_err c.from_residual.result _ c.from_residual.ensures.0
-
 pub loop-symbol-init : goal.loop-symbol-init
 loop-symbol-init g c = λ j y. none_so_far (has_pair c.args.into.now.items j y)
-
-pub offset_bounds-symbols-symbol-index : goal.offset_bounds-symbols-symbol-index
-offset_bounds-symbols-symbol-index g c = omega arith
-
-pub add_active-requires : goal.add_active-requires
-add_active-requires g c = record { ordered = c.requires.ordered }
 
 pub loop-symbol-preserved : goal.loop-symbol-preserved
 loop-symbol-preserved g c = λ j y.

@@ -17,10 +17,6 @@ returns-after-loop-at g c =
     c.args.pairs.now.items c.loop-at.pairs.items c.loop-at.invariant
     (λ l. absurd (omega (arith, l, t)))
 
-pub returns-in_err-push : goal.returns-in_err-push
-returns-in_err-push g c =
-    IfOk-from_err c.from_residual.result _ c.from_residual.ensures.0
-
 pub loop-at-init : goal.loop-at-init
 loop-at-init g c =
     after_start c.args.by_statement.now c.requires.rising c.args.place c.requires.place
@@ -35,36 +31,3 @@ loop-at-preserved g c =
     (after_next c.args.by_statement.now c.requires.rising c.args.place c.requires.place c.loop-at.at
     c.args.pairs.now.items c.loop-at.pairs.items c.loop-at.invariant c.loop-at-test.true
     c.if-by_statement-at.true)
-
-pub overflow_add-at : goal.overflow_add-at
-overflow_add-at g c = omega arith
-
-pub offset_bounds-by_statement-at : goal.offset_bounds-by_statement-at
-offset_bounds-by_statement-at g c = omega arith
-
-pub bounds-by_statement-at : goal.bounds-by_statement-at
-bounds-by_statement-at g c = omega arith
-
-pub offset_bounds-by_statement-place : goal.offset_bounds-by_statement-place
-offset_bounds-by_statement-place g c = omega arith
-
-pub bounds-by_statement-place : goal.bounds-by_statement-place
-bounds-by_statement-place g c = omega arith
-
-pub offset_bounds-by_statement-place-in-loop-at : goal.offset_bounds-by_statement-place-in-loop-at
-offset_bounds-by_statement-place-in-loop-at g c = omega arith
-
-pub bounds-by_statement-place-in-loop-at : goal.bounds-by_statement-place-in-loop-at
-bounds-by_statement-place-in-loop-at g c = omega arith
-
-pub offset_bounds-by_statement-at-in-loop-at : goal.offset_bounds-by_statement-at-in-loop-at
-offset_bounds-by_statement-at-in-loop-at g c = omega arith
-
-pub bounds-by_statement-at-in-loop-at : goal.bounds-by_statement-at-in-loop-at
-bounds-by_statement-at-in-loop-at g c = omega arith
-
-pub overflow_add-at-in-loop-at : goal.overflow_add-at-in-loop-at
-overflow_add-at-in-loop-at g c = omega arith
-
-pub loop-at-smaller : goal.loop-at-smaller
-loop-at-smaller g c = omega arith

@@ -6,18 +6,8 @@ use Rattle.mm_frame.specs.Together.{has_later}
 use Rattle.mm_frame.proofs.LoopsLaw.{none_so_far, any_next}
 use Rattle.mm_frame.proofs.disjoint.add_together.Goals as goal
 
-pub returns-in_err-add_later_pairs : goal.returns-in_err-add_later_pairs
-returns-in_err-add_later_pairs g c =
-    IfOk-from_err c.from_residual.result _ c.from_residual.ensures.0
-
 pub loop-place-init : goal.loop-place-init
 loop-place-init g c = λ x y. none_so_far (has_pair c.args.pairs.now.items x y)
-
-pub add_later_pairs-requires-clause-rising : goal.add_later_pairs-requires-clause-rising
-add_later_pairs-requires-clause-rising g c = c.requires.rising
-
-pub add_later_pairs-requires-clause-place : goal.add_later_pairs-requires-clause-place
-add_later_pairs-requires-clause-place g c = c.loop-place-test.true
 
 pub loop-place-preserved : goal.loop-place-preserved
 loop-place-preserved g c = λ x y.

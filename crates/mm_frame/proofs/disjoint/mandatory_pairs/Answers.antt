@@ -33,22 +33,3 @@ returns g c = ok_then c.symbol_pairs.result c.symbol_pairs.ensures (λ v e.
     || list_any (λ p. has_later c.deref.result.now p x y) c.deref.result.now)
     c.clear-2.ensures.items
     ∙ ap (λ (hs : List (ℕ × ℕ)). list_any (λ p. has_later hs p x y) hs) c.deref.ensures.value))
-
-pub add_all_active-requires : goal.add_all_active-requires
-add_all_active-requires g c = record {
-  ordered = rw c.blocks-2.ensures.blocks c.requires.sources.index_is.ordered;
-}
-
-pub add_together-requires : goal.add_together-requires
-add_together-requires g c = record {
-  rising = subst AreRising (sym c.deref.ensures.value) c.sort_and_dedup.ensures.rising;
-}
-
-pub returns-in_err-add_all_active : goal.returns-in_err-add_all_active
-returns-in_err-add_all_active g c =
-    IfOk-from_err c.from_residual.result _ c.from_residual.ensures.0
-
-pub returns-in_err-add_together : goal.returns-in_err-add_together
-returns-in_err-add_together g c =
-    IfOk-from_err c.from_residual-in_err-add_together.result _
-    c.from_residual-in_err-add_together.ensures.0

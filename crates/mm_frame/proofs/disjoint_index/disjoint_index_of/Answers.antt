@@ -32,15 +32,3 @@ returns g c =
       };
     } in
     rw c.new.ensures is
-
-pub returns-in_err-pairs : goal.returns-in_err-pairs
-returns-in_err-pairs g c =
-    IfOk-from_err c.from_residual.result _ c.from_residual.ensures.0
-
-pub returns-in_err-skips : goal.returns-in_err-skips
-returns-in_err-skips g c =
-    IfOk-from_err c.from_residual-in_err-skips.result _ c.from_residual-in_err-skips.ensures.0
-
-pub returns-in_err-starts : goal.returns-in_err-starts
-returns-in_err-starts g c =
-    IfOk-from_err c.from_residual-in_err-starts.result _ c.from_residual-in_err-starts.ensures.0

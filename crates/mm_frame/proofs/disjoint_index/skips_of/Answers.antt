@@ -41,10 +41,6 @@ loop-at-preserved g c =
     c.loop-at.skips.items
     c.loop-at.invariant c.loop-first.invariant c.push.new.self.items c.in_ok-push.ensures.items
 
-pub returns-in_err-push : goal.returns-in_err-push
-returns-in_err-push g c =
-    IfOk-from_err c.from_residual.result _ c.from_residual.ensures.0
-
 pub returns : goal.returns
 returns g c =
     all_skips c.args.blocks.now c.args.pairs.now c.loop-at.at c.loop-at.skips.items
@@ -66,21 +62,3 @@ index-first-requires g c =
     let i = c.loop-first.invariant.0 in
     let f = c.loop-first-test.true in
     omega (arith, n, i, f)
-
-pub overflow_sub-first : goal.overflow_sub-first
-overflow_sub-first g c = omega arith
-
-pub offset_bounds-pairs-first : goal.offset_bounds-pairs-first
-offset_bounds-pairs-first g c = omega arith
-
-pub bounds-pairs-first : goal.bounds-pairs-first
-bounds-pairs-first g c = omega arith
-
-pub offset_bounds-pairs-at : goal.offset_bounds-pairs-at
-offset_bounds-pairs-at g c = omega arith
-
-pub bounds-pairs-at : goal.bounds-pairs-at
-bounds-pairs-at g c = omega arith
-
-pub overflow_sub-first-in-loop-first : goal.overflow_sub-first-in-loop-first
-overflow_sub-first-in-loop-first g c = omega arith

@@ -6,18 +6,6 @@ use Rattle.mm_database.proofs.NamesLaw.{on_then}
 use Rattle.mm_frame.proofs.FramesLaw.{frames_more, own_frame}
 use Rattle.mm_frame.proofs.frames.add_frame.Goals as goal
 
-pub is_assertion-requires : goal.is_assertion-requires
-is_assertion-requires g c = c.requires.statement
-
-pub frame_of-requires-clause-sources : goal.frame_of-requires-clause-sources
-frame_of-requires-clause-sources g c = c.requires.sources
-
-pub frame_of-requires-clause-assertion : goal.frame_of-requires-clause-assertion
-frame_of-requires-clause-assertion g c = c.requires.statement
-
-pub frame_of-requires-clause-ready : goal.frame_of-requires-clause-ready
-frame_of-requires-clause-ready g c = c.requires.ready
-
 pub add-requires : goal.add-requires
 add-requires g c =
     let db = c.args.sources.now.statements.now.list in
@@ -28,10 +16,6 @@ add-requires g c =
     let k = c.requires.statement in
     omega (arith, n, small, k)
 
-pub returns-in_ok-frame-clause-seen : goal.returns-in_ok-frame-clause-seen
-returns-in_ok-frame-clause-seen g c =
-    on_then c.add.result c.add.ensures (λ e. c.in_ok-frame.ensures.seen)
-
 pub returns-in_ok-frame-clause-frames : goal.returns-in_ok-frame-clause-frames
 returns-in_ok-frame-clause-frames g c =
     let db = c.args.sources.now.statements.now.list in
@@ -41,14 +25,6 @@ returns-in_ok-frame-clause-frames g c =
     (λ e. frames_more db k _ _ _ c.requires.frames e
     (ap Some c.in_ok-frame.ensures.frame ∙ own_frame db k _ is))
 
-pub returns-else-is_assertion-clause-seen : goal.returns-else-is_assertion-clause-seen
-returns-else-is_assertion-clause-seen g c =
-    on_then c.add_none.result c.add_none.ensures
-    (λ e. record {
-      count = c.requires.ready.fresh.count;
-      within = λ x h. let l = c.requires.ready.fresh.within x h in omega (arith, l);
-    })
-
 pub returns-else-is_assertion-clause-frames : goal.returns-else-is_assertion-clause-frames
 returns-else-is_assertion-clause-frames g c =
     let db = c.args.sources.now.statements.now.list in
@@ -56,11 +32,3 @@ returns-else-is_assertion-clause-frames g c =
     let is = sym c.is_assertion.ensures ∙ c.if-is_assertion.false in
     on_then c.add_none.result c.add_none.ensures
     (λ e. frames_more db k _ _ _ c.requires.frames e (own_frame db k _ is))
-
-pub returns-in_err-frame-clause-seen : goal.returns-in_err-frame-clause-seen
-returns-in_err-frame-clause-seen g c =
-    IfOk-from_err c.from_residual.result _ c.from_residual.ensures.0
-
-pub returns-in_err-frame-clause-frames : goal.returns-in_err-frame-clause-frames
-returns-in_err-frame-clause-frames g c =
-    IfOk-from_err c.from_residual.result _ c.from_residual.ensures.0

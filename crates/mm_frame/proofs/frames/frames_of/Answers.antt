@@ -16,10 +16,6 @@ returns g c =
     let all : c.loop-k.k ≡ length db = omega (arith, e, n, m) in
     c.loop-k.invariant.frames ∙ ap (frames_before db) all
 
-pub returns-in_err-essentials : goal.returns-in_err-essentials
-returns-in_err-essentials g c =
-    IfOk-from_err c.from_residual.result _ c.from_residual.ensures.0
-
 pub loop-k-init : goal.loop-k-init
 loop-k-init g c = record {
   typed =
@@ -58,35 +54,6 @@ pub add_frame-requires-clause-statement : goal.add_frame-requires-clause-stateme
 add_frame-requires-clause-statement g c =
     let t = c.loop-k-test.true in let n = c.len-count.ensures.len in omega (arith, t, n)
 
-pub add_frame-requires-clause-frames : goal.add_frame-requires-clause-frames
-add_frame-requires-clause-frames g c = c.loop-k.invariant.frames
-
-pub give_type-requires-clause-sound : goal.give_type-requires-clause-sound
-give_type-requires-clause-sound g c = c.len-count.ensures.sound
-
 pub give_type-requires-clause-statement : goal.give_type-requires-clause-statement
 give_type-requires-clause-statement g c =
     let t = c.loop-k-test.true in let n = c.len-count.ensures.len in omega (arith, t, n)
-
-pub give_type-requires-clause-typed : goal.give_type-requires-clause-typed
-give_type-requires-clause-typed g c = c.loop-k.invariant.typed
-
-pub loop-k-preserved : goal.loop-k-preserved
-loop-k-preserved g c = record {
-  typed = c.give_type.ensures;
-  seen = c.in_ok-add_frame.ensures.seen;
-  frames = c.in_ok-add_frame.ensures.frames;
-}
-
-pub returns-in_err-typed : goal.returns-in_err-typed
-returns-in_err-typed g c =
-    IfOk-from_err c.from_residual-in_err-typed.result _ c.from_residual-in_err-typed.ensures.0
-
-pub returns-in_err-filled : goal.returns-in_err-filled
-returns-in_err-filled g c =
-    IfOk-from_err c.from_residual-in_err-filled.result _ c.from_residual-in_err-filled.ensures.0
-
-pub returns-in_err-add_frame : goal.returns-in_err-add_frame
-returns-in_err-add_frame g c =
-    IfOk-from_err c.from_residual-in_err-add_frame.result _
-    c.from_residual-in_err-add_frame.ensures.0

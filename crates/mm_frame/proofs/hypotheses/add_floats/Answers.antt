@@ -12,21 +12,8 @@ use Rattle.mm_frame.proofs.hypotheses.add_floats.Goals.{then-floating+else-is_op
 use Rattle.mm_frame.proofs.hypotheses.add_floats.Goals.{else-floating}
 use Rattle.mm_frame.proofs.hypotheses.add_floats.Goals as goal
 
-pub returns-in_err-push : goal.returns-in_err-push
-returns-in_err-push g c =
-    IfOk-from_err c.from_residual.result _ c.from_residual.ensures.0
-
 pub loop-symbol-init : goal.loop-symbol-init
 loop-symbol-init g c = λ j. none_so_far (is_member c.args.hyps.now.items j)
-
-pub offset_bounds-found-symbol-index : goal.offset_bounds-found-symbol-index
-offset_bounds-found-symbol-index g c = omega arith
-
-pub overflow_cast-floating : goal.overflow_cast-floating
-overflow_cast-floating g c = omega arith
-
-pub offset_bounds-typed-number : goal.offset_bounds-typed-number
-offset_bounds-typed-number g c = omega arith
 
 pub bounds-typed-number : goal.bounds-typed-number
 bounds-typed-number g c =

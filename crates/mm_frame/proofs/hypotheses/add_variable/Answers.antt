@@ -7,26 +7,6 @@ use Rattle.mm_frame.specs.Hypotheses.{AreStamps}
 use Rattle.mm_frame.proofs.StampsLaw.{stamp_more, found_again, noted_new, noted_again, noted_not}
 use Rattle.mm_frame.proofs.hypotheses.add_variable.Goals as goal
 
-pub returns-in_err-push-clause-stamps : goal.returns-in_err-push-clause-stamps
-returns-in_err-push-clause-stamps g c =
-    IfOk-from_err c.from_residual.result _ c.from_residual.ensures.0
-
-pub returns-in_err-push-clause-found : goal.returns-in_err-push-clause-found
-returns-in_err-push-clause-found g c =
-    IfOk-from_err c.from_residual.result _ c.from_residual.ensures.0
-
-pub is_variable-requires : goal.is_variable-requires
-is_variable-requires g c = c.requires.symbol
-
-pub overflow_cast-place : goal.overflow_cast-place
-overflow_cast-place g c = omega arith
-
-pub index-requires : goal.index-requires
-index-requires g c = omega arith
-
-pub index_mut-requires : goal.index_mut-requires
-index_mut-requires g c = omega arith
-
 pub returns-in_ok-push-clause-stamps : goal.returns-in_ok-push-clause-stamps
 returns-in_ok-push-clause-stamps g c =
     let n = length (symbol_names c.args.statements.now.list) in
@@ -46,9 +26,6 @@ returns-in_ok-push-clause-found g c = λ x.
     ∙ noted_new (is_variable_number c.args.statements.now.list) c.args.symbol x (is_member found x)
     (sym c.is_variable.ensures ∙ c.if-is_variable.true)
 
-pub returns-else-index-stamp-clause-stamps : goal.returns-else-index-stamp-clause-stamps
-returns-else-index-stamp-clause-stamps g c = c.requires.stamps
-
 pub returns-else-index-stamp-clause-found : goal.returns-else-index-stamp-clause-found
 returns-else-index-stamp-clause-found g c = λ x.
     let found = c.args.found.now.items in
@@ -57,9 +34,6 @@ returns-else-index-stamp-clause-found g c = λ x.
     c.args.seen.now.items found
     c.args.symbol c.number-place.result c.index.result.now c.requires.stamps c.requires.symbol
     c.number-place.ensures c.index.ensures c.if-index-stamp.false)
-
-pub returns-else-is_variable-clause-stamps : goal.returns-else-is_variable-clause-stamps
-returns-else-is_variable-clause-stamps g c = c.requires.stamps
 
 pub returns-else-is_variable-clause-found : goal.returns-else-is_variable-clause-found
 returns-else-is_variable-clause-found g c = λ x.

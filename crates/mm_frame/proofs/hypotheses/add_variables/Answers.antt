@@ -5,14 +5,6 @@ use Rattle.mm_spec.specs.Frame.{is_variable_number}
 use Rattle.mm_frame.proofs.LoopsLaw.{noted_none, noted_next}
 use Rattle.mm_frame.proofs.hypotheses.add_variables.Goals as goal
 
-pub returns-in_err-add_variable-clause-stamps : goal.returns-in_err-add_variable-clause-stamps
-returns-in_err-add_variable-clause-stamps g c =
-    IfOk-from_err c.from_residual.result _ c.from_residual.ensures.0
-
-pub returns-in_err-add_variable-clause-found : goal.returns-in_err-add_variable-clause-found
-returns-in_err-add_variable-clause-found g c =
-    IfOk-from_err c.from_residual.result _ c.from_residual.ensures.0
-
 pub loop-symbol-init : goal.loop-symbol-init
 loop-symbol-init g c = record {
   stamps = c.requires.stamps;
@@ -21,18 +13,12 @@ loop-symbol-init g c = record {
       (is_variable_number c.args.statements.now.list x);
 }
 
-pub offset_bounds-symbols-symbol-index : goal.offset_bounds-symbols-symbol-index
-offset_bounds-symbols-symbol-index g c = omega arith
-
 pub add_variable-requires-clause-symbol : goal.add_variable-requires-clause-symbol
 add_variable-requires-clause-symbol g c =
     let h = c.requires.symbols c.loop-symbol.symbol-index c.symbol-item.result
     c.loop-symbol-test.true in
     let e = c.symbol-item.is in
     omega (arith, h, e)
-
-pub add_variable-requires-clause-stamps : goal.add_variable-requires-clause-stamps
-add_variable-requires-clause-stamps g c = c.loop-symbol.invariant.stamps
 
 pub loop-symbol-preserved : goal.loop-symbol-preserved
 loop-symbol-preserved g c = record {
@@ -43,9 +29,6 @@ loop-symbol-preserved g c = record {
       (is_variable_number c.args.statements.now.list x) c.loop-symbol-test.true c.symbol-item.is
       (c.loop-symbol.invariant.found x) (c.in_ok-add_variable.ensures.found x);
 }
-
-pub returns-clause-stamps : goal.returns-clause-stamps
-returns-clause-stamps g c = c.loop-symbol.invariant.stamps
 
 pub returns-clause-found : goal.returns-clause-found
 returns-clause-found g c = λ x.

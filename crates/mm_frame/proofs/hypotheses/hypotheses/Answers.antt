@@ -31,15 +31,6 @@ returns-clause-hyps g c =
     ∙ ap (λ xs. is_member c.active_essentials.new.into.items j
     || list_any (is_float_of db k ts j) xs) c.deref-2.ensures.value)
 
-pub active_essentials-requires-clause-at : goal.active_essentials-requires-clause-at
-active_essentials-requires-clause-at g c = omega arith
-
-pub active_essentials-requires-clause-latest : goal.active_essentials-requires-clause-latest
-active_essentials-requires-clause-latest g c = c.requires.sources.essentials_are
-
-pub mandatory_variables-requires-clause-few : goal.mandatory_variables-requires-clause-few
-mandatory_variables-requires-clause-few g c = c.requires.sources.sound.few
-
 pub mandatory_variables-requires-clause-assertion :
     goal.mandatory_variables-requires-clause-assertion
 mandatory_variables-requires-clause-assertion g c = c.requires.assertion
@@ -49,21 +40,6 @@ pub mandatory_variables-requires-clause-essentials :
 mandatory_variables-requires-clause-essentials g c = λ i.
     ap (λ xs. is_member xs i) c.deref.ensures.value ∙ c.in_ok-active_essentials.ensures i
 
-pub mandatory_variables-requires-clause-fresh : goal.mandatory_variables-requires-clause-fresh
-mandatory_variables-requires-clause-fresh g c = c.requires.ready.fresh
-
-pub add_floats-requires-clause-at : goal.add_floats-requires-clause-at
-add_floats-requires-clause-at g c = omega arith
-
-pub add_floats-requires-clause-typed : goal.add_floats-requires-clause-typed
-add_floats-requires-clause-typed g c = c.requires.ready.typed_are
-
-pub returns-clause-stamps : goal.returns-clause-stamps
-returns-clause-stamps g c = c.in_ok-mandatory_variables.ensures.stamps
-
-pub returns-clause-found : goal.returns-clause-found
-returns-clause-found g c = c.in_ok-mandatory_variables.ensures.found
-
 pub returns-in_err-active_essentials-clause-stamps :
     goal.returns-in_err-active_essentials-clause-stamps
 returns-in_err-active_essentials-clause-stamps g c =
@@ -72,10 +48,6 @@ returns-in_err-active_essentials-clause-stamps g c =
 pub returns-in_err-active_essentials-clause-found :
     goal.returns-in_err-active_essentials-clause-found
 returns-in_err-active_essentials-clause-found g c =
-    IfOk-from_err c.from_residual.result _ c.from_residual.ensures.0
-
-pub returns-in_err-active_essentials-clause-hyps : goal.returns-in_err-active_essentials-clause-hyps
-returns-in_err-active_essentials-clause-hyps g c =
     IfOk-from_err c.from_residual.result _ c.from_residual.ensures.0
 
 pub returns-in_err-mandatory_variables-clause-stamps :
@@ -95,18 +67,3 @@ pub returns-in_err-mandatory_variables-clause-hyps :
 returns-in_err-mandatory_variables-clause-hyps g c =
     IfOk-from_err c.from_residual-in_err-mandatory_variables.result _
     c.from_residual-in_err-mandatory_variables.ensures.0
-
-pub returns-in_err-add_floats-clause-stamps : goal.returns-in_err-add_floats-clause-stamps
-returns-in_err-add_floats-clause-stamps g c =
-    IfOk-from_err c.from_residual-in_err-add_floats.result _
-    c.from_residual-in_err-add_floats.ensures.0
-
-pub returns-in_err-add_floats-clause-found : goal.returns-in_err-add_floats-clause-found
-returns-in_err-add_floats-clause-found g c =
-    IfOk-from_err c.from_residual-in_err-add_floats.result _
-    c.from_residual-in_err-add_floats.ensures.0
-
-pub returns-in_err-add_floats-clause-hyps : goal.returns-in_err-add_floats-clause-hyps
-returns-in_err-add_floats-clause-hyps g c =
-    IfOk-from_err c.from_residual-in_err-add_floats.result _
-    c.from_residual-in_err-add_floats.ensures.0

@@ -29,33 +29,6 @@ returns-clause-found g c = λ x.
     (take_all c.loop-essential.essential-index xs c.loop-essential-test.false)
     ∙ mandatory_is db c.args.assertion xs c.requires.essentials x
 
-pub returns-in_err-add_variables-clause-stamps : goal.returns-in_err-add_variables-clause-stamps
-returns-in_err-add_variables-clause-stamps g c =
-    IfOk-from_err c.from_residual.result _ c.from_residual.ensures.0
-
-pub returns-in_err-add_variables-clause-found : goal.returns-in_err-add_variables-clause-found
-returns-in_err-add_variables-clause-found g c =
-    IfOk-from_err c.from_residual.result _ c.from_residual.ensures.0
-
-pub returns-in_err-add_variables-2-clause-stamps : goal.returns-in_err-add_variables-2-clause-stamps
-returns-in_err-add_variables-2-clause-stamps g c =
-    IfOk-from_err c.from_residual-in_err-add_variables-2.result _
-    c.from_residual-in_err-add_variables-2.ensures.0
-
-pub returns-in_err-add_variables-2-clause-found : goal.returns-in_err-add_variables-2-clause-found
-returns-in_err-add_variables-2-clause-found g c =
-    IfOk-from_err c.from_residual-in_err-add_variables-2.result _
-    c.from_residual-in_err-add_variables-2.ensures.0
-
-pub formula-requires : goal.formula-requires
-formula-requires g c = c.requires.assertion
-
-pub overflow_add-assertion : goal.overflow_add-assertion
-overflow_add-assertion g c = omega arith
-
-pub add_variables-requires-clause-symbols : goal.add_variables-requires-clause-symbols
-add_variables-requires-clause-symbols g c = c.formula.ensures.known
-
 pub add_variables-requires-clause-stamps : goal.add_variables-requires-clause-stamps
 add_variables-requires-clause-stamps g c =
     stamps_fresh (length (symbol_names c.args.statements.now.list)) c.args.assertion
@@ -73,12 +46,6 @@ loop-essential-init g c = record {
       (ap length c.clear.ensures.items) c.formula.ensures.formula
       (c.in_ok-add_variables.ensures.found x);
 }
-
-pub offset_bounds-essentials-essential-index : goal.offset_bounds-essentials-essential-index
-offset_bounds-essentials-essential-index g c = omega arith
-
-pub overflow_add-assertion-in-loop-essential : goal.overflow_add-assertion-in-loop-essential
-overflow_add-assertion-in-loop-essential g c = omega arith
 
 pub add_variables-requires-in-loop-essential-clause-symbols :
     goal.add_variables-requires-in-loop-essential-clause-symbols
@@ -102,6 +69,3 @@ loop-essential-preserved g c = record {
       c.formula-in-loop-essential.ensures.formula (c.loop-essential.invariant.found x)
       (c.in_ok-add_variables-2.ensures.found x);
 }
-
-pub returns-clause-stamps : goal.returns-clause-stamps
-returns-clause-stamps g c = c.loop-essential.invariant.stamps

@@ -63,12 +63,6 @@ loop-scanner-preserved-then-ignores_plain-2 g c =
           c.skip_plain.ensures.onward others (before.inn p) next;
     }
 
-pub overflow_sub-tail : goal.overflow_sub-tail
-overflow_sub-tail g c = c.requires.order
-
-pub overflow_add-tail : goal.overflow_add-tail
-overflow_add-tail g c = omega arith
-
 pub new-scanner-requires : goal.new-scanner-requires
 new-scanner-requires g c =
     let order = c.requires.order in

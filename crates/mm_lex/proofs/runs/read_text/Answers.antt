@@ -42,15 +42,6 @@ returns-clause-to g c =
     (omega (arith, c.min-runs.ensures)) (omega (arith, c.min-runs.ensures))
     (omega arith) c.joining.invariant none
 
-pub overflow_add-places : goal.overflow_add-places
-overflow_add-places g c = omega arith
-
-pub read_runs-requires-clause-short : goal.read_runs-requires-clause-short
-read_runs-requires-clause-short g c κs within = c.requires.short
-
-pub read_runs-requires-clause-cuts : goal.read_runs-requires-clause-cuts
-read_runs-requires-clause-cuts g c κs within = c.requires.cuts
-
 pub read_runs-requires-clause-some : goal.read_runs-requires-clause-some
 read_runs-requires-clause-some g c κs = (let least = c.min-runs.ensures in omega (arith, least))
 

@@ -10,12 +10,6 @@ use Rattle.mm_machine.proofs.FitLaw.{typed_tested, essential_tested}
 use Rattle.mm_machine.proofs.arena.all_fit.Goals.{in-Floating, in-Essential}
 use Rattle.mm_machine.proofs.arena.all_fit.Goals as goal
 
-pub offset_bounds-hypothesis-items-j : goal.offset_bounds-hypothesis-items-j
-offset_bounds-hypothesis-items-j c = omega arith
-
-pub bounds-hypothesis-items-j : goal.bounds-hypothesis-items-j
-bounds-hypothesis-items-j c = omega arith
-
 pub offset_bounds-premises-j : goal.offset_bounds-premises-j
 offset_bounds-premises-j c =
     let inside = subst (λ z. c.loop-j.j < length z)
@@ -27,9 +21,6 @@ offset_bounds-premises-j-in-Essential c =
     let inside = subst (λ z. c.loop-j.j < length z)
     (ap (λ (r : Compiled). r.hypotheses) c.rule.view_is) c.loop-j-test.true in
     omega (arith, inside, c.requires.count)
-
-pub fits-is_one-requires-clause-premises : goal.fits-is_one-requires-clause-premises
-fits-is_one-requires-clause-premises c = c.requires.premises
 
 pub fits-is_one-requires-clause-wanted : goal.fits-is_one-requires-clause-wanted
 fits-is_one-requires-clause-wanted c = grind (arith, common_steps)

@@ -5,27 +5,12 @@ use Rattle.mm_spec.specs.Derivation.{is_disjoint_from, are_all_disjoint}
 use Rattle.mm_spec.specs.Citation.{context_at}
 use Rattle.mm_machine.proofs.arena.are_all_disjoint.Goals as goal
 
-pub offset_bounds-first-s-index : goal.offset_bounds-first-s-index
-offset_bounds-first-s-index g c = omega arith
-
-pub is_disjoint_from-requires-clause-theorem : goal.is_disjoint_from-requires-clause-theorem
-is_disjoint_from-requires-clause-theorem g c = c.requires.theorem
-
-pub is_disjoint_from-requires-clause-others : goal.is_disjoint_from-requires-clause-others
-is_disjoint_from-requires-clause-others g c = c.requires.second
-
-pub is_disjoint_from-requires-clause-cache : goal.is_disjoint_from-requires-clause-cache
-is_disjoint_from-requires-clause-cache g c = c.loop-s.invariant.cache
-
 pub returns-then-not-is_disjoint_from-clause-value : goal.returns-then-not-is_disjoint_from-clause-value
 returns-then-not-is_disjoint_from-clause-value g c =
     sym (list_all_at (λ s. is_disjoint_from (context_at c.args.db.now.statements c.args.theorem) s
     c.args.second.now) c.args.first.now c.loop-s.s-index c.s-item.result c.loop-s-test.true
     (ap (λ s. is_disjoint_from (context_at c.args.db.now.statements c.args.theorem) s c.args.second.now)
     (sym c.s-item.is) ∙ sym c.is_disjoint_from.ensures.value ∙ c.if-not-is_disjoint_from.true))
-
-pub returns-then-not-is_disjoint_from-clause-cache : goal.returns-then-not-is_disjoint_from-clause-cache
-returns-then-not-is_disjoint_from-clause-cache g c = c.is_disjoint_from.ensures.cache
 
 pub loop-s-preserved : goal.loop-s-preserved
 loop-s-preserved g c = record {
@@ -43,6 +28,3 @@ returns-clause-value g c =
     sym (ap (λ xs. are_all_disjoint (context_at c.args.db.now.statements c.args.theorem) xs
     c.args.second.now) (sym (take_all c.loop-s.s-index c.args.first.now c.loop-s-test.false))
     ∙ c.loop-s.invariant.so_far)
-
-pub returns-clause-cache : goal.returns-clause-cache
-returns-clause-cache g c = c.loop-s.invariant.cache

@@ -7,18 +7,6 @@ returns-then-has-clause-value g c =
     sym (either_disjoint c.args.db.now.statements c.args.theorem c.args.cache.now c.requires.cache
     c.args.s c.args.t (c.has.ensures c.if-has.true))
 
-pub returns-then-has-clause-cache : goal.returns-then-has-clause-cache
-returns-then-has-clause-cache g c = c.requires.cache
-
-pub are_disjoint_by-requires-clause-theorem : goal.are_disjoint_by-requires-clause-theorem
-are_disjoint_by-requires-clause-theorem g c = c.requires.theorem
-
-pub are_disjoint_by-requires-clause-s : goal.are_disjoint_by-requires-clause-s
-are_disjoint_by-requires-clause-s g c = c.requires.s
-
-pub are_disjoint_by-requires-clause-t : goal.are_disjoint_by-requires-clause-t
-are_disjoint_by-requires-clause-t g c = c.requires.t
-
 pub returns-then-not-are_disjoint_by-clause-cache :
     goal.returns-then-not-are_disjoint_by-clause-cache
 returns-then-not-are_disjoint_by-clause-cache g c = c.requires.cache

@@ -32,9 +32,6 @@ returns-then-len-gt-FORMULA_LIMIT-clause-short g c =
     sym (lt-leb (length (replaced xs es f)) formula_limit
     (omega (arith, l, m, c.len.ensures, c.if-len-gt-FORMULA_LIMIT.true)))
 
-pub offset_bounds-formula-part-index : goal.offset_bounds-formula-part-index
-offset_bounds-formula-part-index g c = omega arith
-
 pub formula-requires : goal.formula-requires
 formula-requires g c =
     variable_in c.args.symbols.now c.args.premises.now c.args.formula.now c.loop-part.part-index
@@ -92,13 +89,3 @@ pub returns-in_err-append_symbols-in-Variable-clause-made :
     goal.returns-in_err-append_symbols-in-Variable-clause-made
 returns-in_err-append_symbols-in-Variable-clause-made g c =
     IfOk-from_err c.from_residual.result _ c.from_residual.ensures.0
-
-pub returns-in_err-push-in-Constant-clause-short : goal.returns-in_err-push-in-Constant-clause-short
-returns-in_err-push-in-Constant-clause-short g c =
-    IfOk-from_err c.from_residual-in_err-push-in-Constant.result _
-    c.from_residual-in_err-push-in-Constant.ensures.0
-
-pub returns-in_err-push-in-Constant-clause-made : goal.returns-in_err-push-in-Constant-clause-made
-returns-in_err-push-in-Constant-clause-made g c =
-    IfOk-from_err c.from_residual-in_err-push-in-Constant.result _
-    c.from_residual-in_err-push-in-Constant.ensures.0

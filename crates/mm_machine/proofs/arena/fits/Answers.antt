@@ -90,15 +90,6 @@ loop-part-preserved c =
           })
     ]
 
-pub offset_bounds-wanted-part-index : goal.offset_bounds-wanted-part-index
-offset_bounds-wanted-part-index c = omega arith
-
-pub begins-requires-clause-order : goal.begins-requires-clause-order
-begins-requires-clause-order c = c.loop-part.invariant.upto
-
-pub begins-requires-clause-within : goal.begins-requires-clause-within
-begins-requires-clause-within c = c.requires.premise.within
-
 pub begins-requires-clause-span : goal.begins-requires-clause-span
 begins-requires-clause-span c =
     variable_in c.args.symbols.now c.args.premises.now c.args.wanted.now c.loop-part.part-index
@@ -116,9 +107,6 @@ overflow_add-at c = grind (arith, common_steps)
 
 pub returns-then-at-premise : goal.returns-then-at-premise
 returns-then-at-premise c = grind (arith, common_steps)
-
-pub overflow_add-at-in-Constant : goal.overflow_add-at-in-Constant
-overflow_add-at-in-Constant c = omega arith
 
 pub returns : goal.returns
 returns c = grind (arith, common_steps)

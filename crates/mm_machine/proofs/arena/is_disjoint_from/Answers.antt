@@ -23,24 +23,6 @@ returns-then-not-is_variable-clause-value g c =
     sym (constant_apart c.args.db.now.statements c.args.theorem c.args.s
     (sym c.is_variable.ensures ∙ c.if-not-is_variable.true) c.args.others.now)
 
-pub is_variable-requires : goal.is_variable-requires
-is_variable-requires g c = c.requires.s
-
-pub returns-then-not-is_variable-clause-cache : goal.returns-then-not-is_variable-clause-cache
-returns-then-not-is_variable-clause-cache g c = c.requires.cache
-
-pub offset_bounds-others-t-index : goal.offset_bounds-others-t-index
-offset_bounds-others-t-index g c = omega arith
-
-pub are_disjoint-requires-clause-theorem : goal.are_disjoint-requires-clause-theorem
-are_disjoint-requires-clause-theorem g c = c.requires.theorem
-
-pub are_disjoint-requires-clause-s : goal.are_disjoint-requires-clause-s
-are_disjoint-requires-clause-s g c = c.requires.s
-
-pub are_disjoint-requires-clause-cache : goal.are_disjoint-requires-clause-cache
-are_disjoint-requires-clause-cache g c = c.loop-t.invariant.cache
-
 pub returns-then-not-are_disjoint-clause-value : goal.returns-then-not-are_disjoint-clause-value
 returns-then-not-are_disjoint-clause-value g c =
     let disjoint = are_disjoint (context_at c.args.db.now.statements c.args.theorem) c.args.s in
@@ -48,9 +30,6 @@ returns-then-not-are_disjoint-clause-value g c =
     c.loop-t-test.true
     (ap disjoint (sym c.t-item.is) ∙ sym c.are_disjoint.ensures.value
     ∙ c.if-not-are_disjoint.true))
-
-pub returns-then-not-are_disjoint-clause-cache : goal.returns-then-not-are_disjoint-clause-cache
-returns-then-not-are_disjoint-clause-cache g c = c.are_disjoint.ensures.cache
 
 pub loop-t-preserved : goal.loop-t-preserved
 loop-t-preserved g c = grind (arith, common_steps)
@@ -60,6 +39,3 @@ returns-clause-value g c =
     sym (ap (is_disjoint_from (context_at c.args.db.now.statements c.args.theorem) c.args.s)
     (sym (take_all c.loop-t.t-index c.args.others.now c.loop-t-test.false))
     ∙ c.loop-t.invariant.so_far)
-
-pub returns-clause-cache : goal.returns-clause-cache
-returns-clause-cache g c = c.loop-t.invariant.cache

@@ -42,9 +42,6 @@ are_all_disjoint-requires-clause-second g c =
     (symbols_known n c.args.symbols.now c.span_of-in-loop-pair.result c.requires.premises.known.own
     c.requires.premises.known.kept)
 
-pub offset_bounds-pairs-pair-index : goal.offset_bounds-pairs-pair-index
-offset_bounds-pairs-pair-index g c = omega arith
-
 pub formula-first-requires : goal.formula-first-requires
 formula-first-requires g c =
     premise_in c.args.symbols.now c.args.premises.now _ c.span_of.result
@@ -58,20 +55,11 @@ formula-second-requires g c =
     (c.requires.pairs c.loop-pair.pair-index (0, 0) c.loop-pair-test.true).1
     c.span_of-in-loop-pair.ensures
 
-pub are_all_disjoint-requires-clause-theorem : goal.are_all_disjoint-requires-clause-theorem
-are_all_disjoint-requires-clause-theorem g c = c.requires.theorem
-
 pub are_all_disjoint-requires-clause-first : goal.are_all_disjoint-requires-clause-first
 are_all_disjoint-requires-clause-first g c = let n = length (symbol_names c.args.db.now.statements) in
     subst (All (λ s. s < n)) (sym c.formula-first.ensures)
     (symbols_known n c.args.symbols.now c.span_of.result c.requires.premises.known.own
     c.requires.premises.known.kept)
-
-pub are_all_disjoint-requires-clause-cache : goal.are_all_disjoint-requires-clause-cache
-are_all_disjoint-requires-clause-cache g c = c.loop-pair.invariant.cache
-
-pub returns-then-not-are_all_disjoint-clause-cache : goal.returns-then-not-are_all_disjoint-clause-cache
-returns-then-not-are_all_disjoint-clause-cache g c = c.are_all_disjoint.ensures.cache
 
 pub loop-pair-preserved : goal.loop-pair-preserved
 loop-pair-preserved g c = grind (arith, common_steps)
@@ -84,6 +72,3 @@ returns-clause-value g c = let context = context_at c.args.db.now.statements c.a
     (list_all (λ (q : ℕ × ℕ). are_all_disjoint context (stands xs es q.0) (stands xs es q.1)))
     (sym (take_all c.loop-pair.pair-index c.args.pairs.now c.loop-pair-test.false))
     ∙ c.loop-pair.invariant.so_far)
-
-pub returns-clause-cache : goal.returns-clause-cache
-returns-clause-cache g c = c.loop-pair.invariant.cache

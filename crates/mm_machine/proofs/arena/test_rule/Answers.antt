@@ -48,32 +48,8 @@ returns-clause-judged g c =
           (sym c.if-not-pairs_are_disjoint.false ∙ c.pairs_are_disjoint.ensures.value),
     )
 
-pub returns-then-stack-hypotheses-clause-cache : goal.returns-then-stack-hypotheses-clause-cache
-returns-then-stack-hypotheses-clause-cache g c = c.requires.cache
-
-pub overflow_sub-below : goal.overflow_sub-below
-overflow_sub-below g c = omega arith
-
-pub offset_bounds-stack-below : goal.offset_bounds-stack-below
-offset_bounds-stack-below g c = omega arith
-
-pub slice_bounds-premises-count : goal.slice_bounds-premises-count
-slice_bounds-premises-count g c = omega arith
-
-pub slice_bounds-premises-start : goal.slice_bounds-premises-start
-slice_bounds-premises-start g c = omega arith
-
-pub slice_bounds-premises-end : goal.slice_bounds-premises-end
-slice_bounds-premises-end g c = omega arith
-
 pub all_fit-requires-clause-premises : goal.all_fit-requires-clause-premises
 all_fit-requires-clause-premises g c = stretch_in _ _ _ _ c.requires.stack.inside
-
-pub returns-then-not-all_fit-clause-cache : goal.returns-then-not-all_fit-clause-cache
-returns-then-not-all_fit-clause-cache g c = c.requires.cache
-
-pub pairs_are_disjoint-requires-clause-theorem : goal.pairs_are_disjoint-requires-clause-theorem
-pairs_are_disjoint-requires-clause-theorem g c = c.requires.theorem
 
 pub pairs_are_disjoint-requires-clause-premises : goal.pairs_are_disjoint-requires-clause-premises
 pairs_are_disjoint-requires-clause-premises g c =
@@ -81,12 +57,3 @@ pairs_are_disjoint-requires-clause-premises g c =
       known = c.requires.stack.known;
       inside = stretch_in _ _ _ _ c.requires.stack.inside;
     }
-
-pub pairs_are_disjoint-requires-clause-cache : goal.pairs_are_disjoint-requires-clause-cache
-pairs_are_disjoint-requires-clause-cache g c = c.requires.cache
-
-pub returns-then-not-pairs_are_disjoint-clause-cache : goal.returns-then-not-pairs_are_disjoint-clause-cache
-returns-then-not-pairs_are_disjoint-clause-cache g c = c.pairs_are_disjoint.ensures.cache
-
-pub returns-clause-cache : goal.returns-clause-cache
-returns-clause-cache g c = c.pairs_are_disjoint.ensures.cache

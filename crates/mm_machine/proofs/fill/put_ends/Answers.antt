@@ -17,21 +17,3 @@ returns-clause-is c =
     (omega (arith, many)) (omega (arith, few)) (omega (arith, room)) refl end
     (length-take-le w symbols many) (omega (arith, long, dropped, many)) c.put_width.ensures.is
     c.put_width-2.ensures.is
-
-pub overflow_sub-left : goal.overflow_sub-left
-overflow_sub-left c = omega arith
-
-pub offset_bounds-symbols-left : goal.offset_bounds-symbols-left
-offset_bounds-symbols-left c = omega arith
-
-pub slice_bounds-put_width-count : goal.slice_bounds-put_width-count
-slice_bounds-put_width-count c = omega arith
-
-pub slice_bounds-put_width-start : goal.slice_bounds-put_width-start
-slice_bounds-put_width-start c = omega arith
-
-pub slice_bounds-put_width-end-2 : goal.slice_bounds-put_width-end-2
-slice_bounds-put_width-end-2 c = omega arith
-
-pub overflow_add-at : goal.overflow_add-at
-overflow_add-at c = omega arith

@@ -2,9 +2,6 @@ use Rattle.std.proofs.Common.{arith}
 use Rattle.std.proofs.lemmas.Grind.{common_steps}
 use Rattle.mm_machine.proofs.fill.put_symbols.Goals as goal
 
-pub bounds-symbols-0 : goal.bounds-symbols-0
-bounds-symbols-0 c = omega arith
-
 pub returns-then-count-eq1-clause-is : goal.returns-then-count-eq1-clause-is
 returns-then-count-eq1-clause-is c = grind (arith, common_steps)
 

@@ -2,9 +2,6 @@ use Rattle.std.proofs.Common.{arith}
 use Rattle.std.proofs.lemmas.Grind.{common_steps}
 use Rattle.mm_machine.proofs.machine.first_own.Goals as goal
 
-pub offset_bounds-stack-entry-index : goal.offset_bounds-stack-entry-index
-offset_bounds-stack-entry-index c = omega arith
-
 pub returns-in-Own : goal.returns-in-Own
 returns-in-Own c = grind (arith, common_steps)
 

@@ -79,16 +79,3 @@ pub returns-in_ok-append-in-Own-clause-made :
     goal.returns-in_ok-append-in-Own-clause-made
 returns-in_ok-append-in-Own-clause-made g c =
     ((moved g c).is_kept, (moved g c).on_top)
-
-pub overflow_sub-last : goal.overflow_sub-last
-overflow_sub-last g c = omega arith
-
-pub returns-in-Kept-clause-stack : goal.returns-in-Kept-clause-stack
-returns-in-Kept-clause-stack g c = c.requires.stack
-
-pub returns-in-Kept-clause-formulas : goal.returns-in-Kept-clause-formulas
-returns-in-Kept-clause-formulas g c = refl
-
-pub returns-in_err-append-in-Own-clause-made : goal.returns-in_err-append-in-Own-clause-made
-returns-in_err-append-in-Own-clause-made g c =
-    IfOk-from_err c.from_residual.result _ c.from_residual.ensures.0

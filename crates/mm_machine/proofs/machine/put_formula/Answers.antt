@@ -50,30 +50,3 @@ pub fill-requires-clause-formula : goal.fill-requires-clause-formula
 fill-requires-clause-formula g c =
     same_count c.args.own.now c.args.kept.now c.args.stack.now.items c.args.below
     c.args.formula.now c.deref.result.now c.deref.ensures.value c.requires.formula
-
-pub put_long-requires-clause-below : goal.put_long-requires-clause-below
-put_long-requires-clause-below g c = c.requires.below
-
-pub put_long-requires-clause-formula : goal.put_long-requires-clause-formula
-put_long-requires-clause-formula g c = c.requires.formula
-
-pub put_long-requires-clause-stack : goal.put_long-requires-clause-stack
-put_long-requires-clause-stack g c = c.requires.stack
-
-pub returns-in-Err-clause-made : goal.returns-in-Err-clause-made
-returns-in-Err-clause-made g c = tt
-
-pub returns-in-Err-clause-stopped : goal.returns-in-Err-clause-stopped
-returns-in-Err-clause-stopped g c = tt
-
-pub returns-in-Ok-clause-stopped : goal.returns-in-Ok-clause-stopped
-returns-in-Ok-clause-stopped g c = tt
-
-pub returns-in-None-clause-stack : goal.returns-in-None-clause-stack
-returns-in-None-clause-stack g c = c.put_long.ensures.stack
-
-pub returns-in-None-clause-made : goal.returns-in-None-clause-made
-returns-in-None-clause-made g c = c.put_long.ensures.made
-
-pub returns-in-None-clause-stopped : goal.returns-in-None-clause-stopped
-returns-in-None-clause-stopped g c = c.put_long.ensures.stopped

@@ -55,18 +55,6 @@ returns-in-Ok-false-clause-stopped g c =
     (ap (λ z. nat_le (length z) formula_limit) (sym same) ∙ sym c.in-Ok-false.ensures.short
     ∙ c.in-Ok-false.field-0-test)
 
-pub offset_bounds-deref-below : goal.offset_bounds-deref-below
-offset_bounds-deref-below g c = omega arith
-
-pub slice_bounds-build-count : goal.slice_bounds-build-count
-slice_bounds-build-count g c = omega arith
-
-pub slice_bounds-build-start : goal.slice_bounds-build-start
-slice_bounds-build-start g c = omega arith
-
-pub slice_bounds-build-end : goal.slice_bounds-build-end
-slice_bounds-build-end g c = omega arith
-
 pub build-requires-clause-premises : goal.build-requires-clause-premises
 build-requires-clause-premises g c =
     stretch_in (arena c.as_slice.result.now c.args.kept.now) c.deref.result.now
@@ -81,23 +69,5 @@ build-requires-clause-formula g c =
 pub returns-in-Err-clause-stack : goal.returns-in-Err-clause-stack
 returns-in-Err-clause-stack g c = λ w known is. is
 
-pub returns-in-Err-clause-made : goal.returns-in-Err-clause-made
-returns-in-Err-clause-made g c = tt
-
-pub returns-in-Err-clause-stopped : goal.returns-in-Err-clause-stopped
-returns-in-Err-clause-stopped g c = tt
-
-pub returns-in-Err-put-clause-made : goal.returns-in-Err-put-clause-made
-returns-in-Err-put-clause-made g c = tt
-
-pub returns-in-Err-put-clause-stopped : goal.returns-in-Err-put-clause-stopped
-returns-in-Err-put-clause-stopped g c = tt
-
-pub returns-in-Ok-clause-stopped : goal.returns-in-Ok-clause-stopped
-returns-in-Ok-clause-stopped g c = tt
-
 pub returns-in-Ok-false-clause-stack : goal.returns-in-Ok-false-clause-stack
 returns-in-Ok-false-clause-stack g c = λ w known is. is
-
-pub returns-in-Ok-false-clause-made : goal.returns-in-Ok-false-clause-made
-returns-in-Ok-false-clause-made g c = tt

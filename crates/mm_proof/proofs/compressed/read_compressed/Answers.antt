@@ -61,33 +61,11 @@ pub returns-in_err-extend_from_slice-clause-steps :
 returns-in_err-extend_from_slice-clause-steps g c =
     IfOk-from_err c.from_residual.result _ c.from_residual.ensures.0
 
-pub returns-in_err-count-clause-sound : goal.returns-in_err-count-clause-sound
-returns-in_err-count-clause-sound g c =
-    IfOk-from_err c.from_residual-in_err-count.result _ c.from_residual-in_err-count.ensures.0
-
-pub returns-in_err-count-clause-steps : goal.returns-in_err-count-clause-steps
-returns-in_err-count-clause-steps g c =
-    IfOk-from_err c.from_residual-in_err-count.result _ c.from_residual-in_err-count.ensures.0
-
-pub returns-in_err-read_all-clause-sound : goal.returns-in_err-read_all-clause-sound
-returns-in_err-read_all-clause-sound g c =
-    IfOk-from_err c.from_residual-in_err-read_all.result _ c.from_residual-in_err-read_all.ensures.0
-
-pub returns-in_err-read_all-clause-steps : goal.returns-in_err-read_all-clause-steps
-returns-in_err-read_all-clause-steps g c =
-    IfOk-from_err c.from_residual-in_err-read_all.result _ c.from_residual-in_err-read_all.ensures.0
-
 pub returns-in_err-count-clause-fault : goal.returns-in_err-count-clause-fault
 returns-in_err-count-clause-fault g c =
     err_same c.from_residual-in_err-count.result c.in_err-count.field-0.0 _
     c.from_residual-in_err-count.ensures.1
     c.in_err-count.ensures.fault
-
-pub returns-clause-fault : goal.returns-clause-fault
-returns-clause-fault g c = tt
-
-pub read_labels-requires-clause-within : goal.read_labels-requires-clause-within
-read_labels-requires-clause-within g c = c.requires.within
 
 pub read_all-requires-clause-none : goal.read_all-requires-clause-none
 read_all-requires-clause-none g c =

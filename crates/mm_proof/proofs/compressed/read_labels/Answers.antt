@@ -51,22 +51,9 @@ returns-clause-fault g c =
           ∙ brackets_first db c.args.theorem c.args.end done c.loop-n.invariant.sound,
     )
 
-pub returns-in-None-clause-labels : goal.returns-in-None-clause-labels
-returns-in-None-clause-labels g c = tt
-
-pub returns-clause-labels : goal.returns-clause-labels
-returns-clause-labels g c = tt
-
-pub returns-in_err-push-in-Some-clause-labels : goal.returns-in_err-push-in-Some-clause-labels
-returns-in_err-push-in-Some-clause-labels g c =
-    IfOk-from_err c.from_residual.result _ c.from_residual.ensures.0
-
 pub returns-in_err-push-in-Some-clause-fault : goal.returns-in_err-push-in-Some-clause-fault
 returns-in_err-push-in-Some-clause-fault g c =
     err_same c.from_residual.result Memory _ c.from_residual.ensures.1 tt
-
-pub returns-then-eq-clause-fault : goal.returns-then-eq-clause-fault
-returns-then-eq-clause-fault g c = tt
 
 pub returns-then-eq-clause-labels : goal.returns-then-eq-clause-labels
 returns-then-eq-clause-labels g c =
@@ -90,12 +77,6 @@ returns-then-eq-clause-labels g c =
       many = c.loop-n.invariant.many;
       sound = c.loop-n.invariant.sound;
     }
-
-pub bounds-words-n : goal.bounds-words-n
-bounds-words-n g c = omega arith
-
-pub offset_bounds-words-n : goal.offset_bounds-words-n
-offset_bounds-words-n g c = omega arith
 
 pub bytes-label-requires-clause-order : goal.bytes-label-requires-clause-order
 bytes-label-requires-clause-order g c = (c.requires.within c.loop-n.n _ c.loop-n-test.true).0

@@ -70,15 +70,6 @@ returns-then-eq-clause-fault g c =
     (λ r s. subst (λ fs. IsProofRefusal fs r) (sym faults)
     (first_fault db c.args.theorem c.end_at-end.result 0 rest r order s))
 
-pub returns-in_default-clause-sound : goal.returns-in_default-clause-sound
-returns-in_default-clause-sound g c = tt
-
-pub returns-in_default-clause-steps : goal.returns-in_default-clause-steps
-returns-in_default-clause-steps g c = tt
-
-pub read_compressed-requires-clause-theorem : goal.read_compressed-requires-clause-theorem
-read_compressed-requires-clause-theorem g c = c.requires
-
 pub returns-clause-steps : goal.returns-clause-steps
 returns-clause-steps g c =
     let db = c.args.database.now.statements in
@@ -149,9 +140,6 @@ returns-then-eq-clause-sound g c =
     c.args.theorem _ t (token_of text first) (as_tokens text c.in-Some.rest.now)
     (ap (as_tokens text) c.in-Some.ensures.cases.0) test
     ∙ ap (λ end. compressed_faults db c.args.theorem end (bracketed rest)) e ∙ h)
-
-pub read_words-requires-clause-within : goal.read_words-requires-clause-within
-read_words-requires-clause-within g c = c.proof_words-words.ensures.within
 
 pub read_compressed-requires-clause-within : goal.read_compressed-requires-clause-within
 read_compressed-requires-clause-within g c =

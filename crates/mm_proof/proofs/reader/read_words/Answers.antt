@@ -41,35 +41,6 @@ returns-in-None-clause-fault g c =
     (label_fault db c.args.theorem (token_of text w) test
     (ap (usable db c.args.theorem) (sym label) ∙ c.in-None.ensures)))
 
-pub returns-in-None-clause-sound : goal.returns-in-None-clause-sound
-returns-in-None-clause-sound g c = tt
-
-pub returns-in-None-clause-steps : goal.returns-in-None-clause-steps
-returns-in-None-clause-steps g c = tt
-
-pub returns-then-eq-clause-sound : goal.returns-then-eq-clause-sound
-returns-then-eq-clause-sound g c = tt
-
-pub returns-then-eq-clause-steps : goal.returns-then-eq-clause-steps
-returns-then-eq-clause-steps g c = tt
-
-pub returns-clause-fault : goal.returns-clause-fault
-returns-clause-fault g c = tt
-
-pub returns-in_err-push-in-Some-clause-sound : goal.returns-in_err-push-in-Some-clause-sound
-returns-in_err-push-in-Some-clause-sound g c =
-    IfOk-from_err c.from_residual.result _ c.from_residual.ensures.0
-
-pub returns-in_err-push-in-Some-clause-steps : goal.returns-in_err-push-in-Some-clause-steps
-returns-in_err-push-in-Some-clause-steps g c =
-    IfOk-from_err c.from_residual.result _ c.from_residual.ensures.0
-
 pub returns-in_err-push-in-Some-clause-fault : goal.returns-in_err-push-in-Some-clause-fault
 returns-in_err-push-in-Some-clause-fault g c =
     err_same c.from_residual.result Memory _ c.from_residual.ensures.1 tt
-
-pub bounds-words-word-index : goal.bounds-words-word-index
-bounds-words-word-index g c = omega arith
-
-pub offset_bounds-words-word-index : goal.offset_bounds-words-word-index
-offset_bounds-words-word-index g c = omega arith

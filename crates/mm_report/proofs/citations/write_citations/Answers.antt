@@ -32,9 +32,6 @@ send_citation_lines-requires-clause-labels g c =
     ∙ length-map (theorems db) (label_at db)
     ∙ ap (λ (ts : List ℕ). length ts) (sym c.requires.theorems_are)
 
-pub send_citation_lines-requires-clause-cited : goal.send_citation_lines-requires-clause-cited
-send_citation_lines-requires-clause-cited g c = c.requires
-
 pub returns : goal.returns
 returns g c =
     let db = c.args.database.now.statements in

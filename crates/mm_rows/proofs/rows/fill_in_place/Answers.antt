@@ -65,12 +65,3 @@ slice_bounds-row-end-2 g c =
     let b = c.split_at_mut-before.ensures.back_len in
     sym (length-take-le c.words-width.result c.split_at_mut-before.result.1.now
     (omega (arith, e, n, f, b)))
-
-pub fill-requires : goal.fill-requires
-fill-requires g c = tt
-
-pub fill_row-requires-clause-within : goal.fill_row-requires-clause-within
-fill_row-requires-clause-within g c = c.requires.within
-
-pub fill_row-requires-clause-theorems : goal.fill_row-requires-clause-theorems
-fill_row-requires-clause-theorems g c = c.requires.theorems

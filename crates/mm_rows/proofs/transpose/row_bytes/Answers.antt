@@ -33,12 +33,6 @@ bounds-bits-w c =
     (length c.args.bits.now) c.requires.size in_file (omega (arith, a)) in
     omega (arith, h)
 
-pub bounds-bytes-k : goal.bounds-bytes-k
-bounds-bytes-k c = omega arith
-
-pub loop-k-smaller : goal.loop-k-smaller
-loop-k-smaller c = omega arith
-
 pub offset_bounds-bits-w : goal.offset_bounds-bits-w
 offset_bounds-bits-w c =
     let t = c.loop-k-test.true in
@@ -49,9 +43,6 @@ offset_bounds-bits-w c =
     word_in_row c.args.rows c.args.across (64 * c.args.w + c.loop-k.k) (c.args.at / 8)
     (length c.args.bits.now) c.requires.size in_file (omega (arith, a)) in
     omega (arith, h)
-
-pub overflow_add-word : goal.overflow_add-word
-overflow_add-word c = omega arith
 
 pub overflow_add-word-in-loop-k : goal.overflow_add-word-in-loop-k
 overflow_add-word-in-loop-k c =
@@ -64,15 +55,6 @@ overflow_add-word-in-loop-k c =
     (length c.args.bits.now) c.requires.size in_file (omega (arith, a)) in
     omega (arith, h)
 
-pub overflow_mul-bytes : goal.overflow_mul-bytes
-overflow_mul-bytes c = omega arith
-
-pub overflow_mul-w : goal.overflow_mul-w
-overflow_mul-w c = omega arith
-
-pub overflow_mul-word : goal.overflow_mul-word
-overflow_mul-word c = omega arith
-
 pub overflow_mul-word-in-loop-k : goal.overflow_mul-word-in-loop-k
 overflow_mul-word-in-loop-k c =
     let t = c.loop-k-test.true in
@@ -83,9 +65,3 @@ overflow_mul-word-in-loop-k c =
     word_in_row c.args.rows c.args.across (64 * c.args.w + c.loop-k.k) (c.args.at / 8)
     (length c.args.bits.now) c.requires.size in_file (omega (arith, a)) in
     omega (arith, h)
-
-pub overflow_sub-rows : goal.overflow_sub-rows
-overflow_sub-rows c = omega arith
-
-pub overflow_shr-bytes : goal.overflow_shr-bytes
-overflow_shr-bytes c = omega arith

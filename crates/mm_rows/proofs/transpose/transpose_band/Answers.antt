@@ -36,18 +36,6 @@ loop-j-smaller c =
     let inside = c.in-Some.ensures.some.1 in
     omega (arith, first, inside)
 
-pub overflow_add-at : goal.overflow_add-at
-overflow_add-at c = omega arith
-
-pub overflow_mul-at : goal.overflow_mul-at
-overflow_mul-at c = omega arith
-
-pub mark_columns-requires-clause-band : goal.mark_columns-requires-clause-band
-mark_columns-requires-clause-band c = c.requires.band
-
-pub loop-j-init : goal.loop-j-init
-loop-j-init c = record { within = omega arith; written = c.requires.written }
-
 pub loop-j-preserved : goal.loop-j-preserved
 loop-j-preserved c = record {
   within = (let i = c.in-Some.ensures.some.1 in omega (arith, i));
@@ -56,9 +44,6 @@ loop-j-preserved c = record {
       c.args.w n) (omega arith) c.write_columns.ensures;
 }
 
-pub mark_columns-requires-clause-few_rows : goal.mark_columns-requires-clause-few_rows
-mark_columns-requires-clause-few_rows c = c.requires.table.few_rows
-
 pub mark_columns-requires-clause-narrow : goal.mark_columns-requires-clause-narrow
 mark_columns-requires-clause-narrow c =
     let w = c.requires.width in let f = c.requires.table.few_columns in omega (arith, w, f)
@@ -66,12 +51,6 @@ mark_columns-requires-clause-narrow c =
 pub mark_columns-requires-clause-size : goal.mark_columns-requires-clause-size
 mark_columns-requires-clause-size c =
     c.requires.table.size ∙ ap (λ n. c.args.rows * n) (sym c.requires.width)
-
-pub write_columns-requires-clause-band : goal.write_columns-requires-clause-band
-write_columns-requires-clause-band c = c.requires.band
-
-pub write_columns-requires-clause-table : goal.write_columns-requires-clause-table
-write_columns-requires-clause-table c = c.requires.table
 
 pub write_columns-requires-clause-within : goal.write_columns-requires-clause-within
 write_columns-requires-clause-within c =

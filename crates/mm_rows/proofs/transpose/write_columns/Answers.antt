@@ -64,9 +64,6 @@ bounds-transposed-j c =
     let e = ap (λ n. c.loop-j.j * n) c.div_ceil-down.ensures in
     omega (arith, h, e)
 
-pub loop-j-init : goal.loop-j-init
-loop-j-init c = record { from = omega arith; within = omega arith; written = c.requires.written }
-
 pub offset_bounds-transposed-j : goal.offset_bounds-transposed-j
 offset_bounds-transposed-j c =
     let t = c.loop-j-test.true in
@@ -117,18 +114,3 @@ row_bytes-bytes-requires-clause-size c =
 pub row_bytes-bytes-requires-clause-within : goal.row_bytes-bytes-requires-clause-within
 row_bytes-bytes-requires-clause-within c =
     let w = c.requires.within in let d = c.div_ceil.ensures in omega (arith, w, d)
-
-pub overflow_add-at : goal.overflow_add-at
-overflow_add-at c = omega arith
-
-pub overflow_mul-at : goal.overflow_mul-at
-overflow_mul-at c = omega arith
-
-pub overflow_step-j : goal.overflow_step-j
-overflow_step-j c = omega arith
-
-pub row_bytes-bytes-requires-clause-band : goal.row_bytes-bytes-requires-clause-band
-row_bytes-bytes-requires-clause-band c = c.requires.band
-
-pub row_bytes-bytes-requires-clause-few_rows : goal.row_bytes-bytes-requires-clause-few_rows
-row_bytes-bytes-requires-clause-few_rows c = c.requires.table.few_rows

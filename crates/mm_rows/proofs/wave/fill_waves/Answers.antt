@@ -55,12 +55,3 @@ returns g c =
     made_all c.args.citations.now c.args.columns.now c.args.waves.now c.in_ok-rows.rows.items
     c.loop-from.bits c.loop-from.from c.requires.waves c.in_ok-rows.ensures c.loop-from.invariant
     (omega arith)
-
-pub returns-in_err-rows : goal.returns-in_err-rows
-returns-in_err-rows g c =
-    IfOk-from_err c.from_residual.result _ c.from_residual.ensures.0
-
-pub returns-in_err-fill_wave : goal.returns-in_err-fill_wave
-returns-in_err-fill_wave g c =
-    IfOk-from_err c.from_residual-in_err-fill_wave.result _
-    c.from_residual-in_err-fill_wave.ensures.0

@@ -12,9 +12,6 @@ loop-i-init g c = record {
       (waves_none c.args.citations.now);
 }
 
-pub next_wave-wave-requires-clause-theorems : goal.next_wave-wave-requires-clause-theorems
-next_wave-wave-requires-clause-theorems g c = c.requires
-
 pub next_wave-wave-requires-clause-within : goal.next_wave-wave-requires-clause-within
 next_wave-wave-requires-clause-within g c =
     let t = c.loop-i-test.true in let n = c.rows-i-end.ensures.rows in omega (arith, t, n)
@@ -42,7 +39,3 @@ returns g c =
     let all : c.loop-i.i ≡ length c.args.citations.now.theorems = omega (arith, t, n, w) in
     subst (λ k. AreWaves c.args.citations.now k c.loop-i.waves.items) all
     c.loop-i.invariant.waves
-
-pub returns-in_err-push : goal.returns-in_err-push
-returns-in_err-push g c =
-    IfOk-from_err c.from_residual.result _ c.from_residual.ensures.0

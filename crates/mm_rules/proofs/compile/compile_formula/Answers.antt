@@ -5,12 +5,6 @@ use Rattle.mm_rules.specs.Rules.{numbered_part, numbered_parts}
 use Rattle.mm_rules.proofs.RuleLaw.{map_more_after}
 use Rattle.mm_rules.proofs.compile.compile_formula.Goals as goal
 
-pub offset_bounds-formula-s-index : goal.offset_bounds-formula-s-index
-offset_bounds-formula-s-index g c = omega arith
-
-pub compile_symbol-requires-clause-width : goal.compile_symbol-requires-clause-width
-compile_symbol-requires-clause-width g c = c.requires.width
-
 pub loop-s-preserved : goal.loop-s-preserved
 loop-s-preserved g c =
     let part = numbered_part c.args.db.now.statements c.args.numbers.now in
@@ -25,6 +19,3 @@ returns g c =
     ∙ ap (λ z. c.args.parts.now.items
     ++ numbered_parts c.args.db.now.statements c.args.numbers.now z)
     (take_all c.loop-s.s-index c.args.formula.now c.loop-s-test.false)
-
-pub returns-in_err-push : goal.returns-in_err-push
-returns-in_err-push g c = IfOk-from_err c.from_residual.result _ c.from_residual.ensures.0

@@ -75,26 +75,8 @@ loop-j-preserved g c =
           })
     ]
 
-pub offset_bounds-hyps-j : goal.offset_bounds-hyps-j
-offset_bounds-hyps-j g c = omega arith
-
-pub bounds-hyps-j : goal.bounds-hyps-j
-bounds-hyps-j g c = omega arith
-
-pub is_first-requires-clause-width : goal.is_first-requires-clause-width
-is_first-requires-clause-width g c = c.requires.width
-
-pub is_first-requires-clause-known : goal.is_first-requires-clause-known
-is_first-requires-clause-known g c = c.formula-formula.ensures.known
-
 pub bounds-formula-0 : goal.bounds-formula-0
 bounds-formula-0 g c = (c.is_first.ensures c.if-is_first.true).0
-
-pub compile_formula-requires-clause-width : goal.compile_formula-requires-clause-width
-compile_formula-requires-clause-width g c = c.requires.width
-
-pub compile_formula-requires-clause-known : goal.compile_formula-requires-clause-known
-compile_formula-requires-clause-known g c = c.formula-formula.ensures.known
 
 pub returns : goal.returns
 returns g c = let db = c.args.db.now.statements in
@@ -110,15 +92,3 @@ returns g c = let db = c.args.db.now.statements in
       kept = c.loop-j.invariant.kept;
       below = c.loop-j.invariant.below;
     }
-
-pub returns-in_err-push : goal.returns-in_err-push
-returns-in_err-push g c = IfOk-from_err c.from_residual.result _ c.from_residual.ensures.0
-
-pub returns-in_err-compile_formula : goal.returns-in_err-compile_formula
-returns-in_err-compile_formula g c =
-    IfOk-from_err c.from_residual-in_err-compile_formula.result _
-    c.from_residual-in_err-compile_formula.ensures.0
-
-pub returns-in_err-push-2 : goal.returns-in_err-push-2
-returns-in_err-push-2 g c =
-    IfOk-from_err c.from_residual-in_err-push-2.result _ c.from_residual-in_err-push-2.ensures.0

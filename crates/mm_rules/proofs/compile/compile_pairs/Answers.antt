@@ -18,14 +18,8 @@ loop-p-preserved g c =
     (ap₂ (λ a b. (a, b)) c.number_of-low.ensures c.number_of-high.ensures ∙ ap f (sym at))
     ∙ sym (map_take_more f from i p c.loop-p-test.true)
 
-pub offset_bounds-from-p-index : goal.offset_bounds-from-p-index
-offset_bounds-from-p-index g c = omega arith
-
 pub returns : goal.returns
 returns g c =
     c.loop-p.invariant
     ∙ ap (numbered_pairs c.args.numbers.now)
     (take_all c.loop-p.p-index c.args.from.now c.loop-p-test.false)
-
-pub returns-in_err-push : goal.returns-in_err-push
-returns-in_err-push g c = IfOk-from_err c.from_residual.result _ c.from_residual.ensures.0

@@ -10,7 +10,3 @@ pub returns-in_err-extend_from_slice-clause-start :
     goal.returns-in_err-extend_from_slice-clause-start
 returns-in_err-extend_from_slice-clause-start g c =
     IfOk-from_err c.from_residual.result _ c.from_residual.ensures.0
-
-pub returns-in_err-extend_from_slice-clause-end : goal.returns-in_err-extend_from_slice-clause-end
-returns-in_err-extend_from_slice-clause-end g c =
-    IfOk-from_err c.from_residual.result _ c.from_residual.ensures.0

@@ -59,17 +59,3 @@ returns g c =
     (cut_joined _ _ _
     (joined_all (kept_words c.args.tokens.now) c.args.outlines.now c.loop-outline.outline-index _ _
     (omega (arith, end, test)) c.loop-outline.invariant))
-
-pub offset_bounds-outlines-outline-index : goal.offset_bounds-outlines-outline-index
-offset_bounds-outlines-outline-index g c = omega arith
-
-pub returns-in_err-push : goal.returns-in_err-push
-returns-in_err-push g c = IfOk-from_err c.from_residual.result _ c.from_residual.ensures.0
-
-pub returns-in_err-keep : goal.returns-in_err-keep
-returns-in_err-keep g c =
-    IfOk-from_err c.from_residual-in_err-keep.result _ c.from_residual-in_err-keep.ensures.0
-
-pub returns-in_err-push-2 : goal.returns-in_err-push-2
-returns-in_err-push-2 g c =
-    IfOk-from_err c.from_residual-in_err-push-2.result _ c.from_residual-in_err-push-2.ensures.0

@@ -12,19 +12,3 @@ loop-outline-preserved g c =
     ∙ ap₂ (λ xs x. xs ++ x ∷ []) c.loop-outline.invariant c.counted_kind.ensures
     ∙ sym (kinds_more c.args.text.now c.args.tokens.now c.args.outlines.now c.args.with_open
     c.loop-outline.outline-index (outline Constants 0 0 0) c.loop-outline-test.true)
-
-pub returns-in_err-kinds : goal.returns-in_err-kinds
-returns-in_err-kinds g c = IfOk-from_err c.from_residual.result _ c.from_residual.ensures.0
-
-pub offset_bounds-outlines-outline-index : goal.offset_bounds-outlines-outline-index
-offset_bounds-outlines-outline-index g c = omega arith
-
-pub counted_kind-requires-clause-words : goal.counted_kind-requires-clause-words
-counted_kind-requires-clause-words g c = c.requires.words
-
-pub returns-in_err-push : goal.returns-in_err-push
-returns-in_err-push g c =
-    IfOk-from_err c.from_residual-in_err-push.result _ c.from_residual-in_err-push.ensures.0
-
-pub returns : goal.returns
-returns g c = grind (arith, common_steps)

@@ -22,15 +22,3 @@ loop-k-preserved g c =
           (filter_skip test c.loop-k.k c.loop-k.all.items c.loop-k.invariant
           (here ∙ w.if-is_theorem.false))
     ]
-
-pub overflow_cast-k-end : goal.overflow_cast-k-end
-overflow_cast-k-end g c = omega arith
-
-pub overflow_cast-k : goal.overflow_cast-k
-overflow_cast-k g c = omega arith
-
-pub bounds-kinds-k : goal.bounds-kinds-k
-bounds-kinds-k g c = omega arith
-
-pub returns-in_err-push : goal.returns-in_err-push
-returns-in_err-push g c = IfOk-from_err c.from_residual.result _ c.from_residual.ensures.0

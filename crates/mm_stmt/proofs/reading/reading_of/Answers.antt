@@ -31,6 +31,3 @@ into_reading-requires g c =
         variable = λ s l. symbols.variable s (omega (arith, l, names));
       };
     }
-
-pub returns-in_err-variables : goal.returns-in_err-variables
-returns-in_err-variables g c = IfOk-from_err c.from_residual.result _ c.from_residual.ensures.0

@@ -7,12 +7,6 @@ use Rattle.mm_outline.specs.Statements.{statements}
 use Rattle.mm_database.proofs.CutsLaw.{cut_joined, joined_all, joined_cut, more_joined, none_joined}
 use Rattle.mm_stmt.proofs.spaced.spaced_labels_of.Goals as goal
 
-pub label_of-requires-clause-words : goal.label_of-requires-clause-words
-label_of-requires-clause-words g c = c.requires.words
-
-pub label_of-requires-clause-outlines : goal.label_of-requires-clause-outlines
-label_of-requires-clause-outlines g c = c.requires.outlines
-
 pub label_of-requires-clause-theorem : goal.label_of-requires-clause-theorem
 label_of-requires-clause-theorem g c =
     c.requires.theorems c.loop-theorem.theorem-index 0 (omega arith)
@@ -78,22 +72,3 @@ returns g c =
     (cut_joined _ _ _
     (joined_all name c.args.theorems.now c.loop-theorem.theorem-index _ _ (omega (arith, end, test))
     c.loop-theorem.invariant))
-
-pub offset_bounds-theorems-theorem-index : goal.offset_bounds-theorems-theorem-index
-offset_bounds-theorems-theorem-index g c = omega arith
-
-pub returns-in_err-push : goal.returns-in_err-push
-returns-in_err-push g c = IfOk-from_err c.from_residual.result _ c.from_residual.ensures.0
-
-pub returns-in_err-push-2 : goal.returns-in_err-push-2
-returns-in_err-push-2 g c =
-    IfOk-from_err c.from_residual-in_err-push-2.result _ c.from_residual-in_err-push-2.ensures.0
-
-pub returns-in_err-extend_from_slice : goal.returns-in_err-extend_from_slice
-returns-in_err-extend_from_slice g c =
-    IfOk-from_err c.from_residual-in_err-extend_from_slice.result _
-    c.from_residual-in_err-extend_from_slice.ensures.0
-
-pub returns-in_err-push-3 : goal.returns-in_err-push-3
-returns-in_err-push-3 g c =
-    IfOk-from_err c.from_residual-in_err-push-3.result _ c.from_residual-in_err-push-3.ensures.0

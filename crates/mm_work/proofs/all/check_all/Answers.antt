@@ -74,24 +74,3 @@ merge-requires-clause-valid g c =
     (λ i l. let one = c.close-first.ensures.finished all h.over h.closed i
     (omega (arith, same, past, l)) in
     h.settled i (omega (arith, one)))
-
-pub returns-in_err-rules : goal.returns-in_err-rules
-returns-in_err-rules g c = IfOk-from_err c.from_residual.result _ c.from_residual.ensures.0
-
-pub returns-in_default : goal.returns-in_default
-returns-in_default g c = tt
-
-pub returns-in_err-gathered : goal.returns-in_err-gathered
-returns-in_err-gathered g c =
-    IfOk-from_err c.from_residual-in_err-gathered.result _
-    c.from_residual-in_err-gathered.ensures.0
-
-pub returns-then-share-lt-WHOLE : goal.returns-then-share-lt-WHOLE
-returns-then-share-lt-WHOLE g c = c.check_in_order.ensures
-
-pub returns-in_err-lists : goal.returns-in_err-lists
-returns-in_err-lists g c =
-    IfOk-from_err c.from_residual-in_err-lists.result _ c.from_residual-in_err-lists.ensures.0
-
-pub returns : goal.returns
-returns g c = c.valid.ensures

@@ -5,9 +5,6 @@ use Rattle.mm_work.specs.declared.worker.Findings.{Findings}
 use Rattle.mm_work.proofs.WorkersLaw.{gathered_first, gathered_more, All_front, All_last}
 use Rattle.mm_work.proofs.gathered.join_all.Goals as goal
 
-pub returns-in_err-add : goal.returns-in_err-add
-returns-in_err-add g c = IfOk-from_err c.from_residual.result _ c.from_residual.ensures.0
-
 pub loop-other-init : goal.loop-other-init
 loop-other-init g c = record {
   gathered =
@@ -17,13 +14,6 @@ loop-other-init g c = record {
       c.requires.own c.in_ok-add.ensures.short;
   others = c.requires.others;
 }
-
-pub returns-in_err-add-2 : goal.returns-in_err-add-2
-returns-in_err-add-2 g c =
-    IfOk-from_err c.from_residual-in_err-add-2.result _ c.from_residual-in_err-add-2.ensures.0
-
-pub join-requires-clause-home : goal.join-requires-clause-home
-join-requires-clause-home g c = c.loop-other.invariant.gathered.at
 
 pub join-requires-clause-other_home : goal.join-requires-clause-other_home
 join-requires-clause-other_home g c =
@@ -48,6 +38,3 @@ loop-other-preserved g c = record {
       All_front (IsDone c.args.job.now) c.loop-other.others.items c.pop.new.self.items
       c.in-Some.other c.in-Some.ensures.items c.loop-other.invariant.others;
 }
-
-pub returns : goal.returns
-returns g c = c.loop-other.invariant.gathered

@@ -8,20 +8,6 @@ use Rattle.mm_work.specs.declared.proof.VerifyRefused.{VerifyRefused}
 use Rattle.mm_work.proofs.VerifyLaw.{cited_more, cited_before, first_fault}
 use Rattle.mm_work.proofs.in_order.check_in_order.Goals as goal
 
-pub returns-in_err-checker : goal.returns-in_err-checker
-returns-in_err-checker g c = IfOk-from_err c.from_residual.result _ c.from_residual.ensures.0
-
-pub verify-requires-clause-made_for : goal.verify-requires-clause-made_for
-verify-requires-clause-made_for g c = c.loop-theorem.invariant.made_for
-
-pub returns-in_err-push-in-Ok : goal.returns-in_err-push-in-Ok
-returns-in_err-push-in-Ok g c =
-    IfOk-from_err c.from_residual-in_err-push-in-Ok.result _
-    c.from_residual-in_err-push-in-Ok.ensures.0
-
-pub returns-in-Err-Memory : goal.returns-in-Err-Memory
-returns-in-Err-Memory g c = tt
-
 pub valid-requires : goal.valid-requires
 valid-requires g c =
     let db = c.args.database.now.statements in
@@ -29,9 +15,6 @@ valid-requires g c =
     let end : c.loop-theorem.theorem-index ≡ length (theorems db) = omega (arith, same) in
     subst (λ (n : ℕ). AreCitedUpTo db c.args.essential (theorems db) n c.loop-theorem.lists) end
     c.loop-theorem.invariant.cited
-
-pub returns : goal.returns
-returns g c = c.valid.ensures
 
 pub verify-requires-clause-theorem : goal.verify-requires-clause-theorem
 verify-requires-clause-theorem g c =

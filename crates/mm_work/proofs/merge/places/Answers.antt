@@ -9,20 +9,6 @@ use Rattle.mm_work.specs.declared.worker.Findings.{Findings}
 use Rattle.mm_work.proofs.PlacesLaw.{has_more, has_all, refilled}
 use Rattle.mm_work.proofs.merge.places.Goals as goal
 
-pub returns-in_err-resize-clause-count : goal.returns-in_err-resize-clause-count
-returns-in_err-resize-clause-count g c =
-    IfOk-from_err c.from_residual.result _ c.from_residual.ensures.0
-
-pub returns-in_err-resize-clause-places : goal.returns-in_err-resize-clause-places
-returns-in_err-resize-clause-places g c =
-    IfOk-from_err c.from_residual.result _ c.from_residual.ensures.0
-
-pub bounds-found-worker : goal.bounds-found-worker
-bounds-found-worker g c = c.loop-worker-test.true
-
-pub returns-clause-count : goal.returns-clause-count
-returns-clause-count g c = c.loop-worker.invariant.count
-
 pub loop-worker-preserved : goal.loop-worker-preserved
 loop-worker-preserved g c =
     let fs = c.args.found.now in

@@ -18,12 +18,6 @@ bounds-theorems-index g c =
     subst (λ (ts : List ℕ). c.args.index < length ts) (sym c.theorems.ensures.theorems)
     c.requires.index
 
-pub verify-requires-clause-made_for : goal.verify-requires-clause-made_for
-verify-requires-clause-made_for g c = c.requires.made_for
-
-pub returns-in-Ok-keep-clause-made_for : goal.returns-in-Ok-keep-clause-made_for
-returns-in-Ok-keep-clause-made_for g c = c.in-Ok.ensures.made_for
-
 pub returns-in-Ok-keep-clause-short : goal.returns-in-Ok-keep-clause-short
 returns-in-Ok-keep-clause-short g c = λ short. sym c.in-Ok-keep.ensures.short ∙ short
 
@@ -44,9 +38,6 @@ returns-in-Ok-keep-clause-valid g c = λ short valid. record {
 pub returns-in-Ok-keep-clause-faulty : goal.returns-in-Ok-keep-clause-faulty
 returns-in-Ok-keep-clause-faulty g c = λ short faulty. absurd (true≢false faulty)
 
-pub returns-in-Err-clause-made_for : goal.returns-in-Err-clause-made_for
-returns-in-Err-clause-made_for g c = c.in-Ok.ensures.made_for
-
 pub returns-in-Err-clause-short : goal.returns-in-Err-clause-short
 returns-in-Err-clause-short g c = λ short. absurd (true≢false short)
 
@@ -55,9 +46,6 @@ returns-in-Err-clause-valid g c = λ short. absurd (true≢false short)
 
 pub returns-in-Err-clause-faulty : goal.returns-in-Err-clause-faulty
 returns-in-Err-clause-faulty g c = λ short. absurd (true≢false short)
-
-pub returns-in-Err-Fault-clause-made_for : goal.returns-in-Err-Fault-clause-made_for
-returns-in-Err-Fault-clause-made_for g c = c.in-Err-Fault.ensures.made_for
 
 pub returns-in-Err-Fault-clause-short : goal.returns-in-Err-Fault-clause-short
 returns-in-Err-Fault-clause-short g c = λ short. short
@@ -79,9 +67,6 @@ returns-in-Err-Fault-clause-faulty g c = λ short faulty.
       cites_are = refl {A = List (List ℕ)};
       faulty_is = refl {A = Option IndexedFault};
     }
-
-pub returns-in-Err-Memory-clause-made_for : goal.returns-in-Err-Memory-clause-made_for
-returns-in-Err-Memory-clause-made_for g c = c.in-Err-Memory.ensures.made_for
 
 pub returns-in-Err-Memory-clause-short : goal.returns-in-Err-Memory-clause-short
 returns-in-Err-Memory-clause-short g c = λ short. absurd (true≢false short)

@@ -4,18 +4,6 @@ use Rattle.mm_board.specs.declared.views.View.{View}
 use Rattle.mm_work.proofs.WorkersLaw.{skipped, still_open, settled, reported}
 use Rattle.mm_work.proofs.worker.settle_drawn.Goals as goal
 
-pub look-requires : goal.look-requires
-look-requires g c = record { home = c.requires.drawn.at }
-
-pub check-requires-clause-index : goal.check-requires-clause-index
-check-requires-clause-index g c = c.requires.drawn.theorem
-
-pub check-requires-clause-made_for : goal.check-requires-clause-made_for
-check-requires-clause-made_for g c = c.requires.made_for
-
-pub settle-requires-clause-home : goal.settle-requires-clause-home
-settle-requires-clause-home g c = c.look.ensures.home
-
 pub settle-requires-clause-held : goal.settle-requires-clause-held
 settle-requires-clause-held g c =
     still_open c.args.job.now c.args.index c.args.worked.now c.requires.drawn c.look.new.seat
@@ -23,18 +11,12 @@ settle-requires-clause-held g c =
     (ap (λ (o : Option ℕ). is_some o) (sym c.held.ensures) ∙ c.is_none.ensures
     ∙ ap (λ (b : Bool). not b) c.if-is_none.false)
 
-pub report-requires-clause-home : goal.report-requires-clause-home
-report-requires-clause-home g c = c.look.ensures.home
-
 pub report-requires-clause-held : goal.report-requires-clause-held
 report-requires-clause-held g c =
     still_open c.args.job.now c.args.index c.args.worked.now c.requires.drawn c.look.new.seat
     c.look.result c.look.ensures.event.1
     (ap (λ (o : Option ℕ). is_some o) (sym c.held.ensures) ∙ c.is_none.ensures
     ∙ ap (λ (b : Bool). not b) c.if-is_none.false)
-
-pub returns-then-is_none-clause-made_for : goal.returns-then-is_none-clause-made_for
-returns-then-is_none-clause-made_for g c = c.requires.made_for
 
 pub returns-then-is_none-clause-between : goal.returns-then-is_none-clause-between
 returns-then-is_none-clause-between g c =
@@ -45,12 +27,6 @@ returns-then-is_none-clause-between g c =
 
 pub returns-then-is_none-clause-over : goal.returns-then-is_none-clause-over
 returns-then-is_none-clause-over g c = ap (λ (v : View). v.over) c.look.ensures.event.1
-
-pub returns-then-is_none-clause-kept : goal.returns-then-is_none-clause-kept
-returns-then-is_none-clause-kept g c = c.look.ensures.kept
-
-pub returns-then-check-clause-made_for : goal.returns-then-check-clause-made_for
-returns-then-check-clause-made_for g c = c.check.ensures.made_for
 
 pub returns-then-check-clause-between : goal.returns-then-check-clause-between
 returns-then-check-clause-between g c =
@@ -69,9 +45,6 @@ returns-then-check-clause-over g c =
 
 pub returns-then-check-clause-kept : goal.returns-then-check-clause-kept
 returns-then-check-clause-kept g c = λ i. c.settle.ensures.kept i ∙ c.look.ensures.kept i
-
-pub returns-else-check-clause-made_for : goal.returns-else-check-clause-made_for
-returns-else-check-clause-made_for g c = c.check.ensures.made_for
 
 pub returns-else-check-clause-between : goal.returns-else-check-clause-between
 returns-else-check-clause-between g c =

@@ -16,24 +16,12 @@ loop-index-init g c = record {
   not_over = c.requires.ready.not_over;
 }
 
-pub claim-requires-clause-home : goal.claim-requires-clause-home
-claim-requires-clause-home g c = c.loop-index.invariant.between.at
-
-pub claim-requires-clause-not_over : goal.claim-requires-clause-not_over
-claim-requires-clause-not_over g c = c.loop-index.invariant.not_over
-
-pub claim-requires-clause-closed : goal.claim-requires-clause-closed
-claim-requires-clause-closed g c = c.loop-index.invariant.between.closed
-
 pub loop-index-smaller : goal.loop-index-smaller
 loop-index-smaller g c =
     unrecorded_drawn c.args.job.now.board.now.count c.in-Some.index c.loop-index.worked.seat.view
     c.claim.new.seat.view c.settle_drawn.new.worked.seat.view
     c.loop-index.invariant.between.closed c.in-Some.ensures.some c.in-Some.ensures.below
     c.in-Some.ensures.above c.settle_drawn.ensures.kept
-
-pub settle_drawn-requires-clause-made_for : goal.settle_drawn-requires-clause-made_for
-settle_drawn-requires-clause-made_for g c = c.loop-index.invariant.made_for
 
 pub settle_drawn-requires-clause-drawn : goal.settle_drawn-requires-clause-drawn
 settle_drawn-requires-clause-drawn g c =

@@ -62,13 +62,3 @@ returns-clause-performs g c =
           c.rule_of-rule.ensures.is ok.made) ok.marks ok.formulas ok.entry w.in-Ok-note.ensures)
       | in-Err-note w ↦ rw w.result-is tt
     ]
-
-pub provide-requires-clause-assertion : goal.provide-requires-clause-assertion
-provide-requires-clause-assertion g c = c.requires.assertion
-
-pub returns-in-Err-clause-performs : goal.returns-in-Err-clause-performs
-returns-in-Err-clause-performs g c = tt
-
-pub returns-in_err-apply-clause-performs : goal.returns-in_err-apply-clause-performs
-returns-in_err-apply-clause-performs g c =
-    IfOk-from_err c.from_residual.result _ c.from_residual.ensures.0

@@ -20,22 +20,3 @@ run-requires-clause-steps g c =
           subst (λ ps. AreGoodSteps (context_at db t) 0 (steps_of ps)) (sym are)
           (good_steps db t (c.len.ensures.complete t) c.requires.sound);
     }
-
-pub run-requires-clause-made_for : goal.run-requires-clause-made_for
-run-requires-clause-made_for g c = c.requires.made_for
-
-pub returns-in_err-run-clause-made_for : goal.returns-in_err-run-clause-made_for
-returns-in_err-run-clause-made_for g c = c.run.ensures.made_for
-
-pub returns-in_err-run-clause-valid : goal.returns-in_err-run-clause-valid
-returns-in_err-run-clause-valid g c =
-    IfOk-from_err c.from_residual.result _ c.from_residual.ensures.0
-
-pub returns-clause-made_for : goal.returns-clause-made_for
-returns-clause-made_for g c = c.finish.ensures.made_for
-
-pub returns-clause-valid : goal.returns-clause-valid
-returns-clause-valid g c = c.finish.ensures.valid
-
-pub returns-clause-refused : goal.returns-clause-refused
-returns-clause-refused g c = c.finish.ensures.refused

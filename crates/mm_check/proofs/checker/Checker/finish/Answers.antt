@@ -8,9 +8,6 @@ returns-in-Err-clause-refused g c =
     ends_here c.args.db.now.statements c.args.theorem c.args.steps.now.steps _ _ c.self.view_is
     c.requires c.end_at.result c.in-Err.code c.end_at.ensures c.in-Err.ensures.other
 
-pub keep_cited-requires-clause-steps : goal.keep_cited-requires-clause-steps
-keep_cited-requires-clause-steps g c = c.requires.are_steps
-
 pub keep_cited-requires-clause-valid : goal.keep_cited-requires-clause-valid
 keep_cited-requires-clause-valid g c =
     proof_is c.args.db.now.statements c.args.theorem c.args.steps.now.steps _ _ c.self.view_is
@@ -30,17 +27,3 @@ returns-clause-valid g c =
           ok.rising
           ok.same,
     )
-
-pub returns-in-Err-clause-valid : goal.returns-in-Err-clause-valid
-returns-in-Err-clause-valid g c = tt
-
-pub returns-in_err-keep_cited-clause-valid : goal.returns-in_err-keep_cited-clause-valid
-returns-in_err-keep_cited-clause-valid g c =
-    IfOk-from_err c.from_residual.result _ c.from_residual.ensures.0
-
-pub returns-in_err-cites-clause-valid : goal.returns-in_err-cites-clause-valid
-returns-in_err-cites-clause-valid g c =
-    IfOk-from_err c.from_residual-in_err-cites.result _ c.from_residual-in_err-cites.ensures.0
-
-pub returns-clause-refused : goal.returns-clause-refused
-returns-clause-refused g c = tt

@@ -11,15 +11,3 @@ returns-after-repeat-clause-performs g c =
           ok.2 ok.3 ok.4)
       | in-Err w ↦ rw w.result-is tt
     ]
-
-pub apply-requires-clause-at : goal.apply-requires-clause-at
-apply-requires-clause-at g c = c.requires.at
-
-pub push-requires-clause-at : goal.push-requires-clause-at
-push-requires-clause-at g c = c.requires.at
-
-pub returns-then-is_assertion-clause-at : goal.returns-then-is_assertion-clause-at
-returns-then-is_assertion-clause-at g c = c.apply.ensures.at
-
-pub returns-else-is_assertion-clause-at : goal.returns-else-is_assertion-clause-at
-returns-else-is_assertion-clause-at g c = c.push.ensures.at

@@ -11,13 +11,3 @@ loop-i-init g c =
     c.restart-2.new.self _
     (subst (λ (s : CheckerState). IsMadeFor db s) (sym c.self.view_is) c.requires.made_for)
     c.requires.steps c.restart.ensures c.clear.ensures c.restart-2.ensures
-
-pub returns-in_err-take-clause-made_for : goal.returns-in_err-take-clause-made_for
-returns-in_err-take-clause-made_for g c = c.take.ensures.made_for
-
-pub returns-in_err-take-clause-performed : goal.returns-in_err-take-clause-performed
-returns-in_err-take-clause-performed g c =
-    IfOk-from_err c.from_residual.result _ c.from_residual.ensures.0
-
-pub returns-clause-fault : goal.returns-clause-fault
-returns-clause-fault g c = tt

@@ -37,10 +37,3 @@ returns-else-is_marked-clause-performed g c =
     c.perform.new.self c.perform.new.self.machine false
     (sym c.is_marked.ensures ∙ c.if-is_marked.false) c.in_default.ensures.performs
     c.perform.ensures.at refl refl
-
-pub returns-in-Err-clause-performed : goal.returns-in-Err-clause-performed
-returns-in-Err-clause-performed g c = tt
-
-pub returns-in_err-mark-clause-performed : goal.returns-in_err-mark-clause-performed
-returns-in_err-mark-clause-performed g c =
-    IfOk-from_err c.from_residual.result _ c.from_residual.ensures.0

@@ -88,9 +88,6 @@ returns-then-self-stop-eq1-clause-onward c =
 
 -- ---- any other word
 
-pub word_from-requires-clause-taken : goal.word_from-requires-clause-taken
-word_from-requires-clause-taken c = c.in_ok-start.ensures.taken
-
 module _ (c : After-word_from) where
   found : IsWordFrom c.args.self.now.text.now c.in_ok-start.start c.word_from.result.1.word
       c.word_from.result.1.plain

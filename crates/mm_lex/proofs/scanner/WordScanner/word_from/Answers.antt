@@ -123,12 +123,6 @@ loop-stop-preserved c =
       plain = λ quiet. absurd (true≢false (sym quiet ∙ c.if-plain.false));
     }
 
-pub returns-clause-onward : goal.returns-clause-onward
-returns-clause-onward c = record {
-  later = c.loop-stop.invariant.after;
-  none = c.loop-stop.invariant.none;
-}
-
 pub returns-clause-word : goal.returns-clause-word
 returns-clause-word c =
     let text = c.args.self.text.now in

@@ -78,12 +78,6 @@ returns-in-Ok-clause-step g c =
     judged done.result done.new.own done.new.stack.items done.ensures.stopped)
     refl refl refl)
 
-pub test_rule-requires-clause-theorem : goal.test_rule-requires-clause-theorem
-test_rule-requires-clause-theorem g c = c.requires.theorem
-
-pub test_rule-requires-clause-rule : goal.test_rule-requires-clause-rule
-test_rule-requires-clause-rule g c = c.requires.rule
-
 pub test_rule-requires-clause-stack : goal.test_rule-requires-clause-stack
 test_rule-requires-clause-stack g c =
     let i = c.self.inside in
@@ -92,9 +86,6 @@ test_rule-requires-clause-stack g c =
     c.as_slice-2.result.now c.deref.result.now
     (ap (λ s. s.width) c.self.view_is ∙ c.requires.width)
     c.as_slice.ensures c.as_slice-2.ensures c.deref.ensures.value
-
-pub test_rule-requires-clause-cache : goal.test_rule-requires-clause-cache
-test_rule-requires-clause-cache g c = c.requires.cache
 
 pub put_formula-requires-clause-below : goal.put_formula-requires-clause-below
 put_formula-requires-clause-below g c =
@@ -114,9 +105,3 @@ put_formula-requires-clause-stack g c =
     let i = c.self.inside in
     stack_here i.own i.kept i.stack.items i.marks.items i.marked.items i.width c.self.invariant
     c.as_slice-in-Ok.result.now c.as_slice-in-Ok.ensures
-
-pub returns-in-Err-clause-cache : goal.returns-in-Err-clause-cache
-returns-in-Err-clause-cache g c = c.test_rule.ensures.cache
-
-pub returns-in-Ok-clause-cache : goal.returns-in-Ok-clause-cache
-returns-in-Ok-clause-cache g c = c.test_rule.ensures.cache

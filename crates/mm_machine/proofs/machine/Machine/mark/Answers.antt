@@ -67,17 +67,3 @@ returns-clause-ok g c =
 
 pub keep-requires-clause-entry : goal.keep-requires-clause-entry
 keep-requires-clause-entry g c = grind (arith, common_steps)
-
-pub keep-requires-clause-stack : goal.keep-requires-clause-stack
-keep-requires-clause-stack g c = c.self.invariant.stack.is_stack
-
-pub returns-in_err-made-clause-ok : goal.returns-in_err-made-clause-ok
-returns-in_err-made-clause-ok g c = IfOk-from_err c.from_residual.result _ c.from_residual.ensures.0
-
-pub returns-in_err-push-clause-ok : goal.returns-in_err-push-clause-ok
-returns-in_err-push-clause-ok g c =
-    IfOk-from_err c.from_residual-in_err-push.result _ c.from_residual-in_err-push.ensures.0
-
-pub returns-in_err-push-2-clause-ok : goal.returns-in_err-push-2-clause-ok
-returns-in_err-push-2-clause-ok g c =
-    IfOk-from_err c.from_residual-in_err-push-2.result _ c.from_residual-in_err-push-2.ensures.0

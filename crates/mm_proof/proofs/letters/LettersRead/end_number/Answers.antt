@@ -20,26 +20,9 @@ returns-clause-reads g c = λ byte k.
           ∙ ap (λ d. saturated (20 * c.args.number.value + d)) k.2 ∙ e));
     })
 
-pub returns-in_default-clause-stands : goal.returns-in_default-clause-stands
-returns-in_default-clause-stands g c = tt
-
-pub returns-in_default-clause-reads : goal.returns-in_default-clause-reads
-returns-in_default-clause-reads g c = tt
-
-pub returns-in_err-add_step-clause-stands : goal.returns-in_err-add_step-clause-stands
-returns-in_err-add_step-clause-stands g c =
-    IfOk-from_err c.from_residual.result _ c.from_residual.ensures.0
-
-pub returns-in_err-add_step-clause-reads : goal.returns-in_err-add_step-clause-reads
-returns-in_err-add_step-clause-reads g c =
-    IfOk-from_err c.from_residual.result _ c.from_residual.ensures.0
-
 pub returns-in_err-add_step-clause-refuses : goal.returns-in_err-add_step-clause-refuses
 returns-in_err-add_step-clause-refuses g c =
     err_same c.from_residual.result Memory _ c.from_residual.ensures.1 (λ byte k all left h. tt)
-
-pub returns-clause-refuses : goal.returns-clause-refuses
-returns-clause-refuses g c = tt
 
 pub returns-clause-stands : goal.returns-clause-stands
 returns-clause-stands g c =

@@ -5,26 +5,9 @@ use Rattle.mm_proof.proofs.LettersLaw.{err_same, mark_reads}
 use Rattle.mm_proof.specs.declared.refused.ProofRefused.TheVariants.{Memory}
 use Rattle.mm_proof.proofs.letters.LettersRead.mark.Goals as goal
 
-pub returns-then-len-eq0-clause-stands : goal.returns-then-len-eq0-clause-stands
-returns-then-len-eq0-clause-stands g c = tt
-
-pub returns-then-len-eq0-clause-reads : goal.returns-then-len-eq0-clause-reads
-returns-then-len-eq0-clause-reads g c = tt
-
-pub returns-in_err-push-clause-stands : goal.returns-in_err-push-clause-stands
-returns-in_err-push-clause-stands g c =
-    IfOk-from_err c.from_residual.result _ c.from_residual.ensures.0
-
-pub returns-in_err-push-clause-reads : goal.returns-in_err-push-clause-reads
-returns-in_err-push-clause-reads g c =
-    IfOk-from_err c.from_residual.result _ c.from_residual.ensures.0
-
 pub returns-in_err-push-clause-refuses : goal.returns-in_err-push-clause-refuses
 returns-in_err-push-clause-refuses g c =
     err_same c.from_residual.result Memory _ c.from_residual.ensures.1 (λ all left h. tt)
-
-pub returns-clause-refuses : goal.returns-clause-refuses
-returns-clause-refuses g c = tt
 
 pub returns-clause-reads : goal.returns-clause-reads
 returns-clause-reads g c =

@@ -16,21 +16,6 @@ returns-in_err-end_number-in-Last-clause-refuses g c =
     c.from_residual.ensures.1
     (c.in_err-end_number-in-Last.ensures.refuses c.args.byte c.in-Last.ensures)
 
-pub returns-in-Early-clause-refuses : goal.returns-in-Early-clause-refuses
-returns-in-Early-clause-refuses g c = tt
-
-pub returns-in-Other-clause-stands : goal.returns-in-Other-clause-stands
-returns-in-Other-clause-stands g c = tt
-
-pub returns-in-Other-clause-reads : goal.returns-in-Other-clause-reads
-returns-in-Other-clause-reads g c = tt
-
-pub returns-in-Unknown-clause-stands : goal.returns-in-Unknown-clause-stands
-returns-in-Unknown-clause-stands g c = tt
-
-pub returns-in-Unknown-clause-reads : goal.returns-in-Unknown-clause-reads
-returns-in-Unknown-clause-reads g c = tt
-
 pub returns-in_err-end_number-in-Last-clause-stands :
     goal.returns-in_err-end_number-in-Last-clause-stands
 returns-in_err-end_number-in-Last-clause-stands g c =
@@ -40,16 +25,6 @@ pub returns-in_err-end_number-in-Last-clause-reads :
     goal.returns-in_err-end_number-in-Last-clause-reads
 returns-in_err-end_number-in-Last-clause-reads g c =
     IfOk-from_err c.from_residual.result _ c.from_residual.ensures.0
-
-pub returns-in_err-mark-in-Mark-clause-stands : goal.returns-in_err-mark-in-Mark-clause-stands
-returns-in_err-mark-in-Mark-clause-stands g c =
-    IfOk-from_err c.from_residual-in_err-mark-in-Mark.result _
-    c.from_residual-in_err-mark-in-Mark.ensures.0
-
-pub returns-in_err-mark-in-Mark-clause-reads : goal.returns-in_err-mark-in-Mark-clause-reads
-returns-in_err-mark-in-Mark-clause-reads g c =
-    IfOk-from_err c.from_residual-in_err-mark-in-Mark.result _
-    c.from_residual-in_err-mark-in-Mark.ensures.0
 
 pub returns-in_ok-end_number-in-Last-clause-stands :
     goal.returns-in_ok-end_number-in-Last-clause-stands
@@ -69,15 +44,6 @@ pub returns-in_ok-mark-in-Mark-clause-stands : goal.returns-in_ok-mark-in-Mark-c
 returns-in_ok-mark-in-Mark-clause-stands g c =
     record { stands = c.in_ok-mark-in-Mark.ensures.stands; begins = λ e. refl }
 
-pub returns-in_ok-mark-in-Mark-clause-refuses : goal.returns-in_ok-mark-in-Mark-clause-refuses
-returns-in_ok-mark-in-Mark-clause-refuses g c = tt
-
-pub end_number-requires-clause-stands : goal.end_number-requires-clause-stands
-end_number-requires-clause-stands g c = c.requires.stands
-
-pub mark-requires : goal.mark-requires
-mark-requires g c = record { stands = c.requires.stands.stands }
-
 pub returns-in-Early-clause-stands : goal.returns-in-Early-clause-stands
 returns-in-Early-clause-stands g c =
     let d = early_digit c.args.byte c.in-Early.digit c.in-Early.ensures.0 c.in-Early.ensures.1 in
@@ -86,9 +52,6 @@ returns-in-Early-clause-stands g c =
       stands = stands_later c.args.self.now c.args.at c.requires.stands.stands;
       begins = λ e. absurd (omega (arith, e, v, d.0));
     }
-
-pub begun_by-requires-clause-base : goal.begun_by-requires-clause-base
-begun_by-requires-clause-base g c = omega arith
 
 pub end_number-requires-clause-digit : goal.end_number-requires-clause-digit
 end_number-requires-clause-digit g c =

@@ -86,25 +86,6 @@ returns-clause-reads g c =
           number some last);
     }
 
-pub returns-in_err-read_word-clause-reads : goal.returns-in_err-read_word-clause-reads
-returns-in_err-read_word-clause-reads g c =
-    IfOk-from_err c.from_residual.result _ c.from_residual.ensures.0
-
-pub returns-then-is_empty-clause-reads : goal.returns-then-is_empty-clause-reads
-returns-then-is_empty-clause-reads g c = tt
-
-pub returns-then-begun-gt0-clause-reads : goal.returns-then-begun-gt0-clause-reads
-returns-then-begun-gt0-clause-reads g c = tt
-
-pub returns-clause-fault : goal.returns-clause-fault
-returns-clause-fault g c = tt
-
-pub bounds-words-word-index : goal.bounds-words-word-index
-bounds-words-word-index g c = omega arith
-
-pub offset_bounds-words-word-index : goal.offset_bounds-words-word-index
-offset_bounds-words-word-index g c = omega arith
-
 pub read_word-requires-clause-order : goal.read_word-requires-clause-order
 read_word-requires-clause-order g c =
     (c.requires.within c.loop-word.word-index _ c.loop-word-test.true).0

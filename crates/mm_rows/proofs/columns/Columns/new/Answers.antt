@@ -74,7 +74,3 @@ returns g c =
     take_all c.loop-statement.statement-index xs (omega arith) in
     c.loop-statement.invariant ∙ ap (filter q) (all ∙ c.axioms-axioms.ensures.axioms)
     ∙ columns_are only db
-
-pub returns-in_err-push : goal.returns-in_err-push
-returns-in_err-push g c =
-    IfOk-from_err c.from_residual.result _ c.from_residual.ensures.0

@@ -55,18 +55,12 @@ pub returns-clause-assertion : goal.returns-clause-assertion
 returns-clause-assertion g c =
     on_ok_weaker c.compile_formula.result (λ made. refl) c.compile_formula.ensures
 
-pub hyps-hyps-requires : goal.hyps-hyps-requires
-hyps-hyps-requires g c = c.requires.assertion
-
 pub compile_hypotheses-requires-clause-placed : goal.compile_hypotheses-requires-clause-placed
 compile_hypotheses-requires-clause-placed g c =
     let db = c.args.db.now.statements in
     written_back db (map (formula_at db) c.hyps-hyps.result.now) c.number_variables.new.numbers
     c.self.inside.numbers.items c.self.inside.numbers.len c.deref.result.now c.deref.ensures.value
     (omega arith) c.number_variables.ensures
-
-pub pairs-requires : goal.pairs-requires
-pairs-requires g c = c.requires.assertion
 
 pub returns-in_err-compile_hypotheses-clause-assertion :
     goal.returns-in_err-compile_hypotheses-clause-assertion
@@ -81,10 +75,5 @@ returns-in_err-compile_hypotheses-clause-made g c =
 pub returns-in_err-compile_pairs-clause-assertion :
     goal.returns-in_err-compile_pairs-clause-assertion
 returns-in_err-compile_pairs-clause-assertion g c =
-    IfOk-from_err c.from_residual-in_err-compile_pairs.result _
-    c.from_residual-in_err-compile_pairs.ensures.0
-
-pub returns-in_err-compile_pairs-clause-made : goal.returns-in_err-compile_pairs-clause-made
-returns-in_err-compile_pairs-clause-made g c =
     IfOk-from_err c.from_residual-in_err-compile_pairs.result _
     c.from_residual-in_err-compile_pairs.ensures.0

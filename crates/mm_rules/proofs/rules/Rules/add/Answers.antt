@@ -23,25 +23,3 @@ returns g c =
     f.ensures.start f.ensures.end
     (subst (λ (z : Compiled). IsCompiled db z) (sym c.rule.view_is) rule)
     (subst (λ (z : RuleLists). AreRules db z) (sym c.self.view_is) rules)
-
-pub overflow_cast-rule-inside : goal.overflow_cast-rule-inside
-overflow_cast-rule-inside g c = omega arith
-
-pub returns-in_err-hypotheses : goal.returns-in_err-hypotheses
-returns-in_err-hypotheses g c = IfOk-from_err c.from_residual.result _ c.from_residual.ensures.0
-
-pub returns-in_err-pairs : goal.returns-in_err-pairs
-returns-in_err-pairs g c =
-    IfOk-from_err c.from_residual-in_err-pairs.result _ c.from_residual-in_err-pairs.ensures.0
-
-pub returns-in_err-parts : goal.returns-in_err-parts
-returns-in_err-parts g c =
-    IfOk-from_err c.from_residual-in_err-parts.result _ c.from_residual-in_err-parts.ensures.0
-
-pub returns-in_err-formula : goal.returns-in_err-formula
-returns-in_err-formula g c =
-    IfOk-from_err c.from_residual-in_err-formula.result _ c.from_residual-in_err-formula.ensures.0
-
-pub returns-in_err-push : goal.returns-in_err-push
-returns-in_err-push g c =
-    IfOk-from_err c.from_residual-in_err-push.result _ c.from_residual-in_err-push.ensures.0

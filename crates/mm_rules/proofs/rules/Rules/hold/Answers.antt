@@ -9,10 +9,6 @@ compile-requires-clause-complete g c =
     complete_at c.args.db.now.statements c.requires.complete c.args.k
     (sym c.is_assertion.ensures ∙ c.if-not-is_assertion.false)
 
-pub returns-in_err-compile-clause-rules : goal.returns-in_err-compile-clause-rules
-returns-in_err-compile-clause-rules g c =
-    IfOk-from_err c.from_residual.result _ c.from_residual.ensures.0
-
 pub returns-clause-rules : goal.returns-clause-rules
 returns-clause-rules g c =
     on_ok_weaker c.add.result

@@ -9,22 +9,6 @@ use Rattle.mm_work.proofs.gathered.fn.work_all.scope.Goals.{in-Some+in_default-s
 use Rattle.mm_work.proofs.gathered.fn.work_all.scope.Goals.{in_default}
 use Rattle.mm_work.proofs.gathered.fn.work_all.scope.Goals as goal
 
-pub returns-in_err-handles : goal.returns-in_err-handles
-returns-in_err-handles g c = IfOk-from_err c.from_residual.result _ c.from_residual.ensures.0
-
-pub split-requires : goal.split-requires
-split-requires g c = c.loop-worker.invariant.ready
-
-pub returns-in_err-push : goal.returns-in_err-push
-returns-in_err-push g c =
-    IfOk-from_err c.from_residual-in_err-push.result _ c.from_residual-in_err-push.ensures.0
-
-pub returns-in_default-join_promised : goal.returns-in_default-join_promised
-returns-in_default-join_promised g c = tt
-
-pub returns : goal.returns
-returns g c = c.join_all.ensures
-
 pub join_all-requires : goal.join_all-requires
 join_all-requires g c = record {
   own = c.work-own.ensures;
