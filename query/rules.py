@@ -13,6 +13,7 @@ from functools import cached_property
 
 from query.changes import Comparison, Side, text_of_side
 from query.config import RULES, Claim, Config, Labels, is_meant
+from query.graph import Graph
 from query.statements import difference, statement_of
 from query.text import Assertion, Text
 
@@ -291,27 +292,26 @@ def open_theorems(case: Case) -> Iterator[Finding]:
             yield case.finding("open", label, "a theorem whose proof is left open")
 
 
-def citations(side: Side, labels: Iterable[str]) -> Iterator[tuple[str, str]]:
-    """Each citation of these assertions, as what cites and what it cites, in file order of both."""
-    graph = side.graph
+def citations(graph: Graph, labels: Iterable[str]) -> Iterator[tuple[str, str]]:
+    """Each citation of these assertions, as what cites and what it cites, in file order."""
     for label in labels:
         node = graph.index.get(label)
         for user in graph.cited_by[node] if node is not None else ():
             yield graph.labels[user], label
 
 
-def across_mathboxes(side: Side, text: Text) -> Iterator[tuple[str, str, str | None, str]]:
+def across_mathboxes(graph: Graph, text: Text) -> Iterator[tuple[str, str, str | None, str]]:
     """Each citation of an assertion in a mathbox from outside it: what cites, what it cites, and
     the mathboxes of both."""
     boxes = {one.label: box for one in text.assertions if (box := text.mathbox(one)) is not None}
-    for user, cited in citations(side, boxes):
+    for user, cited in citations(graph, boxes):
         if boxes.get(user) != boxes[cited]:
             yield user, cited, boxes.get(user), boxes[cited]
 
 
 def mathboxes(case: Case) -> Iterator[Finding]:
     """A mathbox is cited from outside it, and that isn't allowed."""
-    for user, cited, box, other in across_mathboxes(case.new, case.text):
+    for user, cited, box, other in across_mathboxes(case.new.graph, case.text):
         if not case.config.allows("mathboxes", user):
             where = f"in the mathbox for {box}, " if box else ""
             reason = f"{where}cites {cited} of the mathbox for {other}"
@@ -330,7 +330,7 @@ def is_discouraged(text: Text, assertion: Assertion) -> bool:
 
 def discouraged(case: Case) -> Iterator[Finding]:
     """A theorem newly cites one whose new usage is discouraged, and that isn't allowed."""
-    for user, cited in citations(case.new, discouraged_labels(case.text)):
+    for user, cited in citations(case.new.graph, discouraged_labels(case.text)):
         was, used = case.was(user), case.was(cited)
         if used and used in case.old.cites(was) or case.config.allows("discouraged", user):
             continue

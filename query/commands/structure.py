@@ -1,0 +1,293 @@
+"""`chapters`, `order`, `unfinished`, `discouraged` and `mathboxes`: what a database's text tells of
+its parts, beside what rests on what."""
+
+import argparse
+import re
+from bisect import bisect_left
+
+from query.changes import text_of
+from query.commands import Command
+from query.context import Context
+from query.database import Dependence
+from query.errors import NoAnswer, shown
+from query.options import (
+    Options,
+    add_choice_of_axioms,
+    add_choice_of_citations,
+    add_database,
+    options_of,
+)
+from query.output import Value
+from query.rules import across_mathboxes, citations, discouraged_labels
+from query.text import Assertion, Text
+
+CHAPTERS_PAGE = """
+Lists the headers of a database. A header is a comment whose title stands between lines of ####,
+#*#*, =-=- or -.-., the outermost level first. The first row is of the whole database.
+
+number           that of the header
+theorems         how many theorems stand from it to the next header of its level
+rest on AXIOM    how many of these rest on the axiom
+first on AXIOM   the first of these that does
+title            that of the header
+
+  $ mmquery chapters set.mm ax-ac2 ax-reg
+"""
+
+ORDER_PAGE = """
+Lists axioms and theorems together, in file order.
+
+line      that on which the label stands
+kind      axiom, theorem, or open: a theorem whose proof is ?, with --open
+typecode  the first symbol of the formula
+count     of a theorem, on how many axioms it rests; of an axiom, how many theorems rest on it; none
+          where it isn't among the axioms chosen
+label     which one
+
+  $ mmquery order set.mm
+"""
+
+UNFINISHED_PAGE = """
+Lists the theorems that are left open, whose proof is ?, in file order. A chain of citations ends at
+an open theorem, as at an axiom. With THEOREM, one of these, the theorems that rest on it.
+
+theorems  how many theorems rest on it
+theorem   the label of the open theorem (with THEOREM: of the theorem that rests on it)
+
+  $ mmquery unfinished set.mm
+"""
+
+DISCOURAGED_PAGE = """
+Lists statements whose comment says (New usage is discouraged.), with what cites them, and those
+whose comment says (Proof modification is discouraged.). As text these are the lines of set.mm's
+file `discouraged`, in its order:
+
+  "A" is used by "B".
+  New usage of "A" is discouraged (N uses).
+  Proof modification of "A" is discouraged (N steps).
+
+In the other formats the fields are
+
+what   use (B uses A), usage (new usage of A is discouraged), or proof
+label  A
+by     B
+count  how many theorems cite A, or how many steps the proof has as it is written
+
+  $ mmquery discouraged set.mm
+"""
+
+MATHBOXES_PAGE = """
+Lists the citations of statements in a mathbox from outside it. A mathbox is what stands under a
+header whose title begins with `Mathbox for`.
+
+theorem  what cites
+mathbox  in whose mathbox it is; none where it isn't in one
+cited    what it cites
+of       in whose mathbox that is
+
+  $ mmquery mathboxes set.mm
+"""
+
+DISCOURAGED_PROOF = re.compile(r"\(Proof\s+modification\s+is\s+discouraged\.\)")
+OPEN = Options(only=None, open=True)
+
+
+def configure_with_axioms(parser: argparse.ArgumentParser) -> None:
+    """The words and options of `chapters`."""
+    add_database(parser)
+    parser.add_argument("axiom", metavar="AXIOM", nargs="*")
+    add_choice_of_axioms(parser)
+
+
+class Numbers:
+    """Where theorems stand among all assertions, so that those of a stretch can be counted."""
+
+    def __init__(self, text: Text, labels: list[str]) -> None:
+        self.labels = labels
+        self.numbers = [text.by_label[label].number for label in labels]
+
+    def within(self, first: int, end: int) -> tuple[int, str | None]:
+        """How many of them are among these assertions, and the first of them."""
+        low, high = bisect_left(self.numbers, first), bisect_left(self.numbers, end)
+        return high - low, self.labels[low] if low < high else None
+
+
+def run_chapters(context: Context, arguments: argparse.Namespace) -> int:
+    """Answers `chapters`."""
+    database = context.database(arguments.database, options_of(arguments))
+    dependence = database.dependence()
+    columns = [dependence.column(label) for label in arguments.axiom]
+    text = text_of(database)
+    theorems = dependence.theorems
+    counted = [Numbers(text, theorems)]
+    for column in columns:
+        counted.append(Numbers(text, [theorems[row] for row in dependence.users(column)]))
+    places = [("0", 0, len(text.assertions), "(the whole database)")]
+    places += [(each.number, each.first, each.end, each.title) for each in text.headers]
+    rows: list[list[Value]] = []
+    for number, first, end, title in places:
+        row: list[Value] = [number, counted[0].within(first, end)[0]]
+        for numbers in counted[1:]:
+            row += numbers.within(first, end)
+        rows.append([*row, title])
+    names = [
+        name for label in arguments.axiom for name in (f"rest on {label}", f"first on {label}")
+    ]
+    context.out.table(["number", "theorems", *names, "title"], rows)
+    return 0
+
+
+def configure_order(parser: argparse.ArgumentParser) -> None:
+    """The words and options of `order`."""
+    add_database(parser)
+    add_choice_of_axioms(parser)
+
+
+def run_order(context: Context, arguments: argparse.Namespace) -> int:
+    """Answers `order`."""
+    database = context.database(arguments.database, options_of(arguments))
+    dependence = database.dependence()
+    text = text_of(database)
+    counts = dict(zip(dependence.axioms, dependence.sizes()))
+    for row, label in enumerate(dependence.theorems):
+        counts[label] = dependence.bits(row).bit_count()
+    rows: list[list[Value]] = []
+    for one in text.assertions:
+        kind = "axiom" if one.kind == "a" else "open" if text.is_open(one) else "theorem"
+        line = text.line(one.place)
+        rows.append([line, kind, text.typecode(one), counts.get(one.label), one.label])
+    context.out.table(["line", "kind", "typecode", "count", "label"], rows)
+    return 0
+
+
+def configure_unfinished(parser: argparse.ArgumentParser) -> None:
+    """The words and options of `unfinished`."""
+    add_database(parser)
+    parser.add_argument("theorem", metavar="THEOREM", nargs="?")
+    add_choice_of_citations(parser)
+
+
+def open_theorems(dependence: Dependence, text: Text) -> list[str]:
+    """The theorems that are left open, which are among the axioms."""
+    return [label for label in dependence.axioms if text.by_label[label].kind == "p"]
+
+
+def run_unfinished(context: Context, arguments: argparse.Namespace) -> int:
+    """Answers `unfinished`."""
+    options = Options(only=None, open=True, essential=arguments.essential)
+    database = context.database(arguments.database, options)
+    if database.is_report:
+        raise NoAnswer(f"{database.name}: a report, where the database is wanted")
+    dependence = database.dependence()
+    found = open_theorems(dependence, text_of(database))
+    if arguments.theorem is None:
+        rows: list[list[Value]] = []
+        for label in found:
+            rows.append([len(dependence.users(dependence.column(label))), label])
+        context.out.table(["theorems", "theorem"], rows)
+        return 0
+    if arguments.theorem not in found:
+        raise NoAnswer(f"{database.name}: has no open theorem '{shown(arguments.theorem)}'")
+    users = dependence.users(dependence.column(arguments.theorem))
+    context.out.table(["theorem"], [[dependence.theorems[row]] for row in users])
+    return 0
+
+
+def configure_citations(parser: argparse.ArgumentParser) -> None:
+    """The words and options of `discouraged` and `mathboxes`."""
+    add_database(parser)
+    add_choice_of_citations(parser)
+
+
+def steps(text: Text, assertion: Assertion) -> int:
+    """How many steps a proof has as it is written. One that is repeated by a mark counts once more,
+    without those that it rests on."""
+    words = text.proof(assertion)
+    if words[:1] != ["("]:
+        return len(words)
+    letters = "".join(words[words.index(")") + 1 :])
+    return sum(1 for letter in letters if "A" <= letter <= "T" or letter == "?")
+
+
+def discouraged_line(row: list[Value]) -> str:
+    """A line of set.mm's file `discouraged`."""
+    what, label, user, count = row
+    if what == "use":
+        return f'"{label}" is used by "{user}".'
+    if what == "usage":
+        return f'New usage of "{label}" is discouraged ({count} uses).'
+    return f'Proof modification of "{label}" is discouraged ({count} steps).'
+
+
+def run_discouraged(context: Context, arguments: argparse.Namespace) -> int:
+    """Answers `discouraged`."""
+    database = context.database(arguments.database, options_of(arguments))
+    graph = database.graph()
+    text = text_of(database)
+    labels = discouraged_labels(text)
+    counts = dict.fromkeys(labels, 0)
+    rows: list[list[Value]] = []
+    for user, cited in citations(graph, labels):
+        counts[cited] += 1
+        rows.append(["use", cited, user, None])
+    rows += [["usage", label, None, count] for label, count in counts.items()]
+    for one in text.assertions:
+        if one.kind == "p" and DISCOURAGED_PROOF.search(text.comment(one)):
+            rows.append(["proof", one.label, None, steps(text, one)])
+    if context.out.format != "text":
+        context.out.table(["what", "label", "by", "count"], rows)
+        return 0
+    for line in sorted(map(discouraged_line, rows)):
+        context.out.line(line)
+    return 0
+
+
+def run_mathboxes(context: Context, arguments: argparse.Namespace) -> int:
+    """Answers `mathboxes`."""
+    database = context.database(arguments.database, options_of(arguments))
+    graph = database.graph()
+    rows = across_mathboxes(graph, text_of(database))
+    context.out.table(
+        ["theorem", "mathbox", "cited", "of"],
+        [[user, box, cited, other] for user, cited, box, other in rows],
+    )
+    return 0
+
+
+COMMANDS = [
+    Command(
+        "chapters",
+        "headers, with how many theorems below each rest on axioms",
+        CHAPTERS_PAGE,
+        configure_with_axioms,
+        run_chapters,
+    ),
+    Command(
+        "order",
+        "axioms and theorems in one list, in file order",
+        ORDER_PAGE,
+        configure_order,
+        run_order,
+    ),
+    Command(
+        "unfinished",
+        "theorems that are left open, and what rests on them",
+        UNFINISHED_PAGE,
+        configure_unfinished,
+        run_unfinished,
+    ),
+    Command(
+        "discouraged",
+        "which theorems use one whose new usage is discouraged",
+        DISCOURAGED_PAGE,
+        configure_citations,
+        run_discouraged,
+    ),
+    Command(
+        "mathboxes",
+        "citations of a mathbox from outside it",
+        MATHBOXES_PAGE,
+        configure_citations,
+        run_mathboxes,
+    ),
+]
