@@ -1,13 +1,22 @@
 // The matrix as a picture: theorems down, axioms across, chapters as bands at the left. It can be zoomed, and pointed
 // at.
 
+import { element } from "./elements.js";
+import { GROUPS } from "./model.js";
+
+/** @typedef {import("./elements.js").Colours} Colours */
+/** @typedef {import("./model.js").Model} Model */
+/** @typedef {import("./types.js").Stretch} Stretch */
+
 /** Counts of marks are kept for blocks of this many rows, so that the whole is drawn without each mark. */
 const BLOCK = 16;
 const SHADES = 64;
+const NARROW_PICTURE = 520; // below this width chapters have no names in the picture
 const HEADER = 10; // the height of the band that shows the groups of the columns
 
 /** What is counted once of the matrix. */
-class Counts {
+export class Counts {
+    /** @param {Model} model */
     constructor(model) {
         const rows = model.theorems.length;
         const columns = model.axioms.length;
@@ -26,6 +35,11 @@ class Counts {
         }
     }
 
+    /**
+     * @param {Model} model
+     * @param {number} row
+     * @param {number} here
+     */
     addRow(model, row, here) {
         const { bits, words, groupOf } = model;
         for (let word = 0; word < words; word++) {
@@ -43,6 +57,12 @@ class Counts {
 
 /** Cuts a stretch of cells into bins: one for each dot, or one for each cell where a cell is larger than a dot. */
 class Bins {
+    /**
+     * @param {number} from
+     * @param {number} to
+     * @param {number} cells
+     * @param {number} dots
+     */
     constructor(from, to, cells, dots) {
         this.low = Math.max(0, Math.floor(from));
         this.high = Math.min(cells, Math.ceil(to));
@@ -58,13 +78,21 @@ class Bins {
         this.dots = dots;
     }
 
+    /** @param {number} cell */
     of(cell) {
         if (this.areCells) return cell - this.low;
         return Math.min(this.dots - 1, Math.max(0, Math.floor((cell - this.from) * this.scale)));
     }
 }
 
-class Picture {
+export class Picture {
+    /**
+     * @param {Model} model
+     * @param {Counts} counts
+     * @param {Colours} colours
+     * @param {(row: number, column: number) => void} onPoint
+     * @param {(row: number, column: number, isAxiom: boolean) => void} onOpen
+     */
     constructor(model, counts, colours, onPoint, onOpen) {
         this.model = model;
         this.counts = counts;
@@ -72,8 +100,19 @@ class Picture {
         this.onPoint = onPoint;
         this.onOpen = onOpen;
         this.rows = model.theorems.length;
+        /** @type {Map<number, Stretch[]>} */
         this.bandsByLevel = new Map();
+        /** @type {Map<string, string>} */
         this.fittedTitles = new Map();
+        /** @type {number[]} */
+        this.order = [];
+        this.places = new Int32Array(0);
+        this.view = { top: 0, bottom: 0, left: 0, right: 0 };
+        this.waiting = false;
+        this.ratio = 1;
+        this.gutter = 0;
+        this.wide = 1;
+        this.high = 1;
         this.canvas = element("canvas", {
             class: "picture",
             tabindex: 0,
@@ -82,13 +121,18 @@ class Picture {
             "aria-label": "Marks of theorems, downwards, by axioms, across",
             "aria-describedby": "picture-keys",
         });
-        this.pen = this.canvas.getContext("2d");
+        this.pen = /** @type {CanvasRenderingContext2D} */ (this.canvas.getContext("2d"));
+        /** @type {Map<number, PointerEvent>} */
         this.fingers = new Map();
+        /** @type {{ row: number, place: number } | null} */
         this.pointed = null;
         this.listen();
     }
 
-    /** Shows these columns, in this order. */
+    /**
+     * Shows these columns, in this order.
+     * @param {number[]} columns
+     */
     setColumns(columns) {
         this.order = columns;
         this.places = new Int32Array(this.model.axioms.length).fill(-1);
@@ -122,7 +166,7 @@ class Picture {
         const width = this.canvas.clientWidth;
         const height = this.canvas.clientHeight;
         this.ratio = Math.min(2, window.devicePixelRatio || 1);
-        this.gutter = width < 520 ? 12 : 190;
+        this.gutter = width < NARROW_PICTURE ? 12 : 190;
         const dotsAcross = Math.round(width * this.ratio);
         const dotsDown = Math.round(height * this.ratio);
         if (this.canvas.width !== dotsAcross || this.canvas.height !== dotsDown) {
@@ -153,7 +197,11 @@ class Picture {
         this.canvas.dataset.drawn = (performance.now() - began).toFixed(1);
     }
 
-    /** How many marks each bin has, and how many cells. */
+    /**
+     * How many marks each bin has, and how many cells.
+     * @param {Bins} down
+     * @param {Bins} across
+     */
     countMarks(down, across) {
         const marks = new Uint32Array(down.number * across.number);
         const tall = new Uint32Array(down.number);
@@ -164,6 +212,12 @@ class Picture {
         return { marks, tall, broad };
     }
 
+    /**
+     * @param {Bins} down
+     * @param {Bins} across
+     * @param {Uint32Array} marks
+     * @param {Uint32Array} tall
+     */
     countBlocks(down, across, marks, tall) {
         const { above, columns, blocks } = this.counts;
         const bins = new Int32Array(across.high - across.low);
@@ -180,6 +234,12 @@ class Picture {
         }
     }
 
+    /**
+     * @param {Bins} down
+     * @param {Bins} across
+     * @param {Uint32Array} marks
+     * @param {Uint32Array} tall
+     */
     countRows(down, across, marks, tall) {
         const { bits, words } = this.model;
         const bins = new Int32Array(this.model.axioms.length).fill(-1);
@@ -198,11 +258,17 @@ class Picture {
         }
     }
 
-    /** The dots: the more of its cells are marked, the stronger is a bin. One mark is enough to be seen. */
+    /**
+     * The dots: the more of its cells are marked, the stronger is a bin. One mark is enough to be seen.
+     * @param {Bins} down
+     * @param {Bins} across
+     * @param {{ marks: Uint32Array, tall: Uint32Array, broad: Uint32Array }} counted
+     */
     paint(down, across, { marks, tall, broad }) {
         const image = this.pen.createImageData(this.wide, this.high);
         const dots = new Uint32Array(image.data.buffer);
         const ramps = this.ramps();
+        /** @type {Uint32Array[]} */
         const rampOf = [];
         for (let place = across.low; place < across.high; place++) {
             rampOf[across.of(place)] ??= ramps[this.model.groupOf[this.order[place]]];
@@ -239,11 +305,12 @@ class Picture {
         });
     }
 
+    /** @param {Bins} across */
     drawGroups(across) {
         const left = this.canvas.width - this.wide;
         for (let x = 0; x < this.wide; x++) {
             const place = Math.min(this.order.length - 1, Math.floor(across.from + (x + 0.5) / across.scale));
-            this.pen.fillStyle = this.colours.of(`--group-${this.model.groupKey(this.order[place])}`);
+            this.pen.fillStyle = this.colours.ofGroup(this.model.groupOf[this.order[place]]);
             this.pen.fillRect(left + x, 0, 1, Math.round((HEADER - 3) * this.ratio));
         }
     }
@@ -261,10 +328,12 @@ class Picture {
         return bands;
     }
 
+    /** @param {number} level */
     bandsAt(level) {
-        if (!this.bandsByLevel.has(level)) this.bandsByLevel.set(level, this.model.stretches(level));
+        const known = this.bandsByLevel.get(level) ?? this.model.stretches(level);
+        this.bandsByLevel.set(level, known);
         const { top, bottom } = this.view;
-        return this.bandsByLevel.get(level).filter((band) => band.endRow > top && band.firstRow < bottom);
+        return known.filter((band) => band.endRow > top && band.firstRow < bottom);
     }
 
     drawBands() {
@@ -287,15 +356,19 @@ class Picture {
         });
     }
 
-    /** A text, cut to the width of the gutter. */
+    /**
+     * A text, cut to the width of the gutter.
+     * @param {string} text
+     * @param {number} width
+     */
     fitted(text, width) {
-        if (!this.fittedTitles.has(text)) {
-            let length = text.length;
-            const cut = () => (length === text.length ? text : `${text.slice(0, length).trimEnd()}…`);
-            while (length > 1 && this.pen.measureText(cut()).width > width) length--;
-            this.fittedTitles.set(text, cut());
-        }
-        return this.fittedTitles.get(text);
+        const known = this.fittedTitles.get(text);
+        if (known !== undefined) return known;
+        let length = text.length;
+        const cut = () => (length === text.length ? text : `${text.slice(0, length).trimEnd()}…`);
+        while (length > 1 && this.pen.measureText(cut()).width > width) length--;
+        this.fittedTitles.set(text, cut());
+        return cut();
     }
 
     /** A cross at the cell that is pointed at. */
@@ -320,19 +393,25 @@ class Picture {
         this.pen.stroke();
     }
 
+    /** @param {number} row */
     yOf(row) {
         const { top, bottom } = this.view;
         return this.canvas.height - this.high + ((row - top) / (bottom - top)) * this.high;
     }
 
+    /** @param {number} place */
     xOf(place) {
         const { left, right } = this.view;
         return this.canvas.width - this.wide + ((place - left) / (right - left)) * this.wide;
     }
 
-    /** Zooms so that one point of the picture, by its shares of height and width, stays where it is. */
+    /**
+     * Zooms so that one point of the picture, by its shares of height and width, stays where it is.
+     * @param {number} factor
+     */
     zoom(factor, down = 0.5, across = 0.5) {
         const { top, bottom, left, right } = this.view;
+        /** @type {(low: number, high: number, share: number, cells: number) => [number, number]} */
         const stretch = (low, high, share, cells) => {
             const length = Math.min(cells, Math.max(Math.min(cells, 6), (high - low) / factor));
             return shifted(low + (high - low) * share - length * share, length, cells);
@@ -342,7 +421,11 @@ class Picture {
         this.refresh();
     }
 
-    /** Moves by shares of height and width. */
+    /**
+     * Moves by shares of height and width.
+     * @param {number} down
+     * @param {number} across
+     */
     move(down, across) {
         const { top, bottom, left, right } = this.view;
         const height = bottom - top;
@@ -352,7 +435,11 @@ class Picture {
         this.refresh();
     }
 
-    /** Points at a cell and says which it is; the view follows. */
+    /**
+     * Points at a cell and says which it is; the view follows.
+     * @param {number} row
+     * @param {number} place
+     */
     point(row, place) {
         this.pointed = {
             row: Math.min(this.rows - 1, Math.max(0, Math.floor(row))),
@@ -366,7 +453,10 @@ class Picture {
         this.refresh();
     }
 
-    /** The shares of height and width at which an event is. */
+    /**
+     * The shares of height and width at which an event is.
+     * @param {MouseEvent} event
+     */
     shares(event) {
         const box = this.canvas.getBoundingClientRect();
         return {
@@ -375,6 +465,7 @@ class Picture {
         };
     }
 
+    /** @param {MouseEvent} event */
     pointAt(event) {
         const { down, across } = this.shares(event);
         const { top, bottom, left, right } = this.view;
@@ -408,9 +499,8 @@ class Picture {
             if (this.isUsable) this.pointAt(event);
         });
         canvas.addEventListener("pointermove", (event) => this.onMove(event));
-        for (const name of ["pointerup", "pointercancel"]) {
-            canvas.addEventListener(name, (event) => this.fingers.delete(event.pointerId));
-        }
+        canvas.addEventListener("pointerup", (event) => this.fingers.delete(event.pointerId));
+        canvas.addEventListener("pointercancel", (event) => this.fingers.delete(event.pointerId));
         new ResizeObserver(() => this.refresh()).observe(canvas);
     }
 
@@ -418,7 +508,10 @@ class Picture {
         return this.rows > 0 && this.order.length > 0;
     }
 
-    /** One finger or the mouse moves the picture, two fingers zoom it, the mouse alone points. */
+    /**
+     * One finger or the mouse moves the picture, two fingers zoom it, the mouse alone points.
+     * @param {PointerEvent} event
+     */
     onMove(event) {
         if (!this.isUsable) return;
         const before = this.fingers.get(event.pointerId);
@@ -431,7 +524,7 @@ class Picture {
         if (this.fingers.size === 1) this.move(old.down - now.down, old.across - now.across);
         if (this.fingers.size === 2) {
             const [other] = [...this.fingers.values()].filter((finger) => finger.pointerId !== event.pointerId);
-            const far = ({ clientX, clientY }) => {
+            const far = (/** @type {PointerEvent} */ { clientX, clientY }) => {
                 return Math.max(20, Math.hypot(clientX - other.clientX, clientY - other.clientY));
             };
             const middle = this.shares(other);
@@ -440,9 +533,12 @@ class Picture {
         this.fingers.set(event.pointerId, event);
     }
 
+    /** @param {KeyboardEvent} event */
     onKey(event) {
         if (!this.isUsable || event.altKey || event.metaKey || event.ctrlKey) return;
+        /** @type {Record<string, number[]>} */
         const steps = { ArrowUp: [-1, 0], ArrowDown: [1, 0], ArrowLeft: [0, -1], ArrowRight: [0, 1] };
+        /** @type {Record<string, number>} */
         const pages = { PageUp: -0.5, PageDown: 0.5 };
         const { top, bottom, left, right } = this.view;
         const at = this.pointed ?? { row: top, place: left };
@@ -466,7 +562,13 @@ class Picture {
     }
 }
 
-/** A stretch of this length among the cells, as near to its place as it fits. */
+/**
+ * A stretch of this length among the cells, as near to its place as it fits.
+ * @param {number} low
+ * @param {number} length
+ * @param {number} cells
+ * @returns {[number, number]}
+ */
 function shifted(low, length, cells) {
     const start = Math.min(cells - length, Math.max(0, low));
     return [start, start + length];

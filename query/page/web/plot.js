@@ -1,6 +1,20 @@
 // How many axioms each theorem rests on, over the file: for each stretch of theorems the mean, by groups, and the most.
 
-class Plot {
+import { element } from "./elements.js";
+import { Group } from "./model.js";
+
+/** @typedef {import("./elements.js").Colours} Colours */
+/** @typedef {import("./model.js").Model} Model */
+/** @typedef {import("./picture.js").Counts} Counts */
+
+export class Plot {
+    /**
+     * @param {Model} model
+     * @param {Counts} counts
+     * @param {Colours} colours
+     * @param {(row: number) => void} onPoint
+     * @param {(row: number) => void} onOpen
+     */
     constructor(model, counts, colours, onPoint, onOpen) {
         this.model = model;
         this.counts = counts;
@@ -11,6 +25,11 @@ class Plot {
         this.most = 1;
         for (const total of counts.totals) this.most = Math.max(this.most, total);
         this.pointed = -1;
+        this.at = 0;
+        this.waiting = false;
+        this.ratio = 1;
+        this.left = 0;
+        this.wide = 1;
         this.canvas = element("canvas", {
             class: "plot",
             tabindex: 0,
@@ -19,7 +38,7 @@ class Plot {
             "aria-label": "Number of axioms of each theorem, over the file",
             "aria-describedby": "plot-keys",
         });
-        this.pen = this.canvas.getContext("2d");
+        this.pen = /** @type {CanvasRenderingContext2D} */ (this.canvas.getContext("2d"));
         this.canvas.addEventListener("pointermove", (event) => this.pointAt(event));
         this.canvas.addEventListener("pointerdown", (event) => this.pointAt(event));
         this.canvas.addEventListener("dblclick", () => this.pointed >= 0 && this.onOpen(this.pointed));
@@ -36,7 +55,11 @@ class Plot {
         });
     }
 
-    /** The rows of a dot. */
+    /**
+     * The rows of a dot.
+     * @param {number} x
+     * @returns {[number, number]}
+     */
     rowsAt(x) {
         const first = Math.floor((x * this.rows) / this.wide);
         return [first, Math.max(first + 1, Math.floor(((x + 1) * this.rows) / this.wide))];
@@ -65,6 +88,7 @@ class Plot {
         });
     }
 
+    /** @param {number} number */
     yOf(number) {
         return this.canvas.height - 1 - (number / this.most) * (this.canvas.height - 10 * this.ratio);
     }
@@ -85,6 +109,7 @@ class Plot {
         }
     }
 
+    /** @param {number} x */
     drawDot(x) {
         const [first, end] = this.rowsAt(x);
         let below = 0;
@@ -94,7 +119,7 @@ class Plot {
             if (sum === 0) continue;
             const mean = sum / (end - first);
             const from = this.yOf(below + mean);
-            this.pen.fillStyle = this.colours.of(`--group-${GROUPS[group].key}`);
+            this.pen.fillStyle = this.colours.ofGroup(group);
             this.pen.fillRect(this.left + x, from, 1, Math.max(1, this.yOf(below) - from));
             below += mean;
         }
@@ -110,31 +135,43 @@ class Plot {
         this.pen.fillRect(x, 0, this.ratio, this.canvas.height);
     }
 
-    /** The theorem of a stretch that rests on most axioms. */
+    /**
+     * The theorem of a stretch that rests on most axioms.
+     * @param {number} first
+     * @param {number} end
+     */
     heaviest(first, end) {
         let best = first;
         for (let row = first; row < end; row++) if (this.counts.totals[row] > this.counts.totals[best]) best = row;
         return best;
     }
 
+    /** @param {number} x */
     point(x) {
         this.pointed = this.heaviest(...this.rowsAt(Math.min(this.wide - 1, Math.max(0, Math.floor(x)))));
         this.onPoint(this.pointed);
         this.refresh();
     }
 
+    /** @param {MouseEvent} event */
     pointAt(event) {
         if (this.rows === 0) return;
         const box = this.canvas.getBoundingClientRect();
         this.point((event.clientX - box.left) * this.ratio - this.left);
     }
 
+    /** @param {KeyboardEvent} event */
     onKey(event) {
-        const step = { ArrowLeft: -1, ArrowRight: 1, PageUp: -40, PageDown: 40 }[event.key];
+        const step = new Map([
+            ["ArrowLeft", -1],
+            ["ArrowRight", 1],
+            ["PageUp", -40],
+            ["PageDown", 40],
+        ]).get(event.key);
         if (this.rows === 0 || event.altKey || event.metaKey || event.ctrlKey) return;
         if (step) {
             const far = Math.max(1, Math.round(2 * this.ratio)) * step * (event.shiftKey ? 10 : 1);
-            this.at = Math.min(this.wide - 1, Math.max(0, (this.at ?? 0) + far));
+            this.at = Math.min(this.wide - 1, Math.max(0, this.at + far));
             this.point(this.at);
         } else if (event.key === "Enter" && this.pointed >= 0) this.onOpen(this.pointed);
         else return;

@@ -1,0 +1,259 @@
+// The field of the search with what was found, and the view of all that was found.
+
+import { byId, count, element } from "./elements.js";
+
+import { Search } from "./search.js";
+
+/** @typedef {import("./elements.js").Child} Child */
+/** @typedef {import("./elements.js").Elements} Elements */
+/** @typedef {import("./model.js").Model} Model */
+/** @typedef {import("./symbols.js").Symbols} Symbols */
+/** @typedef {import("./types.js").Found} Found */
+
+/** How many of what was found are shown below the field, and at a time in the view. */
+const SHOWN = 24;
+const SHOWN_IN_VIEW = 100;
+const AROUND = 60; // letters before a word that was found
+
+export class Finder {
+    /**
+     * @param {Model} model
+     * @param {Elements} elements
+     * @param {Symbols} symbols
+     * @param {(address: string) => void} go
+     */
+    constructor(model, elements, symbols, go) {
+        this.model = model;
+        this.elements = elements;
+        this.search = new Search(model, symbols);
+        this.go = go;
+        this.input = /** @type {HTMLInputElement} */ (byId("search"));
+        this.results = byId("results");
+        this.found = byId("found");
+        this.active = -1;
+        /** @type {Found[]} */
+        this.best = [];
+        this.total = 0;
+        this.listen();
+    }
+
+    /** Makes the texts ready, and finds again what was typed meanwhile. */
+    async prepare() {
+        if (this.search.isWhole) return;
+        await this.search.prepare();
+        this.input.dataset.ready = "whole";
+        if (!this.results.hidden) this.find();
+    }
+
+    listen() {
+        this.input.disabled = false;
+        this.input.addEventListener("focus", () => this.prepare());
+        this.input.addEventListener("input", () => this.find());
+        this.input.addEventListener("keydown", (event) => this.onKey(event));
+        byId("search-form").addEventListener("submit", (event) => {
+            event.preventDefault();
+            this.choose(Math.max(0, this.active));
+        });
+        document.addEventListener("keydown", (event) => {
+            const isTyping = event.target instanceof Element && event.target.matches("input, select, textarea");
+            if (event.key !== "/" || isTyping || event.ctrlKey || event.altKey || event.metaKey) return;
+            event.preventDefault();
+            this.input.focus();
+            this.input.select();
+        });
+        document.addEventListener("pointerdown", (event) => {
+            if (!(event.target instanceof Element) || !event.target.closest("#search-form")) this.close();
+        });
+    }
+
+    find() {
+        const began = performance.now();
+        const answer = this.search.find(this.input.value);
+        this.total = answer.total;
+        this.best = this.search.best(answer, SHOWN);
+        this.active = -1;
+        this.input.removeAttribute("aria-activedescendant");
+        const items = this.best.map((item, index) => this.result(item, index, answer.words));
+        if (this.total > this.best.length) items.push(this.allResults(items.length));
+        this.results.replaceChildren(...items);
+        this.results.hidden = items.length === 0;
+        this.input.setAttribute("aria-expanded", String(items.length > 0));
+        this.found.textContent = answer.words.length === 0 ? "" : this.told(answer.total);
+        // Read by the test of the page.
+        this.input.dataset.took = (performance.now() - began).toFixed(1);
+    }
+
+    /** @param {number} total */
+    told(total) {
+        return `${count(total)} found${this.search.isWhole ? "" : " so far"}`;
+    }
+
+    /**
+     * One of what was found: its label, its kind and its formula, or what its comment says around the first word.
+     * @param {Found} found
+     * @param {number} index
+     * @param {string[]} words
+     */
+    result({ number, where }, index, words) {
+        const label = this.model.labels.at(number);
+        const said = where === "comment" ? (this.model.knownComment(number) ?? "") : "";
+        const text = said === "" ? this.elements.shortFormula(this.model.formulas.at(number)) : element("span");
+        if (said !== "") text.append(...marked(around(said, words), words));
+        text.classList.add("text");
+        return element(
+            "li",
+            {
+                role: "option",
+                id: `result-${index}`,
+                "aria-selected": "false",
+                "data-label": label,
+                onclick: () => this.choose(index),
+                onpointermove: () => this.activate(index),
+            },
+            element("span", { class: "label" }, ...marked(label, words)),
+            element("span", { class: "kind" }, this.model.kindName(number).toLowerCase()),
+            text,
+        );
+    }
+
+    /**
+     * The last line: it leads to all that was found.
+     * @param {number} index
+     */
+    allResults(index) {
+        return element(
+            "li",
+            {
+                role: "option",
+                id: `result-${index}`,
+                class: "all",
+                "aria-selected": "false",
+                onclick: () => this.choose(index),
+                onpointermove: () => this.activate(index),
+            },
+            `Show all ${count(this.total)}`,
+        );
+    }
+
+    /** @param {number} index */
+    activate(index) {
+        if (index === this.active) return;
+        this.results.children[this.active]?.setAttribute("aria-selected", "false");
+        this.active = index;
+        const chosen = this.results.children[index];
+        chosen.setAttribute("aria-selected", "true");
+        chosen.scrollIntoView({ block: "nearest" });
+        this.input.setAttribute("aria-activedescendant", chosen.id);
+    }
+
+    /** @param {KeyboardEvent} event */
+    onKey(event) {
+        const number = this.results.children.length;
+        if (event.key === "Escape") {
+            if (this.results.hidden) this.input.value = "";
+            this.close();
+        } else if (event.key === "ArrowDown" && number > 0) {
+            this.open();
+            this.activate((this.active + 1) % number);
+        } else if (event.key === "ArrowUp" && number > 0) {
+            this.open();
+            this.activate((this.active + number - (this.active < 0 ? 0 : 1)) % number);
+        } else return;
+        event.preventDefault();
+    }
+
+    open() {
+        this.results.hidden = false;
+        this.input.setAttribute("aria-expanded", "true");
+    }
+
+    close() {
+        this.results.hidden = true;
+        this.active = -1;
+        this.input.setAttribute("aria-expanded", "false");
+        this.input.removeAttribute("aria-activedescendant");
+    }
+
+    /** @param {number} index */
+    choose(index) {
+        const item = this.best[index];
+        if (!item && this.total === 0) return;
+        this.close();
+        this.found.textContent = "";
+        if (item) this.go(this.elements.address(item.number));
+        else this.go(`#search=${encodeURIComponent(this.input.value.trim())}`);
+    }
+
+    /**
+     * The view of all that is found for some words.
+     * @param {string} typed
+     * @returns {Promise<Child[]>}
+     */
+    async render(typed) {
+        await this.prepare();
+        const answer = this.search.find(typed);
+        const numbers = this.search.all(answer);
+        const list = element("ul", { class: "lines found" });
+        const make = (/** @type {number} */ number) => this.foundLine(number, answer.words);
+        const told = `${count(numbers.length)} found for “${typed}”: labels first, then formulas, then comments.`;
+        return [
+            element("h1", { tabindex: -1 }, `Search: ${typed}`),
+            element("p", { class: "lead", id: "found-told", role: "status" }, told),
+            numbers.length > 0 ? this.elements.inParts(list, numbers, SHOWN_IN_VIEW, 1000, make) : "",
+        ];
+    }
+
+    /**
+     * @param {number} number
+     * @param {string[]} words
+     */
+    foundLine(number, words) {
+        const line = this.elements.line(number);
+        const said = this.model.knownComment(number) ?? "";
+        const isSaid = words.some((word) => said.toLowerCase().includes(word));
+        if (isSaid) line.append(element("p", { class: "hint said-there" }, ...marked(around(said, words), words)));
+        return line;
+    }
+}
+
+/**
+ * As much of a comment as fits into a line, from a little before the first word that is in it.
+ * @param {string} comment
+ * @param {string[]} words
+ */
+function around(comment, words) {
+    const text = comment.replace(/[\f\v]/g, " ");
+    const small = text.toLowerCase();
+    const places = words.map((word) => small.indexOf(word)).filter((place) => place >= 0);
+    const at = places.length > 0 ? Math.min(...places) : 0;
+    const from = at > AROUND ? text.indexOf(" ", at - AROUND) + 1 : 0;
+    const end = from + 4 * AROUND;
+    return `${from > 0 ? "…" : ""}${text.slice(from, end)}${end < text.length ? "…" : ""}`;
+}
+
+/**
+ * A text in which the words that were found are marked.
+ * @param {string} text
+ * @param {string[]} words
+ * @returns {Child[]}
+ */
+function marked(text, words) {
+    const small = text.toLowerCase();
+    /** @type {Child[]} */
+    const parts = [];
+    let place = 0;
+    while (place < text.length) {
+        let next = text.length;
+        let length = 0;
+        for (const word of words) {
+            const at = small.indexOf(word, place);
+            if (at >= 0 && (at < next || (at === next && word.length > length))) [next, length] = [at, word.length];
+        }
+        if (next > place) parts.push(text.slice(place, next));
+        if (length > 0) parts.push(element("mark", {}, text.slice(next, next + length)));
+        place = next + length;
+    }
+    return parts;
+}
+
+

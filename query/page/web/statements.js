@@ -1,0 +1,170 @@
+// What the views of theorems and axioms have in common: the head with comment, hypotheses, formula and conditions.
+
+import { count, element } from "./elements.js";
+import { readComment } from "./markup.js";
+import { Flag } from "./model.js";
+
+/** @typedef {import("./elements.js").Child} Child */
+/** @typedef {import("./elements.js").Elements} Elements */
+/** @typedef {import("./model.js").Model} Model */
+
+export class Statements {
+    /**
+     * @param {Model} model
+     * @param {Elements} elements
+     */
+    constructor(model, elements) {
+        this.model = model;
+        this.elements = elements;
+    }
+
+    /**
+     * Kind, label, comment, hypotheses, formula, conditions and place of an assertion.
+     * @param {number} number
+     * @param {string} comment
+     * @returns {Child[]}
+     */
+    head(number, comment) {
+        const { model, elements } = this;
+        const formula = elements.formula(model.formulas.at(number), true);
+        const title = element(
+            "div",
+            { class: "title" },
+            element("p", { class: "kind" }, model.kindName(number)),
+            element("h1", { tabindex: -1 }, model.labels.at(number)),
+            this.neighbours(number),
+        );
+        return [
+            title,
+            ...this.marks(number),
+            ...(comment === "" ? [] : [elements.comment(readComment(comment), { id: "comment" })]),
+            ...this.hypotheses(number),
+            element("div", { class: "statement", id: "statement" }, formula),
+            ...this.conditions(number),
+            this.place(number),
+        ];
+    }
+
+    /**
+     * What is discouraged, as the comment says.
+     * @param {number} number
+     */
+    marks(number) {
+        const flags = this.model.flags[number];
+        const marks = [];
+        if (flags & Flag.usage) marks.push(element("li", { class: "discouraged" }, "New usage is discouraged"));
+        if (flags & Flag.modification) {
+            marks.push(element("li", { class: "discouraged" }, "Proof modification is discouraged"));
+        }
+        return marks.length > 0 ? [element("ul", { class: "marks", "aria-label": "Marks" }, ...marks)] : [];
+    }
+
+    /** @param {number} number */
+    hypotheses(number) {
+        const { model, elements } = this;
+        const given = Array.from(model.hypotheses.of(number), (index) =>
+            element(
+                "li",
+                { class: "line" },
+                element("span", { class: "label" }, model.hypothesisLabels.at(index)),
+                " ",
+                elements.formula(model.hypothesisFormulas.at(index), true),
+            ),
+        );
+        if (given.length === 0) return [];
+        const name = given.length === 1 ? "Hypothesis" : "Hypotheses";
+        const heading = element("h2", { class: "small" }, name);
+        return [element("div", { class: "hypotheses" }, heading, element("ol", { class: "lines" }, ...given))];
+    }
+
+    /**
+     * The conditions of distinct variables, and those of the proof's dummy variables apart.
+     * @param {number} number
+     */
+    conditions(number) {
+        const conditions = this.model.conditions(number);
+        if (!conditions) return [];
+        const { groups, dummies, proofGroups, areAll } = conditions;
+        const made = element("div", { class: "conditions", id: "conditions" });
+        if (groups.length > 0) {
+            const name = groups.length === 1 ? "Distinct variable group" : "Distinct variable groups";
+            made.append(element("h2", { class: "small" }, name), this.elements.groups(groups));
+            made.lastElementChild?.setAttribute("id", "mandatory-groups");
+        }
+        if (dummies.length > 0) {
+            const name = dummies.length === 1 ? "Dummy variable of the proof" : "Dummy variables of the proof";
+            made.append(element("h2", { class: "small" }, name), this.dummies(dummies, areAll));
+        }
+        if (proofGroups.length > 0) {
+            made.append(element("h2", { class: "small" }, "Distinct in the proof"), this.elements.groups(proofGroups));
+            made.lastElementChild?.setAttribute("id", "proof-groups");
+        }
+        return [made];
+    }
+
+    /**
+     * @param {string[]} dummies
+     * @param {boolean} areAll
+     */
+    dummies(dummies, areAll) {
+        const made = element("p", { id: "dummies", "data-all": String(areAll) });
+        dummies.forEach((variable, index) => made.append(index > 0 ? ", " : "", this.elements.variable(variable)));
+        if (!areAll) return made;
+        const told =
+            dummies.length === 1
+                ? " — distinct from all other variables"
+                : " — distinct from one another and from all other variables";
+        made.append(element("span", { class: "hint" }, told));
+        return made;
+    }
+
+    /**
+     * Links to the theorems (or axioms) before and after.
+     * @param {number} number
+     */
+    neighbours(number) {
+        const row = this.model.rowOf[number];
+        const column = this.model.columnOf[number];
+        if (row < 0 && column < 0) return "";
+        const list = row >= 0 ? this.model.theorems : this.model.axioms;
+        const at = row >= 0 ? row : column;
+        const name = row >= 0 ? "theorem" : "axiom";
+        const nav = element("nav", { class: "neighbours", "aria-label": `Neighbouring ${name}s` });
+        const put = (/** @type {number | undefined} */ other, /** @type {string} */ rel, /** @type {string} */ which) => {
+            if (other === undefined) return;
+            const told = `${which} ${name}: ${this.model.labels.at(other)}`;
+            nav.append(this.elements.link(other, { rel, "aria-label": told }));
+        };
+        put(list[at - 1], "prev", "Previous");
+        put(list[at + 1], "next", "Next");
+        return nav;
+    }
+
+    /** @param {number} number */
+    place(number) {
+        const { model } = this;
+        const row = model.rowOf[number];
+        const column = model.columnOf[number];
+        const parts = [`Line ${count(model.lines[number])}`];
+        if (row >= 0) parts.push(`theorem ${count(row + 1)} of ${count(model.theorems.length)}`);
+        if (column >= 0) parts.push(`axiom ${count(column + 1)} of ${count(model.axioms.length)}`);
+        const made = element("p", { class: "place", id: "place" }, parts.join(" · "));
+        const path = model.chapters.pathAt(number);
+        if (path.length > 0) made.append(" · ", this.elements.path(path));
+        return made;
+    }
+
+    /**
+     * What cites an assertion.
+     * @param {number} number
+     */
+    citedBy(number) {
+        const citers = this.model.citersOf(number);
+        const list = citers.length > 0 ? this.elements.labels(citers) : null;
+        return this.elements.section(
+            "cited-by",
+            `Cited by ${count(citers.length)}`,
+            list ?? this.elements.hint("No proof of this database cites it."),
+        );
+    }
+}

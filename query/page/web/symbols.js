@@ -1,0 +1,113 @@
+// How symbols are shown: as the `$t` comment of the database says, or as they are written there.
+
+/** @typedef {import("./types.js").Facts} Facts */
+/** @typedef {import("./types.js").Piece} Piece */
+
+/**
+ * A stretch of a formula that is shown in one way.
+ * @typedef {object} Run
+ * @property {string} text
+ * @property {string} tags names of tags, separated by spaces
+ * @property {string} symbol as the database writes it
+ * @property {boolean} isAlike it looks like another symbol
+ */
+
+/** The colours of variables of which no definition says another one, by their typecodes in turn. */
+const HUES = ["blue", "red", "purple", "green"];
+
+/** Symbols that a browser would break inside, such as |->, and up to which length they are kept in one line. */
+const BREAKABLE = /[-/?].|[|]./;
+const LONGEST_WHOLE = 12;
+
+export class Symbols {
+    /**
+     * @param {Facts} facts
+     * @param {Map<string, string>} typecodeOf
+     */
+    constructor(facts, typecodeOf) {
+        this.typecodeOf = typecodeOf;
+        /** @type {Map<string, Piece[]>} */
+        this.definitions = new Map(facts.symbols);
+        this.alike = new Set(facts.alike);
+        const codes = [...new Set(typecodeOf.values())];
+        this.hueOf = new Map(codes.map((code, index) => [code, HUES[index % HUES.length]]));
+        this.isOn = this.definitions.size > 0;
+        /** @type {Map<string, string>} */
+        this.keys = new Map();
+    }
+
+    /** Whether the database says how its symbols are shown. */
+    get areDefined() {
+        return this.definitions.size > 0;
+    }
+
+    /**
+     * The runs of one symbol. `isFirst` is whether it is a typecode, which is no variable.
+     * @param {string} symbol
+     * @param {boolean} isFirst
+     * @returns {Run[]}
+     */
+    runsOf(symbol, isFirst) {
+        const defined = this.isOn ? this.definitions.get(symbol) : undefined;
+        if (defined) {
+            const isAlike = this.alike.has(symbol);
+            return defined.map(([text, tags]) => ({ text, tags, symbol, isAlike: isAlike && text.trim() !== "" }));
+        }
+        const code = isFirst ? undefined : this.typecodeOf.get(symbol);
+        const isWhole = BREAKABLE.test(symbol) && symbol.length <= LONGEST_WHOLE;
+        const tags = [code === undefined ? "" : this.hueOf.get(code) ?? "", isWhole ? "whole" : ""];
+        const isAlike = this.isOn && this.alike.has(symbol);
+        return [{ text: symbol, tags: tags.filter(Boolean).join(" "), symbol, isAlike }];
+    }
+
+    /**
+     * The runs of a formula, its symbols separated by single spaces. `hasTypecode` is whether the first one is a
+     * typecode.
+     * @param {string} formula
+     * @returns {Run[]}
+     */
+    runs(formula, hasTypecode = true) {
+        /** @type {Run[]} */
+        const runs = [];
+        const space = { text: " ", tags: "", symbol: "", isAlike: false };
+        formula.split(" ").forEach((symbol, index) => {
+            const isWritten = !this.isOn || !this.definitions.has(symbol);
+            if (isWritten && index > 0) runs.push(space);
+            runs.push(...this.runsOf(symbol, hasTypecode && index === 0));
+            if (isWritten && this.isOn) runs.push(space);
+        });
+        return runs;
+    }
+
+    /**
+     * What of a symbol is compared with what is typed: its shown spelling in small and plain letters, without spaces.
+     * @param {string} symbol
+     */
+    keyOf(symbol) {
+        let key = this.keys.get(symbol);
+        if (key === undefined) {
+            const pieces = this.definitions.get(symbol);
+            key = plain(pieces ? pieces.map(([text]) => text).join("") : symbol);
+            this.keys.set(symbol, key);
+        }
+        return key;
+    }
+
+    /**
+     * The shown spelling of a formula, as it is compared with what is typed.
+     * @param {string} formula
+     */
+    keyOfFormula(formula) {
+        let key = "";
+        for (const symbol of formula.split(" ")) key += this.keyOf(symbol);
+        return key;
+    }
+}
+
+/**
+ * A text in small letters without spaces, the letters of mathematics as plain ones: 𝑥 as x, 𝜑 as φ.
+ * @param {string} text
+ */
+export function plain(text) {
+    return text.normalize("NFKC").toLowerCase().replace(/\s+/g, "");
+}
