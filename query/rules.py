@@ -18,6 +18,7 @@ from query.statements import difference, statement_of
 from query.text import Assertion, Text
 
 DISCOURAGED = re.compile(r"\(New\s+usage\s+is\s+discouraged\.\)")
+DISCOURAGED_PROOF = re.compile(r"\(Proof\s+modification\s+is\s+discouraged\.\)")
 TOKEN = re.compile(r"/\*.*?\*/|'([^']*)'|\"([^\"]*)\"|(;)|([^\s;'\"]+)", re.DOTALL)
 LONGEST = 200
 """How many characters of a formula are shown."""
@@ -326,6 +327,11 @@ def discouraged_labels(text: Text) -> list[str]:
 def is_discouraged(text: Text, assertion: Assertion) -> bool:
     """Whether the comment before an assertion says `(New usage is discouraged.)`."""
     return bool(DISCOURAGED.search(text.comment(assertion)))
+
+
+def is_proof_discouraged(text: Text, assertion: Assertion) -> bool:
+    """Whether the comment of a theorem says `(Proof modification is discouraged.)`."""
+    return assertion.kind == "p" and bool(DISCOURAGED_PROOF.search(text.comment(assertion)))
 
 
 def discouraged(case: Case) -> Iterator[Finding]:

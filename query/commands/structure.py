@@ -2,7 +2,6 @@
 its parts, beside what rests on what."""
 
 import argparse
-import re
 from bisect import bisect_left
 
 from query.changes import text_of
@@ -18,7 +17,7 @@ from query.options import (
     options_of,
 )
 from query.output import Value
-from query.rules import across_mathboxes, citations, discouraged_labels
+from query.rules import across_mathboxes, citations, discouraged_labels, is_proof_discouraged
 from query.text import Assertion, Text
 
 CHAPTERS_PAGE = """
@@ -87,9 +86,6 @@ of       in whose mathbox that is
 
   $ mmquery mathboxes set.mm
 """
-
-DISCOURAGED_PROOF = re.compile(r"\(Proof\s+modification\s+is\s+discouraged\.\)")
-OPEN = Options(only=None, open=True)
 
 
 def configure_with_axioms(parser: argparse.ArgumentParser) -> None:
@@ -232,7 +228,7 @@ def run_discouraged(context: Context, arguments: argparse.Namespace) -> int:
         rows.append(["use", cited, user, None])
     rows += [["usage", label, None, count] for label, count in counts.items()]
     for one in text.assertions:
-        if one.kind == "p" and DISCOURAGED_PROOF.search(text.comment(one)):
+        if is_proof_discouraged(text, one):
             rows.append(["proof", one.label, None, steps(text, one)])
     if context.out.format != "text":
         context.out.table(["what", "label", "by", "count"], rows)

@@ -1,0 +1,68 @@
+"""`set-proof`: a database with the proof of one theorem in place of another's."""
+
+import argparse
+
+from query.changes import text_of
+from query.commands import Command
+from query.context import Context
+from query.errors import NoAnswer, shown
+from query.options import Options, add_database
+from query.program import Refused
+from query.text import Stretch, Text
+
+PAGE = """
+Writes the database with the proof of OTHER in place of that of THEOREM, or with ? where OTHER is ?.
+Nothing else is changed. What comes out is there to try things with, and it may be invalid: so the
+database may have open theorems and wrong proofs, and `set-proof` takes what it wrote.
+
+  $ mmquery set-proof set.mm r1pw r1pwALT > new.mm
+  $ mmquery set-proof set.mm numth3 '?' > open.mm
+"""
+
+FAULTS_OF_PROOFS = ("E3", "E4")
+
+
+def configure(parser: argparse.ArgumentParser) -> None:
+    """The words."""
+    add_database(parser)
+    parser.add_argument("theorem", metavar="THEOREM")
+    parser.add_argument("other", metavar="OTHER")
+
+
+def proof_of(text: Text, name: str, label: str) -> Stretch:
+    """Where the proof of a theorem stands. NoAnswer where there is no such theorem."""
+    found = text.find(label)
+    if found is None or found.proof is None:
+        raise NoAnswer(f"{name}: has no theorem '{shown(label)}'")
+    return found.proof
+
+
+def run(context: Context, arguments: argparse.Namespace) -> int:
+    """Answers."""
+    database = context.database(arguments.database, Options(only=None, open=True))
+    data = database.text()
+    try:
+        database.graph()
+    except Refused as refused:
+        if not refused.code.startswith(FAULTS_OF_PROOFS):
+            raise
+    text = text_of(database)
+    start, end = proof_of(text, database.name, arguments.theorem)
+    given = b" ? "
+    if arguments.other != "?":
+        first, last = proof_of(text, database.name, arguments.other)
+        given = data[first:last]
+    context.out.write(data[:start] + given + data[end:])
+    return 0
+
+
+COMMANDS = [
+    Command(
+        "set-proof",
+        "the database with the proof of one theorem for that of another",
+        PAGE,
+        configure,
+        run,
+        (),
+    )
+]

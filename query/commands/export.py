@@ -1,0 +1,56 @@
+"""`export`: a database as tables, for questions of one's own."""
+
+import argparse
+
+from query import progress
+from query.changes import text_of
+from query.commands import Command
+from query.context import Context
+from query.errors import shown
+from query.options import add_choice_of_axioms, add_database, options_of
+from query.output import Value
+
+PAGE = """
+Writes statements, citations and marks as tables of SQLite into FILE. One that `export` wrote before
+is replaced, another file isn't. docs/SQL.md describes the columns, with ten queries.
+
+table  its name: about, chapter, statement, hypothesis, disjoint, citation, mark
+rows   how many rows it has
+
+  $ mmquery export --sqlite set.db set.mm
+"""
+
+
+def configure(parser: argparse.ArgumentParser) -> None:
+    """The words and options."""
+    add_database(parser)
+    parser.add_argument("--sqlite", metavar="FILE", required=True, help="the file to write")
+    add_choice_of_axioms(parser)
+
+
+def run(context: Context, arguments: argparse.Namespace) -> int:
+    """Answers."""
+    from query.sqlite import Content, export
+
+    options = options_of(arguments)
+    database = context.database(arguments.database, options)
+    database.text()
+    dependence = database.dependence()
+    about = {
+        "database": database.name,
+        "axioms of typecode": "all" if options.only is None else options.only,
+        "axioms that begin with": " ".join(options.axioms),
+        "ignore definitions": str(options.ignore_definitions).lower(),
+        "essential": str(options.essential).lower(),
+        "open": str(options.open).lower(),
+    }
+    progress.now(f"writing {shown(arguments.sqlite)}")
+    counts = export(Content(about, text_of(database), dependence), arguments.sqlite)
+    rows: list[list[Value]] = [[table, count] for table, count in counts]
+    context.out.table(["table", "rows"], rows)
+    return 0
+
+
+COMMANDS = [
+    Command("export", "statements, citations and marks as tables of SQLite", PAGE, configure, run)
+]

@@ -1,0 +1,218 @@
+"""A database as tables of SQLite: statements, citations, marks and chapters."""
+
+from __future__ import annotations
+
+import errno
+import os
+import sqlite3
+from collections.abc import Iterable, Iterator
+from dataclasses import dataclass
+
+from query import signals
+from query.database import Dependence
+from query.errors import NoAnswer, shown
+from query.output import reason
+from query.rules import is_discouraged, is_proof_discouraged
+from query.statements import statement_of
+from query.text import Text
+
+APPLICATION = 0x6D6D7175
+"""What the header has as the application, `mmqu`; by it a file that was exported is known."""
+
+TABLES = """
+CREATE TABLE about (key TEXT PRIMARY KEY, value TEXT NOT NULL) WITHOUT ROWID;
+CREATE TABLE chapter (
+    id INTEGER PRIMARY KEY,
+    number TEXT NOT NULL,
+    level INTEGER NOT NULL,
+    title TEXT NOT NULL,
+    first INTEGER NOT NULL,
+    last INTEGER NOT NULL
+);
+CREATE TABLE statement (
+    id INTEGER PRIMARY KEY,
+    label TEXT NOT NULL UNIQUE,
+    kind TEXT NOT NULL,
+    typecode TEXT NOT NULL,
+    formula TEXT NOT NULL,
+    line INTEGER NOT NULL,
+    chapter INTEGER REFERENCES chapter,
+    mathbox TEXT,
+    usage_discouraged INTEGER NOT NULL,
+    proof_discouraged INTEGER NOT NULL,
+    comment TEXT NOT NULL
+);
+CREATE TABLE hypothesis (
+    statement INTEGER NOT NULL REFERENCES statement,
+    position INTEGER NOT NULL,
+    label TEXT NOT NULL,
+    formula TEXT NOT NULL,
+    PRIMARY KEY (statement, position)
+) WITHOUT ROWID;
+CREATE TABLE disjoint (
+    statement INTEGER NOT NULL REFERENCES statement,
+    first TEXT NOT NULL,
+    second TEXT NOT NULL,
+    PRIMARY KEY (statement, first, second)
+) WITHOUT ROWID;
+CREATE TABLE citation (
+    citing INTEGER NOT NULL REFERENCES statement,
+    cited INTEGER NOT NULL REFERENCES statement,
+    PRIMARY KEY (citing, cited)
+) WITHOUT ROWID;
+CREATE TABLE mark (
+    theorem INTEGER NOT NULL REFERENCES statement,
+    axiom INTEGER NOT NULL REFERENCES statement,
+    PRIMARY KEY (theorem, axiom)
+) WITHOUT ROWID;
+"""
+
+INDICES = """
+CREATE INDEX statement_by_chapter ON statement (chapter);
+CREATE INDEX statement_by_kind ON statement (kind);
+CREATE INDEX citation_by_cited ON citation (cited, citing);
+CREATE INDEX mark_by_axiom ON mark (axiom, theorem);
+ANALYZE;
+"""
+
+Row = tuple[object, ...]
+
+
+@dataclass(frozen=True)
+class Content:
+    """What is exported. `about` has what the table of this name has."""
+
+    about: dict[str, str]
+    text: Text
+    dependence: Dependence
+
+    def number(self, label: str) -> int:
+        """The `id` of a statement: its number among axioms and theorems, from 1 in file order."""
+        return self.text.by_label[label].number + 1
+
+    def chapters(self) -> Iterator[Row]:
+        """The rows of `chapter`."""
+        for number, each in enumerate(self.text.headers, 1):
+            yield number, each.number, each.level, each.title, each.first + 1, each.end
+
+    def statements(self) -> Iterator[Row]:
+        """The rows of `statement`."""
+        text = self.text
+        theorems = set(self.dependence.theorems)
+        for one in text.assertions:
+            kind = "axiom" if one.kind == "a" else "theorem" if one.label in theorems else "open"
+            yield (
+                one.number + 1,
+                one.label,
+                kind,
+                text.typecode(one),
+                text.formula(one),
+                text.line(one.place),
+                one.header + 1 if one.header >= 0 else None,
+                text.mathbox(one),
+                is_discouraged(text, one),
+                is_proof_discouraged(text, one),
+                " ".join(text.comment(one).split()),
+            )
+
+    def hypotheses(self) -> Iterator[Row]:
+        """The rows of `hypothesis`."""
+        text = self.text
+        for one in text.assertions:
+            for position, number in enumerate(one.essential, 1):
+                hypothesis = text.hypotheses[number]
+                yield one.number + 1, position, hypothesis.label, text.formula(hypothesis)
+
+    def disjoint(self) -> Iterator[Row]:
+        """The rows of `disjoint`: what binds who cites the statement."""
+        for one in self.text.assertions:
+            if one.disjoint:
+                for first, second in sorted(statement_of(self.text, one).disjoint):
+                    yield one.number + 1, first, second
+
+    def citations(self) -> Iterator[Row]:
+        """The rows of `citation`."""
+        graph = self.dependence.graph
+        ids = [self.number(label) for label in graph.labels]
+        for theorem in range(graph.theorems):
+            for cited in graph.cites[theorem]:
+                yield ids[theorem], ids[cited]
+
+    def marks(self) -> Iterator[Row]:
+        """The rows of `mark`."""
+        axioms = [self.number(label) for label in self.dependence.axioms]
+        for row, label in enumerate(self.dependence.theorems):
+            theorem = self.number(label)
+            for column in self.dependence.rests(row):
+                yield theorem, axioms[column]
+
+    def tables(self) -> Iterator[tuple[str, Iterable[Row]]]:
+        """Each table with its rows."""
+        yield "about", self.about.items()
+        yield "chapter", self.chapters()
+        yield "statement", self.statements()
+        yield "hypothesis", self.hypotheses()
+        yield "disjoint", self.disjoint()
+        yield "citation", self.citations()
+        yield "mark", self.marks()
+
+
+def is_exported(path: str) -> bool:
+    """Whether a file is one that was exported before."""
+    try:
+        with open(path, "rb") as file:
+            head = file.read(100)
+    except OSError:
+        return False
+    return head.startswith(b"SQLite format 3\0") and head[68:72] == APPLICATION.to_bytes(4, "big")
+
+
+def export(content: Content, path: str) -> list[tuple[str, int]]:
+    """Writes the tables into a file, whole or not at all; says how many rows each has.
+
+    NoAnswer where the file can't be written, or is there and was not made so.
+    """
+    name = shown(path)
+    if os.path.lexists(path) and not is_exported(path):
+        raise NoAnswer(f"{name}: is there already, and wasn't made by export; it isn't replaced")
+    folder, base = os.path.split(path)
+    new = os.path.join(folder, f".{base}.{os.getpid()}-{os.urandom(6).hex()}")
+    number = signals.at_stop(lambda: os.unlink(new))
+    try:
+        os.close(os.open(new, os.O_WRONLY | os.O_CREAT | os.O_EXCL | os.O_CLOEXEC, 0o666))
+        counts = fill(content, new)
+        os.replace(new, path)
+    except OSError as error:
+        raise NoAnswer(f"{name}: {reason(error)}") from None
+    except sqlite3.Error as error:
+        full = OSError(errno.ENOSPC, "")
+        said = reason(full) if "full" in str(error) else str(error)
+        raise NoAnswer(f"{name}: {said}") from None
+    finally:
+        signals.forget(number)
+        if os.path.lexists(new):
+            os.unlink(new)
+    return counts
+
+
+def fill(content: Content, path: str) -> list[tuple[str, int]]:
+    """Makes the tables in an empty file. sqlite3.Error where that can't be done."""
+    counts = []
+    connection = sqlite3.connect(path)
+    try:
+        connection.executescript(
+            "PRAGMA journal_mode = OFF; PRAGMA synchronous = OFF; PRAGMA temp_store = MEMORY;"
+            f"PRAGMA application_id = {APPLICATION};"
+        )
+        connection.executescript(TABLES)
+        for table, rows in content.tables():
+            width = len(connection.execute(f"PRAGMA table_info({table})").fetchall())
+            signs = ", ".join("?" * width)
+            cursor = connection.executemany(f"INSERT INTO {table} VALUES ({signs})", rows)
+            counts.append((table, cursor.rowcount))
+        connection.commit()
+        connection.executescript(INDICES)
+        connection.commit()
+    finally:
+        connection.close()
+    return counts
