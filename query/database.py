@@ -163,10 +163,10 @@ class Database:
                 return from_parts(kept)
         progress.now(f"verifying {self.name}")
         common = ["--essential"] * options.essential + ["--open"] * options.open
-        marks = common + ["--report=usage"] + ([] if only is None else [f"--only={only}"])
+        marks = common + ["--form=2"] + ([] if only is None else [f"--only={only}"])
         answers = program.reports(mmdepend, self.source, [marks, common + ["--report=citations"]])
         progress.now(f"checking the report of {self.name}")
-        found = checked(f"{self.name}: report of the program", b"".join(answers))
+        found = checked(f"{self.name}: report of the program", b"".join(answers), True)
         if self.uses_cache:
             cache.store(key, to_parts(found))
         return found

@@ -13,6 +13,7 @@ from query.output import reason
 from query.source import Source
 
 REFUSAL = re.compile(rb"refused ([1-9][0-9]{0,9}):([1-9][0-9]{0,9}) (E[0-9]{2})\n")
+PIPE = 1 << 20  # bytes that wait in a pipe
 HOME = os.path.dirname(os.path.dirname(os.path.realpath(__file__)))
 
 
@@ -41,7 +42,11 @@ class Running:
 
         try:
             self.process = subprocess.Popen(
-                [path, *words], stdin=given, stdout=subprocess.PIPE, stderr=errors
+                [path, *words],
+                stdin=given,
+                stdout=subprocess.PIPE,
+                stderr=errors,
+                pipesize=PIPE,
             )
         except OSError as error:
             raise NoAnswer(f"{shown(path)} can't be run: {reason(error)}") from None

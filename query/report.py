@@ -9,6 +9,9 @@ where what it cites is the axiom or is marked. What doesn't fit is NoAnswer with
 import re
 from array import array
 from dataclasses import dataclass, field
+from functools import reduce
+from itertools import compress
+from operator import or_
 from typing import NoReturn
 
 from query.errors import NoAnswer, shown
@@ -17,6 +20,7 @@ from query.marks import Marks, bit, packed, width_of
 
 SECTIONS = ("matrix", "counts", "usage", "citations")
 LABELS = re.compile(r"[A-Za-z0-9._-]+(?:\n[A-Za-z0-9._-]+)*")
+WRONG_COUNT = "the number isn't that of the labels after it"
 NUMBER = re.compile(r"0|[1-9][0-9]{0,9}")
 
 
@@ -112,10 +116,16 @@ class Report:
 
 
 class Checker:
-    """Reads the sections of a report, each checked against those read before."""
+    """Reads the sections of a report, each checked against those read before.
 
-    def __init__(self, report: Report) -> None:
+    `has_one_source` is whether the reports come from the program just now: then the lists and
+    counts of a report say what its matrix says, and comparing the matrix with the citations is
+    enough.
+    """
+
+    def __init__(self, report: Report, has_one_source: bool) -> None:
         self.report = report
+        self.has_one_source = has_one_source
         self.sections = report.sections
         self.found = Prepared()
         self.rows: dict[str, int] = {}
@@ -202,30 +212,33 @@ class Checker:
         if "matrix" in self.sections:
             marks = self.check_matrix(columns, marks)
         if "usage" in self.sections:
-            marks = marks or self.marks_by_usage(columns)
+            self.found.marks = marks = marks or self.marks_by_usage(columns)
+        if self.has_one_source and self.found.cites is not None and "matrix" in self.sections:
+            return
+        if "usage" in self.sections and marks is not None:
             self.check_usage(marks)
-            self.found.marks = marks
         if "counts" in self.sections and marks is not None:
             self.check_counts(marks)
 
     def check_matrix(self, columns: int, known: Marks | None) -> Marks:
         """The marks of the matrix, which have to be those of the citations where they are known."""
-        section = self.sections["matrix"]
-        digits = columns if section.form == 1 else -(-columns // 4)
-        signs, base = ("01", 2) if section.form == 1 else ("0123456789abcdef", 16)
-        up = 8 * width_of(columns) - digits * (1 if base == 2 else 4)
-        beyond = (1 << (8 * width_of(columns) - columns)) - 1
-        rows = []
-        for number, line in enumerate(self.lines("matrix")):
-            row = line.partition(":")[2]
-            if len(row) != digits or row.strip(signs):
+        form = self.sections["matrix"].form
+        digits = columns if form == 1 else -(-columns // 4)
+        rows = [line.partition(":")[2] for line in self.lines("matrix")]
+        for number, row in enumerate(rows):
+            if len(row) != digits:
                 self.damaged("matrix", number, f"a row of {columns} axioms has to stand here")
-            bits = int(row, base) << up if row else 0
-            if bits & beyond:
+        data = bytes(len(rows)) if columns == 0 else of_digits(rows, form)
+        if data is None:
+            signs = "01" if form == 1 else "0123456789abcdef"
+            number = next(i for i, row in enumerate(rows) if row.strip(signs))
+            self.damaged("matrix", number, "a sign that is no digit of a row")
+        marks = Marks(len(rows), columns, data)
+        beyond = (1 << (8 * marks.width - columns)) - 1 if columns else 0
+        for number, byte in enumerate(data[marks.width - 1 :: marks.width] if beyond else b""):
+            if byte & beyond:
                 self.damaged("matrix", number, "a mark beyond the last axiom")
-            rows.append(bits)
-        marks = packed(rows, columns)
-        if known is not None and marks.data != known.data:
+        if known is not None and data != known.data:
             number = next(i for i in range(marks.rows) if marks.row(i) != known.row(i))
             self.damaged("matrix", number, "these aren't the marks that the citations give")
         return marks
@@ -241,25 +254,27 @@ class Checker:
 
     def check_usage(self, marks: Marks) -> None:
         """Compares the section `usage` with the marks."""
-        rows = self.rows
         for number, line in enumerate(self.lines("usage")):
             words = fields(line)
-            if words is None:
-                self.damaged("usage", number, "the number isn't that of the labels after it")
-            users = [rows.get(word, -1) for word in words]
-            if -1 in users:
-                self.damaged("usage", number, f"'{words[users.index(-1)]}' is no theorem")
-            if users != marks.users(number):
-                self.damaged("usage", number, self.odd_user(users, marks, number))
+            column = marks.column(number)
+            users = list(compress(self.found.theorems, column))
+            if words != users:
+                self.damaged("usage", number, self.odd_user(words, marks, number))
 
-    def odd_user(self, users: list[int], marks: Marks, column: int) -> str:
+    def odd_user(self, words: list[str] | None, marks: Marks, column: int) -> str:
         """Why the users of an axiom aren't those that the marks give."""
-        if any(one >= other for one, other in zip(users, users[1:])):
+        if words is None:
+            return WRONG_COUNT
+        for word in words:
+            if word not in self.rows:
+                return f"'{word}' is no theorem"
+        users = [self.rows[word] for word in words]
+        odd = set(users) ^ set(marks.users(column))
+        if not odd:
             return "the labels aren't in file order, each once"
-        odd = min(set(users) ^ set(marks.users(column)))
         source = "citations" if self.found.cites is not None else "matrix"
-        kind = "has" if odd in users else "lacks"
-        return f"it {kind} '{self.found.theorems[odd]}', other than the {source} say"
+        kind = "has" if min(odd) in users else "lacks"
+        return f"it {kind} '{self.found.theorems[min(odd)]}', other than the {source} say"
 
     def check_counts(self, marks: Marks) -> None:
         """Compares the section `counts` with the marks."""
@@ -287,7 +302,7 @@ class CitationReader:
         for number, line in enumerate(self.checker.lines("citations")):
             words = fields(line)
             if words is None:
-                self.damaged(number, "the number isn't that of the labels after it")
+                self.damaged(number, WRONG_COUNT)
             cited = list(map(nodes.get, words))
             if None in cited:
                 cited = [self.known(number, word) for word in words]
@@ -342,6 +357,25 @@ def first_repeated(labels: list[str]) -> int:
     return -1
 
 
+def of_digits(rows: list[str], form: int) -> bytes | None:
+    """The bytes of rows of the matrix, which all have the same length; None where a sign is no
+    digit."""
+    text = "".join(rows)
+    if form == 1:
+        if text.count("0") + text.count("1") != len(text):
+            return None
+        width = width_of(len(rows[0])) if rows else 1
+        up = 8 * width - len(rows[0]) if rows else 0
+        return b"".join((int(row, 2) << up).to_bytes(width, "big") for row in rows)
+    if rows and len(rows[0]) % 2:
+        text = "0".join(rows) + "0"
+    try:
+        data = bytes.fromhex(text)
+    except ValueError:
+        return None
+    return data if data.hex() == text else None
+
+
 def marks_by_citations(found: Prepared) -> Marks:
     """The marks that citations give: of each theorem those of what it cites, and the axioms it
     cites."""
@@ -351,15 +385,12 @@ def marks_by_citations(found: Prepared) -> Marks:
     whole = [0] * theorems
     whole += [bit(columns, number) for number in range(columns)]
     whole += [0] * len(found.others)
-    cites = found.cites
+    cites, marks_of = found.cites, whole.__getitem__
     for theorem in range(theorems):
-        row = 0
-        for cited in cites[theorem]:
-            row |= whole[cited]
-        whole[theorem] = row
+        whole[theorem] = reduce(or_, map(marks_of, cites[theorem]), 0)
     return packed(whole[:theorems], columns)
 
 
-def checked(name: str, data: bytes) -> Prepared:
+def checked(name: str, data: bytes, has_one_source: bool = False) -> Prepared:
     """What a text of reports says. NoAnswer where it is damaged or its parts don't fit together."""
-    return Checker(Report(name, data)).check()
+    return Checker(Report(name, data), has_one_source).check()
