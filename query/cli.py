@@ -53,8 +53,7 @@ class Parser(argparse.ArgumentParser):
                 options.append(self.option(word, left))
             else:
                 plain.append(word)
-        marked = [MARK + word if word.startswith("-") else word for word in plain]
-        found = self.parse_args([*options, "--", *marked])
+        found = self.parse_args([*options, "--", *map(marked, plain)])
         for name, value in vars(found).items():
             setattr(found, name, unmarked(value))
         return found
@@ -74,7 +73,12 @@ class Parser(argparse.ArgumentParser):
             if not left:
                 self.error(f"the option {name} lacks its value")
             value = left.pop(0)
-        return f"{name}={value}"
+        return f"{name}={marked(value)}"
+
+
+def marked(word: str) -> str:
+    """A word, with a mark before it where it begins with `-`."""
+    return MARK + word if word.startswith("-") else word
 
 
 def unmarked(value: Any) -> Any:

@@ -114,10 +114,14 @@ class Output:
         """Adds bytes as they are, whatever the format."""
         self._parts.append(data)
 
+    def taken(self) -> list[bytes]:
+        """All of it, which is no longer kept here."""
+        parts, self._parts = self._parts, []
+        return parts
+
     def flush(self) -> None:
         """Writes all of it to standard output. NoAnswer where that can't be done."""
-        write_all(1, b"".join(self._parts))
-        self._parts = []
+        write_all(1, b"".join(self.taken()))
 
 
 def write_all(descriptor: int, data: bytes) -> None:

@@ -1,0 +1,219 @@
+"""What tests share: running mmquery in an empty folder, and databases made by chance."""
+
+import json
+import os
+import random
+import shutil
+import subprocess
+import sys
+import tempfile
+import unittest
+from dataclasses import dataclass, field
+from pathlib import Path
+
+from query.cli import parser_of
+from query.commands import command
+from query.context import Context
+from query.output import Output
+
+TOP = Path(__file__).resolve().parent.parent.parent
+MMQUERY = TOP / "mmquery"
+DATABASES = Path("/usr/share/metamath/databases")
+
+
+def program() -> str | None:
+    """The path of the program; None where there is none that is built."""
+    named = os.environ.get("MMDEPEND")
+    if named:
+        return shutil.which(named)
+    built = TOP / "crates/mmdepend/out/mmdepend"
+    return str(built) if built.exists() else None
+
+
+@dataclass
+class Came:
+    """What a command wrote, and its status."""
+
+    out: str
+    err: str
+    status: int
+
+    def lines(self) -> list[str]:
+        """The lines of standard output."""
+        return self.out.splitlines()
+
+    def rows(self) -> list[dict[str, object]]:
+        """The objects of an answer in JSON."""
+        found: list[dict[str, object]] = json.loads(self.out)
+        return found
+
+
+@unittest.skipUnless(program(), "the program isn't built")
+class World(unittest.TestCase):
+    """A test in a folder of its own, with a cache folder and a temporary folder of its own."""
+
+    def setUp(self) -> None:
+        room = tempfile.TemporaryDirectory(prefix="mmquery-test-")
+        self.addCleanup(room.cleanup)
+        self.room = Path(room.name) / "room"
+        self.cache = Path(room.name) / "cache"
+        self.temporary = Path(room.name) / "tmp"
+        for folder in (self.room, self.cache, self.temporary):
+            folder.mkdir()
+
+    def tearDown(self) -> None:
+        self.assertEqual(list(self.temporary.iterdir()), [], "a temporary file was left")
+        kept = self.cache / "mmquery"
+        left = [file.name for file in kept.glob(".*")] if kept.exists() else []
+        self.assertEqual(left, [], "an unfinished file was left in the cache")
+
+    def surroundings(self, **more: str) -> dict[str, str]:
+        """The variables with which commands run."""
+        found = {
+            "PATH": f"{os.path.dirname(sys.executable)}:/usr/bin:/bin",
+            "HOME": str(self.room),
+            "XDG_CACHE_HOME": str(self.cache),
+            "TMPDIR": str(self.temporary),
+            "MMDEPEND": program() or "",
+            "LANG": "C.UTF-8",
+        }
+        return {**found, **more}
+
+    def write(self, name: str, text: str | bytes) -> str:
+        """Writes a file in the folder. Returns its name."""
+        data = text.encode("latin-1") if isinstance(text, str) else text
+        (self.room / name).write_bytes(data)
+        return name
+
+    def query(self, *words: str, given: bytes = b"", **more: str) -> Came:
+        """Runs mmquery."""
+        done = subprocess.run(
+            [str(MMQUERY), *words],
+            cwd=self.room,
+            env=self.surroundings(**more),
+            input=given,
+            capture_output=True,
+            check=False,
+        )
+        return Came(done.stdout.decode("latin-1"), done.stderr.decode("latin-1"), done.returncode)
+
+    def answers(self, *words: str, status: int = 0, **more: str) -> list[str]:
+        """The lines that a command answers, which has to have an answer."""
+        came = self.query(*words, **more)
+        self.assertEqual((came.status, came.err), (status, ""), f"{words}: {came}")
+        return came.lines()
+
+    def refuses(self, *words: str, why: str = "", **more: str) -> str:
+        """The one line why a command has no answer."""
+        came = self.query(*words, **more)
+        self.assertEqual((came.status, came.out), (2, ""), f"{words}: {came}")
+        self.assertRegex(came.err, r"\Ammquery: [^\n]+\n\Z", f"{words}: {came}")
+        self.assertIn(why, came.err, f"{words}")
+        return came.err
+
+    def report(self, name: str, *words: str) -> str:
+        """The report that the program writes of a database."""
+        done = subprocess.run(
+            [program() or "", *words, self.room / name], capture_output=True, check=False
+        )
+        return done.stdout.decode()
+
+
+# The example of the pages.
+SMALL = """$c wff |- ( -> ) $.
+$v p q $.
+wp $f wff p $.
+wq $f wff q $.
+wi $a wff ( p -> q ) $.
+ax-1 $a |- ( p -> ( q -> p ) ) $.
+${ min $e |- p $. maj $e |- ( p -> q ) $. ax-mp $a |- q $. $}
+wi2 $p wff ( p -> ( q -> p ) ) $= wp wq wp wi wi $.
+ax1 $p |- ( p -> ( q -> p ) ) $= wp wq ax-1 $.
+${ h $e |- p $. a1i $p |- ( q -> p ) $= wp wq wp wi h wp wq ax-1 ax-mp $. $}
+${ g $e |- p $. a2 $p |- ( q -> ( q -> p ) ) $= wq wp wi wq wp wq g a1i a1i $. $}
+"""
+
+HOSTILE = ["-n", "--help", "1.0", "1", "nan", "__proto__", "-", "--", "end", "usage", "x" * 6000]
+
+
+@dataclass
+class Invented:
+    """A database made by chance, and what is true of it.
+
+    Every assertion is of the form `|- p` from `|- p`, so that a proof may apply any that come
+    before, one after the other. `cites` has what each theorem cites, in file order; some also
+    build a formula by the syntax axiom `wi`, which isn't logical. `wff` theorems are about syntax.
+    """
+
+    axioms: list[str] = field(default_factory=list)  # of typecode |-
+    syntax: list[str] = field(default_factory=lambda: ["wi"])
+    cites: dict[str, list[str]] = field(default_factory=dict)
+    essential: dict[str, list[str]] = field(default_factory=dict)
+    built: set[str] = field(default_factory=set)  # theorems about a built formula
+    text: str = ""
+
+    def theorems(self) -> list[str]:
+        """The theorems in file order."""
+        return list(self.cites)
+
+    def labels(self) -> list[str]:
+        """All labels of assertions."""
+        return self.syntax + self.axioms + self.theorems()
+
+    def rests(self, label: str, essential: bool = False) -> set[str]:
+        """All that an assertion rests on through citations, by trying everything."""
+        graph = self.essential if essential else self.cites
+        found: set[str] = set()
+        for cited in graph.get(label, []):
+            found |= {cited} | self.rests(cited, essential)
+        return found
+
+    def users(self, label: str, essential: bool = False) -> list[str]:
+        """The theorems that rest on an assertion."""
+        return [each for each in self.cites if label in self.rests(each, essential)]
+
+
+def invented(chance: random.Random, theorems: int = 9, labels: list[str] | None = None) -> Invented:
+    """A database made by chance. The first labels are taken from those given."""
+    names = iter((labels or []) + [f"l{number}" for number in range(2 * theorems + 9)])
+    world = Invented()
+    lines = ["$c |- wff ( -> ) $.", "$v p $.", "wp $f wff p $.", "wi $a wff ( p -> p ) $."]
+    unary = "${{ h.{0} $e |- p $. {0} ${1} |- p {2}$. $}}"
+    order = []
+    for number in range(theorems + theorems // 2 + 1):
+        label = next(names)
+        if number < 2 or chance.random() < 0.3 and len(world.axioms) < theorems // 2:
+            world.axioms.append(label)
+            lines.append(unary.format(label, "a", ""))
+        else:
+            cited = chance.sample(order, min(len(order), chance.choice([0, 1, 1, 2, 2, 3, 4])))
+            lines.append(proved(world, label, cited, chance.random() < 0.4))
+            rank = {each: place for place, each in enumerate(["wi"] + order)}
+            world.essential[label] = sorted(cited, key=rank.__getitem__)
+            world.cites[label] = sorted(world.cites[label], key=rank.__getitem__)
+        order.append(label)
+    world.text = "\n".join(lines) + "\n"
+    return world
+
+
+def proved(world: Invented, label: str, cited: list[str], builds: bool) -> str:
+    """A theorem that applies these assertions one after the other, over a built formula or not."""
+    builds = builds or not world.built.isdisjoint(cited)
+    formula = "( p -> p )" if builds else "p"
+    parts = ["wp " if each in world.built or not builds else "wp wi " for each in cited]
+    steps = "".join(reversed(parts)) + f"h.{label} " + "".join(f"{each} " for each in cited)
+    world.cites[label] = list(cited) + (["wi"] if "wp wi " in parts else [])
+    if builds:
+        world.built.add(label)
+    return f"${{ h.{label} $e |- {formula} $. {label} $p |- {formula} $= {steps}$. $}}"
+
+
+def asked(*words: str) -> list[list[str]]:
+    """The fields of the lines that a command answers, run in this process, as TSV without names."""
+    chosen = command(words[0])
+    form = [] if "tsv" not in chosen.formats else ["--format", "tsv"]
+    arguments = parser_of(chosen).read([*form, *words[1:]])
+    out = Output(getattr(arguments, "format", "text"))
+    chosen.run(Context(out, False), arguments)
+    lines = b"".join(out.taken()).decode().splitlines()
+    return [line.split("\t") for line in (lines[1:] if form else lines)]
