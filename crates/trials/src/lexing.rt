@@ -160,49 +160,43 @@ fn lexes_many_pieces(rt: HostRuntime) -> Result<(), AllocError> {
     Ok(())
 }
 
-#[test]
-fn summarizes_the_beginning(rt: HostRuntime) -> Result<(), AllocError> {
-    let piece = lex_piece(rt.alloc(), SMALL, 0, 1)?;
-    assert_eq!(rt; piece.from(), 0);
-    assert_eq!(rt; piece.to(), 1);
-    assert!(rt; !piece.unbroken());
-    assert_eq!(rt; piece.head(), word(0, 0));
-    assert_eq!(rt; piece.tail(), word(0, 1));
-    assert!(rt; piece.tokens(false).is_empty());
-    assert!(rt; piece.tokens(true).is_empty());
-    Ok(())
-}
-
-#[test]
-fn summarizes_both_modes(rt: HostRuntime) -> Result<(), AllocError> {
-    let piece = lex_piece(rt.alloc(), SMALL, 1, 9)?;
-    assert_eq!(rt; piece.head(), word(1, 2));
-    assert_eq!(rt; piece.tail(), word(8, 9));
-    assert!(rt; piece.tokens(false).is_empty());
+/// Asserts the ends of a piece, and the tokens and the fault of both of its readings.
+fn is_piece<R: Abort>(
+    rt: &R,
+    piece: &Piece<Global>,
+    ends: [Word; 2],
+    outside: &[Word],
+    inside_fault: Option<Fault>,
+) {
+    assert_eq!(rt; [piece.head(), piece.tail()], ends);
+    assert_eq!(rt; piece.tokens(false), outside);
     assert_eq!(rt; piece.fault(false), None);
     assert!(rt; piece.tokens(true).is_empty());
-    assert_eq!(rt; piece.fault(true), fault(3, Code::MarkInComment));
-    Ok(())
+    assert_eq!(rt; piece.fault(true), inside_fault);
 }
 
 #[test]
-fn summarizes_the_end(rt: HostRuntime) -> Result<(), AllocError> {
-    let piece = lex_piece(rt.alloc(), SMALL, 9, 12)?;
-    assert_eq!(rt; piece.head(), word(9, 10));
-    assert_eq!(rt; piece.tail(), word(12, 12));
-    assert_eq!(rt; piece.tokens(false), [word(11, 12)].as_slice());
-    assert!(rt; piece.tokens(true).is_empty());
-    Ok(())
-}
-
-#[test]
-fn summarizes_a_part_of_a_word(rt: HostRuntime) -> Result<(), AllocError> {
-    let piece = lex_piece(rt.alloc(), SMALL, 6, 7)?;
-    assert!(rt; piece.unbroken());
-    assert_eq!(rt; piece.head(), word(6, 6));
-    assert_eq!(rt; piece.tail(), word(7, 7));
-    assert!(rt; piece.tokens(false).is_empty());
-    assert_eq!(rt; piece.fault(true), None);
+fn summarizes_stretches(rt: HostRuntime) -> Result<(), AllocError> {
+    let rows: [(usize, usize, [Word; 2], &[Word], Option<Fault>); 4] = [
+        (0, 1, [word(0, 0), word(0, 1)], &[], None),
+        (
+            1,
+            9,
+            [word(1, 2), word(8, 9)],
+            &[],
+            fault(3, Code::MarkInComment),
+        ),
+        (9, 12, [word(9, 10), word(12, 12)], &[word(11, 12)], None),
+        (6, 7, [word(6, 6), word(7, 7)], &[], None),
+    ];
+    for (from, to, ends, outside, inside_fault) in rows {
+        if from <= to && to <= SMALL.len() {
+            let piece = lex_piece(rt.alloc(), SMALL, from, to)?;
+            is_piece(&rt, &piece, ends, outside, inside_fault);
+            assert!(&rt; piece.from() as usize == from && piece.to() as usize == to);
+            assert_eq!(rt; piece.unbroken(), from == 6);
+        }
+    }
     Ok(())
 }
 

@@ -115,37 +115,25 @@ fn options_stand_before_and_after_the_file(rt: HostRuntime) {
 #[test]
 fn options_of_the_report(rt: HostRuntime) {
     let alloc = rt.alloc();
-    let rows: [(&[&str], Form, bool); 4] = [
-        (&["mmdepend"], Form::One, false),
-        (&["mmdepend", "--essential"], Form::One, true),
-        (&["mmdepend", "--form", "2"], Form::Two, false),
+    let rows: [(&[&str], Form, bool, bool); 5] = [
+        (&["mmdepend"], Form::One, false, false),
+        (&["mmdepend", "--essential"], Form::One, true, false),
+        (&["mmdepend", "--form", "2"], Form::Two, false, false),
+        (&["mmdepend", "--open"], Form::One, false, true),
         (
             &["mmdepend", "--form=1", "--essential", "-"],
             Form::One,
             true,
+            false,
         ),
     ];
-    for (words, form, essential) in rows {
+    for (words, form, essential, with_open) in rows {
         match line(alloc, words) {
             Ok(line) => {
                 assert_eq!(rt; line.plan.form, form);
                 assert_eq!(rt; line.plan.essential, essential);
+                assert_eq!(rt; line.plan.with_open, with_open);
             }
-            Err(_) => assert!(&rt; false),
-        }
-    }
-}
-
-#[test]
-fn the_flag_of_open_theorems(rt: HostRuntime) {
-    let rows: [(&[&str], bool); 3] = [
-        (&["mmdepend"], false),
-        (&["mmdepend", "--open"], true),
-        (&["mmdepend", "--essential"], false),
-    ];
-    for (words, with_open) in rows {
-        match line(rt.alloc(), words) {
-            Ok(line) => assert_eq!(rt; line.plan.with_open, with_open),
             Err(_) => assert!(&rt; false),
         }
     }

@@ -3,44 +3,31 @@ use std::rt::HostRuntime;
 
 #[test]
 fn numbers_have_their_values(rt: HostRuntime) {
-    let rows: [(&[u8], u32); 9] = [
-        (b"A", 1),
-        (b"T", 20),
-        (b"UA", 21),
-        (b"UT", 40),
-        (b"VA", 41),
-        (b"YT", 120),
-        (b"UUA", 121),
-        (b"YYT", 620),
-        (b"XUXXWWXVUXVXO", 4_294_967_295),
+    let mut long = [b'Y'; 100];
+    long[99] = b'A';
+    let rows: [(&[u8], Option<u32>); 20] = [
+        (b"A", Some(1)),
+        (b"T", Some(20)),
+        (b"UA", Some(21)),
+        (b"UT", Some(40)),
+        (b"VA", Some(41)),
+        (b"YT", Some(120)),
+        (b"UUA", Some(121)),
+        (b"YYT", Some(620)),
+        (b"XUXXWWXVUXVXO", Some(4_294_967_295)),
+        (b"XUXXWWXVUXVXP", None),
+        (&long, None),
+        (b"", None),
+        (b"U", None),
+        (b"Z", None),
+        (b"AA", None),
+        (b"AU", None),
+        (b"UZ", None),
+        (b"a", None),
+        (b"?", None),
+        (b"UA ", None),
     ];
-    for row in rows {
-        assert!(&rt; number(row.0) == Some(row.1));
+    for (letters, value) in rows {
+        assert!(&rt; number(letters) == value);
     }
-}
-
-#[test]
-fn other_words_are_no_numbers(rt: HostRuntime) {
-    let words: [&[u8]; 10] = [
-        b"",
-        b"U",
-        b"Z",
-        b"AA",
-        b"AU",
-        b"UZ",
-        b"a",
-        b"?",
-        b"UA ",
-        b"XUXXWWXVUXVXP",
-    ];
-    for word in words {
-        assert!(&rt; number(word).is_none());
-    }
-}
-
-#[test]
-fn a_long_number_is_too_large(rt: HostRuntime) {
-    let mut letters = [b'Y'; 100];
-    letters[99] = b'A';
-    assert!(&rt; number(&letters).is_none());
 }

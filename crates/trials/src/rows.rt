@@ -1,8 +1,8 @@
-//! Rows of bits, and tables of marks as digits.
+//! Rows of bits, waves, and tables of marks as digits.
 
 use crate::databases::database_of;
-use crate::texts::seventy;
-use mm_rows::{Columns, Matrix, matrix, ones, or_row};
+use crate::texts::{chain, seventy, through_a_theorem};
+use mm_rows::{Columns, Matrix, matrix, ones, or_row, waves};
 use mm_work::{Judged, Open, check_all};
 use std::alloc::{AllocError, Global};
 use std::sync::Wait;
@@ -93,5 +93,32 @@ fn digits_of_more_than_a_word(rt: HostRuntime) -> Result<(), AllocError> {
     let u = [12, 0, 0, 0, 0, 0, 0, 0, 0, 0, 0, 0, 0, 0, 0, 1, 8, 4];
     assert!(&rt; has_digits(&table, 1, &u));
     assert!(&rt; writes_digits(&table, 1, b"c0000000000000018400000000000000"));
+    Ok(())
+}
+
+/// The waves of the theorems of a text without a fault.
+fn waves_of<R: Threads + Wait + Sync>(
+    rt: &R,
+    alloc: Global,
+    text: &[u8],
+) -> Result<Vec<u32>, AllocError> {
+    let database = database_of(rt, alloc, text, false)?;
+    match check_all(rt, alloc, &database, 1, false, &Open)? {
+        Judged::Valid(citations) => waves(alloc, &citations),
+        Judged::Faulty(_) => Err(AllocError),
+    }
+}
+
+#[test]
+fn waves_are_the_longest_chains(rt: HostRuntime) -> Result<(), AllocError> {
+    let alloc = rt.alloc();
+    for text in [through_a_theorem(alloc)?, seventy(alloc)?] {
+        assert_eq!(rt; waves_of(&rt, alloc, &text)?.as_slice(), [0, 1].as_slice());
+    }
+    let chained = waves_of(&rt, alloc, &chain(alloc)?)?;
+    assert_eq!(rt; chained.len(), 130);
+    for (row, wave) in chained.iter().enumerate() {
+        assert_eq!(rt; *wave as usize, row);
+    }
     Ok(())
 }

@@ -95,7 +95,9 @@ fn statements(rt: HostRuntime) -> Result<(), AllocError> {
     assert!(&rt; database.text() == FIRST_TEXT && database.fault() == None);
     is_axiom(&rt, &database);
     assert!(&rt; database.symbol_count() == 7);
-    assert!(&rt; database.name(Sym::new(3)) == b"->".as_slice() && !database.is_variable(Sym::new(3)));
+    assert!(&rt;
+        database.name(Sym::new(3)) == b"->".as_slice() && !database.is_variable(Sym::new(3))
+    );
     assert!(&rt; !database.disjoint_at(6, Sym::new(5), Sym::new(6)));
     assert!(&rt; database.proof_words(6).len() == 5);
     assert!(&rt; database.theorems() == [6u32].as_slice());
@@ -203,16 +205,31 @@ fn reports(rt: HostRuntime) -> Result<(), AllocError> {
     let columns = Columns::new(rt.alloc(), &database, None)?;
     let matrix = matrix(&rt, rt.alloc(), &citations, &columns)?;
     let mut report = Vec::new(rt.alloc());
-    let written =
-        write_report(&mut report, &database, &columns, &matrix, false, Form::One, Choice::All);
+    let written = write_report(
+        &mut report,
+        &database,
+        &columns,
+        &matrix,
+        false,
+        Form::One,
+        Choice::All,
+    );
     assert!(&rt; written.is_ok() && report.as_slice() == FIRST_REPORT);
     let mut cited = Vec::new(rt.alloc());
-    let written =
-        write_citations(&mut cited, &database, &columns, &citations, None, false, Form::Two);
+    let written = write_citations(
+        &mut cited,
+        &database,
+        &columns,
+        &citations,
+        None,
+        false,
+        Form::Two,
+    );
     assert!(&rt; written.is_ok());
     assert!(&rt;
         cited.as_slice()
-            == b"mmdepend 2\naxioms 2\ntheorems 1\ncitations\nwi2:1:wi\nend\n".as_slice());
+            == b"mmdepend 2\naxioms 2\ntheorems 1\ncitations\nwi2:1:wi\nend\n".as_slice()
+    );
     Ok(())
 }
 

@@ -76,21 +76,6 @@ pub(crate) fn through_a_theorem(alloc: Global) -> Result<Vec<u8>, AllocError> {
     Ok(text)
 }
 
-/// That theorem in compressed form, with an axiom that its proof mentions and doesn't cite.
-pub(crate) fn mentioning(alloc: Global) -> Result<Vec<u8>, AllocError> {
-    joined(
-        alloc,
-        &[
-            BASE,
-            DETACHMENT,
-            b"ax-u $a |- ( p -> p ) $.\n",
-            CONSEQUENT,
-            b"( wi ax-u ax-1 ax-mp ) ABADCABFG",
-            CLOSE,
-        ],
-    )
-}
-
 /// Adds the decimal digits of a number below a thousand.
 pub(crate) fn add_number(text: &mut Vec<u8>, number: u32) -> Result<(), AllocError> {
     let digits = b"0123456789";
@@ -113,6 +98,25 @@ pub(crate) fn seventy(alloc: Global) -> Result<Vec<u8>, AllocError> {
         text.extend_from_slice(b" $a wff p $.\n")?;
     }
     text.extend_from_slice(b"t $p wff p $= wp a0 a63 a64 a69 $.\nu $p wff p $= wp t a1 $.\n")?;
+    Ok(text)
+}
+
+/// A theorem, and 129 more, each of which cites the one before it.
+pub(crate) fn chain(alloc: Global) -> Result<Vec<u8>, AllocError> {
+    let mut text = joined(
+        alloc,
+        &[
+            BASE,
+            b"t0 $p wff ( p -> ( q -> p ) ) $= wp wq wp wi wi $.\n",
+        ],
+    )?;
+    for k in 1..130 {
+        text.push(b't')?;
+        add_number(&mut text, k)?;
+        text.extend_from_slice(b" $p wff ( p -> ( q -> p ) ) $= wp wq t")?;
+        add_number(&mut text, k - 1)?;
+        text.extend_from_slice(b" $.\n")?;
+    }
     Ok(text)
 }
 

@@ -60,44 +60,30 @@ fn many_cite_one<R: Abort>(rt: &R, citations: &Citations<Global>) {
 }
 
 #[test]
-fn what_theorems_cite(rt: HostRuntime) -> Result<(), AllocError> {
-    let text = through_a_theorem(rt.alloc())?;
+fn two_theorems_by_any_workers(rt: HostRuntime) -> Result<(), AllocError> {
+    let valid = through_a_theorem(rt.alloc())?;
+    let faulty = joined(rt.alloc(), &[BASE, LONG, SHORT])?;
     for workers in [1, 2, 64] {
-        match judged(&rt, rt.alloc(), &text, workers, false, &Open)? {
+        match judged(&rt, rt.alloc(), &valid, workers, false, &Open)? {
             Judged::Valid(citations) => cites_through_a_theorem(&rt, &citations),
             Judged::Faulty(fault) => panic!(&rt; "a fault at {}", fault.at),
         }
-    }
-    Ok(())
-}
-
-#[test]
-fn the_first_of_two_faults(rt: HostRuntime) -> Result<(), AllocError> {
-    let text = joined(rt.alloc(), &[BASE, LONG, SHORT])?;
-    for workers in [1, 2, 64] {
-        let found = judged(&rt, rt.alloc(), &text, workers, false, &Open)?;
+        let found = judged(&rt, rt.alloc(), &faulty, workers, false, &Open)?;
         assert!(&rt; is_refused(&found, BASE.len() as u32 + 47, Code::NotOneEntry));
     }
     Ok(())
 }
 
 #[test]
-fn many_theorems(rt: HostRuntime) -> Result<(), AllocError> {
-    let text = many(rt.alloc(), &[])?;
+fn many_theorems_by_any_workers(rt: HostRuntime) -> Result<(), AllocError> {
+    let valid = many(rt.alloc(), &[])?;
+    let faulty = many(rt.alloc(), &[2000, 2900])?;
     for workers in [1, 2, 64] {
-        match judged(&rt, rt.alloc(), &text, workers, false, &Open)? {
+        match judged(&rt, rt.alloc(), &valid, workers, false, &Open)? {
             Judged::Valid(citations) => many_cite_one(&rt, &citations),
             Judged::Faulty(fault) => panic!(&rt; "a fault at {}", fault.at),
         }
-    }
-    Ok(())
-}
-
-#[test]
-fn the_first_fault_of_many_theorems(rt: HostRuntime) -> Result<(), AllocError> {
-    let text = many(rt.alloc(), &[2000, 2900])?;
-    for workers in [1, 2, 64] {
-        let found = judged(&rt, rt.alloc(), &text, workers, false, &Open)?;
+        let found = judged(&rt, rt.alloc(), &faulty, workers, false, &Open)?;
         assert!(&rt; is_refused(&found, MANY_FAULT_AT, Code::NotOneEntry));
     }
     Ok(())

@@ -1,87 +1,74 @@
-//! Tests of runs: what is written for a text, and how the run ends.
+//! Tests of runs: tables of command lines and texts, each with what is written for it.
 
-mod checking;
-mod compressed;
-mod ends;
+mod cuts;
 mod faults;
 mod many;
-mod open_theorems;
-mod options;
 mod reports;
 
-use mm_plan::{Cutting, Plan};
+use crate::texts::joined;
+use mm_line::line;
 use mm_run::{RunEnd, run};
-use mm_spec::{Choice, Form};
-use std::alloc::Global;
+use std::alloc::{AllocError, Global};
+use std::process::Abort;
 use std::sync::Wait;
 use std::thread::Threads;
 
-/// A plan of four workers that cuts the text in this way.
-fn plan(cuts: Cutting<Global>) -> Plan<Global> {
-    Plan {
-        cuts,
-        workers: 4,
-        only: None,
-        choice: Choice::All,
-        form: Form::One,
-        essential: false,
-        with_open: false,
-    }
+/// The command line without options.
+const PLAIN: &[&str] = &["mmdepend"];
+
+/// A run: its command line, the parts of its text, and what it writes.
+#[derive(Clone, Copy)]
+struct Case<'a> {
+    words: &'a [&'a str],
+    parts: &'a [&'a [u8]],
+    output: &'a [u8],
 }
 
-/// Whether a run by the plan has this end and writes these bytes.
-fn has_end<R: Threads + Wait + Sync>(
-    rt: &R,
-    alloc: Global,
-    plan: &Plan<Global>,
-    mut text: &[u8],
-    end: RunEnd,
-    output: &[u8],
-) -> bool {
-    let mut written = Vec::new(alloc);
-    plan.is_lawful()
-        && run(rt, alloc, plan, &mut text, &mut written) == end
-        && written.as_slice() == output
-}
-
-/// Whether runs by the plan with 1, with 2 and with 64 workers all have this end and write these
-/// bytes.
-fn end_with_any_workers<R: Threads + Wait + Sync>(
-    rt: &R,
-    alloc: Global,
-    mut plan: Plan<Global>,
-    text: &[u8],
-    end: RunEnd,
-    output: &[u8],
-) -> bool {
-    for workers in [1, 2, 64] {
-        plan.workers = workers;
-        if !has_end(rt, alloc, &plan, text, end, output) {
-            return false;
-        }
-    }
-    true
-}
-
-/// Whether a run on the text, cut in this way, has this end and writes these bytes.
+/// Whether a run by this command line writes these bytes for the text, and ends as they begin.
 fn writes<R: Threads + Wait + Sync>(
     rt: &R,
     alloc: Global,
-    cuts: Cutting<Global>,
-    text: &[u8],
-    end: RunEnd,
+    words: &[&str],
+    mut text: &[u8],
     output: &[u8],
 ) -> bool {
-    has_end(rt, alloc, &plan(cuts), text, end, output)
+    match line(alloc, words) {
+        Ok(line) => {
+            let mut written = Vec::new(alloc);
+            let end = run(rt, alloc, &line.plan, &mut text, &mut written);
+            written.as_slice() == output
+                && (end == RunEnd::Accepted) == output.starts_with(b"mmdepend ")
+        }
+        Err(_) => false,
+    }
 }
 
-/// Whether a run on the text writes these bytes.
-fn prints<R: Threads + Wait + Sync>(rt: &R, alloc: Global, mut text: &[u8], output: &[u8]) -> bool {
-    let plan = plan(Cutting::Count(4));
-    let mut written = Vec::new(alloc);
-    if !plan.is_lawful() {
-        return false;
+/// Asserts that each run writes what its case says.
+fn all_write<R: Abort + Threads + Wait + Sync>(
+    rt: &R,
+    alloc: Global,
+    cases: &[Case],
+) -> Result<(), AllocError> {
+    for case in cases {
+        let text = joined(alloc, case.parts)?;
+        assert!(rt; writes(rt, alloc, case.words, &text, case.output));
     }
-    let _ = run(rt, alloc, &plan, &mut text, &mut written);
-    written.as_slice() == output
+    Ok(())
+}
+
+/// Asserts what is written for texts that differ in one part alone: each row has that part and what
+/// is written.
+fn each_writes<R: Abort + Threads + Wait + Sync>(
+    rt: &R,
+    alloc: Global,
+    words: &[&str],
+    before: &[u8],
+    rows: &[(&[u8], &[u8])],
+    after: &[u8],
+) -> Result<(), AllocError> {
+    for (part, output) in rows {
+        let text = joined(alloc, &[before, part, after])?;
+        assert!(rt; writes(rt, alloc, words, &text, output));
+    }
+    Ok(())
 }

@@ -1,48 +1,309 @@
-//! What reports show: the chosen sections and columns, and rows of more than one word.
+//! What reports show: the chosen sections and columns, citations by essential nodes, open theorems,
+//! the second form, and direct citations.
 
-use super::{has_end, plan};
-use crate::databases::database_of;
-use crate::texts::{BASE, add_number, consequent, joined, seventy, through_a_theorem};
-use mm_plan::Cutting;
-use mm_rows::waves;
-use mm_run::RunEnd;
-use mm_spec::Choice;
-use mm_work::{Judged, Open, check_all};
+use super::{Case, PLAIN, all_write, writes};
+use crate::texts::{
+    BASE, CLOSE, CONSEQUENT, CONSEQUENT_PROOF, CONSEQUENT_REPORT, DETACHMENT, FIRST_REPORT,
+    FIRST_TEXT, NOTHING_REPORT, SAME, THROUGH, THROUGH_REPORT, add_number, chain, joined, seventy,
+};
 use std::alloc::{AllocError, Global};
-use std::sync::Wait;
-use std::thread::Threads;
 
-/// Whether a run on the text with this typecode and this choice of sections writes these bytes.
-fn shows<R: Threads + Wait + Sync>(
-    rt: &R,
-    alloc: Global,
-    text: &[u8],
-    only: Option<&str>,
-    choice: Choice,
-    output: &[u8],
-) -> Result<bool, AllocError> {
-    let only = match only {
-        Some(typecode) => Some(typecode.to_string(alloc)?),
-        None => None,
-    };
-    let mut plan = plan(Cutting::Count(4));
-    plan.only = only;
-    plan.choice = choice;
-    Ok(has_end(rt, alloc, &plan, text, RunEnd::Accepted, output))
+/// A text with a theorem, `a1i`.
+const ONE: &[&[u8]] = &[BASE, DETACHMENT, CONSEQUENT, CONSEQUENT_PROOF, CLOSE];
+
+/// The same, and a theorem that rests on it, `a2`.
+const TWO: &[&[u8]] = &[
+    BASE,
+    DETACHMENT,
+    CONSEQUENT,
+    CONSEQUENT_PROOF,
+    CLOSE,
+    THROUGH,
+];
+
+/// The first of them in compressed form, with an axiom that its proof mentions and doesn't cite.
+const MENTIONING: &[&[u8]] = &[
+    BASE,
+    DETACHMENT,
+    b"ax-u $a |- ( p -> p ) $.\n",
+    CONSEQUENT,
+    b"( wi ax-u ax-1 ax-mp ) ABADCABFG",
+    CLOSE,
+];
+
+#[test]
+fn sections_and_columns(rt: HostRuntime) -> Result<(), AllocError> {
+    let cases = [
+        Case {
+            words: PLAIN,
+            parts: &[FIRST_TEXT],
+            output: FIRST_REPORT,
+        },
+        Case {
+            words: PLAIN,
+            parts: &[],
+            output: NOTHING_REPORT,
+        },
+        Case {
+            words: PLAIN,
+            parts: TWO,
+            output: THROUGH_REPORT,
+        },
+        Case {
+            words: PLAIN,
+            parts: &[SAME],
+            output: b"mmdepend 1\naxioms 0\ntheorems 1\nmatrix\nsame:\ncounts\nsame:0\nusage\nend\n",
+        },
+        Case {
+            words: PLAIN,
+            parts: MENTIONING,
+            output: b"mmdepend 1\naxioms 4\ntheorems 1\nmatrix\na1i:1110\ncounts\na1i:3\nusage\nwi:1:a1i\nax-1:1:a1i\nax-mp:1:a1i\nax-u:0:\nend\n",
+        },
+        Case {
+            words: &["mmdepend", "--only", "|-", "--report", "counts"],
+            parts: TWO,
+            output: b"mmdepend 1\naxioms 2\ntheorems 2\ncounts\na1i:2\na2:2\nend\n",
+        },
+        Case {
+            words: &["mmdepend", "--only", "|-", "--report", "matrix"],
+            parts: ONE,
+            output: b"mmdepend 1\naxioms 2\ntheorems 1\nmatrix\na1i:11\nend\n",
+        },
+        Case {
+            words: &["mmdepend", "--only", "x", "--report", "usage"],
+            parts: ONE,
+            output: b"mmdepend 1\naxioms 0\ntheorems 1\nusage\nend\n",
+        },
+    ];
+    all_write(&rt, rt.alloc(), &cases)
+}
+
+const LOGICAL_REPORT: &[u8] =
+    b"mmdepend 1\naxioms 3\ntheorems 1\nmatrix\na1i:011\ncounts\na1i:2\nusage\nwi:0:\nax-1:1:a1i\nax-mp:1:a1i\nend\n";
+
+// The step `wi` of the last proof stands first for a `$f`, and is used again for the `$e`.
+#[test]
+fn citations_by_essential_nodes(rt: HostRuntime) -> Result<(), AllocError> {
+    let words: &[&str] = &["mmdepend", "--essential"];
+    let cases = [
+        Case {
+            words,
+            parts: ONE,
+            output: LOGICAL_REPORT,
+        },
+        Case {
+            words,
+            parts: &[
+                BASE,
+                DETACHMENT,
+                CONSEQUENT,
+                b"( wi ax-1 ax-mp ) ABADCA BEF",
+                CLOSE,
+            ],
+            output: LOGICAL_REPORT,
+        },
+        Case {
+            words,
+            parts: &[
+                BASE,
+                DETACHMENT,
+                CONSEQUENT,
+                b"( wi ax-1 ax-mp ) ABADZZCABEF",
+                CLOSE,
+            ],
+            output: LOGICAL_REPORT,
+        },
+        Case {
+            words,
+            parts: &[FIRST_TEXT],
+            output: FIRST_REPORT,
+        },
+        Case {
+            words: &["mmdepend", "--essential", "--report", "matrix"],
+            parts: TWO,
+            output: b"mmdepend 1\naxioms 3\ntheorems 2\nmatrix\na1i:011\na2:011\nend\n",
+        },
+        Case {
+            words: &["mmdepend", "--essential", "--report", "counts"],
+            parts: TWO,
+            output: b"mmdepend 1\naxioms 3\ntheorems 2\ncounts\na1i:2\na2:2\nend\n",
+        },
+        Case {
+            words,
+            parts: &[
+                BASE,
+                b"${ e1 $e wff p $. ax-w $a wff p $. $}\n",
+                b"s $p wff ( p -> q ) $= ( wi ax-w ) ABCZED $.\n",
+            ],
+            output: b"mmdepend 1\naxioms 3\ntheorems 1\nmatrix\ns:101\ncounts\ns:2\nusage\nwi:1:s\nax-1:0:\nax-w:1:s\nend\n",
+        },
+    ];
+    all_write(&rt, rt.alloc(), &cases)
 }
 
 #[test]
-fn columns_of_a_typecode_alone(rt: HostRuntime) -> Result<(), AllocError> {
+fn the_second_form(rt: HostRuntime) -> Result<(), AllocError> {
+    let words: &[&str] = &["mmdepend", "--form", "2", "--report", "matrix"];
     let alloc = rt.alloc();
-    let one = consequent(alloc)?;
-    let two = through_a_theorem(alloc)?;
-    let counts = b"mmdepend 1\naxioms 2\ntheorems 2\ncounts\na1i:2\na2:2\nend\n".as_slice();
-    assert!(&rt; shows(&rt, alloc, &two, Some("|-"), Choice::Counts, counts)?);
-    let matrix = b"mmdepend 1\naxioms 2\ntheorems 1\nmatrix\na1i:11\nend\n".as_slice();
-    assert!(&rt; shows(&rt, alloc, &one, Some("|-"), Choice::Matrix, matrix)?);
-    let usage = b"mmdepend 1\naxioms 0\ntheorems 1\nusage\nend\n".as_slice();
-    assert!(&rt; shows(&rt, alloc, &one, Some("x"), Choice::Usage, usage)?);
+    let cases = [
+        Case {
+            words,
+            parts: &[FIRST_TEXT],
+            output: b"mmdepend 2\naxioms 2\ntheorems 1\nmatrix\nwi2:8\nend\n",
+        },
+        Case {
+            words,
+            parts: ONE,
+            output: b"mmdepend 2\naxioms 3\ntheorems 1\nmatrix\na1i:e\nend\n",
+        },
+        Case {
+            words,
+            parts: MENTIONING,
+            output: b"mmdepend 2\naxioms 4\ntheorems 1\nmatrix\na1i:e\nend\n",
+        },
+        Case {
+            words: &["mmdepend", "--form", "2"],
+            parts: &[SAME],
+            output: b"mmdepend 2\naxioms 0\ntheorems 1\nmatrix\nsame:\ncounts\nsame:0\nusage\nend\n",
+        },
+    ];
+    all_write(&rt, alloc, &cases)?;
+    let digits =
+        b"mmdepend 2\naxioms 70\ntheorems 2\nmatrix\nt:800000000000000184\nu:c00000000000000184\nend\n";
+    assert!(&rt; writes(&rt, alloc, words, &seventy(alloc)?, digits));
     Ok(())
+}
+
+#[test]
+fn direct_citations(rt: HostRuntime) -> Result<(), AllocError> {
+    let words: &[&str] = &["mmdepend", "--report", "citations"];
+    let logical: &[&str] = &["mmdepend", "--report", "citations", "--only", "|-"];
+    let essential: &[&str] = &["mmdepend", "--report", "citations", "--essential"];
+    let cases = [
+        Case {
+            words,
+            parts: TWO,
+            output: b"mmdepend 1\naxioms 3\ntheorems 2\ncitations\na1i:3:wi ax-1 ax-mp\na2:2:wi a1i\nend\n",
+        },
+        Case {
+            words: logical,
+            parts: TWO,
+            output: b"mmdepend 1\naxioms 2\ntheorems 2\ncitations\na1i:2:ax-1 ax-mp\na2:1:a1i\nend\n",
+        },
+        Case {
+            words: essential,
+            parts: TWO,
+            output: b"mmdepend 1\naxioms 3\ntheorems 2\ncitations\na1i:2:ax-1 ax-mp\na2:1:a1i\nend\n",
+        },
+        Case {
+            words: &["mmdepend", "--report", "citations", "--only", "x"],
+            parts: ONE,
+            output: b"mmdepend 1\naxioms 0\ntheorems 1\ncitations\na1i:0:\nend\n",
+        },
+        Case {
+            words,
+            parts: &[],
+            output: b"mmdepend 1\naxioms 0\ntheorems 0\ncitations\nend\n",
+        },
+        Case {
+            words: &["mmdepend", "--report", "citations", "--form", "2"],
+            parts: &[FIRST_TEXT],
+            output: b"mmdepend 2\naxioms 2\ntheorems 1\ncitations\nwi2:1:wi\nend\n",
+        },
+    ];
+    all_write(&rt, rt.alloc(), &cases)
+}
+
+/// An open theorem, `o`, and one that cites it, `u`.
+const OPEN: &[&[u8]] = &[
+    BASE,
+    DETACHMENT,
+    b"o $p |- ( p -> p ) $= ? $.\nu $p |- ( p -> p ) $= wp o $.\n",
+];
+
+/// The same, with the proof of `o` in the other form.
+const OPEN_IN_BRACKETS: &[&[u8]] = &[
+    BASE,
+    DETACHMENT,
+    b"o $p |- ( p -> p ) $= ( ) ? $.\nu $p |- ( p -> p ) $= wp o $.\n",
+];
+
+const OPEN_REPORT: &[u8] =
+    b"mmdepend 1\naxioms 4\nopen 1\ntheorems 1\nmatrix\nu:0001\ncounts\nu:1\nusage\nwi:0:\nax-1:0:\nax-mp:0:\no:1:u\nend\n";
+
+const OPEN_REPORT_IN_THE_SECOND_FORM: &[u8] =
+    b"mmdepend 2\naxioms 4\nopen 1\ntheorems 1\nmatrix\nu:1\ncounts\nu:1\nusage\nwi:0:\nax-1:0:\nax-mp:0:\no:1:u\nend\n";
+
+// The citation by which `u` rests on `o` is essential, so the flag for these changes nothing.
+#[test]
+fn open_theorems_are_columns(rt: HostRuntime) -> Result<(), AllocError> {
+    let words: &[&str] = &["mmdepend", "--open"];
+    let cases = [
+        Case {
+            words,
+            parts: OPEN,
+            output: OPEN_REPORT,
+        },
+        Case {
+            words,
+            parts: OPEN_IN_BRACKETS,
+            output: OPEN_REPORT,
+        },
+        Case {
+            words: &["mmdepend", "--open", "--only", "wff", "--report", "counts"],
+            parts: OPEN,
+            output: b"mmdepend 1\naxioms 1\nopen 0\ntheorems 1\ncounts\nu:0\nend\n",
+        },
+        Case {
+            words: &["mmdepend", "--open", "--only", "|-", "--report", "counts"],
+            parts: OPEN,
+            output: b"mmdepend 1\naxioms 3\nopen 1\ntheorems 1\ncounts\nu:1\nend\n",
+        },
+        Case {
+            words,
+            parts: &[],
+            output: b"mmdepend 1\naxioms 0\nopen 0\ntheorems 0\nmatrix\ncounts\nusage\nend\n",
+        },
+        Case {
+            words: &["mmdepend", "--open", "--form", "2"],
+            parts: OPEN,
+            output: OPEN_REPORT_IN_THE_SECOND_FORM,
+        },
+        Case {
+            words: &["mmdepend", "--open", "--form", "2", "--essential"],
+            parts: OPEN,
+            output: OPEN_REPORT_IN_THE_SECOND_FORM,
+        },
+        Case {
+            words: &["mmdepend", "--open", "--report", "citations"],
+            parts: OPEN,
+            output: b"mmdepend 1\naxioms 4\nopen 1\ntheorems 1\ncitations\nu:1:o\nend\n",
+        },
+    ];
+    all_write(&rt, rt.alloc(), &cases)
+}
+
+#[test]
+fn other_incomplete_proofs_are_refused(rt: HostRuntime) -> Result<(), AllocError> {
+    let words: &[&str] = &["mmdepend", "--open"];
+    let cases = [
+        Case {
+            words: PLAIN,
+            parts: OPEN,
+            output: b"refused 8:23 E32\n",
+        },
+        Case {
+            words,
+            parts: &[BASE, DETACHMENT, b"v $p |- ( p -> p ) $= wp ? $.\n"],
+            output: b"refused 8:26 E32\n",
+        },
+        Case {
+            words,
+            parts: &[BASE, DETACHMENT, b"v $p |- ( p -> p ) $= ? ? $.\n"],
+            output: b"refused 8:23 E32\n",
+        },
+    ];
+    all_write(&rt, rt.alloc(), &cases)
 }
 
 /// The report on seventy axioms and two theorems: a row of marks for each, and the axioms that they
@@ -76,59 +337,7 @@ fn rows_of_more_than_a_word(rt: HostRuntime) -> Result<(), AllocError> {
     let alloc = rt.alloc();
     let text = seventy(alloc)?;
     let report = seventy_report(alloc)?;
-    assert!(&rt; shows(&rt, alloc, &text, None, Choice::All, &report)?);
-    Ok(())
-}
-
-/// A theorem, and 129 more, each of which cites the one before it.
-fn chain(alloc: Global) -> Result<Vec<u8>, AllocError> {
-    let mut text = joined(
-        alloc,
-        &[
-            BASE,
-            b"t0 $p wff ( p -> ( q -> p ) ) $= wp wq wp wi wi $.\n",
-        ],
-    )?;
-    for k in 1..130 {
-        text.push(b't')?;
-        add_number(&mut text, k)?;
-        text.extend_from_slice(b" $p wff ( p -> ( q -> p ) ) $= wp wq t")?;
-        add_number(&mut text, k - 1)?;
-        text.extend_from_slice(b" $.\n")?;
-    }
-    Ok(text)
-}
-
-/// The waves of the theorems of a text without a fault.
-fn waves_of<R: Threads + Wait + Sync>(
-    rt: &R,
-    alloc: Global,
-    text: &[u8],
-) -> Result<Vec<u32>, AllocError> {
-    let database = database_of(rt, alloc, text, false)?;
-    match check_all(rt, alloc, &database, 1, false, &Open)? {
-        Judged::Valid(citations) => waves(alloc, &citations),
-        Judged::Faulty(_) => Ok(Vec::new(alloc)),
-    }
-}
-
-#[test]
-fn waves_are_the_longest_chains(rt: HostRuntime) -> Result<(), AllocError> {
-    let alloc = rt.alloc();
-    let through = through_a_theorem(alloc)?;
-    assert_eq!(rt;
-        waves_of(&rt, alloc, &through)?.as_slice(),
-        [0, 1].as_slice()
-    );
-    assert_eq!(rt;
-        waves_of(&rt, alloc, &seventy(alloc)?)?.as_slice(),
-        [0, 1].as_slice()
-    );
-    let chained = waves_of(&rt, alloc, &chain(alloc)?)?;
-    assert_eq!(rt; chained.len(), 130);
-    for (row, wave) in chained.iter().enumerate() {
-        assert_eq!(rt; *wave as usize, row);
-    }
+    assert!(&rt; writes(&rt, alloc, PLAIN, &text, &report));
     Ok(())
 }
 
@@ -143,6 +352,7 @@ fn a_chain_has_the_same_row_all_along(rt: HostRuntime) -> Result<(), AllocError>
         report.extend_from_slice(b":10\n")?;
     }
     report.extend_from_slice(b"end\n")?;
-    assert!(&rt; shows(&rt, alloc, &text, None, Choice::Matrix, &report)?);
+    let words = ["mmdepend", "--report", "matrix"];
+    assert!(&rt; writes(&rt, alloc, &words, &text, &report));
     Ok(())
 }

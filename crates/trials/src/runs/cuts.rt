@@ -1,0 +1,75 @@
+//! What is written doesn't depend on where a text is cut.
+
+use super::{PLAIN, writes};
+use crate::texts::{FIRST_REPORT, FIRST_TEXT, THROUGH_REPORT, joined, through_a_theorem};
+use mm_plan::{Cutting, Plan};
+use mm_run::{RunEnd, run};
+use mm_spec::{Choice, Form};
+use std::alloc::{AllocError, Global};
+use std::sync::Wait;
+use std::thread::Threads;
+
+/// Whether a run that cuts the text at these places accepts it and writes this report.
+fn reports<R: Threads + Wait + Sync>(
+    rt: &R,
+    alloc: Global,
+    places: &[u32],
+    mut text: &[u8],
+    report: &[u8],
+) -> Result<bool, AllocError> {
+    let plan = Plan {
+        cuts: Cutting::Places(places.to_vec(alloc)?),
+        workers: 4,
+        only: None,
+        choice: Choice::All,
+        form: Form::One,
+        essential: false,
+        with_open: false,
+    };
+    let mut written = Vec::new(alloc);
+    Ok(
+        plan.is_lawful()
+            && run(rt, alloc, &plan, &mut text, &mut written) == RunEnd::Accepted
+            && written.as_slice() == report,
+    )
+}
+
+// In the second text one theorem cites the other, and each stands in a block with a hypothesis.
+#[test]
+fn every_cut_gives_the_same_report(rt: HostRuntime) -> Result<(), AllocError> {
+    let alloc = rt.alloc();
+    for place in 1..170 {
+        assert!(&rt; reports(&rt, alloc, &[place], FIRST_TEXT, FIRST_REPORT)?);
+    }
+    let text = through_a_theorem(alloc)?;
+    for place in 0..=339 {
+        assert!(&rt; reports(&rt, alloc, &[place], &text, THROUGH_REPORT)?);
+    }
+    Ok(())
+}
+
+/// The text with the first theorem, and a comment with keywords before that theorem.
+const WITH_COMMENT: &[u8] =
+    b"$c wff |- ( -> ) $.\n$v p q $.\nwp $f wff p $.\nwq $f wff q $.\nwi $a wff ( p -> q ) $.\nax-1 $a |- ( p -> ( q -> p ) ) $.\n$( a $c b $)\nwi2 $p wff ( p -> ( q -> p ) ) $= wp wq wp wi wi $.\n";
+
+#[test]
+fn cuts_in_words_give_the_same_report(rt: HostRuntime) -> Result<(), AllocError> {
+    let alloc = rt.alloc();
+    assert!(&rt; reports(&rt, alloc, &[119, 124, 129], WITH_COMMENT, FIRST_REPORT)?);
+    let symbol = [97u8; 300];
+    let text = joined(alloc, &[b"$c ", &symbol, b" $.\nx $a ", &symbol, b" $.\n"])?;
+    let report = b"mmdepend 1\naxioms 1\ntheorems 0\nmatrix\ncounts\nusage\nx:0:\nend\n";
+    assert!(&rt; reports(&rt, alloc, &[64, 128, 200, 200], &text, report)?);
+    Ok(())
+}
+
+// Without its last line feed, so that the text ends 63, 0 and 1 bytes after a whole block of 64.
+#[test]
+fn spaces_in_front_change_nothing(rt: HostRuntime) -> Result<(), AllocError> {
+    let spaces = [32u8; 24];
+    for count in [22, 23, 24] {
+        let text = joined(rt.alloc(), &[&spaces[..count], &FIRST_TEXT[..169]])?;
+        assert!(&rt; writes(&rt, rt.alloc(), PLAIN, &text, FIRST_REPORT));
+    }
+    Ok(())
+}
