@@ -2,6 +2,7 @@
 
 import argparse
 from collections.abc import Sequence
+from dataclasses import replace
 
 from query.commands import Command
 from query.context import Context
@@ -11,13 +12,22 @@ from query.options import add_choice_of_axioms, add_database, options_of
 
 RESTS_PAGE = """
 Lists in file order the axioms on which the proofs of the LABELs rest: those that a proof applies,
-and those of the theorems that it applies. An axiom rests on itself. With --theorems, the theorems
-on which they rest instead.
+and those of the theorems that it applies. An axiom rests on itself.
 
-axiom    the label of the axiom, or theorem
+axiom    the label of the axiom
+
+With --theorems, the theorems on which they rest instead:
+
+theorem  the label of the theorem
+
+With --apart, the axioms of every typecode, those of one typecode (|- or that of --only) apart:
+
+kind     logic: an axiom of this typecode; syntax: another one
+axiom    the label of the axiom
 
   $ mmquery rests set.mm 2p2e4 --axioms ax-
   $ mmquery rests --all set.mm 2p2e4
+  $ mmquery rests --apart set.mm 2p2e4
 """
 
 FALLS_PAGE = """
@@ -26,8 +36,9 @@ have to be found anew where a LABEL is dropped. A theorem doesn't rest on itself
 
 theorem  the label of the theorem
 
-With several LABELs, what rests on any one of them (--any-of, the default), or on each of them
-(--all-of). --without LABEL leaves out what rests on that one too; it may be given several times.
+With --only or --axioms, a LABEL that is an axiom has to be one of those. With several LABELs, what
+rests on any one of them (--any-of, the default), or on each of them (--all-of). --without LABEL
+leaves out what rests on that one too; it may be given several times.
 
   $ mmquery falls set.mm ax-ac2
   $ mmquery falls set.mm ax-reg ax-inf2 --all-of
@@ -39,8 +50,10 @@ def configure_rests(parser: argparse.ArgumentParser) -> None:
     """The words and options of `rests`."""
     add_database(parser)
     parser.add_argument("labels", metavar="LABEL", nargs="+")
-    parser.add_argument(
-        "--theorems", action="store_true", help="list theorems, not axioms, that are rested on"
+    group = parser.add_mutually_exclusive_group()
+    group.add_argument("--theorems", action="store_true", help="list theorems instead of axioms")
+    group.add_argument(
+        "--apart", action="store_true", help="list all axioms, logic and syntax apart"
     )
     add_choice_of_axioms(parser)
 
@@ -54,13 +67,32 @@ def run_rests(context: Context, arguments: argparse.Namespace) -> int:
         below = graph.below(cited for node in nodes for cited in graph.cites[node])
         found = [graph.labels[node] for node in sorted(below) if graph.is_theorem(node)]
         context.out.table(["theorem"], [[label] for label in found])
-        return 0
+    elif arguments.apart:
+        put_apart(context, database, arguments.labels)
+    else:
+        axioms = axioms_of(database, arguments.labels)
+        context.out.table(["axiom"], [[label] for label in axioms])
+    return 0
+
+
+def axioms_of(database: Database, labels: Sequence[str]) -> list[str]:
+    """The chosen axioms on which assertions rest. NoAnswer where there is none of a label."""
     dependence = database.dependence()
     columns: set[int] = set()
-    for label in arguments.labels:
+    for label in labels:
         columns.update(rested_on(database, dependence, label))
-    context.out.table(["axiom"], [[dependence.axioms[column]] for column in sorted(columns)])
-    return 0
+    return [dependence.axioms[column] for column in sorted(columns)]
+
+
+def put_apart(context: Context, database: Database, labels: Sequence[str]) -> None:
+    """Answers `rests --apart`."""
+    logic = set(database.dependence().axioms)
+    database.text()  # NoAnswer where it is a report, whose axioms can't be told apart
+    every = Database(
+        database.source, replace(database.options, only=None), database.uses_cache, database.known
+    )
+    rows = [["logic" if each in logic else "syntax", each] for each in axioms_of(every, labels)]
+    context.out.table(["kind", "axiom"], rows)
 
 
 def rested_on(database: Database, dependence: Dependence, label: str) -> Sequence[int]:
@@ -90,17 +122,16 @@ def configure_falls(parser: argparse.ArgumentParser) -> None:
         default=[],
         help="leave out what rests on LABEL; may be given several times",
     )
-    parser.add_argument(
-        "--essential", action="store_true", help="only the logical part of proofs cites"
-    )
-    parser.add_argument(
-        "--open", action="store_true", help="a theorem whose proof is ? counts as an axiom"
-    )
+    add_choice_of_axioms(parser)
 
 
 def run_falls(context: Context, arguments: argparse.Namespace) -> int:
     """Answers `falls`."""
     database = context.database(arguments.database, options_of(arguments))
+    if arguments.only is not None or arguments.axioms or arguments.ignore_definitions:
+        for label in arguments.labels:
+            if label not in database.prepared(database.options.only).theorems:
+                database.dependence().column(label)  # NoAnswer where it isn't chosen
     sets = [users_of(database, label) for label in arguments.labels]
     found = set.intersection(*sets) if arguments.all_of else set.union(*sets)
     for label in arguments.without:
