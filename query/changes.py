@@ -8,13 +8,15 @@ reason.
 from __future__ import annotations
 
 from collections.abc import Iterator
-from concurrent.futures import ThreadPoolExecutor
 from dataclasses import dataclass
-from functools import cached_property
+from functools import cached_property, partial
 
-from query.database import Database, Dependence
+from query import cache
+from query.database import Database, Dependence, from_parts, to_parts
 from query.errors import NoAnswer
 from query.graph import Graph
+from query.parallel import Task
+from query.program import Refused
 from query.statements import Pairer, Pairing
 from query.text import Text, UnreadableText, read_text
 
@@ -22,11 +24,11 @@ from query.text import Text, UnreadableText, read_text
 class Side:
     """One of the two databases. `text` is None where it is a report, which has no statements."""
 
-    def __init__(self, database: Database, dependence: Dependence) -> None:
-        self.name = database.name
+    def __init__(self, dependence: Dependence, text: Text | None) -> None:
+        self.name = dependence.name
         self.dependence = dependence
         self.graph: Graph = dependence.graph
-        self.text: Text | None = None if database.is_report else text_of(database)
+        self.text = text
 
     def cites(self, label: str) -> frozenset[str]:
         """The labels that a theorem cites; none where this database has no such theorem."""
@@ -34,14 +36,9 @@ class Side:
         labels = self.graph.labels
         return frozenset() if node is None else frozenset(labels[i] for i in self.graph.cites[node])
 
-    @cached_property
-    def columns(self) -> dict[str, int]:
-        """The column of each axiom."""
-        return {label: column for column, label in enumerate(self.dependence.axioms)}
-
     def users(self, axiom: str) -> list[str]:
         """The theorems that rest on an axiom, in file order; none where it isn't one here."""
-        column = self.columns.get(axiom)
+        column = self.dependence.columns.get(axiom)
         theorems = self.dependence.theorems
         return [] if column is None else [theorems[row] for row in self.dependence.users(column)]
 
@@ -61,11 +58,52 @@ def text_of_side(side: Side) -> Text:
     return side.text
 
 
+def prepare(database: Database) -> bytes:
+    """What of a database takes time to find, as bytes for `take`; a refusal too."""
+    try:
+        return b"+" + cache.packed(to_parts(database.prepared(database.options.only)))
+    except Refused as refused:
+        return f"{refused.line} {refused.column} {refused.code}".encode()
+
+
+def take(database: Database, prepared: bytes) -> None:
+    """Gives a database what `prepare` found. Refused where it was refused."""
+    parts = cache.unpacked(prepared[1:]) if prepared[:1] == b"+" else None
+    if parts is None:
+        line, column, code = prepared.decode().split(" ")
+        raise Refused(database.source, int(line), int(column), code)
+    database.known[database.options.only] = from_parts(parts)
+
+
 def sides(old: Database, new: Database) -> tuple[Side, Side]:
-    """Both databases, verified at the same time."""
-    with ThreadPoolExecutor(2) as pool:
-        first, second = pool.submit(old.dependence), pool.submit(new.dependence)
-        return Side(old, first.result()), Side(new, second.result())
+    """Both databases, verified at the same time as their texts are read. Refused where one of them
+    is refused: if both are, OLD."""
+    both = (old, new)
+    tasks = [None if each.is_report else Task(partial(prepare, each)) for each in both]
+    try:
+        texts = [None if each.is_report else read_or_not(each) for each in both]
+        for each, task in zip(both, tasks):
+            if task is not None:
+                take(each, task.result())
+    finally:
+        for task in tasks:
+            if task is not None:
+                task.stop()
+    found = []
+    for each, text in zip(both, texts):
+        dependence = each.dependence()
+        if text is None and not each.is_report:
+            text = text_of(each)
+        found.append(Side(dependence, text))
+    return found[0], found[1]
+
+
+def read_or_not(database: Database) -> Text | None:
+    """The text; None where it can't be read, so that the program is asked why."""
+    try:
+        return read_text(database.text())
+    except UnreadableText:
+        return None
 
 
 @dataclass(frozen=True)
@@ -113,13 +151,36 @@ class Comparison:
         """For labels of OLD, that of the same assertion in NEW."""
         return {old: new for new, old in self.to_old.items()}
 
+    @cached_property
+    def _shifted(self) -> tuple[dict[str, list[str]], dict[str, list[str]]]:
+        """For each axiom the theorems of both that came to rest on it, by labels of NEW, and those
+        that no longer do, by labels of OLD."""
+        gained: dict[str, list[str]] = {}
+        lost: dict[str, list[str]] = {}
+        old, new = self.old.dependence, self.new.dependence
+        moves = Moves(old, new, self.to_old)
+        for row, label in enumerate(new.theorems):
+            was = self.to_old.get(label)
+            before = None if was is None else old.rows.get(was)
+            if was is None or before is None:
+                continue
+            came, went = moves.difference(old.bits(before), new.bits(row))
+            for axiom in came:
+                gained.setdefault(axiom, []).append(label)
+            for axiom in went:
+                lost.setdefault(axiom, []).append(was)
+        order = old.rows
+        for theorems in lost.values():
+            theorems.sort(key=order.__getitem__)
+        return gained, lost
+
     def gained(self, axiom: str) -> list[str]:
         """The theorems of both that rest on an axiom of NEW and in OLD didn't."""
-        return came(self.new.users(axiom), self.to_old, self.old.users(self.to_old.get(axiom, "")))
+        return self._shifted[0].get(axiom, [])
 
     def lost(self, axiom: str) -> list[str]:
         """The theorems of both that rested on an axiom of OLD and in NEW don't."""
-        return came(self.old.users(axiom), self.to_new, self.new.users(self.to_new.get(axiom, "")))
+        return self._shifted[1].get(axiom, [])
 
     def why_gained(self, axiom: str) -> Reasons:
         """For theorems of NEW that rest on an axiom, because of which new citation."""
@@ -139,10 +200,54 @@ class Comparison:
             yield Shift(theorem, axiom, *reasons.why(theorem))
 
 
-def came(users: list[str], there: dict[str, str], before: list[str]) -> list[str]:
-    """Those of the users that the other database has, but not among its users."""
-    rested = set(before)
-    return [user for user in users if user in there and there[user] not in rested]
+class Moves:
+    """Compares rows of marks of two databases, whose axioms have other columns.
+
+    A row is a number with a bit for each column. Columns that follow one another in both are moved
+    from one to the other at once.
+    """
+
+    def __init__(self, old: Dependence, new: Dependence, to_old: dict[str, str]) -> None:
+        self.old, self.new = old, new
+        self.runs: list[tuple[int, int]] = []
+        """The bits of a run in OLD, and how far left they stand in NEW."""
+        self.common = 0
+        for label in new.axioms:
+            before = old.columns.get(to_old.get(label, ""))
+            if before is not None:
+                bit, there = new.mask_of([new.columns[label]]), old.mask_of([before])
+                self.add(there, bit.bit_length() - there.bit_length())
+                self.common |= there
+        self.of_new = {new.mask_of([column]): label for label, column in new.columns.items()}
+        self.of_old = {old.mask_of([column]): label for label, column in old.columns.items()}
+        self.to_old = to_old
+
+    def add(self, bit: int, shift: int) -> None:
+        """Adds a bit of OLD to the last run, or as a new one."""
+        if self.runs and self.runs[-1][1] == shift:
+            self.runs[-1] = (self.runs[-1][0] | bit, shift)
+        else:
+            self.runs.append((bit, shift))
+
+    def difference(self, old: int, new: int) -> tuple[list[str], list[str]]:
+        """The axioms of a row of NEW that one of OLD lacks, and those of it that NEW lacks."""
+        moved = 0
+        for bits, shift in self.runs:
+            moved |= (old & bits) << shift if shift >= 0 else (old & bits) >> -shift
+        gone = old & ~self.common
+        if moved == new and not gone:
+            return [], []
+        came = [self.of_new[bit] for bit in bits_of(new & ~moved)]
+        went = [self.to_old[self.of_new[bit]] for bit in bits_of(moved & ~new)]
+        return came, went + [self.of_old[bit] for bit in bits_of(gone)]
+
+
+def bits_of(number: int) -> Iterator[int]:
+    """The bits of a number, the highest first."""
+    while number:
+        bit = 1 << (number.bit_length() - 1)
+        yield bit
+        number ^= bit
 
 
 def by_labels(old: list[str], new: list[str]) -> Pairing:

@@ -243,8 +243,8 @@ class Judge:
 
     def __init__(self, case: Case) -> None:
         self.case = case
-        self.rows = {label: row for row, label in enumerate(case.new.dependence.theorems)}
-        self.columns = case.new.columns
+        self.rows = case.new.dependence.rows
+        self.columns = case.new.dependence.columns
         self.known: dict[int, frozenset[int]] = {}
 
     def rests(self, row: int) -> frozenset[int]:

@@ -28,6 +28,11 @@ def forget(number: int) -> None:
     _to_do.pop(number, None)
 
 
+def forget_all() -> None:
+    """Takes back all that was registered: in a copy of the process, what the first one does."""
+    _to_do.clear()
+
+
 def _stop(number: int, _: FrameType | None) -> None:
     for other in STOPPING:
         signal.signal(other, signal.SIG_IGN)

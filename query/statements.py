@@ -109,13 +109,19 @@ class Pairer:
         return statement_of(self.old, old) == statement_of(self.new, new)
 
     @staticmethod
-    def written(text: Text, assertion: Assertion) -> tuple[bytes, ...]:
+    def written(text: Text, assertion: Assertion) -> list[bytes]:
         """The formula, the hypotheses and the `$d` as they stand in the text."""
-        stretches = [assertion.formula]
-        stretches += [text.hypotheses[number].formula for number in assertion.essential]
-        stretches.append((0, 0))
-        stretches += [text.disjoint[number] for number in assertion.disjoint]
-        return tuple(text.data[start:end] for start, end in stretches)
+        data = text.data
+        start, end = assertion.formula
+        parts = [data[start:end]]
+        for number in assertion.essential:
+            start, end = text.hypotheses[number].formula
+            parts.append(data[start:end])
+        parts.append(b"$d")
+        for number in assertion.disjoint:
+            start, end = text.disjoint[number]
+            parts.append(data[start:end])
+        return parts
 
     def pair(self, kind: str, old_cites: Cites, new_cites: Cites) -> Pairing:
         """Pairs the axioms (`a`) or the theorems (`p`)."""

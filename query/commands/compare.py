@@ -72,7 +72,7 @@ def shifts_of(comparison: Comparison, old: str | None, new: str | None) -> Itera
 def axioms_of(comparison: Comparison) -> list[tuple[str | None, str | None]]:
     """The axioms of both that are chosen, each by its labels in OLD and NEW: those of NEW in file
     order, and then those that only OLD has."""
-    old, new = comparison.old.columns, comparison.new.columns
+    old, new = comparison.old.dependence.columns, comparison.new.dependence.columns
     found: list[tuple[str | None, str | None]] = []
     for label in new:
         was = comparison.to_old.get(label)
@@ -85,7 +85,7 @@ def check(comparison: Comparison, labels: list[str]) -> None:
     """Raises NoAnswer where a label is no axiom of either database."""
     sides_of: tuple[Side, Side] = (comparison.old, comparison.new)
     for label in labels:
-        if not any(label in side.columns for side in sides_of):
+        if not any(label in side.dependence.columns for side in sides_of):
             names = " nor ".join(shown(side.name) for side in sides_of)
             raise NoAnswer(f"neither {names} has an axiom '{shown(label)}' among those chosen")
 

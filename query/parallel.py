@@ -1,0 +1,82 @@
+"""Work that another process does while this one goes on, since one of Python uses one processor."""
+
+from __future__ import annotations
+
+import os
+import signal
+from collections.abc import Callable
+from typing import NoReturn
+
+from query import signals
+from query.errors import NoAnswer
+
+DONE, WITHOUT_ANSWER = b"+", b"-"
+
+
+class Task:
+    """Work that was begun: a function that returns bytes, in a copy of this process.
+
+    What the work does to objects stays in the copy. Its standard output and error go nowhere.
+    """
+
+    def __init__(self, work: Callable[[], bytes]) -> None:
+        reading, writing = os.pipe()
+        self.process = os.fork()
+        if self.process == 0:
+            os.close(reading)
+            _do(work, writing)
+        os.close(writing)
+        self.reading = reading
+        self.is_over = False
+        self.number = signals.at_stop(self.kill)
+
+    def result(self) -> bytes:
+        """Waits for what the work returns. NoAnswer where it raised that, or ended otherwise."""
+        with open(self.reading, "rb", buffering=0) as file:
+            data = file.readall()
+        status = self.end()
+        if data[:1] == DONE and status == 0:
+            return data[1:]
+        if data[:1] == WITHOUT_ANSWER:
+            raise NoAnswer(data[1:].decode("utf-8", "surrogateescape"))
+        raise NoAnswer("out of memory" if status else "a process that helps ended too early")
+
+    def kill(self) -> None:
+        """Lets a signal end the work, where it isn't over."""
+        if not self.is_over:
+            os.kill(self.process, signal.SIGTERM)
+
+    def end(self) -> int:
+        """Waits for the end of the process. Returns its status, not 0 where a signal ended it."""
+        _, status = os.waitpid(self.process, 0)
+        self.is_over = True
+        signals.forget(self.number)
+        return status
+
+    def stop(self) -> None:
+        """Ends the work, where its result isn't wanted any more."""
+        if not self.is_over:
+            self.kill()
+            os.close(self.reading)
+            self.end()
+
+
+def _do(work: Callable[[], bytes], writing: int) -> NoReturn:
+    """Does the work, and writes its result or why there is none to a pipe."""
+    signals.forget_all()
+    nowhere = os.open(os.devnull, os.O_RDWR)
+    for number in range(3):
+        os.dup2(nowhere, number)
+    status = 0
+    try:
+        try:
+            data = DONE + work()
+        except NoAnswer as why:
+            data = WITHOUT_ANSWER + str(why).encode("utf-8", "surrogateescape")
+        view = memoryview(data)
+        while view:
+            view = view[os.write(writing, view) :]
+    except BaseException:
+        status = 2
+    finally:
+        os._exit(status)
