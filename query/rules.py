@@ -245,13 +245,14 @@ class Judge:
         self.case = case
         self.rows = case.new.dependence.rows
         self.columns = case.new.dependence.columns
-        self.known: dict[int, frozenset[int]] = {}
+        self.bits: dict[int, int] = {}
 
-    def rests(self, row: int) -> frozenset[int]:
-        """The columns on which a theorem rests."""
-        if row not in self.known:
-            self.known[row] = frozenset(self.case.new.dependence.rests(row))
-        return self.known[row]
+    def rests(self, row: int, column: int) -> bool:
+        """Whether a theorem rests on an axiom."""
+        dependence = self.case.new.dependence
+        if column not in self.bits:
+            self.bits[column] = dependence.mask_of([column])
+        return bool(dependence.bits(row) & self.bits[column])
 
     def judge(self, rule: str, claim: Claim, file: str) -> Iterator[Finding]:
         """What is wrong with a claim: all of it."""
@@ -269,7 +270,7 @@ class Judge:
                 if axiom in self.rows:
                     reason = f"'{axiom}' is a theorem, where an axiom is wanted"
                 yield Finding(rule, file, line, theorem, axiom, reason)
-            elif row is not None and column in self.rests(row):
+            elif row is not None and self.rests(row, column):
                 yield Finding(rule, file, line, theorem, axiom, self.reason(row, axiom))
 
     def reason(self, row: int, axiom: str) -> str:
@@ -281,7 +282,7 @@ class Judge:
             label = graph.labels[cited]
             if label == axiom:
                 return f"rests on {axiom}: it cites it"
-            if label in self.rows and column in self.rests(self.rows[label]):
+            if label in self.rows and self.rests(self.rows[label], column):
                 return f"rests on {axiom}: it cites {label}, which does"
         return f"rests on {axiom}"
 
