@@ -303,13 +303,15 @@ class CitationReader:
             words = fields(line)
             if words is None:
                 self.damaged(number, WRONG_COUNT)
-            cited = list(map(nodes.get, words))
-            if None in cited:
+            cited = [nodes.get(word, -1) for word in words]
+            if -1 in cited:
                 cited = [self.known(number, word) for word in words]
-            targets.extend(cited)  # type: ignore[arg-type]
+            targets.extend(cited)
             places.append(len(targets))
             if len(set(cited)) < len(cited):
                 self.damaged(number, "a label is there twice")
+            if not self.checker.has_one_source and not self.is_in_order(cited):
+                self.damaged(number, "the labels aren't in file order")
             nodes[self.found.theorems[number]] = number
         self.found.cites = Lists(places, targets)
         self.check_axioms()
@@ -330,6 +332,14 @@ class CitationReader:
             count = len(self.found.columns) + len(self.found.others)
             node = self.nodes[word] = len(self.found.theorems) + count - 1
         return node
+
+    def is_in_order(self, cited: list[int]) -> bool:
+        """Whether theorems, and axioms that are columns, are in file order among themselves."""
+        first = len(self.found.theorems)
+        last = first + len(self.found.columns)
+        theorems = [node for node in cited if node < first]
+        columns = [node for node in cited if first <= node < last]
+        return theorems == sorted(theorems) and columns == sorted(columns)
 
     def check_axioms(self) -> None:
         """There may not be more axioms than a head says."""
