@@ -1,10 +1,12 @@
 """The conditions of distinct variables as lines to be packed.
 
 The line of an assertion has three fields, separated by tabs: the groups of variables that must be
-distinct, the dummy variables of the proof, and the groups with dummy variables; `*` if each dummy
-variable must be distinct from all other variables. Groups are separated by `$`, variables by
-spaces. An assertion without conditions and dummy variables has an empty line.
+distinct, the dummy variables of the proof, and for each of these itself and those from which it
+must be distinct; `*` instead if that are all other variables. Groups are separated by `$`,
+variables by spaces. An assertion without conditions and dummy variables has an empty line.
 """
+
+from itertools import combinations
 
 from query.text import Assertion, Conditions, Pair, Text
 
@@ -15,11 +17,13 @@ class Grouping:
     """Makes groups of pairs: each pair is in one, and each two variables of a group are a pair."""
 
     def __init__(self, variables: dict[str, str]) -> None:
-        self.order = {variable: place for place, variable in enumerate(variables)}
+        codes = list(dict.fromkeys(variables.values()))
+        by_code = sorted(variables, key=lambda variable: codes.index(variables[variable]))
+        self.order = {variable: place for place, variable in enumerate(by_code)}
         self.known: dict[tuple[Pair, ...], Groups] = {}
 
     def groups(self, pairs: list[Pair]) -> Groups:
-        """The groups, each and all in the order of the `$f` statements."""
+        """The groups, each and all by typecodes and then in the order of the `$f` statements."""
         key = tuple(pairs)
         if key not in self.known:
             self.known[key] = self._grouped(pairs)
@@ -33,38 +37,46 @@ class Grouping:
         variables = sorted(near, key=self.order.__getitem__)
         made: list[tuple[str, ...]] = []
         covered: set[Pair] = set()
-        for place, first in enumerate(variables):
-            for second in variables[place + 1 :]:
-                if second not in near[first] or (first, second) in covered:
-                    continue
-                group = [first, second]
-                for other in variables:
-                    if all(other in near[member] for member in group):
-                        group.append(other)
-                group.sort(key=self.order.__getitem__)
-                covered.update((one, other) for one in group for other in group)
-                made.append(tuple(group))
+        for first, second in combinations(variables, 2):
+            if second not in near[first] or (first, second) in covered:
+                continue
+            group = [first, second]
+            left = near[first] & near[second]
+            for other in variables if left else ():
+                if other in left:
+                    group.append(other)
+                    left = left & near[other]
+            group.sort(key=self.order.__getitem__)
+            covered.update(combinations(group, 2))
+            made.append(tuple(group))
         return tuple(made)
 
 
 def line(text: Text, grouping: Grouping, assertion: Assertion) -> str:
     """The line of an assertion."""
     conditions = text.conditions(assertion)
-    if not conditions.mandatory and not conditions.dummies:
-        return ""
     mandatory = written(grouping.groups(conditions.mandatory))
+    if not conditions.dummies:
+        return mandatory
     dummies = " ".join(conditions.dummies)
-    others = (
-        "*" if are_all(text, assertion, conditions) else written(grouping.groups(conditions.proof))
-    )
-    return f"{mandatory}\t{dummies}\t{others}" if dummies else mandatory
+    others = "*" if are_all(conditions) else written(stars(conditions, grouping.order))
+    return f"{mandatory}\t{dummies}\t{others}"
 
 
-def are_all(text: Text, assertion: Assertion, conditions: Conditions) -> bool:
+def are_all(conditions: Conditions) -> bool:
     """Whether each dummy variable must be distinct from all other variables."""
-    dummies = len(conditions.dummies)
-    others = len(text.mandatory(assertion))
+    dummies, others = len(conditions.dummies), len(conditions.variables)
     return len(conditions.proof) == dummies * others + dummies * (dummies - 1) // 2
+
+
+def stars(conditions: Conditions, order: dict[str, int]) -> Groups:
+    """For each dummy variable itself and those from which it must be distinct."""
+    near: dict[str, list[str]] = {variable: [] for variable in conditions.dummies}
+    for first, second in conditions.proof:
+        for one, other in ((first, second), (second, first)):
+            if one in near:
+                near[one].append(other)
+    return tuple((one, *sorted(others, key=order.__getitem__)) for one, others in near.items())
 
 
 def written(groups: Groups) -> str:

@@ -175,19 +175,21 @@ def pieces_of(pieces: list[Piece]) -> list[list[str]]:
 
 
 def symbols_of(text: Text, formulas: Iterable[str]) -> dict[str, Any]:
-    """How symbols are shown, and which of them look like another one."""
+    """How symbols are shown, and which of them look like one that comes earlier."""
     typesetting = read_typesetting(text.typesetting)
-    used = {symbol for formula in formulas for symbol in formula.split(" ")}
+    used = dict.fromkeys(symbol for formula in formulas for symbol in formula.split(" "))
     shown = {name: parts for name, parts in typesetting.symbols.items() if name in used}
-    looks: dict[tuple[tuple[str, tuple[str, ...]], ...], list[str]] = {}
-    for name, parts in shown.items():
+    looks = set()
+    alike = []
+    for name in used:
+        parts = shown.get(name, [Piece(name, ())])
         look = tuple((part.text.strip(), part.tags) for part in parts if part.text.strip())
-        looks.setdefault(look, []).append(name)
-    for name in used - shown.keys():
-        looks.setdefault(((name, ()),), []).append(name)
+        if look in looks:
+            alike.append(name)
+        looks.add(look)
     return {
         "symbols": [[name, pieces_of(parts)] for name, parts in shown.items()],
-        "alike": sorted(name for names in looks.values() if len(names) > 1 for name in names),
+        "alike": alike,
         "legend": pieces_of(typesetting.legend),
     }
 

@@ -89,7 +89,7 @@ export class ChapterView {
             const heaviest = this.heaviest(firstRow, endRow);
             const most = this.overview.counts.totals[heaviest];
             const link = this.elements.link(this.model.theorems[heaviest]);
-            tiles.push(this.elements.tile(most, "axioms at most", "on which rests", "", link));
+            tiles.push(this.elements.tile(most, "axioms at most", "on which a theorem of it rests:", "", link));
         }
         return element("ul", { class: "glance", id: "glance", "aria-label": "In numbers" }, ...tiles);
     }

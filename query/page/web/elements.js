@@ -249,15 +249,20 @@ export class Elements {
     }
 
     /**
+     * Variables with commas between them.
+     * @param {string[]} variables
+     * @returns {Child[]}
+     */
+    variables(variables) {
+        return variables.flatMap((variable, index) => [index > 0 ? ", " : "", this.variable(variable)]);
+    }
+
+    /**
      * Groups of distinct variables, each as a list.
      * @param {string[][]} groups
      */
     groups(groups) {
-        const items = groups.map((group) => {
-            const item = element("li", { class: "group-of-variables" });
-            group.forEach((variable, index) => item.append(index > 0 ? ", " : "", this.variable(variable)));
-            return item;
-        });
+        const items = groups.map((group) => element("li", { class: "group-of-variables" }, ...this.variables(group)));
         return element("ul", { class: "variables" }, ...items);
     }
 

@@ -222,7 +222,7 @@ export class Finder {
  * @param {string[]} words
  */
 function around(comment, words) {
-    const text = comment.replace(/[\f\v]/g, " ");
+    const text = comment.replace(/[\f\v]/g, " ").replace(/~ (?=\S)|`/g, "");
     const small = text.toLowerCase();
     const places = words.map((word) => small.indexOf(word)).filter((place) => place >= 0);
     const at = places.length > 0 ? Math.min(...places) : 0;

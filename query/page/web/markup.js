@@ -32,8 +32,8 @@ const PARAGRAPH = "\f";
 const BREAK = "\v";
 
 const CREDIT =
-    /\(((?:Contributed|Revised|Proof shortened|Proof revised|Proof modified|Shortened|Modified|Proposed|Renamed|Suggested)(?: and [a-z ]+)?) by\s+([^()]*?),?\s+(\d{1,2}-[A-Z][a-z]{2}-\d{4})\.?\)/g;
-const MARK = /\((?:New usage|Proof modification) is discouraged\.\)/g;
+    /(?<!\S)\(((?:Contributed|Revised|Proof shortened|Proof revised|Proof modified|Shortened|Modified|Proposed|Renamed|Suggested)(?: and [a-z ]+)?) by\s+([^()]*?),?\s+(\d{1,2}-[A-Z][a-z]{2}-\d{4})\.?\)(?!\S)/g;
+const MARK = /(?<!\S)\((?:New usage|Proof modification) is discouraged\.\)(?!\S)/g;
 
 /** Mathematics, a link to a label, a reference, emphasis, a tag, the end of a paragraph or of a line. */
 const SPECIAL =
@@ -93,7 +93,28 @@ export function readComment(line) {
         .replace(MARK, "");
     const reader = new Reader();
     reader.read(body);
-    return { paragraphs: reader.paragraphs.filter((paragraph) => paragraph.some(isSeen)), credits };
+    const paragraphs = reader.paragraphs.map(closeUp).filter((paragraph) => paragraph.some(isSeen));
+    return { paragraphs, credits };
+}
+
+/** What has to be separated by spaces in a comment. */
+const APART = ["math", "label", "address"];
+
+/**
+ * Takes away the spaces that separate mathematics and labels from brackets and punctuation around them.
+ * @param {Part[]} parts
+ * @returns {Part[]}
+ */
+function closeUp(parts) {
+    const isApart = (/** @type {Part | undefined} */ part) => part !== undefined && APART.includes(part.type);
+    return parts.map((part, index) => {
+        if (part.type === "element") return { ...part, children: closeUp(part.children) };
+        if (part.type !== "text") return part;
+        let { text } = part;
+        if (isApart(parts[index - 1])) text = text.replace(/^\s+(?=[.,;:!?)\]'"’”])/, "");
+        if (isApart(parts[index + 1])) text = text.replace(/([(["'])\s+$/, "$1");
+        return { type: "text", text };
+    });
 }
 
 /** @param {Part} part */

@@ -93,29 +93,38 @@ export class Statements {
         }
         if (dummies.length > 0) {
             const name = dummies.length === 1 ? "Dummy variable of the proof" : "Dummy variables of the proof";
-            made.append(element("h2", { class: "small" }, name), this.dummies(dummies, areAll));
-        }
-        if (proofGroups.length > 0) {
-            made.append(element("h2", { class: "small" }, "Distinct in the proof"), this.elements.groups(proofGroups));
-            made.lastElementChild?.setAttribute("id", "proof-groups");
+            const shown = areAll ? this.dummies(dummies) : this.stars(proofGroups);
+            made.append(element("h2", { class: "small" }, name), shown);
         }
         return [made];
     }
 
     /**
+     * Dummy variables that must be distinct from all others.
      * @param {string[]} dummies
-     * @param {boolean} areAll
      */
-    dummies(dummies, areAll) {
-        const made = element("p", { id: "dummies", "data-all": String(areAll) });
-        dummies.forEach((variable, index) => made.append(index > 0 ? ", " : "", this.elements.variable(variable)));
-        if (!areAll) return made;
+    dummies(dummies) {
+        const made = element("p", { id: "dummies" }, ...this.elements.variables(dummies));
         const told =
             dummies.length === 1
                 ? " — distinct from all other variables"
                 : " — distinct from one another and from all other variables";
         made.append(element("span", { class: "hint" }, told));
         return made;
+    }
+
+    /**
+     * Dummy variables, each with those from which it must be distinct.
+     * @param {string[][]} groups
+     */
+    stars(groups) {
+        const items = groups.map(([dummy, ...others]) => {
+            const item = element("li", {}, this.elements.variable(dummy));
+            const told = element("span", { class: "hint" }, others.length > 0 ? " — distinct from " : " — without conditions");
+            item.append(told, ...this.elements.variables(others));
+            return item;
+        });
+        return element("ul", { class: "stars", id: "stars" }, ...items);
     }
 
     /**

@@ -9,7 +9,7 @@
  * @property {string} text
  * @property {string} tags names of tags, separated by spaces
  * @property {string} symbol as the database writes it
- * @property {boolean} isAlike it looks like another symbol
+ * @property {boolean} isAlike it looks like an earlier symbol
  */
 
 /** The colours of variables of which no definition says another one, by their typecodes in turn. */
@@ -18,6 +18,13 @@ const HUES = ["blue", "red", "purple", "green"];
 /** Symbols that a browser would break inside, such as |->, and up to which length they are kept in one line. */
 const BREAKABLE = /[-/?].|[|]./;
 const LONGEST_WHOLE = 12;
+
+/** Between some symbols there is a space, though their definitions have none: ∃𝑥 ∈ 𝐴 ∀𝑦, ∃𝑦 𝑦 ∈ 𝑥, ∃𝑥 ∈ On 𝐷 = ∅. */
+const ENDS_TERM = /^[\p{L}\p{N})\]}]/u; // of the last sign
+const BEGINS_PREFIX = /^[\p{Sm}\p{So}]/u;
+const WORD = /^[\p{L}\p{N}]{2}/u;
+const LETTER = /^[\p{L}\p{N}]/u;
+const QUANTIFIER = /^[∀∃]/;
 
 export class Symbols {
     /**
@@ -70,13 +77,34 @@ export class Symbols {
         /** @type {Run[]} */
         const runs = [];
         const space = { text: " ", tags: "", symbol: "", isAlike: false };
-        formula.split(" ").forEach((symbol, index) => {
+        const symbols = formula.split(" ");
+        symbols.forEach((symbol, index) => {
             const isWritten = !this.isOn || !this.definitions.has(symbol);
-            if (isWritten && index > 0) runs.push(space);
-            runs.push(...this.runsOf(symbol, hasTypecode && index === 0));
+            const more = this.runsOf(symbol, hasTypecode && index === 0);
+            const isClose = index > 0 && this.isOn && this.areClose(symbols, index, runs[runs.length - 1].text, more[0].text);
+            if ((isWritten && index > 0) || isClose) runs.push(space);
+            runs.push(...more);
             if (isWritten && this.isOn) runs.push(space);
         });
         return runs;
+    }
+
+    /**
+     * Whether a symbol would be hard to tell from the one before, if there were no space between them.
+     * @param {string[]} symbols
+     * @param {number} index
+     * @param {string} before what is shown just before it
+     * @param {string} text what it begins with
+     */
+    areClose(symbols, index, before, text) {
+        const last = Array.from(before).pop() ?? "";
+        if (!ENDS_TERM.test(last)) return false;
+        if (BEGINS_PREFIX.test(text) || (WORD.test(text) && LETTER.test(before))) return true;
+        if (!LETTER.test(text)) return false;
+        if (WORD.test(before)) return true;
+        const code = this.typecodeOf.get(symbols[index]);
+        const isSame = code !== undefined && code === this.typecodeOf.get(symbols[index - 1]);
+        return isSame && index > 1 && QUANTIFIER.test(this.keyOf(symbols[index - 2]));
     }
 
     /**

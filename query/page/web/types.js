@@ -17,7 +17,7 @@
  * @property {[number, string, string, number, number][]} chapters level, number, title, first assertion, end
  * @property {[string, string][]} variables each with its typecode
  * @property {[string, Piece[]][]} symbols how each is shown
- * @property {string[]} alike symbols that look like another one
+ * @property {string[]} alike symbols that look like one that comes earlier
  * @property {Piece[]} legend the classes of variables, in their colours
  */
 
@@ -57,7 +57,7 @@
  * @typedef {object} Conditions
  * @property {string[][]} groups the variables of each group must be distinct from one another
  * @property {string[]} dummies variables that only the proof has
- * @property {string[][]} proofGroups groups with dummy variables; empty if `areAll`
+ * @property {string[][]} proofGroups each a dummy variable and those from which it must be distinct; none if `areAll`
  * @property {boolean} areAll each dummy variable must be distinct from all other variables
  */
 
