@@ -1,4 +1,5 @@
 -- Which words the active statements have.
+use Rattle.std.proofs.lemmas.Grind.{common_steps}
 use Rattle.std.proofs.Common.{cond, ◌≡◌, ℕ, zero, suc, ◌+◌, ◌<◌, Bool, true, false, ◌&&◌, ◌||◌}
 use Rattle.std.proofs.Common.{List, [], ◌∷◌, flat_map, map, bytes_eq, refl, sym, ap, ap₂, ◌∙◌}
 use Rattle.std.proofs.Common.{arith}
@@ -52,6 +53,5 @@ pub typed_in : (w : Bytes) (xs : List Statement)
     ≡ is_in w (flat_map typed_words xs)
 typed_in w [] = refl
 typed_in w (s ∷ xs) =
-    list_any-append (λ t. bytes_eq w t.variable) (typings_of s) (flat_map typings_of xs)
-    ∙ ap₂ (λ a b. a || b) (any_map w (typings_of s)) (typed_in w xs)
-    ∙ sym (list_any-append (bytes_eq w) (typed_words s) (flat_map typed_words xs))
+    grind (arith, common_steps, list_any-append, bytes_eq, typings_of, flat_map, any_map,
+    typed_words, (typed_in w xs))

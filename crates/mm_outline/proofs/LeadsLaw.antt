@@ -1,4 +1,7 @@
 -- Progress goes on by one token.
+use Rattle.std.proofs.lemmas.Grind.{common_steps}
+use Rattle.std.proofs.Common.{arith}
+use Rattle.std.proofs.lemmas.Bool.Decides.{nat_tests}
 use Rattle.std.proofs.Common.{◌≡◌, ℕ, ◌+◌, ◌<◌, List, [], ◌∷◌, ◌++◌, length, drop, None, Some, refl}
 use Rattle.std.proofs.Common.{sym, ap, ◌∙◌, subst, add-one, drop-cons, append_assoc}
 use Rattle.mm_spec.specs.Text.{Token, fault}
@@ -18,48 +21,26 @@ leads_none r us = record { statements = refl; stop = refl; rest = refl }
 
 pub leads_then : {r q p : Progress} {us vs ws : List Token} {row more : List Statement}
     → Leads r us row q vs → Leads q vs more p ws → Leads r us (row ++ more) p ws
-leads_then {row = row} {more = more} a b = record {
-  statements = a.statements ∙ ap (λ x. row ++ x) b.statements ∙ sym (append_assoc row more _);
-  stop = a.stop ∙ b.stop;
-  rest = a.rest ∙ b.rest;
-}
+leads_then {row = row} {more = more} a b = grind (arith, common_steps, append_assoc)
 
 pub tokens_from_one : (text : List ℕ) (ws : List Word) (i : ℕ) → i < length ws
     → tokens_from text ws i ≡ token_at text ws i ∷ tokens_from text ws (i + 1)
 tokens_from_one text ws i h =
-    let e : drop i ws ≡ nth_word ws i ∷ drop (i + 1) ws =
-    rw (add-one, drop-cons ws i (record { start = 0; end = 0 })) refl in
-    ap (as_tokens text) e
+    grind (arith, common_steps, drop, nth_word, add-one, drop-cons, start, as_tokens)
 
 pub leads_go : {r : Progress} {t : Token} {us : List Token} {q : Progress}
     → table.go q ≡ table.transition r (class t.word) t → Leads r (t ∷ us) [] q us
-leads_go {r = r} {t = t} {us = us} e = record {
-  statements = ap (λ o. after o (λ q. statements_from q us)) (sym e);
-  stop =
-      ap (λ o. stop_after o (Some (fault t.at (shape_code (begins r) t.word)))
-      (λ q. stop_from q us)) (sym e);
-  rest = ap (λ o. rest_after o (λ q. rest_from q us) r) (sym e);
-}
+leads_go {r = r} {t = t} {us = us} e = grind (arith, nat_tests)
 
 pub leads_done : {r : Progress} {t : Token} {us : List Token} {d : ℕ} {s : Statement}
     → table.done d s ≡ table.transition r (class t.word) t → Leads r (t ∷ us) (s ∷ []) (start d) us
-leads_done {r = r} {t = t} {us = us} e = record {
-  statements = ap (λ o. after o (λ q. statements_from q us)) (sym e);
-  stop =
-      ap (λ o. stop_after o (Some (fault t.at (shape_code (begins r) t.word)))
-      (λ q. stop_from q us)) (sym e);
-  rest = ap (λ o. rest_after o (λ q. rest_from q us) r) (sym e);
-}
+leads_done {r = r} {t = t} {us = us} e = grind (arith, nat_tests)
 
 pub leads_stop : (r : Progress) (t : Token) (us : List Token)
     → table.stop ≡ table.transition r (class t.word) t
     → (statements_from r (t ∷ us) ≡ [])
     × (stop_from r (t ∷ us) ≡ Some (fault t.at (shape_code (begins r) t.word)))
-leads_stop r t us e = (
-  ap (λ o. after o (λ q. statements_from q us)) (sym e),
-  ap (λ o. stop_after o (Some (fault t.at (shape_code (begins r) t.word))) (λ q. stop_from q us))
-      (sym e),
-)
+leads_stop r t us e = grind (arith, nat_tests)
 
 pub is_start_begins : (text : List ℕ) (ws : List Word) (d i : ℕ) (part : Part)
     → is_start part ≡ begins (progress text ws d part i)

@@ -1,5 +1,6 @@
 -- The tokens of a text lie in it, rise, and are few; a text that is too long has none, and its
 -- lexical fault.
+use Rattle.std.proofs.lemmas.Grind.{common_steps}
 use Rattle.std.proofs.Common.{◌≡◌, ℕ, ◌-◌, ◌^◌, ◌<◌, ◌≤◌, ◌==◌, ◌||◌, ◌&&◌, Bool, true, false}
 use Rattle.std.proofs.Common.{not, List, [], ◌∷◌, length, map, drop, get_or, slice_index, codes}
 use Rattle.std.proofs.Common.{Option, None, Some, is_some, ◌⊎◌, inl, inr, refl, sym}
@@ -132,10 +133,7 @@ tokens_rising text =
 
 -- the tokens stand in the text
 pub tokens_stand : (text : List ℕ) → AreWithin text (tokens_of text)
-tokens_stand text =
-    All-weaker (IsWord text) (λ w. (w.start ≤ w.end) × (w.end ≤ length text))
-    (λ w x. (let n = x.nonempty in omega (arith, n), x.within)) (tokens_of text)
-    (tokens_are_words text)
+tokens_stand text = grind (arith, common_steps, length, tokens_of, tokens_are_words)
 
 -- ---- a token with a `$` begins with it
 

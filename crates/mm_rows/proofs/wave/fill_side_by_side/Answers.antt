@@ -67,3 +67,7 @@ loop-k-preserved g c =
     c.store.ensures.others in
     made_more c.args.citations.now c.args.columns.now rows k c.args.bits.now c.loop-k.bits
     c.store.new.bits c.in-Ok.row.items i refl bits (omega arith) here others c.loop-k.invariant
+
+pub returns-in_err-made : goal.returns-in_err-made
+returns-in_err-made g c =
+    IfOk-from_err c.from_residual.result _ c.from_residual.ensures.0
