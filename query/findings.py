@@ -51,7 +51,8 @@ def summary(verdict: Verdict) -> str:
 
 def line_of(finding: Finding) -> str:
     """A finding as compilers write theirs."""
-    place = f"{finding.file}:{finding.line}" if finding.line else finding.file
+    numbers = [f":{number}" for number in (finding.line, finding.column) if number]
+    place = finding.file + "".join(numbers)
     label = f"{finding.label}: " if finding.label else ""
     return shown(f"{place}: {label}{finding.reason} [{finding.rule}]")
 
@@ -64,13 +65,17 @@ def as_text(verdict: Verdict) -> str:
 
 
 def as_object(verdict: Verdict) -> dict[str, object]:
-    """As a JSON object; paths of files are from the top of the repository."""
+    """As a JSON object. Paths are from the top of the repository; what isn't there is null."""
     return {
         "passed": verdict.has_passed,
         "database": verdict.database,
         "base": verdict.base,
         "rules": list(verdict.rules),
-        "findings": [{**asdict(each), "file": verdict.path(each)} for each in verdict.findings],
+        "findings": [
+            {key: value or None for key, value in asdict(each).items()}
+            | {"file": verdict.path(each)}
+            for each in verdict.findings
+        ],
         "notes": verdict.notes,
     }
 
@@ -88,6 +93,8 @@ def as_annotations(verdict: Verdict) -> str:
         properties = [f"file={escaped(verdict.path(finding), is_property=True)}"]
         if finding.line:
             properties.append(f"line={finding.line}")
+        if finding.column:
+            properties.append(f"col={finding.column}")
         properties.append(f"title={escaped(f'mmquery gate ({finding.rule})', is_property=True)}")
         label = f"{finding.label}: " if finding.label else ""
         lines.append(f"::error {','.join(properties)}::{escaped(label + finding.reason)}")

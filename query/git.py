@@ -84,11 +84,13 @@ class Repository:
     def content(self, commit: str, path: str) -> bytes | None:
         """The bytes of a file of a commit, given by its full id; None where it has no such file.
 
-        The path is from the top, with `/`. A symbolic link is followed within the commit.
+        The path is from the top, with `/`. A symbolic link is followed within the commit, unless
+        the path has a line feed.
         """
         if "\n" in path:
-            return None
-        asked = f"{commit}:{path}\n".encode()
+            done = call(self.top, "cat-file", "blob", f"{commit}:{path}")
+            return done.stdout if done.returncode == 0 else None
+        asked = os.fsencode(f"{commit}:{path}\n")
         done = call(self.top, "cat-file", "--batch", "--follow-symlinks", given=asked)
         head, _, body = done.stdout.partition(b"\n")
         words = head.split()

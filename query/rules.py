@@ -19,6 +19,7 @@ from query.text import Assertion, Text
 
 DISCOURAGED = re.compile(r"\(New\s+usage\s+is\s+discouraged\.\)")
 DISCOURAGED_PROOF = re.compile(r"\(Proof\s+modification\s+is\s+discouraged\.\)")
+MARKED = re.compile(rb"\$\(\s+\$j(?=\s)")
 TOKEN = re.compile(r"/\*.*?\*/|'([^']*)'|\"([^\"]*)\"|(;)|([^\s;'\"]+)", re.DOTALL)
 LONGEST = 200
 """How many characters of a formula are shown."""
@@ -26,7 +27,8 @@ LONGEST = 200
 
 @dataclass(frozen=True)
 class Finding:
-    """What breaks a rule. `line` counts from 1, 0 where there is no line; `axiom` may be ""."""
+    """What breaks a rule. `line` and `column` count from 1, and are 0 where there is none; `label`
+    and `axiom` may be ""."""
 
     rule: str
     file: str
@@ -34,6 +36,7 @@ class Finding:
     label: str
     axiom: str
     reason: str
+    column: int = 0
 
 
 @dataclass
@@ -210,13 +213,14 @@ class Usage:
 
 
 def usages(text: Text) -> Iterator[Usage]:
-    """Each statement `usage` of the `$j` comments."""
-    for comment in text.marked:
-        if "usage" not in comment.body:
+    """Each statement `usage` of the `$j` comments, also of those that stand within a statement."""
+    for opening in MARKED.finditer(text.data):
+        start = opening.end()
+        body = text.data[start : text.data.index(b"$)", start)].decode("latin-1")
+        if "usage" not in body:
             continue
-        start = text.data.index(b"$j", comment.place) + 2
         words: list[tuple[int, str, bool]] = []
-        for token in TOKEN.finditer(comment.body):
+        for token in TOKEN.finditer(body):
             if token[3]:
                 yield from usage_of(text, words, is_ended=True)
                 words = []

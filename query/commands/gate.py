@@ -137,7 +137,7 @@ def with_base(context: Context, word: str, arguments: argparse.Namespace) -> Req
     branch = branch_of(word)
     repository, path = branch.repository, branch.path
     config, config_path = branch.config(arguments.config)
-    base = arguments.base or config.base
+    base = config.base if arguments.base is None else arguments.base
     merge_base = repository.merge_base(repository.commit(base), branch.commit)
     said = f"the merge base with {base}, {short(merge_base)}"
     data = repository.content(merge_base, path)
@@ -175,9 +175,9 @@ def judged(request: Request) -> list[Finding]:
 
 def refusal_of(refused: Refused) -> Finding:
     """The finding that the database is refused."""
-    name = refused.source.name
-    said = str(refused).removeprefix(f"{name}:{refused.line}:")
-    return Finding("valid", name, refused.line, "", "", f"column {said}")
+    name, line, column = refused.source.name, refused.line, refused.column
+    said = str(refused).removeprefix(f"{name}:{line}:{column}: ")
+    return Finding("valid", name, line, "", "", said, column)
 
 
 def add_summary(path: str, text: str) -> None:

@@ -1,0 +1,571 @@
+"""The gate, on repositories that the tests make."""
+
+import json
+import os
+import unittest
+
+from query.tests.repositories import ADDED, BASE, FREED, WATCH, Repositories, changed
+from query.tests.world import DATABASES
+
+CHEAT = (
+    "2p2e4 $p |- ( 2 + 2 ) = 4 $= df-4",
+    "ax-cheat $a |- ( 2 + 2 ) = 4 $.\n2p2e4 $p |- ( 2 + 2 ) = 4 $= ax-cheat",
+)
+
+
+class TheTwoFailures(Repositories):
+    """What a job for watched axioms once let pass."""
+
+    def test_an_axiom_is_added(self) -> None:
+        for config in ("", WATCH):
+            self.write("mmdepend.toml", config)
+            lines = self.gate_of(changed(BASE, CHEAT), status=1)
+            self.assertEqual(lines, ["db.mm:10: ax-cheat: a new axiom: |- ( 2 + 2 ) = 4 [axioms]"])
+
+    def test_a_watched_axiom_is_renamed(self) -> None:
+        lines = self.gate_of(BASE.replace("ax-ac2", "ax-ac2x"), status=1)
+        self.assertEqual(
+            lines,
+            [
+                "db.mm:9: ax-ac2x: a new label of the axiom ax-ac2: |- ( p -> ( p -> p ) )"
+                " [axioms]",
+                "db.mm: ax-ac2: an axiom that is gone; its statement has the label ax-ac2x"
+                " [axioms]",
+                "mmdepend.toml:1: ax-ac2: a watched axiom that is missing; its statement has the"
+                " label ax-ac2x [watched]",
+            ],
+        )
+        self.write("mmdepend.toml", WATCH + '[allow]\naxioms = ["ax-ac2*"]\n')
+        lines = self.gate_of(BASE.replace("ax-ac2", "ax-ac2x"), status=1)
+        self.assertEqual([line.rpartition(" ")[2] for line in lines], ["[watched]"])
+
+    def test_both_of_two_files(self) -> None:
+        self.write("cheat.mm", changed(BASE, CHEAT))
+        self.write("renamed.mm", BASE.replace("ax-ac2", "ax-ac2x"))
+        self.assertEqual(len(self.gate("db.mm", "cheat.mm", status=1)), 1)
+        self.assertEqual(len(self.gate("db.mm", "renamed.mm", status=1)), 3)
+        self.assertEqual(self.gate("db.mm", "db.mm", status=0), [])
+
+
+class Bases(Repositories):
+    """With what a database is compared."""
+
+    def test_nothing_is_changed(self) -> None:
+        came = self.query("gate", "--base", "main", "db.mm")
+        self.assertEqual(came.status, 0)
+        commit = self.git("rev-parse", "HEAD")[:12]
+        self.assertEqual(
+            came.lines()[-1], f"passed: db.mm compared with the merge base with main, {commit}"
+        )
+        self.assertIn("note: the base has this commit already", came.out)
+
+    def test_the_base_freed_a_theorem(self) -> None:
+        self.branch()
+        self.commit(BASE + ADDED)
+        self.git("checkout", "--quiet", "main")
+        self.commit(changed(BASE, FREED))
+        self.git("checkout", "--quiet", "work")
+        self.assertEqual(self.gate(status=0), [])
+        self.write("tip.mm", changed(BASE, FREED))
+        lines = self.gate("tip.mm", "db.mm", status=1)
+        self.assertEqual(len(lines), 2)
+        self.assertIn("db.mm:12: axac3: newly rests on ax-ac2: it cites ax-ac2 [newly]", lines)
+
+    def test_the_default_is_origin_main(self) -> None:
+        self.has_no_answer("db.mm", why="git has no revision 'origin/main'")
+        clone = self.room / "clone"
+        self.git("clone", "--quiet", str(self.room), str(clone))
+        self.write("clone/db.mm", changed(BASE, CHEAT))
+        self.assertEqual(len(self.gate("clone/db.mm", status=1)), 1)
+        (clone / "db.mm").write_text(BASE + ADDED)
+        self.assertEqual(self.gate("clone/db.mm", status=0), [])
+
+    def test_the_base_of_the_file(self) -> None:
+        self.write("mmdepend.toml", 'base = "main"\n' + WATCH)
+        self.assertEqual(len(self.gate_of(changed(BASE, CHEAT), "db.mm", status=1)), 1)
+
+    def test_on_a_push_the_commit_before(self) -> None:
+        self.commit(changed(BASE, FREED))
+        self.commit(BASE)
+        lines = self.gate("--base", "HEAD~1", "db.mm", status=1)
+        self.assertEqual([line.split(": ")[1] for line in lines], ["axac3", "zorn"])
+        self.assertEqual(self.gate("--base", "HEAD~2", "db.mm", status=0), [])
+        self.assertEqual(self.gate("--base", "main", "db.mm", status=0), [])
+        self.assertIn("name the commit before", self.query("gate", "--base", "main", "db.mm").out)
+
+    def test_a_revision_is_judged(self) -> None:
+        self.branch()
+        self.commit(changed(BASE, CHEAT))
+        self.git("checkout", "--quiet", "main")
+        lines = self.gate("--base", "main", "work:db.mm", status=1)
+        self.assertEqual(lines, ["work:db.mm:10: ax-cheat: a new axiom: |- ( 2 + 2 ) = 4 [axioms]"])
+        self.assertEqual(self.gate("--base", "main", "main:db.mm", status=0), [])
+
+    def test_what_is_not_committed_counts(self) -> None:
+        self.write("db.mm", changed(BASE, CHEAT))
+        self.assertEqual(len(self.gate(status=1)), 1)
+
+    def test_a_file_of_a_folder(self) -> None:
+        (self.room / "deep" / "down").mkdir(parents=True)
+        self.commit(BASE, "deep/down/other.mm")
+        self.branch()
+        self.commit(changed(BASE, CHEAT), "deep/down/other.mm")
+        self.assertEqual(len(self.gate("--base", "main", "deep/down/other.mm", status=1)), 1)
+        self.assertEqual(self.gate(status=0), [])
+
+    def test_a_config_that_was_changed_is_noted(self) -> None:
+        self.branch()
+        self.write("mmdepend.toml", WATCH + '[allow]\naxioms = ["*"]\n')
+        self.commit(changed(BASE, CHEAT))
+        came = self.query("gate", "--base", "main", "db.mm")
+        self.assertEqual(came.status, 0)
+        self.assertIn("note: mmdepend.toml isn't the same in the merge base\n", came.out)
+
+
+class NoAnswers(Repositories):
+    """Why there is no answer: one line, status 2."""
+
+    def test_a_revision_that_is_missing(self) -> None:
+        for word in ("nowhere", "--help", "-n", "HEAD~9", "a b", "main:db.mm", ""):
+            self.has_no_answer(f"--base={word}", "db.mm", why=f"git has no revision '{word}'")
+        self.has_no_answer("--base", "0" * 40, "db.mm", why="no commit before a new branch")
+
+    def test_a_shallow_clone(self) -> None:
+        self.branch()
+        self.commit(BASE + ADDED)
+        self.git("checkout", "--quiet", "main")
+        self.commit(BASE + "\n")
+        clone = self.room / "shallow"
+        self.git(
+            "clone", "--quiet", "--depth=1", "--no-single-branch", f"file://{self.room}", str(clone)
+        )
+        self.git("checkout", "--quiet", "work", folder=clone)
+        why = "isn't known: the clone is shallow; fetch the whole history (`fetch-depth: 0`)"
+        self.has_no_answer("shallow/db.mm", why=why)
+        self.has_no_answer("--base", "HEAD~3", "shallow/db.mm", why="the clone is shallow")
+        self.assertEqual(self.gate("--base", "HEAD", "shallow/db.mm", status=0), [])
+
+    def test_no_common_history(self) -> None:
+        self.git("checkout", "--quiet", "--orphan", "alone")
+        self.commit(BASE + ADDED)
+        self.has_no_answer("--base", "main", "db.mm", why="have no common history")
+
+    def test_a_file_that_is_new(self) -> None:
+        self.branch()
+        self.commit(BASE, "other.mm")
+        self.has_no_answer(
+            "--base", "main", "other.mm", why="other.mm: not in the merge base with main"
+        )
+
+    def test_a_file_that_is_missing(self) -> None:
+        self.has_no_answer("nowhere.mm", why="nowhere.mm: there is no such file")
+        self.has_no_answer("main:nowhere.mm", why="")
+        self.has_no_answer("-", why="standard input is in no repository")
+        self.has_no_answer("db.mm", "nowhere.mm", why="nowhere.mm: there is no such file")
+
+    def test_no_repository(self) -> None:
+        outside = self.room.parent / "outside"
+        outside.mkdir()
+        (outside / "db.mm").write_text(BASE)
+        self.has_no_answer("--base", "main", str(outside / "db.mm"), why="not a git repository")
+        self.assertEqual(self.gate("db.mm", str(outside / "db.mm"), status=0), [])
+
+    def test_no_git(self) -> None:
+        os.symlink("/usr/bin/python3", self.temporary / "python3")
+        came = self.query("gate", "--base", "main", "db.mm", PATH=str(self.temporary))
+        (self.temporary / "python3").unlink()
+        self.assertEqual((came.status, came.err), (2, "mmquery: git isn't installed\n"))
+
+    def test_a_base_that_is_refused(self) -> None:
+        self.commit(changed(BASE, ("wp ax-ac2 $.", "wp $.")))
+        self.branch()
+        self.commit(BASE)
+        came = self.has_no_answer("--base", "main", "db.mm", why="db.mm:12:")
+        self.assertIn("E38", came.err)
+
+    def test_words_and_options(self) -> None:
+        self.has_no_answer("db.mm", "db.mm", "db.mm", why="takes one database or two, not 3")
+        self.has_no_answer("--base", "main", "db.mm", "db.mm", why="--base goes with one database")
+        self.has_no_answer("--config", "nowhere", "db.mm", why="nowhere")
+        self.has_no_answer("--summary", "no/where", "--base", "main", "db.mm", why="no/where")
+        self.write("report", self.report("db.mm", "--report", "usage"))
+        self.has_no_answer("db.mm", "report", why="report: a report, where the database is wanted")
+
+    def test_a_config_that_is_wrong(self) -> None:
+        for text, why in (
+            ("wach = []", "mmdepend.toml:1: there is no key 'wach'; did you mean 'watch'?"),
+            ("watch = 'ax-1'", "mmdepend.toml:1: 'watch' isn't a list of labels, but a text"),
+            ("\n[rules]\nopne = true", "mmdepend.toml:3: there is no key 'rules.opne'"),
+            ("[rules]\nopen = 0", "'rules.open' isn't true or false, but a number"),
+            ("rules = 1", "'rules' isn't a table, but a number"),
+            ("[claims]\n'a b' = ['ax-1']", "'a b' is no label"),
+            ("watch = [1]", "it has a number"),
+            ("x", "mmdepend.toml: "),
+            ("\xff", "mmdepend.toml: not UTF-8"),
+        ):
+            self.write("mmdepend.toml", text)
+            self.has_no_answer("--base", "main", "db.mm", why=why)
+
+
+class Rules(Repositories):
+    """Each rule: what breaks it, what doesn't, and how it is allowed and switched off."""
+
+    def breaks(self, rule: str, text: str, *parts: str, allow: str, before: str = BASE) -> None:
+        """Checks that a change of the database breaks one rule, unless it is allowed or off."""
+        config = (self.room / "mmdepend.toml").read_text()
+        self.commit(before)
+        lines = self.gate_of(text, status=1)
+        self.assertEqual(len(lines), len(parts), lines)
+        for line, part in zip(lines, parts):
+            self.assertIn(part, line)
+            self.assertTrue(line.endswith(f" [{rule}]"), line)
+        for more in (f"[rules]\n{rule} = false\n", allow):
+            if more:
+                self.write("mmdepend.toml", config + more)
+                self.commit(before)
+                self.assertEqual(self.gate_of(text, status=0), [])
+        self.write("mmdepend.toml", config)
+        self.commit(before)
+
+    def test_axioms(self) -> None:
+        short = "".join(f"{line}\n" for line in BASE.splitlines()[:9])
+        ax1 = "ax-1 $a |- ( p -> ( q -> p ) ) $."
+        for change, part in (
+            ((ax1, "ax-1 $a |- p $."), "db.mm:7: ax-1: a changed axiom: the formula changed, from"),
+            ((ax1, f"${{ $d p q $. {ax1} $}}"), "ax-1: a changed axiom: the $d conditions changed"),
+            ((f"{ax1}\n", ""), "db.mm: ax-1: an axiom that is gone ["),
+            ((ax1, f"${{ e $e |- p $. {ax1} $}}"), "ax-1: a changed axiom: the hypotheses changed"),
+            ((ax1, f"{ax1} ax-1b $a |- 2 = 2 $."), "db.mm:7: ax-1b: a new axiom: |- 2 = 2 ["),
+            ((ax1, ax1.replace("|-", "wff")), "ax-1: a changed axiom: the formula changed, from"),
+        ):
+            allow = '[allow]\naxioms = ["ax-1*"]\n'
+            self.breaks("axioms", changed(short, change), part, before=short, allow=allow)
+        self.commit(BASE)
+        self.assertEqual(self.gate_of(BASE + "wx $a wff 2 $.\n", status=0), [])
+
+    def test_a_variable_that_becomes_another(self) -> None:
+        text = "$c |- a b $. $v p $. wp $f a p $. wb $a b p $. ax $a |- p $.\n"
+        self.write("mmdepend.toml", "")
+        new = text.replace("wp $f a p", "wp $f b p")
+        part = "ax: a changed axiom: the typecodes of variables changed"
+        self.breaks("axioms", new, part, before=text, allow='[allow]\naxioms = ["ax"]\n')
+
+    def test_a_hypothesis_of_all_that_follows(self) -> None:
+        text = changed(BASE, ("ax-1 $a", "cheat $e |- ( 2 + 2 ) = 4 $.\nax-1 $a")).split("2p2e4")[0]
+        self.commit(BASE.split("2p2e4")[0])
+        lines = self.gate_of(text, status=1)
+        self.assertEqual([line.split(": ")[1] for line in lines], ["ax-1", "ax-mp", "ax-ac2"])
+
+    def test_axioms_that_were_theorems(self) -> None:
+        new = changed(
+            BASE, ("2p2e4 $p |- ( 2 + 2 ) = 4 $= df-4 $.", "2p2e4 $a |- ( 2 + 2 ) = 4 $.")
+        )
+        self.breaks(
+            "axioms",
+            new,
+            "2p2e4: an axiom now, and a theorem before",
+            allow='[allow]\naxioms = ["2p2e4"]\n',
+        )
+        self.breaks(
+            "axioms",
+            BASE,
+            "2p2e4: an axiom before, and a theorem now",
+            before=new,
+            allow='[allow]\naxioms = ["2p2e4"]\n',
+        )
+
+    def test_another_typecode(self) -> None:
+        self.write("mmdepend.toml", 'typecode = "wff"\n')
+        self.breaks(
+            "axioms", BASE + "wx $a wff 2 $.\nax-x $a |- 2 $.\n", "wx: a new axiom: wff 2", allow=""
+        )
+
+    def test_watched(self) -> None:
+        self.write("mmdepend.toml", 'watch = ["ax-a*", "ax-b", "ax1", "wi"]\n')
+        self.breaks(
+            "watched",
+            BASE + ADDED,
+            "mmdepend.toml:1: ax-b: a watched axiom that is missing [",
+            "ax1: a watched axiom that is a theorem now",
+            allow="",
+        )
+
+    def test_newly(self) -> None:
+        new = changed(
+            BASE,
+            (
+                "free $p |- ( p -> ( p -> p ) ) $= wp wp ax-1 $.",
+                "free $p |- ( p -> ( p -> p ) ) $= wp axac3 $.",
+            ),
+        )
+        part = "db.mm:15: free: newly rests on ax-ac2: it cites axac3"
+        self.breaks("newly", new, part, allow='[allow.newly]\nax-ac2 = ["free"]\n')
+        self.breaks("newly", new, part, allow='[allow.newly]\n"ax-*" = ["fr*"]\n')
+        more = "more $p |- ( q -> ( p -> ( p -> p ) ) ) $= wp wq zorn $.\n"
+        self.breaks("newly", BASE + more, "more: newly rests on ax-ac2: it cites zorn", allow="")
+        user = "user $p |- ( p -> ( p -> p ) ) $= wp free $.\n"
+        part = "user: newly rests on ax-ac2: free, on which it rests, cites axac3"
+        both = changed(new, ("= wp axac3 $.\n", "= wp axac3 $.\n" + user))
+        self.breaks(
+            "newly",
+            both,
+            "free: newly",
+            part,
+            before=BASE + user,
+            allow='[allow.newly]\nax-ac2 = ["free", "user"]\n',
+        )
+
+    def test_renames(self) -> None:
+        self.assertEqual(self.gate_of(BASE.replace("zorn", "zorn1"), status=0), [])
+        self.assertEqual(
+            self.gate_of(BASE.replace("axac3", "axac4").replace("a1i", "a2i"), status=0), []
+        )
+        conditions = BASE.replace("zorn $p", "${ $d p q $. zorn $p").replace(
+            "axac3 a1i $.", "axac3 a1i $. $}"
+        )
+        self.commit(conditions)
+        self.assertEqual(self.gate_of(conditions.replace("zorn", "zorn1"), status=0), [])
+        for text in (
+            BASE.replace("zorn", "zorn1"),
+            conditions.replace("$d p q", "$d q p")
+            .replace("zorn", "zorn1")
+            .replace("$d q p $. ", ""),
+        ):
+            self.assertEqual(len(self.gate_of(text, status=1)), 1)
+
+    def test_renames_of_a_statement_that_is_there_twice(self) -> None:
+        twin = (
+            BASE
+            + "zornALT $p |- ( q -> ( p -> ( p -> p ) ) ) $= wp wp wp wi wi wq wp free a1i $.\n"
+        )
+        self.commit(twin)
+        swapped = twin.replace("zornALT", "x").replace("zorn ", "zornALT ").replace("x ", "zorn ")
+        lines = self.gate_of(swapped, status=1)
+        self.assertEqual([line.split(": ")[1] for line in lines], ["zornALT"])
+        both = twin.replace("zornALT", "c1").replace("zorn ", "c2 ")
+        self.assertEqual(self.gate_of(both, status=0), [])
+
+    def test_an_old_proof_that_is_kept(self) -> None:
+        old = "axac3 $p |- ( p -> ( p -> p ) ) $= wp ax-ac2 $."
+        kept = changed(
+            BASE,
+            (
+                old,
+                "axac3 $p |- ( p -> ( p -> p ) ) $= wp wp ax-1 $.\n"
+                + old.replace("axac3", "axac3OLD"),
+            ),
+        )
+        self.assertEqual(self.gate_of(kept, status=0), [])
+        copied = changed(BASE, (old, old + "\n" + old.replace("axac3", "axac3OLD")))
+        self.assertEqual(len(self.gate_of(copied, status=1)), 1)
+
+    def test_a_watched_axiom_that_was_renamed_in_the_config_too(self) -> None:
+        self.branch()
+        self.write(
+            "mmdepend.toml", 'watch = ["ax-ac2x"]\n[allow]\naxioms = ["ax-ac2", "ax-ac2x"]\n'
+        )
+        self.commit(BASE.replace("ax-ac2", "ax-ac2x"))
+        self.assertEqual(self.gate(status=0), [])
+
+    def test_claims(self) -> None:
+        claims = (
+            '[claims]\nzorn = ["ax-ac2", "ax-1", "ax-none"]\n"2p2e4" = ["ax-ac2"]\n'
+            'none = ["ax-1", "ax1"]\nax-1 = ["wi"]\n'
+        )
+        self.write("mmdepend.toml", claims)
+        lines = self.gate_of(BASE, status=1)
+        self.assertEqual(
+            [line.removesuffix(" [claims]") for line in lines],
+            [
+                "mmdepend.toml:2: zorn: rests on ax-ac2: it cites axac3, which does",
+                "mmdepend.toml:2: zorn: rests on ax-1: it cites a1i, which does",
+                "mmdepend.toml:2: zorn: there is no axiom 'ax-none'",
+                "mmdepend.toml:4: none: there is no theorem 'none'",
+                "mmdepend.toml:4: none: 'ax1' is a theorem, where an axiom is wanted",
+                "mmdepend.toml:5: ax-1: 'ax-1' is an axiom, where a theorem is wanted",
+            ],
+        )
+        self.write("mmdepend.toml", "[rules]\nclaims = false\n" + claims)
+        self.assertEqual(self.gate_of(BASE, status=0), [])
+
+    def test_avoids(self) -> None:
+        said = BASE + (
+            "$( $j usage 'zorn' avoids 'ax-none' 'ax-ac2'; $)\n"
+            "$( $j usage 'nobody' avoids 'ax-1'; usage '2p2e4' avoids\n"
+            "   'ax-ac2' \"ax-1\"; /* usage 'zorn' avoids 'ax-ac2'; */ syntax 'wff';\n"
+            "   usage 'free' avoids 'ax-1'; $)\n"
+            "$( $j usage 'zorn' avoid 'ax-ac2'; usage; usage 'zorn' avoids;"
+            " usage 'zorn' avoids ax-1; $)\n"
+            "$( Not one: $j usage 'zorn' avoids 'ax-ac2'; $)\n"
+            "$( $j usage 'zorn' avoids 'ax-ac2' $)\n"
+            "$( $j usage '2p2e4' avoids 'ax-ac2'; $)\n"
+            "$( $j usage 'axac3' avoids 'ax-ac2'; $)\n"
+        )
+        unclear = "a comment `$j usage` that isn't understood"
+        self.breaks(
+            "avoids",
+            said,
+            "db.mm:16: zorn: there is no axiom 'ax-none'",
+            "db.mm:16: zorn: rests on ax-ac2: it cites axac3, which does",
+            "db.mm:17: nobody: there is no theorem 'nobody'",
+            "db.mm:19: free: rests on ax-1: it cites it",
+            f"db.mm:20: zorn: {unclear}",
+            f"db.mm:20: {unclear}",
+            f"db.mm:20: zorn: {unclear}",
+            f"db.mm:20: zorn: {unclear}",
+            f"db.mm:22: zorn: {unclear}",
+            "db.mm:24: axac3: rests on ax-ac2: it cites it",
+            allow="",
+        )
+
+    def test_a_comment_within_a_proof(self) -> None:
+        said = BASE.replace("$= df-4 $.", "$= $( $j usage 'zorn' avoids 'ax-ac2'; $) df-4 $.")
+        self.breaks("avoids", said, "db.mm:10: zorn: rests on ax-ac2", allow="")
+
+    def test_open(self) -> None:
+        for proof in ("?", "( ) ?"):
+            new = BASE + f"todo $p |- p $= {proof} $.\n"
+            part = "db.mm:16: todo: a theorem whose proof is left open"
+            self.breaks("open", new, part, allow='[allow]\nopen = ["todo"]\n')
+
+    def test_mathboxes(self) -> None:
+        boxes = (
+            BASE
+            + "".join(
+                f"$(\n=-=-\n  Mathbox for {name}\n=-=-\n$)\n"
+                f"{name}1 $p |- ( p -> ( q -> p ) ) $= wp wq {cited} $.\n"
+                f"{name}2 $p |- ( p -> ( q -> p ) ) $= wp wq {name}1 $.\n"
+                for name, cited in (("Ann", "ax1"), ("Bo", "Ann1"))
+            )
+            + "$(\n####\n  Main again\n####\n$)\nlast $p |- ( p -> ( q -> p ) ) $= wp wq Bo2 $.\n"
+        )
+        self.breaks(
+            "mathboxes",
+            boxes,
+            "Bo1: in the mathbox for Bo, cites Ann1 of the mathbox for Ann",
+            "last: cites Bo2 of the mathbox for Bo",
+            allow='[allow]\nmathboxes = ["Bo1", "last"]\n',
+        )
+
+    def test_discouraged(self) -> None:
+        text = BASE.replace("axac3 $p", "$( (New usage is\n  discouraged.) $)\naxac3 $p")
+        self.write("mmdepend.toml", "")
+        user = "user $p |- ( p -> ( p -> p ) ) $= wp axac3 $.\n"
+        self.breaks(
+            "discouraged",
+            text + user,
+            "user: cites axac3, whose new usage is discouraged",
+            before=BASE,
+            allow='[allow]\ndiscouraged = ["us*"]\n',
+        )
+        self.commit(text + user)
+        renamed = (text + user).replace("user", "usher").replace("axac3", "axac4")
+        self.assertEqual(self.gate_of(renamed, status=0), [])
+
+    def test_a_database_that_is_refused(self) -> None:
+        lines = self.gate_of(changed(BASE, ("wp ax-ac2 $.", "wp $.")), status=1)
+        self.assertEqual(len(lines), 1)
+        self.assertRegex(lines[0], r"\Adb\.mm:12:\d+: .*E38.* \[valid\]\Z")
+        self.assertEqual(len(self.gate_of("$c", status=1)), 1)
+
+
+class Outputs(Repositories):
+    """The forms of the answer."""
+
+    def test_json(self) -> None:
+        self.write("db.mm", changed(BASE, CHEAT))
+        came = self.query("gate", "--base", "main", "--format", "json", "db.mm")
+        self.assertEqual(came.status, 1)
+        answer = json.loads(came.out)
+        self.assertFalse(answer["passed"])
+        self.assertEqual(
+            answer["findings"],
+            [
+                {
+                    "rule": "axioms",
+                    "file": "db.mm",
+                    "line": 10,
+                    "label": "ax-cheat",
+                    "axiom": "ax-cheat",
+                    "reason": "a new axiom: |- ( 2 + 2 ) = 4",
+                    "column": None,
+                }
+            ],
+        )
+        self.write("db.mm", BASE)
+        answer = json.loads(self.query("gate", "--base", "main", "--format", "json", "db.mm").out)
+        self.assertEqual((answer["passed"], answer["findings"]), (True, []))
+
+    def test_annotations(self) -> None:
+        name = "a,b: 100%.mm"
+        (self.room / "sub").mkdir()
+        self.commit(BASE, f"sub/{name}")
+        self.branch()
+        hostile = changed(BASE, CHEAT).replace("( 2 + 2 ) = 4", "::error::%0A,:<b>")
+        hostile = changed(hostile, ("$c wff", "$c ::error::%0A,:<b> wff"))
+        self.commit(hostile, f"sub/{name}")
+        came = self.query("gate", "--base", "main", "--format", "github", f"sub/{name}")
+        self.assertEqual(came.status, 1)
+        commands = [line for line in came.lines() if line.startswith("::")]
+        self.assertEqual(len(commands), 2)
+        self.assertEqual(
+            commands[0],
+            "::error file=sub/a%2Cb%3A 100%25.mm,line=6,title=mmquery gate (axioms)"
+            "::df-4: a changed axiom: the formula changed, from |- ( 2 + 2 ) = 4 to |- ::error::%250A,:<b>",
+        )
+        self.assertEqual(came.lines()[2][:24], "mmquery gate: 2 findings")
+
+    def test_a_file_that_looks_like_a_command(self) -> None:
+        name = "::error::x\n::error::y.mm"
+        self.commit(BASE, name)
+        came = self.query("gate", "--base", "main", "--format", "github", f"./{name}")
+        self.assertEqual(came.status, 0, came.err)
+        self.assertFalse([line for line in came.lines() if line.startswith("::error")])
+
+    def test_markdown(self) -> None:
+        hostile = changed(BASE, CHEAT).replace("( 2 + 2 ) = 4", "|<script>|`*_[x](y)")
+        hostile = changed(hostile, ("$c wff", "$c |<script>|`*_[x](y) wff"))
+        self.write("db.mm", hostile)
+        came = self.query("gate", "--base", "main", "--format", "markdown", "db.mm")
+        rows = [line for line in came.lines() if line.startswith("| axioms")]
+        self.assertEqual(len(rows), 2)
+        self.assertIn(r"\|\<script\>\|\`\*\_\[x\]\(y\)", rows[1])
+
+    def test_a_summary_is_added(self) -> None:
+        self.write("summary.md", "before\n")
+        self.write("db.mm", changed(BASE, CHEAT))
+        self.gate("--base", "main", "--summary", "summary.md", "db.mm", status=1)
+        text = (self.room / "summary.md").read_text()
+        self.assertTrue(text.startswith("before\n### mmquery gate: 1 finding"))
+        self.assertIn("| axioms | db.mm\\:10 | ax-cheat |", text)
+
+
+@unittest.skipUnless(
+    os.environ.get("MMQUERY_TESTS") == "all" and (DATABASES / "set.mm").exists(),
+    "the variable MMQUERY_TESTS isn't `all`, or there is no set.mm",
+)
+class SetMm(Repositories):
+    """The two failures with set.mm."""
+
+    def setUp(self) -> None:
+        super().setUp()
+        self.git("config", "core.compression", "0")
+        self.text = (DATABASES / "set.mm").read_text("latin-1")
+        self.write("mmdepend.toml", WATCH)
+        self.commit(self.text)
+        self.branch()
+
+    def test_an_axiom_is_added(self) -> None:
+        start = self.text.index(" 2p2e4 $p |- ( 2 + 2 ) = 4 $=\n")
+        end = self.text.index("$.", start)
+        cheat = " ax-cheat $a |- ( 2 + 2 ) = 4 $.\n 2p2e4 $p |- ( 2 + 2 ) = 4 $= ax-cheat "
+        self.write("db.mm", self.text[:start] + cheat + self.text[end:])
+        lines = self.gate(status=1)
+        self.assertEqual(len(lines), 1)
+        self.assertIn(" ax-cheat: a new axiom: |- ( 2 + 2 ) = 4 [axioms]", lines[0])
+
+    def test_a_watched_axiom_is_renamed(self) -> None:
+        self.write("db.mm", self.text.replace("ax-ac2", "ax-ac2x"))
+        lines = self.gate(status=1)
+        self.assertEqual(len(lines), 3)
+        self.assertIn("[watched]", lines[2])
