@@ -15,7 +15,7 @@ import zlib
 from query import signals
 
 MOST = 1_000_000_000
-FORM = b"mmquery result 1\n"
+FORM = b"mmquery result 2\n"
 NEW = ".new-"
 OLD_NEW = 3600  # seconds after which an unfinished file is one that was left behind
 
@@ -32,28 +32,28 @@ def folder() -> str | None:
 
 
 def packed(parts: dict[str, bytes]) -> bytes:
-    """The bytes of a result."""
-    head = [(name, len(data), zlib.crc32(data)) for name, data in parts.items()]
-    return b"".join([FORM, json.dumps(head).encode(), b"\n", *parts.values()])
+    """The bytes of a result: a line with the sum of the next one, that one with names, sizes and
+    sums of the parts, and the parts."""
+    sizes = [(name, len(data), zlib.crc32(data)) for name, data in parts.items()]
+    head = json.dumps(sizes).encode()
+    return b"".join([FORM, b"%08x\n" % zlib.crc32(head), head, b"\n", *parts.values()])
 
 
 def unpacked(data: bytes) -> dict[str, bytes] | None:
     """The parts of a result; None where it is damaged."""
-    end = data.find(b"\n", len(FORM))
-    if not data.startswith(FORM) or end < 0:
+    first = len(FORM) + 9
+    end = data.find(b"\n", first)
+    head = data[first:end]
+    if end < 0 or data[:first] != FORM + b"%08x\n" % zlib.crc32(head):
         return None
-    try:
-        head = json.loads(data[len(FORM) : end])
-        parts: dict[str, bytes] = {}
-        place = end + 1
-        for name, size, total in head:
-            part = data[place : place + size]
-            if len(part) != size or zlib.crc32(part) != total:
-                return None
-            parts[name] = part
-            place += size
-    except (ValueError, TypeError):
-        return None
+    parts: dict[str, bytes] = {}
+    place = end + 1
+    for name, size, total in json.loads(head):
+        part = data[place : place + size]
+        if len(part) != size or zlib.crc32(part) != total:
+            return None
+        parts[name] = part
+        place += size
     return parts if place == len(data) else None
 
 

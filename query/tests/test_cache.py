@@ -1,0 +1,155 @@
+"""Kept results: used, never believed where they are damaged, at most so many bytes, safe with
+several."""
+
+import os
+import subprocess
+import time
+import unittest
+from pathlib import Path
+from unittest import mock
+
+from query import cache
+from query.tests.world import MMQUERY, SMALL, World, program
+
+
+class Cache(World):
+    """The cache folder of the tests."""
+
+    def setUp(self) -> None:
+        super().setUp()
+        self.write("small.mm", SMALL)
+        self.folder = self.cache / "mmquery"
+        self.wanted = ["ax-1", "ax-mp"]
+
+    def counted(self) -> str:
+        """A program that notes each time that it verifies something."""
+        script = f'#!/bin/sh\n[ "$1" = --version ] || echo x >>runs\nexec {program()} "$@"\n'
+        (self.room / "counted").write_text(script)
+        (self.room / "counted").chmod(0o755)
+        return "./counted"
+
+    def runs(self) -> int:
+        """How many times that was."""
+        path = self.room / "runs"
+        return path.read_text().count("x") if path.exists() else 0
+
+    def files(self) -> list[Path]:
+        """What is kept."""
+        return sorted(self.folder.glob("*")) if self.folder.exists() else []
+
+    def test_a_second_question_is_answered_from_it(self) -> None:
+        counted = self.counted()
+        self.answers("rests", "small.mm", "a2", MMDEPEND=counted)
+        first = self.runs()
+        self.assertGreater(first, 0)
+        for words in (
+            ("rests", "small.mm", "a2"),
+            ("falls", "small.mm", "wi"),
+            ("verify", "small.mm"),
+        ):
+            self.answers(*words, MMDEPEND=counted)
+        self.assertEqual(self.runs(), first)
+        self.answers("rests", "small.mm", "a2", "--no-cache", MMDEPEND=counted)
+        self.assertGreater(self.runs(), first)
+        for option in ("--essential", "--open", "--all", "--only=wff"):
+            before = self.runs()
+            self.answers("rests", "small.mm", "wi2", option, MMDEPEND=counted)
+            self.assertGreater(self.runs(), before, option)
+
+    def test_another_database_or_program_has_its_own(self) -> None:
+        self.answers("rests", "small.mm", "a2")
+        self.assertEqual(len(self.files()), 1)
+        self.write("small.mm", SMALL + " ")
+        self.answers("rests", "small.mm", "a2")
+        self.assertEqual(len(self.files()), 2)
+        self.answers("rests", "small.mm", "a2", MMDEPEND=self.counted())
+        self.assertEqual(len(self.files()), 3)
+
+    def test_no_cache_keeps_nothing(self) -> None:
+        self.answers("rests", "small.mm", "a2", "--no-cache")
+        self.assertEqual(self.files(), [])
+
+    def test_damaged_results_are_made_anew(self) -> None:
+        self.answers("rests", "small.mm", "a2")
+        (path,) = self.files()
+        whole = path.read_bytes()
+        for place in range(0, len(whole), 7):
+            path.write_bytes(whole[:place] + bytes([whole[place] ^ 1]) + whole[place + 1 :])
+            if place % 5 == 0:
+                self.assertEqual(self.answers("rests", "small.mm", "a2"), self.wanted)
+                self.assertEqual(path.read_bytes(), whole)
+            else:
+                self.assertIsNone(cache.unpacked(path.read_bytes()))
+        for end in range(len(whole)):
+            self.assertIsNone(cache.unpacked(whole[:end]))
+        self.assertIsNone(cache.unpacked(whole + b"x"))
+
+    def test_folders_that_can_not_be_used(self) -> None:
+        (self.room / "file").write_text("")
+        for more in ({"XDG_CACHE_HOME": str(self.room / "file")}, {"XDG_CACHE_HOME": "/proc"}):
+            self.assertEqual(self.answers("rests", "small.mm", "a2", **more), self.wanted)
+        more = {"XDG_CACHE_HOME": "", "HOME": ""}
+        self.assertEqual(self.answers("rests", "small.mm", "a2", **more), self.wanted)
+        self.refuses("cache", why="HOME isn't set", **more)
+        more = {"XDG_CACHE_HOME": "relative"}
+        self.assertEqual(self.answers("rests", "small.mm", "a2", **more), self.wanted)
+        self.assertFalse((self.room / "relative").exists())
+        self.assertTrue((self.room / ".cache" / "mmquery").exists())
+
+    def test_show_and_clear(self) -> None:
+        self.answers("rests", "small.mm", "a2")
+        (row,) = self.query("cache", "--format=json").rows()
+        size = sum(file.stat().st_size for file in self.files())
+        self.assertEqual(row, {"folder": str(self.folder), "results": 1, "bytes": size})
+        self.assertEqual(self.answers("cache", "clear"), [])
+        self.assertEqual(self.files(), [])
+        self.assertEqual(self.answers("cache", "clear"), [])
+
+    def test_several_at_once(self) -> None:
+        command = [str(MMQUERY), "rests", "small.mm", "a2"]
+        for _ in range(4):
+            self.query("cache", "clear")
+            some = [
+                subprocess.Popen(
+                    command,
+                    cwd=self.room,
+                    env=self.surroundings(),
+                    stdout=subprocess.PIPE,
+                    stderr=subprocess.PIPE,
+                )
+                for _ in range(5)
+            ]
+            clear = subprocess.Popen([str(MMQUERY), "cache", "clear"], env=self.surroundings())
+            for process in some:
+                self.assertEqual(process.communicate(), (b"ax-1\nax-mp\n", b""))
+            self.assertEqual(clear.wait(), 0)
+
+    def test_the_oldest_go_first(self) -> None:
+        surroundings = {"XDG_CACHE_HOME": str(self.cache)}
+        with mock.patch.dict(os.environ, surroundings), mock.patch.object(cache, "MOST", 10_000):
+            for number in range(8):
+                cache.store(f"k{number}", {"part": bytes(2000)})
+                os.utime(self.folder / f"k{number}", (number, number))
+                if number > 0:
+                    self.assertIsNotNone(cache.load("k0"))  # used now, so it isn't the oldest
+            names = [file.name for file in self.files()]
+            self.assertEqual(names, ["k0", "k5", "k6", "k7"])
+            cache.store("large", {"part": bytes(6000)})
+            self.assertNotIn("large", [file.name for file in self.files()])
+            self.assertLessEqual(sum(file.stat().st_size for file in self.files()), 10_000)
+
+    def test_unfinished_files_that_were_left_behind_go(self) -> None:
+        self.folder.mkdir()
+        old, new = self.folder / ".new-1-old", self.folder / ".new-2-new"
+        for file in (old, new):
+            file.write_text("x")
+        past = time.time() - 7200
+        os.utime(old, (past, past))
+        self.answers("rests", "small.mm", "a2")
+        self.assertFalse(old.exists())
+        self.assertTrue(new.exists())
+        new.unlink()
+
+
+if __name__ == "__main__":
+    unittest.main()

@@ -1,0 +1,260 @@
+"""The command line: options anywhere, help pages, hostile labels, formats, where databases come
+from."""
+
+import bz2
+import csv
+import gzip
+import io
+import lzma
+import shutil
+import subprocess
+import unittest
+
+from query.commands import MODULES, names
+from query.tests.commands import WHOLE, WORDS, words_of
+from query.tests.world import HOSTILE, MMQUERY, SMALL, Came, World, invented
+
+import random
+
+
+class CommandLine(World):
+    """Words, options, pages."""
+
+    def setUp(self) -> None:
+        super().setUp()
+        self.write("small.mm", SMALL)
+        self.write("whole.mm", WHOLE)
+
+    def test_every_command_has_a_page(self) -> None:
+        self.assertEqual(set(names()), set(WORDS))
+        listed = self.answers("--help")
+        for name in names():
+            page = self.answers(name, "--help")
+            self.assertTrue(page[0].startswith(f"usage: mmquery {name} "), page[0])
+            self.assertTrue(any(f"mmquery {name} " in line + " " for line in page[1:]), name)
+            self.assertTrue(any(line.split()[:1] == [name] for line in listed), name)
+            self.assertEqual(page, self.answers("help", name))
+        self.assertEqual(self.answers(), listed)
+        self.assertEqual(len(names()), sum(map(len, MODULES.values())))
+
+    def test_version(self) -> None:
+        self.assertRegex(self.answers("--version")[0], r"\Ammquery [0-9.]+\Z")
+
+    def test_unknown_words_are_named_with_the_nearest(self) -> None:
+        self.refuses("rest", "small.mm", why="no command rest; did you mean rests?")
+        self.refuses("xyzzy", why="no command xyzzy")
+        self.refuses("rests", "small.mm", "a2", "--esential", why="did you mean --essential?")
+        self.refuses("rests", "--formt=json", "small.mm", "a2", why="did you mean --format?")
+        self.refuses("rests", "small.mm", "a2", "--xyzzy", why="no option --xyzzy; usage: ")
+        self.refuses("rests", "small.mm", "a2", "--format", "xml", why="xml")
+        self.refuses("rests", "small.mm", "a2", "--format", why="lacks its value")
+        self.refuses("rests", why="usage: mmquery rests")
+        self.refuses("rests", "small.mm", why="LABEL")
+        self.refuses("uncited", "small.mm", "a2", why="a2")
+        self.refuses("top", "small.mm", "0", why="'0' is no number")
+        self.refuses("top", "small.mm", "two", why="'two' is no number")
+        self.refuses("rests", "--only", "wff", "--all", "small.mm", "a2", why="--all")
+
+    def test_options_stand_anywhere(self) -> None:
+        wanted = ["wi", "ax-1", "ax-mp"]
+        for words in (
+            ("--all", "small.mm", "a2"),
+            ("small.mm", "--all", "a2"),
+            ("small.mm", "a2", "--all"),
+            ("small.mm", "a2", "--all", "--format", "text"),
+            ("--format=text", "small.mm", "--all", "--", "a2"),
+        ):
+            self.assertEqual(self.answers("rests", *words), wanted)
+
+    def test_choice_of_axioms(self) -> None:
+        self.write("d.mm", SMALL + "df-x $a |- p $.\nt $p |- p $= wp df-x $.\n")
+        self.assertEqual(self.answers("rests", "d.mm", "t"), ["df-x"])
+        self.assertEqual(self.answers("rests", "d.mm", "t", "--ignore-definitions"), [])
+        words = ("rests", "d.mm", "t", "a2", "--axioms", "df-,ax-m")
+        self.assertEqual(self.answers(*words), ["ax-mp", "df-x"])
+        words = ("rests", "d.mm", "t", "a2", "--axioms", "df-", "--axioms", "ax-1")
+        self.assertEqual(self.answers(*words), ["ax-1", "df-x"])
+        self.refuses("rests", "d.mm", "t", "--axioms", "ax-m,dg-", why="begins with 'dg-'")
+        self.refuses("rests", "d.mm", "t", "--only", "|--", why="no axiom of typecode '|--'")
+        self.assertEqual(self.answers("rests", "d.mm", "t", "a2", "--only", "wff"), ["wi"])
+
+    def test_labels_that_are_not_there(self) -> None:
+        for words in (
+            ("rests", "a3"),
+            ("falls", "a3"),
+            ("falls", "wp"),
+            ("cites", "h"),
+            ("cites", "a2", "--on", "a3"),
+            ("cited-by", "a3"),
+            ("why", "a2", "a3"),
+            ("why", "a3", "ax-1"),
+            ("way-out", "a3"),
+            ("way-out", "ax-1", "wi"),
+            ("frees", "a3"),
+            ("frees", "ax-1", "wi"),
+            ("within", "ax-3"),
+            ("within", "wi"),
+            ("within", "a2"),
+            ("same", "a3"),
+            ("same", "ax-1"),
+            ("graph", "a3"),
+            ("graph", "ax-1"),
+            ("graph", "a2", "a3"),
+            ("falls", "a2", "--without", "a3"),
+        ):
+            self.refuses(words[0], "small.mm", *words[1:])
+
+    def test_uncited_axioms_are_known(self) -> None:
+        self.write("u.mm", SMALL + "ax-u $a |- p $.\nwu $a wff p $.\n")
+        for label in ("ax-u", "wu"):
+            for words in (("falls",), ("cites",), ("cited-by",), ("frees",), ("way-out",)):
+                self.assertEqual(self.answers(*words, "u.mm", label), [])
+            self.assertEqual(self.answers("way-out", "u.mm", "a2", label), [])
+            came = self.query("why", "u.mm", "a2", label)
+            self.assertEqual((came.out, came.status), ("", 0))
+            self.assertEqual(came.err, f"mmquery: a2 doesn't rest on {label}\n")
+        self.assertEqual(self.answers("rests", "u.mm", "wu"), [])
+        self.assertEqual(self.answers("rests", "u.mm", "--all", "wu"), ["wu"])
+        came = self.query("why", "u.mm", "ax-1", "a2")
+        self.assertEqual(came.err, "mmquery: ax-1 doesn't rest on a2, but a2 on ax-1\n")
+
+    def test_lists(self) -> None:
+        self.write("list", b"# some\r\nax-1 # one\r\n\n  ax-mp")
+        self.assertEqual(self.answers("within", "small.mm", "--list", "list", "--all"), ["ax1"])
+        words = ("within", "small.mm", "wi", "--list=list", "--all")
+        self.assertEqual(self.answers(*words), ["wi2", "ax1", "a1i", "a2"])
+        self.write("empty", " # nothing\n")
+        self.refuses("within", "small.mm", "--list", "empty", why="the list is empty")
+        self.refuses("within", "small.mm", "--list", "nowhere", why="nowhere")
+        self.refuses("within", "small.mm", "--list", ".", why="is a folder")
+        self.refuses("within", "small.mm", why="LABEL")
+
+    def test_formats(self) -> None:
+        words = ("cites", "small.mm", "a2", "a1i")
+        pairs = [("a2", "wi"), ("a2", "a1i"), ("a1i", "wi"), ("a1i", "ax-1"), ("a1i", "ax-mp")]
+        rows = [{"theorem": one, "cited": other} for one, other in pairs]
+        came = self.query(*words, "--format", "json")
+        self.assertEqual(came.rows(), rows)
+        tabs = ["theorem\tcited"] + ["\t".join(pair) for pair in pairs]
+        self.assertEqual(self.answers(*words, "--format=tsv"), tabs)
+        text = "\n".join(self.answers(*words, "--format=csv"))
+        self.assertEqual(list(csv.DictReader(io.StringIO(text))), rows)
+        shown = [line.split() for line in self.answers(*words)]
+        self.assertEqual(shown, [["theorem", "cited"], *map(list, pairs)])
+        self.assertEqual(
+            self.query("uncited", "small.mm", "--format=json").rows()[0], {"theorem": "wi2"}
+        )
+        self.assertEqual(self.query("same", "small.mm", "wi2", "--format=json").rows(), [])
+
+    def test_hostile_labels(self) -> None:
+        world = invented(random.Random(3), 10, HOSTILE)
+        self.write("hostile.mm", world.text)
+        for label in HOSTILE:
+            wanted = [axiom for axiom in world.axioms if axiom in world.rests(label) | {label}]
+            self.assertEqual(self.answers("rests", "hostile.mm", "--", label), wanted)
+            self.assertEqual(self.answers("falls", "hostile.mm", "--", label), world.users(label))
+            came = self.query("falls", "hostile.mm", "--format=json", "--", label)
+            self.assertEqual([row["theorem"] for row in came.rows()], world.users(label))
+        for form in ("dot", "graphml", "edges"):
+            came = self.query("graph", "hostile.mm", f"--as={form}")
+            self.assertEqual((came.status, came.err), (0, ""))
+            for label in world.cites:
+                self.assertIn(label, came.out)
+
+    def test_a_label_is_never_an_option(self) -> None:
+        self.write("n.mm", SMALL.replace("a2 ", "--help ").replace("a1i", "-n"))
+        self.assertEqual(self.answers("cites", "n.mm", "--", "--help"), ["wi", "-n"])
+        self.assertEqual(self.answers("falls", "n.mm", "--", "-n"), ["--help"])
+        self.assertEqual(self.answers("falls", "n.mm", "wi", "--without=-n"), ["wi2", "-n"])
+        self.assertEqual(self.answers("falls", "n.mm", "wi", "--without", "-n"), ["wi2", "-n"])
+        self.refuses("falls", "n.mm", "-n", why="no option -n")
+
+
+class Places(World):
+    """Where a database comes from."""
+
+    def setUp(self) -> None:
+        super().setUp()
+        self.write("small.mm", SMALL)
+        self.wanted = ["ax-1", "ax-mp"]
+
+    def test_compressed(self) -> None:
+        data = SMALL.encode()
+        for name, packed in {
+            "a.gz": gzip.compress(data),
+            "a.bz2": bz2.compress(data),
+            "a.xz": lzma.compress(data),
+            "two.gz": gzip.compress(data[:200]) + gzip.compress(data[200:]),
+        }.items():
+            self.write(name, packed)
+            self.assertEqual(self.answers("rests", name, "a2"), self.wanted)
+            came = self.query("rests", "-", "a2", given=packed)
+            self.assertEqual((came.lines(), came.err), (self.wanted, ""))
+            for cut in (4, len(packed) // 2, len(packed) - 3):
+                self.write("cut", packed[:cut])
+                if name != "two.gz":
+                    self.refuses("rests", "cut", "a2")
+        broken = bytearray(gzip.compress(data))
+        broken[60] ^= 255
+        self.write("broken.gz", bytes(broken))
+        self.refuses("rests", "broken.gz", "a2", why="damaged")
+
+    def test_standard_input_and_pipes(self) -> None:
+        came = self.query("rests", "-", "a2", given=SMALL.encode())
+        self.assertEqual((came.lines(), came.err, came.status), (self.wanted, "", 0))
+        came = self.shell("cat small.mm | {} rests /dev/stdin a2")
+        self.assertEqual((came.lines(), came.err), (self.wanted, ""))
+        came = self.shell("{} rests <(cat small.mm) a2")
+        self.assertEqual((came.lines(), came.err), (self.wanted, ""))
+
+    def shell(self, command: str) -> Came:
+        """Runs a command of bash with mmquery at each `{}`."""
+        done = subprocess.run(
+            ["bash", "-c", command.format(MMQUERY)],
+            cwd=self.room,
+            env=self.surroundings(),
+            capture_output=True,
+            text=True,
+            check=False,
+        )
+        return Came(done.stdout, done.stderr, done.returncode)
+
+    @unittest.skipUnless(shutil.which("git"), "git isn't installed")
+    def test_revisions(self) -> None:
+        git = "git -c user.name=a -c user.email=a@b -c init.defaultBranch=main"
+        self.shell(f"{git} init -q && git add small.mm && {git} commit -q -m one && git tag v1")
+        self.write("small.mm", SMALL.replace("a2 $p", "a3 $p"))
+        self.assertEqual(self.answers("rests", "v1:small.mm", "a2"), self.wanted)
+        self.assertEqual(self.answers("rests", "HEAD:./small.mm", "a2"), self.wanted)
+        self.refuses("rests", "v1:small.mm", "a3", why="v1:small.mm")
+        self.refuses("rests", "v2:small.mm", "a2", why="v2")
+        self.refuses("rests", "v1:other.mm", "a2", why="other.mm")
+
+    def test_files_that_can_not_be_read(self) -> None:
+        self.refuses("rests", "nowhere.mm", "a2", why="nowhere.mm: there is no such file")
+        self.refuses("rests", ".", "a2", why="is a folder")
+        self.refuses("rests", "a\nb\x1b[31m.mm", "a2", why="a\\x0ab\\x1b[31m.mm")
+        self.write("empty.mm", "")
+        for name in WORDS:
+            if "DB" in WORDS[name] and name not in ("verify", "set-proof"):
+                came = self.query(*words_of(name, "empty.mm"))
+                self.assertEqual((came.status, came.out, came.err.count("\n")), (2, "", 1), name)
+
+    def test_the_program_is_missing_or_fails(self) -> None:
+        self.refuses("rests", "small.mm", "a2", MMDEPEND="/nowhere", why="no program /nowhere")
+        for script, why in {
+            "exit 3": "status 3",
+            "echo 'mmdepend: out of memory' >&2; exit 4": "small.mm: out of memory",
+            "kill -9 $$": "signal 9",
+            "echo nonsense": "the report is cut off",
+            "exit 1": "status 1",
+        }.items():
+            (self.room / "fake").write_text(
+                f'#!/bin/sh\n[ "$1" != --version ] || exit 0\n{script}\n'
+            )
+            (self.room / "fake").chmod(0o755)
+            self.refuses("rests", "small.mm", "a2", MMDEPEND="./fake", why=why)
+
+
+if __name__ == "__main__":
+    unittest.main()
