@@ -511,7 +511,8 @@ class Outputs(Repositories):
         self.assertEqual(
             commands[0],
             "::error file=sub/a%2Cb%3A 100%25.mm,line=6,title=mmquery gate (axioms)"
-            "::df-4: a changed axiom: the formula changed, from |- ( 2 + 2 ) = 4 to |- ::error::%250A,:<b>",
+            "::df-4: a changed axiom: the formula changed, from |- ( 2 + 2 ) = 4 to"
+            " |- ::error::%250A,:<b>",
         )
         self.assertEqual(came.lines()[2][:24], "mmquery gate: 2 findings")
 

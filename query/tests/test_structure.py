@@ -1,0 +1,217 @@
+"""What `chapters`, `order`, `unfinished`, `discouraged`, `mathboxes` and `set-proof` answer."""
+
+import random
+import re
+import shutil
+import subprocess
+import unittest
+
+from query.tests.world import DATABASES, SMALL, World, invented
+from query.text import read_text
+
+PARTS = """$c wff |- ( -> ) $.
+$v p q $. wp $f wff p $. wq $f wff q $. wi $a wff ( p -> q ) $.
+$(
+#*#*#*
+  First
+#*#*#*
+$)
+ax-1 $a |- ( p -> ( q -> p ) ) $.
+one $p |- ( p -> ( q -> p ) ) $= wp wq ax-1 $.
+$(
+=-=-=-
+  Deeper | <b>
+=-=-=-
+$)
+two $p |- ( p -> ( p -> p ) ) $= wp wp one $.
+$(
+#*#*#*
+  Mathbox for Ann Other
+#*#*#*
+$)
+ax-2 $a |- p $.
+three $p |- p $= wp ax-2 $.
+$(
+#*#*#*
+  Mathbox for Bo
+#*#*#*
+$)
+$( (New usage is discouraged.) $)
+four $p |- p $= wp three $.
+$( (Proof modification is
+   discouraged.) (New usage is discouraged.) $)
+five $p |- p $= ( four ) AB $.
+todo $p |- p $= ? $.
+six $p |- ( p -> q ) $= wp wq wi todo $.
+"""
+
+
+class Structure(World):
+    """Over a database with headers, mathboxes and an open theorem."""
+
+    def setUp(self) -> None:
+        super().setUp()
+        self.write("db.mm", PARTS)
+
+    def rows(self, *words: str) -> list[list[str]]:
+        """The rows of an answer, without the names."""
+        lines = self.answers(words[0], "--open", "--format", "tsv", *words[1:])
+        return [line.split("\t") for line in lines[1:]]
+
+    def test_chapters(self) -> None:
+        names = self.answers("chapters", "--open", "--format", "tsv", "db.mm", "ax-2", "ax-1")[0]
+        self.assertEqual(
+            names.split("\t"),
+            [
+                "number",
+                "theorems",
+                "rest on ax-2",
+                "first on ax-2",
+                "rest on ax-1",
+                "first on ax-1",
+                "title",
+            ],
+        )
+        self.assertEqual(
+            self.rows("chapters", "db.mm", "ax-2", "ax-1"),
+            [
+                ["0", "6", "3", "three", "2", "one", "(the whole database)"],
+                ["0.1", "2", "0", "-", "2", "one", "First"],
+                ["0.1.1", "1", "0", "-", "1", "two", "Deeper | <b>"],
+                ["0.2", "1", "1", "three", "0", "-", "Mathbox for Ann Other"],
+                ["0.3", "3", "2", "four", "0", "-", "Mathbox for Bo"],
+            ],
+        )
+        self.assertEqual(self.rows("chapters", "db.mm")[0], ["0", "6", "(the whole database)"])
+        self.refuses(
+            "chapters", "--open", "db.mm", "one", why="has no axiom of typecode '|-' 'one'"
+        )
+        self.refuses("chapters", "db.mm", why="E32")
+
+    def test_order(self) -> None:
+        self.assertEqual(
+            self.rows("order", "db.mm"),
+            [
+                ["2", "axiom", "wff", "-", "wi"],
+                ["8", "axiom", "|-", "2", "ax-1"],
+                ["9", "theorem", "|-", "1", "one"],
+                ["15", "theorem", "|-", "1", "two"],
+                ["21", "axiom", "|-", "3", "ax-2"],
+                ["22", "theorem", "|-", "1", "three"],
+                ["29", "theorem", "|-", "1", "four"],
+                ["32", "theorem", "|-", "1", "five"],
+                ["33", "open", "|-", "1", "todo"],
+                ["34", "theorem", "|-", "1", "six"],
+            ],
+        )
+
+    def test_order_by_chance(self) -> None:
+        for seed in range(5):
+            world = invented(random.Random(seed))
+            self.write("chance.mm", world.text)
+            rows = self.rows("order", "chance.mm")
+            counts = {row[4]: row[3] for row in rows}
+            for label in world.cites:
+                rests = world.rests(label).intersection(world.axioms)
+                self.assertEqual(counts[label], str(len(rests)))
+            for label in world.axioms:
+                self.assertEqual(counts[label], str(len(world.users(label))))
+
+    def test_unfinished(self) -> None:
+        self.assertEqual(self.rows("unfinished", "db.mm"), [["1", "todo"]])
+        self.assertEqual(self.rows("unfinished", "db.mm", "todo"), [["six"]])
+        self.refuses("unfinished", "db.mm", "five", why="has no open theorem 'five'")
+        self.write("small.mm", SMALL)
+        self.assertEqual(self.answers("unfinished", "small.mm"), [])
+        self.write("report", self.report("small.mm", "--report", "usage"))
+        self.refuses("unfinished", "report", why="a report, where the database is wanted")
+
+    def test_discouraged(self) -> None:
+        self.assertEqual(
+            self.answers("discouraged", "--open", "db.mm"),
+            [
+                '"four" is used by "five".',
+                'New usage of "five" is discouraged (0 uses).',
+                'New usage of "four" is discouraged (1 uses).',
+                'Proof modification of "five" is discouraged (2 steps).',
+            ],
+        )
+        self.assertEqual(
+            self.rows("discouraged", "db.mm"),
+            [
+                ["use", "four", "five", "-"],
+                ["usage", "four", "-", "1"],
+                ["usage", "five", "-", "0"],
+                ["proof", "five", "-", "2"],
+            ],
+        )
+
+    def test_mathboxes(self) -> None:
+        self.assertEqual(self.rows("mathboxes", "db.mm"), [["four", "Bo", "three", "Ann Other"]])
+        self.write("small.mm", SMALL)
+        self.assertEqual(self.answers("mathboxes", "small.mm"), [])
+
+    def test_set_proof(self) -> None:
+        self.write("small.mm", SMALL)
+        out = self.query("set-proof", "small.mm", "ax1", "?").out
+        self.assertEqual(out, SMALL.replace("$= wp wq ax-1 $.", "$= ? $."))
+        self.write("open.mm", out)
+        self.assertEqual(
+            self.answers("unfinished", "open.mm"), ["theorems  theorem", "       0  ax1"]
+        )
+        wrong = self.query("set-proof", "small.mm", "a2", "wi2").out
+        proof = "wp wq wp wi wi"
+        self.assertEqual(wrong.count(f"$= {proof} $."), 2)
+        self.write("wrong.mm", wrong)
+        self.assertEqual(self.query("verify", "wrong.mm").status, 1)
+        right = self.query("set-proof", "wrong.mm", "a2", "ax1").out
+        self.assertIn("( q -> ( q -> p ) ) $= wp wq ax-1 $.", right)
+        self.refuses("set-proof", "small.mm", "ax-1", "?", why="has no theorem 'ax-1'")
+        self.refuses("set-proof", "small.mm", "ax1", "none", why="has no theorem 'none'")
+        self.write("bad.mm", SMALL + "$c wff $.")
+        self.refuses("set-proof", "bad.mm", "ax1", "?", why="bad.mm:12:4: refused E13")
+
+
+@unittest.skipUnless(
+    shutil.which("metamath") and (DATABASES / "iset.mm").exists(), "no metamath.exe or no iset.mm"
+)
+class BesideMetamath(World):
+    """What metamath.exe says of iset.mm."""
+
+    def metamath(self, name: str, *commands: str) -> str:
+        """What it prints of a database."""
+        words = [f"read '{name}'", "set width 9999", *commands, "exit"]
+        done = subprocess.run(["metamath", *words], capture_output=True, check=True, cwd=self.room)
+        return done.stdout.decode("latin-1")
+
+    def test_discouraged(self) -> None:
+        told = self.metamath(str(DATABASES / "iset.mm"), "show discouraged")
+        lines = re.findall(r"^SHOW DISCOURAGED:  (.*)$", told, re.MULTILINE)
+        self.assertGreater(len(lines), 400)
+        self.assertEqual(self.answers("discouraged", str(DATABASES / "iset.mm")), sorted(lines))
+
+    def test_mathboxes(self) -> None:
+        data = (DATABASES / "iset.mm").read_bytes()
+        text = read_text(data)
+        inside = [one for one in text.assertions if text.mathbox(one) and not one.essential]
+        known = {"ph", "ps", "ch", "A", "B", "x", "y"}  # with a `$f` outside of all blocks
+        fit = [one for one in inside if not one.disjoint and known.issuperset(text.mandatory(one))]
+        chosen = random.Random(1).sample(fit, 3)
+        line = "#*" * 39 + "#"
+        added = f"\n$(\n{line}\n        Mathbox for Zed Tester\n{line}\n$)\n"
+        # Of each variable the last `$f`, which is that outside of all blocks.
+        floats = {text.symbols(h)[1]: h.label for h in text.hypotheses if h.kind == "f"}
+        places = {h.label: h.place for h in text.hypotheses}
+        order = sorted(floats, key=lambda variable: places[floats[variable]])
+        for one in chosen:
+            variables = text.mandatory(one)
+            steps = [floats[variable] for variable in order if variable in variables]
+            formula = text.formula(one)
+            added += f"zz{one.label} $p {formula} $= {' '.join([*steps, one.label])} $.\n"
+        self.write("iset.mm", data + added.encode())
+        told = self.metamath("iset.mm", "verify markup * / date_skip / file_skip")
+        warning = r'The proof of "(.*)" in the mathbox for (.*) references "(.*)" in the mathbox for (.*)\.'
+        wanted = set(re.findall(warning, told))
+        self.assertEqual({user for user, *_ in wanted}, {f"zz{one.label}" for one in chosen})
+        rows = self.answers("mathboxes", "--format", "tsv", "iset.mm")[1:]
+        self.assertEqual({tuple(row.split("\t")) for row in rows}, wanted)
