@@ -5,6 +5,7 @@ row; then the axioms. A theorem cites only theorems before it.
 """
 
 from array import array
+from bisect import bisect_right
 from collections.abc import Callable, Iterable
 from functools import cached_property
 
@@ -122,28 +123,33 @@ class Graph:
     def above(self, nodes: Iterable[int]) -> set[int]:
         """The nodes, and all theorems that rest on one of them through citations."""
         found = set(nodes)
-        left = list(found)
-        while left:
-            for user in self.cited_by[left.pop()]:
-                if user not in found:
-                    found.add(user)
-                    left.append(user)
+        places, targets = self.cites.places, self.cites.targets
+        for theorem in range(self.theorems):
+            if not found.isdisjoint(targets[places[theorem] : places[theorem + 1]]):
+                found.add(theorem)
         return found
 
-    def distances(self, end: int) -> dict[int, int]:
+    def users(self, node: int) -> list[int]:
+        """The theorems that cite a node, in file order."""
+        places, targets = self.cites.places, self.cites.targets
+        found: list[int] = []
+        place = -1
+        while True:
+            try:
+                place = targets.index(node, place + 1)
+            except ValueError:
+                return found
+            found.append(bisect_right(places, place) - 1)
+
+    def distances(self, end: int, last: int | None = None) -> dict[int, int]:
         """For each node that rests on this one, how many citations a shortest chain to it has; 0
-        for the node itself.
+        for the node itself. Of theorems beyond `last` it says nothing.
         """
         far = {end: 0}
-        edge = [end]
-        while edge:
-            further = []
-            for cited in edge:
-                for user in self.cited_by[cited]:
-                    if user not in far:
-                        far[user] = far[cited] + 1
-                        further.append(user)
-            edge = further
+        for theorem in range(self.theorems if last is None else min(last + 1, self.theorems)):
+            cited = self.cites[theorem]
+            if not far.keys().isdisjoint(cited):
+                far[theorem] = 1 + min(far[each] for each in cited if each in far)
         return far
 
     def following(self, node: int, far: dict[int, int]) -> int:
@@ -156,7 +162,7 @@ class Graph:
         """A shortest chain of citations from one node to another, both included, by `following`.
         Empty where there is none.
         """
-        far = self.distances(end)
+        far = self.distances(end, node)
         if node not in far:
             return []
         chain = [node]

@@ -83,7 +83,7 @@ def run_cited_by(context: Context, arguments: argparse.Namespace) -> int:
     graph = context.database(arguments.database, options_of(arguments)).graph()
     nodes = [graph.node(label) for label in arguments.labels]
     rows = [
-        [graph.labels[user], graph.labels[node]] for node in nodes for user in graph.cited_by[node]
+        [graph.labels[user], graph.labels[node]] for node in nodes for user in graph.users(node)
     ]
     put_pairs(context, ["theorem", "cited"], rows, 0, len(nodes))
     return 0

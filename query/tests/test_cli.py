@@ -57,13 +57,14 @@ class CommandLine(World):
 
     def test_options_stand_anywhere(self) -> None:
         wanted = ["wi", "ax-1", "ax-mp"]
-        for words in (
+        several: tuple[tuple[str, ...], ...] = (
             ("--all", "small.mm", "a2"),
             ("small.mm", "--all", "a2"),
             ("small.mm", "a2", "--all"),
             ("small.mm", "a2", "--all", "--format", "text"),
             ("--format=text", "small.mm", "--all", "--", "a2"),
-        ):
+        )
+        for words in several:
             self.assertEqual(self.answers("rests", *words), wanted)
 
     def test_choice_of_axioms(self) -> None:
@@ -72,8 +73,8 @@ class CommandLine(World):
         self.assertEqual(self.answers("rests", "d.mm", "t", "--ignore-definitions"), [])
         words = ("rests", "d.mm", "t", "a2", "--axioms", "df-,ax-m")
         self.assertEqual(self.answers(*words), ["ax-mp", "df-x"])
-        words = ("rests", "d.mm", "t", "a2", "--axioms", "df-", "--axioms", "ax-1")
-        self.assertEqual(self.answers(*words), ["ax-1", "df-x"])
+        twice = ("rests", "d.mm", "t", "a2", "--axioms", "df-", "--axioms", "ax-1")
+        self.assertEqual(self.answers(*twice), ["ax-1", "df-x"])
         self.refuses("rests", "d.mm", "t", "--axioms", "ax-m,dg-", why="begins with 'dg-'")
         self.refuses("rests", "d.mm", "t", "--only", "|--", why="no axiom of typecode '|--'")
         self.assertEqual(self.answers("rests", "d.mm", "t", "a2", "--only", "wff"), ["wi"])
@@ -140,7 +141,7 @@ class CommandLine(World):
         text = "\n".join(self.answers(*words, "--format=csv"))
         self.assertEqual(list(csv.DictReader(io.StringIO(text))), rows)
         shown = [line.split() for line in self.answers(*words)]
-        self.assertEqual(shown, [["theorem", "cited"], *map(list, pairs)])
+        self.assertEqual(shown, [["theorem", "cited"], *([*pair] for pair in pairs)])
         self.assertEqual(
             self.query("uncited", "small.mm", "--format=json").rows()[0], {"theorem": "wi2"}
         )

@@ -8,6 +8,8 @@ import signal
 import subprocess
 import time
 import unittest
+from collections.abc import Callable
+from functools import partial
 from pathlib import Path
 
 from query.commands import names
@@ -270,7 +272,7 @@ class Interrupts(World):
             if number == signal.SIGINT:
                 self.assertEqual(errors, b"mmquery: interrupted\n")
             for pid in pids.read_text().split():
-                wait_for(lambda pid=pid: has_ended(pid))  # type: ignore[misc]
+                wait_for(partial(has_ended, pid))
 
     def test_signals_that_are_ignored_stay_so(self) -> None:
         line = f"trap '' INT HUP; exec {MMQUERY} rests db.mm a2"
@@ -297,10 +299,9 @@ def has_ended(pid: str) -> bool:
         return True
 
 
-def wait_for(is_so: object, seconds: float = 20) -> None:
+def wait_for(is_so: Callable[[], bool], seconds: float = 20) -> None:
     """Waits until something is so."""
     end = time.monotonic() + seconds
-    assert callable(is_so)
     while not is_so():
         if time.monotonic() > end:
             raise AssertionError("waited in vain")

@@ -97,15 +97,15 @@ class World(unittest.TestCase):
         )
         return Came(done.stdout.decode("latin-1"), done.stderr.decode("latin-1"), done.returncode)
 
-    def answers(self, *words: str, status: int = 0, **more: str) -> list[str]:
-        """The lines that a command answers, which has to have an answer."""
-        came = self.query(*words, **more)
-        self.assertEqual((came.status, came.err), (status, ""), f"{words}: {came}")
+    def answers(self, *words: str, **more: str) -> list[str]:
+        """The lines that a command answers, which has to have an answer, with status 0."""
+        came = self.query(*words, given=b"", **more)
+        self.assertEqual((came.status, came.err), (0, ""), f"{words}: {came}")
         return came.lines()
 
     def refuses(self, *words: str, why: str = "", **more: str) -> str:
         """The one line why a command has no answer."""
-        came = self.query(*words, **more)
+        came = self.query(*words, given=b"", **more)
         self.assertEqual((came.status, came.out), (2, ""), f"{words}: {came}")
         self.assertRegex(came.err, r"\Ammquery: [^\n]+\n\Z", f"{words}: {came}")
         self.assertIn(why, came.err, f"{words}")
@@ -179,7 +179,7 @@ def invented(chance: random.Random, theorems: int = 9, labels: list[str] | None 
     world = Invented()
     lines = ["$c |- wff ( -> ) $.", "$v p $.", "wp $f wff p $.", "wi $a wff ( p -> p ) $."]
     unary = "${{ h.{0} $e |- p $. {0} ${1} |- p {2}$. $}}"
-    order = []
+    order: list[str] = []
     for number in range(theorems + theorems // 2 + 1):
         label = next(names)
         if number < 2 or chance.random() < 0.3 and len(world.axioms) < theorems // 2:
