@@ -62,6 +62,8 @@ class Dependence:
 
     def rests(self, row: int) -> list[int]:
         """The columns of the axioms on which the theorem of this row rests, rising."""
+        if isinstance(self.chosen, range):
+            return self.marks.rests(row)
         columns = (self._column_of.get(number) for number in self.marks.rests(row))
         return [column for column in columns if column is not None]
 

@@ -5,6 +5,8 @@ from itertools import compress
 
 # For each bit of a byte the table that makes 1 of the bytes that have it, and 0 of the others.
 HAS = [bytes(1 if byte & (0x80 >> bit) else 0 for byte in range(256)) for bit in range(8)]
+# Makes bits of the digits of a number in base 2.
+BITS = bytes.maketrans(b"01", b"\0\1")
 
 
 class Marks:
@@ -64,8 +66,8 @@ def mask(columns: int, numbers: Sequence[int]) -> int:
 
 def columns_of(row: int, columns: int) -> list[int]:
     """The columns whose bits a row has, rising."""
-    signs = f"{row:0{8 * width_of(columns)}b}"
-    return [number for number, sign in enumerate(signs) if sign == "1"]
+    signs = f"{row:0{8 * width_of(columns)}b}".encode().translate(BITS)
+    return list(compress(range(columns), signs))
 
 
 def packed(rows: Sequence[int], columns: int) -> Marks:

@@ -16,7 +16,7 @@ COLUMNS = ("change", "kind", "label", "was", "axiom", "citing", "cited")
 
 def expected(old: Generation, new: Generation) -> set[tuple[str, ...]]:
     """The rows that there have to be, without the reasons."""
-    rows = set()
+    rows: set[tuple[str, ...]] = set()
     for part in new.parts:
         before = old.part(part.number)
         kind = "axiom" if part.is_axiom else "theorem"

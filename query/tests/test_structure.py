@@ -210,7 +210,8 @@ class BesideMetamath(World):
             added += f"zz{one.label} $p {formula} $= {' '.join([*steps, one.label])} $.\n"
         self.write("iset.mm", data + added.encode())
         told = self.metamath("iset.mm", "verify markup * / date_skip / file_skip")
-        warning = r'The proof of "(.*)" in the mathbox for (.*) references "(.*)" in the mathbox for (.*)\.'
+        box = "in the mathbox for (.*)"
+        warning = rf'The proof of "(.*)" {box} references "(.*)" {box}\.'
         wanted = set(re.findall(warning, told))
         self.assertEqual({user for user, *_ in wanted}, {f"zz{one.label}" for one in chosen})
         rows = self.answers("mathboxes", "--format", "tsv", "iset.mm")[1:]
