@@ -4,6 +4,7 @@ import argparse
 
 from query.commands import Command
 from query.context import Context
+from query.database import Dependence
 from query.errors import NoAnswer
 from query.lists import add_list, labels_of
 from query.options import add_choice_of_axioms, add_database, count, options_of
@@ -17,11 +18,17 @@ theorems  how many theorems rest on it (with --theorems, axioms: on how many it 
 axiom     the label of the axiom (with --theorems, theorem)
 
 With --below N, in file order the axioms on which fewer than N theorems rest: with --below 1 those
-on which nothing rests.
+on which nothing rests. With --against OLD, in file order the axioms on which another number of
+theorems rests than in the database OLD:
+
+was       how many did in OLD; - (null) where it has no such axiom
+theorems  how many do now; - (null) where there is no such axiom any more
+axiom     the label of the axiom
 
   $ mmquery top set.mm 3
   $ mmquery top set.mm --theorems 3
   $ mmquery top set.mm --below 1
+  $ mmquery top set.mm --against old.mm
 """
 
 WITHIN_PAGE = """
@@ -53,12 +60,41 @@ def configure_top(parser: argparse.ArgumentParser) -> None:
     group.add_argument(
         "--below", metavar="B", type=count, help="all axioms on which fewer than B theorems rest"
     )
+    group.add_argument(
+        "--against", metavar="OLD", help="axioms on which another number rests than in OLD"
+    )
     add_choice_of_axioms(parser)
 
 
 def run_top(context: Context, arguments: argparse.Namespace) -> int:
     """Answers `top`."""
-    dependence = context.database(arguments.database, options_of(arguments)).dependence()
+    database = context.database(arguments.database, options_of(arguments))
+    dependence = database.dependence()
+    if arguments.against is not None:
+        old = context.database(arguments.against, options_of(arguments))
+        if old.is_report != database.is_report:
+            raise NoAnswer("a report beside a database; both have to be one or the other")
+        rows = differences(old.dependence(), dependence)
+        context.out.table(["was", "theorems", "axiom"], rows)
+        return 0
+    put_ranking(context, arguments, dependence)
+    return 0
+
+
+def differences(old: Dependence, new: Dependence) -> list[list[Value]]:
+    """The axioms on which another number of theorems rests, with both numbers."""
+    was = dict(zip(old.axioms, old.sizes()))
+    now = dict(zip(new.axioms, new.sizes()))
+    labels = [*now, *(label for label in was if label not in now)]
+    return [
+        [was.get(label), now.get(label), label]
+        for label in labels
+        if was.get(label) != now.get(label)
+    ]
+
+
+def put_ranking(context: Context, arguments: argparse.Namespace, dependence: Dependence) -> None:
+    """Answers `top` about one database."""
     if arguments.theorems:
         sizes = [dependence.bits(row).bit_count() for row in range(len(dependence.theorems))]
         labels, columns = dependence.theorems, ["axioms", "theorem"]
@@ -70,7 +106,6 @@ def run_top(context: Context, arguments: argparse.Namespace) -> int:
     else:
         rows = [row for row in rows if int(str(row[0])) < arguments.below]
     context.out.table(columns, rows)
-    return 0
 
 
 def configure_within(parser: argparse.ArgumentParser) -> None:

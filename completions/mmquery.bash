@@ -1,0 +1,52 @@
+# Completes the commands and options of mmquery, in bash. Source this file, or put it into
+# ~/.local/share/bash-completion/completions as `mmquery`.
+_mmquery() {
+    local word=${COMP_WORDS[COMP_CWORD]} before=${COMP_WORDS[COMP_CWORD - 1]} words=
+    if [ "$word" = = ]; then word=; elif [ "$before" = = ]; then
+        before=${COMP_WORDS[COMP_CWORD - 2]}; fi
+    if [ "$COMP_CWORD" -eq 1 ]; then
+        words='verify rests falls cites cited-by uncited why way-out frees top within same compare gate chapters order unfinished discouraged mathboxes graph picture page set-proof export cache --help --version'
+    else
+        case ${COMP_WORDS[1]}:$before in
+            verify:--format | rests:--format | falls:--format | cites:--format | cited-by:--format | uncited:--format | why:--format | way-out:--format | frees:--format | top:--format | within:--format | same:--format | compare:--format | chapters:--format | order:--format | unfinished:--format | discouraged:--format | mathboxes:--format | export:--format | cache:--format) words='text tsv csv json' ;;
+            gate:--format) words='text json github markdown' ;;
+            graph:--as) words='dot graphml edges' ;;
+            *)
+                case ${COMP_WORDS[1]}:$word in
+                    verify:-*) words='--essential --open --format --no-cache -h --help' ;;
+                    rests:-*) words='--theorems --apart --only --all --axioms --ignore-definitions --essential --open --format --no-cache -h --help' ;;
+                    falls:-*) words='--any-of --all-of --without --only --all --axioms --ignore-definitions --essential --open --format --no-cache -h --help' ;;
+                    cites:-*) words='--on --essential --open --format --no-cache -h --help' ;;
+                    cited-by:-*) words='--essential --open --format --no-cache -h --help' ;;
+                    uncited:-*) words='--essential --open --format --no-cache -h --help' ;;
+                    why:-*) words='--all --essential --open --format --no-cache -h --help' ;;
+                    way-out:-*) words='--essential --open --format --no-cache -h --help' ;;
+                    frees:-*) words='--most --essential --open --format --no-cache -h --help' ;;
+                    top:-*) words='--theorems --below --against --only --all --axioms --ignore-definitions --essential --open --format --no-cache -h --help' ;;
+                    within:-*) words='--list --only --all --axioms --ignore-definitions --essential --open --format --no-cache -h --help' ;;
+                    same:-*) words='--only --all --axioms --ignore-definitions --essential --open --format --no-cache -h --help' ;;
+                    compare:-*) words='--only --all --axioms --ignore-definitions --essential --open --format --no-cache -h --help' ;;
+                    gate:-*) words='--base --config --summary --format --no-cache -h --help' ;;
+                    chapters:-*) words='--only --all --axioms --ignore-definitions --essential --open --format --no-cache -h --help' ;;
+                    order:-*) words='--only --all --axioms --ignore-definitions --essential --open --format --no-cache -h --help' ;;
+                    unfinished:-*) words='--essential --open --format --no-cache -h --help' ;;
+                    discouraged:-*) words='--essential --open --format --no-cache -h --help' ;;
+                    mathboxes:-*) words='--essential --open --format --no-cache -h --help' ;;
+                    graph:-*) words='--as --essential --open --no-cache -h --help' ;;
+                    picture:-*) words='--png --across --down --only --all --axioms --ignore-definitions --essential --open --no-cache -h --help' ;;
+                    page:-*) words='--only --title --against --watch --essential --open --no-cache -h --help' ;;
+                    set-proof:-*) words='--no-cache -h --help' ;;
+                    export:-*) words='--sqlite --only --all --axioms --ignore-definitions --essential --open --format --no-cache -h --help' ;;
+                    cache:-*) words='--format --no-cache -h --help' ;;
+                esac
+                ;;
+        esac
+    fi
+    if [ -z "$words" ]; then
+        mapfile -t COMPREPLY < <(compgen -f -- "$word")
+        compopt -o filenames 2>/dev/null
+        return
+    fi
+    mapfile -t COMPREPLY < <(compgen -W "$words" -- "$word")
+}
+complete -F _mmquery mmquery ./mmquery

@@ -1,0 +1,118 @@
+"""The examples of the pages: each command of docs/COOKBOOK.md is run, and shows what stands
+there."""
+
+import re
+import subprocess
+import unittest
+
+from query.commands import names
+from query.faults import FAULTS
+from query.tests.world import DATABASES, TOP, World, program
+
+PAGE = TOP / "docs" / "COOKBOOK.md"
+
+
+def blocks() -> list[list[tuple[str, list[str]]]]:
+    """The blocks of commands, each command with the lines that are shown of its answer."""
+    found = []
+    for block in re.findall(r"```console\n(.*?)```", PAGE.read_text(), re.S):
+        commands: list[tuple[str, list[str]]] = []
+        for line in block.splitlines():
+            if line.startswith("$ "):
+                commands.append((line[2:], []))
+            else:
+                commands[-1][1].append(line)
+        found.append(commands)
+    return found
+
+
+def is_shown(shown: list[str], came: list[str]) -> bool:
+    """Whether these lines are what came, where `...` stands for any lines."""
+    if not shown:
+        return not came
+    if shown[0] == "...":
+        return any(is_shown(shown[1:], came[i:]) for i in range(len(came) + 1))
+    return bool(came) and came[0] == shown[0] and is_shown(shown[1:], came[1:])
+
+
+class Cookbook(World):
+    """docs/COOKBOOK.md."""
+
+    def test_every_command_is_on_it(self) -> None:
+        run = " ".join(command for block in blocks() for command, _ in block)
+        for name in names():
+            self.assertIn(f"mmquery {name} ", PAGE.read_text() if name == "cache" else run)
+
+    @unittest.skipUnless((DATABASES / "set.mm").exists(), "set.mm isn't installed")
+    def test_examples(self) -> None:
+        (self.room / "set.mm").symlink_to(DATABASES / "set.mm")
+        path = self.surroundings()["PATH"]
+        tried = 0
+        for block in blocks():
+            for command, shown in block:
+                done = subprocess.run(
+                    ["bash", "-c", command],
+                    cwd=self.room,
+                    env=self.surroundings(PATH=f"{TOP}:{path}"),
+                    capture_output=True,
+                    check=False,
+                )
+                came = (
+                    done.stdout.decode("latin-1").splitlines() + done.stderr.decode().splitlines()
+                )
+                if done.returncode:
+                    came.append(f"(status {done.returncode})")
+                cut = came if "..." not in shown else came[:20] + came[-20:]
+                self.assertTrue(is_shown(shown, cut), f"{command}\n" + "\n".join(cut[:9]))
+                tried += 1
+        self.assertGreater(tried, 30)
+        self.assertTrue((self.room / "set.png").read_bytes().startswith(b"\x89PNG\r\n\x1a\n"))
+        self.assertTrue((self.room / "set.html").read_bytes()[:15].lower() == b"<!doctype html>")
+
+
+class Faults(World):
+    """docs/FAULTS.md: its examples give what it says, and `verify` tells its advice."""
+
+    def test_the_table(self) -> None:
+        lines = (TOP / "docs" / "FAULTS.md").read_text().splitlines()
+        rows = [
+            re.split(r" (?<!\\)\| ", line[2:-2]) for line in lines if re.match(r"\| E\d\d \|", line)
+        ]
+        self.assertEqual(sorted(row[0] for row in rows), sorted(FAULTS))
+        for code, _, _, example, place, advice in rows:
+            self.assertEqual(advice, FAULTS[code][1], code)
+            if not example.startswith("`"):
+                continue
+            text = example[1:-1].replace("<LF>", "\n").replace("<07>", "\x07").replace("\\|", "|")
+            self.write("example.mm", text)
+            done = subprocess.run(
+                [program() or "", self.room / "example.mm"], capture_output=True, check=False
+            )
+            self.assertEqual(done.stdout.decode(), f"refused {place} {code}\n")
+            came = self.query("verify", "example.mm")
+            self.assertEqual((came.status, came.err), (1, ""), code)
+            self.assertTrue(came.out.startswith(f"example.mm:{place}: refused {code}"), came.out)
+            self.assertIn(FAULTS[code][0], came.out)
+            self.assertIn(advice, came.out)
+            self.refuses("rests", "example.mm", "x", why=f"example.mm:{place}: refused {code}")
+
+
+class ReportPage(World):
+    """docs/REPORT.md: its examples are what the program gives."""
+
+    def test_the_examples(self) -> None:
+        text = (TOP / "docs" / "REPORT.md").read_text()
+        shown = re.findall(r"^```\n(.*?)^```", text, re.S | re.M)
+        self.assertEqual(len(shown), 8)
+        self.write("page.mm", shown[0])
+        self.write("open.mm", shown[0] + shown[6])
+        self.assertEqual(self.report("page.mm"), shown[1])
+        self.assertEqual(self.report("page.mm", "--only", "|-", "--report", "counts"), shown[2])
+        self.assertIn(shown[3], self.report("page.mm", "--form", "2"))
+        self.assertEqual(self.report("page.mm", "--essential"), shown[4])
+        self.assertEqual(self.report("page.mm", "--report", "citations"), shown[5])
+        self.assertEqual(self.report("open.mm", "--open", "--report", "counts"), shown[7])
+
+
+if __name__ == "__main__":
+    unittest.main()
