@@ -115,10 +115,9 @@ def difference(arguments: argparse.Namespace, old: Database, new: Database, text
     from query.page.against import Difference
 
     progress.now(f"comparing {old.name} and {new.name}")
-    before = Side(old, old.dependence())
-    comparison = Comparison(before, Side(new, new.dependence()))
-    assert before.text is not None
-    return {"against": Difference(comparison, before.text, text).block(name_of(arguments.against))}
+    before = text_of(old)
+    comparison = Comparison(Side(old.dependence(), before), Side(new.dependence(), text))
+    return {"against": Difference(comparison, before, text).block(name_of(arguments.against))}
 
 
 def run(context: Context, arguments: argparse.Namespace) -> int:

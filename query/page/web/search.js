@@ -128,10 +128,10 @@ export class Search {
             const all = [model.formulas.at(number)];
             for (const index of model.hypotheses.of(number)) all.push(model.hypothesisFormulas.at(index));
             written.push(all.join("\t").toLowerCase());
-            if (symbols.areDefined) shown.push(all.map((formula) => symbols.keyOfFormula(formula)).join("\t"));
+            shown.push(all.map((formula) => symbols.keyOfFormula(formula)).join("\t"));
         }
         this.formulas.push(new Lines(new Texts(written.join("\n"), end - first), first));
-        if (symbols.areDefined) this.shown.push(new Lines(new Texts(shown.join("\n"), end - first), first));
+        this.shown.push(new Lines(new Texts(shown.join("\n"), end - first), first));
     }
 
     /**

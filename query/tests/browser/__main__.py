@@ -1,0 +1,172 @@
+"""Tries the page in Chromium and Firefox.
+
+Usage: python3 -m query.tests.browser [--small | --measure] [--only BROWSER] [--seed N]
+                                      [--theorems N] [--axioms N] [--keep FOLDER]
+
+Pages of demo0, ql, hol, iset and set.mm of Debian are made and opened, and those of databases that
+are written to do harm. What they show is compared with the program's reports, conditions of distinct
+variables with metamath.exe, symbols with the `$t` comment by a reader of this test's own. --small
+leaves set.mm out; --measure takes only its figures; --keep writes the pages into a folder. The
+figures are printed; the last line is `N passed, M failed`. Status 1 is a failure, and 2 that a
+browser, metamath or a database isn't here.
+"""
+
+import argparse
+import contextlib
+import random
+import shutil
+import sys
+import tempfile
+from pathlib import Path
+
+from query.tests.browser import browsers, parts, views, whole
+from query.tests.browser.browsers import Browser
+from query.tests.browser.counting import checks, count, figure, same
+from query.tests.browser.truth import DATABASES, Truth
+from query.tests.browser.views import Shown
+
+
+def missing(what: str) -> None:
+    """Ends the test: something isn't here."""
+    print(f"browser: {what}", file=sys.stderr)
+    sys.exit(2)
+
+
+def options_of() -> argparse.Namespace:
+    """The words of the command line."""
+    parser = argparse.ArgumentParser(description=(__doc__ or "").split("\n", maxsplit=1)[0])
+    parser.add_argument("--small", action="store_true")
+    parser.add_argument("--measure", action="store_true")
+    parser.add_argument("--only", choices=list(browsers.KINDS))
+    parser.add_argument("--seed", type=int, default=random.randrange(10**6))
+    parser.add_argument("--theorems", type=int, default=300)
+    parser.add_argument("--axioms", type=int, default=50)
+    parser.add_argument("--keep", type=Path)
+    return parser.parse_args()
+
+
+class Pages:
+    """The pages of the databases, made once for both browsers."""
+
+    def __init__(self, room: Path, options: argparse.Namespace) -> None:
+        self.room = room
+        self.options = options
+        self.made: dict[str, tuple[Path, Truth | None, float]] = {}
+
+    def page(self, name: str) -> tuple[Path, Truth, float]:
+        """The page of a database, the truth on it, and how long it took."""
+        database = DATABASES / f"{name}.mm"
+        page = self.room / f"{name}.html"
+        if name not in self.made:
+            took = whole.make_page(database, page)
+            self.made[name] = (page, Truth(database), took)
+            figure(f"bytes of the page of {name}.mm", page.stat().st_size, whole.MOST_BYTES)
+        page, truth, took = self.made[name]
+        assert truth is not None
+        return page, truth, took
+
+
+def try_hostile(browser: Browser, room: Path) -> None:
+    """Databases that are written for this test."""
+    page = whole.check_hostile(browser, room, [], False)
+    whole.check_hostile(browser, room, [], True)
+    for words in (["--only", "|-"], ["--only", "|-", "--open", "--essential"]):
+        whole.check_hostile(browser, room, words, False)
+    whole.check_policy(browser, page)
+    whole.check_corners(browser, room)
+    whole.check_against(browser, room)
+
+
+def try_database(browser: Browser, pages: Pages, name: str, rng: random.Random) -> None:
+    """A page of a database of Debian."""
+    page, truth, _ = pages.page(name)
+    options = pages.options
+    is_large = name == "set"
+    theorems = whole.some(rng, truth.theorems, options.theorems if is_large else 30)
+    axioms = whole.some(rng, truth.columns, options.axioms if is_large else 10)
+    browser.open(page)
+    shown = Shown(browser, truth)
+    views.check_sample(shown, theorems, axioms, rng)
+    parts.check_chapters(browser, page, truth, rng, 12 if is_large else 4)
+    parts.check_search(browser, page, truth, rng, 25)
+    parts.check_history(browser, page, theorems[:3])
+    parts.check_cells(browser, page, truth, rng, 20)
+    deep = max(theorems[:5], key=lambda label: len(truth.marks(label)))
+    used = [label for label in truth.columns if truth.users[label]]
+    numbers = [number for number, _, _ in truth.headings]
+    chapter = [f"#chapter={rng.choice(numbers)}"] if numbers else []
+    addresses = ["", f"#theorem={deep}", f"#axiom={used[-1]}", *chapter, "#search=a"]
+    parts.check_looks(browser, page, addresses, pages.room)
+    axiom = next(one for one in truth.marks(deep) if one in used and truth.group(one) != "syntax")
+    other = next(label for label in used if label != axiom)
+    parts.check_keyboard(browser, page, truth, deep, axiom, other)
+    if shown.known:
+        parts.check_switch(browser, page, truth, deep)
+    same(browser.messages(), [], f"{browser.name} {page.name}: messages in the console")
+    print(f"{browser.name} {name}: {checks.passed} passed so far", flush=True)
+
+
+def try_set(browser: Browser, pages: Pages) -> None:
+    """What is known of set.mm."""
+    page, truth, _ = pages.page("set")
+    shown = Shown(browser, truth)
+    browser.open(page)
+    known = views.metamath_conditions(truth.path, ["ax-sep", "zorn", "ax-5", "zorn2lem4"])
+    for label, pairs in known.items():
+        view = shown.theorem(label) if label in truth.cited else shown.axiom(label)
+        shown.conditions(view, label, pairs)
+        shown.comment(view, label)
+    views.check_colours(browser, page, "zorn", truth)
+    parts.check_distinct_marks(browser, page, "zorn", "ax-5")
+    browser.open(page)
+    browser.call("searchReady")
+    best, _ = browser.run(parts.FIND, "zorn lemma")
+    same(best[:1], ["zorn"], f"{browser.name}: `zorn lemma` finds `zorn` first")
+    best, _ = browser.run(parts.FIND, "lemma zorn")
+    same(best[:1], ["zorn"], f"{browser.name}: and so does `lemma zorn`")
+    _, told = browser.run(parts.FIND, "∃y∀x(x∈y")
+    count(parts.number_in(told) > 0, f"{browser.name}: plain letters find shown ones", told)
+    parts.check_reachable(browser, page, truth, "discouraged", True)
+    same(browser.messages(), [], f"{browser.name}: messages in the console of set.mm's page")
+
+
+def main() -> None:
+    """Runs the test."""
+    options = options_of()
+    lacking = browsers.missing()
+    if lacking:
+        missing(f"no browsers to try the page in: {lacking}")
+    if not shutil.which("metamath"):
+        missing("there is no metamath: apt-get install metamath")
+    names = ["demo0", "hol", "ql", "iset"] + ([] if options.small else ["set"])
+    for name in names:
+        if not (DATABASES / f"{name}.mm").exists():
+            missing(f"there is no {DATABASES / name}.mm: apt-get install metamath-databases")
+    print(f"seed {options.seed}", flush=True)
+    kinds = [kind for name, kind in browsers.KINDS.items() if options.only in (None, name)]
+    with contextlib.ExitStack() as stack:
+        room = Path(stack.enter_context(tempfile.TemporaryDirectory()))
+        if options.keep:
+            options.keep.mkdir(parents=True, exist_ok=True)
+            room = options.keep.resolve()
+        pages = Pages(room, options)
+        if not options.measure:
+            whole.check_refusals(room)
+        for at, kind in enumerate(kinds):
+            browser = kind()
+            stack.callback(browser.close)
+            rng = random.Random(options.seed + at)
+            if not options.measure:
+                try_hostile(browser, room)
+                for name in names:
+                    try_database(browser, pages, name, rng)
+            if "set" in names:
+                page, _, took = pages.page("set")
+                if not options.measure:
+                    try_set(browser, pages)
+                whole.measure(browser, page, took if at == 0 else None)
+    checks.end()
+
+
+if __name__ == "__main__":
+    main()

@@ -1,0 +1,255 @@
+"""Two browsers behind one interface: Chromium by selenium, Firefox by Marionette."""
+
+import shutil
+import time
+from abc import ABC, abstractmethod
+from pathlib import Path
+from typing import Any
+
+from query.tests.browser.counting import count
+from query.tests.browser.marionette import Marionette
+from query.tests.browser.scripts import GATHER
+
+try:
+    from selenium import webdriver
+    from selenium.webdriver.chrome.options import Options
+    from selenium.webdriver.chrome.service import Service
+    from selenium.webdriver.common.action_chains import ActionChains
+except ImportError:
+    webdriver = None
+
+
+class Keys:
+    """Keys that aren't letters, as browsers' drivers name them."""
+
+    TAB = "\ue004"
+    ENTER = "\ue007"
+    ESCAPE = "\ue00c"
+    SPACE = "\ue00d"
+    DOWN = "\ue015"
+    UP = "\ue013"
+    RIGHT = "\ue014"
+
+
+class Browser(ABC):
+    """A browser without a window. Every message in its console is kept."""
+
+    name: str
+
+    @abstractmethod
+    def go(self, address: str) -> None:
+        """Opens an address."""
+
+    @abstractmethod
+    def run(self, script: str, *words: Any) -> Any:
+        """What the body of a function returns in the page."""
+
+    @abstractmethod
+    def call(self, function: str, *words: Any) -> Any:
+        """The answer of a function of the page that may wait."""
+
+    @abstractmethod
+    def press(self, *keys: str) -> None:
+        """Presses keys, one after the other."""
+
+    @abstractmethod
+    def size(self, width: int, height: int) -> bool:
+        """Gives the page a size; whether that can be done."""
+
+    @abstractmethod
+    def look(self, scheme: str, media: str = "") -> None:
+        """Light or dark; the media `print` or none."""
+
+    @abstractmethod
+    def messages(self) -> list[str]:
+        """What came into the console since the last time."""
+
+    @abstractmethod
+    def close(self) -> None:
+        """Ends it."""
+
+    def wait(self, script: str, *words: Any, seconds: float = 30) -> Any:
+        """Waits until an expression has a value that isn't false."""
+        end = time.time() + seconds
+        while time.time() < end:
+            value = self.run(f"return {script}", *words)
+            if value:
+                return value
+            time.sleep(0.01)
+        return None
+
+    def is_at(self, heading: str) -> Any:
+        """Whether the view with this heading comes."""
+        return self.wait("document.querySelector('#main h1').textContent === arguments[0]", heading)
+
+    def open(self, page: Path, address: str = "") -> None:
+        """Opens a page anew, and waits until it shows something."""
+        self.go("about:blank")
+        self.go(f"{page.as_uri()}{address}")
+        state = self.wait(
+            "document.readyState === 'complete'"
+            " && document.documentElement.dataset.state !== 'loading'"
+            " && document.documentElement.dataset.state"
+        )
+        count(state == "shown", f"{self.name}: {page.name} opens", state or "nothing is shown")
+        self.run(GATHER)
+
+    def show(self, address: str, heading: str) -> dict[str, Any]:
+        """What a view shows."""
+        shown = self.call("gather", address, heading)
+        return shown if isinstance(shown, dict) else {}
+
+    def focused(self) -> Any:
+        """What has the focus: tag, id, the beginning of its text, its name."""
+        return self.run(
+            "const at = document.activeElement;"
+            "return [at.tagName, at.id, at.textContent.slice(0, 80), at.getAttribute('aria-label')]"
+        )
+
+    def tab_until(self, condition: str, most: int = 500) -> bool:
+        """Presses the tabulator until the focused element fits; whether it came to one."""
+        for _ in range(most):
+            self.press(Keys.TAB)
+            if self.run(f"const at = document.activeElement; return Boolean({condition})"):
+                return True
+        return False
+
+
+class Chromium(Browser):
+    """Chromium, by chromedriver."""
+
+    name = "chromium"
+
+    def __init__(self) -> None:
+        options = Options()
+        options.binary_location = shutil.which("chromium")
+        words = ("headless=new", "no-sandbox", "disable-gpu", "hide-scrollbars")
+        for word in (*words, "window-size=1280,900"):
+            options.add_argument(f"--{word}")
+        options.set_capability("goog:loggingPrefs", {"browser": "ALL"})
+        service = Service(shutil.which("chromedriver"))
+        self.driver = webdriver.Chrome(service=service, options=options)
+        self.driver.set_script_timeout(120)
+        self.size(1280, 900)
+
+    def go(self, address: str) -> None:
+        self.driver.get(address)
+
+    def run(self, script: str, *words: Any) -> Any:
+        return self.driver.execute_script(script, *words)
+
+    def call(self, function: str, *words: Any) -> Any:
+        return self.driver.execute_async_script(waiting(function), *words)
+
+    def press(self, *keys: str) -> None:
+        ActionChains(self.driver).send_keys(*keys).perform()
+
+    def size(self, width: int, height: int) -> bool:
+        metrics = {"width": width, "height": height, "deviceScaleFactor": 1, "mobile": False}
+        self.driver.execute_cdp_cmd("Emulation.setDeviceMetricsOverride", metrics)
+        return True
+
+    def look(self, scheme: str, media: str = "") -> None:
+        features = [{"name": "prefers-color-scheme", "value": scheme}]
+        words = {"media": media, "features": features}
+        self.driver.execute_cdp_cmd("Emulation.setEmulatedMedia", words)
+
+    def messages(self) -> list[str]:
+        return [entry["message"] for entry in self.driver.get_log("browser")]
+
+    def names(self) -> list[dict[str, Any]]:
+        """The tree that who doesn't see is told."""
+        tree = self.driver.execute_cdp_cmd("Accessibility.getFullAXTree", {})
+        return list(tree["nodes"])
+
+    def close(self) -> None:
+        self.driver.quit()
+
+
+SCHEMES = {"dark": 0, "light": 1}
+
+
+class Firefox(Browser):
+    """Firefox, by Marionette."""
+
+    name = "firefox"
+
+    def __init__(self) -> None:
+        self.marionette = Marionette(shutil.which("firefox-esr") or "firefox")
+        self.marionette.ask("WebDriver:SetTimeouts", {"script": 120_000, "pageLoad": 120_000})
+        self.page = "about:blank"
+        self.size(1280, 900)
+
+    def go(self, address: str) -> None:
+        self.page = address.split("#")[0]
+        self.marionette.ask("WebDriver:Navigate", {"url": address})
+
+    def run(self, script: str, *words: Any) -> Any:
+        # What is defined on `window` has to be seen by later scripts.
+        told = {"script": script, "args": list(words), "sandbox": None}
+        return self.marionette.ask("WebDriver:ExecuteScript", told)
+
+    def call(self, function: str, *words: Any) -> Any:
+        told = {"script": waiting(function), "args": list(words), "sandbox": None}
+        return self.marionette.ask("WebDriver:ExecuteAsyncScript", told)
+
+    def press(self, *keys: str) -> None:
+        actions = []
+        for key in "".join(keys):
+            actions += [{"type": "keyDown", "value": key}, {"type": "keyUp", "value": key}]
+        source = {"type": "key", "id": "keys", "actions": actions}
+        self.marionette.ask("WebDriver:PerformActions", {"actions": [source]})
+
+    def size(self, width: int, height: int) -> bool:
+        size = {"width": width, "height": height}
+        self.marionette.ask("WebDriver:SetWindowRect", size)
+        inner = self.run("return [window.innerWidth, window.innerHeight]")
+        more = {"width": 2 * width - inner[0], "height": 2 * height - inner[1]}
+        self.marionette.ask("WebDriver:SetWindowRect", more)
+        return bool(self.run("return window.innerWidth") == width)
+
+    def look(self, scheme: str, media: str = "") -> None:
+        self.marionette.as_browser(
+            "Services.prefs.setIntPref('layout.css.prefers-color-scheme.content-override',"
+            " arguments[0]);"
+            "gBrowser.selectedBrowser.browsingContext.mediumOverride = arguments[1];",
+            SCHEMES[scheme],
+            media,
+        )
+        time.sleep(0.1)
+
+    def messages(self) -> list[str]:
+        found = self.marionette.as_browser(
+            "const found = Services.console.getMessageArray().map((one) => {"
+            "  try { one.QueryInterface(Ci.nsIScriptError); } catch (error) { return null; }"
+            "  return [one.sourceName, one.errorMessage];"
+            "}).filter(Boolean);"
+            "Services.console.reset();"
+            "return found;"
+        )
+        name = self.page.rsplit("/", 1)[-1]
+        return [text for source, text in found if source.split("#")[0].endswith(name)]
+
+    def close(self) -> None:
+        self.marionette.close()
+
+
+def waiting(function: str) -> str:
+    """A script that calls a function and waits for its answer."""
+    return (
+        "const done = arguments[arguments.length - 1];"
+        f"({function})(...Array.from(arguments).slice(0, -1))"
+        ".then(done, (error) => done({ error: String(error) }));"
+    )
+
+
+def missing() -> str | None:
+    """What has to be installed before this test can run."""
+    if webdriver is None or not shutil.which("chromium") or not shutil.which("chromedriver"):
+        return "apt-get install chromium chromium-driver python3-selenium"
+    if not shutil.which("firefox-esr") and not shutil.which("firefox"):
+        return "apt-get install firefox-esr"
+    return None
+
+
+KINDS: dict[str, type[Chromium] | type[Firefox]] = {"chromium": Chromium, "firefox": Firefox}
