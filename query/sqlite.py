@@ -73,6 +73,7 @@ CREATE INDEX statement_by_chapter ON statement (chapter);
 CREATE INDEX statement_by_kind ON statement (kind);
 CREATE INDEX citation_by_cited ON citation (cited, citing);
 CREATE INDEX mark_by_axiom ON mark (axiom, theorem);
+PRAGMA analysis_limit = 1000;
 ANALYZE;
 """
 

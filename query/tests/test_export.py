@@ -1,0 +1,170 @@
+"""`export`: the tables against trying everything, and the queries of docs/SQL.md."""
+
+import os
+import random
+import re
+import sqlite3
+import unittest
+
+from query.tests.world import DATABASES, SMALL, TOP, World, invented
+
+PARTS = """$c |- wff class -> = $. $v p x y $. wp $f wff p $. vx $f class x $. vy $f class y $.
+$( #### Part #### $)
+$(
+####
+  Part | one
+####
+$)
+${ $d x y $. $d p x $. ax.1 $e |- p $. ax.2 $e |- x = y $.
+$( A comment
+   of (New usage is discouraged.) ~ ax . $) ax $a |- x = x $. $}
+$(
+####
+  Mathbox for O'Neill
+####
+$)
+t $p |- p $= ? $.
+"""
+
+
+class Export(World):
+    """Over small databases."""
+
+    def tables(self, name: str, *words: str) -> sqlite3.Connection:
+        """The tables of a database."""
+        self.answers("export", "--sqlite", "out.db", *words, name)
+        connection = sqlite3.connect(self.room / "out.db")
+        self.addCleanup(connection.close)
+        return connection
+
+    def test_by_chance(self) -> None:
+        for seed in range(5):
+            world = invented(random.Random(seed))
+            self.write("chance.mm", world.text)
+            tables = self.tables("chance.mm", "--all")
+            labels = [row[0] for row in tables.execute("SELECT label FROM statement ORDER BY id")]
+            self.assertEqual(sorted(labels), sorted(world.labels()))
+            names = "JOIN statement AS a ON a.id = {} JOIN statement AS b ON b.id = {}"
+            query = f"SELECT a.label, b.label FROM citation {names.format('citing', 'cited')}"
+            wanted = {(theorem, cited) for theorem, all in world.cites.items() for cited in all}
+            self.assertEqual(set(tables.execute(query)), wanted)
+            query = f"SELECT a.label, b.label FROM mark {names.format('theorem', 'axiom')}"
+            axioms = {*world.axioms, *world.syntax}
+            wanted = {(each, axiom) for each in world.cites for axiom in world.rests(each) & axioms}
+            self.assertEqual(set(tables.execute(query)), wanted)
+            kinds = dict(tables.execute("SELECT label, kind FROM statement"))
+            self.assertEqual({each for each in kinds if kinds[each] == "theorem"}, set(world.cites))
+
+    def test_columns(self) -> None:
+        self.write("parts.mm", PARTS)
+        tables = self.tables("parts.mm", "--open")
+        self.assertEqual(
+            list(tables.execute("SELECT * FROM statement")),
+            [
+                (1, "ax", "axiom", "|-", "|- x = x", 10, 1, None, 1, 0,
+                 "A comment of (New usage is discouraged.) ~ ax ."),
+                (2, "t", "open", "|-", "|- p", 16, 2, "O'Neill", 0, 0, ""),
+            ],
+        )  # fmt: skip
+        self.assertEqual(
+            list(tables.execute("SELECT * FROM hypothesis")),
+            [(1, 1, "ax.1", "|- p"), (1, 2, "ax.2", "|- x = y")],
+        )
+        self.assertEqual(
+            list(tables.execute("SELECT * FROM disjoint")), [(1, "p", "x"), (1, "x", "y")]
+        )
+        self.assertEqual(
+            list(tables.execute("SELECT * FROM chapter")),
+            [(1, "1", 0, "Part | one", 1, 1), (2, "2", 0, "Mathbox for O'Neill", 2, 2)],
+        )
+        about = dict(tables.execute("SELECT key, value FROM about"))
+        self.assertEqual((about["database"], about["open"]), ("parts.mm", "true"))
+
+    def test_which_files_are_replaced(self) -> None:
+        self.write("small.mm", SMALL)
+        self.answers("export", "--sqlite", "out.db", "small.mm")
+        self.answers("export", "--sqlite", "out.db", "--all", "small.mm")
+        self.assertEqual(sorted(os.listdir(self.room)), ["out.db", "small.mm"])
+        with sqlite3.connect(self.room / "other.db") as other:
+            other.execute("CREATE TABLE mine (a)")
+        for name in ("small.mm", "other.db", "/dev/full", "."):
+            before = (self.room / name).read_bytes() if name in ("small.mm", "other.db") else b""
+            self.refuses("export", "--sqlite", name, "small.mm", why="is there already")
+            if before:
+                self.assertEqual((self.room / name).read_bytes(), before)
+        self.refuses(
+            "export", "--sqlite", "no/where.db", "small.mm", why="no/where.db: no such file"
+        )
+        self.refuses("export", "small.mm", why="--sqlite")
+        self.write("bad.mm", SMALL + "$c wff $.")
+        self.refuses("export", "--sqlite", "bad.db", "bad.mm", why="refused E13")
+        self.assertFalse((self.room / "bad.db").exists())
+        self.assertEqual(
+            sorted(os.listdir(self.room)), ["bad.mm", "other.db", "out.db", "small.mm"]
+        )
+
+    def test_files_may_not_grow(self) -> None:
+        self.write("small.mm", SMALL)
+        words = ["export", "--sqlite", "out.db", "small.mm"]
+        script = f'ulimit -f 8; exec "$0" {" ".join(words)}'
+        import subprocess
+
+        from query.tests.world import MMQUERY
+
+        done = subprocess.run(
+            ["sh", "-c", script, str(MMQUERY)],
+            cwd=self.room,
+            env=self.surroundings(),
+            capture_output=True,
+            check=False,
+        )
+        self.assertEqual(done.returncode, 2, done)
+        self.assertRegex(done.stderr.decode(), r"\Ammquery: out\.db: [^\n]*\n\Z")
+        self.assertEqual(os.listdir(self.room), ["small.mm"])
+
+
+PAGE = (TOP / "docs" / "SQL.md").read_text()
+QUERIES = re.findall(r"```sql\n(.*?)```\n```\n(.*?)```\n", PAGE, re.DOTALL)
+
+
+class Page(World):
+    """The queries of docs/SQL.md."""
+
+    def test_there_are_ten_that_run(self) -> None:
+        self.assertEqual(len(QUERIES), 10)
+        self.write("small.mm", SMALL)
+        self.answers("export", "--sqlite", "out.db", "small.mm")
+        connection = sqlite3.connect(self.room / "out.db")
+        self.addCleanup(connection.close)
+        for query, _ in QUERIES:
+            connection.execute(query).fetchall()
+
+    def test_columns_are_told(self) -> None:
+        self.write("small.mm", SMALL)
+        self.answers("export", "--sqlite", "out.db", "small.mm")
+        connection = sqlite3.connect(self.room / "out.db")
+        self.addCleanup(connection.close)
+        names = re.findall(r"^\| (?:`(\w+)` )?\| (.*?) \|", PAGE, re.MULTILINE)
+        table, told = "", set()
+        for name, columns in names:
+            table = name or table
+            told |= {(table, column) for column in re.findall(r"`(\w+)`", columns)}
+        found = connection.execute(
+            "SELECT m.name, c.name FROM sqlite_schema AS m JOIN pragma_table_info(m.name) AS c"
+            " WHERE m.type = 'table' AND m.name NOT LIKE 'sqlite%'"
+        )
+        self.assertEqual(told, set(found))
+
+    @unittest.skipUnless(
+        os.environ.get("MMQUERY_TESTS") == "all" and (DATABASES / "set.mm").exists(),
+        "the variable MMQUERY_TESTS isn't `all`, or there is no set.mm",
+    )
+    def test_their_answers(self) -> None:
+        words = ("export", "--sqlite", "set.db", str(DATABASES / "set.mm"))
+        self.assertIn("\n".join(self.answers(*words)) + "\n```", PAGE)
+        connection = sqlite3.connect(self.room / "set.db")
+        self.addCleanup(connection.close)
+        for query, answer in QUERIES:
+            rows = connection.execute(query).fetchall()
+            lines = "".join("|".join(map(str, row)) + "\n" for row in rows)
+            self.assertEqual(lines, answer, query)
