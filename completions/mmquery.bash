@@ -1,5 +1,5 @@
-# Completes the commands and options of mmquery, in bash. Source this file, or put it into
-# ~/.local/share/bash-completion/completions as `mmquery`.
+# Completes the commands and options of mmquery, in bash. Source this file, or put it
+# into ~/.local/share/bash-completion/completions as `mmquery`.
 _mmquery() {
     local word=${COMP_WORDS[COMP_CWORD]} before=${COMP_WORDS[COMP_CWORD - 1]} words=
     if [ "$word" = = ]; then word=; elif [ "$before" = = ]; then
@@ -11,6 +11,7 @@ _mmquery() {
             verify:--format | rests:--format | falls:--format | cites:--format | cited-by:--format | uncited:--format | why:--format | way-out:--format | frees:--format | top:--format | within:--format | same:--format | compare:--format | chapters:--format | order:--format | unfinished:--format | discouraged:--format | mathboxes:--format | export:--format | cache:--format) words='text tsv csv json' ;;
             gate:--format) words='text json github markdown' ;;
             graph:--as) words='dot graphml edges' ;;
+            cache:cache) words='show clear' ;;
             *)
                 case ${COMP_WORDS[1]}:$word in
                     verify:-*) words='--essential --open --format --no-cache -h --help' ;;

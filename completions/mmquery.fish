@@ -205,3 +205,4 @@ complete -c mmquery -n '__fish_seen_subcommand_from export' -s h -l help -d 'sho
 complete -c mmquery -n '__fish_seen_subcommand_from cache' -l format -x -a 'text tsv csv json' -d 'the form of the answer (else: text)'
 complete -c mmquery -n '__fish_seen_subcommand_from cache' -l no-cache -d 'keep no result, and use none that was kept'
 complete -c mmquery -n '__fish_seen_subcommand_from cache' -s h -l help -d 'show this page'
+complete -c mmquery -n '__fish_seen_subcommand_from cache' -a 'show clear'

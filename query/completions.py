@@ -15,8 +15,7 @@ from query.commands import command, names
 
 @dataclass(frozen=True)
 class Option:
-    """An option: its words, whether a value follows, and which values there are, if they are
-    fixed."""
+    """An option: its words, whether a value follows, and the values if these are fixed."""
 
     words: tuple[str, ...]
     takes_value: bool
@@ -39,6 +38,13 @@ def options_of(name: str) -> list[Option]:
     ]
 
 
+def first_words(name: str) -> list[str]:
+    """The words that may come first after a command, where they are fixed."""
+    actions = parser_of(command(name))._actions
+    choices = [action.choices for action in actions if not action.option_strings]
+    return [str(choice) for choice in choices[0] or ()] if choices else []
+
+
 def quoted(text: str) -> str:
     """A text as a word of a shell."""
     return "'" + text.replace("'", "'\\''") + "'"
@@ -59,8 +65,8 @@ def choices_by_option() -> dict[str, dict[tuple[str, ...], list[str]]]:
 def bash() -> str:
     """The completion of bash."""
     lines = [
-        "# Completes the commands and options of mmquery, in bash. Source this file, or put it into",
-        "# ~/.local/share/bash-completion/completions as `mmquery`.",
+        "# Completes the commands and options of mmquery, in bash. Source this file, or put it",
+        "# into ~/.local/share/bash-completion/completions as `mmquery`.",
         "_mmquery() {",
         "    local word=${COMP_WORDS[COMP_CWORD]} before=${COMP_WORDS[COMP_CWORD - 1]} words=",
         '    if [ "$word" = = ]; then word=; elif [ "$before" = = ]; then',
@@ -74,6 +80,9 @@ def bash() -> str:
         for choices, commands in by.items():
             pattern = " | ".join(f"{name}:{option}" for name in commands)
             lines.append(f"            {pattern}) words='{' '.join(choices)}' ;;")
+    for name in names():
+        if first_words(name):
+            lines.append(f"            {name}:{name}) words='{' '.join(first_words(name))}' ;;")
     lines += ["            *)", "                case ${COMP_WORDS[1]}:$word in"]
     for name in names():
         every = " ".join(word for option in options_of(name) for word in option.words)
@@ -111,7 +120,8 @@ def zsh() -> str:
     """The completion of zsh."""
     lines = [
         "#compdef mmquery",
-        "# Completes the commands and options of mmquery, in zsh. Put this file into a folder of $fpath.",
+        "# Completes the commands and options of mmquery, in zsh. Put this file into a folder of",
+        "# $fpath.",
         "_mmquery() {",
         "    local -a commands",
         "    commands=(",
@@ -132,6 +142,8 @@ def zsh() -> str:
         lines.append(f"        {name})")
         lines.append("            _arguments \\")
         lines += [f"                {zsh_option(option)} \\" for option in options_of(name)]
+        if first_words(name):
+            lines.append(f"                '1:word:({' '.join(first_words(name))})' \\")
         lines += ["                '*:file:_files'", "            ;;"]
     lines += ["    esac", "}", '_mmquery "$@"']
     return "\n".join(lines) + "\n"
@@ -159,6 +171,9 @@ def fish() -> str:
             lines.append(
                 f"complete -c mmquery -n {seen} {' '.join(words)}{value} -d {quoted(option.help)}"
             )
+        if first_words(name):
+            seen = f"'__fish_seen_subcommand_from {name}'"
+            lines.append(f"complete -c mmquery -n {seen} -a '{' '.join(first_words(name))}'")
     return "\n".join(lines) + "\n"
 
 

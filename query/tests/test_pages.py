@@ -5,7 +5,9 @@ import re
 import subprocess
 import unittest
 
-from query.commands import names
+from query.cli import parser_of
+from query.commands import command, names
+from query.completions import files
 from query.faults import FAULTS
 from query.tests.world import DATABASES, TOP, World, program
 
@@ -39,7 +41,7 @@ class Cookbook(World):
     """docs/COOKBOOK.md."""
 
     def test_every_command_is_on_it(self) -> None:
-        run = " ".join(command for block in blocks() for command, _ in block)
+        run = " ".join(line for block in blocks() for line, _ in block)
         for name in names():
             self.assertIn(f"mmquery {name} ", PAGE.read_text() if name == "cache" else run)
 
@@ -49,9 +51,9 @@ class Cookbook(World):
         path = self.surroundings()["PATH"]
         tried = 0
         for block in blocks():
-            for command, shown in block:
+            for line, shown in block:
                 done = subprocess.run(
-                    ["bash", "-c", command],
+                    ["bash", "-c", line],
                     cwd=self.room,
                     env=self.surroundings(PATH=f"{TOP}:{path}"),
                     capture_output=True,
@@ -63,11 +65,57 @@ class Cookbook(World):
                 if done.returncode:
                     came.append(f"(status {done.returncode})")
                 cut = came if "..." not in shown else came[:20] + came[-20:]
-                self.assertTrue(is_shown(shown, cut), f"{command}\n" + "\n".join(cut[:9]))
+                self.assertTrue(is_shown(shown, cut), f"{line}\n" + "\n".join(cut[:9]))
                 tried += 1
         self.assertGreater(tried, 30)
         self.assertTrue((self.room / "set.png").read_bytes().startswith(b"\x89PNG\r\n\x1a\n"))
         self.assertTrue((self.room / "set.html").read_bytes()[:15].lower() == b"<!doctype html>")
+
+
+class Manual(World):
+    """man/mmquery.1 and the completions."""
+
+    def test_the_page_has_every_command(self) -> None:
+        page = (TOP / "man" / "mmquery.1").read_text().replace("\\-", "-")
+        part = page[page.index(".SH COMMANDS") : page.index(".SH OPTIONS")]
+        told = dict(re.findall(r"^\.TP\n\.B (\S+)\n(.*)\.$", part, re.M))
+        wanted = {name: command(name).summary for name in names()}
+        self.assertEqual({name: text.lower() for name, text in told.items()}, lower(wanted))
+        part = page[page.index(".SH OPTIONS") : page.index(".SH EXIT STATUS")]
+        common = set(parser_of(command("rests"))._option_string_actions)
+        for option in common - {"--theorems", "--apart"}:
+            self.assertRegex(part, rf"(?m)^\.BI? .*{option}(?![a-z-])|^\.BR .*{option}(?![a-z-])")
+
+    def test_the_completions(self) -> None:
+        for name, text in files().items():
+            self.assertEqual((TOP / "completions" / name).read_text(), text, name)
+
+    def test_bash(self) -> None:
+        script = f""". {TOP}/completions/mmquery.bash
+        COMP_WORDS=("$@"); COMP_CWORD=$(($# - 1)); _mmquery; printf '%s\\n' "${{COMPREPLY[@]}}" """
+        for words, wanted in {
+            ("re",): ["rests"],
+            ("rests", "--ess"): ["--essential"],
+            ("rests", "--format", "j"): ["json"],
+            ("gate", "--format", "=", "g"): ["github"],
+            ("graph", "--as", ""): ["dot", "graphml", "edges"],
+            ("cache", "s"): ["show"],
+            ("rests", "some"): ["some file"],
+        }.items():
+            self.write("some file", "")
+            done = subprocess.run(
+                ["bash", "-c", script, "bash", "mmquery", *words],
+                cwd=self.room,
+                capture_output=True,
+                text=True,
+                check=False,
+            )
+            self.assertEqual(done.stdout.splitlines(), wanted, f"{words}: {done.stderr}")
+
+
+def lower(texts: dict[str, str]) -> dict[str, str]:
+    """The texts in small letters."""
+    return {name: text.lower() for name, text in texts.items()}
 
 
 class Faults(World):

@@ -18,7 +18,7 @@ from query.output import Output
 
 TOP = Path(__file__).resolve().parent.parent.parent
 MMQUERY = TOP / "mmquery"
-DATABASES = Path("/usr/share/metamath/databases")
+DATABASES = Path(os.environ.get("MMQUERY_DATABASES", "/usr/share/metamath/databases"))
 
 
 def program() -> str | None:

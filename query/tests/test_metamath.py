@@ -1,0 +1,92 @@
+"""Agreement with metamath.exe on iset.mm: what theorems rest on, and what rests on labels."""
+
+import random
+import re
+import shutil
+import subprocess
+import unittest
+
+from query.tests.world import DATABASES, World, asked
+
+QUESTIONS = 40
+
+
+@unittest.skipUnless(shutil.which("metamath"), "metamath isn't installed")
+@unittest.skipUnless((DATABASES / "iset.mm").exists(), "iset.mm isn't installed")
+class Metamath(World):
+    """`show trace_back LABEL /axioms` and `show usage LABEL /recursive`, for some labels."""
+
+    def setUp(self) -> None:
+        super().setUp()
+        (self.room / "iset.mm").symlink_to(DATABASES / "iset.mm")
+        order = [line.split("\t") for line in self.answers("order", "iset.mm", "--format=tsv")[1:]]
+        chance = random.Random(52)
+        theorems = [row[4] for row in order if row[1] == "theorem"]
+        self.theorems = chance.sample(theorems, QUESTIONS)
+        self.labels = chance.sample([row[4] for row in order], QUESTIONS) + ["ax-ext", "ax-setind"]
+
+    def said(self, questions: list[str]) -> list[list[str]]:
+        """What metamath.exe answers to each question: the labels on the lines that are indented."""
+        script = ["set scroll continuous", "set width 9999", "read iset.mm"]
+        for question in questions:
+            script += ["! question", question]
+        self.write("script", "\n".join([*script, "! question", "exit", ""]))
+        done = subprocess.run(
+            ["metamath", "submit script"],
+            cwd=self.room,
+            stdin=subprocess.DEVNULL,
+            capture_output=True,
+            text=True,
+            check=False,
+        )
+        parts = re.split(r"(?m)^MM> ! question.*\n", done.stdout)[1:-1]
+        self.assertEqual(len(parts), len(questions))
+        answers = []
+        for question, part in zip(questions, parts):
+            self.assertIn(f'Statement "{question.split()[2]}" ', part)
+            labels = " ".join(re.findall(r"(?m)^  (.*)$", part)).split()
+            answers.append([label for label in labels if label != "(None)"])
+        return answers
+
+    def test_trace_back(self) -> None:
+        answers = self.said([f"show trace_back {label} /axioms" for label in self.theorems])
+        marks = 0
+        for label, wanted in zip(self.theorems, answers):
+            self.assertEqual(self.answers("rests", "--all", "iset.mm", label), wanted, label)
+            marks += len(wanted)
+        self.assertGreater(marks, 500)
+
+    def test_usage(self) -> None:
+        answers = self.said([f"show usage {label} /recursive" for label in self.labels])
+        users = 0
+        for label, wanted in zip(self.labels, answers):
+            self.assertEqual(self.answers("falls", "iset.mm", label), wanted, label)
+            users += len(wanted)
+        self.assertGreater(users, 500)
+
+    def test_chains_are_of_citations(self) -> None:
+        """Each link of a chain is in the proof, by `show proof`; the ends are those asked for."""
+        path = str(self.room / "iset.mm")
+        chains = {}
+        for label in self.theorems[:8]:
+            chain = [row[0] for row in asked("why", path, label, "ax-mp")]
+            self.assertEqual((chain[0], chain[-1]), (label, "ax-mp"))
+            chains.update(dict(zip(chain, chain[1:])))
+        script = ["set scroll continuous", "set width 9999", "read iset.mm"]
+        for label in chains:
+            script += ["! question", f"show proof {label} /all /lemmon"]
+        self.write("script", "\n".join([*script, "! question", "exit", ""]))
+        done = subprocess.run(
+            ["metamath", "submit script"],
+            cwd=self.room,
+            capture_output=True,
+            text=True,
+            check=False,
+        )
+        parts = re.split(r"(?m)^MM> ! question.*\n", done.stdout)[1:-1]
+        for part, (label, cited) in zip(parts, chains.items(), strict=True):
+            self.assertRegex(part, rf"(?m)^ *\d+.*\s{re.escape(cited)}\s", label)
+
+
+if __name__ == "__main__":
+    unittest.main()
