@@ -37,9 +37,11 @@ class Marionette:
         self.profile = Path(tempfile.mkdtemp(prefix="mmquery-firefox-"))
         lines = (f"user_pref({json.dumps(k)}, {json.dumps(v)});" for k, v in PREFERENCES.items())
         (self.profile / "user.js").write_text("\n".join(lines))
-        words = [program, "--headless", "--marionette", "--no-remote", "--profile"]
+        words = [program, "--headless", "--marionette", "--remote-allow-system-access"]
         self.process = subprocess.Popen(
-            [*words, str(self.profile)], stdout=subprocess.DEVNULL, stderr=subprocess.DEVNULL
+            [*words, "--no-remote", "--profile", str(self.profile)],
+            stdout=subprocess.DEVNULL,
+            stderr=subprocess.DEVNULL,
         )
         self.number = 0
         self.socket = self.connected()

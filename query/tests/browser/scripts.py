@@ -155,7 +155,7 @@ return small;
 NAMES = """
 const wrong = [];
 const named = (node) => (node.getAttribute("aria-label") ?? node.textContent).trim() !== "" ||
-    document.getElementById(node.getAttribute("aria-labelledby") ?? "")?.textContent.trim() ||
+    document.getElementById(node.getAttribute("aria-labelledby") ?? "none")?.textContent.trim() ||
     Array.from(node.labels ?? []).some((label) => label.textContent.trim() !== "");
 for (const node of document.querySelectorAll(
     "a, button, input, select, summary, [role='region'], [role='application'], nav, section, table")) {
