@@ -541,10 +541,7 @@ class Outputs(Repositories):
         self.assertIn("| axioms | db.mm\\:10 | ax-cheat |", text)
 
 
-@unittest.skipUnless(
-    os.environ.get("MMQUERY_TESTS") == "all" and (DATABASES / "set.mm").exists(),
-    "the variable MMQUERY_TESTS isn't `all`, or there is no set.mm",
-)
+@unittest.skipUnless((DATABASES / "set.mm").exists(), "there is no set.mm")
 class SetMm(Repositories):
     """The two failures with set.mm."""
 
