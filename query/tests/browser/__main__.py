@@ -4,10 +4,10 @@ Usage: python3 -m query.tests.browser [--small | --measure] [--only BROWSER] [--
                                       [--theorems N] [--axioms N] [--keep FOLDER]
 
 Pages of demo0, ql, hol, iset and set.mm of Debian are made and opened, and those of databases that
-are written to do harm. What they show is compared with the program's reports, conditions of distinct
-variables with metamath.exe, symbols with the `$t` comment by a reader of this test's own. --small
-leaves set.mm out; --measure takes only its figures; --keep writes the pages into a folder. The
-figures are printed; the last line is `N passed, M failed`. Status 1 is a failure, and 2 that a
+are written to do harm. What they show is compared with the program's reports, conditions of
+distinct variables with metamath.exe, symbols with the `$t` comment by a reader of this test's own.
+--small leaves set.mm out; --measure takes only its figures; --keep writes the pages into a folder.
+The figures are printed; the last line is `N passed, M failed`. Status 1 is a failure, and 2 that a
 browser, metamath or a database isn't here.
 """
 
@@ -22,7 +22,7 @@ from pathlib import Path
 from query.tests.browser import browsers, parts, views, whole
 from query.tests.browser.browsers import Browser
 from query.tests.browser.counting import checks, count, figure, same
-from query.tests.browser.truth import DATABASES, Truth
+from query.tests.browser.truth import DATABASES, Truth, metamath_conditions
 from query.tests.browser.views import Shown
 
 
@@ -111,7 +111,7 @@ def try_set(browser: Browser, pages: Pages) -> None:
     page, truth, _ = pages.page("set")
     shown = Shown(browser, truth)
     browser.open(page)
-    known = views.metamath_conditions(truth.path, ["ax-sep", "zorn", "ax-5", "zorn2lem4"])
+    known = metamath_conditions(truth.path, ["ax-sep", "zorn", "ax-5", "zorn2lem4"])
     for label, pairs in known.items():
         view = shown.theorem(label) if label in truth.cited else shown.axiom(label)
         shown.conditions(view, label, pairs)

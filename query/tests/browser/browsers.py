@@ -1,5 +1,6 @@
 """Two browsers behind one interface: Chromium by selenium, Firefox by Marionette."""
 
+import importlib
 import shutil
 import time
 from abc import ABC, abstractmethod
@@ -10,13 +11,16 @@ from query.tests.browser.counting import count
 from query.tests.browser.marionette import Marionette
 from query.tests.browser.scripts import GATHER
 
-try:
-    from selenium import webdriver
-    from selenium.webdriver.chrome.options import Options
-    from selenium.webdriver.chrome.service import Service
-    from selenium.webdriver.common.action_chains import ActionChains
-except ImportError:
-    webdriver = None
+
+def optional(name: str) -> Any:
+    """A module, or None where it isn't installed."""
+    try:
+        return importlib.import_module(name)
+    except ImportError:
+        return None
+
+
+webdriver = optional("selenium.webdriver")
 
 
 class Keys:
@@ -121,13 +125,14 @@ class Chromium(Browser):
     name = "chromium"
 
     def __init__(self) -> None:
-        options = Options()
+        options = webdriver.ChromeOptions()
         options.binary_location = shutil.which("chromium")
         words = ("headless=new", "no-sandbox", "disable-gpu", "hide-scrollbars")
         for word in (*words, "window-size=1280,900"):
             options.add_argument(f"--{word}")
         options.set_capability("goog:loggingPrefs", {"browser": "ALL"})
-        service = Service(shutil.which("chromedriver"))
+        services = optional("selenium.webdriver.chrome.service")
+        service = services.Service(shutil.which("chromedriver"))
         self.driver = webdriver.Chrome(service=service, options=options)
         self.driver.set_script_timeout(120)
         self.size(1280, 900)
@@ -142,7 +147,7 @@ class Chromium(Browser):
         return self.driver.execute_async_script(waiting(function), *words)
 
     def press(self, *keys: str) -> None:
-        ActionChains(self.driver).send_keys(*keys).perform()
+        webdriver.ActionChains(self.driver).send_keys(*keys).perform()
 
     def size(self, width: int, height: int) -> bool:
         metrics = {"width": width, "height": height, "deviceScaleFactor": 1, "mobile": False}

@@ -1,4 +1,4 @@
-"""Databases that are written to do harm, or in which something is missing, and a pair of releases."""
+"""Databases that are written to do harm, or in which something is missing, and two releases."""
 
 # Labels that are names in JavaScript or words of the report, symbols that would be markup, comments
 # with both, and a `$t` comment that would run, load, hide and confuse.
@@ -59,7 +59,8 @@ althtmldef "-" as "";
 althtmldef "+" as "&#x200B;&#8206;";
 althtmldef "gone" as '<span style="display:none;visibility:hidden">gone away</span>';
 althtmldef "white" as '<font color="#ffffff">pale</font>';
-althtmldef "thin" as '<span style="font-size:0;opacity:0;position:absolute;left:-9999px">thin</span>';
+althtmldef "thin" as '<span style="font-size:0;opacity:0;' +
+    'position:absolute;left:-9999px">thin</span>';
 althtmldef "far" as '<a href="javascript:window.taken=1">far</a><iframe src="//example.org">';
 althtmldef "tall" as '<sup><sup><sup>&#x202E;llat';
 althtmldef "like" as '<font color="#eeeeee">' + "pale" + '</font>';
@@ -84,8 +85,8 @@ CORNERS = {
     " ${ k $e |- a $. $}",
 }
 
-# A release and the next: `b` gains ax-2 by citing c, `d` loses ax-1, `old` becomes `renamed`, `gone`
-# goes, `fresh` and ax-3 are new, and ax-2 changes its label's statement nowhere.
+# A release and the next: `b` gains ax-2 and ax-5 and loses ax-1, `d` loses ax-1 for ax-3, `old`
+# becomes `renamed`, `gone` goes, `fresh`, ax-3, ax-4 and ax-5 are new.
 HEAD = """$c |- A B E $.
 $(
 ####

@@ -18,8 +18,8 @@ const input = document.getElementById("search");
 input.focus();
 input.value = arguments[0];
 input.dispatchEvent(new Event("input"));
-return [Array.from(document.querySelectorAll("#results li[data-label]"), (item) => item.dataset.label),
-    document.getElementById("found").textContent];
+const items = Array.from(document.querySelectorAll("#results li[data-label]"));
+return [items.map((item) => item.dataset.label), document.getElementById("found").textContent];
 """
 
 
@@ -233,7 +233,8 @@ def check_cells(browser: Browser, page: Path, truth: Truth, rng: random.Random, 
                 clientX: box.left + arguments[0] * box.width,
                 clientY: box.top + arguments[1] * box.height,
             }));
-            return [document.getElementById("picture-told").textContent, ...texts("#picture-told a")];
+            const told = document.getElementById("picture-told").textContent;
+            return [told, ...texts("#picture-told a")];
             """,
             rng.uniform(0.2, 1),
             rng.uniform(0.03, 1),
@@ -325,7 +326,8 @@ def check_focus(browser: Browser, what: str) -> None:
             "const at = document.activeElement;"
             "if (at === document.body) return ['solid', 9, 'body'];"
             "const style = getComputedStyle(at);"
-            "return [style.outlineStyle, parseFloat(style.outlineWidth), at.outerHTML.slice(0, 120)]"
+            "const width = parseFloat(style.outlineWidth);"
+            "return [style.outlineStyle, width, at.outerHTML.slice(0, 120)]"
         )
         count(ring[0] != "none" and ring[1] >= 2, f"{what}: the focus is seen", ring)
 

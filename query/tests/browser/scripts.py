@@ -46,7 +46,7 @@ window.gather = async (hash, label) => {
         credits: texts(".credits li"),
         marks: texts(".marks li"),
         place: main.querySelector("#place")?.textContent ?? "",
-        chapters: Array.from(main.querySelectorAll("#place a"), (link) => link.getAttribute("href")),
+        chapters: Array.from(main.querySelectorAll("#place a"), (one) => one.getAttribute("href")),
         rests: Array.from(main.querySelectorAll("#rests-on details"), (fold) => [
             fold.dataset.group,
             Array.from(fold.querySelectorAll("li.line"), (line) => [
@@ -151,15 +151,15 @@ for (const node of document.querySelectorAll("button, select, input, summary")) 
 return small;
 """
 
-# What is missing for who doesn't see: names of controls, the parts of the page, unique ids, headings.
+# What is missing for who doesn't see: names of controls, parts of the page, unique ids, headings.
 NAMES = """
 const wrong = [];
 const named = (node) => (node.getAttribute("aria-label") ?? node.textContent).trim() !== "" ||
     document.getElementById(node.getAttribute("aria-labelledby") ?? "none")?.textContent.trim() ||
     Array.from(node.labels ?? []).some((label) => label.textContent.trim() !== "");
 for (const node of document.querySelectorAll(
-    "a, button, input, select, summary, [role='region'], [role='application'], nav, section, table")) {
-    if (node.matches("table") || named(node)) continue;
+    "a, button, input, select, summary, [role='region'], [role='application'], nav, section")) {
+    if (named(node)) continue;
     wrong.push(node.outerHTML.slice(0, 120));
 }
 for (const name of ["header", "main", "footer", "[role='search']"]) {

@@ -1,4 +1,4 @@
-"""What the page has to show: reports of the program, and a reader of the text of this test's own."""
+"""What the page has to show: reports of the program, and a reader of this test's own."""
 
 import html
 import os

@@ -85,7 +85,7 @@ class Shown:
         same(shown["avoids"], wanted, f"{self.name(label)}: what it does without")
 
     def chain(self, theorem: str, axiom: str, is_measured: bool) -> None:
-        """The chain shown has only citations, from theorems that rest on the axiom, and is shortest."""
+        """The chain shown has only citations of theorems that rest on the axiom, and is shortest."""
         answer = self.browser.call("why", axiom)
         what = f"{self.name(theorem)}: the chain to {axiom}"
         if not count(isinstance(answer, list), f"{what} is shown", answer):
@@ -183,7 +183,7 @@ def both_ways(group: list[str]) -> set[str]:
 
 
 def check_sample(shown: Shown, theorems: list[str], axioms: list[str], rng: random.Random) -> None:
-    """Theorems and axioms, with their conditions beside those of metamath.exe, and their comments."""
+    """Theorems and axioms, with their comments, and their conditions beside metamath.exe's."""
     pairs = metamath_conditions(shown.truth.path, [*theorems, *axioms])
     for label in theorems:
         view = shown.theorem(label)
@@ -196,22 +196,14 @@ def check_sample(shown: Shown, theorems: list[str], axioms: list[str], rng: rand
             shown.chain(label, axiom, rng.random() < 0.3 or len(theorems) < 100)
         for _, part in view["rests"][:1]:
             for axiom, _, _, has_mark in part[:3]:
-                given = metamath_marks(shown, axiom, pairs)
-                if given is not None:
+                if axiom in pairs:
+                    given = bool(pairs[axiom][0])
                     same(has_mark, given, f"{shown.name(label)}: the mark of {axiom}")
     for label in axioms:
         view = shown.axiom(label)
         if view:
             shown.conditions(view, label, pairs[label])
             shown.comment(view, label)
-
-
-def metamath_marks(
-    shown: Shown, axiom: str, pairs: dict[str, tuple[set[str], set[str]]]
-) -> bool | None:
-    """Whether an axiom has conditions, if it is among those that were asked for."""
-    del shown
-    return bool(pairs[axiom][0]) if axiom in pairs else None
 
 
 def check_colours(browser: Browser, page: Path, label: str, truth: Truth) -> None:

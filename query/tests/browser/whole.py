@@ -131,7 +131,8 @@ def check_evil_symbols(browser: Browser, page: Path) -> None:
     hidden = browser.run(
         "return Array.from(document.querySelectorAll('#statement *'), (one) => one)"
         ".filter((one) => !one.checkVisibility({ opacityProperty: true, visibilityProperty: true })"
-        " || one.getBoundingClientRect().width < 1 || parseFloat(getComputedStyle(one).fontSize) < 8)"
+        " || one.getBoundingClientRect().width < 1"
+        " || parseFloat(getComputedStyle(one).fontSize) < 8)"
         ".map((one) => one.outerHTML)"
     )
     same(hidden, [], f"{name}: hidden symbols")
@@ -179,7 +180,7 @@ def check_corners(browser: Browser, room: Path) -> None:
 
 
 def check_against(browser: Browser, room: Path) -> None:
-    """A release beside the one before: what is new, gone, renamed, and what gained an axiom, why."""
+    """A release beside the one before: what is new, gone and renamed, what gained axioms, why."""
     for name, text in (("older", OLDER), ("newer", NEWER)):
         (room / f"{name}.mm").write_text(text)
     page = room / "against.html"
@@ -282,7 +283,7 @@ def check_refusals(room: Path) -> None:
     report.write_bytes(subprocess.run([PROGRAM, demo], stdout=subprocess.PIPE).stdout)
     empty = room / "empty.mm"
     empty.write_text("")
-    for words, told in [
+    cases: list[tuple[list[str], str]] = [
         ([str(broken)], r".*broken\.mm:2:8: refused E18.*"),
         ([str(room / "nowhere.mm")], r".*nowhere\.mm.*"),
         ([str(room)], r".*"),
@@ -295,7 +296,8 @@ def check_refusals(room: Path) -> None:
         (["--nothing", demo], r".*--nothing.*"),
         ([], r".*"),
         ([demo, demo], r".*"),
-    ]:
+    ]
+    for words, told in cases:
         done = run(["page", *words])
         line = done.stderr.decode()
         came = (done.returncode, done.stdout, bool(re.fullmatch(f"mmquery: {told}\n", line)))
@@ -317,13 +319,22 @@ def check_interrupt() -> None:
     for seconds in (0.3, 1.5, 4):
         words = [*COMMAND, "page", "--no-cache", str(DATABASES / "set.mm")]
         process = subprocess.Popen(
-            words, stdout=subprocess.PIPE, stderr=subprocess.PIPE, env=ENVIRONMENT
+            words,
+            stdout=subprocess.PIPE,
+            stderr=subprocess.PIPE,
+            env=ENVIRONMENT,
+            preexec_fn=heed_interrupts,
         )
         time.sleep(seconds)
         process.send_signal(signal.SIGINT)
         out, errors = process.communicate()
         came = (process.returncode, out, errors)
         same(came, (130, b"", b"mmquery: interrupted\n"), f"Ctrl-C after {seconds} s")
+
+
+def heed_interrupts() -> None:
+    """Heeds interrupts, which may be ignored where this test runs in the background."""
+    signal.signal(signal.SIGINT, signal.SIG_DFL)
 
 
 def measure(browser: Browser, page: Path, took: float | None) -> None:
