@@ -15,7 +15,6 @@ from query.page.pack import Blocks, in_base64
 
 WEB = Path(__file__).resolve().parent / "web"
 SCRIPTS = (
-    "types.js",
     "decode.js",
     "chapters.js",
     "model.js",

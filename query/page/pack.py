@@ -8,6 +8,7 @@ nothing in it can end an element of the page. The blocks `comments-0` and so on 
 
 import base64
 import json
+import marshal
 import zlib
 from collections.abc import Iterable, Sequence
 from dataclasses import dataclass
@@ -16,6 +17,7 @@ from typing import Any
 from query.errors import NoAnswer
 from query.markup import marks, one_line
 from query.page.conditions import Grouping, line
+from query.parallel import Task
 from query.text import Assertion, Text
 from query.typesetting import Piece, read_typesetting
 from query.visible import visible
@@ -271,8 +273,18 @@ def pack_statements(text: Text, about: dict[str, Any]) -> Blocks:
 
 
 def pack(text: Text, marked: Marked, about: dict[str, Any]) -> Blocks:
-    """The blocks of the page by their names."""
-    return {**pack_statements(text, about), **pack_marks(text, marked), **pack_comments(text)}
+    """The blocks of the page by their names; another process packs the marks meanwhile."""
+
+    def marks_packed() -> bytes:
+        packed = pack_marks(text, marked)
+        return marshal.dumps({name: bytes(block) for name, block in packed.items()})
+
+    task = Task(marks_packed)
+    try:
+        found = {**pack_statements(text, about), **pack_comments(text)}
+        return {**found, **marshal.loads(task.result())}
+    finally:
+        task.stop()
 
 
 def in_base64(block: bytes) -> str:

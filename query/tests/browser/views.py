@@ -85,7 +85,7 @@ class Shown:
         same(shown["avoids"], wanted, f"{self.name(label)}: what it does without")
 
     def chain(self, theorem: str, axiom: str, is_measured: bool) -> None:
-        """The chain shown has only citations of theorems that rest on the axiom, and is shortest."""
+        """The chain shown has only citations of theorems that rest on the axiom; it is shortest."""
         answer = self.browser.call("why", axiom)
         what = f"{self.name(theorem)}: the chain to {axiom}"
         if not count(isinstance(answer, list), f"{what} is shown", answer):
