@@ -89,7 +89,7 @@ def try_database(browser: Browser, pages: Pages, name: str, rng: random.Random) 
     views.check_sample(shown, theorems, axioms, rng)
     parts.check_chapters(browser, page, truth, rng, 12 if is_large else 4)
     parts.check_search(browser, page, truth, rng, 25)
-    parts.check_history(browser, page, theorems[:3])
+    parts.check_history(type(browser), page, theorems[:3])
     parts.check_cells(browser, page, truth, rng, 20)
     deep = max(theorems[:5], key=lambda label: len(truth.marks(label)))
     used = [label for label in truth.columns if truth.users[label]]

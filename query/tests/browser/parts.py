@@ -332,8 +332,12 @@ def check_focus(browser: Browser, what: str) -> None:
         count(ring[0] != "none" and ring[1] >= 2, f"{what}: the focus is seen", ring)
 
 
-def check_history(browser: Browser, page: Path, labels: list[str]) -> None:
-    """Addresses are followed, back and forward; an unknown label and chapter are told."""
+def check_history(kind: type[Browser], page: Path, labels: list[str]) -> None:
+    """Addresses are followed, back and forward; an unknown label and chapter are told.
+
+    In a new browser: where many addresses were opened, it forgets some that no key or click left.
+    """
+    browser = kind()
     name = browser.name
     browser.open(page, f"#theorem={labels[0]}")
     for label in labels[1:]:
@@ -354,6 +358,8 @@ def check_history(browser: Browser, page: Path, labels: list[str]) -> None:
         )
         browser.run("window.location.hash = ''")
         browser.wait("document.querySelector('#main h1').textContent !== 'Not found'")
+    same(browser.messages(), [], f"{name}: messages in the console after ways back")
+    browser.close()
 
 
 def check_switch(browser: Browser, page: Path, truth: Truth, label: str) -> None:
