@@ -96,7 +96,7 @@ export class DifferenceView {
         const { difference } = this;
         const gone = difference.goneTheorems.length;
         const tiles = [
-            this.elements.tile(axioms, "new axioms", "definitions and syntax included", "fallen"),
+            this.elements.tile(axioms, "new axioms", "definitions and syntax included", axioms > 0 ? "fallen" : ""),
             this.elements.tile(difference.goneAxioms.length, "axioms gone", "or theorems now"),
             this.elements.tile(added, "new theorems", `${count(gone)} gone`),
             this.elements.tile(difference.renamed.length, "renamed", "the same statement, another label"),

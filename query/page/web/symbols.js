@@ -19,12 +19,13 @@ const HUES = ["blue", "red", "purple", "green"];
 const BREAKABLE = /[-/?].|[|]./;
 const LONGEST_WHOLE = 12;
 
-/** Between some symbols there is a space, though their definitions have none: ∃𝑥 ∈ 𝐴 ∀𝑦, ∃𝑦 𝑦 ∈ 𝑥, ∃𝑥 ∈ On 𝐷 = ∅. */
+/** Between some symbols there is a space, though their definitions have none: ∃𝑦 𝑦 ∈ 𝑥, ∃𝑥 ∈ 𝐴 𝐵 = 𝑥, ∃𝑥 ∈ 𝐴 ∀𝑦. */
 const ENDS_TERM = /^[\p{L}\p{N})\]}]/u; // of the last sign
 const BEGINS_PREFIX = /^[\p{Sm}\p{So}]/u;
 const WORD = /^[\p{L}\p{N}]{2}/u;
 const LETTER = /^[\p{L}\p{N}]/u;
 const QUANTIFIER = /^[∀∃]/;
+const BINDER = /^[∀∃∪∩∏∑σ℩]/; // of keys, so that Σ is σ
 
 export class Symbols {
     /**
@@ -101,10 +102,20 @@ export class Symbols {
         if (!ENDS_TERM.test(last)) return false;
         if (BEGINS_PREFIX.test(text) || (WORD.test(text) && LETTER.test(before))) return true;
         if (!LETTER.test(text)) return false;
-        if (WORD.test(before)) return true;
+        if (WORD.test(before) || this.isBound(symbols, index)) return true;
         const code = this.typecodeOf.get(symbols[index]);
         const isSame = code !== undefined && code === this.typecodeOf.get(symbols[index - 1]);
         return isSame && index > 1 && QUANTIFIER.test(this.keyOf(symbols[index - 2]));
+    }
+
+    /**
+     * Whether the symbols before are such as ∀𝑥 ∈ 𝐴.
+     * @param {string[]} symbols
+     * @param {number} index
+     */
+    isBound(symbols, index) {
+        if (index < 4 || this.keyOf(symbols[index - 2]) !== "∈" || !this.typecodeOf.has(symbols[index - 3])) return false;
+        return BINDER.test(this.keyOf(symbols[index - 4]));
     }
 
     /**
