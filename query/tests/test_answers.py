@@ -1,0 +1,200 @@
+"""Answers that are written down: verify, forms of graphs, pictures, open theorems, what changed."""
+
+import os
+import pty
+import select
+import struct
+import subprocess
+import time
+import unittest
+import xml.etree.ElementTree as Xml
+import zlib
+
+from query.tests.world import MMQUERY, SMALL, World
+
+OPEN = SMALL.replace("wp wq wp wi h wp wq ax-1 ax-mp $.", "? $.")
+DOT = """digraph "small.mm" {
+  "wi" [shape=box];
+  "wi2" -> "wi";
+  "ax-1" [shape=box];
+  "ax1" -> "ax-1";
+  "a1i" -> "ax-1";
+  "ax-mp" [shape=box];
+  "a1i" -> "ax-mp";
+  "a2" -> "a1i";
+}"""
+
+
+class Answers(World):
+    """The small database of the pages."""
+
+    def setUp(self) -> None:
+        super().setUp()
+        self.write("small.mm", SMALL)
+        self.write("open.mm", OPEN)
+
+    def test_verify(self) -> None:
+        self.assertEqual(
+            self.answers("verify", "small.mm"), ["small.mm: valid, 3 axioms and 4 theorems"]
+        )
+        (row,) = self.query("verify", "small.mm", "--format=json").rows()
+        self.assertEqual((row["valid"], row["axioms"], row["theorems"]), (True, 3, 4))
+        self.assertIsNone(row["code"])
+        self.write("broken.mm", SMALL.replace("wi wi $.", "wi $."))
+        came = self.query("verify", "broken.mm", "--format=json")
+        (row,) = came.rows()
+        self.assertEqual(came.status, 1)
+        found = [row[name] for name in ("valid", "line", "column", "code", "statement")]
+        self.assertEqual(found, [False, 8, 47, "E37", "wi2"])
+
+    def test_verify_tells_both_formulas(self) -> None:
+        for old, new, proved, wanted in (
+            ("wi2 $p wff ( p", "wi2 $p wff ( q", "( p -> ( q -> p ) )", "( q -> ( q -> p ) )"),
+            ("a2 $p |- ( q", "a2 $p |- ( p", "( q -> ( q -> p ) )", "( p -> ( q -> p ) )"),
+            (
+                "a2 $p |- ( q",
+                "a2 $p |- p -> ( q",
+                "( q -> ( q -> p ) )",
+                "p -> ( q -> ( q -> p ) )",
+            ),
+        ):
+            self.write("wrong.mm", SMALL.replace(old, new))
+            came = self.query("verify", "wrong.mm")
+            self.assertEqual((came.status, came.err), (1, ""))
+            self.assertIn("refused E38", came.out)
+            shown = [line.split("  ")[-1].split(" ", 1)[1] for line in came.lines()[2:]]
+            self.assertEqual(shown, [proved, wanted])
+
+    def test_verify_tells_both_formulas_of_a_compressed_proof(self) -> None:
+        for proof, wanted in (
+            ("( wi ax-1 ax-mp ) ABADCABEF", "( q -> p )"),
+            ("( wi ax-1 ax-mp ) ABADZCABEF", "( q -> p )"),
+            ("( wi ax-1 ax-mp ) ABAZDZCABEF", "( q -> p )"),
+            ("( ax-1 ) ABD", "( p -> ( q -> p ) )"),
+        ):
+            text = SMALL.replace("wp wq wp wi h wp wq ax-1 ax-mp $.", f"{proof} $.")
+            text = text.replace("a1i $p |- ( q -> p )", "a1i $p |- ( p -> q )")
+            self.write("wrong.mm", text)
+            came = self.query("verify", "wrong.mm")
+            self.assertIn("refused E38 in 'a1i'", came.out)
+            self.assertEqual(came.lines()[2].split("|- ")[1], wanted)
+
+    def test_open_theorems(self) -> None:
+        self.refuses("rests", "open.mm", "a2", why="open.mm:10:41: refused E32 in 'a1i'")
+        self.assertEqual(self.answers("rests", "--open", "open.mm", "a2"), ["a1i"])
+        self.assertEqual(self.answers("rests", "--open", "--all", "open.mm", "a2"), ["wi", "a1i"])
+        self.assertEqual(self.answers("falls", "--open", "open.mm", "a1i"), ["a2"])
+        self.assertEqual(self.answers("why", "--open", "open.mm", "a2", "a1i"), ["a2", "a1i"])
+        rows = self.answers("top", "--open", "open.mm", "--below", "1", "--format=tsv")
+        self.assertEqual(rows[1:], ["0\tax-mp"])
+
+    def test_apart(self) -> None:
+        rows = self.answers("rests", "--apart", "small.mm", "a1i", "--format=tsv")
+        self.assertEqual(rows, ["kind\taxiom", "syntax\twi", "logic\tax-1", "logic\tax-mp"])
+        rows = self.answers("rests", "--apart", "--only=wff", "small.mm", "a1i", "--format=tsv")
+        self.assertEqual(rows[1:], ["logic\twi", "syntax\tax-1", "syntax\tax-mp"])
+
+    def test_what_changed_in_numbers(self) -> None:
+        new = SMALL.replace("wi2 $p", "${ n $e |- p $. ax-n $a |- ( q -> p ) $. $}\nwi2 $p")
+        self.write("new.mm", new.replace("wp wq wp wi h wp wq ax-1 ax-mp $.", "wp wq h ax-n $."))
+        rows = self.query("top", "new.mm", "--against", "small.mm", "--format=json").rows()
+        wanted: list[tuple[int | None, int | None, str]]
+        wanted = [(3, 1, "ax-1"), (2, 0, "ax-mp"), (None, 2, "ax-n")]
+        self.assertEqual([(row["was"], row["theorems"], row["axiom"]) for row in rows], wanted)
+        rows = self.query("top", "small.mm", "--against", "new.mm", "--format=json").rows()
+        wanted = [(1, 3, "ax-1"), (0, 2, "ax-mp"), (2, None, "ax-n")]
+        self.assertEqual([(row["was"], row["theorems"], row["axiom"]) for row in rows], wanted)
+        self.assertEqual(self.answers("top", "small.mm", "--against", "small.mm"), [])
+        self.write("report", self.report("small.mm"))
+        self.refuses("top", "small.mm", "--against", "report", why="a report beside a database")
+
+    def test_graphs(self) -> None:
+        came = self.answers("graph", "small.mm", "--essential")
+        self.assertEqual("\n".join(came), DOT)
+        came = self.answers("graph", "small.mm", "a2", "ax-1")
+        self.assertEqual(
+            came[1:-1], ['  "a2" -> "a1i";', '  "ax-1" [shape=box];', '  "a1i" -> "ax-1";']
+        )
+        self.assertEqual(
+            self.answers("graph", "small.mm", "ax1", "wi"), ['digraph "ax1" {', '  "ax1";', "}"]
+        )
+        self.write('"]; x', SMALL)
+        self.assertEqual(self.answers("graph", '"]; x')[0], 'digraph "_]; x" {')
+
+    def test_graphml(self) -> None:
+        space = "{http://graphml.graphdrawing.org/xmlns}"
+        tree = Xml.fromstring("\n".join(self.answers("graph", "small.mm", "--as", "graphml")))
+        kinds = {node.get("id"): node[0].text for node in tree.iter(f"{space}node")}
+        theorems = dict.fromkeys(["wi2", "ax1", "a1i", "a2"], "theorem")
+        self.assertEqual(kinds, {**theorems, **dict.fromkeys(["wi", "ax-1", "ax-mp"], "axiom")})
+        edges = {(edge.get("source"), edge.get("target")) for edge in tree.iter(f"{space}edge")}
+        wanted = [line.split(" ") for line in self.answers("graph", "small.mm", "--as", "edges")]
+        self.assertEqual(edges, {(one, other) for one, other in wanted})
+
+    def test_picture(self) -> None:
+        done = self.query("picture", "--all", "small.mm")
+        head, rows = done.out.split("\n", 2)[:2], done.out.split("\n", 2)[2]
+        self.assertEqual(head, ["P4", "3 4"])
+        self.assertEqual([f"{ord(row):08b}"[:3] for row in rows], ["100", "010", "111", "111"])
+        done = self.query("picture", "--all", "small.mm", "--across", "2", "--down=2")
+        self.assertEqual(done.out, "P4\n2 2\n\x80\xc0")
+        self.refuses("picture", "small.mm", "--across", "0", why="'0' is no number")
+
+    def test_png(self) -> None:
+        headed = "$(\n#*#*#*#\n  A <title>\n#*#*#*#\n$)\n" + SMALL
+        self.write("headed.mm", headed)
+        for name in ("small.mm", "headed.mm"):
+            data = self.query("picture", "--png", name).out.encode("latin-1")
+            self.assertEqual(data[:8], b"\x89PNG\r\n\x1a\n")
+            width, height = struct.unpack(">II", data[16:24])
+            place = data.index(b"IDAT")
+            (size,) = struct.unpack(">I", data[place - 4 : place])
+            lines = zlib.decompress(data[place + 4 : place + 4 + size])
+            self.assertEqual(len(lines), height * (width + 1))
+            self.assertIn(0, lines[1 : width * 40])
+
+    def test_a_line_on_a_terminal(self) -> None:
+        """On a terminal standard error has a line while it takes longer than a second."""
+        script = '#!/bin/sh\n[ "$1" != --version ] || exit 0\nsleep 2\nexit 3\n'
+        (self.room / "slow").write_text(script)
+        (self.room / "slow").chmod(0o755)
+        for program, is_shown in ((str(self.room / "slow"), True), (None, False)):
+            leader, follower = pty.openpty()
+            surroundings = self.surroundings(**({"MMDEPEND": program} if program else {}))
+            process = subprocess.Popen(
+                [str(MMQUERY), "uncited", "small.mm", "--no-cache"],
+                cwd=self.room,
+                env=surroundings,
+                stdout=subprocess.DEVNULL,
+                stderr=follower,
+            )
+            process.wait()
+            os.close(follower)
+            shown = read_all(leader)
+            if is_shown:
+                self.assertIn("mmquery: verifying small.mm ..", shown)
+                self.assertTrue(
+                    shown.endswith(
+                        "\r\x1b[Kmmquery: small.mm: the program ended with status 3\r\n"
+                    ),
+                    repr(shown),
+                )
+            elif "verifying" not in shown:
+                self.assertEqual(shown, "")
+
+
+def read_all(descriptor: int) -> str:
+    """What was written to a terminal that nobody else has open any more."""
+    parts = []
+    end = time.monotonic() + 5
+    while time.monotonic() < end and select.select([descriptor], [], [], 0.2)[0]:
+        try:
+            parts.append(os.read(descriptor, 4096))
+        except OSError:
+            break
+    os.close(descriptor)
+    return b"".join(parts).decode()
+
+
+if __name__ == "__main__":
+    unittest.main()
