@@ -3,6 +3,7 @@
 import { byId, count, element } from "./elements.js";
 
 import { Search } from "./search.js";
+import { plain } from "./symbols.js";
 
 /** @typedef {import("./elements.js").Child} Child */
 /** @typedef {import("./elements.js").Elements} Elements */
@@ -97,9 +98,9 @@ export class Finder {
     result({ number, where }, index, words) {
         const label = this.model.labels.at(number);
         const said = where === "comment" ? (this.model.knownComment(number) ?? "") : "";
-        const text = said === "" ? this.elements.shortFormula(this.model.formulas.at(number)) : element("span");
+        const text = element("span", { class: "text" });
         if (said !== "") text.append(...marked(around(said, words), words));
-        text.classList.add("text");
+        else text.append(...this.formulas(number, where === "formula" ? words : []));
         return element(
             "li",
             {
@@ -114,6 +115,28 @@ export class Finder {
             element("span", { class: "kind" }, this.model.kindName(number).toLowerCase()),
             text,
         );
+    }
+
+    /**
+     * The formula of an assertion, and before it the hypotheses if only these have all the words.
+     * @param {number} number
+     * @param {string[]} words
+     */
+    formulas(number, words) {
+        const { model, elements } = this;
+        const formula = model.formulas.at(number);
+        const small = formula.toLowerCase();
+        const key = this.search.symbols.keyOfFormula(formula);
+        /** @type {Child[]} */
+        const parts = [];
+        if (!words.every((word) => small.includes(word) || key.includes(plain(word)))) {
+            for (const index of model.hypotheses.of(number)) {
+                const sign = element("span", { class: "sign" }, parts.length > 0 ? " & " : "");
+                parts.push(sign, elements.shortFormula(model.hypothesisFormulas.at(index)));
+            }
+            parts.push(element("span", { class: "sign" }, " ⇒ "));
+        }
+        return [...parts, elements.shortFormula(formula)];
     }
 
     /**

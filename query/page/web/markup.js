@@ -99,6 +99,9 @@ export function readComment(line) {
 
 /** What has to be separated by spaces in a comment. */
 const APART = ["math", "label", "address"];
+/** Spaces before punctuation and closing signs, and after opening ones. */
+const BEFORE_CLOSING = /^\s+(?=[.,;:!?)\]’”]|["'](?![\w(]))/;
+const AFTER_OPENING = /((?:^|[\s(])["']|[([])\s+$/;
 
 /**
  * Takes away the spaces that separate mathematics and labels from brackets and punctuation around them.
@@ -111,8 +114,8 @@ function closeUp(parts) {
         if (part.type === "element") return { ...part, children: closeUp(part.children) };
         if (part.type !== "text") return part;
         let { text } = part;
-        if (isApart(parts[index - 1])) text = text.replace(/^\s+(?=[.,;:!?)\]'"’”])/, "");
-        if (isApart(parts[index + 1])) text = text.replace(/([(["'])\s+$/, "$1");
+        if (isApart(parts[index - 1])) text = text.replace(BEFORE_CLOSING, "");
+        if (isApart(parts[index + 1])) text = text.replace(AFTER_OPENING, "$1");
         return { type: "text", text };
     });
 }
