@@ -122,7 +122,8 @@ export class AxiomView {
         const words = typed.trim().toLowerCase();
         const others = this.candidates(words).filter((other) => other !== column && !ticked.has(other));
         const kept = [...ticked].filter((other) => other !== column).sort((one, other) => one - other);
-        list.replaceChildren(...[...kept, ...others.slice(0, OFFERED)].map((other) => this.tick(other, ticked, onTick)));
+        const offered = [...kept, ...others.slice(0, OFFERED)];
+        list.replaceChildren(...offered.map((other) => this.tick(other, ticked, onTick)));
         const all = counted(others.length, "axiom");
         told.textContent =
             others.length > OFFERED ? `${count(OFFERED)} of ${all} shown: type to find others.` : `${all} shown.`;

@@ -1,4 +1,4 @@
-// The view of one chapter: what it says and states, which axioms come in there, and how many of its theorems rest on each.
+// The view of one chapter: what it says and states, which axioms come in there, how many of its theorems rest on each.
 
 import { count, counted, element, percent } from "./elements.js";
 import { readComment } from "./markup.js";
@@ -54,7 +54,8 @@ export class ChapterView {
         const { chapters } = this.model;
         const above = chapters.path(chapter).slice(0, -1);
         const nav = element("nav", { class: "neighbours", "aria-label": "Neighbouring chapters" });
-        const put = (/** @type {Chapter | undefined} */ other, /** @type {string} */ rel, /** @type {string} */ told) => {
+        /** @type {(other: Chapter | undefined, rel: string, told: string) => void} */
+        const put = (other, rel, told) => {
             if (!other) return;
             const link = this.elements.chapterLink(other);
             link.textContent = other.number;
@@ -167,6 +168,7 @@ export class ChapterView {
         const watched = this.watched.map((column) => ({ column, users: model.usersAmong(column, firstRow, endRow) }));
         const rows = [...watched, ...used];
         const name = model.groups[model.firstGroup].name.toLowerCase();
+        const first = watched.length > 0 ? ", the watched ones first" : "";
         const list = element("ul", { class: "lines shares" });
         const put = (/** @type {number} */ end) => {
             for (const { column, users } of rows.slice(list.children.length, end)) {
@@ -177,7 +179,7 @@ export class ChapterView {
         const made = this.elements.section(
             "shares",
             `On what its ${counted(theorems, "theorem")} ${theorems === 1 ? "rests" : "rest"}`,
-            this.elements.hint(`How many rest on each of the ${name}${watched.length > 0 ? ", the watched ones first" : ""}.`),
+            this.elements.hint(`How many rest on each of the ${name}${first}.`),
             list,
         );
         if (list.children.length < rows.length) {

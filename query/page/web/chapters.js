@@ -91,7 +91,9 @@ export class Chapters {
      */
     stretches(level) {
         const stretches = [];
-        let last = { title: "Before the first heading", path: /** @type {string[]} */ ([]), chapter: -1, first: 0, end: 0 };
+        /** @type {string[]} */
+        const nowhere = [];
+        let last = { title: "Before the first heading", path: nowhere, chapter: -1, first: 0, end: 0 };
         for (const chapter of this.list) {
             if (chapter.level > level) continue;
             last.end = chapter.first;

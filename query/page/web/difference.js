@@ -68,6 +68,7 @@ export class DifferenceView {
         const added = difference.added.filter(isTheorem);
         const axioms = difference.added.filter((number) => !isTheorem(number));
         const shifted = [...this.shifts.keys()].sort((one, other) => one - other);
+        const { renamed } = difference;
         return [
             element("h1", { tabindex: -1 }, title),
             this.elements.hint(`What ${model.facts.file} has otherwise than ${difference.name}.`),
@@ -76,7 +77,7 @@ export class DifferenceView {
             this.shiftSection("gained", "Axioms that theorems gained", this.gainedFolds()),
             this.shiftSection("lost", "Axioms that theorems lost", this.lostFolds()),
             this.listSection("added", "New theorems", added.length, () => this.elements.lines(added)),
-            this.listSection("renamed", "Renamed", difference.renamed.length, () => this.renamedList(difference.renamed)),
+            this.listSection("renamed", "Renamed", renamed.length, () => this.renamedList(renamed)),
             this.listSection("changed", "Changed statements", difference.changed.length, () =>
                 this.elements.lines(difference.changed),
             ),
@@ -111,7 +112,9 @@ export class DifferenceView {
         const made = this.elements.section("new-axioms", "Axioms new and gone");
         const { goneAxioms } = this.difference;
         if (axioms.length + goneAxioms.length === 0) made.append(this.elements.hint("There are none."));
-        if (axioms.length > 0) made.append(this.elements.foldOf("New", axioms.length, () => this.elements.lines(axioms), true));
+        if (axioms.length > 0) {
+            made.append(this.elements.foldOf("New", axioms.length, () => this.elements.lines(axioms), true));
+        }
         if (goneAxioms.length > 0) {
             made.append(this.elements.foldOf("Gone", goneAxioms.length, () => this.goneList(goneAxioms), true));
         }
@@ -213,7 +216,8 @@ export class DifferenceView {
             .map(({ stretch, told }) => {
                 const chapter = model.chapters.list[stretch.chapter];
                 const name = chapter ? this.elements.chapterLink(chapter, true) : stretch.title;
-                return element("li", { class: "line" }, name, " ", element("span", { class: "number" }, told.join(" · ")));
+                const numbers = element("span", { class: "number" }, told.join(" · "));
+                return element("li", { class: "line" }, name, " ", numbers);
             });
         made.append(lines.length > 0 ? element("ul", { class: "lines" }, ...lines) : this.elements.hint("Nothing."));
         return made;
@@ -250,7 +254,9 @@ export class DifferenceView {
         const lines = [];
         if (this.added.has(number)) lines.push(element("p", {}, "It is new."));
         const was = this.renamed.get(number);
-        if (was !== undefined) lines.push(element("p", {}, "Its label was ", element("code", { class: "label" }, was), "."));
+        if (was !== undefined) {
+            lines.push(element("p", {}, "Its label was ", element("code", { class: "label" }, was), "."));
+        }
         if (this.changed.has(number)) lines.push(element("p", {}, "Its statement has changed."));
         const shifts = (this.shifts.get(number) ?? []).map(({ axiom, isGain, why }) =>
             element(

@@ -441,7 +441,7 @@ export class Elements {
      */
     comment({ paragraphs, credits }, attributes = {}) {
         const made = element("div", { class: "comment", ...attributes });
-        for (const paragraph of paragraphs) made.append(element("div", { class: "paragraph" }, ...this.parts(paragraph)));
+        for (const parts of paragraphs) made.append(element("div", { class: "paragraph" }, ...this.parts(parts)));
         if (credits.length > 0) {
             const items = credits.map(({ what, who, date }) => element("li", {}, `${what} by ${who}, ${date}`));
             made.append(element("ul", { class: "credits", "aria-label": "Contributors and dates" }, ...items));

@@ -1,7 +1,6 @@
 // The field of the search with what was found, and the view of all that was found.
 
 import { byId, count, element } from "./elements.js";
-
 import { Search } from "./search.js";
 import { plain } from "./symbols.js";
 

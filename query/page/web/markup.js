@@ -31,13 +31,28 @@
 const PARAGRAPH = "\f";
 const BREAK = "\v";
 
-const CREDIT =
-    /(?<!\S)\(((?:Contributed|Revised|Proof shortened|Proof revised|Proof modified|Shortened|Modified|Proposed|Renamed|Suggested)(?: and [a-z ]+)?) by\s+([^()]*?),?\s+(\d{1,2}-[A-Z][a-z]{2}-\d{4})\.?\)(?!\S)/g;
+/** (Contributed by NM, 12-Aug-2004.) and the like. */
+const DEEDS = "Contributed|Revised|Proof (?:shortened|revised|modified)|Shortened|Modified|Proposed|Renamed|Suggested";
+const CREDIT = new RegExp(
+    String.raw`(?<!\S)\(((?:${DEEDS})(?: and [a-z ]+)?) by\s+([^()]*?),?\s+(\d{1,2}-[A-Z][a-z]{2}-\d{4})\.?\)(?!\S)`,
+    "g",
+);
 const MARK = /(?<!\S)\((?:New usage|Proof modification) is discouraged\.\)(?!\S)/g;
 
-/** Mathematics, a link to a label, a reference, emphasis, a tag, the end of a paragraph or of a line. */
-const SPECIAL =
-    /``|`((?:[^`]|``)*)`|~~|~\s*(\S+)|\[\[|\[([A-Z][^\s[\]]*)\](\s+pp?\.\s+[0-9ivxlIVXL][0-9ivxlIVXL-]*)?|(?<![A-Za-z0-9])_([^\s_](?:[^_]*[^\s_])?)_(?![A-Za-z0-9])|<(\/?)([A-Za-z]+)([^<>]*)>|\f|\v/g;
+/** What isn't plain text in a comment. */
+const SPECIAL = new RegExp(
+    [
+        /``|`((?:[^`]|``)*)`/, // mathematics
+        /~~|~\s*(\S+)/, // a label, or an address
+        /\[\[|\[([A-Z][^\s[\]]*)\](\s+pp?\.\s+[0-9ivxlIVXL][0-9ivxlIVXL-]*)?/, // a reference with its page
+        /(?<![A-Za-z0-9])_([^\s_](?:[^_]*[^\s_])?)_(?![A-Za-z0-9])/, // emphasis
+        /<(\/?)([A-Za-z]+)([^<>]*)>/, // a tag
+        /\f|\v/, // the end of a paragraph, of a line
+    ]
+        .map((pattern) => pattern.source)
+        .join("|"),
+    "g",
+);
 
 /** The tags within `<HTML>` that are kept, and the elements that the page makes of them. */
 const ELEMENTS = new Map(
@@ -224,7 +239,8 @@ class Reader {
      */
     anchor(slash, more) {
         const address = /^\s+href\s*=\s*["']?(https?:[^"'\s]+)["']?\s*$/i.exec(more);
-        if (!slash && address) this.children.push({ type: "address", address: address[1] }, { type: "text", text: " " });
+        if (slash || !address) return;
+        this.children.push({ type: "address", address: address[1] }, { type: "text", text: " " });
     }
 
     /**

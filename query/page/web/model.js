@@ -162,7 +162,8 @@ export class Model {
      * @returns {Stretch[]}
      */
     stretches(level) {
-        return this.chapters.stretches(level).map((stretch) => ({ ...stretch, ...this.rowsOf(stretch.first, stretch.end) }));
+        const stretches = this.chapters.stretches(level);
+        return stretches.map((stretch) => ({ ...stretch, ...this.rowsOf(stretch.first, stretch.end) }));
     }
 
     /**
@@ -436,8 +437,8 @@ export class Model {
 }
 
 /**
- * The hypotheses of each assertion. Those of open blocks come again, so the first gap is from the first hypothesis of the
- * assertion before.
+ * The hypotheses of each assertion. Those of open blocks come again, so the first gap is from the first hypothesis of
+ * the assertion before.
  * @param {Given} blocks
  */
 function readHypotheses(blocks) {

@@ -74,7 +74,8 @@ export class Overview {
             );
         const number = counted(model.theorems.length, "theorem");
         const lead = `${number}, which rest on ${counted(model.axioms.length, "axiom")}:`;
-        const made = element("div", {}, element("p", { class: "lead" }, lead), element("ul", { class: "legend" }, ...legend));
+        const list = element("ul", { class: "legend" }, ...legend);
+        const made = element("div", {}, element("p", { class: "lead" }, lead), list);
         if (model.facts.legend.length > 0) made.append(this.variablesLegend());
         if (model.isCompared) {
             made.append(element("p", {}, element("a", { href: "#difference" }, "What is new, gone and renamed")));
@@ -154,12 +155,14 @@ export class Overview {
         const keys = this.elements.hint(
             "Theorems go down and axioms across, both in file order. " +
                 "The more of the cells of a dot are marked, the stronger it is. " +
-                "Double-click, pinch, or + and − zoom; drag moves; the arrow keys move the cross (with Shift, far), " +
+                "Double-click, pinch, or + and − zoom; drag moves; " +
+                "the arrow keys move the cross (with Shift, far), " +
                 "Enter opens its theorem, Shift+Enter its axiom, 0 shows all. " +
                 "The wheel zooms once the picture has the focus.",
             { id: "picture-keys" },
         );
-        return this.elements.section("picture", "The matrix", keys, this.pictureControls(picture), picture.canvas, told);
+        const controls = this.pictureControls(picture);
+        return this.elements.section("picture", "The matrix", keys, controls, picture.canvas, told);
     }
 
     /** @param {Picture} picture */

@@ -120,8 +120,8 @@ export class Statements {
     stars(groups) {
         const items = groups.map(([dummy, ...others]) => {
             const item = element("li", {}, this.elements.variable(dummy));
-            const told = element("span", { class: "hint" }, others.length > 0 ? " — distinct from " : " — without conditions");
-            item.append(told, ...this.elements.variables(others));
+            const told = others.length > 0 ? " — distinct from " : " — without conditions";
+            item.append(element("span", { class: "hint" }, told), ...this.elements.variables(others));
             return item;
         });
         return element("ul", { class: "stars", id: "stars" }, ...items);
@@ -139,7 +139,8 @@ export class Statements {
         const at = row >= 0 ? row : column;
         const name = row >= 0 ? "theorem" : "axiom";
         const nav = element("nav", { class: "neighbours", "aria-label": `Neighbouring ${name}s` });
-        const put = (/** @type {number | undefined} */ other, /** @type {string} */ rel, /** @type {string} */ which) => {
+        /** @type {(other: number | undefined, rel: string, which: string) => void} */
+        const put = (other, rel, which) => {
             if (other === undefined) return;
             const told = `${which} ${name}: ${this.model.labels.at(other)}`;
             nav.append(this.elements.link(other, { rel, "aria-label": told }));

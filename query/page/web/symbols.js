@@ -19,7 +19,7 @@ const HUES = ["blue", "red", "purple", "green"];
 const BREAKABLE = /[-/?].|[|]./;
 const LONGEST_WHOLE = 12;
 
-/** Between some symbols there is a space, though their definitions have none: ∃𝑦 𝑦 ∈ 𝑥, ∃𝑥 ∈ 𝐴 𝐵 = 𝑥, ∃𝑥 ∈ 𝐴 ∀𝑦. */
+/** Between some symbols is a space, though their definitions have none: ∃𝑦 𝑦 ∈ 𝑥, ∃𝑥 ∈ 𝐴 𝐵 = 𝑥, ∃𝑥 ∈ 𝐴 ∀𝑦. */
 const ENDS_TERM = /^[\p{L}\p{N})\]}]/u; // of the last sign
 const BEGINS_PREFIX = /^[\p{Sm}\p{So}]/u;
 const WORD = /^[\p{L}\p{N}]{2}/u;
@@ -82,7 +82,8 @@ export class Symbols {
         symbols.forEach((symbol, index) => {
             const isWritten = !this.isOn || !this.definitions.has(symbol);
             const more = this.runsOf(symbol, hasTypecode && index === 0);
-            const isClose = index > 0 && this.isOn && this.areClose(symbols, index, runs[runs.length - 1].text, more[0].text);
+            const before = runs[runs.length - 1]?.text ?? "";
+            const isClose = index > 0 && this.isOn && this.areClose(symbols, index, before, more[0].text);
             if ((isWritten && index > 0) || isClose) runs.push(space);
             runs.push(...more);
             if (isWritten && this.isOn) runs.push(space);
@@ -114,8 +115,8 @@ export class Symbols {
      * @param {number} index
      */
     isBound(symbols, index) {
-        if (index < 4 || this.keyOf(symbols[index - 2]) !== "∈" || !this.typecodeOf.has(symbols[index - 3])) return false;
-        return BINDER.test(this.keyOf(symbols[index - 4]));
+        if (index < 4 || this.keyOf(symbols[index - 2]) !== "∈") return false;
+        return this.typecodeOf.has(symbols[index - 3]) && BINDER.test(this.keyOf(symbols[index - 4]));
     }
 
     /**

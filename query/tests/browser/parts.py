@@ -99,8 +99,6 @@ def check_chapters(
     """Chapters: what they state, which axioms come in there, and how many theorems rest on each."""
     browser.open(page)
     order = sorted(truth.places, key=truth.places.__getitem__)
-    numbers = {label: at for at, label in enumerate(order)}
-    first_user = {axiom: users[0] for axiom, users in truth.users.items() if users}
     headings = truth.headings
     for at in rng.sample(range(len(headings)), min(most, len(headings))):
         number, title, place = headings[at]
@@ -112,34 +110,36 @@ def check_chapters(
         shown = browser.show(f"#chapter={number}", title)
         same(shown.get("h1"), title, f"{name}: its title")
         same(shown.get("states"), inside, f"{name}: what it states")
-        coming = [axiom for axiom, user in first_user.items() if user in set(inside)]
-        came = {pair[0]: pair[1] for pair in shown["comingIn"]}
-        same(came, {axiom: first_user[axiom] for axiom in coming}, f"{name}: what comes in")
-        theorems = {label for label in inside if label in truth.cited}
-        for axiom, users in shown["shares"]:
-            wanted = len(theorems.intersection(truth.users[axiom]))
-            same(users, wanted, f"{name}: how many rest on {axiom}")
-        told = {axiom for axiom, _ in shown["shares"]}
-        least = {
-            axiom
-            for axiom in truth.columns
-            if truth.group(axiom) == "axiom" and theorems.intersection(truth.users[axiom])
-        }
-        count(least <= told, f"{name}: the axioms on which its theorems rest", least - told)
-        children = [
-            other
-            for other, _, _ in headings
-            if other.startswith(f"{number}.") and other.count(".") == level + 1
-        ]
-        if children:
-            same(shown["lower"][: len(children)], children, f"{name}: what is in it")
+        check_chapter_axioms(shown, truth, inside, name)
+        lower = [other for other, _, _ in headings if other.startswith(f"{number}.")]
+        children = [other for other in lower if other.count(".") == level + 1]
+        same(shown["lower"], children, f"{name}: what is in it")
         if inside:
             label = rng.choice(inside)
             kind = "theorem" if label in truth.cited else "axiom"
             view = browser.show(f"#{kind}={label}", label)
             inner = [head for head in headings if head[2] < truth.places[label]][-1][0]
             same(view["chapters"][-1:], [f"#chapter={inner}"], f"{name}: the link of {label}")
-    del numbers
+
+
+def check_chapter_axioms(shown: dict[str, Any], truth: Truth, inside: list[str], name: str) -> None:
+    """Which axioms come in among some assertions, and how many theorems of them rest on each."""
+    here = set(inside)
+    first_user = {axiom: users[0] for axiom, users in truth.users.items() if users}
+    coming = {axiom: user for axiom, user in first_user.items() if user in here}
+    came = {pair[0]: pair[1] for pair in shown["comingIn"]}
+    same(came, coming, f"{name}: what comes in")
+    theorems = here.intersection(truth.cited)
+    for axiom, users in shown["shares"]:
+        wanted = len(theorems.intersection(truth.users[axiom]))
+        same(users, wanted, f"{name}: how many rest on {axiom}")
+    told = {axiom for axiom, _ in shown["shares"]}
+    least = {
+        axiom
+        for axiom in truth.columns
+        if truth.group(axiom) == "axiom" and theorems.intersection(truth.users[axiom])
+    }
+    count(least <= told, f"{name}: the axioms on which its theorems rest", least - told)
 
 
 def check_keyboard(
