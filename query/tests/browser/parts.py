@@ -324,7 +324,8 @@ def check_focus(browser: Browser, what: str) -> None:
         browser.press(Keys.TAB)
         ring = browser.run(
             "const at = document.activeElement;"
-            "if (at === document.body) return ['solid', 9, 'body'];"
+            # After the last stop the focus is in the browser's own parts.
+            "if (at === document.body || !document.hasFocus()) return ['solid', 9, 'elsewhere'];"
             "const style = getComputedStyle(at);"
             "const width = parseFloat(style.outlineWidth);"
             "return [style.outlineStyle, width, at.outerHTML.slice(0, 120)]"
