@@ -140,9 +140,8 @@ class Checker:
         self.found.axioms = max((each.axioms for each in self.sections.values()), default=0)
         self.read_theorems()
         self.read_columns()
-        if "citations" in self.sections:
-            CitationReader(self).read()
-        self.read_marks()
+        known = CitationReader(self).read() if "citations" in self.sections else None
+        self.read_marks(known if "usage" in self.sections else None)
         return self.found
 
     def differ(self, what: str) -> NoReturn:
@@ -199,16 +198,13 @@ class Checker:
                 self.damaged("usage", number, f"'{label}' is a theorem in another section")
         self.found.columns = labels
 
-    def read_marks(self) -> None:
-        """The marks, from each section that has them. Without `usage` the columns have no names, so
-        the sections are only checked."""
+    def read_marks(self, marks: Marks | None) -> None:
+        """The marks, from each section that has them, beside those that citations give. Without
+        `usage` the columns have no names, so the sections are only checked."""
         heads = [each.axioms for name, each in self.sections.items() if name != "citations"]
         if not heads or not self.has_theorems:
             return
         columns = heads[0]
-        marks = None
-        if "usage" in self.sections and self.found.cites is not None:
-            marks = marks_by_citations(self.found)
         if "matrix" in self.sections:
             marks = self.check_matrix(columns, marks)
         if "usage" in self.sections:
@@ -284,37 +280,40 @@ class Checker:
 
 
 class CitationReader:
-    """Reads the section `citations`."""
+    """Reads the section `citations`, and gives the marks that follow from it: of each theorem
+    those of what it cites, and the axioms that it cites."""
 
     def __init__(self, checker: Checker) -> None:
         self.checker = checker
         self.found = checker.found
-        self.nodes: dict[str, int] = {}
-        first = len(self.found.theorems)
-        for number, label in enumerate(self.found.columns):
-            self.nodes[label] = first + number
+        first, columns = len(self.found.theorems), len(self.found.columns)
+        self.nodes = {label: first + place for place, label in enumerate(self.found.columns)}
+        # The marks of each node as bits; those of theorems come as their lines are read.
+        self.bits = [0] * first + [bit(columns, number) for number in range(columns)]
 
-    def read(self) -> None:
+    def read(self) -> Marks:
         """All lines of it."""
         places = array("I", [0])
         targets = array("I")
-        nodes = self.nodes
+        nodes, bits = self.nodes, self.bits
+        node_of, bits_of = nodes.__getitem__, bits.__getitem__
         for number, line in enumerate(self.checker.lines("citations")):
             words = fields(line)
             if words is None:
                 self.damaged(number, WRONG_COUNT)
-            cited = [nodes.get(word, -1) for word in words]
-            if -1 in cited:
+            try:
+                cited = list(map(node_of, words))
+            except KeyError:
                 cited = [self.known(number, word) for word in words]
+            if not self.checker.has_one_source:
+                self.check_order(number, cited)
             targets.extend(cited)
             places.append(len(targets))
-            if len(set(cited)) < len(cited):
-                self.damaged(number, "a label is there twice")
-            if not self.checker.has_one_source and not self.is_in_order(cited):
-                self.damaged(number, "the labels aren't in file order")
+            bits[number] = reduce(or_, map(bits_of, cited), 0)
             nodes[self.found.theorems[number]] = number
         self.found.cites = Lists(places, targets)
         self.check_axioms()
+        return packed(bits[: len(self.found.theorems)], len(self.found.columns))
 
     def damaged(self, number: int, why: str) -> NoReturn:
         """Raises NoAnswer about a line."""
@@ -331,15 +330,20 @@ class CitationReader:
             self.found.others.append(word)
             count = len(self.found.columns) + len(self.found.others)
             node = self.nodes[word] = len(self.found.theorems) + count - 1
+            self.bits.append(0)
         return node
 
-    def is_in_order(self, cited: list[int]) -> bool:
-        """Whether theorems, and axioms that are columns, are in file order among themselves."""
+    def check_order(self, number: int, cited: list[int]) -> None:
+        """Each label has to be there once, theorems in file order, and axioms that are columns
+        too."""
+        if len(set(cited)) < len(cited):
+            self.damaged(number, "a label is there twice")
         first = len(self.found.theorems)
         last = first + len(self.found.columns)
         theorems = [node for node in cited if node < first]
         columns = [node for node in cited if first <= node < last]
-        return theorems == sorted(theorems) and columns == sorted(columns)
+        if theorems != sorted(theorems) or columns != sorted(columns):
+            self.damaged(number, "the labels aren't in file order")
 
     def check_axioms(self) -> None:
         """There may not be more axioms than a head says."""
@@ -384,21 +388,6 @@ def of_digits(rows: list[str], form: int) -> bytes | None:
     except ValueError:
         return None
     return data if data.hex() == text else None
-
-
-def marks_by_citations(found: Prepared) -> Marks:
-    """The marks that citations give: of each theorem those of what it cites, and the axioms it
-    cites."""
-    assert found.cites is not None
-    columns = len(found.columns)
-    theorems = len(found.theorems)
-    whole = [0] * theorems
-    whole += [bit(columns, number) for number in range(columns)]
-    whole += [0] * len(found.others)
-    cites, marks_of = found.cites, whole.__getitem__
-    for theorem in range(theorems):
-        whole[theorem] = reduce(or_, map(marks_of, cites[theorem]), 0)
-    return packed(whole[:theorems], columns)
 
 
 def checked(name: str, data: bytes, has_one_source: bool = False) -> Prepared:
