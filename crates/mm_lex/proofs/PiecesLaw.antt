@@ -13,7 +13,7 @@ use Rattle.mm_lex.specs.declared.modes.CommentState.{CommentState}
 use Rattle.mm_lex.specs.declared.modes.CommentState.TheVariants.{Nowhere, Before, At}
 use Rattle.mm_spec.specs.Roles.{role_of, fault_of}
 use Rattle.mm_spec.specs.Readings.{Reading, reading, with_tokens, bytes_of}
-use Rattle.mm_spec.specs.Laws.Readings.{go_on, start}
+use Rattle.mm_spec.specs.Laws.Readings.{go_on}
 use Rattle.mm_lex.specs.Pieces.{resolved, side_reading, Side, Between, Stretch, AreReadings}
 use Rattle.mm_lex.specs.Pieces.{IsReadBetween, IsSummary}
 use Rattle.mm_lex.specs.Inners.{carried}

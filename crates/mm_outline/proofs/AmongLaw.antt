@@ -1,7 +1,7 @@
 -- Which words the active statements have.
 use Rattle.std.proofs.lemmas.Grind.{common_steps}
 use Rattle.std.proofs.Common.{cond, ◌≡◌, ℕ, zero, suc, ◌+◌, ◌<◌, Bool, true, false, ◌&&◌, ◌||◌}
-use Rattle.std.proofs.Common.{List, [], ◌∷◌, flat_map, map, bytes_eq, refl, sym, ap, ap₂, ◌∙◌}
+use Rattle.std.proofs.Common.{List, [], ◌∷◌, flat_map, map, bytes_eq, refl, ap, ap₂, ◌∙◌}
 use Rattle.std.proofs.Common.{arith}
 use Rattle.std.proofs.lemmas.List.Folds.{list_any-append}
 use Rattle.std.proofs.lemmas.Grind.{flat_map-append}
@@ -53,5 +53,14 @@ pub typed_in : (w : Bytes) (xs : List Statement)
     ≡ is_in w (flat_map typed_words xs)
 typed_in w [] = refl
 typed_in w (s ∷ xs) =
-    grind (arith, common_steps, list_any-append, bytes_eq, typings_of, flat_map, any_map,
-    typed_words, (typed_in w xs))
+    grind (
+      arith,
+      common_steps,
+      list_any-append,
+      bytes_eq,
+      typings_of,
+      flat_map,
+      any_map,
+      typed_words,
+      (typed_in w xs),
+    )

@@ -12,7 +12,7 @@ use Rattle.mm_spec.specs.Statement.{Statement, is_opening, is_closing}
 use Rattle.mm_spec.specs.Scope.{depth, stays}
 use Rattle.mm_spec.proofs.ActivityLaw.{stays_more}
 use Rattle.mm_spec.proofs.ShapeLaw.{count_end}
-use Rattle.mm_outline.specs.Blocks.{BlockLists, block_lists, never, top, no_blocks, end_of}
+use Rattle.mm_outline.specs.Blocks.{BlockLists, block_lists, never, top, end_of}
 use Rattle.mm_outline.specs.Blocks.{IsBlocks}
 
 -- ---- what stays the same after one statement more

@@ -1,10 +1,10 @@
 -- What a statement with no fault says of its words.
-use Rattle.std.proofs.Common.{◌≡◌, ℕ, Bool, true, false, Some, ◌&&◌, ◌||◌, List, []}
+use Rattle.std.proofs.Common.{◌≡◌, ℕ, Bool, true, false, ◌&&◌, ◌||◌, List, []}
 use Rattle.std.proofs.Common.{◌∷◌, ◌++◌, refl, true≢false}
 use Rattle.mm_spec.specs.Text.{Bytes, Token, is_in, words, fault}
 use Rattle.mm_spec.specs.declared.Fault.{Fault}
 use Rattle.mm_spec.specs.Scope.{Names}
-use Rattle.mm_spec.specs.Lawful.{at, at_each, when, lesser, is_before, constant_codes}
+use Rattle.mm_spec.specs.Lawful.{at, at_each, when, constant_codes}
 use Rattle.mm_spec.specs.Lawful.{variable_codes, floating_faults, is_typed, is_typed_otherwise}
 use Rattle.mm_spec.specs.declared.Code.TheVariants.{DeclaredBefore, BadFloating, TypedBefore}
 use Rattle.mm_spec.specs.declared.Code.TheVariants.{OtherTypecode, LabelIsSymbol}

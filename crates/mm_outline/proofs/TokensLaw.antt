@@ -8,12 +8,11 @@ use Rattle.std.proofs.Common.{ap, ◌∙◌, subst, arith}
 use Rattle.std.proofs.lemmas.Bool.{cases_lt}
 use Rattle.std.proofs.lemmas.List.{length-map, length-drop, length-take-le}
 use Rattle.std.proofs.lemmas.List.FromFn.{length-range_with_len}
-use Rattle.std.proofs.lemmas.List.Elements.{All-nil, All-cons, All-head, All-tail, All-weaker}
+use Rattle.std.proofs.lemmas.List.Elements.{All-nil, All-cons, All-head, All-tail}
 use Rattle.std.proofs.lemmas.List.Sums.{length-filter, count_by-le-length}
 use Rattle.std.proofs.lemmas.List.Kept.{AllPairs-cons}
 use Rattle.std.specs.List.{All, AllPairs, filter, list_any, range_with_len}
 use Rattle.mm_spec.specs.declared.Word.{Word}
-use Rattle.mm_spec.specs.declared.Fault.{Fault}
 use Rattle.mm_spec.specs.declared.Role.{Role}
 use Rattle.mm_spec.specs.declared.Role.TheVariants.{Token, Opening, Closing, Comment, Faulty}
 use Rattle.mm_spec.specs.declared.Code.TheVariants.{TextTooLong}
@@ -23,7 +22,7 @@ use Rattle.mm_spec.specs.Text.{has_dollar}
 use Rattle.mm_spec.specs.Words.{begins_word, word_at, words_between, words_of}
 use Rattle.mm_spec.specs.Laws.Words.{IsWord}
 use Rattle.mm_spec.specs.Readings.{reading, bytes_of}
-use Rattle.mm_spec.specs.Lexed.{tokens_of, lexical_fault, lexed_of}
+use Rattle.mm_spec.specs.Lexed.{tokens_of, lexical_fault}
 use Rattle.mm_spec.proofs.WordsLaw.{words_of_AreWords}
 use Rattle.mm_spec.proofs.ReadingsLaw.{reading_opening, reading_closing, reading_comment}
 use Rattle.mm_spec.proofs.ReadingsLaw.{reading_faulty, reading_end, reading_one, read_as_token}
@@ -31,8 +30,6 @@ use Rattle.mm_spec.proofs.LexedLaw.{tokens_of_long, lexical_fault_long, tokens_o
 use Rattle.mm_spec.proofs.ListLaw.{pairs_head, pairs_tail}
 use Rattle.mm_outline.specs.Parts.{AreWithin}
 use Rattle.mm_outline.specs.Tokens.{AreTokens}
-use Rattle.mm_outline.specs.Statements.{lexed, end_fault_of}
-use Rattle.mm_outline.specs.declared.parts.Part.{Part}
 
 -- what tokens keep of words: it holds of no words, and of one word more before others that are read
 module _ (Q : List Word → List Word → Type 0) (none : (ws : List Word) → Q ws [])

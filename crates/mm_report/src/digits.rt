@@ -7,7 +7,7 @@ ghost use Rattle.mm_report.specs.Sent.{Sent};
 ghost use Rattle.mm_report.specs.Rows.{marks_of};
 
 use crate::sink::Sink;
-use mm_rows::Matrix;
+use mm_rows::MarkedRows;
 use std::alloc::Allocator;
 use std::io::Write;
 
@@ -21,22 +21,22 @@ const DIGITS: usize = 16 * WORDS as usize;
 pub(crate) fn send_digits<W: Write, A: Allocator>(
     sink: &mut Sink,
     to: &mut W,
-    matrix: &Matrix<A>,
+    marked: &MarkedRows<A>,
     i: u32,
 )
-    requires { i < matrix.now.rows }
+    requires { i < marked.now.rows }
     ensures { Sent (W.contents to.old) (W.contents to.new) sink.old sink.new
-        (cells Two (marks_of matrix.now i)) }
+        (cells Two (marks_of marked.now i)) }
 {
     let mut digits = [b'0'; DIGITS];
-    let words = matrix.columns().div_ceil(64);
+    let words = marked.columns().div_ceil(64);
     let mut word = 0u32;
     while word < words {
         let count = (words - word).min(WORDS);
         let part = &mut digits[..16 * count as usize];
-        matrix.write_digits(i, word, part);
+        marked.write_digits(i, word, part);
         // The last word may extend past the last column.
-        let left = matrix.columns().div_ceil(4) - 16 * word;
+        let left = marked.columns().div_ceil(4) - 16 * word;
         sink.send(to, &part[..left.min(16 * count) as usize]);
         word += count;
     }

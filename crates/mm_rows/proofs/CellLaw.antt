@@ -144,8 +144,8 @@ cells_more words into lanes w within size long each h i lt = go (cases_lt i (64 
         ∙ each (i - 64 * w) (omega arith)
         ∙ ap₂ (λ a b. digit_of (eqb (bit_at (get_or words a 0) b) 1)) q r
 
-module _ (m : Marks) (rows columns : ℕ) (words : List ℕ) (usage : Bool)
-    (view : m ≡ marks rows columns words usage) (t : IsTable rows columns words) where
+module _ (m : Marks) (rows columns : ℕ) (words : List ℕ)
+    (view : m ≡ marks rows columns words) (t : IsTable rows columns words) where
   -- cells that were written from a word on
   pub cells_are : (i word : ℕ) (part into old : List ℕ) → i < m.rows
       → part ≡ row_at words (words_for columns) i
@@ -171,7 +171,7 @@ module _ (m : Marks) (rows columns : ℕ) (words : List ℕ) (usage : Bool)
       mark j inside =
           let lt' = subst (λ (x : Marks). i < x.rows) view lt in
           ap (λ xs. is_bit xs j) is
-          ∙ row_mark m rows columns words usage view t i j lt' inside
+          ∙ row_mark m rows columns words view t i j lt' inside
           ∙ sym (ap (λ (x : Marks). mark_at j (row_marks x i)) view)
 
       at : (k : ℕ) → k < length old

@@ -2,25 +2,21 @@
 use Rattle.std.proofs.Common.{◌≡◌, ℕ, true, false, ◌||◌, List, [], ◌⊎◌, inl, inr, ⊎_elim, ◌<◌}
 use Rattle.std.proofs.Common.{◌≤◌, ◌+◌, length, subst, sym, ap, refl, arith, get_or, bit_or}
 use Rattle.std.proofs.Common.{zero, suc, ◌≢◌, slice_range}
-use Rattle.std.proofs.Common.{replicate, eqb, take, drop, ◌++◌, ◌-◌, ap₂, ◌/◌, ◌%◌, ◌*◌, ◌∙◌}
-use Rattle.std.proofs.lemmas.Bool.{cases_order, cases_eq, cases_lt, eq-eqb, ne_eqb}
+use Rattle.std.proofs.Common.{eqb, take, drop, ◌++◌, ◌-◌, ◌*◌, ◌∙◌}
+use Rattle.std.proofs.lemmas.Bool.{cases_order, cases_eq, eq-eqb, ne_eqb}
 use Rattle.std.proofs.lemmas.Bool.Decides.{Decides-at, Decides-or}
 use Rattle.std.specs.Prelude.{Decides}
 use Rattle.mm_rows.specs.Bits.{is_bit, words_for}
-use Rattle.mm_rows.proofs.BitLaw.{or_bits, past_words}
-use Rattle.std.specs.Int.{bit_at}
-use Rattle.std.proofs.lemmas.Nat.Bits.{bit_at-zero}
-use Rattle.std.proofs.lemmas.List.{get_or-replicate, length-replicate, drop-append-le}
-use Rattle.std.proofs.lemmas.List.{take-append-le, drop_at, take_all, length-drop, length-append}
+use Rattle.mm_rows.proofs.BitLaw.{or_bits}
+use Rattle.std.proofs.lemmas.List.{drop-append-le}
+use Rattle.std.proofs.lemmas.List.{take-append-le, length-drop}
 use Rattle.std.proofs.lemmas.List.{length-take}
-use Rattle.std.proofs.lemmas.Nat.{mul-le}
-use Rattle.std.proofs.Math.Nat.{add-mul}
 use Rattle.mm_cites.specs.Citing.{Citing, HasCitation, IsStatementList, IsFileOrder}
 use Rattle.mm_cites.specs.Citing.{theorem_at, list_at}
 use Rattle.mm_spec.specs.Chains.{RestsOn}
 use Rattle.mm_spec.proofs.ChainsLaw.{rests_step}
 use Rattle.mm_spec.proofs.BoolLaw.{or_none}
-use Rattle.mm_rows.specs.BitRows.{IsBitRow, HasCitedRows, AreBitRows, row_at}
+use Rattle.mm_rows.specs.BitRows.{IsBitRow, HasCitedRows, row_at}
 
 -- a rising list has a number once
 pub once : (xs : List ℕ) (i j : ℕ) → IsStatementList xs → i < length xs → j < length xs
@@ -189,29 +185,6 @@ row_kept bits more width r le =
     ∙ take-append-le width (drop (r * width) bits) more
     (omega (arith, length-drop (r * width) bits))
     ∙ ap (λ n. take n (drop (r * width) bits)) (sym w)
-
-    go : (r : ℕ) → (r ≡ i) ⊎ (r ≡ i → ⊥) → r < i + 1
-        → IsBitRow c columns (theorem_at c r) (row_at (bits ++ row) (words_for (length columns)) r)
-    go r (inl e) lt =
-        let w : r * words_for (length columns)
-        + words_for (length columns) - r * words_for (length columns)
-        ≡ words_for (length columns) = omega arith in
-        let at : length bits ≡ r * words_for (length columns) =
-        h.size ∙ ap (λ n. n * words_for (length columns)) (sym e) in
-        let is : row_at (bits ++ row) (words_for (length columns)) r ≡ row =
-        ap₂ (λ n xs. take n xs) w (drop_at bits row (r * words_for (length columns)) at)
-        ∙ take_all (words_for (length columns)) row (let n = new.words in omega arith) in
-        subst (λ x. IsBitRow c columns (theorem_at c r) x) (sym is)
-        (subst (λ n. IsBitRow c columns (theorem_at c n) row) (sym e) new)
-    go r (inr ne) lt =
-        let m =
-        mul-le (r + 1) (words_for (length columns)) i (words_for (length columns)) (omega arith)
-        (omega arith) in
-        let s = add-mul r 1 (words_for (length columns)) in
-        let z = h.size in
-        subst (λ x. IsBitRow c columns (theorem_at c r) x)
-        (sym (row_kept bits row (words_for (length columns)) r (omega (arith, m, s, z))))
-        (h.each r (omega arith))
 
 -- a row that has its words ends within the words of all rows
 pub row_inside : (bits : List ℕ) (w r : ℕ) → length (slice_range bits (r * w) (r * w + w)) ≡ w

@@ -191,34 +191,34 @@ bit_is x lt = go (cases_eq x 0)
     go (inl e) = e ∙ sym (ap (λ y. bit_of (eqb y 1)) e)
     go (inr ne) = let e : x ≡ 1 = omega (arith, ne, lt) in e ∙ sym (ap (λ y. bit_of (eqb y 1)) e)
 
-module _ (m : Marks) (rows columns : ℕ) (words : List ℕ) (usage : Bool)
-    (view : m ≡ marks rows columns words usage) (t : IsTable rows columns words) where
+module _ (m : Marks) (rows columns : ℕ) (words : List ℕ)
+    (view : m ≡ marks rows columns words) (t : IsTable rows columns words) where
   -- a bit of a row is a mark, and nothing is marked past the last column
   pub row_mark : (i j : ℕ) → i < rows → j < 64 * words_for columns
       → is_bit (row_at words (words_for columns) i) j
-      ≡ mark_at j (row_marks (marks rows columns words usage) i)
+      ≡ mark_at j (row_marks (marks rows columns words) i)
   row_mark i j lt within =
       row_bit words (words_for columns) i j within ∙ go (cases_lt j columns)
-      ∙ sym (mark_is j (row_marks (marks rows columns words usage) i))
+      ∙ sym (mark_is j (row_marks (marks rows columns words) i))
     where
       go : (j < columns) ⊎ (columns ≤ j)
           → is_bit words (spot (words_for columns) i j)
-          ≡ get_or (row_marks (marks rows columns words usage) i) j false
+          ≡ get_or (row_marks (marks rows columns words) i) j false
       go (inl l) =
-          sym (get_or-map-range_with_len (mark (marks rows columns words usage) i) 0 columns j j false l
+          sym (get_or-map-range_with_len (mark (marks rows columns words) i) 0 columns j j false l
           (omega arith)
-          ∙ mark_bit rows columns words usage i j lt l)
+          ∙ mark_bit rows columns words i j lt l)
       go (inr g) =
           let long =
-          length-map (range_with_len 0 columns) (mark (marks rows columns words usage) i)
+          length-map (range_with_len 0 columns) (mark (marks rows columns words) i)
           ∙ length-range_with_len 0 columns in
           t.past i j lt g within
-          ∙ sym (get_or_past (row_marks (marks rows columns words usage) i) j false
+          ∙ sym (get_or_past (row_marks (marks rows columns words) i) j false
           (omega (arith, long, g)))
 
   row_bit_of : (i k b : ℕ) → i < rows → k < 16 * words_for columns → b < 4
       → bit_at (get_or (row_at words (words_for columns) i) (k / 16) 0) (4 * (k % 16) + b)
-      ≡ bit_of (mark_at (4 * k + b) (row_marks (marks rows columns words usage) i))
+      ≡ bit_of (mark_at (4 * k + b) (row_marks (marks rows columns words) i))
   row_bit_of i k b lt within small =
       let row = row_at words (words_for columns) i in
       let q : (4 * k + b) / 64 ≡ k / 16 = omega arith in
@@ -234,7 +234,7 @@ module _ (m : Marks) (rows columns : ℕ) (words : List ℕ) (usage : Bool)
   row_digit i k part lt within is =
       let lt' = subst (λ (x : Marks). i < x.rows) view lt in
       let row = row_at words (words_for columns) i in
-      let ms = row_marks (marks rows columns words usage) i in
+      let ms = row_marks (marks rows columns words) i in
       let a = row_bit_of i k 0 lt' within (omega arith) in
       let b = row_bit_of i k 1 lt' within (omega arith) in
       let c = row_bit_of i k 2 lt' within (omega arith) in

@@ -4,7 +4,7 @@ use Rattle.std.proofs.Common.{◌∙◌, arith, ◌⊎◌, inl, inr}
 use Rattle.std.proofs.lemmas.Bool.{cases_eq, cases_lt}
 use Rattle.std.proofs.lemmas.List.{get_or-set_same, get_or-set_other, get_or_default, get_or_past}
 use Rattle.mm_cites.specs.Citing.{IsStatementList}
-use Rattle.mm_rows.specs.Places.{ArePlacesOf, ArePlaces}
+use Rattle.mm_rows.specs.Places.{ArePlacesOf}
 use Rattle.mm_rows.proofs.ChainLaw.{once}
 
 -- no statement is noted yet

@@ -1,7 +1,7 @@
 -- What is read off a table.
 use Rattle.std.proofs.Common.{◌≡◌, ℕ, Bool, true, false, List, [], get_or, ◌⊎◌, inl, inr, ◌<◌, ◌≤◌}
 use Rattle.std.proofs.Common.{◌+◌, ◌*◌, ◌/◌, length, subst, sym, ap, ap₂, refl, arith, Option, Some}
-use Rattle.std.proofs.Common.{None, count_by, cond, suc, ◌∙◌, ◌-◌, ◌^◌, min}
+use Rattle.std.proofs.Common.{None, count_by, ◌∙◌, ◌-◌, ◌^◌, min}
 use Rattle.std.proofs.lemmas.Bool.{cases_lt}
 use Rattle.std.proofs.lemmas.List.FromFn.{get_or-map-range_with_len}
 use Rattle.std.specs.List.{range_with_len}
@@ -9,22 +9,22 @@ use Rattle.mm_rows.specs.Bits.{is_bit, words_for, spot, AreTransposed, IsTable}
 use Rattle.mm_cites.specs.Citing.{Citing, IsStatementList}
 use Rattle.mm_rows.specs.BitRows.{cells_of, marks, row_at, AreBitRows}
 use Rattle.mm_rows.specs.Marks.{Marks, mark, IsAbove, first_after, IsMatrix}
-use Rattle.mm_rows.specs.Users.{IsColumn}
+use Rattle.mm_rows.specs.Users.{AreColumns, IsColumn}
 use Rattle.mm_rows.proofs.TransposeLaw.{row_bit, row_length, row_past, row_end, spot_within}
-use Rattle.mm_rows.proofs.CountLaw.{tally, tally_agree, tally_more, tally_short}
+use Rattle.mm_rows.proofs.CountLaw.{tally, tally_agree, tally_short}
 use Rattle.mm_rows.proofs.CountLaw.{all_counted, row_ones}
 
 -- within a table a mark is its bit
-pub mark_bit : (rows columns : ℕ) (bits : List ℕ) (usage : Bool) (i j : ℕ) → i < rows → j < columns
-    → mark (marks rows columns bits usage) i j ≡ is_bit bits (spot (words_for columns) i j)
-mark_bit rows columns bits usage i j l k =
+pub mark_bit : (rows columns : ℕ) (bits : List ℕ) (i j : ℕ) → i < rows → j < columns
+    → mark (marks rows columns bits) i j ≡ is_bit bits (spot (words_for columns) i j)
+mark_bit rows columns bits i j l k =
     ap (λ (r : List Bool). get_or r j false)
     (get_or-map-range_with_len (cells_of columns bits) 0 rows i i [] l (omega arith))
     ∙ get_or-map-range_with_len
     (λ c. is_bit bits (spot (words_for columns) i c)) 0 columns j j false k (omega arith)
 
-module _ (m : Marks) (rows columns : ℕ) (words : List ℕ) (usage : Bool)
-    (view : m ≡ marks rows columns words usage) (t : IsTable rows columns words) where
+module _ (m : Marks) (rows columns : ℕ) (words : List ℕ)
+    (view : m ≡ marks rows columns words) (t : IsTable rows columns words) where
   pub row_fits : (i width : ℕ) (xs : List ℕ) → i < m.rows → width ≡ words_for columns → xs ≡ words
       → i * width + width ≤ length xs
   row_fits i width xs lt w e =
@@ -45,7 +45,7 @@ module _ (m : Marks) (rows columns : ℕ) (words : List ℕ) (usage : Bool)
   cell_is i j width xs lt l w e =
       let lt' = subst (λ (x : Marks). i < x.rows) view lt in
       let l' = subst (λ (x : Marks). j < x.columns) view l in
-      ap₂ (λ ys n. is_bit ys (spot n i j)) e w ∙ sym (mark_bit rows columns words usage i j lt' l')
+      ap₂ (λ ys n. is_bit ys (spot n i j)) e w ∙ sym (mark_bit rows columns words i j lt' l')
       ∙ sym (ap (λ x. mark x i j) view)
 
   pub counted : (i result : ℕ) (part : List ℕ) → i < m.rows
@@ -61,37 +61,38 @@ module _ (m : Marks) (rows columns : ℕ) (words : List ℕ) (usage : Bool)
       ∙ row_ones words (words_for columns) i rows columns lt' t.size (omega arith)
       (λ j le l. t.past i j lt' le l)
       ∙ tally_agree (λ j. is_bit words (spot (words_for columns) i j))
-      (λ j. mark (marks rows columns words usage) i j) columns
-      (λ j l. sym (mark_bit rows columns words usage i j lt' l)))
+      (λ j. mark (marks rows columns words) i j) columns
+      (λ j l. sym (mark_bit rows columns words i j lt' l)))
 
-  -- the words of a column, where the columns are there
-  module _ (transposed : List ℕ) (a : AreTransposed rows columns words transposed) where
-    pub column_fits : (j width : ℕ) (xs : List ℕ) → j < m.columns → width ≡ words_for rows
-        → xs ≡ transposed → j * width + width ≤ length xs
-    column_fits j width xs lt w e =
-        let lt' = subst (λ (x : Marks). j < x.columns) view lt in
-        row_end width j columns (length xs) lt' (ap length e ∙ a.size ∙ sym (ap (λ a. columns * a) w))
+  -- the words of all columns
+  pub columns_are : (transposed : List ℕ) → AreTransposed rows columns words transposed
+      → AreColumns m transposed
+  columns_are transposed a =
+      subst (λ (x : Marks). AreColumns x transposed) (sym view) record {
+        size = a.size;
+        each =
+            λ j lt. record {
+              few_rows = t.few_rows;
+              size = row_length transposed (words_for rows) j columns lt a.size;
+              same =
+                  λ i l. row_bit transposed (words_for rows) j i (omega arith) ∙ a.same i j l lt
+                  ∙ sym (mark_bit rows columns words i j l lt);
+              past = λ i le. past j lt i le (cases_lt i (64 * words_for rows));
+            };
+      }
+    where
+      past : (j : ℕ) → j < columns → (i : ℕ) → rows ≤ i
+          → (i < 64 * words_for rows) ⊎ (64 * words_for rows ≤ i)
+          → is_bit (row_at transposed (words_for rows) j) i ≡ false
+      past j lt i le (inl l) = row_bit transposed (words_for rows) j i l ∙ a.past i j le l lt
+      past j lt i le (inr g) = row_past transposed (words_for rows) j columns i lt a.size g
 
-    pub column_is : (j : ℕ) (part : List ℕ) → j < m.columns
-        → part ≡ row_at transposed (words_for rows) j → IsColumn m j part
-    column_is j part lt is =
-        subst (λ (x : Marks). IsColumn x j part) (sym view)
-        (subst (λ (xs : List ℕ). IsColumn (marks rows columns words usage) j xs) (sym is) record {
-          few_rows = t.few_rows;
-          size = row_length transposed (words_for rows) j columns lt' a.size;
-          same =
-              λ i l. row_bit transposed (words_for rows) j i (omega arith) ∙ a.same i j l lt'
-              ∙ sym (mark_bit rows columns words usage i j l lt');
-          past = λ i le. past i le (cases_lt i (64 * words_for rows));
-        })
-      where
-        lt' : j < columns
-        lt' = subst (λ (x : Marks). j < x.columns) view lt
-
-        past : (i : ℕ) → rows ≤ i → (i < 64 * words_for rows) ⊎ (64 * words_for rows ≤ i)
-            → is_bit (row_at transposed (words_for rows) j) i ≡ false
-        past i le (inl l) = row_bit transposed (words_for rows) j i l ∙ a.past i j le l lt'
-        past i le (inr g) = row_past transposed (words_for rows) j columns i lt' a.size g
+-- the words of one of them
+pub column_fits : (m : Marks) (users : List ℕ) → AreColumns m users → (j width : ℕ) (xs : List ℕ)
+    → j < m.columns → width ≡ words_for m.rows → xs ≡ users → j * width + width ≤ length xs
+column_fits m users a j width xs lt w e =
+    row_end width j m.columns (length xs) lt
+    (ap length e ∙ a.size ∙ sym (ap (λ b. m.columns * b) w))
 
 above : (after : Option ℕ) (k : ℕ) → IsAbove after k → first_after after ≤ k
 above None k h = omega arith
@@ -113,23 +114,6 @@ user_found m j after i from s inside le one none = (
   one,
   λ k up l. let u = above after k up in none k (omega arith) l,
 )
-
--- one more row is counted
-pub count_more : (m : Marks) (j i count : ℕ) → count ≡ count_by (λ k. mark m k j) (range_with_len 0 i)
-    → mark m i j ≡ true → count + 1 ≡ count_by (λ k. mark m k j) (range_with_len 0 (i + 1))
-count_more m j i count is one =
-    let more = tally_more (λ k. mark m k j) i in
-    let here = ap (λ b. tally (λ k. mark m k j) i + cond b 1 0) one in
-    let next : suc i ≡ i + 1 = omega arith in
-    omega (arith, is, more, here) ∙ ap (tally (λ k. mark m k j)) next
-
-pub count_same : (m : Marks) (j i count : ℕ) → count ≡ count_by (λ k. mark m k j) (range_with_len 0 i)
-    → mark m i j ≡ false → count ≡ count_by (λ k. mark m k j) (range_with_len 0 (i + 1))
-count_same m j i count is none =
-    let more = tally_more (λ k. mark m k j) i in
-    let here = ap (λ b. tally (λ k. mark m k j) i + cond b 1 0) none in
-    let next : suc i ≡ i + 1 = omega arith in
-    omega (arith, is, more, here) ∙ ap (tally (λ k. mark m k j)) next
 
 -- what is read off the bits of a column
 module _ (m : Marks) (j : ℕ) (users : List ℕ) (h : IsColumn m j users) where
@@ -180,16 +164,16 @@ table_of c columns bits rows width rr rc h e f =
           ∙ (h.each i lt).past j le;
     })
 
-pub matrix_of : (c : Citing) (columns bits : List ℕ) (rows width : ℕ) (usage : Bool) (m : Marks)
+pub matrix_of : (c : Citing) (columns bits : List ℕ) (rows width : ℕ) (m : Marks)
     → AreBitRows c columns (length c.theorems) bits → rows ≡ length c.theorems
-    → width ≡ length columns → m ≡ marks rows width bits usage → IsMatrix c columns m
-matrix_of c columns bits rows width usage m h e f is =
-    subst (λ x. IsMatrix c columns x) (sym (is ∙ ap₂ (λ a b. marks a b bits usage) e f)) record {
+    → width ≡ length columns → m ≡ marks rows width bits → IsMatrix c columns m
+matrix_of c columns bits rows width m h e f is =
+    subst (λ x. IsMatrix c columns x) (sym (is ∙ ap₂ (λ a b. marks a b bits) e f)) record {
       rows = refl;
       columns_are = refl;
       marked =
           λ i j lt l. let d = (h.each i lt).marks j l in
           let b = row_bit bits (words_for (length columns)) i j (omega arith)
-          ∙ sym (mark_bit (length c.theorems) (length columns) bits usage i j lt l) in
+          ∙ sym (mark_bit (length c.theorems) (length columns) bits i j lt l) in
           ((λ t. d.0 (b ∙ t)), λ r. sym b ∙ d.1 r);
     }

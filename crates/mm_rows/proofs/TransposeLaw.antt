@@ -1,12 +1,11 @@
 -- The places of bits in a table.
-use Rattle.std.proofs.Common.{◌≡◌, ℕ, false, List, ◌⊎◌, inl, inr, ◌<◌, ◌≤◌, ◌+◌, ◌*◌, ◌/◌, ◌%◌, ◌-◌}
+use Rattle.std.proofs.Common.{◌≡◌, ℕ, false, List, ◌<◌, ◌≤◌, ◌+◌, ◌*◌, ◌/◌, ◌%◌, ◌-◌}
 use Rattle.std.proofs.Common.{length, sym, ap, ap₂, arith, get_or, eqb, take, drop, ◌∙◌}
-use Rattle.std.proofs.lemmas.Bool.{cases_lt}
 use Rattle.std.proofs.lemmas.Nat.{mul-add-lt, mul-le}
 use Rattle.std.proofs.Math.Nat.{add-mul, mul_left_comm, mul_comm}
 use Rattle.std.proofs.lemmas.List.{length-drop, length-take-le}
 use Rattle.std.specs.Int.{bit_at}
-use Rattle.mm_rows.specs.Bits.{is_bit, words_for, spot, IsTable}
+use Rattle.mm_rows.specs.Bits.{is_bit, spot}
 use Rattle.mm_rows.specs.BitRows.{row_at}
 use Rattle.mm_rows.proofs.BitLaw.{part_bit, past_words}
 

@@ -44,11 +44,10 @@ cells_of columns bits i =
     map (λ j. is_bit bits (spot (words_for columns) i j)) (range_with_len 0 columns)
 
 -- the marks of a table of bits
-abbrev pub marks : ℕ → ℕ → List ℕ → (usage : Bool) → Marks
-marks rows columns bits usage =
+abbrev pub marks : ℕ → ℕ → List ℕ → Marks
+marks rows columns bits =
     record {
       rows = rows;
       columns = columns;
       cells = map (cells_of columns bits) (range_with_len 0 rows);
-      has_columns = usage;
     }

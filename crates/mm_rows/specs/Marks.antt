@@ -5,13 +5,11 @@ use Rattle.std.specs.List.{range_with_len}
 use Rattle.mm_spec.specs.Chains.{RestsOn}
 use Rattle.mm_cites.specs.Citing.{Citing, HasCitation, theorem_at}
 
--- the numbers of rows and columns, for each row whether it is marked in each column, and whether
--- the marks are kept by column too, for the usage
+-- the numbers of rows and columns, and for each row whether it is marked in each column
 pub record Marks : Type 0 where
   pub rows : ℕ
   pub columns : ℕ
   pub cells : List (List Bool)
-  pub has_columns : Bool
 
 -- whether a row is marked in a column
 abbrev pub mark : Marks → ℕ → ℕ → Bool

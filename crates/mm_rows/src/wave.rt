@@ -13,8 +13,8 @@ ghost use Rattle.mm_rows.specs.Waves.{IsCitingTheorem, AreWaves, IsByWave, AreMa
 
 use crate::columns::Columns;
 use crate::places::Places;
-use crate::rows::{bit_row, fill_in_place, finish, finish_by_rows};
-use crate::table::Matrix;
+use crate::rows::{bit_row, fill_in_place, finish};
+use crate::table::{MarkedRows, Matrix};
 use mm_cites::Citations;
 use rayon::prelude::*;
 use std::alloc::{AllocError, Allocator};
@@ -297,32 +297,30 @@ fn all_rows<R: Threads + Sync, A: Allocator + Copy + Send + Sync>(
     Ok(bits)
 }
 
-/// Returns the table of the columns that each theorem rests on. The rows are computed wave by wave,
-/// those of a wave with many theorems by several threads.
+/// Returns for each theorem the columns that it rests on. The rows are computed wave by wave, those
+/// of a wave with many theorems by several threads. Fails only if out of memory.
+pub fn marked_rows<R: Threads + Sync, A: Allocator + Copy + Send + Sync>(
+    rt: &R,
+    alloc: A,
+    citations: &Citations<A>,
+    columns: &Columns<A>,
+) -> Result<MarkedRows<A>, AllocError>
+    ensures { IfOk result (λ m. IsMatrix citations.now columns.now m) }
+{
+    let bits = all_rows(rt, alloc, citations, columns.statements())?;
+    Ok(finish(citations, columns, bits))
+}
+
+/// Returns the same with the columns too, for the usage, in twice the memory. Fails only if out of
+/// memory.
 pub fn matrix<R: Threads + Sync, A: Allocator + Copy + Send + Sync>(
     rt: &R,
     alloc: A,
     citations: &Citations<A>,
     columns: &Columns<A>,
 ) -> Result<Matrix<A>, AllocError>
-    ensures table { IfOk result (λ m. IsMatrix citations.now columns.now m) }
-    ensures has_columns { IfOk result (λ m. m.has_columns ≡ true) }
+    ensures { IfOk result (λ m. IsMatrix citations.now columns.now m) }
 {
-    let bits = all_rows(rt, alloc, citations, columns.statements())?;
-    finish(alloc, citations, columns, bits)
-}
-
-/// Returns the same table as `matrix` in half of the memory. It is for reports without the usage: a
-/// column's marks are then read row by row.
-pub fn matrix_by_rows<R: Threads + Sync, A: Allocator + Copy + Send + Sync>(
-    rt: &R,
-    alloc: A,
-    citations: &Citations<A>,
-    columns: &Columns<A>,
-) -> Result<Matrix<A>, AllocError>
-    ensures table { IfOk result (λ m. IsMatrix citations.now columns.now m) }
-    ensures has_columns { IfOk result (λ m. m.has_columns ≡ false) }
-{
-    let bits = all_rows(rt, alloc, citations, columns.statements())?;
-    Ok(finish_by_rows(citations, columns, bits))
+    let marked = marked_rows(rt, alloc, citations, columns)?;
+    Matrix::with_columns(alloc, marked)
 }

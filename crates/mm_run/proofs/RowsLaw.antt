@@ -11,11 +11,16 @@ use Rattle.mm_spec.specs.Report.{Row, report}
 use Rattle.mm_spec.specs.Request.{Request}
 use Rattle.mm_spec.specs.declared.Choice.{Choice}
 use Rattle.mm_spec.specs.declared.Choice.TheVariants.{All, Matrix, Counts, Usage, Citations}
+use Rattle.mm_spec.specs.Lexed.{lexed_of}
 use Rattle.mm_spec.specs.Output.{IsRowOf, theorems, columns, label_at, IsReportOf}
+use Rattle.mm_spec.specs.Output.{HasNoFault, IsOutput}
+use Rattle.mm_database.specs.Database.{Contents}
 use Rattle.mm_spec.proofs.ChainsLaw.{chains_alike}
 use Rattle.mm_work.specs.Citing.{Citing, HasCitation, theorem_at}
 use Rattle.mm_rows.specs.Marks.{Marks, mark, IsMatrix}
-use Rattle.mm_report.specs.Rows.{row_of, rows_of, marks_of}
+use Rattle.mm_report.specs.Rows.{row_of, rows_of, marks_of, open_theorems, report_of}
+use Rattle.mm_run.specs.Counted.{IsCounted}
+use Rattle.mm_run.proofs.CountedLaw.{written}
 use Rattle.mm_work.specs.Judged.{AllCited, Shows}
 
 -- two lists agree at each place
@@ -100,3 +105,16 @@ is_report request db opened c axioms m cited is h other =
     (rows_are db request c m cited.theorems_are cited.shows h') in
     subst (λ (l : List ℕ). IsReportOf request.choice db opened request
     (report request.form opened (map (label_at db) l) rows request.choice)) (sym is) here
+
+-- the report of a table is the output of the text
+pub rests : (text : List ℕ) (request : Request) (d : Contents) (c : Citing) (axioms : List ℕ)
+    → (m : Marks) → IsCounted request.with_open d
+    → HasNoFault (length text) (lexed_of text) request.with_open d.read
+    → AllCited d.statements request.essential c → axioms ≡ columns d.statements request.only
+    → IsMatrix c axioms m → (request.choice ≡ Citations → ⊥)
+    → IsOutput text request
+    (report_of d request.with_open request.form axioms m request.choice)
+rests text request d c axioms m counted sound cited is table other =
+    written text request d axioms _ counted sound is
+    (is_report request d.statements (open_theorems request.with_open d axioms) c axioms m cited is
+    table other)

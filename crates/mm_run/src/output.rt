@@ -1,24 +1,23 @@
 //! What is written for a text: its report or its refusal.
 
-ghost use Rattle.std.specs.Prelude.{◌≡◌, ◌<◌, ◌≤◌, ◌^◌, ℕ, List, IfOk, length};
+ghost use Rattle.std.specs.Prelude.{◌≡◌, ◌<◌, ◌≤◌, ◌^◌, ℕ, List, IfOk, length, false};
 ghost use Rattle.mm_spec.specs.declared.Choice.TheVariants as choices;
 ghost use Rattle.mm_spec.specs.Report.{has};
 ghost use Rattle.mm_spec.specs.Lexed.{lexical_fault, tokens_of, lexed_of};
 ghost use Rattle.mm_spec.specs.Statement.{Statement};
-ghost use Rattle.mm_spec.specs.Output.{FirstFault, HasNoFault, IsRead};
+ghost use Rattle.mm_spec.specs.Output.{FirstFault, HasNoFault, IsRead, columns};
 ghost use Rattle.mm_spec.specs.Ends.{Answers, reading_limit};
 ghost use Rattle.mm_run.specs.Counted.{IsCounted};
 ghost use Rattle.mm_work.specs.Judged.{AllCited, IsFirstFault};
-ghost use Rattle.mm_rows.specs.Marks.{IsMatrix};
-ghost use Rattle.mm_plan.specs.Plans.{IsLawfulPlan, request_of};
+ghost use Rattle.mm_plan.specs.Plans.{IsLawfulPlan, only_of, request_of};
 
 use crate::RunEnd;
 use crate::cuts::cuts_of;
 use mm_database::Database;
 use mm_lex::lex;
 use mm_plan::Plan;
-use mm_report::{Choice, has_usage, write_citations, write_refusal, write_report};
-use mm_rows::{Columns, Matrix, matrix, matrix_by_rows};
+use mm_report::{Choice, has_usage, write_citations, write_refusal, write_report, write_rows};
+use mm_rows::{Columns, marked_rows, matrix};
 use mm_spec::Fault;
 use mm_stmt::read_owned;
 use mm_work::{Citations, Judged, Open, check_all};
@@ -74,21 +73,76 @@ fn report_citations<'a, A: Allocator + Copy, W: Write>(
     }
 }
 
-/// Returns the table of what each theorem rests on. Only the usage needs the table by column.
-fn table_of<R: Threads + Sync, A: Allocator + Copy + Send + Sync>(
+/// Writes the report of what each theorem rests on, with the usage, which needs the columns.
+fn report_usage<'a, R: Threads + Sync, A: Allocator + Copy + Send + Sync, W: Write>(
     rt: &R,
     alloc: A,
+    database: &Database<'a, A>,
     citations: &Citations<A>,
-    columns: &Columns<A>,
-    choice: Choice,
-) -> Result<Matrix<A>, AllocError>
-    ensures table { IfOk result (λ m. IsMatrix citations.now columns.now m) }
-    ensures has_columns { IfOk result (λ m. m.has_columns ≡ has choice choices.Usage) }
+    chosen: &Columns<A>,
+    plan: &Plan<A>,
+    to: &mut W,
+) -> RunEnd
+    requires sound { HasNoFault (length database.now.text)
+        (lexed_of database.now.text) plan.now.with_open database.now.read }
+    requires counted { IsCounted plan.now.with_open database.now }
+    requires cited { AllCited database.now.statements plan.now.essential citations.now }
+    requires chosen { chosen.now ≡ columns database.now.statements (only_of plan.now) }
+    requires choice { plan.now.choice ≡ choices.Citations → ⊥ }
+    ensures { Answers result database.now.text (request_of plan.now) (W.contents to.old)
+        (W.contents to.new) }
 {
-    if has_usage(choice) {
-        matrix(rt, alloc, citations, columns)
-    } else {
-        matrix_by_rows(rt, alloc, citations, columns)
+    let Ok(table) = matrix(rt, alloc, citations, chosen) else {
+        return RunEnd::NoMemory;
+    };
+    match write_report(
+        to,
+        database,
+        chosen,
+        &table,
+        plan.with_open,
+        plan.form,
+        plan.choice,
+    ) {
+        Ok(()) => RunEnd::Accepted,
+        Err(_) => RunEnd::WriteFailed,
+    }
+}
+
+/// Writes the report of what each theorem rests on, without the usage, from the rows alone.
+fn report_rows<'a, R: Threads + Sync, A: Allocator + Copy + Send + Sync, W: Write>(
+    rt: &R,
+    alloc: A,
+    database: &Database<'a, A>,
+    citations: &Citations<A>,
+    chosen: &Columns<A>,
+    plan: &Plan<A>,
+    to: &mut W,
+) -> RunEnd
+    requires sound { HasNoFault (length database.now.text)
+        (lexed_of database.now.text) plan.now.with_open database.now.read }
+    requires counted { IsCounted plan.now.with_open database.now }
+    requires cited { AllCited database.now.statements plan.now.essential citations.now }
+    requires chosen { chosen.now ≡ columns database.now.statements (only_of plan.now) }
+    requires choice { plan.now.choice ≡ choices.Citations → ⊥ }
+    requires no_usage { has plan.now.choice choices.Usage ≡ false }
+    ensures { Answers result database.now.text (request_of plan.now) (W.contents to.old)
+        (W.contents to.new) }
+{
+    let Ok(marked) = marked_rows(rt, alloc, citations, chosen) else {
+        return RunEnd::NoMemory;
+    };
+    match write_rows(
+        to,
+        database,
+        chosen,
+        &marked,
+        plan.with_open,
+        plan.form,
+        plan.choice,
+    ) {
+        Ok(()) => RunEnd::Accepted,
+        Err(_) => RunEnd::WriteFailed,
     }
 }
 
@@ -109,23 +163,13 @@ fn report_rests<'a, R: Threads + Sync, A: Allocator + Copy + Send + Sync, W: Wri
     ensures { Answers result database.now.text (request_of plan.now) (W.contents to.old)
         (W.contents to.new) }
 {
-    let Ok(columns) = Columns::new(alloc, database, plan.typecode()) else {
+    let Ok(chosen) = Columns::new(alloc, database, plan.typecode()) else {
         return RunEnd::NoMemory;
     };
-    let Ok(table) = table_of(rt, alloc, citations, &columns, plan.choice) else {
-        return RunEnd::NoMemory;
-    };
-    match write_report(
-        to,
-        database,
-        &columns,
-        &table,
-        plan.with_open,
-        plan.form,
-        plan.choice,
-    ) {
-        Ok(()) => RunEnd::Accepted,
-        Err(_) => RunEnd::WriteFailed,
+    if has_usage(plan.choice) {
+        report_usage(rt, alloc, database, citations, &chosen, plan, to)
+    } else {
+        report_rows(rt, alloc, database, citations, &chosen, plan, to)
     }
 }
 

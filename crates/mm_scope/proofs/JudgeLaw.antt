@@ -64,8 +64,13 @@ pub symbols_more : (n : Names) (look : List ℕ → Option Symbol) (labels : Lis
     (fault_at (token_at text ws i).at (symbol_code is_open (look (token_at text ws i).word)))
     ≡ least (at_each (symbol_codes n) [] (between text ws from (i + 1)))
 symbols_more n look labels is_open k text ws from i h l best e =
-    rw (e, between_more text ws from i h l, at_each_snoc, least_append,
-    symbol_code_is n look labels is_open k) refl
+    rw (
+      e,
+      between_more text ws from i h l,
+      at_each_snoc,
+      least_append,
+      symbol_code_is n look labels is_open k,
+    ) refl
 
 two_codes : (p : ℕ) (a b : Bool) (x y : Code) → nat_le (code_number x) (code_number y) ≡ true
     → least (at p (when a x ++ when b y)) ≡ fault_at p (code_or a x (code_or b y None))
@@ -108,8 +113,14 @@ pub declared_more : (n : Names) (look : List ℕ → Option Symbol) (labels : Li
     (is_some (labels (token_at text ws i).word))))
     ≡ least (at_each (declared_codes n kind) [] (between text ws from (i + 1)))
 declared_more n look labels is_open k kind text ws from i h l repeated q best e =
-    rw (e, q, between_more text ws from i h l, at_each_snoc, least_append,
-    declared_code_is n look labels is_open k) refl
+    rw (
+      e,
+      q,
+      between_more text ws from i h l,
+      at_each_snoc,
+      least_append,
+      declared_code_is n look labels is_open k,
+    ) refl
 
 pub seen_more : (text : List ℕ) (ws : List place.Word) (from i : ℕ) → from ≤ i → i < length ws
     → (old new : List ℕ → Option ℕ)
@@ -154,8 +165,14 @@ pub typing_is : (n : Names) (look : List ℕ → Option Symbol) (labels : List �
     → typing_fault keyword v.at (typing_code is_open c.word (look c.word) (look v.word))
     ≡ least (floating_faults n keyword (c ∷ v ∷ []))
 typing_is n look labels is_open k keyword c v =
-    grind (arith, nat_tests, k.constants c.word, k.active_variables v.word, k.typed v.word,
-    k.otherwise c.word v.word)
+    grind (
+      arith,
+      nat_tests,
+      k.constants c.word,
+      k.active_variables v.word,
+      k.typed v.word,
+      k.otherwise c.word v.word,
+    )
 
 -- so many words are no two
 pub no_two : (n : Names) (keyword : ℕ) (xs : List Token) → length xs ≢ 2
@@ -179,8 +196,12 @@ no_two_between n keyword text ws k j h l ne =
 pub two_between : (text : List ℕ) (ws : List place.Word) (k j : ℕ) → j ≤ length ws → j - k ≡ 3
     → between text ws (k + 1) j ≡ token_at text ws (k + 1) ∷ token_at text ws (k + 2) ∷ []
 two_between text ws k j l e =
-    grind (arith, between_first text ws (k + 1) j, between_first text ws (k + 2) j,
-    between_none text ws j)
+    grind (
+      arith,
+      between_first text ws (k + 1) j,
+      between_first text ws (k + 2) j,
+      between_none text ws j,
+    )
 
 when_first : (p : ℕ) (b : Bool) (x : Code)
     → fault_at p (code_or b x None) ≡ least (at p (when b x))

@@ -79,7 +79,7 @@ fn writes_digits(table: &Matrix<Global>, row: u32, digits: &[u8; 32]) -> bool {
         return false;
     }
     let mut written = [0u8; 32];
-    table.write_digits(row, 0, &mut written);
+    table.marked().write_digits(row, 0, &mut written);
     written == *digits
 }
 

@@ -4,7 +4,7 @@ use super::proofs::database_of;
 use super::{MOST, met};
 use crate::calls::all_checked;
 use crate::heap::Refusing;
-use mm_rows::{Columns, Matrix, matrix, matrix_by_rows, waves};
+use mm_rows::{Columns, MarkedRows, Matrix, marked_rows, matrix, waves};
 use mm_stmt::Database;
 use mm_work::{Citations, Judged};
 use std::alloc::{AllocError, Allocator, Global};
@@ -132,6 +132,19 @@ fn rows_without_memory(rt: HostRuntime) -> Result<(), AllocError> {
     Ok(())
 }
 
+/// The same, from the rows alone.
+fn are_full<A: Allocator>(answer: Result<MarkedRows<A>, AllocError>) -> Option<bool> {
+    match answer {
+        Ok(marked) => Some(
+            marked.rows() == 2
+                && marked.columns() == 3
+                && marked.row_count(0) == 3
+                && marked.row_count(1) == 3,
+        ),
+        Err(_) => None,
+    }
+}
+
 fn rows_alone_in_turn<'h, R: Abort + Threads + Sync>(
     rt: &R,
     heap: &'h Refusing<Global>,
@@ -143,9 +156,9 @@ fn rows_alone_in_turn<'h, R: Abort + Threads + Sync>(
         let refused = met(
             rt,
             heap,
-            is_full(matrix_by_rows(rt, heap, citations, columns)),
+            are_full(marked_rows(rt, heap, citations, columns)),
         );
-        assert!(rt; is_full(matrix_by_rows(rt, heap, citations, columns)) == Some(true));
+        assert!(rt; are_full(marked_rows(rt, heap, citations, columns)) == Some(true));
         if !refused {
             return number > 3;
         }

@@ -1,6 +1,5 @@
 use Rattle.std.proofs.Common.{rules, ◌≡◌, suc, ◌-◌, ◌<◌, ◌||◌, ◌++◌, false, length, take, drop}
 use Rattle.std.proofs.Common.{take_at, replicate, refl, sym, ap, ◌∙◌, subst, arith}
-use Rattle.std.proofs.lemmas.Result.{IfOk-from_err}
 use Rattle.std.proofs.lemmas.Bool.{or_left}
 use Rattle.std.proofs.lemmas.List.{get_or_default}
 use Rattle.mm_spec.specs.Citation.{context_at}

@@ -1,8 +1,6 @@
-use Rattle.std.proofs.Common.{ℕ, ◌≤◌, length, get_or, sym, subst, List, arith}
+use Rattle.std.proofs.Common.{◌≤◌, length, get_or, arith}
 use Rattle.mm_spec.specs.Frame.{is_essential}
-use Rattle.mm_frame.specs.Latest.{IsWalked}
-use Rattle.mm_frame.proofs.LatestLaw.{walked_start, walked_next, walked_end, height_less}
-use Rattle.std.proofs.lemmas.Result.{IfOk-from_err}
+use Rattle.mm_frame.proofs.LatestLaw.{walked_next, walked_end}
 use Rattle.mm_frame.proofs.active.active_essentials.Goals as goal
 use Rattle.mm_spec.proofs.MemberLaw.{essential_local}
 

@@ -1,6 +1,6 @@
 use Rattle.std.proofs.Common.{get_or, sym, ◌∙◌}
 use Rattle.mm_spec.specs.Frame.{is_essential}
-use Rattle.mm_frame.proofs.LatestLaw.{candidate_next, candidate_open, height_less}
+use Rattle.mm_frame.proofs.LatestLaw.{candidate_next}
 use Rattle.mm_frame.proofs.active.last_open.Goals as goal
 
 pub loop-last-preserved : goal.loop-last-preserved

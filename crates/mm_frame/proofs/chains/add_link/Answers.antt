@@ -1,7 +1,6 @@
-use Rattle.std.proofs.Common.{◌≡◌, ◌<◌, ◌+◌, length, get_or, sym, arith, ◌∙◌, refl}
-use Rattle.std.proofs.lemmas.List.{get_or_default, length-set}
-use Rattle.mm_frame.proofs.ChainsLaw.{begun, linked_more, chains_more}
-use Rattle.std.proofs.lemmas.Result.{IfOk-from_err}
+use Rattle.std.proofs.Common.{◌≡◌, ◌<◌, ◌+◌, length, get_or, sym, arith, ◌∙◌}
+use Rattle.std.proofs.lemmas.List.{get_or_default}
+use Rattle.mm_frame.proofs.ChainsLaw.{begun, chains_more}
 use Rattle.mm_frame.proofs.chains.add_link.Goals as goal
 
 pub returns-in_ok-push-clause-chains : goal.returns-in_ok-push-clause-chains

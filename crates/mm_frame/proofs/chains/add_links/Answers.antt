@@ -2,7 +2,6 @@ use Rattle.std.proofs.Common.{◌∙◌, ℕ, List, subst, arith, take_all}
 use Rattle.mm_spec.specs.Derivation.{is_member}
 use Rattle.mm_frame.specs.Chains.{AddsInFront}
 use Rattle.mm_frame.proofs.ChainsLaw.{more_symbols, same_chains}
-use Rattle.std.proofs.lemmas.Result.{IfOk-from_err}
 use Rattle.mm_frame.proofs.chains.add_links.Goals as goal
 
 pub loop-symbol-preserved : goal.loop-symbol-preserved

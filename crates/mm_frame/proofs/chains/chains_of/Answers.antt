@@ -3,7 +3,6 @@ use Rattle.std.proofs.Common.{arith, replicate}
 use Rattle.std.proofs.lemmas.List.{length-replicate, get_or-replicate}
 use Rattle.mm_frame.proofs.ChainsLaw.{none_yet, linked_none, same_chains, with_disjoint}
 use Rattle.mm_frame.proofs.ChainsLaw.{without_disjoint, symbol_below}
-use Rattle.std.proofs.lemmas.Result.{IfOk-from_err}
 use Rattle.mm_frame.proofs.chains.chains_of.Goals as goal
 
 pub loop-left-init : goal.loop-left-init

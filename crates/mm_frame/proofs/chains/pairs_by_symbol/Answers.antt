@@ -1,6 +1,5 @@
-use Rattle.std.proofs.Common.{◌<◌, ◌≤◌, length, get_or, arith}
-use Rattle.mm_frame.proofs.ChainsLaw.{pairs_more, pairs_all}
-use Rattle.std.proofs.lemmas.Result.{IfOk-from_err}
+use Rattle.std.proofs.Common.{◌<◌, length, get_or, arith}
+use Rattle.mm_frame.proofs.ChainsLaw.{pairs_more}
 use Rattle.mm_frame.proofs.chains.pairs_by_symbol.Goals as goal
 
 pub loop-symbol-preserved : goal.loop-symbol-preserved

@@ -1,5 +1,4 @@
-use Rattle.std.proofs.Common.{arith, ℕ, List, ap, ◌∙◌, ◌&&◌, ◌||◌, take_all}
-use Rattle.std.proofs.lemmas.Result.{IfOk-from_err}
+use Rattle.std.proofs.Common.{ℕ, List, ap, ◌∙◌, ◌&&◌, ◌||◌, take_all}
 use Rattle.mm_spec.specs.Derivation.{is_member}
 use Rattle.mm_database.specs.DisjointIndex.{is_active_local}
 use Rattle.mm_database.specs.Pairs.{has_pair}

@@ -1,6 +1,5 @@
 use Rattle.std.proofs.Common.{arith, subst, sym, ◌+◌}
 use Rattle.mm_frame.proofs.DisjointLaw.{after_end}
-use Rattle.std.proofs.lemmas.Result.{IfOk-from_err}
 use Rattle.mm_frame.proofs.DisjointLaw.{after_start, after_next, AddsLater}
 use Rattle.mm_frame.proofs.disjoint.add_later_pairs.Goals as goal
 

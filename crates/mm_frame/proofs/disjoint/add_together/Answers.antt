@@ -1,5 +1,4 @@
 use Rattle.std.proofs.Common.{ℕ, List, ap, ◌∙◌, ◌||◌, take_all}
-use Rattle.std.proofs.lemmas.Result.{IfOk-from_err}
 use Rattle.std.specs.List.{list_any}
 use Rattle.mm_database.specs.Pairs.{has_pair}
 use Rattle.mm_frame.specs.Together.{has_later}

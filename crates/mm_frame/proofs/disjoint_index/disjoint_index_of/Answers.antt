@@ -1,7 +1,6 @@
 use Rattle.std.proofs.Common.{subst, ℕ, List}
 use Rattle.mm_database.specs.DisjointIndex.{AreSkips, IsDisjointIndex, pair_lists}
 use Rattle.mm_database.proofs.DisjointIndexLaw.{are_known}
-use Rattle.std.proofs.lemmas.Result.{IfOk-from_err}
 use Rattle.mm_frame.proofs.disjoint_index.disjoint_index_of.Goals as goal
 
 pub skips_of-requires : goal.skips_of-requires

@@ -1,5 +1,4 @@
 use Rattle.std.proofs.Common.{◌-◌, length, ap, sym, ◌∙◌, arith}
-use Rattle.std.proofs.lemmas.Result.{IfOk-from_err}
 use Rattle.mm_frame.proofs.SkipsLaw.{covers_itself, covers_before, skip_read, skips_more, all_skips}
 use Rattle.mm_frame.proofs.disjoint_index.skips_of.Goals as goal
 

@@ -1,7 +1,6 @@
-use Rattle.std.proofs.Common.{subst, sym, arith}
-use Rattle.mm_database.proofs.StartsLaw.{StartsTo, starts_none, starts_more, starts_next}
+use Rattle.std.proofs.Common.{arith}
+use Rattle.mm_database.proofs.StartsLaw.{starts_more}
 use Rattle.mm_database.proofs.StartsLaw.{starts_all}
-use Rattle.std.proofs.lemmas.Result.{IfOk-from_err}
 use Rattle.mm_frame.proofs.disjoint_index.starts_of.Goals as goal
 
 pub loop-starts-preserved : goal.loop-starts-preserved

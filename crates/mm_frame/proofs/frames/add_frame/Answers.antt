@@ -1,6 +1,5 @@
 use Rattle.std.proofs.Common.{length, Some, ap, sym, ◌∙◌, arith}
 use Rattle.std.proofs.lemmas.List.FromFn.{length-map-range_with_len}
-use Rattle.std.proofs.lemmas.Result.{IfOk-from_err}
 use Rattle.mm_database.specs.Frames.{frame_or_none}
 use Rattle.mm_database.proofs.NamesLaw.{on_then}
 use Rattle.mm_frame.proofs.FramesLaw.{frames_more, own_frame}

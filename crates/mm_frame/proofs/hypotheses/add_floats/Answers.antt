@@ -1,5 +1,4 @@
 use Rattle.std.proofs.Common.{arith, ℕ, List, ap, ◌∙◌, ◌||◌, take_all, ◌≡◌, get_or, nat_eq, sym}
-use Rattle.std.proofs.lemmas.Result.{IfOk-from_err}
 use Rattle.std.specs.List.{list_any}
 use Rattle.mm_spec.specs.Derivation.{is_member}
 use Rattle.mm_frame.specs.Hypotheses.{is_float_of}

@@ -1,5 +1,4 @@
-use Rattle.std.proofs.Common.{arith, length, set, subst, sym, ap, ◌∙◌, ◌++◌, ◌∷◌, []}
-use Rattle.std.proofs.lemmas.Result.{IfOk-from_err}
+use Rattle.std.proofs.Common.{length, set, subst, sym, ap, ◌∙◌, ◌++◌, ◌∷◌, []}
 use Rattle.mm_spec.specs.Derivation.{is_member}
 use Rattle.mm_spec.specs.Frame.{symbol_names, is_variable_number}
 use Rattle.mm_spec.proofs.MemberLaw.{member_push}

@@ -1,5 +1,4 @@
 use Rattle.std.proofs.Common.{arith, ℕ, List, ap, ◌∙◌, ◌&&◌, ◌||◌, take_all}
-use Rattle.std.proofs.lemmas.Result.{IfOk-from_err}
 use Rattle.mm_spec.specs.Derivation.{is_member}
 use Rattle.mm_spec.specs.Frame.{is_variable_number}
 use Rattle.mm_frame.proofs.LoopsLaw.{noted_none, noted_next}

@@ -3,7 +3,6 @@ use Rattle.std.specs.List.{list_any}
 use Rattle.mm_spec.specs.Derivation.{is_member}
 use Rattle.mm_spec.specs.Frame.{symbol_names, is_variable_number, formula_at}
 use Rattle.mm_frame.proofs.HypothesesLaw.{mandatory_is, essential_before}
-use Rattle.std.proofs.lemmas.Result.{IfOk-from_err}
 use Rattle.mm_frame.proofs.StampsLaw.{stamps_fresh}
 use Rattle.mm_frame.proofs.LoopsLaw.{mandatory_first, mandatory_next}
 use Rattle.mm_frame.proofs.hypotheses.mandatory_variables.Goals as goal

@@ -1,4 +1,4 @@
-use Rattle.std.proofs.Common.{arith, sym, ◌∙◌, ap, ap₂, ◌&&◌}
+use Rattle.std.proofs.Common.{sym, ◌∙◌, ap, ap₂, ◌&&◌}
 use Rattle.std.proofs.lemmas.List.Folds.{list_all_at, list_all_more}
 use Rattle.std.proofs.lemmas.List.{take_all}
 use Rattle.mm_spec.specs.Derivation.{is_disjoint_from, are_all_disjoint}

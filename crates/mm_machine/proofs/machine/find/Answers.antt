@@ -1,4 +1,3 @@
-use Rattle.std.proofs.Common.{arith}
 use Rattle.mm_machine.proofs.MarksLaw.{not_absent}
 use Rattle.mm_machine.proofs.machine.find.Goals as goal
 

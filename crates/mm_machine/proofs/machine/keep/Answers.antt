@@ -1,6 +1,5 @@
-use Rattle.std.proofs.Common.{refl, ◌≡◌, ◌+◌, ◌-◌, ◌++◌, length, get_or, slice_range, slice_set}
+use Rattle.std.proofs.Common.{◌≡◌, ◌+◌, ◌-◌, ◌++◌, length, get_or, slice_range, slice_set}
 use Rattle.std.proofs.Common.{sym, ap, ap₂, ◌∙◌, arith, rules}
-use Rattle.std.proofs.lemmas.Result.{IfOk-from_err}
 use Rattle.std.proofs.lemmas.List.{get_or_default}
 use Rattle.mm_machine.specs.declared.arena.Store.TheVariants.{Kept}
 use Rattle.mm_machine.specs.Arena.{span, no_symbols}

@@ -1,4 +1,4 @@
-use Rattle.std.proofs.Common.{arith, ◌≡◌, Ok, length, nat_le, drop, sym, ap, ◌∙◌}
+use Rattle.std.proofs.Common.{◌≡◌, Ok, length, nat_le, drop, sym, ap, ◌∙◌}
 use Rattle.mm_spec.specs.Limits.{formula_limit}
 use Rattle.mm_machine.proofs.GrowLaw.{stretch_in}
 use Rattle.mm_machine.specs.Arena.{arena}

@@ -6,7 +6,6 @@ use Rattle.mm_spec.specs.NormalProof.{usable}
 use Rattle.mm_outline.specs.Parts.{as_tokens, token_of}
 use Rattle.mm_proof.proofs.BracketsLaw.{after, label_first, brackets_first, tokens_more}
 use Rattle.mm_proof.proofs.BracketsLaw.{tokens_end, brackets_close}
-use Rattle.std.proofs.lemmas.Result.{IfOk-from_err}
 use Rattle.mm_proof.proofs.LettersLaw.{err_same}
 use Rattle.mm_proof.specs.declared.refused.ProofRefused.TheVariants.{Memory}
 use Rattle.mm_proof.proofs.compressed.read_labels.Goals as goal

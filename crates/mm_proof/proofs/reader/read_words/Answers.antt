@@ -1,12 +1,11 @@
 use Rattle.std.proofs.Common.{◌≡◌, ap, ap₂, sym, ◌∙◌, true, false, get_or, bytes_eq, codes}
-use Rattle.std.proofs.Common.{slice_range, arith}
+use Rattle.std.proofs.Common.{slice_range}
 use Rattle.mm_spec.specs.Text.{fault}
 use Rattle.mm_spec.specs.NormalProof.{usable}
 use Rattle.mm_spec.specs.declared.Word.{Word}
 use Rattle.mm_spec.specs.declared.Code.TheVariants.{IncompleteProof, UnusableLabel}
 use Rattle.mm_outline.specs.Parts.{token_of}
 use Rattle.mm_proof.proofs.LeastLaw.{faulty_word, question_fault, label_fault}
-use Rattle.std.proofs.lemmas.Result.{IfOk-from_err}
 use Rattle.mm_proof.proofs.LettersLaw.{err_same}
 use Rattle.mm_proof.specs.declared.refused.ProofRefused.TheVariants.{Memory}
 use Rattle.mm_proof.proofs.reader.read_words.Goals as goal

@@ -7,10 +7,10 @@ use Rattle.mm_report.proofs.cells.send_cells.Given as goal
 
 abbrev pub invariant-loop-word : goal.invariant-loop-word
 invariant-loop-word g l = record {
-  within : l.word ≤ div_ceil l.matrix.columns 64;
+  within : l.word ≤ div_ceil l.marked.columns 64;
   sent : Sent (g.W.Write.contents l.fn.to) (g.W.Write.contents l.to) l.fn.sink l.sink
-      (map (cell_text l.matrix l.i)
-      (range_with_len 0 (min (64 * l.word) l.matrix.columns)));
+      (map (cell_text l.marked l.i)
+      (range_with_len 0 (min (64 * l.word) l.marked.columns)));
 }
 
 abbrev pub decreases-loop-word : goal.decreases-loop-word

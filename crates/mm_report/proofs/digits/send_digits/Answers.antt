@@ -9,19 +9,19 @@ use Rattle.mm_report.proofs.digits.send_digits.Goals as goal
 
 pub loop-word-init : goal.loop-word-init
 loop-word-init g c =
-    let none : 0 ≡ min 0 (div_ceil c.args.matrix.now.columns 4) = omega arith in
+    let none : 0 ≡ min 0 (div_ceil c.args.marked.now.columns 4) = omega arith in
     record {
       within = omega arith;
       sent =
           sent_as _
-          (ap (λ n. map (digit_text c.args.matrix.now c.args.i) (range_with_len 0 n)) none)
+          (ap (λ n. map (digit_text c.args.marked.now c.args.i) (range_with_len 0 n)) none)
           (sent_none (g.W.Write.contents c.args.to.now) c.args.sink.now);
     }
 
 pub loop-word-preserved : goal.loop-word-preserved
 loop-word-preserved g c =
-    let f = digit_text c.args.matrix.now c.args.i in
-    let columns = c.args.matrix.now.columns in
+    let f = digit_text c.args.marked.now c.args.i in
+    let columns = c.args.marked.now.columns in
     let word = c.loop-word.word in
     let count = c.min-count.result in
     let words = c.div_ceil-words.ensures in
@@ -57,9 +57,9 @@ loop-word-preserved g c =
 
 pub returns : goal.returns
 returns g c =
-    let f = digit_text c.args.matrix.now c.args.i in
-    let columns = c.args.matrix.now.columns in
-    let long = row_long c.args.matrix.now c.args.i in
+    let f = digit_text c.args.marked.now c.args.i in
+    let columns = c.args.marked.now.columns in
+    let long = row_long c.args.marked.now c.args.i in
     let words = c.div_ceil-words.ensures in
     let is = c.columns.ensures in
     let past = c.loop-word-test.false in

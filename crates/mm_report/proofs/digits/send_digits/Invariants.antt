@@ -7,10 +7,10 @@ use Rattle.mm_report.proofs.digits.send_digits.Given as goal
 
 abbrev pub invariant-loop-word : goal.invariant-loop-word
 invariant-loop-word g l = record {
-  within : l.word ≤ div_ceil l.matrix.columns 64;
+  within : l.word ≤ div_ceil l.marked.columns 64;
   sent : Sent (g.W.Write.contents l.fn.to) (g.W.Write.contents l.to) l.fn.sink l.sink
-      (map (digit_text l.matrix l.i)
-      (range_with_len 0 (min (16 * l.word) (div_ceil l.matrix.columns 4))));
+      (map (digit_text l.marked l.i)
+      (range_with_len 0 (min (16 * l.word) (div_ceil l.marked.columns 4))));
 }
 
 abbrev pub decreases-loop-word : goal.decreases-loop-word

@@ -1,5 +1,4 @@
-use Rattle.std.proofs.Common.{arith, length, subst, sym, ◌∙◌}
-use Rattle.std.proofs.lemmas.Result.{IfOk-from_err}
+use Rattle.std.proofs.Common.{length, subst, sym, ◌∙◌}
 use Rattle.mm_rows.specs.Waves.{AreWaves}
 use Rattle.mm_rows.proofs.wave.all_rows.Goals as goal
 

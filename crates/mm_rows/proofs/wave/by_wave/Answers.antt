@@ -6,7 +6,6 @@ use Rattle.std.proofs.lemmas.List.{get_or_default}
 use Rattle.std.proofs.Math.Seq.{take-length}
 use Rattle.mm_rows.specs.Waves.{IsByWave}
 use Rattle.mm_rows.proofs.WaveLaw.{by_wave_is, pairs_next}
-use Rattle.std.proofs.lemmas.Result.{IfOk-from_err}
 use Rattle.mm_rows.proofs.wave.by_wave.Goals as goal
 
 pub returns : goal.returns
@@ -41,18 +40,6 @@ returns g c =
     subst (IsByWave waves) (sym chain)
     (by_wave_is waves ps qs each all c.sort_unstable_by_key.ensures.permutation rises)
 
-pub overflow_cast-row-end : goal.overflow_cast-row-end
-overflow_cast-row-end g c = omega arith
-
-pub overflow_cast-row : goal.overflow_cast-row
-overflow_cast-row g c = omega arith
-
-pub offset_bounds-waves-row : goal.offset_bounds-waves-row
-offset_bounds-waves-row g c = omega arith
-
-pub bounds-waves-row : goal.bounds-waves-row
-bounds-waves-row g c = omega arith
-
 pub loop-row-init : goal.loop-row-init
 loop-row-init g c =
     (omega arith, ap length c.in_ok-pairs.ensures.items, λ p l. absurd (omega arith))
@@ -62,25 +49,3 @@ loop-row-preserved g c =
     let t = c.loop-row-test.true in
     pairs_next c.args.waves.now c.loop-row.pairs.items c.push.new.self.items c.loop-row.row
     (omega (arith, t)) c.loop-row.invariant c.in_ok-push.ensures.items
-
-pub loop-pair-init : goal.loop-pair-init
-loop-pair-init g c = c.in_ok-rows.ensures.items
-
-pub offset_bounds-pair-items-pair-index : goal.offset_bounds-pair-items-pair-index
-offset_bounds-pair-items-pair-index g c = omega arith
-
-pub returns-in_err-pairs : goal.returns-in_err-pairs
-returns-in_err-pairs g c =
-    IfOk-from_err c.from_residual.result _ c.from_residual.ensures.0
-
-pub returns-in_err-push : goal.returns-in_err-push
-returns-in_err-push g c =
-    IfOk-from_err c.from_residual-in_err-push.result _ c.from_residual-in_err-push.ensures.0
-
-pub returns-in_err-rows : goal.returns-in_err-rows
-returns-in_err-rows g c =
-    IfOk-from_err c.from_residual-in_err-rows.result _ c.from_residual-in_err-rows.ensures.0
-
-pub returns-in_err-push-2 : goal.returns-in_err-push-2
-returns-in_err-push-2 g c =
-    IfOk-from_err c.from_residual-in_err-push-2.result _ c.from_residual-in_err-push-2.ensures.0

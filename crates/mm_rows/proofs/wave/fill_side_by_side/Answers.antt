@@ -4,7 +4,6 @@ use Rattle.mm_cites.specs.Citing.{theorem_at}
 use Rattle.mm_rows.specs.BitRows.{IsBitRow, row_at}
 use Rattle.mm_rows.proofs.TransposeLaw.{row_end}
 use Rattle.mm_rows.proofs.WaveLaw.{made_more, zip_at}
-use Rattle.std.proofs.lemmas.Result.{IfOk-from_err}
 use Rattle.mm_rows.proofs.wave.fill_side_by_side.Goals as goal
 
 pub index-requires : goal.index-requires
@@ -67,7 +66,3 @@ loop-k-preserved g c =
     c.store.ensures.others in
     made_more c.args.citations.now c.args.columns.now rows k c.args.bits.now c.loop-k.bits
     c.store.new.bits c.in-Ok.row.items i refl bits (omega arith) here others c.loop-k.invariant
-
-pub returns-in_err-made : goal.returns-in_err-made
-returns-in_err-made g c =
-    IfOk-from_err c.from_residual.result _ c.from_residual.ensures.0

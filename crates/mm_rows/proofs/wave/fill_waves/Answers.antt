@@ -3,7 +3,6 @@ use Rattle.std.proofs.Common.{subst, sym, ap, arith}
 use Rattle.std.proofs.lemmas.Grind.{get_or_default_zero}
 use Rattle.mm_rows.specs.BitRows.{HasCitedRows}
 use Rattle.mm_rows.proofs.WaveLaw.{wave_ready, made_wave, made_all, part_length, part_at}
-use Rattle.std.proofs.lemmas.Result.{IfOk-from_err}
 use Rattle.mm_rows.proofs.wave.fill_waves.Goals as goal
 
 pub fill_wave-requires-clause-ready : goal.fill_wave-requires-clause-ready

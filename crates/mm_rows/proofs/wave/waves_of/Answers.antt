@@ -1,7 +1,6 @@
 use Rattle.std.proofs.Common.{◌≡◌, ◌+◌, length, subst, sym, arith}
 use Rattle.mm_rows.specs.Waves.{AreWaves}
 use Rattle.mm_rows.proofs.WaveLaw.{waves_none, waves_more}
-use Rattle.std.proofs.lemmas.Result.{IfOk-from_err}
 use Rattle.mm_rows.proofs.wave.waves_of.Goals as goal
 
 pub loop-i-init : goal.loop-i-init

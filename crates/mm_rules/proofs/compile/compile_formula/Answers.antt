@@ -1,5 +1,4 @@
-use Rattle.std.proofs.Common.{arith, ap, ◌∙◌, ◌++◌}
-use Rattle.std.proofs.lemmas.Result.{IfOk-from_err}
+use Rattle.std.proofs.Common.{ap, ◌∙◌, ◌++◌}
 use Rattle.std.proofs.lemmas.List.{take_all}
 use Rattle.mm_rules.specs.Rules.{numbered_part, numbered_parts}
 use Rattle.mm_rules.proofs.RuleLaw.{map_more_after}

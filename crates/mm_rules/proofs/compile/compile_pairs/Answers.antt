@@ -1,5 +1,4 @@
-use Rattle.std.proofs.Common.{arith, ◌≡◌, ℕ, ◌++◌, ◌∷◌, [], get_or, sym, ap, ap₂, ◌∙◌}
-use Rattle.std.proofs.lemmas.Result.{IfOk-from_err}
+use Rattle.std.proofs.Common.{◌≡◌, ℕ, ◌++◌, ◌∷◌, [], get_or, sym, ap, ap₂, ◌∙◌}
 use Rattle.std.proofs.lemmas.List.{take_all}
 use Rattle.mm_rules.specs.Rules.{numbered_pairs}
 use Rattle.mm_rules.proofs.RuleLaw.{map_take_more}

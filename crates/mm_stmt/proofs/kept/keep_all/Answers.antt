@@ -1,6 +1,5 @@
 use Rattle.std.proofs.Common.{◌≡◌, ◌∙◌, ◌+◌, ◌++◌, ◌∷◌, ℕ, List, [], length, map, take, get_or, ap}
 use Rattle.std.proofs.Common.{ap₂, arith}
-use Rattle.std.proofs.lemmas.Result.{IfOk-from_err}
 use Rattle.std.proofs.lemmas.List.{take_more, map-append}
 use Rattle.mm_outline.specs.Parts.{outline}
 use Rattle.mm_outline.specs.declared.parts.Kind.TheVariants.{Constants}

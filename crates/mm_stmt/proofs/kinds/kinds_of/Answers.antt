@@ -1,6 +1,4 @@
-use Rattle.std.proofs.Common.{arith, ◌∙◌, ◌++◌, ◌∷◌, [], sym, ap₂}
-use Rattle.std.proofs.lemmas.Grind.{common_steps}
-use Rattle.std.proofs.lemmas.Result.{IfOk-from_err}
+use Rattle.std.proofs.Common.{◌∙◌, ◌++◌, ◌∷◌, [], sym, ap₂}
 use Rattle.mm_outline.specs.Parts.{outline}
 use Rattle.mm_outline.specs.declared.parts.Kind.TheVariants.{Constants}
 use Rattle.mm_database.proofs.KindsLaw.{kinds_more}

@@ -1,5 +1,4 @@
-use Rattle.std.proofs.Common.{arith, ◌∙◌, ℕ, Bool, sym, Some, None, false, slice_get}
-use Rattle.std.proofs.lemmas.Result.{IfOk-from_err}
+use Rattle.std.proofs.Common.{◌∙◌, ℕ, Bool, sym, Some, None, false, slice_get}
 use Rattle.mm_outline.specs.declared.parts.Kind.TheVariants.{Constants}
 use Rattle.mm_database.specs.Kinds.{is_theorem_kind}
 use Rattle.mm_database.proofs.KindsLaw.{filter_push, filter_skip, kind_at}

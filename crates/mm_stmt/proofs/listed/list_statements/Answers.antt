@@ -1,5 +1,4 @@
 use Rattle.std.proofs.Common.{◌≡◌, ◌∙◌, ◌∷◌, ℕ, List, All, IsTrue, map, sym, ap, subst}
-use Rattle.std.proofs.lemmas.Result.{IfOk-from_err}
 use Rattle.mm_spec.specs.Output.{theorems, is_theorem_at, label_at}
 use Rattle.mm_spec.specs.Opened.{counted}
 use Rattle.mm_spec.proofs.OpenedLaw.{counted_label, theorem_still}

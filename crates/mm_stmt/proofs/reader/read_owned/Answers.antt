@@ -1,5 +1,4 @@
 use Rattle.std.proofs.Common.{◌≡◌, ◌∙◌, ◌^◌, ◌<◌, List, sym, ap, subst, length, refl, arith}
-use Rattle.std.proofs.lemmas.Result.{IfOk-from_err}
 use Rattle.std.proofs.lemmas.List.{length-map}
 use Rattle.mm_spec.specs.Lexed.{tokens_of as words_of, lexed_of}
 use Rattle.mm_spec.specs.declared.Word.{Word}

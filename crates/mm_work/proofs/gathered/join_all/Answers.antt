@@ -1,5 +1,4 @@
 use Rattle.std.proofs.Common.{◌∙◌, ◌++◌, ◌∷◌, [], List, ap}
-use Rattle.std.proofs.lemmas.Result.{IfOk-from_err}
 use Rattle.mm_work.specs.Workers.{IsDone}
 use Rattle.mm_work.specs.declared.worker.Findings.{Findings}
 use Rattle.mm_work.proofs.WorkersLaw.{gathered_first, gathered_more, All_front, All_last}

@@ -1,5 +1,4 @@
 use Rattle.std.proofs.Common.{◌≡◌, ℕ, List, length, get_or, sym, ap, subst, arith, IsTrue}
-use Rattle.std.proofs.lemmas.Result.{IfOk-from_err}
 use Rattle.mm_spec.specs.Output.{theorems, is_theorem_at}
 use Rattle.mm_proof.proofs.TheoremsLaw.{theorems_are}
 use Rattle.mm_work.specs.Judged.{AreCitedUpTo, HasFault, Faults, IsCited, IsFirstFault}

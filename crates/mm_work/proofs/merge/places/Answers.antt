@@ -2,7 +2,6 @@ use Rattle.std.proofs.Common.{◌≡◌, ◌∙◌, ◌<◌, ◌+◌, ◌⊎◌,
 use Rattle.std.proofs.Common.{sym, ap, subst, arith}
 use Rattle.std.specs.List.{Contains}
 use Rattle.std.proofs.lemmas.Option.{slice_get_read}
-use Rattle.std.proofs.lemmas.Result.{IfOk-from_err}
 use Rattle.mm_work.specs.Places.{IsNoted, HasPlace}
 use Rattle.mm_work.specs.declared.merge.Whereabouts.{Whereabouts}
 use Rattle.mm_work.specs.declared.worker.Findings.{Findings}

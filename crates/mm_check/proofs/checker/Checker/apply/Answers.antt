@@ -1,5 +1,5 @@
 use Rattle.std.proofs.Common.{◌≡◌, Ok, sym, subst}
-use Rattle.std.proofs.lemmas.Result.{IfOk-from_err, err_from_is_err_and}
+use Rattle.std.proofs.lemmas.Result.{err_from_is_err_and}
 use Rattle.mm_machine.specs.State.{applied}
 use Rattle.mm_machine.specs.Stops.{Stops}
 use Rattle.mm_check.specs.Checker.{CheckerState, checker_state, IsAt}

@@ -1,5 +1,4 @@
 use Rattle.std.proofs.Common.{subst, sym, ap}
-use Rattle.std.proofs.lemmas.Result.{IfOk-from_err}
 use Rattle.mm_spec.specs.Citation.{context_at}
 use Rattle.mm_spec.specs.Laws.Stack.{AreGoodSteps}
 use Rattle.mm_spec.proofs.GoodStepsLaw.{good_steps}

@@ -1,5 +1,4 @@
 use Rattle.std.proofs.Common.{refl}
-use Rattle.std.proofs.lemmas.Result.{IfOk-from_err}
 use Rattle.mm_check.proofs.EndLaw.{proof_is, cites_are, is_checked, ends_here}
 use Rattle.mm_check.proofs.checker.Checker.finish.Goals as goal
 

@@ -1,5 +1,4 @@
 use Rattle.std.proofs.Common.{sym, subst}
-use Rattle.std.proofs.lemmas.Result.{IfOk-from_err}
 use Rattle.mm_check.specs.Checker.{CheckerState, IsMadeFor}
 use Rattle.mm_check.proofs.EndLaw.{begins}
 use Rattle.mm_check.proofs.checker.Checker.run.Goals as goal

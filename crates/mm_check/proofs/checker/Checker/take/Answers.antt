@@ -1,5 +1,4 @@
 use Rattle.std.proofs.Common.{true, false, refl, sym, ◌∙◌, subst}
-use Rattle.std.proofs.lemmas.Result.{IfOk-from_err}
 use Rattle.mm_steps.specs.Read.{as_step}
 use Rattle.mm_check.specs.Checker.{CheckerState, IsAt, Performs}
 use Rattle.mm_check.proofs.RanLaw.{ready, stops_here, performs_next}

@@ -7,7 +7,7 @@ use Rattle.mm_lex.specs.Plain.{plain_at}
 use Rattle.mm_lex.specs.Beginnings.{IsFirst, IsPassed, IsWordFrom}
 use Rattle.mm_lex.proofs.BlockLaw.{found_next, found_word, plain_word, run_on, white_one}
 use Rattle.mm_lex.proofs.scanner.WordScanner.next_word.Goals as goal
-use Rattle.mm_lex.proofs.scanner.WordScanner.next_word.Goals.{After-first_one-stop, Then-self-stop-eq1}
+use Rattle.mm_lex.proofs.scanner.WordScanner.next_word.Goals.{Then-self-stop-eq1}
 use Rattle.mm_lex.proofs.scanner.WordScanner.next_word.Goals.{After-word_from}
 
 -- ---- a word that is plain and ends in the block

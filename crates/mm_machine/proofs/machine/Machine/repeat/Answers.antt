@@ -1,5 +1,4 @@
 use Rattle.std.proofs.Common.{◌<◌, length, ap, sym, subst, arith}
-use Rattle.std.proofs.lemmas.Result.{IfOk-from_err}
 use Rattle.std.proofs.lemmas.Grind.{common_steps}
 use Rattle.std.proofs.lemmas.List.Elements.{All-get_or}
 use Rattle.mm_machine.specs.State.{IsMarkedEntry}

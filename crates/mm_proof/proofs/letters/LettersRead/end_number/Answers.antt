@@ -1,7 +1,6 @@
 use Rattle.std.proofs.Common.{◌∙◌, ◌*◌, ◌+◌, ap, refl}
 use Rattle.mm_proof.specs.Number.{saturated}
 use Rattle.mm_proof.proofs.LettersLaw.{last_here, err_same, stands_step}
-use Rattle.std.proofs.lemmas.Result.{IfOk-from_err}
 use Rattle.mm_proof.specs.declared.refused.ProofRefused.TheVariants.{Memory}
 use Rattle.mm_proof.proofs.letters.LettersRead.end_number.Goals as goal
 

@@ -13,7 +13,6 @@ use Rattle.std.proofs.lemmas.List.{drop_more}
 use Rattle.mm_proof.proofs.LettersLaw.{err_same, whole, fault_first, open_fault, no_fault, all_read}
 use Rattle.mm_proof.proofs.LettersLaw.{all_steps, some_letters, StandsBefore, stands_after}
 use Rattle.mm_proof.proofs.LettersLaw.{some_begun, none_begun}
-use Rattle.std.proofs.lemmas.Result.{IfOk-from_err}
 use Rattle.mm_proof.proofs.letters.LettersRead.read_all.Goals as goal
 
 pub returns-in_err-read_word-clause-fault : goal.returns-in_err-read_word-clause-fault

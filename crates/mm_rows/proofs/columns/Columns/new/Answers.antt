@@ -8,7 +8,6 @@ use Rattle.mm_spec.specs.Output.{columns, has_typecode, is_column}
 use Rattle.mm_cites.specs.Citing.{IsStatementList}
 use Rattle.mm_cites.proofs.RisingLaw.{filter_at, filter_rising}
 use Rattle.mm_rows.proofs.ColumnLaw.{filter_snoc, columns_are, axiom_asserts}
-use Rattle.std.proofs.lemmas.Result.{IfOk-from_err}
 use Rattle.mm_rows.proofs.columns.Columns.new.Goals as goal
 use Rattle.mm_rows.proofs.columns.Columns.new.Goals.{then-has_chosen_typecode+in_ok-push, else-has_chosen_typecode}
 

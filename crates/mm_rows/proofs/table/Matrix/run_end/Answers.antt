@@ -5,6 +5,6 @@ pub run_of-requires-clause-first : goal.run_of-requires-clause-first
 run_of-requires-clause-first g c =
     let e = c.rows.ensures in let r = c.requires.row in omega (arith, e, r)
 
-pub returns-in-Some-clause-within : goal.returns-in-Some-clause-within
-returns-in-Some-clause-within g c =
+pub returns-clause-within : goal.returns-clause-within
+returns-clause-within g c =
     let e = c.rows.ensures in let w = c.run_of.ensures.within in omega (arith, e, w)

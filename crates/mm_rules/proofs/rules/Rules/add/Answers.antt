@@ -1,5 +1,4 @@
-use Rattle.std.proofs.Common.{arith, sym, subst}
-use Rattle.std.proofs.lemmas.Result.{IfOk-from_err}
+use Rattle.std.proofs.Common.{sym, subst}
 use Rattle.mm_rule.specs.Rule.{Compiled, IsCompiled}
 use Rattle.mm_rules.specs.Rules.{RuleLists, AreRules, rule_ranges}
 use Rattle.mm_rules.proofs.RulesLaw.{added_at}

@@ -1,5 +1,5 @@
 use Rattle.std.proofs.Common.{sym, subst, ◌∙◌}
-use Rattle.std.proofs.lemmas.Result.{IfOk-from_err, on_ok_weaker}
+use Rattle.std.proofs.lemmas.Result.{on_ok_weaker}
 use Rattle.mm_rule.specs.Rule.{IsCompiled}
 use Rattle.mm_rules.proofs.CompleteLaw.{complete_at}
 use Rattle.mm_rules.proofs.rules.Rules.hold.Goals as goal

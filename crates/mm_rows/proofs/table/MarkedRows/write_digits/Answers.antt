@@ -4,12 +4,12 @@ use Rattle.mm_rows.specs.BitRows.{row_at}
 use Rattle.mm_rows.specs.Marks.{Marks}
 use Rattle.mm_rows.proofs.TableLaw.{row_fits}
 use Rattle.mm_rows.proofs.DigitLaw.{part_long, digits_are}
-use Rattle.mm_rows.proofs.table.Matrix.write_digits.Goals as goal
+use Rattle.mm_rows.proofs.table.MarkedRows.write_digits.Goals as goal
 
 pub part-words-requires : goal.part-words-requires
 part-words-requires g c =
-    row_fits c.args.self.now c.self.inside.rows c.self.inside.columns c.self.inside.bits.items _
-    (sym c.self.view_is) c.self.invariant.0 c.args.row c.div_ceil-across.result
+    row_fits c.args.self.now c.self.inside.rows c.self.inside.columns c.self.inside.bits.items
+    (sym c.self.view_is) c.self.invariant c.args.row c.div_ceil-across.result
     c.deref.result.now c.requires.row c.div_ceil-across.ensures c.deref.ensures.value
 
 pub slice_bounds-write_digits-end : goal.slice_bounds-write_digits-end
@@ -18,8 +18,8 @@ slice_bounds-write_digits-end g c =
     c.part-words.ensures
     ∙ ap₂ (λ w xs. row_at xs w c.args.row) c.div_ceil-across.ensures c.deref.ensures.value in
     let long =
-    part_long c.args.self.now c.self.inside.rows c.self.inside.columns c.self.inside.bits.items _
-    (sym c.self.view_is) c.self.invariant.0 c.args.row _ c.requires.row is in
+    part_long c.args.self.now c.self.inside.rows c.self.inside.columns c.self.inside.bits.items
+    (sym c.self.view_is) c.self.invariant c.args.row _ c.requires.row is in
     let width =
     subst (λ (m : Marks). 16 * c.args.word + length c.args.into.now ≤ 16 * words_for m.columns)
     (sym c.self.view_is) c.requires.within in
@@ -30,7 +30,7 @@ returns g c =
     let is =
     c.part-words.ensures
     ∙ ap₂ (λ w xs. row_at xs w c.args.row) c.div_ceil-across.ensures c.deref.ensures.value in
-    digits_are c.args.self.now c.self.inside.rows c.self.inside.columns c.self.inside.bits.items _
-    (sym c.self.view_is) c.self.invariant.0 c.args.row c.args.word _ c.write_digits.new.into
+    digits_are c.args.self.now c.self.inside.rows c.self.inside.columns c.self.inside.bits.items
+    (sym c.self.view_is) c.self.invariant c.args.row c.args.word _ c.write_digits.new.into
     c.args.into.now c.requires.row is c.requires.within c.requires.whole
     c.write_digits.ensures.length c.write_digits.ensures.each

@@ -5,12 +5,12 @@ use Rattle.mm_rows.specs.Marks.{Marks}
 use Rattle.mm_rows.proofs.TableLaw.{row_fits}
 use Rattle.mm_rows.proofs.DigitLaw.{part_long}
 use Rattle.mm_rows.proofs.CellLaw.{cells_are}
-use Rattle.mm_rows.proofs.table.Matrix.write_cells.Goals as goal
+use Rattle.mm_rows.proofs.table.MarkedRows.write_cells.Goals as goal
 
 pub part-words-requires : goal.part-words-requires
 part-words-requires g c =
-    row_fits c.args.self.now c.self.inside.rows c.self.inside.columns c.self.inside.bits.items _
-    (sym c.self.view_is) c.self.invariant.0 c.args.row c.div_ceil-across.result
+    row_fits c.args.self.now c.self.inside.rows c.self.inside.columns c.self.inside.bits.items
+    (sym c.self.view_is) c.self.invariant c.args.row c.div_ceil-across.result
     c.deref.result.now c.requires.row c.div_ceil-across.ensures c.deref.ensures.value
 
 pub slice_bounds-write_cells-end : goal.slice_bounds-write_cells-end
@@ -19,8 +19,8 @@ slice_bounds-write_cells-end g c =
     c.part-words.ensures
     ∙ ap₂ (λ w xs. row_at xs w c.args.row) c.div_ceil-across.ensures c.deref.ensures.value in
     let long =
-    part_long c.args.self.now c.self.inside.rows c.self.inside.columns c.self.inside.bits.items _
-    (sym c.self.view_is) c.self.invariant.0 c.args.row _ c.requires.row is in
+    part_long c.args.self.now c.self.inside.rows c.self.inside.columns c.self.inside.bits.items
+    (sym c.self.view_is) c.self.invariant c.args.row _ c.requires.row is in
     let width =
     subst (λ (m : Marks). 64 * c.args.word + length c.args.into.now ≤ 64 * words_for m.columns)
     (sym c.self.view_is) c.requires.within in
@@ -31,7 +31,7 @@ returns g c =
     let is =
     c.part-words.ensures
     ∙ ap₂ (λ w xs. row_at xs w c.args.row) c.div_ceil-across.ensures c.deref.ensures.value in
-    cells_are c.args.self.now c.self.inside.rows c.self.inside.columns c.self.inside.bits.items _
-    (sym c.self.view_is) c.self.invariant.0 c.args.row c.args.word _ c.write_cells.new.into
+    cells_are c.args.self.now c.self.inside.rows c.self.inside.columns c.self.inside.bits.items
+    (sym c.self.view_is) c.self.invariant c.args.row c.args.word _ c.write_cells.new.into
     c.args.into.now c.requires.row is c.requires.within c.requires.whole
     c.write_cells.ensures.length c.write_cells.ensures.each

@@ -3,12 +3,12 @@ use Rattle.mm_rows.specs.BitRows.{row_at}
 use Rattle.mm_rows.specs.Marks.{Marks}
 use Rattle.mm_rows.proofs.TableLaw.{row_fits}
 use Rattle.mm_rows.proofs.DigitLaw.{part_long, row_digit}
-use Rattle.mm_rows.proofs.table.Matrix.digit.Goals as goal
+use Rattle.mm_rows.proofs.table.MarkedRows.digit.Goals as goal
 
 pub part-words-requires : goal.part-words-requires
 part-words-requires g c =
-    row_fits c.args.self.now c.self.inside.rows c.self.inside.columns c.self.inside.bits.items _
-    (sym c.self.view_is) c.self.invariant.0 c.args.row c.div_ceil-across.result
+    row_fits c.args.self.now c.self.inside.rows c.self.inside.columns c.self.inside.bits.items
+    (sym c.self.view_is) c.self.invariant c.args.row c.div_ceil-across.result
     c.deref.result.now c.requires.row c.div_ceil-across.ensures c.deref.ensures.value
 
 pub bounds-words-i : goal.bounds-words-i
@@ -17,8 +17,8 @@ bounds-words-i g c =
     c.part-words.ensures
     ∙ ap₂ (λ w xs. row_at xs w c.args.row) c.div_ceil-across.ensures c.deref.ensures.value in
     let long =
-    part_long c.args.self.now c.self.inside.rows c.self.inside.columns c.self.inside.bits.items _
-    (sym c.self.view_is) c.self.invariant.0 c.args.row _ c.requires.row is in
+    part_long c.args.self.now c.self.inside.rows c.self.inside.columns c.self.inside.bits.items
+    (sym c.self.view_is) c.self.invariant c.args.row _ c.requires.row is in
     let small : 4 * c.args.i < c.self.inside.columns =
     subst (λ (m : Marks). 4 * c.args.i < m.columns) (sym c.self.view_is) c.requires.column in
     omega (arith, long, small)
@@ -32,6 +32,6 @@ returns g c =
     subst (λ (m : Marks). 4 * c.args.i < m.columns) (sym c.self.view_is) c.requires.column in
     c.number.ensures
     ∙ row_digit c.args.self.now c.self.inside.rows c.self.inside.columns
-    c.self.inside.bits.items _
-    (sym c.self.view_is) c.self.invariant.0 c.args.row c.args.i _ c.requires.row
+    c.self.inside.bits.items
+    (sym c.self.view_is) c.self.invariant c.args.row c.args.i _ c.requires.row
     (omega (arith, small)) is
