@@ -1,7 +1,7 @@
 """Tries the page in Chromium and Firefox.
 
-Usage: python3 -m query.tests.browser [--small | --measure] [--only BROWSER] [--seed N]
-                                      [--theorems N] [--axioms N] [--keep FOLDER]
+Usage: python3 -m query.tests.browser [--small | --measure] [--only BROWSER] [--database NAME]
+                                      [--seed N] [--theorems N] [--axioms N] [--keep FOLDER]
 
 Pages of demo0, ql, hol, iset and set.mm of Debian are made and opened, and those of databases that
 are written to do harm. What they show is compared with the program's reports, conditions of
@@ -38,6 +38,7 @@ def options_of() -> argparse.Namespace:
     parser.add_argument("--small", action="store_true")
     parser.add_argument("--measure", action="store_true")
     parser.add_argument("--only", choices=list(browsers.KINDS))
+    parser.add_argument("--database", help="only this one of Debian")
     parser.add_argument("--seed", type=int, default=random.randrange(10**6))
     parser.add_argument("--theorems", type=int, default=300)
     parser.add_argument("--axioms", type=int, default=50)
@@ -139,6 +140,7 @@ def main() -> None:
     if not shutil.which("metamath"):
         missing("there is no metamath: apt-get install metamath")
     names = ["demo0", "hol", "ql", "iset"] + ([] if options.small else ["set"])
+    names = [name for name in names if options.database in (None, name)]
     for name in names:
         if not (DATABASES / f"{name}.mm").exists():
             missing(f"there is no {DATABASES / name}.mm: apt-get install metamath-databases")

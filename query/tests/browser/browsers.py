@@ -134,7 +134,7 @@ class Chromium(Browser):
         services = optional("selenium.webdriver.chrome.service")
         service = services.Service(shutil.which("chromedriver"))
         self.driver = webdriver.Chrome(service=service, options=options)
-        self.driver.set_script_timeout(120)
+        self.driver.set_script_timeout(500)
         self.size(1280, 900)
 
     def go(self, address: str) -> None:
@@ -181,7 +181,7 @@ class Firefox(Browser):
 
     def __init__(self) -> None:
         self.marionette = Marionette(shutil.which("firefox-esr") or "firefox")
-        self.marionette.ask("WebDriver:SetTimeouts", {"script": 120_000, "pageLoad": 120_000})
+        self.marionette.ask("WebDriver:SetTimeouts", {"script": 500_000, "pageLoad": 120_000})
         self.page = "about:blank"
         self.size(1280, 900)
 

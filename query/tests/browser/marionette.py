@@ -52,14 +52,15 @@ class Marionette:
     def connected(self) -> socket.socket:
         """A connection to the port that Firefox wrote into its profile."""
         port = self.profile / "MarionetteActivePort"
-        end = time.time() + 60
-        while time.time() < end:
+        end = time.time() + 180
+        while time.time() < end and self.process.poll() is None:
             try:
-                made = socket.create_connection(("127.0.0.1", int(port.read_text())), 120)
-                return made
+                return socket.create_connection(("127.0.0.1", int(port.read_text())), 600)
             except (OSError, ValueError):
                 time.sleep(0.1)
         self.process.kill()
+        self.process.wait()
+        shutil.rmtree(self.profile, ignore_errors=True)
         raise MarionetteError("firefox didn't open its port")
 
     def read(self) -> Any:

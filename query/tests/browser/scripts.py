@@ -15,6 +15,8 @@ window.gather = async (hash, label) => {
         if (turn > 4000) return { h1: main.querySelector("h1")?.textContent };
         await wait();
     }
+    // Nothing is laid out meanwhile: that takes long where there are a hundred thousand links.
+    main.style.display = "none";
     for (let again = true; again; ) {
         again = false;
         for (const fold of main.querySelectorAll("details")) {
@@ -30,7 +32,7 @@ window.gather = async (hash, label) => {
     for (const part of comment?.querySelectorAll(".formula, .credits") ?? []) part.remove();
     const stars = main.querySelector("#stars");
     const dummies = main.querySelector("#dummies");
-    return {
+    const shown = {
         h1: label,
         title: document.title,
         kind: main.querySelector(".title .kind")?.textContent ?? "",
@@ -77,6 +79,8 @@ window.gather = async (hash, label) => {
         since: main.querySelector("#since")?.textContent ?? "",
         text: main.textContent,
     };
+    main.style.display = "";
+    return shown;
 };
 window.why = async (label) => {
     const asks = Array.from(document.querySelectorAll(".ask"));
