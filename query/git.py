@@ -16,6 +16,9 @@ from query.errors import NoAnswer
 NO_COMMIT = "0" * 40
 """What GitHub gives as the commit before a push that makes a branch."""
 
+OF_HOOKS = ("GIT_DIR", "GIT_WORK_TREE", "GIT_INDEX_FILE", "GIT_PREFIX")
+"""What git tells its hooks of one repository, and would take for each folder."""
+
 
 @dataclass(frozen=True)
 class Blob:
@@ -35,7 +38,7 @@ class Blob:
 
 @dataclass(frozen=True)
 class Repository:
-    """A repository with a working tree; `top` is the folder of that."""
+    """A repository; `top` is the folder of its working tree, or itself where it is bare."""
 
     top: Path
 
@@ -139,12 +142,8 @@ def said(done: subprocess.CompletedProcess[bytes]) -> str:
 
 def call(folder: Path, *words: str, given: bytes = b"") -> subprocess.CompletedProcess[bytes]:
     """Runs git in a folder. NoAnswer where git isn't there."""
-    surroundings = {
-        **os.environ,
-        "LC_ALL": "C",
-        "GIT_OPTIONAL_LOCKS": "0",
-        "GIT_TERMINAL_PROMPT": "0",
-    }
+    surroundings = {name: value for name, value in os.environ.items() if name not in OF_HOOKS}
+    surroundings |= {"LC_ALL": "C", "GIT_OPTIONAL_LOCKS": "0", "GIT_TERMINAL_PROMPT": "0"}
     command = ["git", "-C", os.fspath(folder), *words]
     try:
         return subprocess.run(
@@ -157,8 +156,13 @@ def call(folder: Path, *words: str, given: bytes = b"") -> subprocess.CompletedP
 
 
 def repository_of(folder: Path) -> Repository:
-    """The repository in which a folder lies. NoAnswer where it lies in none."""
+    """The repository in which a folder lies; it may be bare. NoAnswer where there is none."""
     done = call(folder, "rev-parse", "--show-toplevel")
+    if (
+        done.returncode != 0
+        and call(folder, "rev-parse", "--is-bare-repository").stdout == b"true\n"
+    ):
+        done = call(folder, "rev-parse", "--absolute-git-dir")
     top = os.fsdecode(done.stdout.removesuffix(b"\n"))
     if done.returncode != 0 or not top:
         raise NoAnswer(f"{folder}: {said(done)}")

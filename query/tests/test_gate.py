@@ -101,6 +101,21 @@ class Bases(Repositories):
         self.assertEqual(lines, ["work:db.mm:10: ax-cheat: a new axiom: |- ( 2 + 2 ) = 4 [axioms]"])
         self.assertEqual(self.gate("--base", "main", "main:db.mm", status=0), [])
 
+    def test_a_hook(self) -> None:
+        self.write("db.mm", changed(BASE, CHEAT))
+        for folder in (".git", "/nowhere"):
+            came = self.query("gate", "--base", "main", "db.mm", GIT_DIR=folder, GIT_WORK_TREE="/")
+            self.assertEqual((came.status, came.err), (1, ""))
+
+    def test_a_bare_repository(self) -> None:
+        self.branch()
+        self.commit(changed(BASE, CHEAT))
+        bare = self.room / "bare.git"
+        self.git("clone", "--quiet", "--bare", str(self.room), str(bare))
+        self.room = bare
+        self.assertEqual(len(self.gate("--base", "main", "work:db.mm", status=1)), 1)
+        self.assertEqual(self.gate("--base", "main", "main:db.mm", status=0), [])
+
     def test_what_is_not_committed_counts(self) -> None:
         self.write("db.mm", changed(BASE, CHEAT))
         self.assertEqual(len(self.gate(status=1)), 1)
