@@ -193,6 +193,7 @@ class Checker:
                 raise self.fail(here, f"'{'.'.join(here)}' isn't a table, but {kind_of(value)}")
 
     def check_value(self, value: object, wanted: str, path: tuple[str, ...]) -> None:
+        """The same of a value that isn't a table of keys that are known."""
         if wanted == LISTS and isinstance(value, dict):
             for key, words in value.items():
                 here = (*path, key)
@@ -209,6 +210,7 @@ class Checker:
             raise self.fail(path, f"'{key}' is empty")
 
     def check_labels(self, words: list[object], path: tuple[str, ...]) -> None:
+        """The same of a list, which has to have labels alone."""
         key = shown(".".join(path))
         for word in words:
             if not isinstance(word, str):
@@ -218,6 +220,7 @@ class Checker:
             raise self.fail(path, f"'{key}' is empty, so nothing is claimed")
 
     def check_word(self, word: str, path: tuple[str, ...], *, patterns: bool) -> None:
+        """The same of a label; it may end in `*` where patterns are allowed."""
         if LABEL.match(word) or (patterns and word and PATTERN.match(word)):
             return
         kind = "no label, and no beginning of one with '*' after it" if patterns else "no label"

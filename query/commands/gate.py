@@ -127,8 +127,11 @@ def between_files(context: Context, old: str, new: str, arguments: argparse.Name
     if arguments.base is not None:
         raise NoAnswer("gate: --base goes with one database, not with two")
     before, after = (opened(context.database(word).source, context) for word in (old, new))
-    given = arguments.config
-    file = Path(given) if given is not None else find_config(Path(new).parent)
+    file = find_config(Path(new).parent)
+    if arguments.config is not None:
+        file = Path(arguments.config)
+    elif file is not None:
+        file = Path(os.path.relpath(file))
     return Request(before, after, before.name, load_config(file))
 
 

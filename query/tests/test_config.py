@@ -31,6 +31,43 @@ newly.'ax-r*' = ["c"]
 '9.2' = ["ax-2"]
 """
 
+# What isn't right, and what is said of it.
+WRONG = (
+    ("wach = []", "m.toml:1: there is no key 'wach'; did you mean 'watch'?"),
+    (
+        "\nqqq = 1",
+        "m.toml:2: there is no key 'qqq'; there are base, typecode, watch, rules,",
+    ),
+    (
+        "[rules]\nopne = true",
+        "m.toml:2: there is no key 'rules.opne'; did you mean 'open'?",
+    ),
+    ("rules.opne = true", "m.toml:1: there is no key 'rules.opne'"),
+    ("[alow]\nopen = []", "m.toml:1: there is no key 'alow'; did you mean 'allow'?"),
+    ("watch = 'ax'", "m.toml:1: 'watch' isn't a list of labels, but a text"),
+    ("base = 1", "m.toml:1: 'base' isn't a text, but a number"),
+    ("base = 1.5", "but a number"),
+    ("base = true", "but true or false"),
+    ("base = []", "but a list"),
+    ("[base]", "m.toml:1: 'base' isn't a text, but a table"),
+    ("base = 1979-05-27", "but a time"),
+    ("base = ''", "m.toml:1: 'base' is empty"),
+    ("typecode = ''", "m.toml:1: 'typecode' is empty"),
+    ("[rules]\nopen = 1", "m.toml:2: 'rules.open' isn't true or false, but a number"),
+    ("rules = []", "m.toml:1: 'rules' isn't a table, but a list"),
+    ("[allow]\nnewly = ['a']", "m.toml:2: 'allow.newly' isn't a table of lists of labels"),
+    ("[allow.newly]\nax = 'a'", "m.toml:2: 'allow.newly.ax' isn't a list of labels"),
+    ("watch = ['a*b']", "m.toml:1: 'a*b' is no label, and no beginning of one with '*'"),
+    ("watch = ['']", "m.toml:1: '' is no label"),
+    ("watch = ['a\\u0000']".replace("'", '"'), "'a\\x00' is no label"),
+    ("[claims]\na = []", "m.toml:2: 'claims.a' is empty, so nothing is claimed"),
+    ("[claims]\na = ['b*']", "m.toml:2: 'b*' is no label"),
+    ("[claims]\n'a*' = ['b']", "m.toml:2: 'a*' is no label"),
+    ("[claims]\na = [['b']]", "m.toml:2: 'claims.a' isn't a list of labels: it has a list"),
+    ("watch = [", "m.toml: "),
+    ("watch = []\nwatch = []", "m.toml: "),
+)
+
 
 def keys(shape: Shape, above: str = "") -> set[str]:
     """The keys of a shape, with those above them."""
@@ -71,41 +108,7 @@ class Reading(unittest.TestCase):
         self.assertTrue("anything" in Labels(("*",)) and "" not in Labels(("a",)))
 
     def test_what_is_refused(self) -> None:
-        for text, why in (
-            ("wach = []", "m.toml:1: there is no key 'wach'; did you mean 'watch'?"),
-            (
-                "\nqqq = 1",
-                "m.toml:2: there is no key 'qqq'; there are base, typecode, watch, rules,",
-            ),
-            (
-                "[rules]\nopne = true",
-                "m.toml:2: there is no key 'rules.opne'; did you mean 'open'?",
-            ),
-            ("rules.opne = true", "m.toml:1: there is no key 'rules.opne'"),
-            ("[alow]\nopen = []", "m.toml:1: there is no key 'alow'; did you mean 'allow'?"),
-            ("watch = 'ax'", "m.toml:1: 'watch' isn't a list of labels, but a text"),
-            ("base = 1", "m.toml:1: 'base' isn't a text, but a number"),
-            ("base = 1.5", "but a number"),
-            ("base = true", "but true or false"),
-            ("base = []", "but a list"),
-            ("[base]", "m.toml:1: 'base' isn't a text, but a table"),
-            ("base = 1979-05-27", "but a time"),
-            ("base = ''", "m.toml:1: 'base' is empty"),
-            ("typecode = ''", "m.toml:1: 'typecode' is empty"),
-            ("[rules]\nopen = 1", "m.toml:2: 'rules.open' isn't true or false, but a number"),
-            ("rules = []", "m.toml:1: 'rules' isn't a table, but a list"),
-            ("[allow]\nnewly = ['a']", "m.toml:2: 'allow.newly' isn't a table of lists of labels"),
-            ("[allow.newly]\nax = 'a'", "m.toml:2: 'allow.newly.ax' isn't a list of labels"),
-            ("watch = ['a*b']", "m.toml:1: 'a*b' is no label, and no beginning of one with '*'"),
-            ("watch = ['']", "m.toml:1: '' is no label"),
-            ("watch = ['a\\u0000']".replace("'", '"'), "'a\\x00' is no label"),
-            ("[claims]\na = []", "m.toml:2: 'claims.a' is empty, so nothing is claimed"),
-            ("[claims]\na = ['b*']", "m.toml:2: 'b*' is no label"),
-            ("[claims]\n'a*' = ['b']", "m.toml:2: 'a*' is no label"),
-            ("[claims]\na = [['b']]", "m.toml:2: 'claims.a' isn't a list of labels: it has a list"),
-            ("watch = [", "m.toml: "),
-            ("watch = []\nwatch = []", "m.toml: "),
-        ):
+        for text, why in WRONG:
             with self.assertRaises(NoAnswer, msg=text) as raised:
                 read_config(text.encode(), "m.toml")
             self.assertIn(why, str(raised.exception))
