@@ -36,7 +36,7 @@ others; with AXIOM.., all lines are about these.
 First come the theorems, in file order, then each axiom with what was gained and lost of it. Between
 reports `renamed` and `changed` can't be told: they have no statements.
 
-Example: mmquery compare v1:set.mm set.mm ax-ac2 ax-reg
+  $ mmquery compare v1:set.mm set.mm ax-ac2 ax-reg
 """
 
 

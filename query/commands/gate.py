@@ -13,7 +13,7 @@ from query.database import Database
 from query.errors import NoAnswer, shown
 from query.findings import Verdict, as_annotations, as_markdown, as_object, as_text
 from query.git import Repository, repository_of, short
-from query.options import Options
+from query.options import Options, add_database
 from query.output import reason
 from query.program import Refused
 from query.rules import Case, Finding, judge
@@ -24,10 +24,10 @@ ASKED = Options(only=None, open=True)
 """Any axiom may be watched. An open theorem isn't a fault, but breaks a rule."""
 
 PAGE = """
-Checks a database as a pull request should be checked. With one word it is compared with what it is
-in the merge base of HEAD and REV in its git repository, with two words with the file OLD.
-mmdepend.toml at the top of the repository says which axioms are watched, what is allowed, what is
-claimed, and which rules are off. The status is 1 where
+Checks a database as a pull request should be checked. Without OLD it is compared with what it is
+in the merge base of HEAD and REV in its git repository. mmdepend.toml at the top of the repository
+says which axioms are watched, what is allowed, what is claimed, and which rules are off. The status
+is 1 where
 
   axioms       an axiom (|-) is new, changed or gone
   watched      a watched axiom is missing
@@ -43,7 +43,7 @@ claimed, and which rules are off. The status is 1 where
 unless mmdepend.toml allows it. Each line has file, line, label, reason and rule; the last line says
 what was compared. --format github writes annotations.
 
-Example: mmquery gate --base origin/main set.mm
+  $ mmquery gate --base origin/main set.mm
 """
 
 
@@ -62,7 +62,8 @@ class Request:
 
 def configure(parser: argparse.ArgumentParser) -> None:
     """Adds the words and options."""
-    parser.add_argument("words", metavar="[OLD] DATABASE", nargs="+")
+    parser.add_argument("old", metavar="OLD", nargs="?")
+    add_database(parser)
     parser.add_argument(
         "--base", metavar="REV", help="the base (else mmdepend.toml's: origin/main)"
     )
@@ -194,13 +195,10 @@ def add_summary(path: str, text: str) -> None:
 
 def run(context: Context, arguments: argparse.Namespace) -> int:
     """Answers."""
-    words = arguments.words
-    if len(words) > 2:
-        raise NoAnswer(f"gate: takes one database or two, not {len(words)}")
-    if len(words) == 2:
-        request = between_files(context, words[0], words[1], arguments)
+    if arguments.old is not None:
+        request = between_files(context, arguments.old, arguments.database, arguments)
     else:
-        request = with_base(context, words[0], arguments)
+        request = with_base(context, arguments.database, arguments)
     rules = tuple(rule for rule in RULES if rule in request.config.rules)
     found = judged(request)
     verdict = Verdict(request.new.name, request.base, rules, found, request.notes, request.paths)

@@ -199,7 +199,7 @@ class NoAnswers(Repositories):
         self.assertIn("E38", came.err)
 
     def test_words_and_options(self) -> None:
-        self.has_no_answer("db.mm", "db.mm", "db.mm", why="takes one database or two, not 3")
+        self.has_no_answer("db.mm", "db.mm", "db.mm", why="unrecognized arguments: db.mm")
         self.has_no_answer("--base", "main", "db.mm", "db.mm", why="--base goes with one database")
         self.has_no_answer("--config", "nowhere", "db.mm", why="nowhere")
         self.has_no_answer("--summary", "no/where", "--base", "main", "db.mm", why="no/where")
