@@ -7,7 +7,6 @@ import random
 import re
 import signal
 import subprocess
-import sys
 import threading
 import time
 from pathlib import Path
@@ -34,7 +33,7 @@ MOST_SECONDS = 12
 MOST_UNTIL_SHOWN = 1000  # milliseconds
 MOST_FOR_A_KEY = 50
 MOST_STALL = 100
-COMMAND = [sys.executable, "-B", str(HERE / "mmquery")]
+COMMAND = [str(HERE / "mmquery")]  # itself: its first line keeps back signals at first
 ENVIRONMENT = {**os.environ, "MMDEPEND": PROGRAM}
 
 
