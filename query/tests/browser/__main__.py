@@ -38,7 +38,7 @@ def options_of() -> argparse.Namespace:
     parser.add_argument("--small", action="store_true")
     parser.add_argument("--measure", action="store_true")
     parser.add_argument("--only", choices=list(browsers.KINDS))
-    parser.add_argument("--database", help="only this one of Debian")
+    parser.add_argument("--database", help="only this one of Debian, and nothing else")
     parser.add_argument("--seed", type=int, default=random.randrange(10**6))
     parser.add_argument("--theorems", type=int, default=300)
     parser.add_argument("--axioms", type=int, default=50)
@@ -152,14 +152,16 @@ def main() -> None:
             options.keep.mkdir(parents=True, exist_ok=True)
             room = options.keep.resolve()
         pages = Pages(room, options)
-        if not options.measure:
+        is_partial = options.measure or options.database is not None
+        if not is_partial:
             whole.check_refusals(room)
         for at, kind in enumerate(kinds):
             browser = kind()
             stack.callback(browser.close)
             rng = random.Random(options.seed + at)
-            if not options.measure:
+            if not is_partial:
                 try_hostile(browser, room)
+            if not options.measure:
                 for name in names:
                     try_database(browser, pages, name, rng)
             if "set" in names:
