@@ -11,7 +11,7 @@ from collections.abc import Iterator
 from dataclasses import dataclass
 from functools import cached_property, partial
 
-from query import cache
+from query import cache, progress
 from query.database import Database, Dependence, from_parts, to_parts
 from query.errors import NoAnswer
 from query.graph import Graph
@@ -79,6 +79,7 @@ def sides(old: Database, new: Database) -> tuple[Side, Side]:
     """Both databases, verified at the same time as their texts are read. Refused where one of them
     is refused: if both are, OLD."""
     both = (old, new)
+    progress.now(f"verifying {old.name} and {new.name}")
     tasks = [None if each.is_report else Task(partial(prepare, each)) for each in both]
     try:
         texts = [None if each.is_report else read_or_not(each) for each in both]
@@ -89,6 +90,7 @@ def sides(old: Database, new: Database) -> tuple[Side, Side]:
         for task in tasks:
             if task is not None:
                 task.stop()
+    progress.now(f"comparing {old.name} and {new.name}")
     found = []
     for each, text in zip(both, texts):
         dependence = each.dependence()
