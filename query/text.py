@@ -138,7 +138,10 @@ class Conditions:
 
     mandatory: list[Pair] = field(default_factory=list)
     proof: list[Pair] = field(default_factory=list)
+    variables: list[str] = field(default_factory=list)
+    """The variables of the assertion."""
     dummies: list[str] = field(default_factory=list)
+    """The variables that only the proof has."""
 
 
 class Text:
@@ -153,6 +156,8 @@ class Text:
         self.marked: list[Comment] = []
         self.typesetting: str | None = None
         self.declared: list[Stretch] = []  # the symbols of each `$v`
+        self._variables_of: dict[int, dict[str, None]] = {}  # of hypotheses, where they are known
+        self._groups: dict[int, list[str]] = {}  # of `$d` statements, likewise
 
     def words(self, stretch: Stretch) -> str:
         """The words of a stretch without comments in it, separated by single spaces."""
@@ -239,15 +244,25 @@ class Text:
         """The variables of an assertion's hypotheses and formula, each once, as they appear."""
         found: dict[str, None] = {}
         for number in assertion.essential:
-            found.update(dict.fromkeys(self.symbols(self.hypotheses[number])[1:]))
-        found.update(dict.fromkeys(self.symbols(assertion)[1:]))
-        return [symbol for symbol in found if symbol in self.variables]
+            known = self._variables_of.get(number)
+            if known is None:
+                known = self._variables(self.hypotheses[number])
+                self._variables_of[number] = known
+            found.update(known)
+        found.update(self._variables(assertion))
+        return list(found)
+
+    def _variables(self, statement: Assertion | Hypothesis) -> dict[str, None]:
+        """The variables of a statement as the keys of a dictionary, as they appear."""
+        symbols = dict.fromkeys(self.symbols(statement)[1:])
+        variables = self.variables
+        return {symbol: None for symbol in symbols if symbol in variables}
 
     def dummies(self, assertion: Assertion) -> list[str]:
         """The variables that the proof names and the assertion doesn't have, as they appear."""
-        return self._dummies(assertion, set(self.mandatory(assertion)))
+        return self._dummies(assertion, self.mandatory(assertion))
 
-    def _dummies(self, assertion: Assertion, mandatory: set[str]) -> list[str]:
+    def _dummies(self, assertion: Assertion, mandatory: list[str]) -> list[str]:
         words = self._named_by_proof(assertion)
         floating = self.floating
         found = dict.fromkeys(floating[word] for word in words if word in floating)
@@ -266,22 +281,28 @@ class Text:
 
     def conditions(self, assertion: Assertion) -> Conditions:
         """The pairs of an assertion's active `$d` that bind its user, and those of its proof."""
-        mandatory = set(self.mandatory(assertion))
-        conditions = Conditions(dummies=self._dummies(assertion, mandatory))
-        used = mandatory.union(conditions.dummies)
+        found = Conditions(variables=self.mandatory(assertion))
+        found.dummies = self._dummies(assertion, found.variables)
+        mandatory = set(found.variables)
+        used = mandatory.union(found.dummies)
         seen: set[Pair] = set()
         for number in assertion.disjoint:
-            for pair in pairs([variable for variable in self.group(number) if variable in used]):
-                if pair in seen:
+            group = [variable for variable in self.group(number) if variable in used]
+            for first, second in pairs(group):
+                if (first, second) in seen or (second, first) in seen:
                     continue
-                seen.update((pair, (pair[1], pair[0])))
-                is_mandatory = pair[0] in mandatory and pair[1] in mandatory
-                (conditions.mandatory if is_mandatory else conditions.proof).append(pair)
-        return conditions
+                seen.add((first, second))
+                is_mandatory = first in mandatory and second in mandatory
+                (found.mandatory if is_mandatory else found.proof).append((first, second))
+        return found
 
     def group(self, number: int) -> list[str]:
         """The variables of a `$d` statement, as written."""
-        return self.words(self.disjoint[number]).split()
+        known = self._groups.get(number)
+        if known is None:
+            known = self.words(self.disjoint[number]).split()
+            self._groups[number] = known
+        return known
 
     @cached_property
     def _mathboxes(self) -> list[tuple[int, int, str]]:
