@@ -68,11 +68,13 @@ class Reader(unittest.TestCase):
         )
 
     def test_places(self) -> None:
-        for one in [*self.text.assertions, *self.text.hypotheses]:
-            self.assertTrue(SMALL[one.place :].startswith(one.label.encode() + b" "))
-            self.assertEqual(self.text.line(one.place), SMALL[: one.place].count(b"\n") + 1)
-            before = SMALL[: one.place].rpartition(b"\n")[2]
-            self.assertEqual(self.text.column(one.place), len(before) + 1)
+        placed = [(one.place, one.label) for one in self.text.assertions]
+        placed += [(one.place, one.label) for one in self.text.hypotheses]
+        for place, label in placed:
+            self.assertTrue(SMALL[place:].startswith(label.encode() + b" "))
+            self.assertEqual(self.text.line(place), SMALL[:place].count(b"\n") + 1)
+            before = SMALL[:place].rpartition(b"\n")[2]
+            self.assertEqual(self.text.column(place), len(before) + 1)
         for ending, place in enumerate(i for i, byte in enumerate(SMALL) if byte == 10):
             self.assertEqual(self.text.line(place), ending + 1)
             self.assertEqual(self.text.line(place + 1), ending + 2)
