@@ -89,17 +89,27 @@ fn is_axiom<R: Abort>(rt: &R, database: &Database<Global>) {
     assert!(rt; frame.hyps.as_slice() == [2u32, 3].as_slice() && frame.pairs.is_empty());
 }
 
+/// Asserts what is said of the symbols.
+fn has_symbols<R: Abort>(rt: &R, database: &Database<Global>) {
+    assert!(rt; database.symbol_count() == 7);
+    assert!(rt; database.name(Sym::new(3)) == b"->".as_slice());
+    assert!(rt; !database.is_variable(Sym::new(3)));
+}
+
+/// Asserts what is said of the statement with the theorem.
+fn is_theorem<R: Abort>(rt: &R, database: &Database<Global>) {
+    assert!(rt; database.len() == 7);
+    assert!(rt; !database.disjoint_at(6, Sym::new(5), Sym::new(6)));
+    assert!(rt; database.proof_words(6).len() == 5);
+}
+
 #[test]
 fn statements(rt: HostRuntime) -> Result<(), AllocError> {
     let database = database_of(&rt, rt.alloc())?;
     assert!(&rt; database.text() == FIRST_TEXT && database.fault() == None);
     is_axiom(&rt, &database);
-    assert!(&rt; database.symbol_count() == 7);
-    assert!(&rt;
-        database.name(Sym::new(3)) == b"->".as_slice() && !database.is_variable(Sym::new(3))
-    );
-    assert!(&rt; !database.disjoint_at(6, Sym::new(5), Sym::new(6)));
-    assert!(&rt; database.proof_words(6).len() == 5);
+    has_symbols(&rt, &database);
+    is_theorem(&rt, &database);
     assert!(&rt; database.theorems() == [6u32].as_slice());
     assert!(&rt; database.axioms() == [4u32, 5].as_slice());
     Ok(())
@@ -109,8 +119,10 @@ fn statements(rt: HostRuntime) -> Result<(), AllocError> {
 fn proofs(rt: HostRuntime) -> Result<(), AllocError> {
     let database = database_of(&rt, rt.alloc())?;
     let theorems = database.theorems();
-    assert!(&rt; theorems.len() == 1);
-    let theorem = theorems[0];
+    if theorems.is_empty() {
+        return Err(AllocError);
+    }
+    let theorem = theorems[theorems.len() - 1];
     let Ok(steps) = read_proof(rt.alloc(), &database, theorem) else {
         return Err(AllocError);
     };

@@ -68,7 +68,9 @@ fn cuts_in_words_give_the_same_report(rt: HostRuntime) -> Result<(), AllocError>
 fn spaces_in_front_change_nothing(rt: HostRuntime) -> Result<(), AllocError> {
     let spaces = [32u8; 24];
     for count in [22, 23, 24] {
-        let text = joined(rt.alloc(), &[&spaces[..count], &FIRST_TEXT[..169]])?;
+        let mut text = Vec::new(rt.alloc());
+        text.extend_from_slice(&spaces[..count])?;
+        text.extend_from_slice(&FIRST_TEXT[..169])?;
         assert!(&rt; writes(&rt, rt.alloc(), PLAIN, &text, FIRST_REPORT));
     }
     Ok(())
