@@ -11,7 +11,7 @@ import os
 from typing import Any, NoReturn
 
 from query import progress, signals
-from query.commands import MODULES, Command, command, names
+from query.commands import Command, command, names, summaries
 from query.context import Context
 from query.errors import NoAnswer, shown
 from query.output import Output, reason, write_all
@@ -117,9 +117,8 @@ def parser_of(chosen: Command) -> Parser:
 def page_of(chosen: Command) -> str:
     """The page of a command."""
     parser = parser_of(chosen)
-    parser.description = (
-        f"{chosen.summary[0].upper()}{chosen.summary[1:]}.\n\n{chosen.page.strip()}"
-    )
+    told = summaries()[chosen.name]
+    parser.description = f"{told[0].upper()}{told[1:]}.\n\n{chosen.page.strip()}"
     return parser.format_help()
 
 
@@ -127,9 +126,7 @@ def help_page() -> str:
     """The page of `mmquery --help`."""
     lines = ["usage: mmquery COMMAND [OPTIONS] DATABASE [LABEL..]", ""]
     lines += ["Answers questions on a Metamath database, which is verified first.", ""]
-    for commands in MODULES.values():
-        for name in commands:
-            lines.append(f"  {name:12} {command(name).summary}")
+    lines += [f"  {name:12} {told}" for name, told in summaries().items()]
     lines += [
         "",
         "DATABASE is a file, also one compressed by gzip, bzip2 or xz; - for standard input;",

@@ -10,7 +10,7 @@ from dataclasses import dataclass
 from pathlib import Path
 
 from query.cli import parser_of
-from query.commands import command, names
+from query.commands import command, names, summaries
 
 
 @dataclass(frozen=True)
@@ -126,7 +126,7 @@ def zsh() -> str:
         "    local -a commands",
         "    commands=(",
     ]
-    lines += [f"        {quoted(f'{name}:{command(name).summary}')}" for name in names()]
+    lines += [f"        {quoted(f'{name}:{told}')}" for name, told in summaries().items()]
     lines += [
         "    )",
         "    if (( CURRENT == 2 )); then",
@@ -156,9 +156,9 @@ def fish() -> str:
         "# ~/.config/fish/completions.",
         "",
     ]
-    for name in names():
-        told = quoted(command(name).summary)
-        lines.append(f"complete -c mmquery -n __fish_use_subcommand -a {name} -d {told}")
+    for name, told in summaries().items():
+        start = f"complete -c mmquery -n __fish_use_subcommand -a {name}"
+        lines.append(f"{start} -d {quoted(told)}")
     for name in names():
         for option in options_of(name):
             words = [

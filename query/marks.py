@@ -20,6 +20,7 @@ class Marks:
         self.columns = columns
         self.width = width_of(columns)
         self.data = data
+        self._eight = (-1, b"")  # the byte of each row that was wanted last, and which it is
 
     def row(self, number: int) -> int:
         """The bits of a row; `bit(columns, c)` is that of column `c`."""
@@ -30,8 +31,11 @@ class Marks:
         return bool(self.data[row * self.width + (column >> 3)] & (0x80 >> (column & 7)))
 
     def column(self, number: int) -> bytes:
-        """For each row a byte, 1 where it is marked in the column, otherwise 0."""
-        return self.data[number >> 3 :: self.width].translate(HAS[number & 7])
+        """For each row a byte, 1 where it is marked in the column, otherwise 0. Eight columns have
+        the same byte of each row, so it is quickest to ask for columns in order."""
+        if self._eight[0] != number >> 3:
+            self._eight = (number >> 3, self.data[number >> 3 :: self.width])
+        return self._eight[1].translate(HAS[number & 7])
 
     def users(self, column: int) -> list[int]:
         """The rows that are marked in a column, rising."""

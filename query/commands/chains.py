@@ -162,19 +162,7 @@ def run_frees(context: Context, arguments: argparse.Namespace) -> int:
 
 
 COMMANDS = [
-    Command("why", "a shortest chain by which LABEL rests on ON", WHY_PAGE, configure_why, run_why),
-    Command(
-        "way-out",
-        "the smallest change that frees THEOREM of ON",
-        WAY_OUT_PAGE,
-        configure_way_out,
-        run_way_out,
-    ),
-    Command(
-        "frees",
-        "what new proofs of THEOREMs free of ON, or which would free most",
-        FREES_PAGE,
-        configure_frees,
-        run_frees,
-    ),
+    Command("why", WHY_PAGE, configure_why, run_why),
+    Command("way-out", WAY_OUT_PAGE, configure_way_out, run_way_out),
+    Command("frees", FREES_PAGE, configure_frees, run_frees),
 ]

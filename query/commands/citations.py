@@ -105,9 +105,7 @@ def run_uncited(context: Context, arguments: argparse.Namespace) -> int:
 
 
 COMMANDS = [
-    Command("cites", "what LABELs cite themselves", CITES_PAGE, configure_cites, run_cites),
-    Command(
-        "cited-by", "which theorems cite LABELs", CITED_BY_PAGE, configure_cited_by, run_cited_by
-    ),
-    Command("uncited", "which theorems nobody cites", UNCITED_PAGE, configure_uncited, run_uncited),
+    Command("cites", CITES_PAGE, configure_cites, run_cites),
+    Command("cited-by", CITED_BY_PAGE, configure_cited_by, run_cited_by),
+    Command("uncited", UNCITED_PAGE, configure_uncited, run_uncited),
 ]

@@ -119,12 +119,4 @@ def run(context: Context, arguments: argparse.Namespace) -> int:
     return 0
 
 
-COMMANDS = [
-    Command(
-        "compare",
-        "what is new, gone, renamed, and what came to rest on an axiom or no longer does",
-        PAGE,
-        configure,
-        run,
-    )
-]
+COMMANDS = [Command("compare", PAGE, configure, run)]

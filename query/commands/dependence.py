@@ -46,15 +46,22 @@ leaves out what rests on that one too; it may be given several times.
 """
 
 
-def configure_rests(parser: argparse.ArgumentParser) -> None:
-    """The words and options of `rests`."""
+def add_question(parser: argparse.ArgumentParser, flags: dict[str, str]) -> None:
+    """Adds DATABASE and LABELs, and options of which one may be given, each with its help."""
     add_database(parser)
     parser.add_argument("labels", metavar="LABEL", nargs="+")
     group = parser.add_mutually_exclusive_group()
-    group.add_argument("--theorems", action="store_true", help="list theorems instead of axioms")
-    group.add_argument(
-        "--apart", action="store_true", help="list all axioms, logic and syntax apart"
-    )
+    for flag, told in flags.items():
+        group.add_argument(flag, action="store_true", help=told)
+
+
+def configure_rests(parser: argparse.ArgumentParser) -> None:
+    """The words and options of `rests`."""
+    flags = {
+        "--theorems": "list theorems instead of axioms",
+        "--apart": "list all axioms, logic and syntax apart",
+    }
+    add_question(parser, flags)
     add_choice_of_axioms(parser)
 
 
@@ -108,13 +115,11 @@ def rested_on(database: Database, dependence: Dependence, label: str) -> Sequenc
 
 def configure_falls(parser: argparse.ArgumentParser) -> None:
     """The words and options of `falls`."""
-    add_database(parser)
-    parser.add_argument("labels", metavar="LABEL", nargs="+")
-    group = parser.add_mutually_exclusive_group()
-    group.add_argument(
-        "--any-of", action="store_true", help="what rests on one of the LABELs (the default)"
-    )
-    group.add_argument("--all-of", action="store_true", help="what rests on each of the LABELs")
+    flags = {
+        "--any-of": "what rests on one of the LABELs (the default)",
+        "--all-of": "what rests on each of the LABELs",
+    }
+    add_question(parser, flags)
     parser.add_argument(
         "--without",
         metavar="LABEL",
@@ -153,6 +158,6 @@ def users_of(database: Database, label: str) -> set[int]:
 
 
 COMMANDS = [
-    Command("rests", "on which axioms LABELs rest", RESTS_PAGE, configure_rests, run_rests),
-    Command("falls", "which theorems rest on LABELs", FALLS_PAGE, configure_falls, run_falls),
+    Command("rests", RESTS_PAGE, configure_rests, run_rests),
+    Command("falls", FALLS_PAGE, configure_falls, run_falls),
 ]

@@ -56,13 +56,4 @@ def run(context: Context, arguments: argparse.Namespace) -> int:
     return 0
 
 
-COMMANDS = [
-    Command(
-        "set-proof",
-        "the database with the proof of one theorem for that of another",
-        PAGE,
-        configure,
-        run,
-        (),
-    )
-]
+COMMANDS = [Command("set-proof", PAGE, configure, run, ())]

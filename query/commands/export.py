@@ -51,6 +51,4 @@ def run(context: Context, arguments: argparse.Namespace) -> int:
     return 0
 
 
-COMMANDS = [
-    Command("export", "statements, citations and marks as tables of SQLite", PAGE, configure, run)
-]
+COMMANDS = [Command("export", PAGE, configure, run)]

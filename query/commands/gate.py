@@ -212,13 +212,4 @@ def run(context: Context, arguments: argparse.Namespace) -> int:
     return 0 if verdict.has_passed else 1
 
 
-COMMANDS = [
-    Command(
-        "gate",
-        "the check of a pull request: what mmdepend.toml and the merge base ask for",
-        PAGE,
-        configure,
-        run,
-        FORMATS,
-    )
-]
+COMMANDS = [Command("gate", PAGE, configure, run, FORMATS)]

@@ -183,20 +183,6 @@ def names_down(database: Database, theorems: list[str]) -> list[tuple[int, str]]
 
 
 COMMANDS = [
-    Command(
-        "graph",
-        "the citations as DOT, GraphML or a list of edges",
-        GRAPH_PAGE,
-        configure_graph,
-        run_graph,
-        (),
-    ),
-    Command(
-        "picture",
-        "a picture of which theorem rests on which axiom",
-        PICTURE_PAGE,
-        configure_picture,
-        run_picture,
-        (),
-    ),
+    Command("graph", GRAPH_PAGE, configure_graph, run_graph, ()),
+    Command("picture", PICTURE_PAGE, configure_picture, run_picture, ()),
 ]

@@ -45,4 +45,4 @@ def run(context: Context, arguments: argparse.Namespace) -> int:
     return 0
 
 
-COMMANDS = [Command("cache", "the results that are kept: show or clear", PAGE, configure, run)]
+COMMANDS = [Command("cache", PAGE, configure, run)]

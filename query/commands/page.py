@@ -139,13 +139,4 @@ def run(context: Context, arguments: argparse.Namespace) -> int:
     return 0
 
 
-COMMANDS = [
-    Command(
-        name="page",
-        summary="one HTML file that shows the whole database",
-        page=PAGE,
-        configure=configure,
-        run=run,
-        formats=(),
-    )
-]
+COMMANDS = [Command("page", PAGE, configure, run, ())]

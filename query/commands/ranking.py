@@ -154,13 +154,7 @@ def run_same(context: Context, arguments: argparse.Namespace) -> int:
 
 
 COMMANDS = [
-    Command("top", "which axioms are used most, or least", TOP_PAGE, configure_top, run_top),
-    Command(
-        "within",
-        "which theorems rest on no more than the LABELs",
-        WITHIN_PAGE,
-        configure_within,
-        run_within,
-    ),
-    Command("same", "which theorems rest on the same axioms", SAME_PAGE, configure_same, run_same),
+    Command("top", TOP_PAGE, configure_top, run_top),
+    Command("within", WITHIN_PAGE, configure_within, run_within),
+    Command("same", SAME_PAGE, configure_same, run_same),
 ]

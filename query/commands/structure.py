@@ -251,39 +251,9 @@ def run_mathboxes(context: Context, arguments: argparse.Namespace) -> int:
 
 
 COMMANDS = [
-    Command(
-        "chapters",
-        "headers, with how many theorems below each rest on axioms",
-        CHAPTERS_PAGE,
-        configure_with_axioms,
-        run_chapters,
-    ),
-    Command(
-        "order",
-        "axioms and theorems in one list, in file order",
-        ORDER_PAGE,
-        configure_order,
-        run_order,
-    ),
-    Command(
-        "unfinished",
-        "theorems that are left open, and what rests on them",
-        UNFINISHED_PAGE,
-        configure_unfinished,
-        run_unfinished,
-    ),
-    Command(
-        "discouraged",
-        "which theorems use one whose new usage is discouraged",
-        DISCOURAGED_PAGE,
-        configure_citations,
-        run_discouraged,
-    ),
-    Command(
-        "mathboxes",
-        "citations of a mathbox from outside it",
-        MATHBOXES_PAGE,
-        configure_citations,
-        run_mathboxes,
-    ),
+    Command("chapters", CHAPTERS_PAGE, configure_with_axioms, run_chapters),
+    Command("order", ORDER_PAGE, configure_order, run_order),
+    Command("unfinished", UNFINISHED_PAGE, configure_unfinished, run_unfinished),
+    Command("discouraged", DISCOURAGED_PAGE, configure_citations, run_discouraged),
+    Command("mathboxes", MATHBOXES_PAGE, configure_citations, run_mathboxes),
 ]

@@ -87,6 +87,4 @@ def formulas(source: Source, refusal: Refused) -> tuple[str | None, str | None]:
     return (None, None) if found is None else (found, text.formula(theorem))
 
 
-COMMANDS = [
-    Command("verify", "whether every proof is valid, or what is wrong", PAGE, configure, run)
-]
+COMMANDS = [Command("verify", PAGE, configure, run)]

@@ -22,6 +22,7 @@ SCRIPTS = (
     "markup.js",
     "search.js",
     "elements.js",
+    "drawing.js",
     "picture.js",
     "plot.js",
     "overview.js",

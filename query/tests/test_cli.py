@@ -7,7 +7,6 @@ import gzip
 import io
 import lzma
 import shutil
-import subprocess
 import unittest
 
 from query.commands import MODULES, names
@@ -210,15 +209,7 @@ class Places(World):
 
     def shell(self, command: str) -> Came:
         """Runs a command of bash with mmquery at each `{}`."""
-        done = subprocess.run(
-            ["bash", "-c", command.format(MMQUERY)],
-            cwd=self.room,
-            env=self.surroundings(),
-            capture_output=True,
-            text=True,
-            check=False,
-        )
-        return Came(done.stdout, done.stderr, done.returncode)
+        return self.ran("bash", "-c", command.format(MMQUERY))
 
     @unittest.skipUnless(shutil.which("git"), "git isn't installed")
     def test_revisions(self) -> None:

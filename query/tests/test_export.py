@@ -106,20 +106,9 @@ class Export(World):
     def test_files_may_not_grow(self) -> None:
         self.write("small.mm", SMALL)
         words = ["export", "--sqlite", "out.db", "small.mm"]
-        script = f'ulimit -f 8; exec "$0" {" ".join(words)}'
-        import subprocess
-
-        from query.tests.world import MMQUERY
-
-        done = subprocess.run(
-            ["sh", "-c", script, str(MMQUERY)],
-            cwd=self.room,
-            env=self.surroundings(),
-            capture_output=True,
-            check=False,
-        )
-        self.assertEqual(done.returncode, 2, done)
-        self.assertRegex(done.stderr.decode(), r"\Ammquery: out\.db: [^\n]*\n\Z")
+        came = self.query_by_shell('ulimit -f 8; exec "$@"', *words)
+        self.assertEqual(came.status, 2, came)
+        self.assertRegex(came.err, r"\Ammquery: out\.db: [^\n]*\n\Z")
         self.assertEqual(os.listdir(self.room), ["small.mm"])
 
 

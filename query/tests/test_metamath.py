@@ -3,7 +3,6 @@
 import random
 import re
 import shutil
-import subprocess
 import unittest
 
 from query.tests.world import DATABASES, World, asked
@@ -25,24 +24,21 @@ class Metamath(World):
         self.theorems = chance.sample(theorems, QUESTIONS)
         self.labels = chance.sample([row[4] for row in order], QUESTIONS) + ["ax-ext", "ax-setind"]
 
-    def said(self, questions: list[str]) -> list[list[str]]:
-        """What metamath.exe answers to each question: the labels on the lines that are indented."""
+    def told(self, questions: list[str]) -> list[str]:
+        """What metamath.exe says to each question on iset.mm."""
         script = ["set scroll continuous", "set width 9999", "read iset.mm"]
         for question in questions:
             script += ["! question", question]
         self.write("script", "\n".join([*script, "! question", "exit", ""]))
-        done = subprocess.run(
-            ["metamath", "submit script"],
-            cwd=self.room,
-            stdin=subprocess.DEVNULL,
-            capture_output=True,
-            text=True,
-            check=False,
-        )
-        parts = re.split(r"(?m)^MM> ! question.*\n", done.stdout)[1:-1]
+        came = self.ran(shutil.which("metamath") or "metamath", "submit script")
+        parts = re.split(r"(?m)^MM> ! question.*\n", came.out)[1:-1]
         self.assertEqual(len(parts), len(questions))
+        return parts
+
+    def said(self, questions: list[str]) -> list[list[str]]:
+        """What metamath.exe answers to each question: the labels on the lines that are indented."""
         answers = []
-        for question, part in zip(questions, parts):
+        for question, part in zip(questions, self.told(questions)):
             self.assertIn(f'Statement "{question.split()[2]}" ', part)
             labels = " ".join(re.findall(r"(?m)^  (.*)$", part)).split()
             answers.append([label for label in labels if label != "(None)"])
@@ -72,18 +68,7 @@ class Metamath(World):
             chain = [row[0] for row in asked("why", path, label, "ax-mp")]
             self.assertEqual((chain[0], chain[-1]), (label, "ax-mp"))
             chains.update(dict(zip(chain, chain[1:])))
-        script = ["set scroll continuous", "set width 9999", "read iset.mm"]
-        for label in chains:
-            script += ["! question", f"show proof {label} /all /lemmon"]
-        self.write("script", "\n".join([*script, "! question", "exit", ""]))
-        done = subprocess.run(
-            ["metamath", "submit script"],
-            cwd=self.room,
-            capture_output=True,
-            text=True,
-            check=False,
-        )
-        parts = re.split(r"(?m)^MM> ! question.*\n", done.stdout)[1:-1]
+        parts = self.told([f"show proof {label} /all /lemmon" for label in chains])
         for part, (label, cited) in zip(parts, chains.items(), strict=True):
             self.assertRegex(part, rf"(?m)^ *\d+.*\s{re.escape(cited)}\s", label)
 

@@ -6,7 +6,7 @@ import subprocess
 import unittest
 
 from query.cli import parser_of
-from query.commands import command, names
+from query.commands import command, names, summaries
 from query.completions import files
 from query.faults import FAULTS
 from query.tests.world import DATABASES, TOP, World, program
@@ -52,18 +52,10 @@ class Cookbook(World):
         tried = 0
         for block in blocks():
             for line, shown in block:
-                done = subprocess.run(
-                    ["bash", "-c", line],
-                    cwd=self.room,
-                    env=self.surroundings(PATH=f"{TOP}:{path}"),
-                    capture_output=True,
-                    check=False,
-                )
-                came = (
-                    done.stdout.decode("latin-1").splitlines() + done.stderr.decode().splitlines()
-                )
-                if done.returncode:
-                    came.append(f"(status {done.returncode})")
+                done = self.ran("bash", "-c", line, PATH=f"{TOP}:{path}")
+                came = done.lines() + done.err.splitlines()
+                if done.status:
+                    came.append(f"(status {done.status})")
                 cut = came if "..." not in shown else came[:20] + came[-20:]
                 self.assertTrue(is_shown(shown, cut), f"{line}\n" + "\n".join(cut[:9]))
                 tried += 1
@@ -79,8 +71,7 @@ class Manual(World):
         page = (TOP / "man" / "mmquery.1").read_text().replace("\\-", "-")
         part = page[page.index(".SH COMMANDS") : page.index(".SH OPTIONS")]
         told = dict(re.findall(r"^\.TP\n\.B (\S+)\n(.*)\.$", part, re.M))
-        wanted = {name: command(name).summary for name in names()}
-        self.assertEqual({name: text.lower() for name, text in told.items()}, lower(wanted))
+        self.assertEqual(lower(told), lower(summaries()))
         part = page[page.index(".SH OPTIONS") : page.index(".SH EXIT STATUS")]
         common = set(parser_of(command("rests"))._option_string_actions)
         for option in common - {"--theorems", "--apart"}:
@@ -103,14 +94,8 @@ class Manual(World):
             ("rests", "some"): ["some file"],
         }.items():
             self.write("some file", "")
-            done = subprocess.run(
-                ["bash", "-c", script, "bash", "mmquery", *words],
-                cwd=self.room,
-                capture_output=True,
-                text=True,
-                check=False,
-            )
-            self.assertEqual(done.stdout.splitlines(), wanted, f"{words}: {done.stderr}")
+            came = self.ran("bash", "-c", script, "bash", "mmquery", *words)
+            self.assertEqual(came.lines(), wanted, f"{words}: {came.err}")
 
 
 def lower(texts: dict[str, str]) -> dict[str, str]:

@@ -82,7 +82,7 @@ class Statuses(World):
             os.close(reader)
             piped = self.ended(words, writer)
             os.close(writer)
-            shut = self.shut(words)
+            shut = self.query_by_shell('exec "$@" >&-', *words)
             for each, why in (
                 (came, "the disk is full"),
                 (piped, "nobody reads it"),
@@ -93,30 +93,11 @@ class Statuses(World):
                 else:
                     self.no_answer(words, each, f"the answer can't be written: {why}")
 
-    def shut(self, words: list[str]) -> Came:
-        """Runs a command whose standard output is closed."""
-        line = 'exec "$@" >&-'
-        done = subprocess.run(
-            ["sh", "-c", line, "sh", str(MMQUERY), *words],
-            cwd=self.room,
-            env=self.surroundings(),
-            capture_output=True,
-            text=True,
-            check=False,
-        )
-        return Came(done.stdout, done.stderr, done.returncode)
-
     def test_all_is_closed(self) -> None:
         """No file that is opened takes the place of standard output."""
         for words in self.all_words():
-            line = 'exec "$@" <&- >&- 2>&-'
-            done = subprocess.run(
-                ["sh", "-c", line, "sh", str(MMQUERY), *words],
-                cwd=self.room,
-                env=self.surroundings(),
-                check=False,
-            )
-            self.assertIn(done.returncode, (0, 1, 2), f"{words}")
+            came = self.query_by_shell('exec "$@" <&- >&- 2>&-', *words)
+            self.assertIn(came.status, (0, 1, 2), f"{words}")
         self.assertEqual((self.room / "db.mm").read_text(), WHOLE)
 
     def test_files_may_not_grow(self) -> None:
@@ -157,14 +138,7 @@ class Statuses(World):
             whole = self.query(*words)
             came = self.query(*words, TMPDIR="/nowhere", XDG_CACHE_HOME="/nowhere/cache")
             self.same_or_why(words, whole, came)
-            done = subprocess.run(
-                [*start, line, "sh", str(MMQUERY), *words],
-                cwd=self.room,
-                env=self.surroundings(),
-                capture_output=True,
-                check=False,
-            )
-            came = Came(done.stdout.decode("latin-1"), done.stderr.decode(), done.returncode)
+            came = self.ran(*start, line, "sh", str(MMQUERY), *words)
             if "unshare" in came.err or "mount" in came.err:
                 self.skipTest("unshare may not mount a full folder here")
             self.same_or_why(words, whole, came)

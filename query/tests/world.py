@@ -85,10 +85,10 @@ class World(unittest.TestCase):
         (self.room / name).write_bytes(data)
         return name
 
-    def query(self, *words: str, given: bytes = b"", **more: str) -> Came:
-        """Runs mmquery."""
+    def ran(self, *words: str, given: bytes = b"", **more: str) -> Came:
+        """Runs a program in the folder."""
         done = subprocess.run(
-            [str(MMQUERY), *words],
+            words,
             cwd=self.room,
             env=self.surroundings(**more),
             input=given,
@@ -96,6 +96,14 @@ class World(unittest.TestCase):
             check=False,
         )
         return Came(done.stdout.decode("latin-1"), done.stderr.decode("latin-1"), done.returncode)
+
+    def query(self, *words: str, given: bytes = b"", **more: str) -> Came:
+        """Runs mmquery."""
+        return self.ran(str(MMQUERY), *words, given=given, **more)
+
+    def query_by_shell(self, line: str, *words: str) -> Came:
+        """Runs mmquery by a line of a shell in which it and its words are `"$@"`."""
+        return self.ran("sh", "-c", line, "sh", str(MMQUERY), *words)
 
     def answers(self, *words: str, **more: str) -> list[str]:
         """The lines that a command answers, which has to have an answer, with status 0."""

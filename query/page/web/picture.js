@@ -1,7 +1,7 @@
 // The matrix as a picture: theorems down, axioms across, chapters as bands at the left. It can be zoomed, and pointed
 // at.
 
-import { element } from "./elements.js";
+import { Drawing } from "./drawing.js";
 import { GROUPS } from "./model.js";
 
 /** @typedef {import("./elements.js").Colours} Colours */
@@ -85,7 +85,7 @@ class Bins {
     }
 }
 
-export class Picture {
+export class Picture extends Drawing {
     /**
      * @param {Model} model
      * @param {Counts} counts
@@ -94,12 +94,10 @@ export class Picture {
      * @param {(row: number, column: number, isAxiom: boolean) => void} onOpen
      */
     constructor(model, counts, colours, onPoint, onOpen) {
-        this.model = model;
-        this.counts = counts;
-        this.colours = colours;
+        const label = "Marks of theorems, downwards, by axioms, across";
+        super(model, counts, colours, "picture", "zoomable picture", label);
         this.onPoint = onPoint;
         this.onOpen = onOpen;
-        this.rows = model.theorems.length;
         /** @type {Map<number, Stretch[]>} */
         this.bandsByLevel = new Map();
         /** @type {Map<string, string>} */
@@ -108,20 +106,8 @@ export class Picture {
         this.order = [];
         this.places = new Int32Array(0);
         this.view = { top: 0, bottom: 0, left: 0, right: 0 };
-        this.waiting = false;
-        this.ratio = 1;
         this.gutter = 0;
-        this.wide = 1;
         this.high = 1;
-        this.canvas = element("canvas", {
-            class: "picture",
-            tabindex: 0,
-            role: "application",
-            "aria-roledescription": "zoomable picture",
-            "aria-label": "Marks of theorems, downwards, by axioms, across",
-            "aria-describedby": "picture-keys",
-        });
-        this.pen = /** @type {CanvasRenderingContext2D} */ (this.canvas.getContext("2d"));
         /** @type {Map<number, PointerEvent>} */
         this.fingers = new Map();
         /** @type {{ row: number, place: number } | null} */
@@ -149,16 +135,6 @@ export class Picture {
     get isWhole() {
         const { top, bottom, left, right } = this.view;
         return bottom - top >= this.rows && right - left >= this.order.length;
-    }
-
-    /** Draws at the next frame. */
-    refresh() {
-        if (this.waiting) return;
-        this.waiting = true;
-        requestAnimationFrame(() => {
-            this.waiting = false;
-            if (this.canvas.isConnected) this.draw();
-        });
     }
 
     /** Fits the picture into its place on the page. */
@@ -501,7 +477,6 @@ export class Picture {
         canvas.addEventListener("pointermove", (event) => this.onMove(event));
         canvas.addEventListener("pointerup", (event) => this.fingers.delete(event.pointerId));
         canvas.addEventListener("pointercancel", (event) => this.fingers.delete(event.pointerId));
-        new ResizeObserver(() => this.refresh()).observe(canvas);
     }
 
     get isUsable() {

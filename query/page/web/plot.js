@@ -1,13 +1,13 @@
 // How many axioms each theorem rests on, over the file: for each stretch of theorems the mean, by groups, and the most.
 
-import { element } from "./elements.js";
+import { Drawing } from "./drawing.js";
 import { Group } from "./model.js";
 
 /** @typedef {import("./elements.js").Colours} Colours */
 /** @typedef {import("./model.js").Model} Model */
 /** @typedef {import("./picture.js").Counts} Counts */
 
-export class Plot {
+export class Plot extends Drawing {
     /**
      * @param {Model} model
      * @param {Counts} counts
@@ -16,43 +16,18 @@ export class Plot {
      * @param {(row: number) => void} onOpen
      */
     constructor(model, counts, colours, onPoint, onOpen) {
-        this.model = model;
-        this.counts = counts;
-        this.colours = colours;
+        super(model, counts, colours, "plot", "plot", "Number of axioms of each theorem, over the file");
         this.onPoint = onPoint;
         this.onOpen = onOpen;
-        this.rows = model.theorems.length;
         this.most = 1;
         for (const total of counts.totals) this.most = Math.max(this.most, total);
         this.pointed = -1;
         this.at = 0;
-        this.waiting = false;
-        this.ratio = 1;
         this.left = 0;
-        this.wide = 1;
-        this.canvas = element("canvas", {
-            class: "plot",
-            tabindex: 0,
-            role: "application",
-            "aria-roledescription": "plot",
-            "aria-label": "Number of axioms of each theorem, over the file",
-            "aria-describedby": "plot-keys",
-        });
-        this.pen = /** @type {CanvasRenderingContext2D} */ (this.canvas.getContext("2d"));
         this.canvas.addEventListener("pointermove", (event) => this.pointAt(event));
         this.canvas.addEventListener("pointerdown", (event) => this.pointAt(event));
         this.canvas.addEventListener("dblclick", () => this.pointed >= 0 && this.onOpen(this.pointed));
         this.canvas.addEventListener("keydown", (event) => this.onKey(event));
-        new ResizeObserver(() => this.refresh()).observe(this.canvas);
-    }
-
-    refresh() {
-        if (this.waiting) return;
-        this.waiting = true;
-        requestAnimationFrame(() => {
-            this.waiting = false;
-            if (this.canvas.isConnected) this.draw();
-        });
     }
 
     /**
