@@ -111,7 +111,7 @@ export class DifferenceView {
     axiomSection(axioms) {
         const made = this.elements.section("new-axioms", "Axioms new and gone");
         const { goneAxioms } = this.difference;
-        if (axioms.length + goneAxioms.length === 0) made.append(this.elements.hint("There are none."));
+        if (axioms.length + goneAxioms.length === 0) made.append(this.elements.hint("None."));
         if (axioms.length > 0) {
             made.append(this.elements.foldOf("New", axioms.length, () => this.elements.lines(axioms), true));
         }
@@ -128,9 +128,9 @@ export class DifferenceView {
      * @param {() => Child} make
      */
     listSection(id, name, number, make) {
-        const made = this.elements.section(id, `${name}: ${count(number)}`);
-        if (number > 0) made.append(this.elements.fold("Which", make, number <= 50));
-        return made;
+        if (number === 0) return this.elements.section(id, name, this.elements.hint("None."));
+        const list = this.elements.fold("Which", make, number <= 50);
+        return this.elements.section(id, `${name}: ${count(number)}`, list);
     }
 
     /**
@@ -219,7 +219,7 @@ export class DifferenceView {
                 const numbers = element("span", { class: "number" }, told.join(" · "));
                 return element("li", { class: "line" }, name, " ", numbers);
             });
-        made.append(lines.length > 0 ? element("ul", { class: "lines" }, ...lines) : this.elements.hint("Nothing."));
+        made.append(lines.length > 0 ? element("ul", { class: "lines" }, ...lines) : this.elements.hint("None."));
         return made;
     }
 

@@ -192,6 +192,7 @@ def check_against(browser: Browser, room: Path) -> None:
         "New theorems: 1",
         "Renamed: 1",
         "renamed was old",
+        "Changed statementsNone.",
         "Gone theorems: 1",
         "gone |- B",
         "ax-2 3 theorems",
