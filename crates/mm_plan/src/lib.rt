@@ -5,10 +5,9 @@
 #![tactic(auto)]
 
 ghost use Rattle.std.specs.Prelude.{◌≡◌, ◌↔◌, IsTrue, length};
-ghost use Rattle.std.specs.Option.{option_map};
-ghost use Rattle.mm_plan.specs.Plans.{IsLawfulPlan, IsLawfulCutting, RisesTo, only_of};
+ghost use Rattle.mm_plan.specs.Plans.{IsLawfulPlan, IsLawfulCutting, RisesTo, request_of};
 
-use mm_spec::{Choice, Form};
+use mm_spec::{Choice, Form, Request};
 use std::alloc::Allocator;
 
 /// Where a text is cut into pieces: into the given number of pieces of about the same length, or at
@@ -80,13 +79,19 @@ impl<A: Allocator> Plan<A> {
         self.cuts.is_lawful() && 1 <= self.workers && self.workers <= 64
     }
 
-    /// The typecode of the columns, if one is chosen.
-    pub fn typecode(&self) -> Option<&[u8]>
-        ensures { option_map (λ w. w.now) result ≡ only_of self.now }
+    /// What is requested of the report.
+    pub fn request(&self) -> Request<'_>
+        ensures { result ≡ request_of self.now }
     {
-        match &self.only {
-            Some(typecode) => Some(typecode.as_bytes()),
-            None => None,
+        Request {
+            only: match &self.only {
+                Some(typecode) => Some(typecode.as_bytes()),
+                None => None,
+            },
+            choice: self.choice,
+            form: self.form,
+            essential: self.essential,
+            with_open: self.with_open,
         }
     }
 }

@@ -10,6 +10,7 @@ mod bytes;
 mod codes;
 
 use std::alloc::Allocator;
+use std::marker::Model;
 
 /// The greatest number of bytes of a text: `text_limit` of the definitions.
 pub const TEXT_LIMIT: usize = 2_147_483_647;
@@ -68,6 +69,37 @@ pub enum Form {
     One,
     /// A hexadecimal digit for every four columns, the first of them as its highest bit.
     Two,
+}
+
+/// What is requested of a report.
+#[derive(Drop)]
+pub struct Request<'a> {
+    /// The typecode of the axioms that are columns and of the citations that are listed, if one is
+    /// chosen.
+    pub only: Option<&'a [u8]>,
+    /// The sections.
+    pub choice: Choice,
+    /// How the matrix is written.
+    pub form: Form,
+    /// Whether a theorem cites only by the essential nodes of its proof.
+    pub essential: bool,
+    /// Whether open theorems count as axioms.
+    pub with_open: bool,
+}
+
+impl<'a> Model for Request<'a> {
+    ghost use Rattle.std.specs.Option.{option_copied};
+    ghost use Rattle.mm_spec.specs.Request.{Request as Requested};
+
+    ghost Value = { Requested };
+
+    ghost view = { λ r. record {
+        only = option_copied r.only;
+        choice = r.choice;
+        form = r.form;
+        essential = r.essential;
+        with_open = r.with_open;
+    } };
 }
 
 /// A fault of a text: the place, a byte offset from 0, and what is wrong there.
