@@ -18,8 +18,7 @@ use Rattle.mm_scope.specs.Formulas.{AreFormulas}
 use Rattle.mm_scope.specs.declared.reading.Outlined.{Outlined}
 use Rattle.mm_database.specs.declared.reading.Reading.{Reading}
 use Rattle.mm_spec.specs.Text.{is_in}
-use Rattle.mm_scope.specs.Judge.{entry_of}
-use Rattle.mm_scope.specs.WordEntry.{IsEntryOf}
+use Rattle.mm_scope.specs.WordEntry.{IsEntryOf, entry_of}
 use Rattle.mm_database.specs.Labels.{AreLabels}
 use Rattle.mm_database.specs.declared.names.Symbol.{Symbol}
 
