@@ -7,8 +7,8 @@ ghost use Rattle.mm_work.specs.Workers.{AreFindings, IsFoundValid, IsFoundFaulty
 ghost use Rattle.mm_work.specs.Places.{IsNoted, HasPlace};
 
 use crate::worker::Findings;
-use mm_cites::Lists;
 use mm_database::Database;
+use mm_lists::Lists;
 use mm_spec::Fault;
 use std::alloc::{AllocError, Allocator};
 
@@ -63,7 +63,7 @@ fn places<A: Allocator + Copy>(
 fn citation_count<A: Allocator>(found: &[Findings<A>]) -> usize {
     let mut count = 0usize;
     for one in found {
-        count = count.saturating_add(one.cites.number_count());
+        count = count.saturating_add(one.cites.item_count());
     }
     count
 }
@@ -74,7 +74,7 @@ pub(crate) fn merge<'d, A: Allocator + Copy>(
     database: &Database<'d, A>,
     essential: bool,
     found: &[Findings<A>],
-) -> Result<Lists<A>, AllocError>
+) -> Result<Lists<u32, A>, AllocError>
     requires found { All (AreFindings database.now.statements essential) found.now }
     requires valid { (i : ℕ) → i < length (theorems database.now.statements)
         → IsFoundValid found.now i }

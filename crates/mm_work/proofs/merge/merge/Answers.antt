@@ -70,7 +70,7 @@ loop-place-preserved g c =
     (cited_more db c.args.essential
     (theorems db) k c.loop-place.lists c.get.result.now c.loop-place.invariant
     (list_cited db c.args.essential fs c.requires.found c.in_ok-places.places.items
-    c.deref-place-items.result.now k _ same h _ c.get.result.now there c.get.ensures))
+    c.deref-place-items.result.now k _ same h _ c.get.result.now there c.get.ensures.is))
 
 pub returns : goal.returns
 returns g c =
