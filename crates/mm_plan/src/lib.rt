@@ -7,7 +7,7 @@
 ghost use Rattle.std.specs.Prelude.{◌≡◌, ◌↔◌, IsTrue, length};
 ghost use Rattle.mm_plan.specs.Plans.{IsLawfulPlan, IsLawfulCutting, RisesTo, request_of};
 
-use mm_spec::{Choice, Form, Request};
+use mm_spec::{Choice, Form, PIECE_LIMIT, Request, WORKER_LIMIT};
 use std::alloc::Allocator;
 
 /// Where a text is cut into pieces: into the given number of pieces of about the same length, or at
@@ -64,7 +64,7 @@ impl<A: Allocator> Cutting<A> {
         ensures { IsTrue result ↔ IsLawfulCutting self.now }
     {
         match self {
-            Cutting::Count(count) => 1 <= *count && *count <= 64,
+            Cutting::Count(count) => 1 <= *count && *count <= PIECE_LIMIT,
             Cutting::Places(places) => rises(places),
         }
     }
@@ -76,7 +76,7 @@ impl<A: Allocator> Plan<A> {
     pub fn is_lawful(&self) -> bool
         ensures { IsTrue result ↔ IsLawfulPlan self.now }
     {
-        self.cuts.is_lawful() && 1 <= self.workers && self.workers <= 64
+        self.cuts.is_lawful() && 1 <= self.workers && self.workers <= WORKER_LIMIT
     }
 
     /// What is requested of the report.

@@ -17,8 +17,10 @@ use crate::cuts::cuts_of;
 use mm_database::Database;
 use mm_lex::lex;
 use mm_plan::Plan;
-use mm_report::{Choice, Request, has_usage, write_refusal, write_requested_citations};
-use mm_report::{write_requested_report, write_rows};
+use mm_report::{
+    Choice, Request, has_usage, write_refusal, write_requested_citations, write_requested_report,
+    write_rows,
+};
 use mm_rows::{Columns, marked_rows, matrix};
 use mm_spec::Fault;
 use mm_stmt::read_owned;

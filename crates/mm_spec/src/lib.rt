@@ -19,6 +19,13 @@ pub const TEXT_LIMIT: usize = 2_147_483_647;
 /// of the definitions.
 pub const FORMULA_LIMIT: usize = 1_048_576;
 
+/// The greatest number of pieces into which a text is cut by their number: `piece_limit` of the
+/// definitions.
+pub const PIECE_LIMIT: u32 = 64;
+
+/// The greatest number of workers that check proofs: `worker_limit` of the definitions.
+pub const WORKER_LIMIT: u32 = 64;
+
 /// A word of a text by its places, which are byte offsets from 0: the bytes from `start` up to, but
 /// not including, `end`.
 #[derive(Clone, Copy, Debug, PartialEq, Eq)]
@@ -94,11 +101,11 @@ impl<'a> Model for Request<'a> {
     ghost Value = { Requested };
 
     ghost view = { λ r. record {
-        only = option_copied r.only;
-        choice = r.choice;
-        form = r.form;
-        essential = r.essential;
-        with_open = r.with_open;
+      only = option_copied r.only;
+      choice = r.choice;
+      form = r.form;
+      essential = r.essential;
+      with_open = r.with_open;
     } };
 }
 

@@ -1,6 +1,6 @@
 use Rattle.std.proofs.Common.{◌≡◌, All}
 use Rattle.mm_work.specs.Workers.{IsFreshSeat}
-use Rattle.mm_work.proofs.gathered.fn.work_all.scope.Given as goal
+use Rattle.mm_work.proofs.threads.fn.work_all.scope.Given as goal
 
 abbrev pub invariant-loop-worker : goal.invariant-loop-worker
 invariant-loop-worker g l = record {

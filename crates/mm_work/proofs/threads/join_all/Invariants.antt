@@ -1,6 +1,6 @@
 use Rattle.std.proofs.Common.{All, vec_len}
 use Rattle.mm_work.specs.Workers.{IsDone, AreGathered}
-use Rattle.mm_work.proofs.gathered.join_all.Given as goal
+use Rattle.mm_work.proofs.threads.join_all.Given as goal
 
 abbrev pub invariant-loop-other : goal.invariant-loop-other
 invariant-loop-other g l = record {

@@ -2,11 +2,11 @@ use Rattle.std.proofs.Common.{◌≡◌, ◌<◌, ◌∙◌, get_or, ap, subst, 
 use Rattle.mm_work.specs.Workers.{IsDone}
 use Rattle.mm_work.specs.declared.job.Job.{Job}
 use Rattle.std.proofs.lemmas.List.Elements.{All-push}
-use Rattle.mm_work.proofs.gathered.fn.work_all.scope.Goals.{in-Some+in-Ok+in_ok-push}
-use Rattle.mm_work.proofs.gathered.fn.work_all.scope.Goals.{in-Some+in_default-spawn_with+in-Err-1}
-use Rattle.mm_work.proofs.gathered.fn.work_all.scope.Goals.{in-Some+in_default-spawn_with+in-Ok-1}
-use Rattle.mm_work.proofs.gathered.fn.work_all.scope.Goals.{in_default}
-use Rattle.mm_work.proofs.gathered.fn.work_all.scope.Goals as goal
+use Rattle.mm_work.proofs.threads.fn.work_all.scope.Goals.{in-Some+in-Ok+in_ok-push}
+use Rattle.mm_work.proofs.threads.fn.work_all.scope.Goals.{in-Some+in_default-spawn_with+in-Err-1}
+use Rattle.mm_work.proofs.threads.fn.work_all.scope.Goals.{in-Some+in_default-spawn_with+in-Ok-1}
+use Rattle.mm_work.proofs.threads.fn.work_all.scope.Goals.{in_default}
+use Rattle.mm_work.proofs.threads.fn.work_all.scope.Goals as goal
 
 pub join_all-requires : goal.join_all-requires
 join_all-requires g c = record {

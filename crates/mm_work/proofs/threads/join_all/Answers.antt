@@ -2,7 +2,7 @@ use Rattle.std.proofs.Common.{◌∙◌, ◌++◌, ◌∷◌, [], List, ap}
 use Rattle.mm_work.specs.Workers.{IsDone}
 use Rattle.mm_work.specs.declared.worker.Findings.{Findings}
 use Rattle.mm_work.proofs.WorkersLaw.{gathered_first, gathered_more, All_front, All_last}
-use Rattle.mm_work.proofs.gathered.join_all.Goals as goal
+use Rattle.mm_work.proofs.threads.join_all.Goals as goal
 
 pub loop-other-init : goal.loop-other-init
 loop-other-init g c = record {
