@@ -442,7 +442,8 @@ all_citing_unique db request (n ∷ ts) (x ∷ a) (y ∷ b) h k =
     ap₂ (λ p q. p ∷ q) (citing_unique db request n x y h.0 k.0)
     (all_citing_unique db request ts a b h.1 k.1)
 
-of_rows : List Statement → Option ℕ → Request → List Row → List ℕ
+-- the report requested with these rows
+abbrev of_rows : List Statement → Option ℕ → Request → List Row → List ℕ
 of_rows db opened request rows =
     report request opened (map (label_at db) (columns db request.only)) rows
 
