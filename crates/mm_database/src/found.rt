@@ -7,7 +7,7 @@ use mm_spec::Word;
 use std::alloc::Allocator;
 
 /// The frames and the `$d` by variables; the lists of statements as they count; and for each
-/// statement the words that are needed again: its label, the words of its proof, and its last token.
+/// statement the words that are needed again: its label, those of its proof, and its last token.
 /// The other tokens are freed once the statements are read.
 pub struct Found<A: Allocator> {
     pub beside: Beside<A>,

@@ -46,7 +46,7 @@ ends_more from [] len more h = (omega (arith, h), refl)
 ends_more from (e ∷ ends) len more h = (h.0, ends_more e ends len more h.1)
 
 module _ {X : Type 0} where
-  pub length_cut : (from : ℕ) (ends : List ℕ) (all : List X)
+  length_cut : (from : ℕ) (ends : List ℕ) (all : List X)
       → length (cut_at from ends all) ≡ length ends
   length_cut from [] all = refl
   length_cut from (e ∷ ends) all = ap suc (length_cut e ends all)
@@ -142,7 +142,8 @@ module _ {X : Type 0} where
   range_left xs ys zero b m =
       let e : b - 0 ≡ b = omega arith in
       ap (λ n. take n (xs ++ ys)) e ∙ take-append-le b xs ys m ∙ sym (ap (λ n. take n xs) e)
-  range_left [] ys (suc a) b m = none ([] ++ ys) (suc a) b (omega arith) ∙ sym (none [] (suc a) b (omega arith))
+  range_left [] ys (suc a) b m =
+      none ([] ++ ys) (suc a) b (omega arith) ∙ sym (none [] (suc a) b (omega arith))
   range_left (x ∷ xs) ys (suc a) zero m =
       none ((x ∷ xs) ++ ys) (suc a) 0 (omega arith) ∙ sym (none (x ∷ xs) (suc a) 0 (omega arith))
   range_left (x ∷ xs) ys (suc a) (suc b) m =
