@@ -1,6 +1,7 @@
 // The field of the search with what was found, and the view of all that was found.
 
 import { byId, count, element } from "./elements.js";
+import { plainText } from "./markup.js";
 import { Search } from "./search.js";
 import { plain } from "./symbols.js";
 
@@ -98,7 +99,7 @@ export class Finder {
         const label = this.model.labels.at(number);
         const said = where === "comment" ? (this.model.knownComment(number) ?? "") : "";
         const text = element("span", { class: "text" });
-        if (said !== "") text.append(...marked(around(said, words), words));
+        if (said !== "") text.append(...this.excerpt(said, words));
         else text.append(...this.formulas(number, where === "formula" ? words : []));
         return element(
             "li",
@@ -233,18 +234,27 @@ export class Finder {
         const line = this.elements.line(number);
         const said = this.model.knownComment(number) ?? "";
         const isSaid = words.some((word) => said.toLowerCase().includes(word));
-        if (isSaid) line.append(element("p", { class: "hint said-there" }, ...marked(around(said, words), words)));
+        if (isSaid) line.append(element("p", { class: "hint said-there" }, ...this.excerpt(said, words)));
         return line;
+    }
+
+    /**
+     * What a comment says around the first word that was found.
+     * @param {string} comment
+     * @param {string[]} words
+     */
+    excerpt(comment, words) {
+        const text = plainText(comment, (formula) => this.search.symbols.textOf(formula));
+        return marked(around(text, words), words);
     }
 }
 
 /**
- * As much of a comment as fits into a line, from a little before the first word that is in it.
- * @param {string} comment
+ * As much of a text as fits into a line, from a little before the first word that is in it.
+ * @param {string} text
  * @param {string[]} words
  */
-function around(comment, words) {
-    const text = comment.replace(/[\f\v]/g, " ").replace(/~ (?=\S)|`/g, "");
+function around(text, words) {
     const small = text.toLowerCase();
     const places = words.map((word) => small.indexOf(word)).filter((place) => place >= 0);
     const at = places.length > 0 ? Math.min(...places) : 0;
