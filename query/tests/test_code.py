@@ -1,4 +1,4 @@
-"""The code itself: formatted, typed, in small functions. Debian's tools are asked where they are."""
+"""The code itself: formatted, typed, in small functions. What is installed of Debian is asked."""
 
 import ast
 import subprocess
