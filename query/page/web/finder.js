@@ -15,7 +15,7 @@ import { plain } from "./symbols.js";
 const SHOWN = 24;
 const SHOWN_IN_VIEW = 100;
 /** Letters before a word that was found: in one line, which may be a telephone's, and in several. */
-const BEFORE = 12;
+const BEFORE = 20;
 const AROUND = 60;
 
 export class Finder {
