@@ -18,7 +18,7 @@ from query.graph import Graph
 from query.parallel import Task
 from query.program import Refused
 from query.statements import Pairer, Pairing
-from query.text import Text, UnreadableText, read_text
+from query.text import Text, UnreadableText
 
 
 class Side:
@@ -46,7 +46,7 @@ class Side:
 def text_of(database: Database) -> Text:
     """The text of a database that the program accepts."""
     try:
-        return read_text(database.text())
+        return database.read()
     except UnreadableText as error:
         raise NoAnswer(f"{database.name}: {error}") from None
 
@@ -103,7 +103,7 @@ def sides(old: Database, new: Database) -> tuple[Side, Side]:
 def read_or_not(database: Database) -> Text | None:
     """The text; None where it can't be read, so that the program is asked why."""
     try:
-        return read_text(database.text())
+        return database.read()
     except UnreadableText:
         return None
 

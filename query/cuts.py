@@ -166,9 +166,7 @@ class Bottlenecks:
 
     def add(self, node: int, cited: list[int]) -> None:
         """Adds a theorem that cites these."""
-        last: int | Citation = cited[0]
-        for other in cited[1:]:
-            last = self.common(last, other)
+        last = self.common(cited)
         self.over[node] = last
         self.deep[node] = self.deep[last] + 1
         self.ends[node] = self.ends[last[0] if isinstance(last, tuple) else last]
@@ -183,14 +181,20 @@ class Bottlenecks:
         before = self.ends[cited]
         self.ends[node] = edge, before[1] if before else edge
 
-    def common(self, one: int | Citation, other: int | Citation) -> int | Citation:
-        """The last part that is on all chains from both."""
-        while one != other:
-            if self.deep[one] >= self.deep[other]:
-                one = self.over[one]
-            else:
-                other = self.over[other]
-        return one
+    def common(self, nodes: list[int]) -> int | Citation:
+        """The last part that is on all chains from all of these."""
+        deep, over = self.deep, self.over
+        last: int | Citation = nodes[0]
+        for node in nodes:
+            if last == self.end:
+                break
+            other: int | Citation = node
+            while last != other:
+                if deep[last] >= deep[other]:
+                    last = over[last]
+                else:
+                    other = over[other]
+        return last
 
 
 def freeing(graph: Graph, end: int) -> list[tuple[int, int]]:

@@ -6,6 +6,7 @@ from array import array
 from collections.abc import Sequence
 from dataclasses import dataclass, field
 from functools import cached_property
+from typing import TYPE_CHECKING
 
 from query import cache, progress
 from query.errors import NoAnswer, shown
@@ -15,8 +16,13 @@ from query.options import Options
 from query.report import Prepared, checked
 from query.source import Source, opened
 
-# Counts the forms in which results are kept. A change of what they hold has to change it.
+if TYPE_CHECKING:
+    from query.text import Text
+
+# Count the forms in which results, and what was read of texts, are kept. A change of what they hold
+# has to change them.
 FORM = 1
+TEXT_FORM = 1
 
 
 @dataclass
@@ -135,6 +141,24 @@ class Database:
             raise NoAnswer(f"{self.name}: a report, where the database is wanted")
         return self.source.data
 
+    def read(self) -> "Text":
+        """What stands in the text, kept or new. NoAnswer where DATABASE is a report, UnreadableText
+        where it is nothing that the program would accept.
+        """
+        from query import outline
+        from query.text import read_text
+
+        data = self.text()
+        if not self.uses_cache or len(data) >= outline.MOST:
+            return read_text(data)
+        key = key_of("text", TEXT_FORM, self.sum)
+        kept = cache.load(key)
+        if kept is not None:
+            return outline.from_parts(data, kept)
+        text = read_text(data)
+        cache.store(key, outline.to_parts(text))
+        return text
+
     @cached_property
     def sum(self) -> str:
         """The sum of the bytes, in hexadecimal."""
@@ -158,8 +182,7 @@ class Database:
         key = ""
         if self.uses_cache:
             mmdepend.prepare()
-            words = [FORM, self.sum, mmdepend.sum, only, options.essential, options.open]
-            key = hashlib.blake2b(json.dumps(words).encode(), digest_size=20).hexdigest()
+            key = key_of(FORM, self.sum, mmdepend.sum, only, options.essential, options.open)
             kept = cache.load(key)
             if kept is not None:
                 return from_parts(kept)
@@ -234,6 +257,11 @@ class Database:
         if not chosen:
             raise NoAnswer(f"{self.name}: has no axiom{self.which()} that is no definition")
         return chosen
+
+
+def key_of(*words: str | int | None) -> str:
+    """Under which key the result is kept that these make what it is."""
+    return hashlib.blake2b(json.dumps(words).encode(), digest_size=20).hexdigest()
 
 
 def of_report(source: Source) -> Prepared:

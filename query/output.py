@@ -16,6 +16,8 @@ Value = str | int | float | bool | None | list[str]
 
 def _word(value: Value) -> str:
     """A value in a field of text, TSV and CSV."""
+    if isinstance(value, str):
+        return value
     if value is None:
         return "-"
     if isinstance(value, bool):
@@ -27,25 +29,18 @@ def _word(value: Value) -> str:
 
 def _aligned(columns: Sequence[str], rows: Sequence[Sequence[Value]]) -> str:
     """The table for a person: one column as lines, several aligned under a line of their names."""
-    lines = [[_word(value) for value in row] for row in rows]
     if len(columns) == 1:
-        return "".join(line[0] + "\n" for line in lines)
+        return "".join(_word(row[0]) + "\n" for row in rows)
     if not rows:
         return ""
-    lines.insert(0, list(columns))
-    width = [max(len(line[i]) for line in lines) for i in range(len(columns))]
-    right = [
-        all(isinstance(row[i], (int, float)) or row[i] is None for row in rows)
-        for i in range(len(columns))
-    ]
-    parts = []
-    for line in lines:
-        fields = [
-            word.rjust(width[i]) if right[i] else word.ljust(width[i])
-            for i, word in enumerate(line)
-        ]
-        parts.append("  ".join(fields).rstrip() + "\n")
-    return "".join(parts)
+    forms = []
+    words = []
+    for name, column in zip(columns, zip(*rows, strict=True)):
+        words.append([name, *map(_word, column)])
+        is_right = all(isinstance(value, (int, float)) or value is None for value in column)
+        forms.append(f"{{:{'>' if is_right else '<'}{max(map(len, words[-1]))}}}")
+    form = "  ".join(forms)
+    return "".join(form.format(*line).rstrip() + "\n" for line in zip(*words))
 
 
 def _tabs(columns: Sequence[str], rows: Iterable[Sequence[Value]]) -> str:

@@ -66,6 +66,8 @@ SPECIAL = re.compile(rb"\s*\$([jt])(?=\s)")
 OPEN_PROOF = re.compile(rb"\s*(?:\(\s+\)\s+)?\?\s*\Z")
 MATHBOX = re.compile(r"Mathbox for (.*)")
 
+BLOCK = 1 << 10  # bytes, of which the lines are counted at once
+
 Place = int
 Stretch = tuple[int, int]
 Pair = tuple[str, str]
@@ -213,17 +215,21 @@ class Text:
         return {assertion.label: assertion for assertion in self.assertions}
 
     @cached_property
-    def _line_ends(self) -> list[int]:
-        return [match.start() for match in re.finditer(rb"\n", self.data)]
+    def _lines_before(self) -> list[int]:
+        """How many lines end before each block of the text."""
+        counts = [0]
+        for start in range(0, len(self.data), BLOCK):
+            counts.append(counts[-1] + self.data.count(b"\n", start, start + BLOCK))
+        return counts
 
     def line(self, place: Place) -> int:
         """The line of a place, from 1."""
-        return bisect_right(self._line_ends, place - 1) + 1
+        block = place // BLOCK
+        return self._lines_before[block] + self.data.count(b"\n", block * BLOCK, place) + 1
 
     def column(self, place: Place) -> int:
         """The column of a place in its line, in bytes from 1."""
-        line = self.line(place)
-        return place + 1 if line == 1 else place - self._line_ends[line - 2]
+        return place - self.data.rfind(b"\n", 0, place)
 
     @cached_property
     def variables(self) -> dict[str, str]:

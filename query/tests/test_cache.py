@@ -9,7 +9,10 @@ from pathlib import Path
 from unittest import mock
 
 from query import cache
+from query.database import Database
+from query.options import Options
 from query.tests.world import MMQUERY, SMALL, World, program
+from query.text import read_text
 
 
 class Cache(World):
@@ -55,6 +58,21 @@ class Cache(World):
             before = self.runs()
             self.answers("rests", "small.mm", "wi2", option, MMDEPEND=counted)
             self.assertGreater(self.runs(), before, option)
+
+    def test_what_was_read_of_a_text_is_kept_too(self) -> None:
+        wanted = self.answers("chapters", "small.mm")
+        kept = {path: path.read_bytes() for path in self.files()}
+        self.assertEqual(len(kept), 2)
+        with mock.patch.dict(os.environ, {"XDG_CACHE_HOME": str(self.cache)}):
+            with mock.patch("query.text.read_text") as reading:
+                found = Database.opened(str(self.room / "small.mm"), Options(), True).read()
+            reading.assert_not_called()
+        self.assertEqual(vars(found), vars(read_text(SMALL.encode())))
+        for path, whole in kept.items():
+            path.write_bytes(whole[:-1] + bytes([whole[-1] ^ 1]))
+            self.assertEqual(self.answers("chapters", "small.mm"), wanted)
+            self.assertEqual(path.read_bytes(), whole)
+        self.assertEqual(self.answers("chapters", "small.mm", "--no-cache"), wanted)
 
     def test_another_database_or_program_has_its_own(self) -> None:
         self.answers("rests", "small.mm", "a2")

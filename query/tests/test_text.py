@@ -1,7 +1,10 @@
 """The reader of a database's text, beside what is known of small texts and of metamath.exe."""
 
+import random
 import unittest
 
+from query import outline
+from query.tests.world import DATABASES, invented
 from query.text import Text, UnreadableText, read_text
 
 SMALL = b"""$( $t htmldef "p" as "P"; /* a ; in a remark */ $)
@@ -132,6 +135,36 @@ class Reader(unittest.TestCase):
             with self.assertRaises(UnreadableText):
                 read_text(text)
         self.assertEqual(read_text(b"").assertions, [])
+
+
+class Kept(unittest.TestCase):
+    """What was read, kept and taken out again."""
+
+    def agree(self, data: bytes) -> None:
+        """What is taken out is what was read."""
+        read = read_text(data)
+        taken = outline.from_parts(data, outline.to_parts(read))
+        self.assertEqual(vars(taken), vars(read))
+
+    def test_small_texts(self) -> None:
+        chance = random.Random(8)
+        for data in (
+            b"",
+            b"$c a $.",
+            b"a $a b $.",
+            b"${ $}",
+            b"$( $t x $)",
+            b"\xa0 $a b $.",
+            SMALL,
+        ):
+            self.agree(data)
+        for _ in range(50):
+            self.agree(invented(chance).text.encode())
+
+    def test_databases(self) -> None:
+        for path in sorted(DATABASES.glob("*.mm")):
+            with self.subTest(path.name):
+                self.agree(path.read_bytes())
 
 
 if __name__ == "__main__":

@@ -1,6 +1,7 @@
 // The field of the search with what was found, and the view of all that was found.
 
 import { byId, count, element } from "./elements.js";
+import { plainText } from "./markup.js";
 import { Search } from "./search.js";
 import { plain } from "./symbols.js";
 
@@ -13,7 +14,9 @@ import { plain } from "./symbols.js";
 /** How many of what was found are shown below the field, and at a time in the view. */
 const SHOWN = 24;
 const SHOWN_IN_VIEW = 100;
-const AROUND = 60; // letters before a word that was found
+/** Letters before a word that was found: in one line, which may be a telephone's, and in several. */
+const BEFORE = 20;
+const AROUND = 60;
 
 export class Finder {
     /**
@@ -98,7 +101,7 @@ export class Finder {
         const label = this.model.labels.at(number);
         const said = where === "comment" ? (this.model.knownComment(number) ?? "") : "";
         const text = element("span", { class: "text" });
-        if (said !== "") text.append(...marked(around(said, words), words));
+        if (said !== "") text.append(...this.excerpt(said, words, BEFORE));
         else text.append(...this.formulas(number, where === "formula" ? words : []));
         return element(
             "li",
@@ -233,22 +236,34 @@ export class Finder {
         const line = this.elements.line(number);
         const said = this.model.knownComment(number) ?? "";
         const isSaid = words.some((word) => said.toLowerCase().includes(word));
-        if (isSaid) line.append(element("p", { class: "hint said-there" }, ...marked(around(said, words), words)));
+        if (isSaid) line.append(element("p", { class: "hint said-there" }, ...this.excerpt(said, words, AROUND)));
         return line;
+    }
+
+    /**
+     * What a comment says around the first word that was found.
+     * @param {string} comment
+     * @param {string[]} words
+     * @param {number} before how many letters before it, at most
+     */
+    excerpt(comment, words, before) {
+        const text = plainText(comment, (formula) => this.search.symbols.textOf(formula));
+        return marked(around(text, words, before), words);
     }
 }
 
 /**
- * As much of a comment as fits into a line, from a little before the first word that is in it.
- * @param {string} comment
+ * As much of a text as fits into a line, from a little before the first word that is in it.
+ * @param {string} text
  * @param {string[]} words
+ * @param {number} before
  */
-function around(comment, words) {
-    const text = comment.replace(/[\f\v]/g, " ").replace(/~ (?=\S)|`/g, "");
+function around(text, words, before) {
     const small = text.toLowerCase();
     const places = words.map((word) => small.indexOf(word)).filter((place) => place >= 0);
     const at = places.length > 0 ? Math.min(...places) : 0;
-    const from = at > AROUND ? text.indexOf(" ", at - AROUND) + 1 : 0;
+    const space = text.indexOf(" ", Math.max(0, at - before));
+    const from = at <= before ? 0 : space >= 0 && space < at ? space + 1 : at;
     const end = from + 4 * AROUND;
     return `${from > 0 ? "…" : ""}${text.slice(from, end)}${end < text.length ? "…" : ""}`;
 }

@@ -112,6 +112,34 @@ export function readComment(line) {
     return { paragraphs, credits };
 }
 
+/**
+ * A comment as plain text, in one line and with all that it says.
+ * @param {string} line as markup.py writes it
+ * @param {(formula: string) => string} shown how mathematics is shown
+ */
+export function plainText(line, shown) {
+    const reader = new Reader();
+    reader.read(line);
+    return reader.paragraphs.map((paragraph) => saidBy(closeUp(paragraph), shown)).join(" ");
+}
+
+/**
+ * @param {Part[]} parts
+ * @param {(formula: string) => string} shown
+ * @returns {string}
+ */
+function saidBy(parts, shown) {
+    return parts
+        .map((part) => {
+            if (part.type === "math") return shown(part.formula);
+            if (part.type === "label") return part.label;
+            if (part.type === "address") return part.address;
+            if (part.type === "reference") return `[${part.author}] ${part.page}`.trim();
+            return part.type === "element" ? ` ${saidBy(part.children, shown)} ` : part.text;
+        })
+        .join("");
+}
+
 /** What has to be separated by spaces in a comment. */
 const APART = ["math", "label", "address"];
 /** Spaces before punctuation and closing signs, and after opening ones. */

@@ -92,6 +92,15 @@ export class Symbols {
     }
 
     /**
+     * How a formula without typecode is shown, as plain text.
+     * @param {string} formula
+     */
+    textOf(formula) {
+        const texts = this.runs(formula, false).map((run) => run.text);
+        return texts.join("").trim();
+    }
+
+    /**
      * Whether a symbol would be hard to tell from the one before, if there were no space between them.
      * @param {string[]} symbols
      * @param {number} index

@@ -15,6 +15,7 @@ import argparse
 import contextlib
 import random
 import shutil
+import signal
 import sys
 import tempfile
 from pathlib import Path
@@ -134,6 +135,8 @@ def try_set(browser: Browser, pages: Pages) -> None:
 def main() -> None:
     """Runs the test."""
     options = options_of()
+    # So that the browsers end, too.
+    signal.signal(signal.SIGTERM, lambda *_: sys.exit(143))
     lacking = browsers.missing()
     if lacking:
         missing(f"no browsers to try the page in: {lacking}")

@@ -1,7 +1,9 @@
 """Two browsers behind one interface: Chromium by selenium, Firefox by Marionette."""
 
 import importlib
+import os
 import shutil
+import tempfile
 import time
 from abc import ABC, abstractmethod
 from pathlib import Path
@@ -132,7 +134,9 @@ class Chromium(Browser):
             options.add_argument(f"--{word}")
         options.set_capability("goog:loggingPrefs", {"browser": "ALL"})
         services = optional("selenium.webdriver.chrome.service")
-        service = services.Service(shutil.which("chromedriver"))
+        self.room = tempfile.TemporaryDirectory(ignore_cleanup_errors=True)  # it leaves files
+        surroundings = {**os.environ, "TMPDIR": self.room.name}
+        service = services.Service(shutil.which("chromedriver"), env=surroundings)
         self.driver = webdriver.Chrome(service=service, options=options)
         self.driver.set_script_timeout(500)
         self.size(1280, 900)
@@ -169,6 +173,7 @@ class Chromium(Browser):
 
     def close(self) -> None:
         self.driver.quit()
+        self.room.cleanup()
 
 
 SCHEMES = {"dark": 0, "light": 1}

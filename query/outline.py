@@ -1,0 +1,128 @@
+"""What was read of a text, in the form in which it is kept: numbers in arrays, words in JSON.
+
+A second question needs no second reading: `from_parts` makes of the same bytes the same `Text`.
+"""
+
+import json
+from array import array
+from collections.abc import Iterable, Iterator
+from itertools import chain
+
+from query.graph import put_together
+from query.text import Assertion, Comment, Header, Hypothesis, Stretch, Text
+
+MOST = 1 << 32  # bytes of a text whose places fit into the arrays
+NONE = (0, 0)  # a stretch that isn't there
+
+Frame = tuple[tuple[int, ...], tuple[int, ...]]
+
+
+def to_parts(text: Text) -> dict[str, bytes]:
+    """What was read of a text of less than `MOST` bytes."""
+    frames: list[Frame] = []
+    numbers = array("I")
+    for one in text.assertions:
+        frame = (one.essential, one.disjoint)
+        if not frames or frames[-1] != frame:
+            frames.append(frame)
+        header, number = one.header + 1, len(frames) - 1
+        numbers.extend((one.kind == "p", one.place, *one.formula, *(one.proof or NONE)))
+        numbers.extend((*(one.comment or NONE), header, number))
+    hypotheses = ((each.kind == "e", each.place, *each.formula) for each in text.hypotheses)
+    headers = [
+        (one.level, one.number, one.title, one.place, one.body, one.first, one.end, one.text)
+        for one in text.headers
+    ]
+    marked = [[each.place, each.body] for each in text.marked]
+    return {
+        "labels": words(each.label for each in text.assertions),
+        "assertions": numbers.tobytes(),
+        **lists("essential", (frame[0] for frame in frames)),
+        **lists("disjoint", (frame[1] for frame in frames)),
+        "names": words(each.label for each in text.hypotheses),
+        "hypotheses": array("I", chain.from_iterable(hypotheses)).tobytes(),
+        "groups": array("I", chain.from_iterable(text.disjoint)).tobytes(),
+        "declared": array("I", chain.from_iterable(text.declared)).tobytes(),
+        "comments": json.dumps([headers, marked, text.typesetting]).encode(),
+    }
+
+
+def from_parts(data: bytes, parts: dict[str, bytes]) -> Text:
+    """The text of these bytes, of which this was kept."""
+    text = Text(data)
+    headers, marked, text.typesetting = json.loads(parts["comments"])
+    for level, number, title, place, (start, end), *rest in headers:
+        text.headers.append(Header(level, number, title, place, (start, end), *rest))
+    text.marked = [Comment(place, body) for place, body in marked]
+    kinds, places, starts, ends = columns(parts["hypotheses"], 4)
+    letters = map("fe".__getitem__, kinds)
+    names = labels_of(parts["names"])
+    text.hypotheses = list(map(Hypothesis, names, letters, places, zip(starts, ends)))
+    text.disjoint = stretches_of(parts["groups"])
+    text.declared = stretches_of(parts["declared"])
+    text.assertions = assertions_of(parts)
+    return text
+
+
+def assertions_of(parts: dict[str, bytes]) -> list[Assertion]:
+    """The assertions that were kept."""
+    table = columns(parts["assertions"], 10)
+    kinds, places, headers, frames = table[0], table[1], table[8], table[9]
+    essential, disjoint = tuples_of("essential", parts), tuples_of("disjoint", parts)
+    made = map(
+        Assertion,
+        labels_of(parts["labels"]),
+        map("ap".__getitem__, kinds),
+        places,
+        zip(table[2], table[3]),
+        optional(table[4], table[5]),
+        map(essential.__getitem__, frames),
+        map(disjoint.__getitem__, frames),
+        optional(table[6], table[7]),
+        (header - 1 for header in headers),
+        range(len(kinds)),
+    )
+    return list(made)
+
+
+def words(labels: Iterable[str]) -> bytes:
+    """Labels, which have no white space, in one piece."""
+    return "\n".join(labels).encode("latin-1")
+
+
+def labels_of(kept: bytes) -> list[str]:
+    """The labels of such a piece."""
+    return kept.decode("latin-1").split("\n") if kept else []
+
+
+def columns(kept: bytes, width: int) -> list["array[int]"]:
+    """The columns of a table of numbers that is kept row by row."""
+    numbers = array("I")
+    numbers.frombytes(kept)
+    return [numbers[number::width] for number in range(width)]
+
+
+def stretches_of(kept: bytes) -> list[Stretch]:
+    """Stretches that are kept one after the other."""
+    starts, ends = columns(kept, 2)
+    return list(zip(starts, ends))
+
+
+def optional(starts: "array[int]", ends: "array[int]") -> Iterator[Stretch | None]:
+    """Stretches, of which some may be missing."""
+    return ((start, end) if end else None for start, end in zip(starts, ends))
+
+
+def lists(name: str, found: Iterable[tuple[int, ...]]) -> dict[str, bytes]:
+    """Two parts with many lists of numbers."""
+    made = put_together(found)
+    return {f"{name} places": made.places.tobytes(), f"{name} targets": made.targets.tobytes()}
+
+
+def tuples_of(name: str, parts: dict[str, bytes]) -> list[tuple[int, ...]]:
+    """The lists of two parts."""
+    places, targets = array("I"), array("I")
+    places.frombytes(parts[f"{name} places"])
+    targets.frombytes(parts[f"{name} targets"])
+    numbers = tuple(targets)
+    return [numbers[start:end] for start, end in zip(places, places[1:])]
