@@ -10,16 +10,12 @@ use Rattle.std.proofs.Math.Bool.{or-false}
 use Rattle.std.proofs.lemmas.Slice.Eq.{bytes_eq-Decides}
 use Rattle.std.proofs.lemmas.Bool.Decides.{nat_tests}
 use Rattle.std.proofs.lemmas.Grind.{common_steps}
-use Rattle.mm_spec.specs.Text.{Bytes, Token, fault, is_in}
+use Rattle.mm_spec.specs.Text.{Bytes, Token, fault, is_in, words}
 use Rattle.mm_spec.specs.declared.Fault.{Fault}
 use Rattle.mm_spec.specs.Scope.{Names}
-use Rattle.mm_spec.specs.Lawful.{least, at, at_each}
-use Rattle.mm_spec.specs.Lawful.{floating_faults}
-use Rattle.mm_spec.specs.Lawful.{is_empty}
+use Rattle.mm_spec.specs.Lawful.{at, at_each, floating_faults, is_empty, least, lesser}
 use Rattle.mm_spec.specs.declared.Word as place
 use Rattle.mm_outline.specs.Parts.{between, token_at, token_of, nth_word}
-use Rattle.mm_spec.specs.Text.{words}
-use Rattle.mm_spec.specs.Lawful.{lesser}
 use Rattle.mm_outline.proofs.TurnsLaw.{between_more, between_none}
 use Rattle.mm_spec.specs.declared.Code.{Code}
 use Rattle.mm_spec.specs.declared.Code.TheVariants.{BadFloating}
@@ -36,7 +32,7 @@ lesser_fault_assoc : (a b c : Option Fault)
     → lesser_fault (lesser_fault a b) c ≡ lesser_fault a (lesser_fault b c)
 lesser_fault_assoc a b c = grind (arith, nat_tests)
 
-pub least_append : (xs ys : List Fault) → least (xs ++ ys) ≡ lesser_fault (least xs) (least ys)
+least_append : (xs ys : List Fault) → least (xs ++ ys) ≡ lesser_fault (least xs) (least ys)
 least_append [] ys = refl
 least_append (f ∷ xs) ys =
     grind (arith, least_append xs ys, lesser_fault_assoc (Some f) (least xs) (least ys))
@@ -81,7 +77,7 @@ module _ (text : List ℕ) (ws : List place.Word) (from i : ℕ) where
   pub each_more : from ≤ i → i < length ws → (codes : List Bytes → Bytes → List Code)
       → at_each codes [] (between text ws from (i + 1))
       ≡ at_each codes [] (between text ws from i)
-      ++ at (token_at text ws i).at (codes earlier (token_at text ws i).word)
+      ++ at (token_at text ws i).at (codes earlier here)
   each_more h l codes = rw (between_more text ws from i h l, at_each_snoc) refl
 
   -- one word more

@@ -1,8 +1,7 @@
 //! The faults of the next statement.
 
-ghost use Rattle.std.specs.Prelude.{◌≡◌, ◌<◌, ◌≤◌, ◌++◌, [], length, OnOk, IfOk, ◌^◌, map};
+ghost use Rattle.std.specs.Prelude.{◌≡◌, ◌<◌, ◌≤◌, ◌++◌, [], length, OnOk, IfOk, ◌^◌, false, true};
 ghost use Rattle.std.specs.Prelude.{◌+◌, ◌-◌, ℕ, List, is_some, Some, if◌then◌else◌, bytes_eq};
-ghost use Rattle.std.specs.Prelude.{false, true};
 ghost use Rattle.mm_spec.specs.Text.{is_in, words};
 ghost use Rattle.mm_database.specs.Names.{find};
 ghost use Rattle.mm_scope.specs.Formulas.{judged, numbers_in};
@@ -10,8 +9,7 @@ ghost use Rattle.mm_spec.specs.Lawful.{at, at_each, least, when as spec_when, sy
 ghost use Rattle.mm_spec.specs.Lawful.{formula_faults, floating_faults, label_faults, scope_faults};
 ghost use Rattle.mm_spec.specs.Scope.{Names as DeclaredNames};
 ghost use Rattle.mm_spec.specs.declared.Fault.{Fault as SpecFault};
-ghost use Rattle.mm_outline.specs.Parts.{AreWithin, between, nth_word, token_at};
-ghost use Rattle.mm_outline.specs.Parts.{statement_of};
+ghost use Rattle.mm_outline.specs.Parts.{AreWithin, between, nth_word, token_at, statement_of};
 ghost use Rattle.mm_scope.specs.Knows.{fault_at, listed_codes, lists_symbols};
 ghost use Rattle.mm_scope.specs.Scopes.{IsAmong, IsLeastFault, names_in};
 

@@ -1,7 +1,7 @@
 //! The names and the blocks before a statement, what they say of a word, and those after it.
 
-ghost use Rattle.std.specs.Prelude.{◌≡◌, ◌<◌, ◌+◌, ◌-◌, ◌^◌, ◌∷◌, ◌++◌, [], ℕ, List, Some, not, true};
-ghost use Rattle.std.specs.Prelude.{length, OnOk};
+ghost use Rattle.std.specs.Prelude.{◌≡◌, ◌<◌, ◌+◌, ◌-◌, ◌^◌, ◌∷◌, ◌++◌, [], ℕ, List, Some};
+ghost use Rattle.std.specs.Prelude.{length, not, true, OnOk};
 ghost use Rattle.mm_spec.specs.Text.{is_in, token};
 ghost use Rattle.mm_spec.specs.Statement.{Statement, label_of};
 ghost use Rattle.mm_spec.specs.Lawful.{at, is_typed, is_typed_otherwise, least, when, symbol_codes};

@@ -1,5 +1,4 @@
-use Rattle.std.proofs.Common.{◌+◌, ◌∙◌, sym, ap, ap₂, arith}
-use Rattle.std.proofs.Common.{[], ◌∷◌}
+use Rattle.std.proofs.Common.{[], ◌∷◌, ◌+◌, ◌∙◌, sym, ap, ap₂, arith}
 use Rattle.mm_spec.specs.Text.{token}
 use Rattle.mm_spec.specs.Lawful.{least, floating_faults}
 use Rattle.mm_outline.specs.Parts.{token_at, nth_word}
