@@ -54,10 +54,10 @@ fn start_of<A: Allocator>(ends: &Vec<u32, A>, index: usize) -> usize
     requires { index ≤ length ends.now.items }
     ensures { result ≡ slice_index (0 ∷ ends.now.items) index }
 {
-    if index == 0 {
-        0
-    } else {
-        ends[index - 1] as usize
+    // One test finds that the index is 0, or that it is within: before 0 comes a place past all.
+    match ends.get(index.wrapping_sub(1)) {
+        Some(end) => *end as usize,
+        None => 0,
     }
 }
 

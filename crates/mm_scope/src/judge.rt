@@ -300,16 +300,18 @@ fn lesser(first: Option<Fault>, second: Option<Fault>) -> Option<Fault>
         → second ≡ least later
         → result ≡ least (earlier ++ later) }
 {
-    match (first, second) {
-        (Some(old), Some(new)) => {
+    let Some(new) = second else {
+        return first;
+    };
+    match first {
+        Some(old) => {
             if old.at < new.at || (old.at == new.at && old.code.number() <= new.code.number()) {
                 first
             } else {
                 second
             }
         }
-        (None, _) => second,
-        (_, None) => first,
+        None => second,
     }
 }
 

@@ -11,10 +11,10 @@ pub returns-else-number : goal.returns-else-number
 returns-else-number c = λ xs ys e f.
     both_least xs ys c.args.first c.args.second _ e f (grind (arith, nat_tests))
 
-pub returns-in_default-None : goal.returns-in_default-None
-returns-in_default-None c = λ xs ys e f.
+pub returns-in_default : goal.returns-in_default
+returns-in_default c = λ xs ys e f.
     both_least xs ys c.args.first c.args.second _ e f (grind (arith, nat_tests))
 
-pub returns-in-None-default : goal.returns-in-None-default
-returns-in-None-default c = λ xs ys e f.
+pub returns-in-None : goal.returns-in-None
+returns-in-None c = λ xs ys e f.
     both_least xs ys c.args.first c.args.second _ e f (grind (arith, nat_tests))
