@@ -54,10 +54,10 @@ fn start_of<A: Allocator>(ends: &Vec<u32, A>, index: usize) -> usize
     requires { index ≤ length ends.now.items }
     ensures { result ≡ slice_index (0 ∷ ends.now.items) index }
 {
-    // One test finds that the index is 0, or that it is within: before 0 comes a place past all.
-    match ends.get(index.wrapping_sub(1)) {
-        Some(end) => *end as usize,
-        None => 0,
+    if index == 0 {
+        0
+    } else {
+        ends[index - 1] as usize
     }
 }
 
@@ -138,8 +138,9 @@ impl<T, A: Allocator> Lists<T, A> {
         ensures is { result.now ≡ slice_index_or self.now index [] }
         ensures few { length result.now < 2 ^ 32 }
     {
-        let from = start_of(&self.ends, index);
-        part(&self.items, from, self.ends[index] as usize)
+        // The end first: then the beginning needs no test that the index is within.
+        let end = self.ends[index] as usize;
+        part(&self.items, start_of(&self.ends, index), end)
     }
 
     /// The lists with indices from `from` up to, but not including, `to`, joined into one.
