@@ -63,15 +63,19 @@ fn padded(bytes: &[u8]) -> [u8; 64]
     block
 }
 
+/// Whether a byte is white space: tab, line feed, form feed, carriage return or space.
 #[tactic(auto, unfolding(mm_spec::specs::Bytes::is_white))]
-fn is_white(b: u8) -> bool
+#[inline(always)]
+pub fn is_white(b: u8) -> bool
     ensures { result ≡ is_white b }
 {
     matches!(b, b'\t' | b'\n' | 0x0C | b'\r' | b' ')
 }
 
+/// Whether a byte is printable and no space: `!` to `~`.
 #[tactic(auto, unfolding(mm_spec::specs::Bytes::is_printable))]
-fn is_printable(b: u8) -> bool
+#[inline(always)]
+pub fn is_printable(b: u8) -> bool
     ensures { result ≡ is_printable b }
 {
     matches!(b, b'!'..=b'~')

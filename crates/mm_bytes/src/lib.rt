@@ -8,7 +8,9 @@ mod classes;
 mod lanes;
 mod runs;
 
-pub use classes::{Classes, class_block, class_tail, dollars_block, dollars_tail};
+pub use classes::{
+    Classes, class_block, class_tail, dollars_block, dollars_tail, is_printable, is_white,
+};
 pub use runs::{count_lf, first_bad};
 
 #[cfg(test)]

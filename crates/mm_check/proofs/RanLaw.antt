@@ -15,8 +15,8 @@ use Rattle.mm_spec.specs.Citation.{context_at}
 use Rattle.mm_spec.specs.Laws.Stack.{IsGoodStep, step_entries, top}
 use Rattle.mm_steps.specs.Read.{step_at, is_marked, takes_up}
 use Rattle.mm_machine.specs.State.{MachineState, machine_state, with_mark, reason_of}
-use Rattle.mm_machine.specs.declared.machine.Stopped.{Stopped}
-use Rattle.mm_machine.specs.declared.machine.Stopped.TheVariants.{Fault, Memory}
+use Rattle.mm_machine.specs.declared.machine.StepRefused.{StepRefused}
+use Rattle.mm_machine.specs.declared.machine.StepRefused.TheVariants.{Fault, Memory}
 use Rattle.mm_check.specs.Contract.{IsReady, StepRefuses, refusal_at}
 use Rattle.mm_check.specs.Checker.{CheckerState, checker_state, IsAt, HasPerformed, Performs}
 use Rattle.mm_check.specs.Checker.{IsStopped}
@@ -87,7 +87,7 @@ module _ (db : List Statement) (t : ℕ) (steps : List PlacedStep) (i : ℕ) (c 
           (takes_here steps i j inside (sym is))
 
   -- the fault of a step that was stopped
-  pub stops_here : (at : ℕ) (e : Stopped) → at ≡ (step_at steps i).at → IsStopped db t a c e
+  pub stops_here : (at : ℕ) (e : StepRefused) → at ≡ (step_at steps i).at → IsStopped db t a c e
       → StepRefuses db t steps (refusal_at at e)
   stops_here at Memory e stop = tt
   stops_here at (Fault reason) e stop =

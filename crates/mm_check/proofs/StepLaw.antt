@@ -13,7 +13,7 @@ use Rattle.mm_spec.specs.Laws.Stack.{IsGood, step}
 use Rattle.mm_rule.specs.Assertions.{is_assertion_at}
 use Rattle.mm_machine.specs.State.{MachineState, machine_state, applied}
 use Rattle.mm_machine.specs.Stops.{Stops}
-use Rattle.mm_machine.specs.declared.machine.Stopped.{Stopped}
+use Rattle.mm_machine.specs.declared.machine.StepRefused.{StepRefused}
 use Rattle.mm_check.specs.Checker.{CheckerState, checker_state}
 use Rattle.mm_check.specs.Checker.{Performs, IsStopped}
 use Rattle.mm_check.proofs.CompilerStateLaw.{assertion_rule}
@@ -65,7 +65,7 @@ module _ (db : List Statement) (t : ℕ) where
         by x false e = refl
         by x true e = sym (ap (is_assertion_at db) (eqb-true x a e) ∙ is)
 
-    pub stops : (e : Stopped) → Stops e (applied db t a c.machine.stack)
+    pub stops : (e : StepRefused) → Stops e (applied db t a c.machine.stack)
         → IsStopped db t (label a) c e
     stops e h =
         λ ends agree. subst (Stops e)

@@ -11,7 +11,7 @@ use Rattle.mm_rules.specs.Rules.{RuleLists, AreRules}
 use Rattle.mm_machine.specs.DisjointCache.{AreDisjointAt}
 use Rattle.mm_machine.specs.State.{MachineState}
 use Rattle.mm_machine.specs.Stops.{Stops}
-use Rattle.mm_machine.specs.declared.machine.Stopped.{Stopped}
+use Rattle.mm_machine.specs.declared.machine.StepRefused.{StepRefused}
 use Rattle.mm_check.specs.Contract.{is_labelled_step}
 use Rattle.mm_check.specs.Reached.{Ran, AreEndFormulas, AreStepsOf}
 
@@ -67,7 +67,7 @@ pub record Performs (db : List Statement) (t : ℕ) (a : Step) (c d : CheckerSta
       ≡ (is_member c.noted x || (is_labelled_step a x && is_assertion_at db x))
 
 -- the step is stopped for a reason for which it fails
-abbrev pub IsStopped : List Statement → ℕ → Step → CheckerState → Stopped → Type 0
+abbrev pub IsStopped : List Statement → ℕ → Step → CheckerState → StepRefused → Type 0
 IsStopped db t a c e =
     (ends : List Formula) → AreEndFormulas ends c.machine.marks c.machine.formulas
     → Stops e (step_entries (context_at db t) a ends c.machine.stack)

@@ -11,8 +11,8 @@ use Rattle.mm_spec.specs.Citation.{IsProof, Cites, context_at}
 use Rattle.mm_spec.specs.Output.{ProofFault, proof_end}
 use Rattle.mm_spec.specs.Laws.Stack.{IsGood}
 use Rattle.mm_machine.specs.State.{reason_of}
-use Rattle.mm_machine.specs.declared.machine.Stopped.{Stopped}
-use Rattle.mm_machine.specs.declared.machine.Stopped.TheVariants.{Fault as Reasoned, Memory as Full}
+use Rattle.mm_machine.specs.declared.machine.StepRefused.{StepRefused}
+use Rattle.mm_machine.specs.declared.machine.StepRefused.TheVariants.{Fault as Reasoned, Memory as Full}
 use Rattle.mm_check.specs.declared.checker.CheckRefused.{CheckRefused}
 use Rattle.mm_check.specs.declared.checker.CheckRefused.TheVariants.{Fault as Faulty, Memory}
 
@@ -44,7 +44,7 @@ StepRefuses db t steps (Faulty f) = StepFault (context_at db t) steps f
 StepRefuses db t steps Memory = Unit {0}
 
 -- the refusal of a proof, a step of which was stopped at the place
-abbrev pub refusal_at : ℕ → Stopped → CheckRefused
+abbrev pub refusal_at : ℕ → StepRefused → CheckRefused
 refusal_at at (Reasoned reason) = Faulty (fault at (code_of (reason_of reason)))
 refusal_at at Full = Memory
 

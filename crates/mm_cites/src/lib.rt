@@ -6,12 +6,9 @@
 //!
 //! A caller that reads citations uses [`Citations::rows`], [`Citations::theorem`],
 //! [`Citations::of`] and [`Citations::theorems`]. The layer that checks proofs calls
-//! [`Lists::new`] or [`Lists::with_room`], [`Lists::push`], [`Lists::get`] and
-//! [`Lists::number_count`], and then [`Citations::new`].
+//! [`Citations::new`].
 #![tactic(auto)]
 
 mod citations;
-mod lists;
 
 pub use citations::Citations;
-pub use lists::Lists;

@@ -19,7 +19,6 @@ pub mod DisjointIndexLaw
 pub mod StartsLaw
 pub mod TogetherLaw
 pub mod PlacesLaw
-pub mod CutsLaw
 pub mod KindsLaw
 pub mod SpacedLaw
 pub mod KeptLaw

@@ -8,7 +8,7 @@ use Rattle.std.proofs.lemmas.List.Folds.{flat_map-map}
 use Rattle.mm_spec.specs.Statement.{Statement}
 use Rattle.mm_spec.specs.Output.{is_theorem_at, theorems, label_at}
 use Rattle.mm_spec.proofs.FindsLaw.{each_filter, each_any}
-use Rattle.mm_database.specs.Cuts.{joined}
+use Rattle.mm_lists.specs.Lists.{joined}
 use Rattle.mm_database.specs.Database.{spaced_labels}
 
 pub theorems_are : (db : List Statement) → All (λ k. IsTrue (is_theorem_at db k)) (theorems db)

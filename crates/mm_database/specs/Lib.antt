@@ -11,7 +11,6 @@ pub mod Frames
 pub mod Beside
 pub mod Numbered
 pub mod Parsed
-pub mod Cuts
 pub mod Kinds
 pub mod Kept
 pub mod Database

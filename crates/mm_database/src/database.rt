@@ -132,7 +132,7 @@ impl<'a, A: Allocator> Database<'a, A> {
         requires { statement < length self.now.statements }
         ensures { option_map last_place (slice_get self.now.statements statement) ≡ Some result }
     {
-        let kept = self.found.kept.of(statement);
+        let kept = self.found.kept.get(statement as usize);
         kept[kept.len() - 1].start
     }
 
@@ -144,7 +144,7 @@ impl<'a, A: Allocator> Database<'a, A> {
             (option_and_then label_of (slice_get self.now.statements statement)) }
     {
         if has_label(self.read.statements.kind(statement)) {
-            let word = self.found.kept.of(statement)[0];
+            let word = self.found.kept.get(statement as usize)[0];
             Some(word.bytes(self.text()))
         } else {
             None
@@ -263,7 +263,7 @@ impl<'a, A: Allocator> Database<'a, A> {
     {
         match self.kind(statement) {
             Kind::Theorem => {
-                let kept = self.found.kept.of(statement);
+                let kept = self.found.kept.get(statement as usize);
                 &kept[1..kept.len() - 1]
             }
             _ => &[],
@@ -297,7 +297,7 @@ impl<'a, A: Allocator> Database<'a, A> {
             ≡ flat_map (λ k. 32 ∷ label_at self.now.statements k)
             (slice_range (theorems self.now.statements) from to) }
     {
-        self.found.listed.spaced.between(from, to)
+        self.found.listed.spaced.between(from as usize, to as usize)
     }
 }
 

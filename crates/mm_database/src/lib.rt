@@ -6,7 +6,6 @@
 
 pub mod database;
 pub mod disjoint_index;
-pub mod formulas;
 pub mod found;
 pub mod frames;
 pub mod kept;

@@ -14,7 +14,7 @@ ghost use Rattle.mm_database.specs.Kinds.{kind_of, is_essential_kind, is_floatin
 ghost use Rattle.mm_database.specs.Kinds.{is_disjoint_kind, is_assertion_kind};
 ghost use Rattle.mm_database.specs.Parsed.{parsed, AreParts, IsSound, typed_at};
 
-use crate::formulas::Formulas;
+use mm_lists::Lists;
 use mm_outline::blocks::Blocks;
 use mm_outline::parts::{Kind, Outline};
 use mm_outline::symbol::Sym;
@@ -26,7 +26,8 @@ pub struct Statements<'a, A: Allocator> {
     text: &'a [u8],
     outlines: Vec<Outline, A>,
     blocks: Blocks<A>,
-    formulas: Formulas<A>,
+    /// The symbols of each statement by their numbers.
+    formulas: Lists<Sym, A>,
     /// For each symbol whether it is a variable.
     variables: Vec<bool, A>,
 }
@@ -66,7 +67,7 @@ impl<'a, A: Allocator> Statements<'a, A> {
         text: &'a [u8],
         outlines: Vec<Outline, A>,
         blocks: Blocks<A>,
-        formulas: Formulas<A>,
+        formulas: Lists<Sym, A>,
         variables: Vec<bool, A>,
     ) -> Statements<'a, A>
         requires { AreParts (statements text.now (tokens_of text.now) outlines.items) blocks
@@ -172,7 +173,7 @@ impl<'a, A: Allocator> Statements<'a, A> {
         ensures known { All (λ s. s < length (symbol_names self.now.list)) result.now }
         ensures few { length result.now < 2 ^ 32 }
     {
-        self.formulas.of(statement)
+        self.formulas.get(statement as usize)
     }
 
     /// Returns the variable that a `$f` types, or `None` if the statement isn't a `$f`.

@@ -14,6 +14,8 @@ use Rattle.mm_spec.specs.Frame.{symbol_names, frame_at}
 use Rattle.mm_spec.specs.Steps.{label, placed}
 use Rattle.mm_spec.specs.Citation.{context_at, steps_at, IsValid}
 use Rattle.mm_spec.specs.Report.{cells, report, citation_report, line, refusal}
+use Rattle.mm_spec.specs.Request.{Request}
+use Rattle.mm_spec.specs.declared.Form.{Form}
 use Rattle.mm_spec.specs.declared.Form.TheVariants.{One, Two}
 use Rattle.mm_spec.specs.declared.Choice.TheVariants.{All}
 use Rattle.mm_laws.proofs.ReaderLaw.{lexed, statements}
@@ -173,8 +175,13 @@ refusal_13 : refusal (text_b ++ 10 ∷ codes "ab") (fault 121 NotDisjoint)
 unfolding digits
 refusal_13 = refl
 
-report_1 : report One None (codes "wi" ∷ codes "ax-1" ∷ [])
-    (record { label = codes "wi2"; marks = true ∷ false ∷ [] } ∷ []) All
+-- the whole report in a form
+abbrev whole : Form → Request
+whole form =
+    record { only = None; choice = All; form = form; essential = false; with_open = false }
+
+report_1 : report (whole One) None (codes "wi" ∷ codes "ax-1" ∷ [])
+    (record { label = codes "wi2"; marks = true ∷ false ∷ [] } ∷ [])
     ≡ flat_map line
     (codes "mmdepend 1" ∷ codes "axioms 2" ∷ codes "theorems 1" ∷ codes "matrix"
     ∷ codes "wi2:10" ∷ codes "counts" ∷ codes "wi2:1" ∷ codes "usage" ∷ codes "wi:1:wi2"
@@ -186,7 +193,7 @@ report_1 = refl
 digits_2 : cells Two (true ∷ false ∷ true ∷ true ∷ true ∷ false ∷ []) ≡ codes "b8"
 digits_2 = refl
 
-citations_1 : citation_report Two None 3
+citations_1 : citation_report (whole Two) None 3
     (record { label = codes "a2"; cited = codes "wi" ∷ codes "a1i" ∷ [] }
     ∷ record { label = codes "b"; cited = [] } ∷ [])
     ≡ flat_map line

@@ -442,30 +442,33 @@ all_citing_unique db request (n ∷ ts) (x ∷ a) (y ∷ b) h k =
     ap₂ (λ p q. p ∷ q) (citing_unique db request n x y h.0 k.0)
     (all_citing_unique db request ts a b h.1 k.1)
 
+-- the report requested with these rows
+abbrev of_rows : List Statement → Option ℕ → Request → List Row → List ℕ
+of_rows db opened request rows =
+    report request opened (map (label_at db) (columns db request.only)) rows
+
 -- a database has one report
 report_unique : (db : List Statement) (opened : Option ℕ) (request : Request) (choice : Choice)
     → (a b : List ℕ)
     → IsReportOf choice db opened request a → IsReportOf choice db opened request b → a ≡ b
 report_unique db opened request Citations a b h k =
-    h.2 ∙ ap (citation_report request.form opened (length (columns db request.only)))
+    h.2 ∙ ap (citation_report request opened (length (columns db request.only)))
     (all_citing_unique db request (theorems db) h.0 k.0 h.1 k.1)
     ∙ sym k.2
 report_unique db opened request All a b h k =
-    h.2 ∙ ap (λ r. report request.form opened (map (label_at db) (columns db request.only)) r All)
+    h.2 ∙ ap (of_rows db opened request)
     (rows_unique db request (theorems db) h.0 k.0 h.1 k.1)
     ∙ sym k.2
 report_unique db opened request Matrix a b h k =
-    h.2 ∙ ap
-    (λ r. report request.form opened (map (label_at db) (columns db request.only)) r Matrix)
+    h.2 ∙ ap (of_rows db opened request)
     (rows_unique db request (theorems db) h.0 k.0 h.1 k.1)
     ∙ sym k.2
 report_unique db opened request Counts a b h k =
-    h.2 ∙ ap
-    (λ r. report request.form opened (map (label_at db) (columns db request.only)) r Counts)
+    h.2 ∙ ap (of_rows db opened request)
     (rows_unique db request (theorems db) h.0 k.0 h.1 k.1)
     ∙ sym k.2
 report_unique db opened request Usage a b h k =
-    h.2 ∙ ap (λ r. report request.form opened (map (label_at db) (columns db request.only)) r Usage)
+    h.2 ∙ ap (of_rows db opened request)
     (rows_unique db request (theorems db) h.0 k.0 h.1 k.1)
     ∙ sym k.2
 

@@ -5,8 +5,8 @@ ghost use Rattle.std.specs.Prelude.{◌≡◌, ◌<◌, ◌≤◌, ◌+◌, true
 ghost use Rattle.mm_lex.specs.Stretches.{NoWhite, IsBroken, IsUnbroken};
 ghost use Rattle.mm_spec.specs.Words.{white_at};
 
-use crate::bytes::is_white;
 use crate::scanner::classes_of;
+use mm_bytes::is_white;
 
 /// The place of the first white-space byte from `from` on, or `to` if there is none before it.
 #[tactic(auto, unfolding(mm_spec::specs::Words::white_at))]

@@ -8,8 +8,8 @@ ghost use Rattle.mm_spec.specs.Roles.{is_keyword, is_mark, is_token, role_of};
 ghost use Rattle.mm_spec.specs.Text.{has_dollar};
 ghost use Rattle.mm_lex.specs.Plain.{IsPlainWord};
 
-use crate::bytes::is_printable;
 use crate::{Code, Fault};
+use mm_bytes::is_printable;
 use mm_spec::Role;
 
 /// Whether all bytes are printable. A word may be as long as the text, so the loop always goes to

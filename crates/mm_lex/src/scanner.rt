@@ -12,10 +12,9 @@ ghost use Rattle.mm_spec.specs.Laws.Words.{IsWord};
 ghost use Rattle.mm_lex.specs.Plain.{plain_at, IsPlainWord};
 ghost use Rattle.mm_lex.specs.Beginnings.{ArePlain, IsFirst, IsTaken, IsPassed, IsWordFrom};
 
-use crate::bytes::is_white;
 use crate::masks::{first_one, last_one};
 use crate::{TEXT_LIMIT, Word};
-use mm_bytes::{Classes, class_block, class_tail, dollars_block, dollars_tail};
+use mm_bytes::{Classes, class_block, class_tail, dollars_block, dollars_tail, is_white};
 
 /// The classes of the first 64 bytes, or of all if there are fewer.
 #[inline(always)]

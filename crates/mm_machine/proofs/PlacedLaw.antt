@@ -12,7 +12,7 @@ use Rattle.mm_spec.specs.Frame.{symbol_names}
 use Rattle.mm_spec.specs.Laws.Stack.{pick}
 use Rattle.mm_machine.specs.declared.arena.Span.{Span}
 use Rattle.mm_machine.specs.declared.arena.Reason.{Reason}
-use Rattle.mm_machine.specs.declared.machine.Stopped.{Stopped}
+use Rattle.mm_machine.specs.declared.machine.StepRefused.{StepRefused}
 use Rattle.mm_rule.specs.declared.rule.RuleSymbol.{RuleSymbol}
 use Rattle.mm_rule.specs.Rule.{Compiled, IsCompiled, IsBelow, IsKnown}
 use Rattle.mm_machine.specs.Arena.{Arena, arena, AreEntries}
@@ -103,7 +103,7 @@ module _ (db : List Statement) (t : ℕ) (c : Compiled) (own kept kept' : List �
   said =
       tested.1 ∙ ap₂ (λ z f. entries_after (arena own z) stack below f) (sym same) (sym parts_are)
 
-  module _ {T : Type 0} (r : Result T Stopped) (own' : List ℕ) (stack' : List Span) where
+  module _ {T : Type 0} (r : Result T StepRefused) (own' : List ℕ) (stack' : List Span) where
     -- it was made, by the lists that the code has
     pub step_made : OnOk r (entries_after (arena own kept') stack below parts
         ≡ Ok (span_formulas (arena own' kept') stack'))
@@ -142,7 +142,7 @@ module _ (db : List Statement) (t : ℕ) (c : Compiled) (own kept kept' : List �
 
 -- the answer of a step that changes the entries alone
 pub applied_of : {T : Type 0} (db : List Statement) (t a : ℕ) (s s' : MachineState)
-    → (r : Result T Stopped) → OnOk r (applied db t a s.stack ≡ Ok s'.stack)
+    → (r : Result T StepRefused) → OnOk r (applied db t a s.stack ≡ Ok s'.stack)
     → OnOk r (0 < length s'.stack) → IfErr r (λ e. Stops e (applied db t a s.stack))
     → s'.marks ≡ s.marks → s'.formulas ≡ s.formulas → s'.width ≡ s.width
     → IsApplied db t a s s' r

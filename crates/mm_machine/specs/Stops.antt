@@ -3,12 +3,12 @@ use Rattle.std.specs.Prelude.{ℕ, ◌≡◌, ◌<◌, List, length, Result, Ok,
 use Rattle.mm_spec.specs.Statement.{Statement}
 use Rattle.mm_spec.specs.Derivation.{Formula}
 use Rattle.mm_spec.specs.Valid.{Reason as SpecReason}
-use Rattle.mm_machine.specs.declared.machine.Stopped.{Stopped}
-use Rattle.mm_machine.specs.declared.machine.Stopped.TheVariants.{Fault, Memory}
+use Rattle.mm_machine.specs.declared.machine.StepRefused.{StepRefused}
+use Rattle.mm_machine.specs.declared.machine.StepRefused.TheVariants.{Fault, Memory}
 use Rattle.mm_machine.specs.State.{MachineState, reason_of, applied}
 
 -- a step that was stopped for a reason fails for this reason
-abbrev pub Stops : Stopped → Result (List Formula) SpecReason → Type 0
+abbrev pub Stops : StepRefused → Result (List Formula) SpecReason → Type 0
 Stops (Fault reason) r = r ≡ Err (reason_of reason)
 Stops Memory r = Unit {0}
 
@@ -22,7 +22,7 @@ pub record Applies (db : List Statement) (t a : ℕ) (s s' : MachineState) : Typ
 
 -- what the machine says of that step, and the state that it leaves
 pub record IsApplied {T : Type 0} (db : List Statement) (t a : ℕ) (s s' : MachineState)
-    (said : Result T Stopped) : Type 0 where
+    (said : Result T StepRefused) : Type 0 where
   pub applies : OnOk said (Applies db t a s s')
   pub stopped : IfErr said (λ e. Stops e (applied db t a s.stack))
   pub width : s'.width ≡ s.width

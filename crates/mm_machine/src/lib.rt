@@ -17,4 +17,4 @@ mod symbol_list;
 
 pub use arena::Reason;
 pub use disjoint_cache::DisjointCache;
-pub use machine::{Machine, Stopped};
+pub use machine::{Machine, StepRefused};

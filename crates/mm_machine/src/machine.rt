@@ -32,7 +32,7 @@ const MAX_SHORT_FORMULA: usize = 1_024;
 
 /// Why a step wasn't performed.
 #[derive(Drop)]
-pub enum Stopped {
+pub enum StepRefused {
     Fault(Reason),
     Memory,
 }
@@ -190,7 +190,7 @@ impl<A: Allocator> Machine<A> {
         theorem: u32,
         rule: &Rule,
         cache: &mut DisjointCache<A>,
-    ) -> Result<(), Stopped>
+    ) -> Result<(), StepRefused>
         requires theorem { theorem < length db.now.statements }
         requires rule { IsCompiled db.now.statements rule.now }
         requires width { self.old.width ≡ length (symbol_names db.now.statements) }
@@ -208,7 +208,12 @@ impl<A: Allocator> Machine<A> {
 
     /// Performs the step of an assertion without hypotheses: it only pushes the formula.
     #[inline(always)]
-    fn apply_alone(&mut self, db: &Database<A>, _theorem: u32, rule: &Rule) -> Result<(), Stopped>
+    fn apply_alone(
+        &mut self,
+        db: &Database<A>,
+        _theorem: u32,
+        rule: &Rule,
+    ) -> Result<(), StepRefused>
         requires rule { IsCompiled db.now.statements rule.now }
         requires alone { length rule.now.hypotheses ≡ 0 }
         requires width { self.old.width ≡ length (symbol_names db.now.statements) }
@@ -217,11 +222,11 @@ impl<A: Allocator> Machine<A> {
     {
         let symbols = formula(db, rule.assertion());
         if symbols.len() > FORMULA_LIMIT {
-            return Err(Stopped::Fault(Reason::TooLong));
+            return Err(StepRefused::Fault(Reason::TooLong));
         }
         match self.push(symbols) {
             Ok(()) => Ok(()),
-            Err(_) => Err(Stopped::Memory),
+            Err(_) => Err(StepRefused::Memory),
         }
     }
 
@@ -233,7 +238,7 @@ impl<A: Allocator> Machine<A> {
         theorem: u32,
         rule: &Rule,
         cache: &mut DisjointCache<A>,
-    ) -> Result<(), Stopped>
+    ) -> Result<(), StepRefused>
         requires theorem { theorem < length db.now.statements }
         requires rule { IsCompiled db.now.statements rule.now }
         requires width { self.old.width ≡ length (symbol_names db.now.statements) }
@@ -247,7 +252,7 @@ impl<A: Allocator> Machine<A> {
             kept: self.kept.as_slice(),
         };
         match test_rule(db, theorem, rule, &symbols, &self.stack, cache) {
-            Err(reason) => Err(Stopped::Fault(reason)),
+            Err(reason) => Err(StepRefused::Fault(reason)),
             Ok(below) => put_formula(
                 below,
                 rule.formula(),
@@ -378,7 +383,7 @@ fn put_formula<A: Allocator>(
     stack: &mut Vec<Span, A>,
     short: &mut [Sym],
     made: &mut Vec<Sym, A>,
-) -> Result<(), Stopped>
+) -> Result<(), StepRefused>
     requires below { below ≤ vec_len stack.old }
     requires formula { All (IsBelow (length (drop below stack.old.items))) formula.now }
     requires stack { IsStack own.old kept.now stack.old.items }
@@ -398,7 +403,7 @@ fn put_formula<A: Allocator>(
     };
     match fill(&symbols, &stack[below..], formula, short) {
         Some(n) => match put(below, &short[..n], own, stack) {
-            Err(_) => Err(Stopped::Memory),
+            Err(_) => Err(StepRefused::Memory),
             Ok(()) => Ok(()),
         },
         None => put_long(below, formula, own, kept, stack, made),
@@ -414,7 +419,7 @@ fn put_long<A: Allocator>(
     kept: &[Sym],
     stack: &mut Vec<Span, A>,
     made: &mut Vec<Sym, A>,
-) -> Result<(), Stopped>
+) -> Result<(), StepRefused>
     requires below { below ≤ vec_len stack.old }
     requires formula { All (IsBelow (length (drop below stack.old.items))) formula.now }
     requires stack { IsStack own.old kept.now stack.old.items }
@@ -433,10 +438,10 @@ fn put_long<A: Allocator>(
         kept,
     };
     match build(&symbols, &stack[below..], formula, made) {
-        Err(_) => Err(Stopped::Memory),
-        Ok(false) => Err(Stopped::Fault(Reason::TooLong)),
+        Err(_) => Err(StepRefused::Memory),
+        Ok(false) => Err(StepRefused::Fault(Reason::TooLong)),
         Ok(true) => match put(below, made, own, stack) {
-            Err(_) => Err(Stopped::Memory),
+            Err(_) => Err(StepRefused::Memory),
             Ok(()) => Ok(()),
         },
     }

@@ -1,15 +1,15 @@
 -- Words after a keyword are passed over.
 use Rattle.std.proofs.Common.{◌≡◌, ℕ, zero, suc, ◌+◌, ◌-◌, ◌<◌, ◌≤◌, true, false, List, [], ◌∷◌}
-use Rattle.std.proofs.Common.{length, refl, sym, ap, ◌∙◌, subst, arith, nat_lt}
+use Rattle.std.proofs.Common.{length, sym, ap, ◌∙◌, subst, arith}
 use Rattle.mm_spec.specs.Text.{has_dollar}
 use Rattle.mm_spec.specs.Laws.Table as table
 use Rattle.mm_spec.specs.declared.Word.{Word}
-use Rattle.mm_outline.specs.Parts.{progress, token_at, IsPart}
+use Rattle.mm_outline.specs.Parts.{progress, token_at, IsPart, make, make_proved}
+use Rattle.mm_outline.specs.Parts.{label_before, place}
 use Rattle.mm_outline.specs.NextStatement.{Leads, tokens_from}
-use Rattle.mm_outline.specs.declared.words.Class.TheVariants.{Plain}
 use Rattle.mm_outline.specs.declared.parts.Part.{Part}
 use Rattle.mm_outline.specs.declared.parts.Part.TheVariants.{Start, Labelled, Words, Formula, Proof}
-use Rattle.mm_outline.proofs.TurnsLaw.{turn_for_same}
+use Rattle.mm_outline.proofs.TurnsLaw.{between_more}
 use Rattle.mm_outline.proofs.LeadsLaw.{leads_none, leads_then, leads_go, tokens_from_one}
 
 -- a part after a keyword
@@ -36,17 +36,20 @@ module _ (text : List ℕ) (ws : List Word) (d : ℕ) where
   one Start i t p h e = absurd t
   one (Labelled l) i t p h e = absurd t
   one (Words k w) i t p h e =
-      turn_for_same text ws d i h (Words k w) Plain true (nat_lt 0 d) p tt refl
+      ap (λ xs. table.go (table.words d (make text ws k w) xs))
+      (between_more text ws (w + 1) i (omega arith) h)
       ∙ ap (λ b. table.transition (progress text ws d (Words k w) i)
       (elim b [ true ↦ table.keyword (token_at text ws i).word | false ↦ table.plain ])
       (token_at text ws i)) (sym e)
   one (Formula w) i t p h e =
-      turn_for_same text ws d i h (Formula w) Plain true (nat_lt 0 d) p tt refl
+      ap (λ xs. table.go (table.formula d (label_before text ws w) (place text ws w) xs))
+      (between_more text ws (w + 1) i (omega arith) h)
       ∙ ap (λ b. table.transition (progress text ws d (Formula w) i)
       (elim b [ true ↦ table.keyword (token_at text ws i).word | false ↦ table.plain ])
       (token_at text ws i)) (sym e)
   one (Proof w q) i t p h e =
-      turn_for_same text ws d i h (Proof w q) Plain true (nat_lt 0 d) p tt refl
+      ap (λ xs. table.go (table.words d (make_proved text ws w q) xs))
+      (between_more text ws (q + 1) i (omega arith) h)
       ∙ ap (λ b. table.transition (progress text ws d (Proof w q) i)
       (elim b [ true ↦ table.keyword (token_at text ws i).word | false ↦ table.plain ])
       (token_at text ws i)) (sym e)

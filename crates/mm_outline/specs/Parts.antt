@@ -1,5 +1,5 @@
 -- What the code's types stand for.
-use Rattle.std.specs.Prelude.{◌≡◌, ℕ, suc, ◌+◌, ◌-◌, ◌<◌, ◌≤◌, zero, Bool, true, false, List, []}
+use Rattle.std.specs.Prelude.{◌≡◌, ℕ, suc, ◌+◌, ◌-◌, ◌<◌, ◌≤◌, zero, List, []}
 use Rattle.std.specs.Prelude.{map, length, slice_range, get_or, All}
 use Rattle.mm_spec.specs.Text.{Token, token}
 use Rattle.mm_spec.specs.Statement as statement
@@ -59,32 +59,6 @@ between text ws i j = as_tokens text (slice_range ws i j)
 abbrev pub outline : Kind → ℕ → ℕ → ℕ → Outline
 outline kind keyword middle end =
     record { kind = kind; keyword = keyword; middle = middle; end = end }
-
-abbrev pub single_of : Kind → ℕ → Turn
-single_of kind at = Done (outline kind at at at)
-
-abbrev pub stop_unless : Bool → Turn → Turn
-stop_unless true t = t
-stop_unless false t = Stop
-
-abbrev pub turn_for : Part → Class → Bool → Bool → ℕ → Turn
-turn_for Start Constant is_label is_inside at = Go (Words kind.Constants at)
-turn_for Start Variable is_label is_inside at = Go (Words kind.Variables at)
-turn_for Start Disjoint is_label is_inside at = Go (Words kind.Disjoint at)
-turn_for Start Open is_label is_inside at = single_of kind.Open at
-turn_for Start Close is_label is_inside at = stop_unless is_inside (single_of kind.Close at)
-turn_for Start Plain is_label is_inside at = stop_unless is_label (Go (Labelled at))
-turn_for (Labelled l) Floating is_label is_inside at = Go (Words kind.Floating at)
-turn_for (Labelled l) Essential is_label is_inside at = Go (Words kind.Essential at)
-turn_for (Labelled l) Axiom is_label is_inside at = Go (Words kind.Axiom at)
-turn_for (Labelled l) Theorem is_label is_inside at = Go (Formula at)
-turn_for (Words k w) Plain is_label is_inside at = Go (Words k w)
-turn_for (Words k w) Dot is_label is_inside at = Done (outline k w at at)
-turn_for (Formula w) Plain is_label is_inside at = Go (Formula w)
-turn_for (Formula w) Equals is_label is_inside at = Go (Proof w at)
-turn_for (Proof w e) Plain is_label is_inside at = Go (Proof w e)
-turn_for (Proof w e) Dot is_label is_inside at = Done (outline kind.Theorem w e at)
-turn_for _ _ is_label is_inside at = Stop
 
 abbrev pub less_one : ℕ → ℕ
 less_one zero = zero

@@ -6,8 +6,9 @@ ghost use Rattle.mm_spec.specs.Statement.{shape_code};
 ghost use Rattle.mm_outline.specs.NextStatement.{IsNextStatement};
 ghost use Rattle.mm_outline.specs.NextStatement.{is_start as spec_is_start};
 ghost use Rattle.mm_spec.specs.Laws.Table.{class, transition};
-ghost use Rattle.mm_outline.specs.Parts.{IsPart, Holds, progress, token_at, turn_of};
-ghost use Rattle.mm_outline.specs.Parts.{turn_for as spec_turn_for, single_of, AtStart};
+ghost use Rattle.mm_outline.specs.Parts.{IsPart, Holds, AtStart, class_of, outline, progress};
+ghost use Rattle.mm_outline.specs.Parts.{token_at, turn_of};
+ghost use Rattle.mm_outline.specs.declared.parts.Turn.TheVariants.{Done};
 ghost use Rattle.mm_outline.specs.Passed.{ArePassed};
 ghost use Rattle.mm_outline.specs.Tokens.{AreTokens};
 
@@ -58,8 +59,24 @@ pub enum Turn {
 }
 
 /// What a token of the class `class` does at `at`.
-fn turn_for(part: Part, class: Class, is_label: bool, is_inside: bool, at: u32) -> Turn
-    ensures { result ≡ spec_turn_for part class is_label is_inside at }
+#[tactic(auto, using(crate::proofs::TurnsLaw::between_more))]
+fn turn_for(
+    _text: &[u8],
+    _tokens: &[Word],
+    deep: u32,
+    part: Part,
+    class: Class,
+    is_label: bool,
+    at: u32,
+) -> Turn
+    requires inside { at < length _tokens.now }
+    requires part { IsPart part at }
+    requires label { AtStart part
+        (is_label ≡ spec_is_label (token_at _text.now _tokens.now at).word) }
+    ensures same { turn_of _text.now _tokens.now deep at result
+        ≡ transition (progress _text.now _tokens.now deep part at) (class_of class)
+        (token_at _text.now _tokens.now at) }
+    ensures holds { Holds at result }
 {
     match part {
         Part::Start => match class {
@@ -68,7 +85,7 @@ fn turn_for(part: Part, class: Class, is_label: bool, is_inside: bool, at: u32) 
             Class::Disjoint => Turn::Go(Part::Words(Kind::Disjoint, at)),
             Class::Open => single(Kind::Open, at),
             Class::Close => {
-                if is_inside {
+                if deep > 0 {
                     single(Kind::Close, at)
                 } else {
                     Turn::Stop
@@ -120,7 +137,7 @@ fn turn_for(part: Part, class: Class, is_label: bool, is_inside: bool, at: u32) 
 
 /// A statement of one token.
 fn single(kind: Kind, at: u32) -> Turn
-    ensures { result ≡ single_of kind at }
+    ensures { result ≡ Done (outline kind at at at) }
 {
     Turn::Done(Outline {
         kind,
@@ -153,7 +170,8 @@ fn take_turn(text: &[u8], tokens: &[Word], deep: u32, part: Part, at: u32) -> Tu
     let token = tokens[at as usize];
     let word = token.bytes(text);
     let class = classify(word);
-    turn_for(part, class, is_label_at(part, word), deep > 0, at)
+    let is_label = is_label_at(part, word);
+    turn_for(text, tokens, deep, part, class, is_label, at)
 }
 
 /// What is found where a statement should begin: a complete statement, a token that is not

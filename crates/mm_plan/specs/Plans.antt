@@ -3,6 +3,7 @@ use Rattle.std.specs.Prelude.{ℕ, ◌+◌, ◌<◌, ◌≤◌, List, length, sl
 use Rattle.std.specs.Option.{option_map}
 use Rattle.std.specs.String.{string_bytes}
 use Rattle.mm_spec.specs.Text.{Bytes}
+use Rattle.mm_spec.specs.Limits.{piece_limit, worker_limit}
 use Rattle.mm_spec.specs.Request.{Request}
 use Rattle.mm_plan.specs.declared.Plan.{Plan}
 use Rattle.mm_plan.specs.declared.Cutting.{Cutting}
@@ -14,11 +15,11 @@ RisesTo xs n = (i : ℕ) → i + 1 < n → slice_index xs i ≤ slice_index xs (
 
 module _ {A : Type 0} where
   abbrev pub IsLawfulCutting : Cutting A → Type 0
-  IsLawfulCutting (Count n) = (1 ≤ n) × (n ≤ 64)
+  IsLawfulCutting (Count n) = (1 ≤ n) × (n ≤ piece_limit)
   IsLawfulCutting (Places v) = RisesTo v.items (length v.items)
 
   abbrev pub IsLawfulPlan : Plan A → Type 0
-  IsLawfulPlan p = IsLawfulCutting p.cuts × (1 ≤ p.workers) × (p.workers ≤ 64)
+  IsLawfulPlan p = IsLawfulCutting p.cuts × (1 ≤ p.workers) × (p.workers ≤ worker_limit)
 
   -- the typecode of the columns, if one is chosen
   abbrev pub only_of : Plan A → Option Bytes

@@ -5,10 +5,9 @@
 #![tactic(auto)]
 
 ghost use Rattle.std.specs.Prelude.{◌≡◌, ◌↔◌, IsTrue, length};
-ghost use Rattle.std.specs.Option.{option_map};
-ghost use Rattle.mm_plan.specs.Plans.{IsLawfulPlan, IsLawfulCutting, RisesTo, only_of};
+ghost use Rattle.mm_plan.specs.Plans.{IsLawfulPlan, IsLawfulCutting, RisesTo, request_of};
 
-use mm_spec::{Choice, Form};
+use mm_spec::{Choice, Form, PIECE_LIMIT, Request, WORKER_LIMIT};
 use std::alloc::Allocator;
 
 /// Where a text is cut into pieces: into the given number of pieces of about the same length, or at
@@ -65,7 +64,7 @@ impl<A: Allocator> Cutting<A> {
         ensures { IsTrue result ↔ IsLawfulCutting self.now }
     {
         match self {
-            Cutting::Count(count) => 1 <= *count && *count <= 64,
+            Cutting::Count(count) => 1 <= *count && *count <= PIECE_LIMIT,
             Cutting::Places(places) => rises(places),
         }
     }
@@ -77,16 +76,22 @@ impl<A: Allocator> Plan<A> {
     pub fn is_lawful(&self) -> bool
         ensures { IsTrue result ↔ IsLawfulPlan self.now }
     {
-        self.cuts.is_lawful() && 1 <= self.workers && self.workers <= 64
+        self.cuts.is_lawful() && 1 <= self.workers && self.workers <= WORKER_LIMIT
     }
 
-    /// The typecode of the columns, if one is chosen.
-    pub fn typecode(&self) -> Option<&[u8]>
-        ensures { option_map (λ w. w.now) result ≡ only_of self.now }
+    /// What is requested of the report.
+    pub fn request(&self) -> Request<'_>
+        ensures { result ≡ request_of self.now }
     {
-        match &self.only {
-            Some(typecode) => Some(typecode.as_bytes()),
-            None => None,
+        Request {
+            only: match &self.only {
+                Some(typecode) => Some(typecode.as_bytes()),
+                None => None,
+            },
+            choice: self.choice,
+            form: self.form,
+            essential: self.essential,
+            with_open: self.with_open,
         }
     }
 }

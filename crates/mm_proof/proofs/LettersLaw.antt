@@ -27,7 +27,7 @@ use Rattle.mm_proof.specs.Letters.{StandsAt, BeginsAt, if_begun, InOrder, early_
 use Rattle.mm_proof.specs.Refused.{StartsWith}
 use Rattle.mm_proof.specs.declared.refused.ProofRefused.{ProofRefused}
 use Rattle.mm_proof.specs.declared.refused.ProofRefused.TheVariants.{Fault as Faulty, Memory}
-use Rattle.mm_proof.specs.declared.letters.Begun.{Begun}
+use Rattle.mm_proof.specs.declared.letters.BegunNumber.{BegunNumber}
 
 pub err_then : {T E : Type 0} (r : Result T E) {P Q : E → Type 0} → IfErr r P
     → ((e : E) → P e → Q e) → IfErr r Q
@@ -77,12 +77,12 @@ stands_after s new text w ws end rising within before here =
 abbrev group : List Letter → ℕ → ℕ → Group
 group early at byte = record { early = early; last = letter at byte }
 
-starts : (number : Option Begun) (early : List Letter) (at byte : ℕ) → Begins number early
+starts : (number : Option BegunNumber) (early : List Letter) (at byte : ℕ) → Begins number early
     → starts_at (group early at byte) ≡ (begun_at number at).at
 starts None early at byte b = ap (λ es. starts_at (group es at byte)) b
 starts (Some n) early at byte b = ap (λ es. starts_at (group es at byte)) b.2 ∙ sym b.3
 
-saturated_value : (number : Option Begun) (early : List Letter) (at byte : ℕ) → Begins number early
+saturated_value : (number : Option BegunNumber) (early : List Letter) (at byte : ℕ) → Begins number early
     → saturated (20 * (begun_at number at).value + (byte - 64))
     ≡ saturated (value (group early at byte))
 saturated_value None early at byte b =
@@ -119,7 +119,7 @@ no_mark byte l = by (byte == 90) refl
         let same = eqb-true byte 90 e in absurd (omega arith)
     by false e = refl
 
-pub last_reads : (t : ℕ) (labels marks : List ℕ) (number : Option Begun) (steps : List PlacedStep)
+pub last_reads : (t : ℕ) (labels marks : List ℕ) (number : Option BegunNumber) (steps : List PlacedStep)
     → (place byte : ℕ) (s : spec.Step)
     → is_early byte ≡ false → is_last byte ≡ true
     → ((n : ℕ) → saturated (20 * (begun_at number place).value + (byte - 64)) ≡ saturated n
@@ -208,8 +208,8 @@ last_reads t labels marks number steps place byte s e l named all left h =
         ∙ ap (λ n. (steps ++ first ∷ []) ++ group_steps labels marks n gs) (sym longer)
 
 -- an early letter
-pub early_reads : (t : ℕ) (labels marks : List ℕ) (number : Option Begun) (steps : List PlacedStep)
-    → (place byte : ℕ) (begun : Begun) → is_early byte ≡ true
+pub early_reads : (t : ℕ) (labels marks : List ℕ) (number : Option BegunNumber) (steps : List PlacedStep)
+    → (place byte : ℕ) (begun : BegunNumber) → is_early byte ≡ true
     → begun.at ≡ (begun_at number place).at
     → begun.value ≡ saturated (5 * (begun_at number place).value + (byte - 84))
     → (all left : List Letter)
@@ -241,7 +241,7 @@ early_reads t labels marks number steps place byte begun e place_is value_is all
     more n [] = refl
     more n (y ∷ es) = more (5 * n + (y.byte - 84)) es
 
-    begins : (number : Option Begun) (early : List Letter) → Begins number early
+    begins : (number : Option BegunNumber) (early : List Letter) → Begins number early
         → begun.at ≡ (begun_at number place).at
         → begun.value ≡ saturated (5 * (begun_at number place).value + (byte - 84))
         → Begins (Some begun) (early ++ x ∷ [])
@@ -261,10 +261,10 @@ early_digit byte digit l e =
     (omega (arith, low, e), omega (arith, high, e))
 
 -- the number to which the letter at a place belongs
-abbrev begun : ℕ → ℕ → Begun
+abbrev begun : ℕ → ℕ → BegunNumber
 begun at value = record { at = at; value = value }
 
-begun_is : (b : Begun) (place : ℕ) → BeginsAt b place → begun_at (if_begun b) place ≡ b
+begun_is : (b : BegunNumber) (place : ℕ) → BeginsAt b place → begun_at (if_begun b) place ≡ b
 begun_is b place h = by (b.value == 0) refl
   where
     by : (t : Bool) → (b.value == 0) ≡ t → begun_at (if t then None else Some b) place ≡ b
@@ -272,18 +272,18 @@ begun_is b place h = by (b.value == 0) refl
         let none = eqb-true b.value 0 e in ap₂ begun (sym (h none)) (sym none)
     by false e = refl
 
-pub some_begun : (b : Begun) → 0 < b.value → if_begun b ≡ Some b
+pub some_begun : (b : BegunNumber) → 0 < b.value → if_begun b ≡ Some b
 some_begun b l = by (b.value == 0) refl
   where
     by : (t : Bool) → (b.value == 0) ≡ t → (if t then None else Some b) ≡ Some b
     by true e = let none = eqb-true b.value 0 e in absurd (omega arith)
     by false e = refl
 
-pub none_begun : (b : Begun) → b.value ≡ 0 → if_begun b ≡ None
+pub none_begun : (b : BegunNumber) → b.value ≡ 0 → if_begun b ≡ None
 none_begun b e = ap (λ n. if n == 0 then None else Some b) e
 
 -- the last letter of this number
-pub last_here : (t : ℕ) (labels marks : List ℕ) (number : Begun) (steps : List PlacedStep)
+pub last_here : (t : ℕ) (labels marks : List ℕ) (number : BegunNumber) (steps : List PlacedStep)
     → (place byte : ℕ) (s : spec.Step)
     → BeginsAt number place → is_early byte ≡ false → is_last byte ≡ true
     → ((n : ℕ) → saturated (20 * number.value + (byte - 64)) ≡ saturated n
@@ -294,15 +294,15 @@ pub last_here : (t : ℕ) (labels marks : List ℕ) (number : Begun) (steps : Li
     → Continues (letters_state t labels marks None (steps ++ placed number.at s ∷ [])) all left
 last_here t labels marks number steps place byte s b e l named all left h =
     let is = begun_is number place b in
-    subst (λ (b : Begun). Continues (letters_state t labels marks None
+    subst (λ (b : BegunNumber). Continues (letters_state t labels marks None
     (steps ++ placed b.at s ∷ [])) all left) is
     (last_reads t labels marks (if_begun number) steps place byte s e l
-    (λ n q. named n (ap (λ (b : Begun). saturated (20 * b.value + (byte - 64))) (sym is) ∙ q))
+    (λ n q. named n (ap (λ (b : BegunNumber). saturated (20 * b.value + (byte - 64))) (sym is) ∙ q))
     all left h)
 
 -- an early letter of this number
-pub early_here : (t : ℕ) (labels marks : List ℕ) (number : Begun) (steps : List PlacedStep)
-    → (place byte : ℕ) (next : Begun) → BeginsAt number place → is_early byte ≡ true
+pub early_here : (t : ℕ) (labels marks : List ℕ) (number : BegunNumber) (steps : List PlacedStep)
+    → (place byte : ℕ) (next : BegunNumber) → BeginsAt number place → is_early byte ≡ true
     → next.at ≡ number.at → next.value ≡ saturated (5 * number.value + (byte - 84))
     → (all left : List Letter)
     → Continues (letters_state t labels marks (if_begun number) steps) all
@@ -315,8 +315,8 @@ early_here t labels marks number steps place byte next b e place_is value_is all
     subst (λ o. Continues (letters_state t labels marks o steps) all left)
     (sym (some_begun next some))
     (early_reads t labels marks (if_begun number) steps place byte next e
-    (place_is ∙ ap (λ (b : Begun). b.at) (sym is))
-    (value_is ∙ ap (λ (b : Begun). saturated (5 * b.value + (byte - 84))) (sym is)) all left h)
+    (place_is ∙ ap (λ (b : BegunNumber). b.at) (sym is))
+    (value_is ∙ ap (λ (b : BegunNumber). saturated (5 * b.value + (byte - 84))) (sym is)) all left h)
 
 -- a `Z` after the last letter of a number
 pub mark_reads : (t : ℕ) (labels marks : List ℕ) (steps : List PlacedStep) (place : ℕ)
@@ -363,7 +363,7 @@ fault_first n end (x ∷ xs) (Faulty f) h =
     (h.0 ++ last, ap (λ fs. fs ++ last) h.1)
 
 -- after the last letter, where a number is open and where none is
-is_run : (o : Option Begun) (early : List Letter) → Begins o early
+is_run : (o : Option BegunNumber) (early : List Letter) → Begins o early
     → nat_lt 0 (length early) ≡ is_some o
 is_run None early b = ap (λ es. nat_lt 0 (length es)) b
 is_run (Some n) early b =

@@ -14,7 +14,7 @@ use Rattle.mm_outline.specs.Parts.{as_tokens}
 use Rattle.mm_proof.specs.Number.{saturated}
 use Rattle.mm_steps.specs.Read.{as_step}
 use Rattle.mm_proof.specs.Refused.{StartsWith}
-use Rattle.mm_proof.specs.declared.letters.Begun.{Begun}
+use Rattle.mm_proof.specs.declared.letters.BegunNumber.{BegunNumber}
 use Rattle.mm_steps.specs.declared.placed.Step.{Step}
 use Rattle.mm_proof.specs.declared.refused.ProofRefused.{ProofRefused}
 
@@ -24,15 +24,15 @@ pub record LettersState : Type 0 where
   pub theorem : ℕ
   pub labels : List ℕ
   pub marks : List ℕ
-  pub number : Option Begun
+  pub number : Option BegunNumber
   pub steps : List PlacedStep
 
-abbrev pub letters_state : ℕ → List ℕ → List ℕ → Option Begun → List PlacedStep → LettersState
+abbrev pub letters_state : ℕ → List ℕ → List ℕ → Option BegunNumber → List PlacedStep → LettersState
 letters_state t labels marks number steps =
     record { theorem = t; labels = labels; marks = marks; number = number; steps = steps }
 
 -- the same state, except for the number
-abbrev pub with_number : LettersState → Option Begun → LettersState
+abbrev pub with_number : LettersState → Option BegunNumber → LettersState
 with_number s number = letters_state s.theorem s.labels s.marks number s.steps
 
 abbrev pub letter : ℕ → ℕ → Letter
@@ -48,7 +48,7 @@ early_value early = fold (λ n x. 5 * n + (x.byte - 84)) 0 early
 
 -- the number that has begun consists of these early letters: it has the place of the first and the
 -- value of all
-abbrev pub Begins : Option Begun → List Letter → Type 0
+abbrev pub Begins : Option BegunNumber → List Letter → Type 0
 Begins None early = early ≡ []
 Begins (Some b) early =
     (first : Letter) × (more : List Letter) × (early ≡ first ∷ more) × (b.at ≡ first.at)
@@ -71,16 +71,16 @@ pub record StandsAt (s : LettersState) (at : ℕ) : Type 0 where
   pub earlier : All (λ j. j < length s.steps) s.marks
 
 -- a number that has no letters yet begins at the place
-abbrev pub BeginsAt : Begun → ℕ → Type 0
+abbrev pub BeginsAt : BegunNumber → ℕ → Type 0
 BeginsAt number at = number.value ≡ 0 → number.at ≡ at
 
 -- the same, with the number to which the letter at the place belongs
-pub record StandsWith (s : LettersState) (number : Begun) (at : ℕ) : Type 0 where
+pub record IsReadUpTo (s : LettersState) (number : BegunNumber) (at : ℕ) : Type 0 where
   pub stands : StandsAt s at
   pub begins : BeginsAt number at
 
 -- the number if it has letters
-abbrev pub if_begun : Begun → Option Begun
+abbrev pub if_begun : BegunNumber → Option BegunNumber
 if_begun number = if number.value == 0 then None else Some number
 
 -- these letters lead from the state `old` to the state `new`, of the same theorem and labels
@@ -105,7 +105,7 @@ RefusesLetters old xs e =
     → StartsWith (group_faults (length old.labels) 0 0 (groups [] all).0) e
 
 -- the number to which a letter at the place belongs
-abbrev pub begun_at : Option Begun → ℕ → Begun
+abbrev pub begun_at : Option BegunNumber → ℕ → BegunNumber
 begun_at None at = record { at = at; value = 0 }
 begun_at (Some b) at = b
 

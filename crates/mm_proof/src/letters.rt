@@ -9,7 +9,7 @@ ghost use Rattle.mm_steps.specs.Read.{read, as_step, IsEarlier};
 ghost use Rattle.mm_proof.specs.Number.{IsLetter, saturated};
 ghost use Rattle.mm_proof.specs.declared.digits.LetterKind.TheVariants.{Last};
 ghost use Rattle.mm_proof.specs.Letters.{letters_state, letter, with_number, named_steps, if_begun};
-ghost use Rattle.mm_proof.specs.Letters.{InOrder, StandsAt, StandsWith, BeginsAt};
+ghost use Rattle.mm_proof.specs.Letters.{InOrder, StandsAt, IsReadUpTo, BeginsAt};
 ghost use Rattle.mm_proof.specs.Letters.{word_letters, ReadsLetters, ReadsAllLetters};
 ghost use Rattle.mm_proof.specs.Letters.{RefusesLetters};
 ghost use Rattle.mm_proof.specs.Refused.{StartsWith};
@@ -27,7 +27,7 @@ const ROOM: usize = 64;
 
 /// The number to which the next letter belongs, if that is a letter of a number.
 #[derive(Clone, Copy)]
-pub(crate) struct Begun {
+pub(crate) struct BegunNumber {
     /// The place of its first letter.
     at: u32,
     /// The value of its letters so far, or the greatest 64-bit number if that is smaller: 0 as long
@@ -36,20 +36,20 @@ pub(crate) struct Begun {
 }
 
 /// A number with one more digit.
-fn begun_by(number: Begun, base: u64, digit: u64) -> Begun
+fn begun_by(number: BegunNumber, base: u64, digit: u64) -> BegunNumber
     requires base { base ≤ 20 }
     requires digit { digit ≤ 20 }
     ensures at { result.at ≡ number.at }
     ensures value { result.value ≡ saturated (base * number.value + digit) }
 {
-    Begun {
+    BegunNumber {
         at: number.at,
         value: with_digit(number.value, base, digit),
     }
 }
 
 /// Lets a number that has no letters yet begin at place `at`.
-fn begin_at(number: &mut Begun, at: u32)
+fn begin_at(number: &mut BegunNumber, at: u32)
     ensures at { BeginsAt number.new at }
     ensures same { if_begun number.new ≡ if_begun number.old }
 {
@@ -140,10 +140,10 @@ impl<A: Allocator> LettersRead<A> {
     }
 
     /// Reads the last letter of a number, which is at place `_at`.
-    fn end_number(&mut self, number: Begun, _at: u32, digit: u64) -> Result<(), ProofRefused>
+    fn end_number(&mut self, number: BegunNumber, _at: u32, digit: u64) -> Result<(), ProofRefused>
         requires digit { 0 < digit }
         requires small { digit ≤ 20 }
-        requires stands { StandsWith self.old number _at }
+        requires stands { IsReadUpTo self.old number _at }
         ensures stands { OnOk result (StandsAt self.new (_at + 1)) }
         ensures reads { OnOk result ((byte : ℕ) → IsLetter byte (Last digit)
             → ReadsLetters (with_number self.old (if_begun number)) (letter _at byte ∷ [])
@@ -177,10 +177,10 @@ impl<A: Allocator> LettersRead<A> {
     }
 
     /// Reads a letter.
-    fn read(&mut self, number: &mut Begun, at: u32, byte: u8) -> Result<(), ProofRefused>
+    fn read(&mut self, number: &mut BegunNumber, at: u32, byte: u8) -> Result<(), ProofRefused>
         requires more { at < 4294967295 }
-        requires stands { StandsWith self.old number.old at }
-        ensures stands { OnOk result (StandsWith self.new number.new (at + 1)) }
+        requires stands { IsReadUpTo self.old number.old at }
+        ensures stands { OnOk result (IsReadUpTo self.new number.new (at + 1)) }
         ensures reads { OnOk result
             (ReadsLetters (with_number self.old (if_begun number.old)) (letter at byte ∷ [])
             (with_number self.new (if_begun number.new))) }
@@ -195,7 +195,7 @@ impl<A: Allocator> LettersRead<A> {
             }
             LetterKind::Last(digit) => {
                 self.end_number(*number, at, digit)?;
-                *number = Begun {
+                *number = BegunNumber {
                     at: at + 1,
                     value: 0,
                 };
@@ -215,7 +215,12 @@ impl<A: Allocator> LettersRead<A> {
     }
 
     /// Reads the letters of a word.
-    fn read_word(&mut self, number: &mut Begun, text: &[u8], word: Word) -> Result<(), ProofRefused>
+    fn read_word(
+        &mut self,
+        number: &mut BegunNumber,
+        text: &[u8],
+        word: Word,
+    ) -> Result<(), ProofRefused>
         requires order { word.start ≤ word.end }
         requires within { word.end ≤ length text.now }
         requires stands { StandsAt self.old word.start }
@@ -254,7 +259,7 @@ impl<A: Allocator> LettersRead<A> {
         if words.is_empty() {
             return Err(refused(end, Code::EmptyProof));
         }
-        let mut begun = Begun { at: 0, value: 0 };
+        let mut begun = BegunNumber { at: 0, value: 0 };
         for word in words {
             self.read_word(&mut begun, text, *word)?;
         }

@@ -9,8 +9,7 @@ use Rattle.mm_spec.specs.Text.{Bytes}
 use Rattle.mm_spec.specs.Statement.{Statement}
 use Rattle.mm_spec.specs.Output.{label_at, theorems}
 use Rattle.mm_spec.specs.Report.{report}
-use Rattle.mm_spec.specs.declared.Form.{Form}
-use Rattle.mm_spec.specs.declared.Choice.{Choice}
+use Rattle.mm_spec.specs.Request.{Request}
 use Rattle.mm_rows.specs.Marks.{Marks}
 use Rattle.mm_report.specs.Rows.{row_of, rows_of, open_theorems, report_of}
 
@@ -22,17 +21,16 @@ rows_length m labels n is long =
     ∙ sym (length-map-range_with_len (λ i. row_of m (slice_index_or labels i []) i) 0 m.rows)
 
 -- what is sent is the report of the database
-pub same_report : (d : Contents) (with_open : Bool) (form : Form) (columns : List ℕ) (m : Marks)
-    → (choice : Choice) (opened : Option ℕ) (names heads : List Bytes)
-    → opened ≡ open_theorems with_open d columns
+pub same_report : (request : Request) (d : Contents) (columns : List ℕ) (m : Marks)
+    → (opened : Option ℕ) (names heads : List Bytes)
+    → opened ≡ open_theorems request.with_open d columns
     → names ≡ map (label_at d.statements) (theorems d.statements)
     → heads ≡ map (label_at d.statements) columns
-    → report form opened heads (rows_of m names) choice
-    ≡ report_of d with_open form columns m choice
-same_report d with_open form columns m choice opened names heads o n h =
-    ap (λ (x : Option ℕ). report form x heads (rows_of m names) choice) o
-    ∙ ap₂ (λ (x y : List Bytes). report form (open_theorems with_open d columns) y (rows_of m x)
-    choice) n h
+    → report request opened heads (rows_of m names) ≡ report_of request d columns m
+same_report request d columns m opened names heads o n h =
+    ap (λ (x : Option ℕ). report request x heads (rows_of m names)) o
+    ∙ ap₂ (λ (x y : List Bytes). report request (open_theorems request.with_open d columns) y
+    (rows_of m x)) n h
 
 -- as many labels as rows
 pub labels_long : (db : List Statement) (m : Marks) (names : List Bytes)

@@ -6,6 +6,8 @@ ghost use Rattle.std.specs.Io.KnownBytes.{Appends};
 ghost use Rattle.mm_spec.specs.Report.{citation_line, separated, list_line};
 ghost use Rattle.mm_report.specs.Rows.{AreAssertions, AreCitationsOf, citation_report_of};
 ghost use Rattle.mm_report.specs.Rows.{citing_rows, listed, listed_labels, next_label};
+ghost use Rattle.mm_report.specs.Rows.{text_request};
+ghost use Rattle.mm_spec.specs.declared.Choice.TheVariants as choices;
 ghost use Rattle.mm_report.specs.Sent.{Sent};
 
 use crate::counted::open_theorems;
@@ -15,7 +17,7 @@ use crate::text::{send_head, send_line};
 use mm_cites::Citations;
 use mm_database::Database;
 use mm_rows::{Columns, has_chosen_typecode};
-use mm_spec::Form;
+use mm_spec::{Choice, Form, Request};
 use std::alloc::Allocator;
 use std::io::Write;
 
@@ -111,6 +113,39 @@ fn send_citation_lines<W: Write, D: Allocator, C: Allocator>(
     }
 }
 
+/// Writes the report requested of what each theorem of a database cites in its own proof, in file
+/// order. `chosen` has the columns of the typecode requested, and `citations` are those of this
+/// database. If open theorems count as axioms, the report says how many columns they are. It
+/// allocates no memory. Returns `WriteFailed` if a write failed or accepted no byte of a piece that
+/// wasn't empty; then a prefix of the report has been written.
+pub fn write_requested_citations<'a, W: Write, A: Allocator, C: Allocator, D: Allocator>(
+    to: &mut W,
+    request: &Request<'_>,
+    database: &Database<'a, D>,
+    chosen: &Columns<A>,
+    citations: &Citations<C>,
+) -> Result<(), WriteFailed>
+    requires { AreCitationsOf database.now.statements citations.now }
+    ensures ok { OnOk result
+        (Appends (W.contents to.old) (W.contents to.new)
+        (citation_report_of request.now database.now chosen.now citations.now)) }
+    ensures err { OnErr result
+        ((k : ℕ)
+        × Appends (W.contents to.old) (W.contents to.new)
+        (take k (citation_report_of request.now database.now chosen.now citations.now))) }
+{
+    let mut sink = Sink::new();
+    let labels = TheoremLabels::new(database);
+    let axioms = chosen.len() as u64;
+    let opened = open_theorems(database, chosen, request.with_open);
+    let theorems = citations.rows() as u64;
+    send_head(&mut sink, to, request, axioms, opened, theorems);
+    send_line(&mut sink, to, b"citations");
+    send_citation_lines(&mut sink, to, database, request.only, &labels, citations);
+    send_line(&mut sink, to, b"end");
+    sink.finish(to)
+}
+
 /// Writes the report of what each theorem of a database cites in its own proof, in file order. If
 /// `only` is a typecode, it lists only what has that typecode, axioms and theorems alike. `chosen`
 /// has the columns of this typecode, and `citations` are those of this database. If `with_open` is
@@ -129,22 +164,22 @@ pub fn write_citations<'a, W: Write, A: Allocator, C: Allocator, D: Allocator>(
     requires { AreCitationsOf database.now.statements citations.now }
     ensures ok { OnOk result
         (Appends (W.contents to.old) (W.contents to.new)
-        (citation_report_of database.now with_open form (option_copied only.entry) chosen.now
-        citations.now)) }
+        (citation_report_of
+        (text_request (option_copied only.entry) with_open form choices.Citations)
+        database.now chosen.now citations.now)) }
     ensures err { OnErr result
         ((k : ℕ)
         × Appends (W.contents to.old) (W.contents to.new)
-        (take k (citation_report_of database.now with_open form (option_copied only.entry)
-        chosen.now citations.now))) }
+        (take k (citation_report_of
+        (text_request (option_copied only.entry) with_open form choices.Citations)
+        database.now chosen.now citations.now))) }
 {
-    let mut sink = Sink::new();
-    let labels = TheoremLabels::new(database);
-    let axioms = chosen.len() as u64;
-    let opened = open_theorems(database, chosen, with_open);
-    let theorems = citations.rows() as u64;
-    send_head(&mut sink, to, form, axioms, opened, theorems);
-    send_line(&mut sink, to, b"citations");
-    send_citation_lines(&mut sink, to, database, only, &labels, citations);
-    send_line(&mut sink, to, b"end");
-    sink.finish(to)
+    let request = Request {
+        only,
+        choice: Choice::Citations,
+        form,
+        essential: false,
+        with_open,
+    };
+    write_requested_citations(to, &request, database, chosen, citations)
 }

@@ -1,5 +1,5 @@
 -- Chains of citations, one citation at a time.
-use Rattle.std.proofs.Common.{◌≡◌, ℕ, true, false, ◌||◌, List, [], ◌⊎◌, inl, inr, ⊎_elim, ◌<◌}
+use Rattle.std.proofs.Common.{◌≡◌, ℕ, true, false, ◌||◌, List, ◌⊎◌, inl, inr, ⊎_elim, ◌<◌}
 use Rattle.std.proofs.Common.{◌≤◌, ◌+◌, length, subst, sym, ap, refl, arith, get_or, bit_or}
 use Rattle.std.proofs.Common.{zero, suc, ◌≢◌, slice_range}
 use Rattle.std.proofs.Common.{eqb, take, drop, ◌++◌, ◌-◌, ◌*◌, ◌∙◌}

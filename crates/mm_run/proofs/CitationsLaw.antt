@@ -73,15 +73,15 @@ module _ (db : List Statement) (request : Request) (c : Citing)
   pub is_citation_report : (opened : Option ℕ) (axioms : List ℕ) → axioms ≡ columns db request.only
       → request.choice ≡ Citations
       → IsReportOf request.choice db opened request
-      (citation_report request.form opened (length axioms)
+      (citation_report request opened (length axioms)
       (citing_rows db request.only c (map (label_at db) (theorems db))))
   is_citation_report opened axioms is choice =
       subst (λ (o : Choice). IsReportOf o db opened request
-      (citation_report request.form opened (length axioms)
+      (citation_report request opened (length axioms)
       (citing_rows db request.only c (map (label_at db) (theorems db))))) (sym choice) (
         citing_rows db request.only c (map (label_at db) (theorems db)),
         citing_rows_are,
         ap
-            (λ (l : List ℕ). citation_report request.form opened (length l)
+            (λ (l : List ℕ). citation_report request opened (length l)
             (citing_rows db request.only c (map (label_at db) (theorems db)))) is,
       )

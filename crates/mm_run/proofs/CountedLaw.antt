@@ -25,14 +25,14 @@ open_line_is d true only axioms h is =
     ∙ ap (λ db. columns db only) h.statements)
 open_line_is d false only axioms h is = refl
 
-pub written : (text : List ℕ) (request : Request) (d : Contents) (axioms bytes : List ℕ)
+pub written : (request : Request) (d : Contents) (axioms bytes : List ℕ)
     → IsCounted request.with_open d
-    → HasNoFault (length text) (lexed_of text) request.with_open d.read
+    → HasNoFault (length d.text) (lexed_of d.text) request.with_open d.read
     → axioms ≡ columns d.statements request.only
     → IsReportOf request.choice d.statements
     (open_theorems request.with_open d axioms) request bytes
-    → IsOutput text request bytes
-written text request d axioms bytes h sound is report =
+    → IsOutput d.text request bytes
+written request d axioms bytes h sound is report =
     inr (
       d.read,
       sound,

@@ -11,15 +11,14 @@ use Rattle.mm_spec.specs.Report.{Row, report}
 use Rattle.mm_spec.specs.Request.{Request}
 use Rattle.mm_spec.specs.declared.Choice.{Choice}
 use Rattle.mm_spec.specs.declared.Choice.TheVariants.{All, Matrix, Counts, Usage, Citations}
-use Rattle.mm_spec.specs.Lexed.{lexed_of}
 use Rattle.mm_spec.specs.Output.{IsRowOf, theorems, columns, label_at, IsReportOf}
-use Rattle.mm_spec.specs.Output.{HasNoFault, IsOutput}
+use Rattle.mm_spec.specs.Output.{IsOutput}
 use Rattle.mm_database.specs.Database.{Contents}
 use Rattle.mm_spec.proofs.ChainsLaw.{chains_alike}
 use Rattle.mm_work.specs.Citing.{Citing, HasCitation, theorem_at}
 use Rattle.mm_rows.specs.Marks.{Marks, mark, IsMatrix}
 use Rattle.mm_report.specs.Rows.{row_of, rows_of, marks_of, open_theorems, report_of}
-use Rattle.mm_run.specs.Counted.{IsCounted}
+use Rattle.mm_run.specs.Counted.{IsJudged}
 use Rattle.mm_run.proofs.CountedLaw.{written}
 use Rattle.mm_work.specs.Judged.{AllCited, Shows}
 
@@ -82,7 +81,7 @@ reports : (db : List Statement) (opened : Option ℕ) (request : Request) (choic
     → (rows : List Row)
     → (choice ≡ Citations → ⊥) → AllZip (IsRowOf db request) (theorems db) rows
     → IsReportOf choice db opened request
-    (report request.form opened (map (label_at db) (columns db request.only)) rows choice)
+    (report request opened (map (label_at db) (columns db request.only)) rows)
 reports db opened request All rows other h = (rows, h, refl)
 reports db opened request Matrix rows other h = (rows, h, refl)
 reports db opened request Counts rows other h = (rows, h, refl)
@@ -95,8 +94,8 @@ pub is_report : (request : Request) (db : List Statement) (opened : Option ℕ) 
     → AllCited db request.essential c → axioms ≡ columns db request.only → IsMatrix c axioms m
     → (request.choice ≡ Citations → ⊥)
     → IsReportOf request.choice db opened request
-    (report request.form opened (map (label_at db) axioms)
-    (rows_of m (map (label_at db) (theorems db))) request.choice)
+    (report request opened (map (label_at db) axioms)
+    (rows_of m (map (label_at db) (theorems db))))
 is_report request db opened c axioms m cited is h other =
     let h' = subst (λ (l : List ℕ). IsMatrix c l m) is h in
     let rows = rows_of m (map (label_at db) (theorems db)) in
@@ -104,17 +103,14 @@ is_report request db opened c axioms m cited is h other =
     reports db opened request request.choice rows other
     (rows_are db request c m cited.theorems_are cited.shows h') in
     subst (λ (l : List ℕ). IsReportOf request.choice db opened request
-    (report request.form opened (map (label_at db) l) rows request.choice)) (sym is) here
+    (report request opened (map (label_at db) l) rows)) (sym is) here
 
 -- the report of a table is the output of the text
-pub rests : (text : List ℕ) (request : Request) (d : Contents) (c : Citing) (axioms : List ℕ)
-    → (m : Marks) → IsCounted request.with_open d
-    → HasNoFault (length text) (lexed_of text) request.with_open d.read
-    → AllCited d.statements request.essential c → axioms ≡ columns d.statements request.only
+pub rests : (request : Request) (d : Contents) (c : Citing) (axioms : List ℕ)
+    → (m : Marks) → IsJudged request d c → axioms ≡ columns d.statements request.only
     → IsMatrix c axioms m → (request.choice ≡ Citations → ⊥)
-    → IsOutput text request
-    (report_of d request.with_open request.form axioms m request.choice)
-rests text request d c axioms m counted sound cited is table other =
-    written text request d axioms _ counted sound is
-    (is_report request d.statements (open_theorems request.with_open d axioms) c axioms m cited is
-    table other)
+    → IsOutput d.text request (report_of request d axioms m)
+rests request d c axioms m judged is table other =
+    written request d axioms _ judged.counted judged.sound is
+    (is_report request d.statements (open_theorems request.with_open d axioms) c axioms m
+    judged.cited is table other)

@@ -3,20 +3,24 @@
 ghost use Rattle.std.specs.Prelude.{◌≡◌, ◌<◌, ◌≤◌, ◌^◌, ℕ, List, IfOk, length, false};
 ghost use Rattle.mm_spec.specs.declared.Choice.TheVariants as choices;
 ghost use Rattle.mm_spec.specs.Report.{has};
+ghost use Rattle.mm_spec.specs.Request.{Request};
 ghost use Rattle.mm_spec.specs.Lexed.{lexical_fault, tokens_of, lexed_of};
 ghost use Rattle.mm_spec.specs.Statement.{Statement};
-ghost use Rattle.mm_spec.specs.Output.{FirstFault, HasNoFault, IsRead, columns};
+ghost use Rattle.mm_spec.specs.Output.{FirstFault, IsRead, columns};
 ghost use Rattle.mm_spec.specs.Ends.{Answers, reading_limit};
-ghost use Rattle.mm_run.specs.Counted.{IsCounted};
-ghost use Rattle.mm_work.specs.Judged.{AllCited, IsFirstFault};
-ghost use Rattle.mm_plan.specs.Plans.{IsLawfulPlan, only_of, request_of};
+ghost use Rattle.mm_run.specs.Counted.{IsCounted, IsJudged};
+ghost use Rattle.mm_work.specs.Judged.{IsFirstFault};
+ghost use Rattle.mm_plan.specs.Plans.{IsLawfulPlan, request_of};
 
 use crate::RunEnd;
 use crate::cuts::cuts_of;
 use mm_database::Database;
 use mm_lex::lex;
 use mm_plan::Plan;
-use mm_report::{Choice, has_usage, write_citations, write_refusal, write_report, write_rows};
+use mm_report::{
+    Choice, Request, has_usage, write_refusal, write_requested_citations, write_requested_report,
+    write_rows,
+};
 use mm_rows::{Columns, marked_rows, matrix};
 use mm_spec::Fault;
 use mm_stmt::read_owned;
@@ -27,13 +31,11 @@ use std::sync::Wait;
 use std::thread::Threads;
 
 /// Writes the refusal of the text for its first fault.
-fn refuse<A: Allocator, W: Write>(text: &[u8], fault: Fault, plan: &Plan<A>, to: &mut W) -> RunEnd
-    requires { FirstFault (length text.now) (lexed_of text.now) plan.now.with_open fault }
-    ensures { Answers result text.now (request_of plan.now) (W.contents to.old)
-        (W.contents to.new) }
+fn refuse<W: Write>(text: &[u8], fault: Fault, to: &mut W) -> RunEnd
+    ensures { (request : Request) → FirstFault (length text.now) (lexed_of text.now)
+        request.with_open fault
+        → Answers result text.now request (W.contents to.old) (W.contents to.new) }
 {
-    // Only the contract needs the plan.
-    let _ = plan.workers;
     match write_refusal(to, text, &fault) {
         Ok(()) => RunEnd::Refused(fault),
         Err(_) => RunEnd::WriteFailed,
@@ -43,31 +45,20 @@ fn refuse<A: Allocator, W: Write>(text: &[u8], fault: Fault, plan: &Plan<A>, to:
 /// Writes the report of what each theorem cites, for a database without a fault. It needs no table.
 fn report_citations<'a, A: Allocator + Copy, W: Write>(
     alloc: A,
+    request: &Request<'_>,
     database: &Database<'a, A>,
     citations: &Citations<A>,
-    plan: &Plan<A>,
     to: &mut W,
 ) -> RunEnd
-    requires sound { HasNoFault (length database.now.text)
-        (lexed_of database.now.text) plan.now.with_open database.now.read }
-    requires counted { IsCounted plan.now.with_open database.now }
-    requires cited { AllCited database.now.statements plan.now.essential citations.now }
-    requires choice { plan.now.choice ≡ choices.Citations }
-    ensures { Answers result database.now.text (request_of plan.now) (W.contents to.old)
+    requires judged { IsJudged request.now database.now citations.now }
+    requires choice { request.now.choice ≡ choices.Citations }
+    ensures { Answers result database.now.text request.now (W.contents to.old)
         (W.contents to.new) }
 {
-    let Ok(columns) = Columns::new(alloc, database, plan.typecode()) else {
+    let Ok(columns) = Columns::new(alloc, database, request.only) else {
         return RunEnd::NoMemory;
     };
-    match write_citations(
-        to,
-        database,
-        &columns,
-        citations,
-        plan.typecode(),
-        plan.with_open,
-        plan.form,
-    ) {
+    match write_requested_citations(to, request, database, &columns, citations) {
         Ok(()) => RunEnd::Accepted,
         Err(_) => RunEnd::WriteFailed,
     }
@@ -77,33 +68,22 @@ fn report_citations<'a, A: Allocator + Copy, W: Write>(
 fn report_usage<'a, R: Threads + Sync, A: Allocator + Copy + Send + Sync, W: Write>(
     rt: &R,
     alloc: A,
+    request: &Request<'_>,
     database: &Database<'a, A>,
     citations: &Citations<A>,
     chosen: &Columns<A>,
-    plan: &Plan<A>,
     to: &mut W,
 ) -> RunEnd
-    requires sound { HasNoFault (length database.now.text)
-        (lexed_of database.now.text) plan.now.with_open database.now.read }
-    requires counted { IsCounted plan.now.with_open database.now }
-    requires cited { AllCited database.now.statements plan.now.essential citations.now }
-    requires chosen { chosen.now ≡ columns database.now.statements (only_of plan.now) }
-    requires choice { plan.now.choice ≡ choices.Citations → ⊥ }
-    ensures { Answers result database.now.text (request_of plan.now) (W.contents to.old)
+    requires judged { IsJudged request.now database.now citations.now }
+    requires chosen { chosen.now ≡ columns database.now.statements request.now.only }
+    requires choice { request.now.choice ≡ choices.Citations → ⊥ }
+    ensures { Answers result database.now.text request.now (W.contents to.old)
         (W.contents to.new) }
 {
     let Ok(table) = matrix(rt, alloc, citations, chosen) else {
         return RunEnd::NoMemory;
     };
-    match write_report(
-        to,
-        database,
-        chosen,
-        &table,
-        plan.with_open,
-        plan.form,
-        plan.choice,
-    ) {
+    match write_requested_report(to, request, database, chosen, &table) {
         Ok(()) => RunEnd::Accepted,
         Err(_) => RunEnd::WriteFailed,
     }
@@ -113,34 +93,23 @@ fn report_usage<'a, R: Threads + Sync, A: Allocator + Copy + Send + Sync, W: Wri
 fn report_rows<'a, R: Threads + Sync, A: Allocator + Copy + Send + Sync, W: Write>(
     rt: &R,
     alloc: A,
+    request: &Request<'_>,
     database: &Database<'a, A>,
     citations: &Citations<A>,
     chosen: &Columns<A>,
-    plan: &Plan<A>,
     to: &mut W,
 ) -> RunEnd
-    requires sound { HasNoFault (length database.now.text)
-        (lexed_of database.now.text) plan.now.with_open database.now.read }
-    requires counted { IsCounted plan.now.with_open database.now }
-    requires cited { AllCited database.now.statements plan.now.essential citations.now }
-    requires chosen { chosen.now ≡ columns database.now.statements (only_of plan.now) }
-    requires choice { plan.now.choice ≡ choices.Citations → ⊥ }
-    requires no_usage { has plan.now.choice choices.Usage ≡ false }
-    ensures { Answers result database.now.text (request_of plan.now) (W.contents to.old)
+    requires judged { IsJudged request.now database.now citations.now }
+    requires chosen { chosen.now ≡ columns database.now.statements request.now.only }
+    requires choice { request.now.choice ≡ choices.Citations → ⊥ }
+    requires no_usage { has request.now.choice choices.Usage ≡ false }
+    ensures { Answers result database.now.text request.now (W.contents to.old)
         (W.contents to.new) }
 {
     let Ok(marked) = marked_rows(rt, alloc, citations, chosen) else {
         return RunEnd::NoMemory;
     };
-    match write_rows(
-        to,
-        database,
-        chosen,
-        &marked,
-        plan.with_open,
-        plan.form,
-        plan.choice,
-    ) {
+    match write_rows(to, request, database, chosen, &marked) {
         Ok(()) => RunEnd::Accepted,
         Err(_) => RunEnd::WriteFailed,
     }
@@ -150,49 +119,43 @@ fn report_rows<'a, R: Threads + Sync, A: Allocator + Copy + Send + Sync, W: Writ
 fn report_rests<'a, R: Threads + Sync, A: Allocator + Copy + Send + Sync, W: Write>(
     rt: &R,
     alloc: A,
+    request: &Request<'_>,
     database: &Database<'a, A>,
     citations: &Citations<A>,
-    plan: &Plan<A>,
     to: &mut W,
 ) -> RunEnd
-    requires sound { HasNoFault (length database.now.text)
-        (lexed_of database.now.text) plan.now.with_open database.now.read }
-    requires counted { IsCounted plan.now.with_open database.now }
-    requires cited { AllCited database.now.statements plan.now.essential citations.now }
-    requires choice { plan.now.choice ≡ choices.Citations → ⊥ }
-    ensures { Answers result database.now.text (request_of plan.now) (W.contents to.old)
+    requires judged { IsJudged request.now database.now citations.now }
+    requires choice { request.now.choice ≡ choices.Citations → ⊥ }
+    ensures { Answers result database.now.text request.now (W.contents to.old)
         (W.contents to.new) }
 {
-    let Ok(chosen) = Columns::new(alloc, database, plan.typecode()) else {
+    let Ok(chosen) = Columns::new(alloc, database, request.only) else {
         return RunEnd::NoMemory;
     };
-    if has_usage(plan.choice) {
-        report_usage(rt, alloc, database, citations, &chosen, plan, to)
+    if has_usage(request.choice) {
+        report_usage(rt, alloc, request, database, citations, &chosen, to)
     } else {
-        report_rows(rt, alloc, database, citations, &chosen, plan, to)
+        report_rows(rt, alloc, request, database, citations, &chosen, to)
     }
 }
 
-/// Writes the report of a database without a fault.
+/// Writes the report requested of a database without a fault.
 fn report<'a, R: Threads + Sync, A: Allocator + Copy + Send + Sync, W: Write>(
     rt: &R,
     alloc: A,
+    request: &Request<'_>,
     database: &Database<'a, A>,
     citations: &Citations<A>,
-    plan: &Plan<A>,
     to: &mut W,
 ) -> RunEnd
-    requires sound { HasNoFault (length database.now.text)
-        (lexed_of database.now.text) plan.now.with_open database.now.read }
-    requires counted { IsCounted plan.now.with_open database.now }
-    requires cited { AllCited database.now.statements plan.now.essential citations.now }
-    ensures { Answers result database.now.text (request_of plan.now) (W.contents to.old)
+    requires judged { IsJudged request.now database.now citations.now }
+    ensures { Answers result database.now.text request.now (W.contents to.old)
         (W.contents to.new) }
 {
-    if plan.choice == Choice::Citations {
-        report_citations(alloc, database, citations, plan, to)
+    if request.choice == Choice::Citations {
+        report_citations(alloc, request, database, citations, to)
     } else {
-        report_rests(rt, alloc, database, citations, plan, to)
+        report_rests(rt, alloc, request, database, citations, to)
     }
 }
 
@@ -236,10 +199,10 @@ pub fn answer<R: Threads + Wait + Sync, A: Allocator + Copy + Send + Sync, W: Wr
         return RunEnd::NoMemory;
     };
     match judged {
-        Judged::Faulty(fault) => refuse(text, fault, plan, to),
+        Judged::Faulty(fault) => refuse(text, fault, to),
         Judged::Valid(citations) => match database.fault() {
-            Some(fault) => refuse(text, fault, plan, to),
-            None => report(rt, alloc, &database, &citations, plan, to),
+            Some(fault) => refuse(text, fault, to),
+            None => report(rt, alloc, &plan.request(), &database, &citations, to),
         },
     }
 }

@@ -18,7 +18,7 @@ use Rattle.std.specs.Prelude.{nat_lt}
 use Rattle.std.proofs.Math.Bool.{or-false, or-true}
 use Rattle.mm_spec.proofs.FaultlessLaw.{append_none, least_none}
 use Rattle.mm_outline.specs.Blocks.{BlockLists, IsBlocks, never, pushed}
-use Rattle.mm_scope.specs.Judge.{WordEntry, entry_of, declared_entry, typed_entry}
+use Rattle.mm_scope.specs.WordEntry.{WordEntry, entry_of, declared_entry, typed_entry}
 use Rattle.mm_scope.specs.WordEntry.{IsEntryOf, is_other, is_constant_entry, is_variable_entry}
 use Rattle.mm_scope.specs.WordEntry.{entry_after, label_after}
 use Rattle.mm_outline.specs.Parts.{made}

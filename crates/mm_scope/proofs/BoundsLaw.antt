@@ -12,7 +12,7 @@ use Rattle.mm_spec.specs.Statement.{Statement, constants, variables, disjoint, f
 use Rattle.mm_spec.specs.Statement.{axiomatic, provable, opening, closing, symbols_of, spelled}
 use Rattle.mm_spec.specs.Scope.{constants_of, variables_of}
 use Rattle.mm_spec.specs.Lawful.{IsLawful}
-use Rattle.mm_spec.specs.Frame.{symbol_names, place_of, first_occurrences, formula_at, formula_of}
+use Rattle.mm_spec.specs.Frame.{symbol_names, place_of, first_occurrences, formula_at}
 use Rattle.mm_spec.proofs.FindsLaw.{formula_at_is}
 use Rattle.mm_spec.proofs.SymbolLaw.{declared_here}
 use Rattle.mm_database.proofs.SymbolsLaw.{itself, in_first, place_in}
@@ -141,14 +141,3 @@ module _ (ts rest : List Token) (list : List Statement) (splits : ts ≡ flat_ma
       let b = shorter (λ s. constants_of s ++ variables_of s) spelled declared_spelled db in
       let c = spelled-few in
       omega (arith, a, b, c)
-
-  -- the symbols of the statements are no more than the tokens
-  pub few_numbers : (all : List Statement) → length (flat_map (formula_of all) db) ≤ length ts
-  few_numbers all =
-      let a =
-      shorter (formula_of all) spelled
-      (λ s. subst (λ n. n ≤ length (spelled s))
-      (sym (length-map (words (symbols_of s)) (λ w. place_of w (symbol_names all))
-      ∙ length-map (symbols_of s) (λ t. t.word))) (symbols_spelled s)) db in
-      let c = spelled-few in
-      omega (arith, a, c)

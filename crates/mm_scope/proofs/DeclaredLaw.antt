@@ -1,17 +1,14 @@
 -- One symbol more is declared.
-use Rattle.std.proofs.Common.{◌≡◌, ℕ, ◌+◌, ◌<◌, ◌≤◌, Bool, true, false, ◌||◌, List, [], ◌∷◌, length}
+use Rattle.std.proofs.Common.{◌≡◌, ℕ, ◌+◌, ◌<◌, ◌≤◌, Bool, true, false, ◌||◌, List, length}
 use Rattle.std.proofs.Common.{Option, None, Some, bytes_eq, if◌then◌else◌, refl, sym, ap, ◌∙◌}
 use Rattle.std.proofs.lemmas.Slice.Eq.{bytes_eq-Decides}
-use Rattle.std.proofs.lemmas.List.Folds.{list_any-append}
-use Rattle.std.proofs.lemmas.List.{map-append}
 use Rattle.std.proofs.Math.Bool.{or-false, or-true}
 use Rattle.mm_spec.specs.Text.{is_in, words}
 use Rattle.mm_spec.specs.declared.Word.{Word}
 use Rattle.mm_database.specs.declared.names.Symbol.{Symbol}
 use Rattle.mm_outline.specs.Parts.{between, token_at}
-use Rattle.mm_scope.specs.Judge.{WordEntry, entry_of, declared_entry}
-use Rattle.mm_outline.proofs.TurnsLaw.{between_more}
-use Rattle.mm_scope.proofs.JudgeLaw.{bytes_eq_sym}
+use Rattle.mm_scope.specs.WordEntry.{WordEntry, entry_of, declared_entry}
+use Rattle.mm_scope.proofs.JudgeLaw.{in_more}
 
 twice : (v : Bool) (n : ℕ) (w : List ℕ) (e : Option WordEntry)
     → declared_entry v n w (declared_entry v n w e) ≡ declared_entry v n w e
@@ -25,16 +22,6 @@ module _ (text : List ℕ) (ws : List Word) (from i : ℕ) (later : from ≤ i)
 
   abbrev here : List ℕ
   here = (token_at text ws i).word
-
-  is_in-more : (w : List ℕ)
-      → is_in w (words (between text ws from (i + 1)))
-      ≡ (is_in w so_far || (bytes_eq here w || false))
-  is_in-more w =
-      ap (λ ts. is_in w (words ts)) (between_more text ws from i later inside)
-      ∙ ap (is_in w)
-      (map-append (λ t. t.word) (between text ws from i) (token_at text ws i ∷ []))
-      ∙ list_any-append (bytes_eq w) so_far (here ∷ [])
-      ∙ ap (λ b. is_in w so_far || (b || false)) (bytes_eq_sym w here)
 
   pub declared_step : (v : Bool) (n : ℕ) (s : Symbol) (old cur new : List ℕ → Option Symbol)
       → ((w : List ℕ) → new w ≡ (if bytes_eq here w then Some s else cur w))
@@ -50,7 +37,7 @@ module _ (text : List ℕ) (ws : List Word) (from i : ℕ) (later : from ≤ i)
   declared_step v n s old cur new u e k w =
       ap entry_of (u w) ∙ by (bytes_eq here w) refl
       ∙ ap (λ b. if b then declared_entry v n w (entry_of (old w)) else entry_of (old w))
-      (sym (is_in-more w))
+      (sym (in_more text ws from i later inside w))
     where
       again : (b : Bool) (o : Option WordEntry)
           → declared_entry v n w (if b then declared_entry v n w o else o) ≡ declared_entry v n w o

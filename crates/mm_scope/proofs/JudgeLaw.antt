@@ -1,141 +1,105 @@
--- The least of faults, and the codes of symbols.
-use Rattle.std.proofs.Common.{◌≡◌, ◌≢◌, ℕ, suc, ◌+◌, ◌-◌, ◌<◌, ◌≤◌, Bool, true, false, ◌||◌}
+-- The least of faults, symbol by symbol.
+use Rattle.std.proofs.Common.{◌≡◌, ◌≢◌, ℕ, suc, ◌+◌, ◌-◌, ◌<◌, ◌≤◌, false, ◌||◌}
 use Rattle.std.proofs.Common.{List, [], ◌∷◌, ◌++◌, length, Option, None, Some, refl}
-use Rattle.std.proofs.Common.{ap₂, ◌∙◌, arith, append-nil, append_assoc, nat_lt, nat_le}
+use Rattle.std.proofs.Common.{ap, ap₂, sym, ◌∙◌, arith, append-nil, append_assoc}
 use Rattle.std.proofs.Common.{bytes_eq, map, if◌then◌else◌, is_some, take, drop, drop-cons, add-one}
 use Rattle.std.proofs.Common.{length-drop, nat_eq}
-use Rattle.std.proofs.lemmas.List.{length-take-le, length-map}
+use Rattle.std.proofs.lemmas.List.{length-take-le, length-map, map-append}
+use Rattle.std.proofs.lemmas.List.Folds.{list_any-append}
+use Rattle.std.proofs.Math.Bool.{or-false}
 use Rattle.std.proofs.lemmas.Slice.Eq.{bytes_eq-Decides}
 use Rattle.std.proofs.lemmas.Bool.Decides.{nat_tests}
 use Rattle.std.proofs.lemmas.Grind.{common_steps}
-use Rattle.mm_spec.specs.Text.{Bytes, Token, fault, is_in}
+use Rattle.mm_spec.specs.Text.{Bytes, Token, fault, is_in, words}
 use Rattle.mm_spec.specs.declared.Fault.{Fault}
 use Rattle.mm_spec.specs.Scope.{Names}
-use Rattle.mm_spec.specs.Lawful.{least, at, at_each, when, symbol_codes}
-use Rattle.mm_spec.specs.Lawful.{formula_faults, floating_faults}
-use Rattle.mm_spec.specs.Lawful.{constant_codes, variable_codes, is_empty}
+use Rattle.mm_spec.specs.Lawful.{at, at_each, floating_faults, is_empty, least, lesser}
 use Rattle.mm_spec.specs.declared.Word as place
-use Rattle.mm_database.specs.declared.names.Symbol.{Symbol}
 use Rattle.mm_outline.specs.Parts.{between, token_at, token_of, nth_word}
-use Rattle.mm_scope.specs.Judge.{lesser_fault, fault_at}
-use Rattle.mm_scope.specs.Judge.{symbol_code, code_or}
-use Rattle.mm_scope.specs.Judge.{declared_code, declared_codes, typecode_code}
-use Rattle.mm_scope.specs.Judge.{typing_code, typing_fault, list_fault, before_next, Knows}
-use Rattle.mm_outline.specs.declared.parts.Kind.{Kind}
-use Rattle.mm_outline.specs.declared.parts.Kind.TheVariants.{Constants, Variables}
 use Rattle.mm_outline.proofs.TurnsLaw.{between_more, between_none}
 use Rattle.mm_spec.specs.declared.Code.{Code}
-use Rattle.mm_spec.specs.Codes.{code_number}
-use Rattle.mm_spec.specs.declared.Code.TheVariants.{ConstantInBlock, EmptyDeclaration}
-use Rattle.mm_spec.specs.declared.Code.TheVariants.{DeclaredBefore, LabelIsSymbol}
 use Rattle.mm_spec.specs.declared.Code.TheVariants.{BadFloating}
-use Rattle.mm_spec.specs.declared.Code.TheVariants.{UndeclaredVariable, RepeatedVariable}
 
-pub lesser_fault_assoc : (a b c : Option Fault)
+pub bytes_eq_sym : (a b : Bytes) → bytes_eq a b ≡ bytes_eq b a
+bytes_eq_sym a b = grind (arith, bytes_eq-Decides)
+
+-- the lesser of two faults, if any
+abbrev pub lesser_fault : Option Fault → Option Fault → Option Fault
+lesser_fault None g = g
+lesser_fault (Some f) g = lesser f g
+
+lesser_fault_assoc : (a b c : Option Fault)
     → lesser_fault (lesser_fault a b) c ≡ lesser_fault a (lesser_fault b c)
 lesser_fault_assoc a b c = grind (arith, nat_tests)
 
-pub least_append : (xs ys : List Fault) → least (xs ++ ys) ≡ lesser_fault (least xs) (least ys)
+least_append : (xs ys : List Fault) → least (xs ++ ys) ≡ lesser_fault (least xs) (least ys)
 least_append [] ys = refl
 least_append (f ∷ xs) ys =
     grind (arith, least_append xs ys, lesser_fault_assoc (Some f) (least xs) (least ys))
 
-pub at_each_snoc : (codes : List Bytes → Bytes → List Code) (e : List Bytes) (xs : List Token)
+-- the lesser of the least of two lists
+pub both_least : (xs ys : List Fault) (a b r : Option Fault) → a ≡ least xs → b ≡ least ys
+    → r ≡ lesser_fault a b
+    → r ≡ least (xs ++ ys)
+both_least xs ys a b r e f is = is ∙ ap₂ lesser_fault e f ∙ sym (least_append xs ys)
+
+-- the words before the next one: those of the tokens, the last one first, then those before them
+abbrev pub before_next : List Bytes → List Token → List Bytes
+before_next e [] = e
+before_next e (t ∷ ts) = before_next (t.word ∷ e) ts
+
+in_before : (w : Bytes) (e : List Bytes) (xs : List Token)
+    → is_in w (before_next e xs) ≡ (is_in w (words xs) || is_in w e)
+in_before w e [] = refl
+in_before w e (x ∷ xs) = grind (arith, in_before w (x.word ∷ e) xs)
+
+at_each_snoc : (codes : List Bytes → Bytes → List Code) (e : List Bytes) (xs : List Token)
     → (t : Token)
     → at_each codes e (xs ++ t ∷ [])
     ≡ at_each codes e xs ++ at t.at (codes (before_next e xs) t.word)
 at_each_snoc codes e [] t = append-nil (at t.at (codes e t.word))
 at_each_snoc codes e (x ∷ xs) t = simp (at_each_snoc codes (x.word ∷ e) xs t, append_assoc)
 
-pub symbol_code_is : (n : Names) (look : List ℕ → Option Symbol) (labels : List ℕ → Option ℕ)
-    → (is_open : ℕ → Bool)
-    → Knows n look labels is_open → (e : List Bytes) (w : Bytes) (p : ℕ)
-    → least (at p (symbol_codes n e w)) ≡ fault_at p (symbol_code is_open (look w))
-symbol_code_is n look labels is_open k e w p =
-    grind (arith, common_steps, k.constants w, k.active_variables w, k.typed w)
+module _ (text : List ℕ) (ws : List place.Word) (from i : ℕ) where
+  -- the words before the one at i
+  abbrev pub earlier : List Bytes
+  earlier = before_next [] (between text ws from i)
 
--- one symbol more
-pub symbols_more : (n : Names) (look : List ℕ → Option Symbol) (labels : List ℕ → Option ℕ)
-    → (is_open : ℕ → Bool)
-    → Knows n look labels is_open → (text : List ℕ) (ws : List place.Word) (from i : ℕ) → from ≤ i
-    → i < length ws → (best : Option Fault)
-    → best ≡ least (at_each (symbol_codes n) [] (between text ws from i))
-    → lesser_fault best
-    (fault_at (token_at text ws i).at (symbol_code is_open (look (token_at text ws i).word)))
-    ≡ least (at_each (symbol_codes n) [] (between text ws from (i + 1)))
-symbols_more n look labels is_open k text ws from i h l best e =
-    rw (
-      e,
-      between_more text ws from i h l,
-      at_each_snoc,
-      least_append,
-      symbol_code_is n look labels is_open k,
-    ) refl
+  pub in_earlier : (w : Bytes) → is_in w (words (between text ws from i)) ≡ is_in w earlier
+  in_earlier w =
+      sym (in_before w [] (between text ws from i)
+      ∙ or-false (is_in w (words (between text ws from i))))
 
-two_codes : (p : ℕ) (a b : Bool) (x y : Code) → nat_le (code_number x) (code_number y) ≡ true
-    → least (at p (when a x ++ when b y)) ≡ fault_at p (code_or a x (code_or b y None))
-two_codes p a b x y h = grind (arith, nat_tests)
+  abbrev pub here : Bytes
+  here = (token_at text ws i).word
 
--- a symbol of `$c`, `$v` or `$d`
-pub declared_code_is : (n : Names) (look : List ℕ → Option Symbol) (labels : List ℕ → Option ℕ)
-    → (is_open : ℕ → Bool)
-    → Knows n look labels is_open → (kind : Kind) (e : List Bytes) (w : Bytes) (p : ℕ)
-    → least (at p (declared_codes n kind e w))
-    ≡ fault_at p (declared_code is_open kind (look w) (is_in w e) (is_some (labels w)))
-declared_code_is n look labels is_open k Constants e w p =
-    rw (k.constants w, k.all_variables w, k.labels_known w)
-    (two_codes p _ _ DeclaredBefore LabelIsSymbol refl)
-declared_code_is n look labels is_open k Variables e w p =
-    rw (k.constants w, k.active_variables w, k.labels_known w)
-    (two_codes p _ _ DeclaredBefore LabelIsSymbol refl)
-declared_code_is n look labels is_open k _ e w p =
-    rw (k.active_variables w) (two_codes p _ _ UndeclaredVariable RepeatedVariable refl)
+  -- one symbol more
+  pub each_more : from ≤ i → i < length ws → (codes : List Bytes → Bytes → List Code)
+      → at_each codes [] (between text ws from (i + 1))
+      ≡ at_each codes [] (between text ws from i)
+      ++ at (token_at text ws i).at (codes earlier here)
+  each_more h l codes = rw (between_more text ws from i h l, at_each_snoc) refl
 
-before_next_snoc : (e : List Bytes) (xs : List Token) (t : Token)
-    → before_next e (xs ++ t ∷ []) ≡ t.word ∷ before_next e xs
-before_next_snoc e [] t = refl
-before_next_snoc e (x ∷ xs) t = before_next_snoc (x.word ∷ e) xs t
+  -- one word more
+  pub in_more : from ≤ i → i < length ws → (w : Bytes)
+      → is_in w (words (between text ws from (i + 1)))
+      ≡ (is_in w (words (between text ws from i)) || (bytes_eq here w || false))
+  in_more h l w =
+      ap (λ ts. is_in w (words ts)) (between_more text ws from i h l)
+      ∙ ap (is_in w) (map-append (λ t. t.word) (between text ws from i) (token_at text ws i ∷ []))
+      ∙ list_any-append (bytes_eq w) (words (between text ws from i)) (here ∷ [])
+      ∙ ap (λ b. is_in w (words (between text ws from i)) || (b || false)) (bytes_eq_sym w here)
 
-pub bytes_eq_sym : (a b : Bytes) → bytes_eq a b ≡ bytes_eq b a
-bytes_eq_sym a b = grind (arith, bytes_eq-Decides)
+  pub among_more : from ≤ i → i < length ws → (w : Bytes)
+      → (bytes_eq w here || is_in w (words (between text ws from i)))
+      ≡ is_in w (words (between text ws from (i + 1)))
+  among_more h l w = rw (in_more h l w, bytes_eq_sym w here) (grind arith)
 
-pub declared_more : (n : Names) (look : List ℕ → Option Symbol) (labels : List ℕ → Option ℕ)
-    → (is_open : ℕ → Bool)
-    → Knows n look labels is_open
-    → (kind : Kind) (text : List ℕ) (ws : List place.Word) (from i : ℕ) → from ≤ i → i < length ws
-    → (repeated : Bool)
-    → repeated ≡ is_in (token_at text ws i).word (before_next [] (between text ws from i))
-    → (best : Option Fault)
-    → best ≡ least (at_each (declared_codes n kind) [] (between text ws from i))
-    → lesser_fault best
-    (fault_at (token_at text ws i).at
-    (declared_code is_open kind (look (token_at text ws i).word) repeated
-    (is_some (labels (token_at text ws i).word))))
-    ≡ least (at_each (declared_codes n kind) [] (between text ws from (i + 1)))
-declared_more n look labels is_open k kind text ws from i h l repeated q best e =
-    rw (
-      e,
-      q,
-      between_more text ws from i h l,
-      at_each_snoc,
-      least_append,
-      declared_code_is n look labels is_open k,
-    ) refl
-
-pub seen_more : (text : List ℕ) (ws : List place.Word) (from i : ℕ) → from ≤ i → i < length ws
-    → (old new : List ℕ → Option ℕ)
-    → ((w : List ℕ) → new w ≡ (if bytes_eq (token_at text ws i).word w then Some 0 else old w))
-    → ((w : List ℕ) → is_some (old w) ≡ is_in w (before_next [] (between text ws from i)))
-    → (w : List ℕ) → is_some (new w) ≡ is_in w (before_next [] (between text ws from (i + 1)))
-seen_more text ws from i h l old new u e w =
-    rw (u w, between_more text ws from i h l, before_next_snoc) (grind (arith, bytes_eq_sym, e w))
-
--- one word more that was passed
-pub among_more : (text : List ℕ) (ws : List place.Word) (from i : ℕ) → from ≤ i → i < length ws
-    → (w : List ℕ)
-    → (bytes_eq w (token_at text ws i).word || is_in w (before_next [] (between text ws from i)))
-    ≡ is_in w (before_next [] (between text ws from (i + 1)))
-among_more text ws from i h l w = rw (between_more text ws from i h l, before_next_snoc) refl
+  pub seen_more : from ≤ i → i < length ws → (old new : Bytes → Option ℕ)
+      → ((w : Bytes) → new w ≡ (if bytes_eq here w then Some 0 else old w))
+      → ((w : Bytes) → is_some (old w) ≡ is_in w (words (between text ws from i)))
+      → (w : Bytes) → is_some (new w) ≡ is_in w (words (between text ws from (i + 1)))
+  seen_more h l old new u e w = rw (u w, in_more h l w, sym (e w)) (grind arith)
 
 pub between_first : (text : List ℕ) (ws : List place.Word) (i j : ℕ) → i < j → j ≤ length ws
     → between text ws i j ≡ token_at text ws i ∷ between text ws (i + 1) j
@@ -145,34 +109,6 @@ between_first text ws i j h l =
     rw (add-one, drop-cons ws i (record { start = 0; end = 0 })) refl in
     let n : j - i ≡ suc (j - (i + 1)) = omega arith in
     ap₂ (λ m ys. map (token_of text) (take m ys)) n e
-
-pub formula_is : (n : Names) (look : List ℕ → Option Symbol) (labels : List ℕ → Option ℕ)
-    → (is_open : ℕ → Bool)
-    → Knows n look labels is_open → (text : List ℕ) (ws : List place.Word) (i j end : ℕ) → i < j
-    → j ≤ length ws
-    → (rest : Option Fault) → rest ≡ least (at_each (symbol_codes n) [] (between text ws (i + 1) j))
-    → lesser_fault
-    (fault_at (token_at text ws i).at (typecode_code (look (token_at text ws i).word)))
-    rest
-    ≡ least (formula_faults n (between text ws i j) end)
-formula_is n look labels is_open k text ws i j end h l rest e =
-    rw (between_first text ws i j h l)
-    (grind (arith, common_steps, k.constants (token_at text ws i).word))
-
-pub typing_is : (n : Names) (look : List ℕ → Option Symbol) (labels : List ℕ → Option ℕ)
-    → (is_open : ℕ → Bool)
-    → Knows n look labels is_open → (keyword : ℕ) (c v : Token)
-    → typing_fault keyword v.at (typing_code is_open c.word (look c.word) (look v.word))
-    ≡ least (floating_faults n keyword (c ∷ v ∷ []))
-typing_is n look labels is_open k keyword c v =
-    grind (
-      arith,
-      nat_tests,
-      k.constants c.word,
-      k.active_variables v.word,
-      k.typed v.word,
-      k.otherwise c.word v.word,
-    )
 
 -- so many words are no two
 pub no_two : (n : Names) (keyword : ℕ) (xs : List Token) → length xs ≢ 2
@@ -203,34 +139,15 @@ two_between text ws k j l e =
       between_none text ws j,
     )
 
-when_first : (p : ℕ) (b : Bool) (x : Code)
-    → fault_at p (code_or b x None) ≡ least (at p (when b x))
-when_first p true x = refl
-when_first p false x = refl
-
 empty_count : (n : Names) (xs : List Token) → nat_eq (length xs) 0 ≡ is_empty n xs
 empty_count n [] = refl
 empty_count n (x ∷ xs) = grind arith
 
-pub constants_is : (n : Names) (deep kw end : ℕ) (text : List ℕ) (ws : List place.Word) (k j : ℕ)
-    → k < j → j ≤ length ws
-    → lesser_fault (list_fault Constants deep kw end (j - k - 1))
-    (least (at_each (constant_codes n) [] (between text ws (k + 1) j)))
-    ≡ least (at kw (when (nat_lt 0 deep) ConstantInBlock)
-    ++ at end (when (is_empty n (between text ws (k + 1) j)) EmptyDeclaration)
-    ++ at_each (constant_codes n) [] (between text ws (k + 1) j))
-constants_is n deep kw end text ws k j h l =
+-- whether there are no words
+pub none_between : (n : Names) (text : List ℕ) (ws : List place.Word) (k j : ℕ) → k < j
+    → j ≤ length ws
+    → nat_eq (j - k - 1) 0 ≡ is_empty n (between text ws (k + 1) j)
+none_between n text ws k j h l =
     let m = length_between text ws (k + 1) j (omega arith) l in
     let c : j - k - 1 ≡ length (between text ws (k + 1) j) = omega (arith, m) in
-    rw (c, empty_count n) (grind (arith, least_append, lesser_fault_assoc))
-
-pub variables_is : (n : Names) (deep kw end : ℕ) (text : List ℕ) (ws : List place.Word) (k j : ℕ)
-    → k < j → j ≤ length ws
-    → lesser_fault (list_fault Variables deep kw end (j - k - 1))
-    (least (at_each (variable_codes n) [] (between text ws (k + 1) j)))
-    ≡ least (at end (when (is_empty n (between text ws (k + 1) j)) EmptyDeclaration)
-    ++ at_each (variable_codes n) [] (between text ws (k + 1) j))
-variables_is n deep kw end text ws k j h l =
-    let m = length_between text ws (k + 1) j (omega arith) l in
-    let c : j - k - 1 ≡ length (between text ws (k + 1) j) = omega (arith, m) in
-    rw (c, empty_count n, least_append, when_first) refl
+    rw c (empty_count n (between text ws (k + 1) j))

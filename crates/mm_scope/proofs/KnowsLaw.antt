@@ -12,8 +12,9 @@ use Rattle.mm_spec.specs.Statement.{Statement}
 use Rattle.mm_spec.specs.Scope.{names_before, active_statements, is_active, variables_of}
 use Rattle.mm_spec.specs.Scope.{constants_of, label_words, typings_of}
 use Rattle.mm_outline.specs.Blocks.{BlockLists, IsBlocks, never, end_in, is_never, is_open_in}
-use Rattle.mm_scope.specs.Judge as judge
-use Rattle.mm_scope.specs.Judge.{Knows, has_other_typecode, is_typed_here, entry_of}
+use Rattle.mm_scope.specs.Knows as judge
+use Rattle.mm_scope.specs.Knows.{Knows, has_other_typecode, is_typed_here}
+use Rattle.mm_scope.specs.WordEntry.{entry_of}
 use Rattle.mm_scope.specs.WordEntry.{IsEntryOf, typed_by, typecode_by, is_other, is_constant_entry}
 use Rattle.mm_scope.specs.WordEntry.{is_variable_entry}
 use Rattle.mm_outline.specs.Typed.{has_word, typed_words}

@@ -18,11 +18,10 @@ use Rattle.mm_spec.specs.declared.Word as place
 use Rattle.mm_database.specs.Numbered.{AreNumbered}
 use Rattle.mm_outline.specs.Parts.{between, token_at}
 use Rattle.mm_outline.proofs.TurnsLaw.{between_more, between_none}
-use Rattle.mm_database.specs.Cuts.{AreJoined, joined}
+use Rattle.mm_lists.specs.Lists.{AreJoined}
 use Rattle.mm_database.specs.Names.{with_name}
-use Rattle.mm_database.proofs.CutsLaw.{more_joined}
+use Rattle.mm_lists.proofs.ListsLaw.{more_joined}
 use Rattle.mm_outline.proofs.StatementsLaw.{get_mapped}
-use Rattle.std.proofs.lemmas.List.Folds.{flat_map-map}
 use Rattle.std.proofs.lemmas.List.{length-map}
 use Rattle.mm_scope.specs.Formulas.{AreFormulas, numbers_in, judged, unjudged}
 use Rattle.mm_database.proofs.SymbolsLaw.{first_added, if_new, itself}
@@ -134,15 +133,14 @@ module _ (db : List Statement) (lawful : (k : ℕ) → k < length db → scope_f
 
   -- one statement more
   pub formulas_more : (numbers places : List ℕ) → AreFormulas db numbers places → (more : List ℕ)
-      → more ≡ numbers ++ formula_of all s → (at : ℕ) → at ≡ length more
-      → AreFormulas all more (places ++ at ∷ [])
-  formulas_more numbers places f more e at a =
-      rw (a, e)
+      → more ≡ numbers ++ formula_of all s → AreFormulas all more (places ++ length more ∷ [])
+  formulas_more numbers places f more e =
+      rw e
       (subst (λ fs. AreJoined fs (numbers ++ formula_of all s)
       (places ++ length (numbers ++ formula_of all s) ∷ [])) formulas-next
       (more_joined (map (formula_of db) db) (formula_of all s) numbers places f))
 
--- ---- the formulas one by one, and side by side
+-- ---- the formulas one by one
 
 pub formulas_numbered : (db : List Statement) → AreNumbered db (map (formula_of db) db)
 formulas_numbered db = record {
@@ -153,10 +151,6 @@ formulas_numbered db = record {
       (slice_get-get_or db k (opening 0) l)
       ∙ append-nil (formula_of db (get_or db k (opening 0))));
 }
-
-pub formulas_joined : (db : List Statement)
-    → joined (map (formula_of db) db) ≡ flat_map (formula_of db) db
-formulas_joined db = flat_map-map (λ (f : List ℕ). f) (formula_of db) db
 
 -- ---- words numbered one by one
 

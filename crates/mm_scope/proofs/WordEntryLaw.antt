@@ -12,7 +12,7 @@ use Rattle.mm_spec.specs.Text.{Bytes, is_in}
 use Rattle.mm_spec.specs.Statement.{Statement}
 use Rattle.mm_spec.specs.Scope.{Typing, active_statements, variables_of, constants_of, typings_of}
 use Rattle.mm_outline.specs.Blocks.{never}
-use Rattle.mm_scope.specs.Judge.{WordEntry, entry, declared_entry, typed_entry}
+use Rattle.mm_scope.specs.WordEntry.{WordEntry, entry, declared_entry, typed_entry}
 use Rattle.mm_scope.specs.WordEntry.{IsEntryOf, Latest, typed_by, typecode_by, declared_by}
 use Rattle.mm_scope.specs.WordEntry.{is_other}
 use Rattle.mm_scope.specs.WordEntry.{is_constant_entry, is_variable_entry}

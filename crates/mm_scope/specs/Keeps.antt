@@ -9,17 +9,16 @@ use Rattle.mm_spec.specs.declared.Word.{Word}
 use Rattle.mm_outline.specs.Parts.{statement_of}
 use Rattle.mm_outline.specs.Statements.{statements}
 use Rattle.mm_outline.specs.declared.parts.Outline.{Outline}
-use Rattle.mm_spec.specs.Frame.{symbol_names, formula_of}
+use Rattle.mm_spec.specs.Frame.{symbol_names}
 use Rattle.mm_outline.specs.Blocks.{BlockLists, IsBlocks}
-use Rattle.mm_database.specs.Cuts.{cut_at}
+use Rattle.mm_lists.specs.Lists.{cut_at}
 use Rattle.mm_database.specs.Parsed.{parsed}
 use Rattle.mm_database.specs.Names.{find, names_of}
 use Rattle.mm_scope.specs.Formulas.{AreFormulas}
 use Rattle.mm_scope.specs.declared.reading.Outlined.{Outlined}
 use Rattle.mm_database.specs.declared.reading.Reading.{Reading}
 use Rattle.mm_spec.specs.Text.{is_in}
-use Rattle.mm_scope.specs.Judge.{entry_of}
-use Rattle.mm_scope.specs.WordEntry.{IsEntryOf}
+use Rattle.mm_scope.specs.WordEntry.{IsEntryOf, entry_of}
 use Rattle.mm_database.specs.Labels.{AreLabels}
 use Rattle.mm_database.specs.declared.names.Symbol.{Symbol}
 
@@ -70,7 +69,7 @@ module _ {A : Type 0} where
 
   -- the symbols of each statement
   abbrev pub formulas_of : Outlined A → List (List ℕ)
-  formulas_of r = cut_at r.places.items r.numbers.items
+  formulas_of r = cut_at 0 r.places.items r.numbers.items
 
   -- what was read of the text, the names by themselves
   abbrev pub reading_of : List ℕ → Outlined A → Reading A
@@ -88,4 +87,3 @@ pub record MayTake (db : List Statement) (deep : ℕ) (s : Statement) : Type 0 w
   pub depth_is : deep ≡ depth db (length db)
   pub inside : is_closing s ≡ true → 0 < depth db (length db)
   pub few_names : length (symbol_names (db ++ s ∷ [])) < 2 ^ 31
-  pub few_numbers : length (flat_map (formula_of (db ++ s ∷ [])) (db ++ s ∷ [])) < 2 ^ 31

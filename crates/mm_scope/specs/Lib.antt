@@ -1,5 +1,5 @@
 pub mod Formulas
-pub mod Judge
 pub mod Keeps
+pub mod Knows
 pub mod Scopes
 pub mod WordEntry

@@ -3,7 +3,8 @@ use Rattle.std.specs.Prelude.{◌≡◌, ◌<◌, ◌+◌, ℕ, List, [], ◌∷
 use Rattle.mm_spec.specs.Text.{words}
 use Rattle.mm_spec.specs.Statement.{Statement, is_closing}
 use Rattle.mm_spec.specs.Scope.{Names, names_before, depth, constants_of, variables_of}
-use Rattle.mm_spec.specs.Lawful.{least, scope_faults}
+use Rattle.mm_spec.specs.Lawful.{at, least, scope_faults}
+use Rattle.mm_spec.specs.declared.Code.{Code}
 use Rattle.mm_spec.specs.declared.Fault.{Fault}
 use Rattle.mm_spec.specs.declared.Word.{Word}
 use Rattle.mm_spec.specs.Frame.{first_occurrences}
@@ -13,7 +14,8 @@ use Rattle.mm_outline.specs.declared.parts.Outline.{Outline}
 use Rattle.mm_database.specs.Names.{find, names_of}
 use Rattle.mm_database.specs.declared.names.Symbol.{Symbol}
 use Rattle.mm_scope.specs.declared.scope.Scope.{Scope}
-use Rattle.mm_scope.specs.Judge.{WordEntry, Knows, entry_of}
+use Rattle.mm_scope.specs.Knows.{Knows, fault_at}
+use Rattle.mm_scope.specs.WordEntry.{WordEntry, entry_of}
 use Rattle.mm_scope.specs.Keeps.{KnowsStatements}
 
 -- the outline is that of a whole statement among these tokens of a text
@@ -67,6 +69,11 @@ module _ {A : Type 0} where
   -- a fault is the least of those that a rule gives by the names before the next statement
   abbrev pub IsLeastFault : Scope A → (Names → List Fault) → Option Fault → Type 0
   IsLeastFault s rule found = (n : Names) → AreNamesOf s n → found ≡ least (rule n)
+
+  -- a code is that of the least fault, wherever the codes of the rule are found
+  abbrev pub IsLeastCode : Scope A → (Names → List Code) → Option Code → Type 0
+  IsLeastCode s rule found =
+      (place : ℕ) → IsLeastFault s (λ n. at place (rule n)) (fault_at place found)
 
   -- the symbols are those before and these words, where they are new
   abbrev pub Declares : Scope A → Scope A → List (List ℕ) → Type 0

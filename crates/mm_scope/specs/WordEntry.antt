@@ -6,8 +6,22 @@ use Rattle.mm_spec.specs.Text.{Bytes, Token, is_in, words}
 use Rattle.mm_spec.specs.Statement.{Statement, constants, variables, floating}
 use Rattle.mm_spec.specs.Scope.{Typing, is_active, constants_of, variables_of, typings_of}
 use Rattle.mm_outline.specs.Blocks.{never}
-use Rattle.mm_scope.specs.Judge.{WordEntry, after_declaring, typed_entry}
 use Rattle.mm_outline.specs.Typed.{has_word, typed_words}
+use Rattle.mm_database.specs.declared.names.Symbol.{Symbol}
+
+-- what is known of a symbol, with its typecode as bytes
+pub record WordEntry : Type 0 where
+  pub is_variable : Bool
+  pub declared : ℕ
+  pub typed : ℕ
+  pub typecode : List ℕ
+
+abbrev pub entry : Bool → ℕ → ℕ → List ℕ → WordEntry
+entry v j t c = record { is_variable = v; declared = j; typed = t; typecode = c }
+
+abbrev pub entry_of : Option Symbol → Option WordEntry
+entry_of None = None
+entry_of (Some s) = Some (entry s.is_variable s.declared s.typed s.typecode.now)
 
 -- whether the typing gives the word another typecode
 abbrev pub is_other : Bytes → Bytes → Typing → Bool
@@ -53,6 +67,26 @@ pub record IsEntryOf (db : List Statement) (w : Bytes) (x : Option WordEntry) : 
   pub otherwise : (c : Bytes)
       → list_any (is_other c w) (flat_map typings_of db)
       ≡ (not (nat_eq (typed_by x) never) && not (bytes_eq c (typecode_by x)))
+
+-- the entry after the symbol's declaration by a statement
+abbrev pub declared_entry : Bool → ℕ → List ℕ → Option WordEntry → Option WordEntry
+declared_entry v number w None = Some (entry v number never w)
+declared_entry v number w (Some e) = Some (entry v number e.typed e.typecode)
+
+-- the entry of a word after the declaration of words by a statement
+abbrev pub after_declaring : Bool → ℕ → List (List ℕ) → List ℕ → Option WordEntry → Option WordEntry
+after_declaring v number ws w x = if is_in w ws then declared_entry v number w x else x
+
+-- the entry after a `$f`
+abbrev pub typed_entry : ℕ → List ℕ → Option WordEntry → Option WordEntry
+typed_entry number c None = None
+typed_entry number c (Some e) = Some (entry e.is_variable e.declared number c)
+
+-- the entry of a word after the `$f` of a variable, by the entries before it
+abbrev pub after_typing : ℕ → List ℕ → List ℕ → (List ℕ → Option WordEntry) → List ℕ
+    → Option WordEntry
+after_typing number typecode variable entries w =
+    if bytes_eq variable w then typed_entry number typecode (entries variable) else entries w
 
 -- the entry of a word after statement n, and the statement of a label after it
 abbrev pub typed_after : ℕ → List Token → Bytes → Option WordEntry → Option WordEntry

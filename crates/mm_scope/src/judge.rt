@@ -1,19 +1,17 @@
 //! The faults of the next statement.
 
-ghost use Rattle.std.specs.Prelude.{◌≡◌, ◌<◌, ◌≤◌, ◌++◌, [], length, OnOk, IfOk, ◌^◌, map};
+ghost use Rattle.std.specs.Prelude.{◌≡◌, ◌<◌, ◌≤◌, ◌++◌, [], length, OnOk, IfOk, ◌^◌, false, true};
 ghost use Rattle.std.specs.Prelude.{◌+◌, ◌-◌, ℕ, List, is_some, Some, if◌then◌else◌, bytes_eq};
-ghost use Rattle.std.specs.Prelude.{false};
-ghost use Rattle.mm_spec.specs.Text.{is_in};
+ghost use Rattle.mm_spec.specs.Text.{is_in, words};
 ghost use Rattle.mm_database.specs.Names.{find};
 ghost use Rattle.mm_scope.specs.Formulas.{judged, numbers_in};
-ghost use Rattle.mm_spec.specs.Lawful.{at_each, symbol_codes, formula_faults};
-ghost use Rattle.mm_spec.specs.Lawful.{floating_faults, label_faults, scope_faults};
+ghost use Rattle.mm_spec.specs.Lawful.{at, at_each, least, when as spec_when, symbol_codes};
+ghost use Rattle.mm_spec.specs.Lawful.{formula_faults, floating_faults, label_faults, scope_faults};
 ghost use Rattle.mm_spec.specs.Scope.{Names as DeclaredNames};
-ghost use Rattle.mm_outline.specs.Parts.{AreWithin, between, nth_word, token_at};
-ghost use Rattle.mm_outline.specs.Parts.{statement_of};
-ghost use Rattle.mm_scope.specs.Judge.{lesser_fault as spec_lesser_fault, fault_at, declared_codes};
-ghost use Rattle.mm_scope.specs.Judge.{declared_fault, labelled_faults, list_fault, before_next};
-ghost use Rattle.mm_scope.specs.Scopes.{AreNamesOf, IsAmong, IsLeastFault, names_in};
+ghost use Rattle.mm_spec.specs.declared.Fault.{Fault as SpecFault};
+ghost use Rattle.mm_outline.specs.Parts.{AreWithin, between, nth_word, token_at, statement_of};
+ghost use Rattle.mm_scope.specs.Knows.{fault_at, listed_codes, lists_symbols};
+ghost use Rattle.mm_scope.specs.Scopes.{IsAmong, IsLeastFault, names_in};
 
 use crate::scope::Scope;
 use indexmap::IndexMap;
@@ -52,7 +50,7 @@ impl<'a, A: Allocator + Copy> Scope<'a, A> {
             let token = tokens[at as usize];
             let (number, known) = self.names.numbered(token.bytes(text));
             numbers.push(Sym::new(number as u32))?;
-            best = note(best, token.start, self.symbol_code(known));
+            best = lesser(best, found(token.start, self.symbol_code(known)));
         }
         Ok(best)
     }
@@ -72,7 +70,7 @@ impl<'a, A: Allocator + Copy> Scope<'a, A> {
         requires within { to < length tokens.now }
         ensures { IfOk result
             (IsLeastFault self.now
-            (λ n. at_each (declared_codes n kind) [] (between text.now tokens.now from to))) }
+            (λ n. at_each (listed_codes n kind) [] (between text.now tokens.now from to))) }
     {
         let is_short = to - from <= MAX_WORDS_COMPARED;
         let mut seen = IndexMap::new(alloc);
@@ -81,7 +79,8 @@ impl<'a, A: Allocator + Copy> Scope<'a, A> {
             let repeated = is_repeated(&mut seen, is_short, text, tokens, from, at)?;
             let token = tokens[at as usize];
             let word = token.bytes(text);
-            best = note(best, token.start, self.declared_code(kind, word, repeated));
+            let code = self.declared_code(kind, word, repeated);
+            best = lesser(best, found(token.start, code));
         }
         Ok(best)
     }
@@ -110,14 +109,14 @@ impl<'a, A: Allocator + Copy> Scope<'a, A> {
             ++ numbers_in (names_in self.now) (between text.now tokens.now from to)) }
     {
         if from == to {
-            return Ok(note(None, tokens[to as usize].start, Some(Code::BadTypecode)));
+            return Ok(found(tokens[to as usize].start, Some(Code::BadTypecode)));
         }
         let token = tokens[from as usize];
         let (number, known) = self.names.numbered(token.bytes(text));
         numbers.push(Sym::new(number as u32))?;
-        let typecode = note(None, token.start, Self::typecode_code(known));
+        let typecode = found(token.start, Self::typecode_code(known));
         let rest = self.symbols_fault(text, tokens, from + 1, to, numbers)?;
-        Ok(lesser_fault(typecode, rest))
+        Ok(lesser(typecode, rest))
     }
 
     /// Returns the fault of the label at the token `at`.
@@ -128,7 +127,7 @@ impl<'a, A: Allocator + Copy> Scope<'a, A> {
             (λ n. label_faults n (token_at text.now tokens.now at)) result }
     {
         let token = tokens[at as usize];
-        note(None, token.start, self.label_code(token.bytes(text)))
+        found(token.start, self.label_code(token.bytes(text)))
     }
 
     /// Returns the fault of the symbols of a `$f`.
@@ -141,79 +140,41 @@ impl<'a, A: Allocator + Copy> Scope<'a, A> {
             (between text.now tokens.now (keyword + 1) to)) result }
     {
         if to - keyword != 3 {
-            return note(
-                None,
-                tokens[keyword as usize].start,
-                Some(Code::BadFloating),
-            );
+            return found(tokens[keyword as usize].start, Some(Code::BadFloating));
         }
         let first = tokens[keyword as usize + 1];
         let second = tokens[keyword as usize + 2];
         let typecode = first.bytes(text);
         let variable = second.bytes(text);
         match self.typing_code(typecode, variable) {
-            Some(code) => note(None, second.start, code),
-            None => note(
-                None,
-                tokens[keyword as usize].start,
-                Some(Code::BadFloating),
-            ),
+            Some(code) => found(second.start, code),
+            None => found(tokens[keyword as usize].start, Some(Code::BadFloating)),
         }
     }
 
     /// Returns the fault of a `$c`, `$v` or `$d` as a whole.
-    fn list_fault(
-        &self,
-        tokens: &[Word],
-        kind: Kind,
-        deep: u32,
-        keyword: u32,
-        end: u32,
-    ) -> Option<Fault>
-        requires order { keyword < end }
-        requires within { end < length tokens.now }
-        ensures { result
-            ≡ list_fault kind deep (nth_word tokens.now keyword).start
-            (nth_word tokens.now end).start (end - keyword - 1) }
+    fn list_fault(_text: &[u8], tokens: &[Word], deep: u32, outline: Outline) -> Option<Fault>
+        requires among { IsAmong _text.now tokens.now outline }
+        requires order { outline.keyword < outline.middle }
+        requires lists { lists_symbols outline.kind ≡ true }
+        ensures { (n : DeclaredNames)
+            → (faults : List SpecFault)
+            × (result ≡ least faults)
+            × (scope_faults n deep (statement_of _text.now tokens.now outline)
+            ≡ faults
+            ++ at_each (listed_codes n outline.kind) []
+            (between _text.now tokens.now (outline.keyword + 1) outline.middle)) }
     {
-        let place = tokens[end as usize].start;
-        let count = end - keyword - 1;
-        match kind {
+        let first = tokens[outline.keyword as usize].start;
+        let end = tokens[outline.middle as usize].start;
+        let count = outline.middle - outline.keyword - 1;
+        match outline.kind {
             Kind::Constants => {
-                let deep = if deep > 0 {
-                    Some(Code::ConstantInBlock)
-                } else {
-                    None
-                };
-                let none = if count == 0 {
-                    Some(Code::EmptyDeclaration)
-                } else {
-                    None
-                };
-                note(
-                    note(None, tokens[keyword as usize].start, deep),
-                    place,
-                    none,
-                )
+                let deep = found(first, when(deep > 0, Code::ConstantInBlock));
+                lesser(deep, found(end, when(count == 0, Code::EmptyDeclaration)))
             }
-            Kind::Variables => note(
-                None,
-                place,
-                if count == 0 {
-                    Some(Code::EmptyDeclaration)
-                } else {
-                    None
-                },
-            ),
-            _ => note(
-                None,
-                place,
-                if count < 2 {
-                    Some(Code::TooFewVariables)
-                } else {
-                    None
-                },
-            ),
+            Kind::Variables => found(end, when(count == 0, Code::EmptyDeclaration)),
+            _ => found(end, when(count < 2, Code::TooFewVariables)),
         }
     }
 
@@ -250,7 +211,7 @@ impl<'a, A: Allocator + Copy> Scope<'a, A> {
             Kind::Disjoint => self.declared(alloc, text, tokens, deep, outline),
             Kind::Floating => {
                 let label = self.label_fault(text, tokens, keyword - 1);
-                Ok(lesser_fault(label, self.floating_fault(text, tokens, keyword, middle)))
+                Ok(lesser(label, self.floating_fault(text, tokens, keyword, middle)))
             }
             Kind::Essential => self.labelled(text, tokens, outline, numbers),
             Kind::Axiom => self.labelled(text, tokens, outline, numbers),
@@ -272,7 +233,11 @@ impl<'a, A: Allocator + Copy> Scope<'a, A> {
         requires order { outline.keyword < outline.middle }
         requires few { length (names_in self.now) < 2 ^ 31 }
         ensures fault { IfOk result
-            (IsLeastFault self.now (λ n. labelled_faults n text.now tokens.now outline)) }
+            (IsLeastFault self.now
+            (λ n. label_faults n (token_at text.now tokens.now (outline.keyword - 1))
+            ++ formula_faults n
+            (between text.now tokens.now (outline.keyword + 1) outline.middle)
+            (nth_word tokens.now outline.middle).start)) }
         ensures numbers { OnOk result
             (numbers.new.items
             ≡ numbers.old.items
@@ -282,7 +247,7 @@ impl<'a, A: Allocator + Copy> Scope<'a, A> {
         let label = self.label_fault(text, tokens, outline.keyword - 1);
         let from = outline.keyword + 1;
         let formula = self.formula_fault(text, tokens, from, outline.middle, numbers)?;
-        Ok(lesser_fault(label, formula))
+        Ok(lesser(label, formula))
     }
 
     /// Returns the least fault of a `$c`, `$v` or `$d`.
@@ -296,25 +261,57 @@ impl<'a, A: Allocator + Copy> Scope<'a, A> {
     ) -> Result<Option<Fault>, AllocError>
         requires among { IsAmong text.now tokens.now outline }
         requires order { outline.keyword < outline.middle }
+        requires lists { lists_symbols outline.kind ≡ true }
         ensures { IfOk result
-            (λ r. (n : DeclaredNames)
-            → AreNamesOf self.now n
-            → r ≡ declared_fault n deep text.now tokens.now outline) }
+            (IsLeastFault self.now
+            (λ n. scope_faults n deep (statement_of text.now tokens.now outline))) }
     {
         let from = outline.keyword + 1;
         let rest = self.declared_fault(alloc, text, tokens, outline.kind, from, outline.middle)?;
-        let whole = self.list_fault(tokens, outline.kind, deep, outline.keyword, outline.middle);
-        Ok(lesser_fault(whole, rest))
+        let whole = Self::list_fault(text, tokens, deep, outline);
+        Ok(lesser(whole, rest))
     }
 }
 
-/// Returns the lesser of two faults, if any.
-fn lesser_fault(best: Option<Fault>, fault: Option<Fault>) -> Option<Fault>
-    ensures { result ≡ spec_lesser_fault best fault }
+/// Returns the code if the test holds.
+fn when(holds: bool, code: Code) -> Option<Code>
+    ensures { (place : ℕ) → fault_at place result ≡ least (at place (spec_when holds code)) }
 {
-    match fault {
-        Some(fault) => note(best, fault.at, Some(fault.code)),
-        None => best,
+    if holds { Some(code) } else { None }
+}
+
+/// Returns the fault with the code at a place, if any.
+#[inline(always)]
+fn found(at: u32, code: Option<Code>) -> Option<Fault>
+    ensures { result ≡ fault_at at code }
+{
+    match code {
+        Some(code) => Some(Fault { at, code }),
+        None => None,
+    }
+}
+
+/// Returns the least fault of two lists, by the least of each. The place decides, and at the same
+/// place the number of the code.
+#[inline(always)]
+fn lesser(first: Option<Fault>, second: Option<Fault>) -> Option<Fault>
+    ensures { (earlier later : List SpecFault)
+        → first ≡ least earlier
+        → second ≡ least later
+        → result ≡ least (earlier ++ later) }
+{
+    let Some(new) = second else {
+        return first;
+    };
+    match first {
+        Some(old) => {
+            if old.at < new.at || (old.at == new.at && old.code.number() <= new.code.number()) {
+                first
+            } else {
+                second
+            }
+        }
+        None => second,
     }
 }
 
@@ -329,7 +326,7 @@ fn is_among(text: &[u8], tokens: &[Word], from: u32, at: u32) -> bool
     requires within { at < length tokens.now }
     ensures { result
         ≡ is_in (token_at text.now tokens.now at).word
-        (before_next [] (between text.now tokens.now from at)) }
+        (words (between text.now tokens.now from at)) }
 {
     let token = tokens[at as usize];
     let word = token.bytes(text);
@@ -356,14 +353,14 @@ fn is_repeated<'a, A: Allocator + Copy>(
     requires within { at < length tokens.now }
     requires seen { is_short ≡ false → (w : List ℕ)
         → is_some (find seen.old.entries w)
-        ≡ is_in w (before_next [] (between text.now tokens.now from at)) }
+        ≡ is_in w (words (between text.now tokens.now from at)) }
     ensures repeated { IfOk result
         (λ b. b ≡ is_in (token_at text.now tokens.now at).word
-        (before_next [] (between text.now tokens.now from at))) }
+        (words (between text.now tokens.now from at))) }
     ensures seen { OnOk result
         (is_short ≡ false → (w : List ℕ)
         → is_some (find seen.new.entries w)
-        ≡ is_in w (before_next [] (between text.now tokens.now from (at + 1)))) }
+        ≡ is_in w (words (between text.now tokens.now from (at + 1)))) }
 {
     if is_short {
         Ok(is_among(text, tokens, from, at))
@@ -386,28 +383,4 @@ fn see<'a, A: Allocator + Copy>(
 {
     let old = seen.insert(Name { bytes: word }, 0)?;
     Ok(old.is_some())
-}
-
-/// Returns the lesser of two faults, if any: `best`, and the one with `code` at `at`. The place
-/// decides, and at the same place the number of the code.
-#[inline(always)]
-fn note(best: Option<Fault>, at: u32, code: Option<Code>) -> Option<Fault>
-    ensures { result ≡ spec_lesser_fault best (fault_at at code) }
-{
-    match code {
-        Some(code) => {
-            let new = Fault { at, code };
-            match best {
-                Some(old) => {
-                    if old.at < at || (old.at == at && old.code.number() <= code.number()) {
-                        Some(old)
-                    } else {
-                        Some(new)
-                    }
-                }
-                None => Some(new),
-            }
-        }
-        None => best,
-    }
 }

@@ -3,7 +3,7 @@
 ghost use Rattle.std.specs.Prelude.{◌≡◌, ◌<◌, ◌^◌, [], None, All, length, OnOk, IfOk};
 ghost use Rattle.mm_spec.specs.Output.{IsRead};
 ghost use Rattle.mm_spec.specs.Lexed.{tokens_of};
-ghost use Rattle.mm_database.specs.Cuts.{AreJoined};
+ghost use Rattle.mm_lists.specs.Lists.{AreEnds};
 ghost use Rattle.mm_database.specs.Parsed.{AreParts};
 ghost use Rattle.mm_outline.specs.Parts.{AreWithin, IsOutline, depth_after, statement_of};
 ghost use Rattle.mm_outline.specs.Tokens.{AreTokens};
@@ -13,10 +13,10 @@ ghost use Rattle.mm_scope.specs.Keeps.{HasTaken, IsKeptOf, MayTake, formulas_of,
 ghost use Rattle.mm_scope.specs.Keeps.{reading_of};
 
 use crate::scope::Scope;
-use mm_database::formulas::Formulas;
 use mm_database::names::no_names;
 use mm_database::reading::Reading;
 use mm_database::statements::Statements;
+use mm_lists::{Lists, end_list};
 use mm_outline::blocks::no_blocks;
 use mm_outline::parts::{Kind, NextStatement, Outline, Part, next_statement};
 use mm_outline::symbol::Sym;
@@ -24,7 +24,7 @@ use mm_spec::{Code, Fault, Word};
 use std::alloc::{AllocError, Allocator};
 
 /// The lawful statements of a text as outlines, the names after them, their symbols by number,
-/// concatenated, with the places where those of each begin, and the fault that stopped the reading,
+/// concatenated, with the places where those of each end, and the fault that stopped the reading,
 /// if any.
 pub struct Outlined<'a, A: Allocator> {
     pub outlines: Vec<Outline, A>,
@@ -51,7 +51,7 @@ impl<'a, A: Allocator> Outlined<'a, A> {
     /// Returns what was read of the text, the names by themselves. `variables` says for each symbol
     /// whether it is a variable.
     pub fn into_reading(self, text: &'a [u8], variables: Vec<bool, A>) -> Reading<'a, A>
-        requires joined { AreJoined (formulas_of self) self.numbers.items self.places.items }
+        requires ends { AreEnds 0 self.places.items (length self.numbers.items) }
         requires parts { AreParts
             (statements text.now (tokens_of text.now) self.outlines.items) self.scope.blocks
             (formulas_of self) variables.items }
@@ -65,7 +65,7 @@ impl<'a, A: Allocator> Outlined<'a, A> {
             fault,
         } = self;
         let Scope { names, blocks } = scope;
-        let formulas = Formulas::new(numbers, places);
+        let formulas = Lists::from_ends(numbers, places);
         Reading {
             statements: Statements::new(text, outlines, blocks, formulas, variables),
             names,
@@ -129,13 +129,11 @@ fn nothing_read<'a, A: Allocator + Copy>(alloc: A) -> Result<Outlined<'a, A>, Al
         (λ r. (r.outlines.items ≡ []) × (r.fault ≡ None) × IsKeptOf [] (kept_by r)) }
 {
     let scope = no_scope(alloc)?;
-    let mut places = Vec::new(alloc);
-    places.push(0)?;
     Ok(Outlined {
         outlines: Vec::new(alloc),
         scope,
         numbers: Vec::new(alloc),
-        places,
+        places: Vec::new(alloc),
         fault: None,
     })
 }
@@ -171,7 +169,7 @@ impl<'a, A: Allocator + Copy> Outlined<'a, A> {
         self.scope.add(text, tokens, outline)?;
         self.scope
             .number_others(text, tokens, outline, &mut self.numbers)?;
-        self.places.push(self.numbers.len() as u32)?;
+        end_list(&self.numbers, &mut self.places)?;
         self.outlines.push(outline)?;
         Ok(())
     }

@@ -1,18 +1,21 @@
 //! The names and the blocks before a statement, what they say of a word, and those after it.
 
-ghost use Rattle.std.specs.Prelude.{◌≡◌, ◌<◌, ◌+◌, ◌-◌, ◌^◌, ℕ, List, Some, is_some, length, OnOk};
+ghost use Rattle.std.specs.Prelude.{◌≡◌, ◌<◌, ◌+◌, ◌-◌, ◌^◌, ◌∷◌, ◌++◌, [], ℕ, List, Some};
+ghost use Rattle.std.specs.Prelude.{length, not, true, OnOk};
+ghost use Rattle.mm_spec.specs.Text.{is_in, token};
 ghost use Rattle.mm_spec.specs.Statement.{Statement, label_of};
+ghost use Rattle.mm_spec.specs.Lawful.{at, is_typed, is_typed_otherwise, least, when, symbol_codes};
+ghost use Rattle.mm_spec.specs.Lawful.{label_faults, floating_faults};
+ghost use Rattle.mm_spec.specs.declared.Code.TheVariants.{BadTypecode, TypedBefore, OtherTypecode};
 ghost use Rattle.mm_outline.specs.Blocks.{is_open_in};
 ghost use Rattle.mm_outline.specs.Parts.{AreWithin, token_at, statement_of};
-ghost use Rattle.mm_database.specs.Names.{find as find_in};
-ghost use Rattle.mm_scope.specs.Judge.{is_active_symbol, is_typed_symbol, symbol_code};
-ghost use Rattle.mm_scope.specs.Judge.{label_code, typecode_code, floating_code, declared_code};
-ghost use Rattle.mm_scope.specs.Judge.{typing_code};
-ghost use Rattle.mm_scope.specs.Judge.{after_declaring, after_typing, declared_entry, entry_of};
+ghost use Rattle.mm_database.specs.Names.{find as find_in, is_constant_in};
+ghost use Rattle.mm_scope.specs.Knows.{is_active_symbol, fault_at, listed_codes, typing_fault};
+ghost use Rattle.mm_scope.specs.WordEntry.{after_declaring, after_typing, declared_entry, entry_of};
 ghost use Rattle.mm_scope.specs.WordEntry.{entry_after, label_after};
-ghost use Rattle.mm_scope.specs.Scopes.{Declares, IsAmong, IsScopeAfter, IsNextScope};
-ghost use Rattle.mm_scope.specs.Scopes.{declared_words, listed_words, symbol_in};
-ghost use Rattle.mm_scope.specs.Scopes.{entry_in, label_in, names_in};
+ghost use Rattle.mm_scope.specs.Scopes.{Declares, IsAmong, IsLeastCode, IsLeastFault};
+ghost use Rattle.mm_scope.specs.Scopes.{IsScopeAfter, IsNextScope, declared_words, listed_words};
+ghost use Rattle.mm_scope.specs.Scopes.{symbol_in, entry_in, label_in, names_in};
 
 use mm_database::names::{NameTable, Symbol};
 use mm_outline::blocks::{Blocks, NEVER};
@@ -30,18 +33,14 @@ pub struct Scope<'a, A: Allocator> {
 impl<'a, A: Allocator + Copy> Scope<'a, A> {
     /// Whether the symbol is an active variable.
     fn is_active(&self, symbol: Symbol<'a>) -> bool
-        ensures { result
-            ≡ is_active_symbol
-            (is_open_in self.now.blocks) symbol.entry }
+        ensures { result ≡ is_active_symbol (is_open_in self.now.blocks) symbol.entry }
     {
         symbol.is_variable && self.blocks.is_open(symbol.declared)
     }
 
     /// Whether the symbol has an active `$f`.
     fn is_typed(&self, symbol: Symbol<'a>) -> bool
-        ensures { result
-            ≡ is_typed_symbol
-            (is_open_in self.now.blocks) symbol.entry }
+        ensures { result ≡ is_open_in self.now.blocks symbol.entry.typed }
     {
         self.blocks.is_open(symbol.typed)
     }
@@ -49,9 +48,9 @@ impl<'a, A: Allocator + Copy> Scope<'a, A> {
     /// Returns what is wrong with a word as a symbol of a formula after the typecode. `known` is
     /// what is known of the word.
     pub(crate) fn symbol_code(&self, known: Option<Symbol<'a>>) -> Option<Code>
-        ensures { result
-            ≡ symbol_code
-            (is_open_in self.now.blocks) known.entry }
+        ensures { (word : List ℕ)
+            → symbol_in self.now word ≡ known.entry
+            → IsLeastCode self.now (λ n. symbol_codes n [] word) result }
     {
         match known {
             Some(symbol) => {
@@ -71,9 +70,9 @@ impl<'a, A: Allocator + Copy> Scope<'a, A> {
 
     /// Returns what is wrong with a word as a label.
     pub(crate) fn label_code(&self, word: &[u8]) -> Option<Code>
-        ensures { result
-            ≡ label_code (symbol_in self.now word.now)
-            (is_some (label_in self.now word.now)) }
+        ensures { (place : ℕ)
+            → IsLeastFault self.now (λ n. label_faults n (token place word.now))
+            (fault_at place result) }
     {
         if self.names.symbol(word).is_some() {
             Some(Code::LabelIsSymbol)
@@ -86,7 +85,9 @@ impl<'a, A: Allocator + Copy> Scope<'a, A> {
 
     /// Returns what is wrong with a word as a typecode. `known` is what is known of the word.
     pub(crate) fn typecode_code(known: Option<Symbol<'a>>) -> Option<Code>
-        ensures { result ≡ typecode_code known.entry }
+        ensures { (place : ℕ)
+            → fault_at place result
+            ≡ least (at place (when (not (is_constant_in known.entry)) BadTypecode)) }
     {
         match known {
             Some(symbol) => {
@@ -102,10 +103,12 @@ impl<'a, A: Allocator + Copy> Scope<'a, A> {
 
     /// Returns what is wrong with the typecode for the variable of a `$f`.
     pub(crate) fn floating_code(&self, typecode: &[u8], symbol: Symbol<'a>) -> Option<Code>
-        ensures { result
-            ≡ floating_code
-            (is_open_in self.now.blocks) typecode.now
-            (Some symbol.entry) }
+        ensures { (word : List ℕ)
+            → symbol_in self.now word ≡ Some symbol.entry
+            → is_active_symbol (is_open_in self.now.blocks) symbol.entry ≡ true
+            → IsLeastCode self.now
+            (λ n. when (is_typed n word) TypedBefore
+            ++ when (is_typed_otherwise n typecode.now word) OtherTypecode) result }
     {
         if self.is_typed(symbol) {
             Some(Code::TypedBefore)
@@ -119,11 +122,9 @@ impl<'a, A: Allocator + Copy> Scope<'a, A> {
     /// Returns what is wrong with a word as a symbol of a `$c`, `$v` or `$d`. `repeated` says
     /// whether it occurs earlier in the statement.
     pub(crate) fn declared_code(&self, kind: Kind, word: &[u8], repeated: bool) -> Option<Code>
-        ensures { result
-            ≡ declared_code
-            (is_open_in self.now.blocks) kind
-            (symbol_in self.now word.now) repeated
-            (is_some (label_in self.now word.now)) }
+        ensures { (earlier : List (List ℕ))
+            → repeated ≡ is_in word.now earlier
+            → IsLeastCode self.now (λ n. listed_codes n kind earlier word.now) result }
     {
         let (is_known, is_active) = match self.names.symbol(word) {
             Some(symbol) => {
@@ -155,11 +156,11 @@ impl<'a, A: Allocator + Copy> Scope<'a, A> {
     /// Returns what is wrong with a constant as the type of an active variable, or `None` if the
     /// two words aren't a constant and an active variable.
     pub(crate) fn typing_code(&self, typecode: &[u8], variable: &[u8]) -> Option<Option<Code>>
-        ensures { result
-            ≡ typing_code
-            (is_open_in self.now.blocks) typecode.now
-            (symbol_in self.now typecode.now)
-            (symbol_in self.now variable.now) }
+        ensures { (keyword first second : ℕ)
+            → IsLeastFault self.now
+            (λ n. floating_faults n keyword
+            (token first typecode.now ∷ token second variable.now ∷ []))
+            (typing_fault keyword second result) }
     {
         match self.names.symbol(variable) {
             Some(symbol) => {

@@ -149,11 +149,11 @@ abbrev pub IsReportOf : Choice → List Statement → (open_theorems : Option �
     → Type 0
 IsReportOf Citations db open_theorems request bytes =
     (rows : List CitingRow) × AllZip (IsCitingRowOf db request) (theorems db) rows
-    × (bytes ≡ citation_report request.form open_theorems (length (columns db request.only)) rows)
+    × (bytes ≡ citation_report request open_theorems (length (columns db request.only)) rows)
 IsReportOf choice db open_theorems request bytes =
     (rows : List Row) × AllZip (IsRowOf db request) (theorems db) rows
     × (bytes
-    ≡ report request.form open_theorems (map (label_at db) (columns db request.only)) rows choice)
+    ≡ report request open_theorems (map (label_at db) (columns db request.only)) rows)
 
 -- the output of a text: the refusal for its first fault, or if it has none, the report requested
 abbrev pub IsOutput : List ℕ → Request → List ℕ → Type 0

@@ -6,6 +6,7 @@ use Rattle.std.specs.Int.{div_ceil}
 use Rattle.std.specs.List.{range_with_len, filter}
 use Rattle.mm_spec.specs.Text.{Bytes, Fault}
 use Rattle.mm_spec.specs.Codes.{code_number}
+use Rattle.mm_spec.specs.Request.{Request}
 use Rattle.mm_spec.specs.declared.Form.{Form}
 use Rattle.mm_spec.specs.declared.Form.TheVariants.{One, Two}
 use Rattle.mm_spec.specs.declared.Choice.{Choice}
@@ -114,19 +115,20 @@ head form axioms open_theorems theorems =
     heading (codes "mmdepend") (version form) ++ heading (codes "axioms") axioms
     ++ open_line open_theorems ++ heading (codes "theorems") theorems
 
--- the report with these labels of columns and these rows
-abbrev pub report : Form → Option ℕ → List Bytes → List Row → Choice → List ℕ
-report form open_theorems columns rows choice =
-    head form (length columns) open_theorems (length rows)
-    ++ section (has choice Matrix) (codes "matrix") (flat_map (matrix_line form) rows)
-    ++ section (has choice Counts) (codes "counts") (flat_map count_line rows)
-    ++ section (has choice Usage) (codes "usage") (usage_lines rows 0 columns)
+-- the report requested, with these labels of columns and these rows
+abbrev pub report : Request → Option ℕ → List Bytes → List Row → List ℕ
+report request open_theorems columns rows =
+    head request.form (length columns) open_theorems (length rows)
+    ++ section (has request.choice Matrix) (codes "matrix")
+    (flat_map (matrix_line request.form) rows)
+    ++ section (has request.choice Counts) (codes "counts") (flat_map count_line rows)
+    ++ section (has request.choice Usage) (codes "usage") (usage_lines rows 0 columns)
     ++ line (codes "end")
 
 -- the report of citations; `axioms` is the number of columns
-abbrev pub citation_report : Form → Option ℕ → ℕ → List CitingRow → List ℕ
-citation_report form open_theorems axioms rows =
-    head form axioms open_theorems (length rows)
+abbrev pub citation_report : Request → Option ℕ → ℕ → List CitingRow → List ℕ
+citation_report request open_theorems axioms rows =
+    head request.form axioms open_theorems (length rows)
     ++ section true (codes "citations") (flat_map citation_line rows) ++ line (codes "end")
 
 -- how many bytes there are after the last line feed, with n before these bytes

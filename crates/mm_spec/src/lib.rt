@@ -10,6 +10,7 @@ mod bytes;
 mod codes;
 
 use std::alloc::Allocator;
+use std::marker::Model;
 
 /// The greatest number of bytes of a text: `text_limit` of the definitions.
 pub const TEXT_LIMIT: usize = 2_147_483_647;
@@ -17,6 +18,13 @@ pub const TEXT_LIMIT: usize = 2_147_483_647;
 /// The greatest number of symbols of a formula in a proof, its typecode included: `formula_limit`
 /// of the definitions.
 pub const FORMULA_LIMIT: usize = 1_048_576;
+
+/// The greatest number of pieces into which a text is cut by their number: `piece_limit` of the
+/// definitions.
+pub const PIECE_LIMIT: u32 = 64;
+
+/// The greatest number of workers that check proofs: `worker_limit` of the definitions.
+pub const WORKER_LIMIT: u32 = 64;
 
 /// A word of a text by its places, which are byte offsets from 0: the bytes from `start` up to, but
 /// not including, `end`.
@@ -68,6 +76,37 @@ pub enum Form {
     One,
     /// A hexadecimal digit for every four columns, the first of them as its highest bit.
     Two,
+}
+
+/// What is requested of a report.
+#[derive(Drop)]
+pub struct Request<'a> {
+    /// The typecode of the axioms that are columns and of the citations that are listed, if one is
+    /// chosen.
+    pub only: Option<&'a [u8]>,
+    /// The sections.
+    pub choice: Choice,
+    /// How the matrix is written.
+    pub form: Form,
+    /// Whether a theorem cites only by the essential nodes of its proof.
+    pub essential: bool,
+    /// Whether open theorems count as axioms.
+    pub with_open: bool,
+}
+
+impl<'a> Model for Request<'a> {
+    ghost use Rattle.std.specs.Option.{option_copied};
+    ghost use Rattle.mm_spec.specs.Request.{Request as Requested};
+
+    ghost Value = { Requested };
+
+    ghost view = { λ r. record {
+      only = option_copied r.only;
+      choice = r.choice;
+      form = r.form;
+      essential = r.essential;
+      with_open = r.with_open;
+    } };
 }
 
 /// A fault of a text: the place, a byte offset from 0, and what is wrong there.

@@ -4,7 +4,8 @@ ghost use Rattle.std.specs.Prelude.{◌≡◌, ◌<◌, ◌+◌, ◌++◌, All, 
 ghost use Rattle.mm_outline.specs.Parts.{IsOutline};
 ghost use Rattle.mm_database.specs.Kept.{kept_words};
 
-use mm_database::kept::{Kept, has_label};
+use mm_database::kept::has_label;
+use mm_lists::{Lists, end_list};
 use mm_outline::parts::Outline;
 use mm_spec::Word;
 use std::alloc::{AllocError, Allocator};
@@ -35,16 +36,15 @@ pub(crate) fn keep_all<A: Allocator + Copy>(
     alloc: A,
     tokens: &[Word],
     outlines: &[Outline],
-) -> Result<Kept<A>, AllocError>
+) -> Result<Lists<Word, A>, AllocError>
     requires { All (λ o. IsOutline o × (o.end < length tokens.now)) outlines.now }
     ensures { IfOk result (λ k. k ≡ map (kept_words tokens.now) outlines.now) }
 {
     let mut words = Vec::new(alloc);
-    let mut starts = Vec::new(alloc);
+    let mut ends = Vec::new(alloc);
     for outline in outlines {
-        starts.push(words.len())?;
         keep(tokens, *outline, &mut words)?;
+        end_list(&words, &mut ends)?;
     }
-    starts.push(words.len())?;
-    Ok(Kept::new(words, starts))
+    Ok(Lists::from_ends(words, ends))
 }

@@ -5,7 +5,7 @@ ghost use Rattle.mm_spec.specs.Output.{is_theorem_at, label_at};
 ghost use Rattle.mm_outline.specs.Parts.{AreWithin, IsOutline};
 ghost use Rattle.mm_outline.specs.Statements.{statements};
 
-use mm_database::listed::SpacedLabels;
+use mm_lists::{Lists, end_list};
 use mm_outline::parts::Outline;
 use mm_spec::Word;
 use std::alloc::{AllocError, Allocator};
@@ -30,7 +30,7 @@ pub fn spaced_labels_of<A: Allocator + Copy>(
     tokens: &[Word],
     outlines: &[Outline],
     theorems: &[u32],
-) -> Result<SpacedLabels<A>, AllocError>
+) -> Result<Lists<u8, A>, AllocError>
     requires words { AreWithin text.now tokens.now }
     requires outlines { All (λ o. IsOutline o × (o.end < length tokens.now)) outlines.now }
     requires theorems { All
@@ -42,12 +42,11 @@ pub fn spaced_labels_of<A: Allocator + Copy>(
         theorems.now) }
 {
     let mut bytes = Vec::new(alloc);
-    let mut starts = Vec::new(alloc);
+    let mut ends = Vec::new(alloc);
     for theorem in theorems {
-        starts.push(bytes.len())?;
         bytes.push(b' ')?;
         bytes.extend_from_slice(label_of(text, tokens, outlines, *theorem))?;
+        end_list(&bytes, &mut ends)?;
     }
-    starts.push(bytes.len())?;
-    Ok(SpacedLabels::new(bytes, starts))
+    Ok(Lists::from_ends(bytes, ends))
 }

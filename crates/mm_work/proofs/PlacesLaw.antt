@@ -7,7 +7,7 @@ use Rattle.std.proofs.lemmas.Bool.{cases_lt, cases_eq}
 use Rattle.std.proofs.Math.Seq.{take-append_seam}
 use Rattle.std.proofs.lemmas.Option.{slice_get-get_or, slice_get_within, get_or_from_slice_get}
 use Rattle.mm_spec.specs.Statement.{Statement}
-use Rattle.mm_work.specs.declared.merge.Whereabouts.{Whereabouts}
+use Rattle.mm_work.specs.declared.merge.WorkerPlace.{WorkerPlace}
 use Rattle.mm_work.specs.declared.worker.Findings.{Findings}
 use Rattle.mm_work.specs.Places.{IsNoted, HasPlace}
 use Rattle.mm_work.specs.Judged.{IsCited}
@@ -30,7 +30,7 @@ kept (y ∷ xs) (suc i) zero x n = refl
 kept (y ∷ xs) (suc i) (suc j) x n = kept xs i j x (λ e. n (ap suc e))
 
 -- where a place is the same, what is noted there is too
-pub same_noted : (old new : List Whereabouts) (worker : ℕ) (valid : List ℕ) (i : ℕ)
+pub same_noted : (old new : List WorkerPlace) (worker : ℕ) (valid : List ℕ) (i : ℕ)
     → slice_get new i ≡ slice_get old i → IsNoted old worker valid i → IsNoted new worker valid i
 same_noted old new worker valid i e h =
     record {
@@ -41,11 +41,11 @@ same_noted old new worker valid i e h =
       index_is = h.index_is;
     }
 
-module _ (first old : List Whereabouts) (worker : ℕ) (valid : List ℕ) (k x : ℕ)
-    (place : Whereabouts)
+module _ (first old : List WorkerPlace) (worker : ℕ) (valid : List ℕ) (k x : ℕ)
+    (place : WorkerPlace)
     (index : get_or valid k 0 ≡ x) (inside : x < length old) (within : k < length valid)
     (worker_is : place.worker ≡ worker) (place_is : place.place ≡ k) where
-  abbrev new : List Whereabouts
+  abbrev new : List WorkerPlace
   new = slice_set old x place
 
   here : IsNoted new worker valid x
@@ -90,7 +90,7 @@ module _ (first old : List Whereabouts) (worker : ℕ) (valid : List ℕ) (k x :
 
 module _ {A : Type 0} (fs : List (Findings A)) where
   -- after one more worker
-  pub has_more : (old new : List Whereabouts) (w : ℕ) (one : Findings A) → slice_get fs w ≡ Some one
+  pub has_more : (old new : List WorkerPlace) (w : ℕ) (one : Findings A) → slice_get fs w ≡ Some one
       → ((i : ℕ) → Contains one.valid.items i → IsNoted new w one.valid.items i)
       → ((i : ℕ) → IsNoted new w one.valid.items i ⊎ (slice_get new i ≡ slice_get old i))
       → ((v : ℕ) (f : Findings A) (i : ℕ) → v < w → slice_get fs v ≡ Some f → Contains
@@ -125,7 +125,7 @@ module _ {A : Type 0} (fs : List (Findings A)) where
           own (noted i (subst (λ (g : Findings A). Contains g.valid.items i) found m))
 
   -- what was found valid has a place
-  pub has_all : (places : List Whereabouts)
+  pub has_all : (places : List WorkerPlace)
       → ((v : ℕ) (f : Findings A) (i : ℕ) → v < length fs → slice_get fs v ≡ Some f
       → Contains f.valid.items i → HasPlace places fs i)
       → (i : ℕ) → IsFoundValid fs i → HasPlace places fs i
@@ -140,20 +140,20 @@ refilled len new old e =
     (take-append_seam new (drop (length new) old))
 
 module _ {A : Type 0} (db : List Statement) (by_essential : Bool) (fs : List (Findings A))
-    (found : All (AreFindings db by_essential) fs) (ps qs : List Whereabouts) (k : ℕ)
-    (d : Whereabouts)
+    (found : All (AreFindings db by_essential) fs) (ps qs : List WorkerPlace) (k : ℕ)
+    (d : WorkerPlace)
     (same : qs ≡ ps) (h : HasPlace ps fs k) where
   -- the place that is read
-  abbrev p : Whereabouts
+  abbrev p : WorkerPlace
   p = get_or qs k d
 
   is : p ≡ h.noted.place
   is =
-      ap (λ (l : List Whereabouts). get_or l k d) same
+      ap (λ (l : List WorkerPlace). get_or l k d) same
       ∙ get_or_from_slice_get ps k h.noted.place d h.noted.place_is
 
   worker : p.worker ≡ h.worker
-  worker = ap (λ (q : Whereabouts). q.worker) is ∙ h.noted.worker_is
+  worker = ap (λ (q : WorkerPlace). q.worker) is ∙ h.noted.worker_is
 
   pub worker_within : p.worker < length fs
   worker_within =
@@ -169,7 +169,7 @@ module _ {A : Type 0} (db : List Statement) (by_essential : Bool) (fs : List (Fi
       (found p.worker h.found worker_within)
 
   place_within : p.place < length h.found.valid.items
-  place_within = subst (λ (q : Whereabouts). q.place < length h.found.valid.items) (sym is)
+  place_within = subst (λ (q : WorkerPlace). q.place < length h.found.valid.items) (sym is)
       h.noted.within
 
   pub list_within : (f : Findings A) → f ≡ h.found → p.place < length f.cites
@@ -181,7 +181,7 @@ module _ {A : Type 0} (db : List Statement) (by_essential : Bool) (fs : List (Fi
       → IsCited db by_essential (theorem_of db k) list
   list_cited f list e l =
       let index : get_or h.found.valid.items p.place 0 ≡ k =
-      ap (λ (q : Whereabouts). get_or h.found.valid.items q.place 0) is ∙ h.noted.index_is in
+      ap (λ (q : WorkerPlace). get_or h.found.valid.items q.place 0) is ∙ h.noted.index_is in
       let one =
       subst (λ i. IsCited db by_essential (theorem_of db i) (get_or h.found.cites p.place [])) index
       (are_found.each p.place place_within) in

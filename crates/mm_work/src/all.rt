@@ -1,24 +1,22 @@
 //! Checking all proofs by workers.
 
 ghost use Rattle.std.specs.Prelude.{◌≡◌, ◌≤◌, IfOk};
+ghost use Rattle.mm_spec.specs.Limits.{worker_limit};
 ghost use Rattle.mm_work.specs.Judged.{Judges};
 
 use crate::gate::Gate;
-use crate::gathered::work_all;
 use crate::in_order::{check_in_order, valid};
 use crate::job::Job;
 use crate::judged::Judged;
 use crate::merge::{found_fault, merge};
 use crate::room::citations_room;
-use mm_board::Board;
+use crate::threads::work_all;
+use mm_board::{Board, MOST_SEATS};
 use mm_database::Database;
 use mm_rules::Rules;
 use std::alloc::{AllocError, Allocator};
 use std::sync::Wait;
 use std::thread::Threads;
-
-/// The share of a board's only seat.
-const WHOLE: u32 = 64;
 
 /// Checks the proofs of all theorems by `workers` workers, 1 to 64; the calling thread is the
 /// first. Returns what each theorem cites, with `essential` only by the essential nodes of its
@@ -35,7 +33,7 @@ pub fn check_all<'d, R: Threads + Wait + Sync, A: Allocator + Copy + Send + Sync
     essential: bool,
     gate: &G,
 ) -> Result<Judged<A>, AllocError>
-    requires { (1 ≤ workers) × (workers ≤ 64) }
+    requires { (1 ≤ workers) × (workers ≤ worker_limit) }
     ensures { IfOk result (λ judged. Judges database.now.statements essential judged) }
 {
     // The proof needs the clauses of `len`.
@@ -53,7 +51,7 @@ pub fn check_all<'d, R: Threads + Wait + Sync, A: Allocator + Copy + Send + Sync
         room: citations_room(database),
     };
     let gathered = work_all(rt, alloc, &job, gate, seat, workers)?;
-    if gathered.seat.share() < WHOLE {
+    if gathered.seat.share() < MOST_SEATS {
         return check_in_order(alloc, database, &rules, essential);
     }
     // What follows needs no rules, and their memory.

@@ -9,8 +9,9 @@ use crate::judged::Judged;
 use crate::proof::{VerifyRefused, verify};
 use crate::room::citations_room;
 use mm_check::Checker;
-use mm_cites::{Citations, Lists};
+use mm_cites::Citations;
 use mm_database::Database;
+use mm_lists::Lists;
 use mm_rules::Rules;
 use std::alloc::{AllocError, Allocator};
 
@@ -19,7 +20,7 @@ pub(crate) fn valid<'a, A: Allocator + Copy>(
     alloc: A,
     database: &Database<'a, A>,
     essential: bool,
-    lists: Lists<A>,
+    lists: Lists<u32, A>,
 ) -> Result<Judged<A>, AllocError>
     requires { AreCitedUpTo database.now.statements essential (theorems database.now.statements)
         (length (theorems database.now.statements)) lists }

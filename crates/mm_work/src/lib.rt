@@ -12,13 +12,13 @@
 
 mod all;
 mod gate;
-mod gathered;
 mod in_order;
 mod job;
 mod judged;
 mod merge;
 mod proof;
 mod room;
+mod threads;
 mod worker;
 
 pub use all::check_all;

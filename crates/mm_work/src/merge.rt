@@ -7,21 +7,21 @@ ghost use Rattle.mm_work.specs.Workers.{AreFindings, IsFoundValid, IsFoundFaulty
 ghost use Rattle.mm_work.specs.Places.{IsNoted, HasPlace};
 
 use crate::worker::Findings;
-use mm_cites::Lists;
 use mm_database::Database;
+use mm_lists::Lists;
 use mm_spec::Fault;
 use std::alloc::{AllocError, Allocator};
 
 /// Where the citations of a theorem are: which worker has them, and at which place among the
 /// theorems that this worker found valid.
 #[derive(Clone, Copy)]
-pub(crate) struct Whereabouts {
+pub(crate) struct WorkerPlace {
     pub worker: usize,
     pub place: usize,
 }
 
 /// Notes where the citations of a worker's theorems are.
-fn note(places: &mut [Whereabouts], worker: usize, valid: &[u32])
+fn note(places: &mut [WorkerPlace], worker: usize, valid: &[u32])
     requires { All (λ i. i < length places.old) valid.now }
     ensures count { length places.new ≡ length places.old }
     ensures noted { All (λ i. IsNoted places.new worker valid.now i) valid.now }
@@ -30,7 +30,7 @@ fn note(places: &mut [Whereabouts], worker: usize, valid: &[u32])
         ⊎ (slice_get places.new i ≡ slice_get places.old i) }
 {
     for (place, index) in valid.iter().enumerate() {
-        places[*index as usize] = Whereabouts { worker, place };
+        places[*index as usize] = WorkerPlace { worker, place };
     }
 }
 
@@ -39,7 +39,7 @@ fn places<A: Allocator + Copy>(
     alloc: A,
     found: &[Findings<A>],
     count: usize,
-) -> Result<Vec<Whereabouts, A>, AllocError>
+) -> Result<Vec<WorkerPlace, A>, AllocError>
     requires { All (λ f. All (λ i. i < count) f.valid.items) found.now }
     ensures count { IfOk result (λ places. length places.items ≡ count) }
     ensures places { IfOk result
@@ -48,7 +48,7 @@ fn places<A: Allocator + Copy>(
     let mut places = Vec::new(alloc);
     places.resize(
         count,
-        Whereabouts {
+        WorkerPlace {
             worker: 0,
             place: 0,
         },
@@ -63,7 +63,7 @@ fn places<A: Allocator + Copy>(
 fn citation_count<A: Allocator>(found: &[Findings<A>]) -> usize {
     let mut count = 0usize;
     for one in found {
-        count = count.saturating_add(one.cites.number_count());
+        count = count.saturating_add(one.cites.item_count());
     }
     count
 }
@@ -74,7 +74,7 @@ pub(crate) fn merge<'d, A: Allocator + Copy>(
     database: &Database<'d, A>,
     essential: bool,
     found: &[Findings<A>],
-) -> Result<Lists<A>, AllocError>
+) -> Result<Lists<u32, A>, AllocError>
     requires found { All (AreFindings database.now.statements essential) found.now }
     requires valid { (i : ℕ) → i < length (theorems database.now.statements)
         → IsFoundValid found.now i }

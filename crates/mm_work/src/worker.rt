@@ -12,7 +12,7 @@ use crate::job::Job;
 use crate::proof::{VerifyRefused, verify};
 use mm_board::Seat;
 use mm_check::Checker;
-use mm_cites::Lists;
+use mm_lists::Lists;
 use mm_spec::Fault;
 use std::alloc::{AllocError, Allocator};
 
@@ -28,7 +28,7 @@ pub(crate) struct Findings<A: Allocator> {
     /// The indices of the theorems whose proofs are valid, in the order in which they were checked.
     pub valid: Vec<u32, A>,
     /// What each of these cites.
-    pub cites: Lists<A>,
+    pub cites: Lists<u32, A>,
     /// The fault of a proof that isn't valid. After reporting it the worker skips all that it
     /// draws.
     pub faulty: Option<IndexedFault>,

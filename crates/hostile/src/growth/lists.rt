@@ -2,7 +2,7 @@
 
 use super::{MOST, met};
 use crate::heap::Refusing;
-use mm_cites::Lists;
+use mm_lists::Lists;
 use mm_machine::{DisjointCache, Machine};
 use mm_proof::{Step, Steps};
 use mm_rule::zeros;

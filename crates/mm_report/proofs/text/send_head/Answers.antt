@@ -1,12 +1,13 @@
-use Rattle.std.proofs.Common.{codes, ap}
+use Rattle.std.proofs.Common.{codes, ap, sym}
 use Rattle.mm_spec.specs.Report.{heading}
 use Rattle.mm_report.proofs.SentLaw.{sent_more, sent_as}
 use Rattle.mm_report.proofs.text.send_head.Goals as goal
 
 pub returns : goal.returns
 returns g c =
-    sent_more
+    rw (sym c.request.view_is)
+    (sent_more
     (sent_more
     (sent_more
     (sent_as _ (ap (heading (codes "mmdepend")) c.version.ensures) c.send_heading.ensures)
-    c.send_heading-2.ensures) c.send_open.ensures) c.send_heading-3.ensures
+    c.send_heading-2.ensures) c.send_open.ensures) c.send_heading-3.ensures)

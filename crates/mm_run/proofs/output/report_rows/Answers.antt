@@ -1,18 +1,16 @@
 use Rattle.mm_report.specs.Rows.{report_of}
-use Rattle.mm_plan.specs.Plans.{request_of}
 use Rattle.mm_run.proofs.RowsLaw.{rests}
 use Rattle.mm_run.proofs.output.report_rows.Goals as goal
 
 pub returns-in-Ok-write_rows : goal.returns-in-Ok-write_rows
 returns-in-Ok-write_rows g c =
     let d = c.args.database.now in
-    let request = request_of c.args.plan.now in (
-      (d.read, c.requires.sound),
+    let request = c.args.request.now in (
+      (d.read, c.requires.judged.sound),
       (
-        report_of d request.with_open request.form c.args.chosen.now c.in-Ok.marked request.choice,
-        rests d.text request d c.args.citations.now c.args.chosen.now c.in-Ok.marked
-            c.requires.counted c.requires.sound c.requires.cited c.requires.chosen
-            c.in-Ok.ensures c.requires.choice,
+        report_of request d c.args.chosen.now c.in-Ok.marked,
+        rests request d c.args.citations.now c.args.chosen.now c.in-Ok.marked c.requires.judged
+            c.requires.chosen c.in-Ok.ensures c.requires.choice,
         c.in-Ok-write_rows.ensures.ok,
       ),
     )
@@ -20,12 +18,11 @@ returns-in-Ok-write_rows g c =
 pub returns : goal.returns
 returns g c =
     let d = c.args.database.now in
-    let request = request_of c.args.plan.now in
+    let request = c.args.request.now in
     let cut = c.in-Err.ensures.err in (
-      report_of d request.with_open request.form c.args.chosen.now c.in-Ok.marked request.choice,
+      report_of request d c.args.chosen.now c.in-Ok.marked,
       cut.0,
-      rests d.text request d c.args.citations.now c.args.chosen.now c.in-Ok.marked
-          c.requires.counted c.requires.sound c.requires.cited c.requires.chosen
-          c.in-Ok.ensures c.requires.choice,
+      rests request d c.args.citations.now c.args.chosen.now c.in-Ok.marked c.requires.judged
+          c.requires.chosen c.in-Ok.ensures c.requires.choice,
       cut.1,
     )

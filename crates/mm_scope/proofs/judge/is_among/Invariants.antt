@@ -1,11 +1,10 @@
-use Rattle.std.proofs.Common.{◌≡◌, []}
-use Rattle.mm_spec.specs.Text.{is_in}
+use Rattle.std.proofs.Common.{◌≡◌}
+use Rattle.mm_spec.specs.Text.{is_in, words}
 use Rattle.mm_outline.specs.Parts.{between, token_at}
-use Rattle.mm_scope.specs.Judge.{before_next}
 use Rattle.mm_scope.proofs.judge.is_among.Given as goal
 
 abbrev pub invariant-loop-earlier : goal.invariant-loop-earlier
 invariant-loop-earlier l =
     l.found
     ≡ is_in (token_at l.text l.tokens l.at).word
-    (before_next [] (between l.text l.tokens l.from l.earlier))
+    (words (between l.text l.tokens l.from l.earlier))

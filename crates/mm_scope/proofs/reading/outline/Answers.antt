@@ -13,7 +13,7 @@ use Rattle.mm_outline.specs.Statements.{statements}
 use Rattle.mm_scope.specs.Keeps.{IsKeptOf, kept_by}
 use Rattle.mm_scope.proofs.ReadLaw.{reading_more, read_unlawful, read_stopped, read_ended, some_not}
 use Rattle.mm_scope.proofs.ReadLaw.{none_is, inside_block}
-use Rattle.mm_scope.proofs.BoundsLaw.{few_symbols, few_numbers}
+use Rattle.mm_scope.proofs.BoundsLaw.{few_symbols}
 use Rattle.mm_scope.proofs.reading.outline.Goals as goal
 
 pub take-requires-clause-next : goal.take-requires-clause-next
@@ -46,10 +46,6 @@ take-requires-clause-next g c =
       few_names =
           (let n = few_symbols ts longest.rest (statements_of ts) longest.splits
           (db ++ one ∷ []) more row in
-          omega (arith, n, long, short));
-      few_numbers =
-          (let n = few_numbers ts longest.rest (statements_of ts) longest.splits
-          (db ++ one ∷ []) more row (db ++ one ∷ []) in
           omega (arith, n, long, short));
     }
 

@@ -2,7 +2,6 @@ use Rattle.std.proofs.Common.{ap, arith, length}
 use Rattle.mm_spec.specs.Lexed.{tokens_of as words_of}
 use Rattle.mm_outline.specs.Statements.{statements}
 use Rattle.mm_database.specs.Names.{names_of}
-use Rattle.mm_database.proofs.CutsLaw.{cut_joined, joined_cut}
 use Rattle.mm_scope.proofs.NumberedLaw.{formulas_numbered}
 use Rattle.mm_stmt.proofs.SoundLaw.{are_symbols}
 use Rattle.mm_stmt.proofs.reading.reading_of.Goals as goal
@@ -20,11 +19,11 @@ into_reading-requires g c =
     let few = c.requires.few_symbols in
     let count = c.in_ok-variables.ensures.count in
     record {
-      joined = joined_cut _ _ _ kept.formulas;
+      ends = kept.formulas.order;
       parts = record {
         sound = c.requires.sound;
         blocks = kept.keeps.blocks;
-        numbered = rw (cut_joined _ _ _ kept.formulas) (formulas_numbered db);
+        numbered = rw kept.formulas.are (formulas_numbered db);
         few_symbols = omega (arith, few, count);
         count = omega (arith, count, names);
         variable = λ s l. symbols.variable s (omega (arith, l, names));

@@ -1,7 +1,7 @@
-use Rattle.std.proofs.Common.{◌++◌, ◌∷◌, [], length, map, take}
+use Rattle.std.proofs.Common.{◌∷◌, map, take}
 use Rattle.mm_spec.specs.Output.{label_at}
 use Rattle.mm_outline.specs.Statements.{statements}
-use Rattle.mm_database.specs.Cuts.{AreJoined}
+use Rattle.mm_lists.specs.Lists.{AreJoined}
 use Rattle.mm_stmt.proofs.spaced.spaced_labels_of.Given as goal
 
 abbrev pub invariant-loop-theorem : goal.invariant-loop-theorem
@@ -9,4 +9,4 @@ invariant-loop-theorem g l =
     AreJoined
     (map (λ k. 32 ∷ label_at (statements l.text l.tokens l.outlines) k)
     (take l.theorem-index l.theorems))
-    l.bytes.items (l.starts.items ++ length l.bytes.items ∷ [])
+    l.bytes.items l.ends.items

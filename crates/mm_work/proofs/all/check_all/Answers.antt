@@ -29,7 +29,7 @@ pub found_fault-requires-clause-faulty : goal.found_fault-requires-clause-faulty
 found_fault-requires-clause-faulty g c =
     let all : c.in_ok-gathered.gathered.seat.view.share ≡ 64 =
     let s = c.share.ensures.share in let r = c.share.ensures.range.1 in
-    let f = c.if-share-lt-WHOLE.false in omega (arith, s, r, f) in
+    let f = c.if-share-lt-MOST_SEATS.false in omega (arith, s, r, f) in
     let count = c.in-Ok.ensures.board.0 in
     let within : c.close-first.result.0 < c.in-Ok.board.count =
     let l = c.if-first-count.true in omega (arith, l, count) in
@@ -44,7 +44,7 @@ returns-then-first-count g c =
     let h = c.in_ok-gathered.ensures in
     let all : c.in_ok-gathered.gathered.seat.view.share ≡ 64 =
     let s = c.share.ensures.share in let r = c.share.ensures.range.1 in
-    let f = c.if-share-lt-WHOLE.false in omega (arith, s, r, f) in
+    let f = c.if-share-lt-MOST_SEATS.false in omega (arith, s, r, f) in
     let same = ap (λ (ts : List ℕ). length ts) c.theorems-count.ensures.theorems in
     let l = c.if-first-count.true in
     first_fault db c.theorems-count.ensures.few c.len.ensures.complete c.close-first.result.0
@@ -65,7 +65,7 @@ merge-requires-clause-valid g c =
     let h = c.in_ok-gathered.ensures in
     let all : c.in_ok-gathered.gathered.seat.view.share ≡ 64 =
     let s = c.share.ensures.share in let r = c.share.ensures.range.1 in
-    let f = c.if-share-lt-WHOLE.false in omega (arith, s, r, f) in
+    let f = c.if-share-lt-MOST_SEATS.false in omega (arith, s, r, f) in
     let same = ap (λ (ts : List ℕ). length ts) c.theorems-count.ensures.theorems in
     let past = c.if-first-count.false in
     subst (λ (fs : List (Findings _)). (i : ℕ) → i < length (theorems db) → IsFoundValid fs i)

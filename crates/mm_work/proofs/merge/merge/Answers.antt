@@ -1,7 +1,7 @@
 use Rattle.std.proofs.Common.{◌≡◌, ◌<◌, ℕ, All, List, length, get_or, sym, ap, subst, arith}
 use Rattle.mm_spec.specs.Output.{theorems}
 use Rattle.mm_work.specs.Judged.{AreCitedUpTo}
-use Rattle.mm_work.specs.declared.merge.Whereabouts.{Whereabouts}
+use Rattle.mm_work.specs.declared.merge.WorkerPlace.{WorkerPlace}
 use Rattle.mm_work.proofs.PlacesLaw.{less_le, worker_within, found_there, list_within, list_cited}
 use Rattle.mm_work.proofs.VerifyLaw.{cited_more}
 use Rattle.mm_work.proofs.merge.merge.Goals as goal
@@ -12,7 +12,7 @@ offset_bounds-found-place g c =
     let k = c.loop-place.place-index in
     let same = c.deref-place-items.ensures.value in
     let within : k < length (theorems db) =
-    let l = c.loop-place-test.true in let e = ap (λ (ps : List Whereabouts). length ps) same in
+    let l = c.loop-place-test.true in let e = ap (λ (ps : List WorkerPlace). length ps) same in
     let n = c.in_ok-places.ensures.count in
     let t = ap (λ (ts : List ℕ). length ts) c.theorems.ensures.theorems in
     omega (arith, l, e, n, t) in
@@ -26,7 +26,7 @@ bounds-found-place g c =
     let k = c.loop-place.place-index in
     let same = c.deref-place-items.ensures.value in
     let within : k < length (theorems db) =
-    let l = c.loop-place-test.true in let e = ap (λ (ps : List Whereabouts). length ps) same in
+    let l = c.loop-place-test.true in let e = ap (λ (ps : List WorkerPlace). length ps) same in
     let n = c.in_ok-places.ensures.count in
     let t = ap (λ (ts : List ℕ). length ts) c.theorems.ensures.theorems in
     omega (arith, l, e, n, t) in
@@ -41,7 +41,7 @@ get-requires g c =
     let k = c.loop-place.place-index in
     let same = c.deref-place-items.ensures.value in
     let within : k < length (theorems db) =
-    let l = c.loop-place-test.true in let e = ap (λ (ps : List Whereabouts). length ps) same in
+    let l = c.loop-place-test.true in let e = ap (λ (ps : List WorkerPlace). length ps) same in
     let n = c.in_ok-places.ensures.count in
     let t = ap (λ (ts : List ℕ). length ts) c.theorems.ensures.theorems in
     omega (arith, l, e, n, t) in
@@ -58,7 +58,7 @@ loop-place-preserved g c =
     let k = c.loop-place.place-index in
     let same = c.deref-place-items.ensures.value in
     let within : k < length (theorems db) =
-    let l = c.loop-place-test.true in let e = ap (λ (ps : List Whereabouts). length ps) same in
+    let l = c.loop-place-test.true in let e = ap (λ (ps : List WorkerPlace). length ps) same in
     let n = c.in_ok-places.ensures.count in
     let t = ap (λ (ts : List ℕ). length ts) c.theorems.ensures.theorems in
     omega (arith, l, e, n, t) in
@@ -70,7 +70,7 @@ loop-place-preserved g c =
     (cited_more db c.args.essential
     (theorems db) k c.loop-place.lists c.get.result.now c.loop-place.invariant
     (list_cited db c.args.essential fs c.requires.found c.in_ok-places.places.items
-    c.deref-place-items.result.now k _ same h _ c.get.result.now there c.get.ensures))
+    c.deref-place-items.result.now k _ same h _ c.get.result.now there c.get.ensures.is))
 
 pub returns : goal.returns
 returns g c =
@@ -78,7 +78,7 @@ returns g c =
     let k = c.loop-place.place-index in
     let all : k ≡ length (theorems db) =
     let end = c.loop-place.auto.place-index-end in let past = c.loop-place-test.false in
-    let e = ap (λ (ps : List Whereabouts). length ps) c.deref-place-items.ensures.value in
+    let e = ap (λ (ps : List WorkerPlace). length ps) c.deref-place-items.ensures.value in
     let n = c.in_ok-places.ensures.count in
     let t = ap (λ (ts : List ℕ). length ts) c.theorems.ensures.theorems in
     omega (arith, end, past, e, n, t) in

@@ -1,7 +1,7 @@
 use Rattle.std.proofs.Common.{◌∙◌, ◌<◌, length, get_or, refl, subst, arith}
 use Rattle.std.proofs.lemmas.List.{length-set, get_or_default}
 use Rattle.mm_work.specs.Places.{IsNoted}
-use Rattle.mm_work.specs.declared.merge.Whereabouts.{Whereabouts}
+use Rattle.mm_work.specs.declared.merge.WorkerPlace.{WorkerPlace}
 use Rattle.mm_work.proofs.PlacesLaw.{noted_more, others_more}
 use Rattle.mm_work.proofs.merge.note.Goals as goal
 
@@ -10,7 +10,7 @@ loop-place-preserved c =
     let old = c.loop-place.places in
     let k = c.loop-place.place in
     let x = get_or c.args.valid.now k 0 in
-    let p : Whereabouts = record { worker = c.args.worker; place = k } in
+    let p : WorkerPlace = record { worker = c.args.worker; place = k } in
     let inside : x < length old =
     let l = c.requires k 0 c.loop-place-test.true in let e = c.loop-place.invariant.count in
     omega (arith, l, e) in

@@ -9,21 +9,21 @@ pub kind-requires : goal.kind-requires
 kind-requires g c =
     let n = as_many _ _ _ _ _ c.self.view_is in let there = c.requires in omega (arith, n, there)
 
-pub of-requires : goal.of-requires
-of-requires g c = kept_below _ _ _ _ _ c.self.view_is _ c.requires _ c.self.invariant.kept_are
+pub get-requires : goal.get-requires
+get-requires g c = kept_below _ _ _ _ _ c.self.view_is _ c.requires _ c.self.invariant.kept_are
 
-pub bounds-of-0 : goal.bounds-of-0
-bounds-of-0 g c =
-    some_kept _ _ _ _ _ c.self.view_is _ c.requires _ c.self.invariant.kept_are c.of.result.now
-    c.of.ensures
+pub bounds-get-0 : goal.bounds-get-0
+bounds-get-0 g c =
+    some_kept _ _ _ _ _ c.self.view_is _ c.requires _ c.self.invariant.kept_are c.get.result.now
+    c.get.ensures.is
 
 pub bytes-requires : goal.bytes-requires
 bytes-requires g c =
     let within =
-    word_within _ _ _ _ _ c.self.view_is _ c.requires _ c.self.invariant.kept_are c.of.result.now
-    c.of.ensures 0 (record { start = 0; end = 0 })
-    (some_kept _ _ _ _ _ c.self.view_is _ c.requires _ c.self.invariant.kept_are c.of.result.now
-    c.of.ensures) in
+    word_within _ _ _ _ _ c.self.view_is _ c.requires _ c.self.invariant.kept_are c.get.result.now
+    c.get.ensures.is 0 (record { start = 0; end = 0 })
+    (some_kept _ _ _ _ _ c.self.view_is _ c.requires _ c.self.invariant.kept_are c.get.result.now
+    c.get.ensures.is) in
     let text = ap (λ (n : Contents). length n.text) c.self.view_is in
     let lent = ap length c.text.ensures in
     let end = within.1 in
@@ -31,12 +31,12 @@ bytes-requires g c =
 
 pub returns-then-has_label : goal.returns-then-has_label
 returns-then-has_label g c =
-    let w = get_or c.of.result.now 0 (record { start = 0; end = 0 }) in
+    let w = get_or c.get.result.now 0 (record { start = 0; end = 0 }) in
     ap Some c.bytes.ensures
     ∙ ap (λ l. Some (take (w.end - w.start) (drop w.start l)))
     (c.text.ensures ∙ sym (ap (λ (n : Contents). n.text) c.self.view_is))
-    ∙ label_kept _ _ _ _ _ c.self.view_is _ c.requires _ c.self.invariant.kept_are c.of.result.now
-    c.of.ensures _ c.kind.ensures (sym c.has_label.ensures ∙ c.if-has_label.true)
+    ∙ label_kept _ _ _ _ _ c.self.view_is _ c.requires _ c.self.invariant.kept_are c.get.result.now
+    c.get.ensures.is _ c.kind.ensures (sym c.has_label.ensures ∙ c.if-has_label.true)
     (record { start = 0; end = 0 })
 
 pub returns-else-has_label : goal.returns-else-has_label

@@ -3,22 +3,22 @@ use Rattle.mm_database.proofs.DatabaseLaw.{no_proof}
 use Rattle.mm_database.proofs.KeptLaw.{kept_below, theorem_long, proof_kept, proof_within}
 use Rattle.mm_database.proofs.database.Database.proof_words.Goals as goal
 
-pub of-kept-requires : goal.of-kept-requires
-of-kept-requires g c =
+pub get-kept-requires : goal.get-kept-requires
+get-kept-requires g c =
     kept_below _ _ _ _ _ c.self.view_is _ c.requires _ c.self.invariant.kept_are
 
 pub overflow_sub-result : goal.overflow_sub-result
 overflow_sub-result g c =
     let long =
     theorem_long _ _ _ _ _ c.self.view_is _ c.requires _ c.self.invariant.kept_are
-    c.of-kept.result.now c.of-kept.ensures (c.kind.ensures ∙ ap Some c.in-Theorem.is) in
+    c.get-kept.result.now c.get-kept.ensures.is (c.kind.ensures ∙ ap Some c.in-Theorem.is) in
     omega (arith, long)
 
 pub slice_bounds-result-count : goal.slice_bounds-result-count
 slice_bounds-result-count g c =
     let long =
     theorem_long _ _ _ _ _ c.self.view_is _ c.requires _ c.self.invariant.kept_are
-    c.of-kept.result.now c.of-kept.ensures (c.kind.ensures ∙ ap Some c.in-Theorem.is) in
+    c.get-kept.result.now c.get-kept.ensures.is (c.kind.ensures ∙ ap Some c.in-Theorem.is) in
     omega (arith, long)
 
 pub slice_bounds-result-start : goal.slice_bounds-result-start
@@ -30,10 +30,10 @@ returns-in-Theorem g c =
     record {
       words =
           proof_kept _ _ _ _ _ c.self.view_is _ c.requires _ c.self.invariant.kept_are
-          c.of-kept.result.now c.of-kept.ensures theorem;
+          c.get-kept.result.now c.get-kept.ensures.is theorem;
       within =
           proof_within _ _ _ _ _ c.self.view_is _ c.requires _ c.self.invariant.kept_are
-          c.of-kept.result.now c.of-kept.ensures theorem;
+          c.get-kept.result.now c.get-kept.ensures.is theorem;
     }
 
 pub returns-in_default : goal.returns-in_default

@@ -1,6 +1,6 @@
 use Rattle.std.proofs.Common.{◌∷◌, [], refl, arith, sym, ap, ◌∙◌, ◌*◌, ◌+◌, ◌≡◌, subst, None}
 use Rattle.mm_proof.specs.Number.{saturated}
-use Rattle.mm_proof.specs.declared.letters.Begun.{Begun}
+use Rattle.mm_proof.specs.declared.letters.BegunNumber.{BegunNumber}
 use Rattle.mm_proof.specs.Letters.{RefusesLetters, letter, with_number, ReadsLetters, if_begun}
 use Rattle.mm_proof.proofs.LettersLaw.{err_same, stands_later, last_digit, early_digit}
 use Rattle.mm_proof.proofs.LettersLaw.{early_here, none_begun}
@@ -80,7 +80,7 @@ pub returns-in_ok-mark-in-Mark-clause-reads : goal.returns-in_ok-mark-in-Mark-cl
 returns-in_ok-mark-in-Mark-clause-reads g c =
     let zero : c.args.number.now.value ≡ 0 = omega arith in
     let n = none_begun c.args.number.now zero in
-    let after : Begun = record { at = c.args.at + 1; value = c.args.number.now.value } in
+    let after : BegunNumber = record { at = c.args.at + 1; value = c.args.number.now.value } in
     let m = none_begun after zero in
     subst (λ b. ReadsLetters (with_number c.args.self.now (if_begun c.args.number.now))
     (letter c.args.at b ∷ []) (with_number c.mark.new.self (if_begun after)))

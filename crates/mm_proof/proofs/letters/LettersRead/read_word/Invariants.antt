@@ -1,13 +1,13 @@
 use Rattle.std.proofs.Common.{◌≡◌, ◌++◌, List, slice_range}
 use Rattle.mm_spec.specs.CompressedProof.{Letter, letters_from}
-use Rattle.mm_proof.specs.Letters.{StandsWith, Continues, with_number, if_begun}
+use Rattle.mm_proof.specs.Letters.{IsReadUpTo, Continues, with_number, if_begun}
 use Rattle.mm_proof.proofs.letters.LettersRead.read_word.Given as goal
 
 abbrev pub invariant-loop-i : goal.invariant-loop-i
 invariant-loop-i g l = record {
   theorem : l.self.theorem ≡ l.fn.self.theorem;
   labels : l.self.labels ≡ l.fn.self.labels;
-  stands : StandsWith l.self l.number l.i;
+  stands : IsReadUpTo l.self l.number l.i;
   reads : (all left : List Letter)
       → Continues (with_number l.fn.self (if_begun l.fn.number)) all
       (letters_from l.fn.word.start (slice_range l.text l.fn.word.start l.fn.word.end) ++ left)

@@ -11,7 +11,7 @@ use Rattle.mm_scope.specs.Scopes.{names_in}
 use Rattle.mm_database.specs.Names.{find, names_of}
 use Rattle.mm_scope.proofs.KnowsLaw.{knows_is}
 use Rattle.mm_scope.proofs.NumberedLaw.{declared, names_shorter, names_next, taken_numbers}
-use Rattle.mm_scope.proofs.NumberedLaw.{formulas_joined, formulas_more}
+use Rattle.mm_scope.proofs.NumberedLaw.{formulas_more}
 use Rattle.mm_scope.proofs.reading.Outlined.take.Goals as goal
 
 pub fault-requires-clause-few : goal.fault-requires-clause-few
@@ -65,33 +65,6 @@ returns-then-is_some g c =
       );
     }
 
-pub overflow_cast-len : goal.overflow_cast-len
-overflow_cast-len g c =
-    let text = c.args.text.now in
-    let ws = c.args.tokens.now in
-    let os = c.args.self.now.outlines.items in
-    let db = statements text ws os in
-    let s = statement_of text ws c.args.outline in
-    let k = c.requires.kept in
-    let next = c.requires.next in
-    let names =
-    names_next db s (names_of c.add.new.self.names.symbols)
-    (c.in_ok-add.ensures.names (declared db) k.names_are) in
-    let more =
-    taken_numbers db s c.args.self.now.numbers.items c.fault.new.numbers.items
-    c.number_others.new.numbers.items (names_of c.args.self.now.scope.names.symbols)
-    (names_of c.add.new.self.names.symbols) k.names_are names c.in_ok-self.ensures.numbers
-    c.in_ok-number_others.ensures in
-    let at : c.len.result ≡ length c.number_others.new.numbers.items =
-    c.len.ensures ∙ c.number_others.new.numbers.ok.0 in
-    let formulas =
-    formulas_more db next.lawful s c.args.self.now.numbers.items
-    c.args.self.now.places.items k.formulas c.number_others.new.numbers.items more
-    c.len.result at in
-    let small = next.few_numbers in
-    let long = ap length (formulas.all_are ∙ formulas_joined (db ++ s ∷ [])) in
-    omega (arith, at, small, long)
-
 pub returns : goal.returns
 returns g c =
     let text = c.args.text.now in
@@ -116,18 +89,15 @@ returns g c =
     c.number_others.new.numbers.items (names_of c.args.self.now.scope.names.symbols)
     (names_of c.add.new.self.names.symbols) k.names_are names c.in_ok-self.ensures.numbers
     c.in_ok-number_others.ensures in
-    let at : c.len.result ≡ length c.number_others.new.numbers.items =
-    c.len.ensures ∙ c.number_others.new.numbers.ok.0 in
     let formulas =
     formulas_more db next.lawful s c.args.self.now.numbers.items
-    c.args.self.now.places.items k.formulas c.number_others.new.numbers.items more
-    c.len.result at in
+    c.args.self.now.places.items k.formulas c.number_others.new.numbers.items more in
     record {
       fault =
           fault ∙ ap (λ n. least (scope_faults (names_before db n) c.args.deep s))
           (length-map os (statement_of text ws));
       taken = λ none. (
-        c.in_ok-push-2.ensures.items,
+        c.in_ok-push.ensures.items,
         record {
           keeps =
               c.in_ok-add.ensures.keeps db k.keeps (
@@ -139,7 +109,7 @@ returns g c =
           formulas =
               subst
               (λ (ps : List ℕ). AreFormulas (db ++ s ∷ []) c.number_others.new.numbers.items ps)
-              (sym c.in_ok-push.ensures.items) formulas;
+              (sym c.in_ok-end_list.ensures.ok) formulas;
         },
       );
       stays = search rules;

@@ -1,7 +1,7 @@
 use Rattle.std.proofs.Common.{◌<◌, ◌≤◌, ◌∙◌, sym, ap, arith, length, subst}
 use Rattle.mm_database.specs.Names.{find}
 use Rattle.mm_outline.specs.Parts.{made, IsKeywordBefore}
-use Rattle.mm_scope.specs.Judge.{entry_of}
+use Rattle.mm_scope.specs.WordEntry.{entry_of}
 use Rattle.mm_scope.specs.WordEntry.{entry_after}
 use Rattle.mm_scope.proofs.TypedLaw.{typed_not, typed_now}
 use Rattle.mm_scope.proofs.scope.Scope.add_names.Goals as goal

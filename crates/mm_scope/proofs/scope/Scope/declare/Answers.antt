@@ -5,7 +5,7 @@ use Rattle.mm_spec.specs.Frame.{first_occurrences}
 use Rattle.mm_outline.specs.Parts.{between}
 use Rattle.mm_scope.proofs.NumberedLaw.{names_more}
 use Rattle.mm_database.specs.Names.{find, with_name}
-use Rattle.mm_scope.specs.Judge.{declared_entry, entry_of}
+use Rattle.mm_scope.specs.WordEntry.{declared_entry, entry_of}
 use Rattle.mm_scope.proofs.DeclaredLaw.{declared_step}
 use Rattle.mm_scope.proofs.scope.Scope.declare.Goals as goal
 

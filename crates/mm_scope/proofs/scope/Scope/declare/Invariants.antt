@@ -3,7 +3,7 @@ use Rattle.mm_spec.specs.Text.{words}
 use Rattle.mm_spec.specs.Frame.{first_occurrences}
 use Rattle.mm_database.specs.Names.{find, names_of}
 use Rattle.mm_outline.specs.Parts.{between}
-use Rattle.mm_scope.specs.Judge.{after_declaring, entry_of}
+use Rattle.mm_scope.specs.WordEntry.{after_declaring, entry_of}
 use Rattle.mm_scope.proofs.scope.Scope.declare.Given as goal
 
 abbrev pub invariant-loop-at : goal.invariant-loop-at

@@ -1,12 +1,13 @@
-use Rattle.std.proofs.Common.{◌<◌, ◌≤◌, ◌∙◌, ◌+◌, ◌++◌, ◌∷◌, [], ap, sym, arith, length}
+use Rattle.std.proofs.Common.{not, ◌<◌, ◌≤◌, ◌∙◌, ◌+◌, ◌++◌, ◌∷◌, [], ap, sym, arith, length}
 use Rattle.std.proofs.Common.{append_assoc}
 use Rattle.mm_spec.specs.Frame.{place_of}
 use Rattle.mm_outline.specs.Parts.{token_at, nth_word, between}
-use Rattle.mm_outline.specs.Blocks.{is_open_in}
 use Rattle.mm_scope.specs.Formulas.{numbers_in}
-use Rattle.mm_scope.specs.Judge.{lesser_fault, fault_at, typecode_code}
-use Rattle.mm_database.specs.Names.{find, names_of}
-use Rattle.mm_scope.proofs.JudgeLaw.{between_first, formula_is}
+use Rattle.mm_spec.specs.Text.{is_in}
+use Rattle.mm_spec.specs.Lawful.{at, at_each, least, when, symbol_codes, formula_faults}
+use Rattle.mm_spec.specs.declared.Code.TheVariants.{BadTypecode}
+use Rattle.mm_database.specs.Names.{find, is_constant_in, names_of}
+use Rattle.mm_scope.proofs.JudgeLaw.{between_first}
 use Rattle.mm_scope.proofs.scope.Scope.formula_fault.Goals as goal
 use Rattle.mm_database.proofs.NamesLaw.{place_le}
 
@@ -26,18 +27,19 @@ returns-clause-fault g c = λ n k.
     let order = c.requires.order in
     let below : c.args.from < c.args.to = omega (arith, not_same, order) in
     let inside : c.args.to ≤ length c.args.tokens.now = omega (arith, within) in
-    c.lesser_fault.ensures
-    ∙ ap (λ o. lesser_fault o c.in_ok-rest.rest)
-    (c.note-typecode.ensures
-    ∙ ap (fault_at (token_at c.args.text.now c.args.tokens.now c.args.from).at)
-    (c.typecode_code.ensures
-    ∙ ap typecode_code
-    (c.numbered-number.ensures.symbol ∙ ap (find s.names.symbols) c.bytes.ensures)))
-    ∙ formula_is n (find s.names.symbols) (find s.names.labels)
-    (is_open_in s.blocks) k c.args.text.now c.args.tokens.now
-    c.args.from c.args.to
-    (nth_word c.args.tokens.now c.args.to).start below inside c.in_ok-rest.rest
+    let text = c.args.text.now in
+    let ws = c.args.tokens.now in
+    let t = token_at text ws c.args.from in
+    let end = (nth_word ws c.args.to).start in
+    let known = c.numbered-number.ensures.symbol ∙ ap (find s.names.symbols) c.bytes.ensures in
+    c.lesser.ensures (at t.at (when (not (is_in t.word n.constants)) BadTypecode))
+    (at_each (symbol_codes n) [] (between text ws (c.args.from + 1) c.args.to))
+    (c.found-typecode.ensures ∙ c.typecode_code.ensures t.at
+    ∙ ap (λ b. least (at t.at (when (not b) BadTypecode)))
+    (ap is_constant_in known ∙ sym (k.constants t.word)))
     (c.in_ok-rest.ensures.fault n k)
+    ∙ ap (λ xs. least (formula_faults n xs end))
+    (sym (between_first text ws c.args.from c.args.to below inside))
 
 pub returns-clause-numbers : goal.returns-clause-numbers
 returns-clause-numbers g c =

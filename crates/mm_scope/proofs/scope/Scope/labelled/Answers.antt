@@ -1,16 +1,13 @@
-use Rattle.std.proofs.Common.{◌∙◌, sym, ap₂, ◌-◌, ◌+◌}
+use Rattle.std.proofs.Common.{◌-◌, ◌+◌}
 use Rattle.mm_spec.specs.Lawful.{formula_faults, label_faults}
 use Rattle.mm_outline.specs.Parts.{token_at, nth_word, between}
-use Rattle.mm_scope.specs.Judge.{lesser_fault}
-use Rattle.mm_scope.proofs.JudgeLaw.{least_append}
 use Rattle.mm_scope.proofs.scope.Scope.labelled.Goals as goal
 
 pub returns-clause-fault : goal.returns-clause-fault
 returns-clause-fault g c = λ n k.
     let text = c.args.text.now in
     let ws = c.args.tokens.now in
-    c.lesser_fault.ensures
-    ∙ ap₂ lesser_fault (c.label_fault-label.ensures n k) (c.in_ok-formula.ensures.fault n k)
-    ∙ sym (least_append (label_faults n (token_at text ws (c.args.outline.keyword - 1)))
+    c.lesser.ensures (label_faults n (token_at text ws (c.args.outline.keyword - 1)))
     (formula_faults n (between text ws (c.args.outline.keyword + 1) c.args.outline.middle)
-    (nth_word ws c.args.outline.middle).start))
+    (nth_word ws c.args.outline.middle).start)
+    (c.label_fault-label.ensures n k) (c.in_ok-formula.ensures.fault n k)

@@ -1,12 +1,11 @@
 use Rattle.std.proofs.Common.{◌<◌, ◌≤◌, ◌∙◌, ◌++◌, ◌∷◌, [], ap, ap₂, sym, arith, length}
 use Rattle.std.proofs.Common.{append_assoc}
 use Rattle.mm_spec.specs.Frame.{place_of}
-use Rattle.mm_outline.specs.Blocks.{is_open_in}
 use Rattle.mm_scope.specs.Formulas.{numbers_in}
 use Rattle.mm_outline.specs.Parts.{token_at, between}
-use Rattle.mm_scope.specs.Judge.{lesser_fault, fault_at, symbol_code}
+use Rattle.mm_spec.specs.Lawful.{at, at_each, least, symbol_codes}
 use Rattle.mm_database.specs.Names.{find, names_of}
-use Rattle.mm_scope.proofs.JudgeLaw.{symbols_more}
+use Rattle.mm_scope.proofs.JudgeLaw.{each_more}
 use Rattle.mm_scope.proofs.NumberedLaw.{numbers_more}
 use Rattle.mm_scope.proofs.scope.Scope.symbols_fault.Goals as goal
 use Rattle.mm_database.proofs.NamesLaw.{place_le}
@@ -30,14 +29,16 @@ loop-at-preserved g c =
     let later : c.args.from ≤ c.loop-at.at = omega arith in
     record {
       least = λ n k.
-          c.note-best.ensures
-          ∙ ap (λ o. lesser_fault c.loop-at.best (fault_at (token_at text ws c.loop-at.at).at o))
-          (c.symbol_code.ensures
-          ∙ ap (symbol_code (is_open_in s.blocks))
-          (c.numbered-number.ensures.symbol ∙ ap (find s.names.symbols) c.bytes.ensures))
-          ∙ symbols_more n (find s.names.symbols) (find s.names.labels)
-          (is_open_in s.blocks) k text ws c.args.from c.loop-at.at
-          later inside c.loop-at.best (c.loop-at.invariant.least n k);
+          let t = token_at text ws c.loop-at.at in
+          c.lesser-best.ensures
+          (at_each (symbol_codes n) [] (between text ws c.args.from c.loop-at.at))
+          (at t.at (symbol_codes n [] t.word)) (c.loop-at.invariant.least n k)
+          (c.found.ensures
+          ∙ c.symbol_code.ensures t.word
+          (sym (c.numbered-number.ensures.symbol ∙ ap (find s.names.symbols) c.bytes.ensures))
+          t.at n k)
+          ∙ ap least
+          (sym (each_more text ws c.args.from c.loop-at.at later inside (symbol_codes n)));
       numbered = (
           let ns = names_of s.names.symbols in
           let xs = numbers_in ns (between text ws c.args.from c.loop-at.at) in

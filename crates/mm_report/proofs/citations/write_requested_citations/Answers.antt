@@ -1,0 +1,69 @@
+use Rattle.std.proofs.Common.{◌≡◌, ◌∙◌, ℕ, Bool, List, Option, [], ap, ap₂, sym, length, map, subst}
+use Rattle.std.specs.Prelude.{slice_index_or, flat_map}
+use Rattle.std.specs.Option.{option_copied}
+use Rattle.std.proofs.lemmas.List.{length-map}
+use Rattle.std.proofs.lemmas.List.FromFn.{length-map-range_with_len}
+use Rattle.mm_database.specs.Database.{Contents}
+use Rattle.mm_cites.specs.Citing.{Citing}
+use Rattle.mm_spec.specs.Text.{Bytes}
+use Rattle.mm_spec.specs.Output.{label_at, theorems}
+use Rattle.mm_spec.specs.Report.{head, citation_report, citation_line}
+use Rattle.mm_spec.specs.Request.{Request}
+use Rattle.mm_report.specs.Rows.{citing_row, citing_rows, open_theorems, citation_report_of}
+use Rattle.mm_report.proofs.SentLaw.{sent_more, sent_as, written, written_part}
+use Rattle.mm_report.proofs.citations.write_requested_citations.Goals as goal
+
+-- what is sent is the report of the database
+same_report : (request : Request) (d : Contents) (columns : List ℕ) (c : Citing)
+    → (opened : Option ℕ) (axioms : ℕ) (names : List Bytes)
+    → opened ≡ open_theorems request.with_open d columns → axioms ≡ length columns
+    → names ≡ map (label_at d.statements) (theorems d.statements)
+    → citation_report request opened axioms (citing_rows d.statements request.only c names)
+    ≡ citation_report_of request d columns c
+same_report request d columns c opened axioms names o a n =
+    ap (λ (x : Option ℕ). citation_report request x axioms
+    (citing_rows d.statements request.only c names)) o
+    ∙ ap₂ (λ (k : ℕ) (ls : List Bytes). citation_report request
+    (open_theorems request.with_open d columns) k
+    (citing_rows d.statements request.only c ls)) a n
+
+pub send_citation_lines-requires-clause-labels : goal.send_citation_lines-requires-clause-labels
+send_citation_lines-requires-clause-labels g c =
+    let db = c.args.database.now.statements in
+    ap (λ (ls : List Bytes). length ls) c.new-labels.ensures
+    ∙ length-map (theorems db) (label_at db)
+    ∙ ap (λ (ts : List ℕ). length ts) (sym c.requires.theorems_are)
+
+pub returns : goal.returns
+returns g c =
+    let db = c.args.database.now.statements in
+    let request = c.args.request.now in
+    let opened =
+    subst (λ (r : Request). c.open_theorems-opened.result
+    ≡ open_theorems r.with_open c.args.database.now c.args.chosen.now) c.request.view_is
+    c.open_theorems-opened.ensures in
+    let only = request.only in
+    let citing = c.args.citations.now in
+    let names = c.new-labels.result in
+    let count : _ ≡ length (citing_rows db only citing names) =
+    c.rows-theorems.ensures.rows
+    ∙ sym (length-map-range_with_len
+    (λ i. citing_row db only citing (slice_index_or names i []) i) 0 (length citing.theorems)) in
+    let first =
+    ap (λ (n : ℕ). head request.form c.len-axioms.result c.open_theorems-opened.result n) count in
+    let listed =
+    ap (λ (r : Request). flat_map citation_line (citing_rows db r.only citing names))
+    c.request.view_is in
+    let sent =
+    sent_as _
+    (same_report request c.args.database.now c.args.chosen.now citing c.open_theorems-opened.result c.len-axioms.result names opened
+    c.len-axioms.ensures.len c.new-labels.ensures)
+    (sent_more
+    (sent_more (sent_as _ first c.send_head.ensures)
+    (sent_more c.send_line.ensures (sent_as _ listed c.send_citation_lines.ensures))) c.send_line-2.ensures) in
+    record {
+      ok =
+          written c.finish.result c.new-sink.ensures sent c.finish.ensures.sent
+          c.finish.ensures.ok;
+      err = written_part c.finish.result c.new-sink.ensures sent c.finish.ensures.sent;
+    }

@@ -1,0 +1,68 @@
+-- What is known of words as symbols and as labels is what the definitions say of them.
+use Rattle.std.specs.Prelude.{◌≡◌, ℕ, Bool, true, false, ◌&&◌, not, List, Option, None, Some}
+use Rattle.std.specs.Prelude.{bytes_eq, is_some, nat_eq}
+use Rattle.mm_spec.specs.Text.{Bytes, is_in, fault}
+use Rattle.mm_spec.specs.Scope.{Names}
+use Rattle.mm_spec.specs.Lawful.{is_typed, is_typed_otherwise, constant_codes, variable_codes}
+use Rattle.mm_spec.specs.Lawful.{disjoint_codes}
+use Rattle.mm_spec.specs.declared.Fault.{Fault}
+use Rattle.mm_spec.specs.declared.Code.{Code}
+use Rattle.mm_spec.specs.declared.Code.TheVariants.{BadFloating}
+use Rattle.mm_outline.specs.Blocks.{never}
+use Rattle.mm_outline.specs.declared.parts.Kind.{Kind}
+use Rattle.mm_outline.specs.declared.parts.Kind.TheVariants.{Constants, Variables, Disjoint}
+use Rattle.mm_database.specs.Names.{is_constant_in, is_variable_in}
+use Rattle.mm_database.specs.declared.names.Symbol.{Symbol}
+
+-- whether what is known of a word makes it a variable that is active, that has an active `$f`, or
+-- that an earlier `$f` gave another typecode, by which statements are in open blocks
+module _ (is_open : ℕ → Bool) where
+  abbrev pub is_active_symbol : Symbol → Bool
+  is_active_symbol s = s.is_variable && is_open s.declared
+
+  abbrev pub is_active_variable : Option Symbol → Bool
+  is_active_variable None = false
+  is_active_variable (Some s) = is_active_symbol s
+
+  abbrev pub is_typed_here : Option Symbol → Bool
+  is_typed_here None = false
+  is_typed_here (Some s) = is_open s.typed
+
+abbrev pub has_other_typecode : Bytes → Option Symbol → Bool
+has_other_typecode c None = false
+has_other_typecode c (Some s) = not (nat_eq s.typed never) && not (bytes_eq c s.typecode.now)
+
+-- these are the names that are known
+pub record Knows (n : Names) (look : Bytes → Option Symbol) (labels : Bytes → Option ℕ)
+    (is_open : ℕ → Bool) : Type 0 where
+  pub constants : (w : Bytes) → is_in w n.constants ≡ is_constant_in (look w)
+  pub all_variables : (w : Bytes) → is_in w n.all_variables ≡ is_variable_in (look w)
+  pub active_variables : (w : Bytes)
+      → is_in w n.active_variables ≡ is_active_variable is_open (look w)
+  pub labels_known : (w : Bytes) → is_in w n.labels ≡ is_some (labels w)
+  pub typed : (w : Bytes) → is_active_variable is_open (look w) ≡ true
+      → is_typed n w ≡ is_typed_here is_open (look w)
+  pub otherwise : (c w : Bytes) → is_active_variable is_open (look w) ≡ true
+      → is_typed_otherwise n c w ≡ has_other_typecode c (look w)
+
+-- the fault with a code at a place, and that of a `$f`, whose code is found at its variable, or for
+-- the whole at its keyword
+abbrev pub fault_at : ℕ → Option Code → Option Fault
+fault_at place None = None
+fault_at place (Some code) = Some (fault place code)
+
+abbrev pub typing_fault : ℕ → ℕ → Option (Option Code) → Option Fault
+typing_fault keyword place None = Some (fault keyword BadFloating)
+typing_fault keyword place (Some code) = fault_at place code
+
+-- `$c`, `$v` and `$d`, and the rule on each of their symbols
+abbrev pub lists_symbols : Kind → Bool
+lists_symbols Constants = true
+lists_symbols Variables = true
+lists_symbols Disjoint = true
+lists_symbols _ = false
+
+abbrev pub listed_codes : Names → Kind → List Bytes → Bytes → List Code
+listed_codes n Constants = constant_codes n
+listed_codes n Variables = variable_codes n
+listed_codes n _ = disjoint_codes n

@@ -1,9 +1,0 @@
-use Rattle.std.proofs.Common.{◌≡◌, All}
-use Rattle.mm_work.specs.Workers.{IsFreshSeat}
-use Rattle.mm_work.proofs.gathered.fn.work_all.scope.Given as goal
-
-abbrev pub invariant-loop-worker : goal.invariant-loop-worker
-invariant-loop-worker g l = record {
-  ready : IsFreshSeat l.job.board.now l.mine;
-  promised : All (λ h. h.promise.now ≡ l.job) l.handles.items;
-}

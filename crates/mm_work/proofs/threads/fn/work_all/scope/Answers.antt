@@ -1,0 +1,36 @@
+use Rattle.std.proofs.Common.{◌≡◌, ◌<◌, ◌∙◌, get_or, ap, subst, arith, vec_len}
+use Rattle.mm_work.specs.Workers.{IsDone}
+use Rattle.mm_work.specs.declared.job.Job.{Job}
+use Rattle.std.proofs.lemmas.List.Elements.{All-push}
+use Rattle.mm_work.proofs.threads.fn.work_all.scope.Goals.{in-Some+in-Ok+in_ok-push}
+use Rattle.mm_work.proofs.threads.fn.work_all.scope.Goals.{in-Some+in_default-spawn_with+in-Err-1}
+use Rattle.mm_work.proofs.threads.fn.work_all.scope.Goals.{in-Some+in_default-spawn_with+in-Ok-1}
+use Rattle.mm_work.proofs.threads.fn.work_all.scope.Goals.{in_default}
+use Rattle.mm_work.proofs.threads.fn.work_all.scope.Goals as goal
+
+pub join_all-requires : goal.join_all-requires
+join_all-requires g c = record {
+  own = c.work-own.ensures;
+  others = λ k d l.
+      let len = c.in-Ok-join_promised.ensures.len in
+      let ok = c.in-Ok-join_promised.others.ok.0 in
+      let lt : k < vec_len c.loop-worker.handles = omega (arith, len, ok, l) in
+      let kept = (c.in-Ok-join_promised.ensures.each k d lt).1 in
+      let long = c.loop-worker.handles.ok.0 in
+      let promised = c.loop-worker.invariant.promised k kept.handle (omega (arith, lt, long)) in
+      subst (λ (j : Job _). IsDone j (get_or c.in-Ok-join_promised.others.items k d))
+      (ap (λ h. h.promise.now) kept.handle_is ∙ promised) kept.kept;
+}
+
+pub loop-worker-preserved : goal.loop-worker-preserved
+loop-worker-preserved g c = record {
+  ready = c.split.ensures.own;
+  promised = elim c.match-split.branch [
+    | in-Some+in-Ok+in_ok-push w ↦ rw (w.handles-is, w.in_ok-push.ensures.items)
+        (All-push (λ h. h.promise.now ≡ c.captures.job.now) c.loop-worker.handles.items
+        w.in-Ok.handle c.loop-worker.invariant.promised (ap (λ p. p.now) w.in-Ok.ensures.ok))
+    | in-Some+in_default-spawn_with+in-Err-1 w ↦ rw w.handles-is c.loop-worker.invariant.promised
+    | in-Some+in_default-spawn_with+in-Ok-1 w ↦ rw w.handles-is c.loop-worker.invariant.promised
+    | in_default w ↦ rw w.handles-is c.loop-worker.invariant.promised
+  ];
+}
