@@ -17,6 +17,8 @@ const SHOWN_IN_VIEW = 100;
 /** Letters before a word that was found: in one line, which may be a telephone's, and in several. */
 const BEFORE = 20;
 const AROUND = 60;
+/** The first half of a sign such as 𝐴, where the second one is cut off. */
+const HALF = /[\ud800-\udbff]$/;
 
 export class Finder {
     /**
@@ -265,7 +267,8 @@ function around(text, words, before) {
     const space = text.indexOf(" ", Math.max(0, at - before));
     const from = at <= before ? 0 : space >= 0 && space < at ? space + 1 : at;
     const end = from + 4 * AROUND;
-    return `${from > 0 ? "…" : ""}${text.slice(from, end)}${end < text.length ? "…" : ""}`;
+    const cut = text.slice(from, end).replace(HALF, "");
+    return `${from > 0 ? "…" : ""}${cut}${end < text.length ? "…" : ""}`;
 }
 
 /**

@@ -132,11 +132,8 @@ def try_set(browser: Browser, pages: Pages) -> None:
     same(browser.messages(), [], f"{browser.name}: messages in the console of set.mm's page")
 
 
-def main() -> None:
-    """Runs the test."""
-    options = options_of()
-    # So that the browsers end, too.
-    signal.signal(signal.SIGTERM, lambda *_: sys.exit(143))
+def names_of(options: argparse.Namespace) -> list[str]:
+    """The databases that are asked for. Ends the test where something isn't here."""
     lacking = browsers.missing()
     if lacking:
         missing(f"no browsers to try the page in: {lacking}")
@@ -147,6 +144,15 @@ def main() -> None:
     for name in names:
         if not (DATABASES / f"{name}.mm").exists():
             missing(f"there is no {DATABASES / name}.mm: apt-get install metamath-databases")
+    return names
+
+
+def main() -> None:
+    """Runs the test."""
+    options = options_of()
+    names = names_of(options)
+    # So that the browsers end, too.
+    signal.signal(signal.SIGTERM, lambda *_: sys.exit(143))
     print(f"seed {options.seed}", flush=True)
     kinds = [kind for name, kind in browsers.KINDS.items() if options.only in (None, name)]
     with contextlib.ExitStack() as stack:
