@@ -1,0 +1,2 @@
+pub mod SeenLaw
+pub mod FrontLaw
