@@ -3,7 +3,7 @@
 //! fault (`Rattle.mm_spec.specs.Lexed`), the same for every way of cutting.
 #![tactic(auto)]
 
-ghost use Rattle.std.specs.Prelude.{◌≡◌, ◌<◌, ◌≤◌, ◌+◌, length, IfOk, is_some};
+ghost use Rattle.std.specs.Prelude.{◌≡◌, ◌<◌, ◌≤◌, ◌+◌, ℕ, List, length, IfOk, is_some};
 ghost use Rattle.mm_spec.specs.Lexed.{fault_in, lexical_fault, tokens_of};
 
 mod cuts;
@@ -15,6 +15,7 @@ mod roles;
 mod runs;
 mod scanner;
 
+use crate::pieces::lex_piece_with_room;
 use crate::runs::read_text;
 pub use cuts::{Cuts, CutsFault};
 use mm_spec::TEXT_LIMIT;
@@ -22,6 +23,26 @@ pub use mm_spec::{Code, Fault, Lexed, Word};
 pub use pieces::{Piece, join, lex_piece};
 use std::alloc::{AllocError, Allocator};
 use std::thread::Threads;
+
+/// For so many bytes of a text there is room for one token at first, where memory that isn't used
+/// isn't given back. Texts with comments have fewer tokens.
+const BYTES_OF_A_TOKEN: usize = 8;
+
+/// What is known of a text that is longer than the limit.
+fn too_long<A: Allocator>(alloc: A) -> Lexed<A>
+    ensures tokens { (text : List ℕ) → TEXT_LIMIT < length text
+        → result.tokens.items ≡ tokens_of text }
+    ensures fault { (text : List ℕ) → TEXT_LIMIT < length text
+        → result.fault ≡ lexical_fault text }
+{
+    Lexed {
+        tokens: Vec::new(alloc),
+        fault: Some(Fault {
+            at: 0,
+            code: Code::TextTooLong,
+        }),
+    }
+}
 
 /// The tokens and the first lexical fault of a text (Metamath book, "Preliminaries" and
 /// "Preprocessing"). The cuts must be made for the text's length if that is within the limit; they
@@ -37,14 +58,22 @@ pub fn lex<R: Threads + Sync, A: Allocator + Copy + Send + Sync>(
     ensures fault { IfOk result (λ lexed. lexed.fault ≡ lexical_fault text.now) }
 {
     if text.len() > TEXT_LIMIT {
-        return Ok(Lexed {
-            tokens: Vec::new(alloc),
-            fault: Some(Fault {
-                at: 0,
-                code: Code::TextTooLong,
-            }),
-        });
+        return Ok(too_long(alloc));
     }
     let whole = read_text(rt, alloc, text, cuts.places())?;
+    Ok(whole.into_lexed())
+}
+
+/// The same on the calling thread alone, which reads the text as one piece. Fails only if out of
+/// memory.
+pub fn lex_alone<A: Allocator + Copy>(alloc: A, text: &[u8]) -> Result<Lexed<A>, AllocError>
+    ensures tokens { IfOk result (λ lexed. lexed.tokens.items ≡ tokens_of text.now) }
+    ensures fault { IfOk result (λ lexed. lexed.fault ≡ lexical_fault text.now) }
+{
+    if text.len() > TEXT_LIMIT {
+        return Ok(too_long(alloc));
+    }
+    let room = text.len() / BYTES_OF_A_TOKEN + 1;
+    let whole = lex_piece_with_room(alloc, text, 0, text.len(), room)?;
     Ok(whole.into_lexed())
 }

@@ -137,12 +137,14 @@ impl<A: Allocator> Inner<A> {
     }
 }
 
-/// The words that begin between two places, read in both modes.
+/// The words that begin between two places, read in both modes. `room` is the number of tokens for
+/// which memory is reserved at first.
 fn lex_inner<A: Allocator + Copy>(
     alloc: A,
     text: &[u8],
     head: usize,
     tail: usize,
+    room: usize,
 ) -> Result<Inner<A>, AllocError>
     requires order { head ≤ tail }
     requires within { tail ≤ length text.now }
@@ -153,8 +155,7 @@ fn lex_inner<A: Allocator + Copy>(
         (λ inner. AreReadings text.now (words_between text.now head tail) (side inner.outside)
         (side inner.inside)) }
 {
-    // There is at least a byte between two words.
-    let mut outside = ModeReading::with_room(alloc, CommentState::Nowhere, (tail - head) / 2 + 1);
+    let mut outside = ModeReading::with_room(alloc, CommentState::Nowhere, room);
     let mut inside = ModeReading::new(alloc, CommentState::Before);
     let mut scanner = WordScanner::new(text, head);
     while inside.fault.is_none()
@@ -178,6 +179,33 @@ fn lex_inner<A: Allocator + Copy>(
     })
 }
 
+/// The summary of the stretch of a text from `from` up to `to`, as [`lex_piece`] makes it. `room` is
+/// the number of tokens for which memory is reserved at first.
+pub(crate) fn lex_piece_with_room<A: Allocator + Copy>(
+    alloc: A,
+    text: &[u8],
+    from: usize,
+    to: usize,
+    room: usize,
+) -> Result<Piece<A>, AllocError>
+    requires order { from ≤ to }
+    requires within { to ≤ length text.now }
+    requires short { length text.now ≤ TEXT_LIMIT }
+    ensures from { IfOk result (λ piece. piece.from ≡ from) }
+    ensures to { IfOk result (λ piece. piece.to ≡ to) }
+    ensures summary { IfOk result (IsSummary text.now) }
+{
+    let inner = match bounds(text, from, to) {
+        None => None,
+        Some((head, tail)) => Some(lex_inner(alloc, text, head, tail, room)?),
+    };
+    Ok(Piece {
+        from: from as u32,
+        to: to as u32,
+        inner,
+    })
+}
+
 /// The summary of the stretch of a text from `from` up to `to`, read in both comment modes, since
 /// either may hold after its head. Fails only if out of memory.
 pub fn lex_piece<A: Allocator + Copy>(
@@ -193,15 +221,8 @@ pub fn lex_piece<A: Allocator + Copy>(
     ensures to { IfOk result (λ piece. piece.to ≡ to) }
     ensures summary { IfOk result (IsSummary text.now) }
 {
-    let inner = match bounds(text, from, to) {
-        None => None,
-        Some((head, tail)) => Some(lex_inner(alloc, text, head, tail)?),
-    };
-    Ok(Piece {
-        from: from as u32,
-        to: to as u32,
-        inner,
-    })
+    // There is at least a byte between two words.
+    lex_piece_with_room(alloc, text, from, to, (to - from) / 2 + 1)
 }
 
 /// What is between the head of one stretch and the tail of the next.

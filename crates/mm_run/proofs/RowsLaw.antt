@@ -107,7 +107,7 @@ is_report request db opened c axioms m cited is h other =
 
 -- the report of a table is the output of the text
 pub rests : (request : Request) (d : Contents) (c : Citing) (axioms : List ℕ)
-    → (m : Marks) → IsJudged request d c → axioms ≡ columns d.statements request.only
+    → (m : Marks) → IsJudged request.essential request.with_open d c → axioms ≡ columns d.statements request.only
     → IsMatrix c axioms m → (request.choice ≡ Citations → ⊥)
     → IsOutput d.text request (report_of request d axioms m)
 rests request d c axioms m judged is table other =

@@ -5,14 +5,18 @@
 //! every lawful plan and whatever the reader gives.
 #![tactic(auto)]
 
+mod alone;
 mod cuts;
 mod input;
+mod judged;
 mod output;
 
 ghost use Rattle.mm_plan.specs.Plans.{IsLawfulPlan, request_of};
 ghost use Rattle.mm_spec.specs.Ends.{Ends};
 
+pub use crate::alone::{answer_alone, judge_alone, write_judged};
 use crate::input::{ReadRefused, read_all};
+pub use crate::judged::JudgedText;
 use crate::output::answer;
 use mm_plan::Plan;
 pub use mm_spec::RunEnd;

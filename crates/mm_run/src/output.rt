@@ -4,16 +4,16 @@ ghost use Rattle.std.specs.Prelude.{◌≡◌, ◌<◌, ◌≤◌, ◌^◌, ℕ,
 ghost use Rattle.mm_spec.specs.declared.Choice.TheVariants as choices;
 ghost use Rattle.mm_spec.specs.Report.{has};
 ghost use Rattle.mm_spec.specs.Request.{Request};
-ghost use Rattle.mm_spec.specs.Lexed.{lexical_fault, tokens_of, lexed_of};
-ghost use Rattle.mm_spec.specs.Statement.{Statement};
-ghost use Rattle.mm_spec.specs.Output.{FirstFault, IsRead, columns};
+ghost use Rattle.mm_spec.specs.Lexed.{lexed_of};
+ghost use Rattle.mm_spec.specs.Output.{FirstFault, columns};
 ghost use Rattle.mm_spec.specs.Ends.{Answers, reading_limit};
-ghost use Rattle.mm_run.specs.Counted.{IsCounted, IsJudged};
-ghost use Rattle.mm_work.specs.Judged.{IsFirstFault};
+ghost use Rattle.mm_run.specs.Counted.{IsJudged, IsReadFrom};
+ghost use Rattle.mm_rows.specs.Marks.{IsMatrix};
 ghost use Rattle.mm_plan.specs.Plans.{IsLawfulPlan, request_of};
 
 use crate::RunEnd;
 use crate::cuts::cuts_of;
+use crate::judged::{JudgedText, judge};
 use mm_database::Database;
 use mm_lex::lex;
 use mm_plan::Plan;
@@ -21,17 +21,17 @@ use mm_report::{
     Choice, Request, has_usage, write_refusal, write_requested_citations, write_requested_report,
     write_rows,
 };
-use mm_rows::{Columns, marked_rows, matrix};
+use mm_rows::{Columns, MarkedRows, Matrix, marked_rows, matrix};
 use mm_spec::Fault;
 use mm_stmt::read_owned;
-use mm_work::{Citations, Judged, Open, check_all};
+use mm_work::{Citations, Open, check_all};
 use std::alloc::{AllocError, Allocator};
 use std::io::Write;
 use std::sync::Wait;
 use std::thread::Threads;
 
 /// Writes the refusal of the text for its first fault.
-fn refuse<W: Write>(text: &[u8], fault: Fault, to: &mut W) -> RunEnd
+pub(crate) fn refuse<W: Write>(text: &[u8], fault: Fault, to: &mut W) -> RunEnd
     ensures { (request : Request) → FirstFault (length text.now) (lexed_of text.now)
         request.with_open fault
         → Answers result text.now request (W.contents to.old) (W.contents to.new) }
@@ -43,14 +43,14 @@ fn refuse<W: Write>(text: &[u8], fault: Fault, to: &mut W) -> RunEnd
 }
 
 /// Writes the report of what each theorem cites, for a database without a fault. It needs no table.
-fn report_citations<'a, A: Allocator + Copy, W: Write>(
+pub(crate) fn report_citations<'a, A: Allocator + Copy, W: Write>(
     alloc: A,
     request: &Request<'_>,
     database: &Database<'a, A>,
     citations: &Citations<A>,
     to: &mut W,
 ) -> RunEnd
-    requires judged { IsJudged request.now database.now citations.now }
+    requires judged { IsJudged request.now.essential request.now.with_open database.now citations.now }
     requires choice { request.now.choice ≡ choices.Citations }
     ensures { Answers result database.now.text request.now (W.contents to.old)
         (W.contents to.new) }
@@ -65,51 +65,49 @@ fn report_citations<'a, A: Allocator + Copy, W: Write>(
 }
 
 /// Writes the report of what each theorem rests on, with the usage, which needs the columns.
-fn report_usage<'a, R: Threads + Sync, A: Allocator + Copy + Send + Sync, W: Write>(
-    rt: &R,
-    alloc: A,
+pub(crate) fn report_usage<'a, A: Allocator, W: Write>(
     request: &Request<'_>,
     database: &Database<'a, A>,
     citations: &Citations<A>,
     chosen: &Columns<A>,
+    table: &Matrix<A>,
     to: &mut W,
 ) -> RunEnd
-    requires judged { IsJudged request.now database.now citations.now }
+    requires judged { IsJudged request.now.essential request.now.with_open database.now citations.now }
     requires chosen { chosen.now ≡ columns database.now.statements request.now.only }
+    requires table { IsMatrix citations.now chosen.now table.now }
     requires choice { request.now.choice ≡ choices.Citations → ⊥ }
     ensures { Answers result database.now.text request.now (W.contents to.old)
         (W.contents to.new) }
 {
-    let Ok(table) = matrix(rt, alloc, citations, chosen) else {
-        return RunEnd::NoMemory;
-    };
-    match write_requested_report(to, request, database, chosen, &table) {
+    // Only the contract needs the citations.
+    let _ = citations;
+    match write_requested_report(to, request, database, chosen, table) {
         Ok(()) => RunEnd::Accepted,
         Err(_) => RunEnd::WriteFailed,
     }
 }
 
 /// Writes the report of what each theorem rests on, without the usage, from the rows alone.
-fn report_rows<'a, R: Threads + Sync, A: Allocator + Copy + Send + Sync, W: Write>(
-    rt: &R,
-    alloc: A,
+pub(crate) fn report_rows<'a, A: Allocator, W: Write>(
     request: &Request<'_>,
     database: &Database<'a, A>,
     citations: &Citations<A>,
     chosen: &Columns<A>,
+    marked: &MarkedRows<A>,
     to: &mut W,
 ) -> RunEnd
-    requires judged { IsJudged request.now database.now citations.now }
+    requires judged { IsJudged request.now.essential request.now.with_open database.now citations.now }
     requires chosen { chosen.now ≡ columns database.now.statements request.now.only }
+    requires marked { IsMatrix citations.now chosen.now marked.now }
     requires choice { request.now.choice ≡ choices.Citations → ⊥ }
     requires no_usage { has request.now.choice choices.Usage ≡ false }
     ensures { Answers result database.now.text request.now (W.contents to.old)
         (W.contents to.new) }
 {
-    let Ok(marked) = marked_rows(rt, alloc, citations, chosen) else {
-        return RunEnd::NoMemory;
-    };
-    match write_rows(to, request, database, chosen, &marked) {
+    // Only the contract needs the citations.
+    let _ = citations;
+    match write_rows(to, request, database, chosen, marked) {
         Ok(()) => RunEnd::Accepted,
         Err(_) => RunEnd::WriteFailed,
     }
@@ -124,7 +122,7 @@ fn report_rests<'a, R: Threads + Sync, A: Allocator + Copy + Send + Sync, W: Wri
     citations: &Citations<A>,
     to: &mut W,
 ) -> RunEnd
-    requires judged { IsJudged request.now database.now citations.now }
+    requires judged { IsJudged request.now.essential request.now.with_open database.now citations.now }
     requires choice { request.now.choice ≡ choices.Citations → ⊥ }
     ensures { Answers result database.now.text request.now (W.contents to.old)
         (W.contents to.new) }
@@ -133,9 +131,15 @@ fn report_rests<'a, R: Threads + Sync, A: Allocator + Copy + Send + Sync, W: Wri
         return RunEnd::NoMemory;
     };
     if has_usage(request.choice) {
-        report_usage(rt, alloc, request, database, citations, &chosen, to)
+        match matrix(rt, alloc, citations, &chosen) {
+            Ok(table) => report_usage(request, database, citations, &chosen, &table, to),
+            Err(_) => RunEnd::NoMemory,
+        }
     } else {
-        report_rows(rt, alloc, request, database, citations, &chosen, to)
+        match marked_rows(rt, alloc, citations, &chosen) {
+            Ok(marked) => report_rows(request, database, citations, &chosen, &marked, to),
+            Err(_) => RunEnd::NoMemory,
+        }
     }
 }
 
@@ -148,7 +152,7 @@ fn report<'a, R: Threads + Sync, A: Allocator + Copy + Send + Sync, W: Write>(
     citations: &Citations<A>,
     to: &mut W,
 ) -> RunEnd
-    requires judged { IsJudged request.now database.now citations.now }
+    requires judged { IsJudged request.now.essential request.now.with_open database.now citations.now }
     ensures { Answers result database.now.text request.now (W.contents to.old)
         (W.contents to.new) }
 {
@@ -168,10 +172,7 @@ fn database_of<'a, R: Threads + Sync, A: Allocator + Copy + Send + Sync>(
 ) -> Result<Database<'a, A>, AllocError>
     requires few { length text.now ≤ reading_limit }
     requires lawful { IsLawfulPlan plan.now }
-    ensures text { IfOk result (λ database. database.text ≡ text.now) }
-    ensures counted { IfOk result (IsCounted plan.now.with_open) }
-    ensures read { IfOk result
-        (λ database. IsRead (length text.now) (lexed_of text.now) database.read database.fault) }
+    ensures { IfOk result (IsReadFrom text.now plan.now.with_open) }
 {
     let cuts = cuts_of(&plan.cuts, alloc, text.len())?;
     let lexed = lex(rt, alloc, text, &cuts)?;
@@ -198,11 +199,10 @@ pub fn answer<R: Threads + Wait + Sync, A: Allocator + Copy + Send + Sync, W: Wr
     let Ok(judged) = check_all(rt, alloc, &database, plan.workers, plan.essential, &Open) else {
         return RunEnd::NoMemory;
     };
-    match judged {
-        Judged::Faulty(fault) => refuse(text, fault, to),
-        Judged::Valid(citations) => match database.fault() {
-            Some(fault) => refuse(text, fault, to),
-            None => report(rt, alloc, &plan.request(), &database, &citations, to),
-        },
+    match judge(database, judged) {
+        JudgedText::Faulty(fault) => refuse(text, fault, to),
+        JudgedText::Sound(database, citations) => {
+            report(rt, alloc, &plan.request(), &database, &citations, to)
+        }
     }
 }

@@ -58,3 +58,16 @@ pub(crate) fn check_in_order<'a, A: Allocator + Copy>(
     }
     valid(alloc, database, essential, lists)
 }
+
+/// Checks the proofs of all theorems on the calling thread alone, in file order, with the answer of
+/// `check_all`. Fails only if out of memory.
+pub fn check_alone<'a, A: Allocator + Copy>(
+    alloc: A,
+    database: &Database<'a, A>,
+    essential: bool,
+) -> Result<Judged<A>, AllocError>
+    ensures { IfOk result (λ judged. Judges database.now.statements essential judged) }
+{
+    let rules = Rules::new(alloc, database)?;
+    check_in_order(alloc, database, &rules, essential)
+}

@@ -1,57 +1,43 @@
-use Rattle.std.proofs.Common.{◌∙◌, ℕ, List, length, None, sym, subst, inl, inr}
-use Rattle.mm_spec.specs.Lexed.{lexed_of}
-use Rattle.mm_spec.specs.Output.{AllAreValid, IsRead}
-use Rattle.mm_work.specs.Judged.{Judges, AllCited, IsFirstFault}
-use Rattle.mm_work.specs.declared.judged.Judged.{Judged}
+use Rattle.std.proofs.Common.{ℕ, List, subst}
+use Rattle.mm_spec.specs.Ends.{Answers}
+use Rattle.mm_spec.specs.Request.{Request}
 use Rattle.mm_plan.specs.Plans.{request_of}
+use Rattle.mm_run.specs.Counted.{IsJudgedText}
+use Rattle.mm_run.specs.declared.judged.JudgedText.{JudgedText}
 use Rattle.mm_run.proofs.output.answer.Goals as goal
+
+pub report-requires-clause-judged : goal.report-requires-clause-judged
+report-requires-clause-judged g c κs within =
+    let plan = c.args.plan.now in
+    rw c.request.ensures
+    (subst
+    (λ (j : JudgedText _). IsJudgedText c.args.text.now plan.essential plan.with_open j)
+    c.in-Sound.is
+    (c.judge.ensures c.args.text.now plan.essential plan.with_open c.in-Ok.ensures
+    c.in-Ok-check_all.ensures)).1
 
 pub returns-in-Faulty : goal.returns-in-Faulty
 returns-in-Faulty g c =
-    let database = c.in-Ok.database in
-    let first =
-    subst (λ (j : Judged _). Judges database.statements c.args.plan.now.essential j) c.in-Faulty.is
-    c.in-Ok-check_all.ensures in
-    c.refuse.ensures (request_of c.args.plan.now) (
-      database.read,
-      database.fault,
-      c.in-Ok.ensures.read,
-      inl
-          (subst (λ db. IsFirstFault db c.in-Faulty.fault) c.in-Ok.ensures.counted.statements
-          first),
-    )
+    let plan = c.args.plan.now in
+    c.refuse.ensures (request_of plan)
+    (subst
+    (λ (j : JudgedText _). IsJudgedText c.args.text.now plan.essential plan.with_open j)
+    c.in-Faulty.is
+    (c.judge.ensures c.args.text.now plan.essential plan.with_open c.in-Ok.ensures
+    c.in-Ok-check_all.ensures))
 
-pub returns-in-Some : goal.returns-in-Some
-returns-in-Some g c =
-    let database = c.in-Ok.database in
-    let cited : AllCited database.statements c.args.plan.now.essential c.in-Valid.citations =
-    subst (λ (j : Judged _). Judges database.statements c.args.plan.now.essential j) c.in-Valid.is
-    c.in-Ok-check_all.ensures in
-    c.refuse-in-Some.ensures (request_of c.args.plan.now) (
-      database.read,
-      database.fault,
-      c.in-Ok.ensures.read,
-      inr (
-        subst AllAreValid c.in-Ok.ensures.counted.statements cited.valid,
-        sym c.fault.ensures
-            ∙ c.in-Some.is,
-      ),
-    )
-
-pub report-requires-clause-judged : goal.report-requires-clause-judged
-report-requires-clause-judged g c κs lives =
-    let database = c.in-Ok.database in
-    let text = c.in-Ok.ensures.text in
-    let cited : AllCited database.statements c.args.plan.now.essential c.in-Valid.citations =
-    subst (λ (j : Judged _). Judges database.statements c.args.plan.now.essential j) c.in-Valid.is
-    c.in-Ok-check_all.ensures in
-    rw c.request.ensures (record {
-      sound = (
-        subst (λ (t : List ℕ). IsRead (length t) (lexed_of t) database.read None) (sym text)
-            (subst (IsRead (length c.args.text.now) (lexed_of c.args.text.now) database.read)
-            (sym c.fault.ensures ∙ c.in-None.is) c.in-Ok.ensures.read),
-        subst AllAreValid c.in-Ok.ensures.counted.statements cited.valid,
-      );
-      counted = c.in-Ok.ensures.counted;
-      cited = cited;
-    })
+pub returns-in-Sound : goal.returns-in-Sound
+returns-in-Sound g c =
+    let plan = c.args.plan.now in
+    let judged =
+    subst (λ (j : JudgedText _). IsJudgedText c.args.text.now plan.essential plan.with_open j)
+    c.in-Sound.is
+    (c.judge.ensures c.args.text.now plan.essential plan.with_open c.in-Ok.ensures
+    c.in-Ok-check_all.ensures) in
+    subst
+    (λ (t : List ℕ). Answers c.report.result t (request_of plan)
+    (g.W.Write.contents c.args.to.now) (g.W.Write.contents c.report.new.to)) judged.0
+    (subst
+    (λ (r : Request). Answers c.report.result c.in-Sound.database.text r
+    (g.W.Write.contents c.args.to.now) (g.W.Write.contents c.report.new.to)) c.request.ensures
+    c.report.ensures)

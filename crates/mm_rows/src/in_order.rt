@@ -1,0 +1,73 @@
+//! The rows, one by one in file order: a theorem cites only what is before it.
+
+ghost use Rattle.std.specs.Prelude.{◌≡◌, ◌*◌, IfOk, length};
+ghost use Rattle.mm_rows.specs.Bits.{words_for};
+ghost use Rattle.mm_rows.specs.BitRows.{AreBitRows};
+ghost use Rattle.mm_rows.specs.Marks.{IsMatrix};
+ghost use Rattle.mm_cites.specs.Citing.{IsStatementList};
+
+use crate::columns::Columns;
+use crate::places::Places;
+use crate::rows::{fill_in_place, finish};
+use crate::table::{MarkedRows, Matrix};
+use mm_cites::Citations;
+use std::alloc::{AllocError, Allocator};
+
+/// Fills in all rows.
+fn fill_in_order<A: Allocator>(
+    citations: &Citations<A>,
+    theorems: &Places<A>,
+    columns: &Places<A>,
+    bits: &mut [u64],
+)
+    requires theorems { theorems.now ≡ citations.now.theorems }
+    requires size { length bits.old
+        ≡ length citations.now.theorems * words_for (length columns.now) }
+    ensures { AreBitRows citations.now columns.now (length citations.now.theorems) bits.new }
+{
+    for i in 0..citations.rows() {
+        fill_in_place(citations, theorems, columns, i, bits);
+    }
+}
+
+/// Returns the rows of all theorems.
+fn all_rows_in_order<A: Allocator + Copy>(
+    alloc: A,
+    citations: &Citations<A>,
+    columns: &[u32],
+) -> Result<Vec<u64, A>, AllocError>
+    requires { IsStatementList columns.now }
+    ensures { IfOk result
+        (λ v. AreBitRows citations.now columns.now (length citations.now.theorems) v.items) }
+{
+    let theorems = Places::new(alloc, citations.theorems())?;
+    let columns = Places::new(alloc, columns)?;
+    let mut bits = Vec::new(alloc);
+    bits.resize(citations.rows() as usize * columns.words(), 0u64)?;
+    fill_in_order(citations, &theorems, &columns, &mut bits);
+    Ok(bits)
+}
+
+/// The same as `marked_rows`, on the calling thread alone. Fails only if out of memory.
+pub fn marked_rows_in_order<A: Allocator + Copy>(
+    alloc: A,
+    citations: &Citations<A>,
+    columns: &Columns<A>,
+) -> Result<MarkedRows<A>, AllocError>
+    ensures { IfOk result (λ m. IsMatrix citations.now columns.now m) }
+{
+    let bits = all_rows_in_order(alloc, citations, columns.statements())?;
+    Ok(finish(citations, columns, bits))
+}
+
+/// The same as `matrix`, on the calling thread alone. Fails only if out of memory.
+pub fn matrix_in_order<A: Allocator + Copy>(
+    alloc: A,
+    citations: &Citations<A>,
+    columns: &Columns<A>,
+) -> Result<Matrix<A>, AllocError>
+    ensures { IfOk result (λ m. IsMatrix citations.now columns.now m) }
+{
+    let marked = marked_rows_in_order(alloc, citations, columns)?;
+    Matrix::with_columns(alloc, marked)
+}

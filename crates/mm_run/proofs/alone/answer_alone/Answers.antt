@@ -1,0 +1,13 @@
+use Rattle.std.proofs.Common.{subst}
+use Rattle.mm_spec.specs.Request.{Request}
+use Rattle.mm_run.specs.Counted.{IsJudgedText}
+use Rattle.mm_run.proofs.alone.answer_alone.Goals as goal
+
+pub write_judged-requires : goal.write_judged-requires
+write_judged-requires g c =
+    record {
+      judged =
+          subst
+          (λ (r : Request). IsJudgedText c.args.text.now r.essential r.with_open
+          c.in-Ok.judged) c.request.view_is c.in-Ok.ensures;
+    }
