@@ -1,8 +1,10 @@
 //! A writer to the front of a slice.
 
-ghost use Rattle.std.specs.Prelude.{◌≡◌, ◌+◌, ℕ, List, [], ◌∷◌, ◌++◌, Some, length, take, min};
+ghost use Rattle.std.specs.Prelude.{◌≡◌, ◌+◌, ℕ, List, [], ◌∷◌, ◌++◌, Some, nat_lt, if◌then◌else◌, length, take};
+ghost use Rattle.mm_library.specs.declared.status.Status.TheVariants.{OutTooShort};
 
 use crate::seen::Seen;
+use crate::status::Status;
 use std::io::{self, ErrorKind, Write};
 
 /// A writer that puts its bytes at the front of a slice, and counts those that find no place.
@@ -27,9 +29,21 @@ impl<'a> Front<'a> {
             seen: Seen::none(),
         }
     }
+
+    /// The verdict, if all bytes have found a place.
+    pub(crate) fn status(&self, verdict: Status) -> Status
+        ensures { result ≡ (if nat_lt (length self.now.out.now) self.now.len then OutTooShort
+            else verdict) }
+    {
+        if self.out.len() < self.len {
+            Status::OutTooShort
+        } else {
+            verdict
+        }
+    }
 }
 
-/// Puts bytes
+/// Puts bytes behind the first `len` bytes of `out`, as many of them as fit.
 pub(crate) fn place(out: &mut [u8], len: usize, bytes: &[u8])
     ensures old { take len out.new ≡ take len out.old }
     ensures long { length out.new ≡ length out.old }

@@ -1,7 +1,7 @@
 //! What a call requests.
 
-ghost use Rattle.std.specs.Prelude.{◌≡◌, None, Some, IfErr, MatchResult, Bool, List, ℕ};
-ghost use Rattle.mm_library.specs.Calls.{Asks, Refuses, call_of, choice_of, form_of};
+ghost use Rattle.std.specs.Prelude.{◌≡◌};
+ghost use Rattle.mm_library.specs.Calls.{IsAnswer, call_of, choice_of, form_of};
 
 use crate::status::Status;
 use mm_spec::{Choice, Form, Request};
@@ -40,10 +40,8 @@ pub(crate) fn request<'a>(
     essential: bool,
     with_open: bool,
 ) -> Result<Request<'a>, Status>
-    ensures { MatchResult result
-        (λ r. Asks (call_of has_only only.now choice_number form_number essential with_open) r)
-        (λ status. Refuses status
-            (call_of has_only only.now choice_number form_number essential with_open)) }
+    ensures { IsAnswer (call_of has_only only.now choice_number form_number essential with_open)
+        result }
 {
     let (Some(choice), Some(form)) = (choice(choice_number), form(form_number)) else {
         return Err(Status::NoSuchRequest);
