@@ -1,0 +1,104 @@
+-- How a call ends, put together from its parts.
+use Rattle.std.proofs.Common.{◌≡◌, ◌∙◌, ℕ, List, [], ◌∷◌, ◌++◌, ◌+◌, ◌-◌, ◌<◌, ◌≤◌, Bool, true, false}
+use Rattle.std.proofs.Common.{length, take, map, sum, nat_lt, if◌then◌else◌, refl, sym, ap, subst, arith}
+use Rattle.std.proofs.lemmas.Bool.{ltb-true, ltb-false}
+use Rattle.std.proofs.lemmas.List.{append-nil, length-append}
+use Rattle.mm_spec.specs.Request.{Request}
+use Rattle.mm_spec.specs.Output.{IsOutput}
+use Rattle.mm_library.specs.Calls.{Asks, Call, Ends, HasVerdict, Refuses, Wrote, Writes, status_number}
+use Rattle.mm_library.specs.declared.status.Status.{Status}
+use Rattle.mm_library.specs.declared.status.Status.TheVariants.{Accepted, Refused, NotText}
+use Rattle.mm_library.specs.declared.status.Status.TheVariants.{OutTooShort, RoomTooSmall, NoSuchRequest}
+
+-- the status of outputs that are at the front of `out`: the verdict, if they have found a place
+pub ended : (verdict : Status) (with_open : Bool) (requests : List Request)
+    (text lengths out : List ℕ) (len : ℕ) → HasVerdict verdict text with_open
+    → Wrote text requests lengths out → sum lengths ≡ len
+    → Writes (if nat_lt (length out) len then OutTooShort else verdict) with_open requests text
+    lengths out
+ended verdict with_open requests text lengths out len judged wrote total =
+    go (nat_lt (length out) len) refl
+  where
+    fits : (v : Status) → HasVerdict v text with_open → sum lengths ≤ length out
+        → Writes v with_open requests text lengths out
+    fits Accepted judged fit = (judged, wrote, fit)
+    fits Refused judged fit = (judged, wrote, fit)
+    fits NotText judged fit = absurd judged
+    fits OutTooShort judged fit = absurd judged
+    fits RoomTooSmall judged fit = absurd judged
+    fits NoSuchRequest judged fit = absurd judged
+
+    go : (b : Bool) → nat_lt (length out) len ≡ b
+        → Writes (if b then OutTooShort else verdict) with_open requests text lengths out
+    go true e = (wrote, (let l = ltb-true (length out) len e in omega (arith, l, total)))
+    go false e =
+        fits verdict judged (let l = ltb-false (length out) len e in omega (arith, l, total))
+
+-- one output, which is all that was written
+pub one_output : (request : Request) (text out bytes seen : List ℕ) (len : ℕ)
+    → IsOutput text request bytes → seen ≡ bytes → len ≡ length seen
+    → take len out ≡ take (length out) seen → Wrote text (request ∷ []) (len ∷ []) out
+one_output request text out bytes seen len is all count front =
+    let whole : bytes ++ [] ≡ seen = append-nil bytes ∙ sym all in
+    record {
+      outputs = bytes ∷ [];
+      are_outputs = (is, tt);
+      are_lengths = ap (λ (n : ℕ). n ∷ []) (count ∙ ap length all);
+      at_front =
+          ap (λ (bs : List ℕ). take (length bs) out) whole
+          ∙ ap (λ (n : ℕ). take n out) (sym count) ∙ front
+          ∙ ap (take (length out)) (sym whole);
+    }
+
+-- two outputs, the second behind the first
+pub two_outputs : (request other : Request) (text out bytes more first both : List ℕ) (k len : ℕ)
+    → IsOutput text request bytes → IsOutput text other more → first ≡ bytes
+    → both ≡ first ++ more → k ≡ length first → len ≡ length both
+    → take len out ≡ take (length out) both
+    → Wrote text (request ∷ other ∷ []) (k ∷ (len - k) ∷ []) out
+two_outputs request other text out bytes more first both k len is is' one two at count front =
+    let whole : bytes ++ (more ++ []) ≡ both =
+    ap (λ (bs : List ℕ). bytes ++ bs) (append-nil more) ∙ ap (λ (bs : List ℕ). bs ++ more) (sym one) ∙ sym two in
+    let sizes : length both ≡ length first + length more = ap length two ∙ length-append first more in
+    record {
+      outputs = bytes ∷ more ∷ [];
+      are_outputs = (is, (is', tt));
+      are_lengths = λ i. (at ∙ ap length one) i ∷ second sizes i ∷ [];
+      at_front =
+          ap (λ (bs : List ℕ). take (length bs) out) whole
+          ∙ ap (λ (n : ℕ). take n out) (sym count) ∙ front
+          ∙ ap (take (length out)) (sym whole);
+    }
+  where
+    second : length both ≡ length first + length more → len - k ≡ length more
+    second sizes = omega (arith, sizes, count, at)
+
+-- the call asks for a request, and its outputs were written
+pub asked : (status : Status) (call : Call) (of : Request → List Request) (request : Request)
+    (text lengths out : List ℕ) → Asks call request
+    → Writes status request.with_open (of request) text lengths out
+    → Ends status call of text lengths out
+asked Accepted call of request text lengths out asks wrote = (request, asks, wrote)
+asked Refused call of request text lengths out asks wrote = (request, asks, wrote)
+asked NotText call of request text lengths out asks wrote = absurd wrote
+asked OutTooShort call of request text lengths out asks wrote = (request, asks, wrote)
+asked RoomTooSmall call of request text lengths out asks wrote = (request, asks, wrote)
+asked NoSuchRequest call of request text lengths out asks wrote = absurd wrote
+
+-- the call asks for none
+pub refused : (status : Status) (call : Call) (of : Request → List Request)
+    (text lengths out : List ℕ) → Refuses status call → sum lengths ≡ 0
+    → Ends status call of text lengths out
+refused Accepted call of text lengths out none zero = absurd none
+refused Refused call of text lengths out none zero = absurd none
+refused NotText call of text lengths out none zero = (none, zero)
+refused OutTooShort call of text lengths out none zero = absurd none
+refused RoomTooSmall call of text lengths out none zero = absurd none
+refused NoSuchRequest call of text lengths out none zero = (none, zero)
+
+-- a call that ends so returns the status's number
+pub told : (status : Status) (number : ℕ) (call : Call) (of : Request → List Request)
+    (text lengths out : List ℕ) → number ≡ status_number status
+    → Ends status call of text lengths out
+    → (s : Status) × (number ≡ status_number s) × Ends s call of text lengths out
+told status number call of text lengths out is ends = (status, is, ends)

@@ -1,0 +1,48 @@
+-- Bytes at the front of a list that may be too short for them.
+use Rattle.std.proofs.Common.{◌≡◌, ◌∙◌, ℕ, List, [], ◌∷◌, ◌++◌, ◌+◌, ◌-◌, ◌<◌, ◌≤◌, ◌⊎◌, inl, inr}
+use Rattle.std.proofs.Common.{length, take, min, sym, ap, arith}
+use Rattle.std.proofs.lemmas.Bool.{cases_lt}
+use Rattle.std.proofs.Math.Seq.{take-append_seam, take-append-add}
+use Rattle.std.proofs.lemmas.List.{append-nil, append_assoc, length-append, length-take-le, nil_from_length}
+use Rattle.std.proofs.lemmas.List.{take_all, take-append-le}
+
+-- as many of bs as fit are put behind the first n of xs, and zs are left behind them
+pub put_behind : (n k : ℕ) (xs bs zs : List ℕ) → n < length xs
+    → k ≡ min (length bs) (length xs - n) → length zs + (n + k) ≡ length xs
+    → take (n + length bs) (take n xs ++ (take k bs ++ zs)) ≡ take (length xs) (take n xs ++ bs)
+put_behind n k xs bs zs within is rest = go (cases_lt (length xs - n) (length bs))
+  where
+    long : length (take n xs) ≡ n
+    long = length-take-le n xs (omega (arith, within))
+
+    go : (length xs - n < length bs) ⊎ (length bs ≤ length xs - n)
+        → take (n + length bs) (take n xs ++ (take k bs ++ zs)) ≡ take (length xs) (take n xs ++ bs)
+    go (inl over) =
+        let most : k ≡ length xs - n = omega (arith, is, over) in
+        let none : zs ≡ [] = nil_from_length zs (omega (arith, rest, most, within)) in
+        let some : length (take k bs) ≡ k = length-take-le k bs (omega (arith, most, over)) in
+        let all : length (take n xs ++ take k bs) ≡ n + k = length-append (take n xs) (take k bs) ∙ omega (arith, long, some) in
+        let count : length xs ≡ length (take n xs) + k = omega (arith, long, most, within) in
+        ap (λ (cs : List ℕ). take (n + length bs) (take n xs ++ cs)) (ap (λ (cs : List ℕ). take k bs ++ cs) none ∙ append-nil (take k bs))
+        ∙ take_all (n + length bs) (take n xs ++ take k bs) (omega (arith, all, most, over))
+        ∙ sym (ap (λ (m : ℕ). take m (take n xs ++ bs)) count ∙ take-append-add (take n xs) bs k)
+    go (inr fits) =
+        let most : k ≡ length bs = omega (arith, is, fits) in
+        let whole : take k bs ≡ bs = take_all k bs (omega (arith, most)) in
+        let all : length (take n xs ++ bs) ≡ n + length bs = length-append (take n xs) bs ∙ omega (arith, long) in
+        ap (λ (cs : List ℕ). take (n + length bs) (take n xs ++ (cs ++ zs))) whole
+        ∙ ap (take (n + length bs)) (sym (append_assoc (take n xs) bs zs))
+        ∙ ap (λ (m : ℕ). take m ((take n xs ++ bs) ++ zs)) (sym all)
+        ∙ take-append_seam (take n xs ++ bs) zs
+        ∙ sym (take_all (length xs) (take n xs ++ bs) (omega (arith, all, fits, within)))
+
+-- what doesn't fit can be left out before more is put behind it
+pub take_of_front : (n : ℕ) (xs ys : List ℕ) → take n (take n xs ++ ys) ≡ take n (xs ++ ys)
+take_of_front n xs ys = go (cases_lt (length xs) n)
+  where
+    go : (length xs < n) ⊎ (n ≤ length xs) → take n (take n xs ++ ys) ≡ take n (xs ++ ys)
+    go (inl short) = ap (λ (zs : List ℕ). take n (zs ++ ys)) (take_all n xs (omega (arith, short)))
+    go (inr long) =
+        let count : length (take n xs) ≡ n = length-take-le n xs long in
+        ap (λ (m : ℕ). take m (take n xs ++ ys)) (sym count) ∙ take-append_seam (take n xs) ys
+        ∙ sym (take-append-le n xs ys long)

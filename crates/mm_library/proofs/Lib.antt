@@ -1,0 +1,3 @@
+pub mod SeenLaw
+pub mod FrontLaw
+pub mod CallLaw

@@ -1,0 +1,75 @@
+//! A writer to the front of a slice.
+
+ghost use Rattle.std.specs.Prelude.{◌≡◌, ◌+◌, ℕ, List, [], ◌∷◌, ◌++◌, Some, nat_lt, if◌then◌else◌, length, take};
+ghost use Rattle.mm_library.specs.declared.status.Status.TheVariants.{OutTooShort};
+
+use crate::seen::Seen;
+use crate::status::Status;
+use std::io::{self, ErrorKind, Write};
+
+/// A writer that puts its bytes at the front of a slice, and counts those that find no place.
+#[derive(Drop)]
+pub(crate) struct Front<'a> {
+    pub(crate) out: &'a mut [u8],
+    pub(crate) len: usize,
+    pub(crate) seen: Seen,
+    ghost counted: { len ≡ length seen.bytes },
+    ghost placed: { take len out.now ≡ take (length out.now) seen.bytes },
+}
+
+impl<'a> Front<'a> {
+    pub(crate) fn new(out: &'a mut [u8]) -> Front<'a>
+        ensures name { result.out.ghost_name ≡ out.entry.ghost_name }
+        ensures bytes { result.seen.bytes ≡ [] }
+        ensures long { length result.out.now ≡ length out.old }
+    {
+        Front {
+            out,
+            len: 0,
+            seen: Seen::none(),
+        }
+    }
+
+    /// The verdict, if all bytes have found a place.
+    pub(crate) fn status(&self, verdict: Status) -> Status
+        ensures { result ≡ (if nat_lt (length self.now.out.now) self.now.len then OutTooShort
+            else verdict) }
+    {
+        if self.out.len() < self.len {
+            Status::OutTooShort
+        } else {
+            verdict
+        }
+    }
+}
+
+/// Puts bytes behind the first `len` bytes of `out`, as many of them as fit.
+pub(crate) fn place(out: &mut [u8], len: usize, bytes: &[u8])
+    ensures old { take len out.new ≡ take len out.old }
+    ensures long { length out.new ≡ length out.old }
+    ensures new { take (len + length bytes.now) out.new
+        ≡ take (length out.old) (take len out.old ++ bytes.now) }
+{
+    if len < out.len() {
+        let n = bytes.len().min(out.len() - len);
+        out[len..len + n].copy_from_slice(&bytes[..n]);
+    }
+}
+
+impl<'a> Write for Front<'a> {
+    ghost contents = { λ f. Some (f.out.ghost_name ∷ f.seen.bytes) };
+
+    fn write(&mut self, bytes: &[u8]) -> io::Result<usize> {
+        let Some(len) = self.len.checked_add(bytes.len()) else {
+            return Err(io::Error::from(ErrorKind::FileTooLarge));
+        };
+        place(self.out, self.len, bytes);
+        self.seen.add(bytes);
+        self.len = len;
+        Ok(bytes.len())
+    }
+
+    fn flush(&mut self) -> io::Result<()> {
+        Ok(())
+    }
+}

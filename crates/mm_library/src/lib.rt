@@ -1,0 +1,114 @@
+//! The proved core as a library for C: calls that work on the calling thread alone, in memory that
+//! the caller lends. It starts no thread, calls nothing of the caller's, and keeps nothing between
+//! calls. What C passes as a slice is a pointer, which isn't null and may be dangling if the length
+//! is 0, and a length in bytes.
+#![tactic(auto)]
+
+ghost use Rattle.std.specs.Prelude.{◌≡◌, ◌⊎◌, [], ◌∷◌, length, take};
+ghost use Rattle.mm_spec.specs.Ends.{reading_limit};
+ghost use Rattle.mm_library.specs.Calls.{Ends, call_of, citing, status_number};
+ghost use Rattle.mm_library.specs.Fronts.{IsAtFront};
+ghost use Rattle.mm_library.specs.declared.status.Status.{Status};
+ghost use Rattle.mm_version.specs.declared.TheConstants.{VERSION};
+
+mod front;
+mod in_room;
+mod report;
+mod request;
+mod seen;
+mod status;
+
+use crate::front::place;
+use crate::in_room::{report_and_citations_if_asked, report_if_asked};
+use crate::request::request;
+pub use crate::status::Status;
+pub use mm_room::Room;
+use mm_version::VERSION;
+
+/// Verifies the proofs of a text, a Metamath database, and writes the report that is requested, or
+/// the refusal for the text's first fault, to the front of `out`.
+///
+/// - `room`: memory to work in, which comes back: an address that is a multiple of 16, and a number
+///   of units of 16 bytes. If it comes back with no unit, it was leaked. Nothing of it is read.
+/// - `text`: the database. Of a text of more than 2,147,483,648 bytes only these are read, and they
+///   are refused.
+/// - `only`: the typecode of the axioms that are columns and of the citations that are listed, as
+///   UTF-8, if `has_only`. Otherwise it isn't read.
+/// - `choice`: the sections: 0 matrix, counts and usage, 1 the matrix, 2 the counts, 3 the usage, 4
+///   the citations.
+/// - `form`: how the matrix is written: 1 a digit for each column, 2 a hexadecimal digit for every
+///   four.
+/// - `essential`: whether a theorem cites only by the essential nodes of its proof.
+/// - `with_open`: whether open theorems count as axioms.
+/// - `out`: memory for the output, in bytes. It keeps what is behind the output.
+/// - `written`: gets the length of the output in bytes, with status 0, 1 and 3, and otherwise 0.
+///
+/// The result is a status. 0: `out` begins with the report. 1: `out` begins with the refusal. 2:
+/// `only` isn't UTF-8. 3: `out` is too short, and has as much of the output as it holds; a second
+/// call with `written` bytes has room for it. 4: the room is too small. 5: no sections have the
+/// number `choice`, or no form has the number `form`. With 2, 4 and 5 the bytes of `out` are not to
+/// be read.
+#[unsafe(no_mangle)]
+pub extern "C" fn mmdepend_report(
+    room: &mut Room,
+    text: &[u8],
+    only: &[u8],
+    has_only: bool,
+    choice: u32,
+    form: u32,
+    essential: bool,
+    with_open: bool,
+    out: &mut [u8],
+    written: &mut usize,
+) -> u32
+    ensures room { (room.new.units ≡ room.old.units) ⊎ (room.new.units ≡ 0) }
+    ensures ends { (status : Status) × (result ≡ status_number status)
+        × Ends status (call_of has_only only.now choice form essential with_open)
+        (λ request. request ∷ []) (take reading_limit text.now) (written.new ∷ []) out.new }
+{
+    let request = request(only, has_only, choice, form, essential, with_open);
+    let (status, len) = report_if_asked(room, text, request, out);
+    *written = len;
+    status.number()
+}
+
+/// The same, and behind the output for the request the output for the same request with the
+/// sections 4, the citations, after one check of the proofs. `report_len` and `citations_len` get
+/// the lengths of the two outputs in bytes, with status 0, 1 and 3, and otherwise 0. With status 3
+/// the two together don't fit in `out`; with status 1 both outputs are the refusal.
+#[unsafe(no_mangle)]
+pub extern "C" fn mmdepend_report_and_citations(
+    room: &mut Room,
+    text: &[u8],
+    only: &[u8],
+    has_only: bool,
+    choice: u32,
+    form: u32,
+    essential: bool,
+    with_open: bool,
+    out: &mut [u8],
+    report_len: &mut usize,
+    citations_len: &mut usize,
+) -> u32
+    ensures room { (room.new.units ≡ room.old.units) ⊎ (room.new.units ≡ 0) }
+    ensures ends { (status : Status) × (result ≡ status_number status)
+        × Ends status (call_of has_only only.now choice form essential with_open)
+        (λ request. request ∷ citing request ∷ []) (take reading_limit text.now)
+        (report_len.new ∷ citations_len.new ∷ []) out.new }
+{
+    let request = request(only, has_only, choice, form, essential, with_open);
+    let (status, report, citations) = report_and_citations_if_asked(room, text, request, out);
+    *report_len = report;
+    *citations_len = citations;
+    status.number()
+}
+
+/// Puts the version's text, as the program prints it after its name, at the front of `out`, as much
+/// of it as `out` holds. Returns the length of the whole text in bytes.
+#[unsafe(no_mangle)]
+pub extern "C" fn mmdepend_version(out: &mut [u8]) -> usize
+    ensures { (result ≡ length VERSION.now) × IsAtFront VERSION.now out.new }
+{
+    place(out, 0, VERSION.as_bytes());
+    VERSION.len()
+}

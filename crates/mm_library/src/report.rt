@@ -1,0 +1,134 @@
+//! The outputs of a text, at the front of memory.
+
+ghost use Rattle.std.specs.Prelude.{◌≡◌, ◌≤◌, ℕ, List, [], ◌∷◌, ◌++◌, IfSome, length};
+ghost use Rattle.mm_spec.specs.Ends.{reading_limit};
+ghost use Rattle.mm_spec.specs.Output.{IsOutput};
+ghost use Rattle.mm_run.specs.Counted.{IsJudgedText};
+ghost use Rattle.mm_library.specs.Calls.{HasVerdict, Writes};
+ghost use Rattle.mm_library.specs.Calls as calls;
+
+use crate::front::Front;
+use crate::status::Status;
+use mm_run::{JudgedText, RunEnd, judge_alone, write_judged};
+use mm_spec::{Choice, Request};
+use std::alloc::Allocator;
+
+/// The same request, for what each theorem cites.
+fn citing<'a>(request: &Request<'a>) -> Request<'a>
+    ensures { result ≡ calls.citing request.now }
+{
+    Request {
+        only: request.only,
+        choice: Choice::Citations,
+        form: request.form,
+        essential: request.essential,
+        with_open: request.with_open,
+    }
+}
+
+/// Writes one output of a judged text behind what was written before. Returns the verdict, or
+/// nothing if out of memory.
+fn write_output<'a, A: Allocator + Copy>(
+    alloc: A,
+    text: &[u8],
+    request: &Request<'_>,
+    judged: &JudgedText<'a, A>,
+    to: &mut Front<'_>,
+) -> Option<Status>
+    requires judged { IsJudgedText text.now request.now.essential request.now.with_open
+        judged.now }
+    ensures same { to.new.out.ghost_name ≡ to.old.out.ghost_name }
+    ensures wrote { IfSome result (λ status. HasVerdict status text.now request.now.with_open
+        × ((bytes : List ℕ) × IsOutput text.now request.now bytes
+        × (to.new.seen.bytes ≡ to.old.seen.bytes ++ bytes))) }
+{
+    match write_judged(alloc, text, request, judged, to) {
+        RunEnd::Accepted => Some(Status::Accepted),
+        RunEnd::Refused(_) => Some(Status::Refused),
+        RunEnd::ReadFailed | RunEnd::WriteFailed | RunEnd::NoMemory => None,
+    }
+}
+
+/// Writes the output of a judged text to the front of `out`. Returns how that ended, and the length
+/// of the output in bytes.
+fn write_report<'a, A: Allocator + Copy>(
+    alloc: A,
+    text: &[u8],
+    request: &Request<'_>,
+    judged: &JudgedText<'a, A>,
+    out: &mut [u8],
+) -> (Status, usize)
+    requires judged { IsJudgedText text.now request.now.essential request.now.with_open
+        judged.now }
+    ensures { Writes result.0 request.now.with_open (request.now ∷ []) text.now (result.1 ∷ [])
+        out.new }
+{
+    let mut to = Front::new(out);
+    match write_output(alloc, text, request, judged, &mut to) {
+        Some(verdict) => (to.status(verdict), to.len),
+        None => (Status::RoomTooSmall, 0),
+    }
+}
+
+/// The same, and behind it the output for the same request with the sections `Citations`. Returns
+/// how that ended, and the lengths of the two outputs in bytes.
+fn write_report_and_citations<'a, A: Allocator + Copy>(
+    alloc: A,
+    text: &[u8],
+    request: &Request<'_>,
+    judged: &JudgedText<'a, A>,
+    out: &mut [u8],
+) -> (Status, usize, usize)
+    requires judged { IsJudgedText text.now request.now.essential request.now.with_open
+        judged.now }
+    ensures { Writes result.0 request.now.with_open
+        (request.now ∷ calls.citing request.now ∷ []) text.now
+        (result.1 ∷ result.2 ∷ []) out.new }
+{
+    let mut to = Front::new(out);
+    let Some(verdict) = write_output(alloc, text, request, judged, &mut to) else {
+        return (Status::RoomTooSmall, 0, 0);
+    };
+    let report_len = to.len;
+    match write_output(alloc, text, &citing(request), judged, &mut to) {
+        Some(_) => (to.status(verdict), report_len, to.len - report_len),
+        None => (Status::RoomTooSmall, 0, 0),
+    }
+}
+
+/// Writes the output of a text to the front of `out`. Returns how that ended, and the length of the
+/// output in bytes.
+pub(crate) fn report<A: Allocator + Copy>(
+    alloc: A,
+    text: &[u8],
+    request: &Request<'_>,
+    out: &mut [u8],
+) -> (Status, usize)
+    requires few { length text.now ≤ reading_limit }
+    ensures { Writes result.0 request.now.with_open (request.now ∷ []) text.now (result.1 ∷ [])
+        out.new }
+{
+    match judge_alone(alloc, text, request.essential, request.with_open) {
+        Ok(judged) => write_report(alloc, text, request, &judged, out),
+        Err(_) => (Status::RoomTooSmall, 0),
+    }
+}
+
+/// The same, and behind it the output for the same request with the sections `Citations`, after one
+/// check. Returns how that ended, and the lengths of the two outputs in bytes.
+pub(crate) fn report_and_citations<A: Allocator + Copy>(
+    alloc: A,
+    text: &[u8],
+    request: &Request<'_>,
+    out: &mut [u8],
+) -> (Status, usize, usize)
+    requires few { length text.now ≤ reading_limit }
+    ensures { Writes result.0 request.now.with_open
+        (request.now ∷ calls.citing request.now ∷ []) text.now
+        (result.1 ∷ result.2 ∷ []) out.new }
+{
+    match judge_alone(alloc, text, request.essential, request.with_open) {
+        Ok(judged) => write_report_and_citations(alloc, text, request, &judged, out),
+        Err(_) => (Status::RoomTooSmall, 0, 0),
+    }
+}

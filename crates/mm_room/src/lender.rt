@@ -1,0 +1,99 @@
+//! The allocator over a room.
+
+ghost use Rattle.std.specs.Prelude.{◌≡◌, ◌*◌, ◌^◌, ◌<◌, ◌≤◌, ◌⊎◌, IfSome};
+ghost use Rattle.mm_room.specs.Units.{way_back};
+
+use crate::memory::Memory;
+use crate::room::Room;
+use bumpalo::Bump;
+use std::alloc::{AllocError, Allocator};
+use std::cell::Cell;
+
+/// The bytes of a unit, and its alignment.
+const UNIT: usize = 16;
+
+/// The units of a page. The size of an arena's chunk is a number of pages less one unit.
+const UNITS_OF_PAGE: usize = 256;
+
+/// The bytes of its pages that an arena keeps for itself.
+const KEPT: usize = 64;
+
+/// An allocator that gives its whole room to one block at a time, whatever the size of the block.
+/// While that block is out, each request is refused.
+#[derive(Drop)]
+pub struct Lender {
+    units: usize,
+    room: Cell<Option<Room>>,
+}
+
+impl Lender {
+    /// The allocator over a room.
+    pub fn new(room: Room) -> Lender
+        ensures { result.units ≡ room.units }
+    {
+        Lender {
+            units: room.units,
+            room: Cell::new(Some(room)),
+        }
+    }
+
+    /// An arena whose one chunk is the whole room, except for its own notes and what is left of a
+    /// page of 4,096 bytes. What is freed last in the arena is used again; the rest comes back with
+    /// the arena's end. Fails if a block is out.
+    pub fn arena(&self) -> Result<Bump<&Lender>, AllocError> {
+        let pages = self.units.saturating_add(1) / UNITS_OF_PAGE;
+        let size = pages.saturating_mul(UNITS_OF_PAGE * UNIT);
+        Bump::try_with_capacity(self, size.saturating_sub(KEPT))
+    }
+
+    /// The room back, whole, or a room of no unit if a block is still out.
+    pub fn into_room(self) -> Room
+        ensures { (result.units ≡ self.units) ⊎ (result.units ≡ 0) }
+    {
+        let Lender { units, room } = self;
+        match room.into_inner() {
+            Some(room) if room.units == units => room,
+            _ => Room::none(),
+        }
+    }
+
+    /// The whole memory, if it is here and a block of this size in bytes and of this alignment fits.
+    fn take(&self, size: usize, align: usize) -> Option<Memory>
+        ensures { IfSome result (λ m. (m.units ≡ self.now.units) × (0 < m.units)
+            × (size ≤ m.units * 16) × (size < 2 ^ 63)) }
+    {
+        if self.units == 0 || size > isize::MAX as usize || align > UNIT {
+            return None;
+        }
+        if size > self.units.saturating_mul(UNIT) {
+            return None;
+        }
+        match self.room.replace(None) {
+            Some(Room { memory, units }) if units == self.units => Some(memory),
+            _ => None,
+        }
+    }
+
+    /// Puts the memory back.
+    fn give(&self, memory: Memory)
+        requires { memory.units ≡ self.now.units }
+    {
+        let units = self.units;
+        self.room.set(Some(Room { memory, units }));
+    }
+}
+
+unsafe impl Allocator for Lender {
+    ghost dealloc_token = { λ lender. way_back lender.units };
+
+    fn allocate(&self, size: usize, align: usize) -> Result<*mut u8, AllocError> {
+        match self.take(size, align) {
+            Some(Memory { at }) => Ok(at),
+            None => Err(AllocError),
+        }
+    }
+
+    unsafe fn deallocate(&self, ptr: *mut u8, _size: usize, _align: usize) {
+        self.give(Memory { at: ptr });
+    }
+}
