@@ -9,6 +9,7 @@ from html.entities import html5
 from typing import Any
 
 from query.faults import FAULTS, UNKNOWN
+from query.visible import visible
 
 
 def number_references() -> dict[int, str]:
@@ -29,9 +30,10 @@ def empty_references() -> list[int]:
     return [number for number in numbers if html.unescape(f"&#{number};") == ""]
 
 
-def tables() -> dict[str, Any]:
-    """The tables by their names."""
+def tables(maker: str) -> dict[str, Any]:
+    """The tables by their names, and what the page says of its version."""
     return {
+        "maker": visible(maker),
         "entities": {
             "named": html5,
             "numbers": number_references(),
@@ -42,6 +44,6 @@ def tables() -> dict[str, Any]:
     }
 
 
-def in_json() -> bytes:
+def in_json(maker: str) -> bytes:
     """The tables as the page reads them."""
-    return json.dumps(tables(), separators=(",", ":")).encode()
+    return json.dumps(tables(maker), separators=(",", ":")).encode()

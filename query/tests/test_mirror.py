@@ -22,7 +22,6 @@ from query.database import Database
 from query.options import Options
 from query.page import tables
 from query.page.pack import Blocks, pack, pack_comments, pack_statements
-from query.source import Source
 from query.tests import test_page, test_text
 from query.tests.browser import databases
 from query.tests.generations import generation, next_generation
@@ -44,8 +43,13 @@ REFUSED = [
 
 def asked_of_page(room: Path, asked: list[dict[str, Any]]) -> list[dict[str, Any]]:
     """What the page's scripts make of each."""
-    (room / "tables.json").write_bytes(tables.in_json())
-    words = [NODE or "", "--experimental-default-type=module", "--no-warnings", str(SCRIPT)]
+    (room / "tables.json").write_bytes(tables.in_json(""))
+    words: list[str] = [
+        NODE or "",
+        "--experimental-default-type=module",
+        "--no-warnings",
+        str(SCRIPT),
+    ]
     lines = "".join(f"{json.dumps(each)}\n" for each in asked)
     done = subprocess.run(
         [*words, str(room / "tables.json")],
@@ -129,8 +133,9 @@ class Mirror(World, Room):
         """A database and its reports for the scripts."""
         common = ["--essential"] * options.essential + ["--open"] * options.open + ["--form=2"]
         only = [] if options.only is None else [f"--only={options.only}"]
+        wanted: dict[str, list[str]] = {"matrix": only, "citations": []}
         found: dict[str, Any] = {"name": path.name, "text": str(path)}
-        for part, words in (("matrix", only), ("citations", [])):
+        for part, words in wanted.items():
             report = self.room / f"{len(list(self.room.iterdir()))}.{part}"
             with report.open("wb") as file:
                 line = [programs.found().path, f"--report={part}", *common, *words, str(path)]

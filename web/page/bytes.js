@@ -89,6 +89,14 @@ export class Rows {
 const ENCODER = new TextEncoder();
 const DECODER = new TextDecoder("latin1");
 
+/**
+ * The bytes of a text in UTF-8.
+ * @param {string} text
+ */
+export function encoded(text) {
+    return ENCODER.encode(text);
+}
+
 /** A row of bytes. */
 export class Writer {
     constructor(room = FIRST_ROOM) {
@@ -166,7 +174,7 @@ export class Writer {
      * @param {string} text
      */
     text(text) {
-        const bytes = ENCODER.encode(text);
+        const bytes = encoded(text);
         this.stretch(bytes, 0, bytes.length);
     }
 
@@ -306,7 +314,7 @@ export class Words {
      * @param {string} word
      */
     findText(word) {
-        const bytes = ENCODER.encode(word);
+        const bytes = encoded(word);
         return this.find(bytes, 0, bytes.length);
     }
 

@@ -3,7 +3,7 @@
 // White space becomes single spaces, but a page break stands where a paragraph ends, and a vertical tab where a line ends
 // within `<PRE>`.
 
-import { Byte, isSame, textAt } from "./bytes.js";
+import { Byte, encoded, isSame, textAt } from "./bytes.js";
 import { visible } from "./visible.js";
 
 /** @typedef {import("./bytes.js").Writer} Writer */
@@ -11,15 +11,14 @@ import { visible } from "./visible.js";
 /** The marks of a comment, as bits. */
 export const Mark = { usage: 1, modification: 2, comment: 4 };
 
-const ENCODER = new TextEncoder();
 /** The four words of each sentence that is a mark: the first may follow other signs, and the last have more after it. */
 const SENTENCES = [
     { words: ["(New", "usage", "is", "discouraged.)"], mark: Mark.usage },
     { words: ["(Proof", "modification", "is", "discouraged.)"], mark: Mark.modification },
-].map(({ words, mark }) => ({ words: words.map((word) => ENCODER.encode(word)), mark }));
+].map(({ words, mark }) => ({ words: words.map(encoded), mark }));
 const LAST = SENTENCES[0].words[3];
-const OPENING = ENCODER.encode("<pre");
-const CLOSING = ENCODER.encode("</pre>");
+const OPENING = encoded("<pre");
+const CLOSING = encoded("</pre>");
 
 /**
  * The bits of the marks that a comment has.

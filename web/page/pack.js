@@ -1,6 +1,6 @@
 // Packs what the page shows into blocks of bytes, as query/page/pack.py does: a test compares them byte for byte.
 
-import { Byte, Writer } from "./bytes.js";
+import { Byte, Writer, encoded } from "./bytes.js";
 import { marksOf, putLine } from "./comments.js";
 import { Conditions } from "./conditions.js";
 import { Vocabulary } from "./symbols.js";
@@ -39,7 +39,7 @@ const LONGEST_TITLE = 160;
 export function inJson(value) {
     const text = JSON.stringify(value);
     const escaped = (/** @type {string} */ sign) => `\\u${sign.charCodeAt(0).toString(16).padStart(4, "0")}`;
-    return new TextEncoder().encode(text.replace(/[\x7f-\uffff]/g, escaped));
+    return encoded(text.replace(/[\x7f-\uffff]/g, escaped));
 }
 
 /** @param {number} bits */
