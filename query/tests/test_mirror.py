@@ -1,6 +1,5 @@
 """The page that verifies packs the same blocks as `mmquery page`, byte for byte."""
 
-import argparse
 import base64
 import hashlib
 import json
@@ -16,13 +15,12 @@ from typing import Any
 from unittest import mock
 
 from query import faults, program as programs
-from query.changes import text_of
-from query.commands.page import about, difference, marked, name_of
-from query.database import Database
+from query.commands.page import name_of
 from query.options import Options
 from query.page import tables
-from query.page.pack import Blocks, pack, pack_comments, pack_statements
+from query.page.pack import Blocks, pack_comments, pack_statements
 from query.tests import test_page, test_text
+from query.tests.blocks import blocks_of, request_of
 from query.tests.browser import databases
 from query.tests.generations import generation, next_generation
 from query.tests.world import DATABASES, SMALL, TOP, World, invented, program
@@ -58,11 +56,6 @@ def asked_of_page(room: Path, asked: list[dict[str, Any]]) -> list[dict[str, Any
         check=True,
     )
     return [json.loads(line) for line in done.stdout.splitlines()]
-
-
-def request_of(options: Options) -> dict[str, Any]:
-    """What the scripts call the options."""
-    return {"only": options.only, "essential": options.essential, "open": options.open}
 
 
 class Room(unittest.TestCase):
@@ -147,22 +140,9 @@ class Mirror(World, Room):
         self, path: Path, options: Options, older: Path | None = None
     ) -> tuple[Blocks, dict[str, Any]]:
         """The blocks of the command, and what the scripts are asked for."""
-        database = Database.opened(str(path), options, False)
-        found = database.prepared(options.only)
-        words = argparse.Namespace(
-            database=str(path),
-            against=str(older),
-            title=None,
-            watch=[],
-            **request_of(options),
-        )
-        facts = about(words, database, found.columns)
-        text = text_of(database)
-        blocks = pack(text, marked(database, found), facts)
-        asked = {**self.reports(path, options), "maker": facts["maker"]}
+        blocks, maker = blocks_of(path, options, older)
+        asked: dict[str, Any] = {**self.reports(path, options), "maker": maker}
         if older is not None:
-            old = Database.opened(str(older), options, False)
-            blocks.update(difference(words, old, database, text))
             asked["older"] = {**self.reports(older, options), "name": name_of(str(older))}
         return blocks, asked
 

@@ -130,7 +130,7 @@ function packMarks(dependence, blocks) {
     const lengths = new Writer();
     const gaps = new Writer();
     for (let row = 0; row < dependence.theorems.length; row++) {
-        const cited = dependence.citedBy(row).slice().sort();
+        const cited = dependence.citedBy(row); // in file order, as the text is
         lengths.number(cited.length);
         let expected = 0;
         for (const number of cited) {
@@ -167,16 +167,25 @@ function packLabels(text, statements) {
  */
 function packPlaces(text) {
     const writer = new Writer();
-    const { data, assertions } = text;
     let place = 0;
-    let gap = 1;
     for (let number = 0; number < text.size; number++) {
-        const end = assertions.labels.items[number];
-        while (place < end) if (data[place++] === Byte.newline) gap++;
-        writer.number(gap);
-        gap = 0;
+        const label = text.assertions.labels.items[number];
+        writer.number(newlinesIn(text.data, place, label) + (number === 0 ? 1 : 0));
+        place = label;
     }
     return writer.taken();
+}
+
+/**
+ * How many lines end in a stretch.
+ * @param {Uint8Array} data
+ * @param {number} start
+ * @param {number} end
+ */
+function newlinesIn(data, start, end) {
+    let count = 0;
+    for (let place = start; place < end; place++) if (data[place] === Byte.newline) count++;
+    return count;
 }
 
 /**

@@ -258,13 +258,17 @@ class Reader {
             this.passLabel(lines, row);
             const { end } = lines;
             let place = report.indexOf(COLON, lines.place) + 1;
+            let before = -1;
             const count = Number(textAt(report, lines.place, place - 1));
             while (place < end) {
                 const first = place;
                 while (place < end && report[place] > Byte.space) place++;
                 const number = labels.find(report, first, place);
-                if (number < 0 || number >= found.theorems[row]) throw new OddReport("a report names what isn't before");
+                if (number <= before || number >= found.theorems[row]) {
+                    throw new OddReport("a report names what isn't before a theorem, or isn't in order");
+                }
                 cited.push(number);
+                before = number;
                 place++;
             }
             if (cited.size - starts.items[row] !== count) throw new OddReport("a report counts what it cites otherwise");
