@@ -1,5 +1,7 @@
 // The files that are dropped or chosen.
 
+import { visible } from "./visible.js";
+
 /** @typedef {import("./types.js").Chosen} Chosen */
 
 /** The program refuses longer texts, so no more than one byte more is unpacked. */
@@ -24,12 +26,13 @@ export class TooLong extends Error {}
 /**
  * What a file begins with.
  * @param {File} file
+ * @param {string} name
  */
-async function beginning(file) {
+async function beginning(file, name) {
     try {
         return new Uint8Array(await file.slice(0, 100).arrayBuffer());
     } catch (error) {
-        throw new Unfit(`${file.name} can't be read. It may be a folder, or have been changed or removed.`);
+        throw new Unfit(`${name} can't be read. It may be a folder, or have been changed or removed.`);
     }
 }
 
@@ -41,26 +44,28 @@ async function beginning(file) {
  * @returns {Promise<Chosen>}
  */
 export async function chosen(file, tell) {
-    const bytes = await beginning(file);
+    const name = visible(file.name);
+    const bytes = await beginning(file, name);
     const begins = (/** @type {number[]} */ signs) => signs.every((sign, at) => bytes[at] === sign);
     const other = OTHERS.find(({ signs }) => begins(signs));
-    if (other) throw new Unfit(`${file.name} is compressed by ${other.name}, which no browser unpacks. Unpack it first.`);
+    if (other) throw new Unfit(`${name} is compressed by ${other.name}, which no browser unpacks. Unpack it first.`);
     if (REPORT.test(new TextDecoder("latin1").decode(bytes))) {
-        throw new Unfit(`${file.name} is a report of the program, where the database is wanted.`);
+        throw new Unfit(`${name} is a report of the program, where the database is wanted.`);
     }
     if (begins(GZIP)) {
-        tell(`Unpacking ${file.name}`);
-        return { name: file.name, file: await unpacked(file) };
+        tell(`Unpacking ${name}`);
+        return { name, file: await unpacked(file, name) };
     }
     if (file.size > MOST_BYTES) throw new TooLong();
-    return { name: file.name, file };
+    return { name, file };
 }
 
 /**
  * The text that a file was compressed from by gzip, held by the browser and not by the page.
  * @param {File} file
+ * @param {string} name
  */
-async function unpacked(file) {
+async function unpacked(file, name) {
     const Inflater = /** @type {{ new (format: string): ReadableWritablePair<Uint8Array, BufferSource> }} */ (
         /** @type {any} */ (globalThis).DecompressionStream
     );
@@ -76,6 +81,6 @@ async function unpacked(file) {
         return await new Response(file.stream().pipeThrough(new Inflater("gzip")).pipeThrough(counter)).blob();
     } catch (error) {
         if (size > MOST_BYTES) throw new TooLong();
-        throw new Unfit(`${file.name} can't be unpacked: the compressed file is damaged, or has several parts.`);
+        throw new Unfit(`${name} can't be unpacked: the compressed file is damaged, or has several parts.`);
     }
 }

@@ -8,6 +8,7 @@ import { TooLong, Unfit, chosen } from "./chosen.js";
 import { Stopped, addressOf } from "./helpers.js";
 import { Saving } from "./saving.js";
 import { Verification } from "./verification.js";
+import { visible } from "./visible.js";
 
 /** @typedef {import("../../query/page/web/elements.js").Child} Child */
 /** @typedef {import("./reports.js").Request} Request */
@@ -59,6 +60,7 @@ class Start {
     /** @param {Tools} tools */
     constructor(tools) {
         this.tools = tools;
+        this.main = byId("main");
         this.form = /** @type {HTMLFormElement} */ (byId("start"));
         this.input = /** @type {HTMLInputElement} */ (byId("file"));
         this.drop = byId("drop");
@@ -84,6 +86,10 @@ class Start {
             this.verifyPair();
         });
         byId("cancel").addEventListener("click", () => this.cancel());
+        byId("skip").addEventListener("click", (event) => {
+            event.preventDefault();
+            if (!this.isShown) this.main.querySelector("h1")?.focus();
+        });
         document.addEventListener("dragover", (event) => {
             event.preventDefault();
             this.drop.classList.toggle("over", !this.isShown);
@@ -121,7 +127,7 @@ class Start {
         const choices = this.files.map((file, at) => {
             const date = new Date(file.lastModified).toLocaleDateString();
             const button = element("input", { type: "radio", name: "older", value: at, checked: at === older });
-            return element("label", {}, button, ` ${file.name}, ${counted(file.size, "byte")}, changed on ${date}`);
+            return element("label", {}, button, ` ${visible(file.name)}, ${counted(file.size, "byte")}, changed on ${date}`);
         });
         byId("choices").replaceChildren(...choices);
         this.pair.hidden = false;
@@ -152,7 +158,7 @@ class Start {
             if (turn !== this.turn) return;
             await this.show(blocks, request, all[0]);
         } catch (error) {
-            if (turn === this.turn) this.explain(error, files[0].name);
+            if (turn === this.turn) this.explain(error, visible(files[0].name));
         }
     }
 
