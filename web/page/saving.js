@@ -60,7 +60,9 @@ export class Saving {
             this.told,
         );
         const again = element("button", { type: "button", id: "again", onclick: anew }, "Another database");
-        return [fields, element("p", {}, again)];
+        const left = this.request.open ? ", but those that are left open" : "";
+        const verified = `The core checked every proof of ${this.database.name} on this machine${left}.`;
+        return [element("p", { id: "verified" }, verified), fields, element("p", {}, again)];
     }
 
     async save() {

@@ -231,7 +231,7 @@ class Start {
         const current = this.running?.current.name ?? name;
         this.end();
         this.told.textContent = "";
-        if (error instanceof Unfit) this.say("This file can't be verified", element("p", {}, error.message));
+        if (error instanceof Unfit) this.sayUnfit(error.message);
         else if (error instanceof TooLong) this.sayMeaning(`${current} is refused`, "The text", TOO_LONG);
         else if (error instanceof Stopped) this.sayStop(error.told, current);
         else if (error instanceof RangeError) this.sayNoMemory(current);
@@ -245,8 +245,14 @@ class Start {
     sayStop(told, name) {
         if (told.stage === "refused") this.sayFault(told.fault, name);
         else if (told.stage === "memory") this.sayNoMemory(name);
+        else if (told.stage === "unread") this.sayUnfit(`${name} can't be read. It was changed or removed meanwhile.`);
         else if (told.stage === "lacking") this.say("There is nothing to show", element("p", {}, told.message));
         else this.sayFailure(told.stage === "failed" ? told.message : told.stage);
+    }
+
+    /** @param {string} message */
+    sayUnfit(message) {
+        this.say("This file can't be verified", element("p", {}, message));
     }
 
     /** @param {string} name */
@@ -276,7 +282,9 @@ class Start {
         const { line, column, code, statement, text, caret } = fault;
         const place = `Line ${line}, column ${column}${statement === "" ? "" : `, ${statement}`}`;
         const shown = element("pre", { class: "fault", tabindex: 0, role: "group", "aria-label": "The line" });
-        shown.append(text, "\n", element("span", { class: "caret", "aria-hidden": "true" }, `${" ".repeat(caret)}^`));
+        const sign = text.slice(caret, caret + 1);
+        shown.append(text.slice(0, caret), sign === "" ? "" : element("mark", {}, sign), text.slice(caret + 1), "\n");
+        shown.append(element("span", { class: "caret", "aria-hidden": "true" }, `${" ".repeat(caret)}^`));
         this.sayMeaning(`${name} is refused`, place, code, shown);
     }
 

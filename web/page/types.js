@@ -38,6 +38,7 @@
  *     | { stage: "packed", blocks: Map<string, Uint8Array> }
  *     | { stage: "refused", fault: Fault }
  *     | { stage: "memory" }
+ *     | { stage: "unread" }
  *     | { stage: "lacking", message: string }
  *     | { stage: "failed", message: string }} Told
  */

@@ -252,13 +252,12 @@ class Definitions {
     pieces(markup) {
         /** @type {Piece[]} */
         const made = [];
-        /** @type {{ name: string, names: string[] }[]} */
-        const open = [];
+        const open = new OpenTags();
         const add = (/** @type {string} */ written) => {
             const text = visible(this.unescaped(written).replace(/[\xa0\n]/g, " "));
-            const tags = [...new Set(open.flatMap(({ names }) => names))].join(" ");
-            const last = made[made.length - 1];
             if (text === "") return;
+            const { tags } = open;
+            const last = made[made.length - 1];
             if (last && last[1] === tags) last[0] += text;
             else made.push([text, tags]);
         };
@@ -267,16 +266,73 @@ class Definitions {
             const { index = 0 } = match;
             const name = match[2].toLowerCase();
             const names = namesOf(name, match[3]);
-            const isOpen = open.some((other) => other.name === name);
-            if (names === null || (match[1] !== "" && !isOpen)) continue; // it is text, with what is around it
+            const isClosing = match[1] !== "";
+            if (names === null || (isClosing && !open.has(name))) continue; // it is text, with what is around it
             add(markup.slice(place, index));
             place = index + match[0].length;
-            if (match[1] === "") open.push({ name, names });
-            else while (open.length > 0 && open.pop()?.name !== name);
+            if (isClosing) open.close(name);
+            else open.open(name, names);
         }
         add(markup.slice(place));
         return made;
     }
+}
+
+/** The tags that are open at a place of a definition. */
+class OpenTags {
+    constructor() {
+        /** @type {{ name: string, names: string[] }[]} */
+        this.stack = [];
+        /** How many of each tag are open, and how many that are kept under each name. */
+        this.tagCounts = new Map();
+        this.nameCounts = new Map();
+    }
+
+    /**
+     * The names that are kept of the open tags, as they came, with a space between them.
+     * @returns {string}
+     */
+    get tags() {
+        return [...this.nameCounts.keys()].join(" ");
+    }
+
+    /** @param {string} name */
+    has(name) {
+        return this.tagCounts.has(name);
+    }
+
+    /**
+     * @param {string} name
+     * @param {string[]} names
+     */
+    open(name, names) {
+        this.stack.push({ name, names });
+        change(this.tagCounts, name, 1);
+        for (const kept of names) change(this.nameCounts, kept, 1);
+    }
+
+    /**
+     * Closes the last tag of a name, and those that were opened after it.
+     * @param {string} name
+     */
+    close(name) {
+        for (let tag = this.stack.pop(); tag; tag = tag.name === name ? undefined : this.stack.pop()) {
+            change(this.tagCounts, tag.name, -1);
+            for (const kept of tag.names) change(this.nameCounts, kept, -1);
+        }
+    }
+}
+
+/**
+ * Changes a count; what there is none of has no count.
+ * @param {Map<string, number>} counts
+ * @param {string} name
+ * @param {number} by
+ */
+function change(counts, name, by) {
+    const count = (counts.get(name) ?? 0) + by;
+    if (count === 0) counts.delete(name);
+    else counts.set(name, count);
 }
 
 /**

@@ -30,12 +30,20 @@ const here = /** @type {any} */ (globalThis);
 /** There is no more memory. */
 class NoMemory extends Error {}
 
+/** A file can't be read: it was changed or removed since it was chosen. */
+class Unread extends Error {}
+
 /**
  * The bytes of a file.
  * @param {Blob} file
  */
 async function bytesOf(file) {
-    return new Uint8Array(await file.arrayBuffer());
+    try {
+        return new Uint8Array(await file.arrayBuffer());
+    } catch (error) {
+        if (error instanceof RangeError) throw error;
+        throw new Unread();
+    }
 }
 
 /**
@@ -136,6 +144,7 @@ async function answer(asked) {
  */
 function tellError(error) {
     if (error instanceof NoAnswer) here.postMessage({ stage: "lacking", message: error.message });
+    else if (error instanceof Unread) here.postMessage({ stage: "unread" });
     else if (error instanceof NoMemory || error instanceof RangeError) here.postMessage({ stage: "memory" });
     else here.postMessage({ stage: "failed", message: String(error) });
 }

@@ -373,12 +373,28 @@ def check_refusals(browser: Browser, room: Room) -> None:
         browser.run("document.getElementById('answer').replaceChildren()")
         browser.choose("#file", [room.path(name)])
         told_within(browser, name, "This file can't be verified", part)
+    if isinstance(browser, Chromium):
+        check_changed(browser, room)
     browser.run("document.getElementById('answer').replaceChildren()")
     browser.run("document.getElementById('only').value = 'nothing'")
     if room.module is not None:
         browser.choose("#file", [DATABASES / "demo0.mm"])
         told_within(browser, "a typecode without axioms", "has no axiom of typecode nothing")
     same(browser.messages(), [], f"{browser.name}: messages in the console at refusals")
+
+
+def check_changed(browser: Browser, room: Room) -> None:
+    """A file that was changed since it was chosen isn't read."""
+    paths = [room.path("one.mm"), room.path("two.mm")]
+    for path in paths:
+        path.write_text(OLDER)
+    browser.run("document.getElementById('answer').replaceChildren()")
+    browser.choose("#file", paths)
+    browser.wait("!document.getElementById('pair').hidden")
+    for path in paths:
+        path.write_text(NEWER)
+    browser.run("document.getElementById('compare').click()")
+    told_within(browser, "a changed file", "This file can't be verified", "can't be read")
 
 
 def check_cancel(browser: Browser, room: Room) -> None:
