@@ -125,13 +125,11 @@ class Mirror(World, Room):
     def reports(self, path: Path, options: Options) -> dict[str, Any]:
         """A database and its reports for the scripts."""
         common = ["--essential"] * options.essential + ["--open"] * options.open + ["--form=2"]
-        only = [] if options.only is None else [f"--only={options.only}"]
-        wanted: dict[str, list[str]] = {"matrix": only, "citations": []}
         found: dict[str, Any] = {"name": path.name, "text": str(path)}
-        for part, words in wanted.items():
+        for part in ("matrix", "citations"):
             report = self.room / f"{len(list(self.room.iterdir()))}.{part}"
             with report.open("wb") as file:
-                line = [programs.found().path, f"--report={part}", *common, *words, str(path)]
+                line = [programs.found().path, f"--report={part}", *common, str(path)]
                 subprocess.run(line, stdout=file, check=True)
             found[part] = str(report)
         return {**found, "request": request_of(options)}

@@ -3,6 +3,7 @@
 
 import { Row } from "./bytes.js";
 import { inJson } from "./pack.js";
+import { columnsOf } from "./reports.js";
 import { Pairer } from "./statements.js";
 import { visible } from "./visible.js";
 
@@ -158,18 +159,6 @@ export class Comparison {
             }
         }
     }
-}
-
-/**
- * The columns whose bits a row has.
- * @param {Uint32Array} row
- */
-function columnsOf(row) {
-    const columns = [];
-    for (let word = 0; word < row.length; word++) {
-        for (let bits = row[word]; bits !== 0; bits &= bits - 1) columns.push(word * 32 + 31 - Math.clz32(bits & -bits));
-    }
-    return columns;
 }
 
 /**

@@ -13,7 +13,7 @@ import { visible } from "./visible.js";
 /** @typedef {import("./typesetting.js").Entities} Entities */
 
 /**
- * The matrix in form 2 and the citations of all typecodes, as the program writes them.
+ * The matrix in form 2 and the citations, both of all typecodes, as the program writes them.
  * @typedef {{ matrix: Uint8Array, citations: Uint8Array }} Reports
  */
 

@@ -153,7 +153,7 @@ class Reader {
         this.putIntoRowsAndColumns();
     }
 
-    /** Axioms of the typecode that is wanted, and open theorems where these count as axioms, are columns. */
+    /** Axioms, and open theorems where these count as axioms, are columns. */
     putIntoRowsAndColumns() {
         const { text, found, request } = this;
         const theorems = new Row();
@@ -163,7 +163,7 @@ class Reader {
             if (isTheorem) {
                 found.rowOf[number] = theorems.size;
                 theorems.push(number);
-            } else if (request.only === null || this.typecode(number) === request.only) {
+            } else {
                 found.columnOf[number] = axioms.size;
                 axioms.push(number);
             }
@@ -298,6 +298,39 @@ class Reader {
 }
 
 /**
+ * The same with fewer columns.
+ * @param {Dependence} found
+ * @param {(axiom: number) => boolean} isKept
+ */
+function withColumns(found, isKept) {
+    const axioms = found.axioms.filter(isKept);
+    const made = Object.assign(new Dependence(found.text), found, { axioms, words: Math.ceil(axioms.length / 32) });
+    made.columnOf = new Int32Array(found.text.size).fill(-1);
+    axioms.forEach((axiom, column) => (made.columnOf[axiom] = column));
+    made.bits = new Uint32Array(found.theorems.length * made.words);
+    const there = Array.from(found.axioms, (axiom) => made.columnOf[axiom]);
+    for (let row = 0; row < found.theorems.length; row++) {
+        for (const column of columnsOf(found.row(row))) {
+            const kept = there[column];
+            if (kept >= 0) made.bits[row * made.words + (kept >>> 5)] |= 1 << (kept & 31);
+        }
+    }
+    return made;
+}
+
+/**
+ * The columns whose bits a row has, rising.
+ * @param {Uint32Array} row
+ */
+export function columnsOf(row) {
+    const columns = [];
+    for (let word = 0; word < row.length; word++) {
+        for (let bits = row[word]; bits !== 0; bits &= bits - 1) columns.push(word * 32 + 31 - Math.clz32(bits & -bits));
+    }
+    return columns;
+}
+
+/**
  * Adds the marks of a row that begins at a place.
  * @param {Uint32Array} row
  * @param {Uint32Array} bits
@@ -342,11 +375,12 @@ function readDigits(report, place, digits, bits, start) {
 }
 
 /**
- * On which axioms each theorem of a text rests, and what it cites, by the matrix in form 2 and by the citations.
+ * On which axioms each theorem of a text rests, and what it cites, by the matrix in form 2 and by the citations, both of all
+ * typecodes. Of the columns those of the typecode that is wanted are kept.
  * @param {Text} text
  * @param {Request} request
  * @param {Uint8Array} matrix
- * @param {Uint8Array} citations of all typecodes
+ * @param {Uint8Array} citations
  * @returns {Dependence}
  */
 export function readReports(text, request, matrix, citations) {
@@ -354,5 +388,6 @@ export function readReports(text, request, matrix, citations) {
     reader.readMatrix(matrix);
     reader.readCitations(citations);
     reader.checkMarks();
-    return reader.found;
+    const { only } = request;
+    return only === null ? reader.found : withColumns(reader.found, (axiom) => reader.typecode(axiom) === only);
 }

@@ -78,11 +78,12 @@ async function reportOf(module, file, request) {
 }
 
 /**
- * Verifies a file, and tells what the page needs of it: the matrix, and the citations of all typecodes.
+ * Verifies a file, and tells what the page needs of it: matrix and citations, of all typecodes, since chains may lead over
+ * other assertions than those of one typecode.
  * @param {{ file: Blob, module: Uint8Array, request: Request }} asked
  */
 async function verify({ file, module, request }) {
-    const answer = await reportOf(module, file, { ...request, report: "matrix", form: 2, withCitations: true });
+    const answer = await reportOf(module, file, { ...request, only: null, report: "matrix", form: 2, withCitations: true });
     if (!answer) return;
     if (!answer.citations) throw new Error("the module wrote no citations");
     const matrix = answer.report.slice();

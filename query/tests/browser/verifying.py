@@ -130,12 +130,13 @@ class Answers:
         self.known: dict[str, dict[str, int]] = {}
         self.answers = bytearray()
 
-    def add(self, path: Path, options: Options, names: Iterable[str] = ("matrix",)) -> None:
-        """Reports of a database; the citations are always there."""
+    def add(self, path: Path, options: Options, names: Iterable[str] = ()) -> None:
+        """Reports of a database; what the page itself asks for is always there."""
+        for name in ("matrix", "citations"):
+            self.put(path, name, 2, Options(None, options.essential, options.open))
         for name in names:
-            for form in (1, 2) if len(list(names)) > 1 else (2,):
+            for form in (1, 2):
                 self.put(path, name, form, options)
-        self.put(path, "citations", 2, Options(None, options.essential, options.open))
 
     def put(self, path: Path, name: str, form: int, options: Options) -> None:
         """One report."""
@@ -206,7 +207,7 @@ class Room:
         """The answers that stand for a module."""
         answers = Answers()
         for name in self.names:
-            answers.add(DATABASES / f"{name}.mm", ALL, REPORTS if name == "hol" else ("matrix",))
+            answers.add(DATABASES / f"{name}.mm", ALL, REPORTS if name == "hol" else ())
         for name in self.texts:
             answers.add(self.path(name), EVERYTHING if name == EVIL_NAME else ALL)
         path = self.path("module.json")
