@@ -6,6 +6,7 @@ import { Byte, Cutter, Row, isSame, textAt } from "./bytes.js";
 
 /** @typedef {import("./text.js").Text} Text */
 
+const ZERO = 0x30;
 const COLON = 0x3a;
 
 /** What an assertion is, as in pack.py. */
@@ -13,6 +14,11 @@ export const Kind = { theorem: 0, column: 1, otherAxiom: 2, openColumn: 3, other
 
 /** A report that isn't as it has to be. */
 export class OddReport extends Error {}
+
+/** @param {number} byte */
+function isDigit(byte) {
+    return byte >= ZERO && byte < ZERO + 10;
+}
 
 /** Reads the lines of a report. */
 class Lines {
@@ -54,6 +60,20 @@ class Lines {
         const match = /^(\w+) (0|[1-9][0-9]{0,9})$/.exec(this.next());
         if (!match || match[1] !== word) throw new OddReport(`a report lacks the number of ${word}`);
         return Number(match[2]);
+    }
+
+    /** Reads the end of a line. */
+    passEnd() {
+        if (this.bytes[this.place++] !== Byte.newline) throw new OddReport("a line of a report is too long");
+    }
+
+    /** Reads a number and the colon after it. */
+    count() {
+        let count = 0;
+        const first = this.place;
+        for (; isDigit(this.bytes[this.place]); this.place++) count = 10 * count + this.bytes[this.place] - ZERO;
+        if (this.place === first || this.bytes[this.place++] !== COLON) throw new OddReport("a line lacks a number");
+        return count;
     }
 
     /** Reads a label and the colon after it. Returns where it ends. */
@@ -236,7 +256,7 @@ class Reader {
             this.passLabel(lines, row);
             readDigits(report, lines.place, digits, found.bits, row * found.words);
             lines.place += digits;
-            lines.pass("");
+            lines.passEnd();
         }
         lines.pass("end");
     }
@@ -256,10 +276,10 @@ class Reader {
         for (let row = 0; row < theorems; row++) {
             starts.push(cited.size);
             this.passLabel(lines, row);
+            const count = lines.count();
             const { end } = lines;
-            let place = report.indexOf(COLON, lines.place) + 1;
+            let { place } = lines;
             let before = -1;
-            const count = Number(textAt(report, lines.place, place - 1));
             while (place < end) {
                 const first = place;
                 while (place < end && report[place] > Byte.space) place++;
@@ -367,11 +387,19 @@ for (let digit = 0; digit < 16; digit++) {
  * @param {number} start
  */
 function readDigits(report, place, digits, bits, start) {
-    for (let digit = 0; digit < digits; digit++) {
-        const four = DIGITS[report[place + digit]];
-        if (four === 16) throw new OddReport("a row of a report has a sign that is no digit");
-        bits[start + (digit >>> 3)] |= four << ((digit & 7) * 4);
+    let all = 0;
+    for (let word = 0; 8 * word < digits; word++) {
+        const first = place + 8 * word;
+        const end = Math.min(first + 8, place + digits);
+        let marks = 0;
+        for (let at = first; at < end; at++) {
+            const four = DIGITS[report[at]];
+            all |= four;
+            marks |= four << (4 * (at - first));
+        }
+        bits[start + word] = marks;
     }
+    if (all > 15) throw new OddReport("a row of a report has a sign that is no digit");
 }
 
 /**
