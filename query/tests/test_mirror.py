@@ -177,6 +177,23 @@ class Mirror(World, Room):
             wanted.append(self.whole(now, Options(only=only), before))
         self.compare(wanted)
 
+    def test_damaged_reports(self) -> None:
+        asked = self.reports(self.put("small.mm", SMALL), Options(only=None))
+        jobs = []
+        for part in ("matrix", "citations"):
+            report = Path(asked[part]).read_bytes()
+            for place, byte in enumerate(report):
+                path = self.room / f"{part}.{place}"
+                other = b"1" if byte != ord("1") else b"0"
+                path.write_bytes(report[:place] + other + report[place + 1 :])
+                jobs.append({**asked, part: str(path), "maker": ""})
+            for size in range(len(report)):
+                path = self.room / f"{part}.{size}.cut"
+                path.write_bytes(report[:size])
+                jobs.append({**asked, part: str(path), "maker": ""})
+        for job, came in zip(jobs, asked_of_page(self.room, jobs)):
+            self.assertIn("error", came, [job["matrix"], job["citations"]])
+
     @unittest.skipUnless((DATABASES / "set.mm").exists(), "set.mm isn't installed")
     def test_databases(self) -> None:
         for path in sorted(DATABASES.glob("*.mm")):

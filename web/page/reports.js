@@ -52,16 +52,6 @@ class Lines {
         if (line !== wanted) throw new OddReport(`a report has '${line.slice(0, 80)}' where '${wanted}' has to stand`);
     }
 
-    /**
-     * The number after a word on the next line.
-     * @param {string} word
-     */
-    number(word) {
-        const match = /^(\w+) (0|[1-9][0-9]{0,9})$/.exec(this.next());
-        if (!match || match[1] !== word) throw new OddReport(`a report lacks the number of ${word}`);
-        return Number(match[2]);
-    }
-
     /** Reads the end of a line. */
     passEnd() {
         if (this.bytes[this.place++] !== Byte.newline) throw new OddReport("a line of a report is too long");
@@ -84,19 +74,6 @@ class Lines {
         return end;
     }
 
-    /**
-     * Reads the head of a report with one section.
-     * @param {string} section
-     * @param {boolean} isOpen whether open theorems were counted as axioms
-     */
-    head(section, isOpen) {
-        this.pass("mmdepend 2");
-        const axioms = this.number("axioms");
-        if (isOpen) this.number("open");
-        const theorems = this.number("theorems");
-        this.pass(section);
-        return { axioms, theorems };
-    }
 }
 
 /**
@@ -232,11 +209,17 @@ class Reader {
     }
 
     /**
-     * Sees that a report has as many theorems as the text.
-     * @param {number} theorems
+     * Reads the head of a report with one section, whose numbers have to be those of the text.
+     * @param {Lines} lines
+     * @param {string} section
      */
-    checkTheorems(theorems) {
-        if (theorems !== this.found.theorems.length) throw new OddReport("a report has another number of theorems");
+    passHead(lines, section) {
+        const { text, found, request } = this;
+        lines.pass("mmdepend 2");
+        lines.pass(`axioms ${found.axioms.length}`);
+        if (request.open) lines.pass(`open ${found.axioms.filter((axiom) => text.isProved(axiom)).length}`);
+        lines.pass(`theorems ${found.theorems.length}`);
+        lines.pass(section);
     }
 
     /**
@@ -246,9 +229,9 @@ class Reader {
     readMatrix(report) {
         const { found } = this;
         const lines = new Lines(report);
-        const { axioms, theorems } = lines.head("matrix", this.request.open);
-        this.checkTheorems(theorems);
-        if (axioms !== found.axioms.length) throw new OddReport("a report has another number of axioms than the text");
+        this.passHead(lines, "matrix");
+        const axioms = found.axioms.length;
+        const theorems = found.theorems.length;
         found.words = Math.ceil(axioms / 32);
         found.bits = new Uint32Array(theorems * found.words);
         const digits = Math.ceil(axioms / 4);
@@ -268,8 +251,8 @@ class Reader {
     readCitations(report) {
         const { found, text } = this;
         const lines = new Lines(report);
-        const { theorems } = lines.head("citations", this.request.open);
-        this.checkTheorems(theorems);
+        this.passHead(lines, "citations");
+        const theorems = found.theorems.length;
         const starts = new Row();
         const cited = new Row();
         const labels = text.byLabel;
