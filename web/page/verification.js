@@ -17,7 +17,13 @@ import { Helper } from "./helpers.js";
  * @property {Tables} tables
  */
 
-/** A run of the program's core over one or two databases. Texts are read and packed while proofs are checked. */
+/**
+ * Bytes of texts that are packed while proofs are checked. Larger ones are packed after that, since there may not be memory
+ * for both at a time.
+ */
+const MOST_BESIDE = 1 << 24;
+
+/** A run of the program's core over one or two databases. */
 export class Verification {
     /**
      * @param {Tools} tools
@@ -43,20 +49,27 @@ export class Verification {
      * @returns {Promise<Map<string, Uint8Array>>}
      */
     async run() {
-        const { maker, entities } = this.tools.tables;
-        const packer = this.helper(() => {});
-        const task = { task: /** @type {const} */ ("pack"), files: this.files, request: this.request, maker, entities };
-        const packed = packer.ask(task, "packed");
+        const size = this.files.reduce((sum, { file }) => sum + file.size, 0);
+        const early = size <= MOST_BESIDE ? this.packTexts() : null;
         /** @type {Reports[]} */
         const reports = [];
         for (const each of this.files) reports.push(await this.verify(each));
         this.current = this.files[0];
         this.tell("Making the index", null);
-        const transfer = reports.flatMap(({ matrix, citations }) => [matrix.buffer, citations.buffer]);
+        const { packer, packed } = early ?? this.packTexts();
         const { blocks } = await packed;
+        const transfer = reports.flatMap(({ matrix, citations }) => [matrix.buffer, citations.buffer]);
         const more = await packer.ask({ task: "reports", reports }, "packed", transfer);
         this.end(packer);
         return new Map([...blocks, ...more.blocks]);
+    }
+
+    /** Begins to pack the texts in a worker. */
+    packTexts() {
+        const { maker, entities } = this.tools.tables;
+        const packer = this.helper(() => {});
+        const task = { task: /** @type {const} */ ("pack"), files: this.files, request: this.request, maker, entities };
+        return { packer, packed: packer.ask(task, "packed") };
     }
 
     /**

@@ -4,8 +4,10 @@ Without a module the answers of the program stand for those of the core (`librar
 """
 
 import base64
+import functools
 import gzip
 import hashlib
+import http.server
 import json
 import os
 import subprocess
@@ -23,6 +25,7 @@ from query.tests.browser.databases import EVIL, EVIL_TYPESETTING, NEWER, OLDER, 
 from query.tests.browser.scripts import CONTRAST, GATHER, NAMES, TARGETS
 from query.tests.browser.truth import DATABASES, HERE, PROGRAM, Truth
 from query.tests.browser.views import Shown
+from query.tests.browser.whole import Asked
 
 BUILD = HERE / "web" / "page" / "build"
 STUB = HERE / "query" / "tests" / "library_stub.js"
@@ -345,14 +348,35 @@ def check_start(browser: Browser, room: Room) -> None:
 
 
 def check_policy(browser: Browser, room: Room) -> None:
-    """Nothing can be loaded, and no other script can work beside the page."""
-    begin(browser, room, spies=False)
-    told = browser.call(FETCHING, "http://127.0.0.1:9")
-    for name in ("fetch", "import", "worker"):
-        count(name in told, f"{browser.name}: the policy forbids {name}", told)
-    if browser.name == "chromium":
-        count("other blob" in told, "chromium: trusted types forbid another worker", told)
+    """Nothing is loaded, neither from a disk nor over HTTP, and nothing can be; no other script can
+    work beside the page."""
+    name = browser.name
+    handler = functools.partial(Asked, directory=room.folder)
+    server = http.server.ThreadingHTTPServer(("127.0.0.1", 0), handler)
+    threading.Thread(target=server.serve_forever, daemon=True).start()
+    address = f"http://127.0.0.1:{server.server_port}"
+    Asked.paths.clear()
+    browser.go(f"{address}/{room.page.name}")
+    browser.wait("document.documentElement.dataset.state === 'start'")
+    browser.choose("#file", [DATABASES / "demo0.mm"])
+    shown(browser, "demo0.mm over HTTP")
+    time.sleep(1)
+    asked = [path for path in Asked.paths if path != "/favicon.ico"]
+    same(asked, [f"/{room.page.name}"], f"{name}: the page loads nothing")
+    same(browser.messages(), [], f"{name}: messages in the console over HTTP")
+    for opened in ("HTTP", "a disk"):
+        if opened == "a disk":
+            begin(browser, room, spies=False)
+        Asked.paths.clear()
+        told = browser.call(FETCHING, address)
+        same(Asked.paths, [], f"{name}: nothing is loaded from {opened}")
+        for way in ("fetch", "import", "worker"):
+            count(way in told, f"{name}: the policy forbids {way} from {opened}", told)
+        if name == "chromium":
+            is_stopped = "other blob" in told and "ran" not in told
+            count(is_stopped, f"chromium: trusted types forbid another worker, {opened}", told)
     browser.messages()
+    server.shutdown()
 
 
 def check_refusals(browser: Browser, room: Room) -> None:
