@@ -209,6 +209,7 @@ class Start {
         byId("home").textContent = model.facts.title;
         byId("more").append(...new Saving(this.tools, request, database).parts());
         await present(model);
+        this.main.querySelector("h1")?.focus({ preventScroll: true });
     }
 
     /**

@@ -402,9 +402,8 @@ def check_refusals(browser: Browser, room: Room) -> None:
         check_changed(browser, room)
     browser.run("document.getElementById('answer').replaceChildren()")
     browser.run("document.getElementById('only').value = 'nothing'")
-    if room.module is not None:
-        browser.choose("#file", [DATABASES / "demo0.mm"])
-        told_within(browser, "a typecode without axioms", "has no axiom of typecode nothing")
+    browser.choose("#file", [DATABASES / "demo0.mm"])
+    told_within(browser, "a typecode without axioms", "has no axiom of typecode nothing")
     same(browser.messages(), [], f"{browser.name}: messages in the console at refusals")
 
 
