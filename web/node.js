@@ -12,15 +12,16 @@ const STDIN = 0;
 const STDOUT = 1;
 const STDERR = 2;
 
-/** Ends the program with a status and a message on standard error. */
+/** Ends the program with a status and a text on standard error. */
 class Ending extends Error {
     /**
      * @param {number} status
-     * @param {string} message
+     * @param {string} text
      */
-    constructor(status, message) {
-        super(message);
+    constructor(status, text) {
+        super(text);
         this.status = status;
+        this.text = text;
     }
 }
 
@@ -73,7 +74,7 @@ function writeAll(file, bytes) {
         try {
             at += whenReady(() => fs.writeSync(file, bytes, from, count));
         } catch (error) {
-            throw new Ending(3, "writing failed");
+            throw new Ending(3, "mmdepend: writing failed\n");
         }
     }
 }
@@ -89,7 +90,7 @@ function readInto(file, into, at) {
         return whenReady(() => fs.readSync(file, into, at, Math.min(PIECE, into.length - at), null));
     } catch (error) {
         if (failedBy(error, "EOF")) return 0;
-        throw new Ending(3, "reading failed");
+        throw new Ending(3, "mmdepend: reading failed\n");
     }
 }
 
@@ -102,7 +103,7 @@ function opened(name) {
     try {
         return fs.openSync(name);
     } catch (error) {
-        throw new Ending(3, "cannot open the file");
+        throw new Ending(3, "mmdepend: cannot open the file\n");
     }
 }
 
@@ -151,16 +152,27 @@ async function status(words) {
         writeAll(STDOUT, bytesOf(line.text));
         return 0;
     }
-    if (line.ends === "misread") {
-        writeAll(STDERR, bytesOf(line.text));
-        return 2;
-    }
+    if (line.ends === "misread") throw new Ending(2, line.text);
     const pieces = piecesOf(opened(line.file));
     const size = pieces.reduce((sum, piece) => sum + piece.length, 0);
     const answer = await report(module, size, (bytes) => join(pieces, bytes()), line.request);
-    if (answer.status === 4) throw new Ending(4, "out of memory");
+    if (answer.status === 4) throw outOfMemory();
     writeAll(STDOUT, answer.report);
     return answer.status;
+}
+
+function outOfMemory() {
+    return new Ending(4, "mmdepend: out of memory\n");
+}
+
+/**
+ * How the program ends after an error. Node says by a RangeError that there is no room for an array.
+ * @param {unknown} error
+ */
+function endingOf(error) {
+    if (error instanceof Ending) return error;
+    if (error instanceof RangeError) return outOfMemory();
+    throw error;
 }
 
 /** Runs the program on the words that Node was given. */
@@ -168,12 +180,10 @@ export async function main() {
     try {
         process.exitCode = await status(process.argv.slice(2));
     } catch (error) {
-        const known = error instanceof Ending || error instanceof RangeError;
-        if (!known) throw error;
-        const ending = error instanceof Ending ? error : new Ending(4, "out of memory");
+        const ending = endingOf(error);
         process.exitCode = ending.status;
         try {
-            writeAll(STDERR, bytesOf(`mmdepend: ${ending.message}\n`));
+            writeAll(STDERR, bytesOf(ending.text));
         } catch (failed) {
             // There is nobody to tell.
         }

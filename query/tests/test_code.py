@@ -10,7 +10,7 @@ from query.tests.world import MMQUERY, TOP
 TOOLS = Path("/usr/bin")
 MOST_LINES = 40  # of a function
 SCRIPTS = ["check", "mmdepend", "package", "docs/ci/check-database", "tests/first-run"]
-PYTHON = ["query", str(MMQUERY), "query/tests/check"]
+PYTHON = ["query", str(MMQUERY), "query/tests/check", "web/page/build", "web/page/check"]
 
 
 class Code(unittest.TestCase):

@@ -6,7 +6,7 @@ import subprocess
 import unittest
 
 from query.markup import HAS_COMMENT, MODIFICATION_DISCOURAGED, USAGE_DISCOURAGED, marks, one_line
-from query.page.assemble import SCRIPTS, WEB, assemble, script
+from query.page.assemble import SCRIPTS, WEB, assemble, script, shared
 from query.page.conditions import Grouping, line
 from query.page.pack import Numbers, pack_lists, zigzag
 from query.text import pairs, read_text
@@ -131,13 +131,15 @@ class Packed(unittest.TestCase):
         self.assertEqual(page.count("default-src 'none'"), 1)
 
     def test_scripts(self) -> None:
-        self.assertEqual({*SCRIPTS, "types.js"}, {path.name for path in WEB.glob("*.js")})
-        names = DECLARED.findall(script())
+        known = {*SCRIPTS, "main.js", "types.js"}
+        self.assertEqual(known, {path.name for path in WEB.glob("*.js")})
+        code = script([*shared(), WEB / "main.js"])
+        names = DECLARED.findall(code)
         self.assertEqual(sorted(names), sorted(set(names)))
-        kept = re.findall(r"(?m)^(?:import|export)\b.*", script())
+        kept = re.findall(r"(?m)^(?:import|export)\b.*", code)
         self.assertEqual(kept, [])
         for word in ("innerHTML", "outerHTML", "insertAdjacentHTML", "document.write", "eval("):
-            self.assertFalse(word in script(), word)
+            self.assertFalse(word in code, word)
 
     @unittest.skipUnless(shutil.which("tsc"), "node-typescript isn't installed")
     def test_types(self) -> None:

@@ -59,6 +59,10 @@ class Browser(ABC):
         """Presses keys, one after the other."""
 
     @abstractmethod
+    def choose(self, selector: str, paths: list[Path]) -> None:
+        """Gives files to a field for files."""
+
+    @abstractmethod
     def size(self, width: int, height: int) -> bool:
         """Gives the page a size; whether that can be done."""
 
@@ -126,11 +130,11 @@ class Chromium(Browser):
 
     name = "chromium"
 
-    def __init__(self) -> None:
+    def __init__(self, *more: str) -> None:
         options = webdriver.ChromeOptions()
         options.binary_location = shutil.which("chromium")
         words = ("headless=new", "no-sandbox", "disable-gpu", "hide-scrollbars")
-        for word in (*words, "window-size=1280,900"):
+        for word in (*words, "window-size=1280,900", *more):
             options.add_argument(f"--{word}")
         options.set_capability("goog:loggingPrefs", {"browser": "ALL"})
         services = optional("selenium.webdriver.chrome.service")
@@ -152,6 +156,10 @@ class Chromium(Browser):
 
     def press(self, *keys: str) -> None:
         webdriver.ActionChains(self.driver).send_keys(*keys).perform()
+
+    def choose(self, selector: str, paths: list[Path]) -> None:
+        field = self.driver.find_element("css selector", selector)
+        field.send_keys("\n".join(map(str, paths)))
 
     def size(self, width: int, height: int) -> bool:
         metrics = {"width": width, "height": height, "deviceScaleFactor": 1, "mobile": False}
@@ -209,6 +217,12 @@ class Firefox(Browser):
             actions += [{"type": "keyDown", "value": key}, {"type": "keyUp", "value": key}]
         source = {"type": "key", "id": "keys", "actions": actions}
         self.marionette.ask("WebDriver:PerformActions", {"actions": [source]})
+
+    def choose(self, selector: str, paths: list[Path]) -> None:
+        told = {"using": "css selector", "value": selector}
+        (field,) = self.marionette.ask("WebDriver:FindElement", told).values()
+        words = {"id": field, "text": "\n".join(map(str, paths))}
+        self.marionette.ask("WebDriver:ElementSendKeys", words)
 
     def size(self, width: int, height: int) -> bool:
         size = {"width": width, "height": height}

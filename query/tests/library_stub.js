@@ -1,0 +1,21 @@
+// Stands for web/library.js where there is no module. Its `module` has the answers of the program to requests over texts of
+// known sizes: a line of JSON that says where each answer stands after it, and then the answers.
+
+/** @param {BufferSource} bytes */
+export async function compile(bytes) {
+    const end = bytes.indexOf(0x0a);
+    return { known: JSON.parse(new TextDecoder().decode(bytes.subarray(0, end))), answers: bytes.subarray(end + 1) };
+}
+
+/** Puts the text into an array, and answers what is known of a text of this size. */
+export async function report({ known, answers }, size, fill, request) {
+    const text = new Uint8Array(size);
+    await fill(() => text);
+    const { report: name = "all", form = 1, only = null, essential = false, open = false } = request;
+    const find = (wanted, typecode) => known[JSON.stringify([size, wanted, form, typecode, essential, open])];
+    const found = find(name, only);
+    if (!found) return { status: 4, report: new Uint8Array(0), citations: null, memory: size };
+    const bytesOf = ({ start, end }) => answers.subarray(start, end);
+    const citations = request.withCitations ? bytesOf(find("citations", null)) : null;
+    return { status: found.status, report: bytesOf(found), citations, memory: size };
+}

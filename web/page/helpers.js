@@ -1,0 +1,83 @@
+// The workers of the page.
+
+/** @typedef {import("./types.js").Ask} Ask */
+/** @typedef {import("./types.js").Told} Told */
+
+/** A worker said why it made nothing. */
+export class Stopped extends Error {
+    /** @param {Told} told */
+    constructor(told) {
+        super(told.stage);
+        this.told = told;
+    }
+}
+
+/**
+ * The address of the script of workers. Only this one may be given to a worker, where the browser has trusted types.
+ * @param {Uint8Array} script
+ * @returns {string}
+ */
+export function addressOf(script) {
+    const address = URL.createObjectURL(new Blob([script], { type: "text/javascript" }));
+    /** @type {{ createPolicy: (name: string, rules: object) => { createScriptURL: (address: string) => any } } | undefined} */
+    const types = /** @type {any} */ (globalThis).trustedTypes;
+    if (!types) return address;
+    const policy = types.createPolicy("mmdepend", {
+        createScriptURL: (/** @type {string} */ wanted) => {
+            if (wanted !== address) throw new TypeError("another script");
+            return wanted;
+        },
+    });
+    return policy.createScriptURL(address);
+}
+
+/** A worker, which does one task after the other until it is ended. */
+export class Helper {
+    /**
+     * @param {string} address
+     * @param {(told: Told) => void} tell is told how far the worker is
+     */
+    constructor(address, tell) {
+        this.worker = new Worker(address);
+        this.tell = tell;
+        /** @type {{ resolve: (told: any) => void, reject: (error: Error) => void, last: string }[]} */
+        this.waiting = [];
+        this.worker.onmessage = ({ data }) => this.hear(data);
+        this.worker.onerror = (event) => {
+            event.preventDefault();
+            this.hear({ stage: "failed", message: event.message || "the worker ended" });
+        };
+    }
+
+    /** @param {Told} told */
+    hear(told) {
+        if (told.stage === "reading" || told.stage === "checking") {
+            this.tell(told);
+            return;
+        }
+        const task = this.waiting.shift();
+        if (!task) return;
+        if (told.stage === task.last) task.resolve(told);
+        else task.reject(new Stopped(told));
+    }
+
+    /**
+     * Gives it a task. The answer is what it tells last, of the stage that is wanted; Stopped where that is another one.
+     * @template {Told["stage"]} S
+     * @param {Ask} ask
+     * @param {S} last
+     * @param {Transferable[]} transfer
+     * @returns {Promise<Extract<Told, { stage: S }>>}
+     */
+    ask(ask, last, transfer = []) {
+        const answer = new Promise((resolve, reject) => this.waiting.push({ resolve, reject, last }));
+        answer.catch(() => {}); // it may be heard of before somebody waits for it
+        this.worker.postMessage(ask, transfer);
+        return answer;
+    }
+
+    /** Ends it, whatever it does; its memory is free then. */
+    end() {
+        this.worker.terminate();
+    }
+}

@@ -1,0 +1,270 @@
+// Which assertion of one database is which of another, as query/statements.py finds it: by its label, or by its statement
+// where that has another label. A statement is the formula, the `$e` in order, the pairs of its variables that must be
+// distinct, and the typecodes of its variables.
+
+import { Cutter, isSame, textAt } from "./bytes.js";
+
+/** @typedef {import("./reports.js").Dependence} Dependence */
+/** @typedef {import("./text.js").Statements} Statements */
+/** @typedef {import("./text.js").Text} Text */
+
+/** One of two databases. */
+export class Side {
+    /**
+     * @param {Text} text
+     * @param {Dependence} dependence
+     */
+    constructor(text, dependence) {
+        this.text = text;
+        this.dependence = dependence;
+        this.cutter = new Cutter();
+        /** @type {Map<string, string>} */
+        this.typecodes = new Map();
+        for (let number = 0; number < text.floating.size; number++) {
+            const [code, variable] = this.symbols(text.floating, number);
+            this.typecodes.set(variable, code);
+        }
+    }
+
+    /**
+     * The words of a stretch.
+     * @param {number} start
+     * @param {number} end
+     */
+    words(start, end) {
+        const { cutter } = this;
+        const size = cutter.cut(this.text.data, start, end);
+        return Array.from({ length: size }, (_, at) => textAt(this.text.data, cutter.starts[at], cutter.ends[at]));
+    }
+
+    /**
+     * The symbols of a statement, the typecode first.
+     * @param {Statements} statements
+     * @param {number} number
+     */
+    symbols(statements, number) {
+        return this.words(statements.formulas.items[number], statements.formulaEnds.items[number]);
+    }
+
+    /**
+     * The symbols of an assertion as a text.
+     * @param {number} number
+     */
+    formula(number) {
+        return this.symbols(this.text.assertions, number).join(" ");
+    }
+
+    /**
+     * The active `$e` of an assertion.
+     * @param {number} number
+     */
+    essential(number) {
+        return this.text.essential.of(this.text.essentialOf.items[number]);
+    }
+
+    /**
+     * The active `$d` of an assertion.
+     * @param {number} number
+     */
+    disjoint(number) {
+        return this.text.disjoint.of(this.text.disjointOf.items[number]);
+    }
+
+    /**
+     * What an assertion says, as a text that is the same for two databases exactly where it says the same.
+     * @param {number} number
+     */
+    statement(number) {
+        const { text, typecodes } = this;
+        const all = [this.symbols(text.assertions, number)];
+        for (const hypothesis of this.essential(number)) all.push(this.symbols(text.hypotheses, hypothesis));
+        const variables = new Set(all.flat().filter((symbol) => typecodes.has(symbol)));
+        const pairs = new Set();
+        for (const index of this.disjoint(number)) {
+            const group = this.words(text.groups.items[index], text.groupEnds.items[index]);
+            const own = group.filter((variable) => variables.has(variable));
+            own.forEach((one, at) => {
+                for (const other of own.slice(at + 1)) pairs.add(one < other ? `${one} ${other}` : `${other} ${one}`);
+            });
+        }
+        const codes = [...variables].map((variable) => `${variable} ${typecodes.get(variable)}`);
+        const formulas = all.map((symbols) => symbols.join(" "));
+        return [...formulas, "$d", ...[...pairs].sort(), "$f", ...codes.sort()].join("\n");
+    }
+
+    /**
+     * What a theorem cites; nothing for an axiom.
+     * @param {number} number
+     */
+    cites(number) {
+        const row = this.dependence.rowOf[number];
+        return row < 0 ? new Uint32Array(0) : this.dependence.citedBy(row);
+    }
+}
+
+/**
+ * Which assertions of one kind of NEW are which of OLD; all are numbers, in file order.
+ * @typedef {object} Pairing
+ * @property {Map<number, number>} origin for those of NEW the one of OLD
+ * @property {Map<number, number>} renamed those whose statement had another label in OLD
+ * @property {number[]} changed those with the same label and another statement
+ * @property {number[]} added
+ * @property {number[]} gone of OLD
+ */
+
+/** Pairs the assertions of two databases. */
+export class Pairer {
+    /**
+     * @param {Side} old
+     * @param {Side} now
+     */
+    constructor(old, now) {
+        this.old = old;
+        this.now = now;
+        const isElsewhere = (/** @type {Side} */ one, /** @type {Side} */ other) =>
+            [...one.typecodes].filter(([variable, code]) => other.typecodes.get(variable) !== code).map(([name]) => name);
+        this.otherVariables = new Set([...isElsewhere(old, now), ...isElsewhere(now, old)]);
+        /** Of each assertion of NEW the one of OLD with its label, or -1. */
+        this.sameLabel = new Int32Array(now.text.size);
+        const { labels, labelEnds } = now.text.assertions;
+        for (let number = 0; number < now.text.size; number++) {
+            const label = old.text.byLabel.find(now.text.data, labels.items[number], labelEnds.items[number]);
+            this.sameLabel[number] = label;
+        }
+    }
+
+    /**
+     * Whether two assertions have the same statement. Most are written alike.
+     * @param {number} old
+     * @param {number} now
+     */
+    isSame(old, now) {
+        if (this.isWrittenAlike(old, now) && this.hasSameVariables(now)) return true;
+        return this.old.statement(old) === this.now.statement(now);
+    }
+
+    /**
+     * Whether formula, hypotheses and `$d` stand in both texts by the same bytes.
+     * @param {number} old
+     * @param {number} now
+     */
+    isWrittenAlike(old, now) {
+        const before = stretchesOf(this.old, old);
+        const after = stretchesOf(this.now, now);
+        if (before.length !== after.length || this.old.disjoint(old).length !== this.now.disjoint(now).length) return false;
+        return before.every(([start, end], at) =>
+            isSame(this.old.text.data, start, end, this.now.text.data, after[at][0], after[at][1]),
+        );
+    }
+
+    /**
+     * Whether what an assertion is written with has the same typecodes in both.
+     * @param {number} now
+     */
+    hasSameVariables(now) {
+        if (this.otherVariables.size === 0) return true;
+        const words = stretchesOf(this.now, now).flatMap(([start, end]) => this.now.words(start, end));
+        return !words.some((word) => this.otherVariables.has(word));
+    }
+
+    /**
+     * Whether two assertions cite the same labels.
+     * @param {number} old
+     * @param {number} now
+     */
+    citesSame(old, now) {
+        const before = new Set(this.old.cites(old));
+        const after = this.now.cites(now);
+        return before.size === after.length && after.every((cited) => before.has(this.sameLabel[cited]));
+    }
+
+    /**
+     * Pairs the theorems or the axioms.
+     * @param {boolean} isProved
+     * @returns {Pairing}
+     */
+    pair(isProved) {
+        const old = numbersOfKind(this.old.text, isProved);
+        const now = numbersOfKind(this.now.text, isProved);
+        /** @type {Map<number, number>} */
+        const origin = new Map();
+        const before = (/** @type {number} */ number) => {
+            const other = this.sameLabel[number];
+            return other >= 0 && this.old.text.isProved(other) === isProved ? other : -1;
+        };
+        for (const number of now) {
+            const other = before(number);
+            if (other >= 0 && this.isSame(other, number)) origin.set(number, other);
+        }
+        const kept = new Set(origin.values());
+        const left = now.filter((number) => !origin.has(number));
+        const renamed = this.renames(old.filter((number) => !kept.has(number)), left);
+        for (const [number, other] of renamed) origin.set(number, other);
+        const taken = new Set(renamed.values());
+        const changed = left.filter((number) => !origin.has(number) && before(number) >= 0 && !taken.has(before(number)));
+        for (const number of changed) origin.set(number, before(number));
+        const found = new Set(origin.values());
+        return {
+            origin,
+            renamed,
+            changed,
+            added: left.filter((number) => !origin.has(number)),
+            gone: old.filter((number) => !found.has(number)),
+        };
+    }
+
+    /**
+     * Those of NEW with a statement of OLD: of several first those that cite the same, then the others in file order.
+     * @param {number[]} old
+     * @param {number[]} now
+     */
+    renames(old, now) {
+        /** @type {Map<string, number[]>} */
+        const candidates = new Map();
+        for (const number of old) {
+            const statement = this.old.statement(number);
+            const known = candidates.get(statement);
+            if (known) known.push(number);
+            else candidates.set(statement, [number]);
+        }
+        /** @type {Map<number, number>} */
+        const found = new Map();
+        const left = [];
+        for (const number of now) {
+            const those = candidates.get(this.now.statement(number)) ?? [];
+            const at = those.findIndex((other) => this.citesSame(other, number));
+            if (at < 0) left.push({ number, those });
+            else found.set(number, those.splice(at, 1)[0]);
+        }
+        for (const { number, those } of left) {
+            const other = those.shift();
+            if (other !== undefined) found.set(number, other);
+        }
+        return found;
+    }
+}
+
+/**
+ * @param {Text} text
+ * @param {boolean} isProved
+ */
+function numbersOfKind(text, isProved) {
+    return Array.from({ length: text.size }, (_, number) => number).filter((number) => text.isProved(number) === isProved);
+}
+
+/**
+ * Where formula, hypotheses and `$d` of an assertion stand.
+ * @param {Side} side
+ * @param {number} number
+ * @returns {[number, number][]}
+ */
+function stretchesOf(side, number) {
+    const { assertions, hypotheses, groups, groupEnds } = side.text;
+    /** @type {[number, number][]} */
+    const found = [[assertions.formulas.items[number], assertions.formulaEnds.items[number]]];
+    for (const index of side.essential(number)) {
+        found.push([hypotheses.formulas.items[index], hypotheses.formulaEnds.items[index]]);
+    }
+    for (const index of side.disjoint(number)) found.push([groups.items[index], groupEnds.items[index]]);
+    return found;
+}

@@ -1,0 +1,46 @@
+// The shapes of what the page that verifies and its workers tell one another.
+
+/** @typedef {import("./faults.js").Fault} Fault */
+/** @typedef {import("./reports.js").Request} Request */
+/** @typedef {import("./typesetting.js").Entities} Entities */
+
+/**
+ * A database that was chosen, not compressed.
+ * @typedef {{ name: string, file: Blob }} Chosen
+ */
+
+/**
+ * What the page brings with it for its work, from the block `tables`.
+ * @typedef {object} Tables
+ * @property {string} maker which program it is
+ * @property {Entities} entities
+ * @property {Record<string, [string, string]>} faults what each code means, and what to do
+ * @property {[string, string]} unknown the same for another code
+ */
+
+/**
+ * What a worker is asked for: to verify a database for the page, to write a report to be saved, to pack texts (that of the
+ * database, and then that of the older release), or to pack what their reports say.
+ * @typedef {{ task: "verify", file: Blob, module: Uint8Array, request: Request }
+ *     | { task: "save", file: Blob, module: Uint8Array, request: Request, report: ReportName, form: 1 | 2 }
+ *     | { task: "pack", files: Chosen[], request: Request, maker: string, entities: Entities }
+ *     | { task: "reports", reports: import("./making.js").Reports[] }} Ask
+ */
+
+/** @typedef {"all" | "matrix" | "counts" | "usage" | "citations"} ReportName */
+
+/**
+ * What a worker tells: how far it is, what it made, or why it made nothing. `part` is from 0 to 1.
+ * @typedef {{ stage: "reading", part: number }
+ *     | { stage: "checking" }
+ *     | { stage: "verified", matrix: Uint8Array, citations: Uint8Array, memory: number }
+ *     | { stage: "saved", report: Blob }
+ *     | { stage: "packed", blocks: Map<string, Uint8Array> }
+ *     | { stage: "refused", fault: Fault }
+ *     | { stage: "memory" }
+ *     | { stage: "unread" }
+ *     | { stage: "lacking", message: string }
+ *     | { stage: "failed", message: string }} Told
+ */
+
+export {};
