@@ -18,7 +18,7 @@ use Rattle.mm_spec.specs.declared.Word as place
 use Rattle.mm_database.specs.Numbered.{AreNumbered}
 use Rattle.mm_outline.specs.Parts.{between, token_at}
 use Rattle.mm_outline.proofs.TurnsLaw.{between_more, between_none}
-use Rattle.mm_lists.specs.Lists.{AreJoined}
+use Rattle.mm_lists.specs.Lists.{AreJoined, with_end}
 use Rattle.mm_database.specs.Names.{with_name}
 use Rattle.mm_lists.proofs.ListsLaw.{more_joined}
 use Rattle.mm_outline.proofs.StatementsLaw.{get_mapped}
@@ -133,11 +133,11 @@ module _ (db : List Statement) (lawful : (k : ℕ) → k < length db → scope_f
 
   -- one statement more
   pub formulas_more : (numbers places : List ℕ) → AreFormulas db numbers places → (more : List ℕ)
-      → more ≡ numbers ++ formula_of all s → AreFormulas all more (places ++ length more ∷ [])
+      → more ≡ numbers ++ formula_of all s → AreFormulas all more (with_end places (length more))
   formulas_more numbers places f more e =
       rw e
       (subst (λ fs. AreJoined fs (numbers ++ formula_of all s)
-      (places ++ length (numbers ++ formula_of all s) ∷ [])) formulas-next
+      (with_end places (length (numbers ++ formula_of all s)))) formulas-next
       (more_joined (map (formula_of db) db) (formula_of all s) numbers places f))
 
 -- ---- the formulas one by one

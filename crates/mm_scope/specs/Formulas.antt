@@ -25,6 +25,6 @@ unjudged names (disjoint k xs d) = numbers_in names xs
 unjudged names (floating l k xs d) = numbers_in names xs
 unjudged names _ = []
 
--- the symbols of all statements, concatenated; where those of each end
+-- the symbols of all statements, concatenated; the places between which those of each stand
 abbrev pub AreFormulas : List Statement → List ℕ → List ℕ → Type 0
 AreFormulas db numbers places = AreJoined (map (formula_of db) db) numbers places

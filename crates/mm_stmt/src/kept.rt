@@ -41,10 +41,10 @@ pub(crate) fn keep_all<A: Allocator + Copy>(
     ensures { IfOk result (λ k. k ≡ map (kept_words tokens.now) outlines.now) }
 {
     let mut words = Vec::new(alloc);
-    let mut ends = Vec::new(alloc);
+    let mut places = Vec::new(alloc);
     for outline in outlines {
         keep(tokens, *outline, &mut words)?;
-        end_list(&words, &mut ends)?;
+        end_list(&words, &mut places)?;
     }
-    Ok(Lists::from_ends(words, ends))
+    Ok(Lists::from_ends(words, places))
 }
