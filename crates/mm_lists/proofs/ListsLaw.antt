@@ -158,7 +158,7 @@ module _ {X : Type 0} where
       }
 
   pub none_between : (lists : List (List X)) (i : ℕ) → [] ≡ joined (slice_range lists i i)
-  none_between lists i = 
+  none_between lists i =
       let n : i - i ≡ 0 = omega arith in sym (ap (λ n. joined (take n (drop i lists))) n)
 
   -- ---- one list more

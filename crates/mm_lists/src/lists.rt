@@ -8,8 +8,8 @@ use std::alloc::{AllocError, Allocator};
 use std::marker::Model;
 
 /// A growing row of lists. They are concatenated into one, so a short list costs no allocation of
-/// its own. `places` is a 0 and then where each list ends, so that each begins at its index and ends
-/// at the next one; the first list brings the 0. A place has 32 bits.
+/// its own. `places` is a 0 and then where each list ends: so the place at a list's index is where
+/// it begins, and the next one where it ends. The first list brings the 0. A place has 32 bits.
 pub struct Lists<T, A: Allocator> {
     items: Vec<T, A>,
     places: Vec<u32, A>,
@@ -18,7 +18,10 @@ pub struct Lists<T, A: Allocator> {
 /// Lets all fields go in one call, so that a proof has one step for it at each exit.
 impl<T: Drop, A: Allocator> Drop for Lists<T, A> {
     fn drop(self) {
-        let Self { items: _, places: _ } = self;
+        let Self {
+            items: _,
+            places: _,
+        } = self;
     }
 }
 
@@ -146,6 +149,10 @@ impl<T, A: Allocator> Lists<T, A> {
         if from == to {
             return &[];
         }
-        part(&self.items, self.places[from] as usize, self.places[to] as usize)
+        part(
+            &self.items,
+            self.places[from] as usize,
+            self.places[to] as usize,
+        )
     }
 }
