@@ -3,12 +3,12 @@ use Rattle.std.specs.Prelude.{ℕ, List, [], map}
 use Rattle.mm_spec.specs.Text.{Bytes, Token, words}
 use Rattle.mm_spec.specs.Statement.{Statement, constants, variables, disjoint, floating, essential}
 use Rattle.mm_spec.specs.Statement.{axiomatic, provable}
-use Rattle.mm_spec.specs.Frame.{place_of, formula_of}
+use Rattle.mm_spec.specs.Frame.{index_of, formula_of}
 use Rattle.mm_lists.specs.Lists.{AreJoined}
 
 -- the numbers of words, by the names of the symbols
 abbrev pub numbers_in : List Bytes → List Token → List ℕ
-numbers_in names ts = map (λ w. place_of w names) (words ts)
+numbers_in names ts = map (λ w. index_of w names) (words ts)
 
 -- the symbols of a formula, which are numbered as they are judged
 abbrev pub judged : List Bytes → Statement → List ℕ
