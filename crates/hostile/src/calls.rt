@@ -10,7 +10,7 @@ use mm_check::{CheckRefused, Checked, Checker, check};
 use mm_plan::{Cutting, Plan};
 use mm_proof::Steps;
 use mm_run::{RunEnd, run};
-use mm_spec::{Choice, Form};
+use mm_spec::Choice;
 use mm_stmt::Database;
 use mm_work::{Judged, Open, check_all};
 use std::alloc::{AllocError, Allocator};
@@ -21,15 +21,9 @@ use std::thread::Threads;
 /// A plan that cuts the text in this way, checks proofs with `workers` workers, and writes these
 /// sections.
 pub(crate) fn plan_of<A: Allocator>(cuts: Cutting<A>, workers: u32, choice: Choice) -> Plan<A> {
-    Plan {
-        cuts,
-        workers,
-        only: None,
-        choice,
-        form: Form::One,
-        essential: false,
-        with_open: false,
-    }
+    let mut plan = Plan::plain(cuts, workers);
+    plan.choice = choice;
+    plan
 }
 
 /// How a run ends; `None` if the plan isn't lawful.

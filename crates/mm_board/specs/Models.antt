@@ -1,6 +1,7 @@
 -- What contracts see of a board and of a seat, and what each keeps inside.
 use Rattle.std.specs.Prelude.{◌≡◌, ℕ, ◌<◌, ◌≤◌, Bool, Option, List, []}
 use Rattle.atomic_table.specs.Seated.{TableId}
+use Rattle.mm_board.specs.declared.board.TheConstants.{MOST_NUMBERS, MOST_SEATS}
 use Rattle.mm_board.specs.declared.views.View.{View}
 
 -- a board: which one it is, and how many numbers it has
@@ -22,7 +23,7 @@ pub record KeepsTable (table : TableId) (key count : ℕ) : Type 0 where
   pub three_words : table.words ≡ 3
   pub no_slot : table.slots ≡ 0
   pub key_is : key ≡ count
-  pub small : count ≤ 2147483648
+  pub small : count ≤ MOST_NUMBERS
 
 -- the fields that a seat has at run time agree with its view, and its token has no slot
 pub record ShowsView (view : View) (slots : List (ℕ × Unit {0})) (share : ℕ)
@@ -32,5 +33,5 @@ pub record ShowsView (view : View) (slots : List (ℕ × Unit {0})) (share : ℕ
   pub seen_is : seen ≡ view.seen
   pub over_is : over ≡ view.over
   pub some_share : 0 < share
-  pub few : share ≤ 64
+  pub few : share ≤ MOST_SEATS
   pub no_slot : slots ≡ []

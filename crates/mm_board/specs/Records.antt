@@ -2,14 +2,16 @@
 -- skipped numbers.
 use Rattle.std.specs.Prelude.{◌≡◌, ℕ, ◌+◌, ◌==◌, false, Option, None, Some, List, [], ◌∷◌, length}
 use Rattle.std.specs.Prelude.{if◌then◌else◌}
+use Rattle.mm_board.specs.declared.board.TheConstants.{MOST_SEATS}
 use Rattle.mm_board.specs.declared.views.View.{View}
 
--- the first seat of a board of n numbers: it stands for all 64 seats, and its record is empty
+-- the first seat of a board of n numbers: it stands for all seats that a
+-- board has, and its record is empty
 abbrev pub first_view : ℕ → View
 first_view n =
     record {
       count = n;
-      share = 64;
+      share = MOST_SEATS;
       open_number = None;
       settled = [];
       reported = [];

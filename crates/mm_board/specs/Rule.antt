@@ -5,6 +5,7 @@ use Rattle.std.specs.Prelude.{◌≡◌, ℕ, ◌+◌, ◌≤◌, ◌<◌, ◌�
 use Rattle.std.specs.Prelude.{if◌then◌else◌}
 use mathlib.Core.Option.{some}
 use lib.ListN.{get_elem?}
+use Rattle.mm_board.specs.declared.board.TheConstants.{MOST_SEATS}
 use Rattle.mm_board.specs.declared.views.View.{View}
 use Rattle.mm_board.specs.Records.{times_in, times_recorded, record_length, HasEmptyRecord}
 
@@ -73,7 +74,7 @@ pub record BoardRule (n claim_word floor_word settled_word : ℕ) (views : List 
   pub skipped : (x : ℕ) → 0 < times_skipped views x → floor_word < x
   pub seats : (seat : ℕ) (v : View) → get_elem? views seat ≡ some v
       → SeatRule n views claim_word floor_word v
-  -- the shares add up to 64, and the claim word is at most n plus the shares of the seats that are
-  -- over: no word wraps
-  pub shares : total (λ v. v.share) views ≡ 64
+  -- the shares add up to all seats, and the claim word is at most n plus the shares of the seats
+  -- that are over: no word wraps
+  pub shares : total (λ v. v.share) views ≡ MOST_SEATS
   pub bound : claim_word ≤ n + total over_share views

@@ -5,6 +5,7 @@ use Rattle.mm_spec.specs.Frame.{symbol_names}
 use Rattle.mm_spec.specs.Derivation.{Formula, is_member}
 use Rattle.mm_spec.specs.Steps.{Step, PlacedStep}
 use Rattle.mm_spec.specs.Citation.{context_at}
+use Rattle.mm_spec.specs.Laws.Complete.{AreComplete}
 use Rattle.mm_spec.specs.Laws.Stack.{step_entries}
 use Rattle.mm_rule.specs.Assertions.{is_assertion_at}
 use Rattle.mm_rules.specs.Rules.{RuleLists, AreRules}
@@ -27,10 +28,11 @@ abbrev pub checker_state : MachineState → RuleLists → List ℕ → List (ℕ
 checker_state machine rules noted cache =
     record { machine = machine; rules = rules; noted = noted; cache = cache }
 
--- the number of symbols and the rules are those of the database
+-- the number of symbols and the rules are those of the database, whose frames are complete
 pub record AreOf (db : List Statement) (width : ℕ) (rules : RuleLists) : Type 0 where
   pub width_is : width ≡ length (symbol_names db)
   pub rules_are : AreRules db rules
+  pub complete : AreComplete db
 
 -- the checker is made for the theorems of the database
 abbrev pub IsMadeFor : List Statement → CheckerState → Type 0

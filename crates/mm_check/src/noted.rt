@@ -8,7 +8,7 @@ ghost use Rattle.mm_rule.specs.Assertions.{is_assertion_at};
 ghost use Rattle.mm_check.specs.Contract.{labels, is_labelled_step};
 
 use mm_database::Database;
-use mm_rule::{empty, is_assertion, put_number, zeros};
+use mm_rule::{empty, is_assertion, put_number};
 use mm_steps::Step;
 use std::alloc::{AllocError, Allocator};
 use std::marker::Model;
@@ -39,7 +39,7 @@ impl<A: Allocator> Noted<A> {
     {
         Ok(Noted {
             numbers: Vec::new(alloc),
-            places: zeros(alloc, count)?,
+            places: vec![in alloc; 0; count]?,
         })
     }
 

@@ -11,7 +11,12 @@ use Rattle.mm_spec.specs.NormalProof.{is_labelled}
 use Rattle.mm_spec.specs.Scope.{statement_at}
 use Rattle.mm_spec.specs.declared.Fault.{Fault}
 use Rattle.mm_spec.specs.declared.Word.{Word}
-use Rattle.mm_spec.proofs.OpenedLaw.{counted_length}
+use Rattle.mm_spec.specs.Opened.{counted}
+use Rattle.mm_spec.specs.Laws.Complete.{AreComplete}
+use Rattle.mm_spec.specs.Lexed.{lexed_of}
+use Rattle.mm_spec.specs.Output.{IsRead}
+use Rattle.mm_spec.proofs.CompleteLaw.{reads_complete}
+use Rattle.mm_spec.proofs.OpenedLaw.{counted_length, counted_complete}
 use Rattle.mm_outline.specs.Blocks.{BlockLists}
 use Rattle.mm_outline.specs.Parts.{statement_of}
 use Rattle.mm_outline.specs.Statements.{statements}
@@ -78,3 +83,9 @@ module _ (db : List Statement) (find : List ℕ → Option ℕ) (are : AreLabels
       → IfNone r ((j : ℕ) → list_any (is_labelled w) (statement_at db j) ≡ false)
   label_none None e = λ j. are.missing w (sym e) j
   label_none (Some k) e = tt
+
+-- the frames of what was read of a text are complete
+pub read_complete : (text : List ℕ) (db : List Statement) (w : Bool) (fault : Option Fault)
+    → IsRead (length text) (lexed_of text) db fault → AreComplete (counted w db)
+read_complete text db w fault read =
+    counted_complete w db (reads_complete (length text) (lexed_of text) db fault read)

@@ -25,7 +25,8 @@ use Rattle.mm_outline.specs.declared.parts.Kind.TheVariants as kind
 use Rattle.mm_outline.specs.declared.parts.Outline.{Outline}
 use Rattle.mm_outline.proofs.StatementsLaw.{get_mapped, statement_is}
 use Rattle.mm_database.specs.Database.{Contents, contents, kind_of}
-use Rattle.mm_database.specs.Kept.{AreKept, IsKept, is_labelled_kind, kept_words, label_tokens}
+use Rattle.mm_database.specs.Kept.{AreKept, IsKept, kept_words, label_tokens}
+use Rattle.mm_outline.specs.Parts.{is_labelled_kind}
 use Rattle.mm_database.specs.Kept.{label_word, last_place}
 use Rattle.mm_database.proofs.KindsLaw.{theorem_at}
 

@@ -10,7 +10,7 @@ use Rattle.std.specs.Option.{option_map}
 use Rattle.std.specs.Map.{keys_of, lookup}
 use Rattle.indexmap.specs.IndexMap.{insert_entry}
 use Rattle.mm_spec.specs.Text.{Bytes, is_in}
-use Rattle.mm_spec.specs.Frame.{place_of}
+use Rattle.mm_spec.specs.Frame.{index_of}
 use Rattle.mm_database.specs.declared.name.Name.{Name}
 use Rattle.mm_database.specs.Names.{find, names_of, with_name}
 use Rattle.mm_database.proofs.SymbolsLaw.{keys_in, missing_place}
@@ -60,7 +60,7 @@ map_len es = sym (length-map (keys_of es) (λ x. x.bytes.now) ∙ length-map es 
 
 -- the number of a name that isn't there
 pub missing_number : {V : Type 0} (w : Bytes) (es : List (Name × V)) → find es w ≡ None
-    → length es ≡ place_of w (names_of es)
+    → length es ≡ index_of w (names_of es)
 missing_number w es h =
     map_len es
     ∙ missing_place w (names_of es)
@@ -68,12 +68,12 @@ missing_number w es h =
     ∙ ap is_some h)
 
 -- a name's place
-pub place_le : (w : Bytes) (ns : List Bytes) → place_of w ns ≤ length ns
+pub place_le : (w : Bytes) (ns : List Bytes) → index_of w ns ≤ length ns
 place_le w [] = omega arith
 place_le w (n ∷ ns) = by (bytes_eq w n) (place_le w ns)
   where
-    by : (b : Bool) → place_of w ns ≤ length ns
-        → elim b [ true ↦ 0 | false ↦ suc (place_of w ns) ] ≤ suc (length ns)
+    by : (b : Bool) → index_of w ns ≤ length ns
+        → elim b [ true ↦ 0 | false ↦ suc (index_of w ns) ] ≤ suc (length ns)
     by true h = omega arith
     by false h = omega (arith, h)
 

@@ -9,7 +9,7 @@ use Rattle.std.proofs.lemmas.Slice.Eq.{bytes_eq-Decides}
 use Rattle.std.proofs.Math.Bool.{or-true}
 use Rattle.std.proofs.lemmas.Bool.{or_parts}
 use Rattle.mm_spec.specs.Text.{Bytes, is_in}
-use Rattle.mm_spec.specs.Frame.{first_occurrences, place_of}
+use Rattle.mm_spec.specs.Frame.{first_occurrences, index_of}
 use Rattle.mm_spec.proofs.FindsLaw.{same_word}
 use Rattle.mm_database.specs.declared.name.Name.{Name}
 use Rattle.mm_database.specs.Names.{are_distinct, with_name}
@@ -123,17 +123,17 @@ first_added ws w =
 
 -- a name's place
 pub place_in : (ns : List Bytes) (w : Bytes) → is_in w ns ≡ true
-    → slice_get ns (place_of w ns) ≡ Some w
+    → slice_get ns (index_of w ns) ≡ Some w
 place_in [] w h = absurd (true≢false (sym h))
 place_in (n ∷ ns) w h = by (place_in ns w) (bytes_eq w n) refl
   where
-    by : (is_in w ns ≡ true → slice_get ns (place_of w ns) ≡ Some w) → (b : Bool) → bytes_eq w n ≡ b
-        → slice_get (n ∷ ns) (place_of w (n ∷ ns)) ≡ Some w
+    by : (is_in w ns ≡ true → slice_get ns (index_of w ns) ≡ Some w) → (b : Bool) → bytes_eq w n ≡ b
+        → slice_get (n ∷ ns) (index_of w (n ∷ ns)) ≡ Some w
     by r true s =
-        ap (λ b. slice_get (n ∷ ns) (elim b [ true ↦ 0 | false ↦ suc (place_of w ns) ])) s
+        ap (λ b. slice_get (n ∷ ns) (elim b [ true ↦ 0 | false ↦ suc (index_of w ns) ])) s
         ∙ ap Some (sym (same_word w n s))
     by r false s =
-        ap (λ b. slice_get (n ∷ ns) (elim b [ true ↦ 0 | false ↦ suc (place_of w ns) ])) s
+        ap (λ b. slice_get (n ∷ ns) (elim b [ true ↦ 0 | false ↦ suc (index_of w ns) ])) s
         ∙ r (sym (ap (λ b. b || is_in w ns) s) ∙ h)
 
 pub get_in : (ns : List Bytes) (s : ℕ) (w : Bytes) → slice_get ns s ≡ Some w → is_in w ns ≡ true
@@ -146,47 +146,47 @@ get_in (n ∷ ns) (suc s) w h = ap (λ b. bytes_eq w n || b) (get_in ns s w h) �
 
 -- each name stands once
 pub place_get : (ws e : List Bytes) (s : ℕ) (w : Bytes)
-    → slice_get (first_occurrences e ws) s ≡ Some w → place_of w (first_occurrences e ws) ≡ s
+    → slice_get (first_occurrences e ws) s ≡ Some w → index_of w (first_occurrences e ws) ≡ s
 place_get [] e zero w h = absurd (let q : None ≡ Some w = h in cc)
 place_get [] e (suc s) w h = absurd (let q : None ≡ Some w = h in cc)
 place_get (v ∷ ws) e s w h =
     by (λ r. place_get ws e r w) (λ r. place_get ws (v ∷ e) r w) (is_in v e) refl s h
   where
     head : (t : List Bytes) (s : ℕ) → slice_get (v ∷ t) s ≡ Some w → is_in v t ≡ false
-        → ((r : ℕ) → slice_get t r ≡ Some w → place_of w t ≡ r) → place_of w (v ∷ t) ≡ s
+        → ((r : ℕ) → slice_get t r ≡ Some w → index_of w t ≡ r) → index_of w (v ∷ t) ≡ s
     head t zero q n r =
-        ap (λ b. elim b [ true ↦ 0 | false ↦ suc (place_of w t) ])
+        ap (λ b. elim b [ true ↦ 0 | false ↦ suc (index_of w t) ])
         (ap (bytes_eq w) (let p : Some v ≡ Some w = q in let x : v ≡ w = cc in x) ∙ itself w)
     head t (suc s) q n r = go (bytes_eq w v) refl
       where
-        go : (b : Bool) → bytes_eq w v ≡ b → place_of w (v ∷ t) ≡ suc s
+        go : (b : Bool) → bytes_eq w v ≡ b → index_of w (v ∷ t) ≡ suc s
         go true k =
             absurd (true≢false
             (sym (ap (λ x. is_in x t) (sym (same_word w v k)) ∙ get_in t s w q) ∙ n))
-        go false k = ap (λ b. elim b [ true ↦ 0 | false ↦ suc (place_of w t) ]) k ∙ ap suc (r s q)
+        go false k = ap (λ b. elim b [ true ↦ 0 | false ↦ suc (index_of w t) ]) k ∙ ap suc (r s q)
 
     by : ((r : ℕ) → slice_get (first_occurrences e ws) r ≡ Some w
-        → place_of w (first_occurrences e ws) ≡ r)
+        → index_of w (first_occurrences e ws) ≡ r)
         → ((r : ℕ) → slice_get (first_occurrences (v ∷ e) ws) r ≡ Some w
-        → place_of w (first_occurrences (v ∷ e) ws) ≡ r)
+        → index_of w (first_occurrences (v ∷ e) ws) ≡ r)
         → (b : Bool) → is_in v e ≡ b → (s : ℕ) → slice_get (first_occurrences e (v ∷ ws)) s ≡ Some w
-        → place_of w (first_occurrences e (v ∷ ws)) ≡ s
+        → index_of w (first_occurrences e (v ∷ ws)) ≡ s
     by f g true k s q =
-        ap (place_of w) (first_step e v ws true k)
+        ap (index_of w) (first_step e v ws true k)
         ∙ f s (sym (ap (λ l. slice_get l s) (first_step e v ws true k)) ∙ q)
     by f g false k s q =
-        ap (place_of w) (first_step e v ws false k)
+        ap (index_of w) (first_step e v ws false k)
         ∙ head (first_occurrences (v ∷ e) ws) s
         (sym (ap (λ l. slice_get l s) (first_step e v ws false k)) ∙ q)
         (not_first ws (v ∷ e) v (ap (λ b. b || is_in v e) (itself v))) g
 
 -- where the code finds a name
 pub place_position : (w : Bytes) (ks : List (Name))
-    → position_or_len (λ k. bytes_eq w k.bytes.now) ks ≡ place_of w (map (λ k. k.bytes.now) ks)
+    → position_or_len (λ k. bytes_eq w k.bytes.now) ks ≡ index_of w (map (λ k. k.bytes.now) ks)
 place_position w ks =
-    sym (is_position_or_len (λ (xs : List (Name)). place_of w (map (λ k. k.bytes.now) xs))
+    sym (is_position_or_len (λ (xs : List (Name)). index_of w (map (λ k. k.bytes.now) xs))
     (λ k. bytes_eq w k.bytes.now) refl
-    (λ x xs. step (bytes_eq w x.bytes.now) (place_of w (map (λ k. k.bytes.now) xs))) ks)
+    (λ x xs. step (bytes_eq w x.bytes.now) (index_of w (map (λ k. k.bytes.now) xs))) ks)
   where
     step : (b : Bool) (n : ℕ) → elim b [ true ↦ 0 | false ↦ suc n ] ≡ cond b 0 (1 + n)
     step true n = refl
@@ -199,7 +199,8 @@ keys_in w (k ∷ ks) = ap (λ b. bytes_eq w k.bytes.now || b) (keys_in w ks)
 
 -- the place of a name that is found, and of one that is not
 pub found_place : (w : Bytes) (ks : List (Name)) (n : ℕ)
-    → position (λ k. bytes_eq w k.bytes.now) ks ≡ Some n → n ≡ place_of w (map (λ k. k.bytes.now) ks)
+    → position (λ k. bytes_eq w k.bytes.now) ks ≡ Some n
+    → n ≡ index_of w (map (λ k. k.bytes.now) ks)
 found_place w ks n h =
     by (nat_lt (position_or_len (λ k. bytes_eq w k.bytes.now) ks) (length ks)) h ∙ place_position w ks
   where
@@ -208,16 +209,16 @@ found_place w ks n h =
     by true e = let q : Some (position_or_len (λ k. bytes_eq w k.bytes.now) ks) ≡ Some n = e in cc
     by false e = let q : None ≡ Some n = e in cc
 
-pub missing_place : (w : Bytes) (ns : List Bytes) → is_in w ns ≡ false → length ns ≡ place_of w ns
+pub missing_place : (w : Bytes) (ns : List Bytes) → is_in w ns ≡ false → length ns ≡ index_of w ns
 missing_place w [] h = refl
 missing_place w (n ∷ ns) h = by (bytes_eq w n) refl (missing_place w ns)
   where
-    by : (b : Bool) → bytes_eq w n ≡ b → (is_in w ns ≡ false → length ns ≡ place_of w ns)
-        → suc (length ns) ≡ place_of w (n ∷ ns)
+    by : (b : Bool) → bytes_eq w n ≡ b → (is_in w ns ≡ false → length ns ≡ index_of w ns)
+        → suc (length ns) ≡ index_of w (n ∷ ns)
     by true k r = absurd (true≢false (sym (ap (λ b. b || is_in w ns) k) ∙ h))
     by false k r =
         ap suc (r (sym (ap (λ b. b || is_in w ns) k) ∙ h))
-        ∙ sym (ap (λ b. elim b [ true ↦ 0 | false ↦ suc (place_of w ns) ]) k)
+        ∙ sym (ap (λ b. elim b [ true ↦ 0 | false ↦ suc (index_of w ns) ]) k)
 
 -- ---- names of which none stands twice
 
@@ -234,17 +235,17 @@ others_too false b e = e
 
 -- the place of a name is where it stands
 pub place_distinct : (ns : List Bytes) → are_distinct ns ≡ true → (i : ℕ) (w : Bytes)
-    → slice_get ns i ≡ Some w → i ≡ place_of w ns
+    → slice_get ns i ≡ Some w → i ≡ index_of w ns
 place_distinct [] d zero w e = absurd (let q : None ≡ Some w = e in cc)
 place_distinct [] d (suc i) w e = absurd (let q : None ≡ Some w = e in cc)
 place_distinct (n ∷ ns) d zero w e =
-    sym (ap (λ b. elim b [ true ↦ 0 | false ↦ suc (place_of w ns) ])
+    sym (ap (λ b. elim b [ true ↦ 0 | false ↦ suc (index_of w ns) ])
     (ap (bytes_eq w) (list_head e) ∙ itself w))
 place_distinct (n ∷ ns) d (suc i) w e =
     by (bytes_eq w n) refl (place_distinct ns (others_too (is_in n ns) (are_distinct ns) d) i w e)
   where
-    by : (b : Bool) → bytes_eq w n ≡ b → i ≡ place_of w ns
-        → suc i ≡ elim b [ true ↦ 0 | false ↦ suc (place_of w ns) ]
+    by : (b : Bool) → bytes_eq w n ≡ b → i ≡ index_of w ns
+        → suc i ≡ elim b [ true ↦ 0 | false ↦ suc (index_of w ns) ]
     by true s r =
         absurd (true≢false
         (sym (get_in ns i w e) ∙ ap (λ x. is_in x ns) (same_word w n s)

@@ -16,7 +16,8 @@ use Rattle.mm_database.specs.Kept.{AreKept}
 use Rattle.mm_database.specs.declared.reading.Reading.{Reading}
 use Rattle.mm_database.specs.declared.found.Found.{Found}
 use Rattle.mm_database.specs.declared.listed.Listed.{Listed}
-pub use Rattle.mm_database.specs.Kept.{is_labelled_kind, last_place}
+pub use Rattle.mm_database.specs.Kept.{last_place}
+pub use Rattle.mm_outline.specs.Parts.{is_labelled_kind}
 pub use Rattle.mm_database.specs.Kinds.{kind_of}
 
 -- A text; its statements up to the first malformed or unlawful one, as they were read and as they

@@ -1,23 +1,13 @@
 -- The words of statements that are needed again.
-use Rattle.std.specs.Prelude.{◌≡◌, ℕ, ◌+◌, ◌-◌, Bool, true, false, List, [], ◌∷◌, ◌++◌, length}
+use Rattle.std.specs.Prelude.{◌≡◌, ℕ, ◌+◌, ◌-◌, List, [], ◌∷◌, ◌++◌, length}
 use Rattle.std.specs.Prelude.{slice_get, slice_index_or, slice_range, if◌then◌else◌}
 use Rattle.std.specs.Prelude.{None, Some}
 use Rattle.mm_spec.specs.Text.{Token}
 use Rattle.mm_spec.specs.Statement.{Statement, constants, variables, disjoint, floating, essential}
 use Rattle.mm_spec.specs.Statement.{axiomatic, provable, opening, closing, label_of, proof_of}
 use Rattle.mm_spec.specs.declared.Word.{Word}
-use Rattle.mm_outline.specs.Parts.{nth_word, as_tokens, AreWithin}
-use Rattle.mm_outline.specs.declared.parts.Kind.{Kind}
-use Rattle.mm_outline.specs.declared.parts.Kind.TheVariants as kind
+use Rattle.mm_outline.specs.Parts.{nth_word, as_tokens, is_labelled_kind, AreWithin}
 use Rattle.mm_outline.specs.declared.parts.Outline.{Outline}
-
--- the kinds of statements that have a label, and so a typecode
-abbrev pub is_labelled_kind : Kind → Bool
-is_labelled_kind kind.Floating = true
-is_labelled_kind kind.Essential = true
-is_labelled_kind kind.Axiom = true
-is_labelled_kind kind.Theorem = true
-is_labelled_kind _ = false
 
 abbrev pub label_word : List Word → Outline → List Word
 label_word ws o = if is_labelled_kind o.kind then nth_word ws (o.keyword - 1) ∷ [] else []

@@ -25,7 +25,6 @@ ghost use Rattle.mm_database.specs.Kinds.{is_axiom_kind, is_theorem_kind};
 use crate::disjoint_index::are_together;
 use crate::found::Found;
 use crate::frames::Frame;
-use crate::kept::has_label;
 use crate::near::are_together_near;
 use crate::reading::Reading;
 use mm_outline::parts::Kind;
@@ -143,7 +142,7 @@ impl<'a, A: Allocator> Database<'a, A> {
             ≡ option_map (λ t. t.word)
             (option_and_then label_of (slice_get self.now.statements statement)) }
     {
-        if has_label(self.read.statements.kind(statement)) {
+        if self.read.statements.kind(statement).has_label() {
             let word = self.found.kept.get(statement as usize)[0];
             Some(word.bytes(self.text()))
         } else {
@@ -185,7 +184,7 @@ impl<'a, A: Allocator> Database<'a, A> {
         ensures typecode { result ≡ typecode_of self.now.statements statement }
         ensures known { IfSome result (λ s. s < length (symbol_names self.now.statements)) }
     {
-        if has_label(self.kind(statement)) {
+        if self.kind(statement).has_label() {
             self.formula(statement).first().copied()
         } else {
             None
@@ -232,6 +231,7 @@ impl<'a, A: Allocator> Database<'a, A> {
             ≡ mandatory_hypotheses self.now.statements assertion }
         ensures pairs { map (λ p. pair p.0 p.1) result.now.pairs.items
             ≡ mandatory_pairs self.now.statements assertion }
+        ensures few { length self.now.statements < 2 ^ 31 }
     {
         self.found.beside.frames.of(assertion)
     }
@@ -275,6 +275,7 @@ impl<'a, A: Allocator> Database<'a, A> {
     pub fn theorems(&self) -> &[u32]
         ensures theorems { result.now ≡ theorems self.now.statements }
         ensures few { length self.now.statements < 2 ^ 31 }
+        ensures complete { AreComplete self.now.statements }
     {
         self.found.listed.theorems.as_slice()
     }

@@ -8,7 +8,6 @@ pub mod database;
 pub mod disjoint_index;
 pub mod found;
 pub mod frames;
-pub mod kept;
 pub mod listed;
 pub mod name;
 pub mod names;

@@ -4,7 +4,7 @@ ghost use Rattle.std.specs.Prelude.{◌≡◌, ◌<◌, OnOk, IfOk, IfSome, fals
 ghost use Rattle.std.specs.Prelude.{get_or};
 ghost use Rattle.std.specs.Prelude.{ℕ, List, [], is_some, Some, if◌then◌else◌, bytes_eq};
 ghost use Rattle.std.specs.Option.{option_map};
-ghost use Rattle.mm_spec.specs.Frame.{place_of};
+ghost use Rattle.mm_spec.specs.Frame.{index_of};
 ghost use Rattle.mm_database.specs.Names.{find, known_names, names_of, with_name};
 ghost use Rattle.mm_database.specs.Names.{is_variable_in};
 
@@ -207,7 +207,7 @@ impl<'a, A: Allocator + Copy> NameTable<'a, A> {
     /// Returns the number of the guessed symbol and the symbol, if the guess is right.
     #[inline(always)]
     fn guessed(&self, word: &[u8]) -> Option<(usize, &Symbol<'a>)>
-        ensures number { IfSome result (λ p. p.0 ≡ place_of word.now (names_of self.now.symbols)) }
+        ensures number { IfSome result (λ p. p.0 ≡ index_of word.now (names_of self.now.symbols)) }
         ensures symbol { IfSome result (λ p. Some p.1.now ≡ find self.now.symbols word.now) }
     {
         let guess = *self.guesses.get(guess_of(word))?;
@@ -231,7 +231,7 @@ impl<'a, A: Allocator + Copy> NameTable<'a, A> {
     /// the word isn't a symbol, returns the count of symbols and `None`.
     #[inline(always)]
     pub fn numbered(&self, word: &[u8]) -> (usize, Option<Symbol<'a>>)
-        ensures number { result.0 ≡ place_of word.now (names_of self.now.symbols) }
+        ensures number { result.0 ≡ index_of word.now (names_of self.now.symbols) }
         ensures symbol { result.1 ≡ find self.now.symbols word.now }
     {
         let (number, symbol) = match self.guessed(word) {
@@ -246,7 +246,7 @@ impl<'a, A: Allocator + Copy> NameTable<'a, A> {
 
     /// Returns the same as `numbered`, with the symbol borrowed. Finds it by the word's hash.
     fn looked_up(&self, word: &[u8]) -> (usize, Option<&Symbol<'a>>)
-        ensures number { result.0 ≡ place_of word.now (names_of self.now.symbols) }
+        ensures number { result.0 ≡ index_of word.now (names_of self.now.symbols) }
         ensures symbol { option_map (λ s. s.now) result.1 ≡ find self.now.symbols word.now }
     {
         if word.len() > self.longest_symbol {

@@ -19,7 +19,7 @@ use Rattle.mm_spec.specs.Lawful.{scope_faults, least, is_typed, floating_faults,
 use Rattle.mm_spec.specs.Lawful.{when, is_typed_otherwise}
 use Rattle.mm_spec.specs.declared.Fault.{Fault}
 use Rattle.mm_spec.specs.declared.Code.TheVariants.{BadFloating, TypedBefore, OtherTypecode}
-use Rattle.mm_spec.specs.Frame.{symbol_names, place_of, is_variable_number, is_floating, formula_at}
+use Rattle.mm_spec.specs.Frame.{symbol_names, index_of, is_variable_number, is_floating, formula_at}
 use Rattle.mm_spec.specs.Frame.{formula_of}
 use Rattle.mm_spec.proofs.FindsLaw.{range_any}
 use Rattle.mm_spec.proofs.FaultlessLaw.{append_none, least_none}
@@ -29,15 +29,15 @@ use Rattle.mm_outline.proofs.FaultlessLaw.{floating_new}
 use Rattle.mm_outline.proofs.AmongLaw.{typed_in, among_active}
 
 -- a word that has a place is there
-pub place_get : (w : Bytes) (ws : List Bytes) → place_of w ws < length ws
-    → slice_get ws (place_of w ws) ≡ Some w
+pub place_get : (w : Bytes) (ws : List Bytes) → index_of w ws < length ws
+    → slice_get ws (index_of w ws) ≡ Some w
 place_get w [] h = absurd (omega arith)
 place_get w (v ∷ vs) h = by (bytes_eq w v) refl h (place_get w vs)
   where
     by : (b : Bool) → bytes_eq w v ≡ b
-        → (elim b [ true ↦ 0 | false ↦ suc (place_of w vs) ]) < length (v ∷ vs)
-        → (place_of w vs < length vs → slice_get vs (place_of w vs) ≡ Some w)
-        → slice_get (v ∷ vs) (elim b [ true ↦ 0 | false ↦ suc (place_of w vs) ]) ≡ Some w
+        → (elim b [ true ↦ 0 | false ↦ suc (index_of w vs) ]) < length (v ∷ vs)
+        → (index_of w vs < length vs → slice_get vs (index_of w vs) ≡ Some w)
+        → slice_get (v ∷ vs) (elim b [ true ↦ 0 | false ↦ suc (index_of w vs) ]) ≡ Some w
     by true e h r = ap Some (sym ((bytes_eq-Decides w v).0 e))
     by false e h r = r (omega arith)
 
@@ -56,7 +56,7 @@ pub record IsFloat (db : List Statement) (k v : ℕ) : Type 0 where
   pub variable : Token
   pub dot : ℕ
   pub is : slice_get db k ≡ Some (floating label keyword (typecode ∷ variable ∷ []) dot)
-  pub number : place_of variable.word (symbol_names db) ≡ v
+  pub number : index_of variable.word (symbol_names db) ≡ v
   pub untyped : is_typed (names_before db k) variable.word ≡ false
   pub constant : is_in typecode.word (flat_map constants_of (take k db)) ≡ true
 
@@ -167,19 +167,19 @@ module _ (db : List Statement) (sound : IsSound db) where
           (law k h (floating l a (c ∷ []) d) e)).1 in
           cc)
       by (Some (floating l a (c ∷ x ∷ xs) d)) e t =
-          let v = place_of x.word (symbol_names db) in let is = ap (typed_of db) e in
+          let v = index_of x.word (symbol_names db) in let is = ap (typed_of db) e in
           (v, is, typed_float k v h is)
 
   module _ (k v : ℕ) (h : k < length db) (f : IsFloat db k v) where
-    pub formula_is : formula_at db k ≡ place_of f.typecode.word (symbol_names db) ∷ v ∷ []
+    pub formula_is : formula_at db k ≡ index_of f.typecode.word (symbol_names db) ∷ v ∷ []
     formula_is =
         ap (λ o. flat_map (formula_of db) (list_at o)) f.is
-        ∙ ap (λ x. place_of f.typecode.word (symbol_names db) ∷ x ∷ []) f.number
+        ∙ ap (λ x. index_of f.typecode.word (symbol_names db) ∷ x ∷ []) f.number
 
     pub floating_is : list_any is_floating (list_at (slice_get db k)) ≡ true
     floating_is = ap (λ o. list_any is_floating (list_at o)) f.is
 
-    typecode_below : place_of f.typecode.word (symbol_names db) < length (symbol_names db)
+    typecode_below : index_of f.typecode.word (symbol_names db) < length (symbol_names db)
     typecode_below =
         subst (λ (xs : List ℕ). get_or xs 0 0 < length (symbol_names db)) formula_is
         (sound.below k h 0 0
@@ -192,7 +192,7 @@ module _ (db : List Statement) (sound : IsSound db) where
         (subst (λ (xs : List ℕ). 1 < length xs) (sym formula_is) (omega arith)))
 
     -- its typecode is no variable
-    pub typecode_constant : is_variable_number db (place_of f.typecode.word (symbol_names db))
+    pub typecode_constant : is_variable_number db (index_of f.typecode.word (symbol_names db))
         ≡ false
     typecode_constant =
         ap (λ o. elim o [ None ↦ false | Some w ↦ is_in w (flat_map variables_of db) ])

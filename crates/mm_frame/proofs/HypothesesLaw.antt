@@ -13,7 +13,7 @@ use Rattle.mm_spec.specs.Text.{is_in}
 use Rattle.mm_spec.specs.Derivation.{is_member}
 use Rattle.mm_spec.specs.Statement.{Statement}
 use Rattle.mm_spec.specs.Scope.{statement_at, active, is_active, variables_of, stays}
-use Rattle.mm_spec.specs.Frame.{symbol_names, place_of, is_variable_number, is_essential}
+use Rattle.mm_spec.specs.Frame.{symbol_names, index_of, is_variable_number, is_essential}
 use Rattle.mm_spec.specs.Frame.{is_floating, active_of, formula_at, mandatory_variables}
 use Rattle.mm_spec.specs.Frame.{mandatory_hypotheses}
 use Rattle.mm_spec.proofs.BoolLaw.{same_tests}
@@ -143,7 +143,7 @@ module _ (db : List Statement) (k : ℕ) where
         let f = floating_typed db sound j n t in
         let v = f.0 in
         let x = f.2 in
-        let c = place_of x.typecode.word (symbol_names db) in
+        let c = index_of x.typecode.word (symbol_names db) in
         let both =
         sym (ap (list_any (is_member (mandatory_variables db k))) (formula_is db sound j v n x))
         ∙ m in
@@ -187,7 +187,7 @@ module _ (db : List Statement) (k : ℕ) where
         let n : j < length db = omega arith in
         let at : typed_at db j ≡ Some v = ap (typed_at db) same ∙ s.1 in
         let x = typed_float db sound j v n at in
-        let c = place_of x.typecode.word (symbol_names db) in (
+        let c = index_of x.typecode.word (symbol_names db) in (
           float_active db sound j v n x k l ∙ ap (λ i. stays db i k) same
               ∙ (and_parts (not (nat_eq t never)) (stays db t k) rest).1,
           floating_is db sound j v n x,

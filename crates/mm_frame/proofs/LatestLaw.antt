@@ -17,7 +17,7 @@ use Rattle.mm_spec.specs.Frame.{active_of}
 use Rattle.mm_spec.proofs.BoolLaw.{same_tests}
 use Rattle.mm_spec.proofs.MemberLaw.{member_push, IsLocalTest, active_member}
 use Rattle.mm_outline.specs.Blocks.{never}
-use Rattle.mm_frame.specs.Latest.{is_staying, IsCandidate, IsLatest, IsWalked}
+use Rattle.mm_frame.specs.Latest.{is_staying, IsCandidate, IsLatest}
 use Rattle.mm_frame.proofs.NestedLaw.{stays_earlier, stays_nested}
 
 -- how far the search still has to go
@@ -126,7 +126,14 @@ module _ (test : Statement → Bool) (db : List Statement) where
 
   -- ---- the walk
 
-  pub walked_start : (k last : ℕ) → IsLatest test db k last → IsWalked test db k [] last
+  -- the list has only ones that are active at k, and all of these that are after `last`
+  pub record IsWalked (k : ℕ) (xs : List ℕ) (last : ℕ) : Type 0 where
+    pub found : last ≢ never → (last < k) × (is_staying test db last k ≡ true)
+    pub only : (i : ℕ) → is_member xs i ≡ true → (i < k) × (is_staying test db i k ≡ true)
+    pub all : (i : ℕ) → i < k → is_staying test db i k ≡ true
+        → (is_member xs i ≡ true) ⊎ ((last ≢ never) × (i ≤ last))
+
+  pub walked_start : (k last : ℕ) → IsLatest test db k last → IsWalked k [] last
   walked_start k last x = record {
     found = x.found;
     only = λ i e. absurd (true≢false (sym e));
@@ -140,8 +147,8 @@ module _ (test : Statement → Bool) (db : List Statement) where
       by i h e (inr n) (inr l) = (n, l)
 
   pub walked_next : (k : ℕ) (xs : List ℕ) (last next : ℕ) → k ≤ length db
-      → IsWalked test db k xs last → last ≢ never → IsLatest test db last next
-      → IsWalked test db k (xs ++ last ∷ []) next
+      → IsWalked k xs last → last ≢ never → IsLatest test db last next
+      → IsWalked k (xs ++ last ∷ []) next
   walked_next k xs last next few w ne x = record {
     found =
         λ n. let f = x.found n in let l = here.0 in (
@@ -193,7 +200,7 @@ module _ (test : Statement → Bool) (db : List Statement) where
               inl (member_push xs last i ∙ ap (λ b. is_member xs i || b) (eq-eqb i last same)
               ∙ or-true (is_member xs i))
 
-  pub walked_end : IsLocalTest test → (k : ℕ) (xs : List ℕ) (last : ℕ) → IsWalked test db k xs last
+  pub walked_end : IsLocalTest test → (k : ℕ) (xs : List ℕ) (last : ℕ) → IsWalked k xs last
       → last ≡ never → (i : ℕ) → is_member xs i ≡ is_member (active_of test db k) i
   walked_end local k xs last w e i =
       same_tests (is_member xs i) (nat_lt i k && is_staying test db i k)

@@ -4,7 +4,6 @@ use Rattle.std.specs.Prelude.{slice_index, ◌⊎◌}
 use Rattle.std.specs.List.{list_any}
 use Rattle.mm_spec.specs.Statement.{Statement}
 use Rattle.mm_spec.specs.Scope.{statement_at, stays}
-use Rattle.mm_spec.specs.Derivation.{is_member}
 use Rattle.mm_outline.specs.Blocks.{never}
 
 module _ (test : Statement → Bool) (db : List Statement) where
@@ -26,10 +25,3 @@ module _ (test : Statement → Bool) (db : List Statement) where
   pub record AreLatest (lasts : List ℕ) : Type 0 where
     pub count : length lasts ≡ length db + 1
     pub each : (k : ℕ) → k ≤ length db → IsLatest k (slice_index lasts k)
-
-  -- the list has only ones that are active at k, and all of these that are after `last`
-  pub record IsWalked (k : ℕ) (xs : List ℕ) (last : ℕ) : Type 0 where
-    pub found : last ≢ never → (last < k) × (is_staying last k ≡ true)
-    pub only : (i : ℕ) → is_member xs i ≡ true → (i < k) × (is_staying i k ≡ true)
-    pub all : (i : ℕ) → i < k → is_staying i k ≡ true
-        → (is_member xs i ≡ true) ⊎ ((last ≢ never) × (i ≤ last))

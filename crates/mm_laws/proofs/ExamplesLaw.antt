@@ -177,8 +177,7 @@ refusal_13 = refl
 
 -- the whole report in a form
 abbrev whole : Form → Request
-whole form =
-    record { only = None; choice = All; form = form; essential = false; with_open = false }
+whole form = record plain { form = form }
 
 report_1 : report (whole One) None (codes "wi" ∷ codes "ax-1" ∷ [])
     (record { label = codes "wi2"; marks = true ∷ false ∷ [] } ∷ [])

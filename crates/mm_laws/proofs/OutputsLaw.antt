@@ -6,19 +6,13 @@ use Rattle.mm_spec.specs.Text.{token, fault}
 use Rattle.mm_spec.specs.Statement.{Statement, constants, axiomatic, opening, closing}
 use Rattle.mm_spec.specs.Lawful.{scope_fault}
 use Rattle.mm_spec.specs.Report.{line}
-use Rattle.mm_spec.specs.declared.Choice.TheVariants.{All}
-use Rattle.mm_spec.specs.declared.Form.TheVariants.{One}
-use Rattle.mm_spec.specs.Request.{Request}
+use Rattle.mm_spec.specs.Request.{plain}
 use Rattle.mm_spec.specs.Lexed.{lexed_of}
 use Rattle.mm_spec.specs.Output.{IsRead, AreValid, IsOutput}
 use Rattle.mm_spec.specs.declared.Code.TheVariants.{ConstantInBlock}
 use Rattle.mm_laws.proofs.ReaderLaw.{statements}
 use Rattle.mm_spec.proofs.LongestLaw.{is_longest}
 use Rattle.mm_spec.proofs.StopsLaw.{no_text_fault}
-
--- the whole report, by all nodes
-abbrev whole : Request
-whole = record { only = None; choice = All; form = One; essential = false; with_open = false }
 
 -- ---- a `$c` in a block
 
@@ -50,7 +44,7 @@ front_read = record {
   stops = ((λ e. cc), refl);
 }
 
-refused : IsOutput faulty whole (line (codes "refused 1:12 E11"))
+refused : IsOutput faulty plain (line (codes "refused 1:12 E11"))
 unfolding digits
 refused =
     inl (
@@ -90,7 +84,7 @@ db_read = record {
   stops = no_text_fault 18 (lexed_of sound) refl;
 }
 
-reported : IsOutput sound whole
+reported : IsOutput sound plain
     (flat_map line
     (codes "mmdepend 1" ∷ codes "axioms 1" ∷ codes "theorems 0" ∷ codes "matrix" ∷ codes "counts"
     ∷ codes "usage" ∷ codes "ax:0:" ∷ codes "end" ∷ []))

@@ -7,7 +7,7 @@ use Rattle.std.proofs.lemmas.List.{take-append-le, length-drop, length-take-le}
 use Rattle.std.proofs.lemmas.List.Sums.{sum_by-cons}
 use Rattle.std.proofs.lemmas.Grind.{get_or_default_zero}
 use Rattle.std.proofs.Math.Seq.{take-add, drop-drop, take-length}
-use Rattle.mm_lists.specs.Lists.{joined, cut_at, AreEnds, AreJoined}
+use Rattle.mm_lists.specs.Lists.{joined, cut, cut_at, with_end, AreEnds, ArePlaces, AreJoined}
 
 -- what stands between two places
 pub record IsPart {X : Type 0} (all : List X) (from to : ℕ) (part : List X) : Type 0 where
@@ -91,49 +91,75 @@ module _ {X : Type 0} where
       cut_between e ends all i j h.1 (omega arith) (omega arith)
       ∙ sym (ap (λ n. joined (take n (drop i (cut_at e ends all)))) n)
 
-  module _ (ends : List ℕ) (all : List X) (lists : List (List X))
-      (h : AreEnds 0 ends (length all)) (e : cut_at 0 ends all ≡ lists) where
-    count : length lists ≡ length ends
-    count = sym (ap length e) ∙ length_cut 0 ends all
+  pub index_within : (places : List ℕ) (all : List X) (lists : List (List X))
+      → cut places all ≡ lists → (i : ℕ) → i < length lists → i + 1 < length places
+  index_within [] all lists e i l = let c = ap length e in absurd (omega (arith, c, l))
+  index_within (from ∷ ends) all lists e i l =
+      let c = ap length e in let k = length_cut from ends all in omega (arith, c, k, l)
 
-    pub index_within : (i : ℕ) → i < length lists → i < length ends
-    index_within i l = let c = count in omega (arith, c, l)
+  pub one_part : (places : List ℕ) (all : List X) (lists : List (List X))
+      → ArePlaces places (length all) → cut places all ≡ lists → (i from to : ℕ)
+      → i < length lists → from ≡ get_or places i from → to ≡ get_or places (i + 1) to
+      → IsPart all from to (get_or lists i [])
+  one_part [] all lists h e i from to there is_from is_to =
+      let c = ap length e in absurd (omega (arith, c, there))
+  one_part (first ∷ ends) all lists h e i from to there is_from is_to =
+      let l = index_within (first ∷ ends) all lists e i there in
+      let p : from ≡ get_or (first ∷ ends) i 0 =
+      is_from ∙ get_or_default_zero (first ∷ ends) i from (omega (arith, l)) in
+      let next : i + 1 ≡ suc i = omega arith in
+      let q : to ≡ get_or ends i 0 =
+      is_to ∙ get_or_default_zero (first ∷ ends) (i + 1) to l
+      ∙ ap (λ n. get_or (first ∷ ends) n 0) next in
+      record {
+        order =
+            let r =
+            starts_rise first ends (length all) i (suc i) h.1 (omega arith) (omega (arith, l)) in
+            omega (arith, r, p, q);
+        within =
+            let r = start_within first ends (length all) (suc i) h.1 (omega (arith, l)) in
+            omega (arith, r, q);
+        is =
+            ap₂ (slice_range all) p q ∙ cut_one first ends all i (omega (arith, l))
+            ∙ ap (λ (ls : List (List X)). get_or ls i []) e;
+      }
 
-    pub start_there : (i : ℕ) → i ≤ length lists → i ≤ length ends
-    start_there i l = let c = count in omega (arith, c, l)
+  pub place_within : (places : List ℕ) (all : List X) (lists : List (List X))
+      → cut places all ≡ lists → (i j : ℕ) → i < j → j ≤ length lists → j < length places
+  place_within places all lists e i zero o l = absurd (omega (arith, o))
+  place_within places all lists e i (suc j) o l =
+      let k = index_within places all lists e j (omega (arith, l)) in omega (arith, k)
 
-    pub one_part : (i from to : ℕ) → i < length lists → from ≡ get_or (0 ∷ ends) i 0
-        → to ≡ get_or ends i to → IsPart all from to (get_or lists i [])
-    one_part i from to there is_from is_to =
-        let l = index_within i there in
-        let q : to ≡ get_or ends i 0 = is_to ∙ get_or_default_zero ends i to l in
-        record {
-          order =
-              let r = starts_rise 0 ends (length all) i (suc i) h (omega arith) (omega arith) in
-              omega (arith, r, is_from, q);
-          within =
-              let r = start_within 0 ends (length all) (suc i) h (omega arith) in
-              omega (arith, r, q);
-          is =
-              ap₂ (slice_range all) is_from q ∙ cut_one 0 ends all i l
-              ∙ ap (λ (ls : List (List X)). get_or ls i []) e;
-        }
+  pub parts_between : (places : List ℕ) (all : List X) (lists : List (List X))
+      → ArePlaces places (length all) → cut places all ≡ lists → (i j from to : ℕ) → i < j
+      → j ≤ length lists → from ≡ get_or places i from → to ≡ get_or places j to
+      → IsPart all from to (joined (slice_range lists i j))
+  parts_between [] all lists h e i j from to order within is_from is_to =
+      let c = ap length e in absurd (omega (arith, c, order, within))
+  parts_between (first ∷ ends) all lists h e i j from to order within is_from is_to =
+      let l = place_within (first ∷ ends) all lists e i j order within in
+      let p : from ≡ get_or (first ∷ ends) i 0 =
+      is_from ∙ get_or_default_zero (first ∷ ends) i from (omega (arith, l, order)) in
+      let q : to ≡ get_or (first ∷ ends) j 0 =
+      is_to ∙ get_or_default_zero (first ∷ ends) j to l in
+      record {
+        order =
+            let r =
+            starts_rise first ends (length all) i j h.1 (omega (arith, order))
+            (omega (arith, l)) in
+            omega (arith, r, p, q);
+        within =
+            let r = start_within first ends (length all) j h.1 (omega (arith, l)) in
+            omega (arith, r, q);
+        is =
+            ap₂ (slice_range all) p q
+            ∙ cut_between first ends all i j h.1 (omega (arith, order)) (omega (arith, l))
+            ∙ ap (λ (ls : List (List X)). joined (slice_range ls i j)) e;
+      }
 
-    pub parts_between : (i j from to : ℕ) → i ≤ j → j ≤ length lists
-        → from ≡ get_or (0 ∷ ends) i 0 → to ≡ get_or (0 ∷ ends) j 0
-        → IsPart all from to (joined (slice_range lists i j))
-    parts_between i j from to order within is_from is_to =
-        let l = start_there j within in
-        record {
-          order =
-              let r = starts_rise 0 ends (length all) i j h order l in
-              omega (arith, r, is_from, is_to);
-          within =
-              let r = start_within 0 ends (length all) j h l in omega (arith, r, is_to);
-          is =
-              ap₂ (slice_range all) is_from is_to ∙ cut_between 0 ends all i j h order l
-              ∙ ap (λ (ls : List (List X)). joined (slice_range ls i j)) e;
-        }
+  pub none_between : (lists : List (List X)) (i : ℕ) → [] ≡ joined (slice_range lists i i)
+  none_between lists i =
+      let n : i - i ≡ 0 = omega arith in sym (ap (λ n. joined (take n (drop i lists))) n)
 
   -- ---- one list more
 
@@ -171,24 +197,30 @@ module _ {X : Type 0} where
       (range_left xs ys from e (first_within e ends (length xs) h.1))
       (cut_more e ends xs ys h.1)
 
-  pub more_joined : (lists : List (List X)) (list all : List X) (ends : List ℕ)
-      → AreJoined lists all ends
-      → AreJoined (lists ++ list ∷ []) (all ++ list) (ends ++ length (all ++ list) ∷ [])
-  more_joined lists list all ends h =
-      let n = sym (length-append all list) in
-      record {
+  pub more_joined : (lists : List (List X)) (list all : List X) (places : List ℕ)
+      → AreJoined lists all places
+      → AreJoined (lists ++ list ∷ []) (all ++ list) (with_end places (length (all ++ list)))
+  more_joined lists list all places h =
+      rw (length-append all list) (go places h.order h.are)
+    where
+      go : (places : List ℕ) → ArePlaces places (length all) → cut places all ≡ lists
+          → AreJoined (lists ++ list ∷ []) (all ++ list)
+          (with_end places (length all + length list))
+      go [] order are = record {
+        order = rw (length-append all list) (refl, ends_more 0 [] (length all) (length list) order);
+        are = cut_more 0 [] all list order ∙ ap (λ ls. ls ++ list ∷ []) are;
+      }
+      go (first ∷ ends) order are = record {
         order =
-            subst (λ n. AreEnds 0 (ends ++ n ∷ []) n) n
-            (ends_more 0 ends (length all) (length list) h.order);
-        are =
-            ap (λ n. cut_at 0 (ends ++ n ∷ []) (all ++ list)) (sym n)
-            ∙ cut_more 0 ends all list h.order ∙ ap (λ ls. ls ++ list ∷ []) h.are;
+            rw (length-append all list)
+            (order.0, ends_more first ends (length all) (length list) order.1);
+        are = cut_more first ends all list order.1 ∙ ap (λ ls. ls ++ list ∷ []) are;
       }
 
   -- no lists
-  pub none_joined : (all : List X) (ends : List ℕ) → all ≡ [] → ends ≡ []
-      → AreJoined [] all ends
-  none_joined all ends a e = rw (a, e) (record { order = refl; are = refl })
+  pub none_joined : (all : List X) (places : List ℕ) → all ≡ [] → places ≡ []
+      → AreJoined [] all places
+  none_joined all places a e = rw (a, e) (record { order = refl; are = refl })
 
   -- ---- how many elements there are together, after the place where the first list begins
 
@@ -205,13 +237,15 @@ module _ {X : Type 0} where
       let order = h.0 in
       omega (arith, rest, first, both, order)
 
-  pub count_is : (ends : List ℕ) (all : List X) → AreEnds 0 ends (length all)
-      → length all ≡ sum_by length (cut_at 0 ends all)
-  count_is ends all h = let c = all_counted 0 ends all h in omega (arith, c)
+  pub count_is : (places : List ℕ) (all : List X) → ArePlaces places (length all)
+      → length all ≡ sum_by length (cut places all)
+  count_is [] all h = sym h
+  count_is (first ∷ ends) all h =
+      let c = all_counted first ends all h.1 in let b = h.0 in omega (arith, c, b)
 
 -- what has been joined of all elements
 pub joined_all : {X Y : Type 0} (f : Y → List X) (ys : List Y) (i : ℕ) (all : List X)
-    → (ends : List ℕ) → length ys ≤ i → AreJoined (map f (take i ys)) all ends
-    → AreJoined (map f ys) all ends
-joined_all f ys i all ends h j =
-    subst (λ (zs : List _). AreJoined (map f zs) all ends) (take_all i ys h) j
+    → (places : List ℕ) → length ys ≤ i → AreJoined (map f (take i ys)) all places
+    → AreJoined (map f ys) all places
+joined_all f ys i all places h j =
+    subst (λ (zs : List _). AreJoined (map f zs) all places) (take_all i ys h) j

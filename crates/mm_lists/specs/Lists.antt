@@ -1,5 +1,5 @@
 -- How lists are concatenated into one list.
-use Rattle.std.specs.Prelude.{◌≡◌, ℕ, ◌≤◌, List, [], ◌∷◌, length, flat_map, slice_range}
+use Rattle.std.specs.Prelude.{◌≡◌, ℕ, ◌≤◌, List, [], ◌∷◌, ◌++◌, length, flat_map, slice_range}
 
 module _ {X : Type 0} where
   -- the lists one after the other
@@ -11,13 +11,28 @@ module _ {X : Type 0} where
   cut_at from [] all = []
   cut_at from (end ∷ ends) all = slice_range all from end ∷ cut_at end ends all
 
+  -- the lists, each from its place up to the next
+  abbrev pub cut : List ℕ → List X → List (List X)
+  cut [] all = []
+  cut (from ∷ ends) all = cut_at from ends all
+
 -- no place is less than the one before it, and the last is the length of the one list
 abbrev pub AreEnds : ℕ → List ℕ → ℕ → Type 0
 AreEnds from [] len = from ≡ len
 AreEnds from (end ∷ ends) len = (from ≤ end) × AreEnds end ends len
 
--- `all` is the lists one after the other, and `ends` are the places where they end
+-- a 0, and then where each list ends; or nothing, where there are no lists yet
+abbrev pub ArePlaces : List ℕ → ℕ → Type 0
+ArePlaces [] len = 0 ≡ len
+ArePlaces (from ∷ ends) len = (from ≡ 0) × AreEnds from ends len
+
+-- the places once one list more ends
+abbrev pub with_end : List ℕ → ℕ → List ℕ
+with_end [] end = 0 ∷ end ∷ []
+with_end (place ∷ places) end = place ∷ places ++ end ∷ []
+
+-- `all` is the lists one after the other, between these places
 pub record AreJoined {X : Type 0} (lists : List (List X)) (all : List X)
-    (ends : List ℕ) : Type 0 where
-  pub order : AreEnds 0 ends (length all)
-  pub are : cut_at 0 ends all ≡ lists
+    (places : List ℕ) : Type 0 where
+  pub order : ArePlaces places (length all)
+  pub are : cut places all ≡ lists

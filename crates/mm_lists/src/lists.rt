@@ -1,64 +1,60 @@
 //! Lists, concatenated.
 
 ghost use Rattle.std.specs.Prelude.{◌≡◌, ◌<◌, ◌≤◌, ◌^◌, ◌++◌, ◌∷◌, [], OnOk, OnErr, length};
-ghost use Rattle.std.specs.Prelude.{slice_index, slice_index_or, slice_range, sum_by};
-ghost use Rattle.mm_lists.specs.Lists.{cut_at, joined, AreEnds};
+ghost use Rattle.std.specs.Prelude.{slice_index_or, slice_range, sum_by};
+ghost use Rattle.mm_lists.specs.Lists.{cut, joined, with_end, ArePlaces};
 
 use std::alloc::{AllocError, Allocator};
 use std::marker::Model;
 
-/// A growing row of lists. They are concatenated into one, with the place where each ends, so a
-/// short list costs no allocation of its own. A place has 32 bits.
+/// A growing row of lists. They are concatenated into one, so a short list costs no allocation of
+/// its own. `places` is a 0 and then where each list ends: so the place at a list's index is where
+/// it begins, and the next one where it ends. The first list brings the 0. A place has 32 bits.
 pub struct Lists<T, A: Allocator> {
     items: Vec<T, A>,
-    ends: Vec<u32, A>,
+    places: Vec<u32, A>,
 }
 
 /// Lets all fields go in one call, so that a proof has one step for it at each exit.
 impl<T: Drop, A: Allocator> Drop for Lists<T, A> {
     fn drop(self) {
-        let Self { items: _, ends: _ } = self;
+        let Self {
+            items: _,
+            places: _,
+        } = self;
     }
 }
 
 impl<T, A: Allocator> Model for Lists<T, A> {
     ghost use Rattle.std.specs.Prelude.{List, length};
-    ghost use Rattle.mm_lists.specs.Lists.{cut_at, AreEnds};
+    ghost use Rattle.mm_lists.specs.Lists.{cut, ArePlaces};
 
     ghost Value = { List (List T) };
 
-    ghost view = { λ l. cut_at 0 l.ends.items l.items.items };
+    ghost view = { λ l. cut l.places.items l.items.items };
 
-    ghost invariant = { λ l. AreEnds 0 l.ends.items (length l.items.items) };
+    ghost invariant = { λ l. ArePlaces l.places.items (length l.items.items) };
 }
 
-/// Notes that a list ends where these elements do. Fails only if out of memory, or of places, and
-/// then changes nothing.
+/// Notes that a list ends where these elements do, and if it is the first one, that it begins at 0.
+/// Fails only if out of memory, or of places, and then changes nothing.
 pub fn end_list<T, A: Allocator>(
     items: &Vec<T, A>,
-    ends: &mut Vec<u32, A>,
+    places: &mut Vec<u32, A>,
 ) -> Result<(), AllocError>
-    ensures ok { OnOk result (ends.new.items ≡ ends.old.items ++ length items.now.items ∷ []) }
-    ensures err { OnErr result (ends.new.items ≡ ends.old.items) }
+    ensures ok { OnOk result
+        (places.new.items ≡ with_end places.old.items (length items.now.items)) }
+    ensures err { OnErr result (places.new.items ≡ places.old.items) }
 {
     let Ok(end) = u32::try_from(items.len()) else {
         return Err(AllocError);
     };
-    ends.push(end)?;
-    Ok(())
-}
-
-/// Where the list with this index begins, and the one before it ends.
-#[inline(always)]
-fn start_of<A: Allocator>(ends: &Vec<u32, A>, index: usize) -> usize
-    requires { index ≤ length ends.now.items }
-    ensures { result ≡ slice_index (0 ∷ ends.now.items) index }
-{
-    if index == 0 {
-        0
+    if places.is_empty() {
+        places.extend_from_slice(&[0, end])?;
     } else {
-        ends[index - 1] as usize
+        places.push(end)?;
     }
+    Ok(())
 }
 
 /// The elements from place `from` up to, but not including, place `to`.
@@ -80,7 +76,7 @@ impl<T, A: Allocator> Lists<T, A> {
     {
         Lists {
             items: Vec::new(alloc),
-            ends: Vec::new(alloc),
+            places: Vec::new(alloc),
         }
     }
 
@@ -94,16 +90,16 @@ impl<T, A: Allocator> Lists<T, A> {
     {
         let mut room = Lists::new(alloc);
         let _ = room.items.reserve(items);
-        let _ = room.ends.reserve(lists);
+        let _ = room.places.reserve(lists.saturating_add(1));
         room
     }
 
-    /// The lists that end at these places.
-    pub fn from_ends(items: Vec<T, A>, ends: Vec<u32, A>) -> Self
-        requires { AreEnds 0 ends.items (length items.items) }
-        ensures { result ≡ cut_at 0 ends.items items.items }
+    /// The lists whose ends [`end_list`] noted in `places`.
+    pub fn from_ends(items: Vec<T, A>, places: Vec<u32, A>) -> Self
+        requires { ArePlaces places.items (length items.items) }
+        ensures { result ≡ cut places.items items.items }
     {
-        Lists { items, ends }
+        Lists { items, places }
     }
 
     /// How many elements the lists have together.
@@ -122,7 +118,7 @@ impl<T, A: Allocator> Lists<T, A> {
     {
         let before = self.items.len();
         self.items.extend_from_slice(list)?;
-        match end_list(&self.items, &mut self.ends) {
+        match end_list(&self.items, &mut self.places) {
             Ok(()) => Ok(()),
             Err(_) => {
                 self.items.truncate(before);
@@ -139,8 +135,8 @@ impl<T, A: Allocator> Lists<T, A> {
         ensures few { length result.now < 2 ^ 32 }
     {
         // The end first: then the beginning needs no test that the index is within.
-        let end = self.ends[index] as usize;
-        part(&self.items, start_of(&self.ends, index), end)
+        let end = self.places[index + 1] as usize;
+        part(&self.items, self.places[index] as usize, end)
     }
 
     /// The lists with indices from `from` up to, but not including, `to`, joined into one.
@@ -149,7 +145,14 @@ impl<T, A: Allocator> Lists<T, A> {
         requires within { to ≤ length self.now }
         ensures { result.now ≡ joined (slice_range self.now from to) }
     {
-        let begin = start_of(&self.ends, from);
-        part(&self.items, begin, start_of(&self.ends, to))
+        // Where there are no lists yet, there may be no places.
+        if from == to {
+            return &[];
+        }
+        part(
+            &self.items,
+            self.places[from] as usize,
+            self.places[to] as usize,
+        )
     }
 }

@@ -15,7 +15,7 @@ use Rattle.mm_spec.specs.Frame.{is_variable_number, formula_at, frame_at}
 use Rattle.mm_spec.specs.Citation.{context_at}
 use Rattle.mm_spec.specs.Laws.Stack.{found, same, pick, apply, step}
 use Rattle.mm_rule.specs.declared.rule.RuleSymbol.TheVariants.{Constant, Variable}
-use Rattle.mm_rule.specs.Rule.{first, parts_of, IsBelow, Compiled, IsCompiled}
+use Rattle.mm_rule.specs.Rule.{floating_index, parts_of, IsBelow, Compiled, IsCompiled}
 use Rattle.mm_machine.specs.State.{applied}
 use Rattle.mm_machine.proofs.RuleTestLaw.{length_all_parts}
 
@@ -56,7 +56,7 @@ module _ (db : List Statement) (t : ℕ) (hs : List Formula) (σ : Substitution)
   no_variables (s ∷ f) h =
       ap₂ (λ u v. u ++ v) (one (is_variable_number db s) h.0) (no_variables f h.1)
     where
-      one : (v : Bool) → IsBelow 0 (cond v (Variable (first db hs s)) (Constant s))
+      one : (v : Bool) → IsBelow 0 (cond v (Variable (floating_index db hs s)) (Constant s))
           → cond v (σ s) (s ∷ []) ≡ s ∷ []
       one true l = absurd (omega (arith, l))
       one false l = refl
@@ -84,7 +84,10 @@ module _ (db : List Statement) (t : ℕ) (c : Compiled) (rule : IsCompiled db c)
       let same : length c.pairs ≡ length frame.pairs =
       ap length rule.pairs_are
       ∙ length-map {B = ℕ × ℕ} frame.pairs
-      (λ (p : Pair). (first db frame.hypotheses p.low, first db frame.hypotheses p.high)) in
+      (λ (p : Pair). (
+        floating_index db frame.hypotheses p.low,
+        floating_index db frame.hypotheses p.high,
+      )) in
       nothing_in frame.pairs (omega (arith, few, same))
 
   below : AllByRecursion (IsBelow 0) (parts_of db frame.hypotheses f)

@@ -20,7 +20,7 @@ use Rattle.mm_spec.specs.Statement.{Statement}
 use Rattle.mm_spec.specs.Frame.{is_variable_number, frame_at}
 use Rattle.mm_spec.specs.Citation.{context_at}
 use Rattle.mm_machine.specs.Arena.{Arena, symbols_of, no_symbols, span_formula, IsIn}
-use Rattle.mm_rule.specs.Rule.{first, parts_of, part_count, all_parts, Compiled, IsCompiled}
+use Rattle.mm_rule.specs.Rule.{floating_index, parts_of, part_count, all_parts, Compiled, IsCompiled}
 use Rattle.mm_machine.specs.Replaced.{stands, replaced_part}
 use Rattle.mm_machine.specs.Replaced.{replaced}
 use Rattle.mm_machine.specs.State.{span_formulas, applied}
@@ -38,9 +38,10 @@ module _ (db : List Statement) (t : ℕ) (hs : List Formula) (xs : Arena) (es : 
   abbrev pub σ : Substitution
   σ = found (context_at db t) hs (span_formulas xs es)
 
-  pub stands_is : (x : ℕ) → IsBound (context_at db t) hs x → stands xs es (first db hs x) ≡ σ x
+  pub stands_is : (x : ℕ) → IsBound (context_at db t) hs x
+      → stands xs es (floating_index db hs x) ≡ σ x
   stands_is x b =
-      let j = first db hs x in
+      let j = floating_index db hs x in
       let below : j < length hs = first_below db hs x b in
       let here : IsIn xs (get_or es j no_symbols) =
       All-get_or (IsIn xs) es j no_symbols (omega (arith, below, count)) inside in
@@ -57,7 +58,7 @@ module _ (db : List Statement) (t : ℕ) (hs : List Formula) (xs : Arena) (es : 
   one_same (s ∷ f) b = ap₂ (λ u v. u ++ v) (go (is_variable_number db s) b.0) (one_same f b.1)
     where
       go : (v : Bool) → (IsTrue v → IsBound (context_at db t) hs s)
-          → replaced_part xs es (cond v (Variable (first db hs s)) (Constant s))
+          → replaced_part xs es (cond v (Variable (floating_index db hs s)) (Constant s))
           ≡ cond v (σ s) (s ∷ [])
       go true h = stands_is s (h refl)
       go false h = refl
@@ -73,7 +74,8 @@ module _ (db : List Statement) (t : ℕ) (hs : List Formula) (xs : Arena) (es : 
   pub disjoint_same : (pairs : List Pair)
       → AllByRecursion
       (λ p. IsBound (context_at db t) hs p.low × IsBound (context_at db t) hs p.high) pairs
-      → list_all cache (map (λ (p : Pair). (first db hs p.low, first db hs p.high)) pairs)
+      → list_all cache
+      (map (λ (p : Pair). (floating_index db hs p.low, floating_index db hs p.high)) pairs)
       ≡ list_all (λ p. are_all_disjoint (context_at db t) (σ p.low) (σ p.high)) pairs
   disjoint_same [] b = refl
   disjoint_same (p ∷ pairs) b =

@@ -5,7 +5,7 @@ ghost use Rattle.mm_machine.specs.DisjointCache.{AreDisjointAt, HasPair, KeepsPa
 ghost use Rattle.mm_rule.specs.Assertions.{is_assertion_at};
 
 use mm_database::{Database, Sym};
-use mm_rule::{pairs, put_number, zeros};
+use mm_rule::{pairs, put_number};
 use std::alloc::{AllocError, Allocator};
 use std::marker::Model;
 
@@ -43,7 +43,7 @@ impl<A: Allocator> DisjointCache<A> {
     {
         Ok(DisjointCache {
             pairs: Vec::new(alloc),
-            slots: zeros(alloc, PAIR_SLOTS)?,
+            slots: vec![in alloc; 0; PAIR_SLOTS]?,
         })
     }
 

@@ -19,7 +19,7 @@ use crate::disjoint_cache::DisjointCache;
 use crate::fill::fill;
 use crate::symbol_list::SymbolList;
 use mm_database::{Database, Sym};
-use mm_rule::{Rule, RuleSymbol, empty, formula, put_number, zeros};
+use mm_rule::{Rule, RuleSymbol, empty, formula, put_number};
 use mm_spec::FORMULA_LIMIT;
 use std::alloc::{AllocError, Allocator};
 use std::marker::Model;
@@ -116,7 +116,7 @@ impl<A: Allocator> Machine<A> {
         A: Copy,
         ensures { IfOk result (λ m. m ≡ machine_state [] [] [] width) }
     {
-        let slots = zeros(alloc, MARK_SLOTS)?;
+        let slots = vec![in alloc; 0; MARK_SLOTS]?;
         let mut short = Vec::with_capacity(alloc, MAX_SHORT_FORMULA)?;
         short.resize(MAX_SHORT_FORMULA, Sym::new(0))?;
         Ok(Machine {

@@ -1,6 +1,6 @@
 -- What the code's types stand for.
 use Rattle.std.specs.Prelude.{◌≡◌, ℕ, suc, ◌+◌, ◌-◌, ◌<◌, ◌≤◌, zero, List, []}
-use Rattle.std.specs.Prelude.{map, length, slice_range, get_or, All}
+use Rattle.std.specs.Prelude.{map, length, slice_range, get_or, All, Bool, true, false}
 use Rattle.mm_spec.specs.Text.{Token, token}
 use Rattle.mm_spec.specs.Statement as statement
 use Rattle.mm_spec.specs.Statement.{Statement}
@@ -59,6 +59,14 @@ between text ws i j = as_tokens text (slice_range ws i j)
 abbrev pub outline : Kind → ℕ → ℕ → ℕ → Outline
 outline kind keyword middle end =
     record { kind = kind; keyword = keyword; middle = middle; end = end }
+
+-- the kinds of statements that have a label, and so a typecode
+abbrev pub is_labelled_kind : Kind → Bool
+is_labelled_kind kind.Floating = true
+is_labelled_kind kind.Essential = true
+is_labelled_kind kind.Axiom = true
+is_labelled_kind kind.Theorem = true
+is_labelled_kind _ = false
 
 abbrev pub less_one : ℕ → ℕ
 less_one zero = zero

@@ -7,6 +7,7 @@ ghost use Rattle.mm_outline.specs.NextStatement.{IsNextStatement};
 ghost use Rattle.mm_outline.specs.NextStatement.{is_start as spec_is_start};
 ghost use Rattle.mm_spec.specs.Laws.Table.{class, transition};
 ghost use Rattle.mm_outline.specs.Parts.{IsPart, Holds, AtStart, class_of, outline, progress};
+ghost use Rattle.mm_outline.specs.Parts.{is_labelled_kind};
 ghost use Rattle.mm_outline.specs.Parts.{token_at, turn_of};
 ghost use Rattle.mm_outline.specs.declared.parts.Turn.TheVariants.{Done};
 ghost use Rattle.mm_outline.specs.Passed.{ArePassed};
@@ -27,6 +28,18 @@ pub enum Kind {
     Theorem,
     Open,
     Close,
+}
+
+impl Kind {
+    /// Whether a statement of that kind has a label, and so a typecode.
+    pub fn has_label(self) -> bool
+        ensures { result ≡ is_labelled_kind self }
+    {
+        match self {
+            Kind::Floating | Kind::Essential | Kind::Axiom | Kind::Theorem => true,
+            _ => false,
+        }
+    }
 }
 
 /// Where a statement is among the tokens: the numbers of its keyword, of its `$=` (if it has none,

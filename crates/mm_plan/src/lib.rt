@@ -5,6 +5,7 @@
 #![tactic(auto)]
 
 ghost use Rattle.std.specs.Prelude.{◌≡◌, ◌↔◌, IsTrue, length};
+ghost use Rattle.mm_spec.specs.Request.{plain};
 ghost use Rattle.mm_plan.specs.Plans.{IsLawfulPlan, IsLawfulCutting, RisesTo, request_of};
 
 use mm_spec::{Choice, Form, PIECE_LIMIT, Request, WORKER_LIMIT};
@@ -71,6 +72,24 @@ impl<A: Allocator> Cutting<A> {
 }
 
 impl<A: Allocator> Plan<A> {
+    /// The plan without options: the whole report of a text that is cut in this way, whose proofs
+    /// this many workers check.
+    pub fn plain(cuts: Cutting<A>, workers: u32) -> Self
+        ensures cuts { result.cuts ≡ cuts }
+        ensures workers { result.workers ≡ workers }
+        ensures request { request_of result ≡ plain }
+    {
+        Plan {
+            cuts,
+            workers,
+            only: None,
+            choice: Choice::All,
+            form: Form::One,
+            essential: false,
+            with_open: false,
+        }
+    }
+
     /// Whether a run accepts the plan: it has 1 to 64 pieces, or places none of which is less than
     /// the one before it, and 1 to 64 workers.
     pub fn is_lawful(&self) -> bool

@@ -22,12 +22,17 @@ use Rattle.mm_spec.specs.declared.Code.TheVariants.{IncompleteProof, BadLetter}
 use Rattle.mm_spec.specs.declared.Word.{Word as Place}
 use Rattle.mm_outline.specs.Parts.{as_tokens, token_of}
 use Rattle.mm_proof.specs.Number.{saturated}
-use Rattle.mm_proof.specs.Letters.{LettersState, letters_state, letter, Begins, Continues, begun_at}
+use Rattle.mm_proof.specs.Letters.{LettersState, letters_state, letter, Begins, Continues}
 use Rattle.mm_proof.specs.Letters.{StandsAt, BeginsAt, if_begun, InOrder, early_value}
 use Rattle.mm_proof.specs.Refused.{StartsWith}
 use Rattle.mm_proof.specs.declared.refused.ProofRefused.{ProofRefused}
 use Rattle.mm_proof.specs.declared.refused.ProofRefused.TheVariants.{Fault as Faulty, Memory}
 use Rattle.mm_proof.specs.declared.letters.BegunNumber.{BegunNumber}
+
+-- the number to which a letter at the place belongs
+abbrev pub begun_at : Option BegunNumber → ℕ → BegunNumber
+begun_at None at = record { at = at; value = 0 }
+begun_at (Some b) at = b
 
 pub err_then : {T E : Type 0} (r : Result T E) {P Q : E → Type 0} → IfErr r P
     → ((e : E) → P e → Q e) → IfErr r Q

@@ -104,11 +104,6 @@ RefusesLetters old xs e =
     (all left : List Letter) → Continues old all (xs ++ left)
     → StartsWith (group_faults (length old.labels) 0 0 (groups [] all).0) e
 
--- the number to which a letter at the place belongs
-abbrev pub begun_at : Option BegunNumber → ℕ → BegunNumber
-begun_at None at = record { at = at; value = 0 }
-begun_at (Some b) at = b
-
 -- the step that a number names, if it names one
 abbrev pub named_steps : Option Step → List spec.Step
 named_steps None = []

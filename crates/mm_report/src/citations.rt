@@ -178,8 +178,8 @@ pub fn write_citations<'a, W: Write, A: Allocator, C: Allocator, D: Allocator>(
         only,
         choice: Choice::Citations,
         form,
-        essential: false,
         with_open,
+        ..Request::plain()
     };
     write_requested_citations(to, &request, database, chosen, citations)
 }

@@ -11,7 +11,7 @@ use Rattle.mm_spec.specs.Statement.{axiomatic, provable, opening, closing, symbo
 use Rattle.mm_spec.specs.Scope.{statement_at}
 use Rattle.mm_spec.specs.Citation.{is_assertion}
 use Rattle.mm_spec.specs.Output.{columns, has_typecode, is_column}
-use Rattle.mm_spec.specs.Frame.{symbol_names, place_of}
+use Rattle.mm_spec.specs.Frame.{symbol_names, index_of}
 use Rattle.mm_spec.proofs.FindsLaw.{found_at, statement_at_is, formula_at_is}
 use Rattle.mm_spec.proofs.FaultlessLaw.{place_get}
 use Rattle.mm_spec.proofs.BoolLaw.{lone}
@@ -113,15 +113,15 @@ typecode_test db k x v w is e n = let f = found_at db is_assertion k is in by f.
     labelled s g lab xs same = at xs same
       where
         code : (xs : List Token) → symbols_of s ≡ xs
-            → typecode_of db k ≡ slice_get (map (λ u. place_of u (symbol_names db)) (words xs)) 0
+            → typecode_of db k ≡ slice_get (map (λ u. index_of u (symbol_names db)) (words xs)) 0
         code xs same =
             ap₂ (λ ss f. if list_any
             (λ s. is_labelled_kind (kind_of s)) ss then slice_get f 0 else None)
             (statement_at_is db k s g) (formula_at_is db k s g)
             ∙ ap (λ b. if b
             || false then slice_get
-            (map (λ u. place_of u (symbol_names db)) (words (symbols_of s))) 0 else None) lab
-            ∙ ap (λ ys. slice_get (map (λ u. place_of u (symbol_names db)) (words ys)) 0) same
+            (map (λ u. index_of u (symbol_names db)) (words (symbols_of s))) 0 else None) lab
+            ∙ ap (λ ys. slice_get (map (λ u. index_of u (symbol_names db)) (words ys)) 0) same
 
         test : (t : Token) (ts : List Token) → symbols_of s ≡ t ∷ ts
             → has_typecode (Some w) s ≡ bytes_eq t.word w
@@ -132,9 +132,9 @@ typecode_test db k x v w is e n = let f = found_at db is_assertion k is in by f.
             → bytes_eq v w ≡ list_any (has_typecode (Some w)) (statement_at db k)
         at [] same = absurd (let no : None ≡ Some x = sym (code [] same) ∙ e in cc)
         at (t ∷ ts) same =
-            let found : Some (place_of t.word (symbol_names db)) ≡ Some x =
+            let found : Some (index_of t.word (symbol_names db)) ≡ Some x =
             sym (code (t ∷ ts) same) ∙ e in
-            let place : place_of t.word (symbol_names db) ≡ x = cc in
+            let place : index_of t.word (symbol_names db) ≡ x = cc in
             let word : v ≡ t.word =
             place_get t.word v (symbol_names db) (ap (slice_get (symbol_names db)) place ∙ n) in
             ap (λ u. bytes_eq u w) word

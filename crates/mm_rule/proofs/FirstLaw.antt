@@ -10,24 +10,24 @@ use Rattle.mm_spec.specs.Laws.Stack.{found, tail}
 use Rattle.mm_spec.specs.Statement.{Statement}
 use Rattle.mm_spec.specs.Frame.{formula_at}
 use Rattle.mm_spec.specs.Citation.{context_at}
-use Rattle.mm_rule.specs.Rule.{first}
+use Rattle.mm_rule.specs.Rule.{floating_index}
 
 module _ (db : List Statement) where
   pub first_below : (hs : List Formula) (x : ℕ) → IsBound (context_at db 0) hs x
-      → first db hs x < length hs
+      → floating_index db hs x < length hs
   first_below [] x b = absurd (true≢false (sym b))
   first_below (h ∷ hs) x b = go (binds (context_at db 0) x h) b (first_below hs x)
     where
       go : (v : Bool) → (v || list_any (binds (context_at db 0) x) hs) ≡ true
-          → (IsBound (context_at db 0) hs x → first db hs x < length hs)
-          → cond v 0 (suc (first db hs x)) < suc (length hs)
+          → (IsBound (context_at db 0) hs x → floating_index db hs x < length hs)
+          → cond v 0 (suc (floating_index db hs x)) < suc (length hs)
       go true e rest = omega arith
       go false e rest = let l = rest e in omega (arith, l)
 
   -- what is found for a variable is what the premise of its first `$f` has after the typecode
   pub found_first : (t : ℕ) (hs ps : List Formula) (x : ℕ) → length ps ≡ length hs
       → IsBound (context_at db 0) hs x
-      → found (context_at db t) hs ps x ≡ tail (get_or ps (first db hs x) [])
+      → found (context_at db t) hs ps x ≡ tail (get_or ps (floating_index db hs x) [])
   found_first t [] ps x n b = absurd (true≢false (sym b))
   found_first t (h ∷ hs) [] x n b = absurd (omega (arith, n))
   found_first t (h ∷ hs) (p ∷ ps) x n b =
@@ -35,15 +35,16 @@ module _ (db : List Statement) where
     where
       go : (v : Bool) → (v || list_any (binds (context_at db 0) x) hs) ≡ true
           → (IsBound (context_at db 0) hs x
-          → found (context_at db t) hs ps x ≡ tail (get_or ps (first db hs x) []))
+          → found (context_at db t) hs ps x ≡ tail (get_or ps (floating_index db hs x) []))
           → elim v [ true ↦ tail p | false ↦ found (context_at db t) hs ps x ]
-          ≡ tail (get_or (p ∷ ps) (cond v 0 (suc (first db hs x))) [])
+          ≡ tail (get_or (p ∷ ps) (cond v 0 (suc (floating_index db hs x))) [])
       go true e rest = refl
       go false e rest = rest e
 
   -- the same for the hypotheses from a number on
   abbrev pub PlacedFrom : ℕ → List Formula → List ℕ → Type 0
-  PlacedFrom n hs t = (x : ℕ) → IsBound (context_at db 0) hs x → get_or t x 0 ≡ n + first db hs x
+  PlacedFrom n hs t =
+      (x : ℕ) → IsBound (context_at db 0) hs x → get_or t x 0 ≡ n + floating_index db hs x
 
   from_none : (n : ℕ) (t : List ℕ) (h : Formula) (hs : List Formula)
       → ((x : ℕ) → binds (context_at db 0) x h ≡ false) → PlacedFrom (suc n) hs t
@@ -51,7 +52,7 @@ module _ (db : List Statement) where
   from_none n t h hs misses old x b = go (binds (context_at db 0) x h) (misses x) b
     where
       go : (v : Bool) → v ≡ false → (v || list_any (binds (context_at db 0) x) hs) ≡ true
-          → get_or t x 0 ≡ n + cond v 0 (suc (first db hs x))
+          → get_or t x 0 ≡ n + cond v 0 (suc (floating_index db hs x))
       go true e b = cc
       go false e b = let o = old x b in omega (arith, o)
 
@@ -61,7 +62,7 @@ module _ (db : List Statement) where
   from_one n t h hs y inside hits old x b = go (binds (context_at db 0) x h) (hits x) b
     where
       go : (v : Bool) → v ≡ nat_eq x y → (v || list_any (binds (context_at db 0) x) hs) ≡ true
-          → get_or (slice_set t y n) x 0 ≡ n + cond v 0 (suc (first db hs x))
+          → get_or (slice_set t y n) x 0 ≡ n + cond v 0 (suc (floating_index db hs x))
       go true e b =
           let z : n ≡ n + 0 = omega arith in
           ap (λ z. get_or (slice_set t y n) z 0) (eqb-true x y (sym e))
@@ -69,7 +70,7 @@ module _ (db : List Statement) where
       go false e b =
           let other : x ≢ y = λ h. true≢false (sym (eq-eqb x y h) ∙ sym e) in
           let o = old x b in
-          let z : get_or t x 0 ≡ n + suc (first db hs x) = omega (arith, o) in
+          let z : get_or t x 0 ≡ n + suc (floating_index db hs x) = omega (arith, o) in
           get_or-set_other t y x n 0 other ∙ z
 
   module _ (hyps : List ℕ) where

@@ -13,13 +13,14 @@ use Rattle.mm_rule.specs.declared.rule.Hypothesis.TheVariants.{Floating, Essenti
 use Rattle.mm_rule.specs.Assertions.{is_assertion_at}
 
 -- the place of the first `$f` of a variable among the hypotheses
-abbrev pub first : List Statement → List Formula → ℕ → ℕ
-first db [] x = 0
-first db (h ∷ hs) x = if binds (context_at db 0) x h then 0 else suc (first db hs x)
+abbrev pub floating_index : List Statement → List Formula → ℕ → ℕ
+floating_index db [] x = 0
+floating_index db (h ∷ hs) x =
+    if binds (context_at db 0) x h then 0 else suc (floating_index db hs x)
 
 -- a symbol as a part: a constant, or a variable given by the place of its `$f`
 abbrev pub part_of : List Statement → List Formula → ℕ → RuleSymbol
-part_of db hs s = if is_variable_number db s then Variable (first db hs s) else Constant s
+part_of db hs s = if is_variable_number db s then Variable (floating_index db hs s) else Constant s
 
 abbrev pub parts_of : List Statement → List Formula → Formula → List RuleSymbol
 parts_of db hs f = map (part_of db hs) f
@@ -88,8 +89,8 @@ pub record IsCompiled (db : List Statement) (c : Compiled) : Type 0 where
       ≡ map (parts_of db (frame_at db c.assertion).hypotheses) (frame_at db c.assertion).hypotheses
   pub pairs_are : c.pairs
       ≡ map (λ p. (
-        first db (frame_at db c.assertion).hypotheses p.low,
-        first db
+        floating_index db (frame_at db c.assertion).hypotheses p.low,
+        floating_index db
             (frame_at db c.assertion).hypotheses p.high,
       )) (frame_at db c.assertion).pairs
   pub formula_is : c.formula

@@ -42,8 +42,6 @@ pub fn hyps<'b, A: Allocator>(db: &'b Database<A>, k: u32) -> &'b [u32]
     ensures below { All (λ h. h < length db.now.statements) result.now }
     ensures few { length result.now < 2 ^ 31 }
 {
-    // The proof needs the clauses of `len`.
-    let _ = db.len();
     db.frame(k).hyps.as_slice()
 }
 

@@ -9,10 +9,8 @@
 
 mod frames;
 mod lists;
-mod numbers;
 mod rule;
 
 pub use frames::{formula, hyps, is_assertion, is_essential_hypothesis, pairs};
-pub use lists::empty;
-pub use numbers::{put_number, zeros};
+pub use lists::{empty, put_number};
 pub use rule::{Hypothesis, Rule, RuleSymbol};

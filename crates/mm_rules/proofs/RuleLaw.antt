@@ -17,7 +17,7 @@ use Rattle.mm_rule.specs.declared.rule.RuleSymbol.{RuleSymbol}
 use Rattle.mm_rule.specs.declared.rule.RuleSymbol.TheVariants.{Constant, Variable}
 use Rattle.mm_rule.specs.declared.rule.Hypothesis.{Hypothesis}
 use Rattle.mm_rule.specs.declared.rule.Hypothesis.TheVariants.{Floating, Essential}
-use Rattle.mm_rule.specs.Rule.{first, parts_of, part_count, hypothesis_parts, all_parts}
+use Rattle.mm_rule.specs.Rule.{floating_index, parts_of, part_count, hypothesis_parts, all_parts}
 use Rattle.mm_rule.specs.Rule.{count_parts, IsBelow, IsKnown}
 use Rattle.mm_rule.specs.Rule.{compiled, IsCompiled}
 use Rattle.mm_rules.specs.Rules.{AreCovered, AreFirstNumbers, AreCompiled, numbered_parts}
@@ -118,7 +118,7 @@ module _ (db : List Statement) (hs : List Formula) where
       (λ x. is_variable_number db x ≡ true → IsBound (context_at db 0) hs x) f h))
     where
       one : (s : ℕ) (v : Bool) → (v ≡ true → IsBound (context_at db 0) hs s)
-          → IsBelow (length hs) (cond v (Variable (first db hs s)) (Constant s))
+          → IsBelow (length hs) (cond v (Variable (floating_index db hs s)) (Constant s))
       one s true b = first_below db hs s (b refl)
       one s false b = tt
 
@@ -132,7 +132,8 @@ module _ (db : List Statement) (hs : List Formula) where
   parts_known n f h =
       All-from_recursion (IsKnown n) (parts_of db hs f) (go f (recursion_from_All (λ s. s < n) f h))
     where
-      one : (s : ℕ) (v : Bool) → s < n → IsKnown n (cond v (Variable (first db hs s)) (Constant s))
+      one : (s : ℕ) (v : Bool) → s < n
+          → IsKnown n (cond v (Variable (floating_index db hs s)) (Constant s))
       one s true l = tt
       one s false l = l
 
@@ -168,7 +169,7 @@ module _ (db : List Statement) (hs : List Formula) where
     where
       one : (s : ℕ) (v : Bool) → (v ≡ true → IsBound (context_at db 0) hs s)
           → cond v (Variable (get_or numbers s 0)) (Constant s)
-          ≡ cond v (Variable (first db hs s)) (Constant s)
+          ≡ cond v (Variable (floating_index db hs s)) (Constant s)
       one s true b = ap Variable (placed s (b refl))
       one s false b = refl
 
@@ -183,7 +184,7 @@ module _ (db : List Statement) (hs : List Formula) where
   numbered_first : (numbers : List ℕ) → AreFirstNumbers db hs numbers → (ps : List (ℕ × ℕ))
       → AllByRecursion Both (paired ps)
       → numbered_pairs numbers ps
-      ≡ map {B = ℕ × ℕ} (λ (p : ℕ × ℕ). (first db hs p.0, first db hs p.1)) ps
+      ≡ map {B = ℕ × ℕ} (λ (p : ℕ × ℕ). (floating_index db hs p.0, floating_index db hs p.1)) ps
   numbered_first numbers placed [] h = refl
   numbered_first numbers placed (p ∷ ps) h =
       ap₂ (λ (u : ℕ × ℕ) (us : List (ℕ × ℕ)). u ∷ us)
@@ -192,21 +193,24 @@ module _ (db : List Statement) (hs : List Formula) where
 
   pairs_below : (ps : List Pair) → AllByRecursion Both ps
       → All (λ (p : ℕ × ℕ). (p.0 < length hs) × (p.1 < length hs))
-      (map {B = ℕ × ℕ} (λ (p : Pair). (first db hs p.low, first db hs p.high)) ps)
+      (map {B = ℕ × ℕ} (λ (p : Pair). (floating_index db hs p.low, floating_index db hs p.high)) ps)
   pairs_below ps h =
       All-from_recursion (λ (p : ℕ × ℕ). (p.0 < length hs) × (p.1 < length hs)) _ (go ps h)
     where
       go : (ps : List Pair) → AllByRecursion Both ps
           → AllByRecursion (λ (p : ℕ × ℕ). (p.0 < length hs) × (p.1 < length hs))
-          (map {B = ℕ × ℕ} (λ (p : Pair). (first db hs p.low, first db hs p.high)) ps)
+          (map {B = ℕ × ℕ}
+          (λ (p : Pair). (floating_index db hs p.low, floating_index db hs p.high)) ps)
       go [] h = tt
       go (p ∷ ps) h = ((first_below db hs p.low h.0.0, first_below db hs p.high h.0.1), go ps h.1)
 
   pairs_same : (ps : List (ℕ × ℕ))
-      → map {B = ℕ × ℕ} (λ (p : ℕ × ℕ). (first db hs p.0, first db hs p.1)) ps
-      ≡ map {B = ℕ × ℕ} (λ (p : Pair). (first db hs p.low, first db hs p.high)) (paired ps)
+      → map {B = ℕ × ℕ} (λ (p : ℕ × ℕ). (floating_index db hs p.0, floating_index db hs p.1)) ps
+      ≡ map {B = ℕ × ℕ}
+      (λ (p : Pair). (floating_index db hs p.low, floating_index db hs p.high)) (paired ps)
   pairs_same [] = refl
-  pairs_same (p ∷ ps) = ap (λ z. (first db hs p.0, first db hs p.1) ∷ z) (pairs_same ps)
+  pairs_same (p ∷ ps) =
+      ap (λ z. (floating_index db hs p.0, floating_index db hs p.1) ∷ z) (pairs_same ps)
 
 -- what was made is the rule of the assertion
 module _ (db : List Statement) (a : ℕ) (is : is_assertion_at db a ≡ true)
@@ -230,12 +234,14 @@ module _ (db : List Statement) (a : ℕ) (is : is_assertion_at db a ≡ true)
       let bound = subst (λ (ps : List Pair). AllByRecursion (Both db frame_hyps) ps) (sym pairs_is)
       complete.pairs in
       let pairs_are : pairs
-      ≡ map {B = ℕ × ℕ} (λ (p : Pair). (first db frame_hyps p.low, first db frame_hyps p.high))
+      ≡ map {B = ℕ × ℕ}
+      (λ (p : Pair). (floating_index db frame_hyps p.low, floating_index db frame_hyps p.high))
       (mandatory_pairs db a) = pairs_made
       ∙ numbered_first db frame_hyps numbers placed from bound
       ∙ pairs_same db frame_hyps from
       ∙ ap (map {B = ℕ × ℕ}
-      (λ (p : Pair). (first db frame_hyps p.low, first db frame_hyps p.high))) pairs_is in
+      (λ (p : Pair). (floating_index db frame_hyps p.low, floating_index db frame_hyps p.high)))
+      pairs_is in
       let formula_are : formula ≡ parts_of db frame_hyps (formula_at db a) =
       formula_made ∙ ap (parts_of db frame_hyps) f_is in
       record {

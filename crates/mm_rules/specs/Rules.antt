@@ -11,13 +11,13 @@ use Rattle.mm_rule.specs.declared.rule.RuleSymbol.TheVariants.{Constant, Variabl
 use Rattle.mm_rule.specs.declared.rule.Hypothesis.{Hypothesis}
 use Rattle.mm_rules.specs.declared.rules.RuleRanges.{RuleRanges}
 use Rattle.mm_rules.specs.declared.rules.IndexRange.{IndexRange}
-use Rattle.mm_rule.specs.Rule.{Compiled, compiled, IsCompiled, first, parts_of, all_parts}
+use Rattle.mm_rule.specs.Rule.{Compiled, compiled, IsCompiled, floating_index, parts_of, all_parts}
 use Rattle.mm_rule.specs.Rule.{count_parts, IsBelow}
 
 -- for each variable that has a `$f`, the list has the place of the first one
 abbrev pub AreFirstNumbers : List Statement → List Formula → List ℕ → Type 0
 AreFirstNumbers db hs places =
-    (x : ℕ) → IsBound (context_at db 0) hs x → get_or places x 0 ≡ first db hs x
+    (x : ℕ) → IsBound (context_at db 0) hs x → get_or places x 0 ≡ floating_index db hs x
 
 -- each variable of the formula has a `$f`
 abbrev pub AreCovered : List Statement → List Formula → Formula → Type 0

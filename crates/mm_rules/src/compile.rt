@@ -13,7 +13,7 @@ ghost use Rattle.mm_rules.specs.Rules.{AreCovered, AreFirstNumbers, AreCompiled,
 ghost use Rattle.mm_rules.specs.Rules.{numbered_parts, numbered_pairs};
 
 use mm_database::{Database, Sym};
-use mm_rule::{Hypothesis, Rule, RuleSymbol, empty, hyps, pairs, zeros};
+use mm_rule::{Hypothesis, Rule, RuleSymbol, empty, hyps, pairs};
 use std::alloc::{AllocError, Allocator};
 use std::marker::Model;
 
@@ -223,7 +223,7 @@ impl<A: Allocator> RuleCompiler<A> {
             pairs: Vec::new(alloc),
             parts: Vec::new(alloc),
             formula: Vec::new(alloc),
-            numbers: zeros(alloc, db.symbol_count() as usize)?,
+            numbers: vec![in alloc; 0; db.symbol_count() as usize]?,
         })
     }
 

@@ -14,7 +14,6 @@ use crate::compile::RuleCompiler;
 use mm_database::Database;
 use mm_rule::{
     Hypothesis, Rule, RuleSymbol, hyps, is_assertion, is_essential_hypothesis, pairs, put_number,
-    zeros,
 };
 use std::alloc::{AllocError, Allocator};
 use std::marker::Model;
@@ -187,7 +186,7 @@ impl<A: Allocator> Rules<A> {
             hypotheses: Vec::with_capacity(alloc, lengths.hypotheses)?,
             pairs: Vec::with_capacity(alloc, lengths.pairs)?,
             parts: Vec::with_capacity(alloc, lengths.parts)?,
-            numbers: zeros(alloc, db.len() as usize)?,
+            numbers: vec![in alloc; 0; db.len() as usize]?,
         })
     }
 

@@ -12,7 +12,7 @@ use Rattle.mm_spec.specs.Statement.{Statement, constants, variables, disjoint, f
 use Rattle.mm_spec.specs.Statement.{axiomatic, provable, opening, closing, symbols_of, spelled}
 use Rattle.mm_spec.specs.Scope.{constants_of, variables_of}
 use Rattle.mm_spec.specs.Lawful.{IsLawful}
-use Rattle.mm_spec.specs.Frame.{symbol_names, place_of, first_occurrences, formula_at}
+use Rattle.mm_spec.specs.Frame.{symbol_names, index_of, first_occurrences, formula_at}
 use Rattle.mm_spec.proofs.FindsLaw.{formula_at_is}
 use Rattle.mm_spec.proofs.SymbolLaw.{declared_here}
 use Rattle.mm_database.proofs.SymbolsLaw.{itself, in_first, place_in}
@@ -44,15 +44,15 @@ symbols_known db law k l s e =
     (λ i d h.
     let ws = words (symbols_of s) in
     let inside : i < length ws =
-    omega (arith, h, length-map ws (λ w. place_of w (symbol_names db))) in
+    omega (arith, h, length-map ws (λ w. index_of w (symbol_names db))) in
     let w = get_or ws i [] in
     let known : is_in w (symbol_names db) ≡ true =
     symbol_known db law k l s e w (in_get ws i [] inside) in
     let place =
-    slice_get_within (symbol_names db) (place_of w (symbol_names db)) w
+    slice_get_within (symbol_names db) (index_of w (symbol_names db)) w
     (place_in (symbol_names db) w known) in
     subst (λ x. x < length (symbol_names db))
-    (sym (get_mapped (λ w. place_of w (symbol_names db)) ws i [] d inside)) place)
+    (sym (get_mapped (λ w. index_of w (symbol_names db)) ws i [] d inside)) place)
 
 -- ---- there are few
 

@@ -13,12 +13,12 @@ use Rattle.mm_spec.specs.Statement.{Statement, symbols_of, constants, variables,
 use Rattle.mm_spec.specs.Statement.{essential, axiomatic, provable, opening, closing}
 use Rattle.mm_spec.specs.Scope.{constants_of, variables_of}
 use Rattle.mm_spec.specs.Lawful.{scope_fault}
-use Rattle.mm_spec.specs.Frame.{first_occurrences, symbol_names, place_of, formula_of}
+use Rattle.mm_spec.specs.Frame.{first_occurrences, symbol_names, index_of, formula_of}
 use Rattle.mm_spec.specs.declared.Word as place
 use Rattle.mm_database.specs.Numbered.{AreNumbered}
 use Rattle.mm_outline.specs.Parts.{between, token_at}
 use Rattle.mm_outline.proofs.TurnsLaw.{between_more, between_none}
-use Rattle.mm_lists.specs.Lists.{AreJoined}
+use Rattle.mm_lists.specs.Lists.{AreJoined, with_end}
 use Rattle.mm_database.specs.Names.{with_name}
 use Rattle.mm_lists.proofs.ListsLaw.{more_joined}
 use Rattle.mm_outline.proofs.StatementsLaw.{get_mapped}
@@ -43,14 +43,14 @@ names_declared d w = by (is_in w (first_occurrences [] d)) ∙ sym (first_added 
 -- ---- more names after
 
 pub place_front : (w : Bytes) (ns more : List Bytes) → is_in w ns ≡ true
-    → place_of w (ns ++ more) ≡ place_of w ns
+    → index_of w (ns ++ more) ≡ index_of w ns
 place_front w [] more h = absurd (true≢false (sym h))
 place_front w (n ∷ ns) more h = by (bytes_eq w n) refl (place_front w ns more)
   where
     by : (b : Bool) → bytes_eq w n ≡ b
-        → (is_in w ns ≡ true → place_of w (ns ++ more) ≡ place_of w ns)
-        → ◌≡◌ {A = ℕ} (elim b [ true ↦ 0 | false ↦ suc (place_of w (ns ++ more)) ])
-        (elim b [ true ↦ 0 | false ↦ suc (place_of w ns) ])
+        → (is_in w ns ≡ true → index_of w (ns ++ more) ≡ index_of w ns)
+        → ◌≡◌ {A = ℕ} (elim b [ true ↦ 0 | false ↦ suc (index_of w (ns ++ more)) ])
+        (elim b [ true ↦ 0 | false ↦ suc (index_of w ns) ])
     by true e r = refl
     by false e r = ap suc (r (sym (ap (λ b. b || is_in w ns) e) ∙ h))
 
@@ -98,8 +98,8 @@ names_stay db s h =
 -- ---- formulas keep their numbers
 
 same_places : (ns ms : List Bytes) (ws : List Bytes)
-    → ((w : Bytes) → is_in w ws ≡ true → place_of w ns ≡ place_of w ms)
-    → map (λ w. place_of w ns) ws ≡ map (λ w. place_of w ms) ws
+    → ((w : Bytes) → is_in w ws ≡ true → index_of w ns ≡ index_of w ms)
+    → map (λ w. index_of w ns) ws ≡ map (λ w. index_of w ms) ws
 same_places ns ms [] h = refl
 same_places ns ms (w ∷ ws) h =
     ap₂ (λ n l. n ∷ l) (h w (ap (λ b. b || is_in w ws) (itself w)))
@@ -121,7 +121,7 @@ module _ (db : List Statement) (lawful : (k : ℕ) → k < length db → scope_f
   formula-kept k t e =
       let g = names_grow db s in
       same_places (symbol_names all) (symbol_names db) (words (symbols_of t))
-      (λ w h. ap (place_of w) g.1
+      (λ w h. ap (index_of w) g.1
       ∙ place_front w (symbol_names db) g.0
       (symbol_known db lawful k (slice_get_within db k t e) t e w h))
 
@@ -133,11 +133,11 @@ module _ (db : List Statement) (lawful : (k : ℕ) → k < length db → scope_f
 
   -- one statement more
   pub formulas_more : (numbers places : List ℕ) → AreFormulas db numbers places → (more : List ℕ)
-      → more ≡ numbers ++ formula_of all s → AreFormulas all more (places ++ length more ∷ [])
+      → more ≡ numbers ++ formula_of all s → AreFormulas all more (with_end places (length more))
   formulas_more numbers places f more e =
       rw e
       (subst (λ fs. AreJoined fs (numbers ++ formula_of all s)
-      (places ++ length (numbers ++ formula_of all s) ∷ [])) formulas-next
+      (with_end places (length (numbers ++ formula_of all s)))) formulas-next
       (more_joined (map (formula_of db) db) (formula_of all s) numbers places f))
 
 -- ---- the formulas one by one
@@ -157,12 +157,12 @@ formulas_numbered db = record {
 pub numbers_more : (text : List ℕ) (ws : List place.Word) (ns : List Bytes) (from i : ℕ) → from ≤ i
     → i < length ws
     → numbers_in ns (between text ws from (i + 1))
-    ≡ numbers_in ns (between text ws from i) ++ place_of (token_at text ws i).word ns ∷ []
+    ≡ numbers_in ns (between text ws from i) ++ index_of (token_at text ws i).word ns ∷ []
 numbers_more text ws ns from i l h =
     ap (numbers_in ns) (between_more text ws from i l h)
-    ∙ ap (map (λ w. place_of w ns))
+    ∙ ap (map (λ w. index_of w ns))
     (map-append (λ (t : Token). t.word) (between text ws from i) (token_at text ws i ∷ []))
-    ∙ map-append (λ (w : Bytes). place_of w ns) (words (between text ws from i))
+    ∙ map-append (λ (w : Bytes). index_of w ns) (words (between text ws from i))
     ((token_at text ws i).word ∷ [])
 
 pub numbers_none : (text : List ℕ) (ws : List place.Word) (ns : List Bytes) (from : ℕ)

@@ -12,12 +12,11 @@ use Rattle.mm_spec.specs.Lawful.{scope_fault, scope_faults, least}
 use Rattle.mm_spec.specs.Lexed.{LexedText}
 use Rattle.mm_spec.specs.Output.{IsRead, StopsReading}
 use Rattle.mm_spec.specs.Laws.Table.{start, statements_from, statements_of, stop_from, rest_from}
-use Rattle.mm_spec.specs.Laws.Table.{fault_at_end}
 use Rattle.mm_spec.specs.declared.Word.{Word}
 use Rattle.mm_spec.specs.declared.Fault.{Fault}
 use Rattle.mm_spec.proofs.LocalLaw.{scope_fault_front, scope_fault_next}
 use Rattle.mm_spec.proofs.LongestLaw.{is_longest}
-use Rattle.mm_spec.proofs.StopsLaw.{text_fault, text_fault_is, no_text_fault, first_of}
+use Rattle.mm_spec.proofs.StopsLaw.{text_fault, text_fault_is, no_text_fault, first_of, fault_at_end}
 use Rattle.mm_outline.specs.Parts.{as_tokens, progress, made, depth_after, less_one}
 use Rattle.mm_outline.specs.Blocks.{BlockLists, IsBlocks, never}
 use Rattle.mm_outline.proofs.BlocksLaw.{depth_end, depth_plain, depth_opening, depth_closing}

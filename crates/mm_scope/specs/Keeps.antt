@@ -11,7 +11,7 @@ use Rattle.mm_outline.specs.Statements.{statements}
 use Rattle.mm_outline.specs.declared.parts.Outline.{Outline}
 use Rattle.mm_spec.specs.Frame.{symbol_names}
 use Rattle.mm_outline.specs.Blocks.{BlockLists, IsBlocks}
-use Rattle.mm_lists.specs.Lists.{cut_at}
+use Rattle.mm_lists.specs.Lists.{cut}
 use Rattle.mm_database.specs.Parsed.{parsed}
 use Rattle.mm_database.specs.Names.{find, names_of}
 use Rattle.mm_scope.specs.Formulas.{AreFormulas}
@@ -69,7 +69,7 @@ module _ {A : Type 0} where
 
   -- the symbols of each statement
   abbrev pub formulas_of : Outlined A → List (List ℕ)
-  formulas_of r = cut_at 0 r.places.items r.numbers.items
+  formulas_of r = cut r.places.items r.numbers.items
 
   -- what was read of the text, the names by themselves
   abbrev pub reading_of : List ℕ → Outlined A → Reading A

@@ -3,7 +3,7 @@
 ghost use Rattle.std.specs.Prelude.{◌≡◌, ◌<◌, ◌^◌, [], None, All, length, OnOk, IfOk};
 ghost use Rattle.mm_spec.specs.Output.{IsRead};
 ghost use Rattle.mm_spec.specs.Lexed.{tokens_of};
-ghost use Rattle.mm_lists.specs.Lists.{AreEnds};
+ghost use Rattle.mm_lists.specs.Lists.{ArePlaces};
 ghost use Rattle.mm_database.specs.Parsed.{AreParts};
 ghost use Rattle.mm_outline.specs.Parts.{AreWithin, IsOutline, depth_after, statement_of};
 ghost use Rattle.mm_outline.specs.Tokens.{AreTokens};
@@ -24,8 +24,8 @@ use mm_spec::{Code, Fault, Word};
 use std::alloc::{AllocError, Allocator};
 
 /// The lawful statements of a text as outlines, the names after them, their symbols by number,
-/// concatenated, with the places where those of each end, and the fault that stopped the reading,
-/// if any.
+/// concatenated, with the places where those of each end, as [`end_list`] notes them, and the fault
+/// that stopped the reading, if any.
 pub struct Outlined<'a, A: Allocator> {
     pub outlines: Vec<Outline, A>,
     pub scope: Scope<'a, A>,
@@ -51,7 +51,7 @@ impl<'a, A: Allocator> Outlined<'a, A> {
     /// Returns what was read of the text, the names by themselves. `variables` says for each symbol
     /// whether it is a variable.
     pub fn into_reading(self, text: &'a [u8], variables: Vec<bool, A>) -> Reading<'a, A>
-        requires ends { AreEnds 0 self.places.items (length self.numbers.items) }
+        requires places { ArePlaces self.places.items (length self.numbers.items) }
         requires parts { AreParts
             (statements text.now (tokens_of text.now) self.outlines.items) self.scope.blocks
             (formulas_of self) variables.items }

@@ -8,19 +8,19 @@ use Rattle.std.proofs.Common.{bytes_eq, eqb-true, eq-eqb}
 use Rattle.std.specs.List.{list_any, range_with_len}
 use Rattle.std.proofs.lemmas.Bool.{or_cases, or_left, or_right, and_parts, and_from, cases_order}
 use Rattle.std.proofs.lemmas.List.Folds.{list_any-append}
-use Rattle.mm_spec.specs.Text.{Bytes, fault, is_in, words}
+use Rattle.mm_spec.specs.Text.{Bytes, Fault, fault, is_in, words}
+use Rattle.mm_spec.specs.Output.{IsRead}
 use Rattle.mm_spec.specs.Statement.{Statement, constants, variables, disjoint, floating, essential}
 use Rattle.mm_spec.specs.Statement.{axiomatic, provable, opening, closing, symbols_of}
 use Rattle.mm_spec.specs.Scope.{Typing, names_before, depth, is_active, active, active_statements}
 use Rattle.mm_spec.specs.Scope.{statement_at, constants_of, variables_of, typings_of}
 use Rattle.mm_spec.specs.Lawful.{scope_faults, scope_fault, IsLawful}
-use Rattle.mm_spec.specs.Frame.{symbol_names, place_of, formula_of, formula_at, is_variable_number}
+use Rattle.mm_spec.specs.Frame.{symbol_names, index_of, formula_of, formula_at, is_variable_number}
 use Rattle.mm_spec.specs.Frame.{is_floating, is_essential, active_of, mandatory_variables}
 use Rattle.mm_spec.specs.Frame.{mandatory_hypotheses, frame_at, pairs_of, disjoint_at}
 use Rattle.mm_spec.specs.Derivation.{Formula, Pair, is_member}
 use Rattle.mm_spec.specs.Citation.{context_at, rule_of}
 use Rattle.mm_spec.specs.Laws.Complete.{binds, IsBound, AreBound, IsComplete, IsFine, AreComplete}
-use Rattle.mm_spec.specs.Laws.Complete.{ReadsComplete}
 use Rattle.mm_spec.specs.Lexed.{LexedText}
 use Rattle.mm_spec.proofs.LocalLaw.{scope_fault_front}
 use Rattle.mm_spec.proofs.FindsLaw.{any_flat_map, any_map, any_filter, member_filter}
@@ -78,7 +78,7 @@ module _ (db : List Statement) (lawful : (k : ℕ) → k < length db → IsLawfu
           ∙ new_constant (names_before db i) (depth db i) s w (faultless i s e) m)
 
   constant_before : (k : ℕ) (w : Bytes) → is_in w (names_before db k).constants ≡ true
-      → is_variable_number db (place_of w (symbol_names db)) ≡ false
+      → is_variable_number db (index_of w (symbol_names db)) ≡ false
   constant_before k w c = grind (arith, common_steps, constant_apart, declared_before, variable_word)
 
   -- statement i is the `$f` of x
@@ -92,7 +92,7 @@ module _ (db : List Statement) (lawful : (k : ℕ) → k < length db → IsLawfu
 
   -- a `$f` is one of its variable
   pub typing : (i : ℕ) (s : Statement) → slice_get db i ≡ Some s → is_floating s ≡ true
-      → (w : Bytes) × Types i (place_of w (symbol_names db))
+      → (w : Bytes) × Types i (index_of w (symbol_names db))
       × ((v : Bytes) → list_any (λ t. bytes_eq v t.variable) (typings_of s) ≡ true → v ≡ w)
   typing i s e f =
       let t = floating_typing (names_before db i) (depth db i) s f (faultless i s e) in (
@@ -101,7 +101,7 @@ module _ (db : List Statement) (lawful : (k : ℕ) → k < length db → IsLawfu
           statement = s;
           stands = e;
           floats = f;
-          typecode = place_of t.typecode.word (symbol_names db);
+          typecode = index_of t.typecode.word (symbol_names db);
           is = formula_at_is db i s e ∙ ap (formula_of db) t.is;
           constant = constant_before i t.typecode.word t.constant;
         },
@@ -110,10 +110,10 @@ module _ (db : List Statement) (lawful : (k : ℕ) → k < length db → IsLawfu
             (subst (λ x. list_any (λ u. bytes_eq v u.variable) (typings_of x) ≡ true) t.is h)),
       )
 
-  at_word : (i x : ℕ) (w v : Bytes) → Types i (place_of v (symbol_names db)) → w ≡ v
-      → x ≡ place_of w (symbol_names db) → Types i x
+  at_word : (i x : ℕ) (w v : Bytes) → Types i (index_of v (symbol_names db)) → w ≡ v
+      → x ≡ index_of w (symbol_names db) → Types i x
   at_word i x w v t e is =
-      subst (Types i) (ap (λ u. place_of u (symbol_names db)) (sym e) ∙ sym is) t
+      subst (Types i) (ap (λ u. index_of u (symbol_names db)) (sym e) ∙ sym is) t
 
   -- each variable of a formula has an active `$f`
   pub typed : (j x : ℕ) (s : Statement) → slice_get db j ≡ Some s → has_formula s ≡ true
@@ -126,7 +126,7 @@ module _ (db : List Statement) (lawful : (k : ℕ) → k < length db → IsLawfu
       by w.0 w.2 (variable_word db w.0 (ap (is_variable_number db) (sym w.2) ∙ v))
       (statement_known (names_before db j) (depth db j) s f (faultless j s e) w.0 w.1)
     where
-      by : (w : Bytes) → x ≡ place_of w (symbol_names db)
+      by : (w : Bytes) → x ≡ index_of w (symbol_names db)
           → is_in w (flat_map variables_of db) ≡ true → IsKnown (names_before db j) w
           → (i : ℕ) × (is_active db i j ≡ true) × Types i x
       by w is v (inl c) = absurd (constant_apart w (declared_before constants_of db j w c) v)
@@ -257,7 +257,7 @@ module _ (db : List Statement) (lawful : (k : ℕ) → k < length db → IsLawfu
           (list_any (is_member (mandatory_variables db k)) (formula_at db j)) g in
           let s = found_at db is_floating j p.0 in
           let y = typing j s.0 s.1 s.2 in
-          typed_one (place_of y.0 (symbol_names db)) y.1 p.1
+          typed_one (index_of y.0 (symbol_names db)) y.1 p.1
 
   -- both variables of a mandatory pair are
   pub of_pair : (k : ℕ) (p : Pair) → is_mandatory_pair db k p ≡ true
@@ -361,8 +361,10 @@ module _ (db : List Statement) (lawful : (k : ℕ) → k < length db → IsLawfu
       by false = tt
       by true = at_k (slice_get db k) refl
 
--- the frames of all that is read are complete
-pub reads_complete : (len : ℕ) (x : LexedText) → ReadsComplete len x
+-- the frames of all that is read are complete: a lawful `$e`, `$a` or `$p` has an active `$f` for
+-- each of its variables
+pub reads_complete : (len : ℕ) (x : LexedText) (db : List Statement) (fault : Option Fault)
+    → IsRead len x db fault → AreComplete db
 reads_complete len x db fault r =
     lawful_complete db
     (λ k h. sym (scope_fault_front db r.rest k h) ∙ ap (λ list. scope_fault list k) (sym r.splits)

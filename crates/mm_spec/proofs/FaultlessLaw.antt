@@ -16,7 +16,7 @@ use Rattle.mm_spec.specs.Scope.{constants_of, variables_of, typings_of, stays}
 use Rattle.mm_spec.specs.Lawful.{when, at, at_each, symbol_codes}
 use Rattle.mm_spec.specs.Lawful.{is_typed, formula_faults, label_faults, floating_faults}
 use Rattle.mm_spec.specs.Lawful.{scope_faults, least}
-use Rattle.mm_spec.specs.Frame.{symbol_names, place_of, is_variable_number, is_floating}
+use Rattle.mm_spec.specs.Frame.{symbol_names, index_of, is_variable_number, is_floating}
 use Rattle.mm_spec.specs.Frame.{is_essential}
 use Rattle.mm_spec.specs.Derivation.{is_member}
 use Rattle.mm_spec.specs.declared.Code.{Code}
@@ -193,38 +193,38 @@ typing_floats q _ e = absurd (true≢false (sym e))
 
 -- ---- numbers of symbols
 
-pub place_get : (w v : Bytes) (vs : List Bytes) → slice_get vs (place_of w vs) ≡ Some v → v ≡ w
+pub place_get : (w v : Bytes) (vs : List Bytes) → slice_get vs (index_of w vs) ≡ Some v → v ≡ w
 place_get w v [] e = absurd (cc)
 place_get w v (u ∷ us) e = by (bytes_eq w u) refl e (λ h. place_get w v us h)
   where
     by : (b : Bool) → bytes_eq w u ≡ b
-        → slice_get (u ∷ us) (elim b [ true ↦ 0 | false ↦ suc (place_of w us) ]) ≡ Some v
-        → (slice_get us (place_of w us) ≡ Some v → v ≡ w) → v ≡ w
+        → slice_get (u ∷ us) (elim b [ true ↦ 0 | false ↦ suc (index_of w us) ]) ≡ Some v
+        → (slice_get us (index_of w us) ≡ Some v → v ≡ w) → v ≡ w
     by true h e on = let s : w ≡ u = same_word w u h in cc
     by false h e on = on e
 
 pub variable_word : (db : List Statement) (w : Bytes)
-    → is_variable_number db (place_of w (symbol_names db)) ≡ true
+    → is_variable_number db (index_of w (symbol_names db)) ≡ true
     → is_in w (flat_map variables_of db) ≡ true
 variable_word db w e = grind (arith, common_steps, place_get)
 
 pub member_word : (names ws : List Bytes) (x : ℕ)
-    → is_member (map (λ w. place_of w names) ws) x ≡ true
-    → (w : Bytes) × (is_in w ws ≡ true) × (x ≡ place_of w names)
+    → is_member (map (λ w. index_of w names) ws) x ≡ true
+    → (w : Bytes) × (is_in w ws ≡ true) × (x ≡ index_of w names)
 member_word names [] x e = absurd (true≢false (sym e))
 member_word names (v ∷ ws) x e =
-    by (or_cases (x == place_of v names) (is_member (map (λ w. place_of w names) ws) x) e)
+    by (or_cases (x == index_of v names) (is_member (map (λ w. index_of w names) ws) x) e)
     (λ h. member_word names ws x h)
   where
-    by : ((x == place_of v names) ≡ true) ⊎ (is_member (map (λ w. place_of w names) ws) x ≡ true)
-        → (is_member (map (λ w. place_of w names) ws) x ≡ true
-        → (w : Bytes) × (is_in w ws ≡ true) × (x ≡ place_of w names))
-        → (w : Bytes) × (is_in w (v ∷ ws) ≡ true) × (x ≡ place_of w names)
+    by : ((x == index_of v names) ≡ true) ⊎ (is_member (map (λ w. index_of w names) ws) x ≡ true)
+        → (is_member (map (λ w. index_of w names) ws) x ≡ true
+        → (w : Bytes) × (is_in w ws ≡ true) × (x ≡ index_of w names))
+        → (w : Bytes) × (is_in w (v ∷ ws) ≡ true) × (x ≡ index_of w names)
     by (inl h) on = (
       v,
       or_left (bytes_eq v v) (is_in v ws) ((bytes_eq-Decides v v).1 refl),
       eqb-true x
-          (place_of v names) h,
+          (index_of v names) h,
     )
     by (inr h) on = let r = on h in (r.0, or_right (bytes_eq r.0 v) (is_in r.0 ws) r.1, r.2)
 

@@ -13,7 +13,7 @@ use Rattle.mm_spec.specs.Output.{TextFault}
 use Rattle.mm_spec.specs.Laws.Table.{Class, type_of, equals, close_block, plain, class, Progress}
 use Rattle.mm_spec.specs.Laws.Table.{start, labelled, words, formula, Transition, stop, go, done, transition}
 use Rattle.mm_spec.specs.Laws.Table.{statements_of, stop_from, stop_after, rest_from}
-use Rattle.mm_spec.specs.Laws.Table.{rest_after, begins, fault_at_end}
+use Rattle.mm_spec.specs.Laws.Table.{rest_after, begins}
 use Rattle.mm_spec.proofs.FollowedLaw.{State, at_start, at_label, in_symbols, in_formula, in_proof}
 use Rattle.mm_spec.proofs.FollowedLaw.{next, label_at_start, follow, follow_append, no_way_back}
 use Rattle.mm_spec.proofs.FollowedLaw.{statements_followed, begins_followed}
@@ -266,6 +266,12 @@ goes_on : (ts : List Token) (r : Progress) (b : Bool)
     → follow (Some (at_start 0)) ts ≡ Some (state_of b r) → begins r ≡ false
     → (are_statements : AreLongestStatements ts (statements_of ts)) → are_statements.rest ≢ []
 goes_on ts r b e h x n = grind (arith, common_steps, append-nil, not_between)
+
+-- the fault at the end of a text of `len` bytes
+abbrev pub fault_at_end : ℕ → Progress → Option Fault
+fault_at_end len (start zero) = None
+fault_at_end len (start (suc d)) = Some (fault len OpenBlock)
+fault_at_end len _ = Some (fault len OpenStatement)
 
 pub end_fault : (len : ℕ) (ts : List Token) (f : Fault) → stop_from (start 0) ts ≡ None
     → fault_at_end len (rest_from (start 0) ts) ≡ Some f → FileEndFault len ts f

@@ -2,9 +2,13 @@
 //! appendix "Compressed Proofs"). The folder `specs/` defines words, tokens, statements, proofs,
 //! faults, citations, reports and the end of a run; every crate except `mm_board` depends on it.
 //! The plain types that go with the definitions are declared here. There is no code except the
-//! numbers of codes and the bytes of a word. What a reader has to believe is the folder `specs/`
-//! without `specs/Laws`; the laws that the definitions obey are in the crate `mm_laws`.
+//! numbers of codes, the bytes of a word and the plain request. What a reader has to believe is the
+//! folder `specs/` without `specs/Laws`; the laws that the definitions obey are in the crate
+//! `mm_laws`.
 #![tactic(auto)]
+
+ghost use Rattle.std.specs.Prelude.{◌≡◌};
+ghost use Rattle.mm_spec.specs.Request.{plain};
 
 mod bytes;
 mod codes;
@@ -92,6 +96,22 @@ pub struct Request<'a> {
     pub essential: bool,
     /// Whether open theorems count as axioms.
     pub with_open: bool,
+}
+
+impl<'a> Request<'a> {
+    /// What is requested where no option is given: all sections in the first form, on all axioms,
+    /// by all nodes.
+    pub fn plain() -> Self
+        ensures { result ≡ plain }
+    {
+        Request {
+            only: None,
+            choice: Choice::All,
+            form: Form::One,
+            essential: false,
+            with_open: false,
+        }
+    }
 }
 
 impl<'a> Model for Request<'a> {

@@ -5,11 +5,10 @@ use Rattle.std.proofs.Common.{true≢false}
 use Rattle.std.proofs.lemmas.Option.{slice_get-get_or}
 use Rattle.mm_spec.specs.Text.{is_in}
 use Rattle.mm_spec.specs.Scope.{variables_of}
-use Rattle.mm_database.specs.Numbered.{AreSymbols}
 use Rattle.mm_database.specs.Names.{is_variable_in}
 use Rattle.mm_spec.specs.Statement.{Statement, opening}
 use Rattle.mm_spec.specs.Lawful.{scope_fault}
-use Rattle.mm_spec.specs.Frame.{symbol_names, formula_at}
+use Rattle.mm_spec.specs.Frame.{symbol_names, formula_at, is_variable_number}
 use Rattle.mm_spec.specs.declared.Fault.{Fault}
 use Rattle.mm_spec.specs.Lexed.{LexedText}
 use Rattle.mm_spec.specs.Output.{IsRead}
@@ -65,6 +64,13 @@ sound_read len x db fault r look labels b keeps few =
 known_as : (x : Option Symbol) → is_variable_in x ≡ is_variable_entry (entry_of x)
 known_as None = refl
 known_as (Some s) = refl
+
+-- the names of the symbols, and which of them are variables
+pub record AreSymbols (db : List Statement) (names : List (List ℕ))
+    (kinds : List Bool) : Type 0 where
+  pub names_are : names ≡ symbol_names db
+  pub count : length kinds ≡ length names
+  pub variable : (s : ℕ) → s < length names → get_or kinds s false ≡ is_variable_number db s
 
 pub are_symbols : (db : List Statement) (look : List ℕ → Option Symbol) (labels : List ℕ → Option ℕ)
     → (b : BlockLists)

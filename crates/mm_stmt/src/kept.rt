@@ -4,7 +4,6 @@ ghost use Rattle.std.specs.Prelude.{◌≡◌, ◌<◌, ◌+◌, ◌++◌, All, 
 ghost use Rattle.mm_outline.specs.Parts.{IsOutline};
 ghost use Rattle.mm_database.specs.Kept.{kept_words};
 
-use mm_database::kept::has_label;
 use mm_lists::{Lists, end_list};
 use mm_outline::parts::Outline;
 use mm_spec::Word;
@@ -20,7 +19,7 @@ fn keep<A: Allocator>(
     requires within { outline.end < length tokens.now }
     ensures { OnOk result (words.new.items ≡ words.old.items ++ kept_words tokens.now outline) }
 {
-    if has_label(outline.kind) {
+    if outline.kind.has_label() {
         words.push(tokens[outline.keyword as usize - 1])?;
     }
     if outline.middle < outline.end {
@@ -41,10 +40,10 @@ pub(crate) fn keep_all<A: Allocator + Copy>(
     ensures { IfOk result (λ k. k ≡ map (kept_words tokens.now) outlines.now) }
 {
     let mut words = Vec::new(alloc);
-    let mut ends = Vec::new(alloc);
+    let mut places = Vec::new(alloc);
     for outline in outlines {
         keep(tokens, *outline, &mut words)?;
-        end_list(&words, &mut ends)?;
+        end_list(&words, &mut places)?;
     }
-    Ok(Lists::from_ends(words, ends))
+    Ok(Lists::from_ends(words, places))
 }

@@ -87,45 +87,23 @@ fn is_theorem(kind: Kind) -> bool
     }
 }
 
-fn is_axiom(kind: Kind) -> bool
-    ensures { result ≡ is_axiom_kind kind }
-{
-    match kind {
-        Kind::Axiom => true,
-        _ => false,
-    }
-}
-
-/// Returns the numbers of the theorems, in file order.
-pub(crate) fn theorems_of<A: Allocator + Copy>(
+/// Returns the numbers of the theorems and those of the axioms, in file order.
+pub(crate) fn assertions_of<A: Allocator + Copy>(
     alloc: A,
     kinds: &[Kind],
-) -> Result<Vec<u32, A>, AllocError>
+) -> Result<(Vec<u32, A>, Vec<u32, A>), AllocError>
     requires { length kinds.now < 2 ^ 31 }
-    ensures { IfOk result (λ v. v.items ≡ numbers_of is_theorem_kind kinds.now) }
+    ensures theorems { IfOk result (λ v. v.0.items ≡ numbers_of is_theorem_kind kinds.now) }
+    ensures axioms { IfOk result (λ v. v.1.items ≡ numbers_of is_axiom_kind kinds.now) }
 {
-    let mut all = Vec::new(alloc);
+    let mut theorems = Vec::new(alloc);
+    let mut axioms = Vec::new(alloc);
     for k in 0..kinds.len() as u32 {
-        if is_theorem(kinds[k as usize]) {
-            all.push(k)?;
+        match kinds[k as usize] {
+            Kind::Theorem => theorems.push(k)?,
+            Kind::Axiom => axioms.push(k)?,
+            _ => {}
         }
     }
-    Ok(all)
-}
-
-/// Returns the numbers of the axioms, in file order.
-pub(crate) fn axioms_of<A: Allocator + Copy>(
-    alloc: A,
-    kinds: &[Kind],
-) -> Result<Vec<u32, A>, AllocError>
-    requires { length kinds.now < 2 ^ 31 }
-    ensures { IfOk result (λ v. v.items ≡ numbers_of is_axiom_kind kinds.now) }
-{
-    let mut all = Vec::new(alloc);
-    for k in 0..kinds.len() as u32 {
-        if is_axiom(kinds[k as usize]) {
-            all.push(k)?;
-        }
-    }
-    Ok(all)
+    Ok((theorems, axioms))
 }

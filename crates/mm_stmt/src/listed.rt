@@ -6,7 +6,7 @@ ghost use Rattle.mm_outline.specs.Parts.{AreWithin, IsOutline};
 ghost use Rattle.mm_outline.specs.Statements.{statements};
 ghost use Rattle.mm_database.specs.Database.{IsListed};
 
-use crate::kinds::{axioms_of, kinds_of, theorems_of};
+use crate::kinds::{assertions_of, kinds_of};
 use crate::spaced::spaced_labels_of;
 use mm_database::listed::Listed;
 use mm_outline::parts::Outline;
@@ -29,8 +29,7 @@ pub(crate) fn list_statements<A: Allocator + Copy>(
         (λ l. IsListed (counted with_open (statements text.now tokens.now outlines.now)) l) }
 {
     let kinds = kinds_of(alloc, text, tokens, outlines, with_open)?;
-    let theorems = theorems_of(alloc, &kinds)?;
-    let axioms = axioms_of(alloc, &kinds)?;
+    let (theorems, axioms) = assertions_of(alloc, &kinds)?;
     let spaced = spaced_labels_of(alloc, text, tokens, outlines, &theorems)?;
     Ok(Listed {
         kinds,

@@ -36,8 +36,6 @@ pub fn check_all<'d, R: Threads + Wait + Sync, A: Allocator + Copy + Send + Sync
     requires { (1 ≤ workers) × (workers ≤ worker_limit) }
     ensures { IfOk result (λ judged. Judges database.now.statements essential judged) }
 {
-    // The proof needs the clauses of `len`.
-    let _ = database.len();
     let count = database.theorems().len();
     let rules = Rules::new(alloc, database)?;
     let Ok((board, seat)) = Board::new(alloc, count as u32) else {

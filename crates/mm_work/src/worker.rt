@@ -104,8 +104,6 @@ fn check<A: Allocator + Copy>(
         → FindsFault job.now index found.old found.new }
 {
     let database = job.database;
-    // The proof needs the clauses of `len`.
-    let _ = database.len();
     let theorem = database.theorems()[index as usize];
     match verify(alloc, database, checker, theorem, job.essential) {
         Ok(checked) => match found.keep(index, checked.cites()) {

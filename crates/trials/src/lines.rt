@@ -112,22 +112,24 @@ fn options_stand_before_and_after_the_file(rt: HostRuntime) {
     assert!(&rt; says(alloc, &after, 4, 4, None, Choice::All, Some("--help")));
 }
 
+/// Words, and the form, the nodes and the open theorems that they ask for.
+const REPORT_OPTIONS: [(&[&str], Form, bool, bool); 5] = [
+    (&["mmdepend"], Form::One, false, false),
+    (&["mmdepend", "--essential"], Form::One, true, false),
+    (&["mmdepend", "--form", "2"], Form::Two, false, false),
+    (&["mmdepend", "--open"], Form::One, false, true),
+    (
+        &["mmdepend", "--form=1", "--essential", "-"],
+        Form::One,
+        true,
+        false,
+    ),
+];
+
 #[test]
 fn options_of_the_report(rt: HostRuntime) {
     let alloc = rt.alloc();
-    let rows: [(&[&str], Form, bool, bool); 5] = [
-        (&["mmdepend"], Form::One, false, false),
-        (&["mmdepend", "--essential"], Form::One, true, false),
-        (&["mmdepend", "--form", "2"], Form::Two, false, false),
-        (&["mmdepend", "--open"], Form::One, false, true),
-        (
-            &["mmdepend", "--form=1", "--essential", "-"],
-            Form::One,
-            true,
-            false,
-        ),
-    ];
-    for (words, form, essential, with_open) in rows {
+    for (words, form, essential, with_open) in REPORT_OPTIONS {
         match line(alloc, words) {
             Ok(line) => {
                 assert_eq!(rt; line.plan.form, form);
@@ -153,48 +155,50 @@ fn the_version_is_told(rt: HostRuntime) {
     }
 }
 
+/// Words that are refused, and the texts that tell why.
+const FAULTS: [(&[&str], &str); 9] = [
+    (
+        &["mmdepend", "--workers", "0"],
+        "error: invalid value '0' for '--workers <N>': 0 is not in 1..=64\n\nFor more information, try '--help'.\n",
+    ),
+    (
+        &["mmdepend", "--workers", "65", "x.mm"],
+        "error: invalid value '65' for '--workers <N>': 65 is not in 1..=64\n\nFor more information, try '--help'.\n",
+    ),
+    (
+        &["mmdepend", "--workers", "four"],
+        "error: invalid value 'four' for '--workers <N>': invalid digit found in string\n\nFor more information, try '--help'.\n",
+    ),
+    (
+        &["mmdepend", "--pieces", "65"],
+        "error: invalid value '65' for '--pieces <N>': 65 is not in 1..=64\n\nFor more information, try '--help'.\n",
+    ),
+    (
+        &["mmdepend", "--report", "none"],
+        "error: invalid value 'none' for '--report <PART>'\n  [possible values: all, matrix, counts, usage, citations]\n\nFor more information, try '--help'.\n",
+    ),
+    (
+        &["mmdepend", "a.mm", "b.mm"],
+        "error: unexpected argument 'b.mm' found\n\nUsage: mmdepend [OPTIONS] [FILE]\n\nFor more information, try '--help'.\n",
+    ),
+    (
+        &["mmdepend", "--threads", "2"],
+        "error: unexpected argument '--threads' found\n\n  tip: to pass '--threads' as a value, use '-- --threads'\n\nUsage: mmdepend [OPTIONS] [FILE]\n\nFor more information, try '--help'.\n",
+    ),
+    (
+        &["mmdepend", "--only"],
+        "error: a value is required for '--only <T>' but none was supplied\n\nFor more information, try '--help'.\n",
+    ),
+    (
+        &["mmdepend", "--only", "|-", "--only", "wff"],
+        "error: the argument '--only <T>' cannot be used multiple times\n\nUsage: mmdepend [OPTIONS] [FILE]\n\nFor more information, try '--help'.\n",
+    ),
+];
+
 #[test]
 fn faults_are_told_by_their_texts(rt: HostRuntime) {
     let alloc = rt.alloc();
-    let rows: [(&[&str], &str); 9] = [
-        (
-            &["mmdepend", "--workers", "0"],
-            "error: invalid value '0' for '--workers <N>': 0 is not in 1..=64\n\nFor more information, try '--help'.\n",
-        ),
-        (
-            &["mmdepend", "--workers", "65", "x.mm"],
-            "error: invalid value '65' for '--workers <N>': 65 is not in 1..=64\n\nFor more information, try '--help'.\n",
-        ),
-        (
-            &["mmdepend", "--workers", "four"],
-            "error: invalid value 'four' for '--workers <N>': invalid digit found in string\n\nFor more information, try '--help'.\n",
-        ),
-        (
-            &["mmdepend", "--pieces", "65"],
-            "error: invalid value '65' for '--pieces <N>': 65 is not in 1..=64\n\nFor more information, try '--help'.\n",
-        ),
-        (
-            &["mmdepend", "--report", "none"],
-            "error: invalid value 'none' for '--report <PART>'\n  [possible values: all, matrix, counts, usage, citations]\n\nFor more information, try '--help'.\n",
-        ),
-        (
-            &["mmdepend", "a.mm", "b.mm"],
-            "error: unexpected argument 'b.mm' found\n\nUsage: mmdepend [OPTIONS] [FILE]\n\nFor more information, try '--help'.\n",
-        ),
-        (
-            &["mmdepend", "--threads", "2"],
-            "error: unexpected argument '--threads' found\n\n  tip: to pass '--threads' as a value, use '-- --threads'\n\nUsage: mmdepend [OPTIONS] [FILE]\n\nFor more information, try '--help'.\n",
-        ),
-        (
-            &["mmdepend", "--only"],
-            "error: a value is required for '--only <T>' but none was supplied\n\nFor more information, try '--help'.\n",
-        ),
-        (
-            &["mmdepend", "--only", "|-", "--only", "wff"],
-            "error: the argument '--only <T>' cannot be used multiple times\n\nUsage: mmdepend [OPTIONS] [FILE]\n\nFor more information, try '--help'.\n",
-        ),
-    ];
-    for (words, text) in rows {
+    for (words, text) in FAULTS {
         match refusal(alloc, words) {
             Some((help, told)) => {
                 assert!(&rt; !help);

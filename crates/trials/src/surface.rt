@@ -2,8 +2,11 @@
 //! its arguments in their order, on the text with the first theorem. `status` is called in the tests
 //! of the program.
 
-ghost use Rattle.std.specs.Prelude.{IfOk, false};
+ghost use Rattle.std.specs.Prelude.{◌≡◌, IfOk, Option, false, length};
+ghost use Rattle.mm_spec.specs.Text.{Bytes};
+ghost use Rattle.mm_spec.specs.Output.{columns, theorems};
 ghost use Rattle.mm_work.specs.Judged.{AllCited};
+ghost use Rattle.mm_report.specs.Rows.{AreCitationsOf};
 
 use crate::texts::{FIRST_REPORT, FIRST_TEXT};
 use mm_board::Board;
@@ -14,7 +17,7 @@ use mm_line::line;
 use mm_plan::{Cutting, Plan};
 use mm_proof::{Step, number, read_proof};
 use mm_report::{write_citations, write_refusal, write_report};
-use mm_rows::{Columns, matrix, ones, or_row, waves};
+use mm_rows::{Columns, Matrix, matrix, ones, or_row, waves};
 use mm_rule::is_assertion;
 use mm_run::{RunEnd, run};
 use mm_spec::{Choice, Code, Fault, Form};
@@ -210,38 +213,63 @@ fn rows(rt: HostRuntime) -> Result<(), AllocError> {
     Ok(())
 }
 
-#[test]
-fn reports(rt: HostRuntime) -> Result<(), AllocError> {
-    let database = database_of(&rt, rt.alloc())?;
-    let citations = citations_of(&rt, rt.alloc(), &database)?;
-    let columns = Columns::new(rt.alloc(), &database, None)?;
-    let matrix = matrix(&rt, rt.alloc(), &citations, &columns)?;
-    let mut report = Vec::new(rt.alloc());
+/// Whether the report of the text is written.
+fn has_report(
+    alloc: Global,
+    database: &Database<Global>,
+    chosen: &Columns<Global>,
+    matrix: &Matrix<Global>,
+) -> bool
+    requires columns { (only : Option Bytes) × (chosen.now ≡ columns database.now.statements only) }
+    requires width { length chosen.now ≡ matrix.now.columns }
+    requires rows { length (theorems database.now.statements) ≡ matrix.now.rows }
+{
+    let mut report = Vec::new(alloc);
     let written = write_report(
         &mut report,
-        &database,
-        &columns,
-        &matrix,
+        database,
+        chosen,
+        matrix,
         false,
         Form::One,
         Choice::All,
     );
-    assert!(&rt; written.is_ok() && report.as_slice() == FIRST_REPORT);
-    let mut cited = Vec::new(rt.alloc());
+    written.is_ok() && report.as_slice() == FIRST_REPORT
+}
+
+/// Whether the report of the text's citations is written.
+fn has_citations(
+    alloc: Global,
+    database: &Database<Global>,
+    chosen: &Columns<Global>,
+    citations: &Citations<Global>,
+) -> bool
+    requires { AreCitationsOf database.now.statements citations.now }
+{
+    let mut report = Vec::new(alloc);
     let written = write_citations(
-        &mut cited,
-        &database,
-        &columns,
-        &citations,
+        &mut report,
+        database,
+        chosen,
+        citations,
         None,
         false,
         Form::Two,
     );
-    assert!(&rt; written.is_ok());
-    assert!(&rt;
-        cited.as_slice()
+    written.is_ok()
+        && report.as_slice()
             == b"mmdepend 2\naxioms 2\ntheorems 1\ncitations\nwi2:1:wi\nend\n".as_slice()
-    );
+}
+
+#[test]
+fn reports(rt: HostRuntime) -> Result<(), AllocError> {
+    let alloc = rt.alloc();
+    let database = database_of(&rt, alloc)?;
+    let citations = citations_of(&rt, alloc, &database)?;
+    let columns = Columns::new(alloc, &database, None)?;
+    let matrix = matrix(&rt, alloc, &citations, &columns)?;
+    assert!(&rt; has_report(alloc, &database, &columns, &matrix));
+    assert!(&rt; has_citations(alloc, &database, &columns, &citations));
     Ok(())
 }
 
@@ -258,15 +286,7 @@ fn refusals(rt: HostRuntime) {
 
 #[test]
 fn runs(rt: HostRuntime) {
-    let plan = Plan {
-        cuts: Cutting::Places(Vec::new(rt.alloc())),
-        workers: 1,
-        only: None,
-        choice: Choice::All,
-        form: Form::One,
-        essential: false,
-        with_open: false,
-    };
+    let plan = Plan::plain(Cutting::Places(Vec::new(rt.alloc())), 1);
     assert!(&rt; plan.is_lawful());
     let mut from = FIRST_TEXT;
     let mut to = Vec::new(rt.alloc());

@@ -5,7 +5,6 @@ use crate::heap::Refusing;
 use mm_lists::Lists;
 use mm_machine::{DisjointCache, Machine};
 use mm_proof::{Step, Steps};
-use mm_rule::zeros;
 use mm_stmt::Sym;
 use std::alloc::{AllocError, Allocator, Global};
 use std::process::Abort;
@@ -71,23 +70,6 @@ fn a_step_that_is_refused_is_not_appended(rt: HostRuntime) {
         assert!(&rt; step_refused(&rt, &heap, most, 1));
         assert!(&rt; !step_refused(&rt, &heap, most, 2));
     }
-}
-
-/// Whether these are five numbers, each 0.
-fn are_zeros<A: Allocator>(answer: Result<Vec<u32, A>, AllocError>) -> Option<bool> {
-    match answer {
-        Ok(numbers) => Some(numbers.as_slice() == [0u32; 5].as_slice()),
-        Err(_) => None,
-    }
-}
-
-#[test]
-fn numbers_without_memory(rt: HostRuntime) {
-    let heap = Refusing::new(rt.alloc());
-    heap.refuse(1);
-    assert!(&rt; met(&rt, &heap, are_zeros(zeros(&heap, 5))));
-    heap.refuse(2);
-    assert!(&rt; !met(&rt, &heap, are_zeros(zeros(&heap, 5))));
 }
 
 /// Whether there is a list of disjoint pairs.

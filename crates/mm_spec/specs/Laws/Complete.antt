@@ -4,12 +4,9 @@
 use Rattle.std.specs.Prelude.{ℕ, Bool, false, ◌&&◌, not, List, [], ◌∷◌, Option, Some, None, ◌==◌}
 use Rattle.std.specs.Prelude.{IsTrue}
 use Rattle.std.specs.List.{list_any, AllByRecursion}
-use Rattle.mm_spec.specs.Text.{Fault}
 use Rattle.mm_spec.specs.Statement.{Statement}
 use Rattle.mm_spec.specs.Derivation.{Formula, Frame, Context, Rule, hypothesis, assertion}
 use Rattle.mm_spec.specs.Citation.{context_at}
-use Rattle.mm_spec.specs.Lexed.{LexedText}
-use Rattle.mm_spec.specs.Output.{IsRead}
 
 module _ (c : Context) where
   -- whether a hypothesis has the form of the variable's `$f`: a constant, and the variable
@@ -41,9 +38,3 @@ module _ (c : Context) where
 -- the frame of each assertion for which a label stands is complete
 abbrev pub AreComplete : List Statement → Type 0
 AreComplete db = (k l : ℕ) → IsFine (context_at db k) ((context_at db k).rule l)
-
--- The frames of everything that is read are complete: a lawful `$e`, `$a` or `$p` has an active
--- `$f` for each of its variables.
-abbrev pub ReadsComplete : ℕ → LexedText → Type 0
-ReadsComplete len x =
-    (db : List Statement) (fault : Option Fault) → IsRead len x db fault → AreComplete db

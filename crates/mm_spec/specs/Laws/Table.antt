@@ -5,7 +5,6 @@ use Rattle.std.specs.Prelude.{Option, None, Some}
 use Rattle.mm_spec.specs.Text.{Bytes, Token, Fault, fault, has_dollar, is_label}
 use Rattle.mm_spec.specs.Statement.{Statement, constants, variables, disjoint, floating, essential}
 use Rattle.mm_spec.specs.Statement.{axiomatic, provable, opening, closing, shape_code}
-use Rattle.mm_spec.specs.declared.Code.TheVariants.{OpenStatement, OpenBlock}
 
 -- what a word is
 pub data Class : Type 0 where
@@ -113,9 +112,3 @@ rest_after (done d s) on r = on (start d)
 abbrev pub rest_from : Progress → List Token → Progress
 rest_from r [] = r
 rest_from r (t ∷ ts) = rest_after (transition r (class t.word) t) (λ q. rest_from q ts) r
-
--- the fault at the end of a text of `len` bytes
-abbrev pub fault_at_end : ℕ → Progress → Option Fault
-fault_at_end len (start zero) = None
-fault_at_end len (start (suc d)) = Some (fault len OpenBlock)
-fault_at_end len _ = Some (fault len OpenStatement)

@@ -4,7 +4,6 @@ use super::{PLAIN, writes};
 use crate::texts::{FIRST_REPORT, FIRST_TEXT, THROUGH_REPORT, joined, through_a_theorem};
 use mm_plan::{Cutting, Plan};
 use mm_run::{RunEnd, run};
-use mm_spec::{Choice, Form};
 use std::alloc::{AllocError, Global};
 use std::sync::Wait;
 use std::thread::Threads;
@@ -17,15 +16,7 @@ fn reports<R: Threads + Wait + Sync>(
     mut text: &[u8],
     report: &[u8],
 ) -> Result<bool, AllocError> {
-    let plan = Plan {
-        cuts: Cutting::Places(places.to_vec(alloc)?),
-        workers: 4,
-        only: None,
-        choice: Choice::All,
-        form: Form::One,
-        essential: false,
-        with_open: false,
-    };
+    let plan = Plan::plain(Cutting::Places(places.to_vec(alloc)?), 4);
     let mut written = Vec::new(alloc);
     Ok(
         plan.is_lawful()

@@ -31,187 +31,200 @@ const MENTIONING: &[&[u8]] = &[
     CLOSE,
 ];
 
+/// Runs that choose sections and columns.
+const SECTIONS: [Case<'static>; 8] = [
+    Case {
+        words: PLAIN,
+        parts: &[FIRST_TEXT],
+        output: FIRST_REPORT,
+    },
+    Case {
+        words: PLAIN,
+        parts: &[],
+        output: NOTHING_REPORT,
+    },
+    Case {
+        words: PLAIN,
+        parts: TWO,
+        output: THROUGH_REPORT,
+    },
+    Case {
+        words: PLAIN,
+        parts: &[SAME],
+        output: b"mmdepend 1\naxioms 0\ntheorems 1\nmatrix\nsame:\ncounts\nsame:0\nusage\nend\n",
+    },
+    Case {
+        words: PLAIN,
+        parts: MENTIONING,
+        output: b"mmdepend 1\naxioms 4\ntheorems 1\nmatrix\na1i:1110\ncounts\na1i:3\nusage\nwi:1:a1i\nax-1:1:a1i\nax-mp:1:a1i\nax-u:0:\nend\n",
+    },
+    Case {
+        words: &["mmdepend", "--only", "|-", "--report", "counts"],
+        parts: TWO,
+        output: b"mmdepend 1\naxioms 2\ntheorems 2\ncounts\na1i:2\na2:2\nend\n",
+    },
+    Case {
+        words: &["mmdepend", "--only", "|-", "--report", "matrix"],
+        parts: ONE,
+        output: b"mmdepend 1\naxioms 2\ntheorems 1\nmatrix\na1i:11\nend\n",
+    },
+    Case {
+        words: &["mmdepend", "--only", "x", "--report", "usage"],
+        parts: ONE,
+        output: b"mmdepend 1\naxioms 0\ntheorems 1\nusage\nend\n",
+    },
+];
+
 #[test]
 fn sections_and_columns(rt: HostRuntime) -> Result<(), AllocError> {
-    let cases = [
-        Case {
-            words: PLAIN,
-            parts: &[FIRST_TEXT],
-            output: FIRST_REPORT,
-        },
-        Case {
-            words: PLAIN,
-            parts: &[],
-            output: NOTHING_REPORT,
-        },
-        Case {
-            words: PLAIN,
-            parts: TWO,
-            output: THROUGH_REPORT,
-        },
-        Case {
-            words: PLAIN,
-            parts: &[SAME],
-            output: b"mmdepend 1\naxioms 0\ntheorems 1\nmatrix\nsame:\ncounts\nsame:0\nusage\nend\n",
-        },
-        Case {
-            words: PLAIN,
-            parts: MENTIONING,
-            output: b"mmdepend 1\naxioms 4\ntheorems 1\nmatrix\na1i:1110\ncounts\na1i:3\nusage\nwi:1:a1i\nax-1:1:a1i\nax-mp:1:a1i\nax-u:0:\nend\n",
-        },
-        Case {
-            words: &["mmdepend", "--only", "|-", "--report", "counts"],
-            parts: TWO,
-            output: b"mmdepend 1\naxioms 2\ntheorems 2\ncounts\na1i:2\na2:2\nend\n",
-        },
-        Case {
-            words: &["mmdepend", "--only", "|-", "--report", "matrix"],
-            parts: ONE,
-            output: b"mmdepend 1\naxioms 2\ntheorems 1\nmatrix\na1i:11\nend\n",
-        },
-        Case {
-            words: &["mmdepend", "--only", "x", "--report", "usage"],
-            parts: ONE,
-            output: b"mmdepend 1\naxioms 0\ntheorems 1\nusage\nend\n",
-        },
-    ];
-    all_write(&rt, rt.alloc(), &cases)
+    all_write(&rt, rt.alloc(), &SECTIONS)
 }
 
 const LOGICAL_REPORT: &[u8] =
     b"mmdepend 1\naxioms 3\ntheorems 1\nmatrix\na1i:011\ncounts\na1i:2\nusage\nwi:0:\nax-1:1:a1i\nax-mp:1:a1i\nend\n";
 
-// The step `wi` of the last proof stands first for a `$f`, and is used again for the `$e`.
+const ESSENTIAL: &[&str] = &["mmdepend", "--essential"];
+
+/// Runs by essential nodes. The step `wi` of the last proof stands first for a `$f`, and is used
+/// again for the `$e`.
+const ESSENTIAL_CASES: [Case<'static>; 7] = [
+    Case {
+        words: ESSENTIAL,
+        parts: ONE,
+        output: LOGICAL_REPORT,
+    },
+    Case {
+        words: ESSENTIAL,
+        parts: &[
+            BASE,
+            DETACHMENT,
+            CONSEQUENT,
+            b"( wi ax-1 ax-mp ) ABADCA BEF",
+            CLOSE,
+        ],
+        output: LOGICAL_REPORT,
+    },
+    Case {
+        words: ESSENTIAL,
+        parts: &[
+            BASE,
+            DETACHMENT,
+            CONSEQUENT,
+            b"( wi ax-1 ax-mp ) ABADZZCABEF",
+            CLOSE,
+        ],
+        output: LOGICAL_REPORT,
+    },
+    Case {
+        words: ESSENTIAL,
+        parts: &[FIRST_TEXT],
+        output: FIRST_REPORT,
+    },
+    Case {
+        words: &["mmdepend", "--essential", "--report", "matrix"],
+        parts: TWO,
+        output: b"mmdepend 1\naxioms 3\ntheorems 2\nmatrix\na1i:011\na2:011\nend\n",
+    },
+    Case {
+        words: &["mmdepend", "--essential", "--report", "counts"],
+        parts: TWO,
+        output: b"mmdepend 1\naxioms 3\ntheorems 2\ncounts\na1i:2\na2:2\nend\n",
+    },
+    Case {
+        words: ESSENTIAL,
+        parts: &[
+            BASE,
+            b"${ e1 $e wff p $. ax-w $a wff p $. $}\n",
+            b"s $p wff ( p -> q ) $= ( wi ax-w ) ABCZED $.\n",
+        ],
+        output: b"mmdepend 1\naxioms 3\ntheorems 1\nmatrix\ns:101\ncounts\ns:2\nusage\nwi:1:s\nax-1:0:\nax-w:1:s\nend\n",
+    },
+];
+
 #[test]
 fn citations_by_essential_nodes(rt: HostRuntime) -> Result<(), AllocError> {
-    let words: &[&str] = &["mmdepend", "--essential"];
-    let cases = [
-        Case {
-            words,
-            parts: ONE,
-            output: LOGICAL_REPORT,
-        },
-        Case {
-            words,
-            parts: &[
-                BASE,
-                DETACHMENT,
-                CONSEQUENT,
-                b"( wi ax-1 ax-mp ) ABADCA BEF",
-                CLOSE,
-            ],
-            output: LOGICAL_REPORT,
-        },
-        Case {
-            words,
-            parts: &[
-                BASE,
-                DETACHMENT,
-                CONSEQUENT,
-                b"( wi ax-1 ax-mp ) ABADZZCABEF",
-                CLOSE,
-            ],
-            output: LOGICAL_REPORT,
-        },
-        Case {
-            words,
-            parts: &[FIRST_TEXT],
-            output: FIRST_REPORT,
-        },
-        Case {
-            words: &["mmdepend", "--essential", "--report", "matrix"],
-            parts: TWO,
-            output: b"mmdepend 1\naxioms 3\ntheorems 2\nmatrix\na1i:011\na2:011\nend\n",
-        },
-        Case {
-            words: &["mmdepend", "--essential", "--report", "counts"],
-            parts: TWO,
-            output: b"mmdepend 1\naxioms 3\ntheorems 2\ncounts\na1i:2\na2:2\nend\n",
-        },
-        Case {
-            words,
-            parts: &[
-                BASE,
-                b"${ e1 $e wff p $. ax-w $a wff p $. $}\n",
-                b"s $p wff ( p -> q ) $= ( wi ax-w ) ABCZED $.\n",
-            ],
-            output: b"mmdepend 1\naxioms 3\ntheorems 1\nmatrix\ns:101\ncounts\ns:2\nusage\nwi:1:s\nax-1:0:\nax-w:1:s\nend\n",
-        },
-    ];
-    all_write(&rt, rt.alloc(), &cases)
+    all_write(&rt, rt.alloc(), &ESSENTIAL_CASES)
 }
+
+const SECOND_FORM: &[&str] = &["mmdepend", "--form", "2", "--report", "matrix"];
+
+/// Runs in the second form.
+const SECOND_FORM_CASES: [Case<'static>; 4] = [
+    Case {
+        words: SECOND_FORM,
+        parts: &[FIRST_TEXT],
+        output: b"mmdepend 2\naxioms 2\ntheorems 1\nmatrix\nwi2:8\nend\n",
+    },
+    Case {
+        words: SECOND_FORM,
+        parts: ONE,
+        output: b"mmdepend 2\naxioms 3\ntheorems 1\nmatrix\na1i:e\nend\n",
+    },
+    Case {
+        words: SECOND_FORM,
+        parts: MENTIONING,
+        output: b"mmdepend 2\naxioms 4\ntheorems 1\nmatrix\na1i:e\nend\n",
+    },
+    Case {
+        words: &["mmdepend", "--form", "2"],
+        parts: &[SAME],
+        output: b"mmdepend 2\naxioms 0\ntheorems 1\nmatrix\nsame:\ncounts\nsame:0\nusage\nend\n",
+    },
+];
 
 #[test]
 fn the_second_form(rt: HostRuntime) -> Result<(), AllocError> {
-    let words: &[&str] = &["mmdepend", "--form", "2", "--report", "matrix"];
     let alloc = rt.alloc();
-    let cases = [
-        Case {
-            words,
-            parts: &[FIRST_TEXT],
-            output: b"mmdepend 2\naxioms 2\ntheorems 1\nmatrix\nwi2:8\nend\n",
-        },
-        Case {
-            words,
-            parts: ONE,
-            output: b"mmdepend 2\naxioms 3\ntheorems 1\nmatrix\na1i:e\nend\n",
-        },
-        Case {
-            words,
-            parts: MENTIONING,
-            output: b"mmdepend 2\naxioms 4\ntheorems 1\nmatrix\na1i:e\nend\n",
-        },
-        Case {
-            words: &["mmdepend", "--form", "2"],
-            parts: &[SAME],
-            output: b"mmdepend 2\naxioms 0\ntheorems 1\nmatrix\nsame:\ncounts\nsame:0\nusage\nend\n",
-        },
-    ];
-    all_write(&rt, alloc, &cases)?;
+    all_write(&rt, alloc, &SECOND_FORM_CASES)?;
     let digits =
         b"mmdepend 2\naxioms 70\ntheorems 2\nmatrix\nt:800000000000000184\nu:c00000000000000184\nend\n";
-    assert!(&rt; writes(&rt, alloc, words, &seventy(alloc)?, digits));
+    assert!(&rt; writes(&rt, alloc, SECOND_FORM, &seventy(alloc)?, digits));
     Ok(())
 }
 
+const CITATIONS: &[&str] = &["mmdepend", "--report", "citations"];
+
+const LOGICAL_CITATIONS: &[&str] = &["mmdepend", "--report", "citations", "--only", "|-"];
+
+const ESSENTIAL_CITATIONS: &[&str] = &["mmdepend", "--report", "citations", "--essential"];
+
+/// Runs that report direct citations.
+const CITATIONS_CASES: [Case<'static>; 6] = [
+    Case {
+        words: CITATIONS,
+        parts: TWO,
+        output: b"mmdepend 1\naxioms 3\ntheorems 2\ncitations\na1i:3:wi ax-1 ax-mp\na2:2:wi a1i\nend\n",
+    },
+    Case {
+        words: LOGICAL_CITATIONS,
+        parts: TWO,
+        output: b"mmdepend 1\naxioms 2\ntheorems 2\ncitations\na1i:2:ax-1 ax-mp\na2:1:a1i\nend\n",
+    },
+    Case {
+        words: ESSENTIAL_CITATIONS,
+        parts: TWO,
+        output: b"mmdepend 1\naxioms 3\ntheorems 2\ncitations\na1i:2:ax-1 ax-mp\na2:1:a1i\nend\n",
+    },
+    Case {
+        words: &["mmdepend", "--report", "citations", "--only", "x"],
+        parts: ONE,
+        output: b"mmdepend 1\naxioms 0\ntheorems 1\ncitations\na1i:0:\nend\n",
+    },
+    Case {
+        words: CITATIONS,
+        parts: &[],
+        output: b"mmdepend 1\naxioms 0\ntheorems 0\ncitations\nend\n",
+    },
+    Case {
+        words: &["mmdepend", "--report", "citations", "--form", "2"],
+        parts: &[FIRST_TEXT],
+        output: b"mmdepend 2\naxioms 2\ntheorems 1\ncitations\nwi2:1:wi\nend\n",
+    },
+];
+
 #[test]
 fn direct_citations(rt: HostRuntime) -> Result<(), AllocError> {
-    let words: &[&str] = &["mmdepend", "--report", "citations"];
-    let logical: &[&str] = &["mmdepend", "--report", "citations", "--only", "|-"];
-    let essential: &[&str] = &["mmdepend", "--report", "citations", "--essential"];
-    let cases = [
-        Case {
-            words,
-            parts: TWO,
-            output: b"mmdepend 1\naxioms 3\ntheorems 2\ncitations\na1i:3:wi ax-1 ax-mp\na2:2:wi a1i\nend\n",
-        },
-        Case {
-            words: logical,
-            parts: TWO,
-            output: b"mmdepend 1\naxioms 2\ntheorems 2\ncitations\na1i:2:ax-1 ax-mp\na2:1:a1i\nend\n",
-        },
-        Case {
-            words: essential,
-            parts: TWO,
-            output: b"mmdepend 1\naxioms 3\ntheorems 2\ncitations\na1i:2:ax-1 ax-mp\na2:1:a1i\nend\n",
-        },
-        Case {
-            words: &["mmdepend", "--report", "citations", "--only", "x"],
-            parts: ONE,
-            output: b"mmdepend 1\naxioms 0\ntheorems 1\ncitations\na1i:0:\nend\n",
-        },
-        Case {
-            words,
-            parts: &[],
-            output: b"mmdepend 1\naxioms 0\ntheorems 0\ncitations\nend\n",
-        },
-        Case {
-            words: &["mmdepend", "--report", "citations", "--form", "2"],
-            parts: &[FIRST_TEXT],
-            output: b"mmdepend 2\naxioms 2\ntheorems 1\ncitations\nwi2:1:wi\nend\n",
-        },
-    ];
-    all_write(&rt, rt.alloc(), &cases)
+    all_write(&rt, rt.alloc(), &CITATIONS_CASES)
 }
 
 /// An open theorem, `o`, and one that cites it, `u`.
@@ -234,76 +247,80 @@ const OPEN_REPORT: &[u8] =
 const OPEN_REPORT_IN_THE_SECOND_FORM: &[u8] =
     b"mmdepend 2\naxioms 4\nopen 1\ntheorems 1\nmatrix\nu:1\ncounts\nu:1\nusage\nwi:0:\nax-1:0:\nax-mp:0:\no:1:u\nend\n";
 
-// The citation by which `u` rests on `o` is essential, so the flag for these changes nothing.
+const WITH_OPEN: &[&str] = &["mmdepend", "--open"];
+
+/// Runs with open theorems. The citation by which `u` rests on `o` is essential, so the flag for
+/// these changes nothing.
+const OPEN_CASES: [Case<'static>; 8] = [
+    Case {
+        words: WITH_OPEN,
+        parts: OPEN,
+        output: OPEN_REPORT,
+    },
+    Case {
+        words: WITH_OPEN,
+        parts: OPEN_IN_BRACKETS,
+        output: OPEN_REPORT,
+    },
+    Case {
+        words: &["mmdepend", "--open", "--only", "wff", "--report", "counts"],
+        parts: OPEN,
+        output: b"mmdepend 1\naxioms 1\nopen 0\ntheorems 1\ncounts\nu:0\nend\n",
+    },
+    Case {
+        words: &["mmdepend", "--open", "--only", "|-", "--report", "counts"],
+        parts: OPEN,
+        output: b"mmdepend 1\naxioms 3\nopen 1\ntheorems 1\ncounts\nu:1\nend\n",
+    },
+    Case {
+        words: WITH_OPEN,
+        parts: &[],
+        output: b"mmdepend 1\naxioms 0\nopen 0\ntheorems 0\nmatrix\ncounts\nusage\nend\n",
+    },
+    Case {
+        words: &["mmdepend", "--open", "--form", "2"],
+        parts: OPEN,
+        output: OPEN_REPORT_IN_THE_SECOND_FORM,
+    },
+    Case {
+        words: &["mmdepend", "--open", "--form", "2", "--essential"],
+        parts: OPEN,
+        output: OPEN_REPORT_IN_THE_SECOND_FORM,
+    },
+    Case {
+        words: &["mmdepend", "--open", "--report", "citations"],
+        parts: OPEN,
+        output: b"mmdepend 1\naxioms 4\nopen 1\ntheorems 1\ncitations\nu:1:o\nend\n",
+    },
+];
+
 #[test]
 fn open_theorems_are_columns(rt: HostRuntime) -> Result<(), AllocError> {
-    let words: &[&str] = &["mmdepend", "--open"];
-    let cases = [
-        Case {
-            words,
-            parts: OPEN,
-            output: OPEN_REPORT,
-        },
-        Case {
-            words,
-            parts: OPEN_IN_BRACKETS,
-            output: OPEN_REPORT,
-        },
-        Case {
-            words: &["mmdepend", "--open", "--only", "wff", "--report", "counts"],
-            parts: OPEN,
-            output: b"mmdepend 1\naxioms 1\nopen 0\ntheorems 1\ncounts\nu:0\nend\n",
-        },
-        Case {
-            words: &["mmdepend", "--open", "--only", "|-", "--report", "counts"],
-            parts: OPEN,
-            output: b"mmdepend 1\naxioms 3\nopen 1\ntheorems 1\ncounts\nu:1\nend\n",
-        },
-        Case {
-            words,
-            parts: &[],
-            output: b"mmdepend 1\naxioms 0\nopen 0\ntheorems 0\nmatrix\ncounts\nusage\nend\n",
-        },
-        Case {
-            words: &["mmdepend", "--open", "--form", "2"],
-            parts: OPEN,
-            output: OPEN_REPORT_IN_THE_SECOND_FORM,
-        },
-        Case {
-            words: &["mmdepend", "--open", "--form", "2", "--essential"],
-            parts: OPEN,
-            output: OPEN_REPORT_IN_THE_SECOND_FORM,
-        },
-        Case {
-            words: &["mmdepend", "--open", "--report", "citations"],
-            parts: OPEN,
-            output: b"mmdepend 1\naxioms 4\nopen 1\ntheorems 1\ncitations\nu:1:o\nend\n",
-        },
-    ];
-    all_write(&rt, rt.alloc(), &cases)
+    all_write(&rt, rt.alloc(), &OPEN_CASES)
 }
+
+/// Runs whose proofs are incomplete.
+const INCOMPLETE_CASES: [Case<'static>; 3] = [
+    Case {
+        words: PLAIN,
+        parts: OPEN,
+        output: b"refused 8:23 E32\n",
+    },
+    Case {
+        words: WITH_OPEN,
+        parts: &[BASE, DETACHMENT, b"v $p |- ( p -> p ) $= wp ? $.\n"],
+        output: b"refused 8:26 E32\n",
+    },
+    Case {
+        words: WITH_OPEN,
+        parts: &[BASE, DETACHMENT, b"v $p |- ( p -> p ) $= ? ? $.\n"],
+        output: b"refused 8:23 E32\n",
+    },
+];
 
 #[test]
 fn other_incomplete_proofs_are_refused(rt: HostRuntime) -> Result<(), AllocError> {
-    let words: &[&str] = &["mmdepend", "--open"];
-    let cases = [
-        Case {
-            words: PLAIN,
-            parts: OPEN,
-            output: b"refused 8:23 E32\n",
-        },
-        Case {
-            words,
-            parts: &[BASE, DETACHMENT, b"v $p |- ( p -> p ) $= wp ? $.\n"],
-            output: b"refused 8:26 E32\n",
-        },
-        Case {
-            words,
-            parts: &[BASE, DETACHMENT, b"v $p |- ( p -> p ) $= ? ? $.\n"],
-            output: b"refused 8:23 E32\n",
-        },
-    ];
-    all_write(&rt, rt.alloc(), &cases)
+    all_write(&rt, rt.alloc(), &INCOMPLETE_CASES)
 }
 
 /// The report on seventy axioms and two theorems: a row of marks for each, and the axioms that they

@@ -1,5 +1,5 @@
 use Rattle.mm_spec.specs.Frame.{is_essential}
-use Rattle.mm_frame.specs.Latest.{IsWalked}
+use Rattle.mm_frame.proofs.LatestLaw.{IsWalked}
 use Rattle.mm_frame.proofs.LatestLaw.{height}
 use Rattle.mm_frame.proofs.active.active_essentials.Given as goal
 

@@ -17,4 +17,4 @@ returns-clause-few g c =
     let there : c.args.k < length db = is_there is_assertion db c.args.k c.requires in
     let same = ap length (c.as_slice.ensures.value ∙ c.frame.ensures.hypotheses) in
     let few = hyps_few db c.args.k in
-    omega (arith, there, same, few, c.len.ensures.small)
+    omega (arith, there, same, few, c.frame.ensures.few)

@@ -1,5 +1,5 @@
 use Rattle.std.proofs.Common.{◌∙◌, ◌++◌, ◌∷◌, [], sym, ap, ap₂, arith, append_assoc, append-nil}
-use Rattle.mm_spec.specs.Frame.{place_of}
+use Rattle.mm_spec.specs.Frame.{index_of}
 use Rattle.mm_outline.specs.Parts.{between, token_at}
 use Rattle.mm_scope.specs.Formulas.{numbers_in}
 use Rattle.mm_database.specs.Names.{names_of}
@@ -31,7 +31,7 @@ loop-at-preserved g c =
     c.in_ok-push.ensures.items
     ∙ ap₂ (λ x y. x ++ y ∷ []) c.loop-at.invariant
     (c.new.ensures ∙ c.numbered-number.ensures.number
-    ∙ ap (λ w. place_of w ns) c.bytes.ensures)
-    ∙ append_assoc c.args.numbers.now.items xs (place_of (token_at text ws at).word ns ∷ [])
+    ∙ ap (λ w. index_of w ns) c.bytes.ensures)
+    ∙ append_assoc c.args.numbers.now.items xs (index_of (token_at text ws at).word ns ∷ [])
     ∙ ap (λ l. c.args.numbers.now.items ++ l)
     (sym (numbers_more text ws ns c.args.from at (omega arith) (omega arith)))

@@ -8,7 +8,7 @@ use Rattle.mm_lists.proofs.ListsLaw.{joined_all, more_joined, none_joined}
 use Rattle.mm_stmt.proofs.kept.keep_all.Goals as goal
 
 pub loop-outline-init : goal.loop-outline-init
-loop-outline-init g c = none_joined _ _ c.new-words.ensures.items c.new-ends.ensures.items
+loop-outline-init g c = none_joined _ _ c.new-words.ensures.items c.new-places.ensures.items
 
 pub loop-outline-preserved : goal.loop-outline-preserved
 loop-outline-preserved g c =
@@ -22,7 +22,7 @@ loop-outline-preserved g c =
     ∙ map-append (kept_words ws) (take i os) (o ∷ []) in
     rw (more, c.in_ok-end_list.ensures.ok, c.in_ok-keep.ensures)
     (more_joined (map (kept_words ws) (take i os)) (kept_words ws o) c.loop-outline.words.items
-    c.loop-outline.ends.items c.loop-outline.invariant)
+    c.loop-outline.places.items c.loop-outline.invariant)
 
 pub from_ends-requires : goal.from_ends-requires
 from_ends-requires g c =

@@ -6,4 +6,4 @@ use Rattle.mm_stmt.proofs.kept.keep_all.Given as goal
 abbrev pub invariant-loop-outline : goal.invariant-loop-outline
 invariant-loop-outline g l =
     AreJoined (map (kept_words l.tokens) (take l.outline-index l.outlines)) l.words.items
-    l.ends.items
+    l.places.items

@@ -7,22 +7,17 @@ use Rattle.mm_database.proofs.KindsLaw.{theorems_by_kind, axioms_by_kind, kinds_
 use Rattle.mm_database.proofs.SpacedLaw.{theorems_are}
 use Rattle.mm_stmt.proofs.listed.list_statements.Goals as goal
 
-pub theorems_of-requires : goal.theorems_of-requires
-theorems_of-requires g c =
+pub assertions_of-requires : goal.assertions_of-requires
+assertions_of-requires g c =
     kinds_few c.args.text.now c.args.tokens.now c.args.outlines.now c.args.with_open
     c.deref.result.now (c.deref.ensures.value ∙ c.in_ok-kinds.ensures) c.requires.few
-
-pub axioms_of-requires : goal.axioms_of-requires
-axioms_of-requires g c =
-    kinds_few c.args.text.now c.args.tokens.now c.args.outlines.now c.args.with_open
-    c.deref-2.result.now (c.deref-2.ensures.value ∙ c.in_ok-kinds.ensures) c.requires.few
 
 pub spaced_labels_of-requires-clause-theorems : goal.spaced_labels_of-requires-clause-theorems
 spaced_labels_of-requires-clause-theorems g c =
     let w = c.args.with_open in
     let db = statements c.args.text.now c.args.tokens.now c.args.outlines.now in
     let listed =
-    c.deref-3.ensures.value ∙ c.in_ok-theorems.ensures
+    c.deref-2.ensures.value ∙ c.in_ok-theorems.ensures.theorems
     ∙ theorems_by_kind (counted w db) c.deref.result.now
     (c.deref.ensures.value ∙ c.in_ok-kinds.ensures) in
     subst (λ (ks : List ℕ). All (λ k. IsTrue (is_theorem_at db k)) ks) (sym listed)
@@ -33,17 +28,15 @@ returns g c =
     let w = c.args.with_open in
     let db = statements c.args.text.now c.args.tokens.now c.args.outlines.now in
     let kinds = c.deref.ensures.value ∙ c.in_ok-kinds.ensures in
-    let listed : c.deref-3.result.now ≡ theorems (counted w db) =
-    c.deref-3.ensures.value ∙ c.in_ok-theorems.ensures
+    let listed : c.deref-2.result.now ≡ theorems (counted w db) =
+    c.deref-2.ensures.value ∙ c.in_ok-theorems.ensures.theorems
     ∙ theorems_by_kind (counted w db) c.deref.result.now kinds in
     record {
       kinds_are = c.in_ok-kinds.ensures;
       theorems_are =
-          c.in_ok-theorems.ensures ∙ theorems_by_kind (counted w db) c.deref.result.now kinds;
+          c.in_ok-theorems.ensures.theorems ∙ theorems_by_kind (counted w db) c.deref.result.now kinds;
       axioms_are =
-          c.in_ok-axioms.ensures
-          ∙ axioms_by_kind (counted w db) c.deref-2.result.now
-          (c.deref-2.ensures.value ∙ c.in_ok-kinds.ensures);
+          c.in_ok-theorems.ensures.axioms ∙ axioms_by_kind (counted w db) c.deref.result.now kinds;
       spaced_are =
           c.in_ok-spaced.ensures ∙ ap (map (λ k. 32 ∷ label_at db k)) listed
           ∙ ap (λ (f : ℕ → List ℕ). map (λ k. 32 ∷ f k) (theorems (counted w db)))

@@ -19,7 +19,7 @@ into_reading-requires g c =
     let few = c.requires.few_symbols in
     let count = c.in_ok-variables.ensures.count in
     record {
-      ends = kept.formulas.order;
+      places = kept.formulas.order;
       parts = record {
         sound = c.requires.sound;
         blocks = kept.keeps.blocks;

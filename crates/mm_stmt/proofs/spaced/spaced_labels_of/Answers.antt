@@ -26,11 +26,11 @@ loop-theorem-preserved g c =
     ∙ append_assoc bytes (32 ∷ []) c.label_of.result.now
     ∙ ap (λ l. bytes ++ 32 ∷ l) c.label_of.ensures in
     rw (more, c.in_ok-end_list.ensures.ok, longer)
-    (more_joined (map name (take i ks)) (name k) bytes c.loop-theorem.ends.items
+    (more_joined (map name (take i ks)) (name k) bytes c.loop-theorem.places.items
     c.loop-theorem.invariant)
 
 pub loop-theorem-init : goal.loop-theorem-init
-loop-theorem-init g c = none_joined _ _ c.new-bytes.ensures.items c.new-ends.ensures.items
+loop-theorem-init g c = none_joined _ _ c.new-bytes.ensures.items c.new-places.ensures.items
 
 pub from_ends-requires : goal.from_ends-requires
 from_ends-requires g c =

@@ -9,4 +9,4 @@ invariant-loop-theorem g l =
     AreJoined
     (map (λ k. 32 ∷ label_at (statements l.text l.tokens l.outlines) k)
     (take l.theorem-index l.theorems))
-    l.bytes.items l.ends.items
+    l.bytes.items l.places.items

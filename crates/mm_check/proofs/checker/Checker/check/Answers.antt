@@ -11,11 +11,11 @@ run-requires-clause-steps g c =
     let t = c.args.theorem in
     let are = ap (λ r. r.steps) c.requires.steps in
     record {
-      complete = c.len.ensures.complete;
+      complete = c.requires.made_for.complete;
       theorem = c.requires.theorem;
       are = are;
       sound = c.requires.sound;
       good =
           subst (λ ps. AreGoodSteps (context_at db t) 0 (steps_of ps)) (sym are)
-          (good_steps db t (c.len.ensures.complete t) c.requires.sound);
+          (good_steps db t (c.requires.made_for.complete t) c.requires.sound);
     }

@@ -1,5 +1,5 @@
 use Rattle.std.proofs.Common.{◌≡◌, ◌∙◌, ℕ, List, get_or, is_some, None, true, sym, ap, subst}
-use Rattle.std.proofs.Common.{refl}
+use Rattle.std.proofs.Common.{refl, arith}
 use Rattle.std.proofs.lemmas.Option.{same_Some}
 use Rattle.std.specs.List.{list_any}
 use Rattle.mm_spec.specs.Scope.{statement_at}
@@ -9,6 +9,7 @@ use Rattle.mm_spec.specs.Frame.{mandatory_hypotheses, mandatory_pairs}
 use Rattle.mm_spec.proofs.OpenedLaw.{counted_any, counted_hypotheses, counted_pairs}
 use Rattle.mm_database.specs.Database.{Contents}
 use Rattle.mm_database.specs.Frames.{Mandatory, mandatory_at, mandatory_in}
+use Rattle.mm_database.proofs.DatabaseLaw.{as_many}
 use Rattle.mm_database.proofs.PlacesLaw.{frame_there}
 use Rattle.mm_database.proofs.database.Database.frame.Goals as goal
 
@@ -45,4 +46,8 @@ returns g c =
           ap (λ (m : Mandatory). m.pairs) same
           ∙ ap (λ (f : ℕ → List Pair). f k) (sym (counted_pairs with_open db))
           ∙ ap (λ (n : Contents). mandatory_pairs n.statements k) c.self.view_is;
+      few =
+          (let same = as_many _ _ _ _ _ c.self.view_is in
+          let few = c.self.invariant.few in
+          omega (arith, same, few));
     }

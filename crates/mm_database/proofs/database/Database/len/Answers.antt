@@ -1,10 +1,7 @@
 use Rattle.std.proofs.Common.{◌∙◌, length, subst, sym, ap, arith}
 use Rattle.mm_spec.specs.Laws.Complete.{AreComplete}
-use Rattle.mm_spec.specs.Lexed.{lexed_of}
-use Rattle.mm_spec.proofs.CompleteLaw.{reads_complete}
-use Rattle.mm_spec.proofs.OpenedLaw.{counted_complete}
 use Rattle.mm_database.specs.Database.{Contents}
-use Rattle.mm_database.proofs.DatabaseLaw.{as_many}
+use Rattle.mm_database.proofs.DatabaseLaw.{as_many, read_complete}
 use Rattle.mm_database.proofs.LengthLaw.{statements_few}
 use Rattle.mm_database.proofs.database.Database.len.Goals as goal
 
@@ -13,11 +10,8 @@ returns-clause-len g c = c.len.ensures.len ∙ sym (as_many _ _ _ _ _ c.self.vie
 
 pub returns-clause-complete : goal.returns-clause-complete
 returns-clause-complete g c =
-    let s = c.self.inside.read.statements in
     subst (λ (n : Contents). AreComplete n.statements) c.self.view_is
-    (counted_complete c.self.inside.with_open s.list
-    (reads_complete (length s.text) (lexed_of s.text) s.list c.self.inside.read.fault
-    c.self.invariant.read))
+    (read_complete _ _ c.self.inside.with_open _ c.self.invariant.read)
 
 pub returns-clause-few : goal.returns-clause-few
 returns-clause-few g c =

@@ -1,6 +1,6 @@
 use Rattle.std.proofs.Common.{◌≡◌, ap, ◌∙◌, sym, Some}
 use Rattle.std.proofs.lemmas.Slice.Eq.{bytes_eq-Decides}
-use Rattle.mm_spec.specs.Frame.{place_of}
+use Rattle.mm_spec.specs.Frame.{index_of}
 use Rattle.mm_database.specs.Names.{find, KnownNames, names_of}
 use Rattle.mm_database.proofs.SymbolsLaw.{place_distinct}
 use Rattle.mm_database.proofs.NamesLaw.{got_name}
@@ -15,7 +15,7 @@ returns-then-eq-clause-number g c =
     (bytes_eq-Decides name.bytes.now c.args.word.now).0 (sym c.eq.ensures ∙ c.if-eq.true) in
     place_distinct (names_of es) c.self.invariant.distinct i c.args.word.now
     (got_name es i name c.in_ok-name.symbol.now (sym c.in_ok-name.ensures.entry) ∙ ap Some same)
-    ∙ ap (λ (n : KnownNames). place_of c.args.word.now (names_of n.symbols)) c.self.view_is
+    ∙ ap (λ (n : KnownNames). index_of c.args.word.now (names_of n.symbols)) c.self.view_is
 
 pub returns-then-eq-clause-symbol : goal.returns-then-eq-clause-symbol
 returns-then-eq-clause-symbol g c =

@@ -1,6 +1,6 @@
 use Rattle.std.proofs.Common.{◌∙◌, sym, ap, arith}
 use Rattle.std.specs.Map.{keys_of}
-use Rattle.mm_spec.specs.Frame.{place_of}
+use Rattle.mm_spec.specs.Frame.{index_of}
 use Rattle.mm_database.specs.Names.{find, KnownNames, names_of}
 use Rattle.mm_database.proofs.SymbolsLaw.{found_place}
 use Rattle.mm_database.proofs.NamesLaw.{missing_number}
@@ -10,7 +10,7 @@ pub returns-in-Some-clause-number : goal.returns-in-Some-clause-number
 returns-in-Some-clause-number g c =
     found_place c.args.word.now (keys_of c.self.inside.symbols.entries) c.in-Some.number
     (sym c.in-Some.ensures.index)
-    ∙ ap (λ (n : KnownNames). place_of c.args.word.now (names_of n.symbols)) c.self.view_is
+    ∙ ap (λ (n : KnownNames). index_of c.args.word.now (names_of n.symbols)) c.self.view_is
 
 pub returns-in-Some-clause-symbol : goal.returns-in-Some-clause-symbol
 returns-in-Some-clause-symbol g c =
@@ -23,7 +23,7 @@ returns-then-word-self-clause-number g c =
     c.len.ensures.len
     ∙ missing_number w c.self.inside.symbols.entries
     (c.self.invariant.symbols_no_longer w (omega arith))
-    ∙ ap (λ (n : KnownNames). place_of w (names_of n.symbols)) c.self.view_is
+    ∙ ap (λ (n : KnownNames). index_of w (names_of n.symbols)) c.self.view_is
 
 pub returns-then-word-self-clause-symbol : goal.returns-then-word-self-clause-symbol
 returns-then-word-self-clause-symbol g c =
@@ -34,7 +34,7 @@ pub returns-in-None-clause-number : goal.returns-in-None-clause-number
 returns-in-None-clause-number g c =
     c.len-in-None.ensures.len
     ∙ missing_number c.args.word.now c.self.inside.symbols.entries (sym c.in-None.ensures.value)
-    ∙ ap (λ (n : KnownNames). place_of c.args.word.now (names_of n.symbols)) c.self.view_is
+    ∙ ap (λ (n : KnownNames). index_of c.args.word.now (names_of n.symbols)) c.self.view_is
 
 pub returns-in-None-clause-symbol : goal.returns-in-None-clause-symbol
 returns-in-None-clause-symbol g c =

@@ -1,6 +1,6 @@
 use Rattle.std.proofs.Common.{not, ◌<◌, ◌≤◌, ◌∙◌, ◌+◌, ◌++◌, ◌∷◌, [], ap, sym, arith, length}
 use Rattle.std.proofs.Common.{append_assoc}
-use Rattle.mm_spec.specs.Frame.{place_of}
+use Rattle.mm_spec.specs.Frame.{index_of}
 use Rattle.mm_outline.specs.Parts.{token_at, nth_word, between}
 use Rattle.mm_scope.specs.Formulas.{numbers_in}
 use Rattle.mm_spec.specs.Text.{is_in}
@@ -56,8 +56,8 @@ returns-clause-numbers g c =
     (c.in_ok-push.ensures.items
     ∙ ap (λ y. c.args.numbers.now.items ++ y ∷ [])
     (c.new.ensures ∙ c.numbered-number.ensures.number
-    ∙ ap (λ w. place_of w ns) c.bytes.ensures))
-    ∙ append_assoc c.args.numbers.now.items (place_of (token_at text ws c.args.from).word ns ∷ [])
+    ∙ ap (λ w. index_of w ns) c.bytes.ensures))
+    ∙ append_assoc c.args.numbers.now.items (index_of (token_at text ws c.args.from).word ns ∷ [])
     (numbers_in ns (between text ws (c.args.from + 1) c.args.to))
     ∙ ap (λ l. c.args.numbers.now.items ++ l)
     (sym (ap (numbers_in ns) (between_first text ws c.args.from c.args.to below inside)))

@@ -1,6 +1,6 @@
 use Rattle.std.proofs.Common.{◌<◌, ◌≤◌, ◌∙◌, ◌++◌, ◌∷◌, [], ap, ap₂, sym, arith, length}
 use Rattle.std.proofs.Common.{append_assoc}
-use Rattle.mm_spec.specs.Frame.{place_of}
+use Rattle.mm_spec.specs.Frame.{index_of}
 use Rattle.mm_scope.specs.Formulas.{numbers_in}
 use Rattle.mm_outline.specs.Parts.{token_at, between}
 use Rattle.mm_spec.specs.Lawful.{at, at_each, least, symbol_codes}
@@ -45,9 +45,9 @@ loop-at-preserved g c =
           c.in_ok-push.ensures.items
           ∙ ap₂ (λ x y. x ++ y ∷ []) c.loop-at.invariant.numbered
           (c.new.ensures ∙ c.numbered-number.ensures.number
-          ∙ ap (λ w. place_of w ns) c.bytes.ensures)
+          ∙ ap (λ w. index_of w ns) c.bytes.ensures)
           ∙ append_assoc c.args.numbers.now.items xs
-          (place_of (token_at text ws c.loop-at.at).word ns ∷ [])
+          (index_of (token_at text ws c.loop-at.at).word ns ∷ [])
           ∙ ap (λ l. c.args.numbers.now.items ++ l)
           (sym (numbers_more text ws ns c.args.from c.loop-at.at later inside)));
     }

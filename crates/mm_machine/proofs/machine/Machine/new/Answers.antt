@@ -1,0 +1,19 @@
+use Rattle.std.proofs.Common.{rules, arith, [], List, ℕ}
+use Rattle.mm_machine.specs.State.{IsMachine}
+use Rattle.mm_machine.proofs.machine.Machine.new.Goals as goal
+
+pub invariant_of-result : goal.invariant_of-result
+invariant_of-result g c =
+    rw (
+      c.new-2.ensures,
+      c.new-3.ensures,
+      c.new-4.ensures.items,
+      c.new-5.ensures.items,
+      c.new-6.ensures.items,
+    )
+    (record {
+      stack = search rules;
+      marked_in = search rules;
+      rising = search rules;
+      count = omega arith;
+    })
