@@ -32,8 +32,8 @@ const GUESSES: usize = 2048;
 /// Stands for a guess that hasn't been made.
 const NO_GUESS: usize = 18_446_744_073_709_551_615;
 
-/// The number of guesses for labels, one for each result of `label_guess_of`. Each takes 4 bytes,
-/// so that together they fit into a processor's own cache.
+/// The number of guesses for labels at first. Each takes 4 bytes, so that those of most databases
+/// fit into a processor's own cache. There are twice as many once there are half as many labels.
 const LABEL_GUESSES: usize = 65_536;
 
 /// Stands for a guess for a label that hasn't been made.
@@ -114,29 +114,60 @@ fn ends_of(word: &[u8]) -> (u32, u32) {
     }
 }
 
-/// Returns the index of the guess for a label: the upper half of a sum of products, since a
-/// product's upper bits depend on more bits of its factors than its lower bits do.
+/// Returns the index of the guess for a label among so many: by the upper bits of a sum of products,
+/// since a product's upper bits depend on more bits of its factors than its lower bits do.
 #[inline(always)]
-fn label_guess_of(word: &[u8]) -> usize {
+fn label_guess_of(word: &[u8], guesses: usize) -> usize {
     let (first, last) = ends_of(word);
     let len = (word.len() % 0x1_0000_0000) as u32;
     let mixed = first
         .wrapping_mul(0x9E37_79B1)
         .wrapping_add(last.wrapping_mul(0x85EB_CA6B))
         .wrapping_add(len.wrapping_mul(0x27D4_EB2F));
-    (mixed >> 16) as usize
+    (mixed as usize).wrapping_mul(guesses) >> 32
 }
 
 /// Sets the guess for labels such as `word` to `place`, unless a guess for them has been made or
 /// the place is too large for a guess.
 fn note_label_guess<A: Allocator>(guesses: &mut Vec<u32, A>, word: &[u8], place: usize) {
     if let Ok(place) = u32::try_from(place) {
-        if let Some(guess) = guesses.get_mut(label_guess_of(word)) {
+        let index = label_guess_of(word, guesses.len());
+        if let Some(guess) = guesses.get_mut(index) {
             if *guess == NO_LABEL_GUESS {
                 *guess = place;
             }
         }
     }
+}
+
+/// Makes twice as many guesses for the labels, each of which is noted anew.
+fn double_label_guesses<'a, A: Allocator + Copy>(
+    labels: &Map<'a, u32, A>,
+    guesses: &mut Vec<u32, A>,
+) -> Result<(), AllocError> {
+    guesses.resize(guesses.len().saturating_mul(2), NO_LABEL_GUESS)?;
+    guesses.fill(NO_LABEL_GUESS);
+    for place in 0..labels.len() {
+        if let Some((label, _)) = labels.get_index(place) {
+            note_label_guess(guesses, label.bytes, place);
+        }
+    }
+    Ok(())
+}
+
+/// Sets the guess for a label that was added at `place`, and makes more guesses where there are few
+/// for so many labels.
+fn note_label<'a, A: Allocator + Copy>(
+    labels: &Map<'a, u32, A>,
+    guesses: &mut Vec<u32, A>,
+    word: &[u8],
+    place: usize,
+) -> Result<(), AllocError> {
+    note_label_guess(guesses, word, place);
+    if place < guesses.len() / 2 {
+        return Ok(());
+    }
+    double_label_guesses(labels, guesses)
 }
 
 /// Returns a table without symbols and labels.
@@ -184,7 +215,8 @@ impl<'a, A: Allocator> NameTable<'a, A> {
     fn guessed_label(&self, word: &[u8]) -> Option<u32>
         ensures { IfSome result (λ s. Some s ≡ find self.now.labels word.now) }
     {
-        let guess = *self.label_guesses.get(label_guess_of(word))?;
+        let index = label_guess_of(word, self.label_guesses.len());
+        let guess = *self.label_guesses.get(index)?;
         let (label, statement) = self.labels.get_index(guess as usize)?;
         if label.bytes == word {
             Some(*statement)
@@ -291,8 +323,9 @@ impl<'a, A: Allocator + Copy> NameTable<'a, A> {
         ensures symbols { OnOk result (self.new.symbols ≡ self.old.symbols) }
     {
         let (place, _) = self.labels.insert_full(Name { bytes: word }, statement)?;
-        note_label_guess(&mut self.label_guesses, word, place);
         self.longest_label = self.longest_label.max(word.len());
+        // Without memory for more guesses, labels are found by their hashes.
+        let _ = note_label(&self.labels, &mut self.label_guesses, word, place);
         Ok(())
     }
 

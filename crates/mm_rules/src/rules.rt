@@ -18,9 +18,12 @@ use mm_rule::{
 use std::alloc::{AllocError, Allocator};
 use std::marker::Model;
 
-/// Once the rules have this many hypotheses, pairs and symbols together, no more rules are held. So
-/// frames that are much longer than the text aren't all held.
-const MAX_HELD: usize = 8_388_608;
+/// How many hypotheses, pairs and symbols of rules are held together in any case.
+const ALWAYS_HELD: usize = 8_388_608;
+
+/// For so many bytes of the text, one of them is held in any case. Rules of databases as they are
+/// written have one for some 16 bytes; a frame can be much longer than its text.
+const BYTES_FOR_ONE: usize = 8;
 
 /// A rule that would make more of them together isn't held, so that a place has 32 bits.
 const MAX_PLACE: usize = 4_294_967_295;
@@ -74,6 +77,12 @@ impl<A: Allocator> Model for Rules<A> {
     ghost view = { λ r. rule_lists r.ranges.items r.hypotheses.items r.pairs.items r.parts.items };
 }
 
+/// Once the rules have so many hypotheses, pairs and symbols together, no more rules are held. So
+/// frames that are much longer than the text aren't all held.
+fn most_held<A: Allocator>(db: &Database<A>) -> usize {
+    ALWAYS_HELD.max(db.text().len() / BYTES_FOR_ONE)
+}
+
 /// About how long the lists of all rules will be.
 #[derive(Drop)]
 struct Lengths {
@@ -92,8 +101,9 @@ impl Lengths {
             pairs: 0,
             parts: 0,
         };
+        let most = most_held(db);
         for k in 0..db.len() {
-            if is_assertion(db, k) && lengths.sum() < MAX_HELD {
+            if is_assertion(db, k) && lengths.sum() < most {
                 lengths.add(db, k);
             }
         }
@@ -221,7 +231,7 @@ impl<A: Allocator> Rules<A> {
         if !is_assertion(db, k) {
             return Ok(());
         }
-        if self.size() >= MAX_HELD {
+        if self.size() >= most_held(db) {
             return Ok(());
         }
         compiler.compile(db, k)?;
