@@ -1,0 +1,98 @@
+/* Writes the report of a Metamath database to standard output, as the program does:
+ *
+ *     cc example.c $(pkg-config --cflags --libs mmdepend) -o example
+ *     ./example FILE [all|matrix|counts|usage|citations [ROOM [OUT]]]
+ *
+ * ROOM and OUT are how many bytes of memory are lent at first; where they are too few, more are. The
+ * status is that of the program: 0 for a report, 1 for a refusal, 2 to 4 for what failed. */
+#include "mmdepend.h"
+
+#include <stdio.h>
+#include <stdlib.h>
+#include <string.h>
+
+enum { ALIGNMENT = 16, LEAST = 1 << 20 };
+
+static const char *const parts[] = {"all", "matrix", "counts", "usage", "citations"};
+
+static int fail(int status, const char *message) {
+    fprintf(stderr, "example: %s\n", message);
+    return status;
+}
+
+/* The file's bytes, and their number in `size`; NULL if it can't be read or memory runs out. */
+static uint8_t *read_file(const char *name, size_t *size) {
+    FILE *file = fopen(name, "rb");
+    if (!file)
+        return NULL;
+    uint8_t *bytes = NULL;
+    if (!fseek(file, 0, SEEK_END)) {
+        long length = ftell(file);
+        rewind(file);
+        *size = length < 0 ? 0 : (size_t)length;
+        /* One byte more, so that memory for an empty file is memory, too. */
+        bytes = length < 0 ? NULL : malloc(*size + 1);
+        if (bytes && fread(bytes, 1, *size, file) != *size) {
+            free(bytes);
+            bytes = NULL;
+        }
+    }
+    fclose(file);
+    return bytes;
+}
+
+/* Rounds up to whole units. */
+static size_t up_to_units(size_t bytes) { return (bytes + ALIGNMENT - 1) / ALIGNMENT * ALIGNMENT; }
+
+/* Asks for the report with so much memory, and writes it. With too little it says so, and how much
+ * output there is. */
+static uint32_t try_report(const uint8_t *text, size_t size, uint32_t part, size_t room_size,
+                           size_t out_size, size_t *written) {
+    void *lent = aligned_alloc(ALIGNMENT, room_size);
+    uint8_t *out = malloc(out_size);
+    uint32_t status = MMDEPEND_NO_MEMORY;
+    *written = 0;
+    if (lent && out) {
+        struct mmdepend_room room = {lent, room_size / ALIGNMENT};
+        status = mmdepend_report(&room, text, size, (const uint8_t *)"", 0, false, part,
+                                 MMDEPEND_DIGITS, false, false, out, out_size, written);
+        if (status <= MMDEPEND_REFUSED && fwrite(out, 1, *written, stdout) != *written)
+            exit(fail(3, "writing failed"));
+    } else {
+        exit(fail(4, "out of memory"));
+    }
+    free(out);
+    free(lent);
+    return status;
+}
+
+int main(int count, char **words) {
+    if (count < 2)
+        return fail(2, "usage: example FILE [PART [ROOM [OUT]]]");
+    uint32_t part = 0;
+    while (count > 2 && part < 5 && strcmp(words[2], parts[part]))
+        part++;
+    if (part == 5)
+        return fail(2, "there is no such part of a report");
+    size_t size = 0;
+    uint8_t *text = read_file(words[1], &size);
+    if (!text)
+        return fail(3, "the file can't be read");
+    size_t room = up_to_units(count > 3 ? strtoull(words[3], NULL, 10) : 9 * size + LEAST);
+    size_t out = count > 4 ? strtoull(words[4], NULL, 10) : 5 * size + LEAST;
+    uint32_t status;
+    size_t written;
+    for (;;) {
+        status = try_report(text, size, part, room, out ? out : 1, &written);
+        if (status == MMDEPEND_NO_MEMORY && room <= SIZE_MAX / 4)
+            room = 2 * room + ALIGNMENT;
+        else if (status == MMDEPEND_OUT_TOO_SHORT)
+            out = written;
+        else
+            break;
+    }
+    free(text);
+    if (fflush(stdout))
+        return fail(3, "writing failed");
+    return (int)status;
+}

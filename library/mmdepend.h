@@ -1,0 +1,95 @@
+/* mmdepend as a library: which axioms each theorem of a Metamath database rests on, verified.
+ *
+ * Each call works on the calling thread alone, in memory that the caller lends. It calls nothing of
+ * the caller's, keeps nothing between calls, and may run in several threads at once, each with
+ * memory of its own.
+ *
+ * What the library is proved to do holds for a caller who keeps these promises. Every pointer is not
+ * null, and is valid for as many bytes as its length says; with length 0 it may point anywhere else.
+ * `room.at` is a multiple of 16, and the room has at least 16 * `room.units` bytes, which the caller
+ * neither reads nor writes during the call. The room, `out` and what the lengths are written to
+ * don't overlap one another, nor the text or the typecode. A bool is 0 or 1. No object that a
+ * pointer points into is longer than PTRDIFF_MAX bytes.
+ */
+#ifndef MMDEPEND_H
+#define MMDEPEND_H
+
+#include <stdbool.h>
+#include <stddef.h>
+#include <stdint.h>
+
+#ifdef __cplusplus
+extern "C" {
+#endif
+
+/* Memory that is lent for a call. What is in it before and after the call is of no meaning. A text
+ * needs about nine times its length of it; see mmdepend_status for what comes of too little. */
+struct mmdepend_room {
+    void *at;     /* a multiple of 16 */
+    size_t units; /* of 16 bytes each */
+};
+
+enum mmdepend_status {
+    MMDEPEND_ACCEPTED = 0,      /* the text has no fault; its report was written */
+    MMDEPEND_REFUSED = 1,       /* the text has a fault; the refusal of the first was written */
+    MMDEPEND_NOT_UTF8 = 2,      /* the typecode isn't UTF-8 */
+    MMDEPEND_OUT_TOO_SHORT = 3, /* `out` holds the first `out_len` bytes of the output; it has as
+                                   many bytes as the lengths say */
+    MMDEPEND_NO_MEMORY = 4,     /* the room is too small */
+    MMDEPEND_NO_SUCH_REQUEST = 5 /* no part or form has this number */
+};
+
+enum mmdepend_part {
+    MMDEPEND_ALL = 0, /* matrix, counts and usage */
+    MMDEPEND_MATRIX = 1,
+    MMDEPEND_COUNTS = 2,
+    MMDEPEND_USAGE = 3,
+    MMDEPEND_CITATIONS = 4
+};
+
+enum mmdepend_form {
+    MMDEPEND_DIGITS = 1, /* the matrix has one digit for each column */
+    MMDEPEND_HEXADECIMAL = 2 /* one hexadecimal digit for every four columns */
+};
+
+/* Verifies every proof of a database and writes the report that is requested, or the refusal of the
+ * first fault, to the front of `out`.
+ *
+ * room: comes back whole; if it comes back with no unit, take it as given up.
+ * text: the database, `text_len` bytes. Of more than 2,147,483,648 bytes only these are read, and
+ *     they are refused.
+ * only: the typecode of the axioms that are columns, and of the citations that are listed, in UTF-8,
+ *     if `has_only`; else all are.
+ * part, form: numbers of the enums above.
+ * essential: whether a theorem cites only what the logical part of its proof applies.
+ * with_open: whether a theorem whose proof is `?` counts as an axiom.
+ * out: where the output goes, `out_len` bytes; what is behind the output stays as it was.
+ * written: gets the output's length in bytes with MMDEPEND_ACCEPTED, _REFUSED and _OUT_TOO_SHORT,
+ *     and else 0.
+ *
+ * The result is one of mmdepend_status. With _NOT_UTF8, _NO_MEMORY and _NO_SUCH_REQUEST what is in
+ * `out` is of no meaning. */
+uint32_t mmdepend_report(struct mmdepend_room *room, const uint8_t *text, size_t text_len,
+                         const uint8_t *only, size_t only_len, bool has_only, uint32_t part,
+                         uint32_t form, bool essential, bool with_open, uint8_t *out,
+                         size_t out_len, size_t *written);
+
+/* The same, and behind that output the one of the same request for MMDEPEND_CITATIONS, after one
+ * check of the proofs. `report_len` and `citations_len` get the lengths of the two, as `written`
+ * does; with MMDEPEND_OUT_TOO_SHORT both together don't fit in `out`. */
+uint32_t mmdepend_report_and_citations(struct mmdepend_room *room, const uint8_t *text,
+                                       size_t text_len, const uint8_t *only, size_t only_len,
+                                       bool has_only, uint32_t part, uint32_t form,
+                                       bool essential, bool with_open, uint8_t *out,
+                                       size_t out_len, size_t *report_len,
+                                       size_t *citations_len);
+
+/* Puts the version's text at the front of `out`, as much of it as `out_len` bytes hold, and returns
+ * the length of the whole text in bytes. It isn't ended by a zero byte. */
+size_t mmdepend_version(uint8_t *out, size_t out_len);
+
+#ifdef __cplusplus
+}
+#endif
+
+#endif

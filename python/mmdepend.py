@@ -1,0 +1,214 @@
+"""mmdepend as a library: on which axioms each theorem of a Metamath database rests.
+
+The work is done by the shared library `libmmdepend.so`, which is proved to write what the text and
+the request define; this module lends it memory and reads what it wrote. It needs nothing but Python
+and that file, which is sought where the variable MMDEPEND_LIBRARY says, beside this module, in
+`../lib` beside it, and then where the system keeps libraries.
+
+    >>> import mmdepend
+    >>> mmdepend.report(b"$c wff $.", "counts")
+    b'mmdepend 1\\naxioms 0\\ntheorems 0\\ncounts\\nend\\n'
+
+Other threads of Python run while a report is made.
+"""
+
+import ctypes
+import ctypes.util
+import mmap
+import os
+from dataclasses import dataclass
+from functools import cache
+from pathlib import Path
+from typing import Literal
+
+__all__ = ["Part", "Refused", "report", "version"]
+
+Part = Literal["all", "matrix", "counts", "usage", "citations"]
+
+PARTS: tuple[Part, ...] = ("all", "matrix", "counts", "usage", "citations")
+NAMES = ("libmmdepend.so.0", "libmmdepend.so")
+UNIT = 16
+# The room that is lent at first, for a byte of the text, and the least of it.
+ROOM_FOR_A_BYTE = 9
+LEAST = 1 << 20
+
+# The statuses of the library that can come.
+ACCEPTED, REFUSED, TOO_SHORT, NO_MEMORY = 0, 1, 3, 4
+
+ARGUMENTS = (
+    ctypes.c_void_p,
+    ctypes.c_char_p,
+    ctypes.c_size_t,
+    ctypes.c_char_p,
+    ctypes.c_size_t,
+    ctypes.c_bool,
+    ctypes.c_uint32,
+    ctypes.c_uint32,
+    ctypes.c_bool,
+    ctypes.c_bool,
+    ctypes.c_void_p,
+    ctypes.c_size_t,
+    ctypes.c_void_p,
+)
+
+
+class Refused(Exception):
+    """The database has a fault: the first one stands at this line and column, both from 1, and has
+    this code, such as E37. Columns count bytes."""
+
+    def __init__(self, line: int, column: int, code: str) -> None:
+        super().__init__(f"{line}:{column} {code}")
+        self.line = line
+        self.column = column
+        self.code = code
+
+
+class Room(ctypes.Structure):
+    """Memory that is lent to the library: where it begins, at a multiple of 16, and how many units
+    of 16 bytes it has."""
+
+    _fields_ = (("at", ctypes.c_void_p), ("units", ctypes.c_size_t))
+
+
+class Memory:
+    """A region of memory of its own, given back to the system at the end of a `with`."""
+
+    def __init__(self, size: int) -> None:
+        self.size = max(size, mmap.PAGESIZE)
+        try:
+            flags = mmap.MAP_PRIVATE | mmap.MAP_ANONYMOUS
+            self.pages = mmap.mmap(-1, self.size, flags=flags)
+        except (OSError, OverflowError, ValueError):
+            raise MemoryError(f"the system gives no {self.size} bytes of memory") from None
+
+    def __enter__(self) -> "Memory":
+        return self
+
+    def __exit__(self, *error: object) -> None:
+        self.pages.close()
+
+    def address(self) -> int:
+        """Where it begins. The view is given up at once, so that the region can be given back."""
+        first = ctypes.c_char.from_buffer(self.pages)
+        return ctypes.addressof(first)
+
+
+@cache
+def library() -> ctypes.CDLL:
+    """The shared library. OSError if there is none."""
+    named = os.environ.get("MMDEPEND_LIBRARY")
+    here = Path(__file__).resolve().parent
+    beside = [folder / name for folder in (here, here.parent / "lib") for name in NAMES]
+    places = [named] if named else [str(path) for path in beside if path.exists()]
+    found = ctypes.util.find_library("mmdepend") if not places else None
+    for place in [*places, *([found] if found else [])]:
+        loaded = ctypes.CDLL(place)
+        loaded.mmdepend_report.restype = ctypes.c_uint32
+        loaded.mmdepend_report.argtypes = ARGUMENTS
+        loaded.mmdepend_version.restype = ctypes.c_size_t
+        loaded.mmdepend_version.argtypes = (ctypes.c_void_p, ctypes.c_size_t)
+        return loaded
+    raise OSError("libmmdepend.so isn't found; the variable MMDEPEND_LIBRARY can name it")
+
+
+@dataclass(frozen=True)
+class Request:
+    """What is requested of a report, as the library takes it."""
+
+    part: int
+    form: int
+    only: bytes | None
+    essential: bool
+    open_theorems: bool
+
+
+def up_to(size: int) -> int:
+    """The size of so many whole pages."""
+    return -(-size // mmap.PAGESIZE) * mmap.PAGESIZE
+
+
+def once(text: bytes, request: Request, room: Memory, out: Memory) -> tuple[int, int]:
+    """One call of the library: its status, and the length of the output."""
+    lent = Room(room.address(), room.size // UNIT)
+    written = ctypes.c_size_t()
+    status = library().mmdepend_report(
+        ctypes.byref(lent),
+        text,
+        len(text),
+        request.only or b"",
+        len(request.only or b""),
+        request.only is not None,
+        request.part,
+        request.form,
+        request.essential,
+        request.open_theorems,
+        out.address(),
+        out.size,
+        ctypes.byref(written),
+    )
+    return status, written.value
+
+
+def output(text: bytes, request: Request) -> tuple[int, bytes]:
+    """The status and the output, with as much memory as it takes. What isn't used of memory that is
+    lent is never really taken from the system, so the first try is generous."""
+    room_size = up_to(ROOM_FOR_A_BYTE * len(text) + LEAST)
+    out_size = up_to((5 if request.part == 0 else 2) * len(text) + LEAST)
+    while True:
+        with Memory(room_size) as room, Memory(out_size) as out:
+            status, written = once(text, request, room, out)
+            if status == TOO_SHORT:
+                out_size = up_to(written)
+            elif status == NO_MEMORY:
+                room_size *= 2
+            else:
+                return status, out.pages[:written]
+
+
+def refused(line: bytes) -> Refused:
+    """What a refusal says: `refused LINE:COLUMN CODE`."""
+    _, place, code = line.split()
+    at, column = place.split(b":")
+    return Refused(int(at), int(column), code.decode("ascii"))
+
+
+def report(
+    text: bytes | bytearray | memoryview | mmap.mmap,
+    part: Part = "all",
+    *,
+    only: str | None = None,
+    form: Literal[1, 2] = 1,
+    essential: bool = False,
+    open_theorems: bool = False,
+) -> bytes:
+    """Verifies a database and returns the bytes of its report, as the program writes them.
+
+    `text` is the database. `part` is what is reported: `matrix`, `counts`, `usage`, these three
+    (`all`), or `citations`. `only` is the typecode of the axioms that are columns, such as `|-`; if
+    it is None, all axioms are. `form` is how the matrix is written: 1 a digit for each column, 2 a
+    hexadecimal digit for every four. With `essential` a theorem cites only what the logical part of
+    its proof applies, and with `open_theorems` a theorem whose proof is `?` counts as an axiom.
+
+    Raises Refused if the database has a fault, ValueError if there is no such part or form, or
+    `only` can't be written as UTF-8, MemoryError if memory runs out, and OSError if the shared
+    library isn't found.
+    """
+    if part not in PARTS:
+        raise ValueError(f"no part of a report is called {part!r}")
+    if form not in (1, 2):
+        raise ValueError(f"no form of the matrix has the number {form!r}")
+    typecode = None if only is None else only.encode("utf-8")
+    request = Request(PARTS.index(part), form, typecode, essential, open_theorems)
+    status, written = output(text if isinstance(text, bytes) else bytes(text), request)
+    if status == REFUSED:
+        raise refused(written)
+    if status != ACCEPTED:
+        raise AssertionError(f"the library ended with status {status}")
+    return written
+
+
+def version() -> str:
+    """The version of the shared library, and the logic in which it was proved."""
+    text = ctypes.create_string_buffer(256)
+    length = library().mmdepend_version(text, len(text))
+    return text.raw[:length].decode("utf-8")

@@ -1,0 +1,249 @@
+// One run of the proved library, in Node or in a page. The module has no import: it works in memory that is lent to it,
+// and here that memory is made. It calls nothing, and an instance serves one run alone.
+
+/** @typedef {import("./types.js").Answer} Answer */
+/** @typedef {import("./types.js").Request} Request */
+
+/** Of what the module answers: the output has more bytes than there was place for; the room is too small. */
+const OUT_TOO_SHORT = 3;
+const ROOM_TOO_SMALL = 4;
+
+/** The parts of a report, in the order of their numbers. */
+export const PARTS = /** @type {const} */ (["all", "matrix", "counts", "usage", "citations"]);
+/**
+ * What the program is asked without options.
+ * @type {Request}
+ */
+const PLAIN = { report: "all", only: null, form: 1, essential: false, open: false };
+/** The memory of a module grows by pages, up to 2^16 of them. */
+const PAGE = 65536;
+const MOST_PAGES = 65536;
+const UNIT = 16;
+/** Of the arguments that the module writes to, four of eight bytes: the room's two, and two lengths. */
+const WRITTEN = 32;
+/** The longest text, and one byte more: the module refuses such a text, and reads nothing behind it. */
+export const READING_LIMIT = 2147483648;
+
+/** There is no more memory. */
+class Exhausted extends Error {}
+
+/**
+ * Compiles the module.
+ * @param {BufferSource} bytes
+ * @returns {Promise<WebAssembly.Module>}
+ */
+export async function compile(bytes) {
+    const module = await WebAssembly.compile(bytes);
+    if (WebAssembly.Module.imports(module).length > 0) throw new Error("the module has imports");
+    return module;
+}
+
+/**
+ * Bytes up to the next multiple.
+ * @param {number} bytes
+ * @param {number} multiple
+ */
+function upTo(bytes, multiple) {
+    return Math.ceil(bytes / multiple) * multiple;
+}
+
+/** The memory of an instance: below `free` it is taken. */
+class Memory {
+    /**
+     * @param {WebAssembly.Memory} memory
+     * @param {number} most how many bytes it may have
+     */
+    constructor(memory, most) {
+        this.memory = memory;
+        this.most = Math.min(most, MOST_PAGES * PAGE);
+        // The module's own data and its stack come first.
+        this.free = memory.buffer.byteLength;
+    }
+
+    /**
+     * Makes sure that there is memory up to a place.
+     * @param {number} end
+     */
+    reach(end) {
+        if (end > this.most) throw new Exhausted();
+        const lacking = Math.ceil((end - this.memory.buffer.byteLength) / PAGE);
+        if (lacking <= 0) return;
+        try {
+            this.memory.grow(lacking);
+        } catch (error) {
+            throw new Exhausted();
+        }
+    }
+
+    /**
+     * Takes memory, and tells where it begins: at a multiple of 16.
+     * @param {number} size
+     */
+    take(size) {
+        const at = this.free;
+        this.reach(at + size);
+        this.free = upTo(at + size, UNIT);
+        return at;
+    }
+
+    /**
+     * The bytes from a place on. Memory that grows moves, so they are asked for each time.
+     * @param {number} at
+     * @param {number} size
+     */
+    bytes(at, size) {
+        return new Uint8Array(this.memory.buffer, at, size);
+    }
+}
+
+/**
+ * How many bytes of room are tried first: with the databases that there are, it is enough.
+ * @param {number} size the text's bytes
+ * @param {Request} request
+ */
+function firstRoom(size, { report }) {
+    return upTo(size * (report === "all" || report === "usage" ? 9 : 8) + 16 * PAGE, PAGE);
+}
+
+/**
+ * How many bytes of output are tried first.
+ * @param {number} size the text's bytes
+ * @param {Request} request
+ */
+function firstOutput(size, { report }) {
+    return upTo(size * (report === "all" ? 5 : 2) + PAGE, PAGE);
+}
+
+class Run {
+    /**
+     * @param {WebAssembly.Instance} instance
+     * @param {Request} request
+     * @param {number} most how many bytes of memory it may take
+     */
+    constructor(instance, request, most) {
+        this.exports = /** @type {Record<string, Function>} */ (/** @type {unknown} */ (instance.exports));
+        this.request = request;
+        this.memory = new Memory(/** @type {WebAssembly.Memory} */ (instance.exports.memory), most);
+    }
+
+    /**
+     * Puts the text and the typecode into memory.
+     * @param {number} size
+     * @param {(bytes: () => Uint8Array) => void | Promise<void>} fill
+     */
+    async load(size, fill) {
+        const { memory } = this;
+        this.written = memory.take(WRITTEN);
+        this.size = size;
+        this.text = memory.take(size);
+        const name = new TextEncoder().encode(this.request.only ?? "");
+        this.only = memory.take(name.length);
+        this.onlySize = name.length;
+        memory.bytes(this.only, name.length).set(name);
+        const { text } = this;
+        await fill(() => memory.bytes(text, size));
+    }
+
+    /** The four numbers that the module writes. */
+    numbers() {
+        return new BigUint64Array(this.memory.memory.buffer, this.written, WRITTEN / 8);
+    }
+
+    /**
+     * One call of the module, with so many bytes of room and of output.
+     * @param {number} room
+     * @param {number} output
+     */
+    call(room, output) {
+        const { memory, request } = this;
+        const at = upTo(memory.free, PAGE);
+        const out = at + room;
+        memory.reach(out + output);
+        this.numbers().set([BigInt(at), BigInt(room / UNIT), 0n, 0n]);
+        const both = request.withCitations ?? false;
+        const written = /** @type {number} */ (this.written);
+        const name = both ? "mmdepend_report_and_citations" : "mmdepend_report";
+        const status = Number(
+            this.exports[name](
+                BigInt(written),
+                BigInt(/** @type {number} */ (this.text)),
+                BigInt(/** @type {number} */ (this.size)),
+                BigInt(/** @type {number} */ (this.only)),
+                BigInt(/** @type {number} */ (this.onlySize)),
+                request.only === null ? 0 : 1,
+                PARTS.indexOf(request.report),
+                request.form,
+                request.essential ? 1 : 0,
+                request.open ? 1 : 0,
+                BigInt(out),
+                BigInt(output),
+                BigInt(written + 16),
+                ...(both ? [BigInt(written + 24)] : []),
+            ),
+        );
+        const [, , report, citations] = Array.from(this.numbers(), Number);
+        return { status, out, report, citations };
+    }
+
+    /**
+     * Calls the module with more memory until that is enough, or there is no more.
+     * @param {number} room
+     * @returns {Answer}
+     */
+    answer(room) {
+        let output = firstOutput(/** @type {number} */ (this.size), this.request);
+        for (;;) {
+            const { status, out, report, citations } = this.call(room, output);
+            if (status === OUT_TOO_SHORT) output = upTo(report + citations, PAGE);
+            else if (status === ROOM_TOO_SMALL) room *= 2;
+            else {
+                return {
+                    status: /** @type {Answer["status"]} */ (status),
+                    report: this.memory.bytes(out, report),
+                    citations: this.request.withCitations ? this.memory.bytes(out + report, citations) : null,
+                    memory: this.memory.memory.buffer.byteLength,
+                };
+            }
+        }
+    }
+}
+
+/**
+ * Verifies a text and writes its report, and with `withCitations` from the same check the report of citations.
+ * @param {WebAssembly.Module} module
+ * @param {number} size the text's bytes
+ * @param {(bytes: () => Uint8Array) => void | Promise<void>} fill puts the text into the array that `bytes()` gives; to be
+ *     asked for again after each wait, since memory may have moved
+ * @param {Partial<Request>} request what isn't said is as in the program without options
+ * @param {{ room?: number, most?: number }} [limits] how many bytes of room are tried first, and how many bytes of memory
+ *     the module may take
+ * @returns {Promise<Answer>}
+ */
+export async function report(module, size, fill, request, limits = {}) {
+    const whole = { ...PLAIN, ...request };
+    const instance = await WebAssembly.instantiate(module, {});
+    const run = new Run(instance, whole, limits.most ?? Infinity);
+    try {
+        await run.load(Math.min(size, READING_LIMIT), fill);
+        return run.answer(limits.room ?? firstRoom(size, whole));
+    } catch (error) {
+        if (!(error instanceof Exhausted)) throw error;
+        const none = new Uint8Array(0);
+        return { status: 4, report: none, citations: null, memory: run.memory.memory.buffer.byteLength };
+    }
+}
+
+/**
+ * The version's text, as the program prints it after its name.
+ * @param {WebAssembly.Module} module
+ * @returns {Promise<string>}
+ */
+export async function version(module) {
+    const instance = await WebAssembly.instantiate(module, {});
+    const exports = /** @type {Record<string, Function>} */ (/** @type {unknown} */ (instance.exports));
+    const memory = /** @type {WebAssembly.Memory} */ (instance.exports.memory);
+    const at = memory.buffer.byteLength;
+    memory.grow(1);
+    const size = Number(exports.mmdepend_version(BigInt(at), BigInt(PAGE)));
+    return new TextDecoder().decode(new Uint8Array(memory.buffer, at, size));
+}
