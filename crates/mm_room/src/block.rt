@@ -3,6 +3,7 @@
 ghost use Rattle.std.specs.Prelude.{◌≡◌, ℕ, ◌*◌, ◌^◌, ◌<◌, IfSome};
 ghost use Rattle.mm_room.specs.Units.{block_at};
 
+use crate::room::UNIT;
 use std::alloc::Allocator;
 use std::marker::{Model, PhantomData};
 
@@ -26,7 +27,7 @@ impl<A: Allocator> Block<A> {
         requires { units * 16 < 2 ^ 63 }
         ensures { IfSome result (λ b. (b.alloc ≡ alloc.now) × (b.units ≡ units)) }
     {
-        match alloc.allocate(units * 16, 16) {
+        match alloc.allocate(units * UNIT, UNIT) {
             Ok(at) => Some(Block {
                 at,
                 by: PhantomData,
@@ -42,6 +43,6 @@ impl<A: Allocator> Block<A> {
         requires fits { units * 16 < 2 ^ 63 }
     {
         let Block { at, by: _ } = self;
-        unsafe { alloc.deallocate(at, units * 16, 16) }
+        unsafe { alloc.deallocate(at, units * UNIT, UNIT) }
     }
 }

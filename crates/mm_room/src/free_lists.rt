@@ -5,12 +5,10 @@ ghost use Rattle.mm_room.specs.Units.{block_units, block_back};
 
 use crate::block::Block;
 use crate::free_list::FreeList;
+use crate::room::UNIT;
 use counted_slot::{Counted, FREE, TAKEN};
 use std::alloc::{AllocError, Allocator};
 use std::marker::PhantomData;
-
-/// The bytes of a unit, and its alignment.
-const UNIT: usize = 16;
 
 /// How many lists there are.
 const LISTS: usize = 256;
@@ -92,12 +90,12 @@ impl<A: Allocator> FreeLists<A> {
         block
     }
 
-    /// A block for so many bytes at this alignment, if there is one.
-    fn take(&self, size: usize, align: usize) -> Option<Block<A>>
+    /// A block for so many bytes, if there is one.
+    fn take(&self, size: usize) -> Option<Block<A>>
         ensures { IfSome result (λ b. (b.alloc ≡ self.now.alloc) × (b.units ≡ block_units size)
             × (size ≤ b.units * 16) × (size < 2 ^ 63)) }
     {
-        if align > UNIT || size > isize::MAX as usize {
+        if size > isize::MAX as usize {
             return None;
         }
         let units = units_for(size);
@@ -148,8 +146,9 @@ impl<A: Allocator> Drop for FreeLists<A> {
 unsafe impl<A: Allocator> Allocator for FreeLists<A> {
     ghost dealloc_token = { λ lists. block_back (A.dealloc_token lists.alloc) };
 
-    fn allocate(&self, size: usize, align: usize) -> Result<*mut u8, AllocError> {
-        match self.take(size, align) {
+    // No type has a greater alignment than a unit.
+    fn allocate(&self, size: usize, _align: usize) -> Result<*mut u8, AllocError> {
+        match self.take(size) {
             Some(Block { at, by: _ }) => Ok(at),
             None => Err(AllocError),
         }
