@@ -6,8 +6,9 @@ ghost use Rattle.mm_library.specs.Calls.{Call, Ends, IsAnswer, Writes, citing};
 
 use crate::report::{report, report_and_citations};
 use crate::status::Status;
-use mm_room::{Lender, Room};
+use mm_room::{FreeLists, Lender, Room};
 use mm_spec::{Request, TEXT_LIMIT};
+use std::alloc::Allocator;
 use std::mem::replace;
 
 /// What is read of a text: its beginning, up to one byte more than a text may have.
@@ -16,6 +17,42 @@ fn read(text: &[u8]) -> &[u8]
     ensures few { length result.now ≤ reading_limit }
 {
     &text[..(TEXT_LIMIT + 1).min(text.len())]
+}
+
+/// Writes the output of a text to the front of `out`. Returns how that ended, and the length of the
+/// output in bytes.
+fn report_in_arena<A: Allocator + Copy>(
+    arena: A,
+    text: &[u8],
+    request: &Request<'_>,
+    out: &mut [u8],
+) -> (Status, usize)
+    requires few { length text.now ≤ reading_limit }
+    ensures { Writes result.0 request.now.with_open (request.now ∷ []) text.now (result.1 ∷ [])
+        out.new }
+{
+    match FreeLists::new(arena) {
+        Ok(alloc) => report(&alloc, text, request, out),
+        Err(_) => (Status::RoomTooSmall, 0),
+    }
+}
+
+/// The same, and behind it the output for the same request with the sections `Citations`, after one
+/// check. Returns how that ended, and the lengths of the two outputs in bytes.
+fn report_and_citations_in_arena<A: Allocator + Copy>(
+    arena: A,
+    text: &[u8],
+    request: &Request<'_>,
+    out: &mut [u8],
+) -> (Status, usize, usize)
+    requires few { length text.now ≤ reading_limit }
+    ensures { Writes result.0 request.now.with_open (request.now ∷ citing request.now ∷ []) text.now
+        (result.1 ∷ result.2 ∷ []) out.new }
+{
+    match FreeLists::new(arena) {
+        Ok(alloc) => report_and_citations(&alloc, text, request, out),
+        Err(_) => (Status::RoomTooSmall, 0, 0),
+    }
 }
 
 /// Writes the output of a text to the front of `out`. Returns how that ended, and the length of the
@@ -32,7 +69,7 @@ fn report_in_room(
 {
     let lender = Lender::new(replace(room, Room::none()));
     let ended = match lender.arena() {
-        Ok(arena) => report(&arena, read(text), request, out),
+        Ok(arena) => report_in_arena(&arena, read(text), request, out),
         Err(_) => (Status::RoomTooSmall, 0),
     };
     *room = lender.into_room();
@@ -53,7 +90,7 @@ fn report_and_citations_in_room(
 {
     let lender = Lender::new(replace(room, Room::none()));
     let ended = match lender.arena() {
-        Ok(arena) => report_and_citations(&arena, read(text), request, out),
+        Ok(arena) => report_and_citations_in_arena(&arena, read(text), request, out),
         Err(_) => (Status::RoomTooSmall, 0, 0),
     };
     *room = lender.into_room();

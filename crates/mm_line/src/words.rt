@@ -15,15 +15,13 @@ use clap::error::ErrorKind;
 use clap::{Arg, ArgAction, ArgMatches, Command, Error};
 use mm_plan::{Cutting, Plan};
 use mm_spec::{Choice, Form};
+use mm_version::VERSION;
 use std::alloc::{AllocError, Global};
 use std::convert::AsStr;
 
 static REPORTS: [&str; 5] = ["all", "matrix", "counts", "usage", "citations"];
 
 static FORMS: [&str; 2] = ["1", "2"];
-
-/// The program's version, and the logic in which it was proved (as `rt version` names it).
-const VERSION: &str = "0.1.0, proved with rattle logic dac8208d650f15bf";
 
 /// The last lines of the help.
 const AFTER: &str = "\

@@ -7,7 +7,7 @@ use mir.Val.{Val, vcons, vnil, of_list}
 use base.Logic.{ent, sep, id⊢}
 use prog.Memory.{size, capped}
 use prog.Capped.{capped_is, capped_small}
-use prog.Wp.{Env, Calls, Loops, Wp, after_seq}
+use prog.Wp.{Env, Calls, Loops, Wp, after_seq, after_block}
 use types.Logic.{Logic, sem}
 use types.Kit.{Item, Goal, Seq, Post, any_q, post, ‵, ◌$◌, move, drop, rewrite, fsplit, fpick, feq_l}
 use types.Match.{live}
@@ -72,3 +72,7 @@ abbrev pub rest_runs : {M : Type 1} {𝓤 : Ura M} (𝓛 : Logic 𝓤) → Calls
     → Env 𝓤 𝓛.H → Body → Post 𝓤 𝓛.H → Post 𝓤 𝓛.H
 rest_runs {𝓤 = 𝓤} 𝓛 C Λ E b q =
     any_q (after_seq 𝓤 𝓛.H (Wp 𝓤 𝓛.H C Λ E b (post 𝓤 𝓛.H q)) (post 𝓤 𝓛.H q))
+
+-- what comes after a block of statements
+abbrev pub block_ends : {M : Type 1} {𝓤 : Ura M} (𝓛 : Logic 𝓤) → Post 𝓤 𝓛.H → Post 𝓤 𝓛.H
+block_ends {𝓤 = 𝓤} 𝓛 q = any_q (after_block 𝓤 𝓛.H (post 𝓤 𝓛.H q))

@@ -2,3 +2,5 @@
 -- the block that is asked for, and `deallocate` turns that block back into them.
 pub mod MemoryLaw
 pub mod BlockLaw
+pub mod HandleLaw
+pub mod ReuseLaw

@@ -4,13 +4,10 @@ ghost use Rattle.std.specs.Prelude.{◌≡◌, ◌*◌, ◌^◌, ◌<◌, ◌≤
 ghost use Rattle.mm_room.specs.Units.{way_back};
 
 use crate::memory::Memory;
-use crate::room::Room;
+use crate::room::{Room, UNIT};
 use bumpalo::Bump;
 use std::alloc::{AllocError, Allocator};
 use std::cell::Cell;
-
-/// The bytes of a unit, and its alignment.
-const UNIT: usize = 16;
 
 /// The units of a page. The size of an arena's chunk is a number of pages less one unit.
 const UNITS_OF_PAGE: usize = 256;
@@ -57,15 +54,13 @@ impl Lender {
         }
     }
 
-    /// The whole memory, if it is here and a block of this size in bytes and of this alignment fits.
-    fn take(&self, size: usize, align: usize) -> Option<Memory>
+    /// The whole memory, if it is here and a block of this size in bytes fits.
+    fn take(&self, size: usize) -> Option<Memory>
         ensures { IfSome result (λ m. (m.units ≡ self.now.units) × (0 < m.units)
             × (size ≤ m.units * 16) × (size < 2 ^ 63)) }
     {
-        if self.units == 0 || size > isize::MAX as usize || align > UNIT {
-            return None;
-        }
-        if size > self.units.saturating_mul(UNIT) {
+        let fits = size <= self.units.saturating_mul(UNIT);
+        if self.units == 0 || size > isize::MAX as usize || !fits {
             return None;
         }
         match self.room.replace(None) {
@@ -86,8 +81,9 @@ impl Lender {
 unsafe impl Allocator for Lender {
     ghost dealloc_token = { λ lender. way_back lender.units };
 
-    fn allocate(&self, size: usize, align: usize) -> Result<*mut u8, AllocError> {
-        match self.take(size, align) {
+    // No type has a greater alignment than a unit.
+    fn allocate(&self, size: usize, _align: usize) -> Result<*mut u8, AllocError> {
+        match self.take(size) {
             Some(Memory { at }) => Ok(at),
             None => Err(AllocError),
         }

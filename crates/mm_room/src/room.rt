@@ -4,6 +4,9 @@ ghost use Rattle.std.specs.Prelude.{◌≡◌};
 
 use crate::memory::Memory;
 
+/// The bytes of a unit, and the alignment of the first.
+pub(crate) const UNIT: usize = 16;
+
 /// Memory that is lent: an address, a multiple of 16, and the number of units of 16 bytes that lie
 /// there. Whoever has the value owns the memory, and nothing lies in it. With no unit there is no
 /// memory, and the address may be null. The memory leaks if the value is let go.

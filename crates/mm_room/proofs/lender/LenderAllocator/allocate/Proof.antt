@@ -8,7 +8,7 @@ use contract.Monad.{fact}
 use contract.Running.{tables}
 use prog.Memory.{size, align, capped}
 use prog.Wp.{Env}
-use types.Kit.{‵, raw, ◌⊛◌, some, later, at_ret, ◌$◌, ◌∵◌, !, qed, done, move, drop, use0, use1, split, join, pick, await, suffices, group}
+use types.Kit.{‵, raw, ◌⊛◌, some, later, at_ret, ◌$◌, ◌∵◌, !, qed, done, move, drop, use0, use1, split, join, fsplit, fjoin, pick, await, suffices, group}
 use types.Part.{whole, sub, agg}
 use types.Match.{vrt, in_variant}
 use types.Run.{enter, of_opd, lit, stop, fld, no_more, and_then, first, switches_on, exec, returns}
@@ -61,15 +61,19 @@ allocate_spec 𝓤 𝓛 𝓜 𝓡 wired =
     let n = a.0.now.units in let s = a.1.0 in
     let y : W.Ghost = ((κs, qs, bounds, a, (shr_vals a.0, (uint_vals w64 s, (uint_vals w64 a.1.1.0, tt)))), τ) in
     let G = triple_of 𝓛 g.signature (g.spec 𝓛 𝓜.mem 𝓡.returns) in
-    let z : G.Ghost = ((κs, qs, bounds, a, y.0.4), tt) in
+    let z : G.Ghost = ((κs, qs, bounds, (a.0, (s, tt)), (shr_vals a.0, (uint_vals w64 s, tt))), tt) in
     qed 𝓛 ((raw (alive 𝓛 f.signature κs qs) ⊛ ‵ (owns (types_at f.signature.params κs) a y.0.4))
     ∷ raw (fact 𝓤 ((capped (size τ) ≡ s) × (capped (align τ) ≡ a.1.1.0))) ∷ []) ∵
-    move ! (1 ∷ []) $ heard ! _ (λ asked. nothing ! $ move ! (1 ∷ 0 ∷ []) $ join ! $ use1 𝓛 (raw (G.pre z)) (id⊢ 𝓤 _) $
+    move ! (1 ∷ []) $ heard ! _ (λ asked.
+    split ! $ move ! (1 ∷ []) $ fsplit ! $ move ! (1 ∷ []) $ fsplit ! $ move ! (1 ∷ []) $ drop ! $
+    nothing ! $ move ! (1 ∷ 0 ∷ []) $ fjoin ! $ move ! (1 ∷ 0 ∷ []) $ fjoin ! $ move ! (1 ∷ 0 ∷ []) $ join ! $
+    -- [the tokens, with the lender and the size]
+    nothing ! $ move ! (1 ∷ 0 ∷ []) $ join ! $ use1 𝓛 (raw (G.pre z)) (id⊢ 𝓤 _) $
     enter ! _ _ _ _ _ $
     alloc_all ! (λ l. pass_all ! refl ((tt, tt), ((tt, record { fits = are.1.0.1 }), ((tt, record { fits = are.1.1.0.1 }), tt))) $
     let En : Env 𝓤 𝓛.H = env code.Mir.locals l in let Ends = at_ret En (W.post y) in
     calls_at ! (framed 𝓤 𝓛.H 𝓜 𝓣) G (met 𝓤 𝓛 𝓜 𝓡 (code.calls-mm_room::lender::Lender::take 𝓡.env wired)) z
-    (and_then ! (get ! refl) (and_then ! (get ! refl) (and_then ! (get ! refl) (no_more !)))) (λ v.
+    (and_then ! (get ! refl) (and_then ! (get ! refl) (no_more !))) (λ v.
     use1 𝓛 (later (some (λ (x : Taken.Denot). (raw (alive 𝓛 f.signature κs qs) ⊛ ‵ (Taken.own_val x (v ∷ []))) ⊛
     some (λ (ws : Lasts g.ended z.0.0 z.0.3). ‵ (lasts g.ended z.0.0 z.0.3 ws) ⊛ raw (fact 𝓤 (Told n s x)))))) (id⊢ 𝓤 _) $
     await ! tt $ pick ! (λ x. split ! $ move ! (1 ∷ []) $ pick ! (λ ws. split ! $ drop ! $ heard ! _ (λ told. split ! $ move ! (1 ∷ []) $

@@ -1,0 +1,74 @@
+-- A block of a free list as the block that is asked for, and the two cases of what `take` gives.
+-- Assumes `Logic`.
+use Rattle.std.proofs.Common.{◌≡◌, ℕ, zero, suc, ◌*◌, ◌^◌, ◌<◌, ◌≤◌, List, [], ◌∷◌, ◌++◌}
+use Rattle.std.proofs.Common.{IfSome, None, Some, refl, sym, ap, subst, ◌∙◌, arith}
+use seplogic.Ra.Ura.{Ura}
+use mir.Syntax.{Ty, Dict}
+use mir.Val.{Val, vcons, vnil, of_list}
+use base.Logic.{ent, sep, wand, id⊢, fst∗, never, apply∗}
+use base.Fml.{froom}
+use prog.Memory.{size, capped}
+use prog.Capped.{capped_is, capped_small}
+use types.Logic.{Logic, sem}
+use types.Kit.{Item, Goal, Seq, ‵, raw, ◌⊛◌, ◌$◌, ◌∵◌, !, qed, done, move, drop, use1, use2, split, frame, assume, rewrite, fsplit, fjoin, fpick, feq_l}
+use types.Match.{live}
+use denote.RattleType.{RattleType}
+use denote.Laws.{Is, shows}
+use denote.Param.{param}
+use denote.RawPtr.{Ptr, block_ptr, null_ptr, in_a_block}
+use denote.Steps.{only, peeks}
+use Rattle.core.specs.contracts.option.Option as option
+use Rattle.core.specs.declared.alloc.Allocator.{Ghosts}
+use Rattle.core.proofs.slots.Carves.{carve}
+use Rattle.mm_room.specs.Units.{units, block_at, block_units, block_back}
+use Rattle.mm_room.specs.contracts.block.Block as block
+use Rattle.mm_room.proofs.HandleLaw.{Fields, block_val, block_is}
+
+module _ (A : RattleType) (g : Ghosts A.Denot) where
+  abbrev pub Taken : RattleType
+  Taken = option.the_row (block.the_row (param 0 A) g)
+
+  -- what `take` says of the block that it gives for s bytes
+  abbrev pub Told : A.Denot → ℕ → Taken.Denot → Type 0
+  Told h s x =
+      IfSome x (λ b. (b.alloc ≡ h) × (b.units ≡ block_units s) × (s ≤ b.units * 16) × (s < 2 ^ 63))
+
+-- a block is room for a type that it holds, with the way back
+pub reuse : {M : Type 1} {𝓤 : Ura M} (𝓛 : Logic 𝓤) (holds : Ty → Ptr → base.Fml.Fml) (τ : Ty) (b o s : ℕ)
+    → capped (size τ) ≡ s → s ≤ block_units s * 16 → s < 2 ^ 63
+    → ent 𝓤 (sem 𝓛 (block_at holds (block_units s) (block_ptr b o)))
+    (sep 𝓤 (𝓛.H.room τ b o) (sem 𝓛 (block_back holds τ (block_ptr b o))))
+reuse {𝓤 = 𝓤} 𝓛 holds τ b o s sized fits short =
+    let n = block_units s in let p = block_ptr b o in
+    let small : size τ < 2 ^ 63 = capped_small (size τ) (omega (arith, sized, short)) in
+    let same : size τ ≡ s = sym (capped_is (size τ) (omega (arith, small))) ∙ sized in
+    qed 𝓛 (‵ (block_at holds n p) ∷ []) ∵ fsplit ! $
+    use1 𝓛 (‵ (froom τ b o) ⊛ raw (wand 𝓤 (𝓛.H.room τ b o) (𝓛.H.room (units n) b o)))
+    (carve 𝓛 (units n) τ n b o refl refl (omega (arith, same, fits))) $ split ! $ frame ! $
+    -- [the way back to the units; the right to give them back]
+    assume ! (‵ (froom τ b o)) $ move ! (0 ∷ 1 ∷ []) $
+    use2 𝓛 (‵ (froom (units n) b o)) (apply∗ 𝓤 (𝓛.H.room τ b o) (𝓛.H.room (units n) b o)) $ fjoin ! $
+    rewrite ! 0 (λ (k : ℕ). ‵ (block_at holds (block_units k) p)) (sym sized) refl $ done !
+
+module _ (A : RattleType) (g : Ghosts A.Denot) {M : Type 1} {𝓤 : Ura M} {𝓛 : Logic 𝓤} {K : Type 0} {Γ : List (Item 𝓤)} {G : Goal 𝓤 𝓛.H} where
+  -- what `take` gave is a block, or nothing
+  pub taken : K → (h : A.Denot) (s : ℕ) (x : (Taken A g).Denot) (v : Val) → Told A g h s x
+      → ((b o : ℕ) → s ≤ block_units s * 16 → s < 2 ^ 63
+      → v ≡ live 1 (vcons (block_val (block_ptr b o)) vnil)
+      → Seq K 𝓛 (‵ (block_at (g.dealloc_token h) (block_units s) (block_ptr b o)) ∷ Γ) G)
+      → (v ≡ live 0 vnil → Seq K 𝓛 Γ G)
+      → Seq K 𝓛 (‵ ((Taken A g).own_val x (v ∷ [])) ∷ Γ) G
+  taken t h s None v told some none =
+      fpick t (λ us. fsplit t $ feq_l t (λ is. fpick t (λ vss. fsplit t $ feq_l t (λ same. drop t $
+      none (ap only is ∙ ap (λ (ws : List Val). live 0 (of_list ws)) same)))))
+  taken t h s (Some x) v told some none =
+      fpick t (λ us. fsplit t $ feq_l t (λ is. fpick t (λ vss. fsplit t $ feq_l t (λ same. fsplit t $
+      move t (1 ∷ []) $ drop t $ fsplit t $
+      peeks t Fields (Is Fields) (shows 𝓛 Fields) (x.at, (tt, tt)) vss.0 (λ are. drop t $
+      rewrite t 0 (λ (k : ℕ). ‵ (block_at (g.dealloc_token x.alloc) k x.at)) told.1 refl $
+      rewrite t 0 (λ (a : A.Denot). ‵ (block_at (g.dealloc_token a) (block_units s) x.at)) told.0 refl $
+      in_a_block t x.at (λ (p : Ptr). block_at (g.dealloc_token h) (block_units s) p)
+      (fst∗ 𝓤 (never 𝓤) (sem 𝓛 (g.dealloc_token h (units (block_units s)) null_ptr))) (λ b o lies.
+      some b o (subst (λ (k : ℕ). s ≤ k * 16) told.1 told.2) told.3
+      (ap only is ∙ ap (λ (ws : List Val). live 1 (of_list ws)) (same ∙ ap (λ (ws : List Val). ws ++ []) (block_is x.at vss.0 are))
+      ∙ ap (λ (p : Ptr). live 1 (vcons (block_val p) vnil)) lies)))))))

@@ -1,0 +1,48 @@
+//! A block that no one uses.
+
+ghost use Rattle.std.specs.Prelude.{◌≡◌, ℕ, ◌*◌, ◌^◌, ◌<◌, IfSome};
+ghost use Rattle.mm_room.specs.Units.{block_at};
+
+use crate::room::UNIT;
+use std::alloc::Allocator;
+use std::marker::{Model, PhantomData};
+
+/// A block that an allocator gave, of a number of units that only its owner knows. Whoever has the
+/// value owns the block, and nothing lies in it. It leaks if the value is let go.
+#[derive(Drop)]
+pub(crate) struct Block<A: Allocator> {
+    pub(crate) at: *mut u8,
+    pub(crate) by: PhantomData<A>,
+    ghost alloc: { A },
+    ghost units: { ℕ },
+}
+
+impl<A: Allocator> Model for Block<A> {
+    ghost also_owns = { λ b. block_at (A.dealloc_token b.alloc) b.units b.at };
+}
+
+impl<A: Allocator> Block<A> {
+    /// A block of so many units, if the allocator has one.
+    pub(crate) fn take(alloc: &A, units: usize) -> Option<Block<A>>
+        requires { units * 16 < 2 ^ 63 }
+        ensures { IfSome result (λ b. (b.alloc ≡ alloc.now) × (b.units ≡ units)) }
+    {
+        match alloc.allocate(units * UNIT, UNIT) {
+            Ok(at) => Some(Block {
+                at,
+                by: PhantomData,
+            }),
+            Err(_) => None,
+        }
+    }
+
+    /// Gives the block of so many units back to the allocator.
+    pub(crate) fn free(self, alloc: &A, units: usize)
+        requires alloc { self.alloc ≡ alloc.now }
+        requires units { self.units ≡ units }
+        requires fits { units * 16 < 2 ^ 63 }
+    {
+        let Block { at, by: _ } = self;
+        unsafe { alloc.deallocate(at, units * UNIT, UNIT) }
+    }
+}
