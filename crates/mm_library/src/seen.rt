@@ -28,6 +28,5 @@ impl Seen {
     /// The bytes so far, and then these.
     pub(crate) fn add(&mut self, _bytes: &[u8])
         ensures { self.new.bytes ≡ self.old.bytes ++ _bytes.now }
-    {
-    }
+    {}
 }
