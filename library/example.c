@@ -78,7 +78,7 @@ int main(int count, char **words) {
     uint8_t *text = read_file(words[1], &size);
     if (!text)
         return fail(3, "the file can't be read");
-    size_t room = up_to_units(count > 3 ? strtoull(words[3], NULL, 10) : 9 * size + LEAST);
+    size_t room = up_to_units(count > 3 ? strtoull(words[3], NULL, 10) : 6 * size + LEAST);
     size_t out = count > 4 ? strtoull(words[4], NULL, 10) : 5 * size + LEAST;
     uint32_t status;
     size_t written;

@@ -22,8 +22,9 @@
 extern "C" {
 #endif
 
-/* Memory that is lent for a call. What is in it before and after the call is of no meaning. A text
- * needs about nine times its length of it; see mmdepend_status for what comes of too little. */
+/* Memory that is lent for a call. What is in it before and after the call is of no meaning. Six times
+ * the text's length and a megabyte is enough for the databases that there are; see mmdepend_status
+ * for what comes of too little. */
 struct mmdepend_room {
     void *at;     /* a multiple of 16 */
     size_t units; /* of 16 bytes each */

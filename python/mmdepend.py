@@ -29,7 +29,7 @@ PARTS: tuple[Part, ...] = ("all", "matrix", "counts", "usage", "citations")
 NAMES = ("libmmdepend.so.0", "libmmdepend.so")
 UNIT = 16
 # The room that is lent at first, for a byte of the text, and the least of it.
-ROOM_FOR_A_BYTE = 9
+ROOM_FOR_A_BYTE = 6
 LEAST = 1 << 20
 
 # The statuses of the library that can come.

@@ -99,10 +99,9 @@ class Memory {
 /**
  * How many bytes of room are tried first: with the databases that there are, it is enough.
  * @param {number} size the text's bytes
- * @param {Request} request
  */
-function firstRoom(size, { report }) {
-    return upTo(size * (report === "all" || report === "usage" ? 9 : 8) + 16 * PAGE, PAGE);
+function firstRoom(size) {
+    return upTo(6 * size + 16 * PAGE, PAGE);
 }
 
 /**
@@ -225,7 +224,7 @@ export async function report(module, size, fill, request, limits = {}) {
     const run = new Run(instance, whole, limits.most ?? Infinity);
     try {
         await run.load(Math.min(size, READING_LIMIT), fill);
-        return run.answer(limits.room ?? firstRoom(size, whole));
+        return run.answer(limits.room ?? firstRoom(size));
     } catch (error) {
         if (!(error instanceof Exhausted)) throw error;
         const none = new Uint8Array(0);
