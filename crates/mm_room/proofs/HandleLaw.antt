@@ -2,7 +2,7 @@
 -- Assumes `Logic`.
 use Rattle.std.proofs.Common.{◌≡◌, List, [], ◌∷◌, refl}
 use seplogic.Ra.Ura.{Ura}
-use mir.Syntax.{Ty, ty_ptr, ty_struct, tcons, tnil}
+use mir.Syntax.{ty_ptr, ty_struct, tcons, tnil}
 use mir.Val.{Val, vstruct, vcons, vnil}
 use types.Logic.{Logic}
 use denote.RattleType.{RattleType}

@@ -1,11 +1,11 @@
 -- A block of a free list as the block that is asked for, and the two cases of what `take` gives.
 -- Assumes `Logic`.
-use Rattle.std.proofs.Common.{◌≡◌, ℕ, zero, suc, ◌*◌, ◌^◌, ◌<◌, ◌≤◌, List, [], ◌∷◌, ◌++◌}
+use Rattle.std.proofs.Common.{◌≡◌, ℕ, ◌*◌, ◌^◌, ◌<◌, ◌≤◌, List, [], ◌∷◌, ◌++◌}
 use Rattle.std.proofs.Common.{IfSome, None, Some, refl, sym, ap, subst, ◌∙◌, arith}
 use seplogic.Ra.Ura.{Ura}
-use mir.Syntax.{Ty, Dict}
+use mir.Syntax.{Ty}
 use mir.Val.{Val, vcons, vnil, of_list}
-use base.Logic.{ent, sep, wand, id⊢, fst∗, never, apply∗}
+use base.Logic.{ent, sep, wand, fst∗, never, apply∗}
 use base.Fml.{froom}
 use prog.Memory.{size, capped}
 use prog.Capped.{capped_is, capped_small}

@@ -1,5 +1,5 @@
 -- `free` gives the allocator its block, with the right to do so. Assumes `Logic`.
-use Rattle.std.proofs.Common.{◌≡◌, ℕ, ◌*◌, ◌^◌, ◌<◌, List, [], ◌∷◌, ◌++◌, refl, ap, sym, ◌∙◌, arith, lit<, w64}
+use Rattle.std.proofs.Common.{◌≡◌, ℕ, ◌*◌, ◌^◌, ◌<◌, List, [], ◌∷◌, ◌++◌, refl, ap, ◌∙◌, arith, lit<, w64}
 use Rattle.std.proofs.raw_atomic.Walks.{proved_at, leaves}
 use base.Logic.{SProp, id⊢, fst∗, never}
 use base.Fml.{ftrue, flft}
@@ -18,7 +18,7 @@ use types.Run.{enter, of_opd, lit, unit_lit, bin, stop, fld, no_more, and_then, 
 use types.ByLocal.{alloc_all, pass_all, free_all, look_at, get, get_in, sets, lands_last, env}
 use denote.Builtin.{RefOf, usize}
 use denote.Param.{param, bounded}
-use denote.RattleType.{RattleType, owns}
+use denote.RattleType.{owns}
 use denote.RawPtr.{Ptr, block_ptr, null_ptr, in_a_block}
 use denote.Signature.{Slot, plain, types_at}
 use denote.Steps.{nothing, heard}

@@ -1,18 +1,17 @@
 -- `take` asks the allocator for a block of units. Assumes `Logic`.
-use Rattle.std.proofs.Common.{◌≡◌, ℕ, ◌*◌, ◌^◌, ◌<◌, [], ◌∷◌, refl, arith, lit<, w64, Some, None}
+use Rattle.std.proofs.Common.{ℕ, ◌*◌, ◌^◌, ◌<◌, [], ◌∷◌, refl, arith, lit<, w64, Some, None}
 use Rattle.std.proofs.raw_atomic.Walks.{proved}
-use base.Logic.{id⊢, emp}
+use base.Logic.{id⊢}
 use base.Fml.{ftrue, flft}
 use mir.Syntax.{Args, Fn, Ty, a_type, dcons, dnil, named}
 use mir.MapTy.{inst_fn}
 use mir.Val.{vcons, vnil}
 use contract.BorrowLft.{◌⊑◌, ⊑_trans}
-use contract.Monad.{fact, fact_i}
+use contract.Monad.{fact}
 use contract.Running.{tables}
 use prog.Capped.{capped_is}
-use prog.Memory.{size, capped}
 use prog.Wp.{Env}
-use types.Kit.{‵, raw, ◌⊛◌, later, at_ret, ◌$◌, ◌∵◌, !, qed, done, move, drop, use0, use1, use2, split, join, fsplit, fjoin, await, suffices, group}
+use types.Kit.{‵, raw, ◌⊛◌, later, at_ret, ◌$◌, ◌∵◌, !, qed, done, move, drop, use0, use1, use2, split, join, fsplit, fjoin, await, suffices}
 use types.Part.{whole, agg}
 use types.Match.{live, vrt, in_variant}
 use types.Run.{enter, of_opd, lit, bin, stop, fld, no_more, and_then, first, switches_on, exec, returns}
@@ -21,10 +20,10 @@ use denote.Builtin.{RefOf, usize}
 use denote.Laws.{Is}
 use denote.Param.{param, bounded}
 use denote.Plain.{uint_vals, uint_Tells}
-use denote.RattleType.{RattleType, owns}
+use denote.RattleType.{owns}
 use denote.RawPtr.{block_ptr}
 use denote.Ref.{shr_vals, shr_Tells}
-use denote.Signature.{Slot, plain, types_at, type_at}
+use denote.Signature.{Slot, plain, types_at}
 use denote.Steps.{nothing, heard, owned}
 use denote.Triple.Call.{calls_at}
 use denote.Triple.Entry.{alive}
@@ -34,7 +33,7 @@ use Rattle.core.proofs.alloc.Calls.{Al, seen, Takes, at_takes, Answered, Takes-g
 use Rattle.core.proofs.alloc.Shapes.{after, head, arm_body}
 use Rattle.core.specs.contracts.option.Option as option
 use Rattle.core.proofs.option.Made.{Some-of, none_of}
-use Rattle.mm_room.specs.Units.{units, block_at}
+use Rattle.mm_room.specs.Units.{units}
 use Rattle.mm_room.proofs.BlockLaw.{rest_runs}
 use Rattle.mm_room.proofs.HandleLaw.{Fields, block_val, block_typed, fields_Makes, fields_are}
 use Rattle.mm_room.specs.contracts.block.Block as block

@@ -8,7 +8,6 @@ use mir.MapTy.{inst_fn}
 use contract.BorrowLft.{◌⊑◌}
 use denote.Param.{param, bounded}
 use denote.Plain.{uint_Makes}
-use prog.Wp.{Env}
 use mir.Syntax.{Args, Fn, a_type, dcons, dnil, named}
 use mir.Val.{Val, vunit}
 use contract.Monad.{fact, fact_i}
@@ -53,9 +52,13 @@ deallocate_spec 𝓤 𝓛 𝓜 𝓡 wired A L g d dd met md =
     let lent : Slot 2 = RefOf (0 ∷ []) tt (plain (λ _. row)) (λ _. tt) in
     let stayed : Stays T.signature.params T.kept = (stay_dropped lent T.kept.0, (stay_dropped (plain (λ _. RawPtr)) T.kept.1.0, (stay_dropped (plain (λ _. usize)) T.kept.1.1.0, (stay_dropped (plain (λ _. usize)) T.kept.1.1.1.0, tt)))) in
     let W = walk_of 𝓛 T stayed c in
-    proved 𝓛 T stayed c 𝓜 𝓡
-    (Goes-dropped 𝓛 2 lent T.kept.0 (λ κs x w. refl), (Goes-dropped 𝓛 2 (plain (λ _. RawPtr)) T.kept.1.0 (λ κs x w. refl),
-    (Goes-dropped 𝓛 2 (plain (λ _. usize)) T.kept.1.1.0 (λ κs x w. refl), (Goes-dropped 𝓛 2 (plain (λ _. usize)) T.kept.1.1.1.0 (λ κs x w. refl), tt))))
+    proved 𝓛 T stayed c 𝓜 𝓡 (
+      Goes-dropped 𝓛 2 lent T.kept.0 (λ κs x w. refl),
+      (
+        Goes-dropped 𝓛 2 (plain (λ _. RawPtr)) T.kept.1.0 (λ κs x w. refl),
+        (Goes-dropped 𝓛 2 (plain (λ _. usize)) T.kept.1.1.0 (λ κs x w. refl), (Goes-dropped 𝓛 2 (plain (λ _. usize)) T.kept.1.1.1.0 (λ κs x w. refl), tt)),
+      ),
+    )
     (f.Key.name args) fn (code.unfolded 𝓤 𝓛.H 𝓜 𝓡 wired (A, tt) d dd)
     (λ κs. (shr_vals, (rawptr_vals, (uint_vals w64, (uint_vals w64, tt)))))
     (λ κs. (shr_Tells (named 0) κs.0 row, (rawptr_Tells, (uint_Tells w64, (uint_Tells w64, tt)))))
