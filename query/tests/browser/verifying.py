@@ -179,6 +179,7 @@ class Room:
         self.names = ["demo0", "hol", "ql", "iset"] + ["set"] * is_large
         self.texts = {
             "faulty.mm": FAULTY,
+            "empty.mm": "",
             EVIL_NAME: EVIL + EVIL_TYPESETTING + OPEN,
             "older.mm": OLDER,
             "newer.mm": NEWER,
@@ -400,6 +401,9 @@ def check_refusals(browser: Browser, room: Room) -> None:
         told_within(browser, name, "This file can't be verified", part)
     if isinstance(browser, Chromium):
         check_changed(browser, room)
+    browser.run("document.getElementById('answer').replaceChildren()")
+    browser.choose("#file", [room.path("empty.mm")])
+    told_within(browser, "an empty file", "nothing to show", "neither axioms nor theorems")
     browser.run("document.getElementById('answer').replaceChildren()")
     browser.run("document.getElementById('only').value = 'nothing'")
     browser.choose("#file", [DATABASES / "demo0.mm"])
