@@ -29,6 +29,7 @@ from query.tests.browser.whole import Asked
 
 BUILD = HERE / "web" / "page" / "build"
 STUB = HERE / "query" / "tests" / "library_stub.js"
+LEAKING = HERE / "query" / "tests" / "library_leaking.js"
 REPORTS = ("all", "matrix", "counts", "usage", "citations")
 FAULTY = "$c a b $.\n\tx $a a\x0c b q $.\n"
 EVIL_NAME = '<b>&"evil".mm'
@@ -376,6 +377,26 @@ def check_policy(browser: Browser, room: Room) -> None:
         if name == "chromium":
             is_stopped = "other blob" in told and "ran" not in told
             count(is_stopped, f"chromium: trusted types forbid another worker, {opened}", told)
+    browser.messages()
+    server.shutdown()
+
+
+def check_workers(browser: Browser, room: Room) -> None:
+    """What works beside the page can neither load nor send, were it another script."""
+    handler = functools.partial(Asked, directory=room.folder)
+    server = http.server.ThreadingHTTPServer(("127.0.0.1", 0), handler)
+    threading.Thread(target=server.serve_forever, daemon=True).start()
+    module, page = room.path("address"), room.path("leaking.html")
+    module.write_text(f"http://127.0.0.1:{server.server_port}")
+    words = [str(BUILD), str(module), "leaking", str(page)]
+    subprocess.run(words, env={**os.environ, "LIBRARY": str(LEAKING)}, check=True)
+    Asked.paths.clear()
+    browser.go(page.as_uri())
+    browser.wait("document.documentElement.dataset.state === 'start'")
+    browser.choose("#file", [DATABASES / "demo0.mm"])
+    ways = "closed: fetch import script request socket"
+    told_within(browser, "a worker that would send", "The page failed", ways)
+    same(Asked.paths, [], f"{browser.name}: a worker loads nothing")
     browser.messages()
     server.shutdown()
 
