@@ -250,7 +250,7 @@ export class Pairer {
  * @param {Side} other
  */
 function otherVariables(one, other) {
-    return [...one.typecodes].filter(([variable, code]) => other.typecodes.get(variable) !== code).map(([name]) => name);
+    return [...one.typecodes.keys()].filter((name) => other.typecodes.get(name) !== one.typecodes.get(name));
 }
 
 /**
