@@ -1,5 +1,5 @@
-// Stands for web/library.js where there is no module. Its `module` has the answers of the program to requests over texts of
-// known sizes: a line of JSON that says where each answer stands after it, and then the answers.
+// Stands for web/library.js where there is no module. Its `module` has the answers of the program to requests over
+// texts of known sizes: a line of JSON that says where each answer stands after it, and then the answers.
 
 /** @param {BufferSource} bytes */
 export async function compile(bytes) {

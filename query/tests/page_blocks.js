@@ -1,7 +1,7 @@
 // Makes the blocks of pages as the page that verifies makes them, for query/tests/test_mirror.py.
 //
-// Standard input has a line of JSON for each page; for each a line of JSON comes: the blocks by their names in base64, or
-// what was thrown. `text` and the reports are files. Without reports there are only the blocks of the text.
+// Standard input has a line of JSON for each page; for each a line of JSON comes: the blocks by their names in base64,
+// or what was thrown. `text` and the reports are files. Without reports there are only the blocks of the text.
 
 import { readFileSync } from "node:fs";
 import { createInterface } from "node:readline";

@@ -38,8 +38,8 @@ class Reasons {
     }
 
     /**
-     * The first citation on a shortest chain that the other database lacks: what cites, and what it cites. If it has all,
-     * the last one: the axiom is none there.
+     * The first citation on a shortest chain that the other database lacks: what cites, and what it cites. If it has
+     * all, the last one: the axiom is none there.
      * @param {number} theorem
      * @returns {[number, number]}
      */
@@ -111,8 +111,10 @@ export class Comparison {
         this.toOld.forEach((was, number) => {
             if (was >= 0) this.toNew[was] = number;
         });
-        /** For axioms of NEW the theorems of NEW that came to rest on them, for those of OLD the ones of OLD that left. */
-        this.gained = now.dependence.axioms.length === 0 ? [] : Array.from(now.dependence.axioms, () => new Row());
+        /**
+         * For axioms of NEW the theorems of NEW that came to rest on them, for those of OLD the ones of OLD that left.
+         */
+        this.gained = Array.from(now.dependence.axioms, () => new Row());
         this.lost = Array.from(old.dependence.axioms, () => new Row());
         this.compareRows();
     }
@@ -153,10 +155,10 @@ export class Comparison {
                 else moved[there >>> 5] |= 1 << (there & 31);
             }
             const marks = now.row(row);
-            for (const column of columnsOf(marks.map((bits, word) => bits & ~moved[word]))) this.gained[column].push(row);
-            for (const column of columnsOf(moved.map((bits, word) => bits & ~marks[word]))) {
-                this.lost[was[column]].push(before);
-            }
+            const came = marks.map((bits, word) => bits & ~moved[word]);
+            const went = moved.map((bits, word) => bits & ~marks[word]);
+            for (const column of columnsOf(came)) this.gained[column].push(row);
+            for (const column of columnsOf(went)) this.lost[was[column]].push(before);
         }
     }
 }
@@ -168,7 +170,9 @@ export class Comparison {
 function namedBy(side) {
     const { rowOf, columnOf, cited } = side.dependence;
     const found = new Uint8Array(side.text.size);
-    for (let number = 0; number < found.length; number++) if (rowOf[number] >= 0 || columnOf[number] >= 0) found[number] = 1;
+    for (let number = 0; number < found.length; number++) {
+        if (rowOf[number] >= 0 || columnOf[number] >= 0) found[number] = 1;
+    }
     for (const number of cited) found[number] = 1;
     return found;
 }
@@ -196,8 +200,8 @@ class Difference {
     }
 
     /**
-     * For axioms of NEW: its number, and of each theorem that came to rest on it three numbers: its own, and those of what
-     * cites and is cited anew.
+     * For axioms of NEW: its number, and of each theorem that came to rest on it three numbers: its own, and those of
+     * what cites and is cited anew.
      */
     gained() {
         const { comparison, old, now } = this;
@@ -211,8 +215,8 @@ class Difference {
     }
 
     /**
-     * For axioms of OLD: its label, its number in NEW or -1, and of each theorem that no longer rests on it its number, and
-     * the labels in OLD of what cited and was cited.
+     * For axioms of OLD: its label, its number in NEW or -1, and of each theorem that no longer rests on it its number,
+     * and the labels in OLD of what cited and was cited.
      */
     lost() {
         const { comparison, old, now } = this;

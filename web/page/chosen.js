@@ -37,8 +37,8 @@ async function beginning(file, name) {
 }
 
 /**
- * The database that a file is, unpacked where it is compressed by gzip. Unfit where it is none, TooLong where it has too
- * many bytes.
+ * The database that a file is, unpacked where it is compressed by gzip. Unfit where it is none, TooLong where it has
+ * too many bytes.
  * @param {File} file
  * @param {(part: string) => void} tell is told what takes time
  * @returns {Promise<Chosen>}

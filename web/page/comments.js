@@ -1,7 +1,7 @@
 // Comments as lines to be packed, and the marks that are read of them; query/markup.py over bytes.
 //
-// White space becomes single spaces, but a page break stands where a paragraph ends, and a vertical tab where a line ends
-// within `<PRE>`.
+// White space becomes single spaces, but a page break stands where a paragraph ends, and a vertical tab where a line
+// ends within `<PRE>`.
 
 import { Byte, encoded, isSame, textAt } from "./bytes.js";
 import { visible } from "./visible.js";
@@ -11,7 +11,9 @@ import { visible } from "./visible.js";
 /** The marks of a comment, as bits. */
 export const Mark = { usage: 1, modification: 2, comment: 4 };
 
-/** The four words of each sentence that is a mark: the first may follow other signs, and the last have more after it. */
+/**
+ * The four words of each sentence that is a mark: the first may follow other signs, and the last have more after it.
+ */
 const SENTENCES = [
     { words: ["(New", "usage", "is", "discouraged.)"], mark: Mark.usage },
     { words: ["(Proof", "modification", "is", "discouraged.)"], mark: Mark.modification },

@@ -1,8 +1,8 @@
 // The conditions of distinct variables as lines to be packed, as query/page/conditions.py writes them.
 //
-// The line of an assertion has three fields, separated by tabs: the groups of variables that must be distinct, the dummy
-// variables of the proof, and for each of these itself and those from which it must be distinct; `*` instead if that are
-// all other variables. Groups are separated by `$`, variables by spaces.
+// The line of an assertion has three fields, separated by tabs: the groups of variables that must be distinct, the
+// dummy variables of the proof, and for each of these itself and those from which it must be distinct; `*` instead if
+// that are all other variables. Groups are separated by `$`, variables by spaces.
 
 import { Byte, Writer, afterComment, isComment } from "./bytes.js";
 import { Stamps } from "./symbols.js";

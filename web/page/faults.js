@@ -9,8 +9,8 @@ import { visible } from "./visible.js";
  */
 
 /**
- * A refusal with what stands there: a part of the line, each byte as one sign, at which of these signs the fault is, and
- * the statement, such as `in 'id'`, or nothing where that can't be told.
+ * A refusal with what stands there: a part of the line, each byte as one sign, at which of these signs the fault is,
+ * and the statement, such as `in 'id'`, or nothing where that can't be told.
  * @typedef {Refusal & { text: string, caret: number, statement: string }} Fault
  */
 

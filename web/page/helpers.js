@@ -3,6 +3,11 @@
 /** @typedef {import("./types.js").Ask} Ask */
 /** @typedef {import("./types.js").Told} Told */
 
+/**
+ * What makes policies where the browser has trusted types.
+ * @typedef {{ createPolicy: (name: string, rules: object) => { createScriptURL: (address: string) => any } }} Policies
+ */
+
 /** A worker said why it made nothing. */
 export class Stopped extends Error {
     /** @param {Told} told */
@@ -19,7 +24,7 @@ export class Stopped extends Error {
  */
 export function addressOf(script) {
     const address = URL.createObjectURL(new Blob([script], { type: "text/javascript" }));
-    /** @type {{ createPolicy: (name: string, rules: object) => { createScriptURL: (address: string) => any } } | undefined} */
+    /** @type {Policies | undefined} */
     const types = /** @type {any} */ (globalThis).trustedTypes;
     if (!types) return address;
     const policy = types.createPolicy("mmdepend", {
@@ -62,7 +67,7 @@ export class Helper {
     }
 
     /**
-     * Gives it a task. The answer is what it tells last, of the stage that is wanted; Stopped where that is another one.
+     * Gives it a task. The answer is what it tells last, of the stage that is wanted; else Stopped.
      * @template {Told["stage"]} S
      * @param {Ask} ask
      * @param {S} last

@@ -3,6 +3,7 @@
 import { Byte, Writer, encoded } from "./bytes.js";
 import { marksOf, putLine } from "./comments.js";
 import { Conditions } from "./conditions.js";
+import { lowestOf } from "./reports.js";
 import { Vocabulary } from "./symbols.js";
 import { readTypesetting } from "./typesetting.js";
 import { visible } from "./visible.js";
@@ -109,7 +110,7 @@ class MatrixPacker {
             let left = bits[start + word];
             if (this.named > 0) left ^= bits[start + word - this.named * words];
             for (; left !== 0; left &= left - 1) {
-                const column = word * 32 + 31 - Math.clz32(left & -left);
+                const column = word * 32 + lowestOf(left);
                 this.gaps.number(column - expected);
                 expected = column + 1;
             }
@@ -189,8 +190,8 @@ function newlinesIn(data, start, end) {
 }
 
 /**
- * Of each assertion how many `$e` it has, and the gaps between their numbers. Those of open blocks come again, so gaps are
- * from the first one of the assertion before.
+ * Of each assertion how many `$e` it has, and the gaps between their numbers. Those of open blocks come again, so gaps
+ * are from the first one of the assertion before.
  * @param {Text} text
  */
 function packHypotheses(text) {

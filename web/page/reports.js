@@ -1,6 +1,6 @@
-// Reads the reports that the program's core writes, the matrix in form 2 and the citations, beside the text they are of.
-// Nothing of them is believed alone: they say the same in two ways, which have to agree, and each label has to be found in
-// the text where it belongs.
+// Reads the reports that the program's core writes, the matrix in form 2 and the citations, beside the text they are
+// of. Nothing of them is believed alone: they say the same in two ways, which have to agree, and each label has to be
+// found in the text where it belongs.
 
 import { Byte, Cutter, Row, isSame, textAt } from "./bytes.js";
 
@@ -130,7 +130,7 @@ export class Dependence {
         const users = new Uint32Array(this.axioms.length);
         for (let place = 0; place < this.bits.length; place++) {
             const first = (place % this.words) * 32;
-            for (let bits = this.bits[place]; bits !== 0; bits &= bits - 1) users[first + 31 - Math.clz32(bits & -bits)]++;
+            for (let bits = this.bits[place]; bits !== 0; bits &= bits - 1) users[first + lowestOf(bits)]++;
         }
         return users;
     }
@@ -274,7 +274,7 @@ class Reader {
                 before = number;
                 place++;
             }
-            if (cited.size - starts.items[row] !== count) throw new OddReport("a report counts what it cites otherwise");
+            if (cited.size - starts.items[row] !== count) throw new OddReport("a report counts citations otherwise");
             lines.place = end + 1;
         }
         lines.pass("end");
@@ -322,13 +322,21 @@ function withColumns(found, isKept) {
 }
 
 /**
+ * The place of the lowest bit that a number has.
+ * @param {number} bits
+ */
+export function lowestOf(bits) {
+    return 31 - Math.clz32(bits & -bits);
+}
+
+/**
  * The columns whose bits a row has, rising.
  * @param {Uint32Array} row
  */
 export function columnsOf(row) {
     const columns = [];
     for (let word = 0; word < row.length; word++) {
-        for (let bits = row[word]; bits !== 0; bits &= bits - 1) columns.push(word * 32 + 31 - Math.clz32(bits & -bits));
+        for (let bits = row[word]; bits !== 0; bits &= bits - 1) columns.push(word * 32 + lowestOf(bits));
     }
     return columns;
 }
@@ -386,8 +394,8 @@ function readDigits(report, place, digits, bits, start) {
 }
 
 /**
- * On which axioms each theorem of a text rests, and what it cites, by the matrix in form 2 and by the citations, both of all
- * typecodes. Of the columns those of the typecode that is wanted are kept.
+ * On which axioms each theorem of a text rests, and what it cites, by the matrix in form 2 and by the citations, both
+ * of all typecodes. Of the columns those of the typecode that is wanted are kept.
  * @param {Text} text
  * @param {Request} request
  * @param {Uint8Array} matrix

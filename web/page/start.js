@@ -127,7 +127,8 @@ class Start {
         const choices = this.files.map((file, at) => {
             const date = new Date(file.lastModified).toLocaleDateString();
             const button = element("input", { type: "radio", name: "older", value: at, checked: at === older });
-            return element("label", {}, button, ` ${visible(file.name)}, ${counted(file.size, "byte")}, changed on ${date}`);
+            const size = counted(file.size, "byte");
+            return element("label", {}, button, ` ${visible(file.name)}, ${size}, changed on ${date}`);
         });
         byId("choices").replaceChildren(...choices);
         this.pair.hidden = false;
@@ -261,7 +262,7 @@ class Start {
         this.say(
             "There is too little memory",
             element("p", {}, `The browser gives the page too little memory to verify ${name}.`),
-            element("p", {}, "The text is as it was, and nothing is known of it. Close other pages, or use the program."),
+            element("p", {}, "So nothing is known of it. Close other pages, or use the program."),
         );
     }
 

@@ -1,6 +1,6 @@
-// Which assertion of one database is which of another, as query/statements.py finds it: by its label, or by its statement
-// where that has another label. A statement is the formula, the `$e` in order, the pairs of its variables that must be
-// distinct, and the typecodes of its variables.
+// Which assertion of one database is which of another, as query/statements.py finds it: by its label, or by its
+// statement where that has another label. A statement is the formula, the `$e` in order, the pairs of its variables
+// that must be distinct, and the typecodes of its variables.
 
 import { Cutter, isSame, textAt } from "./bytes.js";
 
@@ -121,9 +121,7 @@ export class Pairer {
     constructor(old, now) {
         this.old = old;
         this.now = now;
-        const isElsewhere = (/** @type {Side} */ one, /** @type {Side} */ other) =>
-            [...one.typecodes].filter(([variable, code]) => other.typecodes.get(variable) !== code).map(([name]) => name);
-        this.otherVariables = new Set([...isElsewhere(old, now), ...isElsewhere(now, old)]);
+        this.otherVariables = new Set([...otherVariables(old, now), ...otherVariables(now, old)]);
         /** Of each assertion of NEW the one of OLD with its label, or -1. */
         this.sameLabel = new Int32Array(now.text.size);
         const { labels, labelEnds } = now.text.assertions;
@@ -151,7 +149,8 @@ export class Pairer {
     isWrittenAlike(old, now) {
         const before = stretchesOf(this.old, old);
         const after = stretchesOf(this.now, now);
-        if (before.length !== after.length || this.old.disjoint(old).length !== this.now.disjoint(now).length) return false;
+        if (before.length !== after.length) return false;
+        if (this.old.disjoint(old).length !== this.now.disjoint(now).length) return false;
         return before.every(([start, end], at) =>
             isSame(this.old.text.data, start, end, this.now.text.data, after[at][0], after[at][1]),
         );
@@ -201,7 +200,8 @@ export class Pairer {
         const renamed = this.renames(old.filter((number) => !kept.has(number)), left);
         for (const [number, other] of renamed) origin.set(number, other);
         const taken = new Set(renamed.values());
-        const changed = left.filter((number) => !origin.has(number) && before(number) >= 0 && !taken.has(before(number)));
+        const isChanged = (/** @type {number} */ number) => before(number) >= 0 && !taken.has(before(number));
+        const changed = left.filter((number) => !origin.has(number) && isChanged(number));
         for (const number of changed) origin.set(number, before(number));
         const found = new Set(origin.values());
         return {
@@ -245,11 +245,21 @@ export class Pairer {
 }
 
 /**
+ * The variables that another database has not, or with another typecode.
+ * @param {Side} one
+ * @param {Side} other
+ */
+function otherVariables(one, other) {
+    return [...one.typecodes.keys()].filter((name) => other.typecodes.get(name) !== one.typecodes.get(name));
+}
+
+/**
  * @param {Text} text
  * @param {boolean} isProved
  */
 function numbersOfKind(text, isProved) {
-    return Array.from({ length: text.size }, (_, number) => number).filter((number) => text.isProved(number) === isProved);
+    const all = Array.from({ length: text.size }, (_, number) => number);
+    return all.filter((number) => text.isProved(number) === isProved);
 }
 
 /**

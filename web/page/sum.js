@@ -1,6 +1,8 @@
 // The SHA-256 of bytes: by the browser, or where it has none for the page's address, by what stands here.
 
-/** The first 32 bits of the fractions of the cube roots of the first 64 primes, and of the square roots of the first 8. */
+/**
+ * The first 32 bits of the fractions of the cube roots of the first 64 primes, and of the square roots of the first 8.
+ */
 const { rounds: ROUNDS, first: FIRST } = constants();
 
 function constants() {

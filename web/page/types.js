@@ -19,8 +19,8 @@
  */
 
 /**
- * What a worker is asked for: to verify a database for the page, to write a report to be saved, to pack texts (that of the
- * database, and then that of the older release), or to pack what their reports say.
+ * What a worker is asked for: to verify a database for the page, to write a report to be saved, to pack texts (that of
+ * the database, and then that of the older release), or to pack what their reports say.
  * @typedef {{ task: "verify", file: Blob, module: Uint8Array, request: Request }
  *     | { task: "save", file: Blob, module: Uint8Array, request: Request, report: ReportName, form: 1 | 2 }
  *     | { task: "pack", files: Chosen[], request: Request, maker: string, entities: Entities }

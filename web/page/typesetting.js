@@ -345,8 +345,8 @@ function isShown(pieces) {
 }
 
 /**
- * Reads the body of a `$t` comment. A later definition of a symbol replaces one before. What isn't a statement of the kind
- * that is wanted is passed over.
+ * Reads the body of a `$t` comment. A later definition of a symbol replaces one before. What isn't a statement of the
+ * kind that is wanted is passed over.
  * @param {string | null} text
  * @param {Entities} entities
  * @returns {{ symbols: Map<string, Piece[]>, legend: Piece[] }}

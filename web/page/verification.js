@@ -18,8 +18,8 @@ import { Helper } from "./helpers.js";
  */
 
 /**
- * Bytes of texts that are packed while proofs are checked. Larger ones are packed after that, since there may not be memory
- * for both at a time.
+ * Bytes of texts that are packed while proofs are checked. Larger ones are packed after that, since there may not be
+ * memory for both at a time.
  */
 const MOST_BESIDE = 1 << 24;
 

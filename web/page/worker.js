@@ -1,4 +1,5 @@
-// What works beside the page, each time in a worker of its own: verifies a text, or packs texts and reports into blocks.
+// What works beside the page, each time in a worker of its own: verifies a text, or packs texts and reports into
+// blocks.
 
 import { compile, report } from "../library.js";
 import { faultOf, refusalOf } from "./faults.js";
@@ -78,12 +79,14 @@ async function reportOf(module, file, request) {
 }
 
 /**
- * Verifies a file, and tells what the page needs of it: matrix and citations, of all typecodes, since chains may lead over
- * other assertions than those of one typecode.
+ * Verifies a file, and tells what the page needs of it: matrix and citations, of all typecodes, since chains may lead
+ * over other assertions than those of one typecode.
  * @param {{ file: Blob, module: Uint8Array, request: Request }} asked
  */
 async function verify({ file, module, request }) {
-    const answer = await reportOf(module, file, { ...request, only: null, report: "matrix", form: 2, withCitations: true });
+    /** @type {Wanted} */
+    const wanted = { ...request, only: null, report: "matrix", form: 2, withCitations: true };
+    const answer = await reportOf(module, file, wanted);
     if (!answer) return;
     if (!answer.citations) throw new Error("the module wrote no citations");
     const matrix = answer.report.slice();

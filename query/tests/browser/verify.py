@@ -47,6 +47,7 @@ def try_browser(browser: Browser, room: Room, options: argparse.Namespace, seed:
     rng = random.Random(seed)
     verifying.check_start(browser, room)
     verifying.check_policy(browser, room)
+    verifying.check_workers(browser, room)
     verifying.check_refusals(browser, room)
     verifying.check_drop(browser, room)
     verifying.check_pair(browser, room)

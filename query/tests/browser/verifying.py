@@ -29,6 +29,7 @@ from query.tests.browser.whole import Asked
 
 BUILD = HERE / "web" / "page" / "build"
 STUB = HERE / "query" / "tests" / "library_stub.js"
+LEAKING = HERE / "query" / "tests" / "library_leaking.js"
 REPORTS = ("all", "matrix", "counts", "usage", "citations")
 FAULTY = "$c a b $.\n\tx $a a\x0c b q $.\n"
 EVIL_NAME = '<b>&"evil".mm'
@@ -179,6 +180,7 @@ class Room:
         self.names = ["demo0", "hol", "ql", "iset"] + ["set"] * is_large
         self.texts = {
             "faulty.mm": FAULTY,
+            "empty.mm": "",
             EVIL_NAME: EVIL + EVIL_TYPESETTING + OPEN,
             "older.mm": OLDER,
             "newer.mm": NEWER,
@@ -379,6 +381,26 @@ def check_policy(browser: Browser, room: Room) -> None:
     server.shutdown()
 
 
+def check_workers(browser: Browser, room: Room) -> None:
+    """What works beside the page can neither load nor send, were it another script."""
+    handler = functools.partial(Asked, directory=room.folder)
+    server = http.server.ThreadingHTTPServer(("127.0.0.1", 0), handler)
+    threading.Thread(target=server.serve_forever, daemon=True).start()
+    module, page = room.path("address"), room.path("leaking.html")
+    module.write_text(f"http://127.0.0.1:{server.server_port}")
+    words = [str(BUILD), str(module), "leaking", str(page)]
+    subprocess.run(words, env={**os.environ, "LIBRARY": str(LEAKING)}, check=True)
+    Asked.paths.clear()
+    browser.go(page.as_uri())
+    browser.wait("document.documentElement.dataset.state === 'start'")
+    browser.choose("#file", [DATABASES / "demo0.mm"])
+    ways = "closed: fetch import script request socket"
+    told_within(browser, "a worker that would send", "The page failed", ways)
+    same(Asked.paths, [], f"{browser.name}: a worker loads nothing")
+    browser.messages()
+    server.shutdown()
+
+
 def check_refusals(browser: Browser, room: Room) -> None:
     """A refusal shows the line and the place; what is no database is told as such."""
     begin(browser, room)
@@ -400,6 +422,9 @@ def check_refusals(browser: Browser, room: Room) -> None:
         told_within(browser, name, "This file can't be verified", part)
     if isinstance(browser, Chromium):
         check_changed(browser, room)
+    browser.run("document.getElementById('answer').replaceChildren()")
+    browser.choose("#file", [room.path("empty.mm")])
+    told_within(browser, "an empty file", "nothing to show", "neither axioms nor theorems")
     browser.run("document.getElementById('answer').replaceChildren()")
     browser.run("document.getElementById('only').value = 'nothing'")
     browser.choose("#file", [DATABASES / "demo0.mm"])
