@@ -1,10 +1,10 @@
 -- Bytes at the front of a list that may be too short for them.
-use Rattle.std.proofs.Common.{◌≡◌, ◌∙◌, ℕ, List, [], ◌∷◌, ◌++◌, ◌+◌, ◌-◌, ◌<◌, ◌≤◌, ◌⊎◌, inl, inr}
+use Rattle.std.proofs.Common.{◌≡◌, ◌∙◌, ℕ, List, [], ◌++◌, ◌+◌, ◌-◌, ◌<◌, ◌≤◌, ◌⊎◌, inl, inr}
 use Rattle.std.proofs.Common.{length, take, min, sym, ap, arith}
 use Rattle.std.proofs.lemmas.Bool.{cases_lt}
 use Rattle.std.proofs.Math.Seq.{take-append_seam, take-append-add}
 use Rattle.std.proofs.lemmas.List.{append-nil, append_assoc, length-append, length-take-le, nil_from_length}
-use Rattle.std.proofs.lemmas.List.{take_all, take-append-le}
+use Rattle.std.proofs.lemmas.List.{take_all}
 
 -- as many of bs as fit are put behind the first n of xs, and zs are left behind them
 pub put_behind : (n k : ℕ) (xs bs zs : List ℕ) → n < length xs
@@ -35,14 +35,3 @@ put_behind n k xs bs zs within is rest = go (cases_lt (length xs - n) (length bs
         ∙ ap (λ (m : ℕ). take m ((take n xs ++ bs) ++ zs)) (sym all)
         ∙ take-append_seam (take n xs ++ bs) zs
         ∙ sym (take_all (length xs) (take n xs ++ bs) (omega (arith, all, fits, within)))
-
--- what doesn't fit can be left out before more is put behind it
-pub take_of_front : (n : ℕ) (xs ys : List ℕ) → take n (take n xs ++ ys) ≡ take n (xs ++ ys)
-take_of_front n xs ys = go (cases_lt (length xs) n)
-  where
-    go : (length xs < n) ⊎ (n ≤ length xs) → take n (take n xs ++ ys) ≡ take n (xs ++ ys)
-    go (inl short) = ap (λ (zs : List ℕ). take n (zs ++ ys)) (take_all n xs (omega (arith, short)))
-    go (inr long) =
-        let count : length (take n xs) ≡ n = length-take-le n xs long in
-        ap (λ (m : ℕ). take m (take n xs ++ ys)) (sym count) ∙ take-append_seam (take n xs) ys
-        ∙ sym (take-append-le n xs ys long)

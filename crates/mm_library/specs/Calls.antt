@@ -1,6 +1,6 @@
 -- What a call of the library requests by its arguments, and how it ends (this project's own).
 use Rattle.std.specs.Prelude.{◌≡◌, ◌≢◌, ℕ, Bool, ◌==◌, if◌then◌else◌, List, [], ◌∷◌, ◌≤◌, ◌<◌, ◌⊎◌}
-use Rattle.std.specs.Prelude.{length, map, sum, take, flat_map, Option, None, Some, slice_get, ⊤, MatchResult, Result}
+use Rattle.std.specs.Prelude.{length, map, sum, flat_map, Option, None, Some, slice_get, ⊤, MatchResult, Result}
 use Rattle.std.specs.List.{AllZip}
 use Rattle.std.specs.Str.{IsUtf8}
 use Rattle.mm_spec.specs.Text.{Bytes}

@@ -1,7 +1,7 @@
 use Rattle.std.proofs.Common.{[], ◌∷◌, refl, take}
 use Rattle.std.proofs.lemmas.Result.{MatchResult-at_ok, MatchResult-at_err}
 use Rattle.mm_spec.specs.Ends.{reading_limit}
-use Rattle.mm_library.specs.Calls.{Asks, Refuses, citing}
+use Rattle.mm_library.specs.Calls.{Asks, Refuses}
 use Rattle.mm_library.proofs.CallLaw.{asked, refused}
 use Rattle.mm_library.proofs.in_room.report_if_asked.Goals as goal
 

@@ -1,4 +1,4 @@
-use Rattle.std.proofs.Common.{◌∙◌, List, ℕ, [], ◌∷◌, rules, sym, subst, arith}
+use Rattle.std.proofs.Common.{List, ℕ, [], ◌∷◌, rules, sym, subst, arith}
 use Rattle.mm_library.specs.declared.status.Status.{Status}
 use Rattle.mm_library.specs.Calls.{Writes}
 use Rattle.mm_library.proofs.CallLaw.{ended, one_output}

@@ -2,7 +2,6 @@
 use Rattle.std.proofs.Common.{List, [], ◌∷◌, ◌++◌, refl}
 use Rattle.std.proofs.raw_atomic.Walks.{proved}
 use base.Fml.{ftrue, flft}
-use contract.Running.{tables}
 use mir.Syntax.{named}
 use mir.Val.{Val, vunit}
 use types.Kit.{‵, ◌⊛◌, ◌$◌, ◌∵◌, !, qed, done, move, keep, split, join, fsplit3, feq_i, suffices, frame, group}
@@ -14,7 +13,6 @@ use denote.Ref.{MutRef, mut_vals, mut_Tells}
 use denote.Signature.{Slot, plain}
 use denote.Slice.{ShrSlice, shr_slice_vals, shr_slice_Tells, shr_slice_Lawful}
 use denote.Steps.{nothing, opens, closes}
-use denote.Triple.Entry.{on_entry}
 use denote.Triple.Walked.{Stays, walk_of, says, stay_ref, stay_dropped, Goes-ref, Goes-dropped, ends_at}
 use Rattle.mm_library.specs.contracts.seen.Seen.{the_row as R}
 use Rattle.mm_library.specs.contracts.seen.Seen.add as f
