@@ -14,7 +14,7 @@ use Rattle.mm_spec.specs.Frame.{symbol_names, frame_at}
 use Rattle.mm_spec.specs.Steps.{label, placed}
 use Rattle.mm_spec.specs.Citation.{context_at, steps_at, IsValid}
 use Rattle.mm_spec.specs.Report.{cells, report, citation_report, line, refusal}
-use Rattle.mm_spec.specs.Request.{Request}
+use Rattle.mm_spec.specs.Request.{Request, plain}
 use Rattle.mm_spec.specs.declared.Form.{Form}
 use Rattle.mm_spec.specs.declared.Form.TheVariants.{One, Two}
 use Rattle.mm_spec.specs.declared.Choice.TheVariants.{All}
