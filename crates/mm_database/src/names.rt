@@ -114,8 +114,9 @@ fn ends_of(word: &[u8]) -> (u32, u32) {
     }
 }
 
-/// Returns the index of the guess for a label among so many: by the upper bits of a sum of products,
-/// since a product's upper bits depend on more bits of its factors than its lower bits do.
+/// Returns the index of the guess for a label among so many: by the upper bits of a sum of
+/// products, since a product's upper bits depend on more bits of its factors than its lower bits
+/// do.
 #[inline(always)]
 fn label_guess_of(word: &[u8], guesses: usize) -> usize {
     let (first, last) = ends_of(word);

@@ -179,8 +179,8 @@ fn lex_inner<A: Allocator + Copy>(
     })
 }
 
-/// The summary of the stretch of a text from `from` up to `to`, as [`lex_piece`] makes it. `room` is
-/// the number of tokens for which memory is reserved at first.
+/// The summary of the stretch of a text from `from` up to `to`, as [`lex_piece`] makes it. `room`
+/// is the number of tokens for which memory is reserved at first.
 pub(crate) fn lex_piece_with_room<A: Allocator + Copy>(
     alloc: A,
     text: &[u8],

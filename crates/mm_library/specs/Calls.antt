@@ -1,6 +1,7 @@
 -- What a call of the library requests by its arguments, and how it ends (this project's own).
 use Rattle.std.specs.Prelude.{◌≡◌, ◌≢◌, ℕ, Bool, ◌==◌, if◌then◌else◌, List, [], ◌∷◌, ◌≤◌, ◌<◌, ◌⊎◌}
-use Rattle.std.specs.Prelude.{length, map, sum, flat_map, Option, None, Some, slice_get, ⊤, MatchResult, Result}
+use Rattle.std.specs.Prelude.{length, map, sum, flat_map, Option, None, Some, slice_get, ⊤}
+use Rattle.std.specs.Prelude.{MatchResult, Result}
 use Rattle.std.specs.List.{AllZip}
 use Rattle.std.specs.Str.{IsUtf8}
 use Rattle.mm_spec.specs.Text.{Bytes}
@@ -16,7 +17,8 @@ use Rattle.mm_spec.specs.declared.Fault.{Fault}
 use Rattle.mm_library.specs.Fronts.{IsAtFront}
 use Rattle.mm_library.specs.declared.status.Status.{Status}
 use Rattle.mm_library.specs.declared.status.Status.TheVariants.{Accepted, Refused, NotText}
-use Rattle.mm_library.specs.declared.status.Status.TheVariants.{OutTooShort, RoomTooSmall, NoSuchRequest}
+use Rattle.mm_library.specs.declared.status.Status.TheVariants.{OutTooShort, RoomTooSmall}
+use Rattle.mm_library.specs.declared.status.Status.TheVariants.{NoSuchRequest}
 
 abbrev pub status_number : Status → ℕ
 status_number Accepted = 0

@@ -1,6 +1,7 @@
 //! A writer to the front of a slice.
 
-ghost use Rattle.std.specs.Prelude.{◌≡◌, ◌+◌, ℕ, List, [], ◌∷◌, ◌++◌, Some, nat_lt, if◌then◌else◌, length, take};
+ghost use Rattle.std.specs.Prelude.{◌≡◌, ◌+◌, ℕ, List, [], ◌∷◌, ◌++◌, Some, nat_lt};
+ghost use Rattle.std.specs.Prelude.{if◌then◌else◌, length, take};
 ghost use Rattle.mm_library.specs.declared.status.Status.TheVariants.{OutTooShort};
 
 use crate::seen::Seen;

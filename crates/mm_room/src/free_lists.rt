@@ -108,8 +108,8 @@ impl<A: Allocator> FreeLists<A> {
         }
     }
 
-    /// Adds a block for so many bytes to its list. Without a list for it, the other allocator gets it
-    /// back.
+    /// Adds a block for so many bytes to its list. Without a list for it, the other allocator gets
+    /// it back.
     fn give(&self, block: Block<A>, size: usize)
         requires alloc { block.alloc ≡ self.now.alloc }
         requires units { block.units ≡ block_units size }

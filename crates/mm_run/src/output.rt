@@ -50,7 +50,8 @@ pub(crate) fn report_citations<'a, A: Allocator + Copy, W: Write>(
     citations: &Citations<A>,
     to: &mut W,
 ) -> RunEnd
-    requires judged { IsJudged request.now.essential request.now.with_open database.now citations.now }
+    requires judged { IsJudged request.now.essential request.now.with_open database.now
+        citations.now }
     requires choice { request.now.choice ≡ choices.Citations }
     ensures { Answers result database.now.text request.now (W.contents to.old)
         (W.contents to.new) }
@@ -73,7 +74,8 @@ pub(crate) fn report_usage<'a, A: Allocator, W: Write>(
     table: &Matrix<A>,
     to: &mut W,
 ) -> RunEnd
-    requires judged { IsJudged request.now.essential request.now.with_open database.now citations.now }
+    requires judged { IsJudged request.now.essential request.now.with_open database.now
+        citations.now }
     requires chosen { chosen.now ≡ columns database.now.statements request.now.only }
     requires table { IsMatrix citations.now chosen.now table.now }
     requires choice { request.now.choice ≡ choices.Citations → ⊥ }
@@ -97,7 +99,8 @@ pub(crate) fn report_rows<'a, A: Allocator, W: Write>(
     marked: &MarkedRows<A>,
     to: &mut W,
 ) -> RunEnd
-    requires judged { IsJudged request.now.essential request.now.with_open database.now citations.now }
+    requires judged { IsJudged request.now.essential request.now.with_open database.now
+        citations.now }
     requires chosen { chosen.now ≡ columns database.now.statements request.now.only }
     requires marked { IsMatrix citations.now chosen.now marked.now }
     requires choice { request.now.choice ≡ choices.Citations → ⊥ }
@@ -122,7 +125,8 @@ fn report_rests<'a, R: Threads + Sync, A: Allocator + Copy + Send + Sync, W: Wri
     citations: &Citations<A>,
     to: &mut W,
 ) -> RunEnd
-    requires judged { IsJudged request.now.essential request.now.with_open database.now citations.now }
+    requires judged { IsJudged request.now.essential request.now.with_open database.now
+        citations.now }
     requires choice { request.now.choice ≡ choices.Citations → ⊥ }
     ensures { Answers result database.now.text request.now (W.contents to.old)
         (W.contents to.new) }
@@ -152,7 +156,8 @@ fn report<'a, R: Threads + Sync, A: Allocator + Copy + Send + Sync, W: Write>(
     citations: &Citations<A>,
     to: &mut W,
 ) -> RunEnd
-    requires judged { IsJudged request.now.essential request.now.with_open database.now citations.now }
+    requires judged { IsJudged request.now.essential request.now.with_open database.now
+        citations.now }
     ensures { Answers result database.now.text request.now (W.contents to.old)
         (W.contents to.new) }
 {

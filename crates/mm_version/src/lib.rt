@@ -1,5 +1,5 @@
-//! The version, as the program and the library print it after their name. This crate has no code, so
-//! that a new version costs a new proof only of those who print it.
+//! The version, as the program and the library print it after their name. This crate has no code,
+//! so that a new version costs a new proof only of those who print it.
 #![tactic(auto)]
 
 /// The version, and the logic in which it was proved (as `rt version` names it).

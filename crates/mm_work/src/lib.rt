@@ -6,8 +6,9 @@
 //! otherwise the fault of the first proof that has one. It doesn't promise that a worker makes
 //! progress, that workers get equally much work, or that a thread can be started.
 //!
-//! A caller uses, in this order: [`check_all`] with a [`Gate`], such as [`Open`], or [`check_alone`]
-//! where there are no threads; [`Judged`]; and [`Citations`], which is that of `mm_cites`.
+//! A caller uses, in this order: [`check_all`] with a [`Gate`], such as [`Open`], or
+//! [`check_alone`] where there are no threads; [`Judged`]; and [`Citations`], which is that of
+//! `mm_cites`.
 #![tactic(auto)]
 
 mod all;
